@@ -1,0 +1,5 @@
+pub mod Century
+pub mod Cuts
+pub mod Shown
+pub mod Steps
+pub mod Stamps

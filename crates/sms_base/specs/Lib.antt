@@ -1,0 +1,4 @@
+pub mod Digits
+pub mod Inside
+pub mod Reading
+pub mod Scts
