@@ -1,3 +1,4 @@
+pub mod Alphabet
 pub mod Digits
 pub mod Inside
 pub mod Reading
