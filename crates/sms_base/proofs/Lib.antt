@@ -1,3 +1,4 @@
+pub mod Alphabets
 pub mod Century
 pub mod Cuts
 pub mod NumberWalk

@@ -4,6 +4,7 @@
 mod address;
 mod address_error;
 mod address_text;
+mod alphabet;
 mod clock;
 mod cursor;
 mod digits;
@@ -16,6 +17,9 @@ mod type_of_number;
 
 pub use address::Address;
 pub use address_error::AddressError;
+pub use alphabet::{
+    Code, ESCAPE, EXTENSION_TABLE, MAIN_TABLE, character_after_escape, character_of, code_of,
+};
 pub use cursor::Cursor;
 pub use digits::Digits;
 pub use moment::{Moment, MomentError};
