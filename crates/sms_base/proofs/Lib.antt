@@ -7,3 +7,4 @@ pub mod NumberWalk
 pub mod Shown
 pub mod Steps
 pub mod Stamps
+pub mod WrittenStamps
