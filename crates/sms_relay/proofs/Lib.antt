@@ -1,0 +1,5 @@
+pub mod CauseLaws
+pub mod FieldLaws
+pub mod FrontLaws
+pub mod Rows
+pub mod UnitLaws

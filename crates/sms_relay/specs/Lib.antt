@@ -1,0 +1,4 @@
+pub mod Cause
+pub mod FaultCode
+pub mod RelayGrammar
+pub mod RelayReading
