@@ -9,8 +9,11 @@ use Rattle.sms_relay.specs.declared.fault.RelayFault.{RelayFault}
 use Rattle.sms_relay.specs.declared.fault.RelayFault.TheVariants.{Truncated, Trailing, Unknown, BadLength}
 use Rattle.sms_relay.specs.declared.frame.Rp.{Rp}
 use Rattle.sms_relay.specs.declared.frame.Rp.TheVariants.{DataUnit, AckUnit, ErrorUnit, Smma}
+use Rattle.sms_relay.specs.declared.message_type.MessageType.{MessageType}
+use Rattle.sms_relay.specs.declared.message_type.MessageType.TheVariants.{DataUp, DataDown, AckUp, AckDown, ErrorUp, ErrorDown, SmmaUp}
+use Rattle.sms_relay.specs.MessageType.{type_of}
 use Rattle.sms_relay.specs.RelayGrammar.{IsUp, IsDown, user_data, user_data_of, bare}
-use Rattle.sms_relay.specs.RelayReading.{centre_in, nobody_in, tpdu_in, user_data_in, cause_in, data_up_in, data_down_in, ack_in, error_in, smma_in, up_in, down_in, up_at, down_at}
+use Rattle.sms_relay.specs.RelayReading.{up_unit, down_unit, centre_in, nobody_in, tpdu_in, user_data_in, cause_in, data_up_in, data_down_in, ack_in, error_in, smma_in, up_in, down_in, up_at, down_at}
 use Rattle.sms_relay.proofs.FieldLaws.{tpdu_cuts, centre_cuts, nobody_cuts, cause_cuts, user_data_cut}
 use Rattle.sms_relay.proofs.UnitLaws.{up_again, down_again}
 
@@ -63,10 +66,6 @@ tail_cuts make is_bare is_data xs ys z e =
       | inr p ↦ inr (at_start make is_bare xs a.0.0 p.0, p.1 ∙ ap (λ (l : List ℕ). l ++ a.0.1) (sym (is_data a.0.0)))
     ])
 
-cond_cuts : (b : Bool) (r s : List ℕ → Result (Rp × List ℕ) RelayFault) → CutsUnit r → CutsUnit s → CutsUnit (λ xs. cond b (r xs) (s xs))
-cond_cuts true r s hr hs xs ys z e = hr xs ys z e
-cond_cuts false r s hr hs xs ys z e = hs xs ys z e
-
 no_cuts : (f : RelayFault) → CutsUnit (λ xs. Err f)
 no_cuts f xs ys z e = absurd cc
 
@@ -102,22 +101,33 @@ smma_cuts : CutsShort Truncated smma_in
 unfolding smma_in
 smma_cuts = cuts_bind Truncated (octet_in Truncated) _ (cuts_octet Truncated) (λ reference. cuts_pure Truncated (Smma reference))
 
+up_unit_cuts : (m : Option MessageType) → CutsUnit (up_unit m)
+up_unit_cuts (Some DataUp) = of_short data_up_in data_up_cuts
+up_unit_cuts (Some AckUp) = ack_cuts
+up_unit_cuts (Some ErrorUp) = error_cuts
+up_unit_cuts (Some SmmaUp) = of_short smma_in smma_cuts
+up_unit_cuts (Some DataDown) = no_cuts Unknown
+up_unit_cuts (Some AckDown) = no_cuts Unknown
+up_unit_cuts (Some ErrorDown) = no_cuts Unknown
+up_unit_cuts None = no_cuts Unknown
+
 up_in_cuts : CutsUnit up_in
 unfolding up_in
-up_in_cuts =
-    unit_bind (octet_in Truncated) _ (cuts_octet Truncated) (λ k.
-    cond_cuts (eqb k 0) data_up_in _ (of_short data_up_in data_up_cuts)
-    (cond_cuts (eqb k 2) ack_in _ ack_cuts
-    (cond_cuts (eqb k 4) error_in _ error_cuts
-    (cond_cuts (eqb k 6) smma_in _ (of_short smma_in smma_cuts) (no_cuts Unknown)))))
+up_in_cuts = unit_bind (octet_in Truncated) _ (cuts_octet Truncated) (λ k. up_unit_cuts (type_of k))
+
+down_unit_cuts : (m : Option MessageType) → CutsUnit (down_unit m)
+down_unit_cuts (Some DataDown) = of_short data_down_in data_down_cuts
+down_unit_cuts (Some AckDown) = ack_cuts
+down_unit_cuts (Some ErrorDown) = error_cuts
+down_unit_cuts (Some DataUp) = no_cuts Unknown
+down_unit_cuts (Some AckUp) = no_cuts Unknown
+down_unit_cuts (Some ErrorUp) = no_cuts Unknown
+down_unit_cuts (Some SmmaUp) = no_cuts Unknown
+down_unit_cuts None = no_cuts Unknown
 
 down_in_cuts : CutsUnit down_in
 unfolding down_in
-down_in_cuts =
-    unit_bind (octet_in Truncated) _ (cuts_octet Truncated) (λ k.
-    cond_cuts (eqb k 1) data_down_in _ (of_short data_down_in data_down_cuts)
-    (cond_cuts (eqb k 3) ack_in _ ack_cuts
-    (cond_cuts (eqb k 5) error_in _ error_cuts (no_cuts Unknown))))
+down_in_cuts = unit_bind (octet_in Truncated) _ (cuts_octet Truncated) (λ k. down_unit_cuts (type_of k))
 
 -- ---- whole lists
 

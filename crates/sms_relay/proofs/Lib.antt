@@ -2,4 +2,5 @@ pub mod CauseLaws
 pub mod FieldLaws
 pub mod FrontLaws
 pub mod Rows
+pub mod TypeLaws
 pub mod UnitLaws

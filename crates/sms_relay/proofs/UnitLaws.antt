@@ -10,9 +10,13 @@ use Rattle.sms_relay.specs.declared.fault.RelayFault.{RelayFault}
 use Rattle.sms_relay.specs.declared.fault.RelayFault.TheVariants.{Truncated, Trailing, Unknown, BadLength}
 use Rattle.sms_relay.specs.declared.frame.Rp.{Rp}
 use Rattle.sms_relay.specs.declared.frame.Rp.TheVariants.{DataUnit, AckUnit, ErrorUnit, Smma}
+use Rattle.sms_relay.specs.declared.message_type.MessageType.{MessageType}
+use Rattle.sms_relay.specs.declared.message_type.MessageType.TheVariants.{DataUp, DataDown, AckUp, AckDown, ErrorUp, ErrorDown, SmmaUp}
+use Rattle.sms_relay.specs.MessageType.{type_of, type_octet}
+use Rattle.sms_relay.proofs.TypeLaws.{type_of-octet}
 use Rattle.sms_relay.specs.Cause.{number_of, IsRpCause}
 use Rattle.sms_relay.specs.RelayGrammar.{IsCentre, IsTpdu, IsUserData, user_data, IsCauseField, data_up, data_down, up_octets, down_octets, GoesUp, GoesDown, IsUp, IsDown}
-use Rattle.sms_relay.specs.RelayReading.{centre_in, nobody_in, tpdu_in, user_data_in, cause_in, data_up_in, data_down_in, ack_in, error_in, smma_in, up_in, down_in, up_at, down_at}
+use Rattle.sms_relay.specs.RelayReading.{up_unit, down_unit, centre_in, nobody_in, tpdu_in, user_data_in, cause_in, data_up_in, data_down_in, ack_in, error_in, smma_in, up_in, down_in, up_at, down_at}
 use Rattle.sms_relay.proofs.FieldLaws.{IsBytes, IsBytes-rest, IsBytes-back, tpdu_takes, tpdu_last, centre_takes, centre_again, nobody_takes, nobody_again, user_data_takes, user_data_again, cause_takes, cause_again, TakesCause}
 
 -- ---- the units, behind their type
@@ -144,18 +148,20 @@ error_down_is xs rp h = subst (λ (y : Rp). IsDown (5 ∷ xs) y) h.is (h.known, 
 
 -- ---- whole lists
 
-of_up : (a b c d : Bool) (k : ℕ) (xs : List ℕ) (z : Rp × List ℕ) → eqb k 0 ≡ a → eqb k 2 ≡ b → eqb k 4 ≡ c → eqb k 6 ≡ d → IsBytes xs
-    → cond a (data_up_in xs) (cond b (ack_in xs) (cond c (error_in xs) (cond d (smma_in xs) (Err Unknown)))) ≡ Ok z → z.1 ≡ [] → IsUp (k ∷ xs) z.0
-of_up true b c d k xs z h0 h2 h4 h6 fits e end = subst (λ (n : ℕ). IsUp (n ∷ xs) z.0) (sym (eqb-true k 0 h0)) (data_up_takes xs z fits e end)
-of_up false true c d k xs z h0 h2 h4 h6 fits e end = subst (λ (n : ℕ). IsUp (n ∷ xs) z.0) (sym (eqb-true k 2 h2)) (ack_up_is xs z.0 (ack_takes xs z fits e end))
-of_up false false true d k xs z h0 h2 h4 h6 fits e end = subst (λ (n : ℕ). IsUp (n ∷ xs) z.0) (sym (eqb-true k 4 h4)) (error_up_is xs z.0 (error_takes xs z fits e end))
-of_up false false false true k xs z h0 h2 h4 h6 fits e end = subst (λ (n : ℕ). IsUp (n ∷ xs) z.0) (sym (eqb-true k 6 h6)) (smma_takes xs z e end)
-of_up false false false false k xs z h0 h2 h4 h6 fits e end = absurd cc
+of_up : (m : Option MessageType) (k : ℕ) (xs : List ℕ) (z : Rp × List ℕ) → type_of k ≡ m → IsBytes xs → up_unit m xs ≡ Ok z → z.1 ≡ [] → IsUp (k ∷ xs) z.0
+of_up (Some DataUp) k xs z is fits e end = subst (λ (n : ℕ). IsUp (n ∷ xs) z.0) (sym (type_of-octet k DataUp is)) (data_up_takes xs z fits e end)
+of_up (Some AckUp) k xs z is fits e end = subst (λ (n : ℕ). IsUp (n ∷ xs) z.0) (sym (type_of-octet k AckUp is)) (ack_up_is xs z.0 (ack_takes xs z fits e end))
+of_up (Some ErrorUp) k xs z is fits e end = subst (λ (n : ℕ). IsUp (n ∷ xs) z.0) (sym (type_of-octet k ErrorUp is)) (error_up_is xs z.0 (error_takes xs z fits e end))
+of_up (Some SmmaUp) k xs z is fits e end = subst (λ (n : ℕ). IsUp (n ∷ xs) z.0) (sym (type_of-octet k SmmaUp is)) (smma_takes xs z e end)
+of_up (Some DataDown) k xs z is fits e end = absurd cc
+of_up (Some AckDown) k xs z is fits e end = absurd cc
+of_up (Some ErrorDown) k xs z is fits e end = absurd cc
+of_up None k xs z is fits e end = absurd cc
 
 up_in_takes : (xs : List ℕ) (z : Rp × List ℕ) → IsBytes xs → up_in xs ≡ Ok z → z.1 ≡ [] → IsUp xs z.0
 unfolding up_in
 up_in_takes [] z fits e end = absurd cc
-up_in_takes (k ∷ xs) z fits e end = of_up (eqb k 0) (eqb k 2) (eqb k 4) (eqb k 6) k xs z refl refl refl refl (λ i. fits (suc i)) e end
+up_in_takes (k ∷ xs) z fits e end = of_up (type_of k) k xs z refl (λ i. fits (suc i)) e end
 
 pub up_takes : (xs : List ℕ) (rp : Rp) → IsBytes xs → up_at xs ≡ Ok rp → IsUp xs rp
 unfolding up_at
@@ -164,17 +170,20 @@ up_takes xs rp fits e =
     let b = bind_ok (end_in Trailing a.0.1) _ rp a.2 in
     subst (λ (y : Rp). IsUp xs y) (ok_is {E = RelayFault} a.0.0 rp b.2) (up_in_takes xs a.0 fits a.1 (end_takes Trailing a.0.1 b.0 b.1))
 
-of_down : (a b c : Bool) (k : ℕ) (xs : List ℕ) (z : Rp × List ℕ) → eqb k 1 ≡ a → eqb k 3 ≡ b → eqb k 5 ≡ c → IsBytes xs
-    → cond a (data_down_in xs) (cond b (ack_in xs) (cond c (error_in xs) (Err Unknown))) ≡ Ok z → z.1 ≡ [] → IsDown (k ∷ xs) z.0
-of_down true b c k xs z h1 h3 h5 fits e end = subst (λ (n : ℕ). IsDown (n ∷ xs) z.0) (sym (eqb-true k 1 h1)) (data_down_takes xs z fits e end)
-of_down false true c k xs z h1 h3 h5 fits e end = subst (λ (n : ℕ). IsDown (n ∷ xs) z.0) (sym (eqb-true k 3 h3)) (ack_down_is xs z.0 (ack_takes xs z fits e end))
-of_down false false true k xs z h1 h3 h5 fits e end = subst (λ (n : ℕ). IsDown (n ∷ xs) z.0) (sym (eqb-true k 5 h5)) (error_down_is xs z.0 (error_takes xs z fits e end))
-of_down false false false k xs z h1 h3 h5 fits e end = absurd cc
+of_down : (m : Option MessageType) (k : ℕ) (xs : List ℕ) (z : Rp × List ℕ) → type_of k ≡ m → IsBytes xs → down_unit m xs ≡ Ok z → z.1 ≡ [] → IsDown (k ∷ xs) z.0
+of_down (Some DataDown) k xs z is fits e end = subst (λ (n : ℕ). IsDown (n ∷ xs) z.0) (sym (type_of-octet k DataDown is)) (data_down_takes xs z fits e end)
+of_down (Some AckDown) k xs z is fits e end = subst (λ (n : ℕ). IsDown (n ∷ xs) z.0) (sym (type_of-octet k AckDown is)) (ack_down_is xs z.0 (ack_takes xs z fits e end))
+of_down (Some ErrorDown) k xs z is fits e end = subst (λ (n : ℕ). IsDown (n ∷ xs) z.0) (sym (type_of-octet k ErrorDown is)) (error_down_is xs z.0 (error_takes xs z fits e end))
+of_down (Some DataUp) k xs z is fits e end = absurd cc
+of_down (Some AckUp) k xs z is fits e end = absurd cc
+of_down (Some ErrorUp) k xs z is fits e end = absurd cc
+of_down (Some SmmaUp) k xs z is fits e end = absurd cc
+of_down None k xs z is fits e end = absurd cc
 
 down_in_takes : (xs : List ℕ) (z : Rp × List ℕ) → IsBytes xs → down_in xs ≡ Ok z → z.1 ≡ [] → IsDown xs z.0
 unfolding down_in
 down_in_takes [] z fits e end = absurd cc
-down_in_takes (k ∷ xs) z fits e end = of_down (eqb k 1) (eqb k 3) (eqb k 5) k xs z refl refl refl (λ i. fits (suc i)) e end
+down_in_takes (k ∷ xs) z fits e end = of_down (type_of k) k xs z refl (λ i. fits (suc i)) e end
 
 pub down_takes : (xs : List ℕ) (rp : Rp) → IsBytes xs → down_at xs ≡ Ok rp → IsDown xs rp
 unfolding down_at
@@ -194,7 +203,7 @@ down_found xs (Err f) fits e = tt
 -- ---- read again
 
 pub up_again : (xs : List ℕ) (rp : Rp) → IsUp xs rp → up_at xs ≡ Ok rp
-unfolding up_at up_in data_up_in ack_in error_in smma_in
+unfolding up_at up_in type_of data_up_in ack_in error_in smma_in
 up_again xs (DataUnit reference centre unit) h =
     rw (h.2, nobody_again (length centre ∷ (centre ++ (length unit ∷ unit))), centre_again centre (length unit ∷ unit) h.0, tpdu_last unit) refl
 up_again xs (AckUnit reference unit) h = rw (h.1, user_data_again unit) refl
@@ -203,7 +212,7 @@ up_again xs (ErrorUnit reference cause unit) h =
 up_again xs (Smma reference) h = rw h refl
 
 pub down_again : (xs : List ℕ) (rp : Rp) → IsDown xs rp → down_at xs ≡ Ok rp
-unfolding down_at down_in data_down_in ack_in error_in
+unfolding down_at down_in type_of data_down_in ack_in error_in
 down_again xs (DataUnit reference centre unit) h =
     rw (h.2, centre_again centre (0 ∷ length unit ∷ unit) h.0, nobody_again (length unit ∷ unit), tpdu_last unit) refl
 down_again xs (AckUnit reference unit) h = rw (h.1, user_data_again unit) refl

@@ -4,7 +4,9 @@ use Rattle.std.specs.Prelude.{◌≡◌, ℕ, ◌<◌, ◌≤◌, ◌⊎◌, Lis
 use Rattle.sms_relay.specs.declared.cause.RpCause.{RpCause}
 use Rattle.sms_relay.specs.declared.frame.Rp.{Rp}
 use Rattle.sms_relay.specs.declared.frame.Rp.TheVariants.{DataUnit, AckUnit, ErrorUnit, Smma}
+use Rattle.sms_relay.specs.declared.message_type.MessageType.TheVariants.{DataUp, DataDown, AckUp, AckDown, ErrorUp, ErrorDown, SmmaUp}
 use Rattle.sms_relay.specs.Cause.{number_of, IsRpCause}
+use Rattle.sms_relay.specs.MessageType.{type_octet}
 
 -- ---- the fields
 
@@ -34,29 +36,29 @@ IsCauseField field cause = (field ≡ 1 ∷ number_of cause ∷ []) ⊎ ((diagno
 
 -- 7.3.1.2: from the handset, the originator's address is empty and the centre is the destination.
 abbrev pub data_up : ℕ → List ℕ → List ℕ → List ℕ
-data_up reference centre unit = 0 ∷ reference ∷ 0 ∷ length centre ∷ (centre ++ (length unit ∷ unit))
+data_up reference centre unit = type_octet DataUp ∷ reference ∷ 0 ∷ length centre ∷ (centre ++ (length unit ∷ unit))
 
 -- 7.3.1.1: to the handset, the centre is the originator and the destination's address is empty.
 abbrev pub data_down : ℕ → List ℕ → List ℕ → List ℕ
-data_down reference centre unit = 1 ∷ reference ∷ length centre ∷ (centre ++ (0 ∷ length unit ∷ unit))
+data_down reference centre unit = type_octet DataDown ∷ reference ∷ length centre ∷ (centre ++ (0 ∷ length unit ∷ unit))
 
 -- 7.3.3
 abbrev pub ack_up : ℕ → Option (List ℕ) → List ℕ
-ack_up reference unit = 2 ∷ reference ∷ user_data unit
+ack_up reference unit = type_octet AckUp ∷ reference ∷ user_data unit
 
 abbrev pub ack_down : ℕ → Option (List ℕ) → List ℕ
-ack_down reference unit = 3 ∷ reference ∷ user_data unit
+ack_down reference unit = type_octet AckDown ∷ reference ∷ user_data unit
 
 -- 7.3.4: written without a diagnostic
 abbrev pub error_up : ℕ → RpCause → Option (List ℕ) → List ℕ
-error_up reference cause unit = 4 ∷ reference ∷ 1 ∷ number_of cause ∷ user_data unit
+error_up reference cause unit = type_octet ErrorUp ∷ reference ∷ 1 ∷ number_of cause ∷ user_data unit
 
 abbrev pub error_down : ℕ → RpCause → Option (List ℕ) → List ℕ
-error_down reference cause unit = 5 ∷ reference ∷ 1 ∷ number_of cause ∷ user_data unit
+error_down reference cause unit = type_octet ErrorDown ∷ reference ∷ 1 ∷ number_of cause ∷ user_data unit
 
 -- 7.3.2
 abbrev pub smma_up : ℕ → List ℕ
-smma_up reference = 6 ∷ reference ∷ []
+smma_up reference = type_octet SmmaUp ∷ reference ∷ []
 
 -- the list of a unit that goes up
 abbrev pub up_octets : Rp → List ℕ
@@ -93,7 +95,7 @@ abbrev pub IsUp : List ℕ → Rp → Type 0
 IsUp octets (DataUnit reference centre unit) = IsCentre centre × IsTpdu unit × (octets ≡ data_up reference centre unit)
 IsUp octets (AckUnit reference unit) = IsUserData unit × (octets ≡ ack_up reference unit)
 IsUp octets (ErrorUnit reference cause unit) =
-    IsRpCause cause × IsUserData unit × ((field : List ℕ) × IsCauseField field cause × (octets ≡ 4 ∷ reference ∷ (field ++ user_data unit)))
+    IsRpCause cause × IsUserData unit × ((field : List ℕ) × IsCauseField field cause × (octets ≡ type_octet ErrorUp ∷ reference ∷ (field ++ user_data unit)))
 IsUp octets (Smma reference) = octets ≡ smma_up reference
 
 -- The octets are a unit to the handset.
@@ -101,7 +103,7 @@ abbrev pub IsDown : List ℕ → Rp → Type 0
 IsDown octets (DataUnit reference centre unit) = IsCentre centre × IsTpdu unit × (octets ≡ data_down reference centre unit)
 IsDown octets (AckUnit reference unit) = IsUserData unit × (octets ≡ ack_down reference unit)
 IsDown octets (ErrorUnit reference cause unit) =
-    IsRpCause cause × IsUserData unit × ((field : List ℕ) × IsCauseField field cause × (octets ≡ 5 ∷ reference ∷ (field ++ user_data unit)))
+    IsRpCause cause × IsUserData unit × ((field : List ℕ) × IsCauseField field cause × (octets ≡ type_octet ErrorDown ∷ reference ∷ (field ++ user_data unit)))
 IsDown octets (Smma reference) = ⊥
 
 -- The octets are the written list of a unit.

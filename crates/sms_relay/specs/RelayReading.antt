@@ -7,7 +7,10 @@ use Rattle.sms_relay.specs.declared.fault.RelayFault.{RelayFault}
 use Rattle.sms_relay.specs.declared.fault.RelayFault.TheVariants.{Truncated, Trailing, Unknown, BadLength}
 use Rattle.sms_relay.specs.declared.frame.Rp.{Rp}
 use Rattle.sms_relay.specs.declared.frame.Rp.TheVariants.{DataUnit, AckUnit, ErrorUnit, Smma}
+use Rattle.sms_relay.specs.declared.message_type.MessageType.{MessageType}
+use Rattle.sms_relay.specs.declared.message_type.MessageType.TheVariants.{DataUp, DataDown, AckUp, AckDown, ErrorUp, ErrorDown, SmmaUp}
 use Rattle.sms_relay.specs.Cause.{cause_of}
+use Rattle.sms_relay.specs.MessageType.{type_of}
 
 -- ---- the fields
 
@@ -88,20 +91,37 @@ smma_in octets = do
 
 -- ---- whole lists
 
+-- the unit of a type that goes up
+abbrev pub up_unit : Option MessageType → List ℕ → Result (Rp × List ℕ) RelayFault
+up_unit (Some DataUp) octets = data_up_in octets
+up_unit (Some AckUp) octets = ack_in octets
+up_unit (Some ErrorUp) octets = error_in octets
+up_unit (Some SmmaUp) octets = smma_in octets
+up_unit (Some DataDown) octets = Err Unknown
+up_unit (Some AckDown) octets = Err Unknown
+up_unit (Some ErrorDown) octets = Err Unknown
+up_unit None octets = Err Unknown
+
+-- the unit of a type that goes down
+abbrev pub down_unit : Option MessageType → List ℕ → Result (Rp × List ℕ) RelayFault
+down_unit (Some DataDown) octets = data_down_in octets
+down_unit (Some AckDown) octets = ack_in octets
+down_unit (Some ErrorDown) octets = error_in octets
+down_unit (Some DataUp) octets = Err Unknown
+down_unit (Some AckUp) octets = Err Unknown
+down_unit (Some ErrorUp) octets = Err Unknown
+down_unit (Some SmmaUp) octets = Err Unknown
+down_unit None octets = Err Unknown
+
 unfoldable pub up_in : List ℕ → Result (Rp × List ℕ) RelayFault
 up_in octets = do
   kind ← octet_in Truncated octets
-  if kind.0 == 0 then data_up_in kind.1
-      else (if kind.0 == 2 then ack_in kind.1
-      else (if kind.0 == 4 then error_in kind.1
-      else (if kind.0 == 6 then smma_in kind.1 else Err Unknown)))
+  up_unit (type_of kind.0) kind.1
 
 unfoldable pub down_in : List ℕ → Result (Rp × List ℕ) RelayFault
 down_in octets = do
   kind ← octet_in Truncated octets
-  if kind.0 == 1 then data_down_in kind.1
-      else (if kind.0 == 3 then ack_in kind.1
-      else (if kind.0 == 5 then error_in kind.1 else Err Unknown))
+  down_unit (type_of kind.0) kind.1
 
 -- what the octets are as a unit from the handset
 unfoldable pub up_at : List ℕ → Result Rp RelayFault

@@ -8,7 +8,7 @@ ghost use Rattle.sms_relay.specs.declared.frame.Rp.{Rp as RpOf};
 use crate::fault::RelayFault;
 use crate::fields::{ack, centre, error, nobody, tpdu};
 use crate::frame::Rp;
-use crate::message_type::{ACK_DOWN, DATA_DOWN, ERROR_DOWN};
+use crate::message_type::MessageType;
 use crate::writing::with_user_data;
 use sms_base::{Cursor, Octets};
 use std::alloc::{AllocError, Global};
@@ -39,10 +39,10 @@ fn whole(octets: &[u8]) -> Result<Rp<'_>, RelayFault>
 fn unit<'a>(cursor: &mut Cursor<'a>) -> Result<Rp<'a>, RelayFault>
     ensures { Takes (λ x. x) result cursor.new (down_in cursor.old) }
 {
-    match cursor.octet(RelayFault::Truncated)? {
-        DATA_DOWN => data(cursor),
-        ACK_DOWN => ack(cursor),
-        ERROR_DOWN => error(cursor),
+    match MessageType::of(cursor.octet(RelayFault::Truncated)?) {
+        Some(MessageType::DataDown) => data(cursor),
+        Some(MessageType::AckDown) => ack(cursor),
+        Some(MessageType::ErrorDown) => error(cursor),
         _ => Err(RelayFault::Unknown),
     }
 }
@@ -86,12 +86,23 @@ fn octets_of(alloc: Global, rp: &Rp<'_>) -> Result<Octets, AllocError>
             centre,
             unit,
         } => data_octets(alloc, *reference, centre.as_slice(), unit.as_slice()),
-        Rp::AckUnit { reference, unit } => { with_user_data(alloc, &[ACK_DOWN, *reference], unit) }
+        Rp::AckUnit { reference, unit } => {
+            with_user_data(alloc, &[MessageType::AckDown.octet(), *reference], unit)
+        }
         Rp::ErrorUnit {
             reference,
             cause,
             unit,
-        } => with_user_data(alloc, &[ERROR_DOWN, *reference, 1, cause.number()], unit),
+        } => with_user_data(
+            alloc,
+            &[
+                MessageType::ErrorDown.octet(),
+                *reference,
+                1,
+                cause.number(),
+            ],
+            unit,
+        ),
         Rp::Smma { .. } => unreachable!(),
     }
 }
@@ -107,7 +118,7 @@ fn data_octets(
     ensures { IfOk result (λ octets. octets ≡ data_down reference centre.now unit.now) }
 {
     let mut out = Vec::with_capacity(alloc, 5 + centre.len() + unit.len())?;
-    out.push(DATA_DOWN)?;
+    out.push(MessageType::DataDown.octet())?;
     out.push(reference)?;
     out.push(centre.len() as u8)?;
     out.extend_from_slice(centre)?;

@@ -8,7 +8,7 @@ ghost use Rattle.sms_relay.specs.declared.frame.Rp.{Rp as RpOf};
 use crate::fault::RelayFault;
 use crate::fields::{ack, centre, error, nobody, tpdu};
 use crate::frame::Rp;
-use crate::message_type::{ACK_UP, DATA_UP, ERROR_UP, SMMA_UP};
+use crate::message_type::MessageType;
 use crate::writing::with_user_data;
 use sms_base::{Cursor, Octets};
 use std::alloc::{AllocError, Global};
@@ -39,11 +39,11 @@ fn whole(octets: &[u8]) -> Result<Rp<'_>, RelayFault>
 fn unit<'a>(cursor: &mut Cursor<'a>) -> Result<Rp<'a>, RelayFault>
     ensures { Takes (λ x. x) result cursor.new (up_in cursor.old) }
 {
-    match cursor.octet(RelayFault::Truncated)? {
-        DATA_UP => data(cursor),
-        ACK_UP => ack(cursor),
-        ERROR_UP => error(cursor),
-        SMMA_UP => smma(cursor),
+    match MessageType::of(cursor.octet(RelayFault::Truncated)?) {
+        Some(MessageType::DataUp) => data(cursor),
+        Some(MessageType::AckUp) => ack(cursor),
+        Some(MessageType::ErrorUp) => error(cursor),
+        Some(MessageType::SmmaUp) => smma(cursor),
         _ => Err(RelayFault::Unknown),
     }
 }
@@ -95,13 +95,23 @@ fn octets_of(alloc: Global, rp: &Rp<'_>) -> Result<Octets, AllocError>
             centre,
             unit,
         } => data_octets(alloc, *reference, centre.as_slice(), unit.as_slice()),
-        Rp::AckUnit { reference, unit } => { with_user_data(alloc, &[ACK_UP, *reference], unit) }
+        Rp::AckUnit { reference, unit } => {
+            with_user_data(alloc, &[MessageType::AckUp.octet(), *reference], unit)
+        }
         Rp::ErrorUnit {
             reference,
             cause,
             unit,
-        } => with_user_data(alloc, &[ERROR_UP, *reference, 1, cause.number()], unit),
-        Rp::Smma { reference } => with_user_data(alloc, &[SMMA_UP, *reference], &None),
+        } => with_user_data(
+            alloc,
+            &[MessageType::ErrorUp.octet(), *reference, 1, cause.number()],
+            unit,
+        ),
+        Rp::Smma { reference } => with_user_data(
+            alloc,
+            &[MessageType::SmmaUp.octet(), *reference],
+            &None,
+        ),
     }
 }
 
@@ -116,7 +126,7 @@ fn data_octets(
     ensures { IfOk result (λ octets. octets ≡ data_up reference centre.now unit.now) }
 {
     let mut out = Vec::with_capacity(alloc, 5 + centre.len() + unit.len())?;
-    out.push(DATA_UP)?;
+    out.push(MessageType::DataUp.octet())?;
     out.push(reference)?;
     out.push(0)?;
     out.push(centre.len() as u8)?;
