@@ -12,7 +12,7 @@ use Rattle.sms_relay.specs.declared.fault.RelayFault.TheVariants.{Truncated, Tra
 use Rattle.sms_relay.specs.Cause.{number_of, cause_of, IsRpCause}
 use Rattle.sms_relay.specs.RelayGrammar.{IsCentre, IsTpdu, IsUserData, user_data, IsCauseField}
 use Rattle.sms_relay.specs.RelayReading.{centre_in, nobody_in, tpdu_in, user_data_in, cause_in}
-use Rattle.sms_relay.proofs.CauseLaws.{cause_of-number, cause_of-is}
+use Rattle.sms_relay.proofs.CauseLaws.{cause_of-number, cause_of-is, number_of-is}
 
 -- ---- octets
 
@@ -194,10 +194,11 @@ cause_takes xs x e =
 pub cause_again : (field : List ℕ) (cause : RpCause) (rest : List ℕ) → IsCauseField field cause → IsRpCause cause → cause_in (field ++ rest) ≡ Ok (cause, rest)
 unfolding cause_in
 cause_again field cause rest spelled is =
-    let small : ltb (number_of cause) 128 ≡ true = lt-ltb (number_of cause) 128 is.0 in
+    let known = number_of-is cause is in
+    let small : ltb (number_of cause) 128 ≡ true = lt-ltb (number_of cause) 128 known.0 in
     elim spelled [
-      | inl e ↦ rw (e, small, is.1) refl
-      | inr e ↦ rw (e.1, small, is.1) refl
+      | inl e ↦ rw (e, small, known.1) refl
+      | inr e ↦ rw (e.1, small, known.1) refl
     ]
 
 cuts_behind : (b : Bool) (cause : RpCause) → CutsShort Truncated (λ rest. cond b (Ok (cause, rest)) (octet_in Truncated rest >>= (λ diagnostic. Ok (cause, diagnostic.1))))

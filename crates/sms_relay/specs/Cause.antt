@@ -43,6 +43,7 @@ named =
 unfoldable pub cause_of : ℕ → RpCause
 cause_of number = unwrap_or (find (λ cause. number_of cause == number) named) (Reserved number)
 
--- A cause of a frame: its number is below 128, and it is the cause that this number stands for.
+-- A cause of a frame: one that has a name, or a number below 128 that no named cause has.
 abbrev pub IsRpCause : RpCause → Type 0
-IsRpCause cause = (number_of cause < 128) × (cause_of (number_of cause) ≡ cause)
+IsRpCause (Reserved number) = (number < 128) × (cause_of number ≡ Reserved number)
+IsRpCause named_cause = Unit {0}
