@@ -1,5 +1,5 @@
 -- The values of RP-Cause (3GPP TS 24.011 8.2.5.4 and annex E).
-use Rattle.std.specs.Prelude.{◌≡◌, ℕ, ◌<◌, List, [], ◌∷◌, Bool, ◌==◌, unwrap_or}
+use Rattle.std.specs.Prelude.{◌≡◌, ℕ, ◌<◌, List, [], ◌∷◌, ◌==◌, unwrap_or}
 use Rattle.std.specs.List.{find}
 use Rattle.sms_relay.specs.declared.cause.RpCause.{RpCause}
 use Rattle.sms_relay.specs.declared.cause.RpCause.TheVariants.{UnassignedNumber, OperatorDeterminedBarring, CallBarred, ShortMessageTransferRejected, MemoryCapacityExceeded, DestinationOutOfOrder, UnidentifiedSubscriber, FacilityRejected, UnknownSubscriber, NetworkOutOfOrder, TemporaryFailure, Congestion, ResourcesUnavailable, RequestedFacilityNotSubscribed, RequestedFacilityNotImplemented, InvalidShortMessageTransferReference, SemanticallyIncorrectMessage, InvalidMandatoryInformation, MessageTypeNonExistent, MessageNotCompatible, InformationElementNonExistent, ProtocolError, Interworking, Reserved}
