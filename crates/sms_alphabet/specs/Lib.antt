@@ -1,2 +1,5 @@
 pub mod DataCodingScheme
 pub mod Packing
+pub mod Spelling
+pub mod TextReading
+pub mod Ucs2

@@ -3,6 +3,8 @@ use Rattle.std.proofs.Common.{◌≡◌, ◌≢◌, ℕ, zero, suc, ◌+◌, ◌
 use Rattle.std.specs.Prelude.{◌==◌, position, find, option_map, Contains, if◌then◌else◌}
 use Rattle.std.specs.List.{list_all}
 use Rattle.std.specs.Option.{IfSome}
+use Rattle.std.specs.List.{AllByRecursion}
+use lib.Utf8.{scalar, scalars}
 use Rattle.std.proofs.lemmas.List.Quantifiers.{position-Some}
 use Rattle.std.proofs.lemmas.Bool.{eqb-true, eqb-false, ne_eqb, eq-eqb}
 use Rattle.sms_base.specs.declared.alphabet.Code.{Code}
@@ -11,7 +13,7 @@ use Rattle.sms_base.specs.declared.alphabet.TheConstants.{ESCAPE, MAIN_TABLE, EX
 use Rattle.sms_base.specs.Alphabet.{IsPair, septets_in, main_septet_of, extended_septet_of, first_code, code_for, main_character, extended_character_of, escaped_character, text_in, IsSpelling}
 
 -- each element, with its place counted from a number, passes
-each_from : (ℕ → ℕ → Bool) → ℕ → List ℕ → Bool
+pub each_from : (ℕ → ℕ → Bool) → ℕ → List ℕ → Bool
 each_from test i [] = true
 each_from test i (x ∷ xs) = test i x && each_from test (suc i) xs
 
@@ -20,7 +22,7 @@ both true true e = (refl, refl)
 both true false e = absurd cc
 both false b e = absurd cc
 
-each_at : (test : ℕ → ℕ → Bool) (i : ℕ) (xs : List ℕ) (k : ℕ) → each_from test i xs ≡ true → k < length xs → test (i + k) (get_or xs k 0) ≡ true
+pub each_at : (test : ℕ → ℕ → Bool) (i : ℕ) (xs : List ℕ) (k : ℕ) → each_from test i xs ≡ true → k < length xs → test (i + k) (get_or xs k 0) ≡ true
 unfolding each_from
 each_at test i [] k e lt = absurd (omega arith)
 each_at test i (x ∷ xs) zero e lt = let same : i + 0 ≡ i = omega arith in ap (λ (n : ℕ). test n x) same ∙ (both (test i x) (each_from test (suc i) xs) e).0
@@ -184,3 +186,43 @@ one_spelling a b [] s t = s ∙ sym t
 one_spelling a b (character ∷ text) s t =
     let code = one_code s.0 t.0 character s.2 t.2 in
     s.3 ∙ ap (λ (c : Code). septets_in c ++ s.1) code ∙ ap (λ (r : List ℕ). septets_in t.0 ++ r) (one_spelling s.1 t.1 text s.4 t.4) ∙ sym t.3
+
+-- ---- what is read is a text
+
+scalar_test : ℕ → ℕ → Bool
+scalar_test septet character = scalar (main_character septet) && scalar (escaped_character septet)
+
+scalar_passes : each_from scalar_test 0 MAIN_TABLE ≡ true
+unfolding each_from scalar_test main_character escaped_character extended_character_of
+scalar_passes = refl
+
+abbrev AreScalar : ℕ → Type 0
+AreScalar septet = (scalar (main_character septet) ≡ true) × (scalar (escaped_character septet) ≡ true)
+
+are_scalar : (septet : ℕ) → septet < 128 → AreScalar septet
+unfolding scalar_test
+are_scalar septet lt =
+    let passed : scalar_test (0 + septet) (get_or MAIN_TABLE septet 0) ≡ true = each_at scalar_test 0 MAIN_TABLE septet scalar_passes lt in
+    let zeroed : 0 + septet ≡ septet = omega arith in
+    both (scalar (main_character septet)) (scalar (escaped_character septet)) (ap (λ (n : ℕ). scalar_test n (get_or MAIN_TABLE septet 0)) (sym zeroed) ∙ passed)
+
+and_both : (a b : Bool) → a ≡ true → b ≡ true → a && b ≡ true
+and_both true true p q = refl
+and_both true false p q = q
+and_both false b p q = p
+
+cond_scalar : (b : Bool) (x y : ℕ) → scalar x ≡ true → scalar y ≡ true → scalar (cond b x y) ≡ true
+cond_scalar true x y p q = p
+cond_scalar false x y p q = q
+
+cond_scalars : (b : Bool) (xs ys : List ℕ) → scalars xs ≡ true → scalars ys ≡ true → scalars (cond b xs ys) ≡ true
+cond_scalars true xs ys p q = p
+cond_scalars false xs ys p q = q
+
+pub text_scalars : (septets : List ℕ) → AllByRecursion (λ septet. septet < 128) septets → scalars (text_in septets) ≡ true
+text_scalars [] h = refl
+text_scalars (septet ∷ []) h = and_both _ _ (cond_scalar (eqb septet 27) 32 (main_character septet) refl (are_scalar septet h.0).0) refl
+text_scalars (septet ∷ next ∷ rest) h =
+    cond_scalars (eqb septet 27) (escaped_character next ∷ text_in rest) (main_character septet ∷ text_in (next ∷ rest))
+    (and_both _ _ (are_scalar next h.1.0).1 (text_scalars rest h.1.1))
+    (and_both _ _ (are_scalar septet h.0).0 (text_scalars (next ∷ rest) h.1))

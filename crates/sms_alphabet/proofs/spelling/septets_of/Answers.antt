@@ -1,0 +1,9 @@
+use Rattle.std.specs.Str.{chars}
+use Rattle.sms_alphabet.proofs.Spellings.{found, only}
+use Rattle.sms_alphabet.proofs.spelling.septets_of.Goals as goal
+
+pub returns-clause-found : goal.returns-clause-found
+returns-clause-found c = found (chars c.args.text.now) c.spell.result c.spell.ensures
+
+pub returns-clause-only : goal.returns-clause-only
+returns-clause-only c = λ septets s. only (chars c.args.text.now) septets c.spell.result c.spell.ensures s
