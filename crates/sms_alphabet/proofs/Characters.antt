@@ -1,13 +1,15 @@
 -- Walking through a text, character by character.
-use Rattle.std.proofs.Common.{◌≡◌, ℕ, ◌+◌, ◌*◌, ◌<◌, ◌≤◌, List, [], ◌∷◌, ◌++◌, length, flat_map, Option, Some, None, refl, sym, ap, subst, ◌∙◌, arith}
+use Rattle.std.proofs.Common.{Bool, true, false, cond, ltb, ◌-◌, ◌/◌, ◌%◌, ◌≡◌, ℕ, ◌+◌, ◌*◌, ◌<◌, ◌≤◌, List, [], ◌∷◌, ◌++◌, length, flat_map, Option, Some, None, refl, sym, ap, subst, ◌∙◌, arith}
 use Rattle.std.specs.Str.{chars, IsUtf8, encode_utf8_all}
-use Rattle.std.specs.Char.{encode_utf8}
+use Rattle.std.specs.Char.{encode_utf8, len_utf8}
+use Rattle.std.proofs.lemmas.Bool.{ltb-false, le-ltb}
 use Rattle.std.proofs.lemmas.List.{length-append, append_assoc, append-nil}
-use Rattle.std.proofs.lemmas.Str.{chars_past_char, IsUtf8-past_char, chars-nil, length-le-encodes, encodes-chars}
+use Rattle.std.proofs.lemmas.Str.{chars_past_char, IsUtf8-past_char, chars-nil, length-encode, len_utf8_bounds, encodes-chars}
 use Rattle.sms_base.specs.declared.alphabet.Code.{Code}
 use Rattle.sms_base.specs.declared.alphabet.Code.TheVariants.{Main, Extended}
 use Rattle.sms_base.specs.Alphabet.{septets_in, code_for}
 use Rattle.sms_alphabet.specs.Spelling.{septets_for, septets_of_code}
+use Rattle.sms_alphabet.specs.Ucs2.{unit_octets, octets_for}
 
 -- What is put out so far, and what the rest of the text puts out, are what the whole text puts out.
 pub record Along (put : ℕ → List ℕ) (text rest out : List ℕ) : Type 0 where
@@ -46,10 +48,27 @@ character_length : (character : ℕ) → length (septets_for character) ≤ 2
 unfolding septets_for
 character_length character = code_length (code_for character)
 
-few : (cs : List ℕ) → length (flat_map septets_for cs) ≤ 2 * length cs
-few [] = omega arith
-few (c ∷ cs) = omega (arith, length-append (septets_for c) (flat_map septets_for cs), character_length c, few cs)
+few : (put : ℕ → List ℕ) → ((c : ℕ) → length (put c) ≤ 2 * length (encode_utf8 c)) → (cs : List ℕ) → length (flat_map put cs) ≤ 2 * length (encode_utf8_all cs)
+few put each [] = omega arith
+few put each (c ∷ cs) = omega (arith, length-append (put c) (flat_map put cs), length-append (encode_utf8 c) (encode_utf8_all cs), each c, few put each cs)
+
+bound : (put : ℕ → List ℕ) → ((c : ℕ) → length (put c) ≤ 2 * length (encode_utf8 c)) → (text : List ℕ) → IsUtf8 text → length (flat_map put (chars text)) ≤ 2 * length text
+bound put each text u = omega (arith, few put each (chars text), ap length (encodes-chars text u))
 
 -- a text has at most two septets for each of its octets
 pub septets_bound : (text : List ℕ) → IsUtf8 text → length (flat_map septets_for (chars text)) ≤ 2 * length text
-septets_bound text u = omega (arith, few (chars text), length-le-encodes (chars text), ap length (encodes-chars text u))
+septets_bound = bound septets_for (λ c. omega (arith, character_length c, length-encode c, len_utf8_bounds c))
+
+-- a character has at most two octets of UCS2 for each octet of UTF-8
+long : (c : ℕ) (b : Bool) → ltb c 65536 ≡ b → length (flat_map unit_octets (cond b (c ∷ []) ((0xD800 + (c - 65536) / 0x400) ∷ (0xDC00 + (c - 65536) % 0x400) ∷ []))) ≤ 2 * len_utf8 c
+long c true t = omega (arith, len_utf8_bounds c)
+long c false t =
+    let above : 65536 ≤ c = ltb-false c 65536 t in
+    rw (le-ltb c 128 (omega arith), le-ltb c 2048 (omega arith), t) (omega arith)
+
+octets_length : (c : ℕ) → length (octets_for c) ≤ 2 * length (encode_utf8 c)
+unfolding octets_for
+octets_length c = rw (length-encode c) (long c (ltb c 65536) refl)
+
+pub octets_bound : (text : List ℕ) → IsUtf8 text → length (flat_map octets_for (chars text)) ≤ 2 * length text
+octets_bound = bound octets_for octets_length

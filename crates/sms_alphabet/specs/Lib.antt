@@ -3,3 +3,4 @@ pub mod Packing
 pub mod Spelling
 pub mod TextReading
 pub mod Ucs2
+pub mod Ucs2Reading

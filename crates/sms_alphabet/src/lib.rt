@@ -10,7 +10,7 @@ mod ucs2;
 mod unpacking;
 
 pub use packing::pack;
-pub use reading::ReadingError;
+pub use reading::{ReadingError, text_of};
 pub use scheme::{Coding, dcs};
 pub use spelling::{SpellingError, septets_of};
 pub use ucs2::{Ucs2Error, ucs2_of};

@@ -1,11 +1,10 @@
 //! Septets into texts.
-ghost use Rattle.std.specs.Prelude.{◌≡◌, ◌++◌, IfOk, OnOk, nat_lt};
+ghost use Rattle.std.specs.Prelude.{◌≡◌, true, IfOk, nat_lt};
 ghost use Rattle.std.specs.List.{list_all};
 ghost use Rattle.std.specs.Str.{chars, encode_utf8_all};
 ghost use Rattle.std.specs.String.{string_bytes};
 ghost use Rattle.sms_base.specs.Alphabet.{text_in};
 ghost use Rattle.sms_alphabet.specs.TextReading.{AnswersText, text_read};
-ghost use Rattle.sms_alphabet.specs.Packing.{AreSeptets};
 ghost use Rattle.sms_alphabet.specs.declared.reading.ReadingError.TheVariants.{NoMemory};
 
 use sms_base::{ESCAPE, character_after_escape, character_of};
@@ -37,10 +36,11 @@ fn are_septets(octets: &[u8]) -> bool
     octets.iter().all(|octet| *octet < 128)
 }
 
-fn read(alloc: Global, septets: &[u8]) -> Result<String, AllocError>
-    requires { AreSeptets septets.now }
+fn text_of_septets(alloc: Global, septets: &[u8]) -> Result<String, AllocError>
+    requires { list_all (λ septet. nat_lt septet 128) septets.now ≡ true }
     ensures { IfOk result (λ text. string_bytes text ≡ encode_utf8_all (text_in septets.now)) }
 {
+    // No character takes more than two octets of UTF-8 for each of its septets.
     let mut text = String::with_capacity(alloc, 2 * septets.len())?;
     let mut escaped = false;
     for septet in septets {
@@ -57,4 +57,18 @@ fn read(alloc: Global, septets: &[u8]) -> Result<String, AllocError>
         text.push(' ')?;
     }
     Ok(text)
+}
+
+/// The text that septets of the default alphabet, one an octet, are read as (3GPP TS 23.038 6.2.1).
+///
+/// ESC before a septet that the extension table lacks reads as the character of the main table; ESC ESC, and ESC as
+/// the last septet, read as a space. Takes memory once.
+#[tactic(auto, unfolding(crate::specs::TextReading::text_read))]
+pub fn text_of(alloc: Global, septets: &[u8]) -> Result<String, ReadingError>
+    ensures { AnswersText (λ text. chars (string_bytes text)) result (text_read septets.now) }
+{
+    if !are_septets(septets) {
+        return Err(ReadingError::NotSeptet);
+    }
+    Ok(text_of_septets(alloc, septets)?)
 }

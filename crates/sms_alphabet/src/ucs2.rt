@@ -1,10 +1,15 @@
 //! Texts into UCS2 and back.
 ghost use Rattle.std.specs.Prelude.{◌≡◌, ◌++◌, ◌+◌, ◌*◌, ◌<◌, ◌≤◌, ℕ, List, Ok, IfOk, OnOk, flat_map, length};
 ghost use Rattle.std.specs.Str.{chars};
-ghost use Rattle.sms_alphabet.specs.Ucs2.{unit_octets, octets_for, ucs2_for};
+ghost use Rattle.std.specs.Char.{IsScalar};
+ghost use Rattle.std.specs.Char.Utf16.{is_high_surrogate, is_low_surrogate};
+ghost use Rattle.std.specs.String.{string_bytes};
+ghost use Rattle.sms_base.specs.Reading.{Takes};
+ghost use Rattle.sms_alphabet.specs.Ucs2.{unit_octets, octets_for, ucs2_for, ucs2_in, AnswersUcs2};
+ghost use Rattle.sms_alphabet.specs.Ucs2Reading.{unit_in, partner_in, character_at, character_in};
 ghost use Rattle.sms_alphabet.specs.declared.ucs2.Ucs2Error.TheVariants.{NoMemory};
 
-use sms_base::Octets;
+use sms_base::{Cursor, Octets};
 use std::alloc::{AllocError, Global};
 use thiserror::Error;
 
@@ -79,4 +84,76 @@ pub fn ucs2_of(alloc: Global, text: &str) -> Result<Octets, AllocError>
         push_octets(&mut out, character)?;
     }
     Ok(out)
+}
+
+// Whether a unit is the first half of a surrogate pair.
+fn is_high(unit: u16) -> bool
+    ensures { result ≡ is_high_surrogate unit }
+{
+    (0xD800..0xDC00).contains(&unit)
+}
+
+// Whether a unit is the second half of a surrogate pair.
+fn is_low(unit: u16) -> bool
+    ensures { result ≡ is_low_surrogate unit }
+{
+    (0xDC00..0xE000).contains(&unit)
+}
+
+// The character of a code.
+fn character_with(code: u32) -> char
+    requires { IsScalar code }
+    ensures { result ≡ code }
+{
+    match char::from_u32(code) {
+        Some(character) => character,
+        None => unreachable!(),
+    }
+}
+
+#[tactic(auto, unfolding(crate::specs::Ucs2Reading::unit_in))]
+fn unit(octets: &mut Cursor<'_>) -> Result<u16, Ucs2Error>
+    ensures { Takes (λ x. x) result octets.new (unit_in octets.old) }
+{
+    let high = octets.octet(Ucs2Error::OddLength)?;
+    let low = octets.octet(Ucs2Error::OddLength)?;
+    Ok(256 * u16::from(high) + u16::from(low))
+}
+
+// The unit behind a high surrogate.
+#[tactic(auto, unfolding(crate::specs::Ucs2Reading::partner_in))]
+fn partner(octets: &mut Cursor<'_>) -> Result<u16, Ucs2Error>
+    ensures { Takes (λ x. x) result octets.new (partner_in octets.old) }
+{
+    if octets.is_empty() {
+        return Err(Ucs2Error::LoneSurrogate);
+    }
+    unit(octets)
+}
+
+// The character of a unit, and of the one behind it where the first is a high surrogate.
+#[tactic(auto, unfolding(crate::specs::Ucs2Reading::character_at))]
+fn character_of(unit: u16, octets: &mut Cursor<'_>) -> Result<char, Ucs2Error>
+    ensures { Takes (λ x. x) result octets.new (character_at unit octets.old) }
+{
+    if is_low(unit) {
+        return Err(Ucs2Error::LoneSurrogate);
+    }
+    if !is_high(unit) {
+        return Ok(character_with(u32::from(unit)));
+    }
+    let next = partner(octets)?;
+    if !is_low(next) {
+        return Err(Ucs2Error::LoneSurrogate);
+    }
+    let code = 0x1_0000 + (u32::from(unit) - 0xD800) * 0x400 + (u32::from(next) - 0xDC00);
+    Ok(character_with(code))
+}
+
+#[tactic(auto, unfolding(crate::specs::Ucs2Reading::character_in))]
+fn character(octets: &mut Cursor<'_>) -> Result<char, Ucs2Error>
+    ensures { Takes (λ x. x) result octets.new (character_in octets.old) }
+{
+    let unit = unit(octets)?;
+    character_of(unit, octets)
 }
