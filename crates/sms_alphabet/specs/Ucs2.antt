@@ -33,15 +33,16 @@ ucs2_in [] = Ok []
 ucs2_in (a ∷ []) = Err OddLength
 ucs2_in (a ∷ b ∷ []) =
     let unit = unit_of a b in
-    if is_high_surrogate unit then Err LoneSurrogate
-    else (if is_low_surrogate unit then Err LoneSurrogate else Ok (unit ∷ []))
+    if is_low_surrogate unit then Err LoneSurrogate
+    else (if is_high_surrogate unit then Err LoneSurrogate else Ok (unit ∷ []))
 ucs2_in (a ∷ b ∷ c ∷ []) =
     if is_low_surrogate (unit_of a b) then Err LoneSurrogate else Err OddLength
 ucs2_in (a ∷ b ∷ c ∷ d ∷ rest) =
     let unit = unit_of a b in
     let next = unit_of c d in
-    if is_high_surrogate unit then (if is_low_surrogate next then behind (surrogate_pair_char unit next) (ucs2_in rest) else Err LoneSurrogate)
-    else (if is_low_surrogate unit then Err LoneSurrogate else behind unit (ucs2_in (c ∷ d ∷ rest)))
+    if is_low_surrogate unit then Err LoneSurrogate
+    else (if is_high_surrogate unit then (if is_low_surrogate next then behind (surrogate_pair_char unit next) (ucs2_in rest) else Err LoneSurrogate)
+    else behind unit (ucs2_in (c ∷ d ∷ rest)))
 
 -- The answer, seen by view, is the wanted one. Want of memory is told only where there is a text.
 abbrev pub AnswersUcs2 : {X : Type 0} → (X → List ℕ) → Result X Ucs2Error → Result (List ℕ) Ucs2Error → Type 0
@@ -49,3 +50,10 @@ AnswersUcs2 view (Ok text) wanted = wanted ≡ Ok (view text)
 AnswersUcs2 view (Err NoMemory) wanted = (text : List ℕ) × (wanted ≡ Ok text)
 AnswersUcs2 view (Err OddLength) wanted = wanted ≡ Err OddLength
 AnswersUcs2 view (Err LoneSurrogate) wanted = wanted ≡ Err LoneSurrogate
+
+-- a test of the same: whether there is a text, else the fault
+abbrev pub Tested : Result (Unit {0}) Ucs2Error → Result (List ℕ) Ucs2Error → Type 0
+Tested (Ok passed) wanted = (text : List ℕ) × (wanted ≡ Ok text)
+Tested (Err NoMemory) wanted = ⊥
+Tested (Err OddLength) wanted = wanted ≡ Err OddLength
+Tested (Err LoneSurrogate) wanted = wanted ≡ Err LoneSurrogate

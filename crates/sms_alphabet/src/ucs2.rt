@@ -5,7 +5,7 @@ ghost use Rattle.std.specs.Char.{IsScalar};
 ghost use Rattle.std.specs.Char.Utf16.{is_high_surrogate, is_low_surrogate};
 ghost use Rattle.std.specs.String.{string_bytes};
 ghost use Rattle.sms_base.specs.Reading.{Takes};
-ghost use Rattle.sms_alphabet.specs.Ucs2.{unit_octets, octets_for, ucs2_for, ucs2_in, AnswersUcs2};
+ghost use Rattle.sms_alphabet.specs.Ucs2.{unit_octets, octets_for, ucs2_for, ucs2_in, Tested, AnswersUcs2};
 ghost use Rattle.sms_alphabet.specs.Ucs2Reading.{unit_in, partner_in, character_at, character_in};
 ghost use Rattle.sms_alphabet.specs.declared.ucs2.Ucs2Error.TheVariants.{NoMemory};
 
@@ -156,4 +156,42 @@ fn character(octets: &mut Cursor<'_>) -> Result<char, Ucs2Error>
 {
     let unit = unit(octets)?;
     character_of(unit, octets)
+}
+
+// Whether octets have a text.
+fn test(octets: &[u8]) -> Result<(), Ucs2Error>
+    ensures { Tested result (ucs2_in octets.now) }
+{
+    let mut rest = Cursor::of(octets);
+    while !rest.is_empty() {
+        character(&mut rest)?;
+    }
+    Ok(())
+}
+
+// The text of octets that have one.
+fn read(alloc: Global, octets: &[u8]) -> Result<String, AllocError>
+    requires { (text : List ℕ) × (ucs2_in octets.now ≡ Ok text) }
+    ensures { IfOk result (λ text. ucs2_in octets.now ≡ Ok (chars (string_bytes text))) }
+{
+    // No character takes more than three octets of UTF-8 for each of its units.
+    let mut text = String::with_capacity(alloc, octets.len() / 2 * 3)?;
+    let mut rest = Cursor::of(octets);
+    while !rest.is_empty() {
+        match character(&mut rest) {
+            Ok(character) => text.push(character)?,
+            Err(_) => unreachable!(),
+        }
+    }
+    Ok(text)
+}
+
+/// The text of octets in UCS2, the high octet of a unit first (3GPP TS 23.038 6.2.3).
+///
+/// Refuses the first fault from the left: half a surrogate pair alone, or an octet left over. Takes memory once.
+pub fn ucs2_text(alloc: Global, octets: &[u8]) -> Result<String, Ucs2Error>
+    ensures { AnswersUcs2 (λ text. chars (string_bytes text)) result (ucs2_in octets.now) }
+{
+    test(octets)?;
+    Ok(read(alloc, octets)?)
 }
