@@ -46,7 +46,7 @@ pair_step unit c d rest false true true l h p = rw (l, h, p) refl
 pair_step unit c d rest false true false l h p = rw (l, h, p) refl
 pair_step unit c d rest false false paired l h p = rw (l, h) refl
 
-ucs2_step : (octet : ℕ) (rest : List ℕ) → ucs2_in (octet ∷ rest) ≡ step (character_in (octet ∷ rest))
+pub ucs2_step : (octet : ℕ) (rest : List ℕ) → ucs2_in (octet ∷ rest) ≡ step (character_in (octet ∷ rest))
 unfolding ucs2_in character_in unit_in
 ucs2_step a [] = refl
 ucs2_step a (b ∷ []) = lone_step (unit_of a b) _ _ refl refl

@@ -4,3 +4,4 @@ pub mod Spelling
 pub mod TextReading
 pub mod Ucs2
 pub mod Ucs2Reading
+pub mod FaultCodes

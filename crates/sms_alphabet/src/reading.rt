@@ -22,6 +22,21 @@ pub enum ReadingError {
     NoMemory,
 }
 
+impl ReadingError {
+    ghost use Rattle.std.specs.Prelude.{◌≡◌};
+    ghost use Rattle.sms_alphabet.specs.FaultCodes.{reading_code};
+
+    /// The code of the fault in reports, S2; NOMEMORY where memory was refused.
+    pub fn code(self) -> &'static str
+        ensures { result.now ≡ reading_code self }
+    {
+        match self {
+            ReadingError::NotSeptet => "S2",
+            ReadingError::NoMemory => "NOMEMORY",
+        }
+    }
+}
+
 impl From<AllocError> for ReadingError {
     ghost from_gives = { λ _ e. e ≡ NoMemory };
 

@@ -20,6 +20,21 @@ pub enum SpellingError {
     NoMemory,
 }
 
+impl SpellingError {
+    ghost use Rattle.std.specs.Prelude.{◌≡◌};
+    ghost use Rattle.sms_alphabet.specs.FaultCodes.{spelling_code};
+
+    /// The code of the fault in reports, S1; NOMEMORY where memory was refused.
+    pub fn code(self) -> &'static str
+        ensures { result.now ≡ spelling_code self }
+    {
+        match self {
+            SpellingError::NoCode(_) => "S1",
+            SpellingError::NoMemory => "NOMEMORY",
+        }
+    }
+}
+
 impl From<AllocError> for SpellingError {
     ghost from_gives = { λ _ e. e ≡ NoMemory };
 

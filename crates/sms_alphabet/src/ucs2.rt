@@ -27,6 +27,22 @@ pub enum Ucs2Error {
     NoMemory,
 }
 
+impl Ucs2Error {
+    ghost use Rattle.std.specs.Prelude.{◌≡◌};
+    ghost use Rattle.sms_alphabet.specs.FaultCodes.{ucs2_code};
+
+    /// The code of the fault in reports, S4 and S5; NOMEMORY where memory was refused.
+    pub fn code(self) -> &'static str
+        ensures { result.now ≡ ucs2_code self }
+    {
+        match self {
+            Ucs2Error::OddLength => "S4",
+            Ucs2Error::LoneSurrogate => "S5",
+            Ucs2Error::NoMemory => "NOMEMORY",
+        }
+    }
+}
+
 impl From<AllocError> for Ucs2Error {
     ghost from_gives = { λ _ e. e ≡ NoMemory };
 

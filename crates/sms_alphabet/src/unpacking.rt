@@ -20,6 +20,22 @@ pub enum UnpackError {
     NoMemory,
 }
 
+impl UnpackError {
+    ghost use Rattle.std.specs.Prelude.{◌≡◌};
+    ghost use Rattle.sms_alphabet.specs.FaultCodes.{unpack_code};
+
+    /// The code of the fault in reports, S3 and S6; NOMEMORY where memory was refused.
+    pub fn code(self) -> &'static str
+        ensures { result.now ≡ unpack_code self }
+    {
+        match self {
+            UnpackError::TooShort => "S3",
+            UnpackError::SpareBits => "S6",
+            UnpackError::NoMemory => "NOMEMORY",
+        }
+    }
+}
+
 impl From<AllocError> for UnpackError {
     ghost from_gives = { λ _ e. e ≡ NoMemory };
 
