@@ -1,10 +1,10 @@
 //! Septets into texts.
-ghost use Rattle.std.specs.Prelude.{◌≡◌, true, IfOk, nat_lt};
+ghost use Rattle.std.specs.Prelude.{◌≡◌, true, ℕ, List, Ok, IfOk, nat_lt};
 ghost use Rattle.std.specs.List.{list_all};
 ghost use Rattle.std.specs.Str.{chars, encode_utf8_all};
 ghost use Rattle.std.specs.String.{string_bytes};
 ghost use Rattle.sms_base.specs.Alphabet.{text_in};
-ghost use Rattle.sms_alphabet.specs.TextReading.{AnswersText, text_read};
+ghost use Rattle.sms_alphabet.specs.TextReading.{AnswersText, IsReading, text_read};
 ghost use Rattle.sms_alphabet.specs.declared.reading.ReadingError.TheVariants.{NoMemory};
 
 use sms_base::{ESCAPE, character_after_escape, character_of};
@@ -74,16 +74,24 @@ fn text_of_septets(alloc: Global, septets: &[u8]) -> Result<String, AllocError>
     Ok(text)
 }
 
-/// The text that septets of the default alphabet, one an octet, are read as (3GPP TS 23.038 6.2.1).
-///
-/// ESC before a septet that the extension table lacks reads as the character of the main table; ESC ESC, and ESC as
-/// the last septet, read as a space. Takes memory once.
 #[tactic(auto, unfolding(crate::specs::TextReading::text_read))]
-pub fn text_of(alloc: Global, septets: &[u8]) -> Result<String, ReadingError>
+fn read(alloc: Global, septets: &[u8]) -> Result<String, ReadingError>
     ensures { AnswersText (λ text. chars (string_bytes text)) result (text_read septets.now) }
 {
     if !are_septets(septets) {
         return Err(ReadingError::NotSeptet);
     }
     Ok(text_of_septets(alloc, septets)?)
+}
+
+/// The text that septets of the default alphabet, one an octet, are read as (3GPP TS 23.038 6.2.1).
+///
+/// ESC before a septet that the extension table lacks reads as the character of the main table; ESC ESC, and ESC as
+/// the last septet, read as a space. Refuses an octet above 7F. Takes memory once.
+pub fn text_of(alloc: Global, septets: &[u8]) -> Result<String, ReadingError>
+    ensures found { IfOk result (λ text. IsReading septets.now (chars (string_bytes text))) }
+    ensures only { (text : List ℕ) → IsReading septets.now text → AnswersText (λ read. chars (string_bytes read)) result (Ok text) }
+    ensures exact { AnswersText (λ text. chars (string_bytes text)) result (text_read septets.now) }
+{
+    read(alloc, septets)
 }

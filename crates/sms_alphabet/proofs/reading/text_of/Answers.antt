@@ -1,14 +1,10 @@
-use Rattle.std.proofs.Common.{◌≡◌, ◌∙◌, ap, sym, true, refl}
-use Rattle.std.specs.Prelude.{nat_lt}
-use Rattle.std.specs.List.{list_all}
 use Rattle.std.specs.Str.{chars}
-use Rattle.sms_alphabet.specs.TextReading.{text_read}
-use Rattle.sms_alphabet.proofs.TextReads.{text_characters}
+use Rattle.std.specs.String.{string_bytes}
+use Rattle.sms_alphabet.proofs.Pieces.{found, only}
 use Rattle.sms_alphabet.proofs.reading.text_of.Goals as goal
 
-pub returns : goal.returns
-unfolding text_read
-returns c =
-    let test : list_all (λ septet. nat_lt septet 128) c.args.septets.now ≡ true = sym c.are_septets.ensures ∙ c.if-not-are_septets.false in
-    let read = ap chars c.in_ok-text_of_septets.ensures ∙ text_characters c.args.septets.now test in
-    rw (test, read) refl
+pub returns-clause-found : goal.returns-clause-found
+returns-clause-found c = found (λ text. chars (string_bytes text)) c.args.septets.now c.read.result c.read.ensures
+
+pub returns-clause-only : goal.returns-clause-only
+returns-clause-only c = λ text h. only (λ read. chars (string_bytes read)) c.args.septets.now text c.read.result c.read.ensures h
