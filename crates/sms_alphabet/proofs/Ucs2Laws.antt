@@ -1,5 +1,6 @@
 -- What is written in UCS2 is read as the same text, and what is read was written so.
-use Rattle.std.proofs.Common.{◌≡◌, ℕ, zero, suc, ◌+◌, ◌-◌, ◌*◌, ◌/◌, ◌%◌, ◌<◌, ◌≤◌, Bool, true, false, ◌&&◌, ◌||◌, not, cond, ltb, leb, List, [], ◌∷◌, ◌++◌, length, flat_map, Result, Ok, Err, refl, sym, ap, subst, ◌∙◌, arith}
+use Rattle.std.specs.Result.{IfOk}
+use Rattle.std.proofs.Common.{get_or, ◌≡◌, ℕ, zero, suc, ◌+◌, ◌-◌, ◌*◌, ◌/◌, ◌%◌, ◌<◌, ◌≤◌, Bool, true, false, ◌&&◌, ◌||◌, not, cond, ltb, leb, List, [], ◌∷◌, ◌++◌, length, flat_map, Result, Ok, Err, refl, sym, ap, subst, ◌∙◌, arith}
 use Rattle.std.specs.Str.{chars, all_scalars}
 use Rattle.std.specs.Char.{IsScalar}
 use Rattle.std.specs.Char.Escape.{encode_utf16}
@@ -12,7 +13,7 @@ use Rattle.sms_alphabet.specs.declared.ucs2.Ucs2Error.TheVariants.{OddLength, Lo
 use Rattle.sms_base.proofs.Steps.{both}
 use Rattle.sms_alphabet.specs.Ucs2Reading.{unit_in, partner_in, character_at, character_in}
 use Rattle.sms_alphabet.proofs.Ucs2Steps.{step, ucs2_step}
-use Rattle.sms_alphabet.specs.Ucs2.{unit_octets, octets_for, ucs2_for, behind, unit_of, ucs2_in}
+use Rattle.sms_alphabet.specs.Ucs2.{unit_octets, octets_for, ucs2_for, behind, unit_of, ucs2_in, AnswersUcs2}
 use lib.Utf8.{scalar, scalars}
 
 -- ---- tests and ranges
@@ -184,3 +185,14 @@ read_is_ucs2 (a ∷ b ∷ []) text o e = last_unit a b text _ _ refl refl o.0 o.
 read_is_ucs2 (a ∷ b ∷ c ∷ []) text o e = absurd (odd_unit (is_low_surrogate (unit_of a b)) text e)
 read_is_ucs2 (a ∷ b ∷ c ∷ d ∷ rest) text o e =
     two_units a b c d rest text _ _ _ refl refl refl o (λ later ok is. read_is_ucs2 rest later ok is) (λ later ok is. read_is_ucs2 (c ∷ d ∷ rest) later ok is) e
+
+pub all_octets : (octets : List ℕ) → ((i : ℕ) → get_or octets i 0 < 256) → AreOctets octets
+all_octets [] h = tt
+all_octets (octet ∷ octets) h = (h 0, all_octets octets (λ i. h (suc i)))
+
+pub found : {X : Type 0} (view : X → List ℕ) (octets : List ℕ) (result : Result X Ucs2Error) → AreOctets octets → AnswersUcs2 view result (ucs2_in octets) → IfOk result (λ text. octets ≡ ucs2_for (view text))
+found view octets (Ok text) o a = (read_is_ucs2 octets (view text) o a).0
+found view octets (Err e) o a = tt
+
+pub only : {X : Type 0} (view : X → List ℕ) (octets text : List ℕ) (result : Result X Ucs2Error) → AnswersUcs2 view result (ucs2_in octets) → all_scalars text ≡ true → octets ≡ ucs2_for text → AnswersUcs2 view result (Ok text)
+only {X} view octets text result a s e = subst (λ (w : Result (List ℕ) Ucs2Error). AnswersUcs2 view result w) (ap ucs2_in e ∙ ucs2_is_read text s) a

@@ -1,6 +1,6 @@
 //! Texts into UCS2 and back.
-ghost use Rattle.std.specs.Prelude.{◌≡◌, ◌++◌, ◌+◌, ◌*◌, ◌<◌, ◌≤◌, ℕ, List, Ok, IfOk, OnOk, flat_map, length};
-ghost use Rattle.std.specs.Str.{chars};
+ghost use Rattle.std.specs.Prelude.{◌≡◌, ◌++◌, ◌+◌, ◌*◌, ◌<◌, ◌≤◌, ℕ, List, true, Ok, IfOk, OnOk, flat_map, length};
+ghost use Rattle.std.specs.Str.{chars, all_scalars};
 ghost use Rattle.std.specs.Char.{IsScalar};
 ghost use Rattle.std.specs.Char.Utf16.{is_high_surrogate, is_low_surrogate};
 ghost use Rattle.std.specs.String.{string_bytes};
@@ -202,12 +202,20 @@ fn read(alloc: Global, octets: &[u8]) -> Result<String, AllocError>
     Ok(text)
 }
 
-/// The text of octets in UCS2, the high octet of a unit first (3GPP TS 23.038 6.2.3).
-///
-/// Refuses the first fault from the left: half a surrogate pair alone, or an octet left over. Takes memory once.
-pub fn ucs2_text(alloc: Global, octets: &[u8]) -> Result<String, Ucs2Error>
+fn decode(alloc: Global, octets: &[u8]) -> Result<String, Ucs2Error>
     ensures { AnswersUcs2 (λ text. chars (string_bytes text)) result (ucs2_in octets.now) }
 {
     test(octets)?;
     Ok(read(alloc, octets)?)
+}
+
+/// The text of octets in UCS2, the high octet of a unit first (3GPP TS 23.038 6.2.3).
+///
+/// Refuses the first fault from the left: half a surrogate pair alone, or an octet left over. Takes memory once.
+pub fn ucs2_text(alloc: Global, octets: &[u8]) -> Result<String, Ucs2Error>
+    ensures found { IfOk result (λ text. octets.now ≡ ucs2_for (chars (string_bytes text))) }
+    ensures only { (text : List ℕ) → all_scalars text ≡ true → octets.now ≡ ucs2_for text → AnswersUcs2 (λ read. chars (string_bytes read)) result (Ok text) }
+    ensures exact { AnswersUcs2 (λ text. chars (string_bytes text)) result (ucs2_in octets.now) }
+{
+    decode(alloc, octets)
 }

@@ -10,11 +10,10 @@ loop-rest-init c = ([], c.in_ok-text.ensures.bytes, rw c.of-rest.ensures (decode
 pub loop-rest-preserved : goal.loop-rest-preserved
 loop-rest-preserved c =
     let l = c.loop-rest in
-    let some = some_left l.rest c.is_empty.result c.is_empty.ensures c.loop-rest-test.true in
-    (
+    let some = some_left l.rest c.is_empty.result c.is_empty.ensures c.loop-rest-test.true in (
       l.invariant.0 ++ c.in-Ok.character ∷ [],
       c.in_ok-push-in-Ok.ensures.bytes ∙ utf8_more (string_bytes l.text) l.invariant.0 c.in-Ok.character l.invariant.1,
-      decodes_turn c.args.octets.now l.rest l.invariant.0 c.in-Ok.character c.character.new.octets some c.in-Ok.ensures l.invariant.2
+      decodes_turn c.args.octets.now l.rest l.invariant.0 c.in-Ok.character c.character.new.octets some c.in-Ok.ensures l.invariant.2,
     )
 
 pub loop-rest-smaller : goal.loop-rest-smaller
