@@ -1,5 +1,5 @@
 -- Septets are read as one text: that of the pieces into which they cut.
-use Rattle.std.proofs.Common.{◌≡◌, ◌≢◌, ℕ, zero, suc, ◌+◌, ◌<◌, ◌⊎◌, inl, inr, Bool, true, false, ◌&&◌, cond, eqb, ltb, List, [], ◌∷◌, ◌++◌, Option, Some, None, Result, Ok, Err, refl, sym, ap, subst, ◌∙◌, arith}
+use Rattle.std.proofs.Common.{length, get_or, ◌≡◌, ◌≢◌, ℕ, zero, suc, ◌+◌, ◌<◌, ◌⊎◌, inl, inr, Bool, true, false, ◌&&◌, cond, eqb, ltb, List, [], ◌∷◌, ◌++◌, Option, Some, None, Result, Ok, Err, refl, sym, ap, subst, ◌∙◌, arith}
 use Rattle.std.specs.List.{list_all}
 use Rattle.std.specs.Prelude.{nat_lt}
 use Rattle.std.specs.Result.{IfOk}
@@ -9,6 +9,7 @@ use Rattle.sms_base.specs.declared.alphabet.Code.TheVariants.{Main, Extended}
 use Rattle.sms_base.specs.Alphabet.{IsPair, IsSpelling, septets_in, text_in, main_character, extended_character_of, escaped_character, or_else}
 use Rattle.sms_base.proofs.Alphabets.{code_reads, pair_is_extended, pair_is_septet, extended_is_pair}
 use Rattle.sms_base.proofs.Steps.{both}
+use Rattle.sms_alphabet.specs.Packing.{AreSeptets}
 use Rattle.sms_alphabet.specs.declared.reading.ReadingError.{ReadingError}
 use Rattle.sms_alphabet.specs.declared.reading.ReadingError.TheVariants.{NotSeptet, NoMemory}
 use Rattle.sms_alphabet.specs.TextReading.{IsCoded, IsUnknown, IsDouble, IsLast, IsPiece, IsReading, text_read, AnswersText}
@@ -111,3 +112,17 @@ found view septets (Err e) a = tt
 
 pub only : {X : Type 0} (view : X → List ℕ) (septets text : List ℕ) (result : Result X ReadingError) → AnswersText view result (text_read septets) → IsReading septets text → AnswersText view result (Ok text)
 only {X} view septets text result a r = subst (λ (w : Result (List ℕ) ReadingError). AnswersText view result w) (reading_again septets text r) a
+
+below : (septet : ℕ) (septets : List ℕ) → septet < 128 → AreSeptets septets → (k d : ℕ) → k < length (septet ∷ septets) → get_or (septet ∷ septets) k d < 128
+below septet septets first later zero d lt = first
+below septet septets first later (suc k) d lt = later k d (omega arith)
+
+each_below : (septets : List ℕ) → are_septets septets ≡ true → AreSeptets septets
+each_below [] h = λ k d lt. absurd (omega arith)
+each_below (septet ∷ septets) h =
+    let b = both (ltb septet 128) (are_septets septets) h in
+    λ k d lt. below septet septets (ltb-true septet 128 b.0) (each_below septets b.1) k d lt
+
+-- what spells a text are septets
+pub spelling_below : (septets text : List ℕ) → IsSpelling septets text → AreSeptets septets
+spelling_below septets text s = each_below septets (reading_text septets text (spelling_is_reading septets text s)).1

@@ -1,10 +1,11 @@
 -- What was packed is unpacked again, and what is unpacked was packed so.
+use Rattle.std.specs.Result.{IfOk}
 use Rattle.std.proofs.Common.{◌≡◌, ℕ, zero, suc, ◌+◌, ◌*◌, ◌/◌, ◌%◌, ◌^◌, ◌<◌, ◌≤◌, Bool, true, false, not, ◌||◌, cond, eqb, ltb, List, [], ◌∷◌, ◌++◌, length, All, get_or, Result, Ok, Err, refl, sym, ap, subst, ◌∙◌, arith}
 use Rattle.std.proofs.Math.Nat.{mul_comm, pow-succ', pow-zero, mul-mod_right, mul-div_cancel_left}
 use Rattle.std.proofs.lemmas.Bool.{ltb-true, ltb-false, eqb-true, lt-ltb, le-ltb, eq-eqb}
 use Rattle.std.proofs.lemmas.Nat.{pow_pos}
 use Rattle.sms_base.specs.Reading.{AreOctets}
-use Rattle.sms_alphabet.specs.Packing.{value_in, digits_in, packed_len, AreSeptets, IsPacking, tested, septets_in, unpacked, and_then}
+use Rattle.sms_alphabet.specs.Packing.{value_in, digits_in, packed_len, AreSeptets, IsPacking, tested, septets_in, unpacked, and_then, Answers}
 use Rattle.sms_alphabet.specs.declared.unpacking.UnpackError.{UnpackError}
 use Rattle.sms_alphabet.specs.declared.unpacking.UnpackError.TheVariants.{TooShort, SpareBits}
 
@@ -94,3 +95,10 @@ same_digits (x ∷ xs) (y ∷ ys) a b l e =
 
 pub one_packing : (s o p : List ℕ) (fill : ℕ) → AreOctets o → AreOctets p → IsPacking s fill o → IsPacking s fill p → o ≡ p
 one_packing s o p fill a b x y = same_digits o p a b (x.length_is ∙ sym y.length_is) (x.value_is ∙ sym y.value_is)
+
+pub found : (octets : List ℕ) (fill count : ℕ) (result : Result (List ℕ) UnpackError) → Answers result (unpacked octets fill count) → IfOk result (λ septets. IsPacking septets fill octets × (length septets ≡ count) × AreSeptets septets)
+found octets fill count (Ok septets) a = read_was_packed octets septets fill count a
+found octets fill count (Err e) a = tt
+
+pub only : (octets septets : List ℕ) (fill count : ℕ) (result : Result (List ℕ) UnpackError) → Answers result (unpacked octets fill count) → AreSeptets septets → IsPacking septets fill octets → length septets ≡ count → Answers result (Ok septets)
+only octets septets fill count result a s p n = subst (λ (w : Result (List ℕ) UnpackError). Answers result w) (ap (λ (k : ℕ). unpacked octets fill k) (sym n) ∙ packed_is_read septets octets fill s p) a

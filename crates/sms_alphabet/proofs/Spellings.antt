@@ -6,6 +6,8 @@ use Rattle.std.proofs.lemmas.Bool.{ltb-false, le-ltb}
 use Rattle.sms_base.specs.declared.alphabet.Code.{Code}
 use Rattle.sms_base.specs.Alphabet.{IsPair, IsSpelling, septets_in, code_for}
 use Rattle.sms_base.proofs.Alphabets.{pair_of_code, code_of_pair}
+use Rattle.sms_alphabet.specs.Packing.{AreSeptets}
+use Rattle.sms_alphabet.proofs.Pieces.{spelling_below}
 use Rattle.sms_alphabet.specs.declared.spelling.SpellingError.{SpellingError}
 use Rattle.sms_alphabet.specs.declared.spelling.SpellingError.TheVariants.{NoCode, NoMemory}
 use Rattle.sms_alphabet.specs.Spelling.{septets_for, septets_of_code, lacks_code, is_uncoded, spelled, unless_uncoded, Answers}
@@ -74,3 +76,7 @@ found text (Err e) a = tt
 
 pub only : (text septets : List ℕ) (result : Result (List ℕ) SpellingError) → Answers result (spelled text) → IsSpelling septets text → Answers result (Ok septets)
 only text septets result a s = subst (λ (w : Result (List ℕ) SpellingError). Answers result w) (spelling_spelled text septets s) a
+
+pub below : (text : List ℕ) (result : Result (List ℕ) SpellingError) → Answers result (spelled text) → IfOk result (λ septets. AreSeptets septets)
+below text (Ok septets) a = spelling_below septets text (spelled_spells text septets a)
+below text (Err e) a = tt

@@ -2,6 +2,7 @@
 ghost use Rattle.std.specs.Prelude.{◌≡◌, ◌++◌, ℕ, List, Ok, IfOk, OnOk, position, flat_map, length};
 ghost use Rattle.std.specs.Str.{chars};
 ghost use Rattle.sms_base.specs.Alphabet.{IsSpelling};
+ghost use Rattle.sms_alphabet.specs.Packing.{AreSeptets};
 ghost use Rattle.sms_alphabet.specs.Spelling.{Answers, spelled, septets_for, lacks_code};
 ghost use Rattle.sms_alphabet.specs.declared.spelling.SpellingError.TheVariants.{NoMemory};
 
@@ -121,6 +122,7 @@ fn spell(alloc: Global, text: &str) -> Result<Octets, SpellingError>
 pub fn septets_of(alloc: Global, text: &str) -> Result<Octets, SpellingError>
     ensures found { IfOk result (λ septets. IsSpelling septets (chars text.now)) }
     ensures only { (septets : List ℕ) → IsSpelling septets (chars text.now) → Answers result (Ok septets) }
+    ensures septets { IfOk result (λ septets. AreSeptets septets) }
     ensures exact { Answers result (spelled (chars text.now)) }
 {
     spell(alloc, text)
