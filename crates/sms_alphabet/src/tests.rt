@@ -1,9 +1,10 @@
 //! The worked examples, and strings worked out by other implementations.
 //!
-//! `SEPTETS` has texts of every character of the alphabet with their septets, as Gammu 1.42 (`EncodeDefault`) gives
-//! them, and those packed behind the fill bits, as libosmogsm 1.7 (`gsm_septet_pack`) gives them; with no fill bits
-//! Gammu's `GSM_PackSevenBitsToEight` packed them alike. `UCS2` has texts as Python's codec `utf-16-be` writes them.
-ghost use Rattle.std.specs.Prelude.{◌<◌};
+//! `SEPTETS` has texts of every character of the alphabet: as Python's codec `utf-16-be` writes them, their septets as
+//! Gammu 1.42 (`EncodeDefault`) gives them, and those packed behind the fill bits as libosmogsm 1.7
+//! (`gsm_septet_pack`) gives them; with no fill bits Gammu's `GSM_PackSevenBitsToEight` packed them alike. `UCS2` has
+//! other texts in UTF-8 and in UTF-16BE, as Python's codecs write them.
+ghost use Rattle.std.specs.Prelude.{◌<◌, IfOk};
 
 use crate::{
     Coding, ReadingError, SpellingError, Ucs2Error, UnpackError, check, dcs, pack, septets_of,
@@ -12,51 +13,98 @@ use crate::{
 use std::alloc::Global;
 use std::test::Fail;
 
-fn agrees(alloc: Global, text: &str, septets: &[u8], fill: u8, packed: &[u8]) -> Result<(), Fail>
+fn digit(code: u8) -> Result<u8, Fail>
+    ensures { IfOk result (λ value. value < 16) }
+{
+    match code {
+        b'0'..=b'9' => Ok(code - b'0'),
+        b'A'..=b'F' => Ok(code - b'A' + 10),
+        _ => Err(Fail::from("no hexadecimal digit")),
+    }
+}
+
+fn octets_of(alloc: Global, digits: &str) -> Result<Vec<u8>, Fail> {
+    let mut octets = Vec::new(alloc);
+    for pair in digits.as_bytes().chunks(2) {
+        let [high, low] = pair else {
+            return Err(Fail::from("half an octet"));
+        };
+        octets.push(16 * digit(*high)? + digit(*low)?)?;
+    }
+    Ok(octets)
+}
+
+fn agrees(alloc: Global, ucs2: &[u8], septets: &[u8], fill: u8, packed: &[u8]) -> Result<bool, Fail>
     requires { fill < 7 }
 {
-    let spelled = septets_of(alloc, text)?;
-    if spelled.as_slice() != septets {
-        return Err(Fail::from("the text is spelled otherwise"));
-    }
+    let text = ucs2_text(alloc, ucs2)?;
+    let spelled = septets_of(alloc, text.as_str())?;
     let octets = pack(alloc, spelled.as_slice(), fill)?;
-    if octets.as_slice() != packed {
-        return Err(Fail::from("the septets are packed otherwise"));
-    }
     let count = u8::try_from(septets.len())?;
     check(packed, fill, count)?;
     let unpacked = unpack(alloc, packed, fill, count)?;
-    if unpacked.as_slice() != septets {
-        return Err(Fail::from("the octets are unpacked otherwise"));
-    }
     let read = text_of(alloc, septets)?;
-    if read.as_str() != text {
-        return Err(Fail::from("the septets are read otherwise"));
-    }
-    Ok(())
+    Ok(
+        spelled.as_slice() == septets
+            && octets.as_slice() == packed
+            && unpacked.as_slice() == septets
+            && read.as_str() == text.as_str(),
+    )
 }
 
-fn agrees_in_ucs2(alloc: Global, text: &str, octets: &[u8]) -> Result<(), Fail> {
+fn agrees_in_ucs2(alloc: Global, text: &str, octets: &[u8]) -> Result<bool, Fail> {
     let written = ucs2_of(alloc, text)?;
-    if written.as_slice() != octets {
-        return Err(Fail::from("the text is written otherwise"));
-    }
     let read = ucs2_text(alloc, octets)?;
-    if read.as_str() != text {
-        return Err(Fail::from("the octets are read otherwise"));
+    Ok(written.as_slice() == octets && read.as_str() == text)
+}
+
+fn line_agrees(alloc: Global, line: &str) -> Result<bool, Fail> {
+    let mut fields = line.split(' ');
+    let ucs2 = octets_of(alloc, fields.next().ok_or("no text")?)?;
+    let septets = octets_of(alloc, fields.next().ok_or("no septets")?)?;
+    let fill = fields.next().ok_or("no fill")?.parse::<u8>()?;
+    let packed = octets_of(alloc, fields.next().ok_or("no octets")?)?;
+    if fill >= 7 {
+        return Err(Fail::from("too many fill bits"));
+    }
+    agrees(alloc, &ucs2, &septets, fill, &packed)
+}
+
+fn ucs2_line_agrees(alloc: Global, line: &str) -> Result<bool, Fail> {
+    let mut fields = line.split(' ');
+    let text = octets_of(alloc, fields.next().ok_or("no text")?)?;
+    let octets = octets_of(alloc, fields.next().ok_or("no octets")?)?;
+    agrees_in_ucs2(alloc, str::from_utf8(&text)?, &octets)
+}
+
+#[test]
+fn agrees_with_other_implementations(rt: HostRuntime) -> Result<(), Fail> {
+    for line in SEPTETS.lines() {
+        assert!(rt; line_agrees(rt.alloc(), line)?, "at {line}");
+    }
+    for line in UCS2.lines() {
+        assert!(rt; ucs2_line_agrees(rt.alloc(), line)?, "at {line}");
     }
     Ok(())
 }
 
 #[test]
-fn agrees_with_other_implementations(rt: HostRuntime) -> Result<(), Fail> {
-    for (text, septets, fill, packed) in &SEPTETS {
-        assert!(rt; *fill < 7);
-        agrees(rt.alloc(), text, septets, *fill, packed)?;
+fn packs_the_worked_examples(rt: HostRuntime) -> Result<(), Fail> {
+    for (text, packed) in [
+        ("", b"".as_slice()),
+        ("hello", b"\xE8\x32\x9B\xFD\x06".as_slice()),
+        ("€", b"\x9B\x32".as_slice()),
+        ("aaaaaaa", b"\xE1\x70\x38\x1C\x0E\x87\x01".as_slice()),
+        ("aaaaaaa@", b"\xE1\x70\x38\x1C\x0E\x87\x01".as_slice()),
+    ] {
+        let septets = septets_of(rt.alloc(), text)?;
+        let octets = pack(rt.alloc(), septets.as_slice(), 0)?;
+        assert_eq!(rt; octets.as_slice(), packed, "at {text}");
+        let count = u8::try_from(septets.len())?;
+        let back = unpack(rt.alloc(), packed, 0, count)?;
+        assert_eq!(rt; text_of(rt.alloc(), back.as_slice())?.as_str(), text);
     }
-    for (text, octets) in &UCS2 {
-        agrees_in_ucs2(rt.alloc(), text, octets)?;
-    }
+    assert!(rt; agrees_in_ucs2(rt.alloc(), "ж😀", b"\x04\x36\xD8\x3D\xDE\x00")?);
     Ok(())
 }
 
@@ -140,1133 +188,308 @@ fn names_the_coding(rt: HostRuntime) -> Result<(), Fail> {
     Ok(())
 }
 
-static SEPTETS: [(&str, &[u8], u8, &[u8]); 204] = [
-    ("hello", b"\x68\x65\x6C\x6C\x6F", 0, b"\xE8\x32\x9B\xFD\x06"),
-    ("€", b"\x1B\x65", 0, b"\x9B\x32"),
-    (
-        "aaaaaaa@",
-        b"\x61\x61\x61\x61\x61\x61\x61\x00",
-        0,
-        b"\xE1\x70\x38\x1C\x0E\x87\x01",
-    ),
-    (
-        "aaaaaaa",
-        b"\x61\x61\x61\x61\x61\x61\x61",
-        0,
-        b"\xE1\x70\x38\x1C\x0E\x87\x01",
-    ),
-    ("", b"", 3, b"\x00"),
-    ("hello", b"\x68\x65\x6C\x6C\x6F", 3, b"\x40\x97\xD9\xEC\x37"),
-    ("a", b"\x61", 1, b"\xC2"),
-    (",_", b"\x2C\x11", 1, b"\x58\x11"),
-    (" ", b"\x20", 2, b"\x80\x00"),
-    ("w", b"\x77", 1, b"\xEE"),
-    ("5æ€'", b"\x35\x1D\x1B\x65\x27", 0, b"\xB5\xCE\xA6\x7C\x02"),
-    ("Σf&éΓ", b"\x18\x66\x26\x05\x13", 4, b"\x80\x31\x9B\x0A\x13"),
-    ("?Λ;l", b"\x3F\x14\x3B\x6C", 3, b"\xF8\x51\x76\x6C"),
-    ("AÇ0v¥", b"\x41\x09\x30\x76\x03", 5, b"\x20\x98\x80\xD9\x07"),
-    (
-        "]Q\\9$",
-        b"\x1B\x3E\x51\x1B\x2F\x39\x02",
-        0,
-        b"\x1B\x5F\x74\xF3\xCA\x09\x00",
-    ),
-    ("(2*ü", b"\x28\x32\x2A\x7E", 0, b"\x28\x99\xCA\x0F"),
-    ("<Θ", b"\x3C\x19", 1, b"\x78\x19"),
-    ("3", b"\x33", 5, b"\x60\x06"),
-    ("G^)!", b"\x47\x1B\x14\x29\x21", 0, b"\xC7\x0D\x25\x15\x02"),
-    ("ñ:Ξz", b"\x7D\x3A\x1A\x7A", 2, b"\xF4\x75\x1A\x3D"),
-    ("|Πx#", b"\x1B\x40\x16\x78\x23", 1, b"\x36\x40\x0B\x7E\x04"),
-    ("k", b"\x6B", 5, b"\x60\x0D"),
-    ("§nä", b"\x5F\x6E\x7B", 3, b"\xF8\xBA\xF7"),
-    ("B", b"\x42", 5, b"\x40\x08"),
-    ("q", b"\x71", 4, b"\x10\x07"),
-    ("b", b"\x62", 4, b"\x20\x06"),
-    (
-        "Φ=ÖJd+",
-        b"\x12\x3D\x5C\x4A\x64\x2B",
-        6,
-        b"\x80\xA4\xC7\x55\x92\x57",
-    ),
-    ("@j.h", b"\x00\x6A\x2E\x68", 5, b"\x00\xA0\x76\xA1\x01"),
-    (
-        "8oò\n6",
-        b"\x38\x6F\x08\x0A\x36",
-        6,
-        b"\x00\xEE\x8D\x50\xD8\x00",
-    ),
-    (
-        "£4>DIù",
-        b"\x01\x34\x3E\x44\x49\x06",
-        4,
-        b"\x10\xA0\xF9\x88\x49\x03",
-    ),
-    ("/Lßè", b"\x2F\x4C\x1E\x04", 0, b"\x2F\xA6\x87\x00"),
-    (
-        "-~[Ü¡",
-        b"\x2D\x1B\x3D\x1B\x3C\x5E\x40",
-        1,
-        b"\x5A\x9B\xDE\x86\xE7\x05\x02",
-    ),
-    ("YV", b"\x59\x56", 2, b"\x64\xAD"),
-    ("ray", b"\x72\x61\x79", 4, b"\x20\x0F\xE7\x01"),
-    (
-        "ZeP{Xt",
-        b"\x5A\x65\x50\x1B\x28\x58\x74",
-        0,
-        b"\xDA\x32\x74\x83\xC2\xD2\x01",
-    ),
-    ("cmW", b"\x63\x6D\x57", 0, b"\xE3\xF6\x15"),
-    (
-        "OΔΨÄRg",
-        b"\x4F\x10\x17\x5B\x52\x67",
-        0,
-        b"\x4F\xC8\x65\x2B\x3D\x03",
-    ),
-    ("pSsCø", b"\x70\x53\x73\x43\x0C", 2, b"\xC0\xA7\xF3\x21\x03"),
-    ("i", b"\x69", 5, b"\x20\x0D"),
-    (
-        "MHÉNØ1",
-        b"\x4D\x48\x1F\x4E\x0B\x31",
-        0,
-        b"\x4D\xE4\xC7\xB9\x88\x01",
-    ),
-    ("K", b"\x4B", 3, b"\x58\x02"),
-    (
-        "ìå%Æà",
-        b"\x07\x0F\x25\x1C\x7F",
-        6,
-        b"\xC0\xE1\x51\xE2\xFC\x01",
-    ),
-    ("7", b"\x37", 1, b"\x6E"),
-    ("\u{c}T", b"\x1B\x0A\x54", 0, b"\x1B\x05\x15"),
-    (
-        "¤u\r\"¿Å",
-        b"\x24\x75\x0D\x22\x60\x0E",
-        5,
-        b"\x80\x54\x6F\x88\xC0\x0E",
-    ),
-    ("ΩEFU", b"\x15\x45\x46\x55", 0, b"\x95\xA2\xB1\x0A"),
-    ("öÑ}", b"\x7C\x5D\x1B\x29", 5, b"\x80\xDF\xDD\xA4\x00"),
-    (
-        "BycΦ[]_.e[\\@",
-        b"\x42\x79\x63\x12\x1B\x3C\x1B\x3E\x11\x2E\x65\x1B\x3C\x1B\x2F\x00",
-        4,
-        b"\x20\xCC\x8F\x25\x1B\xDE\xC6\x17\x71\x95\x37\xBC\xCD\x0B\x00",
-    ),
-    (
-        "èU@<NrΨul",
-        b"\x04\x55\x00\x3C\x4E\x72\x17\x75\x6C",
-        0,
-        b"\x84\x2A\x80\xE7\x94\x5F\xEA\x6C",
-    ),
-    (
-        "v€lp<2IÇBñmo",
-        b"\x76\x1B\x65\x6C\x70\x3C\x32\x49\x09\x42\x7D\x6D\x6F",
-        0,
-        b"\xF6\x4D\x99\x0D\xE7\xC9\x92\x09\x61\xBF\xFD\x06",
-    ),
-    (
-        "A}ü][e6OFo^Ψ",
-        b"\x41\x1B\x29\x7E\x1B\x3E\x1B\x3C\x65\x36\x4F\x46\x6F\x1B\x14\x17",
-        2,
-        b"\x04\x37\x29\xFF\xC6\xB7\xE1\x95\x6D\x4F\xE3\x7B\x43\xB9\x00",
-    ),
-    (
-        "3|d[{]\r$Ñ",
-        b"\x33\x1B\x40\x64\x1B\x3C\x1B\x28\x1B\x3E\x0D\x02\x5D",
-        4,
-        b"\x30\xDB\x00\xC9\x1B\xDE\x06\xB5\xF1\x35\x04\x5D",
-    ),
-    ("TDM|", b"\x54\x44\x4D\x1B\x40", 0, b"\x54\x62\x73\x03\x04"),
-    (
-        "<XΨnéΓZHΔΠhΓ78[Λp",
-        b"\x3C\x58\x17\x6E\x05\x13\x5A\x48\x10\x16\x68\x13\x37\x38\x1B\x3C\x14\x70",
-        4,
-        b"\xC0\xC3\x5E\xDC\x85\x89\x16\x09\xB1\xA0\x27\x37\xDC\x86\x47\x81\x03",
-    ),
-    (
-        "§5YUΛ)/\u{c}",
-        b"\x5F\x35\x59\x55\x14\x29\x2F\x1B\x0A",
-        4,
-        b"\xF0\xAD\x65\xAB\x94\xD4\x6B\xA3\x00",
-    ),
-    ("dy", b"\x64\x79", 6, b"\x00\x39\x0F"),
-    ("ui", b"\x75\x69", 0, b"\xF5\x34"),
-    (
-        "5€[6Jæ_.",
-        b"\x35\x1B\x65\x1B\x3C\x36\x4A\x1D\x11\x2E",
-        0,
-        b"\xB5\x4D\x79\xC3\xB3\x29\x3B\x11\x17",
-    ),
-    (
-        "[b{JΣ¡K [",
-        b"\x1B\x3C\x62\x1B\x28\x4A\x18\x40\x4B\x20\x1B\x3C",
-        0,
-        b"\x1B\x9E\x78\x83\x52\x62\x80\x4B\xD0\x86\x07",
-    ),
-    (
-        "X,EéC\r\\åΦø9Å~Å",
-        b"\x58\x2C\x45\x05\x43\x0D\x1B\x2F\x0F\x12\x0C\x39\x0E\x1B\x3D\x0E",
-        0,
-        b"\x58\x56\xB1\x30\x6C\x6C\x5E\x0F\x09\x23\xE7\xD8\xF4\x1C",
-    ),
-    ("!Λ", b"\x21\x14", 6, b"\x40\x88\x02"),
-    (
-        "\u{c}-$n]\\§1ì",
-        b"\x1B\x0A\x2D\x02\x6E\x1B\x3E\x1B\x2F\x5F\x31\x07",
-        5,
-        b"\x60\xA3\x68\x09\xDC\x1B\xDF\xE6\xF5\x8D\x1D\x00",
-    ),
-    (
-        "!é9[\\ü¿Ξt~Φ:UXraD",
-        b"\x21\x05\x39\x1B\x3C\x1B\x2F\x7E\x60\x1A\x74\x1B\x3D\x12\x3A\x55\x58\x72\x61\x44",
-        2,
-        b"\x84\x0A\xB9\x0D\x6F\xF3\xF2\x83\x35\xF4\x4D\x4F\xA2\xAB\x62\xE5\x61\x22",
-    ),
-    (
-        "589¤ΔFw8]vH]tè",
-        b"\x35\x38\x39\x24\x10\x46\x77\x38\x1B\x3E\x76\x48\x1B\x3E\x74\x04",
-        1,
-        b"\x6A\xB8\x1C\x09\x62\xBC\xE3\x36\x3E\x3B\x72\xE3\xA3\x13\x00",
-    ),
-    (
-        "'dΘü\u{c}Ä9Θ|é¿V8Φ[|",
-        b"\x27\x64\x19\x7E\x1B\x0A\x5B\x39\x19\x1B\x40\x05\x60\x56\x38\x12\x1B\x3C\x1B\x40",
-        0,
-        b"\x27\x72\xC6\xBF\x51\x6C\x73\x99\x0D\xB0\x00\xB6\xE2\x24\x1B\xDE\x06\x08",
-    ),
-    ("^#", b"\x1B\x14\x23", 4, b"\xB0\xA1\x8C\x00"),
-    (
-        "-è[n\nU€\rw'\\å[sø+\u{c}",
-        b"\x2D\x04\x1B\x3C\x6E\x0A\x55\x1B\x65\x0D\x77\x27\x1B\x2F\x0F\x1B\x3C\x73\x0C\x2B\x1B\x0A",
-        2,
-        b"\xB4\x08\x1B\x9E\x5B\x51\xDD\x94\x1B\xF7\xD3\xE6\xF5\xD8\xF0\xE6\x8C\xD5\x46\x01",
-    ),
-    ("{", b"\x1B\x28", 3, b"\xD8\xA0\x00"),
-    (
-        "äs;VbYN\u{c}\rì&|€~8k",
-        b"\x7B\x73\x3B\x56\x62\x59\x4E\x1B\x0A\x0D\x07\x26\x1B\x40\x1B\x65\x1B\x3D\x38\x6B",
-        5,
-        b"\x60\x3F\xDF\x59\xC5\x59\xE7\x46\xD1\x38\x98\x36\xC0\x4D\x79\xD3\xC3\xAD\x01",
-    ),
-    (
-        ":ìß/C",
-        b"\x3A\x07\x1E\x2F\x43",
-        6,
-        b"\x80\xEE\xE0\x79\x0D\x01",
-    ),
-    (
-        "N1U1yz£\"ìqØ",
-        b"\x4E\x31\x55\x31\x79\x7A\x01\x22\x07\x71\x0B",
-        3,
-        b"\x70\xC6\xAA\xB1\xBC\x3E\x20\x3A\xC4\x17",
-    ),
-    (
-        "€|o1B\u{c}€t{£[s2b",
-        b"\x1B\x65\x1B\x40\x6F\x31\x42\x1B\x0A\x1B\x65\x74\x1B\x28\x01\x1B\x3C\x73\x32\x62",
-        5,
-        b"\x60\x53\xDE\x00\xDF\x31\xE1\x46\xB1\x29\xD3\x37\xA8\xC0\x86\x37\x97\x89\x01",
-    ),
-    ("%R}", b"\x25\x52\x1B\x29", 2, b"\x94\xA4\x9B\x14"),
-    ("}", b"\x1B\x29", 3, b"\xD8\xA4\x00"),
-    (
-        "¡ΔÖO{HM",
-        b"\x40\x10\x5C\x4F\x1B\x28\x48\x4D",
-        1,
-        b"\x80\x10\xEE\x73\x83\x42\x36\x01",
-    ),
-    (
-        "¡ÅßH?oñøΨ)ΣKY8¤>t",
-        b"\x40\x0E\x1E\x48\x3F\x6F\x7D\x0C\x17\x29\x18\x4B\x59\x38\x24\x3E\x74",
-        1,
-        b"\x80\x0E\x0F\xF2\xF7\xEE\x33\x2E\x29\xCC\x32\x8B\x23\xF9\xE8",
-    ),
-    (
-        ",väÖbz#QSàä",
-        b"\x2C\x76\x7B\x5C\x62\x7A\x23\x51\x53\x7F\x7B",
-        3,
-        b"\x60\xD9\xF7\x5C\xB1\x7E\x14\x9D\xFE\xF7",
-    ),
-    ("cG?G!", b"\x63\x47\x3F\x47\x21", 2, b"\x8C\x8F\xBF\x63\x08"),
-    ("'\"o", b"\x27\x22\x6F", 1, b"\x4E\xA2\x37"),
-    ("@DM", b"\x00\x44\x4D", 4, b"\x00\x20\x36\x01"),
-    ("\\&K*", b"\x1B\x2F\x26\x4B\x2A", 4, b"\xB0\x79\x99\x96\x2A"),
-    (
-        "ΞΣé~¥yùh!2x:q",
-        b"\x1A\x18\x05\x1B\x3D\x03\x79\x06\x68\x21\x32\x78\x3A\x71",
-        6,
-        b"\x80\x06\x53\xD8\xF4\x06\x79\x03\x3A\x24\xC3\xEB\xE2",
-    ),
-    (
-        "<Ké}ì1@rz~,tsYn",
-        b"\x3C\x4B\x05\x1B\x29\x07\x31\x00\x72\x7A\x1B\x3D\x2C\x74\x73\x59\x6E",
-        3,
-        b"\xE0\x2D\x0B\x9B\xD4\x21\x06\x90\xEB\x37\x3D\x16\x7D\x9E\x75\x03",
-    ),
-    (
-        "[jÅK[",
-        b"\x1B\x3C\x6A\x0E\x4B\x1B\x3C",
-        4,
-        b"\xB0\xE1\xA9\x1D\xCB\x0D\x0F",
-    ),
-    (
-        "€ìö}W",
-        b"\x1B\x65\x07\x7C\x1B\x29\x57",
-        6,
-        b"\xC0\xA6\x7C\xE0\x6F\x52\x57",
-    ),
-    (
-        " ß(~åÇì~[c",
-        b"\x20\x1E\x28\x1B\x3D\x0F\x09\x07\x1B\x3D\x1B\x3C\x63",
-        0,
-        b"\x20\x0F\x6A\xD3\x7B\x24\x0E\x9B\xDE\x86\x37\x06",
-    ),
-    (
-        "{ìMD PÆ\rΛ{¥Z]òø\n",
-        b"\x1B\x28\x07\x4D\x44\x20\x50\x1C\x0D\x14\x1B\x28\x03\x5A\x1B\x3E\x08\x0C\x0A",
-        5,
-        b"\x60\x83\x3A\x34\x89\x20\x28\xA7\x41\xD9\xA0\x06\xDA\x8D\x0F\xC1\x50\x00",
-    ),
-    (
-        "{^\n{*è1|]g\\J\nE}!F",
-        b"\x1B\x28\x1B\x14\x0A\x1B\x28\x2A\x04\x31\x1B\x40\x1B\x3E\x67\x1B\x2F\x4A\x0A\x45\x1B\x29\x21\x46",
-        3,
-        b"\xD8\xA0\x36\x14\xC5\x06\xA5\x22\xC4\x36\xC0\x8D\xEF\xBC\x79\x29\x15\xC5\x4D\x2A\x64\x04",
-    ),
-    (
-        "p¿}ΠvΔEÆGgA5æ",
-        b"\x70\x60\x1B\x29\x16\x76\x10\x45\x1C\x47\x67\x41\x35\x1D",
-        2,
-        b"\xC0\xC1\x9B\x94\xC5\x0E\x29\x72\x8E\xE7\x60\xAD\x03",
-    ),
-    (
-        "bK@Uc\u{c}|Ω",
-        b"\x62\x4B\x00\x55\x63\x1B\x0A\x1B\x40\x15",
-        6,
-        b"\x80\x78\x09\xA8\x8E\x37\x8A\x0D\xB0\x02",
-    ),
-    (
-        "\r6¡mgq[N",
-        b"\x0D\x36\x40\x6D\x67\x71\x1B\x3C\x4E",
-        5,
-        b"\xA0\x61\x03\xB6\xCF\xF1\x0D\xCF\x09",
-    ),
-    (
-        "é\rr5]ä{",
-        b"\x05\x0D\x72\x35\x1B\x3E\x7B\x1B\x28",
-        4,
-        b"\x50\x68\xC8\x6B\x1B\xDF\x7E\x83\x02",
-    ),
-    (
-        "|~y[+UkV&^\n!",
-        b"\x1B\x40\x1B\x3D\x79\x1B\x3C\x2B\x55\x6B\x56\x26\x1B\x14\x0A\x21",
-        3,
-        b"\xD8\x00\x37\xBD\xFC\x86\xB7\xAA\xAE\xAD\xA6\x0D\x45\x11\x02",
-    ),
-    (
-        "Ø'=VC§y';k<På",
-        b"\x0B\x27\x3D\x56\x43\x5F\x79\x27\x3B\x6B\x3C\x50\x0F",
-        3,
-        b"\x58\x9C\x7A\xD6\xE1\x37\x7F\xDA\xAD\x79\xD0\x07",
-    ),
-    (
-        "q:\u{c}Z)&4IN!.",
-        b"\x71\x3A\x1B\x0A\x5A\x29\x26\x34\x49\x4E\x21\x2E",
-        1,
-        b"\xE2\xBA\x8D\x42\x9B\x32\xD1\x92\xCE\x90\x0B",
-    ),
-    (
-        "LPeΘo 2HYR>€-[[\"",
-        b"\x4C\x50\x65\x19\x6F\x20\x32\x48\x59\x52\x3E\x1B\x65\x2D\x1B\x3C\x1B\x3C\x22",
-        6,
-        b"\x00\x13\x5A\xCE\xBC\x41\x32\x64\x56\xEA\xDB\x94\x5B\x1B\xDE\x86\x27\x02",
-    ),
-    ("CΣ./", b"\x43\x18\x2E\x2F", 3, b"\x18\x62\x5C\x2F"),
-    (
-        "ßòkö}ñΨA:k:uB",
-        b"\x1E\x08\x6B\x7C\x1B\x29\x7D\x17\x41\x3A\x6B\x3A\x75\x42",
-        6,
-        b"\x80\x07\xB1\xE6\x6F\x52\xFD\x4B\x50\xB7\xD6\xD5\x85",
-    ),
-    (
-        "H]|[^ÉbW(ì§^;Ö",
-        b"\x48\x1B\x3E\x1B\x40\x1B\x3C\x1B\x14\x1F\x62\x57\x28\x07\x5F\x1B\x14\x3B\x5C",
-        0,
-        b"\xC8\x8D\x6F\x03\xDC\xF0\x36\x94\x8F\xF8\x8A\x3A\x7C\x37\x94\x1D\x17",
-    ),
-    (
-        "Ξ];V 3,<ØΨX",
-        b"\x1A\x1B\x3E\x3B\x56\x20\x33\x2C\x3C\x0B\x17\x58",
-        3,
-        b"\xD0\x6C\x7C\x3B\x2B\x68\xC6\xE2\x2D\x2E\x58",
-    ),
-    (
-        "5Ö[ΞRé}ä[~¤4",
-        b"\x35\x5C\x1B\x3C\x1A\x52\x05\x1B\x29\x7B\x1B\x3C\x1B\x3D\x24\x34",
-        2,
-        b"\xD4\xB8\x1B\x9E\x46\x5A\xD8\xA4\xF6\x1B\xDE\xA6\x47\xA2\x01",
-    ),
-    (
-        "X]hfØx4n;_",
-        b"\x58\x1B\x3E\x68\x66\x0B\x78\x34\x6E\x3B\x11",
-        1,
-        b"\xB0\x1B\x1F\xDA\xBC\xC0\xD3\xDC\xBB\x08",
-    ),
-    (
-        "[\nh'55€9 Ξ\"Ä\\",
-        b"\x1B\x3C\x0A\x68\x27\x35\x35\x1B\x65\x39\x20\x1A\x22\x5B\x1B\x2F",
-        2,
-        b"\x6C\x78\x0A\xF4\xA9\x56\xDB\x94\x73\x20\x8D\x68\xBB\x79\x01",
-    ),
-    (
-        "]|)\\éΔt§6[¿nΣ|pq",
-        b"\x1B\x3E\x1B\x40\x29\x1B\x2F\x05\x10\x74\x5F\x36\x1B\x3C\x60\x6E\x18\x1B\x40\x70\x71",
-        6,
-        b"\xC0\xC6\xB7\x01\xA6\x36\xAF\x02\x84\xFE\xB5\x6D\x78\x60\x37\x66\x03\x84\xC7\x01",
-    ),
-    (
-        "zD¿Æ!^/&R|MΠ",
-        b"\x7A\x44\x60\x1C\x21\x1B\x14\x2F\x26\x52\x1B\x40\x4D\x16",
-        0,
-        b"\x7A\x22\x98\x13\xDA\x50\x5E\x26\xE9\x06\xD8\xB4\x00",
-    ),
-    (
-        "}€w{^ QÑìuÄ",
-        b"\x1B\x29\x1B\x65\x77\x1B\x28\x1B\x14\x20\x51\x5D\x07\x75\x5B",
-        6,
-        b"\xC0\x26\xB5\x29\xDF\x37\xA8\x0D\x05\x14\xED\x1E\xEA\x5B",
-    ),
-    (
-        "åñ=|3\\ä,8Cs\"ß'",
-        b"\x0F\x7D\x3D\x1B\x40\x33\x1B\x2F\x7B\x2C\x38\x43\x73\x22\x1E\x27",
-        2,
-        b"\x3C\xFA\xBD\x0D\x70\xB6\x79\xED\x59\xB8\xE1\x5C\xE4\x39\x01",
-    ),
-    ("{qJt", b"\x1B\x28\x71\x4A\x74", 0, b"\x1B\x54\x5C\x49\x07"),
-    (
-        "Ξ¡7L&ögM",
-        b"\x1A\x40\x37\x4C\x26\x7C\x67\x4D",
-        0,
-        b"\x1A\xE0\x8D\x69\xE2\x9F\x9B",
-    ),
-    (
-        "¿\n¡ÆoΞ}¿|y|9F",
-        b"\x60\x0A\x40\x1C\x6F\x1A\x1B\x29\x60\x1B\x40\x79\x1B\x40\x39\x46",
-        0,
-        b"\x60\x05\x90\xF3\xD6\x6C\x52\xE0\x0D\x30\xBF\x01\xE6\x8C",
-    ),
-    ("%#e", b"\x25\x23\x65", 5, b"\xA0\x34\x2A\x03"),
-    (
-        "£}>=\\£|¿Θh",
-        b"\x01\x1B\x29\x3E\x3D\x1B\x2F\x01\x1B\x40\x60\x19\x68",
-        2,
-        b"\x04\x36\x29\x5F\x6F\xF3\x0A\x6C\x80\xE0\x0C\x1A",
-    ),
-    ("1è", b"\x31\x04", 0, b"\x31\x02"),
-    (
-        "|ou8}",
-        b"\x1B\x40\x6F\x75\x38\x1B\x29",
-        2,
-        b"\x6C\x80\xEF\x3A\x6E\x93\x02",
-    ),
-    ("\u{c}~", b"\x1B\x0A\x1B\x3D", 5, b"\x60\xA3\xD8\xF4\x00"),
-    (
-        "òP_KA^]ÖbÆ53^Ä%§ñ",
-        b"\x08\x50\x11\x4B\x41\x1B\x14\x1B\x3E\x5C\x62\x1C\x35\x33\x1B\x14\x5B\x25\x5F\x7D",
-        3,
-        b"\x40\x40\x23\xCB\xE0\x86\xB2\xF1\x71\xC5\x9C\xDA\x6C\x43\xD9\x96\xBE\x7D",
-    ),
-    (
-        "6Z{1ñZW",
-        b"\x36\x5A\x1B\x28\x31\x7D\x5A\x57",
-        2,
-        b"\xD8\xB4\x1B\x54\xAC\xAF\xBD\x02",
-    ),
-    ("#", b"\x23", 2, b"\x8C\x00"),
-    (
-        "Æb\\dUòùz",
-        b"\x1C\x62\x1B\x2F\x64\x55\x08\x06\x7A",
-        3,
-        b"\xE0\x88\x37\x2F\x72\x15\x61\xD0\x03",
-    ),
-    ("9e€", b"\x39\x65\x1B\x65", 3, b"\xC8\x95\x37\x65"),
-    (
-        "0$<HUÇ",
-        b"\x30\x02\x3C\x48\x55\x09",
-        6,
-        b"\x00\x4C\xC0\x43\x56\x13",
-    ),
-    ("¡}X", b"\x40\x1B\x29\x58", 0, b"\xC0\x4D\x0A\x0B"),
-    (
-        "D_,N+^€[r",
-        b"\x44\x11\x2C\x4E\x2B\x1B\x14\x1B\x65\x1B\x3C\x72",
-        3,
-        b"\x20\x46\x58\xCE\xD5\x86\xB2\x29\x6F\x78\x72",
-    ),
-    (
-        "¿{}¤!146IG+Æ\r}yO",
-        b"\x60\x1B\x28\x1B\x29\x24\x21\x31\x34\x36\x49\x47\x2B\x1C\x0D\x1B\x29\x79\x4F",
-        0,
-        b"\xE0\x0D\x6A\x93\x22\x85\x62\x34\x5B\xF2\xB8\xE2\x34\x36\xA9\xFC\x13",
-    ),
-    (
-        "bX{0#a(B'",
-        b"\x62\x58\x1B\x28\x30\x23\x61\x28\x42\x27",
-        2,
-        b"\x88\xB1\x1B\x14\x6C\x14\x46\x09\x4F",
-    ),
-    (
-        ">§Γw4IF2d]z]&V",
-        b"\x3E\x5F\x13\x77\x34\x49\x46\x32\x64\x1B\x3E\x7A\x1B\x3E\x26\x56",
-        6,
-        b"\x80\xEF\x3B\xB9\xD3\x92\x46\x19\x79\xE3\xD3\x6F\x7C\x26\x2B",
-    ),
-    ("D?", b"\x44\x3F", 4, b"\x40\xFC\x01"),
-    ("|", b"\x1B\x40", 2, b"\x6C\x80"),
-    (
-        "~|3ÑqGOΩ.\\ΘsΠCn",
-        b"\x1B\x3D\x1B\x40\x33\x5D\x71\x47\x4F\x15\x2E\x1B\x2F\x19\x73\x16\x43\x6E",
-        5,
-        b"\x60\xD3\xDB\x00\x67\xDD\xF8\xF1\x59\x71\x6D\x5E\x99\xB9\x65\xE8\x06",
-    ),
-    ("b#J", b"\x62\x23\x4A", 4, b"\x20\x1E\x29\x01"),
-    ("'ß", b"\x27\x1E", 1, b"\x4E\x1E"),
-    ("(ä#V", b"\x28\x7B\x23\x56", 4, b"\x80\xDA\x8F\xAC"),
-    (
-        "&önIäy5;ü",
-        b"\x26\x7C\x6E\x49\x7B\x79\x35\x3B\x7E",
-        3,
-        b"\x30\xF1\xDD\xC9\x7D\xBE\xB6\xF3\x03",
-    ),
-    ("L1klr", b"\x4C\x31\x6B\x6C\x72", 2, b"\x30\x63\x6B\xB6\x1C"),
-    (
-        "B¡¤G\u{c}€~]YØL)b€0lG",
-        b"\x42\x40\x24\x47\x1B\x0A\x1B\x65\x1B\x3D\x1B\x3E\x59\x0B\x4C\x29\x62\x1B\x65\x30\x6C\x47",
-        4,
-        b"\x20\x04\x92\x8E\x1B\xC5\xA6\xBC\xE9\x6D\x7C\xD9\x05\x33\x25\xDE\x94\x61\xEC\x23",
-    ),
-    (
-        "}Jö!6}z;Φ",
-        b"\x1B\x29\x4A\x7C\x21\x36\x1B\x29\x7A\x3B\x12",
-        2,
-        b"\x6C\x52\x4A\x7E\xC8\xB6\x49\xE9\x77\x12",
-    ),
-    ("Üièk<", b"\x5E\x69\x04\x6B\x3C", 4, b"\xE0\x4D\x13\xD6\x3C"),
-    (
-        "É<ß¡Ξ\u{c}!]h7€A^{",
-        b"\x1F\x3C\x1E\x40\x1A\x1B\x0A\x21\x1B\x3E\x68\x37\x1B\x65\x41\x1B\x14\x1B\x28",
-        1,
-        b"\x3E\x3C\x0F\x50\xB3\x51\x84\x36\x3E\xF4\x6D\x53\x0E\x6E\x28\x1B\x14",
-    ),
-    (
-        "<}iC_v",
-        b"\x3C\x1B\x29\x69\x43\x11\x76",
-        6,
-        b"\x00\x6F\x93\x4A\x0F\x23\x76",
-    ),
-    (
-        "KU{\r;ΘæV#%UΣ",
-        b"\x4B\x55\x1B\x28\x0D\x3B\x19\x1D\x56\x23\x25\x55\x18",
-        1,
-        b"\x96\xD5\x0D\xAA\xB1\xCB\x74\xAC\xA3\x52\x15\x03",
-    ),
-    (
-        "%ü=%øvΦΞdé\n|79\u{c}J",
-        b"\x25\x7E\x3D\x25\x0C\x76\x12\x1A\x64\x05\x0A\x1B\x40\x37\x39\x1B\x0A\x4A",
-        4,
-        b"\x50\xF2\xF7\x4A\x0C\xBB\x44\x43\x2E\x28\x36\xC0\x5B\x6E\xA3\x50\x02",
-    ),
-    (
-        "'éì|¥]àΨN_ΛæΠe{",
-        b"\x27\x05\x07\x1B\x40\x03\x1B\x3E\x7F\x17\x4E\x11\x14\x1D\x16\x65\x1B\x28",
-        6,
-        b"\xC0\xA9\x70\xD8\x00\x07\x1B\xDF\xFF\xE2\x8C\x50\x3A\x96\xF2\x06\x05",
-    ),
-    (
-        "1\\}{Ω",
-        b"\x31\x1B\x2F\x1B\x29\x1B\x28\x15",
-        6,
-        b"\x40\x6C\xF3\xDA\xA4\x36\xA8\x0A",
-    ),
-    ("@Σ-b", b"\x00\x18\x2D\x62", 2, b"\x00\x30\x2D\x31"),
-    (
-        "øÜaÖ|",
-        b"\x0C\x5E\x61\x5C\x1B\x40",
-        1,
-        b"\x18\xDE\x30\x77\x03\x04",
-    ),
-    (
-        "uøq{$6Δu€k5$>pèBW",
-        b"\x75\x0C\x71\x1B\x28\x02\x36\x10\x75\x1B\x65\x6B\x35\x02\x3E\x70\x04\x42\x57",
-        6,
-        b"\x40\x9D\x11\xDF\xA0\x04\x36\x48\x7D\x53\x5E\xD7\x04\x3E\x38\x41\x78\x05",
-    ),
-    (
-        "Åuäör@]nqYΣ¥à:",
-        b"\x0E\x75\x7B\x7C\x72\x00\x1B\x3E\x6E\x71\x59\x18\x03\x7F\x3A",
-        3,
-        b"\x70\xD4\xF7\x7C\x39\x60\xE3\x73\xC7\xB3\x98\xC1\x5F\x07",
-    ),
-    (
-        "[K3\u{c}BJè",
-        b"\x1B\x3C\x4B\x33\x1B\x0A\x42\x4A\x04",
-        1,
-        b"\x36\xBC\xE5\x6C\xA3\x10\x2A\x09",
-    ),
-    (
-        "['Ä|8^RSæ",
-        b"\x1B\x3C\x27\x5B\x1B\x40\x38\x1B\x14\x52\x53\x1D",
-        3,
-        b"\xD8\xF0\x4E\xDB\x0D\x10\xB7\xA1\x48\xA7\x1D",
-    ),
-    (
-        "€oE!j?¥a\\B\u{c}üö}\\",
-        b"\x1B\x65\x6F\x45\x21\x6A\x3F\x03\x61\x1B\x2F\x42\x1B\x0A\x7E\x7C\x1B\x29\x1B\x2F",
-        3,
-        b"\xD8\x94\xDF\xC5\x90\xFA\x37\x08\x6F\x5E\xC2\x8D\xC2\xCF\xDF\xA4\x36\x2F",
-    ),
-    (
-        "C€s}_",
-        b"\x43\x1B\x65\x73\x1B\x29\x11",
-        5,
-        b"\x60\xB8\x29\xCF\x37\xA9\x08",
-    ),
-    (
-        "Bé^6-~€¿C|",
-        b"\x42\x05\x1B\x14\x36\x2D\x1B\x3D\x1B\x65\x60\x43\x1B\x40",
-        1,
-        b"\x84\x85\x0D\xC5\xD6\xDA\xF4\x36\x65\xF0\x70\x03\x04",
-    ),
-    (
-        "A}\nsQd^oH+ΞjV]tBñ",
-        b"\x41\x1B\x29\x0A\x73\x51\x64\x1B\x14\x6F\x48\x2B\x1A\x6A\x56\x1B\x3E\x74\x42\x7D",
-        2,
-        b"\x04\x37\x29\xC5\x3C\x4A\xDE\x50\xDE\xC8\x95\x46\x6D\xDD\xF8\xE8\xC2\x3E",
-    ),
-    (
-        "5/me)Σ\\6HzåÑU^",
-        b"\x35\x2F\x6D\x65\x29\x18\x1B\x2F\x36\x48\x7A\x0F\x5D\x55\x1B\x14",
-        3,
-        b"\xA8\xBD\xDA\xE5\x14\x66\xF3\xB2\x21\xF5\x8F\x6E\x75\x43\x01",
-    ),
-    ("#q2ü", b"\x23\x71\x32\x7E", 6, b"\xC0\x28\x2E\xF3\x03"),
-    ("40QPK", b"\x34\x30\x51\x50\x4B", 4, b"\x40\x83\x45\xA1\x4B"),
-    (
-        "éNÜEì2 $Vta#¤hÇé",
-        b"\x05\x4E\x5E\x45\x07\x32\x20\x02\x56\x74\x61\x23\x24\x68\x09\x05",
-        1,
-        b"\x0A\x4E\x6F\xF1\x20\x03\x09\xAC\xF4\xF0\x88\x84\x4E\x14\x00",
-    ),
-    ("É", b"\x1F", 0, b"\x1F"),
-    ("g6", b"\x67\x36", 2, b"\x9C\x6D"),
-    (
-        "B[|DXòkkò-^3à",
-        b"\x42\x1B\x3C\x1B\x40\x44\x58\x08\x6B\x6B\x08\x2D\x1B\x14\x33\x7F",
-        3,
-        b"\x10\x6E\x78\x1B\x20\x11\x8B\x58\xAF\x11\xAD\x0D\x65\xF6\x07",
-    ),
-    (
-        "oΞaEc[o\\/c/y",
-        b"\x6F\x1A\x61\x45\x63\x1B\x3C\x6F\x1B\x2F\x2F\x63\x2F\x79",
-        0,
-        b"\x6F\x4D\xB8\x38\xDE\xF0\xDE\x9B\xD7\x6B\xFC\xCA\x03",
-    ),
-    (
-        "ÉΓ{öh€Å]",
-        b"\x1F\x13\x1B\x28\x7C\x68\x1B\x65\x0E\x1B\x3E",
-        4,
-        b"\xF0\x99\x6C\x50\x7C\xF4\xA6\xEC\xD8\xF8\x00",
-    ),
-    (
-        "öΨ*ΛVw",
-        b"\x7C\x17\x2A\x14\x56\x77",
-        4,
-        b"\xC0\xBF\xA8\x28\xD6\x3B",
-    ),
-    (
-        "òhà,ÅØ*oΛ",
-        b"\x08\x68\x7F\x2C\x0E\x0B\x2A\x6F\x14",
-        0,
-        b"\x08\xF4\x9F\xE5\x58\xA8\xDE\x14",
-    ),
-    ("e(", b"\x65\x28", 5, b"\xA0\x8C\x02"),
-    (
-        "Ñc@%48x",
-        b"\x5D\x63\x00\x25\x34\x38\x78",
-        1,
-        b"\xBA\x63\x40\x89\x86\xC3\x03",
-    ),
-    (
-        "{[ùuBW€*94}Ø[ Ñ",
-        b"\x1B\x28\x1B\x3C\x06\x75\x42\x57\x1B\x65\x2A\x39\x34\x1B\x29\x0B\x1B\x3C\x20\x5D",
-        4,
-        b"\xB0\x41\x6D\x78\x86\xBA\xF0\xBA\x29\xAB\x72\xB4\x4D\x6A\xB1\xE1\x81\xBA",
-    ),
-    (
-        "Ñ:òù\\",
-        b"\x5D\x3A\x08\x06\x1B\x2F",
-        5,
-        b"\xA0\xAB\x43\x18\x36\x2F",
-    ),
-    (
-        "ΦF{|\\E)8Ç+",
-        b"\x12\x46\x1B\x28\x1B\x40\x1B\x2F\x45\x29\x38\x09\x2B",
-        2,
-        b"\x48\x8C\x1B\xD4\x06\xB8\x79\x15\x53\xB8\xC4\x0A",
-    ),
-    ("[h", b"\x1B\x3C\x68", 4, b"\xB0\xE1\xA1\x01"),
-    ("ñH", b"\x7D\x48", 2, b"\xF4\x91"),
-    (
-        "øJø[qK¤q:ø'<G",
-        b"\x0C\x4A\x0C\x1B\x3C\x71\x4B\x24\x71\x3A\x0C\x27\x3C\x47",
-        3,
-        b"\x60\x28\x19\x1B\x5E\x7C\x49\x8A\xEB\x18\x27\xDE\x11",
-    ),
-    (
-        "}øNΨ}ß)PÉ]V",
-        b"\x1B\x29\x0C\x4E\x17\x1B\x29\x1E\x29\x50\x1F\x1B\x3E\x56",
-        4,
-        b"\xB0\x49\x31\x9C\x97\x4D\xCA\x93\x82\x7E\x36\x3E\x2B",
-    ),
-    (
-        "w\\*@øaS':\\eÅ",
-        b"\x77\x1B\x2F\x2A\x00\x0C\x61\x53\x27\x3A\x1B\x2F\x65\x0E",
-        3,
-        b"\xB8\x6F\x5E\x2A\x00\x23\x3C\x3D\xE9\x36\xAF\xB2\x03",
-    ),
-    (
-        "Q~vQdE}s",
-        b"\x51\x1B\x3D\x76\x51\x64\x45\x1B\x29\x73",
-        4,
-        b"\x10\xDD\xF4\xEC\x51\x72\x71\x93\x9A\x03",
-    ),
-    (
-        "9ñék5*]&ä)ò?Çzf",
-        b"\x39\x7D\x05\x6B\x35\x2A\x1B\x3E\x26\x7B\x29\x08\x3F\x09\x7A\x66",
-        6,
-        b"\x40\xAE\x5F\x58\xD7\x54\x1B\x9F\x69\x9F\x42\xFC\x12\x7A\x33",
-    ),
-    ("Γh", b"\x13\x68", 3, b"\x98\xA0\x01"),
-    (
-        "6c]|ò:\\R\n4W¿U\u{c}",
-        b"\x36\x63\x1B\x3E\x1B\x40\x08\x3A\x1B\x2F\x52\x0A\x34\x57\x60\x55\x1B\x0A",
-        3,
-        b"\xB0\x8D\x37\xBE\x0D\x10\xA1\xDB\xBC\xA4\x0A\xDA\x15\x5C\xDD\x28\x00",
-    ),
-    (
-        "n1è¤#-\u{c}§xì^)",
-        b"\x6E\x31\x04\x24\x23\x2D\x1B\x0A\x5F\x78\x07\x1B\x14\x29",
-        1,
-        b"\xDC\x31\x02\x69\xD4\xDA\x28\xBE\xF8\xC3\x86\x92\x02",
-    ),
-    (
-        "lAà|,%òJUÜ%Ä{",
-        b"\x6C\x41\x7F\x1B\x40\x2C\x25\x08\x4A\x55\x5E\x25\x5B\x1B\x28",
-        4,
-        b"\xC0\x0E\xFE\x37\x40\x56\x09\xA1\xAC\x7A\x4B\xDB\x0D\x0A",
-    ),
-    (
-        "3h¿Æ3ΠBè{o3",
-        b"\x33\x68\x60\x1C\x33\x16\x42\x04\x1B\x28\x6F\x33",
-        5,
-        b"\x60\x86\x06\x73\x66\x16\x21\x61\x83\x7A\xCF\x00",
-    ),
-    (
-        "J?Ät€Σh?æ]ΘCßn",
-        b"\x4A\x3F\x5B\x74\x1B\x65\x18\x68\x3F\x1D\x1B\x3E\x19\x43\x1E\x6E",
-        4,
-        b"\xA0\xFC\x6D\xE9\x9B\x32\x06\xFD\xEB\x6C\x7C\x99\xA1\xC7\x0D",
-    ),
-    (
-        "ΩzΞ\u{c}§0pÆ(Ç8Γ;öOΞ[",
-        b"\x15\x7A\x1A\x1B\x0A\x5F\x30\x70\x1C\x28\x09\x38\x13\x3B\x7C\x4F\x1A\x1B\x3C",
-        0,
-        b"\x15\xBD\x66\xA3\xF8\xC2\xE0\x1C\x54\x02\x37\xD9\xF1\x9F\x9A\x0D\x0F",
-    ),
-    (
-        "¡ÉKæ|g~\n]}bÇß¡mG",
-        b"\x40\x1F\x4B\x1D\x1B\x40\x67\x1B\x3D\x0A\x1B\x3E\x1B\x29\x62\x09\x1E\x40\x6D\x47",
-        0,
-        b"\xC0\xCF\xB2\xB3\x01\x9E\x37\x3D\xC5\xC6\xB7\x49\x89\x13\x1E\x60\xFB\x08",
-    ),
-    (
-        "6+54^8]ÜΘ]",
-        b"\x36\x2B\x35\x34\x1B\x14\x38\x1B\x3E\x5E\x19\x1B\x3E",
-        5,
-        b"\xC0\xB6\xAA\xD1\x36\x14\xDC\xC6\xE7\xCD\x6C\x7C",
-    ),
-    ("TßHΔò", b"\x54\x1E\x48\x10\x08", 5, b"\x80\xEA\x41\x42\x10"),
-    ("',", b"\x27\x2C", 2, b"\x9C\x58"),
-    (
-        "\\}iΩ\u{c}",
-        b"\x1B\x2F\x1B\x29\x69\x15\x1B\x0A",
-        4,
-        b"\xB0\x79\x6D\x52\xE9\xCA\x46\x01",
-    ),
-    ("&NΞ", b"\x26\x4E\x1A", 0, b"\x26\xA7\x06"),
-    (
-        "ä\röΠP0a'ΨaÅ",
-        b"\x7B\x0D\x7C\x16\x50\x30\x61\x27\x17\x61\x0E",
-        3,
-        b"\xD8\x37\xF8\x16\x28\x2C\x7C\xBA\x84\x1D",
-    ),
-    ("M-c", b"\x4D\x2D\x63", 1, b"\x9A\xAD\x31"),
-    (
-        "/%Oà]ß=lù[ S+ì",
-        b"\x2F\x25\x4F\x7F\x1B\x3E\x1E\x3D\x6C\x06\x1B\x3C\x20\x53\x2B\x07",
-        3,
-        b"\x78\x95\x9E\xFF\x8D\xCF\xD3\x63\x1B\x36\x3C\xD0\x74\x75\x00",
-    ),
-    (
-        "ΓΓdΣÅ}*a/\u{c}~Anq?8",
-        b"\x13\x13\x64\x18\x0E\x1B\x29\x2A\x61\x2F\x1B\x0A\x1B\x3D\x41\x6E\x71\x3F\x38",
-        0,
-        b"\x93\x09\x19\xE3\xD8\xA4\x54\xE1\xD7\x46\xB1\xE9\x05\xDD\xF1\x1F\x0E",
-    ),
-    (
-        "$ΦòU{{ÇLß'-Θ,2",
-        b"\x02\x12\x08\x55\x1B\x28\x1B\x28\x09\x4C\x1E\x27\x2D\x19\x2C\x32",
-        4,
-        b"\x20\x90\x20\xAA\x1B\xD4\x06\x95\x60\x7A\x4E\xAD\x0C\x4B\x06",
-    ),
-    (
-        "yGR|\u{c}",
-        b"\x79\x47\x52\x1B\x40\x1B\x0A",
-        1,
-        b"\xF2\x47\xE9\x06\xB8\x51\x00",
-    ),
-    (
-        "{Upßdñ,^^",
-        b"\x1B\x28\x55\x70\x1E\x64\x7D\x2C\x1B\x14\x1B\x14",
-        4,
-        b"\xB0\x41\x55\xE1\x1E\x72\x9F\xB5\xA1\x6C\x28",
-    ),
-    (
-        "{;>Ç\\DΨdUΣW]5J",
-        b"\x1B\x28\x3B\x3E\x09\x1B\x2F\x44\x17\x64\x55\x18\x57\x1B\x3E\x35\x4A",
-        6,
-        b"\xC0\x06\xB5\xF3\x25\x36\x2F\xE2\x85\x5C\xC5\x5C\x37\xBE\x9A\x12",
-    ),
-    (
-        "\r,\\ΣjI(€Λè",
-        b"\x0D\x2C\x1B\x2F\x18\x6A\x49\x28\x1B\x65\x14\x04",
-        6,
-        b"\x40\x83\xB5\x79\x61\xD4\x49\xD4\xA6\x4C\x21\x00",
-    ),
-    ("\"äÄ", b"\x22\x7B\x5B", 1, b"\x44\xFB\x2D"),
-    ("òÜU\\", b"\x08\x5E\x55\x1B\x2F", 3, b"\x40\x78\xAB\x9B\x17"),
-    (
-        "Ñ}=~{'[g^{|h9*,-",
-        b"\x5D\x1B\x29\x3D\x1B\x3D\x1B\x28\x27\x1B\x3C\x67\x1B\x14\x1B\x28\x1B\x40\x68\x39\x2A\x2C\x2D",
-        2,
-        b"\x74\x37\xA9\xDE\xA6\xB7\x41\x9D\x36\xBC\xF3\x86\xB2\x41\x6D\x80\xE8\x9C\x8A\xD5\x02",
-    ),
-    ("\"", b"\x22", 1, b"\x44"),
-    (
-        "%ik+Eèc,^*1y_ò¤ì",
-        b"\x25\x69\x6B\x2B\x45\x04\x63\x2C\x1B\x14\x2A\x31\x79\x11\x08\x24\x07",
-        0,
-        b"\xA5\xF4\x7A\x55\x24\x8C\x59\x1B\x8A\x2A\x96\x8F\x20\x48\x07",
-    ),
-    ("o", b"\x6F", 3, b"\x78\x03"),
-];
+// A line: the text in UTF-16BE, its septets, the fill bits, the packed octets.
+const SEPTETS: &str = "\
+00680065006C006C006F 68656C6C6F 3 4097D9EC37
+0061 61 1 C2
+002C005F 2C11 1 5811
+0020 20 2 8000
+0077 77 1 EE
+003500E620AC0027 351D1B6527 0 B5CEA67C02
+03A30066002600E90393 1866260513 4 80319B0A13
+003F039B003B006C 3F143B6C 3 F851766C
+004100C70030007600A5 4109307603 5 209880D907
+005D0051005C00390024 1B3E511B2F3902 0 1B5F74F3CA0900
+00280032002A00FC 28322A7E 0 2899CA0F
+003C0398 3C19 1 7819
+0033 33 5 6006
+0047005E00290021 471B142921 0 C70D251502
+00F1003A039E007A 7D3A1A7A 2 F4751A3D
+007C03A000780023 1B40167823 1 36400B7E04
+006B 6B 5 600D
+00A7006E00E4 5F6E7B 3 F8BAF7
+0042 42 5 4008
+0071 71 4 1007
+0062 62 4 2006
+03A6003D00D6004A0064002B 123D5C4A642B 6 80A4C7559257
+0040006A002E0068 006A2E68 5 00A076A101
+0038006F00F2000A0036 386F080A36 6 00EE8D50D800
+00A30034003E0044004900F9 01343E444906 4 10A0F9884903
+002F004C00DF00E8 2F4C1E04 0 2FA68700
+002D007E005B00DC00A1 2D1B3D1B3C5E40 1 5A9BDE86E70502
+00590056 5956 2 64AD
+007200610079 726179 4 200FE701
+005A00650050007B00580074 5A65501B285874 0 DA327483C2D201
+0063006D0057 636D57 0 E3F615
+004F039403A800C400520067 4F10175B5267 0 4FC8652B3D03
+007000530073004300F8 705373430C 2 C0A7F32103
+0069 69 5 200D
+004D004800C9004E00D80031 4D481F4E0B31 0 4DE4C7B98801
+004B 4B 3 5802
+00EC00E5002500C600E0 070F251C7F 6 C0E151E2FC01
+0037 37 1 6E
+000C0054 1B0A54 0 1B0515
+00A40075000D002200BF00C5 24750D22600E 5 80546F88C00E
+03A9004500460055 15454655 0 95A2B10A
+00F600D1007D 7C5D1B29 5 80DFDDA400
+00420079006303A6005B005D005F002E0065005B005C0040 427963121B3C1B3E112E651B3C1B2F00 4 20CC8F251BDEC617719537BCCD0B00
+00E800550040003C004E007203A80075006C 0455003C4E7217756C 0 842A80E7945FEA6C
+007620AC006C0070003C0032004900C7004200F1006D006F 761B656C703C324909427D6D6F 0 F64D990DE7C9920961BFFD06
+0041007D00FC005D005B00650036004F0046006F005E03A8 411B297E1B3E1B3C65364F466F1B1417 2 043729FFC6B7E1956D4FE37B43B900
+0033007C0064005B007B005D000D002400D1 331B40641B3C1B281B3E0D025D 4 30DB00C91BDE06B5F135045D
+00540044004D007C 54444D1B40 0 5462730304
+003C005803A8006E00E90393005A0048039403A00068039300370038005B039B0070 3C58176E05135A481016681337381B3C1470 4 C0C35EDC85891609B1A02737DC86478103
+00A7003500590055039B0029002F000C 5F35595514292F1B0A 4 F0AD65AB94D46BA300
+00640079 6479 6 00390F
+00750069 7569 0 F534
+003520AC005B0036004A00E6005F002E 351B651B3C364A1D112E 0 B54D79C3B3293B1117
+005B0062007B004A03A300A1004B0020005B 1B3C621B284A18404B201B3C 0 1B9E78835262804BD08607
+0058002C004500E90043000D005C00E503A600F8003900C5007E00C5 582C4505430D1B2F0F120C390E1B3D0E 0 5856B1306C6C5E0F0923E7D8F41C
+0021039B 2114 6 408802
+000C002D0024006E005D005C00A7003100EC 1B0A2D026E1B3E1B2F5F3107 5 60A36809DC1BDFE6F58D1D00
+002100E90039005B005C00FC00BF039E0074007E03A6003A00550058007200610044 2105391B3C1B2F7E601A741B3D123A5558726144 2 840AB90D6FF3F28335F44D4FA2AB62E56122
+00350038003900A40394004600770038005D00760048005D007400E8 35383924104677381B3E76481B3E7404 1 6AB81C0962BCE3363E3B72E3A31300
+00270064039800FC000C00C400390398007C00E900BF0056003803A6005B007C 2764197E1B0A5B39191B4005605638121B3C1B40 0 2772C6BF516C73990DB000B6E2241BDE0608
+005E0023 1B1423 4 B0A18C00
+002D00E8005B006E000A005520AC000D00770027005C00E5005B007300F8002B000C 2D041B3C6E0A551B650D77271B2F0F1B3C730C2B1B0A 2 B4081B9E5B51DD941BF7D3E6F5D8F0E68CD54601
+007B 1B28 3 D8A000
+00E40073003B005600620059004E000C000D00EC0026007C20AC007E0038006B 7B733B5662594E1B0A0D07261B401B651B3D386B 5 603FDF59C559E746D1389836C04D79D3C3AD01
+003A00EC00DF002F0043 3A071E2F43 6 80EEE0790D01
+004E0031005500310079007A00A3002200EC007100D8 4E315531797A012207710B 3 70C6AAB1BC3E203AC417
+20AC007C006F00310042000C20AC0074007B00A3005B007300320062 1B651B406F31421B0A1B65741B28011B3C733262 5 6053DE00DF31E146B129D337A8C08637978901
+00250052007D 25521B29 2 94A49B14
+007D 1B29 3 D8A400
+00A1039400D6004F007B0048004D 40105C4F1B28484D 1 8010EE7383423601
+00A100C500DF0048003F006F00F100F803A8002903A3004B0059003800A4003E0074 400E1E483F6F7D0C1729184B5938243E74 1 800E0FF2F7EE332E29CC328B23F9E8
+002C007600E400D60062007A00230051005300E000E4 2C767B5C627A2351537F7B 3 60D9F75CB17E149DFEF7
+00630047003F00470021 63473F4721 2 8C8FBF6308
+00270022006F 27226F 1 4EA237
+00400044004D 00444D 4 00203601
+005C0026004B002A 1B2F264B2A 4 B07999962A
+039E03A300E9007E00A5007900F90068002100320078003A0071 1A18051B3D037906682132783A71 6 800653D8F40679033A24C3EBE2
+003C004B00E9007D00EC003100400072007A007E002C007400730059006E 3C4B051B29073100727A1B3D2C7473596E 3 E02D0B9BD4210690EB373D167D9E7503
+005B006A00C5004B005B 1B3C6A0E4B1B3C 4 B0E1A91DCB0D0F
+20AC00EC00F6007D0057 1B65077C1B2957 6 C0A67CE06F5257
+002000DF0028007E00E500C700EC007E005B0063 201E281B3D0F09071B3D1B3C63 0 200F6AD37B240E9BDE863706
+007B00EC004D00440020005000C6000D039B007B00A5005A005D00F200F8000A 1B28074D4420501C0D141B28035A1B3E080C0A 5 60833A34892028A741D9A006DA8D0FC15000
+007B005E000A007B002A00E80031007C005D0067005C004A000A0045007D00210046 1B281B140A1B282A04311B401B3E671B2F4A0A451B292146 3 D8A03614C506A522C436C08DEFBC792915C54D2A6404
+007000BF007D03A000760394004500C6004700670041003500E6 70601B29167610451C476741351D 2 C0C19B94C50E29728EE760AD03
+0062004B004000550063000C007C03A9 624B0055631B0A1B4015 6 807809A88E378A0DB002
+000D003600A1006D00670071005B004E 0D36406D67711B3C4E 5 A06103B6CFF10DCF09
+00E9000D00720035005D00E4007B 050D72351B3E7B1B28 4 5068C86B1BDF7E8302
+007C007E0079005B002B0055006B00560026005E000A0021 1B401B3D791B3C2B556B56261B140A21 3 D80037BDFC86B7AAAEADA60D451102
+00D80027003D0056004300A700790027003B006B003C005000E5 0B273D56435F79273B6B3C500F 3 589C7AD6E1377FDAAD79D007
+0071003A000C005A0029002600340049004E0021002E 713A1B0A5A292634494E212E 1 E2BA8D429B32D192CE900B
+004C005000650398006F00200032004800590052003E20AC002D005B005B0022 4C5065196F20324859523E1B652D1B3C1B3C22 6 00135ACEBC41326456EADB945B1BDE862702
+004303A3002E002F 43182E2F 3 18625C2F
+00DF00F2006B00F6007D00F103A80041003A006B003A00750042 1E086B7C1B297D17413A6B3A7542 6 8007B1E66F52FD4B50B7D6D585
+0048005D007C005B005E00C900620057002800EC00A7005E003B00D6 481B3E1B401B3C1B141F625728075F1B143B5C 0 C88D6F03DCF036948FF88A3A7C37941D17
+039E005D003B005600200033002C003C00D803A80058 1A1B3E3B5620332C3C0B1758 3 D06C7C3B2B68C6E22D2E58
+003500D6005B039E005200E9007D00E4005B007E00A40034 355C1B3C1A52051B297B1B3C1B3D2434 2 D4B81B9E465AD8A4F61BDEA647A201
+0058005D0068006600D800780034006E003B005F 581B3E68660B78346E3B11 1 B01B1FDABCC0D3DCBB08
+005B000A006800270035003520AC00390020039E002200C4005C 1B3C0A682735351B6539201A225B1B2F 2 6C780AF4A956DB9473208D68BB7901
+005D007C0029005C00E90394007400A70036005B00BF006E03A3007C00700071 1B3E1B40291B2F0510745F361B3C606E181B407071 6 C0C6B701A636AF0284FEB56D786037660384C701
+007A004400BF00C60021005E002F00260052007C004D03A0 7A44601C211B142F26521B404D16 0 7A229813DA505E26E906D8B400
+007D20AC0077007B005E0020005100D100EC007500C4 1B291B65771B281B1420515D07755B 6 C026B529DF37A80D0514ED1EEA5B
+00E500F1003D007C0033005C00E4002C003800430073002200DF0027 0F7D3D1B40331B2F7B2C384373221E27 2 3CFABD0D70B679ED59B8E15CE43901
+007B0071004A0074 1B28714A74 0 1B545C4907
+039E00A10037004C002600F60067004D 1A40374C267C674D 0 1AE08D69E29F9B
+00BF000A00A100C6006F039E007D00BF007C0079007C00390046 600A401C6F1A1B29601B40791B403946 0 600590F3D66C52E00D30BF01E68C
+002500230065 252365 5 A0342A03
+00A3007D003E003D005C00A3007C00BF03980068 011B293E3D1B2F011B40601968 2 0436295F6FF30A6C80E00C1A
+003100E8 3104 0 3102
+007C006F00750038007D 1B406F75381B29 2 6C80EF3A6E9302
+000C007E 1B0A1B3D 5 60A3D8F400
+00F20050005F004B0041005E005D00D6006200C600350033005E00C4002500A700F1 0850114B411B141B3E5C621C35331B145B255F7D 3 404023CBE086B2F171C59CDA6C43D996BE7D
+0036005A007B003100F1005A0057 365A1B28317D5A57 2 D8B41B54ACAFBD02
+0023 23 2 8C00
+00C60062005C0064005500F200F9007A 1C621B2F645508067A 3 E088372F721561D003
+0039006520AC 39651B65 3 C8953765
+00300024003C0048005500C7 30023C485509 6 004CC0435613
+00A1007D0058 401B2958 0 C04D0A0B
+0044005F002C004E002B005E20AC005B0072 44112C4E2B1B141B651B3C72 3 204658CED586B2296F7872
+00BF007B007D00A4002100310034003600490047002B00C6000D007D0079004F 601B281B29242131343649472B1C0D1B29794F 0 E00D6A93228562345BF2B8E23436A9FC13
+00620058007B003000230061002800420027 62581B28302361284227 2 88B11B146C1446094F
+003E00A70393007700340049004600320064005D007A005D00260056 3E5F137734494632641B3E7A1B3E2656 6 80EF3BB9D392461979E3D36F7C262B
+0044003F 443F 4 40FC01
+007C 1B40 2 6C80
+007E007C003300D100710047004F03A9002E005C0398007303A00043006E 1B3D1B40335D71474F152E1B2F197316436E 5 60D3DB0067DDF8F159716D5E99B965E806
+00620023004A 62234A 4 201E2901
+002700DF 271E 1 4E1E
+002800E400230056 287B2356 4 80DA8FAC
+002600F6006E004900E400790035003B00FC 267C6E497B79353B7E 3 30F1DDC97DBEB6F303
+004C0031006B006C0072 4C316B6C72 2 30636BB61C
+004200A100A40047000C20AC007E005D005900D8004C0029006220AC0030006C0047 424024471B0A1B651B3D1B3E590B4C29621B65306C47 4 2004928E1BC5A6BCE96D7CD9053325DE9461EC23
+007D004A00F600210036007D007A003B03A6 1B294A7C21361B297A3B12 2 6C524A7EC8B649E97712
+00DC006900E8006B003C 5E69046B3C 4 E04D13D63C
+00C9003C00DF00A1039E000C0021005D0068003720AC0041005E007B 1F3C1E401A1B0A211B3E68371B65411B141B28 1 3E3C0F50B35184363EF46D530E6E281B14
+003C007D00690043005F0076 3C1B2969431176 6 006F934A0F2376
+004B0055007B000D003B039800E6005600230025005503A3 4B551B280D3B191D5623255518 1 96D50DAAB1CB74ACA3521503
+002500FC003D002500F8007603A6039E006400E9000A007C00370039000C004A 257E3D250C76121A64050A1B4037391B0A4A 4 50F2F74A0CBB44432E2836C05B6EA35002
+002700E900EC007C00A5005D00E003A8004E005F039B00E603A00065007B 2705071B40031B3E7F174E11141D16651B28 6 C0A970D800071BDFFFE28C503A96F20605
+0031005C007D007B03A9 311B2F1B291B2815 6 406CF3DAA436A80A
+004003A3002D0062 00182D62 2 00302D31
+00F800DC006100D6007C 0C5E615C1B40 1 18DE30770304
+007500F80071007B002400360394007520AC006B00350024003E007000E800420057 750C711B28023610751B656B35023E70044257 6 409D11DFA00436487D535ED7043E38417805
+00C5007500E400F600720040005D006E0071005903A300A500E0003A 0E757B7C72001B3E6E715918037F3A 3 70D4F77C3960E373C7B398C15F07
+005B004B0033000C0042004A00E8 1B3C4B331B0A424A04 1 36BCE56CA3102A09
+005B002700C4007C0038005E0052005300E6 1B3C275B1B40381B1452531D 3 D8F04EDB0D10B7A148A71D
+20AC006F00450021006A003F00A50061005C0042000C00FC00F6007D005C 1B656F45216A3F03611B2F421B0A7E7C1B291B2F 3 D894DFC590FA37086F5EC28DC2CFDFA4362F
+004320AC0073007D005F 431B65731B2911 5 60B829CF37A908
+004200E9005E0036002D007E20AC00BF0043007C 42051B14362D1B3D1B6560431B40 1 84850DC5D6DAF43665F0700304
+0041007D000A007300510064005E006F0048002B039E006A0056005D0074004200F1 411B290A7351641B146F482B1A6A561B3E74427D 2 043729C53C4ADE50DEC895466DDDF8E8C23E
+0035002F006D0065002903A3005C00360048007A00E500D10055005E 352F6D6529181B2F36487A0F5D551B14 3 A8BDDAE51466F3B221F58F6E754301
+00230071003200FC 2371327E 6 C0282EF303
+0034003000510050004B 343051504B 4 408345A14B
+00E9004E00DC004500EC003200200024005600740061002300A4006800C700E9 054E5E45073220025674612324680905 1 0A4E6FF1200309ACF4F088844E1400
+00C9 1F 0 1F
+00670036 6736 2 9C6D
+0042005B007C0044005800F2006B006B00F2002D005E003300E0 421B3C1B404458086B6B082D1B14337F 3 106E781B20118B58AF11AD0D65F607
+006F039E006100450063005B006F005C002F0063002F0079 6F1A6145631B3C6F1B2F2F632F79 0 6F4DB838DEF0DE9BD76BFCCA03
+00C90393007B00F6006820AC00C5005D 1F131B287C681B650E1B3E 4 F0996C507CF4A6ECD8F800
+00F603A8002A039B00560077 7C172A145677 4 C0BFA828D63B
+00F2006800E0002C00C500D8002A006F039B 08687F2C0E0B2A6F14 0 08F49FE558A8DE14
+00650028 6528 5 A08C02
+00D1006300400025003400380078 5D630025343878 1 BA63408986C303
+007B005B00F900750042005720AC002A00390034007D00D8005B002000D1 1B281B3C067542571B652A39341B290B1B3C205D 4 B0416D7886BAF0BA29AB72B44D6AB1E181BA
+00D1003A00F200F9005C 5D3A08061B2F 5 A0AB4318362F
+03A60046007B007C005C00450029003800C7002B 12461B281B401B2F452938092B 2 488C1BD406B8791553B8C40A
+005B0068 1B3C68 4 B0E1A101
+00F10048 7D48 2 F491
+00F8004A00F8005B0071004B00A40071003A00F80027003C0047 0C4A0C1B3C714B24713A0C273C47 3 6028191B5E7C498AEB1827DE11
+007D00F8004E03A8007D00DF0029005000C9005D0056 1B290C4E171B291E29501F1B3E56 4 B049319C974DCA93827E363E2B
+0077005C002A004000F8006100530027003A005C006500C5 771B2F2A000C6153273A1B2F650E 3 B86F5E2A00233C3DE936AFB203
+0051007E0076005100640045007D0073 511B3D765164451B2973 4 10DDF4EC517271939A03
+003900F100E9006B0035002A005D002600E4002900F2003F00C7007A0066 397D056B352A1B3E267B29083F097A66 6 40AE5F58D7541B9F699F42FC127A33
+03930068 1368 3 98A001
+00360063005D007C00F2003A005C0052000A0034005700BF0055000C 36631B3E1B40083A1B2F520A345760551B0A 3 B08D37BE0D10A1DBBCA40ADA155CDD2800
+006E003100E800A40023002D000C00A7007800EC005E0029 6E310424232D1B0A5F78071B1429 1 DC310269D4DA28BEF8C3869202
+006C004100E0007C002C002500F2004A005500DC002500C4007B 6C417F1B402C25084A555E255B1B28 4 C00EFE37405609A1AC7A4BDB0D0A
+0033006800BF00C6003303A0004200E8007B006F0033 3368601C331642041B286F33 5 6086067366162161837ACF00
+004A003F00C4007420AC03A30068003F00E6005D0398004300DF006E 4A3F5B741B6518683F1D1B3E19431E6E 4 A0FC6DE99B3206FDEB6C7C99A1C70D
+03A9007A039E000C00A70030007000C6002800C700380393003B00F6004F039E005B 157A1A1B0A5F30701C280938133B7C4F1A1B3C 0 15BD66A3F8C2E01C540237D9F19F9A0D0F
+00A100C9004B00E6007C0067007E000A005D007D006200C700DF00A1006D0047 401F4B1D1B40671B3D0A1B3E1B2962091E406D47 0 C0CFB2B3019E373DC5C6B74989131E60FB08
+0036002B00350034005E0038005D00DC0398005D 362B35341B14381B3E5E191B3E 5 C0B6AAD13614DCC6E7CD6C7C
+005400DF0048039400F2 541E481008 5 80EA414210
+0027002C 272C 2 9C58
+005C007D006903A9000C 1B2F1B2969151B0A 4 B0796D52E9CA4601
+0026004E039E 264E1A 0 26A706
+00E4000D00F603A0005000300061002703A8006100C5 7B0D7C165030612717610E 3 D837F816282C7CBA841D
+004D002D0063 4D2D63 1 9AAD31
+002F0025004F00E0005D00DF003D006C00F9005B00200053002B00EC 2F254F7F1B3E1E3D6C061B3C20532B07 3 78959EFF8DCFD3631B363CD0747500
+03930393006403A300C5007D002A0061002F000C007E0041006E0071003F0038 131364180E1B292A612F1B0A1B3D416E713F38 0 930919E3D8A454E1D746B1E905DDF11F0E
+002403A600F20055007B007B00C7004C00DF0027002D0398002C0032 021208551B281B28094C1E272D192C32 4 209020AA1BD40695607A4EAD0C4B06
+007900470052007C000C 7947521B401B0A 1 F247E906B85100
+007B0055007000DF006400F1002C005E005E 1B2855701E647D2C1B141B14 4 B04155E11E729FB5A16C28
+007B003B003E00C7005C004403A80064005503A30057005D0035004A 1B283B3E091B2F4417645518571B3E354A 6 C006B5F325362FE2855CC55C37BE9A12
+000D002C005C03A3006A0049002820AC039B00E8 0D2C1B2F186A49281B651404 6 4083B57961D449D4A64C2100
+002200E400C4 227B5B 1 44FB2D
+00F200DC0055005C 085E551B2F 3 4078AB9B17
+00D1007D003D007E007B0027005B0067005E007B007C00680039002A002C002D 5D1B293D1B3D1B28271B3C671B141B281B4068392A2C2D 2 7437A9DEA6B7419D36BCF386B2416D80E89C8AD502
+0022 22 1 44
+00250069006B002B004500E80063002C005E002A00310079005F00F200A400EC 25696B2B4504632C1B142A317911082407 0 A5F47A55248C591B8A2A968F204807
+006F 6F 3 7803
+";
 
-static UCS2: [(&str, &[u8]); 101] = [
-    ("ж😀", b"\x04\x36\xD8\x3D\xDE\x00"),
-    ("", b""),
-    (
-        "\u{d7ff}\u{e000}\u{ffff}\u{10000}\u{10ffff}\u{0}\u{7f}\u{80}",
-        b"\xD7\xFF\xE0\x00\xFF\xFF\xD8\x00\xDC\x00\xDB\xFF\xDF\xFF\x00\x00\x00\x7F\x00\x80",
-    ),
-    (
-        ")\u{3bdd3}P\u{2623}\u{6c01}",
-        b"\x00\x29\xD8\xAF\xDD\xD3\x00\x50\x26\x23\x6C\x01",
-    ),
-    ("\u{f4777}", b"\xDB\x91\xDF\x77"),
-    (
-        "\u{8ba90}R\u{11f9}\u{4e115}€\u{77030}",
-        b"\xD9\xEE\xDE\x90\x00\x52\x11\xF9\xD8\xF8\xDD\x15\x20\xAC\xD9\x9C\xDC\x30",
-    ),
-    (
-        "\u{f9797}\u{e0f3}\u{f1b4b}\u{1f600}\u{e4a7}>",
-        b"\xDB\xA5\xDF\x97\xE0\xF3\xDB\x86\xDF\x4B\xD8\x3D\xDE\x00\xE4\xA7\x00\x3E",
-    ),
-    ("{\u{47da}€a", b"\x00\x7B\x47\xDA\x20\xAC\x00\x61"),
-    ("\u{aade2}z", b"\xDA\x6B\xDD\xE2\x00\x7A"),
-    ("€\u{944cf}\u{1f0a}", b"\x20\xAC\xDA\x11\xDC\xCF\x1F\x0A"),
-    ("\u{1f64}\u{5dfa}E", b"\x1F\x64\x5D\xFA\x00\x45"),
-    (
-        "\u{e03f}V\u{73238}éZ\u{6f22}\u{f6fb}",
-        b"\xE0\x3F\x00\x56\xD9\x8C\xDE\x38\x00\xE9\x00\x5A\x6F\x22\xF6\xFB",
-    ),
-    (
-        "\u{2c80}\u{4ff36}\u{caba}\u{6f0dc}\u{38e8}1\u{1f600}\u{1f600}",
-        b"\x2C\x80\xD8\xFF\xDF\x36\xCA\xBA\xD9\x7C\xDC\xDC\x38\xE8\x00\x31\xD8\x3D\xDE\x00\xD8\x3D\xDE\x00",
-    ),
-    ("W", b"\x00\x57"),
-    (
-        "é\u{fde0}\u{f62f}\u{e871d}đ!",
-        b"\x00\xE9\xFD\xE0\xF6\x2F\xDB\x61\xDF\x1D\x01\x11\x00\x21",
-    ),
-    (
-        "c\u{ad660}\u{ab34}.\u{ec4d}",
-        b"\x00\x63\xDA\x75\xDE\x60\xAB\x34\x00\x2E\xEC\x4D",
-    ),
-    (
-        "đ\u{f011}\u{5723}\u{3d36f},\u{39b9}\u{2b2f}",
-        b"\x01\x11\xF0\x11\x57\x23\xD8\xB4\xDF\x6F\x00\x2C\x39\xB9\x2B\x2F",
-    ),
-    (
-        "\u{58ef};\u{44cb4}L",
-        b"\x58\xEF\x00\x3B\xD8\xD3\xDC\xB4\x00\x4C",
-    ),
-    (
-        "\u{a89e3}\u{6677}p\u{b161}\u{61701}",
-        b"\xDA\x62\xDD\xE3\x66\x77\x00\x70\xB1\x61\xD9\x45\xDF\x01",
-    ),
-    (
-        "F\u{edd0}\u{7c810}\u{e148}é\u{4b60c}",
-        b"\x00\x46\xED\xD0\xD9\xB2\xDC\x10\xE1\x48\x00\xE9\xD8\xED\xDE\x0C",
-    ),
-    (
-        "cv\u{663d4}\u{bf38}",
-        b"\x00\x63\x00\x76\xD9\x58\xDF\xD4\xBF\x38",
-    ),
-    ("U", b"\x00\x55"),
-    (
-        "\u{f22c}\u{7f10c}\u{3091f}L",
-        b"\xF2\x2C\xD9\xBC\xDD\x0C\xD8\x82\xDD\x1F\x00\x4C",
-    ),
-    ("\u{eea9c}", b"\xDB\x7A\xDE\x9C"),
-    ("\u{fab5}", b"\xFA\xB5"),
-    (
-        "\u{ae15}T\u{f514}Sđ",
-        b"\xAE\x15\x00\x54\xF5\x14\x00\x53\x01\x11",
-    ),
-    (
-        "E\u{ec38}\u{2812}\u{f3f0}\u{1f642}\u{ce8a}@",
-        b"\x00\x45\xEC\x38\x28\x12\xF3\xF0\xD8\x3D\xDE\x42\xCE\x8A\x00\x40",
-    ),
-    ("\u{c7c0}TX", b"\xC7\xC0\x00\x54\x00\x58"),
-    ("\u{2eda8}", b"\xD8\x7B\xDD\xA8"),
-    (
-        "\u{f5d2}<\u{dab12}\u{f074}\u{f173}P\u{b5628}",
-        b"\xF5\xD2\x00\x3C\xDB\x2A\xDF\x12\xF0\x74\xF1\x73\x00\x50\xDA\x95\xDE\x28",
-    ),
-    (
-        "N\u{2777}\u{1f642}5",
-        b"\x00\x4E\x27\x77\xD8\x3D\xDE\x42\x00\x35",
-    ),
-    (
-        "\u{708f}€\u{931c}\u{4445}\u{1f642}_",
-        b"\x70\x8F\x20\xAC\x93\x1C\x44\x45\xD8\x3D\xDE\x42\x00\x5F",
-    ),
-    ("\u{e7c5}\u{3070}\u{e549}", b"\xE7\xC5\x30\x70\xE5\x49"),
-    ("đ\u{e745}J", b"\x01\x11\xE7\x45\x00\x4A"),
-    ("\u{9bc5}\u{e26f}", b"\x9B\xC5\xE2\x6F"),
-    (
-        "\u{79265}\u{edf0}f)\u{1f600}\u{6f22}\u{3fad}",
-        b"\xD9\xA4\xDE\x65\xED\xF0\x00\x66\x00\x29\xD8\x3D\xDE\x00\x6F\x22\x3F\xAD",
-    ),
-    (
-        "\u{1f642}\u{f7bf}\u{5b57}\u{ec8cd}\u{abfb4}.\u{6aaa}",
-        b"\xD8\x3D\xDE\x42\xF7\xBF\x5B\x57\xDB\x72\xDC\xCD\xDA\x6F\xDF\xB4\x00\x2E\x6A\xAA",
-    ),
-    (
-        "\u{e22b}€@\u{e3ac}B",
-        b"\xE2\x2B\x20\xAC\x00\x40\xE3\xAC\x00\x42",
-    ),
-    (
-        "0c\u{7518}\u{1b4e}\u{d005}đ\u{e9dd}\u{315a6}",
-        b"\x00\x30\x00\x63\x75\x18\x1B\x4E\xD0\x05\x01\x11\xE9\xDD\xD8\x85\xDD\xA6",
-    ),
-    ("đ€\u{fa3f}", b"\x01\x11\x20\xAC\xFA\x3F"),
-    (
-        "\u{e690}\u{e2d35}\u{6ff9}\u{f230}\u{6f22}",
-        b"\xE6\x90\xDB\x4B\xDD\x35\x6F\xF9\xF2\x30\x6F\x22",
-    ),
-    (
-        "Q\u{ebae}\u{1f600}жm\u{1f642}\u{5f5e9}",
-        b"\x00\x51\xEB\xAE\xD8\x3D\xDE\x00\x04\x36\x00\x6D\xD8\x3D\xDE\x42\xD9\x3D\xDD\xE9",
-    ),
-    ("\u{928af}", b"\xDA\x0A\xDC\xAF"),
-    (
-        "\u{f6c0}\u{c23f}\u{1f600}F€\u{e7b5}éж",
-        b"\xF6\xC0\xC2\x3F\xD8\x3D\xDE\x00\x00\x46\x20\xAC\xE7\xB5\x00\xE9\x04\x36",
-    ),
-    (
-        "\u{d6c54}\u{e558}a\u{5b57}",
-        b"\xDB\x1B\xDC\x54\xE5\x58\x00\x61\x5B\x57",
-    ),
-    (
-        "\u{8eb1e}\u{a5ed}\u{ebfa}N\u{7e80f}\u{f8ce}",
-        b"\xD9\xFA\xDF\x1E\xA5\xED\xEB\xFA\x00\x4E\xD9\xBA\xDC\x0F\xF8\xCE",
-    ),
-    ("\u{67d5f}\u{c2c5}", b"\xD9\x5F\xDD\x5F\xC2\xC5"),
-    ("{\u{fe50}", b"\x00\x7B\xFE\x50"),
-    ("CY,", b"\x00\x43\x00\x59\x00\x2C"),
-    (
-        "\u{38e4}@J€\u{e445}",
-        b"\x38\xE4\x00\x40\x00\x4A\x20\xAC\xE4\x45",
-    ),
-    ("nж\u{f160}", b"\x00\x6E\x04\x36\xF1\x60"),
-    (
-        "\u{4d23}\u{e526}\u{fc10}\u{f67c}+\u{3b00}\u{3ea8}\u{d0d99}",
-        b"\x4D\x23\xE5\x26\xFC\x10\xF6\x7C\x00\x2B\x3B\x00\x3E\xA8\xDB\x03\xDD\x99",
-    ),
-    ("đ", b"\x01\x11"),
-    ("\u{fa79}\u{e2703}", b"\xFA\x79\xDB\x49\xDF\x03"),
-    (
-        "\u{46b0}\u{5b57}\u{8d61}c",
-        b"\x46\xB0\x5B\x57\x8D\x61\x00\x63",
-    ),
-    (
-        "\u{5b57};\u{b47a5}\u{1059ab}\u{5c8c2}\u{6f22}_",
-        b"\x5B\x57\x00\x3B\xDA\x91\xDF\xA5\xDB\xD6\xDD\xAB\xD9\x32\xDC\xC2\x6F\x22\x00\x5F",
-    ),
-    (
-        "\u{5b57}\u{eb23}\u{6130}$",
-        b"\x5B\x57\xEB\x23\x61\x30\x00\x24",
-    ),
-    (
-        "\u{3e8d}\u{f8b5}\u{efae0}",
-        b"\x3E\x8D\xF8\xB5\xDB\x7E\xDE\xE0",
-    ),
-    (
-        "m\u{e68b4}KB\u{f847}đ",
-        b"\x00\x6D\xDB\x5A\xDC\xB4\x00\x4B\x00\x42\xF8\x47\x01\x11",
-    ),
-    (
-        "\u{10b455}\u{6f22}\u{5d181}ж\u{31f89}é",
-        b"\xDB\xED\xDC\x55\x6F\x22\xD9\x34\xDD\x81\x04\x36\xD8\x87\xDF\x89\x00\xE9",
-    ),
-    (
-        "H\u{e650}\u{88f17}éđđ",
-        b"\x00\x48\xE6\x50\xD9\xE3\xDF\x17\x00\xE9\x01\x11\x01\x11",
-    ),
-    (
-        "\u{f26d}\u{cc428}\u{8a2a5}\u{ff387}6\u{105417}\u{e5d9}",
-        b"\xF2\x6D\xDA\xF1\xDC\x28\xD9\xE8\xDE\xA5\xDB\xBC\xDF\x87\x00\x36\xDB\xD5\xDC\x17\xE5\xD9",
-    ),
-    (
-        "\u{e8d0}\u{f194}\u{1f642}",
-        b"\xE8\xD0\xF1\x94\xD8\x3D\xDE\x42",
-    ),
-    (
-        "\u{8fc2}D\u{16448}\u{6f22}ж",
-        b"\x8F\xC2\x00\x44\xD8\x19\xDC\x48\x6F\x22\x04\x36",
-    ),
-    (
-        "\u{2cf3f}o\u{fb8b}\u{5b57}",
-        b"\xD8\x73\xDF\x3F\x00\x6F\xFB\x8B\x5B\x57",
-    ),
-    ("x\u{a53d}", b"\x00\x78\xA5\x3D"),
-    (
-        "\u{3315}\u{5315e}\u{80d8}\u{c5bc}\u{31af}\u{7a80}\u{ff83}\u{d14e}",
-        b"\x33\x15\xD9\x0C\xDD\x5E\x80\xD8\xC5\xBC\x31\xAF\x7A\x80\xFF\x83\xD1\x4E",
-    ),
-    (
-        "\u{2fb5e}\u{e54f}\u{66a9}",
-        b"\xD8\x7E\xDF\x5E\xE5\x4F\x66\xA9",
-    ),
-    (
-        "\u{4bf0}\u{1f600}+\u{59328}\u{67e1}",
-        b"\x4B\xF0\xD8\x3D\xDE\x00\x00\x2B\xD9\x24\xDF\x28\x67\xE1",
-    ),
-    (
-        "\u{f217}\u{5b57}\u{f7b1}\u{1f600}[Oж\u{85b3f}",
-        b"\xF2\x17\x5B\x57\xF7\xB1\xD8\x3D\xDE\x00\x00\x5B\x00\x4F\x04\x36\xD9\xD6\xDF\x3F",
-    ),
-    ("Vé\u{26d9}", b"\x00\x56\x00\xE9\x26\xD9"),
-    (
-        "\u{e81e}\u{bf271}\u{2c71}\u{c610d}đ\u{db1b0}",
-        b"\xE8\x1E\xDA\xBC\xDE\x71\x2C\x71\xDA\xD8\xDD\x0D\x01\x11\xDB\x2C\xDD\xB0",
-    ),
-    (
-        "\u{996d}Y\u{86863}đé\u{955fe}y",
-        b"\x99\x6D\x00\x59\xD9\xDA\xDC\x63\x01\x11\x00\xE9\xDA\x15\xDD\xFE\x00\x79",
-    ),
-    (
-        "\u{fb1f}€\u{e1c6}\u{5b57}\u{e402}\u{e865}L",
-        b"\xFB\x1F\x20\xAC\xE1\xC6\x5B\x57\xE4\x02\xE8\x65\x00\x4C",
-    ),
-    (
-        "M\u{3730}€P\u{5b57}\u{1ec0}é\u{74acb}",
-        b"\x00\x4D\x37\x30\x20\xAC\x00\x50\x5B\x57\x1E\xC0\x00\xE9\xD9\x92\xDE\xCB",
-    ),
-    (
-        "\"&\u{ecd5}\u{7050d}m",
-        b"\x00\x22\x00\x26\xEC\xD5\xD9\x81\xDD\x0D\x00\x6D",
-    ),
-    (
-        "\u{e61d}€\u{44807}đ\u{f25a}U-",
-        b"\xE6\x1D\x20\xAC\xD8\xD2\xDC\x07\x01\x11\xF2\x5A\x00\x55\x00\x2D",
-    ),
-    ("\u{e7c4}", b"\xE7\xC4"),
-    (
-        "\u{f591}\u{e342}=A\u{6f22}\u{a14e7}\u{3194}",
-        b"\xF5\x91\xE3\x42\x00\x3D\x00\x41\x6F\x22\xDA\x45\xDC\xE7\x31\x94",
-    ),
-    ("b", b"\x00\x62"),
-    (
-        "é\u{55fd}j\u{6f22}đ\u{32696}\u{8daad}",
-        b"\x00\xE9\x55\xFD\x00\x6A\x6F\x22\x01\x11\xD8\x89\xDE\x96\xD9\xF6\xDE\xAD",
-    ),
-    (
-        "1\u{942b1}\u{f60b}/\u{1856}\u{6f22}€",
-        b"\x00\x31\xDA\x10\xDE\xB1\xF6\x0B\x00\x2F\x18\x56\x6F\x22\x20\xAC",
-    ),
-    (
-        "\u{d63a}\u{1f600}\u{192c}\u{8f7e}é€đh",
-        b"\xD6\x3A\xD8\x3D\xDE\x00\x19\x2C\x8F\x7E\x00\xE9\x20\xAC\x01\x11\x00\x68",
-    ),
-    (
-        "\u{4304}đ\u{1f642}\u{f8fc}&\u{d8b70}\u{b4cf7}€",
-        b"\x43\x04\x01\x11\xD8\x3D\xDE\x42\xF8\xFC\x00\x26\xDB\x22\xDF\x70\xDA\x93\xDC\xF7\x20\xAC",
-    ),
-    (
-        "\u{f617}\u{5b57}hđ\u{fc9eb}",
-        b"\xF6\x17\x5B\x57\x00\x68\x01\x11\xDB\xB2\xDD\xEB",
-    ),
-    (
-        "€\u{f16d0}жM€\u{648a}\u{55364}",
-        b"\x20\xAC\xDB\x85\xDE\xD0\x04\x36\x00\x4D\x20\xAC\x64\x8A\xD9\x14\xDF\x64",
-    ),
-    (
-        "\u{6f22}ж\u{2e0d5}\u{bc87}@",
-        b"\x6F\x22\x04\x36\xD8\x78\xDC\xD5\xBC\x87\x00\x40",
-    ),
-    (
-        "\u{259e9}\u{6f22}\u{57ac}\u{1f600}o\u{ff19}\u{e26f}\u{c89a}",
-        b"\xD8\x56\xDD\xE9\x6F\x22\x57\xAC\xD8\x3D\xDE\x00\x00\x6F\xFF\x19\xE2\x6F\xC8\x9A",
-    ),
-    (
-        "`\u{8ec1e}\u{bbd0}\u{6ff01}\u{d7bc}",
-        b"\x00\x60\xD9\xFB\xDC\x1E\xBB\xD0\xD9\x7F\xDF\x01\xD7\xBC",
-    ),
-    ("#\u{fb07a}\u{fb82}", b"\x00\x23\xDB\xAC\xDC\x7A\xFB\x82"),
-    (
-        "\u{ca09})€\u{ea826}\u{e4a3}\u{ec86}\u{af5b}\u{6f672}",
-        b"\xCA\x09\x00\x29\x20\xAC\xDB\x6A\xDC\x26\xE4\xA3\xEC\x86\xAF\x5B\xD9\x7D\xDE\x72",
-    ),
-    (
-        "Y\u{21285}\u{e0a8}\u{f195}đ",
-        b"\x00\x59\xD8\x44\xDE\x85\xE0\xA8\xF1\x95\x01\x11",
-    ),
-    ("\u{1f600}", b"\xD8\x3D\xDE\x00"),
-    ("T1", b"\x00\x54\x00\x31"),
-    (
-        "u\u{1f642}\u{5977}đé\u{353e}",
-        b"\x00\x75\xD8\x3D\xDE\x42\x59\x77\x01\x11\x00\xE9\x35\x3E",
-    ),
-    ("\u{1029f0}", b"\xDB\xCA\xDD\xF0"),
-    (
-        "e\u{fbe5}\u{e1f5}\u{1f600}",
-        b"\x00\x65\xFB\xE5\xE1\xF5\xD8\x3D\xDE\x00",
-    ),
-    ("&\"ж\u{a2b93}", b"\x00\x26\x00\x22\x04\x36\xDA\x4A\xDF\x93"),
-    ("\u{1f642}\u{31dd}", b"\xD8\x3D\xDE\x42\x31\xDD"),
-    ("\u{3888f}\u{a51e}", b"\xD8\xA2\xDC\x8F\xA5\x1E"),
-    ("\u{f9a4}\u{ecee}", b"\xF9\xA4\xEC\xEE"),
-];
+// A line: the text in UTF-8, the same in UTF-16BE.
+const UCS2: &str = "\
+ED9FBFEE8080EFBFBFF0908080F48FBFBF007FC280 D7FFE000FFFFD800DC00DBFFDFFF0000007F0080
+29F0BBB79350E298A3E6B081 0029D8AFDDD3005026236C01
+F3B49DB7 DB91DF77
+F28BAA9052E187B9F18E8495E282ACF1B780B0 D9EEDE90005211F9D8F8DD1520ACD99CDC30
+F3B99E97EE83B3F3B1AD8BF09F9880EE92A73E DBA5DF97E0F3DB86DF4BD83DDE00E4A7003E
+7BE49F9AE282AC61 007B47DA20AC0061
+F2AAB7A27A DA6BDDE2007A
+E282ACF294938FE1BC8A 20ACDA11DCCF1F0A
+E1BDA4E5B7BA45 1F645DFA0045
+EE80BF56F1B388B8C3A95AE6BCA2EF9BBB E03F0056D98CDE3800E9005A6F22F6FB
+E2B280F18FBCB6ECAABAF1AF839CE3A3A831F09F9880F09F9880 2C80D8FFDF36CABAD97CDCDC38E80031D83DDE00D83DDE00
+57 0057
+C3A9EFB7A0EF98AFF3A89C9DC49121 00E9FDE0F62FDB61DF1D01110021
+63F2AD99A0EAACB42EEEB18D 0063DA75DE60AB34002EEC4D
+C491EF8091E59CA3F0BD8DAF2CE3A6B9E2ACAF 0111F0115723D8B4DF6F002C39B92B2F
+E5A3AF3BF184B2B44C 58EF003BD8D3DCB4004C
+F2A8A7A3E699B770EB85A1F1A19C81 DA62DDE366770070B161D945DF01
+46EEB790F1BCA090EE8588C3A9F18B988C 0046EDD0D9B2DC10E14800E9D8EDDE0C
+6376F1A68F94EBBCB8 00630076D958DFD4BF38
+55 0055
+EF88ACF1BF848CF0B0A49F4C F22CD9BCDD0CD882DD1F004C
+F3AEAA9C DB7ADE9C
+EFAAB5 FAB5
+EAB89554EF949453C491 AE150054F51400530111
+45EEB0B8E2A092EF8FB0F09F9982ECBA8A40 0045EC382812F3F0D83DDE42CE8A0040
+EC9F805458 C7C000540058
+F0AEB6A8 D87BDDA8
+EF97923CF39AAC92EF81B4EF85B350F2B598A8 F5D2003CDB2ADF12F074F1730050DA95DE28
+4EE29DB7F09F998235 004E2777D83DDE420035
+E7828FE282ACE98C9CE49185F09F99825F 708F20AC931C4445D83DDE42005F
+EE9F85E381B0EE9589 E7C53070E549
+C491EE9D854A 0111E745004A
+E9AF85EE89AF 9BC5E26F
+F1B989A5EEB7B06629F09F9880E6BCA2E3BEAD D9A4DE65EDF000660029D83DDE006F223FAD
+F09F9982EF9EBFE5AD97F3ACA38DF2ABBEB42EE6AAAA D83DDE42F7BF5B57DB72DCCDDA6FDFB4002E6AAA
+EE88ABE282AC40EE8EAC42 E22B20AC0040E3AC0042
+3063E79498E1AD8EED8085C491EEA79DF0B196A6 0030006375181B4ED0050111E9DDD885DDA6
+C491E282ACEFA8BF 011120ACFA3F
+EE9A90F3A2B4B5E6BFB9EF88B0E6BCA2 E690DB4BDD356FF9F2306F22
+51EEAEAEF09F9880D0B66DF09F9982F19F97A9 0051EBAED83DDE000436006DD83DDE42D93DDDE9
+F292A2AF DA0ADCAF
+EF9B80EC88BFF09F988046E282ACEE9EB5C3A9D0B6 F6C0C23FD83DDE00004620ACE7B500E90436
+F396B194EE959861E5AD97 DB1BDC54E55800615B57
+F28EAC9EEA97ADEEAFBA4EF1BEA08FEFA38E D9FADF1EA5EDEBFA004ED9BADC0FF8CE
+F1A7B59FEC8B85 D95FDD5FC2C5
+7BEFB990 007BFE50
+43592C 00430059002C
+E3A3A4404AE282ACEE9185 38E40040004A20ACE445
+6ED0B6EF85A0 006E0436F160
+E4B4A3EE94A6EFB090EF99BC2BE3AC80E3BAA8F390B699 4D23E526FC10F67C002B3B003EA8DB03DD99
+C491 0111
+EFA9B9F3A29C83 FA79DB49DF03
+E49AB0E5AD97E8B5A163 46B05B578D610063
+E5AD973BF2B49EA5F485A6ABF19CA382E6BCA25F 5B57003BDA91DFA5DBD6DDABD932DCC26F22005F
+E5AD97EEACA3E684B024 5B57EB2361300024
+E3BA8DEFA2B5F3AFABA0 3E8DF8B5DB7EDEE0
+6DF3A6A2B44B42EFA187C491 006DDB5ADCB4004B0042F8470111
+F48B9195E6BCA2F19D8681D0B6F0B1BE89C3A9 DBEDDC556F22D934DD810436D887DF8900E9
+48EE9990F288BC97C3A9C491C491 0048E650D9E3DF1700E901110111
+EF89ADF38C90A8F28A8AA5F3BF8E8736F4859097EE9799 F26DDAF1DC28D9E8DEA5DBBCDF870036DBD5DC17E5D9
+EEA390EF8694F09F9982 E8D0F194D83DDE42
+E8BF8244F0969188E6BCA2D0B6 8FC20044D819DC486F220436
+F0ACBCBF6FEFAE8BE5AD97 D873DF3F006FFB8B5B57
+78EA94BD 0078A53D
+E38C95F193859EE88398EC96BCE386AFE7AA80EFBE83ED858E 3315D90CDD5E80D8C5BC31AF7A80FF83D14E
+F0AFAD9EEE958FE69AA9 D87EDF5EE54F66A9
+E4AFB0F09F98802BF1998CA8E69FA1 4BF0D83DDE00002BD924DF2867E1
+EF8897E5AD97EF9EB1F09F98805B4FD0B6F285ACBF F2175B57F7B1D83DDE00005B004F0436D9D6DF3F
+56C3A9E29B99 005600E926D9
+EEA09EF2BF89B1E2B1B1F386848DC491F39B86B0 E81EDABCDE712C71DAD8DD0D0111DB2CDDB0
+E9A5AD59F286A1A3C491C3A9F29597BE79 996D0059D9DADC63011100E9DA15DDFE0079
+EFAC9FE282ACEE8786E5AD97EE9082EEA1A54C FB1F20ACE1C65B57E402E865004C
+4DE39CB0E282AC50E5AD97E1BB80C3A9F1B4AB8B 004D373020AC00505B571EC000E9D992DECB
+2226EEB395F1B0948D6D 00220026ECD5D981DD0D006D
+EE989DE282ACF184A087C491EF899A552D E61D20ACD8D2DC070111F25A0055002D
+EE9F84 E7C4
+EF9691EE8D823D41E6BCA2F2A193A7E38694 F591E342003D00416F22DA45DCE73194
+62 0062
+C3A9E597BD6AE6BCA2C491F0B29A96F28DAAAD 00E955FD006A6F220111D889DE96D9F6DEAD
+31F2948AB1EF988B2FE1A196E6BCA2E282AC 0031DA10DEB1F60B002F18566F2220AC
+ED98BAF09F9880E1A4ACE8BDBEC3A9E282ACC49168 D63AD83DDE00192C8F7E00E920AC01110068
+E48C84C491F09F9982EFA3BC26F398ADB0F2B4B3B7E282AC 43040111D83DDE42F8FC0026DB22DF70DA93DCF720AC
+EF9897E5AD9768C491F3BCA7AB F6175B5700680111DBB2DDEB
+E282ACF3B19B90D0B64DE282ACE6928AF1958DA4 20ACDB85DED00436004D20AC648AD914DF64
+E6BCA2D0B6F0AE8395EBB28740 6F220436D878DCD5BC870040
+F0A5A7A9E6BCA2E59EACF09F98806FEFBC99EE89AFECA29A D856DDE96F2257ACD83DDE00006FFF19E26FC89A
+60F28EB09EEBAF90F1AFBC81ED9EBC 0060D9FBDC1EBBD0D97FDF01D7BC
+23F3BB81BAEFAE82 0023DBACDC7AFB82
+ECA88929E282ACF3AAA0A6EE92A3EEB286EABD9BF1AF99B2 CA09002920ACDB6ADC26E4A3EC86AF5BD97DDE72
+59F0A18A85EE82A8EF8695C491 0059D844DE85E0A8F1950111
+F09F9880 D83DDE00
+5431 00540031
+75F09F9982E5A5B7C491C3A9E394BE 0075D83DDE425977011100E9353E
+F482A7B0 DBCADDF0
+65EFAFA5EE87B5F09F9880 0065FBE5E1F5D83DDE00
+2622D0B6F2A2AE93 002600220436DA4ADF93
+F09F9982E3879D D83DDE4231DD
+F0B8A28FEA949E D8A2DC8FA51E
+EFA6A4EEB3AE F9A4ECEE
+";
