@@ -1,18 +1,18 @@
 -- Septets are read as one text: that of the pieces into which they cut.
-use Rattle.std.proofs.Common.{length, get_or, ◌≡◌, ◌≢◌, ℕ, zero, suc, ◌+◌, ◌<◌, ◌⊎◌, inl, inr, Bool, true, false, ◌&&◌, cond, eqb, ltb, List, [], ◌∷◌, ◌++◌, Option, Some, None, Result, Ok, Err, refl, sym, ap, subst, ◌∙◌, arith}
+use Rattle.std.proofs.Common.{length, get_or, ◌≡◌, ◌≢◌, ℕ, zero, suc, ◌<◌, inl, inr, Bool, true, false, cond, eqb, ltb, List, [], ◌∷◌, ◌++◌, Option, Some, None, Result, Ok, Err, refl, sym, ap, subst, ◌∙◌, arith}
 use Rattle.std.specs.List.{list_all}
 use Rattle.std.specs.Prelude.{nat_lt}
 use Rattle.std.specs.Result.{IfOk}
 use Rattle.std.proofs.lemmas.Bool.{eqb-true, eqb-false, ne_eqb, lt-ltb, ltb-true}
 use Rattle.sms_base.specs.declared.alphabet.Code.{Code}
 use Rattle.sms_base.specs.declared.alphabet.Code.TheVariants.{Main, Extended}
-use Rattle.sms_base.specs.Alphabet.{IsPair, IsSpelling, septets_in, text_in, main_character, extended_character_of, escaped_character, or_else}
+use Rattle.sms_base.specs.Alphabet.{IsPair, IsSpelling, septets_in, text_in, main_character, extended_character_of, escaped_character}
 use Rattle.sms_base.proofs.Alphabets.{code_reads, pair_is_extended, pair_is_septet, extended_is_pair}
 use Rattle.sms_base.proofs.Steps.{both}
 use Rattle.sms_alphabet.specs.Packing.{AreSeptets}
 use Rattle.sms_alphabet.specs.declared.reading.ReadingError.{ReadingError}
-use Rattle.sms_alphabet.specs.declared.reading.ReadingError.TheVariants.{NotSeptet, NoMemory}
-use Rattle.sms_alphabet.specs.TextReading.{IsCoded, IsUnknown, IsDouble, IsLast, IsPiece, IsReading, text_read, AnswersText}
+use Rattle.sms_alphabet.specs.declared.reading.ReadingError.TheVariants.{NotSeptet}
+use Rattle.sms_alphabet.specs.TextReading.{IsPiece, IsReading, text_read, AnswersText}
 
 abbrev are_septets : List ℕ → Bool
 are_septets septets = list_all (λ septet. nat_lt septet 128) septets

@@ -1,15 +1,14 @@
 -- The septets that are written spell the text, and no others do.
-use Rattle.std.proofs.Common.{◌≡◌, ℕ, zero, suc, ◌+◌, ◌<◌, ◌≤◌, Bool, true, false, not, cond, ltb, List, [], ◌∷◌, ◌++◌, length, flat_map, Option, Some, None, Result, Ok, Err, refl, sym, ap, subst, ◌∙◌, arith}
-use Rattle.std.specs.List.{position, position_or_len}
+use Rattle.std.proofs.Common.{◌≡◌, ℕ, suc, ◌+◌, ◌≤◌, Bool, true, false, not, cond, ltb, List, [], ◌∷◌, ◌++◌, length, flat_map, Option, Some, None, Result, Ok, Err, refl, sym, ap, subst, ◌∙◌, arith}
+use Rattle.std.specs.List.{position_or_len}
 use Rattle.std.specs.Result.{IfOk}
 use Rattle.std.proofs.lemmas.Bool.{ltb-false, le-ltb}
 use Rattle.sms_base.specs.declared.alphabet.Code.{Code}
-use Rattle.sms_base.specs.Alphabet.{IsPair, IsSpelling, septets_in, code_for}
+use Rattle.sms_base.specs.Alphabet.{IsSpelling, septets_in, code_for}
 use Rattle.sms_base.proofs.Alphabets.{pair_of_code, code_of_pair}
 use Rattle.sms_alphabet.specs.Packing.{AreSeptets}
 use Rattle.sms_alphabet.proofs.Pieces.{spelling_below}
 use Rattle.sms_alphabet.specs.declared.spelling.SpellingError.{SpellingError}
-use Rattle.sms_alphabet.specs.declared.spelling.SpellingError.TheVariants.{NoCode, NoMemory}
 use Rattle.sms_alphabet.specs.Spelling.{septets_for, septets_of_code, lacks_code, is_uncoded, spelled, unless_uncoded, Answers}
 
 -- every character has a code

@@ -1,19 +1,17 @@
 -- What is written in UCS2 is read as the same text, and what is read was written so.
 use Rattle.std.specs.Result.{IfOk}
-use Rattle.std.proofs.Common.{get_or, ◌≡◌, ℕ, zero, suc, ◌+◌, ◌-◌, ◌*◌, ◌/◌, ◌%◌, ◌<◌, ◌≤◌, Bool, true, false, ◌&&◌, ◌||◌, not, cond, ltb, leb, List, [], ◌∷◌, ◌++◌, length, flat_map, Result, Ok, Err, refl, sym, ap, subst, ◌∙◌, arith}
-use Rattle.std.specs.Str.{chars, all_scalars}
-use Rattle.std.specs.Char.{IsScalar}
-use Rattle.std.specs.Char.Escape.{encode_utf16}
+use Rattle.std.proofs.Common.{get_or, ◌≡◌, ℕ, suc, ◌+◌, ◌-◌, ◌/◌, ◌%◌, ◌<◌, ◌≤◌, Bool, true, false, cond, ltb, List, [], ◌∷◌, ◌++◌, Result, Ok, Err, refl, sym, ap, subst, ◌∙◌, arith}
+use Rattle.std.specs.Str.{all_scalars}
 use Rattle.std.specs.Char.Utf16.{is_high_surrogate, is_low_surrogate, surrogate_pair_char}
 use Rattle.std.proofs.lemmas.Bool.{ltb-true, ltb-false, lt-ltb, le-ltb}
 use Rattle.std.proofs.lemmas.Bool.Decides.{nat_tests}
 use Rattle.sms_base.specs.Reading.{AreOctets}
 use Rattle.sms_alphabet.specs.declared.ucs2.Ucs2Error.{Ucs2Error}
-use Rattle.sms_alphabet.specs.declared.ucs2.Ucs2Error.TheVariants.{OddLength, LoneSurrogate, NoMemory}
+use Rattle.sms_alphabet.specs.declared.ucs2.Ucs2Error.TheVariants.{OddLength, LoneSurrogate}
 use Rattle.sms_base.proofs.Steps.{both}
 use Rattle.sms_alphabet.specs.Ucs2Reading.{unit_in, partner_in, character_at, character_in}
 use Rattle.sms_alphabet.proofs.Ucs2Steps.{step, ucs2_step}
-use Rattle.sms_alphabet.specs.Ucs2.{unit_octets, octets_for, ucs2_for, behind, unit_of, ucs2_in, AnswersUcs2}
+use Rattle.sms_alphabet.specs.Ucs2.{octets_for, ucs2_for, behind, unit_of, ucs2_in, AnswersUcs2}
 use lib.Utf8.{scalar, scalars}
 
 -- ---- tests and ranges

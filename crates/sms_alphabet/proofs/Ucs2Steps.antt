@@ -1,16 +1,14 @@
 -- UCS2, character by character.
-use Rattle.std.proofs.Common.{◌≡◌, ◌↔◌, ℕ, zero, suc, ◌+◌, ◌-◌, ◌*◌, ◌/◌, ◌%◌, ◌<◌, ◌≤◌, Bool, true, false, ◌&&◌, not, cond, ltb, leb, List, [], ◌∷◌, ◌++◌, length, flat_map, Result, Ok, Err, refl, sym, ap, subst, ◌∙◌, arith, append_assoc, append-nil}
-use Rattle.std.specs.Str.{chars, encode_utf8_all, all_scalars, IsUtf8}
-use Rattle.std.specs.Char.{encode_utf8, IsScalar}
-use Rattle.std.specs.Char.Escape.{encode_utf16}
+use Rattle.std.proofs.Common.{◌≡◌, ◌↔◌, ℕ, ◌<◌, ◌≤◌, Bool, true, false, cond, List, [], ◌∷◌, ◌++◌, length, Result, Ok, Err, refl, sym, ap, ◌∙◌, arith, append_assoc, append-nil}
+use Rattle.std.specs.Str.{chars, encode_utf8_all, IsUtf8}
+use Rattle.std.specs.Char.{encode_utf8}
 use Rattle.std.specs.Char.Utf16.{is_high_surrogate, is_low_surrogate, surrogate_pair_char}
-use Rattle.std.proofs.lemmas.Bool.{ltb-true, ltb-false, lt-ltb, le-ltb}
-use Rattle.std.proofs.lemmas.Str.{encodes-append, chars-encodes, chars_from_encodes}
-use Rattle.sms_base.specs.Reading.{◌>>=◌, only_if, octet_in}
-use Rattle.sms_base.proofs.Steps.{bind_ok, passes, ok_is, octet_takes}
+use Rattle.std.proofs.lemmas.Str.{encodes-append, chars_from_encodes}
+use Rattle.sms_base.specs.Reading.{◌>>=◌, only_if}
+use Rattle.sms_base.proofs.Steps.{bind_ok, ok_is}
 use Rattle.sms_alphabet.specs.declared.ucs2.Ucs2Error.{Ucs2Error}
 use Rattle.sms_alphabet.specs.declared.ucs2.Ucs2Error.TheVariants.{OddLength, LoneSurrogate, NoMemory}
-use Rattle.sms_alphabet.specs.Ucs2.{unit_octets, octets_for, ucs2_for, behind, unit_of, ucs2_in, Tested}
+use Rattle.sms_alphabet.specs.Ucs2.{behind, unit_of, ucs2_in, Tested}
 use Rattle.sms_alphabet.specs.Ucs2Reading.{unit_in, partner_in, character_at, character_in}
 
 -- the text of octets after a character was tried: the character and what follows, or the fault

@@ -1,5 +1,5 @@
 -- A text in the septets of the default alphabet (3GPP TS 23.038 6.2.1). A text is the list of its characters' codes.
-use Rattle.std.specs.Prelude.{◌≡◌, ℕ, List, [], ◌∷◌, Bool, true, false, Option, Some, None, Result, Ok, Err, position, flat_map}
+use Rattle.std.specs.Prelude.{◌≡◌, ℕ, List, [], Bool, true, false, Option, Some, None, Result, Ok, Err, position, flat_map}
 use Rattle.sms_base.specs.declared.alphabet.Code.{Code}
 use Rattle.sms_base.specs.Alphabet.{septets_in, code_for}
 use Rattle.sms_alphabet.specs.declared.spelling.SpellingError.{SpellingError}

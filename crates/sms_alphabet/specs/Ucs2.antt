@@ -1,6 +1,6 @@
 -- A text in UCS2 (3GPP TS 23.038 6.2.3): 16-bit units, the high octet first; a character above FFFF is a high and a
 -- low surrogate, as in UTF-16. A text is the list of its characters' codes.
-use Rattle.std.specs.Prelude.{◌≡◌, ℕ, ◌+◌, ◌*◌, ◌/◌, ◌%◌, List, [], ◌∷◌, ◌++◌, Bool, true, false, ◌&&◌, Result, Ok, Err, flat_map, nat_le, nat_lt, if◌then◌else◌}
+use Rattle.std.specs.Prelude.{◌≡◌, ℕ, ◌+◌, ◌*◌, ◌/◌, ◌%◌, List, [], ◌∷◌, Result, Ok, Err, flat_map, if◌then◌else◌}
 use Rattle.std.specs.Char.Escape.{encode_utf16}
 use Rattle.std.specs.Char.Utf16.{is_high_surrogate, is_low_surrogate, surrogate_pair_char}
 use Rattle.sms_alphabet.specs.declared.ucs2.Ucs2Error.{Ucs2Error}

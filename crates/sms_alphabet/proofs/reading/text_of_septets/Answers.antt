@@ -1,7 +1,6 @@
-use Rattle.std.proofs.Common.{◌≡◌, ◌+◌, ◌∙◌, get_or, drop, sym, arith}
+use Rattle.std.proofs.Common.{◌+◌, get_or, drop}
 use Rattle.std.specs.String.{string_bytes}
-use Rattle.std.proofs.lemmas.List.{drop_all}
-use Rattle.sms_alphabet.proofs.TextReads.{Reads, reads_start, reads_main, reads_escape, reads_escaped, reads_end, reads_end_escaped, next_septet}
+use Rattle.sms_alphabet.proofs.TextReads.{Reads, reads_main, reads_escape, reads_escaped, next_septet}
 use Rattle.sms_alphabet.proofs.reading.text_of_septets.Goals.{then-escaped+in_ok-push, else-escaped+then-septet-eq-ESCAPE, else-escaped+else-septet-eq-ESCAPE+in_ok-push-2}
 use Rattle.sms_alphabet.proofs.reading.text_of_septets.Goals as goal
 

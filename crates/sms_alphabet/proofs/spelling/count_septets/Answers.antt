@@ -1,5 +1,4 @@
-use Rattle.std.proofs.Common.{◌≡◌, ◌++◌, ◌+◌, ◌∙◌, ℕ, List, [], length, sym, ap, subst, refl, arith, flat_map}
-use Rattle.std.specs.Str.{chars, IsUtf8}
+use Rattle.std.proofs.Common.{◌≡◌, ◌++◌, ◌∙◌, ℕ, List, [], length, sym, ap, subst, refl, arith}
 use Rattle.std.proofs.lemmas.List.{length-append}
 use Rattle.sms_alphabet.specs.Spelling.{septets_for}
 use Rattle.sms_alphabet.proofs.Characters.{Along, along_start, along_turn, along_end, along_within, septets_bound}

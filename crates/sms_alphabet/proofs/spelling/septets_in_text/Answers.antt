@@ -1,6 +1,6 @@
-use Rattle.std.proofs.Common.{◌≡◌, ◌++◌, ◌∙◌, ℕ, List, [], sym, ap, subst}
+use Rattle.std.proofs.Common.{◌≡◌}
 use Rattle.sms_alphabet.specs.Spelling.{septets_for}
-use Rattle.sms_alphabet.proofs.Characters.{Along, along_start, along_turn, along_end}
+use Rattle.sms_alphabet.proofs.Characters.{along_start, along_turn, along_end}
 use Rattle.sms_alphabet.proofs.spelling.septets_in_text.Goals as goal
 
 pub loop-character-init : goal.loop-character-init

@@ -1,7 +1,7 @@
-use Rattle.std.proofs.Common.{◌≡◌, ◌++◌, ◌∷◌, ◌∙◌, ℕ, List, [], Ok, sym, ap}
+use Rattle.std.proofs.Common.{◌++◌, ◌∷◌, ◌∙◌, ℕ, List, [], Ok, sym, ap}
 use Rattle.std.specs.String.{string_bytes}
 use Rattle.std.proofs.lemmas.Str.{IsUtf8-string_bytes}
-use Rattle.sms_alphabet.proofs.Ucs2Steps.{Decodes, decodes_start, decodes_turn, decodes_end, character_shorter, has_text, some_left, none_left, utf8_text, utf8_more}
+use Rattle.sms_alphabet.proofs.Ucs2Steps.{decodes_start, decodes_turn, decodes_end, character_shorter, has_text, some_left, none_left, utf8_text, utf8_more}
 use Rattle.sms_alphabet.proofs.ucs2.read.Goals as goal
 
 pub loop-rest-init : goal.loop-rest-init

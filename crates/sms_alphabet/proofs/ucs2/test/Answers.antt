@@ -1,8 +1,6 @@
-use Rattle.std.proofs.Common.{◌≡◌, ◌++◌, ◌∷◌, ◌<◌, ℕ, List, [], length, sym, ap, subst, refl, arith}
+use Rattle.std.proofs.Common.{◌++◌, ◌∷◌, []}
 use Rattle.std.proofs.lemmas.Result.{err_from_is_err_and}
-use Rattle.sms_alphabet.specs.Ucs2.{ucs2_in}
-use Rattle.sms_alphabet.specs.Ucs2Reading.{character_in}
-use Rattle.sms_alphabet.proofs.Ucs2Steps.{Decodes, decodes_start, decodes_turn, decodes_end, character_shorter, tested_fault, some_left, none_left}
+use Rattle.sms_alphabet.proofs.Ucs2Steps.{decodes_start, decodes_turn, decodes_end, character_shorter, tested_fault, some_left, none_left}
 use Rattle.sms_alphabet.proofs.ucs2.test.Goals as goal
 
 pub loop-rest-init : goal.loop-rest-init

@@ -1,6 +1,6 @@
-use Rattle.std.proofs.Common.{◌≡◌, ◌++◌, ◌∙◌, ℕ, List, [], sym, ap, subst}
+use Rattle.std.proofs.Common.{◌≡◌}
 use Rattle.sms_alphabet.specs.Ucs2.{octets_for}
-use Rattle.sms_alphabet.proofs.Characters.{Along, along_start, along_turn, along_end}
+use Rattle.sms_alphabet.proofs.Characters.{along_start, along_turn, along_end}
 use Rattle.sms_alphabet.proofs.ucs2.ucs2_of.Goals as goal
 
 pub loop-character-init : goal.loop-character-init
