@@ -1,0 +1,4 @@
+pub mod DigitWalk
+pub mod Addresses
+pub mod Times
+pub mod Texts
