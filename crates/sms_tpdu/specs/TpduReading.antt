@@ -7,7 +7,7 @@ use Rattle.sms_tpdu.specs.Bits.{bit}
 use Rattle.sms_tpdu.specs.AddressReading.{address_in}
 use Rattle.sms_tpdu.specs.TimeReading.{time_in}
 use Rattle.sms_tpdu.specs.UserDataReading.{user_data_in}
-use Rattle.sms_tpdu.specs.TpduGrammar.{report_coding}
+use Rattle.sms_tpdu.specs.TpduGrammar.{report_coding, no_parameters}
 use Rattle.sms_tpdu.specs.declared.fault.TpduFault.{TpduFault}
 use Rattle.sms_tpdu.specs.declared.fault.TpduFault.TheVariants.{Truncated, TrailingOctets, UnsupportedType, UnsupportedValidity}
 use Rattle.sms_tpdu.specs.declared.carrier.Carrier.{Carrier}
@@ -16,11 +16,17 @@ use Rattle.sms_tpdu.specs.declared.validity_period.ValidityPeriod.{ValidityPerio
 use Rattle.sms_tpdu.specs.declared.validity_period.ValidityPeriod.TheVariants.{NotPresent, Relative, Absolute}
 use Rattle.sms_tpdu.specs.declared.user_data.UserData.{UserData}
 use Rattle.sms_tpdu.specs.declared.parameters.Parameters.{Parameters}
-use Rattle.sms_tpdu.specs.declared.deliver.Deliver.{Deliver}
-use Rattle.sms_tpdu.specs.declared.submit.Submit.{Submit}
-use Rattle.sms_tpdu.specs.declared.submit_report.SubmitReport.{SubmitReport}
+use Rattle.sms_tpdu.specs.declared.deliver.Deliver.{Deliver as DeliverOf}
+use Rattle.sms_tpdu.specs.declared.submit.Submit.{Submit as SubmitOf}
+use Rattle.sms_tpdu.specs.declared.submit_report.SubmitReport.{SubmitReport as SubmitReportOf}
+use Rattle.sms_tpdu.specs.declared.deliver_report.DeliverReport.{DeliverReport as DeliverReportOf}
+use Rattle.sms_tpdu.specs.declared.status_report.StatusReport.{StatusReport as StatusReportOf}
+use Rattle.sms_tpdu.specs.declared.down.Down.{Down}
+use Rattle.sms_tpdu.specs.declared.down.Down.TheVariants.{Deliver, StatusReport, SubmitReport}
+use Rattle.sms_tpdu.specs.declared.up.Up.{Up}
+use Rattle.sms_tpdu.specs.declared.up.Up.TheVariants.{Submit, DeliverReport}
 
-unfoldable pub deliver_at : List ℕ → Result Deliver TpduFault
+unfoldable pub deliver_at : List ℕ → Result DeliverOf TpduFault
 deliver_at octets = do
   first ← octet_in Truncated octets
   kind ← only_if (first.0 % 4 == 0) UnsupportedType
@@ -59,7 +65,7 @@ validity_in format octets =
     if format == 0 then Ok (NotPresent, octets)
     else (if format == 2 then relative_in octets else absolute_in octets)
 
-unfoldable pub submit_at : List ℕ → Result Submit TpduFault
+unfoldable pub submit_at : List ℕ → Result SubmitOf TpduFault
 submit_at octets = do
   first ← octet_in Truncated octets
   kind ← only_if (first.0 % 4 == 1) UnsupportedType
@@ -109,7 +115,7 @@ parameters_in indicator with_header octets = do
 unfoldable pub follows_in : ℕ → List ℕ → Result (Unit {0}) TpduFault
 follows_in indicator octets = if nat_lt indicator 8 then end_in TrailingOctets octets else Ok tt
 
-unfoldable pub submit_report_at : Bool → List ℕ → Result SubmitReport TpduFault
+unfoldable pub submit_report_at : Bool → List ℕ → Result SubmitReportOf TpduFault
 submit_report_at in_error octets = do
   first ← octet_in Truncated octets
   kind ← only_if (first.0 % 4 == 1) UnsupportedType
@@ -119,3 +125,74 @@ submit_report_at in_error octets = do
   parameters ← parameters_in indicator.0 false stamp.1
   done ← follows_in indicator.0 parameters.1
   Ok (record { failure_cause = cause.0; service_centre_time_stamp = stamp.0; parameters = parameters.0 })
+
+unfoldable pub deliver_report_at : Bool → List ℕ → Result DeliverReportOf TpduFault
+deliver_report_at in_error octets = do
+  first ← octet_in Truncated octets
+  kind ← only_if (first.0 % 4 == 0) UnsupportedType
+  cause ← optional_octet_in in_error first.1
+  indicator ← octet_in Truncated cause.1
+  parameters ← parameters_in indicator.0 false indicator.1
+  done ← follows_in indicator.0 parameters.1
+  Ok (record { failure_cause = cause.0; parameters = parameters.0 })
+
+-- the parameters of a STATUS-REPORT, which may be left out with their indicator
+unfoldable pub status_tail_in : Bool → List ℕ → Result Parameters TpduFault
+status_tail_in with_header [] = Ok no_parameters
+status_tail_in with_header (indicator ∷ octets) = do
+  parameters ← parameters_in indicator with_header octets
+  done ← follows_in indicator parameters.1
+  Ok parameters.0
+
+unfoldable pub status_report_at : List ℕ → Result StatusReportOf TpduFault
+status_report_at octets = do
+  first ← octet_in Truncated octets
+  kind ← only_if (first.0 % 4 == 2) UnsupportedType
+  reference ← octet_in Truncated first.1
+  to ← address_in reference.1
+  stamp ← time_in to.1
+  discharge ← time_in stamp.1
+  status ← octet_in Truncated discharge.1
+  parameters ← status_tail_in (bit first.0 64) status.1
+  Ok (record {
+    no_more_messages_to_send = bit first.0 4;
+    status_report_qualifier = bit first.0 32;
+    user_data_header_indicator = bit first.0 64;
+    message_reference = reference.0;
+    recipient_address = to.0;
+    service_centre_time_stamp = stamp.0;
+    discharge_time = discharge.0;
+    status = status.0;
+    parameters = parameters;
+  })
+
+-- ---- by carrier
+
+-- the first octet says that the TPDU is a STATUS-REPORT
+abbrev pub is_status_report : List ℕ → Bool
+is_status_report [] = false
+is_status_report (first ∷ octets) = first % 4 == 2
+
+unfoldable pub data_down_at : List ℕ → Result Down TpduFault
+data_down_at octets =
+    if is_status_report octets then status_report_at octets >>= (λ r. Ok (StatusReport r))
+    else deliver_at octets >>= (λ d. Ok (Deliver d))
+
+unfoldable pub report_down_at : Bool → List ℕ → Result Down TpduFault
+report_down_at in_error octets = submit_report_at in_error octets >>= (λ r. Ok (SubmitReport r))
+
+unfoldable pub down_at : Carrier → List ℕ → Result Down TpduFault
+down_at InData octets = data_down_at octets
+down_at InAck octets = report_down_at false octets
+down_at InError octets = report_down_at true octets
+
+unfoldable pub data_up_at : List ℕ → Result Up TpduFault
+data_up_at octets = submit_at octets >>= (λ s. Ok (Submit s))
+
+unfoldable pub report_up_at : Bool → List ℕ → Result Up TpduFault
+report_up_at in_error octets = deliver_report_at in_error octets >>= (λ r. Ok (DeliverReport r))
+
+unfoldable pub up_at : Carrier → List ℕ → Result Up TpduFault
+up_at InData octets = data_up_at octets
+up_at InAck octets = report_up_at false octets
+up_at InError octets = report_up_at true octets
