@@ -2,3 +2,7 @@ pub mod DigitWalk
 pub mod Addresses
 pub mod Times
 pub mod Texts
+pub mod Delivers
+pub mod Submits
+pub mod Reports
+pub mod Carriers

@@ -65,23 +65,21 @@ validity_in format octets =
     if format == 0 then Ok (NotPresent, octets)
     else (if format == 2 then relative_in octets else absolute_in octets)
 
-unfoldable pub submit_at : List ℕ → Result SubmitOf TpduFault
-submit_at octets = do
-  first ← octet_in Truncated octets
-  kind ← only_if (first.0 % 4 == 1) UnsupportedType
-  format ← only_if (not (first.0 / 8 % 4 == 1)) UnsupportedValidity
-  reference ← octet_in Truncated first.1
+-- what follows the first octet of a SUBMIT
+unfoldable pub submit_rest_in : ℕ → List ℕ → Result SubmitOf TpduFault
+submit_rest_in first octets = do
+  reference ← octet_in Truncated octets
   to ← address_in reference.1
   protocol ← octet_in Truncated to.1
   scheme ← octet_in Truncated protocol.1
-  period ← validity_in (first.0 / 8 % 4) scheme.1
-  text ← user_data_in (coding_of scheme.0) (bit first.0 64) period.1
+  period ← validity_in (first / 8 % 4) scheme.1
+  text ← user_data_in (coding_of scheme.0) (bit first 64) period.1
   done ← end_in TrailingOctets text.1
   Ok (record {
-    reject_duplicates = bit first.0 4;
-    status_report_request = bit first.0 32;
-    user_data_header_indicator = bit first.0 64;
-    reply_path = bit first.0 128;
+    reject_duplicates = bit first 4;
+    status_report_request = bit first 32;
+    user_data_header_indicator = bit first 64;
+    reply_path = bit first 128;
     message_reference = reference.0;
     destination_address = to.0;
     protocol_identifier = protocol.0;
@@ -89,6 +87,13 @@ submit_at octets = do
     validity_period = period.0;
     user_data = text.0;
   })
+
+unfoldable pub submit_at : List ℕ → Result SubmitOf TpduFault
+submit_at octets = do
+  first ← octet_in Truncated octets
+  kind ← only_if (first.0 % 4 == 1) UnsupportedType
+  format ← only_if (not (first.0 / 8 % 4 == 1)) UnsupportedValidity
+  submit_rest_in first.0 first.1
 
 -- ---- the parameters of a report
 

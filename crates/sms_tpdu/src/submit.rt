@@ -1,6 +1,6 @@
 //! SUBMIT (3GPP TS 23.040 9.2.2.2).
 ghost use Rattle.std.specs.Prelude.{◌≡◌};
-ghost use Rattle.sms_tpdu.specs.TpduReading.{submit_at};
+ghost use Rattle.sms_tpdu.specs.TpduReading.{submit_at, submit_rest_in};
 
 use crate::address_field::take_address;
 use crate::bits::bit;
@@ -35,24 +35,17 @@ pub struct Submit<'a> {
     pub user_data: UserData<'a>,
 }
 
-#[tactic(auto, unfolding(crate::specs::TpduReading::submit_at))]
-pub(crate) fn submit_of(octets: &[u8]) -> Result<Submit<'_>, TpduFault>
-    ensures { result ≡ submit_at octets.now }
+// What follows the first octet.
+#[tactic(auto, unfolding(crate::specs::TpduReading::submit_rest_in))]
+fn rest_of<'a>(first: u8, cursor: &mut Cursor<'a>) -> Result<Submit<'a>, TpduFault>
+    ensures { result ≡ submit_rest_in first cursor.old }
 {
-    let mut cursor = Cursor::of(octets);
-    let first = cursor.octet(TpduFault::Truncated)?;
-    if first % 4 != 1 {
-        return Err(TpduFault::UnsupportedType);
-    }
-    if first / 8 % 4 == 1 {
-        return Err(TpduFault::UnsupportedValidity);
-    }
     let message_reference = cursor.octet(TpduFault::Truncated)?;
-    let destination_address = take_address(&mut cursor)?;
+    let destination_address = take_address(cursor)?;
     let protocol_identifier = cursor.octet(TpduFault::Truncated)?;
     let data_coding_scheme = cursor.octet(TpduFault::Truncated)?;
-    let validity_period = take_validity_period(&mut cursor, first / 8 % 4)?;
-    let user_data = take_user_data(&mut cursor, dcs(data_coding_scheme), bit(first, 0x40))?;
+    let validity_period = take_validity_period(cursor, first / 8 % 4)?;
+    let user_data = take_user_data(cursor, dcs(data_coding_scheme), bit(first, 0x40))?;
     cursor.end(TpduFault::TrailingOctets)?;
     Ok(Submit {
         reject_duplicates: bit(first, 0x04),
@@ -66,4 +59,19 @@ pub(crate) fn submit_of(octets: &[u8]) -> Result<Submit<'_>, TpduFault>
         validity_period,
         user_data,
     })
+}
+
+#[tactic(auto, unfolding(crate::specs::TpduReading::submit_at))]
+pub(crate) fn submit_of(octets: &[u8]) -> Result<Submit<'_>, TpduFault>
+    ensures { result ≡ submit_at octets.now }
+{
+    let mut cursor = Cursor::of(octets);
+    let first = cursor.octet(TpduFault::Truncated)?;
+    if first % 4 != 1 {
+        return Err(TpduFault::UnsupportedType);
+    }
+    if first / 8 % 4 == 1 {
+        return Err(TpduFault::UnsupportedValidity);
+    }
+    rest_of(first, &mut cursor)
 }
