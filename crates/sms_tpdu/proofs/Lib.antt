@@ -6,3 +6,6 @@ pub mod Delivers
 pub mod Submits
 pub mod Reports
 pub mod Carriers
+pub mod DigitsPut
+pub mod Lengths
+pub mod Addressed

@@ -1,10 +1,14 @@
 //! Address fields (3GPP TS 23.040 9.1.2.5).
-ghost use Rattle.std.specs.Prelude.{◌≡◌, ◌≤◌, ◌<◌, List, ℕ, length};
+ghost use Rattle.std.specs.Prelude.{◌≡◌, ◌≤◌, ◌<◌, ◌+◌, ◌*◌, ◌++◌, List, ℕ, false, length, IfOk, OnOk};
 ghost use Rattle.sms_base.specs.Reading.{Takes};
+ghost use Rattle.sms_base.specs.Address.{IsAddress};
+ghost use Rattle.sms_base.specs.AddressKind.{is_name};
+ghost use Rattle.sms_tpdu.specs.AddressGrammar.{semi_octet, semi_octets, type_of_address, IsNumberAddress, address_field, relay_address};
 ghost use Rattle.sms_tpdu.specs.AddressReading.{address_in, digits_in, two_digits_in, last_digit_in, type_of_number_in};
 
 use crate::fault::TpduFault;
-use sms_base::{Address, Cursor, Digits, TypeOfNumber, digit_of};
+use sms_base::{Address, Cursor, Digits, Octets, TypeOfNumber, digit_of, semi_octet_of};
+use std::alloc::{AllocError, Global};
 
 #[tactic(auto, unfolding(crate::specs::AddressReading::two_digits_in))]
 fn take_two_digits(cursor: &mut Cursor<'_>) -> Result<(char, char), TpduFault>
@@ -74,4 +78,69 @@ pub(crate) fn take_address(cursor: &mut Cursor<'_>) -> Result<Address, TpduFault
         npi: kind % 16,
         digits,
     })
+}
+
+// The semi-octet of a digit.
+fn semi_octet(digit: char) -> u8
+    ensures value { result ≡ semi_octet digit }
+    ensures range { result < 16 }
+{
+    semi_octet_of(digit).unwrap_or(15)
+}
+
+// Two digits in an octet, the first in its low half.
+fn two_digits(low: char, high: char) -> u8
+    ensures { result ≡ semi_octet low + 16 * semi_octet high }
+{
+    semi_octet(low) + 16 * semi_octet(high)
+}
+
+// A digit below a fill of ones.
+fn last_digit(digit: char) -> u8
+    ensures { result ≡ semi_octet digit + 240 }
+{
+    semi_octet(digit) + 240
+}
+
+fn put_digits(out: &mut Octets, digits: &[char]) -> Result<(), AllocError>
+    ensures { OnOk result (out.new ≡ out.old ++ semi_octets digits.now) }
+{
+    for i in 0..digits.len() / 2 {
+        out.push(two_digits(digits[2 * i], digits[2 * i + 1]))?;
+    }
+    if digits.len() % 2 == 1 {
+        out.push(last_digit(digits[digits.len() - 1]))?;
+    }
+    Ok(())
+}
+
+fn type_of_address(address: &Address) -> u8
+    requires { address.now.npi < 16 }
+    ensures { result ≡ type_of_address address.now }
+{
+    128 + 16 * address.ton.number() + address.npi
+}
+
+/// Puts an address field at the end.
+pub(crate) fn put_address(out: &mut Octets, address: &Address) -> Result<(), AllocError>
+    requires { IsNumberAddress address.now }
+    ensures { OnOk result (out.new ≡ out.old ++ address_field address.now) }
+{
+    out.push(address.digits.len() as u8)?;
+    out.push(type_of_address(address))?;
+    put_digits(out, address.digits.as_slice())
+}
+
+/// The value of an address element of the relay layer: the type of address and the semi-octets of a number
+/// (3GPP TS 24.011 8.2.5.1), 2 to 11 octets.
+pub fn write_relay_address(alloc: Global, address: &Address) -> Result<Octets, AllocError>
+    requires address { IsAddress address.now }
+    requires number { is_name address.now.ton ≡ false }
+    ensures ok { IfOk result (λ octets. octets ≡ relay_address address.now) }
+    ensures short { IfOk result (λ octets. length octets < 12) }
+{
+    let mut out = Octets::with_capacity(alloc, 11)?;
+    out.push(type_of_address(address))?;
+    put_digits(&mut out, address.digits.as_slice())?;
+    Ok(out)
 }

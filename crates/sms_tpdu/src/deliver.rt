@@ -1,14 +1,21 @@
 //! DELIVER (3GPP TS 23.040 9.2.2.1).
-ghost use Rattle.std.specs.Prelude.{◌≡◌};
+ghost use Rattle.std.specs.Prelude.{◌≡◌, ◌<◌, false, length, IfOk};
+ghost use Rattle.sms_base.specs.Address.{IsAddress};
+ghost use Rattle.sms_base.specs.AddressKind.{is_name};
+ghost use Rattle.sms_tpdu.specs.TpduGrammar.{deliver_head, IsDeliverData, IsWrittenDeliver};
 ghost use Rattle.sms_tpdu.specs.TpduReading.{deliver_at};
 
-use crate::address_field::take_address;
-use crate::bits::bit;
+use crate::address_field::{put_address, take_address};
+use crate::bits::{bit, bit_value};
 use crate::fault::TpduFault;
 use crate::time_field::take_time;
-use crate::user_data::{UserData, take_user_data};
+use crate::user_data::{UserData, put_user_data, take_user_data};
 use sms_alphabet::dcs;
-use sms_base::{Address, Cursor, Moment};
+use sms_base::{Address, Cursor, Moment, Octets};
+use std::alloc::{AllocError, Global};
+
+/// The octets of a DELIVER beside its user data, at most.
+const FIXED: usize = 23;
 
 /// A message on its way to a handset.
 #[derive(Debug, Drop)]
@@ -62,4 +69,43 @@ pub(crate) fn deliver_of(octets: &[u8]) -> Result<Deliver<'_>, TpduFault>
         service_centre_time_stamp,
         user_data,
     })
+}
+
+fn head_of(message: &Deliver<'_>) -> u8
+    ensures { result ≡ deliver_head message.now }
+{
+    bit_value(message.no_more_messages_to_send, 0x04)
+        + bit_value(message.loop_prevention, 0x08)
+        + bit_value(message.status_report_indication, 0x20)
+        + bit_value(message.user_data_header_indicator, 0x40)
+        + bit_value(message.reply_path, 0x80)
+}
+
+fn deliver_octets(alloc: Global, message: &Deliver<'_>) -> Result<Octets, AllocError>
+    requires address { IsAddress message.now.originating_address }
+    requires number { is_name message.now.originating_address.ton ≡ false }
+    requires user_data { IsDeliverData message.now }
+    ensures { IfOk result (λ octets. IsWrittenDeliver octets message.now) }
+{
+    let mut out = Octets::with_capacity(alloc, FIXED + usize::from(message.user_data.length))?;
+    out.push(head_of(message))?;
+    put_address(&mut out, &message.originating_address)?;
+    out.push(message.protocol_identifier)?;
+    out.push(message.data_coding_scheme)?;
+    out.append(&message.service_centre_time_stamp.to_scts())?;
+    put_user_data(&mut out, &message.user_data)?;
+    Ok(out)
+}
+
+/// The octets of a DELIVER, at most 163.
+///
+/// Takes memory once.
+pub fn write_deliver(alloc: Global, message: &Deliver<'_>) -> Result<Octets, AllocError>
+    requires address { IsAddress message.now.originating_address }
+    requires number { is_name message.now.originating_address.ton ≡ false }
+    requires user_data { IsDeliverData message.now }
+    ensures ok { IfOk result (λ octets. IsWrittenDeliver octets message.now) }
+    ensures short { IfOk result (λ octets. length octets < 256) }
+{
+    deliver_octets(alloc, message)
 }

@@ -17,15 +17,16 @@ mod up;
 mod user_data;
 mod validity_period;
 
+pub use address_field::write_relay_address;
 pub use carrier::Carrier;
-pub use deliver::Deliver;
+pub use deliver::{Deliver, write_deliver};
 pub use deliver_report::DeliverReport;
 pub use down::{Down, read_down};
 pub use fault::TpduFault;
 pub use parameters::Parameters;
 pub use status_report::StatusReport;
 pub use submit::Submit;
-pub use submit_report::SubmitReport;
+pub use submit_report::{SubmitReport, write_submit_report};
 pub use up::{Up, read_up};
 pub use user_data::UserData;
 pub use validity_period::ValidityPeriod;

@@ -1,14 +1,15 @@
 //! What the parameter indicator of a report announces (3GPP TS 23.040 9.2.3.27).
-ghost use Rattle.std.specs.Prelude.{◌≡◌, ℕ, List};
+ghost use Rattle.std.specs.Prelude.{◌≡◌, ◌<◌, ◌++◌, ℕ, List, OnOk};
 ghost use Rattle.sms_base.specs.Reading.{Takes};
-ghost use Rattle.sms_tpdu.specs.TpduGrammar.{report_coding};
+ghost use Rattle.sms_tpdu.specs.TpduGrammar.{report_coding, indicator_of, octet_field, data_field, parameter_fields};
 ghost use Rattle.sms_tpdu.specs.TpduReading.{optional_octet_in, optional_data_in, parameters_in, follows_in};
 
-use crate::bits::bit;
+use crate::bits::{bit, bit_value};
 use crate::fault::TpduFault;
-use crate::user_data::{UserData, take_user_data};
+use crate::user_data::{UserData, put_user_data, take_user_data};
 use sms_alphabet::{Coding, dcs};
-use sms_base::Cursor;
+use sms_base::{Cursor, Octets};
+use std::alloc::AllocError;
 
 /// The fields that the parameter indicator of a report announces.
 #[derive(Debug, Drop)]
@@ -89,4 +90,53 @@ pub(crate) fn end_after(cursor: &Cursor<'_>, indicator: u8) -> Result<(), TpduFa
         return cursor.end(TpduFault::TrailingOctets);
     }
     Ok(())
+}
+
+/// The indicator that announces the fields.
+pub(crate) fn indicator_of(parameters: &Parameters<'_>) -> u8
+    ensures value { result ≡ indicator_of parameters.now }
+    ensures range { result < 8 }
+{
+    bit_value(parameters.protocol_identifier.is_some(), 0x01)
+        + bit_value(parameters.data_coding_scheme.is_some(), 0x02)
+        + bit_value(parameters.user_data.is_some(), 0x04)
+}
+
+/// Puts an octet that is there at the end.
+pub(crate) fn put_optional_octet(out: &mut Octets, octet: Option<u8>) -> Result<(), AllocError>
+    ensures { OnOk result (out.new ≡ out.old ++ octet_field octet) }
+{
+    match octet {
+        Some(octet) => out.push(octet),
+        None => Ok(()),
+    }
+}
+
+fn put_optional_data(out: &mut Octets, user_data: &Option<UserData<'_>>) -> Result<(), AllocError>
+    ensures { OnOk result (out.new ≡ out.old ++ data_field user_data.now) }
+{
+    match user_data {
+        Some(user_data) => put_user_data(out, user_data),
+        None => Ok(()),
+    }
+}
+
+/// Puts the fields at the end.
+pub(crate) fn put_parameters(
+    out: &mut Octets,
+    parameters: &Parameters<'_>,
+) -> Result<(), AllocError>
+    ensures { OnOk result (out.new ≡ out.old ++ parameter_fields parameters.now) }
+{
+    put_optional_octet(out, parameters.protocol_identifier)?;
+    put_optional_octet(out, parameters.data_coding_scheme)?;
+    put_optional_data(out, &parameters.user_data)
+}
+
+/// A bound on the octets of user data.
+pub(crate) fn data_length(parameters: &Parameters<'_>) -> u8 {
+    match &parameters.user_data {
+        Some(user_data) => user_data.length,
+        None => 0,
+    }
 }

@@ -1,13 +1,14 @@
 //! User data and its length (3GPP TS 23.040 9.2.3.16, 9.2.3.24).
-ghost use Rattle.std.specs.Prelude.{◌≡◌, ◌≤◌, ◌<◌, ◌-◌, ℕ, List, take, drop};
+ghost use Rattle.std.specs.Prelude.{◌≡◌, ◌≤◌, ◌<◌, ◌-◌, ◌++◌, ℕ, List, take, drop, OnOk};
 ghost use Rattle.sms_base.specs.Reading.{Takes};
 ghost use Rattle.sms_alphabet.specs.Packing.{tested};
-ghost use Rattle.sms_tpdu.specs.UserDataGrammar.{greatest_length, octets_of, header_octets, header_septets, fill_bits};
+ghost use Rattle.sms_tpdu.specs.UserDataGrammar.{greatest_length, octets_of, header_octets, header_septets, fill_bits, user_data_field};
 ghost use Rattle.sms_tpdu.specs.UserDataReading.{header_fits, content_test, text_in, user_data_in, of_test};
 
 use crate::fault::TpduFault;
 use sms_alphabet::{Coding, UnpackError, check};
-use sms_base::{Cursor, OctetView};
+use sms_base::{Cursor, OctetView, Octets};
+use std::alloc::AllocError;
 
 /// User data as it came: its length in septets of the default alphabet or else in octets, and its octets.
 #[derive(Debug, Drop)]
@@ -100,12 +101,7 @@ fn septets_behind(header: usize, length: u8) -> u8
     (usize::from(length)).saturating_sub((8 * header + 6) / 7) as u8
 }
 
-fn content_test(
-    coding: Coding,
-    header: usize,
-    length: u8,
-    octets: &[u8],
-) -> Result<(), TpduFault>
+fn content_test(coding: Coding, header: usize, length: u8, octets: &[u8]) -> Result<(), TpduFault>
     requires { header ≤ 256 }
     ensures { result ≡ content_test coding header length octets.now }
 {
@@ -168,4 +164,12 @@ pub(crate) fn take_user_data<'a>(
         length,
         octets: OctetView::of(octets),
     })
+}
+
+/// Puts user data at the end, its length first.
+pub(crate) fn put_user_data(out: &mut Octets, user_data: &UserData<'_>) -> Result<(), AllocError>
+    ensures { OnOk result (out.new ≡ out.old ++ user_data_field user_data.now) }
+{
+    out.push(user_data.length)?;
+    out.append(user_data.octets.as_slice())
 }
