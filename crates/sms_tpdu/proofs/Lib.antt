@@ -1,5 +1,7 @@
 pub mod DigitWalk
+pub mod Names
 pub mod Addresses
+pub mod CutStamps
 pub mod Times
 pub mod Texts
 pub mod Delivers
@@ -7,5 +9,9 @@ pub mod Submits
 pub mod Reports
 pub mod Carriers
 pub mod DigitsPut
+pub mod NameValues
 pub mod Lengths
-pub mod Addressed
+pub mod NameTexts
+pub mod Powers
+pub mod CutFields
+pub mod WrittenUnits

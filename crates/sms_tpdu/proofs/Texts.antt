@@ -14,9 +14,8 @@ use Rattle.sms_tpdu.specs.declared.fault.TpduFault.{TpduFault}
 use Rattle.sms_tpdu.specs.declared.fault.TpduFault.TheVariants.{Truncated, UserDataTooLong, SpareBits, BadHeader}
 use Rattle.sms_tpdu.specs.declared.user_data.UserData.{UserData}
 use Rattle.sms_tpdu.specs.UserDataGrammar.{greatest_length, octets_of, header_octets, header_septets, fill_bits, IsPackedBehind, IsContentBehind, HasHeader, IsUserData, user_data_field}
-use Rattle.sms_tpdu.specs.UserDataReading.{header_fits, of_test, content_test, text_in, user_data_in}
-use Rattle.sms_tpdu.proofs.Times.{suffix_fits}
-use Rattle.sms_tpdu.proofs.Addresses.{rest_fits}
+use Rattle.sms_tpdu.specs.UserDataReading.{header_fits, of_test, content_test, text_test, text_in, user_data_in}
+use Rattle.sms_tpdu.proofs.Addresses.{rest_fits, suffix_fits}
 
 -- ---- what stands behind the header
 
@@ -96,23 +95,23 @@ pub record TakesText (coding : Coding) (with_header : Bool) (n : ℕ) (xs text r
   pub content : IsContentBehind coding (header_octets with_header text) n text
 
 text_takes : (coding : Coding) (with_header : Bool) (n : ℕ) (xs : List ℕ) (x : List ℕ × List ℕ) → text_in coding with_header n xs ≡ Ok x → TakesText coding with_header n xs x.0 x.1
-unfolding text_in
+unfolding text_in text_test
 text_takes coding with_header n xs x e =
     let k = octets_of coding n in
-    let a = bind_ok (only_if (header_fits with_header k (take k xs)) BadHeader) _ x e in
-    let b = bind_ok (content_test coding (header_octets with_header (take k xs)) n (take k xs)) _ x a.2 in
-    let p = run_takes Truncated k xs x b.2 in
+    let s = bind_ok (text_test coding with_header n (take k xs)) _ x e in
+    let a = bind_ok (only_if (header_fits with_header k (take k xs)) BadHeader) _ s.0 s.1 in
+    let p = run_takes Truncated k xs x s.2 in
     let front : take k xs ≡ x.0 = ap (take k) p.0 ∙ take_at x.0 x.1 k p.1 in
     record {
       parts = p.0;
       len = p.1;
       header = ap (header_fits with_header k) (sym front) ∙ passes _ BadHeader a.0 a.1;
-      content = subst (λ (t : List ℕ). IsContentBehind coding (header_octets with_header t) n t) front (content_takes coding (header_octets with_header (take k xs)) n (take k xs) b.0 b.1);
+      content = subst (λ (t : List ℕ). IsContentBehind coding (header_octets with_header t) n t) front (content_takes coding (header_octets with_header (take k xs)) n (take k xs) s.0 a.2);
     }
 
 text_again : (coding : Coding) (with_header : Bool) (n : ℕ) (text rest : List ℕ) → length text ≡ octets_of coding n → header_fits with_header (octets_of coding n) text ≡ true → IsContentBehind coding (header_octets with_header text) n text
     → text_in coding with_header n (text ++ rest) ≡ Ok (text, rest)
-unfolding text_in
+unfolding text_in text_test
 text_again coding with_header n text rest len header content =
     let k = octets_of coding n in
     rw (take_at text rest k len, header, content_again coding (header_octets with_header text) n text content, run_again Truncated k text rest len) refl

@@ -8,11 +8,8 @@ use Rattle.sms_base.specs.TimeStamp.{IsScts, scts_in}
 use Rattle.sms_base.proofs.Stamps.{stamp_is_read, read_is_stamp}
 use Rattle.sms_tpdu.specs.declared.fault.TpduFault.{TpduFault}
 use Rattle.sms_tpdu.specs.declared.fault.TpduFault.TheVariants.{Truncated, BadTime}
+use Rattle.sms_tpdu.proofs.Addresses.{suffix_fits}
 use Rattle.sms_tpdu.specs.TimeReading.{completed, time_in}
-
-pub suffix_fits : (xs ys : List ℕ) → AreOctets (xs ++ ys) → AreOctets ys
-suffix_fits [] ys h = h
-suffix_fits (x ∷ xs) ys h = suffix_fits xs ys h.1
 
 -- a whole stamp is completed by nothing
 pub whole_completed : (stamp rest : List ℕ) → length stamp ≡ 7 → completed (stamp ++ rest) ≡ stamp

@@ -6,7 +6,8 @@ use Rattle.sms_alphabet.specs.DataCodingScheme.{coding_of}
 use Rattle.sms_alphabet.specs.declared.scheme.Coding.{Coding}
 use Rattle.sms_alphabet.specs.declared.scheme.Coding.TheVariants.{Septets}
 use Rattle.sms_tpdu.specs.Bits.{bit, bit_value}
-use Rattle.sms_tpdu.specs.AddressGrammar.{IsAddressField}
+use Rattle.sms_tpdu.specs.AddressGrammar.{IsAddressField, address_field}
+use Rattle.sms_base.specs.Address.{IsAddress}
 use Rattle.sms_tpdu.specs.UserDataGrammar.{IsUserData, user_data_field}
 use Rattle.sms_tpdu.specs.declared.carrier.Carrier.{Carrier}
 use Rattle.sms_tpdu.specs.declared.carrier.Carrier.TheVariants.{InData, InAck, InError}
@@ -57,9 +58,9 @@ IsDeliver octets d =
 -- the one written list of a DELIVER
 abbrev pub IsWrittenDeliver : List ℕ → DeliverOf → Type 0
 IsWrittenDeliver octets d =
-    (from : List ℕ) × (stamp : List ℕ)
-    × IsAddressField from d.originating_address × IsWrittenScts stamp d.service_centre_time_stamp
-    × IsDeliverData d × (octets ≡ deliver_fields (deliver_head d) from stamp d)
+    (stamp : List ℕ)
+    × IsAddress d.originating_address × IsWrittenScts stamp d.service_centre_time_stamp
+    × IsDeliverData d × (octets ≡ deliver_fields (deliver_head d) (address_field d.originating_address) stamp d)
 
 -- ---- SUBMIT (9.2.2.2), up in RP-DATA
 
@@ -108,9 +109,9 @@ IsSubmit octets s =
 
 abbrev pub IsWrittenSubmit : List ℕ → SubmitOf → Type 0
 IsWrittenSubmit octets s =
-    (to : List ℕ) × (period : List ℕ)
-    × IsAddressField to s.destination_address × IsWrittenValidityField period s.validity_period
-    × IsSubmitData s × (octets ≡ submit_fields (submit_head s) to period s)
+    (period : List ℕ)
+    × IsAddress s.destination_address × IsWrittenValidityField period s.validity_period
+    × IsSubmitData s × (octets ≡ submit_fields (submit_head s) (address_field s.destination_address) period s)
 
 -- ---- the parameters of a report (9.2.3.27): bits 0, 1 and 2 of the indicator announce TP-PID, TP-DCS and TP-UDL with
 -- TP-UD. Where one of the other bits is set, what follows these fields passes unread.
@@ -244,11 +245,11 @@ IsStatusReport octets r =
 
 abbrev pub IsWrittenStatusReport : List ℕ → StatusReportOf → Type 0
 IsWrittenStatusReport octets r =
-    (to : List ℕ) × (stamp : List ℕ) × (discharge : List ℕ)
-    × IsAddressField to r.recipient_address
+    (stamp : List ℕ) × (discharge : List ℕ)
+    × IsAddress r.recipient_address
     × IsWrittenScts stamp r.service_centre_time_stamp × IsWrittenScts discharge r.discharge_time
     × IsReportData r.user_data_header_indicator r.parameters
-    × (octets ≡ status_report_fields (status_report_head r) to stamp discharge r ++ status_tail r.parameters)
+    × (octets ≡ status_report_fields (status_report_head r) (address_field r.recipient_address) stamp discharge r ++ status_tail r.parameters)
 
 -- ---- by carrier: down from the service centre, up from the handset
 
@@ -270,3 +271,24 @@ IsUp InAck octets (Submit s) = ⊥
 IsUp InAck octets (DeliverReport r) = IsDeliverReport false octets r
 IsUp InError octets (Submit s) = ⊥
 IsUp InError octets (DeliverReport r) = IsDeliverReport true octets r
+
+-- ---- as they are written
+
+abbrev pub IsWrittenDown : Carrier → List ℕ → Down → Type 0
+IsWrittenDown InData octets (Deliver d) = IsWrittenDeliver octets d
+IsWrittenDown InData octets (StatusReport r) = IsWrittenStatusReport octets r
+IsWrittenDown InData octets (SubmitReport r) = ⊥
+IsWrittenDown InAck octets (Deliver d) = ⊥
+IsWrittenDown InAck octets (StatusReport r) = ⊥
+IsWrittenDown InAck octets (SubmitReport r) = HasCause false r.failure_cause × IsWrittenSubmitReport octets r
+IsWrittenDown InError octets (Deliver d) = ⊥
+IsWrittenDown InError octets (StatusReport r) = ⊥
+IsWrittenDown InError octets (SubmitReport r) = HasCause true r.failure_cause × IsWrittenSubmitReport octets r
+
+abbrev pub IsWrittenUp : Carrier → List ℕ → Up → Type 0
+IsWrittenUp InData octets (Submit s) = IsWrittenSubmit octets s
+IsWrittenUp InData octets (DeliverReport r) = ⊥
+IsWrittenUp InAck octets (Submit s) = ⊥
+IsWrittenUp InAck octets (DeliverReport r) = HasCause false r.failure_cause × IsWrittenDeliverReport octets r
+IsWrittenUp InError octets (Submit s) = ⊥
+IsWrittenUp InError octets (DeliverReport r) = HasCause true r.failure_cause × IsWrittenDeliverReport octets r

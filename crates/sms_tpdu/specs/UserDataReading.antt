@@ -31,11 +31,16 @@ content_test Octets header n octets = Ok tt
 content_test Ucs2 header n octets = Ok tt
 content_test Compressed header n octets = Ok tt
 
+-- the header and the bits behind it, as far as the octets are there
+unfoldable pub text_test : Coding → Bool → ℕ → List ℕ → Result (Unit {0}) TpduFault
+text_test coding with_header n there = do
+  header ← only_if (header_fits with_header (octets_of coding n) there) BadHeader
+  content_test coding (header_octets with_header there) n there
+
 -- the octets of user data of length n
 unfoldable pub text_in : Coding → Bool → ℕ → List ℕ → Result (List ℕ × List ℕ) TpduFault
 text_in coding with_header n octets = do
-  header ← only_if (header_fits with_header (octets_of coding n) (take (octets_of coding n) octets)) BadHeader
-  content ← content_test coding (header_octets with_header (take (octets_of coding n) octets)) n (take (octets_of coding n) octets)
+  sound ← text_test coding with_header n (take (octets_of coding n) octets)
   run_in Truncated (octets_of coding n) octets
 
 unfoldable pub user_data_in : Coding → Bool → List ℕ → Result (UserData × List ℕ) TpduFault

@@ -1,12 +1,13 @@
 //! Address fields (3GPP TS 23.040 9.1.2.5).
-ghost use Rattle.std.specs.Prelude.{◌≡◌, ◌≤◌, ◌<◌, ◌+◌, ◌*◌, ◌++◌, List, ℕ, false, length, IfOk, OnOk};
+ghost use Rattle.std.specs.Prelude.{◌≡◌, ◌≤◌, ◌<◌, ◌+◌, ◌*◌, ◌++◌, List, ℕ, length, IfOk, OnOk};
 ghost use Rattle.sms_base.specs.Reading.{Takes};
 ghost use Rattle.sms_base.specs.Address.{IsAddress};
 ghost use Rattle.sms_base.specs.AddressKind.{is_name};
-ghost use Rattle.sms_tpdu.specs.AddressGrammar.{semi_octet, semi_octets, type_of_address, IsNumberAddress, address_field, relay_address};
-ghost use Rattle.sms_tpdu.specs.AddressReading.{address_in, digits_in, two_digits_in, last_digit_in, type_of_number_in};
+ghost use Rattle.sms_tpdu.specs.AddressGrammar.{semi_octet, semi_octets, type_of_address, address_length, address_value, address_field, relay_address};
+ghost use Rattle.sms_tpdu.specs.AddressReading.{address_in, digits_in, two_digits_in, last_digit_in, characters_in, type_of_number_in};
 
 use crate::fault::TpduFault;
+use crate::name_field::{name_length, put_name, take_name};
 use sms_base::{Address, Cursor, Digits, Octets, TypeOfNumber, digit_of, semi_octet_of};
 use std::alloc::{AllocError, Global};
 
@@ -48,6 +49,22 @@ fn take_digits(cursor: &mut Cursor<'_>, count: u8) -> Result<Digits, TpduFault>
     Ok(digits)
 }
 
+#[tactic(auto, unfolding(crate::specs::AddressReading::characters_in))]
+fn take_characters(
+    cursor: &mut Cursor<'_>,
+    is_name: bool,
+    count: u8,
+) -> Result<Digits, TpduFault>
+    requires { count ≤ 20 }
+    ensures { Takes (λ x. x) result cursor.new (characters_in is_name count cursor.old) }
+{
+    if is_name {
+        take_name(cursor, count)
+    } else {
+        take_digits(cursor, count)
+    }
+}
+
 #[tactic(auto, unfolding(crate::specs::AddressReading::type_of_number_in))]
 fn type_of_number(octet: u8) -> Result<TypeOfNumber, TpduFault>
     ensures { result ≡ type_of_number_in octet }
@@ -56,8 +73,8 @@ fn type_of_number(octet: u8) -> Result<TypeOfNumber, TpduFault>
         return Err(TpduFault::BadAddress);
     }
     match TypeOfNumber::of(octet / 16 - 8) {
-        Some(ton) if !ton.is_name() => Ok(ton),
-        _ => Err(TpduFault::BadAddress),
+        Some(ton) => Ok(ton),
+        None => Err(TpduFault::BadAddress),
     }
 }
 
@@ -72,7 +89,10 @@ pub(crate) fn take_address(cursor: &mut Cursor<'_>) -> Result<Address, TpduFault
     }
     let kind = cursor.octet(TpduFault::Truncated)?;
     let ton = type_of_number(kind)?;
-    let digits = take_digits(cursor, count)?;
+    if ton.is_name() && count == 1 {
+        return Err(TpduFault::BadAddress);
+    }
+    let digits = take_characters(cursor, ton.is_name(), count)?;
     Ok(Address {
         ton,
         npi: kind % 16,
@@ -121,26 +141,58 @@ fn type_of_address(address: &Address) -> u8
     128 + 16 * address.ton.number() + address.npi
 }
 
-/// Puts an address field at the end.
-pub(crate) fn put_address(out: &mut Octets, address: &Address) -> Result<(), AllocError>
-    requires { IsNumberAddress address.now }
-    ensures { OnOk result (out.new ≡ out.old ++ address_field address.now) }
+// How many useful semi-octets an address has.
+fn address_length(address: &Address) -> u8
+    requires { IsAddress address.now }
+    ensures { result ≡ address_length (is_name address.now.ton) address.now.digits }
 {
-    out.push(address.digits.len() as u8)?;
-    out.push(type_of_address(address))?;
-    put_digits(out, address.digits.as_slice())
+    if address.ton.is_name() {
+        name_length(address.digits.as_slice())
+    } else {
+        address.digits.len() as u8
+    }
 }
 
-/// The value of an address element of the relay layer: the type of address and the semi-octets of a number
-/// (3GPP TS 24.011 8.2.5.1), 2 to 11 octets.
-pub fn write_relay_address(alloc: Global, address: &Address) -> Result<Octets, AllocError>
-    requires address { IsAddress address.now }
-    requires number { is_name address.now.ton ≡ false }
-    ensures ok { IfOk result (λ octets. octets ≡ relay_address address.now) }
-    ensures short { IfOk result (λ octets. length octets < 12) }
+// Puts the digits or the name at the end.
+fn put_address_value(out: &mut Octets, address: &Address) -> Result<(), AllocError>
+    requires { IsAddress address.now }
+    ensures { OnOk result (out.new ≡ out.old ++ address_value (is_name address.now.ton) address.now.digits) }
+{
+    if address.ton.is_name() {
+        put_name(out, address.digits.as_slice())
+    } else {
+        put_digits(out, address.digits.as_slice())
+    }
+}
+
+/// Puts an address field at the end.
+pub(crate) fn put_address(out: &mut Octets, address: &Address) -> Result<(), AllocError>
+    requires { IsAddress address.now }
+    ensures { OnOk result (out.new ≡ out.old ++ address_field address.now) }
+{
+    out.push(address_length(address))?;
+    out.push(type_of_address(address))?;
+    put_address_value(out, address)
+}
+
+fn relay_octets(alloc: Global, address: &Address) -> Result<Octets, AllocError>
+    requires { IsAddress address.now }
+    ensures { IfOk result (λ octets. octets ≡ relay_address address.now) }
 {
     let mut out = Octets::with_capacity(alloc, 11)?;
     out.push(type_of_address(address))?;
-    put_digits(&mut out, address.digits.as_slice())?;
+    put_address_value(&mut out, address)?;
     Ok(out)
+}
+
+/// The value of an address element of the relay layer: the type of address, then the semi-octets of a number or the
+/// septets of a name (3GPP TS 24.011 8.2.5.1), 2 to 11 octets.
+///
+/// Takes memory once.
+pub fn write_relay_address(alloc: Global, address: &Address) -> Result<Octets, AllocError>
+    requires { IsAddress address.now }
+    ensures ok { IfOk result (λ octets. octets ≡ relay_address address.now) }
+    ensures short { IfOk result (λ octets. length octets < 12) }
+{
+    relay_octets(alloc, address)
 }

@@ -1,7 +1,6 @@
 //! DELIVER (3GPP TS 23.040 9.2.2.1).
-ghost use Rattle.std.specs.Prelude.{◌≡◌, ◌<◌, false, length, IfOk};
+ghost use Rattle.std.specs.Prelude.{◌≡◌, ◌<◌, length, IfOk};
 ghost use Rattle.sms_base.specs.Address.{IsAddress};
-ghost use Rattle.sms_base.specs.AddressKind.{is_name};
 ghost use Rattle.sms_tpdu.specs.TpduGrammar.{deliver_head, IsDeliverData, IsWrittenDeliver};
 ghost use Rattle.sms_tpdu.specs.TpduReading.{deliver_at};
 
@@ -83,7 +82,6 @@ fn head_of(message: &Deliver<'_>) -> u8
 
 fn deliver_octets(alloc: Global, message: &Deliver<'_>) -> Result<Octets, AllocError>
     requires address { IsAddress message.now.originating_address }
-    requires number { is_name message.now.originating_address.ton ≡ false }
     requires user_data { IsDeliverData message.now }
     ensures { IfOk result (λ octets. IsWrittenDeliver octets message.now) }
 {
@@ -102,7 +100,6 @@ fn deliver_octets(alloc: Global, message: &Deliver<'_>) -> Result<Octets, AllocE
 /// Takes memory once.
 pub fn write_deliver(alloc: Global, message: &Deliver<'_>) -> Result<Octets, AllocError>
     requires address { IsAddress message.now.originating_address }
-    requires number { is_name message.now.originating_address.ton ≡ false }
     requires user_data { IsDeliverData message.now }
     ensures ok { IfOk result (λ octets. IsWrittenDeliver octets message.now) }
     ensures short { IfOk result (λ octets. length octets < 256) }

@@ -1,10 +1,18 @@
 //! DELIVER-REPORT (3GPP TS 23.040 9.2.2.1a).
-ghost use Rattle.std.specs.Prelude.{◌≡◌};
+ghost use Rattle.std.specs.Prelude.{◌≡◌, ◌<◌, false, length, IfOk};
+ghost use Rattle.sms_tpdu.specs.TpduGrammar.{IsReportData, IsWrittenDeliverReport};
 ghost use Rattle.sms_tpdu.specs.TpduReading.{deliver_report_at};
 
 use crate::fault::TpduFault;
-use crate::parameters::{Parameters, end_after, take_optional_octet, take_parameters};
-use sms_base::Cursor;
+use crate::parameters::{
+    Parameters, data_length, end_after, indicator_of, put_optional_octet, put_parameters,
+    take_optional_octet, take_parameters,
+};
+use sms_base::{Cursor, Octets};
+use std::alloc::{AllocError, Global};
+
+/// The octets of a DELIVER-REPORT beside its user data, at most.
+const FIXED: usize = 6;
 
 /// A handset's answer to a DELIVER or a STATUS-REPORT.
 #[derive(Debug, Drop)]
@@ -35,4 +43,30 @@ pub(crate) fn deliver_report_of(
         failure_cause,
         parameters,
     })
+}
+
+fn deliver_report_octets(alloc: Global, report: &DeliverReport<'_>) -> Result<Octets, AllocError>
+    requires { IsReportData false report.now.parameters }
+    ensures { IfOk result (λ octets. IsWrittenDeliverReport octets report.now) }
+{
+    let mut out = Octets::with_capacity(alloc, FIXED + usize::from(data_length(&report.parameters)))?;
+    out.push(0x00)?;
+    put_optional_octet(&mut out, report.failure_cause)?;
+    out.push(indicator_of(&report.parameters))?;
+    put_parameters(&mut out, &report.parameters)?;
+    Ok(out)
+}
+
+/// The octets of a DELIVER-REPORT, at most 146: with its cause for RP-ERROR, without one for RP-ACK.
+///
+/// Takes memory once.
+pub fn write_deliver_report(
+    alloc: Global,
+    report: &DeliverReport<'_>,
+) -> Result<Octets, AllocError>
+    requires { IsReportData false report.now.parameters }
+    ensures ok { IfOk result (λ octets. IsWrittenDeliverReport octets report.now) }
+    ensures short { IfOk result (λ octets. length octets < 256) }
+{
+    deliver_report_octets(alloc, report)
 }

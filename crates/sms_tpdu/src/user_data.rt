@@ -3,7 +3,7 @@ ghost use Rattle.std.specs.Prelude.{◌≡◌, ◌≤◌, ◌<◌, ◌-◌, ◌+
 ghost use Rattle.sms_base.specs.Reading.{Takes};
 ghost use Rattle.sms_alphabet.specs.Packing.{tested};
 ghost use Rattle.sms_tpdu.specs.UserDataGrammar.{greatest_length, octets_of, header_octets, header_septets, fill_bits, user_data_field};
-ghost use Rattle.sms_tpdu.specs.UserDataReading.{header_fits, content_test, text_in, user_data_in, of_test};
+ghost use Rattle.sms_tpdu.specs.UserDataReading.{header_fits, content_test, text_test, text_in, user_data_in, of_test};
 
 use crate::fault::TpduFault;
 use sms_alphabet::{Coding, UnpackError, check};
@@ -125,6 +125,21 @@ fn front(octets: &[u8], count: usize) -> &[u8]
     }
 }
 
+#[tactic(auto, unfolding(crate::specs::UserDataReading::text_test))]
+fn text_test(
+    coding: Coding,
+    with_header: bool,
+    length: u8,
+    there: &[u8],
+) -> Result<(), TpduFault>
+    ensures { result ≡ text_test coding with_header length there.now }
+{
+    if !header_fits(with_header, octets_of(coding, length), there) {
+        return Err(TpduFault::BadHeader);
+    }
+    content_test(coding, header_octets(with_header, there), length, there)
+}
+
 #[tactic(auto, unfolding(crate::specs::UserDataReading::text_in))]
 fn take_text<'a>(
     cursor: &mut Cursor<'a>,
@@ -135,11 +150,7 @@ fn take_text<'a>(
     ensures { Takes (λ x. x.now) result cursor.new (text_in coding with_header length cursor.old) }
 {
     let count = octets_of(coding, length);
-    let there = front(cursor.rest(), count);
-    if !header_fits(with_header, count, there) {
-        return Err(TpduFault::BadHeader);
-    }
-    content_test(coding, header_octets(with_header, there), length, there)?;
+    text_test(coding, with_header, length, front(cursor.rest(), count))?;
     cursor.run(count, TpduFault::Truncated)
 }
 

@@ -1,11 +1,13 @@
 //! Validity periods (3GPP TS 23.040 9.2.3.12).
-ghost use Rattle.std.specs.Prelude.{◌≡◌, ◌<◌, ◌%◌, ◌/◌, ℕ, List};
+ghost use Rattle.std.specs.Prelude.{◌≡◌, ◌<◌, ◌++◌, ℕ, List, OnOk};
 ghost use Rattle.sms_base.specs.Reading.{Takes};
+ghost use Rattle.sms_tpdu.specs.TpduGrammar.{validity_format, IsWrittenValidityField};
 ghost use Rattle.sms_tpdu.specs.TpduReading.{validity_in, relative_in, absolute_in};
 
 use crate::fault::TpduFault;
 use crate::time_field::take_time;
-use sms_base::{Cursor, Moment};
+use sms_base::{Cursor, Moment, Octets};
+use std::alloc::AllocError;
 
 /// How long a message is to be kept.
 #[derive(Clone, Copy, Debug, PartialEq, Eq)]
@@ -46,5 +48,31 @@ pub(crate) fn take_validity_period(
         0 => Ok(ValidityPeriod::NotPresent),
         2 => take_relative(cursor),
         _ => take_absolute(cursor),
+    }
+}
+
+/// The validity period format: 0 not present, 2 relative, 3 absolute (9.2.3.3).
+pub(crate) fn validity_format(period: ValidityPeriod) -> u8
+    ensures value { result ≡ validity_format period }
+    ensures range { result < 4 }
+{
+    match period {
+        ValidityPeriod::NotPresent => 0,
+        ValidityPeriod::Relative(_) => 2,
+        ValidityPeriod::Absolute(_) => 3,
+    }
+}
+
+/// Puts a validity period at the end: 0, 1 or 7 octets.
+pub(crate) fn put_validity_period(
+    out: &mut Octets,
+    period: ValidityPeriod,
+) -> Result<(), AllocError>
+    ensures { OnOk result ((field : List ℕ) × IsWrittenValidityField field period × (out.new ≡ out.old ++ field)) }
+{
+    match period {
+        ValidityPeriod::NotPresent => Ok(()),
+        ValidityPeriod::Relative(length) => out.push(length),
+        ValidityPeriod::Absolute(limit) => out.append(&limit.to_scts()),
     }
 }
