@@ -280,8 +280,14 @@ name_takes count xs x fits e =
     let septets = base_digits 128 n v in
     subst (λ (y : List ℕ × List ℕ). TakesName count xs y.0 y.1) (ok_is {E = TpduFault} (text_in septets, b.0.1) x b.2)
     (record {
-      septets = septets; value = b.0.0; parts = p.0; septets_len = length-digits 128 n v; small = digits-below n v;
-      value_len = p.1; value_is = ap (value_in 256) (sym front) ∙ sym (value_in-digits n v below); name_is = refl;
+      septets = septets;
+      value = b.0.0;
+      parts = p.0;
+      septets_len = length-digits 128 n v;
+      small = digits-below n v;
+      value_len = p.1;
+      value_is = ap (value_in 256) (sym front) ∙ sym (value_in-digits n v below);
+      name_is = refl;
       rest_fits = suffix_fits b.0.0 b.0.1 (subst AreOctets p.0 fits);
     })
 
@@ -374,13 +380,23 @@ unfolding characters_in
 spelled_by false text a rest is valid spelled =
     let n = valid.digits.number is in
     record {
-      count = length a.digits; value = semi_octets a.digits; some = valid.digits.some; few = n.few; letters = rw is refl; spelled = spelled;
+      count = length a.digits;
+      value = semi_octets a.digits;
+      some = valid.digits.some;
+      few = n.few;
+      letters = rw is refl;
+      spelled = spelled;
       reads = rw is (digits_again a.digits rest n.digits);
     }
 spelled_by true text a rest is valid (count, septets, value, few, septets_len, some, small, value_len, value_is, name, spelled) =
     let two : 1 < count = omega (arith, septets_len, some) in
     record {
-      count = count; value = value; some = omega arith; few = few; letters = rw (is, lt-ltb 1 count two) refl; spelled = spelled;
+      count = count;
+      value = value;
+      some = omega arith;
+      few = few;
+      letters = rw (is, lt-ltb 1 count two) refl;
+      spelled = spelled;
       reads = rw is (name_again count septets value rest septets_len small value_len value_is ∙ ap (λ (l : List ℕ). Ok (l, rest)) (sym name));
     }
 

@@ -11,7 +11,8 @@ use Rattle.sms_tpdu.specs.declared.down.Down.{Down}
 use Rattle.sms_tpdu.specs.declared.down.Down.TheVariants.{Deliver, StatusReport, SubmitReport}
 use Rattle.sms_tpdu.specs.declared.up.Up.{Up}
 use Rattle.sms_tpdu.specs.declared.up.Up.TheVariants.{Submit, DeliverReport}
-use Rattle.sms_tpdu.specs.TpduGrammar.{IsDown, IsUp, IsDeliver, IsStatusReport}
+use Rattle.sms_tpdu.specs.TpduGrammar.{IsDown, IsUp, IsDeliver, IsStatusReport, IsStatusTail, IsReportData, IsWritableDown, IsWritableUp}
+use Rattle.sms_tpdu.specs.declared.parameters.Parameters.{Parameters}
 use Rattle.sms_tpdu.specs.TpduReading.{is_status_report, deliver_at, submit_at, submit_report_at, deliver_report_at, status_report_at, data_down_at, report_down_at, down_at, data_up_at, report_up_at, up_at}
 use Rattle.sms_tpdu.proofs.Delivers.{deliver_takes, deliver_again}
 use Rattle.sms_tpdu.proofs.Submits.{submit_takes, submit_again}
@@ -90,3 +91,36 @@ up_again InError xs (DeliverReport r) h = rw (deliver_report_again true xs r h) 
 pub up_found : (carrier : Carrier) (xs : List ℕ) (r : Result Up TpduFault) → ((i : ℕ) → get_or xs i 0 < 256) → r ≡ up_at carrier xs → IfOk r (λ t. IsUp carrier xs t)
 up_found carrier xs (Ok t) fits e = up_takes carrier xs t (octets_fit xs fits) (sym e)
 up_found carrier xs (Err f) fits e = tt
+
+-- ---- what is read may be written
+
+tail_data : (with_header : Bool) (xs : List ℕ) (p : Parameters) → IsStatusTail with_header xs p → IsReportData with_header p
+tail_data with_header [] p h = rw h tt
+tail_data with_header (indicator ∷ xs) p (unread, indicates, is_data, follows, whole) = is_data
+
+down_writable : (carrier : Carrier) (xs : List ℕ) (t : Down) → IsDown carrier xs t → IsWritableDown t
+down_writable InData xs (Deliver d) (first, from, stamp, head, is_from, is_stamp, is_text, whole) = (is_from.valid, is_text)
+down_writable InData xs (StatusReport r) (first, to, stamp, discharge, tail, head, is_to, is_stamp, is_discharge, is_tail, whole) = (is_to.valid, tail_data r.user_data_header_indicator tail r.parameters is_tail)
+down_writable InData xs (SubmitReport r) h = absurd h
+down_writable InAck xs (Deliver d) h = absurd h
+down_writable InAck xs (StatusReport r) h = absurd h
+down_writable InAck xs (SubmitReport r) (first, indicator, stamp, unread, kind, has_cause, indicates, is_stamp, is_data, follows, whole) = is_data
+down_writable InError xs (Deliver d) h = absurd h
+down_writable InError xs (StatusReport r) h = absurd h
+down_writable InError xs (SubmitReport r) (first, indicator, stamp, unread, kind, has_cause, indicates, is_stamp, is_data, follows, whole) = is_data
+
+pub down_found_writable : (carrier : Carrier) (xs : List ℕ) (r : Result Down TpduFault) → ((i : ℕ) → get_or xs i 0 < 256) → r ≡ down_at carrier xs → IfOk r (λ t. IsWritableDown t)
+down_found_writable carrier xs (Ok t) fits e = down_writable carrier xs t (down_takes carrier xs t (octets_fit xs fits) (sym e))
+down_found_writable carrier xs (Err f) fits e = tt
+
+up_writable : (carrier : Carrier) (xs : List ℕ) (t : Up) → IsUp carrier xs t → IsWritableUp t
+up_writable InData xs (Submit s) (first, to, period, head, is_to, is_period, is_text, whole) = (is_to.valid, is_text)
+up_writable InData xs (DeliverReport r) h = absurd h
+up_writable InAck xs (Submit s) h = absurd h
+up_writable InAck xs (DeliverReport r) (first, indicator, unread, kind, has_cause, indicates, is_data, follows, whole) = is_data
+up_writable InError xs (Submit s) h = absurd h
+up_writable InError xs (DeliverReport r) (first, indicator, unread, kind, has_cause, indicates, is_data, follows, whole) = is_data
+
+pub up_found_writable : (carrier : Carrier) (xs : List ℕ) (r : Result Up TpduFault) → ((i : ℕ) → get_or xs i 0 < 256) → r ≡ up_at carrier xs → IfOk r (λ t. IsWritableUp t)
+up_found_writable carrier xs (Ok t) fits e = up_writable carrier xs t (up_takes carrier xs t (octets_fit xs fits) (sym e))
+up_found_writable carrier xs (Err f) fits e = tt

@@ -39,7 +39,7 @@ cuts_value f (Ok x) k h xs ys z e = h x xs ys z e
 cuts_value f (Err d) k h xs ys z e = absurd cc
 
 same_run : (n : ℕ) (xs ys : List ℕ) → n ≤ length xs → take n (xs ++ ys) ≡ take n xs
-same_run n xs ys le = take-append-le xs ys n le
+same_run n xs ys le = rw take-append-le refl
 
 -- it passes, or the list ends too early
 abbrev Passing : {E : Type 0} → E → Result (Unit {0}) E → Type 0
@@ -122,7 +122,10 @@ name_passing k n xs ys u e =
     let clear = below_front (value_in 256 (take k xs)) (value_in 256 (take k (xs ++ ys))) (128 ^ n) pos (front_value k xs ys) (passes _ BadAddress u e) in
     inl (rw clear refl)
 
-name_short : (k : ℕ) (value : List ℕ → List ℕ) (xs : List ℕ) → length xs < k → (run_in Truncated k xs >>= (λ t. Ok (value (take k xs), t.1))) ≡ Err Truncated
+abbrev named_run : ℕ → (List ℕ → List ℕ) → List ℕ → Result (List ℕ × List ℕ) TpduFault
+named_run k value xs = run_in Truncated k xs >>= (λ t. Ok (value (take k xs), t.1))
+
+name_short : (k : ℕ) (value : List ℕ → List ℕ) (xs : List ℕ) → length xs < k → named_run k value xs ≡ Err Truncated
 name_short k value xs lt = rw (run_short Truncated k xs lt) refl
 
 pub name_cut : (count : ℕ) → CutsShort Truncated (name_in count)

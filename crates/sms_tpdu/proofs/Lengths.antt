@@ -1,5 +1,5 @@
 -- How long what is written is.
-use Rattle.std.proofs.Common.{◌≡◌, ℕ, zero, suc, ◌+◌, ◌-◌, ◌*◌, ◌/◌, ◌%◌, ◌<◌, ◌≤◌, Bool, true, false, cond, eqb, List, [], ◌∷◌, ◌++◌, length, Option, Some, None, refl, sym, ap, ◌∙◌, arith, Result, Ok, Err}
+use Rattle.std.proofs.Common.{◌≡◌, ℕ, zero, suc, ◌+◌, ◌-◌, ◌*◌, ◌/◌, ◌%◌, ◌<◌, ◌≤◌, Bool, true, false, cond, eqb, List, [], ◌∷◌, ◌++◌, length, Option, Some, None, append_assoc, refl, sym, ap, ◌∙◌, arith, Result, Ok, Err}
 use Rattle.std.specs.Prelude.{IfOk}
 use Rattle.std.proofs.lemmas.List.{length-append}
 use Rattle.std.specs.declared.alloc.AllocError.{AllocError}
@@ -75,8 +75,14 @@ pub submit_short : (r : Result (List ℕ) AllocError) (s : Submit) → IfOk r (�
 submit_short (Err e) s h = tt
 submit_short (Ok o) s (period, is_address, is_period, is_text, whole) =
     let to = address_field s.destination_address in
-    rw whole (omega (arith, field_short s.destination_address is_address, validity_short period s.validity_period is_period, data_short _ _ s.user_data is_text,
-        length-append to (s.protocol_identifier ∷ s.data_coding_scheme ∷ (period ++ user_data_field s.user_data)), length-append period (user_data_field s.user_data)))
+    rw whole (omega (
+      arith,
+      field_short s.destination_address is_address,
+      validity_short period s.validity_period is_period,
+      data_short _ _ s.user_data is_text,
+      length-append to (s.protocol_identifier ∷ s.data_coding_scheme ∷ (period ++ user_data_field s.user_data)),
+      length-append period (user_data_field s.user_data),
+    ))
 
 pub deliver_report_short : (r : Result (List ℕ) AllocError) (s : DeliverReport) → IfOk r (λ o. IsWrittenDeliverReport o s) → IfOk r (λ o. length o < 256)
 deliver_report_short (Err e) s h = tt
@@ -98,3 +104,12 @@ status_report_short (Ok o) s (stamp, discharge, is_address, is_stamp, is_dischar
     let d = length-append stamp (discharge ++ (s.status ∷ [])) in
     let f = length-append discharge (s.status ∷ []) in
     rw whole (omega (arith, a, b, t, c, d, f, field_short s.recipient_address is_address, length-append (status_report_fields (status_report_head s) to stamp discharge s) (status_tail s.parameters)))
+
+-- the pieces of a STATUS-REPORT, one behind the other
+pub status_whole : (o0 o1 o2 o3 o4 o5 o6 o7 to stamp discharge tail : List ℕ) (h head reference status : ℕ) → o0 ≡ [] → h ≡ head → o1 ≡ o0 ++ h ∷ [] → o2 ≡ o1 ++ reference ∷ [] → o3 ≡ o2 ++ to → o4 ≡ o3 ++ stamp → o5 ≡ o4 ++ discharge → o6 ≡ o5 ++ status ∷ [] → o7 ≡ o6 ++ tail
+    → o7 ≡ (head ∷ reference ∷ (to ++ (stamp ++ (discharge ++ (status ∷ []))))) ++ tail
+status_whole o0 o1 o2 o3 o4 o5 o6 o7 to stamp discharge tail h head reference status e0 eh e1 e2 e3 e4 e5 e6 e7 =
+    let a : o2 ≡ head ∷ reference ∷ [] = rw (e2, e1, e0, eh) refl in
+    let b : o6 ≡ head ∷ reference ∷ (((to ++ stamp) ++ discharge) ++ (status ∷ [])) = rw (e6, e5, e4, e3, a) refl in
+    let shape : ((to ++ stamp) ++ discharge) ++ (status ∷ []) ≡ to ++ (stamp ++ (discharge ++ (status ∷ []))) = append_assoc (to ++ stamp) discharge (status ∷ []) ∙ append_assoc to stamp (discharge ++ (status ∷ [])) in
+    e7 ∙ ap (λ (l : List ℕ). l ++ tail) (b ∙ ap (λ (l : List ℕ). head ∷ reference ∷ l) shape)

@@ -15,3 +15,4 @@ pub mod NameTexts
 pub mod Powers
 pub mod CutFields
 pub mod WrittenUnits
+pub mod CutUnits

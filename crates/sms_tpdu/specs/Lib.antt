@@ -6,3 +6,4 @@ pub mod UserDataGrammar
 pub mod UserDataReading
 pub mod TpduGrammar
 pub mod TpduReading
+pub mod ValidityTable

@@ -292,3 +292,23 @@ IsWrittenUp InAck octets (Submit s) = ⊥
 IsWrittenUp InAck octets (DeliverReport r) = HasCause false r.failure_cause × IsWrittenDeliverReport octets r
 IsWrittenUp InError octets (Submit s) = ⊥
 IsWrittenUp InError octets (DeliverReport r) = HasCause true r.failure_cause × IsWrittenDeliverReport octets r
+
+-- what was read, or made so, that it can be written
+abbrev pub IsWritableDown : Down → Type 0
+IsWritableDown (Deliver d) = IsAddress d.originating_address × IsDeliverData d
+IsWritableDown (StatusReport r) = IsAddress r.recipient_address × IsReportData r.user_data_header_indicator r.parameters
+IsWritableDown (SubmitReport r) = IsReportData false r.parameters
+
+abbrev pub IsWritableUp : Up → Type 0
+IsWritableUp (Submit s) = IsAddress s.destination_address × IsSubmitData s
+IsWritableUp (DeliverReport r) = IsReportData false r.parameters
+
+-- the written list of a TPDU, whatever carries it
+abbrev pub IsDownWritten : List ℕ → Down → Type 0
+IsDownWritten octets (Deliver d) = IsWrittenDeliver octets d
+IsDownWritten octets (StatusReport r) = IsWrittenStatusReport octets r
+IsDownWritten octets (SubmitReport r) = IsWrittenSubmitReport octets r
+
+abbrev pub IsUpWritten : List ℕ → Up → Type 0
+IsUpWritten octets (Submit s) = IsWrittenSubmit octets s
+IsUpWritten octets (DeliverReport r) = IsWrittenDeliverReport octets r

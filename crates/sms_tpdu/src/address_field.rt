@@ -50,11 +50,7 @@ fn take_digits(cursor: &mut Cursor<'_>, count: u8) -> Result<Digits, TpduFault>
 }
 
 #[tactic(auto, unfolding(crate::specs::AddressReading::characters_in))]
-fn take_characters(
-    cursor: &mut Cursor<'_>,
-    is_name: bool,
-    count: u8,
-) -> Result<Digits, TpduFault>
+fn take_characters(cursor: &mut Cursor<'_>, is_name: bool, count: u8) -> Result<Digits, TpduFault>
     requires { count ≤ 20 }
     ensures { Takes (λ x. x) result cursor.new (characters_in is_name count cursor.old) }
 {

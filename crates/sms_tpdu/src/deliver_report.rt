@@ -49,7 +49,10 @@ fn deliver_report_octets(alloc: Global, report: &DeliverReport<'_>) -> Result<Oc
     requires { IsReportData false report.now.parameters }
     ensures { IfOk result (λ octets. IsWrittenDeliverReport octets report.now) }
 {
-    let mut out = Octets::with_capacity(alloc, FIXED + usize::from(data_length(&report.parameters)))?;
+    let mut out = Octets::with_capacity(
+        alloc,
+        FIXED + usize::from(data_length(&report.parameters)),
+    )?;
     out.push(0x00)?;
     put_optional_octet(&mut out, report.failure_cause)?;
     out.push(indicator_of(&report.parameters))?;
@@ -60,10 +63,7 @@ fn deliver_report_octets(alloc: Global, report: &DeliverReport<'_>) -> Result<Oc
 /// The octets of a DELIVER-REPORT, at most 146: with its cause for RP-ERROR, without one for RP-ACK.
 ///
 /// Takes memory once.
-pub fn write_deliver_report(
-    alloc: Global,
-    report: &DeliverReport<'_>,
-) -> Result<Octets, AllocError>
+pub fn write_deliver_report(alloc: Global, report: &DeliverReport<'_>) -> Result<Octets, AllocError>
     requires { IsReportData false report.now.parameters }
     ensures ok { IfOk result (λ octets. IsWrittenDeliverReport octets report.now) }
     ensures short { IfOk result (λ octets. length octets < 256) }

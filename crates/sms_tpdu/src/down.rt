@@ -1,14 +1,16 @@
 //! TPDUs from the service centre to a handset.
-ghost use Rattle.std.specs.Prelude.{◌≡◌, IfOk, Ok};
-ghost use Rattle.sms_tpdu.specs.TpduGrammar.{IsDown};
+ghost use Rattle.std.specs.Prelude.{◌≡◌, ◌<◌, IfOk, Ok, length};
+ghost use Rattle.sms_tpdu.specs.TpduGrammar.{IsDown, IsWritableDown, IsDownWritten};
 ghost use Rattle.sms_tpdu.specs.TpduReading.{is_status_report, data_down_at, report_down_at, down_at};
 ghost use Rattle.sms_tpdu.specs.declared.down.Down.{Down as DownOf};
 
 use crate::carrier::Carrier;
-use crate::deliver::{Deliver, deliver_of};
+use crate::deliver::{Deliver, deliver_of, write_deliver};
 use crate::fault::TpduFault;
-use crate::status_report::{StatusReport, status_report_of};
-use crate::submit_report::{SubmitReport, submit_report_of};
+use crate::status_report::{StatusReport, status_report_of, write_status_report};
+use crate::submit_report::{SubmitReport, submit_report_of, write_submit_report};
+use sms_base::Octets;
+use std::alloc::{AllocError, Global};
 
 /// A TPDU from the service centre to a handset.
 #[derive(Debug, Drop)]
@@ -70,8 +72,25 @@ pub fn read_down(octets: &[u8], carrier: Carrier) -> Result<Down<'_>, TpduFault>
     ensures found { IfOk result (λ tpdu. IsDown carrier octets.now tpdu) }
     // What is in the grammar is read.
     ensures only { (tpdu : DownOf) → IsDown carrier octets.now tpdu → result ≡ Ok tpdu }
+    // What is read may be written.
+    ensures writable { IfOk result (λ tpdu. IsWritableDown tpdu) }
     // Which fault it is.
     ensures exact { result ≡ down_at carrier octets.now }
 {
     down_of(octets, carrier)
+}
+
+/// The octets of a TPDU as they are written, at most 173.
+///
+/// Takes memory once.
+pub fn write_down(alloc: Global, tpdu: &Down<'_>) -> Result<Octets, AllocError>
+    requires { IsWritableDown tpdu.now }
+    ensures ok { IfOk result (λ octets. IsDownWritten octets tpdu.now) }
+    ensures short { IfOk result (λ octets. length octets < 256) }
+{
+    match tpdu {
+        Down::Deliver(deliver) => write_deliver(alloc, deliver),
+        Down::StatusReport(report) => write_status_report(alloc, report),
+        Down::SubmitReport(report) => write_submit_report(alloc, report),
+    }
 }

@@ -112,7 +112,10 @@ fn status_report_octets(alloc: Global, report: &StatusReport<'_>) -> Result<Octe
     requires user_data { IsReportData report.now.user_data_header_indicator report.now.parameters }
     ensures { IfOk result (λ octets. IsWrittenStatusReport octets report.now) }
 {
-    let mut out = Octets::with_capacity(alloc, FIXED + usize::from(data_length(&report.parameters)))?;
+    let mut out = Octets::with_capacity(
+        alloc,
+        FIXED + usize::from(data_length(&report.parameters)),
+    )?;
     out.push(head_of(report))?;
     out.push(report.message_reference)?;
     put_address(&mut out, &report.recipient_address)?;

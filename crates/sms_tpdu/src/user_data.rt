@@ -126,12 +126,7 @@ fn front(octets: &[u8], count: usize) -> &[u8]
 }
 
 #[tactic(auto, unfolding(crate::specs::UserDataReading::text_test))]
-fn text_test(
-    coding: Coding,
-    with_header: bool,
-    length: u8,
-    there: &[u8],
-) -> Result<(), TpduFault>
+fn text_test(coding: Coding, with_header: bool, length: u8, there: &[u8]) -> Result<(), TpduFault>
     ensures { result ≡ text_test coding with_header length there.now }
 {
     if !header_fits(with_header, octets_of(coding, length), there) {
