@@ -16,3 +16,4 @@ pub mod Powers
 pub mod CutFields
 pub mod WrittenUnits
 pub mod CutUnits
+pub mod CutReports

@@ -251,6 +251,10 @@ IsWrittenStatusReport octets r =
     × IsReportData r.user_data_header_indicator r.parameters
     × (octets ≡ status_report_fields (status_report_head r) (address_field r.recipient_address) stamp discharge r ++ status_tail r.parameters)
 
+-- the same report where the parameters were left out
+abbrev pub without_parameters : StatusReportOf → StatusReportOf
+without_parameters r = record r { parameters = no_parameters }
+
 -- ---- by carrier: down from the service centre, up from the handset
 
 abbrev pub IsDown : Carrier → List ℕ → Down → Type 0

@@ -1,10 +1,13 @@
 //! Laws of TPDUs, over their definitions alone.
-ghost use Rattle.std.specs.Prelude.{◌≡◌, ◌⊎◌, ℕ, List, [], ◌++◌, Result, Ok, Err};
-ghost use Rattle.sms_tpdu.specs.TpduGrammar.{IsDown, IsUp, IsWrittenDown, IsWrittenUp};
-ghost use Rattle.sms_tpdu.specs.TpduReading.{deliver_at, submit_at, down_at, up_at};
+ghost use Rattle.std.specs.Prelude.{◌≡◌, ◌⊎◌, ℕ, Bool, List, [], ◌++◌, Ok, Err};
+ghost use Rattle.sms_tpdu.specs.TpduGrammar.{IsDown, IsUp, IsWrittenDown, IsWrittenUp, without_parameters};
+ghost use Rattle.sms_tpdu.specs.TpduReading.{deliver_at, submit_at, submit_report_at, deliver_report_at, status_report_at, down_at, up_at};
 ghost use Rattle.sms_tpdu.specs.declared.carrier.Carrier.{Carrier};
 ghost use Rattle.sms_tpdu.specs.declared.deliver.Deliver.{Deliver};
 ghost use Rattle.sms_tpdu.specs.declared.submit.Submit.{Submit};
+ghost use Rattle.sms_tpdu.specs.declared.submit_report.SubmitReport.{SubmitReport};
+ghost use Rattle.sms_tpdu.specs.declared.deliver_report.DeliverReport.{DeliverReport};
+ghost use Rattle.sms_tpdu.specs.declared.status_report.StatusReport.{StatusReport};
 ghost use Rattle.sms_tpdu.specs.declared.down.Down.{Down};
 ghost use Rattle.sms_tpdu.specs.declared.up.Up.{Up};
 ghost use Rattle.sms_tpdu.specs.declared.fault.TpduFault.TheVariants.{Truncated};
@@ -37,4 +40,20 @@ pub fn cut_deliver_is_truncated()
 /// A readable SUBMIT that is cut anywhere is refused as truncated.
 pub fn cut_submit_is_truncated()
     ensures { (front rest : List ℕ) (submit : Submit) → submit_at (front ++ rest) ≡ Ok submit → (rest ≡ []) ⊎ (submit_at front ≡ Err Truncated) }
+{}
+
+/// A readable SUBMIT-REPORT that is cut anywhere is refused as truncated, or what was cut off passes unread.
+pub fn cut_submit_report_is_truncated()
+    ensures { (in_error : Bool) (front rest : List ℕ) (report : SubmitReport) → submit_report_at in_error (front ++ rest) ≡ Ok report → (submit_report_at in_error front ≡ Ok report) ⊎ (submit_report_at in_error front ≡ Err Truncated) }
+{}
+
+/// A readable DELIVER-REPORT that is cut anywhere is refused as truncated, or what was cut off passes unread.
+pub fn cut_deliver_report_is_truncated()
+    ensures { (in_error : Bool) (front rest : List ℕ) (report : DeliverReport) → deliver_report_at in_error (front ++ rest) ≡ Ok report → (deliver_report_at in_error front ≡ Ok report) ⊎ (deliver_report_at in_error front ≡ Err Truncated) }
+{}
+
+/// A readable STATUS-REPORT that is cut anywhere is refused as truncated, or what was cut off passes unread, or it is
+/// the report without its parameters.
+pub fn cut_status_report_is_truncated()
+    ensures { (front rest : List ℕ) (report : StatusReport) → status_report_at (front ++ rest) ≡ Ok report → (status_report_at front ≡ Ok report) ⊎ ((status_report_at front ≡ Ok (without_parameters report)) ⊎ (status_report_at front ≡ Err Truncated)) }
 {}
