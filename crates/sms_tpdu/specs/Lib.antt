@@ -7,3 +7,4 @@ pub mod UserDataReading
 pub mod TpduGrammar
 pub mod TpduReading
 pub mod ValidityTable
+pub mod Codes
