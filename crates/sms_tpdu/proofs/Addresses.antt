@@ -1,11 +1,10 @@
 -- Each address field that is read is in the grammar, and each that is in the grammar is read.
-use Rattle.std.proofs.Common.{◌≡◌, ℕ, zero, suc, ◌+◌, ◌-◌, ◌*◌, ◌/◌, ◌%◌, ◌^◌, ◌<◌, ◌≤◌, Bool, true, false, not, ◌&&◌, ◌||◌, cond, eqb, ltb, leb, List, [], ◌∷◌, ◌++◌, length, take, Result, Ok, Err, Option, Some, None, refl, sym, ap, subst, ◌∙◌, arith, inl, inr}
-use Rattle.std.specs.Option.{ok_or, is_some}
-use Rattle.std.specs.List.{AllByRecursion}
+use Rattle.std.proofs.Common.{◌≡◌, ℕ, zero, suc, ◌+◌, ◌-◌, ◌*◌, ◌/◌, ◌%◌, ◌^◌, ◌<◌, ◌≤◌, Bool, true, false, not, ◌&&◌, ◌||◌, eqb, ltb, leb, List, [], ◌∷◌, ◌++◌, length, take, Ok, Option, Some, None, refl, sym, ap, subst, ◌∙◌, arith}
+use Rattle.std.specs.Option.{ok_or}
 use Rattle.std.proofs.lemmas.Bool.{ltb-true, ltb-false, leb-true, eqb-true, eqb-false, lt-ltb, le-ltb, eq-eqb, ne_eqb}
-use Rattle.sms_base.specs.Reading.{◌>>=◌, only_if, octet_in, AreOctets}
+use Rattle.sms_base.specs.Reading.{only_if, octet_in, AreOctets}
 use Rattle.sms_base.proofs.Steps.{bind_ok, passes, ok_is, both, not_true, octet_takes}
-use Rattle.sms_base.specs.SemiOctet.{digit_of, semi_octet_of, is_digit}
+use Rattle.sms_base.specs.SemiOctet.{digit_of, is_digit}
 use Rattle.sms_base.specs.AddressKind.{type_of, type_number, is_name}
 use Rattle.sms_base.specs.declared.type_of_number.TypeOfNumber.{TypeOfNumber}
 use Rattle.sms_base.specs.declared.type_of_number.TypeOfNumber.TheVariants.{Unknown, International, National, NetworkSpecific, Subscriber, Alphanumeric, Abbreviated}
@@ -22,7 +21,7 @@ use Rattle.sms_alphabet.specs.Packing.{AreSeptets, value_in, digits_in as base_d
 use Rattle.sms_alphabet.proofs.RoundTrip.{value-below, digits_in-value, value_in-digits, length-digits, digits-below}
 use Rattle.sms_tpdu.proofs.Names.{read_name, read_some}
 use Rattle.sms_tpdu.specs.AddressReading.{two_digits_in, last_digit_in, digits_in, name_in, characters_in, type_of_number_in, address_in}
-use Rattle.sms_tpdu.specs.AddressGrammar.{semi_octet, semi_octets, AreDigits, type_of_address, IsAddressField, IsSpelledAddress, IsNameField, octets_for, name_length, name_septets, name_semi_octets, address_field}
+use Rattle.sms_tpdu.specs.AddressGrammar.{semi_octet, semi_octets, AreDigits, type_of_address, IsAddressField, IsSpelledAddress, IsNameField, octets_for, name_length}
 
 pub rest_fits : (o : ℕ) (xs ys : List ℕ) → ys ≡ o ∷ xs → AreOctets ys → (o < 256) × AreOctets xs
 rest_fits o xs ys e h = subst AreOctets e h

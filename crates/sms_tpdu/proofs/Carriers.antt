@@ -1,7 +1,6 @@
 -- TPDUs by carrier.
-use Rattle.std.proofs.Common.{◌≡◌, ℕ, suc, ◌%◌, ◌<◌, Bool, true, false, cond, eqb, List, [], ◌∷◌, ◌++◌, get_or, length, Result, Ok, Err, refl, sym, ap, subst, ◌∙◌, arith}
+use Rattle.std.proofs.Common.{◌≡◌, ℕ, suc, ◌%◌, ◌<◌, Bool, true, false, cond, eqb, List, [], ◌∷◌, get_or, Result, Ok, Err, refl, sym, ap, subst, ◌∙◌}
 use Rattle.std.specs.Prelude.{IfOk}
-use Rattle.std.proofs.lemmas.Bool.{eq-eqb}
 use Rattle.sms_base.specs.Reading.{◌>>=◌, AreOctets}
 use Rattle.sms_base.proofs.Steps.{bind_ok, ok_is}
 use Rattle.sms_tpdu.specs.declared.fault.TpduFault.{TpduFault}
@@ -11,7 +10,7 @@ use Rattle.sms_tpdu.specs.declared.down.Down.{Down}
 use Rattle.sms_tpdu.specs.declared.down.Down.TheVariants.{Deliver, StatusReport, SubmitReport}
 use Rattle.sms_tpdu.specs.declared.up.Up.{Up}
 use Rattle.sms_tpdu.specs.declared.up.Up.TheVariants.{Submit, DeliverReport}
-use Rattle.sms_tpdu.specs.TpduGrammar.{IsDown, IsUp, IsDeliver, IsStatusReport, IsStatusTail, IsReportData, IsWritableDown, IsWritableUp}
+use Rattle.sms_tpdu.specs.TpduGrammar.{IsDown, IsUp, IsStatusTail, IsReportData, IsWritableDown, IsWritableUp}
 use Rattle.sms_tpdu.specs.declared.parameters.Parameters.{Parameters}
 use Rattle.sms_tpdu.specs.TpduReading.{is_status_report, deliver_at, submit_at, submit_report_at, deliver_report_at, status_report_at, data_down_at, report_down_at, down_at, data_up_at, report_up_at, up_at}
 use Rattle.sms_tpdu.proofs.Delivers.{deliver_takes, deliver_again}

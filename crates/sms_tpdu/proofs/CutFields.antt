@@ -1,18 +1,16 @@
 -- The fields of a list that was cut: what is read is the same, or the list ends too early.
-use Rattle.std.proofs.Common.{◌≡◌, ℕ, zero, suc, ◌+◌, ◌-◌, ◌*◌, ◌/◌, ◌%◌, ◌^◌, ◌<◌, ◌≤◌, Bool, true, false, not, ◌&&◌, ◌||◌, cond, eqb, ltb, leb, List, [], ◌∷◌, ◌++◌, length, get_or, take, drop, Option, Some, None, Result, Ok, Err, refl, sym, ap, subst, ◌∙◌, arith, inl, inr, append_assoc}
+use Rattle.std.proofs.Common.{◌≡◌, ℕ, zero, suc, ◌+◌, ◌-◌, ◌*◌, ◌/◌, ◌%◌, ◌^◌, ◌<◌, ◌≤◌, Bool, true, false, not, ◌||◌, cond, eqb, ltb, leb, List, [], ◌∷◌, ◌++◌, length, get_or, take, drop, Option, Some, None, Result, Ok, Err, refl, sym, ap, subst, ◌∙◌, arith, inl, inr, append_assoc}
 use Rattle.std.specs.Prelude.{◌⊎◌}
 use Rattle.std.specs.Option.{ok_or}
-use Rattle.std.proofs.lemmas.Bool.{ltb-true, ltb-false, eqb-true, eqb-false, lt-ltb, le-ltb, le-leb, eq-eqb}
-use Rattle.std.proofs.lemmas.List.{take_at, drop_at, take-append-drop, take-append-le, length-append, length-take, append-nil}
+use Rattle.std.proofs.lemmas.Bool.{ltb-true, ltb-false, eqb-true, lt-ltb, le-leb, eq-eqb}
+use Rattle.std.proofs.lemmas.List.{take-append-drop, take-append-le, length-append, length-take, append-nil}
 use Rattle.std.proofs.Math.Nat.{one-le-pow}
-use Rattle.sms_base.specs.Reading.{◌>>=◌, only_if, octet_in, run_in, end_in}
+use Rattle.sms_base.specs.Reading.{◌>>=◌, only_if, octet_in, run_in}
 use Rattle.sms_base.proofs.Steps.{bind_ok, passes, ok_is, run_takes}
-use Rattle.sms_base.proofs.Cuts.{Less, CutsShort, CutsWhole, cuts_octet, cuts_run, cuts_pure, cuts_bind, cuts_test, whole_bind, whole_test, whole_end}
+use Rattle.sms_base.proofs.Cuts.{Less, CutsShort, cuts_octet, cuts_run, cuts_pure, cuts_bind, cuts_test}
 use Rattle.sms_base.specs.TimeStamp.{scts_in}
-use Rattle.sms_base.specs.declared.type_of_number.TypeOfNumber.{TypeOfNumber}
 use Rattle.sms_base.specs.AddressKind.{is_name}
 use Rattle.sms_base.specs.Alphabet.{text_in as characters_of}
-use Rattle.sms_base.specs.declared.address.Address.{Address}
 use Rattle.sms_alphabet.specs.Packing.{value_in, packed_len, tested, digits_in as base_digits}
 use Rattle.sms_alphabet.specs.declared.scheme.Coding.{Coding}
 use Rattle.sms_alphabet.specs.declared.scheme.Coding.TheVariants.{Septets, Octets, Ucs2, Compressed}
@@ -20,16 +18,15 @@ use Rattle.sms_alphabet.specs.declared.unpacking.UnpackError.{UnpackError}
 use Rattle.sms_alphabet.specs.declared.unpacking.UnpackError.TheVariants.{TooShort, SpareBits as BitsOutside, NoMemory}
 use Rattle.sms_alphabet.proofs.Value.{value-append}
 use Rattle.sms_tpdu.specs.declared.fault.TpduFault.{TpduFault}
-use Rattle.sms_tpdu.specs.declared.fault.TpduFault.TheVariants.{Truncated, BadAddress, BadTime, UserDataTooLong, SpareBits, BadHeader}
-use Rattle.sms_tpdu.specs.declared.user_data.UserData.{UserData}
+use Rattle.sms_tpdu.specs.declared.fault.TpduFault.TheVariants.{Truncated, BadAddress, BadTime, UserDataTooLong, BadHeader}
 use Rattle.sms_tpdu.specs.AddressGrammar.{octets_for, name_length}
 use Rattle.sms_tpdu.specs.AddressReading.{two_digits_in, last_digit_in, digits_in, name_in, characters_in, type_of_number_in, address_in}
 use Rattle.sms_tpdu.specs.TimeReading.{completed, time_in}
-use Rattle.sms_tpdu.specs.UserDataGrammar.{greatest_length, octets_of, header_octets, header_septets, fill_bits}
-use Rattle.sms_tpdu.specs.UserDataReading.{header_fits, of_test, content_test, text_test, text_in, user_data_in}
+use Rattle.sms_tpdu.specs.UserDataGrammar.{octets_of, header_septets, fill_bits}
+use Rattle.sms_tpdu.specs.UserDataReading.{of_test, content_test, text_test, text_in, user_data_in}
 use Rattle.sms_tpdu.proofs.Times.{whole_completed}
 use Rattle.sms_tpdu.proofs.Addresses.{quotient_zero, zero_quotient}
-use Rattle.sms_tpdu.proofs.CutStamps.{CutStamp, cut_stamp}
+use Rattle.sms_tpdu.proofs.CutStamps.{cut_stamp}
 
 -- ---- steps
 

@@ -1,9 +1,9 @@
 -- A report that was cut: it is read as the same, or ends too early; a STATUS-REPORT may also lose its parameters.
-use Rattle.std.proofs.Common.{◌≡◌, ℕ, ◌+◌, ◌/◌, ◌%◌, ◌<◌, Bool, true, false, cond, eqb, ltb, List, [], ◌∷◌, ◌++◌, Option, Some, None, Result, Ok, Err, refl, sym, ap, subst, ◌∙◌, inl, inr}
+use Rattle.std.proofs.Common.{◌≡◌, ℕ, Bool, true, false, cond, ltb, List, [], ◌∷◌, ◌++◌, Result, Ok, Err, refl, ap, subst, ◌∙◌, inl, inr}
 use Rattle.std.specs.Prelude.{◌⊎◌}
 use Rattle.sms_base.specs.Reading.{◌>>=◌, only_if, octet_in, end_in}
 use Rattle.sms_base.proofs.Steps.{bind_ok, ok_is}
-use Rattle.sms_base.proofs.Cuts.{Less, CutsShort, cuts_octet, cuts_pure, cuts_bind}
+use Rattle.sms_base.proofs.Cuts.{CutsShort, cuts_octet, cuts_pure, cuts_bind}
 use Rattle.sms_alphabet.specs.declared.scheme.Coding.{Coding}
 use Rattle.sms_tpdu.specs.declared.fault.TpduFault.{TpduFault}
 use Rattle.sms_tpdu.specs.declared.fault.TpduFault.TheVariants.{Truncated, TrailingOctets, UnsupportedType}

@@ -1,5 +1,5 @@
 -- A time stamp that is cut, and completed by the first second of January, is a time stamp.
-use Rattle.std.proofs.Common.{◌≡◌, subst, ℕ, suc, ◌+◌, ◌*◌, ◌-◌, ◌/◌, ◌%◌, ◌<◌, ◌≤◌, Bool, true, false, ◌&&◌, nat_lt, nat_le, cond, Option, Some, None, List, [], ◌∷◌, length, get_or, refl, sym, ap, ◌∙◌, arith, ℤ, pos, ◌+ℤ◌, ◌*ℤ◌, ◌-ℤ◌, ◌≤ℤ◌, unsigned_abs, int_le}
+use Rattle.std.proofs.Common.{◌≡◌, subst, ℕ, ◌+◌, ◌<◌, ◌≤◌, Bool, true, false, cond, Option, Some, None, [], ◌∷◌, refl, sym, arith, ℤ, pos, ◌+ℤ◌, ◌*ℤ◌, ◌-ℤ◌, ◌≤ℤ◌, unsigned_abs, int_le}
 use Rattle.jiff_core.specs.declared.civil.datetime.DateTime.{DateTime}
 use Rattle.jiff_core.specs.DateTime.{civil_seconds}
 use Rattle.jiff_core.specs.Date.{epoch_day}
@@ -9,7 +9,7 @@ use Rattle.jiff_core.proofs.CalendarLemmas.{days_in_month_bounds, days_from_civi
 use Rattle.jiff_core.proofs.MarchLemmas.{day_count-early}
 use Rattle.jiff_core.proofs.DateLemmas.{civil}
 use Rattle.jiff_core.proofs.SignedLemmas.{signed_arith}
-use Rattle.sms_base.specs.TimeStamp.{◌>>=◌, IsClock, is_clock, clock_seconds, clock_in, zone_in, zone_seconds, moment_in, pair_in, scts_in}
+use Rattle.sms_base.specs.TimeStamp.{IsClock, is_clock, clock_seconds, clock_in, zone_in, zone_seconds, moment_in, pair_in, scts_in}
 use Rattle.sms_base.proofs.Shown.{Passes, passes, tests, shown_by}
 use Rattle.sms_base.proofs.Stamps.{bind_some, pair_in-is}
 

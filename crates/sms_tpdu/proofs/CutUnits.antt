@@ -1,13 +1,11 @@
 -- A TPDU that was cut.
-use Rattle.std.proofs.Common.{◌≡◌, ℕ, ◌+◌, ◌/◌, ◌%◌, Bool, true, false, not, eqb, List, [], ◌∷◌, ◌++◌, Option, Some, None, Result, Ok, Err, refl, sym, ap, subst, ◌∙◌, inl, inr}
-use Rattle.std.specs.Prelude.{◌⊎◌, if◌then◌else◌}
-use Rattle.sms_base.specs.Reading.{◌>>=◌, only_if, octet_in, end_in}
-use Rattle.sms_base.proofs.Steps.{bind_ok, ok_is}
-use Rattle.sms_base.proofs.Cuts.{Less, CutsShort, CutsWhole, cuts_octet, cuts_pure, cuts_bind, cuts_test, whole_bind, whole_test, whole_end}
+use Rattle.std.proofs.Common.{ℕ, ◌/◌, ◌%◌, Bool, true, false, eqb, List, Result}
+use Rattle.std.specs.Prelude.{if◌then◌else◌}
+use Rattle.sms_base.specs.Reading.{octet_in}
+use Rattle.sms_base.proofs.Cuts.{CutsShort, CutsWhole, cuts_octet, cuts_pure, cuts_bind, whole_bind, whole_test, whole_end}
 use Rattle.sms_alphabet.specs.DataCodingScheme.{coding_of}
 use Rattle.sms_tpdu.specs.declared.fault.TpduFault.{TpduFault}
 use Rattle.sms_tpdu.specs.declared.fault.TpduFault.TheVariants.{Truncated, TrailingOctets, UnsupportedType, UnsupportedValidity}
-use Rattle.sms_tpdu.specs.declared.validity_period.ValidityPeriod.{ValidityPeriod}
 use Rattle.sms_tpdu.specs.Bits.{bit}
 use Rattle.sms_tpdu.specs.AddressReading.{address_in}
 use Rattle.sms_tpdu.specs.TimeReading.{time_in}

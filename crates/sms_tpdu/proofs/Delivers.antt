@@ -1,8 +1,8 @@
 -- A DELIVER as a whole.
-use Rattle.std.proofs.Common.{◌≡◌, ℕ, zero, suc, ◌+◌, ◌*◌, ◌/◌, ◌%◌, ◌<◌, ◌≤◌, Bool, true, false, not, ◌&&◌, cond, eqb, List, [], ◌∷◌, ◌++◌, length, Result, Ok, Err, refl, sym, ap, subst, ◌∙◌, append_assoc, arith}
+use Rattle.std.proofs.Common.{◌≡◌, ℕ, ◌%◌, true, eqb, List, [], ◌∷◌, ◌++◌, Ok, refl, sym, ap, subst, ◌∙◌}
 use Rattle.std.proofs.lemmas.Bool.{eqb-true, eq-eqb}
 use Rattle.std.proofs.lemmas.List.{append-nil}
-use Rattle.sms_base.specs.Reading.{◌>>=◌, only_if, octet_in, end_in, AreOctets}
+use Rattle.sms_base.specs.Reading.{only_if, octet_in, end_in, AreOctets}
 use Rattle.sms_base.proofs.Steps.{bind_ok, passes, ok_is, octet_takes, end_takes}
 use Rattle.sms_alphabet.specs.DataCodingScheme.{coding_of}
 use Rattle.sms_tpdu.specs.declared.fault.TpduFault.{TpduFault}

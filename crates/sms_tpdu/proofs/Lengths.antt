@@ -1,5 +1,5 @@
 -- How long what is written is.
-use Rattle.std.proofs.Common.{◌≡◌, ℕ, zero, suc, ◌+◌, ◌-◌, ◌*◌, ◌/◌, ◌%◌, ◌<◌, ◌≤◌, Bool, true, false, cond, eqb, List, [], ◌∷◌, ◌++◌, length, Option, Some, None, append_assoc, refl, sym, ap, ◌∙◌, arith, Result, Ok, Err}
+use Rattle.std.proofs.Common.{◌≡◌, ℕ, ◌<◌, ◌≤◌, Bool, true, false, cond, eqb, List, [], ◌∷◌, ◌++◌, length, Option, Some, None, append_assoc, refl, ap, ◌∙◌, arith, Result, Ok, Err}
 use Rattle.std.specs.Prelude.{IfOk}
 use Rattle.std.proofs.lemmas.List.{length-append}
 use Rattle.std.specs.declared.alloc.AllocError.{AllocError}
@@ -15,7 +15,6 @@ use Rattle.sms_tpdu.specs.declared.deliver_report.DeliverReport.{DeliverReport}
 use Rattle.sms_tpdu.specs.declared.status_report.StatusReport.{StatusReport}
 use Rattle.sms_tpdu.specs.declared.validity_period.ValidityPeriod.{ValidityPeriod}
 use Rattle.sms_tpdu.specs.declared.validity_period.ValidityPeriod.TheVariants.{NotPresent, Relative, Absolute}
-use Rattle.sms_base.specs.declared.address.Address.{Address}
 use Rattle.sms_tpdu.specs.AddressGrammar.{address_field}
 use Rattle.sms_tpdu.specs.UserDataGrammar.{IsUserData, user_data_field, greatest_length, octets_of}
 use Rattle.sms_tpdu.specs.TpduGrammar.{IsWrittenDeliver, IsWrittenSubmit, IsWrittenSubmitReport, IsWrittenDeliverReport, IsWrittenStatusReport, IsWrittenValidityField, status_report_fields, status_report_head, status_tail, indicator_of, octet_field, data_field, report_coding, IsOptionalData, IsReportData, parameter_fields}

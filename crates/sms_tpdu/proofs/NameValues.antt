@@ -1,13 +1,12 @@
 -- What is written of addresses, by its parts.
-use Rattle.std.proofs.Common.{◌≡◌, ℕ, zero, suc, ◌+◌, ◌-◌, ◌*◌, ◌/◌, ◌%◌, ◌^◌, ◌<◌, ◌≤◌, Bool, true, false, List, [], ◌∷◌, ◌++◌, length, Result, Ok, Err, refl, sym, ap, subst, ◌∙◌, append_assoc, arith}
+use Rattle.std.proofs.Common.{◌≡◌, ℕ, suc, ◌+◌, ◌-◌, ◌/◌, ◌%◌, ◌<◌, ◌≤◌, Bool, true, false, List, [], ◌∷◌, ◌++◌, length, Result, Ok, Err, refl, sym, ap, ◌∙◌, append_assoc, arith}
 use Rattle.std.specs.Prelude.{IfOk}
 use Rattle.std.specs.declared.alloc.AllocError.{AllocError}
-use Rattle.std.proofs.lemmas.List.{length-append}
 use Rattle.sms_base.specs.Address.{IsAddress}
 use Rattle.sms_base.specs.AddressKind.{is_name}
 use Rattle.sms_base.specs.declared.address.Address.{Address}
 use Rattle.sms_alphabet.specs.Packing.{digits_in, packed_len, value_in}
-use Rattle.sms_tpdu.specs.AddressGrammar.{name_septets, address_value, address_field, relay_address, packed_name}
+use Rattle.sms_tpdu.specs.AddressGrammar.{name_septets, address_value, address_field, relay_address}
 use Rattle.sms_tpdu.proofs.Names.{few_septets}
 use Rattle.sms_tpdu.proofs.Powers.{octets_len}
 use Rattle.sms_tpdu.proofs.DigitsPut.{half_len}

@@ -1,14 +1,14 @@
 -- Names that are read: each character has a code, and the text takes no more septets than it was read from.
-use Rattle.std.proofs.Common.{◌≡◌, ℕ, zero, suc, ◌+◌, ◌*◌, ◌<◌, ◌≤◌, Bool, true, false, not, ◌&&◌, ◌||◌, eqb, cond, List, [], ◌∷◌, ◌++◌, length, All, get_or, Option, Some, None, refl, sym, ap, subst, ◌∙◌, arith}
+use Rattle.std.proofs.Common.{◌≡◌, ℕ, zero, suc, ◌<◌, ◌≤◌, Bool, true, false, ◌&&◌, eqb, List, [], ◌∷◌, ◌++◌, length, Option, Some, None, refl, sym, ap, subst, ◌∙◌, arith}
 use Rattle.std.specs.Prelude.{is_some}
 use Rattle.std.specs.List.{AllByRecursion}
-use Rattle.std.proofs.lemmas.Bool.{eqb-true, eqb-false, eq-eqb, ne_eqb}
+use Rattle.std.proofs.lemmas.Bool.{eqb-true, eqb-false}
 use Rattle.std.proofs.lemmas.List.{length-append}
-use Rattle.sms_base.specs.Address.{width_of, septet_count, has_code, IsName}
-use Rattle.sms_base.specs.Alphabet.{IsPair, IsSpelling, septets_in, code_for, text_in, main_character, escaped_character, extended_character_of, main_septet_of, extended_septet_of, first_code}
+use Rattle.sms_base.specs.Address.{width_of, septet_count, has_code}
+use Rattle.sms_base.specs.Alphabet.{IsPair, IsSpelling, code_for, text_in, main_character, escaped_character, extended_character_of, main_septet_of, extended_septet_of}
 use Rattle.sms_base.specs.declared.alphabet.Code.{Code}
 use Rattle.sms_base.specs.declared.alphabet.Code.TheVariants.{Main, Extended}
-use Rattle.sms_base.specs.declared.alphabet.TheConstants.{ESCAPE, MAIN_TABLE, EXTENSION_TABLE}
+use Rattle.sms_base.specs.declared.alphabet.TheConstants.{ESCAPE}
 use Rattle.sms_base.proofs.Alphabets.{code_of_pair, pair_of_code, spelling_reads}
 use Rattle.sms_base.proofs.NameWalk.{width_bounds}
 use Rattle.sms_alphabet.specs.Packing.{AreSeptets}

@@ -1,7 +1,7 @@
 -- Numbers of so many digits in base 256.
-use Rattle.std.proofs.Common.{◌≡◌, ℕ, zero, suc, ◌+◌, ◌*◌, ◌/◌, ◌%◌, ◌^◌, ◌<◌, ◌≤◌, List, [], ◌∷◌, ◌++◌, length, refl, sym, ap, ◌∙◌, arith}
+use Rattle.std.proofs.Common.{◌≡◌, ℕ, zero, suc, ◌+◌, ◌*◌, ◌/◌, ◌^◌, ◌<◌, ◌≤◌, List, [], ◌∷◌, length, refl, ap, arith}
 use Rattle.std.proofs.Math.Nat.{pow-succ', pow-zero, pow-le-pow_right}
-use Rattle.std.proofs.lemmas.Nat.{pow_pos, pow-add}
+use Rattle.std.proofs.lemmas.Nat.{pow-add}
 use Rattle.sms_base.specs.Reading.{AreOctets}
 use Rattle.sms_alphabet.specs.Packing.{value_in, digits_in, packed_len}
 use Rattle.sms_alphabet.proofs.Held.{septet_power, octet_power}

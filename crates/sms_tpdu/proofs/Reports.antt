@@ -1,9 +1,8 @@
 -- The three reports as wholes.
-use Rattle.std.proofs.Common.{◌≡◌, ℕ, zero, suc, ◌+◌, ◌*◌, ◌/◌, ◌%◌, ◌<◌, ◌≤◌, Bool, true, false, not, ◌&&◌, cond, eqb, ltb, List, [], ◌∷◌, ◌++◌, length, Option, Some, None, Result, Ok, Err, refl, sym, ap, subst, ◌∙◌, append_assoc, arith}
-use Rattle.std.proofs.lemmas.Bool.{eqb-true, eqb-false, eq-eqb, ne_eqb, ltb-true, ltb-false, lt-ltb, le-ltb}
-use Rattle.std.proofs.lemmas.List.{append-nil}
-use Rattle.sms_base.specs.Reading.{◌>>=◌, only_if, octet_in, end_in, AreOctets}
-use Rattle.sms_base.proofs.Steps.{bind_ok, passes, ok_is, not_true, octet_takes, end_takes}
+use Rattle.std.proofs.Common.{◌≡◌, ℕ, ◌%◌, Bool, true, false, cond, eqb, ltb, List, [], ◌∷◌, ◌++◌, Option, Some, None, Ok, refl, sym, ap, subst, ◌∙◌, append_assoc}
+use Rattle.std.proofs.lemmas.Bool.{eqb-true, eq-eqb, ltb-false, le-ltb}
+use Rattle.sms_base.specs.Reading.{only_if, octet_in, end_in, AreOctets}
+use Rattle.sms_base.proofs.Steps.{bind_ok, passes, ok_is, octet_takes}
 use Rattle.sms_alphabet.specs.declared.scheme.Coding.{Coding}
 use Rattle.sms_tpdu.specs.declared.fault.TpduFault.{TpduFault}
 use Rattle.sms_tpdu.specs.declared.fault.TpduFault.TheVariants.{Truncated, TrailingOctets, UnsupportedType}
@@ -16,7 +15,6 @@ use Rattle.sms_tpdu.specs.Bits.{bit}
 use Rattle.sms_tpdu.specs.AddressReading.{address_in}
 use Rattle.sms_tpdu.specs.TimeReading.{time_in}
 use Rattle.sms_tpdu.specs.UserDataReading.{user_data_in}
-use Rattle.sms_tpdu.specs.UserDataGrammar.{user_data_field}
 use Rattle.sms_tpdu.specs.TpduReading.{optional_octet_in, optional_data_in, parameters_in, follows_in, submit_report_at, deliver_report_at, status_tail_in, status_report_at}
 use Rattle.sms_tpdu.specs.TpduGrammar.{is_some_octet, is_some_data, IsIndicator, octet_field, data_field, report_coding, IsOptionalData, IsReportData, parameter_fields, MayFollow, HasCause, submit_report_fields, IsSubmitReport, deliver_report_fields, IsDeliverReport, IsStatusReportHead, no_parameters, IsStatusTail, status_report_fields, IsStatusReport}
 use Rattle.sms_tpdu.proofs.Addresses.{rest_fits, address_takes, address_again}

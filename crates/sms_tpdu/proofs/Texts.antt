@@ -1,21 +1,21 @@
 -- User data that is read is in the grammar, and what is in the grammar is read.
-use Rattle.std.proofs.Common.{◌≡◌, ℕ, zero, suc, ◌+◌, ◌-◌, ◌*◌, ◌/◌, ◌%◌, ◌<◌, ◌≤◌, Bool, true, false, not, ◌&&◌, ◌||◌, cond, eqb, ltb, leb, List, [], ◌∷◌, ◌++◌, length, take, drop, Result, Ok, Err, refl, sym, ap, subst, ◌∙◌, arith, inl, inr}
-use Rattle.std.proofs.lemmas.Bool.{ltb-true, ltb-false, leb-true, lt-ltb, le-ltb, le-leb}
-use Rattle.std.proofs.lemmas.List.{take_at, drop_at, length-append}
-use Rattle.sms_base.specs.Reading.{◌>>=◌, only_if, octet_in, run_in, AreOctets}
+use Rattle.std.proofs.Common.{◌≡◌, ℕ, zero, suc, ◌-◌, ◌<◌, Bool, true, false, not, ◌||◌, ltb, leb, List, [], ◌∷◌, ◌++◌, length, take, drop, Result, Ok, Err, refl, sym, ap, subst, ◌∙◌, arith}
+use Rattle.std.proofs.lemmas.Bool.{ltb-true, leb-true, lt-ltb, le-leb}
+use Rattle.std.proofs.lemmas.List.{take_at}
+use Rattle.sms_base.specs.Reading.{only_if, octet_in, AreOctets}
 use Rattle.sms_base.proofs.Steps.{bind_ok, passes, ok_is, octet_takes, run_takes, run_again}
-use Rattle.sms_alphabet.specs.Packing.{packed_len, tested, unpacked, and_then, septets_in}
+use Rattle.sms_alphabet.specs.Packing.{tested, unpacked, and_then, septets_in}
 use Rattle.sms_alphabet.specs.declared.scheme.Coding.{Coding}
 use Rattle.sms_alphabet.specs.declared.scheme.Coding.TheVariants.{Septets, Octets, Ucs2, Compressed}
 use Rattle.sms_alphabet.specs.declared.unpacking.UnpackError.{UnpackError}
 use Rattle.sms_alphabet.specs.declared.unpacking.UnpackError.TheVariants.{TooShort, SpareBits as BitsOutside, NoMemory}
 use Rattle.sms_alphabet.proofs.RoundTrip.{packed_is_read, read_was_packed}
 use Rattle.sms_tpdu.specs.declared.fault.TpduFault.{TpduFault}
-use Rattle.sms_tpdu.specs.declared.fault.TpduFault.TheVariants.{Truncated, UserDataTooLong, SpareBits, BadHeader}
+use Rattle.sms_tpdu.specs.declared.fault.TpduFault.TheVariants.{Truncated, UserDataTooLong, BadHeader}
 use Rattle.sms_tpdu.specs.declared.user_data.UserData.{UserData}
-use Rattle.sms_tpdu.specs.UserDataGrammar.{greatest_length, octets_of, header_octets, header_septets, fill_bits, IsPackedBehind, IsContentBehind, HasHeader, IsUserData, user_data_field}
+use Rattle.sms_tpdu.specs.UserDataGrammar.{greatest_length, octets_of, header_octets, header_septets, fill_bits, IsContentBehind, HasHeader, IsUserData, user_data_field}
 use Rattle.sms_tpdu.specs.UserDataReading.{header_fits, of_test, content_test, text_test, text_in, user_data_in}
-use Rattle.sms_tpdu.proofs.Addresses.{rest_fits, suffix_fits}
+use Rattle.sms_tpdu.proofs.Addresses.{suffix_fits}
 
 -- ---- what stands behind the header
 

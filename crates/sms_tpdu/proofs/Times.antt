@@ -1,9 +1,8 @@
 -- Each time stamp field that is read is in the grammar, and each that is in the grammar is read.
-use Rattle.std.proofs.Common.{◌≡◌, ℕ, zero, suc, ◌+◌, ◌-◌, ◌*◌, ◌/◌, ◌%◌, ◌<◌, ◌≤◌, Bool, true, false, not, ◌&&◌, cond, eqb, ltb, List, [], ◌∷◌, ◌++◌, length, get_or, take, drop, Result, Ok, Err, Option, Some, None, refl, sym, ap, subst, ◌∙◌, arith, inl, inr}
+use Rattle.std.proofs.Common.{◌≡◌, ℕ, List, [], ◌∷◌, ◌++◌, length, Ok, Option, Some, None, refl, sym, ap, subst, ◌∙◌, arith}
 use Rattle.std.specs.Option.{ok_or}
-use Rattle.std.proofs.lemmas.List.{take_at, drop_at, take-append-drop, length-append, length-take}
-use Rattle.sms_base.specs.Reading.{◌>>=◌, only_if, run_in, AreOctets}
-use Rattle.sms_base.proofs.Steps.{bind_ok, passes, ok_is, run_takes, run_again}
+use Rattle.sms_base.specs.Reading.{run_in, AreOctets}
+use Rattle.sms_base.proofs.Steps.{bind_ok, ok_is, run_takes, run_again}
 use Rattle.sms_base.specs.TimeStamp.{IsScts, scts_in}
 use Rattle.sms_base.proofs.Stamps.{stamp_is_read, read_is_stamp}
 use Rattle.sms_tpdu.specs.declared.fault.TpduFault.{TpduFault}

@@ -1,22 +1,21 @@
 -- What is written is in the grammar, and a value has one written list.
-use Rattle.std.proofs.Common.{◌≡◌, ℕ, zero, suc, ◌+◌, ◌-◌, ◌*◌, ◌/◌, ◌%◌, ◌^◌, ◌<◌, ◌≤◌, Bool, true, false, ◌&&◌, cond, eqb, ltb, List, [], ◌∷◌, ◌++◌, length, All, get_or, Option, Some, None, Result, Ok, Err, refl, sym, ap, subst, ◌∙◌, arith}
+use Rattle.std.proofs.Common.{◌≡◌, ℕ, zero, suc, ◌+◌, ◌*◌, ◌/◌, ◌%◌, ◌<◌, ◌≤◌, Bool, true, false, ◌&&◌, cond, eqb, ltb, List, [], ◌∷◌, ◌++◌, length, get_or, Option, Some, None, Ok, refl, sym, ap, ◌∙◌, arith}
 use Rattle.std.specs.Prelude.{Contains, is_some}
 use Rattle.std.specs.List.{AllByRecursion, list_all}
-use Rattle.std.proofs.lemmas.Bool.{ltb-true, eqb-true, eqb-false}
-use Rattle.std.proofs.lemmas.List.{length-append, append-nil}
+use Rattle.std.proofs.lemmas.Bool.{ltb-true, eqb-true}
+use Rattle.std.proofs.lemmas.List.{append-nil}
 use Rattle.std.proofs.lemmas.List.Elements.{All-from_recursion}
 use Rattle.sms_base.specs.Address.{IsAddress, has_code}
 use Rattle.sms_base.specs.AddressKind.{is_name}
-use Rattle.sms_base.specs.Alphabet.{IsPair, septets_in, code_for, text_in}
+use Rattle.sms_base.specs.Alphabet.{code_for}
 use Rattle.sms_base.specs.declared.alphabet.Code.{Code}
 use Rattle.sms_base.specs.declared.alphabet.Code.TheVariants.{Main, Extended}
-use Rattle.sms_base.specs.declared.alphabet.TheConstants.{ESCAPE, EXTENSION_TABLE}
+use Rattle.sms_base.specs.declared.alphabet.TheConstants.{EXTENSION_TABLE}
 use Rattle.sms_base.specs.declared.address.Address.{Address}
-use Rattle.sms_base.specs.TimeStamp.{IsScts, IsWrittenScts}
 use Rattle.sms_base.proofs.Alphabets.{pair_of_code}
 use Rattle.sms_base.proofs.Stamps.{written_is_scts}
 use Rattle.sms_base.proofs.WrittenStamps.{one_written}
-use Rattle.sms_alphabet.specs.Packing.{AreSeptets, value_in, digits_in, packed_len}
+use Rattle.sms_alphabet.specs.Packing.{AreSeptets, value_in, packed_len}
 use Rattle.sms_alphabet.proofs.RoundTrip.{value-below}
 use Rattle.sms_tpdu.specs.declared.carrier.Carrier.{Carrier}
 use Rattle.sms_tpdu.specs.declared.carrier.Carrier.TheVariants.{InData, InAck, InError}
@@ -34,8 +33,8 @@ use Rattle.sms_tpdu.specs.declared.down.Down.TheVariants.{Deliver, StatusReport,
 use Rattle.sms_tpdu.specs.declared.up.Up.{Up}
 use Rattle.sms_tpdu.specs.declared.up.Up.TheVariants.{Submit, DeliverReport}
 use Rattle.sms_tpdu.specs.Bits.{bit, bit_value}
-use Rattle.sms_tpdu.specs.AddressGrammar.{code_septets, name_septets, name_semi_octets, name_length, octets_for, packed_name, type_of_address, IsNameField, IsSpelledAddress, IsAddressField, address_field, address_length, address_value}
-use Rattle.sms_tpdu.specs.TpduGrammar.{IsDeliverHead, deliver_head, IsDeliver, IsWrittenDeliver, validity_format, IsValidityField, IsWrittenValidityField, IsSubmitHead, submit_head, IsSubmit, IsWrittenSubmit, submit_fields, deliver_fields, is_some_octet, is_some_data, IsIndicator, indicator_of, IsReportData, parameter_fields, MayFollow, HasCause, submit_report_fields, IsSubmitReport, IsWrittenSubmitReport, deliver_report_fields, IsDeliverReport, IsWrittenDeliverReport, IsStatusReportHead, status_report_head, no_parameters, IsStatusTail, status_tail, status_report_fields, IsStatusReport, IsWrittenStatusReport, IsDown, IsUp, IsWrittenDown, IsWrittenUp}
+use Rattle.sms_tpdu.specs.AddressGrammar.{code_septets, name_septets, name_semi_octets, octets_for, packed_name, type_of_address, IsSpelledAddress, IsAddressField, address_field, address_length, address_value}
+use Rattle.sms_tpdu.specs.TpduGrammar.{IsDeliverHead, deliver_head, IsDeliver, IsWrittenDeliver, validity_format, IsValidityField, IsWrittenValidityField, IsSubmitHead, submit_head, IsSubmit, IsWrittenSubmit, submit_fields, deliver_fields, is_some_octet, is_some_data, IsIndicator, indicator_of, IsReportData, parameter_fields, HasCause, submit_report_fields, IsSubmitReport, IsWrittenSubmitReport, deliver_report_fields, IsDeliverReport, IsWrittenDeliverReport, IsStatusReportHead, status_report_head, no_parameters, IsStatusTail, status_tail, status_report_fields, IsStatusReport, IsWrittenStatusReport, IsDown, IsUp, IsWrittenDown, IsWrittenUp}
 use Rattle.sms_tpdu.specs.TpduReading.{down_at, up_at}
 use Rattle.sms_tpdu.proofs.Names.{name_reads}
 use Rattle.sms_tpdu.proofs.NameValues.{name_few}

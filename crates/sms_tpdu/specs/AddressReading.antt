@@ -1,5 +1,5 @@
 -- An address field from left to right: each octet that is there is judged before those that are missing behind it.
-use Rattle.std.specs.Prelude.{ℕ, zero, suc, ◌-◌, ◌/◌, ◌%◌, ◌^◌, List, [], ◌∷◌, take, Result, Ok, Err, Bool, true, false, not, ◌&&◌, ◌||◌, nat_lt, ◌==◌, ok_or}
+use Rattle.std.specs.Prelude.{ℕ, zero, suc, ◌-◌, ◌/◌, ◌%◌, ◌^◌, List, [], ◌∷◌, take, Result, Ok, Bool, true, false, not, ◌&&◌, ◌||◌, nat_lt, ◌==◌, ok_or}
 use Rattle.sms_base.specs.Reading.{◌>>=◌, only_if, octet_in, run_in}
 use Rattle.sms_base.specs.SemiOctet.{digit_of}
 use Rattle.sms_base.specs.Alphabet.{text_in}

@@ -1,6 +1,6 @@
 -- A time stamp field (3GPP TS 23.040 9.2.3.11) from left to right.
-use Rattle.std.specs.Prelude.{ℕ, List, [], ◌∷◌, length, drop, Result, Ok, Err, not, nat_lt, ok_or, get_or}
-use Rattle.sms_base.specs.Reading.{◌>>=◌, only_if, run_in}
+use Rattle.std.specs.Prelude.{ℕ, List, [], ◌∷◌, Result, Ok, ok_or, get_or}
+use Rattle.sms_base.specs.Reading.{◌>>=◌, run_in}
 use Rattle.sms_base.specs.TimeStamp.{scts_in}
 use Rattle.sms_tpdu.specs.declared.fault.TpduFault.{TpduFault}
 use Rattle.sms_tpdu.specs.declared.fault.TpduFault.TheVariants.{Truncated, BadTime}

@@ -1,6 +1,6 @@
 -- The TPDUs (3GPP TS 23.040 9.2.2, 9.2.3): which octets are which value, by carrier and message type.
 -- Bits of the first octet that no field names are not looked at, so that several lists may be one value.
-use Rattle.std.specs.Prelude.{◌≡◌, ℕ, ◌+◌, ◌*◌, ◌/◌, ◌%◌, ◌<◌, ◌≤◌, List, [], ◌∷◌, ◌++◌, Bool, true, false, ◌==◌, if◌then◌else◌, Option, Some, None}
+use Rattle.std.specs.Prelude.{◌≡◌, ℕ, ◌+◌, ◌*◌, ◌/◌, ◌%◌, ◌≤◌, List, [], ◌∷◌, ◌++◌, Bool, true, false, ◌==◌, if◌then◌else◌, Option, Some, None}
 use Rattle.sms_base.specs.TimeStamp.{IsScts, IsWrittenScts}
 use Rattle.sms_alphabet.specs.DataCodingScheme.{coding_of}
 use Rattle.sms_alphabet.specs.declared.scheme.Coding.{Coding}

@@ -1,5 +1,5 @@
 -- The TPDUs from left to right, with the first fault that is met.
-use Rattle.std.specs.Prelude.{ℕ, ◌/◌, ◌%◌, List, [], ◌∷◌, Option, Some, None, Result, Ok, Err, Bool, true, false, not, nat_lt, ◌==◌, if◌then◌else◌}
+use Rattle.std.specs.Prelude.{ℕ, ◌/◌, ◌%◌, List, [], ◌∷◌, Option, Some, None, Result, Ok, Bool, true, false, not, nat_lt, ◌==◌, if◌then◌else◌}
 use Rattle.sms_base.specs.Reading.{◌>>=◌, only_if, octet_in, end_in}
 use Rattle.sms_alphabet.specs.DataCodingScheme.{coding_of}
 use Rattle.sms_alphabet.specs.declared.scheme.Coding.{Coding}

@@ -1,5 +1,5 @@
 -- User data and its length from left to right.
-use Rattle.std.specs.Prelude.{ℕ, ◌+◌, ◌-◌, List, [], ◌∷◌, length, take, drop, Result, Ok, Err, Bool, true, false, not, ◌||◌, nat_lt, nat_le}
+use Rattle.std.specs.Prelude.{ℕ, ◌-◌, List, [], ◌∷◌, take, drop, Result, Ok, Err, Bool, true, false, not, ◌||◌, nat_lt, nat_le}
 use Rattle.sms_base.specs.Reading.{◌>>=◌, only_if, octet_in, run_in}
 use Rattle.sms_alphabet.specs.Packing.{tested}
 use Rattle.sms_alphabet.specs.declared.scheme.Coding.{Coding}

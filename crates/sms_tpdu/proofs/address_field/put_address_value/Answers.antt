@@ -1,5 +1,4 @@
-use Rattle.std.proofs.Common.{arith, length, ◌≤◌, ◌∙◌, sym}
-use Rattle.sms_tpdu.specs.AddressGrammar.{name_septets}
+use Rattle.std.proofs.Common.{◌∙◌, sym}
 use Rattle.sms_tpdu.proofs.NameValues.{name_few}
 use Rattle.sms_tpdu.proofs.address_field.put_address_value.Goals as goal
 

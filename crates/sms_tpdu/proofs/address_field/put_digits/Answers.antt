@@ -1,6 +1,6 @@
 use Rattle.std.proofs.Common.{◌++◌}
 use Rattle.sms_tpdu.specs.AddressGrammar.{semi_octets}
-use Rattle.sms_tpdu.proofs.DigitsPut.{puts_two, puts_last, puts_none}
+use Rattle.sms_tpdu.proofs.DigitsPut.{puts_two}
 use Rattle.sms_tpdu.proofs.address_field.put_digits.Goals as goal
 
 pub loop-i-preserved : goal.loop-i-preserved

@@ -1,8 +1,8 @@
-use Rattle.std.proofs.Common.{arith, ◌∙◌, subst, List, ℕ}
+use Rattle.std.proofs.Common.{arith}
 use Rattle.std.proofs.lemmas.List.{length_push}
 use Rattle.std.proofs.lemmas.Result.{err_from_is_err_and}
 use Rattle.sms_tpdu.specs.AddressReading.{digits_in}
-use Rattle.sms_tpdu.proofs.DigitWalk.{ReadsOn, starts, goes_on, pair_fails, last_fails, ends_odd, ends_even}
+use Rattle.sms_tpdu.proofs.DigitWalk.{starts, goes_on, pair_fails, last_fails, ends_odd, ends_even}
 use Rattle.sms_tpdu.proofs.address_field.take_digits.Goals.{then-count-eq1+in_ok-take_last_digit, else-count-eq1}
 use Rattle.sms_tpdu.proofs.address_field.take_digits.Goals as goal
 

@@ -1,7 +1,4 @@
-use Rattle.std.proofs.Common.{arith, ◌∙◌, ◌≡◌}
-use Rattle.std.specs.Prelude.{IfOk}
-use Rattle.sms_tpdu.specs.TpduReading.{down_at}
-use Rattle.sms_tpdu.specs.TpduGrammar.{IsDown}
+use Rattle.std.proofs.Common.{arith, ◌∙◌}
 use Rattle.sms_tpdu.proofs.Carriers.{down_found, down_found_writable, down_again}
 use Rattle.sms_tpdu.proofs.down.read_down.Goals as goal
 

@@ -1,4 +1,4 @@
-use Rattle.std.proofs.Common.{arith, length, ◌≤◌}
+use Rattle.std.proofs.Common.{arith}
 use Rattle.sms_tpdu.proofs.Powers.{below_eleven}
 use Rattle.sms_tpdu.proofs.name_field.+value_of.Goals as goal
 

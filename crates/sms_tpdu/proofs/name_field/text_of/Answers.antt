@@ -1,7 +1,5 @@
-use Rattle.std.proofs.Common.{◌≡◌, ◌/◌, ◌%◌, ◌+◌, ◌∙◌, refl, arith}
-use Rattle.sms_base.specs.Alphabet.{text_in}
-use Rattle.sms_alphabet.specs.Packing.{digits_in}
-use Rattle.sms_tpdu.proofs.NameTexts.{Spells, turn_escaped, turn_escape, turn_plain, end_plain, end_escape}
+use Rattle.std.proofs.Common.{◌%◌, ◌∙◌, refl}
+use Rattle.sms_tpdu.proofs.NameTexts.{turn_escaped, turn_escape, turn_plain, end_plain, end_escape}
 use Rattle.sms_tpdu.proofs.name_field.text_of.Goals.{then-is_escaped, else-is_escaped+then-septet-eq-ESCAPE, else-is_escaped+else-septet-eq-ESCAPE, then-is_escaped-2, else-is_escaped-2}
 use Rattle.sms_tpdu.proofs.name_field.text_of.Goals as goal
 

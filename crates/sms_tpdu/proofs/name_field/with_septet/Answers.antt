@@ -1,4 +1,4 @@
-use Rattle.std.proofs.Common.{arith, length, ◌≤◌, ◌+◌, ◌<◌}
+use Rattle.std.proofs.Common.{arith}
 use Rattle.sms_tpdu.proofs.Powers.{below_eleven, one_before}
 use Rattle.sms_tpdu.proofs.name_field.with_septet.Goals as goal
 

@@ -1,4 +1,3 @@
-use Rattle.std.proofs.Common.{sym}
 use Rattle.sms_tpdu.proofs.Lengths.{status_whole}
 use Rattle.sms_tpdu.proofs.status_report.status_report_octets.Goals as goal
 

@@ -1,7 +1,4 @@
-use Rattle.std.proofs.Common.{arith, ◌∙◌, ◌≡◌}
-use Rattle.std.specs.Prelude.{IfOk}
-use Rattle.sms_tpdu.specs.TpduReading.{up_at}
-use Rattle.sms_tpdu.specs.TpduGrammar.{IsUp}
+use Rattle.std.proofs.Common.{arith, ◌∙◌}
 use Rattle.sms_tpdu.proofs.Carriers.{up_found, up_found_writable, up_again}
 use Rattle.sms_tpdu.proofs.up.read_up.Goals as goal
 
