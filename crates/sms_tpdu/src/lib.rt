@@ -18,6 +18,7 @@ mod fault;
 pub mod laws;
 mod name_field;
 mod parameters;
+mod slices;
 mod status_report;
 mod submit;
 mod submit_report;

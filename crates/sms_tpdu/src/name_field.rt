@@ -7,6 +7,7 @@ ghost use Rattle.sms_tpdu.specs.AddressGrammar.{code_septets, name_septets, name
 ghost use Rattle.sms_tpdu.specs.AddressReading.{name_in};
 
 use crate::fault::TpduFault;
+use crate::slices::front;
 use sms_base::{
     Code, Cursor, Digits, ESCAPE, Octets, character_after_escape, character_of, code_of,
 };
@@ -49,16 +50,6 @@ fn text_of(value: u128, count: u8) -> (Digits, u128)
         text.push(' ');
     }
     (text, rest)
-}
-
-// The octets that are there, of so many.
-fn front(octets: &[u8], count: usize) -> &[u8]
-    ensures { result.now ≡ take count octets.now }
-{
-    match octets.get(..count) {
-        Some(front) => front,
-        None => octets,
-    }
 }
 
 /// Takes the name of so many useful semi-octets.

@@ -6,6 +6,7 @@ ghost use Rattle.sms_tpdu.specs.UserDataGrammar.{greatest_length, octets_of, hea
 ghost use Rattle.sms_tpdu.specs.UserDataReading.{header_fits, content_test, text_test, text_in, user_data_in, of_test};
 
 use crate::fault::TpduFault;
+use crate::slices::{behind, front};
 use sms_alphabet::{Coding, UnpackError, check};
 use sms_base::{Cursor, OctetView, Octets};
 use std::alloc::AllocError;
@@ -70,16 +71,6 @@ fn septets_test(octets: &[u8], fill: u8, count: u8) -> Result<(), TpduFault>
     }
 }
 
-// The octets behind a header.
-fn behind(octets: &[u8], header: usize) -> &[u8]
-    ensures { result.now ≡ drop header octets.now }
-{
-    match octets.get(header..) {
-        Some(rest) => rest,
-        None => &[],
-    }
-}
-
 // The fill bits behind a header of so many octets, in user data of that length.
 fn fill_bits(header: usize, length: u8) -> u8
     requires { header ≤ 256 }
@@ -112,16 +103,6 @@ fn content_test(coding: Coding, header: usize, length: u8, octets: &[u8]) -> Res
             septets_behind(header, length),
         ),
         Coding::Octets | Coding::Ucs2 | Coding::Compressed => Ok(()),
-    }
-}
-
-// The octets that are there, of so many.
-fn front(octets: &[u8], count: usize) -> &[u8]
-    ensures { result.now ≡ take count octets.now }
-{
-    match octets.get(..count) {
-        Some(front) => front,
-        None => octets,
     }
 }
 
