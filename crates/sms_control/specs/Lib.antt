@@ -1,0 +1,2 @@
+pub mod ControlGrammar
+pub mod ControlReading
