@@ -1,4 +1,7 @@
+pub mod Address
+pub mod AddressKind
 pub mod Digits
 pub mod Inside
 pub mod Reading
-pub mod Scts
+pub mod SemiOctet
+pub mod TimeStamp
