@@ -83,6 +83,12 @@ spelled (DataUnit transaction unit) = head_octet transaction ∷ 1 ∷ length un
 spelled (AckUnit transaction) = head_octet transaction ∷ 4 ∷ []
 spelled (ErrorUnit transaction cause) = head_octet transaction ∷ 16 ∷ cause_octet cause ∷ []
 
+-- a unit has 1 to 248 octets
+abbrev pub FitsUnit : Cp → Type 0
+FitsUnit (DataUnit transaction unit) = (0 < length unit) × (length unit ≤ 248)
+FitsUnit (AckUnit transaction) = Unit {0}
+FitsUnit (ErrorUnit transaction cause) = Unit {0}
+
 -- A value of the layer: identifiers are 0 to 6, a unit has 1 to 248 octets, and a cause with a name goes by that name.
 abbrev pub IsCpValue : Cp → Type 0
 IsCpValue (DataUnit transaction unit) = (transaction.identifier < 7) × (0 < length unit) × (length unit ≤ 248)

@@ -1,2 +1,4 @@
 pub mod ControlGrammar
 pub mod ControlReading
+pub mod Timers
+pub mod LinkStep

@@ -1,6 +1,6 @@
 ghost use Rattle.std.specs.Prelude.{◌≡◌, ◌≤◌, IfOk, Ok, [], ◌∷◌, length};
 ghost use Rattle.sms_base.specs.Reading.{Takes};
-ghost use Rattle.sms_control.specs.ControlGrammar.{IsCp, IsCpValue, cause_octet, head_octet, spelled, type_octet};
+ghost use Rattle.sms_control.specs.ControlGrammar.{IsCp, FitsUnit, cause_octet, head_octet, spelled, type_octet};
 ghost use Rattle.sms_control.specs.ControlReading.{body_at, cp_at, head_in, type_in, unit_in};
 ghost use Rattle.sms_control.specs.declared.message.Cp.{Cp as CpOf};
 
@@ -50,7 +50,7 @@ impl<'a> Cp<'a> {
 
     /// The octets of the frame, 2 to 251.
     pub fn write(&self, alloc: Global) -> Result<Octets, AllocError>
-        requires { IsCpValue self.now }
+        requires { FitsUnit self.now }
         ensures { IfOk result (λ octets. octets ≡ spelled self.now) }
     {
         match self {
