@@ -11,6 +11,8 @@ pub mod laws;
 mod link_error;
 mod link_state;
 mod links;
+#[cfg(test)]
+mod links_tests;
 mod message;
 mod message_type;
 mod octet_copy;

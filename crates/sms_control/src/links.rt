@@ -1,4 +1,4 @@
-ghost use Rattle.std.specs.Prelude.{◌≡◌, ◌≢◌, ◌↔◌, ◌<◌, ◌≤◌, ◌++◌, [], true, false, IfOk, OnErr, Err, None, length};
+ghost use Rattle.std.specs.Prelude.{◌≡◌, ◌≢◌, ◌↔◌, ◌<◌, ◌≤◌, ◌++◌, [], true, false, IfOk, OnOk, OnErr, Err, None, length};
 ghost use Rattle.sms_control.specs.LinkStep.{ack_taken, answer_frames, answer_taken, awaits_reply, begin_step, begun_frames, error_taken, fire_step, fresh, if_again, is_busy, opening_taken, reply_step, take_step};
 
 use crate::link_error::LinkError;
@@ -80,7 +80,8 @@ impl Links {
     pub fn begin(&mut self, now: Moment, unit: &[u8]) -> Result<Out, LinkError>
         requires some { 0 < length unit.now }
         requires fits { length unit.now ≤ 248 }
-        ensures ok { IfOk result (λ out. begin_step now unit.now self.old ≡ record { state = self.new; out = out }) }
+        ensures out { IfOk result (λ out. out ≡ (begin_step now unit.now self.old).out) }
+        ensures state { OnOk result (self.new ≡ (begin_step now unit.now self.old).state) }
 
         // Refused exactly where a transaction is under way.
         ensures busy { (result ≡ Err LinkError.Busy) ↔ (is_busy self.old ≡ true) }
@@ -107,7 +108,8 @@ impl Links {
     pub fn reply(&mut self, now: Moment, unit: &[u8]) -> Result<Out, LinkError>
         requires some { 0 < length unit.now }
         requires fits { length unit.now ≤ 248 }
-        ensures ok { IfOk result (λ out. reply_step now unit.now self.old ≡ record { state = self.new; out = out }) }
+        ensures out { IfOk result (λ out. out ≡ (reply_step now unit.now self.old).out) }
+        ensures state { OnOk result (self.new ≡ (reply_step now unit.now self.old).state) }
 
         // Refused exactly where no transaction waits for an answer.
         ensures nothing { (result ≡ Err LinkError.NothingToAnswer) ↔ (awaits_reply self.old ≡ false) }
@@ -127,7 +129,8 @@ impl Links {
     /// Takes a frame that came, whatever its octets: one that cannot be read is dropped.
     #[tactic(auto, unfolding(crate::specs::LinkStep::take_step))]
     pub fn take(&mut self, frame: &[u8]) -> Result<Out, AllocError>
-        ensures ok { IfOk result (λ out. take_step frame.now self.old ≡ record { state = self.new; out = out }) }
+        ensures out { IfOk result (λ out. out ≡ (take_step frame.now self.old).out) }
+        ensures state { OnOk result (self.new ≡ (take_step frame.now self.old).state) }
         ensures err { OnErr result (self.new ≡ self.old) }
     {
         match Cp::read(frame) {
@@ -149,7 +152,8 @@ impl Links {
     /// other side's.
     #[tactic(auto, unfolding(crate::specs::LinkStep::fire_step))]
     pub fn fire(&mut self, now: Moment) -> Result<Out, AllocError>
-        ensures ok { IfOk result (λ out. fire_step now self.old ≡ record { state = self.new; out = out }) }
+        ensures out { IfOk result (λ out. out ≡ (fire_step now self.old).out) }
+        ensures state { OnOk result (self.new ≡ (fire_step now self.old).state) }
         ensures err { OnErr result (self.new ≡ self.old) }
     {
         let mine = begun_firing(&self.state.begun, now);
@@ -180,7 +184,8 @@ impl Links {
         transaction: Transaction,
         unit: &[u8],
     ) -> Result<Out, AllocError>
-        ensures ok { IfOk result (λ out. answer_taken frame.now unit.now transaction self.old ≡ record { state = self.new; out = out }) }
+        ensures out { IfOk result (λ out. out ≡ (answer_taken frame.now unit.now transaction self.old).out) }
+        ensures state { OnOk result (self.new ≡ (answer_taken frame.now unit.now transaction self.old).state) }
         ensures err { OnErr result (self.new ≡ self.old) }
     {
         if has_begun(&self.state.begun, transaction.identifier) {
@@ -212,7 +217,8 @@ impl Links {
         transaction: Transaction,
         unit: &[u8],
     ) -> Result<Out, AllocError>
-        ensures ok { IfOk result (λ out. opening_taken frame.now unit.now transaction self.old ≡ record { state = self.new; out = out }) }
+        ensures out { IfOk result (λ out. out ≡ (opening_taken frame.now unit.now transaction self.old).out) }
+        ensures state { OnOk result (self.new ≡ (opening_taken frame.now unit.now transaction self.old).state) }
         ensures err { OnErr result (self.new ≡ self.old) }
     {
         let identifier = transaction.identifier;
@@ -238,7 +244,8 @@ impl Links {
 
     // CP-ACK.
     fn take_ack(&mut self, transaction: Transaction) -> Out
-        ensures { ack_taken transaction.flag transaction.identifier self.old ≡ record { state = self.new; out = result } }
+        ensures out { result ≡ (ack_taken transaction.flag transaction.identifier self.old).out }
+        ensures state { self.new ≡ (ack_taken transaction.flag transaction.identifier self.old).state }
     {
         match transaction.flag {
             TransactionFlag::ToOriginator => self.state.stop_repeating(transaction.identifier),
@@ -249,7 +256,8 @@ impl Links {
 
     // CP-ERROR.
     fn take_error(&mut self, transaction: Transaction) -> Out
-        ensures { error_taken transaction.flag transaction.identifier self.old ≡ record { state = self.new; out = result } }
+        ensures out { result ≡ (error_taken transaction.flag transaction.identifier self.old).out }
+        ensures state { self.new ≡ (error_taken transaction.flag transaction.identifier self.old).state }
     {
         match transaction.flag {
             TransactionFlag::ToOriginator => {
