@@ -2,3 +2,4 @@ pub mod ControlGrammar
 pub mod ControlReading
 pub mod Timers
 pub mod LinkStep
+pub mod LinkRuns
