@@ -1,6 +1,8 @@
 -- A frame that is read is in the grammar, one that is in the grammar is read, and a front of one ends too early.
 use Rattle.std.proofs.Common.{◌≡◌, ◌≢◌, ℕ, zero, suc, ◌+◌, ◌*◌, ◌/◌, ◌%◌, ◌<◌, ◌≤◌, Bool, true, false, not, ◌&&◌, cond, eqb, ltb, List, [], ◌∷◌, ◌++◌, length, get_or, take, drop, Result, Ok, Err, Option, Some, None, refl, sym, ap, subst, ◌∙◌, arith, inl, inr}
 use Rattle.std.specs.Prelude.{◌⊎◌, IfOk}
+use Rattle.std.specs.Option.{unwrap_or}
+use Rattle.std.specs.List.{find}
 use Rattle.std.proofs.lemmas.Bool.{ltb-true, ltb-false, eqb-true, lt-ltb, le-ltb, eq-eqb}
 use Rattle.std.proofs.lemmas.List.{append-nil}
 use Rattle.sms_base.specs.Reading.{◌>>=◌, only_if, octet_in, run_in, end_in}
@@ -17,7 +19,7 @@ use Rattle.sms_control.specs.declared.transaction.TransactionFlag.TheVariants.{F
 use Rattle.sms_control.specs.declared.transaction.Transaction.{Transaction}
 use Rattle.sms_control.specs.declared.message.Cp.{Cp}
 use Rattle.sms_control.specs.declared.message.Cp.TheVariants.{DataUnit, AckUnit, ErrorUnit}
-use Rattle.sms_control.specs.ControlGrammar.{flag_value, flag_of, head_octet, head_of, type_octet, type_of, cause_octet, cause_of, spelled, IsCpValue, IsCp}
+use Rattle.sms_control.specs.ControlGrammar.{flag_value, flag_of, head_octet, head_of, type_octet, types, type_of, cause_octet, named, cause_of, IsCpCause, spelled, IsCpValue, IsCp}
 use Rattle.sms_control.specs.ControlReading.{known, head_in, type_in, unit_in, body_at, cp_at}
 
 abbrev pub IsBytes : List ℕ → Type 0
@@ -109,19 +111,19 @@ head_in_again t rest h = let e : head_of (head_octet t) ≡ Some t = head_again 
 
 -- ---- the type
 
-type_names : (o : ℕ) (k : MessageType) → type_of o ≡ Some k → o ≡ type_octet k
-type_names o k e = first (eqb o 1) refl e where
-  third : (b : Bool) → eqb o 16 ≡ b → cond b (Some Error) None ≡ Some k → o ≡ type_octet k
-  third true t g = eqb-true o 16 t ∙ ap type_octet (some_is Error k g)
-  third false t g = absurd cc
+one_type : (b : Bool) (kind found : MessageType) (octet : ℕ) (rest : Option MessageType) → eqb (type_octet kind) octet ≡ b
+    → (rest ≡ Some found → eqb (type_octet found) octet ≡ true) → cond b (Some kind) rest ≡ Some found → eqb (type_octet found) octet ≡ true
+one_type true kind found octet rest is later e = subst (λ (m : MessageType). eqb (type_octet m) octet ≡ true) (some_is kind found e) is
+one_type false kind found octet rest is later e = later e
 
-  second : (b : Bool) → eqb o 4 ≡ b → cond b (Some Ack) (cond (eqb o 16) (Some Error) None) ≡ Some k → o ≡ type_octet k
-  second true t g = eqb-true o 4 t ∙ ap type_octet (some_is Ack k g)
-  second false t g = third (eqb o 16) refl g
+found_type : (octet : ℕ) (kinds : List MessageType) (found : MessageType) → find (λ kind. eqb (type_octet kind) octet) kinds ≡ Some found → eqb (type_octet found) octet ≡ true
+found_type octet [] found e = absurd cc
+found_type octet (kind ∷ kinds) found e =
+    one_type (eqb (type_octet kind) octet) kind found octet (find (λ kind. eqb (type_octet kind) octet) kinds) refl (found_type octet kinds found) e
 
-  first : (b : Bool) → eqb o 1 ≡ b → cond b (Some Data) (cond (eqb o 4) (Some Ack) (cond (eqb o 16) (Some Error) None)) ≡ Some k → o ≡ type_octet k
-  first true t g = eqb-true o 1 t ∙ ap type_octet (some_is Data k g)
-  first false t g = second (eqb o 4) refl g
+type_names : (octet : ℕ) (kind : MessageType) → type_of octet ≡ Some kind → octet ≡ type_octet kind
+unfolding type_of
+type_names octet kind e = let same = eqb-true (type_octet kind) octet (found_type octet types kind e) in cc
 
 record TakesType (xs : List ℕ) (kind : MessageType) (rest : List ℕ) : Type 0 where
   parts : xs ≡ type_octet kind ∷ rest
@@ -138,24 +140,44 @@ type_takes xs x fits e =
     (record { parts = whole; rest_fits = bytes_rest a.0.0 a.0.1 xs p fits })
 
 type_again : (k : MessageType) (rest : List ℕ) → type_in (type_octet k ∷ rest) ≡ Ok (k, rest)
-unfolding type_in
+unfolding type_in type_of
 type_again Data rest = refl
 type_again Ack rest = refl
 type_again Error rest = refl
 
 -- ---- the cause
 
-named : (n k : ℕ) (x y : CpCause) → cause_octet x ≡ k → cause_octet y ≡ n → cause_octet (cond (eqb n k) x y) ≡ n
-named n k x y p q = more (eqb n k) refl where
-  more : (b : Bool) → eqb n k ≡ b → cause_octet (cond b x y) ≡ n
-  more true e = p ∙ sym (eqb-true n k e)
-  more false e = q
+one_cause : (b : Bool) (cause : CpCause) (octet : ℕ) (rest : Option CpCause) → eqb (cause_octet cause) octet ≡ b
+    → cause_octet (unwrap_or rest (Other octet)) ≡ octet → cause_octet (unwrap_or (cond b (Some cause) rest) (Other octet)) ≡ octet
+one_cause true cause octet rest is later = eqb-true (cause_octet cause) octet is
+one_cause false cause octet rest is later = later
 
-cause_again : (n : ℕ) → cause_octet (cause_of n) ≡ n
-cause_again n =
-    named n 17 NetworkFailure _ refl (named n 22 Congestion _ refl (named n 81 InvalidTransactionIdentifier _ refl (named n 95 SemanticallyIncorrectMessage _ refl
-    (named n 96 InvalidMandatoryInformation _ refl (named n 97 MessageTypeNonExistent _ refl (named n 98 MessageNotCompatible _ refl
-    (named n 99 InformationElementNonExistent _ refl (named n 111 ProtocolErrorUnspecified _ refl refl))))))))
+found_cause : (octet : ℕ) (causes : List CpCause) → cause_octet (unwrap_or (find (λ cause. eqb (cause_octet cause) octet) causes) (Other octet)) ≡ octet
+found_cause octet [] = refl
+found_cause octet (cause ∷ causes) = one_cause (eqb (cause_octet cause) octet) cause octet (find (λ cause. eqb (cause_octet cause) octet) causes) refl (found_cause octet causes)
+
+cause_again : (octet : ℕ) → cause_octet (cause_of octet) ≡ octet
+unfolding cause_of
+cause_again octet = found_cause octet named
+
+stood_for : (octet : ℕ) (cause : CpCause) → cause_of octet ≡ cause → IsCpCause cause
+stood_for octet (Other n) e =
+    let same : n ≡ octet = sym (ap cause_octet e) ∙ cause_again octet in
+    ap cause_of same ∙ e
+stood_for octet cause e = tt
+
+cause_is : (cause : CpCause) → IsCpCause cause → cause_of (cause_octet cause) ≡ cause
+unfolding cause_of
+cause_is (Other octet) h = h
+cause_is NetworkFailure h = refl
+cause_is Congestion h = refl
+cause_is InvalidTransactionIdentifier h = refl
+cause_is SemanticallyIncorrectMessage h = refl
+cause_is InvalidMandatoryInformation h = refl
+cause_is MessageTypeNonExistent h = refl
+cause_is MessageNotCompatible h = refl
+cause_is InformationElementNonExistent h = refl
+cause_is ProtocolErrorUnspecified h = refl
 
 -- ---- the unit
 
@@ -207,7 +229,7 @@ body_takes t Error xs cp h e =
     let last = end_takes Trailing a.0.1 b.0 b.1 in
     let tail : xs ≡ cause_octet (cause_of a.0.0) ∷ [] = p ∙ ap (λ (l : List ℕ). a.0.0 ∷ l) last ∙ ap (λ (n : ℕ). n ∷ []) (sym (cause_again a.0.0)) in
     subst (λ (y : Cp). IsCp (head_octet t ∷ 16 ∷ xs) y) (ok_is {E = CpFault} (ErrorUnit t (cause_of a.0.0)) cp b.2)
-    (record { value = (h, ap cause_of (cause_again a.0.0)); spells = ap (λ (l : List ℕ). head_octet t ∷ 16 ∷ l) tail })
+    (record { value = (h, stood_for a.0.0 (cause_of a.0.0) refl); spells = ap (λ (l : List ℕ). head_octet t ∷ 16 ∷ l) tail })
 
 cp_takes : (xs : List ℕ) (cp : Cp) → IsBytes xs → cp_at xs ≡ Ok cp → IsCp xs cp
 unfolding cp_at
@@ -232,7 +254,7 @@ spelled_again (DataUnit t unit) h =
     let u : unit_in (length unit ∷ unit) ≡ Ok (unit, []) = ap (λ (l : List ℕ). unit_in (length unit ∷ l)) (sym (append-nil unit)) ∙ unit_again unit [] h.1 h.2 in
     framed t Data (length unit ∷ unit) h.0 ∙ rw u refl
 spelled_again (AckUnit t) h = framed t Ack [] h
-spelled_again (ErrorUnit t cause) h = framed t Error (cause_octet cause ∷ []) h.0 ∙ ap (λ (c : CpCause). let r : Result Cp CpFault = Ok (ErrorUnit t c) in r) h.1
+spelled_again (ErrorUnit t cause) h = framed t Error (cause_octet cause ∷ []) h.0 ∙ ap (λ (c : CpCause). let r : Result Cp CpFault = Ok (ErrorUnit t c) in r) (cause_is cause h.1)
 
 pub cp_again : (xs : List ℕ) (cp : Cp) → IsCp xs cp → cp_at xs ≡ Ok cp
 cp_again xs cp h = ap cp_at h.spells ∙ spelled_again cp h.value

@@ -1,5 +1,6 @@
 -- Which octets are which frames of the control layer (3GPP TS 24.011 7.2 and 8.1).
-use Rattle.std.specs.Prelude.{◌≡◌, ℕ, ◌+◌, ◌*◌, ◌/◌, ◌%◌, ◌<◌, ◌≤◌, List, [], ◌∷◌, length, Option, Some, None, nat_lt, ◌==◌, ◌&&◌, if◌then◌else◌}
+use Rattle.std.specs.Prelude.{◌≡◌, ℕ, ◌+◌, ◌*◌, ◌/◌, ◌%◌, ◌<◌, ◌≤◌, List, [], ◌∷◌, length, Option, Some, None, nat_lt, ◌==◌, ◌&&◌, if◌then◌else◌, unwrap_or}
+use Rattle.std.specs.List.{find}
 use Rattle.sms_control.specs.declared.cause.CpCause.{CpCause}
 use Rattle.sms_control.specs.declared.cause.CpCause.TheVariants.{NetworkFailure, Congestion, InvalidTransactionIdentifier, SemanticallyIncorrectMessage, InvalidMandatoryInformation, MessageTypeNonExistent, MessageNotCompatible, InformationElementNonExistent, ProtocolErrorUnspecified, Other}
 use Rattle.sms_control.specs.declared.message_type.MessageType.{MessageType}
@@ -41,14 +42,15 @@ type_octet Data = 1
 type_octet Ack = 4
 type_octet Error = 16
 
-abbrev pub type_of : ℕ → Option MessageType
-type_of octet =
-    if octet == 1 then Some Data
-    else (if octet == 4 then Some Ack
-    else (if octet == 16 then Some Error
-    else None))
+-- the types that there are
+abbrev pub types : List MessageType
+types = Data ∷ Ack ∷ Error ∷ []
 
--- ---- 3GPP TS 24.011 8.2.5.3 (table 8.2): the cause
+-- the type that an octet names, if it names one
+unfoldable pub type_of : ℕ → Option MessageType
+type_of octet = find (λ kind. type_octet kind == octet) types
+
+-- ---- 3GPP TS 24.011 8.1.4.2 (table 8.2): the cause
 
 abbrev pub cause_octet : CpCause → ℕ
 cause_octet NetworkFailure = 17
@@ -62,18 +64,20 @@ cause_octet InformationElementNonExistent = 99
 cause_octet ProtocolErrorUnspecified = 111
 cause_octet (Other octet) = octet
 
-abbrev pub cause_of : ℕ → CpCause
-cause_of octet =
-    if octet == 17 then NetworkFailure
-    else (if octet == 22 then Congestion
-    else (if octet == 81 then InvalidTransactionIdentifier
-    else (if octet == 95 then SemanticallyIncorrectMessage
-    else (if octet == 96 then InvalidMandatoryInformation
-    else (if octet == 97 then MessageTypeNonExistent
-    else (if octet == 98 then MessageNotCompatible
-    else (if octet == 99 then InformationElementNonExistent
-    else (if octet == 111 then ProtocolErrorUnspecified
-    else Other octet))))))))
+-- the causes that have a name
+abbrev pub named : List CpCause
+named =
+    NetworkFailure ∷ Congestion ∷ InvalidTransactionIdentifier ∷ SemanticallyIncorrectMessage ∷ InvalidMandatoryInformation
+    ∷ MessageTypeNonExistent ∷ MessageNotCompatible ∷ InformationElementNonExistent ∷ ProtocolErrorUnspecified ∷ []
+
+-- the cause that an octet names: the named one, if there is one, else the octet as it is
+unfoldable pub cause_of : ℕ → CpCause
+cause_of octet = unwrap_or (find (λ cause. cause_octet cause == octet) named) (Other octet)
+
+-- a cause of a frame: one that has a name, or an octet that no named cause has
+abbrev pub IsCpCause : CpCause → Type 0
+IsCpCause (Other octet) = cause_of octet ≡ Other octet
+IsCpCause named_cause = Unit {0}
 
 -- ---- the frames
 
@@ -89,11 +93,11 @@ FitsUnit (DataUnit transaction unit) = (0 < length unit) × (length unit ≤ 248
 FitsUnit (AckUnit transaction) = Unit {0}
 FitsUnit (ErrorUnit transaction cause) = Unit {0}
 
--- A value of the layer: identifiers are 0 to 6, a unit has 1 to 248 octets, and a cause with a name goes by that name.
+-- a value of the layer: identifiers are 0 to 6, and a unit has 1 to 248 octets
 abbrev pub IsCpValue : Cp → Type 0
 IsCpValue (DataUnit transaction unit) = (transaction.identifier < 7) × (0 < length unit) × (length unit ≤ 248)
 IsCpValue (AckUnit transaction) = transaction.identifier < 7
-IsCpValue (ErrorUnit transaction cause) = (transaction.identifier < 7) × (cause_of (cause_octet cause) ≡ cause)
+IsCpValue (ErrorUnit transaction cause) = (transaction.identifier < 7) × IsCpCause cause
 
 -- the octets are a frame of this value
 pub record IsCp (octets : List ℕ) (cp : Cp) : Type 0 where

@@ -1,7 +1,7 @@
 ghost use Rattle.std.specs.Prelude.{◌≡◌};
 ghost use Rattle.sms_control.specs.ControlGrammar.{cause_octet, cause_of};
 
-/// Why a transaction ends early (3GPP TS 24.011 8.2.5.3, table 8.2).
+/// Why a transaction ends early (3GPP TS 24.011 8.1.4.2, table 8.2). `octet` has the one table of the octets.
 #[derive(Clone, Copy, Debug, PartialEq, Eq)]
 pub enum CpCause {
     NetworkFailure,
@@ -17,23 +17,30 @@ pub enum CpCause {
     Other(u8),
 }
 
+// The causes that have a name.
+const NAMED: [CpCause; 9] = [
+    CpCause::NetworkFailure,
+    CpCause::Congestion,
+    CpCause::InvalidTransactionIdentifier,
+    CpCause::SemanticallyIncorrectMessage,
+    CpCause::InvalidMandatoryInformation,
+    CpCause::MessageTypeNonExistent,
+    CpCause::MessageNotCompatible,
+    CpCause::InformationElementNonExistent,
+    CpCause::ProtocolErrorUnspecified,
+];
+
 impl CpCause {
-    /// The cause that an octet names.
+    /// The cause that an octet names: the named one, if there is one, else the octet as it is.
+    #[tactic(auto, unfolding(crate::specs::ControlGrammar::cause_of))]
     pub fn of(octet: u8) -> CpCause
         ensures { result ≡ cause_of octet }
     {
-        match octet {
-            17 => CpCause::NetworkFailure,
-            22 => CpCause::Congestion,
-            81 => CpCause::InvalidTransactionIdentifier,
-            95 => CpCause::SemanticallyIncorrectMessage,
-            96 => CpCause::InvalidMandatoryInformation,
-            97 => CpCause::MessageTypeNonExistent,
-            98 => CpCause::MessageNotCompatible,
-            99 => CpCause::InformationElementNonExistent,
-            111 => CpCause::ProtocolErrorUnspecified,
-            _ => CpCause::Other(octet),
-        }
+        NAMED
+            .iter()
+            .copied()
+            .find(|cause| cause.octet() == octet)
+            .unwrap_or(CpCause::Other(octet))
     }
 
     /// The octet of the cause.

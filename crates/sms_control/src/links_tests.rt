@@ -44,29 +44,35 @@ fn at(seconds: u64) -> Result<Moment, Fail> {
 #[test]
 fn a_begun_transaction_is_repeated_and_fails(rt: HostRuntime) -> Result<(), Fail> {
     let frame: &[u8] = &[0x09, 0x01, 0x02, 0x06, 0x05];
+    let start = at(T0)?;
     let mut links = Links::new(rt.alloc());
-    let out = links.begin(at(T0)?, &SMMA)?;
+    let out = links.begin(start, &SMMA)?;
     assert!(rt; gives(&out, &[frame], b""));
-    let refused = match links.begin(at(T0)?, &SMMA) {
+    let refused = match links.begin(start, &SMMA) {
         Ok(_) => "taken",
         Err(error) => error.code(),
     };
     assert_eq!(rt; refused, "L1");
-    for (seconds, is_sent, told) in [
-        (9, false, b"".as_slice()),
-        (10, true, b"".as_slice()),
-        (20, true, b"".as_slice()),
-        (30, false, b"failed".as_slice()),
-    ] {
-        let out = links.fire(at(T0 + seconds)?)?;
-        let out_frames: &[&[u8]] = if is_sent { &[frame] } else { &[] };
-        assert!(rt; gives(&out, out_frames, told), "at {seconds}");
-    }
-    let out = links.begin(at(T0 + 30)?, &SMMA)?;
-    assert!(rt; sends(&out, &[&[0x19, 0x01, 0x02, 0x06, 0x05]]));
+    let out = links.fire(start.plus(9))?;
+    assert!(rt; gives(&out, &[], b""));
+    let out = links.fire(start.plus(10))?;
+    assert!(rt; gives(&out, &[frame], b""));
+    let out = links.fire(start.plus(20))?;
+    assert!(rt; gives(&out, &[frame], b""));
+    let out = links.fire(start.plus(30))?;
+    assert!(rt; gives(&out, &[], b"failed"));
+    let out = links.begin(start.plus(30), &SMMA)?;
+    assert!(rt; gives(&out, &[&[0x19, 0x01, 0x02, 0x06, 0x05]], b""));
+    Ok(())
+}
+
+#[test]
+fn a_jump_of_the_clock_repeats_nothing(rt: HostRuntime) -> Result<(), Fail> {
+    let start = at(T0)?;
     let mut links = Links::new(rt.alloc());
-    links.begin(at(T0)?, &SMMA)?;
-    let out = links.fire(at(T0 + 40)?)?;
+    let out = links.begin(start, &SMMA)?;
+    assert_eq!(rt; out.frames.len(), 1);
+    let out = links.fire(start.plus(40))?;
     assert!(rt; gives(&out, &[], b"failed"));
     Ok(())
 }
