@@ -1,6 +1,6 @@
 -- A frame that is read is in the grammar, one that is in the grammar is read, and a front of one ends too early.
-use Rattle.std.proofs.Common.{◌≡◌, ◌≢◌, ℕ, zero, suc, ◌+◌, ◌*◌, ◌/◌, ◌%◌, ◌<◌, ◌≤◌, Bool, true, false, not, ◌&&◌, cond, eqb, ltb, List, [], ◌∷◌, ◌++◌, length, get_or, take, drop, Result, Ok, Err, Option, Some, None, refl, sym, ap, subst, ◌∙◌, arith, inl, inr}
-use Rattle.std.specs.Prelude.{◌⊎◌, IfOk}
+use Rattle.std.proofs.Common.{◌≡◌, ◌≢◌, ℕ, zero, suc, ◌+◌, ◌*◌, ◌/◌, ◌%◌, ◌<◌, ◌≤◌, Bool, true, false, ◌&&◌, cond, eqb, ltb, List, [], ◌∷◌, ◌++◌, length, get_or, Result, Ok, Err, Option, Some, None, refl, sym, ap, subst, ◌∙◌, arith, inl, inr}
+use Rattle.std.specs.Prelude.{IfOk}
 use Rattle.std.specs.Option.{unwrap_or}
 use Rattle.std.specs.List.{find}
 use Rattle.std.proofs.lemmas.Bool.{ltb-true, ltb-false, eqb-true, lt-ltb, le-ltb, eq-eqb}
@@ -11,7 +11,7 @@ use Rattle.sms_base.proofs.Cuts.{CutsShort, CutsWhole, cuts_bind, cuts_test, cut
 use Rattle.sms_control.specs.declared.cause.CpCause.{CpCause}
 use Rattle.sms_control.specs.declared.cause.CpCause.TheVariants.{NetworkFailure, Congestion, InvalidTransactionIdentifier, SemanticallyIncorrectMessage, InvalidMandatoryInformation, MessageTypeNonExistent, MessageNotCompatible, InformationElementNonExistent, ProtocolErrorUnspecified, Other}
 use Rattle.sms_control.specs.declared.fault.CpFault.{CpFault}
-use Rattle.sms_control.specs.declared.fault.CpFault.TheVariants.{Truncated, Trailing, Unknown, BadLength}
+use Rattle.sms_control.specs.declared.fault.CpFault.TheVariants.{Truncated, Trailing, BadLength}
 use Rattle.sms_control.specs.declared.message_type.MessageType.{MessageType}
 use Rattle.sms_control.specs.declared.message_type.MessageType.TheVariants.{Data, Ack, Error}
 use Rattle.sms_control.specs.declared.transaction.TransactionFlag.{TransactionFlag}

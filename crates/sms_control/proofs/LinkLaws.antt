@@ -1,10 +1,5 @@
 -- Laws of the links over lists of calls.
-use Rattle.std.proofs.Common.{◌≡◌, ℕ, zero, suc, ◌+◌, ◌*◌, ◌<◌, ◌≤◌, min, Bool, true, false, not, ◌&&◌, cond, eqb, ltb, List, [], ◌∷◌, ◌++◌, Result, Ok, Err, Option, Some, None, refl, sym, ap, subst, ◌∙◌, arith, inl, inr, is_some, is_none}
-use Rattle.std.specs.Prelude.{◌⊎◌, IsSome}
-use Rattle.std.specs.Option.{option_map}
-use Rattle.std.specs.Str.{bytes_eq}
-use Rattle.std.proofs.lemmas.Bool.{ltb-true, ltb-false, eqb-true, lt-ltb, le-ltb}
-use Rattle.sms_base.proofs.Steps.{both}
+use Rattle.std.proofs.Common.{◌≡◌, ℕ, ◌+◌, ◌≤◌, Bool, true, false, ◌&&◌, cond, eqb, List, [], ◌∷◌, Result, Ok, Err, Option, Some, None, refl, arith, is_some, is_none}
 use Rattle.sms_control.specs.declared.fault.CpFault.{CpFault}
 use Rattle.sms_control.specs.declared.transaction.TransactionFlag.{TransactionFlag}
 use Rattle.sms_control.specs.declared.transaction.TransactionFlag.TheVariants.{FromOriginator, ToOriginator}
@@ -12,18 +7,14 @@ use Rattle.sms_control.specs.declared.transaction.Transaction.{Transaction}
 use Rattle.sms_control.specs.declared.message.Cp.{Cp}
 use Rattle.sms_control.specs.declared.message.Cp.TheVariants.{DataUnit, AckUnit, ErrorUnit}
 use Rattle.sms_control.specs.declared.link_state.Begun.{Begun}
-use Rattle.sms_control.specs.declared.link_state.Answer.{Answer}
 use Rattle.sms_control.specs.declared.link_state.Opened.{Opened}
 use Rattle.sms_control.specs.declared.link_state.LinkState.{LinkState}
-use Rattle.sms_control.specs.declared.out.Out.{Out}
-use Rattle.sms_control.specs.declared.out.Up.{Up}
-use Rattle.sms_control.specs.declared.out.Up.TheVariants.{Unit as UnitUp, Failed}
 use Rattle.sms_control.specs.declared.timers.Firing.{Firing}
 use Rattle.sms_control.specs.declared.timers.Firing.TheVariants.{Idle, Again, Closes}
 use Rattle.sms_control.specs.ControlReading.{cp_at}
-use Rattle.sms_control.specs.Timers.{tr1, later, begun_firing, opened_firing}
-use Rattle.sms_control.specs.LinkStep.{Step, fresh, sends, quiet, is_busy, begin_step, reply_in, reply_step, answer_taken, opening_taken, data_taken, ack_taken, error_taken, frame_taken, take_step, fired, fire_step, is_same, opening_of, answer_of, has_begun, has_opened}
-use Rattle.sms_control.specs.LinkRuns.{Call, Begin, Reply, Take, Fire, step, run, begun_by, replied_by, ends_by, opens_by, tally, begins, replies, ends, openings}
+use Rattle.sms_control.specs.Timers.{begun_firing, opened_firing}
+use Rattle.sms_control.specs.LinkStep.{Step, fresh, quiet, begin_step, reply_in, reply_step, answer_taken, opening_taken, data_taken, ack_taken, error_taken, frame_taken, take_step, fired, fire_step, is_same, opening_of, answer_of, has_opened}
+use Rattle.sms_control.specs.LinkRuns.{Call, Begin, Reply, Take, Fire, step, run, begun_by, ends_by, begins, ends}
 
 -- ---- a begun transaction ends once
 

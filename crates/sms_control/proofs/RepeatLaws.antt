@@ -1,10 +1,9 @@
 -- A frame that opened a transaction does not come up again while it is remembered.
-use Rattle.std.proofs.Common.{◌≡◌, ℕ, zero, suc, ◌+◌, ◌<◌, ◌≤◌, Bool, true, false, not, ◌&&◌, cond, eqb, ltb, List, [], ◌∷◌, ◌++◌, Result, Ok, Err, Option, Some, None, refl, sym, ap, subst, ◌∙◌, arith, inl, inr, is_some, is_none}
-use Rattle.std.specs.Prelude.{◌⊎◌, IsSome}
+use Rattle.std.proofs.Common.{◌≡◌, ℕ, Bool, true, false, ◌&&◌, cond, eqb, List, [], ◌∷◌, Result, Ok, Err, Option, Some, None, refl, sym, ap, subst, ◌∙◌, is_some, is_none}
 use Rattle.std.specs.Str.{bytes_eq}
 use Rattle.std.proofs.lemmas.Bool.{eqb-true, eq-eqb}
 use Rattle.std.proofs.lemmas.Slice.Eq.{bytes_eq-Decides}
-use Rattle.sms_base.proofs.Steps.{both, ok_is}
+use Rattle.sms_base.proofs.Steps.{both}
 use Rattle.sms_control.specs.declared.fault.CpFault.{CpFault}
 use Rattle.sms_control.specs.declared.transaction.TransactionFlag.{TransactionFlag}
 use Rattle.sms_control.specs.declared.transaction.TransactionFlag.TheVariants.{FromOriginator, ToOriginator}
@@ -12,15 +11,13 @@ use Rattle.sms_control.specs.declared.transaction.Transaction.{Transaction}
 use Rattle.sms_control.specs.declared.message.Cp.{Cp}
 use Rattle.sms_control.specs.declared.message.Cp.TheVariants.{DataUnit, AckUnit, ErrorUnit}
 use Rattle.sms_control.specs.declared.link_state.Begun.{Begun}
-use Rattle.sms_control.specs.declared.link_state.Answer.{Answer}
 use Rattle.sms_control.specs.declared.link_state.Opened.{Opened}
 use Rattle.sms_control.specs.declared.link_state.LinkState.{LinkState}
-use Rattle.sms_control.specs.declared.out.Up.{Up}
 use Rattle.sms_control.specs.declared.timers.Firing.{Firing}
 use Rattle.sms_control.specs.declared.timers.Firing.TheVariants.{Idle, Again, Closes}
 use Rattle.sms_control.specs.ControlReading.{cp_at}
-use Rattle.sms_control.specs.Timers.{begun_firing, opened_firing}
-use Rattle.sms_control.specs.LinkStep.{Step, fresh, quiet, in_transaction, is_busy, begin_step, reply_in, reply_step, answer_taken, opening_taken, data_taken, ack_taken, error_taken, frame_taken, take_step, opened_fired, fired, fire_step, is_same, opening_of, answer_of, has_begun, has_opened}
+use Rattle.sms_control.specs.Timers.{opened_firing}
+use Rattle.sms_control.specs.LinkStep.{Step, fresh, quiet, in_transaction, begin_step, reply_in, reply_step, opening_taken, data_taken, ack_taken, error_taken, frame_taken, take_step, opened_fired, fire_step, is_same, opening_of, answer_of, has_begun, has_opened}
 use Rattle.sms_control.specs.LinkRuns.{Call, Begin, Reply, Take, Fire, step, run, Acknowledges, IsAcknowledged, NoneAcknowledged}
 use Rattle.sms_control.proofs.LinkLaws.{either, state_of}
 

@@ -1,5 +1,5 @@
 -- A unit of the other side is answered once.
-use Rattle.std.proofs.Common.{◌≡◌, ℕ, zero, suc, ◌+◌, ◌<◌, ◌≤◌, Bool, true, false, not, ◌&&◌, cond, eqb, ltb, List, [], ◌∷◌, ◌++◌, Result, Ok, Err, Option, Some, None, refl, sym, ap, subst, ◌∙◌, arith, inl, inr, is_some, is_none}
+use Rattle.std.proofs.Common.{◌≡◌, ℕ, ◌+◌, ◌≤◌, ◌&&◌, List, [], ◌∷◌, Result, Ok, Err, Option, Some, None, refl, arith, is_some}
 use Rattle.sms_control.specs.declared.fault.CpFault.{CpFault}
 use Rattle.sms_control.specs.declared.transaction.TransactionFlag.{TransactionFlag}
 use Rattle.sms_control.specs.declared.transaction.TransactionFlag.TheVariants.{FromOriginator, ToOriginator}
@@ -14,7 +14,7 @@ use Rattle.sms_control.specs.declared.timers.Firing.{Firing}
 use Rattle.sms_control.specs.declared.timers.Firing.TheVariants.{Idle, Again, Closes}
 use Rattle.sms_control.specs.ControlReading.{cp_at}
 use Rattle.sms_control.specs.Timers.{begun_firing, opened_firing}
-use Rattle.sms_control.specs.LinkStep.{Step, fresh, quiet, begin_step, reply_in, reply_step, answer_taken, opening_taken, data_taken, ack_taken, error_taken, frame_taken, take_step, opened_fired, fired, fire_step, is_same, opening_of, answer_of, has_begun, has_opened, failed_by}
+use Rattle.sms_control.specs.LinkStep.{Step, fresh, quiet, begin_step, reply_in, reply_step, answer_taken, opening_taken, data_taken, ack_taken, error_taken, frame_taken, take_step, opened_fired, fired, fire_step, is_same, opening_of, answer_of, has_begun, has_opened}
 use Rattle.sms_control.specs.LinkRuns.{Call, Begin, Reply, Take, Fire, step, run, replied_by, opens_by, replies, openings}
 use Rattle.sms_control.proofs.LinkLaws.{either, state_of}
 

@@ -1,5 +1,5 @@
 -- A begun transaction ends once its timers have fired late enough.
-use Rattle.std.proofs.Common.{◌≡◌, ℕ, zero, suc, ◌+◌, ◌-◌, ◌<◌, ◌≤◌, min, Bool, true, false, not, ◌&&◌, cond, eqb, ltb, List, [], ◌∷◌, ◌++◌, Result, Ok, Err, Option, Some, None, refl, sym, ap, subst, ◌∙◌, arith, inl, inr, is_some, is_none}
+use Rattle.std.proofs.Common.{◌≡◌, ℕ, zero, suc, ◌+◌, ◌≤◌, false, ◌&&◌, eqb, ltb, List, [], ◌∷◌, Result, Ok, Err, Option, Some, None, refl, subst, arith, inl, inr, is_some, is_none}
 use Rattle.std.specs.Prelude.{◌⊎◌}
 use Rattle.std.proofs.lemmas.Bool.{le-ltb}
 use Rattle.sms_control.specs.declared.fault.CpFault.{CpFault}
@@ -14,9 +14,9 @@ use Rattle.sms_control.specs.declared.link_state.LinkState.{LinkState}
 use Rattle.sms_control.specs.declared.timers.Firing.{Firing}
 use Rattle.sms_control.specs.declared.timers.Firing.TheVariants.{Idle, Again, Closes}
 use Rattle.sms_control.specs.ControlReading.{cp_at}
-use Rattle.sms_control.specs.Timers.{tr1, later, repetition_firing, begun_firing, opened_firing}
-use Rattle.sms_control.specs.LinkStep.{Step, fresh, quiet, is_busy, begin_step, reply_in, reply_step, answer_taken, opening_taken, data_taken, ack_taken, error_taken, frame_taken, take_step, fired, fire_step, is_same, opening_of, answer_of, has_begun, has_opened}
-use Rattle.sms_control.specs.LinkRuns.{Call, Begin, Reply, Take, Fire, step, run, ends_by, ends, FiresPast, Rising, ticks}
+use Rattle.sms_control.specs.Timers.{tr1, later, begun_firing, opened_firing}
+use Rattle.sms_control.specs.LinkStep.{Step, quiet, is_busy, begin_step, reply_in, reply_step, data_taken, ack_taken, error_taken, frame_taken, take_step, fired, fire_step, is_same, opening_of, answer_of, has_begun, has_opened}
+use Rattle.sms_control.specs.LinkRuns.{Call, Begin, Reply, Take, Fire, step, ends_by, ends, FiresPast, Rising, ticks}
 use Rattle.sms_control.proofs.LinkLaws.{either, state_of}
 
 -- under way until that moment

@@ -1,7 +1,7 @@
 -- What one side of a link does over a list of calls, as the layer above and the link see it.
 use Rattle.std.specs.Prelude.{◌≡◌, ℕ, ◌+◌, ◌<◌, ◌≤◌, ◌⊎◌, List, [], ◌∷◌, Option, Some, None, Ok, IsSome}
 use Rattle.sms_control.specs.declared.transaction.TransactionFlag.TheVariants.{FromOriginator, ToOriginator}
-use Rattle.sms_control.specs.declared.message.Cp.TheVariants.{DataUnit, AckUnit}
+use Rattle.sms_control.specs.declared.message.Cp.TheVariants.{AckUnit}
 use Rattle.sms_control.specs.declared.link_state.Opened.{Opened}
 use Rattle.sms_control.specs.declared.link_state.LinkState.{LinkState}
 use Rattle.sms_control.specs.declared.out.Out.{Out}

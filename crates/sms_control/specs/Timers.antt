@@ -1,6 +1,6 @@
 -- The timers of a transaction (3GPP TS 24.011 5.3.2 and 6.2): TC1* repeats CP-DATA that is not acknowledged, and
 -- TR1N or TR1M, here TR1, ends a transaction that this side began. The lengths are this project's profile.
-use Rattle.std.specs.Prelude.{ℕ, ◌+◌, ◌-◌, min, nat_lt, ◌==◌, if◌then◌else◌, Option, Some, None, List, [], ◌∷◌}
+use Rattle.std.specs.Prelude.{ℕ, ◌+◌, ◌-◌, min, nat_lt, ◌==◌, if◌then◌else◌, Option, Some, None}
 use Rattle.sms_control.specs.declared.link_state.Repetition.{Repetition}
 use Rattle.sms_control.specs.declared.link_state.Begun.{Begun}
 use Rattle.sms_control.specs.declared.link_state.Answer.{Answer}
