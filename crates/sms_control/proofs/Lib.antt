@@ -1,0 +1,5 @@
+pub mod ControlFrames
+pub mod LinkLaws
+pub mod ReplyLaws
+pub mod TickLaws
+pub mod RepeatLaws

@@ -1,0 +1,5 @@
+pub mod ControlGrammar
+pub mod ControlReading
+pub mod Timers
+pub mod LinkStep
+pub mod LinkRuns
