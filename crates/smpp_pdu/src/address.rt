@@ -1,0 +1,29 @@
+ghost use Rattle.std.specs.Prelude.{◌≡◌};
+ghost use Rattle.sms_base.specs.Reading.{Takes};
+ghost use Rattle.smpp_pdu.specs.BodyReading.{address_in};
+
+use crate::fault::PduFault;
+use crate::fields::c_string;
+use sms_base::{Cursor, OctetView};
+
+/// The address of a short message entity as it stands in a PDU, which may be none that the centre takes.
+#[derive(Debug, Drop)]
+pub struct SmeAddress<'a> {
+    pub ton: u8,
+    pub npi: u8,
+    /// Up to 20 octets.
+    pub addr: OctetView<'a>,
+}
+
+impl<'a> SmeAddress<'a> {
+    // The address that is next.
+    #[tactic(auto, unfolding(crate::specs::BodyReading::address_in))]
+    pub(crate) fn read(cursor: &mut Cursor<'a>) -> Result<SmeAddress<'a>, PduFault>
+        ensures { Takes (λ x. x) result cursor.new (address_in cursor.old) }
+    {
+        let ton = cursor.octet(PduFault::Truncated)?;
+        let npi = cursor.octet(PduFault::Truncated)?;
+        let addr = c_string(cursor, 21)?;
+        Ok(SmeAddress { ton, npi, addr })
+    }
+}

@@ -1,0 +1,71 @@
+ghost use Rattle.std.specs.Prelude.{◌≡◌};
+ghost use Rattle.smpp_pdu.specs.BodyReading.{bind_at, bind_resp_at};
+
+use crate::fault::PduFault;
+use crate::fields::c_string;
+use crate::tlv::{Tlvs, optional_parameters};
+use sms_base::{Cursor, OctetView};
+
+/// What an application binds with (SMPP v3.4 4.1.1, 4.1.3, 4.1.5), which has no optional parameters.
+#[derive(Debug, Drop)]
+pub struct Bind<'a> {
+    /// Up to 15 octets.
+    pub system_id: OctetView<'a>,
+    /// Up to 8 octets.
+    pub password: OctetView<'a>,
+    /// Up to 12 octets.
+    pub system_type: OctetView<'a>,
+    pub interface_version: u8,
+    pub addr_ton: u8,
+    pub addr_npi: u8,
+    /// Up to 40 octets.
+    pub address_range: OctetView<'a>,
+}
+
+/// The answer to a bind (SMPP v3.4 4.1.2, 4.1.4, 4.1.6).
+#[derive(Debug, Drop)]
+pub struct BindResp<'a> {
+    /// The name of the centre, up to 15 octets.
+    pub system_id: OctetView<'a>,
+    pub tlvs: Tlvs<'a>,
+}
+
+impl<'a> Bind<'a> {
+    // The body of a bind.
+    #[tactic(auto, unfolding(crate::specs::BodyReading::bind_at))]
+    pub(crate) fn read(octets: &'a [u8]) -> Result<Bind<'a>, PduFault>
+        ensures { result ≡ bind_at octets.entry.now }
+    {
+        let mut cursor = Cursor::of(octets);
+        let system_id = c_string(&mut cursor, 16)?;
+        let password = c_string(&mut cursor, 9)?;
+        let system_type = c_string(&mut cursor, 13)?;
+        let interface_version = cursor.octet(PduFault::Truncated)?;
+        let addr_ton = cursor.octet(PduFault::Truncated)?;
+        let addr_npi = cursor.octet(PduFault::Truncated)?;
+        let address_range = c_string(&mut cursor, 41)?;
+        cursor.end(PduFault::BadLength)?;
+        Ok(Bind {
+            system_id,
+            password,
+            system_type,
+            interface_version,
+            addr_ton,
+            addr_npi,
+            address_range,
+        })
+    }
+}
+
+impl<'a> BindResp<'a> {
+    // The body of an answer to a bind.
+    #[tactic(auto, unfolding(crate::specs::BodyReading::bind_resp_at))]
+    pub(crate) fn read(octets: &'a [u8]) -> Result<BindResp<'a>, PduFault>
+        ensures { result ≡ bind_resp_at octets.entry.now }
+    {
+        let mut cursor = Cursor::of(octets);
+        let system_id = c_string(&mut cursor, 16)?;
+        let tlvs = optional_parameters(&mut cursor)?;
+        Ok(BindResp { system_id, tlvs })
+    }
+}

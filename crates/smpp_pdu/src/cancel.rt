@@ -1,0 +1,39 @@
+ghost use Rattle.std.specs.Prelude.{◌≡◌};
+ghost use Rattle.smpp_pdu.specs.BodyReading.{cancel_at};
+
+use crate::address::SmeAddress;
+use crate::fault::PduFault;
+use crate::fields::c_string;
+use sms_base::{Cursor, OctetView};
+
+/// A wish that a message is not delivered (SMPP v3.4 4.9.1).
+#[derive(Debug, Drop)]
+pub struct CancelSm<'a> {
+    /// Up to 5 octets.
+    pub service_type: OctetView<'a>,
+    /// Up to 64 octets.
+    pub message_id: OctetView<'a>,
+    pub source: SmeAddress<'a>,
+    pub destination: SmeAddress<'a>,
+}
+
+impl<'a> CancelSm<'a> {
+    // The body of a cancel_sm.
+    #[tactic(auto, unfolding(crate::specs::BodyReading::cancel_at))]
+    pub(crate) fn read(octets: &'a [u8]) -> Result<CancelSm<'a>, PduFault>
+        ensures { result ≡ cancel_at octets.entry.now }
+    {
+        let mut cursor = Cursor::of(octets);
+        let service_type = c_string(&mut cursor, 6)?;
+        let message_id = c_string(&mut cursor, 65)?;
+        let source = SmeAddress::read(&mut cursor)?;
+        let destination = SmeAddress::read(&mut cursor)?;
+        cursor.end(PduFault::BadLength)?;
+        Ok(CancelSm {
+            service_type,
+            message_id,
+            source,
+            destination,
+        })
+    }
+}

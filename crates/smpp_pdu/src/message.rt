@@ -1,0 +1,91 @@
+ghost use Rattle.std.specs.Prelude.{◌≡◌};
+ghost use Rattle.smpp_pdu.specs.BodyReading.{message_at, message_resp_at};
+
+use crate::address::SmeAddress;
+use crate::fault::PduFault;
+use crate::fields::{c_string, short_message, time};
+use crate::tlv::{Tlvs, optional_parameters};
+use sms_base::{Cursor, OctetView};
+
+/// A message that is submitted (SMPP v3.4 4.4.1) or delivered (4.6.1).
+#[derive(Debug, Drop)]
+pub struct Message<'a> {
+    /// Up to 5 octets.
+    pub service_type: OctetView<'a>,
+    pub source: SmeAddress<'a>,
+    pub destination: SmeAddress<'a>,
+    pub esm_class: u8,
+    pub protocol_id: u8,
+    pub priority_flag: u8,
+    /// None or 16 octets.
+    pub schedule_delivery_time: OctetView<'a>,
+    /// None or 16 octets.
+    pub validity_period: OctetView<'a>,
+    pub registered_delivery: u8,
+    pub replace_if_present_flag: u8,
+    pub data_coding: u8,
+    pub sm_default_msg_id: u8,
+    /// Up to 254 octets.
+    pub short_message: OctetView<'a>,
+    pub tlvs: Tlvs<'a>,
+}
+
+/// The answer to a message (SMPP v3.4 4.4.2, 4.6.2).
+#[derive(Debug, Drop)]
+pub struct MessageResp<'a> {
+    /// The number that the centre gave the message, up to 64 octets, none of a message that was delivered.
+    pub message_id: OctetView<'a>,
+}
+
+impl<'a> Message<'a> {
+    // The body of a message.
+    #[tactic(auto, unfolding(crate::specs::BodyReading::message_at))]
+    pub(crate) fn read(octets: &'a [u8]) -> Result<Message<'a>, PduFault>
+        ensures { result ≡ message_at octets.entry.now }
+    {
+        let mut cursor = Cursor::of(octets);
+        let service_type = c_string(&mut cursor, 6)?;
+        let source = SmeAddress::read(&mut cursor)?;
+        let destination = SmeAddress::read(&mut cursor)?;
+        let esm_class = cursor.octet(PduFault::Truncated)?;
+        let protocol_id = cursor.octet(PduFault::Truncated)?;
+        let priority_flag = cursor.octet(PduFault::Truncated)?;
+        let schedule_delivery_time = time(&mut cursor)?;
+        let validity_period = time(&mut cursor)?;
+        let registered_delivery = cursor.octet(PduFault::Truncated)?;
+        let replace_if_present_flag = cursor.octet(PduFault::Truncated)?;
+        let data_coding = cursor.octet(PduFault::Truncated)?;
+        let sm_default_msg_id = cursor.octet(PduFault::Truncated)?;
+        let short_message = short_message(&mut cursor)?;
+        let tlvs = optional_parameters(&mut cursor)?;
+        Ok(Message {
+            service_type,
+            source,
+            destination,
+            esm_class,
+            protocol_id,
+            priority_flag,
+            schedule_delivery_time,
+            validity_period,
+            registered_delivery,
+            replace_if_present_flag,
+            data_coding,
+            sm_default_msg_id,
+            short_message,
+            tlvs,
+        })
+    }
+}
+
+impl<'a> MessageResp<'a> {
+    // The body of an answer to a message.
+    #[tactic(auto, unfolding(crate::specs::BodyReading::message_resp_at))]
+    pub(crate) fn read(octets: &'a [u8]) -> Result<MessageResp<'a>, PduFault>
+        ensures { result ≡ message_resp_at octets.entry.now }
+    {
+        let mut cursor = Cursor::of(octets);
+        let message_id = c_string(&mut cursor, 65)?;
+        cursor.end(PduFault::BadLength)?;
+        Ok(MessageResp { message_id })
+    }
+}

@@ -1,0 +1,61 @@
+ghost use Rattle.std.specs.Prelude.{◌≡◌};
+ghost use Rattle.smpp_pdu.specs.BodyReading.{query_at, query_resp_at};
+
+use crate::address::SmeAddress;
+use crate::fault::PduFault;
+use crate::fields::{c_string, time};
+use sms_base::{Cursor, OctetView};
+
+/// A question for a message's state (SMPP v3.4 4.8.1).
+#[derive(Debug, Drop)]
+pub struct QuerySm<'a> {
+    /// Up to 64 octets.
+    pub message_id: OctetView<'a>,
+    pub source: SmeAddress<'a>,
+}
+
+/// A message's state (SMPP v3.4 4.8.2).
+#[derive(Debug, Drop)]
+pub struct QuerySmResp<'a> {
+    /// Up to 64 octets.
+    pub message_id: OctetView<'a>,
+    /// When it became final, 16 octets, or none.
+    pub final_date: OctetView<'a>,
+    pub message_state: u8,
+    pub error_code: u8,
+}
+
+impl<'a> QuerySm<'a> {
+    // The body of a question.
+    #[tactic(auto, unfolding(crate::specs::BodyReading::query_at))]
+    pub(crate) fn read(octets: &'a [u8]) -> Result<QuerySm<'a>, PduFault>
+        ensures { result ≡ query_at octets.entry.now }
+    {
+        let mut cursor = Cursor::of(octets);
+        let message_id = c_string(&mut cursor, 65)?;
+        let source = SmeAddress::read(&mut cursor)?;
+        cursor.end(PduFault::BadLength)?;
+        Ok(QuerySm { message_id, source })
+    }
+}
+
+impl<'a> QuerySmResp<'a> {
+    // The body of its answer.
+    #[tactic(auto, unfolding(crate::specs::BodyReading::query_resp_at))]
+    pub(crate) fn read(octets: &'a [u8]) -> Result<QuerySmResp<'a>, PduFault>
+        ensures { result ≡ query_resp_at octets.entry.now }
+    {
+        let mut cursor = Cursor::of(octets);
+        let message_id = c_string(&mut cursor, 65)?;
+        let final_date = time(&mut cursor)?;
+        let message_state = cursor.octet(PduFault::Truncated)?;
+        let error_code = cursor.octet(PduFault::Truncated)?;
+        cursor.end(PduFault::BadLength)?;
+        Ok(QuerySmResp {
+            message_id,
+            final_date,
+            message_state,
+            error_code,
+        })
+    }
+}
