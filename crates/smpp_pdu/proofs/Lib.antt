@@ -1,3 +1,5 @@
+pub mod BodyLaws
 pub mod FieldLaws
+pub mod PduLaws
 pub mod Scans
 pub mod TlvLaws

@@ -4,5 +4,7 @@ pub mod Commands
 pub mod Faults
 pub mod FieldReading
 pub mod Fields
+pub mod PduGrammar
+pub mod PduReading
 pub mod TlvReading
 pub mod Tlvs

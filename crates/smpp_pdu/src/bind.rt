@@ -1,4 +1,5 @@
 ghost use Rattle.std.specs.Prelude.{◌≡◌};
+ghost use Rattle.smpp_pdu.specs.PduReading.{or_none};
 ghost use Rattle.smpp_pdu.specs.BodyReading.{bind_at, bind_resp_at};
 
 use crate::fault::PduFault;
@@ -67,5 +68,16 @@ impl<'a> BindResp<'a> {
         let system_id = c_string(&mut cursor, 16)?;
         let tlvs = optional_parameters(&mut cursor)?;
         Ok(BindResp { system_id, tlvs })
+    }
+
+    // The body of a response, if it has one.
+    pub(crate) fn read_if_any(octets: &'a [u8]) -> Result<Option<BindResp<'a>>, PduFault>
+        ensures { result ≡ or_none bind_resp_at octets.entry.now }
+    {
+        if octets.is_empty() {
+            return Ok(None);
+        }
+        let body = BindResp::read(octets)?;
+        Ok(Some(body))
     }
 }

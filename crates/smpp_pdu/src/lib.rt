@@ -3,19 +3,25 @@
 
 mod address;
 mod bind;
+mod body;
 mod cancel;
 mod command;
 mod fault;
 mod fields;
+mod header;
 mod message;
+mod pdu;
 mod query;
 mod tlv;
 
 pub use address::SmeAddress;
 pub use bind::{Bind, BindResp};
+pub use body::Body;
 pub use cancel::CancelSm;
 pub use command::CommandId;
 pub use fault::PduFault;
+pub use header::Header;
 pub use message::{Message, MessageResp};
+pub use pdu::Pdu;
 pub use query::{QuerySm, QuerySmResp};
 pub use tlv::{TlvTag, Tlvs};

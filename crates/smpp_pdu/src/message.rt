@@ -1,4 +1,5 @@
 ghost use Rattle.std.specs.Prelude.{◌≡◌};
+ghost use Rattle.smpp_pdu.specs.PduReading.{or_none};
 ghost use Rattle.smpp_pdu.specs.BodyReading.{message_at, message_resp_at};
 
 use crate::address::SmeAddress;
@@ -87,5 +88,16 @@ impl<'a> MessageResp<'a> {
         let message_id = c_string(&mut cursor, 65)?;
         cursor.end(PduFault::BadLength)?;
         Ok(MessageResp { message_id })
+    }
+
+    // The body of a response, if it has one.
+    pub(crate) fn read_if_any(octets: &'a [u8]) -> Result<Option<MessageResp<'a>>, PduFault>
+        ensures { result ≡ or_none message_resp_at octets.entry.now }
+    {
+        if octets.is_empty() {
+            return Ok(None);
+        }
+        let body = MessageResp::read(octets)?;
+        Ok(Some(body))
     }
 }

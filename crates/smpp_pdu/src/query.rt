@@ -1,4 +1,5 @@
 ghost use Rattle.std.specs.Prelude.{◌≡◌};
+ghost use Rattle.smpp_pdu.specs.PduReading.{or_none};
 ghost use Rattle.smpp_pdu.specs.BodyReading.{query_at, query_resp_at};
 
 use crate::address::SmeAddress;
@@ -57,5 +58,16 @@ impl<'a> QuerySmResp<'a> {
             message_state,
             error_code,
         })
+    }
+
+    // The body of a response, if it has one.
+    pub(crate) fn read_if_any(octets: &'a [u8]) -> Result<Option<QuerySmResp<'a>>, PduFault>
+        ensures { result ≡ or_none query_resp_at octets.entry.now }
+    {
+        if octets.is_empty() {
+            return Ok(None);
+        }
+        let body = QuerySmResp::read(octets)?;
+        Ok(Some(body))
     }
 }
