@@ -6,5 +6,7 @@ pub mod FieldReading
 pub mod Fields
 pub mod PduGrammar
 pub mod PduReading
+pub mod Statuses
 pub mod TlvReading
 pub mod Tlvs
+pub mod Writing

@@ -1,11 +1,15 @@
-ghost use Rattle.std.specs.Prelude.{◌≡◌};
+ghost use Rattle.std.specs.Prelude.{◌≡◌, ◌≤◌, ◌++◌, length, OnOk};
+ghost use Rattle.smpp_pdu.specs.BodyGrammar.{bind_octets};
+ghost use Rattle.smpp_pdu.specs.Writing.{written_bind_resp};
 ghost use Rattle.smpp_pdu.specs.PduReading.{or_none};
 ghost use Rattle.smpp_pdu.specs.BodyReading.{bind_at, bind_resp_at};
 
 use crate::fault::PduFault;
 use crate::fields::c_string;
 use crate::tlv::{Tlvs, optional_parameters};
-use sms_base::{Cursor, OctetView};
+use crate::writing::put_text;
+use sms_base::{Cursor, OctetView, Octets};
+use std::alloc::AllocError;
 
 /// What an application binds with (SMPP v3.4 4.1.1, 4.1.3, 4.1.5), which has no optional parameters.
 #[derive(Debug, Drop)]
@@ -56,6 +60,30 @@ impl<'a> Bind<'a> {
             address_range,
         })
     }
+
+    // How many octets are written.
+    #[tactic(auto, using(crate::proofs::Lengths::bind_length))]
+    pub(crate) fn len(&self) -> usize
+        requires { length (bind_octets self.now) ≤ 65520 }
+        ensures { result ≡ length (bind_octets self.now) }
+    {
+        self.system_id.as_slice().len() + self.password.as_slice().len() + self.system_type.as_slice().len() + self.address_range.as_slice().len() + 7
+    }
+
+    // Writes the octets.
+    pub(crate) fn put(&self, out: &mut Octets) -> Result<(), AllocError>
+        requires { length (bind_octets self.now) ≤ 65520 }
+        ensures { OnOk result (out.new ≡ out.old ++ bind_octets self.now) }
+    {
+        put_text(out, &self.system_id)?;
+        put_text(out, &self.password)?;
+        put_text(out, &self.system_type)?;
+        out.push(self.interface_version)?;
+        out.push(self.addr_ton)?;
+        out.push(self.addr_npi)?;
+        put_text(out, &self.address_range)?;
+        Ok(())
+    }
 }
 
 impl<'a> BindResp<'a> {
@@ -79,5 +107,24 @@ impl<'a> BindResp<'a> {
         }
         let body = BindResp::read(octets)?;
         Ok(Some(body))
+    }
+
+    // How many octets are written.
+    #[tactic(auto, using(crate::proofs::Lengths::bind_resp_length))]
+    pub(crate) fn len(&self) -> usize
+        requires { length (written_bind_resp self.now) ≤ 65520 }
+        ensures { result ≡ length (written_bind_resp self.now) }
+    {
+        self.system_id.as_slice().len() + self.tlvs.len() + 1
+    }
+
+    // Writes the octets.
+    pub(crate) fn put(&self, out: &mut Octets) -> Result<(), AllocError>
+        requires { length (written_bind_resp self.now) ≤ 65520 }
+        ensures { OnOk result (out.new ≡ out.old ++ written_bind_resp self.now) }
+    {
+        put_text(out, &self.system_id)?;
+        self.tlvs.put(out)?;
+        Ok(())
     }
 }

@@ -1,10 +1,13 @@
-ghost use Rattle.std.specs.Prelude.{◌≡◌};
+ghost use Rattle.std.specs.Prelude.{◌≡◌, ◌≤◌, ◌++◌, length, OnOk};
+ghost use Rattle.smpp_pdu.specs.BodyGrammar.{cancel_octets};
 ghost use Rattle.smpp_pdu.specs.BodyReading.{cancel_at};
 
 use crate::address::SmeAddress;
 use crate::fault::PduFault;
 use crate::fields::c_string;
-use sms_base::{Cursor, OctetView};
+use crate::writing::put_text;
+use sms_base::{Cursor, OctetView, Octets};
+use std::alloc::AllocError;
 
 /// A wish that a message is not delivered (SMPP v3.4 4.9.1).
 #[derive(Debug, Drop)]
@@ -35,5 +38,26 @@ impl<'a> CancelSm<'a> {
             source,
             destination,
         })
+    }
+
+    // How many octets are written.
+    #[tactic(auto, using(crate::proofs::Lengths::cancel_length))]
+    pub(crate) fn len(&self) -> usize
+        requires { length (cancel_octets self.now) ≤ 65520 }
+        ensures { result ≡ length (cancel_octets self.now) }
+    {
+        self.service_type.as_slice().len() + self.message_id.as_slice().len() + self.source.len() + self.destination.len() + 2
+    }
+
+    // Writes the octets.
+    pub(crate) fn put(&self, out: &mut Octets) -> Result<(), AllocError>
+        requires { length (cancel_octets self.now) ≤ 65520 }
+        ensures { OnOk result (out.new ≡ out.old ++ cancel_octets self.now) }
+    {
+        put_text(out, &self.service_type)?;
+        put_text(out, &self.message_id)?;
+        self.source.put(out)?;
+        self.destination.put(out)?;
+        Ok(())
     }
 }

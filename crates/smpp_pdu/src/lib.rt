@@ -12,7 +12,9 @@ mod header;
 mod message;
 mod pdu;
 mod query;
+mod status;
 mod tlv;
+mod writing;
 
 pub use address::SmeAddress;
 pub use bind::{Bind, BindResp};
@@ -24,4 +26,5 @@ pub use header::Header;
 pub use message::{Message, MessageResp};
 pub use pdu::Pdu;
 pub use query::{QuerySm, QuerySmResp};
+pub use status::CommandStatus;
 pub use tlv::{TlvTag, Tlvs};

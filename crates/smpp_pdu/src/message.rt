@@ -1,4 +1,6 @@
-ghost use Rattle.std.specs.Prelude.{◌≡◌};
+ghost use Rattle.std.specs.Prelude.{◌≡◌, ◌≤◌, ◌++◌, length, OnOk};
+ghost use Rattle.smpp_pdu.specs.BodyGrammar.{message_resp_octets};
+ghost use Rattle.smpp_pdu.specs.Writing.{written_message};
 ghost use Rattle.smpp_pdu.specs.PduReading.{or_none};
 ghost use Rattle.smpp_pdu.specs.BodyReading.{message_at, message_resp_at};
 
@@ -6,7 +8,9 @@ use crate::address::SmeAddress;
 use crate::fault::PduFault;
 use crate::fields::{c_string, short_message, time};
 use crate::tlv::{Tlvs, optional_parameters};
-use sms_base::{Cursor, OctetView};
+use crate::writing::{put_counted, put_text};
+use sms_base::{Cursor, OctetView, Octets};
+use std::alloc::AllocError;
 
 /// A message that is submitted (SMPP v3.4 4.4.1) or delivered (4.6.1).
 #[derive(Debug, Drop)]
@@ -76,6 +80,37 @@ impl<'a> Message<'a> {
             tlvs,
         })
     }
+
+    // How many octets are written.
+    #[tactic(auto, using(crate::proofs::Lengths::message_length))]
+    pub(crate) fn len(&self) -> usize
+        requires { length (written_message self.now) ≤ 65520 }
+        ensures { result ≡ length (written_message self.now) }
+    {
+        self.service_type.as_slice().len() + self.source.len() + self.destination.len() + self.schedule_delivery_time.as_slice().len() + self.validity_period.as_slice().len() + self.short_message.as_slice().len() + self.tlvs.len() + 11
+    }
+
+    // Writes the octets.
+    pub(crate) fn put(&self, out: &mut Octets) -> Result<(), AllocError>
+        requires { length (written_message self.now) ≤ 65520 }
+        ensures { OnOk result (out.new ≡ out.old ++ written_message self.now) }
+    {
+        put_text(out, &self.service_type)?;
+        self.source.put(out)?;
+        self.destination.put(out)?;
+        out.push(self.esm_class)?;
+        out.push(self.protocol_id)?;
+        out.push(self.priority_flag)?;
+        put_text(out, &self.schedule_delivery_time)?;
+        put_text(out, &self.validity_period)?;
+        out.push(self.registered_delivery)?;
+        out.push(self.replace_if_present_flag)?;
+        out.push(self.data_coding)?;
+        out.push(self.sm_default_msg_id)?;
+        put_counted(out, &self.short_message)?;
+        self.tlvs.put(out)?;
+        Ok(())
+    }
 }
 
 impl<'a> MessageResp<'a> {
@@ -99,5 +134,23 @@ impl<'a> MessageResp<'a> {
         }
         let body = MessageResp::read(octets)?;
         Ok(Some(body))
+    }
+
+    // How many octets are written.
+    #[tactic(auto, using(crate::proofs::Lengths::message_resp_length))]
+    pub(crate) fn len(&self) -> usize
+        requires { length (message_resp_octets self.now) ≤ 65520 }
+        ensures { result ≡ length (message_resp_octets self.now) }
+    {
+        self.message_id.as_slice().len() + 1
+    }
+
+    // Writes the octets.
+    pub(crate) fn put(&self, out: &mut Octets) -> Result<(), AllocError>
+        requires { length (message_resp_octets self.now) ≤ 65520 }
+        ensures { OnOk result (out.new ≡ out.old ++ message_resp_octets self.now) }
+    {
+        put_text(out, &self.message_id)?;
+        Ok(())
     }
 }

@@ -1,11 +1,14 @@
-ghost use Rattle.std.specs.Prelude.{◌≡◌};
+ghost use Rattle.std.specs.Prelude.{◌≡◌, ◌≤◌, ◌++◌, length, OnOk};
+ghost use Rattle.smpp_pdu.specs.BodyGrammar.{query_octets, query_resp_octets};
 ghost use Rattle.smpp_pdu.specs.PduReading.{or_none};
 ghost use Rattle.smpp_pdu.specs.BodyReading.{query_at, query_resp_at};
 
 use crate::address::SmeAddress;
 use crate::fault::PduFault;
 use crate::fields::{c_string, time};
-use sms_base::{Cursor, OctetView};
+use crate::writing::put_text;
+use sms_base::{Cursor, OctetView, Octets};
+use std::alloc::AllocError;
 
 /// A question for a message's state (SMPP v3.4 4.8.1).
 #[derive(Debug, Drop)]
@@ -38,6 +41,25 @@ impl<'a> QuerySm<'a> {
         cursor.end(PduFault::BadLength)?;
         Ok(QuerySm { message_id, source })
     }
+
+    // How many octets are written.
+    #[tactic(auto, using(crate::proofs::Lengths::query_length))]
+    pub(crate) fn len(&self) -> usize
+        requires { length (query_octets self.now) ≤ 65520 }
+        ensures { result ≡ length (query_octets self.now) }
+    {
+        self.message_id.as_slice().len() + self.source.len() + 1
+    }
+
+    // Writes the octets.
+    pub(crate) fn put(&self, out: &mut Octets) -> Result<(), AllocError>
+        requires { length (query_octets self.now) ≤ 65520 }
+        ensures { OnOk result (out.new ≡ out.old ++ query_octets self.now) }
+    {
+        put_text(out, &self.message_id)?;
+        self.source.put(out)?;
+        Ok(())
+    }
 }
 
 impl<'a> QuerySmResp<'a> {
@@ -69,5 +91,26 @@ impl<'a> QuerySmResp<'a> {
         }
         let body = QuerySmResp::read(octets)?;
         Ok(Some(body))
+    }
+
+    // How many octets are written.
+    #[tactic(auto, using(crate::proofs::Lengths::query_resp_length))]
+    pub(crate) fn len(&self) -> usize
+        requires { length (query_resp_octets self.now) ≤ 65520 }
+        ensures { result ≡ length (query_resp_octets self.now) }
+    {
+        self.message_id.as_slice().len() + self.final_date.as_slice().len() + 4
+    }
+
+    // Writes the octets.
+    pub(crate) fn put(&self, out: &mut Octets) -> Result<(), AllocError>
+        requires { length (query_resp_octets self.now) ≤ 65520 }
+        ensures { OnOk result (out.new ≡ out.old ++ query_resp_octets self.now) }
+    {
+        put_text(out, &self.message_id)?;
+        put_text(out, &self.final_date)?;
+        out.push(self.message_state)?;
+        out.push(self.error_code)?;
+        Ok(())
     }
 }

@@ -1,11 +1,14 @@
-ghost use Rattle.std.specs.Prelude.{◌≡◌, List, ℕ};
+ghost use Rattle.std.specs.Prelude.{◌≡◌, ◌≤◌, ◌++◌, length, OnOk};
 ghost use Rattle.sms_base.specs.Reading.{Takes};
-ghost use Rattle.smpp_pdu.specs.Tlvs.{tag_number, no_tlvs, keep};
+ghost use Rattle.smpp_pdu.specs.Tlvs.{tag_number, tlv_octets, tlv_of, no_tlvs, keep};
+ghost use Rattle.smpp_pdu.specs.Writing.{written_tlvs, written_len};
 ghost use Rattle.smpp_pdu.specs.TlvReading.{tlv_in, tlvs_at};
 
 use crate::fault::PduFault;
 use crate::fields::two;
-use sms_base::{Cursor, OctetView};
+use crate::writing::put_two;
+use sms_base::{Cursor, OctetView, Octets};
+use std::alloc::AllocError;
 
 /// The optional parameters that are used, each with its tag (SMPP v3.4 5.3.1).
 #[derive(Clone, Copy, Debug, PartialEq, Eq)]
@@ -77,6 +80,35 @@ impl<'a> Tlvs<'a> {
             self.message_state = Some(OctetView::of(value));
         }
     }
+
+    // How many octets are written.
+    #[tactic(auto, using(crate::proofs::Lengths::tlvs_length))]
+    pub(crate) fn len(&self) -> usize
+        requires { length (written_tlvs self.now) ≤ 65520 }
+        ensures { result ≡ length (written_tlvs self.now) }
+    {
+        len_of(&self.sar_msg_ref_num)
+            + len_of(&self.sar_total_segments)
+            + len_of(&self.sar_segment_seqnum)
+            + len_of(&self.message_payload)
+            + len_of(&self.receipted_message_id)
+            + len_of(&self.message_state)
+    }
+
+    // Writes the values that are there.
+    #[tactic(auto, using(crate::proofs::Lengths::tlvs_split))]
+    pub(crate) fn put(&self, out: &mut Octets) -> Result<(), AllocError>
+        requires { length (written_tlvs self.now) ≤ 65520 }
+        ensures { OnOk result (out.new ≡ out.old ++ written_tlvs self.now) }
+    {
+        put_tlv(out, TlvTag::SarMsgRefNum, &self.sar_msg_ref_num)?;
+        put_tlv(out, TlvTag::SarTotalSegments, &self.sar_total_segments)?;
+        put_tlv(out, TlvTag::SarSegmentSeqnum, &self.sar_segment_seqnum)?;
+        put_tlv(out, TlvTag::MessagePayload, &self.message_payload)?;
+        put_tlv(out, TlvTag::ReceiptedMessageId, &self.receipted_message_id)?;
+        put_tlv(out, TlvTag::MessageState, &self.message_state)?;
+        Ok(())
+    }
 }
 
 // An optional parameter: its tag and its value.
@@ -100,4 +132,28 @@ pub(crate) fn optional_parameters<'a>(cursor: &mut Cursor<'a>) -> Result<Tlvs<'a
         tlvs.keep(tag, value);
     }
     Ok(tlvs)
+}
+
+// How many octets a parameter is written with, if it is there.
+fn len_of(value: &Option<OctetView<'_>>) -> usize
+    requires { written_len value.now ≤ 65520 }
+    ensures { result ≡ written_len value.now }
+{
+    match value {
+        Some(value) => 4 + value.as_slice().len(),
+        None => 0,
+    }
+}
+
+// Writes a parameter, if it is there.
+fn put_tlv(out: &mut Octets, tag: TlvTag, value: &Option<OctetView<'_>>) -> Result<(), AllocError>
+    requires { written_len value.now ≤ 65520 }
+    ensures { OnOk result (out.new ≡ out.old ++ tlv_octets (tlv_of tag value.now)) }
+{
+    if let Some(value) = value {
+        put_two(out, tag.number())?;
+        put_two(out, value.as_slice().len() as u16)?;
+        out.append(value.as_slice())?;
+    }
+    Ok(())
 }
