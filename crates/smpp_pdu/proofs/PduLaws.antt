@@ -142,11 +142,11 @@ take_whole [] (suc n) e = absurd (omega arith)
 take_whole (x ∷ xs) zero e = absurd (omega arith)
 take_whole (x ∷ xs) (suc n) e = ap (λ (l : List ℕ). x ∷ l) (take_whole xs n (omega arith))
 
-record Filled (command : CommandId) (n : ℕ) (xs : List ℕ) (b : Body) : Type 0 where
-  length_is : length xs ≡ n
-  reads : body_at command xs ≡ Ok b
+pub record Filled (command : CommandId) (n : ℕ) (xs : List ℕ) (b : Body) : Type 0 where
+  pub length_is : length xs ≡ n
+  pub reads : body_at command xs ≡ Ok b
 
-body_in_takes : (c : CommandId) (n : ℕ) (xs : List ℕ) (b : Body) → body_in c n xs ≡ Ok b → Filled c n xs b
+pub body_in_takes : (c : CommandId) (n : ℕ) (xs : List ℕ) (b : Body) → body_in c n xs ≡ Ok b → Filled c n xs b
 unfolding body_in
 body_in_takes c n xs b e = by_test (ltb (length xs) n) e where
   by_test : (t : Bool) → cond t (Err (cut_short (body_at c xs))) (body_at c (take n xs) >>= (λ body. only_if (eqb (length xs) n) BadLength >>= (λ whole. Ok body))) ≡ Ok b → Filled c n xs b

@@ -92,3 +92,6 @@ written pdu = pdu_octets pdu (written_body pdu.body)
 pub record IsWritable (pdu : Pdu) : Type 0 where
   pub fields : IsBodyValue pdu.body
   pub short : 16 + length (written_body pdu.body) ≤ 65536
+
+abbrev pub IsWritten : List ℕ → Pdu → Type 0
+IsWritten octets pdu = IsWritable pdu × (octets ≡ written pdu)

@@ -41,7 +41,6 @@ impl<'a> SmeAddress<'a> {
 
     // Writes the octets.
     pub(crate) fn put(&self, out: &mut Octets) -> Result<(), AllocError>
-        requires { length (address_octets self.now) ≤ 65520 }
         ensures { OnOk result (out.new ≡ out.old ++ address_octets self.now) }
     {
         out.push(self.ton)?;

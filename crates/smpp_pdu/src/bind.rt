@@ -72,7 +72,6 @@ impl<'a> Bind<'a> {
 
     // Writes the octets.
     pub(crate) fn put(&self, out: &mut Octets) -> Result<(), AllocError>
-        requires { length (bind_octets self.now) ≤ 65520 }
         ensures { OnOk result (out.new ≡ out.old ++ bind_octets self.now) }
     {
         put_text(out, &self.system_id)?;

@@ -1,8 +1,9 @@
-ghost use Rattle.std.specs.Prelude.{◌≡◌};
+ghost use Rattle.std.specs.Prelude.{◌≡◌, ◌≤◌, ◌++◌, length, OnOk};
 ghost use Rattle.sms_base.specs.Reading.{end_in};
 ghost use Rattle.smpp_pdu.specs.declared.fault.PduFault.TheVariants.{BadLength};
 ghost use Rattle.smpp_pdu.specs.PduGrammar.{command_of_body};
 ghost use Rattle.smpp_pdu.specs.PduReading.{body_at};
+ghost use Rattle.smpp_pdu.specs.Writing.{written_body, IsBodyValue};
 
 use crate::bind::{Bind, BindResp};
 use crate::cancel::CancelSm;
@@ -10,7 +11,8 @@ use crate::command::CommandId;
 use crate::fault::PduFault;
 use crate::message::{Message, MessageResp};
 use crate::query::{QuerySm, QuerySmResp};
-use sms_base::Cursor;
+use sms_base::{Cursor, Octets};
+use std::alloc::AllocError;
 
 /// The body of a PDU by its command. A response may have none.
 #[derive(Debug, Drop)]
@@ -107,6 +109,49 @@ impl<'a> Body<'a> {
                 nothing(octets)?;
                 Ok(Body::EnquireLinkResp)
             }
+        }
+    }
+
+    // How many octets are written.
+    pub(crate) fn len(&self) -> usize
+        requires { length (written_body self.now) ≤ 65520 }
+        ensures { result ≡ length (written_body self.now) }
+    {
+        match self {
+            Body::BindReceiver(body)
+            | Body::BindTransmitter(body)
+            | Body::BindTransceiver(body) => body.len(),
+            Body::SubmitSm(body) | Body::DeliverSm(body) => body.len(),
+            Body::QuerySm(body) => body.len(),
+            Body::CancelSm(body) => body.len(),
+            Body::BindReceiverResp(Some(body))
+            | Body::BindTransmitterResp(Some(body))
+            | Body::BindTransceiverResp(Some(body)) => body.len(),
+            Body::SubmitSmResp(Some(body)) | Body::DeliverSmResp(Some(body)) => body.len(),
+            Body::QuerySmResp(Some(body)) => body.len(),
+            _ => 0,
+        }
+    }
+
+    // Writes the octets.
+    pub(crate) fn put(&self, out: &mut Octets) -> Result<(), AllocError>
+        requires fields { IsBodyValue self.now }
+        requires short { length (written_body self.now) ≤ 65520 }
+        ensures { OnOk result (out.new ≡ out.old ++ written_body self.now) }
+    {
+        match self {
+            Body::BindReceiver(body)
+            | Body::BindTransmitter(body)
+            | Body::BindTransceiver(body) => body.put(out),
+            Body::SubmitSm(body) | Body::DeliverSm(body) => body.put(out),
+            Body::QuerySm(body) => body.put(out),
+            Body::CancelSm(body) => body.put(out),
+            Body::BindReceiverResp(Some(body))
+            | Body::BindTransmitterResp(Some(body))
+            | Body::BindTransceiverResp(Some(body)) => body.put(out),
+            Body::SubmitSmResp(Some(body)) | Body::DeliverSmResp(Some(body)) => body.put(out),
+            Body::QuerySmResp(Some(body)) => body.put(out),
+            _ => Ok(()),
         }
     }
 }

@@ -51,7 +51,6 @@ impl<'a> CancelSm<'a> {
 
     // Writes the octets.
     pub(crate) fn put(&self, out: &mut Octets) -> Result<(), AllocError>
-        requires { length (cancel_octets self.now) ≤ 65520 }
         ensures { OnOk result (out.new ≡ out.old ++ cancel_octets self.now) }
     {
         put_text(out, &self.service_type)?;

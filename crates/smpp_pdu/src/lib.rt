@@ -9,6 +9,7 @@ mod command;
 mod fault;
 mod fields;
 mod header;
+pub mod laws;
 mod message;
 mod pdu;
 mod query;

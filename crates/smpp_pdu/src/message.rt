@@ -1,5 +1,5 @@
 ghost use Rattle.std.specs.Prelude.{◌≡◌, ◌≤◌, ◌++◌, length, OnOk};
-ghost use Rattle.smpp_pdu.specs.BodyGrammar.{message_resp_octets};
+ghost use Rattle.smpp_pdu.specs.BodyGrammar.{IsMessageValue, message_resp_octets};
 ghost use Rattle.smpp_pdu.specs.Writing.{written_message};
 ghost use Rattle.smpp_pdu.specs.PduReading.{or_none};
 ghost use Rattle.smpp_pdu.specs.BodyReading.{message_at, message_resp_at};
@@ -92,7 +92,8 @@ impl<'a> Message<'a> {
 
     // Writes the octets.
     pub(crate) fn put(&self, out: &mut Octets) -> Result<(), AllocError>
-        requires { length (written_message self.now) ≤ 65520 }
+        requires limits { IsMessageValue self.now }
+        requires short { length (written_message self.now) ≤ 65520 }
         ensures { OnOk result (out.new ≡ out.old ++ written_message self.now) }
     {
         put_text(out, &self.service_type)?;
@@ -147,7 +148,6 @@ impl<'a> MessageResp<'a> {
 
     // Writes the octets.
     pub(crate) fn put(&self, out: &mut Octets) -> Result<(), AllocError>
-        requires { length (message_resp_octets self.now) ≤ 65520 }
         ensures { OnOk result (out.new ≡ out.old ++ message_resp_octets self.now) }
     {
         put_text(out, &self.message_id)?;

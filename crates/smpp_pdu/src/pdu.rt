@@ -2,13 +2,16 @@ ghost use Rattle.std.specs.Prelude.{◌≡◌, IfOk, Ok};
 ghost use Rattle.sms_base.specs.Reading.{Takes};
 ghost use Rattle.smpp_pdu.specs.PduGrammar.{IsPdu};
 ghost use Rattle.smpp_pdu.specs.PduReading.{body_in, cut_short, pdu_at};
+ghost use Rattle.smpp_pdu.specs.Writing.{IsWritable, written};
 ghost use Rattle.smpp_pdu.specs.declared.pdu.Pdu.{Pdu as PduOf};
 
 use crate::body::Body;
 use crate::command::CommandId;
 use crate::fault::PduFault;
 use crate::fields::four;
-use sms_base::Cursor;
+use crate::writing::put_four;
+use sms_base::{Cursor, Octets};
+use std::alloc::{AllocError, Global};
 
 /// A PDU over the octets that it was read from.
 #[derive(Debug, Drop)]
@@ -57,6 +60,33 @@ impl<'a> Pdu<'a> {
             sequence_number,
             body,
         })
+    }
+
+    /// The octets of the PDU, in one growth.
+    pub fn write(&self, alloc: Global) -> Result<Octets, AllocError>
+        requires { IsWritable self.now }
+        // The one list that is written.
+        ensures ok { IfOk result (λ octets. octets ≡ written self.now) }
+        // It is in the grammar.
+        ensures pdu { IfOk result (λ octets. IsPdu octets self.now) }
+        // It is read as the same value.
+        ensures again { IfOk result (λ octets. pdu_at octets ≡ Ok self.now) }
+    {
+        self.octets(alloc)
+    }
+
+    fn octets(&self, alloc: Global) -> Result<Octets, AllocError>
+        requires { IsWritable self.now }
+        ensures { IfOk result (λ octets. octets ≡ written self.now) }
+    {
+        let len = 16 + self.body.len();
+        let mut out = Octets::from_vec(Vec::with_capacity(alloc, len)?);
+        put_four(&mut out, len as u32)?;
+        put_four(&mut out, self.body.command().number())?;
+        put_four(&mut out, self.command_status)?;
+        put_four(&mut out, self.sequence_number)?;
+        self.body.put(&mut out)?;
+        Ok(out)
     }
 }
 

@@ -53,7 +53,6 @@ impl<'a> QuerySm<'a> {
 
     // Writes the octets.
     pub(crate) fn put(&self, out: &mut Octets) -> Result<(), AllocError>
-        requires { length (query_octets self.now) ≤ 65520 }
         ensures { OnOk result (out.new ≡ out.old ++ query_octets self.now) }
     {
         put_text(out, &self.message_id)?;
@@ -104,7 +103,6 @@ impl<'a> QuerySmResp<'a> {
 
     // Writes the octets.
     pub(crate) fn put(&self, out: &mut Octets) -> Result<(), AllocError>
-        requires { length (query_resp_octets self.now) ≤ 65520 }
         ensures { OnOk result (out.new ≡ out.old ++ query_resp_octets self.now) }
     {
         put_text(out, &self.message_id)?;
