@@ -119,14 +119,14 @@ cut_address =
 abbrev IsNotWrong : {Z : Type 0} → (List ℕ → Result Z PduFault) → Type 0
 IsNotWrong {Z} read = (xs ys : List ℕ) (z : Z) → read (xs ++ ys) ≡ Ok z → cut_short (read xs) ≡ Truncated
 
-end_short : {Z : Type 0} (f : PduFault) → IsEnd f → (let r : Result Z PduFault = Err f in cut_short r ≡ Truncated)
-end_short Truncated h = refl
-end_short BadLength h = refl
-end_short UnknownCommand h = refl
-end_short NoTerminator h = refl
-end_short BadTlv h = refl
-end_short FieldTooLong h = absurd cc
-end_short ShortMessageTooLong h = absurd cc
+end_short : (Z : Type 0) (f : PduFault) → IsEnd f → (let r : Result Z PduFault = Err f in cut_short r ≡ Truncated)
+end_short Z Truncated h = refl
+end_short Z BadLength h = refl
+end_short Z UnknownCommand h = refl
+end_short Z NoTerminator h = refl
+end_short Z BadTlv h = refl
+end_short Z FieldTooLong h = absurd cc
+end_short Z ShortMessageTooLong h = absurd cc
 
 then : {X Z : Type 0} (r : List ℕ → Result (X × List ℕ) PduFault) (k : X × List ℕ → Result Z PduFault) → IsCut r → ((x : X) → IsNotWrong (λ rest. k (x, rest))) → IsNotWrong (λ xs. r xs >>= k)
 then {X} {Z} r k hr hk xs ys z e =
@@ -135,7 +135,7 @@ then {X} {Z} r k hr hk xs ys z e =
       | inl p ↦
           let same : k (a.0.0, p.0 ++ ys) ≡ Ok z = ap (λ (l : List ℕ). k (a.0.0, l)) p.2 ∙ a.2 in
           ap (λ (m : Result (X × List ℕ) PduFault). cut_short (m >>= k)) p.1 ∙ hk a.0.0 p.0 ys z same
-      | inr p ↦ ap (λ (m : Result (X × List ℕ) PduFault). cut_short (m >>= k)) p.1 ∙ end_short p.0 p.2
+      | inr p ↦ ap (λ (m : Result (X × List ℕ) PduFault). cut_short (m >>= k)) p.1 ∙ end_short Z p.0 p.2
     ]
 
 at_end : {Z : Type 0} (v : Z) → IsNotWrong (λ xs. end_in BadLength xs >>= (λ u. Ok v))
@@ -154,7 +154,7 @@ two_ends (a ∷ b ∷ xs) = inl ((256 * a + b, xs), refl)
 run_ends : (n : ℕ) (xs : List ℕ) → OnlyEnds (run_in BadTlv n xs)
 unfolding run_in OnlyEnds
 run_ends n xs = by_test (ltb (length xs) n) where
-  by_test : (b : Bool) → OnlyEnds (cond b (Err BadTlv) (Ok (take n xs, drop n xs)))
+  by_test : (b : Bool) → OnlyEnds {Z = List ℕ × List ℕ} (cond b (Err BadTlv) (Ok (take n xs, drop n xs)))
   by_test true = inr refl
   by_test false = inl ((take n xs, drop n xs), refl)
 
