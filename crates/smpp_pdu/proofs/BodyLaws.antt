@@ -243,4 +243,3 @@ cancel_again xs v (limits, whole) =
     let r2 : List ℕ = address_octets v.source ++ r3 in
     let r1 : List ℕ = c_string v.message_id ++ r2 in
     rw (whole, c_string_again 6 v.service_type r1 limits.service_type, c_string_again 65 v.message_id r2 limits.message_id, address_again v.source r3 limits.source, last) refl
-

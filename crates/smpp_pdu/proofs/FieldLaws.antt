@@ -68,8 +68,8 @@ four_takes xs x h e =
     let whole : xs ≡ four n ++ b.0.1 = rw (high, low, last) (pa.parts ∙ ap (λ (l : List ℕ). a.0.0 / 256 ∷ a.0.0 % 256 ∷ l) pb.parts) in
     subst (λ (y : ℕ × List ℕ). Took (four y.0) xs y.1) g (record { parts = whole; octets = pb.octets })
   where
-  two_small : (n : ℕ) (rest : List ℕ) → AreOctets (two n ++ rest) → n < 65536
-  two_small n rest h = omega (arith, h.0)
+    two_small : (n : ℕ) (rest : List ℕ) → AreOctets (two n ++ rest) → n < 65536
+    two_small n rest h = omega (arith, h.0)
 
 pub four_again : (n : ℕ) (rest : List ℕ) → four_in (four n ++ rest) ≡ Ok (n, rest)
 unfolding four_in two_in

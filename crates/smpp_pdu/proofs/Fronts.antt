@@ -333,11 +333,11 @@ whole_body : (c : CommandId) (n : ℕ) → CutsWhole Truncated (body_in c n)
 whole_body c n xs ys b e =
     let filled = body_in_takes c n (xs ++ ys) b e in
     by_length (length ys) refl filled where
-  by_length : (m : ℕ) → length ys ≡ m → Filled c n (xs ++ ys) b → (ys ≡ []) ⊎ (body_in c n xs ≡ Err Truncated)
-  by_length zero len filled = inl (nothing_left ys len)
-  by_length (suc m) len filled =
-      let short : length xs < n = omega (arith, filled.length_is, length-append xs ys) in
-      inr (short_body c n xs short (body_front c xs ys b filled.reads))
+      by_length : (m : ℕ) → length ys ≡ m → Filled c n (xs ++ ys) b → (ys ≡ []) ⊎ (body_in c n xs ≡ Err Truncated)
+      by_length zero len filled = inl (nothing_left ys len)
+      by_length (suc m) len filled =
+          let short : length xs < n = omega (arith, filled.length_is, length-append xs ys) in
+          inr (short_body c n xs short (body_front c xs ys b filled.reads))
 
 whole_map : {A B : Type 0} (read : List ℕ → Result A PduFault) (k : A → Result B PduFault) → CutsWhole Truncated read → CutsWhole Truncated (λ xs. read xs >>= k)
 whole_map {A} read k h xs ys z e =

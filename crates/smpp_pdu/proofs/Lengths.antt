@@ -38,7 +38,7 @@ bind_resp_length r = omega (arith, text_length r.system_id (written_tlvs r.tlvs)
 
 pub message_length : (m : Message) → length (written_message m)
     ≡ length m.service_type + length (address_octets m.source) + length (address_octets m.destination) + length m.schedule_delivery_time + length m.validity_period
-        + length m.short_message + length (written_tlvs m.tlvs) + 11
+    + length m.short_message + length (written_tlvs m.tlvs) + 11
 message_length m =
     let r5 : List ℕ = counted m.short_message ++ written_tlvs m.tlvs in
     let r4 : List ℕ = m.registered_delivery ∷ m.replace_if_present_flag ∷ m.data_coding ∷ m.sm_default_msg_id ∷ r5 in

@@ -197,7 +197,7 @@ pdu_takes xs p h e =
     p1.parts ∙ ap (λ (l : List ℕ). four s1.0 ++ l) (p2.parts ∙ ap (λ (l : List ℕ). four s2.0 ++ l) (p3.parts ∙ ap (λ (l : List ℕ). four s3.0 ++ l) p4.parts)) in
     let whole : xs ≡ pdu_octets made s4.1 =
     spelled ∙ ap (λ (n : ℕ). four n ++ (four s2.0 ++ (four s3.0 ++ (four s4.0 ++ s4.1)))) len
-        ∙ ap (λ (n : ℕ). four (16 + length s4.1) ++ (four n ++ (four s3.0 ++ (four s4.0 ++ s4.1)))) id in
+    ∙ ap (λ (n : ℕ). four (16 + length s4.1) ++ (four n ++ (four s3.0 ++ (four s4.0 ++ s4.1)))) id in
     subst (IsPdu xs) (ok_is {E = PduFault} made p b7) (s4.1, is.is, omega (arith, len), whole))))))))
 
 pub pdu_again : (xs : List ℕ) (p : Pdu) → IsPdu xs p → pdu_at xs ≡ Ok p

@@ -21,12 +21,15 @@ header_in octets = do
   command_id ← four_in command_length.1
   command_status ← four_in command_id.1
   sequence_number ← four_in command_status.1
-  Ok (record {
-    command_length = command_length.0;
-    command_id = command_id.0;
-    command_status = command_status.0;
-    sequence_number = sequence_number.0;
-  }, sequence_number.1)
+  Ok (
+    record {
+      command_length = command_length.0;
+      command_id = command_id.0;
+      command_status = command_status.0;
+      sequence_number = sequence_number.0;
+    },
+    sequence_number.1,
+  )
 
 -- the body of a response, if it has one
 abbrev pub or_none : {A : Type 0} → (List ℕ → Result A PduFault) → List ℕ → Result (Option A) PduFault

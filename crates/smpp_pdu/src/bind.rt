@@ -67,7 +67,11 @@ impl<'a> Bind<'a> {
         requires { length (bind_octets self.now) ≤ 65520 }
         ensures { result ≡ length (bind_octets self.now) }
     {
-        self.system_id.as_slice().len() + self.password.as_slice().len() + self.system_type.as_slice().len() + self.address_range.as_slice().len() + 7
+        self.system_id.as_slice().len()
+            + self.password.as_slice().len()
+            + self.system_type.as_slice().len()
+            + self.address_range.as_slice().len()
+            + 7
     }
 
     // Writes the octets.

@@ -91,9 +91,15 @@ impl<'a> Body<'a> {
                 nothing(octets)?;
                 Ok(Body::GenericNack)
             }
-            CommandId::BindReceiverResp => Ok(Body::BindReceiverResp(BindResp::read_if_any(octets)?)),
-            CommandId::BindTransmitterResp => Ok(Body::BindTransmitterResp(BindResp::read_if_any(octets)?)),
-            CommandId::BindTransceiverResp => Ok(Body::BindTransceiverResp(BindResp::read_if_any(octets)?)),
+            CommandId::BindReceiverResp => Ok(Body::BindReceiverResp(BindResp::read_if_any(
+                octets,
+            )?)),
+            CommandId::BindTransmitterResp => Ok(Body::BindTransmitterResp(BindResp::read_if_any(
+                octets,
+            )?)),
+            CommandId::BindTransceiverResp => Ok(Body::BindTransceiverResp(BindResp::read_if_any(
+                octets,
+            )?)),
             CommandId::SubmitSmResp => Ok(Body::SubmitSmResp(MessageResp::read_if_any(octets)?)),
             CommandId::DeliverSmResp => Ok(Body::DeliverSmResp(MessageResp::read_if_any(octets)?)),
             CommandId::QuerySmResp => Ok(Body::QuerySmResp(QuerySmResp::read_if_any(octets)?)),
@@ -118,9 +124,8 @@ impl<'a> Body<'a> {
         ensures { result ≡ length (written_body self.now) }
     {
         match self {
-            Body::BindReceiver(body)
-            | Body::BindTransmitter(body)
-            | Body::BindTransceiver(body) => body.len(),
+            Body::BindReceiver(body) | Body::BindTransmitter(body) | Body::BindTransceiver(body) =>
+                body.len(),
             Body::SubmitSm(body) | Body::DeliverSm(body) => body.len(),
             Body::QuerySm(body) => body.len(),
             Body::CancelSm(body) => body.len(),
@@ -140,9 +145,8 @@ impl<'a> Body<'a> {
         ensures { OnOk result (out.new ≡ out.old ++ written_body self.now) }
     {
         match self {
-            Body::BindReceiver(body)
-            | Body::BindTransmitter(body)
-            | Body::BindTransceiver(body) => body.put(out),
+            Body::BindReceiver(body) | Body::BindTransmitter(body) | Body::BindTransceiver(body) =>
+                body.put(out),
             Body::SubmitSm(body) | Body::DeliverSm(body) => body.put(out),
             Body::QuerySm(body) => body.put(out),
             Body::CancelSm(body) => body.put(out),

@@ -46,7 +46,11 @@ impl<'a> CancelSm<'a> {
         requires { length (cancel_octets self.now) ≤ 65520 }
         ensures { result ≡ length (cancel_octets self.now) }
     {
-        self.service_type.as_slice().len() + self.message_id.as_slice().len() + self.source.len() + self.destination.len() + 2
+        self.service_type.as_slice().len()
+            + self.message_id.as_slice().len()
+            + self.source.len()
+            + self.destination.len()
+            + 2
     }
 
     // Writes the octets.

@@ -61,6 +61,9 @@ impl CommandId {
     pub fn of(number: u32) -> Option<CommandId>
         ensures { result ≡ command_of number }
     {
-        COMMANDS.iter().copied().find(|command| command.number() == number)
+        COMMANDS
+            .iter()
+            .copied()
+            .find(|command| command.number() == number)
     }
 }

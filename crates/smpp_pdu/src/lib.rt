@@ -29,3 +29,8 @@ pub use pdu::Pdu;
 pub use query::{QuerySm, QuerySmResp};
 pub use status::CommandStatus;
 pub use tlv::{TlvTag, Tlvs};
+
+#[cfg(test)]
+mod tests;
+#[cfg(test)]
+mod vectors;

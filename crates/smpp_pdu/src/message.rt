@@ -87,7 +87,14 @@ impl<'a> Message<'a> {
         requires { length (written_message self.now) ≤ 65520 }
         ensures { result ≡ length (written_message self.now) }
     {
-        self.service_type.as_slice().len() + self.source.len() + self.destination.len() + self.schedule_delivery_time.as_slice().len() + self.validity_period.as_slice().len() + self.short_message.as_slice().len() + self.tlvs.len() + 11
+        self.service_type.as_slice().len()
+            + self.source.len()
+            + self.destination.len()
+            + self.schedule_delivery_time.as_slice().len()
+            + self.validity_period.as_slice().len()
+            + self.short_message.as_slice().len()
+            + self.tlvs.len()
+            + 11
     }
 
     // Writes the octets.

@@ -93,6 +93,9 @@ impl CommandStatus {
     pub fn of(number: u32) -> Option<CommandStatus>
         ensures { result ≡ status_of number }
     {
-        STATUSES.iter().copied().find(|status| status.number() == number)
+        STATUSES
+            .iter()
+            .copied()
+            .find(|status| status.number() == number)
     }
 }
