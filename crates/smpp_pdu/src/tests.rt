@@ -197,17 +197,25 @@ fn reads_parameters_of_another(rt: HostRuntime) -> Result<(), Fail> {
     let Body::SubmitSm(message) = Pdu::read(&vectors::SUBMIT_SM_PAYLOAD)?.body else {
         return Err("no submit_sm with a payload")?;
     };
-    let payload = message.tlvs.message_payload.ok_or("no payload")?;
+    let Some(payload) = &message.tlvs.message_payload else {
+        return Err("no payload")?;
+    };
     assert_eq!(rt; payload.as_slice(), b"aaaaaaaaaaaaaaaaaaaa".as_slice());
-    let reference = message.tlvs.sar_msg_ref_num.ok_or("no reference")?;
+    let Some(reference) = &message.tlvs.sar_msg_ref_num else {
+        return Err("no reference")?;
+    };
     assert_eq!(rt; reference.as_slice(), [0x12, 0x34].as_slice());
     let Body::DeliverSm(message) = Pdu::read(&vectors::DELIVER_SM)?.body else {
         return Err("no deliver_sm")?;
     };
     assert_eq!(rt; message.esm_class, 4);
-    let id = message.tlvs.receipted_message_id.ok_or("no id")?;
+    let Some(id) = &message.tlvs.receipted_message_id else {
+        return Err("no id")?;
+    };
     assert_eq!(rt; id.as_slice(), b"0000000001\0".as_slice());
-    let state = message.tlvs.message_state.ok_or("no state")?;
+    let Some(state) = &message.tlvs.message_state else {
+        return Err("no state")?;
+    };
     assert_eq!(rt; state.as_slice(), [2].as_slice());
     assert_eq!(rt; TlvTag::MessageState.number(), 0x0427);
     Ok(())
