@@ -1,4 +1,8 @@
+pub mod Address
+pub mod AddressKind
+pub mod Alphabet
 pub mod Digits
 pub mod Inside
 pub mod Reading
-pub mod Scts
+pub mod SemiOctet
+pub mod TimeStamp

@@ -1,0 +1,2 @@
+pub mod DataCodingScheme
+pub mod Packing

@@ -1,0 +1,96 @@
+ghost use Rattle.std.specs.Prelude.{◌≡◌, ◌<◌, ◌/◌, ◌%◌, ◌^◌, slice_index, nat_lt, length, ◌≤◌, ◌+◌, IfOk};
+ghost use Rattle.sms_alphabet.specs.Packing.{tested, unpacked, septets_in, value_in, Answers};
+ghost use Rattle.sms_alphabet.specs.declared.unpacking.UnpackError.TheVariants.{NoMemory};
+
+use sms_base::Octets;
+use std::alloc::{AllocError, Global};
+use thiserror::Error;
+
+/// Why octets could not be unpacked.
+#[derive(Clone, Copy, Debug, PartialEq, Eq, Error)]
+pub enum UnpackError {
+    /// The octets end before the last septet does.
+    #[error("the octets end too early")]
+    TooShort,
+    /// A bit outside the septets is not zero, or an octet stands behind them.
+    #[error("a bit outside the septets is not zero")]
+    SpareBits,
+    /// There was no memory for the septets.
+    #[error("out of memory")]
+    NoMemory,
+}
+
+impl From<AllocError> for UnpackError {
+    ghost from_gives = { λ _ e. e ≡ NoMemory };
+
+    fn from(_error: AllocError) -> UnpackError {
+        UnpackError::NoMemory
+    }
+}
+
+// The octet at the place, or 0 past the end.
+fn octet_at(octets: &[u8], place: usize) -> u8
+    ensures { result ≡ slice_index octets.now place }
+{
+    match octets.get(place) {
+        Some(octet) => *octet,
+        None => 0,
+    }
+}
+
+// The seven bits from a bit on.
+fn septet_at(octets: &[u8], bit: usize) -> u8
+    requires { bit < 2048 }
+    ensures { result ≡ value_in 256 octets.now / 2 ^ bit % 128 }
+{
+    let low = u16::from(octet_at(octets, bit / 8));
+    let high = u16::from(octet_at(octets, bit / 8 + 1));
+    ((((high << 8) | low) >> (bit % 8)) & 0x7f) as u8
+}
+
+// Whether every bit from a bit on is zero, where the octets end in its octet or before it.
+fn is_clear_from(octets: &[u8], bit: usize) -> bool
+    requires { length octets.now ≤ bit / 8 + 1 }
+    ensures { result ≡ nat_lt (value_in 256 octets.now) (2 ^ bit) }
+{
+    octet_at(octets, bit / 8) >> (bit % 8) == 0
+}
+
+/// Tests the bits outside `count` septets behind `fill` bits.
+pub fn check(octets: &[u8], fill: u8, count: u8) -> Result<(), UnpackError>
+    requires { fill < 7 }
+    ensures { result ≡ tested octets.now fill count }
+{
+    if octet_at(octets, 0) % (1 << fill) != 0 {
+        return Err(UnpackError::SpareBits);
+    }
+    let end = usize::from(fill) + 7 * usize::from(count);
+    let needed = (end + 7) / 8;
+    if octets.len() < needed {
+        return Err(UnpackError::TooShort);
+    }
+    if needed < octets.len() || !is_clear_from(octets, end) {
+        return Err(UnpackError::SpareBits);
+    }
+    Ok(())
+}
+
+fn septets(alloc: Global, octets: &[u8], fill: u8, count: u8) -> Result<Octets, AllocError>
+    requires { fill < 7 }
+    ensures { IfOk result (λ septets. septets ≡ septets_in octets.now fill count) }
+{
+    let mut out = Octets::with_capacity(alloc, usize::from(count))?;
+    for i in 0..count {
+        out.push(septet_at(octets, usize::from(fill) + 7 * usize::from(i)))?;
+    }
+    Ok(out)
+}
+
+/// The `count` septets that the octets pack behind `fill` bits.
+pub fn unpack(alloc: Global, octets: &[u8], fill: u8, count: u8) -> Result<Octets, UnpackError>
+    requires { fill < 7 }
+    ensures { Answers result (unpacked octets.now fill count) }
+{
+    check(octets, fill, count)?;
+    Ok(septets(alloc, octets, fill, count)?)
+}
