@@ -4,6 +4,7 @@ pub mod Fronts
 pub mod Lengths
 pub mod PduLaws
 pub mod Puts
+pub mod Rows
 pub mod Scans
 pub mod TlvLaws
 pub mod WriteLaws
