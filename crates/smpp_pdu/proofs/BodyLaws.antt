@@ -1,5 +1,5 @@
 -- Each body that is read is in the grammar, and each that is in the grammar is read.
-use Rattle.std.proofs.Common.{◌≡◌, ℕ, ◌<◌, List, [], ◌∷◌, ◌++◌, length, Result, Ok, Err, refl, sym, ap, subst, ◌∙◌}
+use Rattle.std.proofs.Common.{◌≡◌, ℕ, List, [], ◌∷◌, ◌++◌, Result, Ok, refl, sym, ap, subst, ◌∙◌}
 use Rattle.std.proofs.lemmas.List.{append-nil}
 use Rattle.sms_base.specs.Reading.{◌>>=◌, octet_in, end_in, AreOctets}
 use Rattle.sms_base.proofs.Steps.{bind_ok, ok_is, end_takes}
@@ -13,7 +13,7 @@ use Rattle.smpp_pdu.specs.declared.message.MessageResp.{MessageResp}
 use Rattle.smpp_pdu.specs.declared.query.QuerySm.{QuerySm}
 use Rattle.smpp_pdu.specs.declared.query.QuerySmResp.{QuerySmResp}
 use Rattle.smpp_pdu.specs.declared.cancel.CancelSm.{CancelSm}
-use Rattle.smpp_pdu.specs.Fields.{c_string, counted, IsText, IsTimeText}
+use Rattle.smpp_pdu.specs.Fields.{c_string, counted}
 use Rattle.smpp_pdu.specs.FieldReading.{c_string_in, time_in, short_message_in}
 use Rattle.smpp_pdu.specs.TlvReading.{tlvs_at}
 use Rattle.smpp_pdu.specs.BodyGrammar.{IsBindValue, bind_octets, IsBind, bind_resp_octets, IsBindResp, address_octets, IsAddressText, IsMessageValue, message_octets, IsMessage, message_resp_octets, IsMessageResp, IsQueryValue, query_octets, IsQuery, IsQueryRespValue, query_resp_octets, IsQueryResp, IsCancelValue, cancel_octets, IsCancel}

@@ -1,11 +1,11 @@
 -- Each field that is read is in the grammar, and each that is in the grammar is read.
-use Rattle.std.proofs.Common.{◌≡◌, ℕ, zero, suc, ◌+◌, ◌-◌, ◌*◌, ◌/◌, ◌%◌, ◌<◌, ◌≤◌, Bool, true, false, cond, eqb, ltb, ◌||◌, List, [], ◌∷◌, ◌++◌, length, get_or, Result, Ok, Err, refl, sym, ap, subst, ◌∙◌, append_assoc, arith, inl, inr, ◌⊎◌}
+use Rattle.std.proofs.Common.{◌≡◌, ℕ, zero, suc, ◌+◌, ◌*◌, ◌/◌, ◌%◌, ◌<◌, Bool, true, false, cond, eqb, ltb, ◌||◌, List, [], ◌∷◌, ◌++◌, length, get_or, Result, Ok, refl, sym, ap, subst, ◌∙◌, arith, inl, inr, ◌⊎◌}
 use Rattle.std.specs.List.{AllByRecursion}
 use Rattle.std.proofs.lemmas.Bool.{ltb-true, eqb-true, eqb-false, lt-ltb, eq-eqb, ne_eqb}
-use Rattle.sms_base.specs.Reading.{◌>>=◌, only_if, octet_in, run_in, end_in, AreOctets}
-use Rattle.sms_base.proofs.Steps.{bind_ok, passes, ok_is, octet_takes, run_takes, run_again, end_takes}
+use Rattle.sms_base.specs.Reading.{◌>>=◌, only_if, octet_in, AreOctets}
+use Rattle.sms_base.proofs.Steps.{bind_ok, passes, ok_is, octet_takes, run_takes, run_again}
 use Rattle.smpp_pdu.specs.declared.fault.PduFault.{PduFault}
-use Rattle.smpp_pdu.specs.declared.fault.PduFault.TheVariants.{Truncated, NoTerminator, FieldTooLong, ShortMessageTooLong}
+use Rattle.smpp_pdu.specs.declared.fault.PduFault.TheVariants.{Truncated, FieldTooLong, ShortMessageTooLong}
 use Rattle.smpp_pdu.specs.Fields.{two, four, c_string, IsText, IsTimeText, counted}
 use Rattle.smpp_pdu.specs.FieldReading.{two_in, four_in, text_in, c_string_in, time_in, short_message_in}
 

@@ -1,21 +1,20 @@
 -- A proper front of a PDU: an octet is missing, and no octet of it is wrong.
-use Rattle.std.proofs.Common.{◌≡◌, ◌⊎◌, ℕ, zero, suc, ◌+◌, ◌-◌, ◌*◌, ◌<◌, ◌≤◌, Bool, true, false, ◌&&◌, ◌||◌, cond, eqb, ltb, leb, List, [], ◌∷◌, ◌++◌, length, take, drop, Option, Some, None, Result, Ok, Err, refl, sym, ap, subst, ◌∙◌, append_assoc, arith, inl, inr}
+use Rattle.std.proofs.Common.{◌≡◌, ◌⊎◌, ℕ, zero, suc, ◌+◌, ◌-◌, ◌*◌, ◌<◌, Bool, true, false, ◌&&◌, ◌||◌, cond, eqb, ltb, leb, List, [], ◌∷◌, ◌++◌, length, take, drop, Option, Some, None, Result, Ok, Err, refl, ap, subst, ◌∙◌, arith, inl, inr}
 use Rattle.std.specs.Option.{ok_or}
 use Rattle.std.proofs.lemmas.Bool.{lt-ltb}
-use Rattle.std.proofs.lemmas.List.{length-append, append-nil}
+use Rattle.std.proofs.lemmas.List.{length-append}
 use Rattle.sms_base.specs.Reading.{◌>>=◌, only_if, octet_in, run_in, end_in}
-use Rattle.sms_base.proofs.Steps.{bind_ok, passes, ok_is}
+use Rattle.sms_base.proofs.Steps.{bind_ok, ok_is}
 use Rattle.sms_base.proofs.Cuts.{CutsShort, CutsWhole, cuts_bind, cuts_octet, cuts_run, cuts_pure, whole_bind, whole_test}
 use Rattle.smpp_pdu.specs.declared.fault.PduFault.{PduFault}
 use Rattle.smpp_pdu.specs.declared.fault.PduFault.TheVariants.{Truncated, BadLength, UnknownCommand, NoTerminator, BadTlv, FieldTooLong, ShortMessageTooLong}
 use Rattle.smpp_pdu.specs.declared.command.CommandId.{CommandId}
 use Rattle.smpp_pdu.specs.declared.command.CommandId.TheVariants.{BindReceiver as BindReceiverId, BindTransmitter as BindTransmitterId, BindTransceiver as BindTransceiverId, SubmitSm as SubmitSmId, DeliverSm as DeliverSmId, QuerySm as QuerySmId, CancelSm as CancelSmId, Unbind as UnbindId, EnquireLink as EnquireLinkId, GenericNack as GenericNackId, BindReceiverResp as BindReceiverRespId, BindTransmitterResp as BindTransmitterRespId, BindTransceiverResp as BindTransceiverRespId, SubmitSmResp as SubmitSmRespId, DeliverSmResp as DeliverSmRespId, QuerySmResp as QuerySmRespId, CancelSmResp as CancelSmRespId, UnbindResp as UnbindRespId, EnquireLinkResp as EnquireLinkRespId}
-use Rattle.smpp_pdu.specs.declared.body.Body.{Body}
 use Rattle.smpp_pdu.specs.declared.body.Body.TheVariants.{Unbind, EnquireLink, GenericNack, CancelSmResp, UnbindResp, EnquireLinkResp}
 use Rattle.smpp_pdu.specs.declared.pdu.Pdu.{Pdu}
 use Rattle.smpp_pdu.specs.declared.tlv.Tlvs.{Tlvs}
 use Rattle.smpp_pdu.specs.Commands.{command_of}
-use Rattle.smpp_pdu.specs.Tlvs.{Tlv, keep, no_tlvs}
+use Rattle.smpp_pdu.specs.Tlvs.{keep, no_tlvs}
 use Rattle.smpp_pdu.specs.FieldReading.{two_in, four_in, text_in, c_string_in, time_in, short_message_in}
 use Rattle.smpp_pdu.specs.TlvReading.{tlv_in, tlvs_in, tlvs_at}
 use Rattle.smpp_pdu.specs.BodyReading.{address_in, bind_at, bind_resp_at, message_at, message_resp_at, query_at, query_resp_at, cancel_at}

@@ -1,5 +1,5 @@
 -- How many octets are written.
-use Rattle.std.proofs.Common.{◌≡◌, ℕ, ◌+◌, ◌*◌, ◌-◌, ◌/◌, ◌%◌, ◌<◌, ◌≤◌, List, [], ◌∷◌, ◌++◌, length, Option, Some, None, refl, sym, ap, ◌∙◌, append_assoc, arith}
+use Rattle.std.proofs.Common.{◌≡◌, ℕ, ◌+◌, ◌/◌, ◌%◌, List, [], ◌∷◌, ◌++◌, length, Option, Some, None, refl, sym, ap, ◌∙◌, append_assoc, arith}
 use Rattle.std.proofs.lemmas.List.{length-append}
 use Rattle.smpp_pdu.specs.declared.address.SmeAddress.{SmeAddress}
 use Rattle.smpp_pdu.specs.declared.bind.Bind.{Bind}
@@ -12,16 +12,19 @@ use Rattle.smpp_pdu.specs.declared.cancel.CancelSm.{CancelSm}
 use Rattle.smpp_pdu.specs.declared.tlv.TlvTag.{TlvTag}
 use Rattle.smpp_pdu.specs.declared.tlv.TlvTag.TheVariants.{ReceiptedMessageId, SarMsgRefNum, SarTotalSegments, SarSegmentSeqnum, MessagePayload, MessageState}
 use Rattle.smpp_pdu.specs.declared.tlv.Tlvs.{Tlvs}
-use Rattle.smpp_pdu.specs.Tlvs.{Tlv, tlv_octets, tlv_of, tlvs_of}
+use Rattle.smpp_pdu.specs.Tlvs.{Tlv, tlv_octets, tlv_of}
 use Rattle.smpp_pdu.specs.Fields.{c_string, counted}
-use Rattle.smpp_pdu.specs.BodyGrammar.{bind_octets, address_octets, message_octets, message_resp_octets, query_octets, query_resp_octets, cancel_octets}
+use Rattle.smpp_pdu.specs.BodyGrammar.{bind_octets, address_octets, message_resp_octets, query_octets, query_resp_octets, cancel_octets}
 use Rattle.smpp_pdu.specs.Writing.{written_tlvs, written_len, written_message, written_bind_resp}
 
 text_length : (text rest : List ℕ) → length (c_string text ++ rest) ≡ 1 + length text + length rest
 text_length text rest = omega (arith, length-append (c_string text) rest, length-append text (0 ∷ []))
 
-last_length : (text : List ℕ) → length (c_string text) ≡ 1 + length text
+pub last_length : (text : List ℕ) → length (c_string text) ≡ 1 + length text
 last_length text = omega (arith, length-append text (0 ∷ []))
+
+pub counted_length : (octets : List ℕ) → length (counted octets) ≡ 1 + length octets
+counted_length octets = omega arith
 
 pub address_length : (a : SmeAddress) → length (address_octets a) ≡ length a.addr + 3
 address_length a = omega (arith, last_length a.addr)
@@ -77,7 +80,7 @@ octets_split (x ∷ xs) ys =
     ap (λ (l : List ℕ). x.0 / 256 ∷ x.0 % 256 ∷ length x.1 / 256 ∷ length x.1 % 256 ∷ (x.1 ++ l)) (octets_split xs ys)
     ∙ ap (λ (l : List ℕ). x.0 / 256 ∷ x.0 % 256 ∷ length x.1 / 256 ∷ length x.1 % 256 ∷ l) (sym (append_assoc x.1 (tlv_octets xs) (tlv_octets ys)))
 
-one_length : (tag : TlvTag) (o : Option (List ℕ)) → length (tlv_octets (tlv_of tag o)) ≡ written_len o
+pub one_length : (tag : TlvTag) (o : Option (List ℕ)) → length (tlv_octets (tlv_of tag o)) ≡ written_len o
 one_length tag None = refl
 one_length tag (Some v) = omega (arith, length-append v [])
 

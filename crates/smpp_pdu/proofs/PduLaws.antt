@@ -1,11 +1,10 @@
 -- Each PDU that is read is in the grammar, and each that is in the grammar is read.
-use Rattle.std.proofs.Common.{◌≡◌, ◌⊎◌, ℕ, zero, suc, ◌+◌, ◌-◌, ◌*◌, ◌/◌, ◌%◌, ◌<◌, ◌≤◌, Bool, true, false, ◌&&◌, cond, eqb, ltb, leb, List, [], ◌∷◌, ◌++◌, length, take, Option, Some, None, Result, Ok, Err, refl, sym, ap, subst, ◌∙◌, arith, inl, inr}
-use Rattle.std.specs.Prelude.{find, IfOk, IfSome, IfNone}
+use Rattle.std.proofs.Common.{◌≡◌, ◌⊎◌, ℕ, zero, suc, ◌+◌, ◌-◌, ◌*◌, ◌<◌, ◌≤◌, Bool, true, false, ◌&&◌, cond, eqb, ltb, leb, List, [], ◌∷◌, ◌++◌, length, take, Option, Some, None, Result, Ok, Err, refl, sym, ap, subst, ◌∙◌, arith, inl, inr}
+use Rattle.std.specs.Prelude.{find, IfOk}
 use Rattle.std.specs.Option.{ok_or}
-use Rattle.std.proofs.lemmas.Bool.{ltb-true, ltb-false, eqb-true, leb-true, le-ltb, le-leb, eq-eqb}
-use Rattle.std.proofs.lemmas.List.{length-append}
-use Rattle.sms_base.specs.Reading.{◌>>=◌, only_if, octet_in, end_in, AreOctets}
-use Rattle.sms_base.proofs.Steps.{bind_ok, passes, ok_is, both, end_takes}
+use Rattle.std.proofs.lemmas.Bool.{eqb-true, leb-true, le-ltb, le-leb, eq-eqb}
+use Rattle.sms_base.specs.Reading.{◌>>=◌, only_if, end_in, AreOctets}
+use Rattle.sms_base.proofs.Steps.{passes, ok_is, both, end_takes}
 use Rattle.smpp_pdu.specs.declared.fault.PduFault.{PduFault}
 use Rattle.smpp_pdu.specs.declared.fault.PduFault.TheVariants.{Truncated, BadLength, UnknownCommand}
 use Rattle.smpp_pdu.specs.declared.command.CommandId.{CommandId}
@@ -21,7 +20,7 @@ use Rattle.smpp_pdu.specs.BodyGrammar.{IsBindResp, IsMessageResp, IsQueryResp, O
 use Rattle.smpp_pdu.specs.BodyReading.{bind_at, bind_resp_at, message_at, message_resp_at, query_at, query_resp_at, cancel_at}
 use Rattle.smpp_pdu.specs.PduGrammar.{command_of_body, IsBody, header_octets, pdu_octets, IsPdu}
 use Rattle.smpp_pdu.specs.PduReading.{header_in, or_none, body_at, cut_short, body_in, pdu_at}
-use Rattle.smpp_pdu.proofs.FieldLaws.{Took, four_takes, four_again}
+use Rattle.smpp_pdu.proofs.FieldLaws.{four_takes, four_again}
 use Rattle.smpp_pdu.proofs.BodyLaws.{went, bind_takes, bind_again, bind_resp_takes, bind_resp_again, message_takes, message_again, message_resp_takes, message_resp_again, query_takes, query_again, query_resp_takes, query_resp_again, cancel_takes, cancel_again}
 
 -- ---- commands

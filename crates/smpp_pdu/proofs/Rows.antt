@@ -1,11 +1,8 @@
 -- Known PDUs, computed on the definitions.
-use Rattle.std.proofs.Common.{◌≡◌, ℕ, List, [], ◌∷◌, Some, None, Result, Ok, Err, refl}
-use Rattle.smpp_pdu.specs.declared.fault.PduFault.{PduFault}
+use Rattle.std.proofs.Common.{◌≡◌, ℕ, [], ◌∷◌, Some, Ok, Err, refl}
 use Rattle.smpp_pdu.specs.declared.fault.PduFault.TheVariants.{Truncated, BadLength, UnknownCommand, NoTerminator, BadTlv, FieldTooLong, ShortMessageTooLong}
 use Rattle.smpp_pdu.specs.declared.bind.Bind.{Bind}
-use Rattle.smpp_pdu.specs.declared.bind.BindResp.{BindResp}
 use Rattle.smpp_pdu.specs.declared.message.Message.{Message}
-use Rattle.smpp_pdu.specs.declared.message.MessageResp.{MessageResp}
 use Rattle.smpp_pdu.specs.declared.address.SmeAddress.{SmeAddress}
 use Rattle.smpp_pdu.specs.declared.body.Body.{Body}
 use Rattle.smpp_pdu.specs.declared.body.Body.TheVariants.{BindTransceiver, BindTransceiverResp, SubmitSm, SubmitSmResp, EnquireLink, EnquireLinkResp}
@@ -116,4 +113,3 @@ time_of_one_character = refl
 ends_in_a_parameter : pdu_at (0 ∷ 0 ∷ 0 ∷ 47 ∷ 0 ∷ 0 ∷ 0 ∷ 4 ∷ 0 ∷ 0 ∷ 0 ∷ 0 ∷ 0 ∷ 0 ∷ 0 ∷ 2 ∷ 0 ∷ 0 ∷ 0 ∷ 0 ∷ 1 ∷ 1 ∷ 52 ∷ 52 ∷ 55 ∷ 55 ∷ 48 ∷ 48 ∷ 57 ∷ 48 ∷ 48 ∷ 52 ∷ 53 ∷ 54 ∷ 0 ∷ 0 ∷ 0 ∷ 0 ∷ 0 ∷ 0 ∷ 1 ∷ 0 ∷ 0 ∷ 0 ∷ 0 ∷ 4 ∷ 36 ∷ []) ≡ Err BadTlv
 unfolding pdu_at four_in two_in body_in body_at command_of Rattle.smpp_pdu.specs.BodyReading.bind_at Rattle.smpp_pdu.specs.BodyReading.message_at Rattle.smpp_pdu.specs.BodyReading.address_in Rattle.smpp_pdu.specs.FieldReading.c_string_in Rattle.smpp_pdu.specs.FieldReading.text_in Rattle.smpp_pdu.specs.FieldReading.time_in Rattle.smpp_pdu.specs.FieldReading.short_message_in Rattle.smpp_pdu.specs.TlvReading.tlvs_at Rattle.smpp_pdu.specs.TlvReading.tlvs_in Rattle.smpp_pdu.specs.TlvReading.tlv_in Rattle.sms_base.specs.Reading.run_in
 ends_in_a_parameter = refl
-

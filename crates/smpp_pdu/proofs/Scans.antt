@@ -1,10 +1,10 @@
 -- A C-octet string that is read octet by octet.
-use Rattle.std.proofs.Common.{◌≡◌, ℕ, zero, suc, ◌+◌, ◌-◌, ◌<◌, ◌≤◌, Bool, true, false, cond, eqb, List, [], ◌∷◌, ◌++◌, length, get_or, take, drop, Result, Ok, Err, refl, sym, ap, ◌∙◌, append_assoc, arith}
-use Rattle.std.proofs.lemmas.Bool.{eqb-true, eqb-false, eq-eqb, ne_eqb}
+use Rattle.std.proofs.Common.{◌≡◌, ℕ, suc, ◌+◌, ◌-◌, ◌<◌, ◌≤◌, true, false, eqb, List, [], ◌∷◌, ◌++◌, length, get_or, take, drop, Result, Ok, Err, refl, sym, ap, ◌∙◌, append_assoc, arith}
+use Rattle.std.proofs.lemmas.Bool.{eq-eqb, ne_eqb}
 use Rattle.std.proofs.lemmas.List.{take_more, drop_more, length-drop, append-nil}
 use Rattle.sms_base.specs.Reading.{◌>>=◌, octet_in}
 use Rattle.smpp_pdu.specs.declared.fault.PduFault.{PduFault}
-use Rattle.smpp_pdu.specs.declared.fault.PduFault.TheVariants.{Truncated, NoTerminator, FieldTooLong}
+use Rattle.smpp_pdu.specs.declared.fault.PduFault.TheVariants.{NoTerminator, FieldTooLong}
 use Rattle.smpp_pdu.specs.FieldReading.{text_in, c_string_in}
 
 -- a text with more in front of it

@@ -1,5 +1,5 @@
 -- Optional parameters that are read are in the grammar, and those in the grammar are read.
-use Rattle.std.proofs.Common.{◌≡◌, ℕ, zero, suc, ◌+◌, ◌-◌, ◌*◌, ◌<◌, ◌≤◌, Bool, true, false, cond, eqb, List, [], ◌∷◌, ◌++◌, length, Option, Some, None, Result, Ok, Err, refl, sym, ap, subst, ◌∙◌, append_assoc, arith}
+use Rattle.std.proofs.Common.{◌≡◌, ℕ, zero, suc, ◌+◌, ◌*◌, ◌<◌, ◌≤◌, Bool, true, false, cond, eqb, List, [], ◌∷◌, ◌++◌, length, Option, Some, None, Result, Ok, Err, refl, sym, ap, subst, ◌∙◌, arith}
 use Rattle.std.proofs.lemmas.List.{length-append}
 use Rattle.sms_base.specs.Reading.{◌>>=◌, octet_in, run_in, AreOctets}
 use Rattle.sms_base.proofs.Steps.{bind_ok, ok_is, octet_takes, run_takes, run_again}
@@ -8,12 +8,12 @@ use Rattle.smpp_pdu.specs.declared.fault.PduFault.TheVariants.{BadTlv}
 use Rattle.smpp_pdu.specs.declared.tlv.Tlvs.{Tlvs}
 use Rattle.smpp_pdu.specs.Fields.{two}
 use Rattle.smpp_pdu.specs.FieldReading.{two_in}
-use Rattle.smpp_pdu.specs.Tlvs.{Tlv, keep, kept, later, no_tlvs, tag_number, tlv_octets, value_of, values_of, AreTlvs, tlv_of, tlvs_of}
+use Rattle.smpp_pdu.specs.Tlvs.{Tlv, keep, later, no_tlvs, tag_number, tlv_octets, value_of, values_of, AreTlvs, tlv_of, tlvs_of}
 use Rattle.smpp_pdu.specs.declared.tlv.TlvTag.{TlvTag}
 use Rattle.smpp_pdu.specs.declared.tlv.TlvTag.TheVariants.{ReceiptedMessageId, SarMsgRefNum, SarTotalSegments, SarSegmentSeqnum, MessagePayload, MessageState}
 use Rattle.smpp_pdu.specs.TlvReading.{tlv_in, tlvs_in, tlvs_at}
 use Rattle.std.proofs.lemmas.Bool.{eq-eqb}
-use Rattle.smpp_pdu.proofs.FieldLaws.{Took, took, two_takes, two_again}
+use Rattle.smpp_pdu.proofs.FieldLaws.{took, two_takes, two_again}
 
 -- ---- steps
 

@@ -1,5 +1,5 @@
 -- Reading the bodies of PDUs from left to right, with the first fault. Octets left over come last.
-use Rattle.std.specs.Prelude.{ℕ, List, [], ◌∷◌, Option, Some, None, Result, Ok, Err}
+use Rattle.std.specs.Prelude.{ℕ, List, Result, Ok}
 use Rattle.sms_base.specs.Reading.{◌>>=◌, octet_in, end_in}
 use Rattle.smpp_pdu.specs.declared.fault.PduFault.{PduFault}
 use Rattle.smpp_pdu.specs.declared.fault.PduFault.TheVariants.{Truncated, BadLength}

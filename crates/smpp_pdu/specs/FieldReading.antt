@@ -1,5 +1,5 @@
 -- Reading the fields of PDUs from left to right, with the first fault.
-use Rattle.std.specs.Prelude.{ℕ, zero, suc, ◌+◌, ◌*◌, List, [], ◌∷◌, length, Result, Ok, Err, Bool, ◌||◌, ◌==◌, nat_lt, if◌then◌else◌}
+use Rattle.std.specs.Prelude.{ℕ, zero, suc, ◌+◌, ◌*◌, List, [], ◌∷◌, length, Result, Ok, Err, ◌||◌, ◌==◌, nat_lt, if◌then◌else◌}
 use Rattle.sms_base.specs.Reading.{◌>>=◌, only_if, octet_in, run_in}
 use Rattle.smpp_pdu.specs.declared.fault.PduFault.{PduFault}
 use Rattle.smpp_pdu.specs.declared.fault.PduFault.TheVariants.{Truncated, NoTerminator, FieldTooLong, ShortMessageTooLong}

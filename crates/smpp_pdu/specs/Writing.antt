@@ -1,5 +1,5 @@
 -- PDUs as they are written: one list for each value.
-use Rattle.std.specs.Prelude.{◌≡◌, ℕ, ◌+◌, ◌≤◌, List, [], ◌++◌, length, Option, Some, None}
+use Rattle.std.specs.Prelude.{◌≡◌, ℕ, ◌+◌, ◌≤◌, List, [], length, Option, Some, None}
 use Rattle.smpp_pdu.specs.declared.bind.BindResp.{BindResp}
 use Rattle.smpp_pdu.specs.declared.message.Message.{Message}
 use Rattle.smpp_pdu.specs.declared.message.MessageResp.{MessageResp}

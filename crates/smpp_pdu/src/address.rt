@@ -1,13 +1,12 @@
-ghost use Rattle.std.specs.Prelude.{◌≡◌, ◌≤◌, ◌++◌, length, OnOk};
+ghost use Rattle.std.specs.Prelude.{◌≡◌, ◌≤◌, ◌+◌, ◌++◌, length, vec_capacity, vec_len};
 ghost use Rattle.smpp_pdu.specs.BodyGrammar.{address_octets};
 ghost use Rattle.sms_base.specs.Reading.{Takes};
 ghost use Rattle.smpp_pdu.specs.BodyReading.{address_in};
 
 use crate::fault::PduFault;
 use crate::fields::c_string;
-use crate::writing::put_text;
-use sms_base::{Cursor, OctetView, Octets};
-use std::alloc::AllocError;
+use crate::writing::{put_octet, put_text};
+use sms_base::{Cursor, OctetView};
 
 /// The address of a short message entity as it stands in a PDU, which may be none that the centre takes.
 #[derive(Debug, Drop)]
@@ -40,12 +39,15 @@ impl<'a> SmeAddress<'a> {
     }
 
     // Writes the octets.
-    pub(crate) fn put(&self, out: &mut Octets) -> Result<(), AllocError>
-        ensures { OnOk result (out.new ≡ out.old ++ address_octets self.now) }
+    #[tactic(auto, using(crate::proofs::Lengths::address_length, crate::proofs::Lengths::last_length, crate::proofs::Lengths::counted_length))]
+    pub(crate) fn put(&self, out: &mut Vec<u8>)
+        requires { vec_len out.old + length (address_octets self.now) ≤ vec_capacity out.old }
+        ensures items { out.new.items ≡ out.old.items ++ address_octets self.now }
+        ensures len { vec_len out.new ≡ vec_len out.old + length (address_octets self.now) }
+        ensures capacity { vec_capacity out.old ≤ vec_capacity out.new }
     {
-        out.push(self.ton)?;
-        out.push(self.npi)?;
-        put_text(out, &self.addr)?;
-        Ok(())
+        put_octet(out, self.ton);
+        put_octet(out, self.npi);
+        put_text(out, &self.addr);
     }
 }

@@ -1,4 +1,4 @@
-ghost use Rattle.std.specs.Prelude.{◌≡◌, ◌≤◌, ◌++◌, length, OnOk};
+ghost use Rattle.std.specs.Prelude.{◌≡◌, ◌≤◌, ◌+◌, ◌++◌, length, vec_capacity, vec_len};
 ghost use Rattle.smpp_pdu.specs.BodyGrammar.{bind_octets};
 ghost use Rattle.smpp_pdu.specs.Writing.{written_bind_resp};
 ghost use Rattle.smpp_pdu.specs.PduReading.{or_none};
@@ -7,9 +7,8 @@ ghost use Rattle.smpp_pdu.specs.BodyReading.{bind_at, bind_resp_at};
 use crate::fault::PduFault;
 use crate::fields::c_string;
 use crate::tlv::{Tlvs, optional_parameters};
-use crate::writing::put_text;
-use sms_base::{Cursor, OctetView, Octets};
-use std::alloc::AllocError;
+use crate::writing::{put_octet, put_text};
+use sms_base::{Cursor, OctetView};
 
 /// What an application binds with (SMPP v3.4 4.1.1, 4.1.3, 4.1.5), which has no optional parameters.
 #[derive(Debug, Drop)]
@@ -75,17 +74,20 @@ impl<'a> Bind<'a> {
     }
 
     // Writes the octets.
-    pub(crate) fn put(&self, out: &mut Octets) -> Result<(), AllocError>
-        ensures { OnOk result (out.new ≡ out.old ++ bind_octets self.now) }
+    #[tactic(auto, using(crate::proofs::Lengths::bind_length, crate::proofs::Lengths::last_length, crate::proofs::Lengths::counted_length))]
+    pub(crate) fn put(&self, out: &mut Vec<u8>)
+        requires { vec_len out.old + length (bind_octets self.now) ≤ vec_capacity out.old }
+        ensures items { out.new.items ≡ out.old.items ++ bind_octets self.now }
+        ensures len { vec_len out.new ≡ vec_len out.old + length (bind_octets self.now) }
+        ensures capacity { vec_capacity out.old ≤ vec_capacity out.new }
     {
-        put_text(out, &self.system_id)?;
-        put_text(out, &self.password)?;
-        put_text(out, &self.system_type)?;
-        out.push(self.interface_version)?;
-        out.push(self.addr_ton)?;
-        out.push(self.addr_npi)?;
-        put_text(out, &self.address_range)?;
-        Ok(())
+        put_text(out, &self.system_id);
+        put_text(out, &self.password);
+        put_text(out, &self.system_type);
+        put_octet(out, self.interface_version);
+        put_octet(out, self.addr_ton);
+        put_octet(out, self.addr_npi);
+        put_text(out, &self.address_range);
     }
 }
 
@@ -122,12 +124,15 @@ impl<'a> BindResp<'a> {
     }
 
     // Writes the octets.
-    pub(crate) fn put(&self, out: &mut Octets) -> Result<(), AllocError>
-        requires { length (written_bind_resp self.now) ≤ 65520 }
-        ensures { OnOk result (out.new ≡ out.old ++ written_bind_resp self.now) }
+    #[tactic(auto, using(crate::proofs::Lengths::bind_resp_length, crate::proofs::Lengths::last_length, crate::proofs::Lengths::counted_length))]
+    pub(crate) fn put(&self, out: &mut Vec<u8>)
+        requires short { length (written_bind_resp self.now) ≤ 65520 }
+        requires room { vec_len out.old + length (written_bind_resp self.now) ≤ vec_capacity out.old }
+        ensures items { out.new.items ≡ out.old.items ++ written_bind_resp self.now }
+        ensures len { vec_len out.new ≡ vec_len out.old + length (written_bind_resp self.now) }
+        ensures capacity { vec_capacity out.old ≤ vec_capacity out.new }
     {
-        put_text(out, &self.system_id)?;
-        self.tlvs.put(out)?;
-        Ok(())
+        put_text(out, &self.system_id);
+        self.tlvs.put(out);
     }
 }

@@ -1,4 +1,4 @@
-ghost use Rattle.std.specs.Prelude.{◌≡◌, ◌≤◌, ◌++◌, length, OnOk};
+ghost use Rattle.std.specs.Prelude.{◌≡◌, ◌≤◌, ◌+◌, ◌++◌, length, vec_capacity, vec_len};
 ghost use Rattle.sms_base.specs.Reading.{end_in};
 ghost use Rattle.smpp_pdu.specs.declared.fault.PduFault.TheVariants.{BadLength};
 ghost use Rattle.smpp_pdu.specs.PduGrammar.{command_of_body};
@@ -11,8 +11,7 @@ use crate::command::CommandId;
 use crate::fault::PduFault;
 use crate::message::{Message, MessageResp};
 use crate::query::{QuerySm, QuerySmResp};
-use sms_base::{Cursor, Octets};
-use std::alloc::AllocError;
+use sms_base::Cursor;
 
 /// The body of a PDU by its command. A response may have none.
 #[derive(Debug, Drop)]
@@ -139,10 +138,13 @@ impl<'a> Body<'a> {
     }
 
     // Writes the octets.
-    pub(crate) fn put(&self, out: &mut Octets) -> Result<(), AllocError>
+    pub(crate) fn put(&self, out: &mut Vec<u8>)
         requires fields { IsBodyValue self.now }
         requires short { length (written_body self.now) ≤ 65520 }
-        ensures { OnOk result (out.new ≡ out.old ++ written_body self.now) }
+        requires room { vec_len out.old + length (written_body self.now) ≤ vec_capacity out.old }
+        ensures items { out.new.items ≡ out.old.items ++ written_body self.now }
+        ensures len { vec_len out.new ≡ vec_len out.old + length (written_body self.now) }
+        ensures capacity { vec_capacity out.old ≤ vec_capacity out.new }
     {
         match self {
             Body::BindReceiver(body) | Body::BindTransmitter(body) | Body::BindTransceiver(body) =>
@@ -155,7 +157,7 @@ impl<'a> Body<'a> {
             | Body::BindTransceiverResp(Some(body)) => body.put(out),
             Body::SubmitSmResp(Some(body)) | Body::DeliverSmResp(Some(body)) => body.put(out),
             Body::QuerySmResp(Some(body)) => body.put(out),
-            _ => Ok(()),
+            _ => {}
         }
     }
 }

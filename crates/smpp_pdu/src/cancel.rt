@@ -1,4 +1,4 @@
-ghost use Rattle.std.specs.Prelude.{◌≡◌, ◌≤◌, ◌++◌, length, OnOk};
+ghost use Rattle.std.specs.Prelude.{◌≡◌, ◌≤◌, ◌+◌, ◌++◌, length, vec_capacity, vec_len};
 ghost use Rattle.smpp_pdu.specs.BodyGrammar.{cancel_octets};
 ghost use Rattle.smpp_pdu.specs.BodyReading.{cancel_at};
 
@@ -6,8 +6,7 @@ use crate::address::SmeAddress;
 use crate::fault::PduFault;
 use crate::fields::c_string;
 use crate::writing::put_text;
-use sms_base::{Cursor, OctetView, Octets};
-use std::alloc::AllocError;
+use sms_base::{Cursor, OctetView};
 
 /// A wish that a message is not delivered (SMPP v3.4 4.9.1).
 #[derive(Debug, Drop)]
@@ -54,13 +53,16 @@ impl<'a> CancelSm<'a> {
     }
 
     // Writes the octets.
-    pub(crate) fn put(&self, out: &mut Octets) -> Result<(), AllocError>
-        ensures { OnOk result (out.new ≡ out.old ++ cancel_octets self.now) }
+    #[tactic(auto, using(crate::proofs::Lengths::cancel_length, crate::proofs::Lengths::last_length, crate::proofs::Lengths::counted_length))]
+    pub(crate) fn put(&self, out: &mut Vec<u8>)
+        requires { vec_len out.old + length (cancel_octets self.now) ≤ vec_capacity out.old }
+        ensures items { out.new.items ≡ out.old.items ++ cancel_octets self.now }
+        ensures len { vec_len out.new ≡ vec_len out.old + length (cancel_octets self.now) }
+        ensures capacity { vec_capacity out.old ≤ vec_capacity out.new }
     {
-        put_text(out, &self.service_type)?;
-        put_text(out, &self.message_id)?;
-        self.source.put(out)?;
-        self.destination.put(out)?;
-        Ok(())
+        put_text(out, &self.service_type);
+        put_text(out, &self.message_id);
+        self.source.put(out);
+        self.destination.put(out);
     }
 }

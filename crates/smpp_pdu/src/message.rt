@@ -1,4 +1,4 @@
-ghost use Rattle.std.specs.Prelude.{◌≡◌, ◌≤◌, ◌++◌, length, OnOk};
+ghost use Rattle.std.specs.Prelude.{◌≡◌, ◌≤◌, ◌+◌, ◌++◌, length, vec_capacity, vec_len};
 ghost use Rattle.smpp_pdu.specs.BodyGrammar.{IsMessageValue, message_resp_octets};
 ghost use Rattle.smpp_pdu.specs.Writing.{written_message};
 ghost use Rattle.smpp_pdu.specs.PduReading.{or_none};
@@ -8,9 +8,8 @@ use crate::address::SmeAddress;
 use crate::fault::PduFault;
 use crate::fields::{c_string, short_message, time};
 use crate::tlv::{Tlvs, optional_parameters};
-use crate::writing::{put_counted, put_text};
-use sms_base::{Cursor, OctetView, Octets};
-use std::alloc::AllocError;
+use crate::writing::{put_counted, put_octet, put_text};
+use sms_base::{Cursor, OctetView};
 
 /// A message that is submitted (SMPP v3.4 4.4.1) or delivered (4.6.1).
 #[derive(Debug, Drop)]
@@ -98,26 +97,29 @@ impl<'a> Message<'a> {
     }
 
     // Writes the octets.
-    pub(crate) fn put(&self, out: &mut Octets) -> Result<(), AllocError>
+    #[tactic(auto, using(crate::proofs::Lengths::message_length, crate::proofs::Lengths::last_length, crate::proofs::Lengths::counted_length))]
+    pub(crate) fn put(&self, out: &mut Vec<u8>)
         requires limits { IsMessageValue self.now }
         requires short { length (written_message self.now) ≤ 65520 }
-        ensures { OnOk result (out.new ≡ out.old ++ written_message self.now) }
+        requires room { vec_len out.old + length (written_message self.now) ≤ vec_capacity out.old }
+        ensures items { out.new.items ≡ out.old.items ++ written_message self.now }
+        ensures len { vec_len out.new ≡ vec_len out.old + length (written_message self.now) }
+        ensures capacity { vec_capacity out.old ≤ vec_capacity out.new }
     {
-        put_text(out, &self.service_type)?;
-        self.source.put(out)?;
-        self.destination.put(out)?;
-        out.push(self.esm_class)?;
-        out.push(self.protocol_id)?;
-        out.push(self.priority_flag)?;
-        put_text(out, &self.schedule_delivery_time)?;
-        put_text(out, &self.validity_period)?;
-        out.push(self.registered_delivery)?;
-        out.push(self.replace_if_present_flag)?;
-        out.push(self.data_coding)?;
-        out.push(self.sm_default_msg_id)?;
-        put_counted(out, &self.short_message)?;
-        self.tlvs.put(out)?;
-        Ok(())
+        put_text(out, &self.service_type);
+        self.source.put(out);
+        self.destination.put(out);
+        put_octet(out, self.esm_class);
+        put_octet(out, self.protocol_id);
+        put_octet(out, self.priority_flag);
+        put_text(out, &self.schedule_delivery_time);
+        put_text(out, &self.validity_period);
+        put_octet(out, self.registered_delivery);
+        put_octet(out, self.replace_if_present_flag);
+        put_octet(out, self.data_coding);
+        put_octet(out, self.sm_default_msg_id);
+        put_counted(out, &self.short_message);
+        self.tlvs.put(out);
     }
 }
 
@@ -154,10 +156,13 @@ impl<'a> MessageResp<'a> {
     }
 
     // Writes the octets.
-    pub(crate) fn put(&self, out: &mut Octets) -> Result<(), AllocError>
-        ensures { OnOk result (out.new ≡ out.old ++ message_resp_octets self.now) }
+    #[tactic(auto, using(crate::proofs::Lengths::message_resp_length, crate::proofs::Lengths::last_length, crate::proofs::Lengths::counted_length))]
+    pub(crate) fn put(&self, out: &mut Vec<u8>)
+        requires { vec_len out.old + length (message_resp_octets self.now) ≤ vec_capacity out.old }
+        ensures items { out.new.items ≡ out.old.items ++ message_resp_octets self.now }
+        ensures len { vec_len out.new ≡ vec_len out.old + length (message_resp_octets self.now) }
+        ensures capacity { vec_capacity out.old ≤ vec_capacity out.new }
     {
-        put_text(out, &self.message_id)?;
-        Ok(())
+        put_text(out, &self.message_id);
     }
 }

@@ -80,13 +80,13 @@ impl<'a> Pdu<'a> {
         ensures { IfOk result (λ octets. octets ≡ written self.now) }
     {
         let len = 16 + self.body.len();
-        let mut out = Octets::from_vec(Vec::with_capacity(alloc, len)?);
-        put_four(&mut out, len as u32)?;
-        put_four(&mut out, self.body.command().number())?;
-        put_four(&mut out, self.command_status)?;
-        put_four(&mut out, self.sequence_number)?;
-        self.body.put(&mut out)?;
-        Ok(out)
+        let mut out = Vec::with_capacity(alloc, len)?;
+        put_four(&mut out, len as u32);
+        put_four(&mut out, self.body.command().number());
+        put_four(&mut out, self.command_status);
+        put_four(&mut out, self.sequence_number);
+        self.body.put(&mut out);
+        Ok(Octets::from_vec(out))
     }
 }
 

@@ -1,4 +1,4 @@
-ghost use Rattle.std.specs.Prelude.{◌≡◌, ◌≤◌, ◌++◌, length, OnOk};
+ghost use Rattle.std.specs.Prelude.{◌≡◌, ◌≤◌, ◌+◌, ◌++◌, length, vec_capacity, vec_len};
 ghost use Rattle.smpp_pdu.specs.BodyGrammar.{query_octets, query_resp_octets};
 ghost use Rattle.smpp_pdu.specs.PduReading.{or_none};
 ghost use Rattle.smpp_pdu.specs.BodyReading.{query_at, query_resp_at};
@@ -6,9 +6,8 @@ ghost use Rattle.smpp_pdu.specs.BodyReading.{query_at, query_resp_at};
 use crate::address::SmeAddress;
 use crate::fault::PduFault;
 use crate::fields::{c_string, time};
-use crate::writing::put_text;
-use sms_base::{Cursor, OctetView, Octets};
-use std::alloc::AllocError;
+use crate::writing::{put_octet, put_text};
+use sms_base::{Cursor, OctetView};
 
 /// A question for a message's state (SMPP v3.4 4.8.1).
 #[derive(Debug, Drop)]
@@ -52,12 +51,15 @@ impl<'a> QuerySm<'a> {
     }
 
     // Writes the octets.
-    pub(crate) fn put(&self, out: &mut Octets) -> Result<(), AllocError>
-        ensures { OnOk result (out.new ≡ out.old ++ query_octets self.now) }
+    #[tactic(auto, using(crate::proofs::Lengths::query_length, crate::proofs::Lengths::last_length, crate::proofs::Lengths::counted_length))]
+    pub(crate) fn put(&self, out: &mut Vec<u8>)
+        requires { vec_len out.old + length (query_octets self.now) ≤ vec_capacity out.old }
+        ensures items { out.new.items ≡ out.old.items ++ query_octets self.now }
+        ensures len { vec_len out.new ≡ vec_len out.old + length (query_octets self.now) }
+        ensures capacity { vec_capacity out.old ≤ vec_capacity out.new }
     {
-        put_text(out, &self.message_id)?;
-        self.source.put(out)?;
-        Ok(())
+        put_text(out, &self.message_id);
+        self.source.put(out);
     }
 }
 
@@ -102,13 +104,16 @@ impl<'a> QuerySmResp<'a> {
     }
 
     // Writes the octets.
-    pub(crate) fn put(&self, out: &mut Octets) -> Result<(), AllocError>
-        ensures { OnOk result (out.new ≡ out.old ++ query_resp_octets self.now) }
+    #[tactic(auto, using(crate::proofs::Lengths::query_resp_length, crate::proofs::Lengths::last_length, crate::proofs::Lengths::counted_length))]
+    pub(crate) fn put(&self, out: &mut Vec<u8>)
+        requires { vec_len out.old + length (query_resp_octets self.now) ≤ vec_capacity out.old }
+        ensures items { out.new.items ≡ out.old.items ++ query_resp_octets self.now }
+        ensures len { vec_len out.new ≡ vec_len out.old + length (query_resp_octets self.now) }
+        ensures capacity { vec_capacity out.old ≤ vec_capacity out.new }
     {
-        put_text(out, &self.message_id)?;
-        put_text(out, &self.final_date)?;
-        out.push(self.message_state)?;
-        out.push(self.error_code)?;
-        Ok(())
+        put_text(out, &self.message_id);
+        put_text(out, &self.final_date);
+        put_octet(out, self.message_state);
+        put_octet(out, self.error_code);
     }
 }

@@ -1,4 +1,4 @@
-ghost use Rattle.std.specs.Prelude.{◌≡◌, ◌≤◌, ◌++◌, length, OnOk};
+ghost use Rattle.std.specs.Prelude.{◌≡◌, ◌≤◌, ◌+◌, ◌++◌, length, vec_capacity, vec_len};
 ghost use Rattle.sms_base.specs.Reading.{Takes};
 ghost use Rattle.smpp_pdu.specs.Tlvs.{tag_number, tlv_octets, tlv_of, no_tlvs, keep};
 ghost use Rattle.smpp_pdu.specs.Writing.{written_tlvs, written_len};
@@ -7,8 +7,7 @@ ghost use Rattle.smpp_pdu.specs.TlvReading.{tlv_in, tlvs_at};
 use crate::fault::PduFault;
 use crate::fields::two;
 use crate::writing::put_two;
-use sms_base::{Cursor, OctetView, Octets};
-use std::alloc::AllocError;
+use sms_base::{Cursor, OctetView};
 
 /// The optional parameters that are used, each with its tag (SMPP v3.4 5.3.1).
 #[derive(Clone, Copy, Debug, PartialEq, Eq)]
@@ -96,18 +95,20 @@ impl<'a> Tlvs<'a> {
     }
 
     // Writes the values that are there.
-    #[tactic(auto, using(crate::proofs::Lengths::tlvs_split))]
-    pub(crate) fn put(&self, out: &mut Octets) -> Result<(), AllocError>
-        requires { length (written_tlvs self.now) ≤ 65520 }
-        ensures { OnOk result (out.new ≡ out.old ++ written_tlvs self.now) }
+    #[tactic(auto, using(crate::proofs::Lengths::tlvs_split, crate::proofs::Lengths::tlvs_length, crate::proofs::Lengths::one_length))]
+    pub(crate) fn put(&self, out: &mut Vec<u8>)
+        requires short { length (written_tlvs self.now) ≤ 65520 }
+        requires room { vec_len out.old + length (written_tlvs self.now) ≤ vec_capacity out.old }
+        ensures items { out.new.items ≡ out.old.items ++ written_tlvs self.now }
+        ensures len { vec_len out.new ≡ vec_len out.old + length (written_tlvs self.now) }
+        ensures capacity { vec_capacity out.old ≤ vec_capacity out.new }
     {
-        put_tlv(out, TlvTag::SarMsgRefNum, &self.sar_msg_ref_num)?;
-        put_tlv(out, TlvTag::SarTotalSegments, &self.sar_total_segments)?;
-        put_tlv(out, TlvTag::SarSegmentSeqnum, &self.sar_segment_seqnum)?;
-        put_tlv(out, TlvTag::MessagePayload, &self.message_payload)?;
-        put_tlv(out, TlvTag::ReceiptedMessageId, &self.receipted_message_id)?;
-        put_tlv(out, TlvTag::MessageState, &self.message_state)?;
-        Ok(())
+        put_tlv(out, TlvTag::SarMsgRefNum, &self.sar_msg_ref_num);
+        put_tlv(out, TlvTag::SarTotalSegments, &self.sar_total_segments);
+        put_tlv(out, TlvTag::SarSegmentSeqnum, &self.sar_segment_seqnum);
+        put_tlv(out, TlvTag::MessagePayload, &self.message_payload);
+        put_tlv(out, TlvTag::ReceiptedMessageId, &self.receipted_message_id);
+        put_tlv(out, TlvTag::MessageState, &self.message_state);
     }
 }
 
@@ -146,14 +147,17 @@ fn len_of(value: &Option<OctetView<'_>>) -> usize
 }
 
 // Writes a parameter, if it is there.
-fn put_tlv(out: &mut Octets, tag: TlvTag, value: &Option<OctetView<'_>>) -> Result<(), AllocError>
-    requires { written_len value.now ≤ 65520 }
-    ensures { OnOk result (out.new ≡ out.old ++ tlv_octets (tlv_of tag value.now)) }
+#[tactic(auto, using(crate::proofs::Lengths::one_length))]
+fn put_tlv(out: &mut Vec<u8>, tag: TlvTag, value: &Option<OctetView<'_>>)
+    requires short { written_len value.now ≤ 65520 }
+    requires room { vec_len out.old + length (tlv_octets (tlv_of tag value.now)) ≤ vec_capacity out.old }
+    ensures items { out.new.items ≡ out.old.items ++ tlv_octets (tlv_of tag value.now) }
+    ensures len { vec_len out.new ≡ vec_len out.old + length (tlv_octets (tlv_of tag value.now)) }
+    ensures capacity { vec_capacity out.old ≤ vec_capacity out.new }
 {
     if let Some(value) = value {
-        put_two(out, tag.number())?;
-        put_two(out, value.as_slice().len() as u16)?;
-        out.append(value.as_slice())?;
+        put_two(out, tag.number());
+        put_two(out, value.as_slice().len() as u16);
+        out.extend_from_slice(value.as_slice()).unwrap();
     }
-    Ok(())
 }

@@ -1,7 +1,5 @@
-use Rattle.std.proofs.Common.{◌≡◌, ◌∙◌, ℕ, List, Result, Ok, Err, sym, ap}
+use Rattle.std.proofs.Common.{◌∙◌}
 use Rattle.std.proofs.lemmas.Result.{err_from_is_err_and}
-use Rattle.smpp_pdu.specs.declared.fault.PduFault.{PduFault}
-use Rattle.smpp_pdu.specs.FieldReading.{c_string_in}
 use Rattle.sms_base.proofs.Steps.{octet_takes}
 use Rattle.smpp_pdu.specs.declared.fault.PduFault.TheVariants.{NoTerminator}
 use Rattle.smpp_pdu.proofs.Scans.{scan_goes, scan_ends, scan_cut, scan_full, octet_cut, begun}

@@ -1,25 +1,24 @@
-use Rattle.std.proofs.Common.{◌≡◌, ◌∷◌, []}
+use Rattle.std.proofs.Common.{◌∷◌, []}
 use Rattle.smpp_pdu.specs.Fields.{c_string, counted}
 use Rattle.smpp_pdu.specs.BodyGrammar.{address_octets}
-use Rattle.smpp_pdu.specs.Writing.{written_tlvs}
 use Rattle.smpp_pdu.proofs.Puts.{before}
 use Rattle.smpp_pdu.proofs.message.Message.put.Goals as goal
 
-pub returns : goal.returns
-returns c =
+pub returns-clause-items : goal.returns-clause-items
+returns-clause-items c =
     let m = c.args.self.now in
-    let done = c.put-3.new.out in
-    before c.args.out.now c.put_text.new.out done (c_string m.service_type) _ c.in_ok-put_text.ensures (
-    before c.put_text.new.out c.put.new.out done (address_octets m.source) _ c.in_ok-put.ensures (
-    before c.put.new.out c.put-2.new.out done (address_octets m.destination) _ c.in_ok-put-2.ensures (
-    before c.put-2.new.out c.push.new.self done (m.esm_class ∷ []) _ c.in_ok-push.ensures.ok (
-    before c.push.new.self c.push-2.new.self done (m.protocol_id ∷ []) _ c.in_ok-push-2.ensures.ok (
-    before c.push-2.new.self c.push-3.new.self done (m.priority_flag ∷ []) _ c.in_ok-push-3.ensures.ok (
-    before c.push-3.new.self c.put_text-2.new.out done (c_string m.schedule_delivery_time) _ c.in_ok-put_text-2.ensures (
-    before c.put_text-2.new.out c.put_text-3.new.out done (c_string m.validity_period) _ c.in_ok-put_text-3.ensures (
-    before c.put_text-3.new.out c.push-4.new.self done (m.registered_delivery ∷ []) _ c.in_ok-push-4.ensures.ok (
-    before c.push-4.new.self c.push-5.new.self done (m.replace_if_present_flag ∷ []) _ c.in_ok-push-5.ensures.ok (
-    before c.push-5.new.self c.push-6.new.self done (m.data_coding ∷ []) _ c.in_ok-push-6.ensures.ok (
-    before c.push-6.new.self c.push-7.new.self done (m.sm_default_msg_id ∷ []) _ c.in_ok-push-7.ensures.ok (
-    before c.push-7.new.self c.put_counted.new.out done (counted m.short_message) _ c.in_ok-put_counted.ensures (
-    c.in_ok-put-3.ensures)))))))))))))
+    let done = c.put-3.new.out.items in
+    before c.args.out.now.items c.put_text.new.out.items done (c_string m.service_type) _ c.put_text.ensures.items (
+    before c.put_text.new.out.items c.put.new.out.items done (address_octets m.source) _ c.put.ensures.items (
+    before c.put.new.out.items c.put-2.new.out.items done (address_octets m.destination) _ c.put-2.ensures.items (
+    before c.put-2.new.out.items c.put_octet.new.out.items done (m.esm_class ∷ []) _ c.put_octet.ensures.items (
+    before c.put_octet.new.out.items c.put_octet-2.new.out.items done (m.protocol_id ∷ []) _ c.put_octet-2.ensures.items (
+    before c.put_octet-2.new.out.items c.put_octet-3.new.out.items done (m.priority_flag ∷ []) _ c.put_octet-3.ensures.items (
+    before c.put_octet-3.new.out.items c.put_text-2.new.out.items done (c_string m.schedule_delivery_time) _ c.put_text-2.ensures.items (
+    before c.put_text-2.new.out.items c.put_text-3.new.out.items done (c_string m.validity_period) _ c.put_text-3.ensures.items (
+    before c.put_text-3.new.out.items c.put_octet-4.new.out.items done (m.registered_delivery ∷ []) _ c.put_octet-4.ensures.items (
+    before c.put_octet-4.new.out.items c.put_octet-5.new.out.items done (m.replace_if_present_flag ∷ []) _ c.put_octet-5.ensures.items (
+    before c.put_octet-5.new.out.items c.put_octet-6.new.out.items done (m.data_coding ∷ []) _ c.put_octet-6.ensures.items (
+    before c.put_octet-6.new.out.items c.put_octet-7.new.out.items done (m.sm_default_msg_id ∷ []) _ c.put_octet-7.ensures.items (
+    before c.put_octet-7.new.out.items c.put_counted.new.out.items done (counted m.short_message) _ c.put_counted.ensures.items (
+    c.put-3.ensures.items)))))))))))))
