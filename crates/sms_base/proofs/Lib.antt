@@ -6,5 +6,6 @@ pub mod NameWalk
 pub mod NumberWalk
 pub mod Shown
 pub mod Steps
+pub mod SmppTimes
 pub mod Stamps
 pub mod WrittenStamps

@@ -5,4 +5,5 @@ pub mod Digits
 pub mod Inside
 pub mod Reading
 pub mod SemiOctet
+pub mod SmppTime
 pub mod TimeStamp

@@ -20,6 +20,7 @@ mod moment;
 mod octets;
 mod reference;
 mod semi_octet;
+mod smpp_time;
 #[cfg(test)]
 mod tests;
 mod type_of_number;
@@ -35,4 +36,5 @@ pub use moment::{Moment, MomentError};
 pub use octets::{OctetView, Octets};
 pub use reference::Reference;
 pub use semi_octet::{digit_of, semi_octet_of};
+pub use smpp_time::SmppTimeError;
 pub use type_of_number::TypeOfNumber;

@@ -1,0 +1,10 @@
+pub mod BodyLaws
+pub mod FieldLaws
+pub mod Fronts
+pub mod Lengths
+pub mod PduLaws
+pub mod Puts
+pub mod Rows
+pub mod Scans
+pub mod TlvLaws
+pub mod WriteLaws

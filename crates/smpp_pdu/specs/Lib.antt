@@ -1,0 +1,12 @@
+pub mod BodyGrammar
+pub mod BodyReading
+pub mod Commands
+pub mod Faults
+pub mod FieldReading
+pub mod Fields
+pub mod PduGrammar
+pub mod PduReading
+pub mod Statuses
+pub mod TlvReading
+pub mod Tlvs
+pub mod Writing
