@@ -1,0 +1,17 @@
+//! User data headers, and long messages in parts (3GPP TS 23.040 9.2.3.24).
+//!
+//! A header is read as the list of its elements, and its concatenation key is that of the last valid
+//! concatenation element. A content that fits one short message is one part without a header; a longer
+//! one is cut between whole units into parts that are as full as that allows, and those parts joined are
+//! the content again. What is written of a part is read as that part.
+#![tactic(auto)]
+
+mod concat_key;
+mod element;
+mod header;
+mod header_error;
+
+pub use concat_key::{ConcatKey, ConcatReference};
+pub use element::Element;
+pub use header::{Header, concat_info};
+pub use header_error::HeaderError;
