@@ -86,7 +86,7 @@ one_more [] z e = absurd cc
 one_more (i ∷ []) z e = absurd cc
 one_more (i ∷ size ∷ rest) z e = more (ltb (length rest) size) refl e where
   more : (b : Bool) → ltb (length rest) size ≡ b → (cond b (Err BadLength) (Ok (take size rest, drop size rest)) >>= found i) ≡ Ok z
-    → (elements_in (i ∷ size ∷ rest) ≡ (elements_in z.1 >>= (λ es. Ok (z.0 ∷ es)))) × (length z.1 < length (i ∷ size ∷ rest))
+      → (elements_in (i ∷ size ∷ rest) ≡ (elements_in z.1 >>= (λ es. Ok (z.0 ∷ es)))) × (length z.1 < length (i ∷ size ∷ rest))
   more true t h = absurd cc
   more false t h =
       let first : Element = record { identifier = i; octets = take size rest } in
@@ -101,7 +101,7 @@ one_fault [] f some e = absurd (some refl)
 one_fault (i ∷ []) f some e = ap Err (err_is {A = Element × List ℕ} BadLength f e)
 one_fault (i ∷ size ∷ rest) f some e = more (ltb (length rest) size) refl e where
   more : (b : Bool) → ltb (length rest) size ≡ b → (cond b (Err BadLength) (Ok (take size rest, drop size rest)) >>= found i) ≡ Err f
-    → elements_in (i ∷ size ∷ rest) ≡ Err f
+      → elements_in (i ∷ size ∷ rest) ≡ Err f
   more true t h = rw t (ap Err (err_is {A = Element × List ℕ} BadLength f h))
   more false t h = absurd cc
 

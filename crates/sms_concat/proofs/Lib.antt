@@ -1,1 +1,6 @@
+pub mod Dividing
 pub mod Elements
+pub mod FieldLaws
+pub mod Joined
+pub mod Numbering
+pub mod Uniqueness

@@ -119,7 +119,11 @@ fn eight_bit_key(octets: &[u8]) -> Option<ConcatKey>
     ensures { result ≡ eight_bit_key octets.now }
 {
     match octets {
-        [reference, total, number] => counted(ConcatReference::EightBit(*reference), *total, *number),
+        [reference, total, number] => counted(
+            ConcatReference::EightBit(*reference),
+            *total,
+            *number,
+        ),
         _ => None,
     }
 }

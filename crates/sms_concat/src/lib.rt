@@ -7,11 +7,25 @@
 #![tactic(auto)]
 
 mod concat_key;
+mod content;
 mod element;
+mod fields;
 mod header;
 mod header_error;
+mod joining;
+pub mod laws;
+mod parts;
+mod split_error;
+mod splitting;
+mod whole_unit;
 
 pub use concat_key::{ConcatKey, ConcatReference};
+pub use content::{Content, Part, UserData};
 pub use element::Element;
+pub use fields::{fill_bits, header_septets, part_of, user_data, user_data_behind};
 pub use header::{Header, concat_info};
 pub use header_error::HeaderError;
+pub use joining::join;
+pub use parts::Parts;
+pub use split_error::SplitError;
+pub use splitting::split;
