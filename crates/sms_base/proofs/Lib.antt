@@ -1,6 +1,10 @@
+pub mod Addresses
+pub mod Alphabets
 pub mod Century
 pub mod Cuts
+pub mod NameWalk
 pub mod NumberWalk
 pub mod Shown
 pub mod Steps
 pub mod Stamps
+pub mod WrittenStamps

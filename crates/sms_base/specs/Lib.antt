@@ -1,5 +1,6 @@
 pub mod Address
 pub mod AddressKind
+pub mod Alphabet
 pub mod Digits
 pub mod Inside
 pub mod Reading

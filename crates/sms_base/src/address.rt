@@ -1,7 +1,9 @@
 //! Addresses.
-ghost use Rattle.std.specs.Prelude.{◌≡◌};
+ghost use Rattle.std.specs.Prelude.{◌≡◌, ℕ, IfOk, Ok};
 ghost use Rattle.std.specs.Str.{chars};
 
+use crate::address_error::AddressError;
+use crate::address_text::text_of;
 use crate::digits::Digits;
 use crate::type_of_number::TypeOfNumber;
 
@@ -14,4 +16,37 @@ pub struct Address {
     pub npi: u8,
     /// The characters of the digits or of the name.
     pub digits: Digits,
+}
+
+impl Address {
+    ghost use Rattle.sms_base.specs.Address.{IsAddressOf, address_of};
+    ghost use Rattle.sms_base.specs.declared.address.Address.{Address as AddressOf};
+
+    /// The address with that type of number, that numbering plan and that text.
+    ///
+    /// A type above 6 or a plan above 15 is told first, then an empty text, then the first faulty character from the
+    /// left; the 21st digit of a number, or the character of a name that passes the 11th septet, is too long whatever
+    /// it is.
+    pub fn new(ton: u8, npi: u8, text: &str) -> Result<Address, AddressError>
+        ensures found { IfOk result (λ address. IsAddressOf ton npi (chars text.now) address) }
+        ensures only { (address : AddressOf) → IsAddressOf ton npi (chars text.now) address → result ≡ Ok address }
+        ensures exact { result ≡ address_of ton npi (chars text.now) }
+    {
+        Address::of(ton, npi, text)
+    }
+
+    #[tactic(auto, unfolding(crate::specs::Address::address_of))]
+    fn of(ton: u8, npi: u8, text: &str) -> Result<Address, AddressError>
+        ensures { result ≡ address_of ton npi (chars text.now) }
+    {
+        let ton = TypeOfNumber::of(ton).ok_or(AddressError::BadKind)?;
+        if npi > 15 {
+            return Err(AddressError::BadKind);
+        }
+        let digits = text_of(ton.is_name(), text)?;
+        if digits.is_empty() {
+            return Err(AddressError::Empty);
+        }
+        Ok(Address { ton, npi, digits })
+    }
 }

@@ -1,9 +1,17 @@
-//! Octets, digits, moments and addresses.
+//! The words that every layer above speaks in, none of which takes memory but `Octets`.
+//!
+//! Moments and addresses equal their spelling: a time stamp is read as the moment that its clock shows
+//! (3GPP TS 23.040 9.2.3.11), a moment is written as one time stamp, and an address is the type of number, the
+//! numbering plan and the text that it was made of, or the first fault of that text from the left.
+//! `Octets` and `OctetView` are octets as contracts see them, a list; `Cursor` reads them from left to right,
+//! with the words of `specs/Reading.antt`, which the readers of all formats share.
+//! The default alphabet's two tables (3GPP TS 23.038 6.2.1) stand here, since a name is measured in septets.
 #![tactic(auto)]
 
 mod address;
 mod address_error;
 mod address_text;
+mod alphabet;
 mod clock;
 mod cursor;
 mod digits;
@@ -12,10 +20,15 @@ mod moment;
 mod octets;
 mod reference;
 mod semi_octet;
+#[cfg(test)]
+mod tests;
 mod type_of_number;
 
 pub use address::Address;
 pub use address_error::AddressError;
+pub use alphabet::{
+    Code, ESCAPE, EXTENSION_TABLE, MAIN_TABLE, character_after_escape, character_of, code_of,
+};
 pub use cursor::Cursor;
 pub use digits::Digits;
 pub use moment::{Moment, MomentError};

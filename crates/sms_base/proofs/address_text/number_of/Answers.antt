@@ -16,8 +16,8 @@ loop-character-preserved c =
     let w = walked_more (chars c.args.text.now) c.loop-character.digits (length c.loop-character.yielded) c.in-Some.character c.loop-character.invariant t (omega arith) (sym c.is_digit.ensures ∙ c.if-not-is_digit.false) in
     rw (c.push.ensures, length_push) w
 
-pub returns-then-len-eq20 : goal.returns-then-len-eq20
-returns-then-len-eq20 c =
+pub returns-then-len-eq-MOST_DIGITS : goal.returns-then-len-eq-MOST_DIGITS
+returns-then-len-eq-MOST_DIGITS c =
     let t = YieldsList-turn (YieldsList-from_chars c.args.text.now c.utf8.text cc) c.loop-character.yielded _ c.loop-character.yielded_by _ _ c.in-Some.character c.in-Some.is c.next.ensures.steps in
     sym (too_long (chars c.args.text.now) c.loop-character.digits (length c.loop-character.yielded) c.in-Some.character c.loop-character.invariant t (omega arith))
 
