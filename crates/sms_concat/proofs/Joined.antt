@@ -1,6 +1,6 @@
 -- Joining: the steps of the code, and that the parts of a split join to the content.
-use Rattle.std.proofs.Common.{◌≡◌, ℕ, zero, suc, ◌+◌, ◌-◌, ◌<◌, ◌≤◌, Bool, true, false, cond, ◌&&◌, eqb, List, [], ◌∷◌, ◌++◌, length, take, drop, get_or, Option, Some, None, Result, Ok, Err, refl, sym, ap, subst, ◌∙◌, arith, append_assoc, eq-eqb}
-use Rattle.std.proofs.lemmas.List.{append-nil, at_drop_more, at_drop_all}
+use Rattle.std.proofs.Common.{◌≡◌, ℕ, zero, suc, ◌+◌, ◌-◌, ◌<◌, ◌≤◌, Bool, true, false, cond, ◌&&◌, eqb, List, [], ◌∷◌, ◌++◌, length, take, drop, get_or, Option, Some, None, Result, Ok, Err, refl, sym, ap, subst, ◌∙◌, arith, append_assoc, eq-eqb, min, ◌^◌}
+use Rattle.std.proofs.lemmas.List.{append-nil, at_drop_more, at_drop_all, length-append}
 use Rattle.sms_concat.specs.declared.concat_key.ConcatReference.{ConcatReference}
 use Rattle.sms_concat.specs.declared.concat_key.ConcatReference.TheVariants.{EightBit, SixteenBit}
 use Rattle.sms_concat.specs.declared.content.Content.{Content}
@@ -102,3 +102,20 @@ split_joins content reference parts s = elim (way content) [
       let all : joined d.0 ≡ content.units = division_joined (room content.coding) content.coding content.units d.0 d.1 in
       ap content_joined d.2 ∙ numbered_joins content reference d.0 (omega arith) all
 ]
+
+-- ---- how many units
+
+pub record Summing (parts : List Part) (count index : ℕ) : Type 0 where
+  pub below : count < 2 ^ 64
+  pub sum : min (2 ^ 64 - 1) (count + length (units_of (drop index parts))) ≡ min (2 ^ 64 - 1) (length (units_of parts))
+
+pub summing_more : (parts : List Part) (count count' more index : ℕ) (part : Part) → index < length parts → part ≡ get_or parts index part → more ≡ length part.content.units → count' ≡ min (2 ^ 64 - 1) (count + more) → Summing parts count index → Summing parts count' (index + 1)
+summing_more parts count count' more index part lt is len grown s =
+    let one : length (units_of (drop index parts)) ≡ length part.content.units + length (units_of (drop (index + 1) parts)) =
+    at_drop_more (λ (ps : List Part). length (units_of ps)) parts index part lt ∙ length-append (get_or parts index part).content.units (units_of (drop (index + 1) parts)) ∙ ap (λ (p : Part). length p.content.units + length (units_of (drop (index + 1) parts))) (sym is) in
+    record { below = omega (arith, grown); sum = omega (arith, one, len, grown, s.sum) }
+
+pub summing_end : (parts : List Part) (count index : ℕ) → length parts ≤ index → Summing parts count index → count ≡ min (2 ^ 64 - 1) (length (units_of parts))
+summing_end parts count index le s =
+    let none : length (units_of (drop index parts)) ≡ 0 = at_drop_all (λ (ps : List Part). length (units_of ps)) parts index le in
+    omega (arith, none, s.sum, s.below)

@@ -4,3 +4,4 @@ pub mod FieldLaws
 pub mod Joined
 pub mod Numbering
 pub mod Uniqueness
+pub mod Room

@@ -83,6 +83,10 @@ pub record Fits (header : ℕ) (content : Content) : Type 0 where
   pub room : data_length content.coding header (length content.units) ≤ capacity content.coding
   pub units : AreUnits content.coding content.units
 
+-- a part whose units have room behind its header
+abbrev pub HasRoom : Part → Type 0
+HasRoom part = Fits (length (header_of part.key)) part.content
+
 -- a key whose parts are counted from 1 to the total
 abbrev pub IsKey : Option ConcatKey → Type 0
 IsKey None = Unit {0}

@@ -1,5 +1,5 @@
 //! The parts of a message joined.
-ghost use Rattle.std.specs.Prelude.{◌≡◌, ◌<◌, IfOk, length};
+ghost use Rattle.std.specs.Prelude.{◌≡◌, ◌<◌, ◌-◌, ◌^◌, IfOk, length, min};
 ghost use Rattle.sms_concat.specs.Joining.{key_or_alone, is_same_reference, bears, bear_from, is_whole, units_of, content_joined};
 
 use crate::concat_key::{ConcatKey, ConcatReference};
@@ -72,7 +72,9 @@ fn is_whole(parts: &[Part]) -> bool
 }
 
 // How many units the parts have; past all memory, the greatest number.
-fn count_units(parts: &[Part]) -> usize {
+fn count_units(parts: &[Part]) -> usize
+    ensures { result ≡ min (2 ^ 64 - 1) (length (units_of parts.now)) }
+{
     let mut count: usize = 0;
     for part in parts {
         count = count.saturating_add(part.content.units.len());

@@ -1,6 +1,6 @@
 //! Laws of headers, of the user data fields, of splitting and of joining, over their definitions alone.
-ghost use Rattle.std.specs.Prelude.{◌≡◌, ◌↔◌, ◌≤◌, ◌<◌, ◌++◌, ℕ, List, [], length, true, Ok, Err, Some};
-ghost use Rattle.sms_concat.specs.declared.concat_key.ConcatKey.{ConcatKey as KeyOf};
+ghost use Rattle.std.specs.Prelude.{◌≡◌, ◌↔◌, ◌≤◌, ◌<◌, ◌++◌, ℕ, List, [], All, length, true, Ok, Err, Some};
+ghost use Rattle.sms_alphabet.specs.DataCodingScheme.{coding_of};
 ghost use Rattle.sms_concat.specs.declared.content.Content.{Content as ContentOf};
 ghost use Rattle.sms_concat.specs.declared.content.Part.{Part as PartOf};
 ghost use Rattle.sms_concat.specs.declared.content.UserData.{UserData as UserDataOf};
@@ -9,7 +9,7 @@ ghost use Rattle.sms_concat.specs.declared.header_error.HeaderError.TheVariants.
 ghost use Rattle.sms_concat.specs.HeaderGrammar.{written, header_at, BeginsWith};
 ghost use Rattle.sms_concat.specs.Joining.{content_joined};
 ghost use Rattle.sms_concat.specs.Splitting.{IsSplit, IsUncut, split_of};
-ghost use Rattle.sms_concat.specs.UserData.{header_of, IsPart, IsUserData, part_in};
+ghost use Rattle.sms_concat.specs.UserData.{header_of, AreUnits, HasRoom, IsPart, IsUserData, part_in};
 
 /// A header is read as its elements, whatever stands behind it.
 pub fn written_header_is_read()
@@ -45,6 +45,12 @@ pub fn one_split_each()
 /// A content is split into parts exactly where they are its split, and at most 20.
 pub fn split_is_the_relation()
     ensures { (content : ContentOf) (reference : ℕ) (parts : List PartOf) → (split_of content reference ≡ Ok parts) ↔ (IsSplit content reference parts × (length parts ≤ 20)) }
+{}
+
+/// Each part of a split has room, and what is written of it is read as that part.
+pub fn split_parts_are_read()
+    ensures room { (content : ContentOf) (reference : ℕ) (parts : List PartOf) → AreUnits content.coding content.units → split_of content reference ≡ Ok parts → All HasRoom parts }
+    ensures read { (content : ContentOf) (reference : ℕ) (parts : List PartOf) → content.coding ≡ coding_of content.dcs → AreUnits content.coding content.units → split_of content reference ≡ Ok parts → All IsPart parts }
 {}
 
 /// The parts of a split join to the content.

@@ -22,7 +22,9 @@ mod whole_unit;
 pub use concat_key::{ConcatKey, ConcatReference};
 pub use content::{Content, Part, UserData};
 pub use element::Element;
-pub use fields::{fill_bits, header_septets, part_of, user_data, user_data_behind};
+pub use fields::{
+    fill_bits, fits, fits_behind, header_septets, part_of, user_data, user_data_behind,
+};
 pub use header::{Header, concat_info};
 pub use header_error::HeaderError;
 pub use joining::join;

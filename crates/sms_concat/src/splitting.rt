@@ -1,6 +1,6 @@
 //! A content split into parts.
-ghost use Rattle.std.specs.Prelude.{◌≡◌, ℕ, ◌+◌, ◌<◌, ◌≤◌, ◌↔◌, ◌++◌, ◌∷◌, List, [], length, take, drop, Some, None, Ok, Err, IfOk, nat_lt, if◌then◌else◌};
-ghost use Rattle.sms_concat.specs.UserData.{capacity};
+ghost use Rattle.std.specs.Prelude.{◌≡◌, ℕ, All, ◌+◌, ◌<◌, ◌≤◌, ◌↔◌, ◌++◌, ◌∷◌, List, [], length, take, drop, Some, None, Ok, Err, IfOk, nat_lt, if◌then◌else◌};
+ghost use Rattle.sms_concat.specs.UserData.{capacity, AreUnits, HasRoom};
 ghost use Rattle.sms_concat.specs.WholeUnits.{whole_units};
 ghost use Rattle.sms_concat.specs.Splitting.{room, is_compressed, pieces_of, numbered, alone, split_of, Splits, IsSplit, IsUncut};
 ghost use Rattle.sms_concat.specs.declared.content.Content.{Content as ContentOf};
@@ -8,6 +8,7 @@ ghost use Rattle.sms_concat.specs.declared.content.Part.{Part as PartOf};
 
 use crate::concat_key::{ConcatKey, ConcatReference};
 use crate::content::{Content, Part};
+use crate::fields::capacity;
 use crate::parts::Parts;
 use crate::split_error::SplitError;
 use crate::whole_unit::first_unit;
@@ -17,16 +18,6 @@ use std::alloc::{AllocError, Global};
 
 // How many parts a message has at most.
 const MOST_PARTS: u8 = 20;
-
-// The greatest length without a header: 160 septets or 140 octets.
-fn capacity(coding: Coding) -> usize
-    ensures { result ≡ capacity coding }
-{
-    match coding {
-        Coding::Septets => 160,
-        _ => 140,
-    }
-}
 
 fn is_compressed(coding: Coding) -> bool
     ensures { result ≡ is_compressed coding }
@@ -161,6 +152,7 @@ fn parts_of(alloc: Global, content: &Content, reference: u16) -> Result<Parts, S
 /// content that does not fit one part, and any other that takes more than 20. Linear in the content.
 pub fn split(alloc: Global, content: &Content, reference: u16) -> Result<Parts, SplitError>
     ensures found { IfOk result (λ parts. IsSplit content.now reference parts × (length parts ≤ 20)) }
+    ensures fit { AreUnits content.now.coding content.now.units → IfOk result (λ parts. All HasRoom parts) }
     ensures does_not_fit { (result ≡ Err SplitError.DoesNotFit) ↔ IsUncut content.now }
     ensures too_many { (result ≡ Err SplitError.TooManyParts) ↔ ((parts : List PartOf) × IsSplit content.now reference parts × (20 < length parts)) }
     ensures exact { Splits result (split_of content.now reference) }
