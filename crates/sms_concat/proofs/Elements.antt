@@ -1,15 +1,15 @@
 -- The elements of a header: what is read was spelled so, and what is spelled is read so.
-use Rattle.std.proofs.Common.{◌≡◌, ℕ, zero, suc, ◌+◌, ◌-◌, ◌<◌, ◌≤◌, Bool, true, false, cond, ltb, List, [], ◌∷◌, ◌++◌, length, take, drop, Result, Ok, Err, Option, Some, None, refl, sym, ap, subst, ◌∙◌, arith, append_assoc}
+use Rattle.std.proofs.Common.{◌≡◌, ℕ, zero, suc, ◌<◌, ◌≤◌, Bool, true, false, cond, ltb, List, [], ◌∷◌, ◌++◌, length, take, drop, Result, Ok, Err, Option, Some, None, refl, sym, ap, subst, ◌∙◌, arith}
 use Rattle.std.specs.Option.{option_or}
 use Rattle.std.proofs.lemmas.Bool.{ltb-false, le-ltb}
-use Rattle.std.proofs.lemmas.List.{take_at, drop_at, take-append-drop, length-append, length-take, length-take-le}
+use Rattle.std.proofs.lemmas.List.{take_at, take-append-drop, length-append, length-take-le}
 use Rattle.sms_base.specs.Reading.{◌>>=◌, octet_in, run_in}
 use Rattle.sms_base.proofs.Steps.{bind_ok, ok_is, octet_takes, run_takes, run_again}
 use Rattle.sms_concat.specs.declared.element.Element.{Element}
 use Rattle.sms_concat.specs.declared.concat_key.ConcatKey.{ConcatKey}
 use Rattle.sms_concat.specs.declared.header_error.HeaderError.{HeaderError}
 use Rattle.sms_concat.specs.declared.header_error.HeaderError.TheVariants.{Truncated, BadLength}
-use Rattle.sms_concat.specs.HeaderGrammar.{spelled, written, BeginsWith, elements_behind, elements_in, header_at, element_in, elements_of, or_none, AreElements, Tells}
+use Rattle.sms_concat.specs.HeaderGrammar.{spelled, written, BeginsWith, elements_behind, elements_in, header_at, element_in, elements_of, AreElements}
 use Rattle.sms_concat.specs.Concatenation.{key_of, element_key, later}
 
 -- ---- what is spelled is read

@@ -1,17 +1,14 @@
 -- Joining: the steps of the code, and that the parts of a split join to the content.
-use Rattle.std.proofs.Common.{◌≡◌, ℕ, zero, suc, ◌+◌, ◌-◌, ◌<◌, ◌≤◌, Bool, true, false, cond, ◌&&◌, eqb, List, [], ◌∷◌, ◌++◌, length, take, drop, get_or, Option, Some, None, Result, Ok, Err, refl, sym, ap, subst, ◌∙◌, arith, append_assoc, eq-eqb, min, ◌^◌}
+use Rattle.std.proofs.Common.{◌≡◌, ℕ, ◌+◌, ◌-◌, ◌<◌, ◌≤◌, Bool, true, false, cond, ◌&&◌, eqb, List, [], ◌∷◌, ◌++◌, length, drop, get_or, Some, None, refl, sym, ap, ◌∙◌, arith, append_assoc, eq-eqb, min, ◌^◌}
 use Rattle.std.proofs.lemmas.List.{append-nil, at_drop_more, at_drop_all, length-append}
 use Rattle.sms_concat.specs.declared.concat_key.ConcatReference.{ConcatReference}
-use Rattle.sms_concat.specs.declared.concat_key.ConcatReference.TheVariants.{EightBit, SixteenBit}
+use Rattle.sms_concat.specs.declared.concat_key.ConcatReference.TheVariants.{SixteenBit}
 use Rattle.sms_concat.specs.declared.content.Content.{Content}
 use Rattle.sms_concat.specs.declared.content.Part.{Part}
-use Rattle.sms_concat.specs.declared.split_error.SplitError.{SplitError}
-use Rattle.sms_concat.specs.UserData.{capacity}
-use Rattle.sms_concat.specs.WholeUnits.{whole_units}
-use Rattle.sms_concat.specs.Splitting.{room, joined, IsDivision, numbered, alone, split_of, IsSplit}
+use Rattle.sms_concat.specs.Splitting.{room, joined, numbered, alone, IsSplit}
 use Rattle.sms_concat.specs.Joining.{bears, bear_from, is_whole, units_of, content_joined}
 use Rattle.sms_concat.proofs.Dividing.{division_joined}
-use Rattle.sms_concat.proofs.Numbering.{way, Way, lone, uncut, cut, length_numbered}
+use Rattle.sms_concat.proofs.Numbering.{way, lone, uncut, cut, length_numbered}
 
 -- ---- the walk over the numbers
 

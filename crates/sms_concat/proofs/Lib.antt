@@ -5,3 +5,4 @@ pub mod Joined
 pub mod Numbering
 pub mod Uniqueness
 pub mod Room
+mod Rows

@@ -1,8 +1,8 @@
 -- The pieces counted, and the parts numbered.
-use Rattle.std.proofs.Common.{◌≡◌, ℕ, zero, suc, ◌+◌, ◌-◌, ◌<◌, ◌≤◌, Bool, true, false, cond, ltb, leb, List, [], ◌∷◌, ◌++◌, length, take, drop, Option, Some, None, Result, Ok, Err, refl, sym, ap, subst, ◌∙◌, arith, append_assoc, inl, inr, eqb}
-use Rattle.std.specs.Prelude.{◌⊎◌, ◌↔◌, IfOk}
+use Rattle.std.proofs.Common.{◌≡◌, ℕ, suc, ◌+◌, ◌<◌, ◌≤◌, Bool, true, false, cond, ltb, leb, List, [], ◌∷◌, ◌++◌, length, Option, Some, None, Result, Ok, Err, refl, sym, ap, subst, ◌∙◌, arith, append_assoc, eqb}
+use Rattle.std.specs.Prelude.{◌↔◌, IfOk}
 use Rattle.std.proofs.lemmas.Bool.{ltb-false, ltb-true, le-ltb, lt-ltb, le-leb, leb-true, leb-false, lt-leb}
-use Rattle.std.proofs.lemmas.List.{append-nil, length-append}
+use Rattle.std.proofs.lemmas.List.{append-nil}
 use Rattle.sms_alphabet.specs.declared.scheme.Coding.{Coding}
 use Rattle.sms_concat.specs.declared.concat_key.ConcatReference.TheVariants.{SixteenBit}
 use Rattle.sms_concat.specs.declared.content.Content.{Content}
@@ -11,7 +11,7 @@ use Rattle.sms_concat.specs.declared.split_error.SplitError.{SplitError}
 use Rattle.sms_concat.specs.declared.split_error.SplitError.TheVariants.{TooManyParts, DoesNotFit, NoMemory}
 use Rattle.sms_concat.specs.UserData.{capacity}
 use Rattle.sms_concat.specs.WholeUnits.{whole_units}
-use Rattle.sms_concat.specs.Splitting.{room, is_compressed, joined, IsDivision, divided, pieces_of, numbered, numbered_all, alone, split_of, Splits, IsSplit, IsUncut}
+use Rattle.sms_concat.specs.Splitting.{room, is_compressed, IsDivision, pieces_of, numbered, numbered_all, alone, split_of, Splits, IsSplit, IsUncut}
 use Rattle.sms_concat.proofs.Dividing.{divided_is, divided_only, pieces_none, pieces_some, small_units, room_above}
 
 -- ---- the walk that counts

@@ -1,7 +1,7 @@
 -- The parts of a split have room, and their keys are valid.
-use Rattle.std.proofs.Common.{◌≡◌, ℕ, ◌+◌, ◌*◌, ◌/◌, ◌<◌, ◌≤◌, Bool, true, false, List, [], ◌∷◌, ◌++◌, length, take, drop, Option, Some, None, Result, Ok, Err, refl, sym, ap, subst, ◌∙◌, arith}
-use Rattle.std.specs.Prelude.{All, IfOk, ◌↔◌}
-use Rattle.std.proofs.lemmas.List.{take_at, drop_at, append-nil}
+use Rattle.std.proofs.Common.{◌≡◌, ℕ, ◌+◌, ◌<◌, ◌≤◌, List, [], ◌∷◌, ◌++◌, length, None, Result, Ok, Err, refl, sym, subst, arith}
+use Rattle.std.specs.Prelude.{All, IfOk}
+use Rattle.std.proofs.lemmas.List.{take_at, drop_at}
 use Rattle.std.proofs.lemmas.List.Elements.{All-nil, All-cons, All-head, All-tail, All-take, All-drop}
 use Rattle.sms_alphabet.specs.Packing.{AreSeptets}
 use Rattle.sms_alphabet.specs.DataCodingScheme.{coding_of}
@@ -10,11 +10,11 @@ use Rattle.sms_alphabet.specs.declared.scheme.Coding.TheVariants.{Septets, Octet
 use Rattle.sms_concat.specs.declared.content.Content.{Content}
 use Rattle.sms_concat.specs.declared.content.Part.{Part}
 use Rattle.sms_concat.specs.declared.split_error.SplitError.{SplitError}
-use Rattle.sms_concat.specs.UserData.{data_length, capacity, AreUnits, Fits, HasRoom, IsPart}
-use Rattle.sms_concat.specs.Splitting.{room, joined, joined_each, AreFull, IsDivision, numbered, alone, split_of, Splits, IsSplit}
+use Rattle.sms_concat.specs.UserData.{data_length, capacity, AreUnits, HasRoom, IsPart}
+use Rattle.sms_concat.specs.Splitting.{room, joined, joined_each, AreFull, IsDivision, numbered, split_of, Splits, IsSplit}
 use Rattle.sms_concat.specs.WholeUnits.{whole_units}
 use Rattle.sms_concat.proofs.Dividing.{division_joined}
-use Rattle.sms_concat.proofs.Numbering.{way, Way, lone, uncut, cut, part_with, found_is}
+use Rattle.sms_concat.proofs.Numbering.{way, lone, uncut, cut, part_with, found_is}
 
 -- ---- pieces
 

@@ -1,9 +1,9 @@
 -- One split for a content, one header for elements.
-use Rattle.std.proofs.Common.{◌≡◌, ℕ, ◌+◌, ◌<◌, ◌≤◌, Bool, true, false, List, [], ◌∷◌, ◌++◌, length, Result, Ok, Err, refl, sym, ap, ◌∙◌, arith}
+use Rattle.std.proofs.Common.{◌≡◌, ℕ, ◌<◌, ◌≤◌, true, List, [], ◌∷◌, ◌++◌, length, Ok, Err, refl, sym, ap, ◌∙◌, arith}
 use Rattle.std.specs.Prelude.{◌↔◌}
 use Rattle.std.proofs.lemmas.Bool.{lt-ltb}
-use Rattle.std.proofs.lemmas.List.{append-nil, length-append}
-use Rattle.sms_base.specs.Reading.{◌>>=◌, octet_in, run_in}
+use Rattle.std.proofs.lemmas.List.{length-append}
+use Rattle.sms_base.specs.Reading.{run_in}
 use Rattle.sms_base.proofs.Steps.{ok_is}
 use Rattle.sms_concat.specs.declared.element.Element.{Element}
 use Rattle.sms_concat.specs.declared.header_error.HeaderError.{HeaderError}
@@ -12,9 +12,9 @@ use Rattle.sms_concat.specs.declared.content.Content.{Content}
 use Rattle.sms_concat.specs.declared.content.Part.{Part}
 use Rattle.sms_concat.specs.HeaderGrammar.{spelled, written, header_at}
 use Rattle.sms_concat.specs.UserData.{capacity}
-use Rattle.sms_concat.specs.Splitting.{is_compressed, numbered, pieces_of, alone, split_of, IsSplit, IsUncut}
+use Rattle.sms_concat.specs.Splitting.{is_compressed, numbered, pieces_of, split_of, IsSplit, IsUncut}
 use Rattle.sms_concat.proofs.Elements.{written_is_read}
-use Rattle.sms_concat.proofs.Numbering.{way, Way, lone, uncut, cut, split_there, split_only, split_alone, split_cut, all_numbered, length_numbered, found_is, Kept}
+use Rattle.sms_concat.proofs.Numbering.{way, lone, uncut, cut, split_there, split_only, split_alone, split_cut, all_numbered, length_numbered, found_is}
 
 pub one_header : (one other : List Element) → (written one ≡ written other) ↔ (one ≡ other)
 one_header one other = (there, ap written) where

@@ -1,5 +1,5 @@
 -- 3GPP TS 23.040 9.2.3.24: the user data header, which is its length and elements that fill it exactly.
-use Rattle.std.specs.Prelude.{◌≡◌, ℕ, zero, suc, List, [], ◌∷◌, ◌<◌, ◌++◌, length, take, drop, Result, Ok, Err, nat_lt, if◌then◌else◌}
+use Rattle.std.specs.Prelude.{◌≡◌, ℕ, zero, suc, List, [], ◌∷◌, ◌<◌, ◌++◌, length, take, Result, Ok, Err, nat_lt, if◌then◌else◌}
 use Rattle.sms_base.specs.Reading.{◌>>=◌, octet_in, run_in}
 use Rattle.sms_concat.specs.declared.element.Element.{Element}
 use Rattle.sms_concat.specs.declared.header_error.HeaderError.{HeaderError}

@@ -31,3 +31,6 @@ pub use joining::join;
 pub use parts::Parts;
 pub use split_error::SplitError;
 pub use splitting::split;
+
+#[cfg(test)]
+mod tests;

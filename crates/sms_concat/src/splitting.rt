@@ -95,7 +95,7 @@ fn numbered_parts(
     requires { total ≡ length (pieces_of content.now.coding content.now.units) }
     ensures { IfOk result (λ parts. parts ≡ numbered content.now reference total 1 (pieces_of content.now.coding content.now.units)) }
 {
-    let mut parts = Parts::with_capacity(alloc, usize::from(total))?;
+    let mut numbered = Parts::with_capacity(alloc, usize::from(total))?;
     let mut rest = content.units.as_slice();
     let mut number: u8 = 0;
     while !rest.is_empty() {
@@ -110,10 +110,10 @@ fn numbered_parts(
             content: content_with(alloc, content, piece)?,
             key: Some(key),
         };
-        parts.push(part)?;
+        numbered.push(part)?;
         rest = behind;
     }
-    Ok(parts)
+    Ok(numbered)
 }
 
 // One part without a header.

@@ -1,4 +1,4 @@
-use Rattle.std.proofs.Common.{◌≡◌, ◌<◌, length, arith}
+use Rattle.std.proofs.Common.{arith}
 use Rattle.sms_base.proofs.Steps.{run_takes}
 use Rattle.sms_concat.specs.declared.header_error.HeaderError.TheVariants.{Truncated}
 use Rattle.sms_concat.proofs.header.header_of.Goals as goal

@@ -1,4 +1,3 @@
-use Rattle.std.proofs.Common.{◌≡◌, ◌∙◌, sym, ap}
 use Rattle.sms_concat.proofs.Elements.{filled, read_of}
 use Rattle.sms_concat.proofs.header.header_with.Goals as goal
 

@@ -1,6 +1,4 @@
-use Rattle.std.proofs.Common.{◌≡◌, true, false, sym, ap, ◌∙◌}
 use Rattle.std.proofs.lemmas.Result.{err_from_is_err_and}
-use Rattle.sms_concat.specs.HeaderGrammar.{Tells, elements_in}
 use Rattle.sms_concat.proofs.Elements.{continues_at, continues_more, continues_fault, continues_end, one_more}
 use Rattle.sms_concat.proofs.header.test_elements.Goals as goal
 

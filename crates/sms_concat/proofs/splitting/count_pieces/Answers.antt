@@ -1,4 +1,4 @@
-use Rattle.std.proofs.Common.{◌≡◌, ◌<◌, ℕ, List, [], ◌∷◌, length, true, arith, ap, sym, ◌∙◌}
+use Rattle.std.proofs.Common.{sym, ◌∙◌}
 use Rattle.sms_concat.proofs.Numbering.{counting_over, some_left}
 use Rattle.sms_concat.proofs.splitting.count_pieces.Goals as goal
 

@@ -1,4 +1,4 @@
-use Rattle.std.proofs.Common.{◌≡◌, ◌<◌, refl, sym, ◌∙◌, arith}
+use Rattle.std.proofs.Common.{refl, arith}
 use Rattle.sms_concat.proofs.Dividing.{filling_more, filling_over, filling_end}
 use Rattle.sms_concat.proofs.splitting.first_piece.Goals as goal
 

@@ -1,6 +1,6 @@
-use Rattle.std.proofs.Common.{◌≡◌, Ok, sym, ap, ◌∙◌, arith}
+use Rattle.std.proofs.Common.{Ok, sym, ap, ◌∙◌, arith}
 use Rattle.std.proofs.lemmas.Result.{err_from_is_err_and}
-use Rattle.sms_concat.specs.Splitting.{alone, numbered, pieces_of, is_compressed}
+use Rattle.sms_concat.specs.Splitting.{alone, numbered, pieces_of}
 use Rattle.sms_concat.proofs.Numbering.{split_alone, split_refused, some_way, none_way}
 use Rattle.sms_concat.proofs.splitting.parts_of.Goals as goal
 

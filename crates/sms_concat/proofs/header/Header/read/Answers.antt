@@ -1,8 +1,8 @@
-use Rattle.std.proofs.Common.{◌≡◌, ◌∙◌, sym, ap, refl, Result, Ok, Err, List, ℕ, subst}
+use Rattle.std.proofs.Common.{◌≡◌, ◌∙◌, sym, ap, Result, Ok, Err, List, ℕ}
 use Rattle.std.specs.Prelude.{IfOk}
 use Rattle.sms_concat.specs.declared.element.Element.{Element}
 use Rattle.sms_concat.specs.declared.header_error.HeaderError.{HeaderError}
-use Rattle.sms_concat.specs.HeaderGrammar.{BeginsWith, header_at, written}
+use Rattle.sms_concat.specs.HeaderGrammar.{BeginsWith, header_at}
 use Rattle.sms_concat.proofs.Elements.{read_was_written, written_is_read}
 use Rattle.sms_concat.proofs.header.Header.read.Goals as goal
 
