@@ -1,5 +1,5 @@
 -- The user data fields: what is read of them, and that what was written is read again.
-use Rattle.std.proofs.Common.{◌≡◌, ℕ, suc, ◌+◌, ◌-◌, ◌*◌, ◌/◌, ◌%◌, ◌<◌, ◌≤◌, Bool, true, false, ltb, List, [], ◌∷◌, ◌++◌, length, drop, Result, Ok, Err, Option, Some, None, refl, sym, ap, subst, ◌∙◌, arith}
+use Rattle.std.proofs.Common.{◌≡◌, ℕ, suc, ◌+◌, ◌-◌, ◌*◌, ◌/◌, ◌%◌, ◌<◌, ◌≤◌, Bool, true, false, cond, ltb, List, [], ◌∷◌, ◌++◌, length, drop, Result, Ok, Err, Option, Some, None, refl, sym, ap, subst, ◌∙◌, arith}
 use Rattle.std.proofs.lemmas.Bool.{le-ltb, lt-ltb, le-leb}
 use Rattle.std.proofs.lemmas.List.{drop_at, length-append}
 use Rattle.sms_base.specs.Reading.{◌>>=◌}
@@ -17,34 +17,60 @@ use Rattle.sms_concat.specs.declared.content.Part.{Part}
 use Rattle.sms_concat.specs.declared.content.UserData.{UserData}
 use Rattle.sms_concat.specs.HeaderGrammar.{spelled, written, header_at}
 use Rattle.sms_concat.specs.Concatenation.{key_of, element_key, counted}
-use Rattle.sms_concat.specs.UserData.{header_septets, fill_bits, data_length, key_element, header_of, is_there, IsBody, IsUserData, AreUnits, IsKey, IsPart, header_size, key_found, header_key, octets_behind, septets_behind, units_behind, part_in, Answers, content_of}
+use Rattle.sms_concat.specs.UserData.{header_septets, fill_bits, data_length, key_element, header_of, is_there, IsBody, IsUserData, AreUnits, IsKey, IsPart, header_size, key_found, header_key, octets_behind, septets_behind, units_behind, part_in, Answers, Tests, content_of}
 use Rattle.sms_concat.proofs.Elements.{written_is_read}
 
 -- ---- faults
 
-pub answers_fault : {X : Type 0} (e : UnpackError) (wanted : Result X UnpackError) → wanted ≡ Err e → Answers (Err e) wanted
-answers_fault NoMemory wanted p = tt
-answers_fault TooShort wanted p = p
-answers_fault SpareBits wanted p = p
+pub fault_goes_on : {X Y : Type 0} (e : UnpackError) (r : Result X UnpackError) (f : X → Result Y UnpackError) → r ≡ Err e → (r >>= f) ≡ Err e
+fault_goes_on e r f p = ap (λ m. m >>= f) p
 
-pub answers_bind : {X Y : Type 0} (e : UnpackError) (r : Result X UnpackError) (f : X → Result Y UnpackError) → Answers (Err e) r → Answers (Err e) (r >>= f)
-answers_bind NoMemory r f p = tt
-answers_bind TooShort r f p = ap (λ m. m >>= f) p
-answers_bind SpareBits r f p = ap (λ m. m >>= f) p
+pub answers_bind : {X Y : Type 0} (e : UnpackError) (r : Result X UnpackError) (f : X → Y) → Answers (Err e) r → Answers (Err e) (r >>= (λ x. Ok (f x)))
+answers_bind NoMemory r f p = (f p.0, ap (λ m. m >>= (λ x. Ok (f x))) p.1)
+answers_bind TooShort r f p = ap (λ m. m >>= (λ x. Ok (f x))) p
+answers_bind SpareBits r f p = ap (λ m. m >>= (λ x. Ok (f x))) p
+
+pub tests_bind : {X Y : Type 0} (t : Result (Unit {0}) UnpackError) (r : Result X UnpackError) (f : X → Y) → Tests t r → Tests t (r >>= (λ x. Ok (f x)))
+tests_bind (Ok done) r f p = (f p.0, ap (λ m. m >>= (λ x. Ok (f x))) p.1)
+tests_bind (Err e) r f p = ap (λ m. m >>= (λ x. Ok (f x))) p
+
+size_fault : (indicator : Bool) (octets : List ℕ) (e : UnpackError) → Err e ≡ header_size indicator octets → e ≡ TooShort
+size_fault false octets e p = absurd cc
+size_fault true [] e p = cc
+size_fault true (size ∷ rest) e p = more (ltb (length rest) size) p where
+  more : (b : Bool) → Err e ≡ cond b (Err TooShort) (Ok (size + 1)) → e ≡ TooShort
+  more true q = cc
+  more false q = absurd cc
 
 -- ---- what is read
 
+part_with_units : Bool → ℕ → List ℕ → List ℕ → Part
+part_with_units indicator dcs octets units = record { content = content_of dcs units; key = header_key indicator octets }
+
+at_size : (indicator : Bool) (dcs total : ℕ) (octets : List ℕ) (r : Result ℕ UnpackError) → r ≡ header_size indicator octets → part_in indicator dcs total octets ≡ (r >>= (λ header. units_behind (coding_of dcs) header total (drop header octets) >>= (λ units. Ok (part_with_units indicator dcs octets units))))
+unfolding part_in part_with_units
+at_size indicator dcs total octets r p = ap (λ (m : Result ℕ UnpackError). m >>= (λ header. units_behind (coding_of dcs) header total (drop header octets) >>= (λ units. Ok (part_with_units indicator dcs octets units)))) (sym p)
+
+pub part_refused : (indicator : Bool) (dcs total : ℕ) (octets : List ℕ) (e : UnpackError) → Err e ≡ header_size indicator octets → part_in indicator dcs total octets ≡ Err e
+part_refused indicator dcs total octets e p = at_size indicator dcs total octets (Err e) p
+
 pub part_short : (indicator : Bool) (dcs total : ℕ) (octets : List ℕ) (e : UnpackError) → Err e ≡ header_size indicator octets → Answers (Err e) (part_in indicator dcs total octets)
-unfolding part_in
 part_short indicator dcs total octets e p =
-    answers_fault e (part_in indicator dcs total octets) (ap (λ (m : Result ℕ UnpackError). m >>= (λ header. units_behind (coding_of dcs) header total (drop header octets) >>= (λ units. Ok (record { content = content_of dcs units; key = header_key indicator octets })))) (sym p))
+    let short : TooShort ≡ e = sym (size_fault indicator octets e p) in
+    let q : part_in indicator dcs total octets ≡ Err TooShort = part_refused indicator dcs total octets e p ∙ ap Err (sym short) in
+    subst (λ (f : UnpackError). Answers (Err f) (part_in indicator dcs total octets)) short q
+
+units_at : (indicator : Bool) (dcs total : ℕ) (octets : List ℕ) (header : ℕ) (coding : Coding) → Ok header ≡ header_size indicator octets → coding ≡ coding_of dcs → part_in indicator dcs total octets ≡ (units_behind coding header total (drop header octets) >>= (λ units. Ok (part_with_units indicator dcs octets units)))
+units_at indicator dcs total octets header coding s cd =
+    at_size indicator dcs total octets (Ok header) s ∙ ap (λ (k : Coding). units_behind k header total (drop header octets) >>= (λ units. Ok (part_with_units indicator dcs octets units))) (sym cd)
 
 pub part_faulty : (indicator : Bool) (dcs total : ℕ) (octets : List ℕ) (header : ℕ) (coding : Coding) (e : UnpackError) → Ok header ≡ header_size indicator octets → coding ≡ coding_of dcs → Answers (Err e) (units_behind coding header total (drop header octets)) → Answers (Err e) (part_in indicator dcs total octets)
-unfolding part_in
 part_faulty indicator dcs total octets header coding e s cd a =
-    let b : Answers (Err e) (units_behind (coding_of dcs) header total (drop header octets)) = subst (λ (k : Coding). Answers (Err e) (units_behind k header total (drop header octets))) cd a in
-    let f : List ℕ → Result Part UnpackError = λ units. Ok (record { content = content_of dcs units; key = header_key indicator octets }) in
-    subst (λ (m : Result ℕ UnpackError). Answers (Err e) (m >>= (λ h. units_behind (coding_of dcs) h total (drop h octets) >>= f))) s (answers_bind e (units_behind (coding_of dcs) header total (drop header octets)) f b)
+    subst (λ (w : Result Part UnpackError). Answers (Err e) w) (sym (units_at indicator dcs total octets header coding s cd)) (answers_bind e (units_behind coding header total (drop header octets)) (part_with_units indicator dcs octets) a)
+
+pub part_tested : (indicator : Bool) (dcs total : ℕ) (octets : List ℕ) (header : ℕ) (coding : Coding) (t : Result (Unit {0}) UnpackError) → Ok header ≡ header_size indicator octets → coding ≡ coding_of dcs → Tests t (units_behind coding header total (drop header octets)) → Tests t (part_in indicator dcs total octets)
+part_tested indicator dcs total octets header coding t s cd a =
+    subst (λ (w : Result Part UnpackError). Tests t w) (sym (units_at indicator dcs total octets header coding s cd)) (tests_bind t (units_behind coding header total (drop header octets)) (part_with_units indicator dcs octets) a)
 
 pub part_made : (indicator : Bool) (dcs total : ℕ) (octets : List ℕ) (header : ℕ) (coding : Coding) (units : List ℕ) (key : Option ConcatKey) → Ok header ≡ header_size indicator octets → coding ≡ coding_of dcs → units_behind coding header total (drop header octets) ≡ Ok units → key ≡ header_key indicator octets
     → part_in indicator dcs total octets ≡ Ok (record { content = record { coding = coding; dcs = dcs; units = units }; key = key })
@@ -65,6 +91,9 @@ same_length n = le-ltb n n (omega arith)
 
 octets_again : (header : ℕ) (units : List ℕ) → octets_behind header (header + length units) units ≡ Ok units
 octets_again header units = rw (same_length (header + length units)) refl
+
+pub octets_exact : (header total : ℕ) (octets : List ℕ) → total ≡ header + length octets → octets_behind header total octets ≡ Ok octets
+octets_exact header total octets e = ap (λ (n : ℕ). octets_behind header n octets) e ∙ octets_again header octets
 
 septets_again : (header : ℕ) (units packed : List ℕ) → AreSeptets units → IsPacking units (fill_bits header) packed → septets_behind header (header_septets header + length units) packed ≡ Ok units
 septets_again header units packed small h =

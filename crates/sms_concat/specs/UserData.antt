@@ -148,9 +148,14 @@ part_in indicator dcs total octets = do
   units ← units_behind (coding_of dcs) header total (drop header octets)
   Ok (record { content = content_of dcs units; key = header_key indicator octets })
 
--- the answer is what it would be with memory, or there was none
+-- the answer is what it would be with memory, or there was none for what would be read
 abbrev pub Answers : {X : Type 0} → Result X UnpackError → Result X UnpackError → Type 0
-Answers (Ok x) wanted = wanted ≡ Ok x
-Answers (Err NoMemory) wanted = Unit {0}
-Answers (Err TooShort) wanted = wanted ≡ Err TooShort
-Answers (Err SpareBits) wanted = wanted ≡ Err SpareBits
+Answers {X} (Ok x) wanted = wanted ≡ Ok x
+Answers {X} (Err NoMemory) wanted = (x : X) × (wanted ≡ Ok x)
+Answers {X} (Err TooShort) wanted = wanted ≡ Err TooShort
+Answers {X} (Err SpareBits) wanted = wanted ≡ Err SpareBits
+
+-- a test found that something is read, or the fault for which it is not
+abbrev pub Tests : {X : Type 0} → Result (Unit {0}) UnpackError → Result X UnpackError → Type 0
+Tests {X} (Ok done) wanted = (x : X) × (wanted ≡ Ok x)
+Tests {X} (Err e) wanted = wanted ≡ Err e

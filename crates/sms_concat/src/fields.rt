@@ -1,12 +1,12 @@
 //! The user data of a part, written and read.
 ghost use Rattle.std.specs.Prelude.{◌≡◌, ◌↔◌, true, ℕ, ◌/◌, ◌≤◌, ◌<◌, ◌++◌, List, length, IfOk};
 ghost use Rattle.sms_alphabet.specs.Packing.{IsPacking, AreSeptets};
-ghost use Rattle.sms_concat.specs.UserData.{header_septets, fill_bits, data_length, capacity, header_of, AreUnits, IsBody, IsUserData, Fits, HasRoom, header_size, header_key, octets_behind, septets_behind, units_behind, part_in, Answers};
+ghost use Rattle.sms_concat.specs.UserData.{header_septets, fill_bits, data_length, capacity, header_of, AreUnits, IsBody, IsUserData, Fits, HasRoom, header_size, header_key, octets_behind, septets_behind, units_behind, part_in, Answers, Tests};
 
 use crate::concat_key::{ConcatKey, ConcatReference};
 use crate::content::{Content, Part, UserData};
 use crate::header::{Header, concat_info};
-use sms_alphabet::{Coding, UnpackError, dcs, pack, unpack};
+use sms_alphabet::{Coding, UnpackError, check, dcs, pack, unpack};
 use sms_base::Octets;
 use std::alloc::{AllocError, Global};
 
@@ -233,6 +233,47 @@ fn header_key(indicator: bool, octets: &[u8]) -> Option<ConcatKey>
     }
 }
 
+// Whether as many octets stand behind a header of so many as the length says.
+fn test_octets(header: usize, length: u8, octets: &[u8]) -> Result<(), UnpackError>
+    requires { header ≤ 256 }
+    ensures { Tests result (octets_behind header length octets.now) }
+{
+    let room = usize::from(length);
+    if octets.len() < room.saturating_sub(header) {
+        return Err(UnpackError::TooShort);
+    }
+    if room < header || room - header < octets.len() {
+        return Err(UnpackError::SpareBits);
+    }
+    Ok(())
+}
+
+// Whether as many septets stand behind a header of so many octets as the length says, and no other bit.
+fn test_septets(header: usize, length: u8, octets: &[u8]) -> Result<(), UnpackError>
+    requires { header ≤ 256 }
+    ensures { Tests result (septets_behind header length octets.now) }
+{
+    let taken = header_septets(header);
+    if usize::from(length) < taken {
+        return match octets {
+            [] => Ok(()),
+            [_, ..] => Err(UnpackError::SpareBits),
+        };
+    }
+    let count = (usize::from(length) - taken) as u8;
+    check(octets, fill_bits(header), count)
+}
+
+fn test_units(coding: Coding, header: usize, length: u8, octets: &[u8]) -> Result<(), UnpackError>
+    requires { header ≤ 256 }
+    ensures { Tests result (units_behind coding header length octets.now) }
+{
+    match coding {
+        Coding::Septets => test_septets(header, length, octets),
+        _ => test_octets(header, length, octets),
+    }
+}
+
 // The octets behind a header of so many.
 fn octets_behind(
     alloc: Global,
@@ -243,13 +284,7 @@ fn octets_behind(
     requires { header ≤ 256 }
     ensures { Answers result (octets_behind header length octets.now) }
 {
-    let room = usize::from(length);
-    if octets.len() < room.saturating_sub(header) {
-        return Err(UnpackError::TooShort);
-    }
-    if room < header || room - header < octets.len() {
-        return Err(UnpackError::SpareBits);
-    }
+    test_octets(header, length, octets)?;
     Ok(joined(alloc, octets, &[])?)
 }
 
@@ -263,19 +298,13 @@ fn septets_behind(
     requires { header ≤ 256 }
     ensures { Answers result (septets_behind header length octets.now) }
 {
+    test_septets(header, length, octets)?;
     let taken = header_septets(header);
     if usize::from(length) < taken {
-        return match octets {
-            [] => Ok(Octets::new(alloc)),
-            [_, ..] => Err(UnpackError::SpareBits),
-        };
+        return Ok(Octets::new(alloc));
     }
-    unpack(
-        alloc,
-        octets,
-        fill_bits(header),
-        (usize::from(length) - taken) as u8,
-    )
+    let count = (usize::from(length) - taken) as u8;
+    unpack(alloc, octets, fill_bits(header), count)
 }
 
 // The units behind a header of so many octets.
@@ -293,6 +322,21 @@ fn units_behind(
         Coding::Septets => septets_behind(alloc, header, length, octets),
         _ => octets_behind(alloc, header, length, octets),
     }
+}
+
+/// Whether the user data fields carry a part, or why they do not: as `part_of`, without memory.
+pub fn check_user_data(
+    header_indicator: bool,
+    data_coding_scheme: u8,
+    length: u8,
+    octets: &[u8],
+) -> Result<(), UnpackError>
+    ensures { Tests result (part_in header_indicator data_coding_scheme length octets.now) }
+{
+    let size = header_size(header_indicator, octets)?;
+    let coding = dcs(data_coding_scheme);
+    let (_, behind) = octets.split_at(size);
+    test_units(coding, size, length, behind)
 }
 
 /// The part that the user data fields carry: TP-UDHI, TP-DCS, TP-UDL and TP-UD.

@@ -23,7 +23,8 @@ pub use concat_key::{ConcatKey, ConcatReference};
 pub use content::{Content, Part, UserData};
 pub use element::Element;
 pub use fields::{
-    fill_bits, fits, fits_behind, header_septets, part_of, user_data, user_data_behind,
+    check_user_data, fill_bits, fits, fits_behind, header_septets, part_of, user_data,
+    user_data_behind,
 };
 pub use header::{Header, concat_info};
 pub use header_error::HeaderError;

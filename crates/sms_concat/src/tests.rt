@@ -1,6 +1,6 @@
 use crate::{
-    ConcatKey, ConcatReference, Content, Header, HeaderError, Part, SplitError, concat_info, fits,
-    join, part_of, split, user_data,
+    ConcatKey, ConcatReference, Content, Header, HeaderError, Part, SplitError, check_user_data,
+    concat_info, fits, join, part_of, split, user_data,
 };
 use sms_alphabet::{Coding, UnpackError};
 use sms_base::Octets;
@@ -117,6 +117,10 @@ fn a_septet_stands_behind_an_8_bit_header(rt: HostRuntime) -> Result<(), Fail> {
     assert_eq!(rt;
         written(alloc, &part)?.as_slice(),
         &[8, 5, 0, 3, 0x2a, 2, 1, 0xc2][..]
+    );
+    assert_eq!(rt;
+        check_user_data(true, 0, 8, &[5, 0, 3, 0x2a, 2, 1, 0xc2]),
+        Ok(())
     );
     match part_of(alloc, true, 0, 8, &[5, 0, 3, 0x2a, 2, 1, 0xc3]) {
         Ok(_) => assert!(rt; false),
