@@ -1,7 +1,10 @@
 //! The content of a message, and a part of it.
+ghost use Rattle.std.specs.Prelude.{◌≡◌, IfOk};
+
 use crate::concat_key::ConcatKey;
 use sms_alphabet::Coding;
 use sms_base::Octets;
+use std::alloc::{AllocError, Global};
 
 /// What a message says.
 #[derive(Debug, Drop)]
@@ -32,4 +35,13 @@ pub struct UserData {
     pub length: u8,
     /// The header, if any, and the units (TP-UD).
     pub octets: Octets,
+}
+
+/// The units, owned.
+pub(crate) fn owned(alloc: Global, units: &[u8]) -> Result<Octets, AllocError>
+    ensures { IfOk result (λ octets. octets ≡ units.now) }
+{
+    let mut octets = Octets::with_capacity(alloc, units.len())?;
+    octets.append(units)?;
+    Ok(octets)
 }

@@ -9,29 +9,30 @@
 mod concat_key;
 mod content;
 mod element;
-mod fields;
 mod header;
 mod header_error;
 mod joining;
 pub mod laws;
+mod lengths;
 mod parts;
+mod reading;
 mod split_error;
 mod splitting;
 mod whole_unit;
+mod writing;
 
 pub use concat_key::{ConcatKey, ConcatReference};
 pub use content::{Content, Part, UserData};
 pub use element::Element;
-pub use fields::{
-    check_user_data, fill_bits, fits, fits_behind, header_septets, part_of, user_data,
-    user_data_behind,
-};
 pub use header::{Header, concat_info};
 pub use header_error::HeaderError;
 pub use joining::join;
+pub use lengths::{fill_bits, fits, fits_behind, header_septets};
 pub use parts::Parts;
+pub use reading::{check_user_data, part_of};
 pub use split_error::SplitError;
 pub use splitting::split;
+pub use writing::{user_data, user_data_behind};
 
 #[cfg(test)]
 mod tests;

@@ -7,13 +7,12 @@ ghost use Rattle.sms_concat.specs.declared.content.Content.{Content as ContentOf
 ghost use Rattle.sms_concat.specs.declared.content.Part.{Part as PartOf};
 
 use crate::concat_key::{ConcatKey, ConcatReference};
-use crate::content::{Content, Part};
-use crate::fields::capacity;
+use crate::content::{Content, Part, owned};
+use crate::lengths::capacity;
 use crate::parts::Parts;
 use crate::split_error::SplitError;
 use crate::whole_unit::first_unit;
 use sms_alphabet::Coding;
-use sms_base::Octets;
 use std::alloc::{AllocError, Global};
 
 // How many parts a message has at most.
@@ -76,12 +75,10 @@ fn count_pieces(coding: Coding, units: &[u8]) -> Option<u8>
 fn content_with(alloc: Global, content: &Content, units: &[u8]) -> Result<Content, AllocError>
     ensures { IfOk result (λ some. some ≡ record { coding = content.now.coding; dcs = content.now.dcs; units = units.now }) }
 {
-    let mut own = Octets::with_capacity(alloc, units.len())?;
-    own.append(units)?;
     Ok(Content {
         coding: content.coding,
         dcs: content.dcs,
-        units: own,
+        units: owned(alloc, units)?,
     })
 }
 

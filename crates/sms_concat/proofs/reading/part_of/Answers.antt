@@ -1,7 +1,7 @@
 use Rattle.std.proofs.Common.{◌≡◌, sym, ap, ◌∙◌}
 use Rattle.std.proofs.lemmas.Result.{err_from_is_err_and}
 use Rattle.sms_concat.proofs.FieldLaws.{part_short, part_faulty, part_made}
-use Rattle.sms_concat.proofs.fields.part_of.Goals as goal
+use Rattle.sms_concat.proofs.reading.part_of.Goals as goal
 
 pub returns-in_err-size : goal.returns-in_err-size
 returns-in_err-size c =
