@@ -1,0 +1,8 @@
+pub mod Dividing
+pub mod Elements
+pub mod FieldLaws
+pub mod Joined
+pub mod Numbering
+pub mod Uniqueness
+pub mod Room
+mod Rows

@@ -1,0 +1,37 @@
+-- The concatenation key of a header: that of its last valid concatenation element.
+use Rattle.std.specs.Prelude.{ℕ, ◌+◌, ◌*◌, List, [], ◌∷◌, Option, Some, None, ◌&&◌, nat_lt, nat_le, ◌==◌, if◌then◌else◌}
+use Rattle.sms_concat.specs.declared.element.Element.{Element}
+use Rattle.sms_concat.specs.declared.concat_key.ConcatKey.{ConcatKey}
+use Rattle.sms_concat.specs.declared.concat_key.ConcatReference.{ConcatReference}
+use Rattle.sms_concat.specs.declared.concat_key.ConcatReference.TheVariants.{EightBit, SixteenBit}
+
+-- the key, if the parts are counted from 1 to the total
+abbrev pub counted : ConcatReference → ℕ → ℕ → Option ConcatKey
+counted reference total number =
+    if nat_lt 0 number && nat_le number total then Some (record { reference = reference; total = total; number = number }) else None
+
+-- 3GPP TS 23.040 9.2.3.24.1: three octets, reference, total and number
+abbrev pub eight_bit_key : List ℕ → Option ConcatKey
+eight_bit_key (reference ∷ total ∷ number ∷ []) = counted (EightBit reference) total number
+eight_bit_key octets = None
+
+-- 3GPP TS 23.040 9.2.3.24.8: four octets, the reference in two, the high one first
+abbrev pub sixteen_bit_key : List ℕ → Option ConcatKey
+sixteen_bit_key (high ∷ low ∷ total ∷ number ∷ []) = counted (SixteenBit (256 * high + low)) total number
+sixteen_bit_key octets = None
+
+-- the key of an element, if it is a valid concatenation element
+abbrev pub element_key : Element → Option ConcatKey
+element_key e =
+    if e.identifier == 0 then eight_bit_key e.octets
+    else (if e.identifier == 8 then sixteen_bit_key e.octets else None)
+
+-- the later of two keys
+abbrev pub later : Option ConcatKey → Option ConcatKey → Option ConcatKey
+later earlier None = earlier
+later earlier (Some key) = Some key
+
+-- the key of a header
+unfoldable pub key_of : List Element → Option ConcatKey
+key_of [] = None
+key_of (e ∷ es) = later (element_key e) (key_of es)

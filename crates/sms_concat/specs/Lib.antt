@@ -1,0 +1,6 @@
+pub mod Concatenation
+pub mod HeaderGrammar
+pub mod Joining
+pub mod Splitting
+pub mod UserData
+pub mod WholeUnits

@@ -1,0 +1,59 @@
+//! Laws of headers, of the user data fields, of splitting and of joining, over their definitions alone.
+ghost use Rattle.std.specs.Prelude.{◌≡◌, ◌↔◌, ◌≤◌, ◌<◌, ◌++◌, ℕ, List, [], All, length, true, Ok, Err, Some};
+ghost use Rattle.sms_alphabet.specs.DataCodingScheme.{coding_of};
+ghost use Rattle.sms_concat.specs.declared.content.Content.{Content as ContentOf};
+ghost use Rattle.sms_concat.specs.declared.content.Part.{Part as PartOf};
+ghost use Rattle.sms_concat.specs.declared.content.UserData.{UserData as UserDataOf};
+ghost use Rattle.sms_concat.specs.declared.element.Element.{Element as ElementOf};
+ghost use Rattle.sms_concat.specs.declared.header_error.HeaderError.TheVariants.{Truncated};
+ghost use Rattle.sms_concat.specs.HeaderGrammar.{written, header_at, BeginsWith};
+ghost use Rattle.sms_concat.specs.Joining.{content_joined};
+ghost use Rattle.sms_concat.specs.Splitting.{IsSplit, IsUncut, split_of};
+ghost use Rattle.sms_concat.specs.UserData.{header_of, AreUnits, HasRoom, IsPart, IsUserData, part_in};
+
+/// A header is read as its elements, whatever stands behind it.
+pub fn written_header_is_read()
+    ensures { (elements : List ElementOf) (rest : List ℕ) → header_at (written elements ++ rest) ≡ Ok elements }
+{}
+
+/// What is read as a header begins with the header of those elements.
+pub fn read_header_was_written()
+    ensures { (octets : List ℕ) (elements : List ElementOf) → header_at octets ≡ Ok elements → BeginsWith octets elements }
+{}
+
+/// Elements have one written header, and a header has one list of elements.
+pub fn one_header_each()
+    ensures { (one other : List ElementOf) → (written one ≡ written other) ↔ (one ≡ other) }
+{}
+
+/// A proper front of a header is refused as too short.
+pub fn cut_header_is_truncated()
+    ensures { (elements : List ElementOf) (front rest : List ℕ) → front ++ rest ≡ written elements → 0 < length rest → header_at front ≡ Err Truncated }
+{}
+
+/// What is written of a part is read as that part.
+pub fn written_part_is_read()
+    ensures { (part : PartOf) (user : UserDataOf) → IsPart part → IsUserData (header_of part.key) part.content user → part_in user.header_indicator part.content.dcs user.length user.octets ≡ Ok part }
+{}
+
+/// Every content but a compressed one that does not fit has one split, and no other.
+pub fn one_split_each()
+    ensures there { (content : ContentOf) (reference : ℕ) → (IsUncut content → ⊥) → (parts : List PartOf) × IsSplit content reference parts }
+    ensures only { (content : ContentOf) (reference : ℕ) (one other : List PartOf) → IsSplit content reference one → IsSplit content reference other → one ≡ other }
+{}
+
+/// A content is split into parts exactly where they are its split, and at most 20.
+pub fn split_is_the_relation()
+    ensures { (content : ContentOf) (reference : ℕ) (parts : List PartOf) → (split_of content reference ≡ Ok parts) ↔ (IsSplit content reference parts × (length parts ≤ 20)) }
+{}
+
+/// Each part of a split has room, and what is written of it is read as that part.
+pub fn split_parts_are_read()
+    ensures room { (content : ContentOf) (reference : ℕ) (parts : List PartOf) → AreUnits content.coding content.units → split_of content reference ≡ Ok parts → All HasRoom parts }
+    ensures read { (content : ContentOf) (reference : ℕ) (parts : List PartOf) → content.coding ≡ coding_of content.dcs → AreUnits content.coding content.units → split_of content reference ≡ Ok parts → All IsPart parts }
+{}
+
+/// The parts of a split join to the content.
+pub fn split_parts_join()
+    ensures { (content : ContentOf) (reference : ℕ) (parts : List PartOf) → split_of content reference ≡ Ok parts → content_joined parts ≡ Some content }
+{}

@@ -1,0 +1,101 @@
+//! How much a short message has room for.
+ghost use Rattle.std.specs.Prelude.{◌≡◌, ◌↔◌, true, ◌≤◌, ◌<◌, length};
+ghost use Rattle.sms_alphabet.specs.Packing.{AreSeptets};
+ghost use Rattle.sms_concat.specs.UserData.{header_septets, fill_bits, data_length, capacity, header_of, AreUnits, Fits, HasRoom};
+
+use crate::concat_key::{ConcatKey, ConcatReference};
+use crate::content::{Content, Part};
+use sms_alphabet::Coding;
+
+/// How many septets a header of so many octets takes (3GPP TS 23.040 9.2.3.24).
+pub fn header_septets(octets: usize) -> usize
+    requires { octets ≤ 256 }
+    ensures { result ≡ header_septets octets }
+{
+    (8 * octets + 6) / 7
+}
+
+/// How many fill bits stand between a header of so many octets and the first septet.
+pub fn fill_bits(octets: usize) -> u8
+    requires { octets ≤ 256 }
+    ensures is { result ≡ fill_bits octets }
+    ensures few { result < 7 }
+{
+    (7 * header_septets(octets) - 8 * octets) as u8
+}
+
+/// The greatest TP-UDL: 160 septets or 140 octets.
+pub(crate) fn capacity(coding: Coding) -> usize
+    ensures { result ≡ capacity coding }
+{
+    match coding {
+        Coding::Septets => 160,
+        _ => 140,
+    }
+}
+
+// Whether each is a septet.
+fn are_septets(units: &[u8]) -> bool
+    ensures { (result ≡ true) ↔ AreSeptets units.now }
+{
+    for unit in units {
+        if *unit >= 128 {
+            return false;
+        }
+    }
+    true
+}
+
+fn are_units(coding: Coding, units: &[u8]) -> bool
+    ensures { (result ≡ true) ↔ AreUnits coding units.now }
+{
+    match coding {
+        Coding::Septets => are_septets(units),
+        _ => true,
+    }
+}
+
+// How much of TP-UDL a header of so many octets takes.
+fn taken(coding: Coding, header: usize) -> usize
+    requires { header ≤ 256 }
+    ensures { result ≡ data_length coding header 0 }
+{
+    match coding {
+        Coding::Septets => header_septets(header),
+        _ => header,
+    }
+}
+
+/// Whether a content fits one short message behind a header of so many octets, 0 for none: at most 160 septets,
+/// each below 128, or 140 octets, the header included.
+pub fn fits_behind(header: usize, content: &Content) -> bool
+    requires { header ≤ 256 }
+    ensures { (result ≡ true) ↔ Fits header content.now }
+{
+    let taken = taken(content.coding, header);
+    let capacity = capacity(content.coding);
+    taken <= capacity
+        && content.units.len() <= capacity - taken
+        && are_units(content.coding, content.units.as_slice())
+}
+
+// How many octets the header of a key has.
+fn header_len(key: Option<ConcatKey>) -> usize
+    ensures is { result ≡ length (header_of key) }
+    ensures short { result ≤ 256 }
+{
+    match key {
+        None => 0,
+        Some(key) => match key.reference {
+            ConcatReference::EightBit(_) => 6,
+            ConcatReference::SixteenBit(_) => 7,
+        },
+    }
+}
+
+/// Whether a part fits one short message behind the header of its key.
+pub fn fits(part: &Part) -> bool
+    ensures { (result ≡ true) ↔ HasRoom part.now }
+{
+    fits_behind(header_len(part.key), &part.content)
+}
