@@ -1,0 +1,6 @@
+pub mod CauseLaws
+pub mod FieldLaws
+pub mod FrontLaws
+pub mod Rows
+pub mod TypeLaws
+pub mod UnitLaws

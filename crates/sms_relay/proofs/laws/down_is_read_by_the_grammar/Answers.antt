@@ -1,0 +1,9 @@
+use Rattle.sms_relay.proofs.FieldLaws.{IsBytes-octets}
+use Rattle.sms_relay.proofs.UnitLaws.{down_takes, down_again}
+use Rattle.sms_relay.proofs.laws.down_is_read_by_the_grammar.Goals as goal
+
+pub returns-clause-found : goal.returns-clause-found
+returns-clause-found c = λ octets rp h e. down_takes octets rp (IsBytes-octets octets h) e
+
+pub returns-clause-only : goal.returns-clause-only
+returns-clause-only c = down_again

@@ -1,0 +1,129 @@
+//! Units to the handset: read and written.
+ghost use Rattle.std.specs.Prelude.{◌≡◌, List, ℕ, IfOk, Ok};
+ghost use Rattle.sms_base.specs.Reading.{Takes};
+ghost use Rattle.sms_relay.specs.RelayGrammar.{IsDown, GoesDown, IsCentre, IsTpdu, down_octets, data_down};
+ghost use Rattle.sms_relay.specs.RelayReading.{down_at, down_in, data_down_in};
+ghost use Rattle.sms_relay.specs.declared.frame.Rp.{Rp as RpOf};
+
+use crate::fault::RelayFault;
+use crate::fields::{ack, centre, error, nobody, tpdu};
+use crate::frame::Rp;
+use crate::message_type::MessageType;
+use crate::writing::with_user_data;
+use sms_base::{Cursor, Octets};
+use std::alloc::{AllocError, Global};
+
+/// The unit to the handset that the octets are, or the first fault from the left.
+pub fn read_down(octets: &[u8]) -> Result<Rp<'_>, RelayFault>
+    // What is read is in the grammar.
+    ensures found { IfOk result (λ rp. IsDown octets.now rp) }
+    // What is in the grammar is read.
+    ensures only { (rp : RpOf) → IsDown octets.now rp → result ≡ Ok rp }
+    // Which fault it is.
+    ensures exact { result ≡ down_at octets.now }
+{
+    whole(octets)
+}
+
+#[tactic(auto, unfolding(crate::specs::RelayReading::down_at))]
+fn whole(octets: &[u8]) -> Result<Rp<'_>, RelayFault>
+    ensures { result ≡ down_at octets.now }
+{
+    let mut cursor = Cursor::of(octets);
+    let rp = unit(&mut cursor)?;
+    cursor.end(RelayFault::Trailing)?;
+    Ok(rp)
+}
+
+#[tactic(auto, unfolding(crate::specs::RelayReading::down_in))]
+fn unit<'a>(cursor: &mut Cursor<'a>) -> Result<Rp<'a>, RelayFault>
+    ensures { Takes (λ x. x) result cursor.new (down_in cursor.old) }
+{
+    match MessageType::of(cursor.octet(RelayFault::Truncated)?) {
+        Some(MessageType::DataDown) => data(cursor),
+        Some(MessageType::AckDown) => ack(cursor),
+        Some(MessageType::ErrorDown) => error(cursor),
+        _ => Err(RelayFault::Unknown),
+    }
+}
+
+/// An RP-DATA behind its type: the destination's address is empty.
+#[tactic(auto, unfolding(crate::specs::RelayReading::data_down_in))]
+fn data<'a>(cursor: &mut Cursor<'a>) -> Result<Rp<'a>, RelayFault>
+    ensures { Takes (λ x. x) result cursor.new (data_down_in cursor.old) }
+{
+    let reference = cursor.octet(RelayFault::Truncated)?;
+    let centre = centre(cursor)?;
+    nobody(cursor)?;
+    let unit = tpdu(cursor)?;
+    Ok(Rp::DataUnit {
+        reference,
+        centre,
+        unit,
+    })
+}
+
+/// The octets of a unit to the handset, in one growth. An error is returned only where that was refused.
+pub fn write_down(alloc: Global, rp: &Rp<'_>) -> Result<Octets, AllocError>
+    requires { GoesDown rp.now }
+    // The one written list.
+    ensures written { IfOk result (λ octets. octets ≡ down_octets rp.now) }
+    // It is in the grammar.
+    ensures in_grammar { IfOk result (λ octets. IsDown octets rp.now) }
+    // It is read as the same unit.
+    ensures again { IfOk result (λ octets. down_at octets ≡ Ok rp.now) }
+{
+    octets_of(alloc, rp)
+}
+
+fn octets_of(alloc: Global, rp: &Rp<'_>) -> Result<Octets, AllocError>
+    requires { GoesDown rp.now }
+    ensures { IfOk result (λ octets. octets ≡ down_octets rp.now) }
+{
+    match rp {
+        Rp::DataUnit {
+            reference,
+            centre,
+            unit,
+        } => data_octets(alloc, *reference, centre.as_slice(), unit.as_slice()),
+        Rp::AckUnit { reference, unit } => {
+            with_user_data(alloc, &[MessageType::AckDown.octet(), *reference], unit)
+        }
+        Rp::ErrorUnit {
+            reference,
+            cause,
+            unit,
+        } => with_user_data(
+            alloc,
+            &[
+                MessageType::ErrorDown.octet(),
+                *reference,
+                1,
+                cause.number(),
+            ],
+            unit,
+        ),
+        Rp::Smma { .. } => unreachable!(),
+    }
+}
+
+fn data_octets(
+    alloc: Global,
+    reference: u8,
+    centre: &[u8],
+    unit: &[u8],
+) -> Result<Octets, AllocError>
+    requires centre { IsCentre centre.now }
+    requires unit { IsTpdu unit.now }
+    ensures { IfOk result (λ octets. octets ≡ data_down reference centre.now unit.now) }
+{
+    let mut out = Vec::with_capacity(alloc, 5 + centre.len() + unit.len())?;
+    out.push(MessageType::DataDown.octet())?;
+    out.push(reference)?;
+    out.push(centre.len() as u8)?;
+    out.extend_from_slice(centre)?;
+    out.push(0)?;
+    out.push(unit.len() as u8)?;
+    out.extend_from_slice(unit)?;
+    Ok(Octets::from_vec(out))
+}
