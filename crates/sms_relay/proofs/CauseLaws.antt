@@ -1,11 +1,11 @@
 -- Causes and their numbers.
-use Rattle.std.proofs.Common.{◌≡◌, ℕ, ◌<◌, Bool, true, false, cond, eqb, List, [], ◌∷◌, Option, Some, None, refl, ap, sym, ◌∙◌, arith, lit<}
+use Rattle.std.proofs.Common.{◌≡◌, ℕ, ◌<◌, Bool, true, false, cond, eqb, List, [], ◌∷◌, Option, Some, None, refl, ap, sym, subst, ◌∙◌, lit<}
 use Rattle.std.specs.Option.{unwrap_or}
 use Rattle.std.specs.List.{find, AllByRecursion}
 use Rattle.std.proofs.lemmas.Bool.{eqb-true, ne_eqb}
 use Rattle.sms_relay.specs.Cause.{number_of, named, cause_of, IsRpCause}
 use Rattle.sms_relay.specs.declared.cause.RpCause.{RpCause}
-use Rattle.sms_relay.specs.declared.cause.RpCause.TheVariants.{Reserved}
+use Rattle.sms_relay.specs.declared.cause.RpCause.TheVariants.{UnassignedNumber, OperatorDeterminedBarring, CallBarred, ShortMessageTransferRejected, MemoryCapacityExceeded, DestinationOutOfOrder, UnidentifiedSubscriber, FacilityRejected, UnknownSubscriber, NetworkOutOfOrder, TemporaryFailure, Congestion, ResourcesUnavailable, RequestedFacilityNotSubscribed, RequestedFacilityNotImplemented, InvalidShortMessageTransferReference, SemanticallyIncorrectMessage, InvalidMandatoryInformation, MessageTypeNonExistent, MessageNotCompatible, InformationElementNonExistent, ProtocolError, Interworking, Reserved}
 
 one_more : (b : Bool) (cause : RpCause) (number : ℕ) (rest : Option RpCause) → eqb (number_of cause) number ≡ b
     → number_of (unwrap_or rest (Reserved number)) ≡ number → number_of (unwrap_or (cond b (Some cause) rest) (Reserved number)) ≡ number
@@ -31,10 +31,40 @@ pub reserved_is : (number : ℕ) → number < 128 → AllByRecursion (λ cause. 
 unfolding cause_of
 reserved_is number fits h = (fits, ap (λ (o : Option RpCause). unwrap_or o (Reserved number)) (none_has number named h))
 
+stood_for : (number : ℕ) (cause : RpCause) → number < 128 → cause_of number ≡ cause → IsRpCause cause
+stood_for number (Reserved n) fits e =
+    let same : n ≡ number = sym (ap number_of e) ∙ cause_of-number number in
+    (subst (λ (m : ℕ). m < 128) (sym same) fits, ap cause_of same ∙ e)
+stood_for number cause fits e = tt
+
 -- the cause that a number below 128 stands for
 pub cause_of-is : (number : ℕ) → number < 128 → IsRpCause (cause_of number)
-cause_of-is number fits = let same = cause_of-number number in (omega (arith, same), ap cause_of same)
+cause_of-is number fits = stood_for number (cause_of number) fits refl
 
-pub named_are : AllByRecursion IsRpCause named
+-- a cause of a frame is what its number stands for
+pub number_of-is : (cause : RpCause) → IsRpCause cause → (number_of cause < 128) × (cause_of (number_of cause) ≡ cause)
 unfolding cause_of
-named_are = ((lit< tt, refl), ((lit< tt, refl), ((lit< tt, refl), ((lit< tt, refl), ((lit< tt, refl), ((lit< tt, refl), ((lit< tt, refl), ((lit< tt, refl), ((lit< tt, refl), ((lit< tt, refl), ((lit< tt, refl), ((lit< tt, refl), ((lit< tt, refl), ((lit< tt, refl), ((lit< tt, refl), ((lit< tt, refl), ((lit< tt, refl), ((lit< tt, refl), ((lit< tt, refl), ((lit< tt, refl), ((lit< tt, refl), ((lit< tt, refl), ((lit< tt, refl), tt)))))))))))))))))))))))
+number_of-is (Reserved number) h = h
+number_of-is UnassignedNumber h = (lit< tt, refl)
+number_of-is OperatorDeterminedBarring h = (lit< tt, refl)
+number_of-is CallBarred h = (lit< tt, refl)
+number_of-is ShortMessageTransferRejected h = (lit< tt, refl)
+number_of-is MemoryCapacityExceeded h = (lit< tt, refl)
+number_of-is DestinationOutOfOrder h = (lit< tt, refl)
+number_of-is UnidentifiedSubscriber h = (lit< tt, refl)
+number_of-is FacilityRejected h = (lit< tt, refl)
+number_of-is UnknownSubscriber h = (lit< tt, refl)
+number_of-is NetworkOutOfOrder h = (lit< tt, refl)
+number_of-is TemporaryFailure h = (lit< tt, refl)
+number_of-is Congestion h = (lit< tt, refl)
+number_of-is ResourcesUnavailable h = (lit< tt, refl)
+number_of-is RequestedFacilityNotSubscribed h = (lit< tt, refl)
+number_of-is RequestedFacilityNotImplemented h = (lit< tt, refl)
+number_of-is InvalidShortMessageTransferReference h = (lit< tt, refl)
+number_of-is SemanticallyIncorrectMessage h = (lit< tt, refl)
+number_of-is InvalidMandatoryInformation h = (lit< tt, refl)
+number_of-is MessageTypeNonExistent h = (lit< tt, refl)
+number_of-is MessageNotCompatible h = (lit< tt, refl)
+number_of-is InformationElementNonExistent h = (lit< tt, refl)
+number_of-is ProtocolError h = (lit< tt, refl)
+number_of-is Interworking h = (lit< tt, refl)

@@ -1,18 +1,17 @@
 -- The fields of a unit: what is read stands at the front, what was written is read again, and a cut field ends too early.
-use Rattle.std.proofs.Common.{◌≡◌, ℕ, zero, suc, ◌+◌, ◌<◌, ◌≤◌, ◌⊎◌, inl, inr, Bool, true, false, not, ◌&&◌, ◌||◌, cond, eqb, ltb, List, [], ◌∷◌, ◌++◌, length, get_or, take, drop, Result, Ok, Err, Option, Some, None, refl, sym, ap, subst, ◌∙◌, arith, lit<}
+use Rattle.std.proofs.Common.{◌≡◌, ℕ, zero, suc, ◌<◌, ◌≤◌, ◌⊎◌, inl, inr, Bool, true, false, not, ◌&&◌, ◌||◌, cond, eqb, ltb, List, [], ◌∷◌, ◌++◌, length, get_or, Ok, Option, Some, None, refl, sym, ap, subst, ◌∙◌, arith, lit<}
 use Rattle.std.proofs.lemmas.Bool.{ltb-true, ltb-false, eqb-true, lt-ltb, le-ltb}
-use Rattle.std.proofs.lemmas.List.{drop_at, get_or-drop, append-nil}
-use Rattle.std.specs.List.{AllByRecursion}
-use Rattle.sms_base.specs.Reading.{◌>>=◌, only_if, octet_in, run_in, end_in, AreOctets}
+use Rattle.std.proofs.lemmas.List.{append-nil}
+use Rattle.sms_base.specs.Reading.{◌>>=◌, only_if, octet_in, run_in, AreOctets}
 use Rattle.sms_base.proofs.Steps.{bind_ok, passes, ok_is, both, not_true, octet_takes, run_takes, run_again}
 use Rattle.sms_base.proofs.Cuts.{Less, CutsShort, cuts_octet, cuts_run, cuts_pure, cuts_bind, cuts_test}
 use Rattle.sms_relay.specs.declared.cause.RpCause.{RpCause}
 use Rattle.sms_relay.specs.declared.fault.RelayFault.{RelayFault}
-use Rattle.sms_relay.specs.declared.fault.RelayFault.TheVariants.{Truncated, Trailing, Unknown, BadLength}
+use Rattle.sms_relay.specs.declared.fault.RelayFault.TheVariants.{Truncated, BadLength}
 use Rattle.sms_relay.specs.Cause.{number_of, cause_of, IsRpCause}
 use Rattle.sms_relay.specs.RelayGrammar.{IsCentre, IsTpdu, IsUserData, user_data, IsCauseField}
 use Rattle.sms_relay.specs.RelayReading.{centre_in, nobody_in, tpdu_in, user_data_in, cause_in}
-use Rattle.sms_relay.proofs.CauseLaws.{cause_of-number, cause_of-is}
+use Rattle.sms_relay.proofs.CauseLaws.{cause_of-number, cause_of-is, number_of-is}
 
 -- ---- octets
 
@@ -194,10 +193,11 @@ cause_takes xs x e =
 pub cause_again : (field : List ℕ) (cause : RpCause) (rest : List ℕ) → IsCauseField field cause → IsRpCause cause → cause_in (field ++ rest) ≡ Ok (cause, rest)
 unfolding cause_in
 cause_again field cause rest spelled is =
-    let small : ltb (number_of cause) 128 ≡ true = lt-ltb (number_of cause) 128 is.0 in
+    let known = number_of-is cause is in
+    let small : ltb (number_of cause) 128 ≡ true = lt-ltb (number_of cause) 128 known.0 in
     elim spelled [
-      | inl e ↦ rw (e, small, is.1) refl
-      | inr e ↦ rw (e.1, small, is.1) refl
+      | inl e ↦ rw (e, small, known.1) refl
+      | inr e ↦ rw (e.1, small, known.1) refl
     ]
 
 cuts_behind : (b : Bool) (cause : RpCause) → CutsShort Truncated (λ rest. cond b (Ok (cause, rest)) (octet_in Truncated rest >>= (λ diagnostic. Ok (cause, diagnostic.1))))

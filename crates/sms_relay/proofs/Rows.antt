@@ -2,11 +2,11 @@
 use Rattle.std.proofs.Common.{◌≡◌, ℕ, List, [], ◌∷◌, Ok, Err, Some, None, refl}
 use Rattle.sms_relay.specs.declared.cause.RpCause.TheVariants.{ShortMessageTransferRejected}
 use Rattle.sms_relay.specs.declared.fault.RelayFault.TheVariants.{Truncated, Trailing, Unknown, BadLength}
-use Rattle.sms_relay.specs.declared.frame.Rp.TheVariants.{DataUnit, AckUnit, ErrorUnit, Smma}
+use Rattle.sms_relay.specs.declared.frame.Rp.TheVariants.{DataUnit, ErrorUnit, Smma}
 use Rattle.sms_relay.specs.Cause.{cause_of}
 use Rattle.sms_relay.specs.MessageType.{type_of}
-use Rattle.sms_relay.specs.RelayGrammar.{data_down, ack_down, error_down}
-use Rattle.sms_relay.specs.RelayReading.{up_at, down_at, up_in, down_in, data_up_in, data_down_in, ack_in, error_in, smma_in, centre_in, nobody_in, tpdu_in, user_data_in, cause_in}
+use Rattle.sms_relay.specs.RelayGrammar.{ack_down, error_down}
+use Rattle.sms_relay.specs.RelayReading.{up_at, down_at, up_in, down_in, data_up_in, ack_in, error_in, smma_in, centre_in, nobody_in, tpdu_in, user_data_in, cause_in}
 use Rattle.sms_base.specs.Reading.{run_in}
 
 abbrev centre : List ℕ

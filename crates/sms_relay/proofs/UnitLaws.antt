@@ -1,23 +1,22 @@
 -- A unit that is read is in the grammar, and one that is in the grammar is read.
-use Rattle.std.proofs.Common.{◌≡◌, ℕ, zero, suc, ◌<◌, ◌⊎◌, inl, inr, Bool, true, false, cond, eqb, List, [], ◌∷◌, ◌++◌, length, get_or, Result, Ok, Err, Option, Some, None, refl, sym, ap, subst, ◌∙◌, arith}
+use Rattle.std.proofs.Common.{◌≡◌, ℕ, suc, inl, List, [], ◌∷◌, ◌++◌, length, Result, Ok, Err, Option, Some, None, refl, sym, ap, subst, ◌∙◌}
 use Rattle.std.specs.Prelude.{IfOk}
-use Rattle.std.proofs.lemmas.Bool.{eqb-true}
 use Rattle.std.proofs.lemmas.List.{append-nil}
-use Rattle.sms_base.specs.Reading.{◌>>=◌, octet_in, end_in}
+use Rattle.sms_base.specs.Reading.{octet_in, end_in}
 use Rattle.sms_base.proofs.Steps.{bind_ok, ok_is, octet_takes, end_takes}
 use Rattle.sms_relay.specs.declared.cause.RpCause.{RpCause}
 use Rattle.sms_relay.specs.declared.fault.RelayFault.{RelayFault}
-use Rattle.sms_relay.specs.declared.fault.RelayFault.TheVariants.{Truncated, Trailing, Unknown, BadLength}
+use Rattle.sms_relay.specs.declared.fault.RelayFault.TheVariants.{Truncated, Trailing}
 use Rattle.sms_relay.specs.declared.frame.Rp.{Rp}
 use Rattle.sms_relay.specs.declared.frame.Rp.TheVariants.{DataUnit, AckUnit, ErrorUnit, Smma}
 use Rattle.sms_relay.specs.declared.message_type.MessageType.{MessageType}
 use Rattle.sms_relay.specs.declared.message_type.MessageType.TheVariants.{DataUp, DataDown, AckUp, AckDown, ErrorUp, ErrorDown, SmmaUp}
-use Rattle.sms_relay.specs.MessageType.{type_of, type_octet}
+use Rattle.sms_relay.specs.MessageType.{type_of}
 use Rattle.sms_relay.proofs.TypeLaws.{type_of-octet}
 use Rattle.sms_relay.specs.Cause.{number_of, IsRpCause}
-use Rattle.sms_relay.specs.RelayGrammar.{IsCentre, IsTpdu, IsUserData, user_data, IsCauseField, data_up, data_down, up_octets, down_octets, GoesUp, GoesDown, IsUp, IsDown}
+use Rattle.sms_relay.specs.RelayGrammar.{IsUserData, user_data, IsCauseField, data_up, data_down, up_octets, down_octets, GoesUp, GoesDown, IsUp, IsDown}
 use Rattle.sms_relay.specs.RelayReading.{up_unit, down_unit, centre_in, nobody_in, tpdu_in, user_data_in, cause_in, data_up_in, data_down_in, ack_in, error_in, smma_in, up_in, down_in, up_at, down_at}
-use Rattle.sms_relay.proofs.FieldLaws.{IsBytes, IsBytes-rest, IsBytes-back, tpdu_takes, tpdu_last, centre_takes, centre_again, nobody_takes, nobody_again, user_data_takes, user_data_again, cause_takes, cause_again, TakesCause}
+use Rattle.sms_relay.proofs.FieldLaws.{IsBytes, IsBytes-rest, IsBytes-back, tpdu_takes, tpdu_last, centre_takes, centre_again, nobody_takes, nobody_again, user_data_takes, user_data_again, cause_takes, cause_again}
 
 -- ---- the units, behind their type
 

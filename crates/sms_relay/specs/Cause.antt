@@ -1,5 +1,5 @@
 -- The values of RP-Cause (3GPP TS 24.011 8.2.5.4 and annex E).
-use Rattle.std.specs.Prelude.{◌≡◌, ℕ, ◌<◌, List, [], ◌∷◌, Bool, ◌==◌, unwrap_or}
+use Rattle.std.specs.Prelude.{◌≡◌, ℕ, ◌<◌, List, [], ◌∷◌, ◌==◌, unwrap_or}
 use Rattle.std.specs.List.{find}
 use Rattle.sms_relay.specs.declared.cause.RpCause.{RpCause}
 use Rattle.sms_relay.specs.declared.cause.RpCause.TheVariants.{UnassignedNumber, OperatorDeterminedBarring, CallBarred, ShortMessageTransferRejected, MemoryCapacityExceeded, DestinationOutOfOrder, UnidentifiedSubscriber, FacilityRejected, UnknownSubscriber, NetworkOutOfOrder, TemporaryFailure, Congestion, ResourcesUnavailable, RequestedFacilityNotSubscribed, RequestedFacilityNotImplemented, InvalidShortMessageTransferReference, SemanticallyIncorrectMessage, InvalidMandatoryInformation, MessageTypeNonExistent, MessageNotCompatible, InformationElementNonExistent, ProtocolError, Interworking, Reserved}
@@ -43,6 +43,7 @@ named =
 unfoldable pub cause_of : ℕ → RpCause
 cause_of number = unwrap_or (find (λ cause. number_of cause == number) named) (Reserved number)
 
--- A cause of a frame: its number is below 128, and it is the cause that this number stands for.
+-- A cause of a frame: one that has a name, or a number below 128 that no named cause has.
 abbrev pub IsRpCause : RpCause → Type 0
-IsRpCause cause = (number_of cause < 128) × (cause_of (number_of cause) ≡ cause)
+IsRpCause (Reserved number) = (number < 128) × (cause_of number ≡ Reserved number)
+IsRpCause named_cause = Unit {0}

@@ -1,6 +1,6 @@
 -- Reading a unit of the relay layer from left to right, with the first fault that is met: an octet that is there and
 -- wrong comes before octets that are missing behind it, and octets that are left over come last.
-use Rattle.std.specs.Prelude.{ℕ, List, [], ◌∷◌, Option, Some, None, Result, Ok, Err, Bool, not, ◌&&◌, ◌||◌, nat_lt, ◌==◌, if◌then◌else◌}
+use Rattle.std.specs.Prelude.{ℕ, List, [], ◌∷◌, Option, Some, None, Result, Ok, Err, not, ◌&&◌, ◌||◌, nat_lt, ◌==◌, if◌then◌else◌}
 use Rattle.sms_base.specs.Reading.{◌>>=◌, only_if, octet_in, run_in, end_in}
 use Rattle.sms_relay.specs.declared.cause.RpCause.{RpCause}
 use Rattle.sms_relay.specs.declared.fault.RelayFault.{RelayFault}

@@ -118,12 +118,12 @@ fn data_octets(
     ensures { IfOk result (λ octets. octets ≡ data_down reference centre.now unit.now) }
 {
     let mut out = Vec::with_capacity(alloc, 5 + centre.len() + unit.len())?;
-    out.push(MessageType::DataDown.octet())?;
-    out.push(reference)?;
-    out.push(centre.len() as u8)?;
-    out.extend_from_slice(centre)?;
-    out.push(0)?;
-    out.push(unit.len() as u8)?;
-    out.extend_from_slice(unit)?;
+    out.push(MessageType::DataDown.octet()).unwrap();
+    out.push(reference).unwrap();
+    out.push(centre.len() as u8).unwrap();
+    out.extend_from_slice(centre).unwrap();
+    out.push(0).unwrap();
+    out.push(unit.len() as u8).unwrap();
+    out.extend_from_slice(unit).unwrap();
     Ok(Octets::from_vec(out))
 }

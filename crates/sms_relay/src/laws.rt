@@ -5,6 +5,7 @@ ghost use Rattle.sms_base.specs.Reading.{AreOctets};
 ghost use Rattle.sms_relay.specs.Cause.{number_of, named, cause_of, IsRpCause};
 ghost use Rattle.sms_relay.specs.RelayGrammar.{IsUp, IsDown, IsWrittenUp, IsWrittenDown, up_octets, down_octets, user_data_of, bare};
 ghost use Rattle.sms_relay.specs.RelayReading.{up_at, down_at};
+ghost use Rattle.sms_relay.specs.declared.cause.RpCause.{RpCause as CauseOf};
 ghost use Rattle.sms_relay.specs.declared.cause.RpCause.TheVariants.{Reserved};
 ghost use Rattle.sms_relay.specs.declared.fault.RelayFault.TheVariants.{Truncated};
 ghost use Rattle.sms_relay.specs.declared.frame.Rp.{Rp as RpOf};
@@ -14,10 +15,12 @@ pub fn cause_has_its_number()
     ensures { (number : ℕ) → number_of (cause_of number) ≡ number }
 {}
 
-/// Each cause with a name, and each reserved one whose number below 128 no named cause has, is what its number
-/// stands for.
+/// A cause of a frame has a number below 128 and is what its number stands for; so is a reserved one whose number no
+/// named cause has.
 pub fn number_has_its_cause()
-    ensures named { AllByRecursion IsRpCause named }
+    ensures below { (cause : CauseOf) → IsRpCause cause → number_of cause < 128 }
+    ensures back { (cause : CauseOf) → IsRpCause cause → cause_of (number_of cause) ≡ cause }
+    ensures all { (number : ℕ) → number < 128 → IsRpCause (cause_of number) }
     ensures reserved { (number : ℕ) → number < 128 → AllByRecursion (λ cause. number_of cause ≢ number) named → IsRpCause (Reserved number) }
 {}
 

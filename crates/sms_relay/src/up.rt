@@ -126,12 +126,12 @@ fn data_octets(
     ensures { IfOk result (λ octets. octets ≡ data_up reference centre.now unit.now) }
 {
     let mut out = Vec::with_capacity(alloc, 5 + centre.len() + unit.len())?;
-    out.push(MessageType::DataUp.octet())?;
-    out.push(reference)?;
-    out.push(0)?;
-    out.push(centre.len() as u8)?;
-    out.extend_from_slice(centre)?;
-    out.push(unit.len() as u8)?;
-    out.extend_from_slice(unit)?;
+    out.push(MessageType::DataUp.octet()).unwrap();
+    out.push(reference).unwrap();
+    out.push(0).unwrap();
+    out.push(centre.len() as u8).unwrap();
+    out.extend_from_slice(centre).unwrap();
+    out.push(unit.len() as u8).unwrap();
+    out.extend_from_slice(unit).unwrap();
     Ok(Octets::from_vec(out))
 }

@@ -1,4 +1,4 @@
-//! The octets of units, each in one growth.
+//! The octets of units, each in one growth: behind `with_capacity` there is room, so each `unwrap` is proved.
 ghost use Rattle.std.specs.Prelude.{◌≡◌, ◌≤◌, ◌<◌, ◌++◌, ◌∷◌, length, IfOk};
 ghost use Rattle.sms_relay.specs.RelayGrammar.{IsUserData, user_data};
 
@@ -20,7 +20,7 @@ pub(crate) fn with_user_data(
         Some(unit) => identified(alloc, head, unit.as_slice()),
         None => {
             let mut out = Vec::with_capacity(alloc, head.len())?;
-            out.extend_from_slice(head)?;
+            out.extend_from_slice(head).unwrap();
             Ok(Octets::from_vec(out))
         }
     }
@@ -33,9 +33,9 @@ fn identified(alloc: Global, head: &[u8], unit: &[u8]) -> Result<Octets, AllocEr
     ensures { IfOk result (λ octets. octets ≡ head.now ++ (65 ∷ length unit.now ∷ unit.now)) }
 {
     let mut out = Vec::with_capacity(alloc, head.len() + 2 + unit.len())?;
-    out.extend_from_slice(head)?;
-    out.push(USER_DATA)?;
-    out.push(unit.len() as u8)?;
-    out.extend_from_slice(unit)?;
+    out.extend_from_slice(head).unwrap();
+    out.push(USER_DATA).unwrap();
+    out.push(unit.len() as u8).unwrap();
+    out.extend_from_slice(unit).unwrap();
     Ok(Octets::from_vec(out))
 }

@@ -1,7 +1,7 @@
 use Rattle.std.proofs.Common.{List, ℕ, ap, sym, ◌∙◌, subst}
 use Rattle.sms_relay.specs.RelayGrammar.{down_octets, IsDown}
 use Rattle.sms_relay.specs.RelayReading.{down_at}
-use Rattle.sms_relay.proofs.UnitLaws.{down_again, written_down_is, down_goes}
+use Rattle.sms_relay.proofs.UnitLaws.{down_again, written_down_is}
 use Rattle.sms_relay.proofs.laws.written_down_is_read.Goals as goal
 
 pub returns-clause-in_grammar : goal.returns-clause-in_grammar

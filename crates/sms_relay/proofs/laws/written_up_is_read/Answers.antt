@@ -1,7 +1,7 @@
 use Rattle.std.proofs.Common.{List, ℕ, ap, sym, ◌∙◌, subst}
 use Rattle.sms_relay.specs.RelayGrammar.{up_octets, IsUp}
 use Rattle.sms_relay.specs.RelayReading.{up_at}
-use Rattle.sms_relay.proofs.UnitLaws.{up_again, written_up_is, up_goes}
+use Rattle.sms_relay.proofs.UnitLaws.{up_again, written_up_is}
 use Rattle.sms_relay.proofs.laws.written_up_is_read.Goals as goal
 
 pub returns-clause-in_grammar : goal.returns-clause-in_grammar
