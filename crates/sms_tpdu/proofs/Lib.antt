@@ -1,0 +1,11 @@
+pub mod DigitWalk
+pub mod Addresses
+pub mod Times
+pub mod Texts
+pub mod Delivers
+pub mod Submits
+pub mod Reports
+pub mod Carriers
+pub mod DigitsPut
+pub mod Lengths
+pub mod Addressed

@@ -1,0 +1,80 @@
+//! STATUS-REPORT (3GPP TS 23.040 9.2.2.3).
+ghost use Rattle.std.specs.Prelude.{◌≡◌};
+ghost use Rattle.sms_tpdu.specs.TpduReading.{status_report_at, status_tail_in};
+
+use crate::address_field::take_address;
+use crate::bits::bit;
+use crate::fault::TpduFault;
+use crate::parameters::{Parameters, end_after, take_parameters};
+use crate::time_field::take_time;
+use sms_base::{Address, Cursor, Moment};
+
+/// What became of a message, told to its sender.
+#[derive(Debug, Drop)]
+pub struct StatusReport<'a> {
+    /// TP-MMS: no more messages wait for this handset.
+    pub no_more_messages_to_send: bool,
+    /// TP-SRQ: the report answers a COMMAND and no SUBMIT.
+    pub status_report_qualifier: bool,
+    /// TP-UDHI: the user data, if there is any, begins with a header.
+    pub user_data_header_indicator: bool,
+    /// TP-MR of the SUBMIT.
+    pub message_reference: u8,
+    /// TP-RA: where the message went.
+    pub recipient_address: Address,
+    /// TP-SCTS: when the service centre took the SUBMIT.
+    pub service_centre_time_stamp: Moment,
+    /// TP-DT: when the message ended.
+    pub discharge_time: Moment,
+    /// TP-ST.
+    pub status: u8,
+    /// What TP-PI announces.
+    pub parameters: Parameters<'a>,
+}
+
+#[tactic(auto, unfolding(crate::specs::TpduReading::status_tail_in))]
+fn tail_of(octets: &[u8], with_header: bool) -> Result<Parameters<'_>, TpduFault>
+    ensures { result ≡ status_tail_in with_header octets.now }
+{
+    match octets {
+        [] => Ok(Parameters {
+            protocol_identifier: None,
+            data_coding_scheme: None,
+            user_data: None,
+        }),
+        [indicator, rest @ ..] => {
+            let mut cursor = Cursor::of(rest);
+            let parameters = take_parameters(&mut cursor, *indicator, with_header)?;
+            end_after(&cursor, *indicator)?;
+            Ok(parameters)
+        }
+    }
+}
+
+#[tactic(auto, unfolding(crate::specs::TpduReading::status_report_at))]
+pub(crate) fn status_report_of(octets: &[u8]) -> Result<StatusReport<'_>, TpduFault>
+    ensures { result ≡ status_report_at octets.now }
+{
+    let mut cursor = Cursor::of(octets);
+    let first = cursor.octet(TpduFault::Truncated)?;
+    if first % 4 != 2 {
+        return Err(TpduFault::UnsupportedType);
+    }
+    let message_reference = cursor.octet(TpduFault::Truncated)?;
+    let recipient_address = take_address(&mut cursor)?;
+    let service_centre_time_stamp = take_time(&mut cursor)?;
+    let discharge_time = take_time(&mut cursor)?;
+    let status = cursor.octet(TpduFault::Truncated)?;
+    let parameters = tail_of(cursor.rest(), bit(first, 0x40))?;
+    Ok(StatusReport {
+        no_more_messages_to_send: bit(first, 0x04),
+        status_report_qualifier: bit(first, 0x20),
+        user_data_header_indicator: bit(first, 0x40),
+        message_reference,
+        recipient_address,
+        service_centre_time_stamp,
+        discharge_time,
+        status,
+        parameters,
+    })
+}
