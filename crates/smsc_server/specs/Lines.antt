@@ -1,6 +1,7 @@
 -- Lines of input and output: one line of hexadecimal digits in, a number and hexadecimal digits on each line out.
 -- A text is the list of its octets; LF is 10.
 use Rattle.std.specs.Prelude.{ℕ, ◌+◌, List, [], ◌∷◌, ◌++◌, length, Result, Ok, Err, ◌==◌, nat_lt, if◌then◌else◌}
+use Rattle.std.specs.Str.{encode_utf8_all}
 use Rattle.hex.specs.Hex.{decode_of, encode_upper}
 use Rattle.hex.specs.declared.error.FromHexError.{FromHexError}
 
@@ -35,6 +36,6 @@ frame_in (octet ∷ octets) =
     let line = first_line (octet ∷ octets) in
     if nat_lt longest_line (length line) then Err 1 else line_octets (decode_of line) (behind_line (octet ∷ octets))
 
--- a number and a frame on a line
+-- a number, which is a text, and a frame on a line
 abbrev pub line_of : List ℕ → List ℕ → List ℕ
-line_of number frame = number ++ (32 ∷ (encode_upper frame ++ 10 ∷ []))
+line_of number frame = encode_utf8_all number ++ (32 ∷ (encode_upper frame ++ 10 ∷ []))

@@ -1,7 +1,8 @@
 //! Lines of hexadecimal digits.
 ghost use Rattle.std.specs.Prelude.{◌≡◌, ◌++◌, ◌==◌, ◌<◌, ℕ, length, position, OnOk, IfOk, IfSome, Ok, Err};
 ghost use Rattle.smsc_server.specs.LineReading.{ReadsLine, SpellsOctets};
-ghost use Rattle.std.specs.List.{AllByRecursion};
+ghost use Rattle.std.specs.Char.{encode_utf8};
+ghost use Rattle.std.specs.Str.{encode_utf8_all};
 ghost use Rattle.smsc_server.specs.Lines.{first_line, behind_line, frame_in, line_of};
 
 use hex::FromHexError;
@@ -68,24 +69,34 @@ fn octets_of(alloc: Global, line: &[u8]) -> Result<Octets, LineFault>
     }
 }
 
-/// Puts a line at the end: a number of decimal digits, and a frame in hexadecimal digits.
-pub(crate) fn push_line(alloc: Global, out: &mut Octets, number: &[char], frame: &[u8]) -> Result<(), AllocError>
-    requires { AllByRecursion (λ digit. digit < 128) number.now }
+/// Puts a line at the end: a number as its characters, and a frame in hexadecimal digits.
+pub(crate) fn push_line(
+    alloc: Global,
+    out: &mut Octets,
+    number: &[char],
+    frame: &[u8],
+) -> Result<(), AllocError>
     ensures { OnOk result (out.new ≡ out.old ++ line_of number.now frame.now) }
 {
-    push_number(out, number)?;
+    push_text(out, number)?;
     out.push(b' ')?;
     let digits = hex::encode_upper(alloc, frame)?;
     out.append(digits.as_bytes())?;
     out.push(b'\n')
 }
 
-fn push_number(out: &mut Octets, number: &[char]) -> Result<(), AllocError>
-    requires { AllByRecursion (λ digit. digit < 128) number.now }
-    ensures { OnOk result (out.new ≡ out.old ++ number.now) }
+fn push_text(out: &mut Octets, text: &[char]) -> Result<(), AllocError>
+    ensures { OnOk result (out.new ≡ out.old ++ encode_utf8_all text.now) }
 {
-    for digit in number {
-        out.push(*digit as u8)?;
+    for character in text {
+        push_character(out, *character)?;
     }
     Ok(())
+}
+
+fn push_character(out: &mut Octets, character: char) -> Result<(), AllocError>
+    ensures { OnOk result (out.new ≡ out.old ++ encode_utf8 character) }
+{
+    let mut octets = [0; 4];
+    out.append(character.encode_utf8(&mut octets).as_bytes())
 }
