@@ -1,9 +1,11 @@
 -- What was packed is unpacked again, and what is unpacked was packed so.
-use Rattle.std.proofs.Common.{◌≡◌, ℕ, zero, suc, ◌+◌, ◌*◌, ◌/◌, ◌%◌, ◌^◌, ◌<◌, ◌≤◌, Bool, true, false, not, ◌||◌, cond, eqb, ltb, List, [], ◌∷◌, ◌++◌, length, All, get_or, Result, Ok, Err, refl, sym, ap, subst, ◌∙◌, arith}
-use Rattle.std.proofs.Math.Nat.{mul_comm, pow-succ', pow-zero, mul-mod_right, mul-div_cancel_left}
+use Rattle.std.specs.Result.{IfOk}
+use Rattle.std.proofs.Common.{◌≡◌, ℕ, zero, suc, ◌+◌, ◌*◌, ◌/◌, ◌%◌, ◌^◌, ◌<◌, ◌≤◌, Bool, true, false, not, ◌||◌, cond, eqb, ltb, List, [], ◌∷◌, length, All, get_or, Result, Ok, Err, refl, sym, ap, subst, ◌∙◌, arith}
+use Rattle.std.proofs.Math.Nat.{pow-succ', pow-zero, mul-mod_right, mul-div_cancel_left}
 use Rattle.std.proofs.lemmas.Bool.{ltb-true, ltb-false, eqb-true, lt-ltb, le-ltb, eq-eqb}
 use Rattle.std.proofs.lemmas.Nat.{pow_pos}
-use Rattle.sms_alphabet.specs.Packing.{value_in, digits_in, packed_len, AreSeptets, IsPacking, tested, septets_in, unpacked, and_then}
+use Rattle.sms_base.specs.Reading.{AreOctets}
+use Rattle.sms_alphabet.specs.Packing.{value_in, digits_in, packed_len, AreSeptets, IsPacking, septets_in, unpacked, and_then, Answers}
 use Rattle.sms_alphabet.specs.declared.unpacking.UnpackError.{UnpackError}
 use Rattle.sms_alphabet.specs.declared.unpacking.UnpackError.TheVariants.{TooShort, SpareBits}
 
@@ -78,3 +80,25 @@ read_was_packed o s fill n e =
     let made : IsPacking (septets_in o fill n) fill o × (length (septets_in o fill n) ≡ n) × AreSeptets (septets_in o fill n) =
     (record { length_is = omega (arith, len); value_is = whole }, len, digits-below n (v / 2 ^ fill)) in
     subst (λ (xs : List ℕ). IsPacking xs fill o × (length xs ≡ n) × AreSeptets xs) p.3 made
+
+-- numbers of one value and length have the same digits
+same_digits : (xs ys : List ℕ) → AreOctets xs → AreOctets ys → length xs ≡ length ys → value_in 256 xs ≡ value_in 256 ys → xs ≡ ys
+same_digits [] [] a b l e = refl
+same_digits [] (y ∷ ys) a b l e = absurd (omega arith)
+same_digits (x ∷ xs) [] a b l e = absurd (omega arith)
+same_digits (x ∷ xs) (y ∷ ys) a b l e =
+    let small_x : x < 256 = a.0 in
+    let small_y : y < 256 = b.0 in
+    let first : x ≡ y = omega arith in
+    let later : value_in 256 xs ≡ value_in 256 ys = omega arith in
+    ap (λ (d : ℕ). d ∷ xs) first ∙ ap (λ (ds : List ℕ). y ∷ ds) (same_digits xs ys a.1 b.1 (omega arith) later)
+
+pub one_packing : (s o p : List ℕ) (fill : ℕ) → AreOctets o → AreOctets p → IsPacking s fill o → IsPacking s fill p → o ≡ p
+one_packing s o p fill a b x y = same_digits o p a b (x.length_is ∙ sym y.length_is) (x.value_is ∙ sym y.value_is)
+
+pub found : (octets : List ℕ) (fill count : ℕ) (result : Result (List ℕ) UnpackError) → Answers result (unpacked octets fill count) → IfOk result (λ septets. IsPacking septets fill octets × (length septets ≡ count) × AreSeptets septets)
+found octets fill count (Ok septets) a = read_was_packed octets septets fill count a
+found octets fill count (Err e) a = tt
+
+pub only : (octets septets : List ℕ) (fill count : ℕ) (result : Result (List ℕ) UnpackError) → Answers result (unpacked octets fill count) → AreSeptets septets → IsPacking septets fill octets → length septets ≡ count → Answers result (Ok septets)
+only octets septets fill count result a s p n = subst (λ (w : Result (List ℕ) UnpackError). Answers result w) (ap (λ (k : ℕ). unpacked octets fill k) (sym n) ∙ packed_is_read septets octets fill s p) a

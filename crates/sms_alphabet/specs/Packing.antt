@@ -47,9 +47,9 @@ septets_in octets fill count = digits_in 128 count (value_in 256 octets / 2 ^ fi
 abbrev pub unpacked : List ℕ → ℕ → ℕ → Result (List ℕ) UnpackError
 unpacked octets fill count = and_then (tested octets fill count) (septets_in octets fill count)
 
--- the answer is what it would be with memory, or there was none
+-- The answer is the wanted one. Want of memory is told only where there are septets.
 abbrev pub Answers : Result (List ℕ) UnpackError → Result (List ℕ) UnpackError → Type 0
 Answers (Ok septets) wanted = wanted ≡ Ok septets
-Answers (Err NoMemory) wanted = Unit {0}
+Answers (Err NoMemory) wanted = (septets : List ℕ) × (wanted ≡ Ok septets)
 Answers (Err TooShort) wanted = wanted ≡ Err TooShort
 Answers (Err SpareBits) wanted = wanted ≡ Err SpareBits

@@ -1,5 +1,5 @@
-ghost use Rattle.std.specs.Prelude.{◌≡◌, ◌<◌, ◌/◌, ◌%◌, ◌^◌, slice_index, nat_lt, length, ◌≤◌, ◌+◌, IfOk};
-ghost use Rattle.sms_alphabet.specs.Packing.{tested, unpacked, septets_in, value_in, Answers};
+ghost use Rattle.std.specs.Prelude.{◌≡◌, ◌<◌, ◌/◌, ◌%◌, ◌^◌, slice_index, nat_lt, length, ◌≤◌, ◌+◌, ℕ, List, Ok, IfOk};
+ghost use Rattle.sms_alphabet.specs.Packing.{IsPacking, AreSeptets, tested, unpacked, septets_in, value_in, Answers};
 ghost use Rattle.sms_alphabet.specs.declared.unpacking.UnpackError.TheVariants.{NoMemory};
 
 use sms_base::Octets;
@@ -18,6 +18,22 @@ pub enum UnpackError {
     /// There was no memory for the septets.
     #[error("out of memory")]
     NoMemory,
+}
+
+impl UnpackError {
+    ghost use Rattle.std.specs.Prelude.{◌≡◌};
+    ghost use Rattle.sms_alphabet.specs.FaultCodes.{unpack_code};
+
+    /// The code of the fault in reports, S3 and S6; NOMEMORY where memory was refused.
+    pub fn code(self) -> &'static str
+        ensures { result.now ≡ unpack_code self }
+    {
+        match self {
+            UnpackError::TooShort => "S3",
+            UnpackError::SpareBits => "S6",
+            UnpackError::NoMemory => "NOMEMORY",
+        }
+    }
 }
 
 impl From<AllocError> for UnpackError {
@@ -88,6 +104,15 @@ fn septets(alloc: Global, octets: &[u8], fill: u8, count: u8) -> Result<Octets, 
 
 /// The `count` septets that the octets pack behind `fill` bits.
 pub fn unpack(alloc: Global, octets: &[u8], fill: u8, count: u8) -> Result<Octets, UnpackError>
+    requires { fill < 7 }
+    ensures found { IfOk result (λ septets. IsPacking septets fill octets.now × (length septets ≡ count) × AreSeptets septets) }
+    ensures only { (septets : List ℕ) → AreSeptets septets → IsPacking septets fill octets.now → length septets ≡ count → Answers result (Ok septets) }
+    ensures exact { Answers result (unpacked octets.now fill count) }
+{
+    unpack_tested(alloc, octets, fill, count)
+}
+
+fn unpack_tested(alloc: Global, octets: &[u8], fill: u8, count: u8) -> Result<Octets, UnpackError>
     requires { fill < 7 }
     ensures { Answers result (unpacked octets.now fill count) }
 {

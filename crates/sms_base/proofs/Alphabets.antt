@@ -1,17 +1,19 @@
 -- The alphabet: one code a character, and the code is read as it. The tables are computed through once.
-use Rattle.std.proofs.Common.{◌≡◌, ◌≢◌, ℕ, zero, suc, ◌+◌, ◌<◌, Bool, true, false, ◌&&◌, ◌||◌, eqb, cond, List, [], ◌∷◌, ◌++◌, length, get_or, Option, Some, None, refl, sym, ap, subst, ◌∙◌, arith}
-use Rattle.std.specs.Prelude.{◌==◌, position, find, option_map, Contains, if◌then◌else◌}
+use Rattle.std.proofs.Common.{◌≡◌, ◌≢◌, ℕ, zero, suc, ◌+◌, ◌<◌, Bool, true, false, ◌&&◌, ◌||◌, eqb, ltb, cond, List, [], ◌∷◌, ◌++◌, length, get_or, Option, Some, None, refl, sym, ap, subst, ◌∙◌, arith}
+use Rattle.std.specs.Prelude.{◌==◌, find, option_map, Contains}
 use Rattle.std.specs.List.{list_all}
 use Rattle.std.specs.Option.{IfSome}
+use Rattle.std.specs.List.{AllByRecursion}
+use lib.Utf8.{scalar, scalars}
 use Rattle.std.proofs.lemmas.List.Quantifiers.{position-Some}
-use Rattle.std.proofs.lemmas.Bool.{eqb-true, eqb-false, ne_eqb, eq-eqb}
+use Rattle.std.proofs.lemmas.Bool.{ltb-true, eqb-true, eqb-false, ne_eqb}
 use Rattle.sms_base.specs.declared.alphabet.Code.{Code}
 use Rattle.sms_base.specs.declared.alphabet.Code.TheVariants.{Main, Extended}
 use Rattle.sms_base.specs.declared.alphabet.TheConstants.{ESCAPE, MAIN_TABLE, EXTENSION_TABLE}
 use Rattle.sms_base.specs.Alphabet.{IsPair, septets_in, main_septet_of, extended_septet_of, first_code, code_for, main_character, extended_character_of, escaped_character, text_in, IsSpelling}
 
 -- each element, with its place counted from a number, passes
-each_from : (ℕ → ℕ → Bool) → ℕ → List ℕ → Bool
+pub each_from : (ℕ → ℕ → Bool) → ℕ → List ℕ → Bool
 each_from test i [] = true
 each_from test i (x ∷ xs) = test i x && each_from test (suc i) xs
 
@@ -20,7 +22,7 @@ both true true e = (refl, refl)
 both true false e = absurd cc
 both false b e = absurd cc
 
-each_at : (test : ℕ → ℕ → Bool) (i : ℕ) (xs : List ℕ) (k : ℕ) → each_from test i xs ≡ true → k < length xs → test (i + k) (get_or xs k 0) ≡ true
+pub each_at : (test : ℕ → ℕ → Bool) (i : ℕ) (xs : List ℕ) (k : ℕ) → each_from test i xs ≡ true → k < length xs → test (i + k) (get_or xs k 0) ≡ true
 unfolding each_from
 each_at test i [] k e lt = absurd (omega arith)
 each_at test i (x ∷ xs) zero e lt = let same : i + 0 ≡ i = omega arith in ap (λ (n : ℕ). test n x) same ∙ (both (test i x) (each_from test (suc i) xs) e).0
@@ -47,6 +49,15 @@ is_code (Some (Main a)) (Main b) e = ap (λ (n : ℕ). Some (Main n)) (eqb-true 
 is_code (Some (Main a)) (Extended b) e = absurd cc
 is_code (Some (Extended a)) (Main b) e = absurd cc
 is_code (Some (Extended a)) (Extended b) e = ap (λ (n : ℕ). Some (Extended n)) (eqb-true a b e)
+
+same_character : Option ℕ → ℕ → Bool
+same_character None character = false
+same_character (Some found) character = eqb found character
+
+is_character : (found : Option ℕ) (character : ℕ) → same_character found character ≡ true → found ≡ Some character
+unfolding same_character
+is_character None character e = absurd cc
+is_character (Some found) character e = ap (λ (n : ℕ). Some n) (eqb-true found character e)
 
 -- the character of each septet but ESC is written as that septet
 main_test : ℕ → ℕ → Bool
@@ -184,3 +195,88 @@ one_spelling a b [] s t = s ∙ sym t
 one_spelling a b (character ∷ text) s t =
     let code = one_code s.0 t.0 character s.2 t.2 in
     s.3 ∙ ap (λ (c : Code). septets_in c ++ s.1) code ∙ ap (λ (r : List ℕ). septets_in t.0 ++ r) (one_spelling s.1 t.1 text s.4 t.4) ∙ sym t.3
+
+-- ---- the extension table by its septets
+
+lookup_test : Pair → Bool
+lookup_test pair = same_character (extended_character_of pair.0) pair.1
+
+lookup_passes : list_all lookup_test EXTENSION_TABLE ≡ true
+unfolding lookup_test same_character extended_character_of
+lookup_passes = refl
+
+septet_test : Pair → Bool
+septet_test pair = ltb pair.0 128
+
+septet_passes : list_all septet_test EXTENSION_TABLE ≡ true
+unfolding septet_test
+septet_passes = refl
+
+pub pair_is_extended : (septet character : ℕ) → IsPair (Extended septet) character → extended_character_of septet ≡ Some character
+unfolding lookup_test
+pair_is_extended septet character p =
+    let pair : Pair = (septet, character) in
+    let passed : lookup_test (get_or EXTENSION_TABLE p.0 pair) ≡ true = all_at lookup_test EXTENSION_TABLE p.0 pair lookup_passes p.1 in
+    let here : lookup_test pair ≡ true = ap lookup_test (sym p.2) ∙ passed in
+    is_character (extended_character_of septet) character here
+
+pub pair_is_septet : (septet character : ℕ) → IsPair (Extended septet) character → septet < 128
+unfolding septet_test
+pair_is_septet septet character p =
+    let pair : Pair = (septet, character) in
+    let passed : septet_test (get_or EXTENSION_TABLE p.0 pair) ≡ true = all_at septet_test EXTENSION_TABLE p.0 pair septet_passes p.1 in
+    let here : septet_test pair ≡ true = ap septet_test (sym p.2) ∙ passed in
+    ltb-true septet 128 here
+
+character_at : (found : Option Pair) (character : ℕ) → option_map (λ (pair : Pair). pair.1) found ≡ Some character → (pair : Pair) × (found ≡ Some pair) × (pair.1 ≡ character)
+character_at None character e = absurd cc
+character_at (Some pair) character e = (pair, refl, cc)
+
+pub extended_is_pair : (septet character : ℕ) → extended_character_of septet ≡ Some character → IsPair (Extended septet) character
+unfolding extended_character_of
+extended_is_pair septet character e =
+    let a = character_at (find (λ (pair : Pair). pair.0 == septet) EXTENSION_TABLE) character e in
+    let f = found_at (λ (pair : Pair). pair.0 == septet) EXTENSION_TABLE a.0 a.1 in
+    let left : a.0.0 ≡ septet = eqb-true _ _ f.1 in
+    let same : a.0 ≡ (septet, character) = ap (λ (n : ℕ). let p : Pair = (a.0.0, n) in p) a.2 ∙ ap (λ (n : ℕ). let p : Pair = (n, character) in p) left in
+    subst (λ (p : Pair). Contains EXTENSION_TABLE p) same f.0
+
+-- ---- what is read is a text
+
+scalar_test : ℕ → ℕ → Bool
+scalar_test septet character = scalar (main_character septet) && scalar (escaped_character septet)
+
+scalar_passes : each_from scalar_test 0 MAIN_TABLE ≡ true
+unfolding each_from scalar_test main_character escaped_character extended_character_of
+scalar_passes = refl
+
+abbrev AreScalar : ℕ → Type 0
+AreScalar septet = (scalar (main_character septet) ≡ true) × (scalar (escaped_character septet) ≡ true)
+
+are_scalar : (septet : ℕ) → septet < 128 → AreScalar septet
+unfolding scalar_test
+are_scalar septet lt =
+    let passed : scalar_test (0 + septet) (get_or MAIN_TABLE septet 0) ≡ true = each_at scalar_test 0 MAIN_TABLE septet scalar_passes lt in
+    let zeroed : 0 + septet ≡ septet = omega arith in
+    both (scalar (main_character septet)) (scalar (escaped_character septet)) (ap (λ (n : ℕ). scalar_test n (get_or MAIN_TABLE septet 0)) (sym zeroed) ∙ passed)
+
+and_both : (a b : Bool) → a ≡ true → b ≡ true → a && b ≡ true
+and_both true true p q = refl
+and_both true false p q = q
+and_both false b p q = p
+
+cond_scalar : (b : Bool) (x y : ℕ) → scalar x ≡ true → scalar y ≡ true → scalar (cond b x y) ≡ true
+cond_scalar true x y p q = p
+cond_scalar false x y p q = q
+
+cond_scalars : (b : Bool) (xs ys : List ℕ) → scalars xs ≡ true → scalars ys ≡ true → scalars (cond b xs ys) ≡ true
+cond_scalars true xs ys p q = p
+cond_scalars false xs ys p q = q
+
+pub text_scalars : (septets : List ℕ) → AllByRecursion (λ septet. septet < 128) septets → scalars (text_in septets) ≡ true
+text_scalars [] h = refl
+text_scalars (septet ∷ []) h = and_both _ _ (cond_scalar (eqb septet 27) 32 (main_character septet) refl (are_scalar septet h.0).0) refl
+text_scalars (septet ∷ next ∷ rest) h =
+    cond_scalars (eqb septet 27) (escaped_character next ∷ text_in rest) (main_character septet ∷ text_in (next ∷ rest))
+    (and_both _ _ (are_scalar next h.1.0).1 (text_scalars rest h.1.1))
+    (and_both _ _ (are_scalar septet h.0).0 (text_scalars (next ∷ rest) h.1))

@@ -1,4 +1,4 @@
-use Rattle.std.proofs.Common.{◌<◌, ◌≡◌, ◌∙◌, subst, List, ℕ, arith, take, length, sym, rules}
+use Rattle.std.proofs.Common.{◌<◌, ◌∙◌, arith}
 use Rattle.std.proofs.lemmas.List.{take_all}
 use Rattle.sms_alphabet.proofs.Held.{start, turn_stays, turn_pushes, done_even, done_odd, held_fits}
 use Rattle.sms_alphabet.proofs.packing.pack.Goals.{then-bits-ge8+in_ok-push, else-bits-ge8, then-bits-gt0+in_ok-push-2, else-bits-gt0}

@@ -1,5 +1,5 @@
 use Rattle.std.proofs.Common.{◌≡◌, ◌/◌, ◌%◌, ◌^◌, ℕ, ◌+◌, ◌*◌, arith, ◌∙◌, ◌++◌, ◌∷◌, [], List, ap}
-use Rattle.sms_alphabet.specs.Packing.{septets_in, value_in}
+use Rattle.sms_alphabet.specs.Packing.{value_in}
 use Rattle.sms_alphabet.proofs.Digits.{septets_more}
 use Rattle.sms_alphabet.proofs.unpacking.septets.Goals as goal
 
