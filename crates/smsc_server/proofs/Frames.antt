@@ -20,7 +20,7 @@ unfolding frame_in
 frame_none [] e = refl
 frame_none (x ∷ xs) e = absurd (let z : suc (length xs) ≡ 0 = eqb-true _ _ e in omega arith)
 
-frame_is : (input line behind : List ℕ) → Cut input line behind → frame_in input ≡ cond (ltb longest_line (length line)) (Err 1) (line_octets (decode_of line) behind)
+pub frame_is : (input line behind : List ℕ) → Cut input line behind → frame_in input ≡ cond (ltb longest_line (length line)) (Err 1) (line_octets (decode_of line) behind)
 unfolding frame_in
 frame_is [] line behind h = absurd (let z : true ≡ false = h.some in cc)
 frame_is (x ∷ xs) line behind h = rw (h.line_is, h.behind_is) refl

@@ -5,3 +5,4 @@ pub mod Relay
 pub mod Run
 pub mod RunEnd
 pub mod SimWords
+pub mod Fronts

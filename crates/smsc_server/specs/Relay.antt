@@ -126,8 +126,8 @@ IsAccepted centre from now reference s r =
 abbrev pub RelaysSubmit : Address → Address → ℕ → ℕ → Relayed → SubmitOf → Type 0
 RelaysSubmit centre from now reference r s =
     MatchBool (names_handset s.destination_address)
-      (MatchBool (is_past now s.validity_period) (IsRefused now reference PastLimit r) (IsAccepted centre from now reference s r))
-      (IsRefused now reference NoHandset r)
+    (MatchBool (is_past now s.validity_period) (IsRefused now reference PastLimit r) (IsAccepted centre from now reference s r))
+    (IsRefused now reference NoHandset r)
 
 -- DELIVER-REPORT doesn't come in RP-DATA
 abbrev pub RelaysTpdu : Address → Address → ℕ → ℕ → Relayed → Up → Type 0

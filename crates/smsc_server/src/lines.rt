@@ -10,7 +10,7 @@ use sms_base::Octets;
 use std::alloc::{AllocError, Global};
 
 /// Octets in a line of input, its end not counted.
-const LONGEST_LINE: usize = 16_384;
+pub(crate) const LONGEST_LINE: usize = 16_384;
 
 /// What is wrong with an input.
 #[derive(Clone, Copy, Debug, PartialEq, Eq)]

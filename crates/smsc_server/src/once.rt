@@ -45,11 +45,7 @@ fn answer(octets: Octets) -> Relayed
 }
 
 // RP-ERROR without user data, under the octet that stands in the place of the reference.
-fn answer_unreadable(
-    alloc: Global,
-    frame: &[u8],
-    fault: RelayFault,
-) -> Result<Relayed, AllocError>
+fn answer_unreadable(alloc: Global, frame: &[u8], fault: RelayFault) -> Result<Relayed, AllocError>
     ensures { IfOk result (λ r. IsAnswer (unreadable_answer frame.now fault) r) }
 {
     let reference = match frame.get(1) {
@@ -65,11 +61,7 @@ fn answer_unreadable(
 }
 
 // The SUBMIT-REPORT of a moment.
-fn report_at(
-    alloc: Global,
-    failure_cause: Option<u8>,
-    now: Moment,
-) -> Result<Octets, AllocError>
+fn report_at(alloc: Global, failure_cause: Option<u8>, now: Moment) -> Result<Octets, AllocError>
     ensures written { IfOk result (λ octets. IsWrittenSubmitReport octets (report_of failure_cause now)) }
     ensures short { IfOk result (λ octets. length octets < 256) }
 {

@@ -3,9 +3,10 @@ ghost use Rattle.std.specs.Prelude.{◌≡◌, ℕ, List, IfOk, IfSome, OnOk};
 ghost use Rattle.std.specs.Io.KnownBytes.{Appends};
 ghost use Rattle.smsc_server.specs.Handsets.{IsOwnAddress};
 ghost use Rattle.smsc_server.specs.Run.{IsOutput, IsTextFor, Outputs, text_of};
+ghost use Rattle.smsc_server.specs.Fronts.{IsFront};
 ghost use Rattle.smsc_server.specs.RunEnd.{IsBadLine, IsNoBadLine};
 
-use crate::lines::{LineFault, frame_of, push_line};
+use crate::lines::{LONGEST_LINE, LineFault, frame_of, push_line};
 use crate::once::{Relayed, relay_once};
 use sms_base::{Address, Moment, Octets};
 use std::alloc::{AllocError, Global};
@@ -87,6 +88,25 @@ fn relayed_text(
     Ok(text)
 }
 
+// As many octets of an input as show whether it is more than a line.
+const ENOUGH: usize = LONGEST_LINE + 2;
+
+// The whole input, or its first octets where they are enough.
+fn read_front<R: Read>(alloc: Global, reader: &mut R) -> io::Result<Vec<u8>>
+    ensures { IfOk result (λ front. IfSome (R.remaining reader.old) (λ input. IsFront input front.items)) }
+{
+    let mut front = Vec::new(alloc);
+    let mut buffer = [0; 4096];
+    while front.len() < ENOUGH {
+        let count = reader.read(&mut buffer)?;
+        if count == 0 {
+            return Ok(front);
+        }
+        front.extend_from_slice(&buffer[..count])?;
+    }
+    Ok(front)
+}
+
 /// Reads one line of hexadecimal digits, an RP unit of the handset `from`, and writes a line for each frame that a
 /// centre without rows sends for it at the moment `now`: the number of the handset, a space, and the frame in capital
 /// hexadecimal digits; the answer comes first.
@@ -109,10 +129,10 @@ pub fn run_relay<R: Read, W: Write>(
     // A line that is told as bad is bad, and nothing is written.
     ensures bad { IsBadLine result (writer.new ≡ writer.old) (R.remaining reader.old) }
 {
-    let mut input = Vec::new(alloc);
-    if let Err(error) = reader.read_to_end(&mut input) {
-        return Err(RunError::of(error));
-    }
+    let input = match read_front(alloc, reader) {
+        Ok(input) => input,
+        Err(error) => return Err(RunError::of(error)),
+    };
     match output(alloc, centre, from, now, input.as_slice()) {
         Ok(text) => match writer.write_all(text.as_slice()) {
             Ok(()) => Ok(()),

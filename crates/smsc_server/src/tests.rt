@@ -53,32 +53,67 @@ fn a_header_passes_octet_for_octet(rt: HostRuntime) {
 fn an_enhanced_validity_period_and_a_command_are_refused(rt: HostRuntime) {
     let enhanced = "00030007914477000900001209070C91447700094065000005E8329BFD06";
     let command = "00030007914477000900001202070C91447700094065000005E8329BFD06";
-    assert!(rt; writes(rt.alloc(), enhanced, "447700900123 05030115410A01C60042209232958500\n"));
-    assert!(rt; writes(rt.alloc(), command, "447700900123 05030161410A01FF0042209232958500\n"));
+    assert!(rt;
+        writes(
+            rt.alloc(),
+            enhanced,
+            "447700900123 05030115410A01C60042209232958500\n"
+        )
+    );
+    assert!(rt;
+        writes(
+            rt.alloc(),
+            command,
+            "447700900123 05030161410A01FF0042209232958500\n"
+        )
+    );
 }
 
 #[test]
 fn units_that_are_no_message_are_answered_or_dropped(rt: HostRuntime) {
-    assert!(rt; writes(rt.alloc(), "0605", "447700900123 0305\n"), "memory available");
-    assert!(rt; writes(rt.alloc(), "0705", "447700900123 05050161\n"), "no such message type");
-    assert!(rt; writes(rt.alloc(), "00", "447700900123 05000160\n"), "cut short");
+    assert!(rt;
+        writes(rt.alloc(), "0605", "447700900123 0305\n"),
+        "memory available"
+    );
+    assert!(rt;
+        writes(rt.alloc(), "0705", "447700900123 05050161\n"),
+        "no such message type"
+    );
+    assert!(rt;
+        writes(rt.alloc(), "00", "447700900123 05000160\n"),
+        "cut short"
+    );
     assert!(rt; writes(rt.alloc(), "0205", ""), "an answer to nothing");
-    assert!(rt; writes(rt.alloc(), "\n", "447700900123 05000160\n"), "no octets");
+    assert!(rt;
+        writes(rt.alloc(), "\n", "447700900123 05000160\n"),
+        "no octets"
+    );
 }
 
 #[test]
 fn a_destination_that_is_no_handset_is_refused(rt: HostRuntime) {
     // the second digit of the destination is a star
     let input = "00030007914477000900001201070C91A47700094065000005E8329BFD06";
-    assert!(rt; writes(rt.alloc(), input, "447700900123 05030115410A01C30042209232958500\n"));
+    assert!(rt;
+        writes(
+            rt.alloc(),
+            input,
+            "447700900123 05030115410A01C30042209232958500\n"
+        )
+    );
 }
 
 #[test]
 fn a_limit_in_the_past_is_refused(rt: HostRuntime) {
     // absolute validity: the moment itself
-    let input =
-        "00030007914477000900001919070C9144770009406500004220923295850005E8329BFD06";
-    assert!(rt; writes(rt.alloc(), input, "447700900123 05030115410A01FF0042209232958500\n"));
+    let input = "00030007914477000900001919070C9144770009406500004220923295850005E8329BFD06";
+    assert!(rt;
+        writes(
+            rt.alloc(),
+            input,
+            "447700900123 05030115410A01FF0042209232958500\n"
+        )
+    );
 }
 
 #[test]
@@ -86,19 +121,50 @@ fn bad_lines_are_told_by_their_number(rt: HostRuntime) {
     assert_eq!(rt; bad_line(rt.alloc(), ""), 1, "no line");
     assert_eq!(rt; bad_line(rt.alloc(), "060"), 1, "an odd number of digits");
     assert_eq!(rt; bad_line(rt.alloc(), "06 5"), 1, "another character");
-    assert_eq!(rt; bad_line(rt.alloc(), "060\n0605"), 1, "the first line first");
+    assert_eq!(rt;
+        bad_line(rt.alloc(), "060\n0605"),
+        1,
+        "the first line first"
+    );
     assert_eq!(rt; bad_line(rt.alloc(), "0605\n\n"), 2, "a second line");
 }
 
 #[test]
 fn words_are_read(rt: HostRuntime) {
-    let words = ["relay", "--centre", "447700900000", "--from", "447700900123", "--now", "1709251198"];
+    let words = [
+        "relay",
+        "--centre",
+        "447700900000",
+        "--from",
+        "447700900123",
+        "--now",
+        "1709251198",
+    ];
     assert!(rt; matches!(sim_words(rt.alloc(), &words), Ok(SimWords::Relay { .. })));
-    let late = ["relay", "--centre", "447700900000", "--from", "447700900123", "--now", "4102444800"];
+    let late = [
+        "relay",
+        "--centre",
+        "447700900000",
+        "--from",
+        "447700900123",
+        "--now",
+        "4102444800",
+    ];
     assert_eq!(rt; sim_words(rt.alloc(), &late), Err(WordsFault::BadWords));
-    let letter = ["relay", "--centre", "44770090000a", "--from", "447700900123", "--now", "1709251198"];
+    let letter = [
+        "relay",
+        "--centre",
+        "44770090000a",
+        "--from",
+        "447700900123",
+        "--now",
+        "1709251198",
+    ];
     assert_eq!(rt; sim_words(rt.alloc(), &letter), Err(WordsFault::BadWords));
-    assert_eq!(rt; sim_words(rt.alloc(), &["relay", "--centre", "1"]), Err(WordsFault::BadWords));
+    assert_eq!(rt;
+        sim_words(rt.alloc(), &["relay", "--centre", "1"]),
+        Err(WordsFault::BadWords)
+    );
     assert_eq!(rt; sim_words(rt.alloc(), &["play"]), Err(WordsFault::BadWords));
     assert_eq!(rt; sim_words(rt.alloc(), &[]), Err(WordsFault::BadWords));
 }
