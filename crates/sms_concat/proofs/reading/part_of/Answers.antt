@@ -1,4 +1,3 @@
-use Rattle.std.proofs.Common.{◌≡◌, sym, ap, ◌∙◌}
 use Rattle.std.proofs.lemmas.Result.{err_from_is_err_and}
 use Rattle.sms_concat.proofs.FieldLaws.{part_short, part_faulty, part_made}
 use Rattle.sms_concat.proofs.reading.part_of.Goals as goal

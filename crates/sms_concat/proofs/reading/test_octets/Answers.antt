@@ -1,4 +1,4 @@
-use Rattle.std.proofs.Common.{◌≡◌, ◌+◌, length, arith}
+use Rattle.std.proofs.Common.{arith}
 use Rattle.sms_concat.proofs.FieldLaws.{octets_exact}
 use Rattle.sms_concat.proofs.reading.test_octets.Goals as goal
 
