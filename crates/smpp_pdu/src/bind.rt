@@ -9,9 +9,10 @@ use crate::fields::c_string;
 use crate::tlv::{Tlvs, optional_parameters};
 use crate::writing::{put_octet, put_text};
 use sms_base::{Cursor, OctetView};
+use std::fmt;
 
 /// What an application binds with (SMPP v3.4 4.1.1, 4.1.3, 4.1.5), which has no optional parameters.
-#[derive(Debug, Drop)]
+#[derive(Drop)]
 pub struct Bind<'a> {
     /// Up to 15 octets.
     pub system_id: OctetView<'a>,
@@ -24,6 +25,17 @@ pub struct Bind<'a> {
     pub addr_npi: u8,
     /// Up to 40 octets.
     pub address_range: OctetView<'a>,
+}
+
+// The password is a secret, so it is not shown.
+impl<'a> fmt::Debug for Bind<'a> {
+    fn fmt<W: fmt::Write>(&self, f: &mut fmt::Formatter<W>) -> fmt::Result {
+        f.debug_struct("Bind")
+            .field("system_id", &self.system_id)
+            .field("system_type", &self.system_type)
+            .field("address_range", &self.address_range)
+            .finish_non_exhaustive()
+    }
 }
 
 /// The answer to a bind (SMPP v3.4 4.1.2, 4.1.4, 4.1.6).
