@@ -1,5 +1,5 @@
--- The codes of the faults in reports.
-use Rattle.std.specs.Prelude.{ℕ, List, codes}
+-- The codes of the faults in reports. Want of memory has none.
+use Rattle.std.specs.Prelude.{ℕ, List, Option, Some, None, codes}
 use Rattle.sms_alphabet.specs.declared.spelling.SpellingError.{SpellingError}
 use Rattle.sms_alphabet.specs.declared.spelling.SpellingError.TheVariants as spelling
 use Rattle.sms_alphabet.specs.declared.reading.ReadingError.{ReadingError}
@@ -9,20 +9,20 @@ use Rattle.sms_alphabet.specs.declared.unpacking.UnpackError.TheVariants as unpa
 use Rattle.sms_alphabet.specs.declared.ucs2.Ucs2Error.{Ucs2Error}
 use Rattle.sms_alphabet.specs.declared.ucs2.Ucs2Error.TheVariants as ucs2
 
-abbrev pub spelling_code : SpellingError → List ℕ
-spelling_code (spelling.NoCode place) = codes "S1"
-spelling_code spelling.NoMemory = codes "NOMEMORY"
+abbrev pub spelling_code : SpellingError → Option (List ℕ)
+spelling_code (spelling.NoCode place) = Some (codes "S1")
+spelling_code spelling.NoMemory = None
 
-abbrev pub reading_code : ReadingError → List ℕ
-reading_code reading.NotSeptet = codes "S2"
-reading_code reading.NoMemory = codes "NOMEMORY"
+abbrev pub reading_code : ReadingError → Option (List ℕ)
+reading_code reading.NotSeptet = Some (codes "S2")
+reading_code reading.NoMemory = None
 
-abbrev pub unpack_code : UnpackError → List ℕ
-unpack_code unpacking.TooShort = codes "S3"
-unpack_code unpacking.SpareBits = codes "S6"
-unpack_code unpacking.NoMemory = codes "NOMEMORY"
+abbrev pub unpack_code : UnpackError → Option (List ℕ)
+unpack_code unpacking.TooShort = Some (codes "S3")
+unpack_code unpacking.SpareBits = Some (codes "S6")
+unpack_code unpacking.NoMemory = None
 
-abbrev pub ucs2_code : Ucs2Error → List ℕ
-ucs2_code ucs2.OddLength = codes "S4"
-ucs2_code ucs2.LoneSurrogate = codes "S5"
-ucs2_code ucs2.NoMemory = codes "NOMEMORY"
+abbrev pub ucs2_code : Ucs2Error → Option (List ℕ)
+ucs2_code ucs2.OddLength = Some (codes "S4")
+ucs2_code ucs2.LoneSurrogate = Some (codes "S5")
+ucs2_code ucs2.NoMemory = None

@@ -23,16 +23,16 @@ pub enum ReadingError {
 }
 
 impl ReadingError {
-    ghost use Rattle.std.specs.Prelude.{◌≡◌};
+    ghost use Rattle.std.specs.Prelude.{◌≡◌, option_map};
     ghost use Rattle.sms_alphabet.specs.FaultCodes.{reading_code};
 
-    /// The code of the fault in reports, S2; NOMEMORY where memory was refused.
-    pub fn code(self) -> &'static str
-        ensures { result.now ≡ reading_code self }
+    /// The code of the fault in reports, S2. Want of memory has none.
+    pub fn code(self) -> Option<&'static str>
+        ensures { option_map (λ s. s.now) result ≡ reading_code self }
     {
         match self {
-            ReadingError::NotSeptet => "S2",
-            ReadingError::NoMemory => "NOMEMORY",
+            ReadingError::NotSeptet => Some("S2"),
+            ReadingError::NoMemory => None,
         }
     }
 }

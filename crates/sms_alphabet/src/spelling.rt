@@ -22,16 +22,16 @@ pub enum SpellingError {
 }
 
 impl SpellingError {
-    ghost use Rattle.std.specs.Prelude.{◌≡◌};
+    ghost use Rattle.std.specs.Prelude.{◌≡◌, option_map};
     ghost use Rattle.sms_alphabet.specs.FaultCodes.{spelling_code};
 
-    /// The code of the fault in reports, S1; NOMEMORY where memory was refused.
-    pub fn code(self) -> &'static str
-        ensures { result.now ≡ spelling_code self }
+    /// The code of the fault in reports, S1. Want of memory has none.
+    pub fn code(self) -> Option<&'static str>
+        ensures { option_map (λ s. s.now) result ≡ spelling_code self }
     {
         match self {
-            SpellingError::NoCode(_) => "S1",
-            SpellingError::NoMemory => "NOMEMORY",
+            SpellingError::NoCode(_) => Some("S1"),
+            SpellingError::NoMemory => None,
         }
     }
 }

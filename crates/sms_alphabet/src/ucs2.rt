@@ -28,17 +28,17 @@ pub enum Ucs2Error {
 }
 
 impl Ucs2Error {
-    ghost use Rattle.std.specs.Prelude.{◌≡◌};
+    ghost use Rattle.std.specs.Prelude.{◌≡◌, option_map};
     ghost use Rattle.sms_alphabet.specs.FaultCodes.{ucs2_code};
 
-    /// The code of the fault in reports, S4 and S5; NOMEMORY where memory was refused.
-    pub fn code(self) -> &'static str
-        ensures { result.now ≡ ucs2_code self }
+    /// The code of the fault in reports, S4 and S5. Want of memory has none.
+    pub fn code(self) -> Option<&'static str>
+        ensures { option_map (λ s. s.now) result ≡ ucs2_code self }
     {
         match self {
-            Ucs2Error::OddLength => "S4",
-            Ucs2Error::LoneSurrogate => "S5",
-            Ucs2Error::NoMemory => "NOMEMORY",
+            Ucs2Error::OddLength => Some("S4"),
+            Ucs2Error::LoneSurrogate => Some("S5"),
+            Ucs2Error::NoMemory => None,
         }
     }
 }

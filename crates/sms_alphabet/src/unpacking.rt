@@ -21,17 +21,17 @@ pub enum UnpackError {
 }
 
 impl UnpackError {
-    ghost use Rattle.std.specs.Prelude.{◌≡◌};
+    ghost use Rattle.std.specs.Prelude.{◌≡◌, option_map};
     ghost use Rattle.sms_alphabet.specs.FaultCodes.{unpack_code};
 
-    /// The code of the fault in reports, S3 and S6; NOMEMORY where memory was refused.
-    pub fn code(self) -> &'static str
-        ensures { result.now ≡ unpack_code self }
+    /// The code of the fault in reports, S3 and S6. Want of memory has none.
+    pub fn code(self) -> Option<&'static str>
+        ensures { option_map (λ s. s.now) result ≡ unpack_code self }
     {
         match self {
-            UnpackError::TooShort => "S3",
-            UnpackError::SpareBits => "S6",
-            UnpackError::NoMemory => "NOMEMORY",
+            UnpackError::TooShort => Some("S3"),
+            UnpackError::SpareBits => Some("S6"),
+            UnpackError::NoMemory => None,
         }
     }
 }

@@ -4,3 +4,4 @@ pub mod Joining
 pub mod Splitting
 pub mod UserData
 pub mod WholeUnits
+pub mod FaultCodes

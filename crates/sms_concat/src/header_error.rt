@@ -13,8 +13,13 @@ pub enum HeaderError {
 }
 
 impl HeaderError {
+    ghost use Rattle.std.specs.Prelude.{◌≡◌};
+    ghost use Rattle.sms_concat.specs.FaultCodes.{header_code};
+
     /// The code of the fault in reports, U1 or U2.
-    pub fn code(self) -> &'static str {
+    pub fn code(self) -> &'static str
+        ensures { result.now ≡ header_code self }
+    {
         match self {
             HeaderError::Truncated => "U1",
             HeaderError::BadLength => "U2",

@@ -20,7 +20,7 @@ impl Model for Parts {
 
 impl Parts {
     /// No parts, with room for that many.
-    pub fn with_capacity(alloc: Global, capacity: usize) -> Result<Parts, AllocError>
+    pub(crate) fn with_capacity(alloc: Global, capacity: usize) -> Result<Parts, AllocError>
         ensures { IfOk result (λ parts. parts ≡ []) }
     {
         let items = Vec::with_capacity(alloc, capacity)?;
@@ -28,17 +28,18 @@ impl Parts {
     }
 
     /// The parts of the vector.
-    pub fn from_vec(items: Vec<Part>) -> Parts
-        ensures { result ≡ items.items }
+    pub fn from_vec(parts: Vec<Part>) -> Parts
+        ensures { result ≡ parts.items }
     {
-        Parts { items }
+        Parts { items: parts }
     }
 
     /// The vector that holds the parts.
     pub fn into_vec(self) -> Vec<Part>
         ensures { result.items ≡ self }
     {
-        self.items
+        let Parts { items } = self;
+        items
     }
 
     /// The parts in order.

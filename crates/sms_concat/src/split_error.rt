@@ -20,8 +20,13 @@ pub enum SplitError {
 }
 
 impl SplitError {
+    ghost use Rattle.std.specs.Prelude.{◌≡◌, option_map};
+    ghost use Rattle.sms_concat.specs.FaultCodes.{split_code};
+
     /// The code of the fault in reports, C1 or C2; want of memory has none.
-    pub fn code(self) -> Option<&'static str> {
+    pub fn code(self) -> Option<&'static str>
+        ensures { option_map (λ s. s.now) result ≡ split_code self }
+    {
         match self {
             SplitError::TooManyParts => Some("C1"),
             SplitError::DoesNotFit => Some("C2"),

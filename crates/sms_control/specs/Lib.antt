@@ -3,3 +3,4 @@ pub mod ControlReading
 pub mod Timers
 pub mod LinkStep
 pub mod LinkRuns
+pub mod FaultCodes

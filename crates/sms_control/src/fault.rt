@@ -18,8 +18,13 @@ pub enum CpFault {
 }
 
 impl CpFault {
-    /// The code that reports name the fault by.
-    pub fn code(self) -> &'static str {
+    ghost use Rattle.std.specs.Prelude.{◌≡◌};
+    ghost use Rattle.sms_control.specs.FaultCodes.{frame_code};
+
+    /// The code of the fault in reports, P1 to P4.
+    pub fn code(self) -> &'static str
+        ensures { result.now ≡ frame_code self }
+    {
         match self {
             CpFault::Truncated => "P1",
             CpFault::Trailing => "P2",

@@ -16,12 +16,17 @@ pub enum LinkError {
 }
 
 impl LinkError {
-    /// The code that reports name the refusal by.
-    pub fn code(self) -> &'static str {
+    ghost use Rattle.std.specs.Prelude.{◌≡◌, option_map};
+    ghost use Rattle.sms_control.specs.FaultCodes.{link_code};
+
+    /// The code of the refusal in reports, L1 or L2. Want of memory has none.
+    pub fn code(self) -> Option<&'static str>
+        ensures { option_map (λ s. s.now) result ≡ link_code self }
+    {
         match self {
-            LinkError::Busy => "L1",
-            LinkError::NothingToAnswer => "L2",
-            LinkError::NoMemory => "NoMemory",
+            LinkError::Busy => Some("L1"),
+            LinkError::NothingToAnswer => Some("L2"),
+            LinkError::NoMemory => None,
         }
     }
 }

@@ -38,7 +38,8 @@ impl Frames {
     pub fn into_vec(self) -> Vec<Octets>
         ensures { result.items ≡ self }
     {
-        self.items
+        let Frames { items } = self;
+        items
     }
 
     /// How many frames there are.

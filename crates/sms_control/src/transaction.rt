@@ -74,8 +74,9 @@ impl TransactionIdentifier {
     pub fn next(self) -> TransactionIdentifier
         ensures { result ≡ (self + 1) % 7 }
     {
+        let TransactionIdentifier { number } = self;
         TransactionIdentifier {
-            number: (self.number + 1) % 7,
+            number: (number + 1) % 7,
         }
     }
 }

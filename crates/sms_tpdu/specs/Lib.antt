@@ -8,3 +8,4 @@ pub mod TpduGrammar
 pub mod TpduReading
 pub mod ValidityTable
 pub mod Codes
+pub mod FaultCodes

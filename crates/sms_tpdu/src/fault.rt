@@ -34,8 +34,13 @@ pub enum TpduFault {
 }
 
 impl TpduFault {
+    ghost use Rattle.std.specs.Prelude.{◌≡◌};
+    ghost use Rattle.sms_tpdu.specs.FaultCodes.{fault_code};
+
     /// The code of the fault in reports, G1 to G9.
-    pub fn code(self) -> &'static str {
+    pub fn code(self) -> &'static str
+        ensures { result.now ≡ fault_code self }
+    {
         match self {
             TpduFault::Truncated => "G1",
             TpduFault::TrailingOctets => "G2",
