@@ -48,8 +48,8 @@ impl Model for Actions {
 }
 
 impl Actions {
-    /// No action.
-    pub fn new(alloc: Global) -> Actions
+    // No action.
+    pub(crate) fn new(alloc: Global) -> Actions
         ensures { result ≡ [] }
     {
         Actions {
@@ -61,7 +61,8 @@ impl Actions {
     pub fn into_vec(self) -> Vec<Action>
         ensures { result.items ≡ self }
     {
-        self.items
+        let Actions { items } = self;
+        items
     }
 
     /// The actions in order.
@@ -71,8 +72,8 @@ impl Actions {
         self.items.as_slice()
     }
 
-    /// Puts an action at the end.
-    pub fn push(&mut self, action: Action) -> Result<(), AllocError>
+    // Puts an action at the end.
+    pub(crate) fn push(&mut self, action: Action) -> Result<(), AllocError>
         ensures ok { OnOk result (self.new ≡ self.old ++ action ∷ []) }
         ensures err { OnErr result (self.new ≡ self.old) }
     {

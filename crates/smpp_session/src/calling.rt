@@ -14,8 +14,8 @@ use smpp_pdu::Message;
 use sms_base::OctetView;
 use std::alloc::{AllocError, Global};
 
-/// A call of a session.
-#[derive(Debug, Drop)]
+/// A call of a session. It can't be printed, since the octets of a bind hold a password.
+#[derive(Drop)]
 pub enum Call<'a> {
     /// `feed` of these octets.
     Feed(OctetView<'a>),
@@ -29,8 +29,9 @@ pub enum Call<'a> {
 
 /// The actions of the calls of a new session, one after the other.
 ///
-/// What `answer` and `deliver` give to send is an action too; a `deliver` that is refused gives none.
-pub fn run(alloc: Global, accounts: Accounts, calls: Vec<Call<'_>>) -> Result<Actions, DeliverFault>
+/// What `answer` and `deliver` give to send is an action too; a `deliver` that is refused gives none. Only want of memory
+/// ends the list early.
+pub fn run(alloc: Global, accounts: Accounts, calls: Vec<Call<'_>>) -> Result<Actions, AllocError>
     requires { AllByRecursion IsCall calls.items }
     // They are those of the table.
     ensures table { IfOk result (λ actions. actions ≡ (ran (opened accounts, []) calls.entry.items).1) }
@@ -42,7 +43,7 @@ pub fn run(alloc: Global, accounts: Accounts, calls: Vec<Call<'_>>) -> Result<Ac
 }
 
 // The calls one after the other.
-fn all(alloc: Global, accounts: Accounts, calls: Vec<Call<'_>>) -> Result<Actions, DeliverFault>
+fn all(alloc: Global, accounts: Accounts, calls: Vec<Call<'_>>) -> Result<Actions, AllocError>
     requires { AllByRecursion IsCall calls.items }
     ensures { IfOk result (λ actions. actions ≡ (ran (opened accounts, []) calls.entry.items).1) }
 {
@@ -55,7 +56,7 @@ fn all(alloc: Global, accounts: Accounts, calls: Vec<Call<'_>>) -> Result<Action
 }
 
 // One call more.
-fn one(session: &mut Session, actions: &mut Actions, call: Call<'_>) -> Result<(), DeliverFault>
+fn one(session: &mut Session, actions: &mut Actions, call: Call<'_>) -> Result<(), AllocError>
     requires { IsCall call }
     ensures { OnOk result ((session.new, actions.new) ≡ and_then (session.old, actions.old) (called session.old call.entry)) }
 {
@@ -71,7 +72,7 @@ fn one(session: &mut Session, actions: &mut Actions, call: Call<'_>) -> Result<(
         }
         Call::Deliver(message) => match session.deliver(message) {
             Ok(sent) => actions.push(Action::Send(sent.octets))?,
-            Err(DeliverFault::NoMemory) => return Err(DeliverFault::NoMemory),
+            Err(DeliverFault::NoMemory) => return Err(AllocError),
             Err(_) => {}
         },
         Call::Close => session.close(),

@@ -36,6 +36,6 @@ impl From<AllocError> for DeliverFault {
     ghost from_gives = { λ _ e. e ≡ NoMemory };
 
     fn from(_error: AllocError) -> DeliverFault {
-        DeliverFault::NoMemory
+        Self::NoMemory
     }
 }

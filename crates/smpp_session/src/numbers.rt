@@ -19,8 +19,8 @@ impl Model for Numbers {
 }
 
 impl Numbers {
-    /// No number.
-    pub fn new(alloc: Global) -> Numbers
+    // No number.
+    pub(crate) fn new(alloc: Global) -> Numbers
         ensures { result ≡ [] }
     {
         Numbers {
@@ -28,8 +28,8 @@ impl Numbers {
         }
     }
 
-    /// How many there are.
-    pub fn len(&self) -> usize
+    // How many there are.
+    pub(crate) fn len(&self) -> usize
         ensures { result ≡ length self.now }
     {
         self.items.len()

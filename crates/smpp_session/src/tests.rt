@@ -1,11 +1,12 @@
 //! What no clause says: the octets of whole exchanges, written by hand from the standard.
 ghost use Rattle.std.specs.Prelude.{◌≡◌, []};
+ghost use Rattle.smpp_pdu.specs.Writing.{IsMessageRespValue};
 ghost use Rattle.smpp_session.specs.Sessions.{IsDeliverable};
 
-use crate::{Account, Accounts, Action, Actions, Answer, DeliverFault, Session, SessionState};
+use crate::{Account, Accounts, Action, Answer, DeliverFault, Session};
 use smpp_pdu::{Message, MessageResp, SmeAddress, Tlvs};
 use sms_base::{OctetView, Octets};
-use std::alloc::{AllocError, Global};
+use std::alloc::Global;
 use std::test::Fail;
 
 const ENQUIRE: [u8; 16] = [
@@ -39,38 +40,86 @@ const SUBMIT_ANSWER: [u8; 27] = [
     0x30, 0x30, 0x30, 0x30, 0x30, 0x30, 0x30, 0x30, 0x30, 0x31, 0x00,
 ];
 
-fn octets(alloc: Global, items: &[u8]) -> Result<Octets, AllocError> {
+// A second bind is answered ESME_RALYBND (5).
+const ALREADY_BOUND: [u8; 16] = [
+    0x00, 0x00, 0x00, 0x10, 0x80, 0x00, 0x00, 0x09, 0x00, 0x00, 0x00, 0x05, 0x00, 0x00, 0x00, 0x01,
+];
+
+const SHORT_LENGTH: [u8; 16] = [
+    0x00, 0x00, 0x00, 0x0F, 0x00, 0x00, 0x00, 0x15, 0x00, 0x00, 0x00, 0x00, 0x00, 0x00, 0x00, 0x02,
+];
+
+// A length of 65,537.
+const LONG_LENGTH: [u8; 16] = [
+    0x00, 0x01, 0x00, 0x01, 0x00, 0x00, 0x00, 0x15, 0x00, 0x00, 0x00, 0x00, 0x00, 0x00, 0x00, 0x02,
+];
+
+// generic_nack with ESME_RINVCMDLEN (2).
+const LENGTH_REFUSED: [u8; 16] = [
+    0x00, 0x00, 0x00, 0x10, 0x80, 0x00, 0x00, 0x00, 0x00, 0x00, 0x00, 0x02, 0x00, 0x00, 0x00, 0x02,
+];
+
+// A submit_sm without a body.
+const SUBMIT_HEADER: [u8; 16] = [
+    0x00, 0x00, 0x00, 0x10, 0x00, 0x00, 0x00, 0x04, 0x00, 0x00, 0x00, 0x00, 0x00, 0x00, 0x00, 0x07,
+];
+
+// ESME_RINVBNDSTS (4).
+const SUBMIT_NOT_BOUND: [u8; 16] = [
+    0x00, 0x00, 0x00, 0x10, 0x80, 0x00, 0x00, 0x04, 0x00, 0x00, 0x00, 0x04, 0x00, 0x00, 0x00, 0x07,
+];
+
+// ESME_RINVCMDLEN (2).
+const SUBMIT_CUT_SHORT: [u8; 16] = [
+    0x00, 0x00, 0x00, 0x10, 0x80, 0x00, 0x00, 0x04, 0x00, 0x00, 0x00, 0x02, 0x00, 0x00, 0x00, 0x07,
+];
+
+// The deliver_sm of number 4 is accepted.
+const DELIVERED_4: [u8; 17] = [
+    0x00, 0x00, 0x00, 0x11, 0x80, 0x00, 0x00, 0x05, 0x00, 0x00, 0x00, 0x00, 0x00, 0x00, 0x00, 0x04,
+    0x00,
+];
+
+fn owned(alloc: Global, items: &[u8]) -> Result<Octets, Fail> {
     let mut out = Octets::new(alloc);
     out.append(items)?;
     Ok(out)
 }
 
 // A session with one account, app1 with the password secret.
-fn session(alloc: Global) -> Result<Session, AllocError> {
-    let account = Account {
-        name: octets(alloc, b"app1")?,
-        password: octets(alloc, b"secret")?,
-    };
+fn session(alloc: Global) -> Result<Session, Fail> {
+    let name = owned(alloc, b"app1")?;
+    let password = owned(alloc, b"secret")?;
     let mut accounts = Vec::new(alloc);
-    accounts.push(account)?;
+    accounts.push(Account { name, password })?;
     Ok(Session::new(alloc, Accounts::from_vec(accounts)))
 }
 
-// Whether these octets are sent and nothing else is given.
-fn sends(actions: &Actions, wanted: &[u8]) -> bool {
+// Octets that give nothing.
+fn silent(session: &mut Session, octets: &[u8]) -> Result<(), Fail> {
+    let actions = session.feed(octets)?;
     match actions.as_slice() {
-        [Action::Send(sent)] => sent.as_slice() == wanted,
-        _ => false,
+        [] => Ok(()),
+        _ => Err("an action")?,
     }
 }
 
-// A header and nothing behind it.
-fn header(length: [u8; 4], id: [u8; 4], status: u8, number: u8) -> [u8; 16] {
-    let [l0, l1, l2, l3] = length;
-    let [i0, i1, i2, i3] = id;
-    [
-        l0, l1, l2, l3, i0, i1, i2, i3, 0, 0, 0, status, 0, 0, 0, number,
-    ]
+// Octets that are answered so, and give nothing else.
+fn answered(session: &mut Session, octets: &[u8], wanted: &[u8]) -> Result<(), Fail> {
+    let actions = session.feed(octets)?;
+    match actions.as_slice() {
+        [Action::Send(sent)] if sent.as_slice() == wanted => Ok(()),
+        _ => Err("another answer")?,
+    }
+}
+
+// A bind that is answered so.
+fn bound(session: &mut Session, octets: &[u8], wanted: &[u8]) -> Result<(), Fail> {
+    let actions = session.feed(octets)?;
+    match actions.as_slice() {
+        [Action::Send(sent), Action::Bound(0, _)] if sent.as_slice() == wanted => Ok(()),
+        _ => Err("not bound")?,
+    }
 }
 
 #[test]
@@ -78,69 +127,66 @@ fn enquire_cut_after_each_octet(rt: HostRuntime) -> Result<(), Fail> {
     for cut in 0..16 {
         let mut session = session(rt.alloc())?;
         let (front, rest) = ENQUIRE.as_slice().split_at(cut);
-        let none = session.feed(front)?;
-        assert!(rt; none.as_slice().is_empty());
-        let actions = session.feed(rest)?;
-        assert!(rt; sends(&actions, &ENQUIRE_ANSWER));
+        silent(&mut session, front)?;
+        answered(&mut session, rest, &ENQUIRE_ANSWER)?;
     }
     Ok(())
 }
 
 #[test]
-fn refuses_lengths(rt: HostRuntime) -> Result<(), Fail> {
+fn bad_length_closes(rt: HostRuntime) -> Result<(), Fail> {
     let mut short = session(rt.alloc())?;
-    let actions = short.feed(&header([0, 0, 0, 0x0F], [0, 0, 0, 0x15], 0, 2))?;
-    assert!(rt; sends(&actions, &header([0, 0, 0, 0x10], [0x80, 0, 0, 0], 2, 2)));
-    assert!(rt; short.state() == SessionState::Closed);
+    answered(&mut short, &SHORT_LENGTH, &LENGTH_REFUSED)?;
+    silent(&mut short, &ENQUIRE)
+}
+
+#[test]
+fn too_long_closes(rt: HostRuntime) -> Result<(), Fail> {
     let mut long = session(rt.alloc())?;
-    let actions = long.feed(&header([0, 1, 0, 1], [0, 0, 0, 0x15], 0, 3))?;
-    assert!(rt; sends(&actions, &header([0, 0, 0, 0x10], [0x80, 0, 0, 0], 2, 3)));
-    assert!(rt; long.state() == SessionState::Closed);
-    let mut longest = session(rt.alloc())?;
-    let actions = longest.feed(&header([0, 1, 0, 0], [0, 0, 0, 0x15], 0, 3))?;
-    assert!(rt; actions.as_slice().is_empty());
-    assert!(rt; longest.state() == SessionState::Opened);
-    Ok(())
+    answered(&mut long, &LONG_LENGTH, &LENGTH_REFUSED)?;
+    silent(&mut long, &ENQUIRE)
 }
 
 #[test]
-fn refuses_in_opened(rt: HostRuntime) -> Result<(), Fail> {
+fn submits_before_bind(rt: HostRuntime) -> Result<(), Fail> {
     let mut session = session(rt.alloc())?;
-    let actions = session.feed(&header([0, 0, 0, 0x10], [0, 0, 0, 4], 0, 7))?;
-    assert!(rt; sends(&actions, &header([0, 0, 0, 0x10], [0x80, 0, 0, 4], 4, 7)));
-    let actions = session.feed(&header([0, 0, 0, 0x10], [0, 0, 0, 9], 0, 1))?;
-    assert!(rt; sends(&actions, &header([0, 0, 0, 0x10], [0x80, 0, 0, 9], 2, 1)));
-    assert!(rt; session.state() == SessionState::Opened);
-    Ok(())
+    answered(&mut session, &SUBMIT_HEADER, &SUBMIT_NOT_BOUND)
 }
 
 #[test]
-fn binds_and_submits(rt: HostRuntime) -> Result<(), Fail> {
+fn binds_once(rt: HostRuntime) -> Result<(), Fail> {
     let mut session = session(rt.alloc())?;
-    let bound = session.feed(&BIND)?;
-    match bound.as_slice() {
-        [Action::Send(sent), Action::Bound(0, _)] => assert!(rt;
-            sent.as_slice() == BIND_ANSWER.as_slice()
-        ),
-        _ => return Err("not bound")?,
+    bound(&mut session, &BIND, &BIND_ANSWER)?;
+    answered(&mut session, &BIND, &ALREADY_BOUND)?;
+    answered(&mut session, &SUBMIT_HEADER, &SUBMIT_CUT_SHORT)
+}
+
+// A submit_sm that is passed up as it came.
+fn passed_up(session: &mut Session, octets: &[u8]) -> Result<(), Fail> {
+    let actions = session.feed(octets)?;
+    match actions.as_slice() {
+        [Action::Submit(request)] if request.as_slice() == octets => Ok(()),
+        _ => Err("not passed up")?,
     }
-    let passed = session.feed(&SUBMIT)?;
-    match passed.as_slice() {
-        [Action::Submit(request)] => assert!(rt; request.as_slice() == SUBMIT.as_slice()),
-        _ => return Err("not passed up")?,
-    }
-    let id = MessageResp {
+}
+
+fn message_id() -> MessageResp<'static>
+    ensures { IsMessageRespValue result }
+{
+    MessageResp {
         message_id: OctetView::of(b"0000000001"),
-    };
-    let Some(answer) = session.answer(2, Answer::Submitted(id))? else {
-        return Err("no answer")?;
-    };
-    assert!(rt; answer.as_slice() == SUBMIT_ANSWER.as_slice());
-    let again = session.feed(&BIND)?;
-    assert!(rt; sends(&again, &header([0, 0, 0, 0x10], [0x80, 0, 0, 9], 5, 1)));
-    session.close();
-    assert!(rt; session.feed(&ENQUIRE)?.as_slice().is_empty());
-    Ok(())
+    }
+}
+
+#[test]
+fn submits(rt: HostRuntime) -> Result<(), Fail> {
+    let mut session = session(rt.alloc())?;
+    bound(&mut session, &BIND, &BIND_ANSWER)?;
+    passed_up(&mut session, &SUBMIT)?;
+    match session.answer(2, Answer::Submitted(message_id()))? {
+        Some(answer) if answer.as_slice() == SUBMIT_ANSWER.as_slice() => Ok(()),
+        _ => Err("another answer")?,
+    }
 }
 
 fn none() -> OctetView<'static>
@@ -185,55 +231,61 @@ fn message() -> Message<'static>
     }
 }
 
-// A bind with that command_id.
-fn bind_as(id: u8) -> [u8; 33] {
-    let mut bind = BIND;
-    bind[7] = id;
-    bind
+// A deliver_sm that goes out under that number.
+fn delivers(session: &mut Session, number: u32) -> Result<(), Fail> {
+    let sent = session.deliver(message())?;
+    if sent.sequence_number == number {
+        Ok(())
+    } else {
+        Err("another number")?
+    }
 }
 
-// An answer to the deliver_sm of that number.
-fn delivered(number: u8) -> [u8; 17] {
-    [0, 0, 0, 0x11, 0x80, 0, 0, 5, 0, 0, 0, 0, 0, 0, 0, number, 0]
+// A deliver_sm that is refused so.
+fn refuses(session: &mut Session, fault: DeliverFault) -> Result<(), Fail> {
+    match session.deliver(message()) {
+        Err(told) if told == fault => Ok(()),
+        _ => Err("not refused")?,
+    }
+}
+
+// The answer to the deliver_sm of number 4.
+fn settles(session: &mut Session) -> Result<(), Fail> {
+    let actions = session.feed(&DELIVERED_4)?;
+    match actions.as_slice() {
+        [Action::DeliverAnswered(4, true)] => Ok(()),
+        _ => Err("not settled")?,
+    }
 }
 
 #[test]
 fn delivers_ten(rt: HostRuntime) -> Result<(), Fail> {
     let mut session = session(rt.alloc())?;
-    assert!(rt; matches!(session.deliver(message()), Err(DeliverFault::NotBound)));
-    let _bound = session.feed(&BIND)?;
+    bound(&mut session, &BIND, &BIND_ANSWER)?;
     for number in 1..11 {
-        let sent = session.deliver(message())?;
-        assert!(rt; sent.sequence_number == number);
+        delivers(&mut session, number)?;
     }
-    assert!(rt; matches!(session.deliver(message()), Err(DeliverFault::WindowFull)));
-    let actions = session.feed(&delivered(4))?;
-    assert!(rt; matches!(actions.as_slice(), [Action::DeliverAnswered(4, true)]));
-    let sent = session.deliver(message())?;
-    assert!(rt; sent.sequence_number == 11);
-    Ok(())
+    refuses(&mut session, DeliverFault::WindowFull)?;
+    settles(&mut session)?;
+    delivers(&mut session, 11)
 }
 
+// A bind as a transmitter.
+const BIND_TRANSMITTER: [u8; 33] = [
+    0x00, 0x00, 0x00, 0x21, 0x00, 0x00, 0x00, 0x02, 0x00, 0x00, 0x00, 0x00, 0x00, 0x00, 0x00, 0x01,
+    0x61, 0x70, 0x70, 0x31, 0x00, 0x73, 0x65, 0x63, 0x72, 0x65, 0x74, 0x00, 0x00, 0x34, 0x00, 0x00,
+    0x00,
+];
+
+const TRANSMITTER_ANSWER: [u8; 21] = [
+    0x00, 0x00, 0x00, 0x15, 0x80, 0x00, 0x00, 0x02, 0x00, 0x00, 0x00, 0x00, 0x00, 0x00, 0x00, 0x01,
+    0x73, 0x6D, 0x73, 0x63, 0x00,
+];
+
 #[test]
-fn transmitter_takes_no_deliver(rt: HostRuntime) -> Result<(), Fail> {
+fn delivers_to_receivers_alone(rt: HostRuntime) -> Result<(), Fail> {
     let mut session = session(rt.alloc())?;
-    let _bound = session.feed(&bind_as(2))?;
-    assert!(rt; session.state() == SessionState::BoundTx);
-    assert!(rt; matches!(session.deliver(message()), Err(DeliverFault::NotBound)));
-    Ok(())
-}
-
-#[test]
-fn state_before_body(rt: HostRuntime) -> Result<(), Fail> {
-    let mut receiver = session(rt.alloc())?;
-    let _bound = receiver.feed(&bind_as(1))?;
-    let actions = receiver.feed(&header([0, 0, 0, 0x10], [0, 0, 0, 4], 0, 3))?;
-    assert!(rt; sends(&actions, &header([0, 0, 0, 0x10], [0x80, 0, 0, 4], 4, 3)));
-    let mut transceiver = session(rt.alloc())?;
-    let _bound = transceiver.feed(&BIND)?;
-    let mut long = SUBMIT;
-    long[44] = 0xFF;
-    let actions = transceiver.feed(&long)?;
-    assert!(rt; sends(&actions, &header([0, 0, 0, 0x10], [0x80, 0, 0, 4], 1, 2)));
-    Ok(())
+    refuses(&mut session, DeliverFault::NotBound)?;
+    bound(&mut session, &BIND_TRANSMITTER, &TRANSMITTER_ANSWER)?;
+    refuses(&mut session, DeliverFault::NotBound)
 }
