@@ -15,7 +15,7 @@ pub struct Account {
     pub password: Octets,
 }
 
-/// The accounts in order, seen by contracts as a list. No two have one name.
+/// The accounts in order, seen by contracts as a list. Of equal names the first counts.
 #[derive(Drop)]
 pub struct Accounts {
     items: Vec<Account>,

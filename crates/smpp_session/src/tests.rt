@@ -1,9 +1,11 @@
 //! What no clause says: the octets of whole exchanges, written by hand from the standard.
-ghost use Rattle.std.specs.Prelude.{◌≡◌, []};
+ghost use Rattle.std.specs.Prelude.{◌≡◌, [], IfOk};
+ghost use Rattle.std.specs.List.{AllByRecursion};
 ghost use Rattle.smpp_pdu.specs.Writing.{IsMessageRespValue};
+ghost use Rattle.smpp_session.specs.Calls.{IsCall};
 ghost use Rattle.smpp_session.specs.Sessions.{IsDeliverable};
 
-use crate::{Account, Accounts, Action, Answer, DeliverFault, Session};
+use crate::{Account, Accounts, Action, Actions, Answer, Call, DeliverFault, Session, run};
 use smpp_pdu::{Message, MessageResp, SmeAddress, Tlvs};
 use sms_base::{OctetView, Octets};
 use std::alloc::Global;
@@ -86,13 +88,18 @@ fn owned(alloc: Global, items: &[u8]) -> Result<Octets, Fail> {
     Ok(out)
 }
 
-// A session with one account, app1 with the password secret.
-fn session(alloc: Global) -> Result<Session, Fail> {
+// One account, app1 with the password secret.
+fn accounts(alloc: Global) -> Result<Accounts, Fail> {
     let name = owned(alloc, b"app1")?;
     let password = owned(alloc, b"secret")?;
     let mut accounts = Vec::new(alloc);
     accounts.push(Account { name, password })?;
-    Ok(Session::new(alloc, Accounts::from_vec(accounts)))
+    Ok(Accounts::from_vec(accounts))
+}
+
+fn session(alloc: Global) -> Result<Session, Fail> {
+    let accounts = accounts(alloc)?;
+    Ok(Session::new(alloc, accounts))
 }
 
 // Octets that give nothing.
@@ -324,9 +331,8 @@ fn letter(action: &Action) -> u8 {
     }
 }
 
-// Octets that give actions of these kinds.
-fn gives(session: &mut Session, octets: &[u8], wanted: &[u8]) -> Result<(), Fail> {
-    let actions = session.feed(octets)?;
+// Actions of these kinds.
+fn are(actions: &Actions, wanted: &[u8]) -> Result<(), Fail> {
     let mut letters = wanted.iter();
     for action in actions.as_slice() {
         if letters.next() != Some(&letter(action)) {
@@ -337,6 +343,12 @@ fn gives(session: &mut Session, octets: &[u8], wanted: &[u8]) -> Result<(), Fail
         None => Ok(()),
         Some(_) => Err("an action less")?,
     }
+}
+
+// Octets that give actions of these kinds.
+fn gives(session: &mut Session, octets: &[u8], wanted: &[u8]) -> Result<(), Fail> {
+    let actions = session.feed(octets)?;
+    are(&actions, wanted)
 }
 
 #[test]
@@ -351,4 +363,23 @@ fn reads_net_smpp_in_two(rt: HostRuntime) -> Result<(), Fail> {
     let (front, rest) = NET_SMPP.as_slice().split_at(120);
     gives(&mut cut, front, b"sBS")?;
     gives(&mut cut, rest, b"QCssU")
+}
+
+// A bind, the end of the connection, and an enquire_link that comes too late.
+fn calls(alloc: Global) -> Result<Vec<Call<'static>>, Fail>
+    ensures { IfOk result (λ calls. AllByRecursion IsCall calls.items) }
+{
+    let mut calls = Vec::new(alloc);
+    calls.push(Call::Feed(OctetView::of(&BIND)))?;
+    calls.push(Call::Close)?;
+    calls.push(Call::Feed(OctetView::of(&ENQUIRE)))?;
+    Ok(calls)
+}
+
+#[test]
+fn runs_calls(rt: HostRuntime) -> Result<(), Fail> {
+    let accounts = accounts(rt.alloc())?;
+    let calls = calls(rt.alloc())?;
+    let actions = run(rt.alloc(), accounts, calls)?;
+    are(&actions, b"sB")
 }
