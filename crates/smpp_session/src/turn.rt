@@ -1,6 +1,7 @@
 //! A session's turn: what it is and what it gives, PDU by PDU.
 ghost use Rattle.std.specs.Prelude.{◌≡◌, ◌≤◌, length, OnOk, IfOk, []};
 ghost use Rattle.smpp_pdu.specs.Writing.{IsWritable};
+ghost use Rattle.smpp_pdu.specs.declared.body.Body.TheVariants.{GenericNack};
 ghost use Rattle.smpp_session.specs.SessionTable.{judged, response, sent, given, closed, bind_taken, unbound, delivered, taken, refused, read, judging, treated, bad_length};
 ghost use Rattle.smpp_session.specs.SessionRun.{stream};
 ghost use Rattle.smpp_session.specs.declared.table.Judgement.TheVariants.{Read};
@@ -60,6 +61,19 @@ impl Turn {
         };
         let octets = pdu.write(alloc)?;
         self.give(Action::Send(octets))?;
+        Ok(())
+    }
+
+    // Sends a generic_nack.
+    fn nack(
+        &mut self,
+        alloc: Global,
+        status: CommandStatus,
+        number: u32,
+    ) -> Result<(), AllocError>
+        ensures { OnOk result (self.new ≡ sent GenericNack status number self.old) }
+    {
+        self.send(alloc, Body::GenericNack, status, number)?;
         Ok(())
     }
 
@@ -260,12 +274,7 @@ impl Turn {
             }
             None => {
                 if header.command_id < 0x8000_0000 {
-                    self.send(
-                        alloc,
-                        Body::GenericNack,
-                        CommandStatus::ESME_RINVCMDID,
-                        number,
-                    )?;
+                    self.nack(alloc, CommandStatus::ESME_RINVCMDID, number)?;
                 }
                 Ok(())
             }
@@ -282,12 +291,7 @@ impl Turn {
             return Ok(());
         };
         let number = header.sequence_number;
-        self.send(
-            alloc,
-            Body::GenericNack,
-            CommandStatus::ESME_RINVCMDLEN,
-            number,
-        )?;
+        self.nack(alloc, CommandStatus::ESME_RINVCMDLEN, number)?;
         self.close();
         Ok(())
     }
