@@ -15,7 +15,7 @@ use Rattle.smpp_session.specs.declared.standing.SessionState.{SessionState}
 use Rattle.smpp_session.specs.declared.turn.Turn.{Turn}
 use Rattle.smpp_session.specs.Stream.{front_of}
 use Rattle.smpp_session.specs.SessionRun.{Course, fronted, one_more, stream}
-use Rattle.smpp_session.specs.Sessions.{SessionView, opened, turn_of, after_course, fed, delivery_fault, deliver_pdu, after_delivery, after_close}
+use Rattle.smpp_session.specs.Sessions.{SessionView, opened, turn_of, after_course, fed, delivery_fault, deliver_pdu, after_delivery}
 use Rattle.smpp_session.specs.Calls.{called, delivering, and_then, ran, singles, each_octet}
 use Rattle.smpp_session.proofs.Cutting.{stream-append, waiting_kept}
 use Rattle.smpp_session.proofs.Adding.{course_behind, stream_behind}

@@ -1,5 +1,5 @@
 -- Streams and their pieces.
-use Rattle.std.proofs.Common.{◌≡◌, ◌⊎◌, inl, inr, ℕ, ◌+◌, ◌<◌, ◌≤◌, List, [], ◌∷◌, ◌++◌, length, take, drop, refl, sym, ap, subst, ◌∙◌, arith, append_assoc}
+use Rattle.std.proofs.Common.{◌≡◌, ◌⊎◌, inl, inr, ℕ, ◌+◌, ◌<◌, ◌≤◌, List, [], ◌∷◌, ◌++◌, length, take, drop, refl, sym, ap, ◌∙◌, arith, append_assoc}
 use Rattle.std.specs.List.{AllByRecursion}
 use Rattle.std.proofs.lemmas.List.{take_at, drop_at, take-append-drop, length-append, length-take}
 use Rattle.smpp_session.specs.declared.account.Account.{Account}
@@ -8,9 +8,9 @@ use Rattle.smpp_session.specs.declared.front.Front.TheVariants.{Waiting, Whole, 
 use Rattle.smpp_session.specs.declared.standing.SessionState.{SessionState}
 use Rattle.smpp_session.specs.declared.standing.SessionState.TheVariants.{Opened, BoundTx, BoundRx, BoundTrx, Closed}
 use Rattle.smpp_session.specs.declared.turn.Turn.{Turn}
-use Rattle.smpp_session.specs.Stream.{number_at, IsPiece, BeginsWithPiece, joined, IsStream, front_at, front_of}
+use Rattle.smpp_session.specs.Stream.{number_at, IsPiece, BeginsWithPiece, joined, IsStream, front_of}
 use Rattle.smpp_session.specs.SessionTable.{treated}
-use Rattle.smpp_session.specs.SessionRun.{Course, fronted, stream, piece_in, by_pieces}
+use Rattle.smpp_session.specs.SessionRun.{fronted, stream, piece_in, by_pieces}
 use Rattle.smpp_session.proofs.Cutting.{Facts, whole, facts_at, number_front, IsOpen, open_or_closed, dropped, piece_treated, bad_ends, waiting_kept, closed_drops}
 
 stated : (piece more : List ℕ) → IsPiece piece → number_at 0 (piece ++ more) ≡ length piece

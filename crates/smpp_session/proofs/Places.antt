@@ -1,12 +1,11 @@
 -- Walks by place over accounts and over numbers.
-use Rattle.std.proofs.Common.{◌≡◌, ℕ, zero, suc, ◌+◌, ◌<◌, ◌≤◌, Bool, true, false, ◌||◌, cond, eqb, eq-eqb, inl, inr, List, [], ◌∷◌, ◌++◌, length, get_or, take, drop, refl, sym, ap, ◌∙◌, arith, add-one}
+use Rattle.std.proofs.Common.{◌≡◌, ℕ, suc, ◌+◌, ◌<◌, ◌≤◌, true, false, cond, eqb, eq-eqb, inl, inr, List, [], ◌∷◌, ◌++◌, length, get_or, take, drop, refl, sym, ap, ◌∙◌, add-one}
 use Rattle.std.specs.Str.{bytes_eq}
 use Rattle.std.specs.List.{remove}
 use Rattle.std.proofs.Math.Seq.{drop-cons, take-suc}
 use Rattle.std.proofs.lemmas.Bool.Decides.{eqb_tells}
 use Rattle.std.proofs.lemmas.List.{drop_all, append_assoc, append-nil, take_all}
 use Rattle.smpp_session.specs.declared.account.Account.{Account}
-use Rattle.smpp_session.specs.declared.account.Login.{Login}
 use Rattle.smpp_session.specs.declared.account.Login.TheVariants.{Known, UnknownName, WrongPassword}
 use Rattle.smpp_session.specs.Logins.{login}
 use Rattle.smpp_session.specs.Windows.{is_among, without}

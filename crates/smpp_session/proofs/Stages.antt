@@ -1,6 +1,5 @@
 -- Stages of a turn.
-use Rattle.std.proofs.Common.{◌≡◌, ℕ, Bool, true, false, List, refl, sym, ap, ◌∙◌}
-use Rattle.smpp_session.specs.declared.standing.Standing.{Standing}
+use Rattle.std.proofs.Common.{◌≡◌, ℕ, Bool, false, List, refl, sym, ap, ◌∙◌}
 use Rattle.smpp_session.specs.declared.turn.Turn.{Turn}
 use Rattle.smpp_session.specs.Windows.{is_among}
 use Rattle.smpp_session.specs.SessionTable.{delivered}

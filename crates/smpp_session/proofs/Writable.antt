@@ -1,5 +1,5 @@
 -- The answers of a session can be written.
-use Rattle.std.proofs.Common.{◌≡◌, ℕ, ◌+◌, ◌≤◌, ◌<◌, List, [], ◌∷◌, length, Option, Some, None, refl, sym, ap, subst, arith}
+use Rattle.std.proofs.Common.{◌≡◌, ℕ, ◌+◌, ◌≤◌, List, [], length, Some, None, refl, sym, ap, subst, arith}
 use Rattle.smpp_pdu.specs.declared.command.CommandId.{CommandId}
 use Rattle.smpp_pdu.specs.declared.command.CommandId.TheVariants.{BindReceiver as BindReceiverId, BindTransmitter as BindTransmitterId, BindTransceiver as BindTransceiverId, SubmitSm as SubmitSmId, QuerySm as QuerySmId, CancelSm as CancelSmId, Unbind as UnbindId, EnquireLink as EnquireLinkId}
 use Rattle.smpp_pdu.specs.declared.status.CommandStatus.{CommandStatus}
@@ -7,14 +7,14 @@ use Rattle.smpp_pdu.specs.declared.body.Body.{Body}
 use Rattle.smpp_pdu.specs.declared.pdu.Pdu.{Pdu}
 use Rattle.smpp_pdu.specs.declared.status.CommandStatus.TheVariants.{ESME_ROK}
 use Rattle.smpp_pdu.specs.declared.body.Body.TheVariants.{GenericNack, BindReceiverResp, BindTransmitterResp, BindTransceiverResp, SubmitSmResp, QuerySmResp, CancelSmResp, UnbindResp, EnquireLinkResp}
-use Rattle.smpp_pdu.specs.Writing.{IsWritable, IsBodyValue, IsMessageRespValue, written_body}
-use Rattle.smpp_pdu.specs.BodyGrammar.{message_resp_octets, query_resp_octets, IsQueryRespValue}
+use Rattle.smpp_pdu.specs.Writing.{IsWritable, IsBodyValue, written_body}
+use Rattle.smpp_pdu.specs.BodyGrammar.{message_resp_octets, query_resp_octets}
 use Rattle.smpp_pdu.proofs.Lengths.{message_resp_length, query_resp_length}
 use Rattle.smpp_pdu.specs.Fields.{IsTimeText}
 use Rattle.smpp_session.specs.declared.answer.Answer.{Answer}
 use Rattle.smpp_session.specs.declared.answer.Answer.TheVariants.{Submitted, Queried, Cancelled, Refused}
 use Rattle.smpp_session.specs.declared.answer.Request.TheVariants.{Submit, Query, Cancel}
-use Rattle.smpp_session.specs.Answers.{IsAnswer, answer_body, answer_status}
+use Rattle.smpp_session.specs.Answers.{IsAnswer, answer_body}
 use Rattle.smpp_session.specs.declared.action.BindKind.{BindKind}
 use Rattle.smpp_session.specs.declared.action.BindKind.TheVariants.{Transmitter, Receiver, Transceiver}
 use Rattle.smpp_session.specs.SessionTable.{refusal, without_bind_resp, with_bind_resp, centre_name, response}

@@ -1,5 +1,5 @@
 -- A session as its owner sees it, and its calls.
-use Rattle.std.specs.Prelude.{◌≡◌, ℕ, ◌+◌, ◌≤◌, List, [], ◌∷◌, ◌++◌, length, Option, Some, None, Bool, nat_lt, if◌then◌else◌}
+use Rattle.std.specs.Prelude.{◌≡◌, ℕ, ◌+◌, ◌≤◌, List, [], ◌∷◌, ◌++◌, length, Option, Some, None, nat_lt, if◌then◌else◌}
 use Rattle.smpp_pdu.specs.declared.status.CommandStatus.TheVariants.{ESME_ROK}
 use Rattle.smpp_pdu.specs.declared.body.Body.TheVariants.{DeliverSm}
 use Rattle.smpp_pdu.specs.declared.message.Message.{Message}
@@ -11,7 +11,7 @@ use Rattle.smpp_session.specs.declared.action.Action.{Action}
 use Rattle.smpp_session.specs.declared.fault.DeliverFault.{DeliverFault}
 use Rattle.smpp_session.specs.declared.fault.DeliverFault.TheVariants.{WindowFull, NotBound, NoMemory}
 use Rattle.smpp_session.specs.declared.standing.SessionState.{SessionState}
-use Rattle.smpp_session.specs.declared.standing.SessionState.TheVariants.{Opened, BoundTx, BoundRx, BoundTrx, Closed}
+use Rattle.smpp_session.specs.declared.standing.SessionState.TheVariants.{Opened, BoundRx, BoundTrx}
 use Rattle.smpp_session.specs.declared.standing.Standing.{Standing}
 use Rattle.smpp_session.specs.declared.turn.Turn.{Turn}
 use Rattle.smpp_session.specs.Windows.{window, number_after}

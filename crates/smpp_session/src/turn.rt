@@ -65,12 +65,7 @@ impl Turn {
     }
 
     // Sends a generic_nack.
-    fn nack(
-        &mut self,
-        alloc: Global,
-        status: CommandStatus,
-        number: u32,
-    ) -> Result<(), AllocError>
+    fn nack(&mut self, alloc: Global, status: CommandStatus, number: u32) -> Result<(), AllocError>
         ensures { OnOk result (self.new ≡ sent GenericNack status number self.old) }
     {
         self.send(alloc, Body::GenericNack, status, number)?;

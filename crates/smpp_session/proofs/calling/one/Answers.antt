@@ -1,4 +1,4 @@
-use Rattle.std.proofs.Common.{◌≡◌, sym, ap, ◌∙◌}
+use Rattle.std.proofs.Common.{sym, ap, ◌∙◌}
 use Rattle.smpp_session.specs.declared.calling.Call.{Call}
 use Rattle.smpp_session.specs.Calls.{and_then, called}
 use Rattle.smpp_session.proofs.Cuts.{deliver_called}

@@ -1,5 +1,5 @@
 use Rattle.std.proofs.Common.{◌<◌, length, arith}
-use Rattle.smpp_session.proofs.Places.{found_at, passed_all, passed_one}
+use Rattle.smpp_session.proofs.Places.{found_at, passed_one}
 use Rattle.smpp_session.proofs.numbers.place_of.Goals as goal
 
 pub returns-then-items-place-clause-some : goal.returns-then-items-place-clause-some

@@ -1,4 +1,4 @@
-use Rattle.std.proofs.Common.{◌≡◌, sym, ◌∙◌}
+use Rattle.std.proofs.Common.{sym, ◌∙◌}
 use Rattle.smpp_session.proofs.Stages.{delivered_not}
 use Rattle.smpp_session.proofs.turn.Turn.delivered.Goals as goal
 

@@ -1,4 +1,4 @@
-use Rattle.std.proofs.Common.{◌≡◌, sym, ap, ◌∙◌}
+use Rattle.std.proofs.Common.{sym, ap, ◌∙◌}
 use Rattle.smpp_pdu.specs.declared.body.Body.{Body}
 use Rattle.smpp_session.specs.declared.table.Judgement.{Judgement}
 use Rattle.smpp_session.specs.SessionTable.{sent, refused}

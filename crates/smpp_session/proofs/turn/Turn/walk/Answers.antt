@@ -1,5 +1,5 @@
-use Rattle.std.proofs.Common.{◌≡◌, sym, ◌∙◌}
-use Rattle.smpp_session.proofs.Cutting.{waiting_kept, closed_drops, ends_bad, walks_on, whole_fits, bad_long}
+use Rattle.std.proofs.Common.{sym, ◌∙◌}
+use Rattle.smpp_session.proofs.Cutting.{waiting_kept, closed_drops, ends_bad, walks_on}
 use Rattle.smpp_session.proofs.turn.Turn.walk.Goals as goal
 
 pub returns-in-Waiting : goal.returns-in-Waiting
