@@ -27,10 +27,10 @@ impl Model for Accounts {
     ghost view = { λ a. a.items.items };
 }
 
-/// What a name and a password say.
-#[derive(Clone, Copy, Debug, PartialEq, Eq)]
-pub enum Login {
-    /// Those of the account at this place, from 0.
+// What a name and a password say.
+#[derive(Clone, Copy)]
+pub(crate) enum Login {
+    // Those of the account at this place, from 0.
     Known(usize),
     UnknownName,
     WrongPassword,

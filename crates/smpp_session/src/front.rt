@@ -5,16 +5,16 @@ ghost use Rattle.smpp_session.specs.Stream.{header_at, front_at, front_of as fro
 use crate::standing::SessionState;
 use smpp_pdu::Header;
 
-/// What octets begin with.
-#[derive(Clone, Copy, Debug, PartialEq, Eq)]
-pub enum Front {
-    /// No whole PDU yet.
+// What octets begin with.
+#[derive(Clone, Copy)]
+pub(crate) enum Front {
+    // No whole PDU yet.
     Waiting,
-    /// A whole PDU of so many octets.
+    // A whole PDU of so many octets.
     Whole(usize),
-    /// A header that states no good length.
+    // A header that states no good length.
     BadLength,
-    /// Nothing that matters: the session is closed.
+    // Nothing that matters: the session is closed.
     Dropped,
 }
 

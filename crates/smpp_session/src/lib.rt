@@ -21,14 +21,10 @@ mod table;
 mod tests;
 mod turn;
 
-pub use account::{Account, Accounts, Login};
+pub use account::{Account, Accounts};
 pub use action::{Action, Actions, BindKind};
 pub use answer::{Answer, Request};
 pub use calling::{Call, run};
 pub use fault::DeliverFault;
-pub use front::Front;
-pub use numbers::Numbers;
 pub use session::{Outgoing, Session};
-pub use standing::{SessionState, Standing};
-pub use table::Judgement;
-pub use turn::Turn;
+pub use standing::SessionState;

@@ -6,9 +6,9 @@ ghost use Rattle.smpp_session.specs.Windows.{is_among, without};
 use std::alloc::{AllocError, Global};
 use std::marker::Model;
 
-/// Sequence numbers in the order in which they were sent, seen by contracts as a list.
-#[derive(Debug, Drop)]
-pub struct Numbers {
+// Sequence numbers in the order in which they were sent, seen by contracts as a list.
+#[derive(Drop)]
+pub(crate) struct Numbers {
     items: Vec<u32>,
 }
 

@@ -28,13 +28,13 @@ pub enum SessionState {
     Closed,
 }
 
-/// The state, and the deliver_sm that wait for their answers.
-#[derive(Debug, Drop)]
-pub struct Standing {
+// The state, and the deliver_sm that wait for their answers.
+#[derive(Drop)]
+pub(crate) struct Standing {
     pub state: SessionState,
-    /// The sequence numbers of the deliver_sm that were sent and aren't answered, at most ten.
+    // The sequence numbers of the deliver_sm that were sent and aren't answered, at most ten.
     pub unanswered: Numbers,
-    /// The sequence number of the next deliver_sm, 1 to 7FFFFFFF hexadecimal.
+    // The sequence number of the next deliver_sm, 1 to 7FFFFFFF hexadecimal.
     pub next_number: u32,
 }
 

@@ -7,14 +7,14 @@ use crate::action::BindKind;
 use crate::standing::SessionState;
 use smpp_pdu::{BindResp, Body, CommandId, CommandStatus, PduFault};
 
-/// What becomes of a command, before its body is looked at or where the body can't be read.
-#[derive(Clone, Copy, Debug, PartialEq, Eq)]
-pub enum Judgement {
-    /// The body is looked at.
+// What becomes of a command, before its body is looked at or where the body can't be read.
+#[derive(Clone, Copy)]
+pub(crate) enum Judgement {
+    // The body is looked at.
     Read,
-    /// The answer has this status and no body.
+    // The answer has this status and no body.
     Refused(CommandStatus),
-    /// Nothing.
+    // Nothing.
     Ignored,
 }
 

@@ -17,9 +17,9 @@ use smpp_pdu::{Bind, BindResp, Body, CommandId, CommandStatus, Pdu, Tlvs};
 use sms_base::{OctetView, Octets};
 use std::alloc::{AllocError, Global};
 
-/// What a session is, and what it has given so far.
-#[derive(Debug, Drop)]
-pub struct Turn {
+// What a session is, and what it has given so far.
+#[derive(Drop)]
+pub(crate) struct Turn {
     pub standing: Standing,
     pub actions: Actions,
 }
