@@ -1,0 +1,132 @@
+-- What a turn gives does not depend on what it gave before.
+use Rattle.std.proofs.Common.{◌≡◌, ℕ, Bool, true, false, cond, eqb, ltb, List, [], ◌∷◌, ◌++◌, Option, Some, None, Result, Ok, Err, refl, ap, ◌∙◌, append_assoc}
+use Rattle.smpp_pdu.specs.declared.fault.PduFault.{PduFault}
+use Rattle.smpp_pdu.specs.declared.command.CommandId.{CommandId}
+use Rattle.smpp_pdu.specs.declared.status.CommandStatus.{CommandStatus}
+use Rattle.smpp_pdu.specs.declared.status.CommandStatus.TheVariants.{ESME_ROK, ESME_RINVCMDLEN, ESME_RINVCMDID, ESME_RINVPASWD, ESME_RINVSYSID}
+use Rattle.smpp_pdu.specs.declared.bind.Bind.{Bind}
+use Rattle.smpp_pdu.specs.declared.body.Body.{Body}
+use Rattle.smpp_pdu.specs.declared.body.Body.TheVariants.{BindReceiver, BindTransmitter, BindTransceiver, SubmitSm, QuerySm, CancelSm, Unbind, EnquireLink, GenericNack, DeliverSmResp, UnbindResp, EnquireLinkResp}
+use Rattle.smpp_pdu.specs.declared.header.Header.{Header}
+use Rattle.smpp_pdu.specs.declared.pdu.Pdu.{Pdu}
+use Rattle.smpp_pdu.specs.Commands.{command_of}
+use Rattle.smpp_pdu.specs.PduReading.{pdu_at}
+use Rattle.smpp_pdu.specs.Writing.{written}
+use Rattle.smpp_session.specs.declared.account.Account.{Account}
+use Rattle.smpp_session.specs.declared.account.Login.{Login}
+use Rattle.smpp_session.specs.declared.account.Login.TheVariants.{Known, UnknownName, WrongPassword}
+use Rattle.smpp_session.specs.declared.action.Action.{Action}
+use Rattle.smpp_session.specs.declared.action.Action.TheVariants.{Send, Bound, Submit, Query, Cancel, Unbound}
+use Rattle.smpp_session.specs.declared.action.BindKind.{BindKind}
+use Rattle.smpp_session.specs.declared.action.BindKind.TheVariants.{Transmitter, Receiver, Transceiver}
+use Rattle.smpp_session.specs.declared.front.Front.{Front}
+use Rattle.smpp_session.specs.declared.front.Front.TheVariants.{Waiting, Whole, BadLength, Dropped}
+use Rattle.smpp_session.specs.declared.table.Judgement.{Judgement}
+use Rattle.smpp_session.specs.declared.table.Judgement.TheVariants.{Read, Refused, Ignored}
+use Rattle.smpp_session.specs.declared.turn.Turn.{Turn}
+use Rattle.smpp_session.specs.Logins.{login}
+use Rattle.smpp_session.specs.Windows.{is_among}
+use Rattle.smpp_session.specs.Stream.{header_at, front_of}
+use Rattle.smpp_session.specs.SessionTable.{judged, judged_fault, refusal, with_bind_resp, without_bind_resp, bound_as, centre_name, response, given, sent, closed, in_state, logged_in, bind_taken, unbound, delivered, taken, refused, read, judging, by_command, treated, bad_length}
+use Rattle.smpp_session.specs.SessionRun.{Course, fronted, one_more, stream}
+
+-- a turn that gave these actions before
+abbrev pub behind : List Action → Turn → Turn
+behind before turn = record { standing = turn.standing; actions = before ++ turn.actions }
+
+given_behind : (before : List Action) (action : Action) (turn : Turn) → given action (behind before turn) ≡ behind before (given action turn)
+given_behind before action turn = ap (λ (acts : List Action). with_actions acts) (append_assoc before turn.actions (action ∷ [])) where
+  with_actions : List Action → Turn
+  with_actions acts = record { standing = turn.standing; actions = acts }
+
+sent_behind : (before : List Action) (body : Body) (status : CommandStatus) (n : ℕ) (turn : Turn) → sent body status n (behind before turn) ≡ behind before (sent body status n turn)
+unfolding sent
+sent_behind before body status n turn = given_behind before (Send (written (response body status n))) turn
+
+logged_in_behind : (before : List Action) (kind : BindKind) (n : ℕ) (l : Login) (turn : Turn) → logged_in kind n l (behind before turn) ≡ behind before (logged_in kind n l turn)
+logged_in_behind before kind n (Known place) turn =
+    ap (λ (t : Turn). in_state (bound_as kind) (given (Bound place kind) t)) (sent_behind before (with_bind_resp kind centre_name) ESME_ROK n turn)
+    ∙ ap (in_state (bound_as kind)) (given_behind before (Bound place kind) (sent (with_bind_resp kind centre_name) ESME_ROK n turn))
+logged_in_behind before kind n UnknownName turn = sent_behind before (without_bind_resp kind) ESME_RINVSYSID n turn
+logged_in_behind before kind n WrongPassword turn = sent_behind before (without_bind_resp kind) ESME_RINVPASWD n turn
+
+bind_behind : (before : List Action) (accounts : List Account) (kind : BindKind) (n : ℕ) (bind : Bind) (turn : Turn) → bind_taken accounts kind n bind (behind before turn) ≡ behind before (bind_taken accounts kind n bind turn)
+bind_behind before accounts kind n bind turn = logged_in_behind before kind n (login 0 bind.system_id bind.password accounts) turn
+
+unbound_behind : (before : List Action) (n : ℕ) (turn : Turn) → unbound n (behind before turn) ≡ behind before (unbound n turn)
+unbound_behind before n turn =
+    ap (λ (t : Turn). closed (given Unbound t)) (sent_behind before UnbindResp ESME_ROK n turn)
+    ∙ ap closed (given_behind before Unbound (sent UnbindResp ESME_ROK n turn))
+
+delivered_behind : (before : List Action) (n : ℕ) (accepted : Bool) (turn : Turn) → delivered n accepted (behind before turn) ≡ behind before (delivered n accepted turn)
+delivered_behind before n accepted turn = by_test (is_among n turn.standing.unanswered) refl where
+  by_test : (b : Bool) → is_among n turn.standing.unanswered ≡ b → delivered n accepted (behind before turn) ≡ behind before (delivered n accepted turn)
+  by_test true e = rw e (rw append_assoc refl)
+  by_test false e = rw e refl
+
+taken_behind : (before : List Action) (accounts : List Account) (octets : List ℕ) (pdu : Pdu) (body : Body) (turn : Turn) → taken accounts octets pdu body (behind before turn) ≡ behind before (taken accounts octets pdu body turn)
+taken_behind before accounts octets pdu (BindTransmitter bind) turn = bind_behind before accounts Transmitter pdu.sequence_number bind turn
+taken_behind before accounts octets pdu (BindReceiver bind) turn = bind_behind before accounts Receiver pdu.sequence_number bind turn
+taken_behind before accounts octets pdu (BindTransceiver bind) turn = bind_behind before accounts Transceiver pdu.sequence_number bind turn
+taken_behind before accounts octets pdu (SubmitSm message) turn = given_behind before (Submit octets) turn
+taken_behind before accounts octets pdu (QuerySm query) turn = given_behind before (Query octets) turn
+taken_behind before accounts octets pdu (CancelSm cancel) turn = given_behind before (Cancel octets) turn
+taken_behind before accounts octets pdu Unbind turn = unbound_behind before pdu.sequence_number turn
+taken_behind before accounts octets pdu EnquireLink turn = sent_behind before EnquireLinkResp ESME_ROK pdu.sequence_number turn
+taken_behind before accounts octets pdu (DeliverSmResp body) turn = delivered_behind before pdu.sequence_number (eqb pdu.command_status 0) turn
+taken_behind before accounts octets pdu GenericNack turn = delivered_behind before pdu.sequence_number false turn
+taken_behind before accounts octets pdu body turn = refl
+
+refused_behind : (before : List Action) (c : CommandId) (n : ℕ) (j : Judgement) (turn : Turn) → refused c n j (behind before turn) ≡ behind before (refused c n j turn)
+refused_behind before c n (Refused status) turn = sent_behind before (refusal c) status n turn
+refused_behind before c n Ignored turn = refl
+refused_behind before c n Read turn = refl
+
+read_behind : (before : List Action) (accounts : List Account) (octets : List ℕ) (c : CommandId) (n : ℕ) (r : Result Pdu PduFault) (turn : Turn) → read accounts octets c n r (behind before turn) ≡ behind before (read accounts octets c n r turn)
+read_behind before accounts octets c n (Ok pdu) turn = taken_behind before accounts octets pdu pdu.body turn
+read_behind before accounts octets c n (Err fault) turn = refused_behind before c n (judged_fault c fault) turn
+
+judging_behind : (before : List Action) (accounts : List Account) (octets : List ℕ) (c : CommandId) (n : ℕ) (j : Judgement) (turn : Turn) → judging accounts octets c n j (behind before turn) ≡ behind before (judging accounts octets c n j turn)
+judging_behind before accounts octets c n Read turn = read_behind before accounts octets c n (pdu_at octets) turn
+judging_behind before accounts octets c n (Refused status) turn = refused_behind before c n (Refused status) turn
+judging_behind before accounts octets c n Ignored turn = refl
+
+command_behind : (before : List Action) (accounts : List Account) (octets : List ℕ) (h : Header) (c : Option CommandId) (turn : Turn) → by_command accounts octets h c (behind before turn) ≡ behind before (by_command accounts octets h c turn)
+command_behind before accounts octets h (Some c) turn = judging_behind before accounts octets c h.sequence_number (judged c turn.standing.state) turn
+command_behind before accounts octets h None turn = by_test (ltb h.command_id 0x80000000) where
+  by_test : (b : Bool) → cond b (sent GenericNack ESME_RINVCMDID h.sequence_number (behind before turn)) (behind before turn) ≡ behind before (cond b (sent GenericNack ESME_RINVCMDID h.sequence_number turn) turn)
+  by_test true = sent_behind before GenericNack ESME_RINVCMDID h.sequence_number turn
+  by_test false = refl
+
+treated_behind : (before : List Action) (accounts : List Account) (octets : List ℕ) (turn : Turn) → treated accounts octets (behind before turn) ≡ behind before (treated accounts octets turn)
+unfolding treated
+treated_behind before accounts octets turn = command_behind before accounts octets (header_at octets) (command_of (header_at octets).command_id) turn
+
+bad_behind : (before : List Action) (octets : List ℕ) (turn : Turn) → bad_length octets (behind before turn) ≡ behind before (bad_length octets turn)
+unfolding bad_length
+bad_behind before octets turn = ap closed (sent_behind before GenericNack ESME_RINVCMDLEN (header_at octets).sequence_number turn)
+
+-- ---- of courses
+
+abbrev pub course_behind : List Action → Course → Course
+course_behind before course = (behind before course.0, course.1)
+
+fronted_behind : (before : List Action) (accounts : List Account) (f : Front) (turn : Turn) (octets : List ℕ) → fronted accounts f (behind before turn) octets ≡ course_behind before (fronted accounts f turn octets)
+fronted_behind before accounts Waiting turn octets = refl
+fronted_behind before accounts (Whole len) turn octets = ap (λ (t : Turn). with_none t) (treated_behind before accounts octets turn) where
+  with_none : Turn → Course
+  with_none t = (t, [])
+fronted_behind before accounts BadLength turn octets = ap (λ (t : Turn). with_none t) (bad_behind before octets turn) where
+  with_none : Turn → Course
+  with_none t = (t, [])
+fronted_behind before accounts Dropped turn octets = refl
+
+more_behind : (before : List Action) (accounts : List Account) (c : Course) (x : ℕ) → one_more accounts (course_behind before c) x ≡ course_behind before (one_more accounts c x)
+unfolding one_more
+more_behind before accounts c x = fronted_behind before accounts (front_of c.0.standing.state (c.1 ++ x ∷ [])) c.0 (c.1 ++ x ∷ [])
+
+pub stream_behind : (before : List Action) (accounts : List Account) (c : Course) (xs : List ℕ) → stream accounts (course_behind before c) xs ≡ course_behind before (stream accounts c xs)
+unfolding stream
+stream_behind before accounts c [] = refl
+stream_behind before accounts c (x ∷ xs) =
+    ap (λ (d : Course). stream accounts d xs) (more_behind before accounts c x) ∙ stream_behind before accounts (one_more accounts c x) xs

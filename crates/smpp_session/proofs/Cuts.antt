@@ -1,0 +1,158 @@
+-- However the octets were cut, the actions are the same.
+use Rattle.std.proofs.Common.{◌≡◌, ◌⊎◌, inl, inr, ℕ, List, [], ◌∷◌, ◌++◌, Option, Some, None, refl, sym, ap, subst, ◌∙◌, append_assoc}
+use Rattle.std.proofs.lemmas.List.{append-nil}
+use Rattle.smpp_pdu.specs.declared.message.Message.{Message}
+use Rattle.smpp_pdu.specs.Writing.{written}
+use Rattle.smpp_session.specs.declared.account.Account.{Account}
+use Rattle.smpp_session.specs.declared.action.Action.{Action}
+use Rattle.smpp_session.specs.declared.action.Action.TheVariants.{Send}
+use Rattle.smpp_session.specs.declared.calling.Call.{Call}
+use Rattle.smpp_session.specs.declared.calling.Call.TheVariants.{Feed, Answer, Deliver, Close}
+use Rattle.smpp_session.specs.declared.fault.DeliverFault.{DeliverFault}
+use Rattle.smpp_session.specs.declared.front.Front.{Front}
+use Rattle.smpp_session.specs.declared.front.Front.TheVariants.{Waiting, Whole, BadLength, Dropped}
+use Rattle.smpp_session.specs.declared.standing.SessionState.{SessionState}
+use Rattle.smpp_session.specs.declared.turn.Turn.{Turn}
+use Rattle.smpp_session.specs.Stream.{front_of}
+use Rattle.smpp_session.specs.SessionRun.{Course, fronted, one_more, stream}
+use Rattle.smpp_session.specs.Sessions.{SessionView, opened, turn_of, after_course, fed, delivery_fault, deliver_pdu, after_delivery}
+use Rattle.smpp_session.specs.Calls.{called, delivering, and_then, ran, singles, each_octet}
+use Rattle.smpp_session.proofs.Cutting.{stream-append, waiting_kept}
+use Rattle.smpp_session.proofs.Adding.{course_behind, stream_behind}
+
+abbrev Given : Type 0
+Given = SessionView × List Action
+
+-- ---- what is buffered is treated no further
+
+abbrev pub Kept : SessionState → List ℕ → Type 0
+Kept state buffered = (front_of state buffered ≡ Waiting) ⊎ (buffered ≡ [])
+
+abbrev pub IsKept : SessionView → Type 0
+IsKept session = Kept session.standing.state session.buffered
+
+fronted_kept : (accounts : List Account) (f : Front) (turn : Turn) (xs : List ℕ) → front_of turn.standing.state xs ≡ f → Kept (fronted accounts f turn xs).0.standing.state (fronted accounts f turn xs).1
+fronted_kept accounts Waiting turn xs e = inl e
+fronted_kept accounts (Whole len) turn xs e = inr refl
+fronted_kept accounts BadLength turn xs e = inr refl
+fronted_kept accounts Dropped turn xs e = inr refl
+
+more_kept : (accounts : List Account) (c : Course) (x : ℕ) → Kept (one_more accounts c x).0.standing.state (one_more accounts c x).1
+unfolding one_more
+more_kept accounts c x = fronted_kept accounts (front_of c.0.standing.state (c.1 ++ x ∷ [])) c.0 (c.1 ++ x ∷ []) refl
+
+stream_kept : (accounts : List Account) (c : Course) (xs : List ℕ) → Kept c.0.standing.state c.1 → Kept (stream accounts c xs).0.standing.state (stream accounts c xs).1
+unfolding stream
+stream_kept accounts c [] h = h
+stream_kept accounts c (x ∷ xs) h = stream_kept accounts (one_more accounts c x) xs (more_kept accounts c x)
+
+kept_again : (accounts : List Account) (turn : Turn) (xs : List ℕ) → Kept turn.standing.state xs → stream accounts (turn, []) xs ≡ (turn, xs)
+unfolding stream
+kept_again accounts turn xs (inl e) = waiting_kept accounts turn xs e
+kept_again accounts turn xs (inr e) = nothing xs e where
+  nothing : (ys : List ℕ) → ys ≡ [] → stream accounts (turn, []) ys ≡ (turn, ys)
+  nothing [] e = refl
+  nothing (y ∷ ys) e = absurd cc
+
+pub fed_kept : (s : SessionView) (xs : List ℕ) → IsKept (fed s xs).0
+fed_kept s xs = stream_kept s.accounts (turn_of s, []) (s.buffered ++ xs) (inr refl)
+
+-- ---- feed
+
+feed_none : (s : SessionView) → IsKept s → fed s [] ≡ (s, [])
+feed_none s h = ap (after_course s) (ap (stream s.accounts (turn_of s, [])) (append-nil s.buffered) ∙ kept_again s.accounts (turn_of s) s.buffered h)
+
+pub feed_joins : (s : SessionView) (xs ys : List ℕ) → fed s (xs ++ ys) ≡ and_then (fed s xs) (fed (fed s xs).0 ys)
+feed_joins s xs ys = from (stream s.accounts (turn_of s, []) (s.buffered ++ xs)) refl where
+  with_actions : Course → List Action → Course
+  with_actions c acts = (record { standing = c.0.standing; actions = acts }, c.1)
+
+  from : (c : Course) → stream s.accounts (turn_of s, []) (s.buffered ++ xs) ≡ c → fed s (xs ++ ys) ≡ and_then (fed s xs) (fed (fed s xs).0 ys)
+  from c is =
+      let kept : Kept c.0.standing.state c.1 = subst (λ (d : Course). Kept d.0.standing.state d.1) is (stream_kept s.accounts (turn_of s, []) (s.buffered ++ xs) (inr refl)) in
+      let again : stream s.accounts (turn_of (after_course s c).0, []) (c.1 ++ ys) ≡ stream s.accounts (turn_of (after_course s c).0, c.1) ys =
+      stream-append s.accounts (turn_of (after_course s c).0, []) c.1 ys
+      ∙ ap (λ (d : Course). stream s.accounts d ys) (kept_again s.accounts (turn_of (after_course s c).0) c.1 kept)
+      in
+      let whole : course_behind c.0.actions (turn_of (after_course s c).0, c.1) ≡ c = ap (λ (acts : List Action). with_actions c acts) (append-nil c.0.actions) in
+      let left : fed s (xs ++ ys) ≡ after_course s (stream s.accounts c ys) =
+      ap (λ (zs : List ℕ). after_course s (stream s.accounts (turn_of s, []) zs)) (sym (append_assoc s.buffered xs ys))
+      ∙ (ap (after_course s) (stream-append s.accounts (turn_of s, []) (s.buffered ++ xs) ys)
+      ∙ ap (λ (d : Course). after_course s (stream s.accounts d ys)) is)
+      in
+      let middle : after_course s (stream s.accounts c ys) ≡ after_course s (course_behind c.0.actions (stream s.accounts (turn_of (after_course s c).0, c.1) ys)) =
+      ap (λ (d : Course). after_course s (stream s.accounts d ys)) (sym whole)
+      ∙ ap (after_course s) (stream_behind c.0.actions s.accounts (turn_of (after_course s c).0, c.1) ys)
+      in
+      let right : and_then (after_course s c) (fed (after_course s c).0 ys) ≡ after_course s (course_behind c.0.actions (stream s.accounts (turn_of (after_course s c).0, c.1) ys)) =
+      ap (λ (d : Course). after_course s (course_behind c.0.actions d)) again
+      in
+      let same : and_then (after_course s c) (fed (after_course s c).0 ys) ≡ and_then (fed s xs) (fed (fed s xs).0 ys) =
+      ap (λ (d : Course). and_then (after_course s d) (fed (after_course s d).0 ys)) (sym is)
+      in
+      left ∙ (middle ∙ (sym right ∙ same))
+
+-- ---- calls
+
+pub ran-append : (c : Given) (xs ys : List Call) → ran c (xs ++ ys) ≡ ran (ran c xs) ys
+ran-append c [] ys = refl
+ran-append c (x ∷ xs) ys = ran-append (and_then c (called c.0 x)) xs ys
+
+delivering_kept : (s : SessionView) (message : Message) (f : Option DeliverFault) → IsKept s → IsKept (delivering s message f).0
+delivering_kept s message None h = h
+delivering_kept s message (Some fault) h = h
+
+called_kept : (s : SessionView) (call : Call) → IsKept s → IsKept (called s call).0
+called_kept s (Feed xs) h = fed_kept s xs
+called_kept s (Answer number answer) h = h
+called_kept s (Deliver message) h = delivering_kept s message (delivery_fault s.standing) h
+called_kept s Close h = inr refl
+
+regroup : (s : SessionView) (acts : List Action) (r q t : SessionView × List Action) → t ≡ and_then r q → and_then (r.0, acts ++ r.1) q ≡ and_then (s, acts) t
+regroup s acts r q t e = ap (λ (more : List Action). pair more) (append_assoc acts r.1 q.1) ∙ ap (and_then (s, acts)) (sym e) where
+  pair : List Action → SessionView × List Action
+  pair more = (q.0, more)
+
+ran_singles : (s : SessionView) (acts : List Action) (xs : List ℕ) → IsKept s → ran (s, acts) (singles xs) ≡ and_then (s, acts) (fed s xs)
+ran_singles s acts [] h =
+    let none : and_then (s, acts) (fed s []) ≡ (s, acts ++ []) = ap (and_then (s, acts)) (feed_none s h) in
+    sym (none ∙ ap (λ (more : List Action). pair more) (append-nil acts)) where
+      pair : List Action → SessionView × List Action
+      pair more = (s, more)
+ran_singles s acts (x ∷ xs) h =
+    ran_singles (fed s (x ∷ [])).0 (acts ++ (fed s (x ∷ [])).1) xs (fed_kept s (x ∷ []))
+    ∙ regroup s acts (fed s (x ∷ [])) (fed (fed s (x ∷ [])).0 xs) (fed s (x ∷ xs)) (feed_joins s (x ∷ []) xs)
+
+pub by_octets : (s : SessionView) (acts : List Action) (calls : List Call) → IsKept s → ran (s, acts) calls ≡ ran (s, acts) (each_octet calls)
+by_octets s acts [] h = refl
+by_octets s acts (Feed xs ∷ calls) h =
+    by_octets (fed s xs).0 (acts ++ (fed s xs).1) calls (fed_kept s xs)
+    ∙ (ap (λ (c : SessionView × List Action). ran c (each_octet calls)) (sym (ran_singles s acts xs h))
+    ∙ sym (ran-append (s, acts) (singles xs) (each_octet calls)))
+by_octets s acts (Answer number answer ∷ calls) h =
+    by_octets (called s (Answer number answer)).0 (acts ++ (called s (Answer number answer)).1) calls (called_kept s (Answer number answer) h)
+by_octets s acts (Deliver message ∷ calls) h =
+    by_octets (called s (Deliver message)).0 (acts ++ (called s (Deliver message)).1) calls (called_kept s (Deliver message) h)
+by_octets s acts (Close ∷ calls) h =
+    by_octets (called s Close).0 (acts ++ (called s Close).1) calls (called_kept s Close h)
+
+pub however_cut : (accounts : List Account) (calls other : List Call) → each_octet other ≡ each_octet calls → ran (opened accounts, []) calls ≡ ran (opened accounts, []) other
+however_cut accounts calls other same =
+    by_octets (opened accounts) [] calls (inr refl)
+    ∙ (ap (ran (opened accounts, [])) (sym same) ∙ sym (by_octets (opened accounts) [] other (inr refl)))
+
+-- ---- as the walk over the calls goes
+
+pub ran_one : (start c d : SessionView × List Action) (calls : List Call) (call : Call) → ran start calls ≡ c → d ≡ and_then c (called c.0 call) → ran start (calls ++ call ∷ []) ≡ d
+ran_one start c d calls call is next =
+    ran-append start calls (call ∷ []) ∙ (ap (λ (q : SessionView × List Action). ran q (call ∷ [])) is ∙ sym next)
+
+pub deliver_called : (s next : SessionView) (acts more : List Action) (message : Message) (octets : List ℕ) (number : ℕ) → delivery_fault s.standing ≡ None → number ≡ s.standing.next_number → octets ≡ written (deliver_pdu number message) → next ≡ after_delivery s → more ≡ acts ++ Send octets ∷ []
+    → (let given : SessionView × List Action = (next, more) in given ≡ and_then (s, acts) (called s (Deliver message)))
+deliver_called s next acts more message octets number room number_is octets_is next_is more_is =
+    let octets_here : octets ≡ written (deliver_pdu s.standing.next_number message) = octets_is ∙ ap (λ (n : ℕ). written (deliver_pdu n message)) number_is in
+    let gives : and_then (s, acts) (called s (Deliver message)) ≡ and_then (s, acts) (delivering s message None) = ap (λ (f : Option DeliverFault). and_then (s, acts) (delivering s message f)) room in
+    ap (λ (q : SessionView). pair q more) next_is
+    ∙ (ap (λ (m : List Action). pair (after_delivery s) m) (more_is ∙ ap (λ (o : List ℕ). acts ++ Send o ∷ []) octets_here) ∙ sym gives) where
+      pair : SessionView → List Action → SessionView × List Action
+      pair q m = (q, m)

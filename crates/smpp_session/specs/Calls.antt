@@ -1,0 +1,55 @@
+-- A list of calls of a session.
+use Rattle.std.specs.Prelude.{ℕ, List, [], ◌∷◌, ◌++◌, Option, Some, None}
+use Rattle.smpp_pdu.specs.declared.message.Message.{Message}
+use Rattle.smpp_pdu.specs.Writing.{written}
+use Rattle.smpp_session.specs.declared.action.Action.{Action}
+use Rattle.smpp_session.specs.declared.action.Action.TheVariants.{Send}
+use Rattle.smpp_session.specs.declared.fault.DeliverFault.{DeliverFault}
+use Rattle.smpp_session.specs.declared.calling.Call.{Call}
+use Rattle.smpp_session.specs.declared.calling.Call.TheVariants.{Feed, Answer, Deliver, Close}
+use Rattle.smpp_session.specs.Answers.{answered, IsAnswer}
+use Rattle.smpp_session.specs.Sessions.{SessionView, fed, IsDeliverable, delivery_fault, deliver_pdu, after_delivery, after_close}
+
+-- the conditions of the calls
+abbrev pub IsCall : Call → Type 0
+IsCall (Feed octets) = Unit {0}
+IsCall (Answer number answer) = IsAnswer answer
+IsCall (Deliver message) = IsDeliverable message
+IsCall Close = Unit {0}
+
+abbrev pub sending : Option (List ℕ) → List Action
+sending None = []
+sending (Some octets) = Send octets ∷ []
+
+-- a refused deliver_sm gives nothing and changes nothing
+abbrev pub delivering : SessionView → Message → Option DeliverFault → SessionView × List Action
+delivering session message None = (after_delivery session, Send (written (deliver_pdu session.standing.next_number message)) ∷ [])
+delivering session message (Some fault) = (session, [])
+
+-- the session after a call, and the actions of the call
+abbrev pub called : SessionView → Call → SessionView × List Action
+called session (Feed octets) = fed session octets
+called session (Answer number answer) = (session, sending (answered session.standing.state number answer))
+called session (Deliver message) = delivering session message (delivery_fault session.standing)
+called session Close = (after_close session, [])
+
+abbrev pub and_then : SessionView × List Action → SessionView × List Action → SessionView × List Action
+and_then before after = (after.0, before.1 ++ after.1)
+
+-- calls one after the other, with the actions of all
+abbrev pub ran : SessionView × List Action → List Call → SessionView × List Action
+ran before [] = before
+ran before (call ∷ calls) = ran (and_then before (called before.0 call)) calls
+
+-- ---- the same octets, one by one
+
+abbrev pub singles : List ℕ → List Call
+singles [] = []
+singles (octet ∷ octets) = Feed (octet ∷ []) ∷ singles octets
+
+abbrev pub each_octet : List Call → List Call
+each_octet [] = []
+each_octet (Feed octets ∷ calls) = singles octets ++ each_octet calls
+each_octet (Answer number answer ∷ calls) = Answer number answer ∷ each_octet calls
+each_octet (Deliver message ∷ calls) = Deliver message ∷ each_octet calls
+each_octet (Close ∷ calls) = Close ∷ each_octet calls

@@ -1,0 +1,9 @@
+pub mod Answers
+pub mod Calls
+pub mod Faults
+pub mod Logins
+pub mod SessionRun
+pub mod SessionTable
+pub mod Sessions
+pub mod Stream
+pub mod Windows

@@ -1,0 +1,46 @@
+-- A session over the octets that come, and over a list of calls.
+use Rattle.std.specs.Prelude.{ℕ, List, [], ◌∷◌, ◌++◌}
+use Rattle.smpp_session.specs.declared.account.Account.{Account}
+use Rattle.smpp_session.specs.declared.front.Front.{Front}
+use Rattle.smpp_session.specs.declared.front.Front.TheVariants.{Waiting, Whole, BadLength, Dropped}
+use Rattle.smpp_session.specs.declared.standing.SessionState.{SessionState}
+use Rattle.smpp_session.specs.declared.standing.SessionState.TheVariants.{Opened, BoundTx, BoundRx, BoundTrx, Closed}
+use Rattle.smpp_session.specs.declared.turn.Turn.{Turn}
+use Rattle.smpp_session.specs.Stream.{front_of}
+use Rattle.smpp_session.specs.SessionTable.{treated, bad_length}
+
+-- A turn, and the octets that aren't treated yet.
+abbrev pub Course : Type 0
+Course = Turn × List ℕ
+
+-- what becomes of octets that begin so
+abbrev pub fronted : List Account → Front → Turn → List ℕ → Course
+fronted accounts Waiting turn octets = (turn, octets)
+fronted accounts (Whole len) turn octets = (treated accounts octets turn, [])
+fronted accounts BadLength turn octets = (bad_length octets turn, [])
+fronted accounts Dropped turn octets = (turn, [])
+
+-- One octet more. A PDU is treated when its last octet comes, a bad length when the last octet of its header comes.
+unfoldable pub one_more : List Account → Course → ℕ → Course
+one_more accounts course octet =
+    fronted accounts (front_of course.0.standing.state (course.1 ++ octet ∷ [])) course.0 (course.1 ++ octet ∷ [])
+
+-- Octets one after the other.
+unfoldable pub stream : List Account → Course → List ℕ → Course
+stream accounts course [] = course
+stream accounts course (octet ∷ octets) = stream accounts (one_more accounts course octet) octets
+
+-- ---- the same by pieces
+
+-- a closed session drops a piece, any other treats it
+abbrev pub piece_in : List Account → SessionState → List ℕ → Turn → Turn
+piece_in accounts Closed piece turn = turn
+piece_in accounts Opened piece turn = treated accounts piece turn
+piece_in accounts BoundTx piece turn = treated accounts piece turn
+piece_in accounts BoundRx piece turn = treated accounts piece turn
+piece_in accounts BoundTrx piece turn = treated accounts piece turn
+
+-- the pieces of a stream one after the other, and then its rest
+abbrev pub by_pieces : List Account → Turn → List (List ℕ) → List ℕ → Course
+by_pieces accounts turn [] rest = fronted accounts (front_of turn.standing.state rest) turn rest
+by_pieces accounts turn (piece ∷ pieces) rest = by_pieces accounts (piece_in accounts turn.standing.state piece turn) pieces rest

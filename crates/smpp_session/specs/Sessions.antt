@@ -1,0 +1,90 @@
+-- A session as its owner sees it, and its calls.
+use Rattle.std.specs.Prelude.{◌≡◌, ℕ, ◌+◌, ◌≤◌, List, [], ◌∷◌, ◌++◌, length, Option, Some, None, nat_lt, if◌then◌else◌}
+use Rattle.smpp_pdu.specs.declared.status.CommandStatus.TheVariants.{ESME_ROK}
+use Rattle.smpp_pdu.specs.declared.body.Body.TheVariants.{DeliverSm}
+use Rattle.smpp_pdu.specs.declared.message.Message.{Message}
+use Rattle.smpp_pdu.specs.declared.pdu.Pdu.{Pdu}
+use Rattle.smpp_pdu.specs.BodyGrammar.{IsMessageValue}
+use Rattle.smpp_pdu.specs.Writing.{written_message}
+use Rattle.smpp_session.specs.declared.account.Account.{Account}
+use Rattle.smpp_session.specs.declared.action.Action.{Action}
+use Rattle.smpp_session.specs.declared.fault.DeliverFault.{DeliverFault}
+use Rattle.smpp_session.specs.declared.fault.DeliverFault.TheVariants.{WindowFull, NotBound, NoMemory}
+use Rattle.smpp_session.specs.declared.standing.SessionState.{SessionState}
+use Rattle.smpp_session.specs.declared.standing.SessionState.TheVariants.{Opened, BoundRx, BoundTrx}
+use Rattle.smpp_session.specs.declared.standing.Standing.{Standing}
+use Rattle.smpp_session.specs.declared.turn.Turn.{Turn}
+use Rattle.smpp_session.specs.Windows.{window, number_after}
+use Rattle.smpp_session.specs.SessionTable.{response, closed_standing}
+use Rattle.smpp_session.specs.SessionRun.{Course, stream}
+
+-- Who may bind, what the session remembers, and the octets that aren't treated yet.
+pub record SessionView : Type 0 where
+  pub accounts : List Account
+  pub standing : Standing
+  pub buffered : List ℕ
+
+-- ---- new
+
+abbrev pub opened : List Account → SessionView
+opened accounts = record {
+  accounts = accounts;
+  standing = record { state = Opened; unanswered = []; next_number = 1 };
+  buffered = [];
+}
+
+-- ---- feed
+
+abbrev pub turn_of : SessionView → Turn
+turn_of session = record { standing = session.standing; actions = [] }
+
+abbrev pub after_course : SessionView → Course → SessionView × List Action
+after_course session course =
+    (record { accounts = session.accounts; standing = course.0.standing; buffered = course.1 }, course.0.actions)
+
+-- The octets that weren't treated yet and those that come now, one after the other.
+abbrev pub fed : SessionView → List ℕ → SessionView × List Action
+fed session octets = after_course session (stream session.accounts (turn_of session, []) (session.buffered ++ octets))
+
+-- ---- deliver
+
+-- A deliver_sm within its limits.
+pub record IsDeliverable (message : Message) : Type 0 where
+  pub fields : IsMessageValue message
+  pub short : 16 + length (written_message message) ≤ 65536
+
+-- Only receivers and transceivers take a deliver_sm; so many may wait for their answers.
+abbrev pub if_room : Standing → Option DeliverFault
+if_room standing = if nat_lt (length standing.unanswered) window then None else Some WindowFull
+
+abbrev pub fault_in : SessionState → Standing → Option DeliverFault
+fault_in BoundRx standing = if_room standing
+fault_in BoundTrx standing = if_room standing
+fault_in state standing = Some NotBound
+
+abbrev pub delivery_fault : Standing → Option DeliverFault
+delivery_fault standing = fault_in standing.state standing
+
+-- a refusal is the one that the session's state says, and want of memory where it says none
+abbrev pub IsRefused : Option DeliverFault → DeliverFault → Type 0
+IsRefused (Some fault) error = error ≡ fault
+IsRefused None error = error ≡ NoMemory
+
+abbrev pub deliver_pdu : ℕ → Message → Pdu
+deliver_pdu number message = response (DeliverSm message) ESME_ROK number
+
+-- one more waits for its answer
+abbrev pub awaiting : Standing → Standing
+awaiting standing = record {
+  state = standing.state;
+  unanswered = standing.unanswered ++ standing.next_number ∷ [];
+  next_number = number_after standing.next_number;
+}
+
+abbrev pub after_delivery : SessionView → SessionView
+after_delivery session = record { accounts = session.accounts; standing = awaiting session.standing; buffered = session.buffered }
+
+-- ---- close
+
+abbrev pub after_close : SessionView → SessionView
+after_close session = record { accounts = session.accounts; standing = closed_standing session.standing; buffered = [] }

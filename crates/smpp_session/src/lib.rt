@@ -1,0 +1,30 @@
+//! A session of an application with the centre (SMPP v3.4 2.2, 4).
+//!
+//! The octets that come are fed in pieces of any size, and the session gives actions: octets to send, and requests to
+//! pass up. They are those of the session table over the joined stream, however it was cut: each PDU is treated when
+//! its last octet came, by the state that the session then has. A call that is refused leaves the session as it was,
+//! and a closed session gives nothing.
+#![tactic(auto)]
+
+mod account;
+mod action;
+mod answer;
+mod calling;
+mod fault;
+mod front;
+pub mod laws;
+mod numbers;
+mod session;
+mod standing;
+mod table;
+#[cfg(test)]
+mod tests;
+mod turn;
+
+pub use account::{Account, Accounts};
+pub use action::{Action, Actions, BindKind};
+pub use answer::{Answer, Request};
+pub use calling::{Call, run};
+pub use fault::DeliverFault;
+pub use session::{Outgoing, Session};
+pub use standing::SessionState;

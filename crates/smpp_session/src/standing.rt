@@ -1,0 +1,89 @@
+//! What a session remembers beside its accounts and the octets that aren't treated yet.
+ghost use Rattle.std.specs.Prelude.{◌≡◌, IfOk, OnOk, OnErr, IfErr};
+ghost use Rattle.smpp_session.specs.SessionTable.{closed_standing};
+ghost use Rattle.smpp_session.specs.Sessions.{awaiting, delivery_fault};
+
+use crate::fault::DeliverFault;
+use crate::numbers::Numbers;
+use std::alloc::{AllocError, Global};
+
+// How many deliver_sm may wait for their answers.
+const WINDOW: usize = 10;
+
+// The last sequence number, after which they begin again (SMPP v3.4 3.2).
+const LAST_NUMBER: u32 = 0x7FFF_FFFF;
+
+/// The states of a session (SMPP v3.4 2.2).
+#[derive(Clone, Copy, Debug, PartialEq, Eq)]
+pub enum SessionState {
+    /// The connection is open, and nobody is bound.
+    Opened,
+    /// A transmitter is bound.
+    BoundTx,
+    /// A receiver is bound.
+    BoundRx,
+    /// A transceiver is bound.
+    BoundTrx,
+    /// Nothing is taken or given any more.
+    Closed,
+}
+
+// The state, and the deliver_sm that wait for their answers.
+#[derive(Drop)]
+pub(crate) struct Standing {
+    pub state: SessionState,
+    // The sequence numbers of the deliver_sm that were sent and aren't answered, at most ten.
+    pub unanswered: Numbers,
+    // The sequence number of the next deliver_sm, 1 to 7FFFFFFF hexadecimal.
+    pub next_number: u32,
+}
+
+impl Standing {
+    // The same.
+    pub(crate) fn copy(&self, alloc: Global) -> Result<Standing, AllocError>
+        ensures { IfOk result (λ standing. standing ≡ self.now) }
+    {
+        let unanswered = self.unanswered.copy(alloc)?;
+        Ok(Standing {
+            state: self.state,
+            unanswered,
+            next_number: self.next_number,
+        })
+    }
+
+    // Whether a deliver_sm may go out.
+    pub(crate) fn check(&self) -> Result<(), DeliverFault>
+        ensures ok { OnOk result (delivery_fault self.now ≡ None) }
+        ensures err { IfErr result (λ e. delivery_fault self.now ≡ Some e) }
+    {
+        match self.state {
+            SessionState::BoundRx | SessionState::BoundTrx => {
+                if self.unanswered.len() < WINDOW {
+                    Ok(())
+                } else {
+                    Err(DeliverFault::WindowFull)
+                }
+            }
+            _ => Err(DeliverFault::NotBound),
+        }
+    }
+
+    // The next number waits for its answer.
+    pub(crate) fn await_answer(&mut self) -> Result<(), AllocError>
+        ensures ok { OnOk result (self.new ≡ awaiting self.old) }
+        ensures err { OnErr result (self.new ≡ self.old) }
+    {
+        let number = self.next_number;
+        self.unanswered.push(number)?;
+        self.next_number = if number < LAST_NUMBER { number + 1 } else { 1 };
+        Ok(())
+    }
+
+    // Nothing is taken or given any more.
+    pub(crate) fn close(&mut self)
+        ensures { self.new ≡ closed_standing self.old }
+    {
+        self.state = SessionState::Closed;
+        self.unanswered.clear();
+    }
+}
