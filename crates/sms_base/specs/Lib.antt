@@ -6,4 +6,5 @@ pub mod Inside
 pub mod Reading
 pub mod SemiOctet
 pub mod SmppTime
+pub mod Table
 pub mod TimeStamp

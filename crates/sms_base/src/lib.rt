@@ -12,6 +12,7 @@ mod address;
 mod address_error;
 mod address_text;
 mod alphabet;
+mod change;
 mod clock;
 mod cursor;
 mod digits;
@@ -21,6 +22,7 @@ mod octets;
 mod reference;
 mod semi_octet;
 mod smpp_time;
+mod table;
 #[cfg(test)]
 mod tests;
 mod type_of_number;
@@ -30,6 +32,7 @@ pub use address_error::AddressError;
 pub use alphabet::{
     Code, ESCAPE, EXTENSION_TABLE, MAIN_TABLE, character_after_escape, character_of, code_of,
 };
+pub use change::Change;
 pub use cursor::Cursor;
 pub use digits::Digits;
 pub use moment::{Moment, MomentError};
@@ -37,4 +40,5 @@ pub use octets::{OctetView, Octets};
 pub use reference::Reference;
 pub use semi_octet::{digit_of, semi_octet_of};
 pub use smpp_time::SmppTimeError;
+pub use table::Row;
 pub use type_of_number::TypeOfNumber;
