@@ -8,4 +8,5 @@ pub mod Shown
 pub mod Steps
 pub mod SmppTimes
 pub mod Stamps
+pub mod Tables
 pub mod WrittenStamps

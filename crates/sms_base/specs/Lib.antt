@@ -1,6 +1,7 @@
 pub mod Address
 pub mod AddressKind
 pub mod Alphabet
+pub mod Among
 pub mod Digits
 pub mod Inside
 pub mod Reading
