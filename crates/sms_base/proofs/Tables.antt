@@ -1,10 +1,10 @@
 -- Laws of tables and their changes, for the crates that keep rows.
 use Rattle.std.proofs.Common.{◌≡◌, ◌⊎◌, ℕ, zero, suc, ◌+◌, ◌<◌, ◌≤◌, arith, List, [], ◌∷◌, ◌++◌, Bool, true, false, cond, refl, sym, ◌∙◌, ap, subst, length, inl, inr, ⊎_elim, Option, Some, None, eq-eqb}
-use Rattle.std.specs.Prelude.{◌==◌, nat_lt}
+use Rattle.std.specs.Prelude.{◌==◌, nat_lt, nat_le, max, ◌*◌}
 use Rattle.std.specs.List.{AllByRecursion}
-use Rattle.std.proofs.lemmas.Bool.{cases_eq, cases_lt, cond-true, cond-false, ne_eqb, lt-ltb, le-ltb}
+use Rattle.std.proofs.lemmas.Bool.{cases_eq, cases_lt, lt-leb, cond-true, cond-false, ne_eqb, lt-ltb, le-ltb}
 use Rattle.sms_base.specs.Among.{Among}
-use Rattle.sms_base.specs.Table.{row_at, without, insert, put, AllAbove, Rises, applied, all_applied, change_key, change_row, latest, newest_of, left_by}
+use Rattle.sms_base.specs.Table.{row_at, without, insert, put, AllAbove, Rises, applied, all_applied, change_key, change_row, latest, newest_of, left_by, Kept, HasRoom, spare_for}
 use Rattle.sms_base.specs.declared.change.Change.{Change}
 use Rattle.sms_base.specs.declared.change.Change.TheVariants.{Put, Remove}
 
@@ -302,3 +302,12 @@ module _ {A : Type 0} (key : A → ℕ) where
   newest_of_push_other n cs c e =
       newest_of_append n cs (c ∷ [])
       ∙ ap (λ (o : Option (Change A)). latest (newest_of key n cs) o) (cond-false (change_key key c == n) (Some c) None (ne_eqb (change_key key c) n e))
+
+-- memory that was taken for more rows has room for them
+pub spare_has_room : {A : Type 0} (extra capacity : ℕ) (table : Kept A) → max table.capacity (spare_for extra table) ≤ capacity → HasRoom extra (record table { capacity = capacity })
+spare_has_room extra capacity table h = ⊎_elim
+    (λ (l : table.capacity < length table.rows + extra).
+    let spare = cond-false (nat_le (length table.rows + extra) table.capacity) 0 (2 * length table.rows + extra) (lt-leb (length table.rows + extra) table.capacity l) in
+    omega (arith, spare, h))
+    (λ (l : length table.rows + extra ≤ table.capacity). omega (arith, h))
+    (cases_lt table.capacity (length table.rows + extra))

@@ -4,6 +4,7 @@ pub mod Alphabet
 pub mod Among
 pub mod Digits
 pub mod Inside
+pub mod MessageId
 pub mod Reading
 pub mod SemiOctet
 pub mod SmppTime

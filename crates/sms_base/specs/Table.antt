@@ -1,5 +1,5 @@
 -- Tables: rows by their keys, in the order of their keys, at most one row a key; and changes of a table.
-use Rattle.std.specs.Prelude.{ℕ, ◌+◌, ◌<◌, ◌≤◌, ◌==◌, nat_lt, length, if◌then◌else◌, Option, Some, None, List, [], ◌∷◌}
+use Rattle.std.specs.Prelude.{◌≡◌, ℕ, zero, suc, ◌+◌, ◌*◌, ◌<◌, ◌≤◌, ◌==◌, nat_lt, nat_le, length, if◌then◌else◌, Option, Some, None, List, [], ◌∷◌}
 use Rattle.std.specs.List.{AllByRecursion}
 use Rattle.sms_base.specs.declared.change.Change.{Change}
 use Rattle.sms_base.specs.declared.change.Change.TheVariants.{Put, Remove}
@@ -32,6 +32,22 @@ abbrev pub Rises : {A : Type 0} → (A → ℕ) → List A → Type 0
 Rises key [] = Unit {0}
 Rises key (row ∷ rows) = AllAbove key (key row) rows × Rises key rows
 
+-- ---- places
+
+-- that many rows of lower keys come first, and then the row of the key
+abbrev pub IsAt : {A : Type 0} → (A → ℕ) → ℕ → ℕ → List A → Type 0
+IsAt key n place [] = ⊥
+IsAt key n zero (row ∷ rows) = key row ≡ n
+IsAt key n (suc place) (row ∷ rows) = (key row < n) × IsAt key n place rows
+
+-- that many rows of lower keys come first, and then rows of greater keys alone
+abbrev pub IsGap : {A : Type 0} → (A → ℕ) → ℕ → ℕ → List A → Type 0
+IsGap key n zero rows = AllAbove key n rows
+IsGap key n (suc place) [] = ⊥
+IsGap key n (suc place) (row ∷ rows) = (key row < n) × IsGap key n place rows
+
+-- ---- memory
+
 -- what a table keeps: its rows, and how many rows its memory holds
 pub record Kept (A : Type 0) : Type 0 where
   pub rows : List A
@@ -40,6 +56,11 @@ pub record Kept (A : Type 0) : Type 0 where
 -- that many rows can come before memory is taken
 abbrev pub HasRoom : {A : Type 0} → ℕ → Kept A → Type 0
 HasRoom extra table = length table.rows + extra ≤ table.capacity
+
+-- memory to be taken beside a table's for that many rows more: none where the table has room, else enough for twice
+-- its rows and the others, so that a row that comes costs the same however many stand there
+abbrev pub spare_for : {A : Type 0} → ℕ → Kept A → ℕ
+spare_for extra table = if nat_le (length table.rows + extra) table.capacity then 0 else 2 * length table.rows + extra
 
 -- ---- changes
 
