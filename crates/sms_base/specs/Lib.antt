@@ -3,6 +3,7 @@ pub mod AddressKind
 pub mod Alphabet
 pub mod Among
 pub mod Digits
+pub mod FaultCodes
 pub mod Inside
 pub mod MessageId
 pub mod Reading

@@ -58,7 +58,8 @@ impl<T: Drop + Row> Table<T> {
     pub fn into_vec(self) -> Vec<T>
         ensures { result.items ≡ self.rows }
     {
-        self.items
+        let Table { items } = self;
+        items
     }
 
     /// The rows in order.
@@ -164,9 +165,8 @@ impl<T: Drop + Row> Table<T> {
     {
         let len = self.items.len();
         if extra <= self.items.capacity() - len {
-            return Ok(Spare {
-                items: Vec::new(alloc),
-            });
+            let items = Vec::new(alloc);
+            return Ok(Spare { items });
         }
         let Some(wanted) = len.checked_add(extra) else {
             return Err(AllocError);
