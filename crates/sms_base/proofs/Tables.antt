@@ -1,5 +1,5 @@
 -- Laws of tables and their changes, for the crates that keep rows.
-use Rattle.std.proofs.Common.{◌≡◌, ◌⊎◌, ℕ, zero, suc, ◌+◌, ◌<◌, ◌≤◌, arith, List, [], ◌∷◌, ◌++◌, Bool, true, false, cond, refl, sym, ◌∙◌, ap, subst, length, inl, inr, ⊎_elim, Option, Some, None, eq-eqb}
+use Rattle.std.proofs.Common.{◌≡◌, ◌⊎◌, ℕ, zero, suc, ◌+◌, ◌<◌, ◌≤◌, arith, List, [], ◌∷◌, ◌++◌, Bool, true, false, cond, refl, sym, ◌∙◌, ap, subst, length, drop, get_or, inl, inr, ⊎_elim, Option, Some, None, eq-eqb}
 use Rattle.std.specs.Prelude.{◌==◌, nat_lt, nat_le, max, ◌*◌}
 use Rattle.std.specs.List.{AllByRecursion}
 use Rattle.std.proofs.lemmas.Bool.{cases_eq, cases_lt, lt-leb, cond-true, cond-false, ne_eqb, lt-ltb, le-ltb}
@@ -302,6 +302,15 @@ module _ {A : Type 0} (key : A → ℕ) where
   newest_of_push_other n cs c e =
       newest_of_append n cs (c ∷ [])
       ∙ ap (λ (o : Option (Change A)). latest (newest_of key n cs) o) (cond-false (change_key key c == n) (Some c) None (ne_eqb (change_key key c) n e))
+
+  -- a change behind which none of its key stands
+  pub newest_at : (n j : ℕ) (cs : List (Change A)) (d : Change A) → j < length cs → newest_of key n (drop (suc j) cs) ≡ None → change_key key (get_or cs j d) ≡ n → newest_of key n cs ≡ Some (get_or cs j d)
+  newest_at n j [] d l none e = absurd (omega arith)
+  newest_at n zero (c ∷ cs) d l none e =
+      ap (λ (o : Option (Change A)). latest (cond (change_key key c == n) (Some c) None) o) none
+      ∙ cond-true (change_key key c == n) (Some c) None (eq-eqb (change_key key c) n e)
+  newest_at n (suc j) (c ∷ cs) d l none e =
+      ap (λ (o : Option (Change A)). latest (cond (change_key key c == n) (Some c) None) o) (newest_at n j cs d (omega arith) none e)
 
 -- memory that was taken for more rows has room for them
 pub spare_has_room : {A : Type 0} (extra capacity : ℕ) (table : Kept A) → max table.capacity (spare_for extra table) ≤ capacity → HasRoom extra (record table { capacity = capacity })

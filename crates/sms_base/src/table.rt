@@ -99,6 +99,19 @@ impl<T: Drop + Row> Table<T> {
         }
     }
 
+    /// The row that the key has after the changes, if there is one.
+    pub fn find_after<'a>(&'a self, changes: &'a [Change<T>], key: u32) -> Option<&'a T>
+        ensures { option_copied result ≡ row_at T.key key (all_applied T.key changes.entry.now self.entry.now.rows) }
+    {
+        for i in 0..changes.len() {
+            let change = &changes[changes.len() - 1 - i];
+            if change.key() == key {
+                return change.row();
+            }
+        }
+        self.find(key)
+    }
+
     /// Puts a row in the place of that of its key, or where its key belongs.
     pub fn put(&mut self, row: T) -> Result<(), AllocError>
         ensures ok { OnOk result (self.new.rows ≡ put T.key row self.old.rows) }

@@ -92,6 +92,10 @@ fn changes_need_no_memory(rt: HostRuntime) -> Result<(), Fail> {
     changes.push(Change::Put(Entry { number: 9, text: 1 }))?;
     changes.push(Change::Remove(4))?;
     let mut table = Table::new(alloc);
+    assert_eq!(rt;
+        table.find_after(changes.as_slice(), 9).map(|row| row.text),
+        Some(1)
+    );
     let spare = table.make_spare(alloc, changes.len())?;
     table.use_spare(spare);
     table.apply_all(changes);
