@@ -1,7 +1,6 @@
 -- Laws of tables and their changes, for the crates that keep rows.
-use Rattle.std.proofs.Common.{◌≡◌, ◌⊎◌, ℕ, zero, suc, ◌+◌, ◌<◌, ◌≤◌, arith, List, [], ◌∷◌, ◌++◌, Bool, true, false, cond, refl, sym, ◌∙◌, ap, subst, length, drop, get_or, inl, inr, ⊎_elim, Option, Some, None, eq-eqb}
+use Rattle.std.proofs.Common.{◌≡◌, ◌⊎◌, ℕ, zero, suc, ◌+◌, ◌<◌, ◌≤◌, arith, List, [], ◌∷◌, ◌++◌, cond, refl, sym, ◌∙◌, ap, subst, length, drop, get_or, inl, inr, ⊎_elim, Option, Some, None, eq-eqb}
 use Rattle.std.specs.Prelude.{◌==◌, nat_lt, nat_le, max, ◌*◌}
-use Rattle.std.specs.List.{AllByRecursion}
 use Rattle.std.proofs.lemmas.Bool.{cases_eq, cases_lt, lt-leb, cond-true, cond-false, ne_eqb, lt-ltb, le-ltb}
 use Rattle.sms_base.specs.Among.{Among}
 use Rattle.sms_base.specs.Table.{row_at, without, insert, put, AllAbove, Rises, applied, all_applied, change_key, change_row, latest, newest_of, left_by, Kept, HasRoom, spare_for}

@@ -1,5 +1,4 @@
-use Rattle.std.proofs.Common.{arith, rules, ◌≡◌, ◌+◌, ◌*◌, ◌<◌, ℕ, None, sym, ◌∙◌, ap, subst, length, take, get_or}
-use Rattle.std.specs.Char.{digit_value}
+use Rattle.std.proofs.Common.{arith, sym, subst}
 use Rattle.std.specs.Option.{SomeIff}
 use Rattle.std.specs.Str.Parse.{AllDigits, digits_value}
 use Rattle.std.proofs.lemmas.Int.Digits.{digits_value_more, digits_more}

@@ -1,5 +1,4 @@
-use Rattle.std.proofs.Common.{arith, ◌≡◌, ◌<◌, ◌≤◌, ◌+◌, ℕ, ◌-◌, refl, sym, ◌∙◌, ap, subst, length, get_or}
-use Rattle.std.specs.List.{AllAdjacentBelow}
+use Rattle.std.proofs.Common.{arith, ◌≡◌, ◌<◌, ◌+◌, ◌-◌, refl, ap, subst, get_or}
 use Rattle.sms_base.proofs.Places.{rises_from_adjacent, adjacent_rise}
 use Rattle.sms_base.proofs.table.rises.Goals as goal
 

@@ -1,6 +1,6 @@
-use Rattle.std.proofs.Common.{arith, ◌≡◌, ◌+◌, ◌≤◌, ℕ, List, ◌∷◌, sym, ◌∙◌, ap, length}
+use Rattle.std.proofs.Common.{arith, ◌≡◌, ◌∷◌, sym, ◌∙◌, ap, length}
 use Rattle.std.specs.Vec.Iter.{into_iter_items}
-use Rattle.sms_base.specs.Table.{applied, all_applied}
+use Rattle.sms_base.specs.Table.{all_applied}
 use Rattle.sms_base.proofs.Tables.{length_applied}
 use Rattle.sms_base.proofs.table.Table.apply_all.Goals as goal
 

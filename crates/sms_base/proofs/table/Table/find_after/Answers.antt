@@ -1,4 +1,4 @@
-use Rattle.std.proofs.Common.{arith, ◌≡◌, ◌+◌, ◌-◌, ℕ, zero, suc, Option, Some, None, sym, ◌∙◌, ap, subst, length, drop, get_or}
+use Rattle.std.proofs.Common.{arith, ◌≡◌, ◌-◌, zero, suc, None, sym, ◌∙◌, ap, subst, length, drop, get_or}
 use Rattle.sms_base.specs.Table.{row_at, change_key, change_row, newest_of, left_by}
 use Rattle.sms_base.proofs.Tables.{row_at_all_applied, newest_at}
 use Rattle.sms_base.proofs.table.Table.find_after.Goals as goal

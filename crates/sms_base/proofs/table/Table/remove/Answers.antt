@@ -1,7 +1,5 @@
-use Rattle.std.proofs.Common.{arith, ◌≡◌, ◌<◌, ℕ, List, Some, refl, sym, ◌∙◌, ap, subst, length, get_or}
-use Rattle.std.specs.Prelude.{vec_capacity}
-use Rattle.std.specs.List.{remove}
-use Rattle.sms_base.specs.Table.{Kept, IsAt, IsGap, Rises, without}
+use Rattle.std.proofs.Common.{arith, Some, refl, sym, ◌∙◌, ap, subst, length, get_or}
+use Rattle.sms_base.specs.Table.{IsAt, Rises, without}
 use Rattle.sms_base.proofs.Tables.{rises_without}
 use Rattle.sms_base.proofs.Places.{at_inside, found_at, none_at, without_at, without_gap}
 use Rattle.sms_base.proofs.table.Table.remove.Goals as goal
