@@ -1,20 +1,19 @@
 -- The address of a text is one that the definition allows, and each such one is found.
-use Rattle.std.proofs.Common.{◌≡◌, ℕ, ◌+◌, ◌<◌, ◌≤◌, Bool, true, false, cond, ltb, eqb, List, [], ◌∷◌, length, Option, Some, None, Result, Ok, Err, refl, sym, ap, subst, ◌∙◌, arith, zero-add}
-use Rattle.std.specs.Prelude.{IfOk, is_some}
+use Rattle.std.proofs.Common.{◌≡◌, ℕ, ◌+◌, ◌<◌, ◌≤◌, Bool, true, false, cond, ltb, eqb, List, [], ◌∷◌, length, Option, Some, None, Result, Ok, Err, refl, sym, ap, subst, ◌∙◌, arith}
+use Rattle.std.specs.Prelude.{IfOk}
 use Rattle.std.specs.List.{AllByRecursion}
 use Rattle.std.specs.Option.{ok_or}
 use Rattle.std.proofs.lemmas.Bool.{lt-ltb, le-ltb, ltb-true, ltb-false, eqb-true}
-use Rattle.sms_base.specs.Reading.{◌>>=◌, only_if}
+use Rattle.sms_base.specs.Reading.{only_if}
 use Rattle.sms_base.specs.AddressKind.{type_of, type_number, is_name}
 use Rattle.sms_base.specs.SemiOctet.{is_digit}
 use Rattle.sms_base.specs.Alphabet.{code_for}
-use Rattle.sms_base.specs.Address.{IsNumber, IsName, IsAddress, IsAddressText, IsAddressOf, width_of, septet_count, has_code, number_fault, name_fault, text_fault, unless, address_of}
+use Rattle.sms_base.specs.Address.{IsAddressText, IsAddressOf, width_of, septet_count, has_code, number_fault, name_fault, text_fault, unless, address_of}
 use Rattle.sms_base.specs.declared.address.Address.{Address}
 use Rattle.sms_base.specs.declared.address_error.AddressError.{AddressError}
 use Rattle.sms_base.specs.declared.address_error.AddressError.TheVariants.{Empty, TooLong, BadDigit, BadName, BadKind}
 use Rattle.sms_base.specs.declared.type_of_number.TypeOfNumber.{TypeOfNumber}
 use Rattle.sms_base.specs.declared.type_of_number.TypeOfNumber.TheVariants.{Unknown, International, National, NetworkSpecific, Subscriber, Alphanumeric, Abbreviated}
-use Rattle.sms_base.proofs.NameWalk.{width_bounds}
 use Rattle.sms_base.proofs.Steps.{bind_ok, passes, ok_is}
 
 -- ---- numbers

@@ -2,10 +2,13 @@ pub mod Addresses
 pub mod Alphabets
 pub mod Century
 pub mod Cuts
+pub mod MessageIds
 pub mod NameWalk
 pub mod NumberWalk
+pub mod Places
 pub mod Shown
 pub mod Steps
 pub mod SmppTimes
 pub mod Stamps
+pub mod Tables
 pub mod WrittenStamps

@@ -1,12 +1,11 @@
 -- The characters of a name, one by one.
-use Rattle.std.proofs.Common.{◌≡◌, ℕ, ◌+◌, ◌<◌, ◌≤◌, Bool, true, false, cond, ltb, List, [], ◌∷◌, ◌++◌, length, get_or, take, drop, Option, Some, None, Result, Ok, Err, refl, sym, ap, ◌∙◌, arith}
+use Rattle.std.proofs.Common.{◌≡◌, ℕ, ◌+◌, ◌<◌, ◌≤◌, true, false, cond, ltb, List, [], ◌∷◌, ◌++◌, length, get_or, take, drop, Option, Some, None, Ok, Err, refl, sym, ap, ◌∙◌, arith}
 use Rattle.std.proofs.lemmas.Bool.{lt-ltb, le-ltb}
 use Rattle.std.proofs.lemmas.List.{at_drop_more, at_drop_all, take_more, take_all, length_push}
 use Rattle.sms_base.specs.Alphabet.{code_for}
 use Rattle.sms_base.specs.Address.{name_fault, unless, width_of, has_code}
 use Rattle.sms_base.specs.declared.alphabet.Code.{Code}
 use Rattle.sms_base.specs.declared.alphabet.Code.TheVariants.{Main, Extended}
-use Rattle.sms_base.specs.declared.address_error.AddressError.{AddressError}
 use Rattle.sms_base.specs.declared.address_error.AddressError.TheVariants.{TooLong, BadName}
 
 pub width_bounds : (code : Option Code) → (1 ≤ width_of code) × (width_of code ≤ 2)

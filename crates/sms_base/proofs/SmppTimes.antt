@@ -1,15 +1,10 @@
 -- A time of SMPP is read as the moment that it is of, and no other.
-use Rattle.std.proofs.Common.{◌≡◌, ◌⊎◌, subst, ℕ, suc, ◌+◌, ◌-◌, ◌*◌, ◌/◌, ◌%◌, ◌<◌, ◌≤◌, Bool, true, false, ◌&&◌, cond, eqb, leb, Option, Some, None, Result, Ok, Err, List, [], ◌∷◌, ◌++◌, length, get_or, drop, min, refl, sym, ap, ◌∙◌, arith, inl, inr, ℤ, pos, ◌-ℤ◌}
-use Rattle.std.specs.Prelude.{IfOk}
-use Rattle.std.specs.Option.{ok_or}
-use Rattle.std.proofs.lemmas.Bool.{leb-true, leb-false, le-leb, eqb-true, eq-eqb}
+use Rattle.std.proofs.Common.{◌≡◌, subst, ℕ, ◌+◌, ◌-◌, ◌*◌, ◌/◌, ◌%◌, ◌<◌, ◌≤◌, Bool, true, false, ◌&&◌, cond, eqb, leb, Option, Some, None, List, [], ◌∷◌, length, get_or, drop, refl, sym, ap, ◌∙◌, arith, inl, inr, ℤ, pos, ◌-ℤ◌}
+use Rattle.std.proofs.lemmas.Bool.{leb-true, le-leb, eqb-true}
 use Rattle.std.proofs.lemmas.List.{drop_more, length-drop}
-use Rattle.jiff_core.proofs.CalendarLemmas.{days_in_month_bounds}
-use Rattle.sms_base.specs.TimeStamp.{◌>>=◌, IsMoment, IsClock, zone_seconds, clock_in, clock_seconds, is_clock, moment_in}
-use Rattle.sms_base.specs.SmppTime.{AreNumbers, two_digits, time_text, sign_of, IsAbsolute, IsRelative, length_of, after_length, IsSmppTime, decimal_in, pair_at, numbers_in, local_in, time_at, smpp_time_in}
+use Rattle.sms_base.specs.TimeStamp.{◌>>=◌, IsMoment, IsClock, zone_seconds, clock_in, moment_in}
+use Rattle.sms_base.specs.SmppTime.{AreNumbers, time_text, sign_of, after_length, IsSmppTime, decimal_in, pair_at, numbers_in, local_in, time_at, smpp_time_in}
 use Rattle.sms_base.specs.declared.smpp_time.Numbers.{Numbers}
-use Rattle.sms_base.specs.declared.smpp_time.SmppTimeError.{SmppTimeError}
-use Rattle.sms_base.specs.declared.smpp_time.SmppTimeError.TheVariants.{BadTime}
 use Rattle.sms_base.proofs.Shown.{both, passes, shown_by, shown_passes, shown_seconds, tests}
 use Rattle.sms_base.proofs.Stamps.{bind_some, moment_in-is, moment_in-pos}
 

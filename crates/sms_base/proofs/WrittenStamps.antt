@@ -1,13 +1,11 @@
 -- A written time stamp is a time stamp, and a moment has one.
-use Rattle.std.proofs.Common.{◌≡◌, ℕ, ◌+◌, ◌*◌, ◌/◌, ◌%◌, ◌<◌, ◌≤◌, Bool, true, false, cond, List, [], ◌∷◌, refl, sym, ap, subst, ◌∙◌, arith, ℤ, pos, ◌+ℤ◌, ◌-ℤ◌, ◌*ℤ◌}
-use Rattle.jiff_core.specs.declared.civil.date.Date.{Date}
-use Rattle.jiff_core.specs.declared.civil.time.Time.{Time}
+use Rattle.std.proofs.Common.{◌≡◌, ℕ, ◌+◌, false, List, [], ◌∷◌, sym, ap, ◌∙◌, arith, ℤ, pos, ◌+ℤ◌, ◌-ℤ◌, ◌*ℤ◌}
 use Rattle.jiff_core.specs.declared.civil.datetime.DateTime.{DateTime}
 use Rattle.jiff_core.specs.DateTime.{civil_nanos, civil_seconds}
-use Rattle.jiff_core.proofs.SignedLemmas.{signed_arith, signed_casts}
+use Rattle.jiff_core.proofs.SignedLemmas.{signed_arith}
 use Rattle.jiff_core.proofs.DateLemmas.{epoch_day_injective}
 use Rattle.jiff_core.proofs.DateTimeLemmas.{civil_nanos-civil_seconds, civil_nanos_injective, time_nanos_injective}
-use Rattle.sms_base.specs.TimeStamp.{IsMoment, IsDateOf, IsTimeOf, IsClock, IsStamp, IsScts, IsWrittenScts, zone_seconds, swapped}
+use Rattle.sms_base.specs.TimeStamp.{IsClock, IsScts, IsWrittenScts, zone_seconds, swapped}
 
 pub written_is_stamp : (octets : List ℕ) (moment : ℕ) → IsWrittenScts octets moment → IsScts octets moment
 written_is_stamp octets moment h = (0, false, omega arith, h)

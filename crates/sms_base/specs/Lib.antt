@@ -1,9 +1,13 @@
 pub mod Address
 pub mod AddressKind
 pub mod Alphabet
+pub mod Among
 pub mod Digits
+pub mod FaultCodes
 pub mod Inside
+pub mod MessageId
 pub mod Reading
 pub mod SemiOctet
 pub mod SmppTime
+pub mod Table
 pub mod TimeStamp

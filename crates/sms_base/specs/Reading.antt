@@ -1,6 +1,6 @@
 -- Reading octets from left to right: a reading answers what it took and the octets behind it, or the first fault.
 -- The crates that read a format write their readings with these words, each at its own type of faults.
-use Rattle.std.specs.Prelude.{◌≡◌, ℕ, ◌<◌, List, [], ◌∷◌, length, take, drop, Result, Ok, Err, Bool, not, nat_lt, if◌then◌else◌}
+use Rattle.std.specs.Prelude.{◌≡◌, ℕ, ◌<◌, List, [], ◌∷◌, length, take, drop, Result, Ok, Err, Bool, nat_lt, if◌then◌else◌}
 use Rattle.std.specs.List.{AllByRecursion}
 
 -- go on with what was read, unless there was a fault

@@ -1,5 +1,5 @@
 -- The digits of a number and their semi-octets (3GPP TS 23.040 9.1.2.3).
-use Rattle.std.specs.Prelude.{ℕ, ◌+◌, ◌-◌, ◌<◌, ◌≤◌, Option, Some, None, Bool, nat_lt, nat_le, ◌&&◌, ◌==◌, if◌then◌else◌, is_some}
+use Rattle.std.specs.Prelude.{ℕ, ◌+◌, ◌-◌, Option, Some, None, Bool, nat_lt, nat_le, ◌&&◌, ◌==◌, if◌then◌else◌, is_some}
 
 -- the semi-octet of a character: 0 to 9, then * # a b c
 abbrev pub semi_octet_of : ℕ → Option ℕ

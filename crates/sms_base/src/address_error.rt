@@ -22,8 +22,13 @@ pub enum AddressError {
 }
 
 impl AddressError {
+    ghost use Rattle.std.specs.Prelude.{◌≡◌};
+    ghost use Rattle.sms_base.specs.FaultCodes.{address_code};
+
     /// The code of the fault in reports, A1 to A5.
-    pub fn code(self) -> &'static str {
+    pub fn code(self) -> &'static str
+        ensures { result.now ≡ address_code self }
+    {
         match self {
             AddressError::Empty => "A1",
             AddressError::TooLong => "A2",

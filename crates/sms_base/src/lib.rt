@@ -12,15 +12,20 @@ mod address;
 mod address_error;
 mod address_text;
 mod alphabet;
+mod change;
 mod clock;
 mod cursor;
 mod digits;
+mod final_state;
+mod holder;
 pub mod laws;
+mod message_id;
 mod moment;
 mod octets;
 mod reference;
 mod semi_octet;
 mod smpp_time;
+mod table;
 #[cfg(test)]
 mod tests;
 mod type_of_number;
@@ -30,11 +35,16 @@ pub use address_error::AddressError;
 pub use alphabet::{
     Code, ESCAPE, EXTENSION_TABLE, MAIN_TABLE, character_after_escape, character_of, code_of,
 };
+pub use change::Change;
 pub use cursor::Cursor;
 pub use digits::Digits;
+pub use final_state::FinalState;
+pub use holder::Holder;
+pub use message_id::MessageId;
 pub use moment::{Moment, MomentError};
 pub use octets::{OctetView, Octets};
 pub use reference::Reference;
 pub use semi_octet::{digit_of, semi_octet_of};
 pub use smpp_time::SmppTimeError;
+pub use table::{Row, Spare, Table, rises};
 pub use type_of_number::TypeOfNumber;

@@ -1,6 +1,6 @@
 //! The times of SMPP.
 ghost use Rattle.jiff_core.specs.Calendar.{IsBetween, IsWithin};
-ghost use Rattle.std.specs.Prelude.{pos, ◌-ℤ◌, ◌≡◌, ◌+◌, ◌<◌, ◌≤◌, ℕ, length, IfOk, IfSome, Ok, codes};
+ghost use Rattle.std.specs.Prelude.{pos, ◌-ℤ◌, ◌≡◌, ◌+◌, ◌<◌, ◌≤◌, ℕ, length, IfOk, IfSome, Ok};
 ghost use Rattle.sms_base.specs.SmppTime.{AreNumbers, IsSmppTime, after_length, decimal_in, numbers_in, pair_at, local_in, smpp_time_in, time_at};
 ghost use Rattle.sms_base.specs.TimeStamp.{zone_seconds};
 
@@ -17,9 +17,11 @@ pub enum SmppTimeError {
 }
 
 impl SmppTimeError {
+    ghost use Rattle.sms_base.specs.FaultCodes.{smpp_time_code};
+
     /// The code of the fault in reports, M2.
     pub fn code(self) -> &'static str
-        ensures { result.now ≡ codes "M2" }
+        ensures { result.now ≡ smpp_time_code self }
     {
         match self {
             SmppTimeError::BadTime => "M2",

@@ -1,4 +1,6 @@
-use crate::{Address, AddressError, Moment, MomentError, TypeOfNumber};
+use crate::{
+    Address, AddressError, Change, MessageId, Moment, MomentError, Row, Table, TypeOfNumber, rises,
+};
 use std::test::Fail;
 
 // Thursday 29 February 2024, 23:59:58 at UTC.
@@ -54,4 +56,61 @@ fn each_fault_of_an_address_has_its_code(rt: HostRuntime) {
     assert_eq!(rt; code(7, 1, ""), "A5");
     assert_eq!(rt; code(1, 16, ""), "A5");
     assert_eq!(rt; AddressError::Empty.code(), "A1");
+}
+
+#[derive(Debug, Drop)]
+struct Entry {
+    number: u32,
+    text: u8,
+}
+
+impl Row for Entry {
+    ghost key = { λ e. e.number };
+
+    fn key(&self) -> u32 {
+        self.number
+    }
+}
+
+#[test]
+fn rows_are_put_and_found(rt: HostRuntime) -> Result<(), Fail> {
+    let mut table = Table::new(rt.alloc());
+    table.put(Entry { number: 7, text: 1 })?;
+    table.put(Entry { number: 3, text: 2 })?;
+    table.put(Entry { number: 7, text: 3 })?;
+    assert_eq!(rt; table.as_slice().len(), 2);
+    assert_eq!(rt; table.find(7).map(|row| row.text), Some(3));
+    assert_eq!(rt; table.find(4).is_none(), true);
+    assert_eq!(rt; rises(table.as_slice()), true);
+    Ok(())
+}
+
+#[test]
+fn changes_need_no_memory(rt: HostRuntime) -> Result<(), Fail> {
+    let alloc = rt.alloc();
+    let mut changes = Vec::new(alloc);
+    changes.push(Change::Put(Entry { number: 9, text: 1 }))?;
+    changes.push(Change::Remove(4))?;
+    let mut table = Table::new(alloc);
+    assert_eq!(rt;
+        table.find_after(changes.as_slice(), 9).map(|row| row.text),
+        Some(1)
+    );
+    let spare = table.make_spare(alloc, changes.len())?;
+    table.use_spare(spare);
+    table.apply_all(changes);
+    assert_eq!(rt; table.remove(9).map(|row| row.text), Some(1));
+    Ok(())
+}
+
+#[test]
+fn an_identity_is_written_with_ten_digits(rt: HostRuntime) {
+    let texts = MessageId::new(70_214).map(|id| id.digits());
+    assert_eq!(rt; texts, Some(*b"0000070214"));
+    assert_eq!(rt;
+        MessageId::read(b"0000070214").map(|id| id.number()),
+        Some(70_214)
+    );
+    assert_eq!(rt; MessageId::read(b"0000000000").is_none(), true);
+    assert_eq!(rt; MessageId::read(b"+000070214").is_none(), true);
 }

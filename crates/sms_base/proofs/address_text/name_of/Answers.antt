@@ -1,11 +1,10 @@
-use Rattle.std.proofs.Common.{◌≡◌, ◌<◌, true, false, length, ◌++◌, ◌∷◌, [], sym, subst, ◌∙◌, ap, arith}
+use Rattle.std.proofs.Common.{length, sym, ◌∙◌, arith}
 use Rattle.std.proofs.lemmas.List.{length_push}
 use Rattle.std.proofs.lemmas.Iterator.{YieldsList-from_chars}
 use Rattle.std.proofs.lemmas.Iterator.Consumers.{YieldsList-turn, YieldsList-end}
 use Rattle.std.specs.Str.{chars}
 use Rattle.sms_base.specs.Alphabet.{code_for}
-use Rattle.sms_base.specs.Address.{width_of, has_code}
-use Rattle.sms_base.proofs.NameWalk.{Named, named_none, named_more, named_all, too_long, bad_name, width_bounds}
+use Rattle.sms_base.proofs.NameWalk.{named_none, named_more, named_all, too_long, bad_name, width_bounds}
 use Rattle.sms_base.proofs.address_text.name_of.Goals as goal
 
 pub overflow_add-septets : goal.overflow_add-septets

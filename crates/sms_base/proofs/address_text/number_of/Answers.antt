@@ -1,10 +1,9 @@
-use Rattle.std.proofs.Common.{◌≡◌, ◌<◌, true, false, length, ◌++◌, ◌∷◌, [], sym, subst, ◌∙◌, arith}
+use Rattle.std.proofs.Common.{length, sym, ◌∙◌, arith}
 use Rattle.std.proofs.lemmas.List.{length_push}
 use Rattle.std.proofs.lemmas.Iterator.{YieldsList-from_chars}
 use Rattle.std.proofs.lemmas.Iterator.Consumers.{YieldsList-turn, YieldsList-end}
 use Rattle.std.specs.Str.{chars}
-use Rattle.sms_base.specs.SemiOctet.{is_digit}
-use Rattle.sms_base.proofs.NumberWalk.{Walked, walked_none, walked_more, walked_all, too_long, bad_digit}
+use Rattle.sms_base.proofs.NumberWalk.{walked_none, walked_more, walked_all, too_long, bad_digit}
 use Rattle.sms_base.proofs.address_text.number_of.Goals as goal
 
 pub loop-character-init : goal.loop-character-init

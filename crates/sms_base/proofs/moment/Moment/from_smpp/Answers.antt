@@ -1,4 +1,4 @@
-use Rattle.std.proofs.Common.{◌≡◌, ◌∙◌, sym, ap, Some, None, Ok, Err}
+use Rattle.std.proofs.Common.{ap, Ok}
 use Rattle.sms_base.proofs.SmppTimes.{time_found, never, read_alone}
 use Rattle.sms_base.proofs.moment.Moment.from_smpp.Goals as goal
 
