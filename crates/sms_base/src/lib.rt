@@ -1,4 +1,4 @@
-//! The words that every layer above speaks in, none of which takes memory but `Octets`.
+//! The words that every layer above speaks in, none of which takes memory but `Octets` and `Table`.
 //!
 //! Moments and addresses equal their spelling: a time stamp is read as the moment that its clock shows
 //! (3GPP TS 23.040 9.2.3.11), a moment is written as one time stamp, and an address is the type of number, the
@@ -6,6 +6,8 @@
 //! `Octets` and `OctetView` are octets as contracts see them, a list; `Cursor` reads them from left to right,
 //! with the words of `specs/Reading.antt`, which the readers of all formats share.
 //! The default alphabet's two tables (3GPP TS 23.038 6.2.1) stand here, since a name is measured in septets.
+//! `Table` keeps rows in the order of their keys, at most one row a key, and is changed by `Change`s without memory
+//! where room was made before; `MessageId` and `Holder` name messages and those for whom a frame is made.
 #![tactic(auto)]
 
 mod address;
