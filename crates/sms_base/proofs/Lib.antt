@@ -2,6 +2,7 @@ pub mod Addresses
 pub mod Alphabets
 pub mod Century
 pub mod Cuts
+pub mod Latin
 pub mod NameWalk
 pub mod NumberWalk
 pub mod Shown

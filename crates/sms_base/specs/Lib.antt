@@ -3,6 +3,7 @@ pub mod AddressKind
 pub mod Alphabet
 pub mod Digits
 pub mod Inside
+pub mod LatinCodes
 pub mod Reading
 pub mod SemiOctet
 pub mod SmppTime
