@@ -2,7 +2,7 @@ pub mod Addresses
 pub mod Alphabets
 pub mod Century
 pub mod Cuts
-pub mod Latin
+pub mod Tables
 pub mod NameWalk
 pub mod NumberWalk
 pub mod Shown

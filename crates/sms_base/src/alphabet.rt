@@ -1,6 +1,6 @@
 //! The default alphabet (3GPP TS 23.038 6.2.1).
 ghost use Rattle.std.specs.Prelude.{◌≡◌, ◌≢◌, ◌<◌, ℕ, ◌==◌, Some, IfSome, position, find, option_map, length};
-ghost use Rattle.sms_base.specs.Alphabet.{IsPair, septets_in, code_for, main_septet_of, extended_septet_of, main_character, extended_character_of, escaped_character};
+ghost use Rattle.sms_base.specs.Alphabet.{IsPair, septets_in, code_for, main_septet_of, extended_septet_of, main_character, escaped_character};
 ghost use Rattle.sms_base.specs.LatinCodes.{latin_entry};
 ghost use Rattle.sms_base.specs.declared.alphabet.Code.{Code as CodeOf};
 
@@ -32,6 +32,18 @@ pub static EXTENSION_TABLE: [(u8, char); 10] = [
     (0x3E, ']'),
     (0x40, '|'),
     (0x65, '€'),
+];
+
+/// The characters that ESC and each of the septets 00 to 7F are read as.
+static AFTER_ESCAPE: [char; 128] = [
+    '@', '£', '$', '¥', 'è', 'é', 'ù', 'ì', 'ò', 'Ç', '\u{0C}', 'Ø', 'ø', '\r', 'Å', 'å', // 00 to 0F
+    'Δ', '_', 'Φ', 'Γ', '^', 'Ω', 'Π', 'Ψ', 'Σ', 'Θ', 'Ξ', ' ', 'Æ', 'æ', 'ß', 'É', // 10 to 1F
+    ' ', '!', '"', '#', '¤', '%', '&', '\'', '{', '}', '*', '+', ',', '-', '.', '\\', // 20 to 2F
+    '0', '1', '2', '3', '4', '5', '6', '7', '8', '9', ':', ';', '[', '~', ']', '?', // 30 to 3F
+    '|', 'A', 'B', 'C', 'D', 'E', 'F', 'G', 'H', 'I', 'J', 'K', 'L', 'M', 'N', 'O', // 40 to 4F
+    'P', 'Q', 'R', 'S', 'T', 'U', 'V', 'W', 'X', 'Y', 'Z', 'Ä', 'Ö', 'Ñ', 'Ü', '§', // 50 to 5F
+    '¿', 'a', 'b', 'c', 'd', '€', 'f', 'g', 'h', 'i', 'j', 'k', 'l', 'm', 'n', 'o', // 60 to 6F
+    'p', 'q', 'r', 's', 't', 'u', 'v', 'w', 'x', 'y', 'z', 'ä', 'ö', 'ñ', 'ü', 'à', // 70 to 7F
 ];
 
 /// How the characters 00 to FF are written: a septet of the main table, 80 and a septet of the extension table, or FF
@@ -123,7 +135,7 @@ fn code_in_tables(character: char) -> Option<Code>
 }
 
 // The code of a character below 256.
-#[tactic(auto, using(crate::proofs::Latin::latin_is))]
+#[tactic(auto, using(crate::proofs::Tables::latin_is))]
 fn latin_code(character: u8) -> Option<Code>
     ensures { result ≡ code_for character }
 {
@@ -165,28 +177,12 @@ pub fn character_of(septet: u8) -> char
     MAIN_TABLE[usize::from(septet)]
 }
 
-#[tactic(auto, unfolding(crate::specs::Alphabet::extended_character_of))]
-fn extended_character(septet: u8) -> Option<char>
-    ensures { result ≡ extended_character_of septet }
-{
-    match EXTENSION_TABLE.iter().find(|pair| pair.0 == septet) {
-        Some(pair) => Some(pair.1),
-        None => None,
-    }
-}
-
 /// The character that ESC and a septet are read as: that of the extension table, else a space for a second ESC,
 /// else the character of the main table.
-#[tactic(auto, unfolding(crate::specs::Alphabet::escaped_character))]
+#[tactic(auto, using(crate::proofs::Tables::escaped_is))]
 pub fn character_after_escape(septet: u8) -> char
     requires { septet < 128 }
     ensures { result ≡ escaped_character septet }
 {
-    if septet == ESCAPE {
-        return ' ';
-    }
-    match extended_character(septet) {
-        Some(character) => character,
-        None => character_of(septet),
-    }
+    AFTER_ESCAPE[usize::from(septet)]
 }
