@@ -6,8 +6,10 @@ ghost use Rattle.sms_base.specs.SemiOctet.{semi_octet_of, digit_of};
 pub fn semi_octet_of(character: char) -> Option<u8>
     ensures { result ≡ semi_octet_of character }
 {
+    if character.is_ascii_digit() {
+        return Some(character as u8 - b'0');
+    }
     match character {
-        '0'..='9' => Some(character as u8 - b'0'),
         '*' => Some(10),
         '#' => Some(11),
         'a'..='c' => Some(character as u8 - b'a' + 12),
