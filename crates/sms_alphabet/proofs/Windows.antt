@@ -3,7 +3,7 @@ use Rattle.std.proofs.Common.{◌≡◌, ℕ, zero, suc, ◌+◌, ◌-◌, ◌*�
 use Rattle.std.proofs.Math.Nat.{mul_assoc, mul_comm, mul-add, mul-le-mul_right, pow-succ', pow-zero, div-div-eq-div-mul, add-mul-mod_self_left, mod-eq_of_lt, pow-le-pow_right}
 use Rattle.std.proofs.lemmas.Nat.{pow-add, pow_pos, field_of, shr_below, or_shifted, or_comm, shl_whole}
 use Rattle.std.proofs.lemmas.List.{length-append, length-drop}
-use Rattle.std.specs.Int.{w64, from_le_bytes}
+use Rattle.std.specs.Int.{w64, from_le_bytes, to_le_bytes}
 use Rattle.sms_alphabet.specs.Packing.{value_in, digits_in, septets_in}
 use Rattle.sms_alphabet.proofs.Value.{value-append}
 use Rattle.sms_alphabet.proofs.Held.{Packs, octet_power, septet_power}
@@ -75,6 +75,15 @@ eight_more xs fill i =
     ap (λ (x : ℕ). septets_in xs fill (8 * i) ++ digits_in 128 8 x) place ∙ sym (digits-append (8 * i) 8 (v / 2 ^ fill)) ∙ ap (λ (k : ℕ). septets_in xs fill k) next
 
 -- ---- eight septets are seven octets
+
+pub seven_are : (n : ℕ) → take 7 (to_le_bytes w64 n) ≡ digits_in 256 7 n
+seven_are n =
+    let e2 : n / 65536 % 256 ≡ n / 256 / 256 % 256 = omega arith in
+    let e3 : n / 16777216 % 256 ≡ n / 256 / 256 / 256 % 256 = omega arith in
+    let e4 : n / 4294967296 % 256 ≡ n / 256 / 256 / 256 / 256 % 256 = omega arith in
+    let e5 : n / 1099511627776 % 256 ≡ n / 256 / 256 / 256 / 256 / 256 % 256 = omega arith in
+    let e6 : n / 281474976710656 % 256 ≡ n / 256 / 256 / 256 / 256 / 256 / 256 % 256 = omega arith in
+    rw (e2, e3, e4, e5, e6) refl
 
 seven_value : (w : ℕ) → value_in 256 (digits_in 256 7 w) ≡ w % 2 ^ 56
 seven_value w = omega arith

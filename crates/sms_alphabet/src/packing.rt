@@ -1,6 +1,6 @@
 //! Septets into octets.
-ghost use Rattle.std.specs.Prelude.{◌≡◌, ◌<◌, ◌≤◌, ◌%◌, ◌^◌, IfOk, length, take, drop, ◌+◌, ◌*◌};
-ghost use Rattle.sms_alphabet.specs.Packing.{IsPacking, AreSeptets, packed_len, value_in, digits_in};
+ghost use Rattle.std.specs.Prelude.{◌≡◌, ◌<◌, ◌≤◌, ◌^◌, IfOk, length, take, drop, ◌+◌, ◌*◌};
+ghost use Rattle.sms_alphabet.specs.Packing.{IsPacking, AreSeptets, packed_len, value_in};
 
 use sms_base::Octets;
 use std::alloc::{AllocError, Global};
@@ -32,27 +32,6 @@ fn first_eight(septets: &[u8]) -> u64
     }
 }
 
-fn low_octet(number: u64) -> u8
-    ensures { result ≡ number % 256 }
-{
-    (number % 256) as u8
-}
-
-// The seven low octets of a number, the least first.
-fn seven_octets(number: u64) -> [u8; 7]
-    ensures { result ≡ digits_in 256 7 number }
-{
-    [
-        low_octet(number),
-        low_octet(number >> 8),
-        low_octet(number >> 16),
-        low_octet(number >> 24),
-        low_octet(number >> 32),
-        low_octet(number >> 40),
-        low_octet(number >> 48),
-    ]
-}
-
 /// The septets packed into octets behind `fill` bits of zero (3GPP TS 23.038 6.1.2.1).
 ///
 /// Takes memory once.
@@ -66,7 +45,7 @@ pub fn pack(alloc: Global, septets: &[u8], fill: u8) -> Result<Octets, AllocErro
     let eights = septets.len() / 8;
     for i in 0..eights {
         held |= first_eight(&septets[8 * i..]) << fill;
-        out.append(&seven_octets(held))?;
+        out.append(&held.to_le_bytes()[..7])?;
         held >>= 56;
     }
     let mut bits: u8 = fill;

@@ -2,7 +2,7 @@ use Rattle.std.proofs.Common.{◌≡◌, ℕ, ◌-◌, ◌*◌, List, length, ta
 use Rattle.std.proofs.lemmas.List.{take_all, length-drop}
 use Rattle.sms_alphabet.specs.Packing.{value_in}
 use Rattle.sms_alphabet.proofs.Held.{start, turn_stays, turn_pushes, done_even, done_odd}
-use Rattle.sms_alphabet.proofs.Windows.{eight_turn}
+use Rattle.sms_alphabet.proofs.Windows.{eight_turn, seven_are}
 use Rattle.sms_alphabet.proofs.packing.pack.Goals.{then-bits-ge8+in_ok-push, else-bits-ge8, then-bits-gt0+in_ok-push-2, else-bits-gt0}
 use Rattle.sms_alphabet.proofs.packing.pack.Goals as goal
 
@@ -12,7 +12,7 @@ loop-i-preserved c =
     let septets = c.args.septets.now in
     let behind : take (length septets - 8 * l.i) (drop (8 * l.i) septets) ≡ drop (8 * l.i) septets = take_all (length septets - 8 * l.i) (drop (8 * l.i) septets) (omega (arith, length-drop (8 * l.i) septets)) in
     let eight : c.first_eight.result ≡ value_in 128 (take 8 (drop (8 * l.i) septets)) = c.first_eight.ensures.value ∙ ap (λ (xs : List ℕ). value_in 128 (take 8 xs)) behind in
-    eight_turn l.out l.held c.args.fill c.args.septets.now l.i c.first_eight.result _ _ _ c.loop-i-test.true eight c.first_eight.ensures.range c.requires.fill_in_range l.invariant refl (c.in_ok-append.ensures.ok ∙ ap (λ (ds : List ℕ). l.out ++ ds) c.seven_octets.ensures) refl
+    eight_turn l.out l.held c.args.fill c.args.septets.now l.i c.first_eight.result _ _ _ c.loop-i-test.true eight c.first_eight.ensures.range c.requires.fill_in_range l.invariant refl (c.in_ok-append.ensures.ok ∙ ap (λ (ds : List ℕ). l.out ++ ds) (ap (λ (bs : List ℕ). take 7 bs) c.to_le_bytes.ensures ∙ seven_are _)) refl
 
 pub loop-i-2-preserved : goal.loop-i-2-preserved
 loop-i-2-preserved c =
