@@ -1,10 +1,10 @@
 -- Reading septets from left to right: the text so far, and whether an ESC is held back.
-use Rattle.std.proofs.Common.{◌≡◌, ◌≢◌, ℕ, ◌+◌, ◌<◌, Bool, true, false, ◌&&◌, List, [], ◌∷◌, ◌++◌, length, get_or, drop, refl, sym, ap, ◌∙◌, append_assoc, append-nil, drop-cons, add-one}
+use Rattle.std.proofs.Common.{max, ltb, inl, inr, ◌≡◌, ◌≢◌, ℕ, ◌+◌, ◌<◌, Bool, true, false, ◌&&◌, List, [], ◌∷◌, ◌++◌, length, get_or, drop, refl, sym, ap, ◌∙◌, append_assoc, append-nil, drop-cons, add-one, arith}
 use Rattle.std.specs.List.{AllByRecursion, list_all}
 use Rattle.std.specs.Prelude.{nat_lt}
 use Rattle.std.specs.Str.{chars, encode_utf8_all}
 use Rattle.std.specs.Char.{encode_utf8}
-use Rattle.std.proofs.lemmas.Bool.{ne_eqb, ltb-true}
+use Rattle.std.proofs.lemmas.Bool.{ne_eqb, ltb-true, lt-ltb, le-ltb, cases_lt}
 use Rattle.std.proofs.lemmas.Str.{chars-encodes}
 use Rattle.sms_base.specs.Alphabet.{text_in, main_character, escaped_character}
 use Rattle.sms_base.proofs.Alphabets.{text_scalars}
@@ -63,3 +63,33 @@ each_septet (septet ∷ septets) h =
 
 pub text_characters : (septets : List ℕ) → list_all (λ septet. nat_lt septet 128) septets ≡ true → chars (encode_utf8_all (text_in septets)) ≡ text_in septets
 text_characters septets h = chars-encodes (text_in septets) (text_scalars septets (each_septet septets h))
+
+-- ---- the greatest of numbers is below 128 where each is
+
+max_below : (m x : ℕ) → ltb (max m x) 128 ≡ ltb m 128 && ltb x 128
+max_below m x = elim (cases_lt m 128) [
+  | inl a ↦ elim (cases_lt x 128) [
+    | inl b ↦ lt-ltb (max m x) 128 (omega (arith, a, b)) ∙ sym (rw (lt-ltb m 128 a, lt-ltb x 128 b) refl)
+    | inr b ↦ le-ltb (max m x) 128 (omega (arith, b)) ∙ sym (rw (lt-ltb m 128 a, le-ltb x 128 b) refl)
+  ]
+  | inr a ↦ le-ltb (max m x) 128 (omega (arith, a)) ∙ sym (rw (le-ltb m 128 a) refl)
+]
+
+and_regroup : (a b c : Bool) → (a && b) && c ≡ a && (b && c)
+and_regroup true b c = refl
+and_regroup false b c = refl
+
+and_true : (a : Bool) → a && true ≡ a
+and_true true = refl
+and_true false = refl
+
+abbrev AllBelow : List ℕ → Bool
+AllBelow xs = list_all (λ septet. nat_lt septet 128) xs
+
+pub most_turn : (xs rest later : List ℕ) (m x : ℕ) → rest ≡ x ∷ later → nat_lt m 128 && AllBelow rest ≡ AllBelow xs → nat_lt (max m x) 128 && AllBelow later ≡ AllBelow xs
+most_turn xs rest later m x e h =
+    ap (λ (b : Bool). b && AllBelow later) (max_below m x) ∙ and_regroup (ltb m 128) (ltb x 128) (AllBelow later) ∙ ap (λ (r : List ℕ). ltb m 128 && AllBelow r) (sym e) ∙ h
+
+pub most_end : (xs rest : List ℕ) (m : ℕ) → length rest ≡ 0 → nat_lt m 128 && AllBelow rest ≡ AllBelow xs → nat_lt m 128 ≡ AllBelow xs
+most_end xs [] m e h = sym (and_true (ltb m 128)) ∙ h
+most_end xs (x ∷ rest) m e h = absurd (omega arith)

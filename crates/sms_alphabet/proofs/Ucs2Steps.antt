@@ -8,7 +8,7 @@ use Rattle.sms_base.specs.Reading.{◌>>=◌, only_if}
 use Rattle.sms_base.proofs.Steps.{bind_ok, ok_is}
 use Rattle.sms_alphabet.specs.declared.ucs2.Ucs2Error.{Ucs2Error}
 use Rattle.sms_alphabet.specs.declared.ucs2.Ucs2Error.TheVariants.{OddLength, LoneSurrogate, NoMemory}
-use Rattle.sms_alphabet.specs.Ucs2.{behind, unit_of, ucs2_in, Tested}
+use Rattle.sms_alphabet.specs.Ucs2.{behind, unit_of, ucs2_in, Tested, AnswersUcs2}
 use Rattle.sms_alphabet.specs.Ucs2Reading.{unit_in, partner_in, character_at, character_in}
 
 -- the text of octets after a character was tried: the character and what follows, or the fault
@@ -170,8 +170,11 @@ tested_fault octets rest front OddLength some e d = decodes_fault octets rest fr
 tested_fault octets rest front LoneSurrogate some e d = decodes_fault octets rest front LoneSurrogate some e d
 tested_fault octets rest front NoMemory some e d = never_memory rest e
 
-pub has_text : (octets rest front : List ℕ) (fault : Ucs2Error) → 0 < length rest → character_in rest ≡ Err fault → Decodes octets rest front → (text : List ℕ) → ucs2_in octets ≡ Ok text → ⊥
-has_text octets rest front fault some e d text has = let f = decodes_fault octets rest front fault some e d in cc
+-- what reading answers at a fault
+pub answered_fault : {X : Type 0} (view : X → List ℕ) (octets rest front : List ℕ) (fault : Ucs2Error) → 0 < length rest → character_in rest ≡ Err fault → Decodes octets rest front → AnswersUcs2 view (Err fault) (ucs2_in octets)
+answered_fault view octets rest front OddLength some e d = decodes_fault octets rest front OddLength some e d
+answered_fault view octets rest front LoneSurrogate some e d = decodes_fault octets rest front LoneSurrogate some e d
+answered_fault view octets rest front NoMemory some e d = absurd (never_memory rest e)
 
 pub some_left : (rest : List ℕ) (empty : Bool) → (empty ≡ true) ↔ (rest ≡ []) → empty ≡ false → 0 < length rest
 some_left [] empty h e = let f = h.1 refl in absurd cc

@@ -57,3 +57,9 @@ Tested (Ok passed) wanted = (text : List ℕ) × (wanted ≡ Ok text)
 Tested (Err NoMemory) wanted = ⊥
 Tested (Err OddLength) wanted = wanted ≡ Err OddLength
 Tested (Err LoneSurrogate) wanted = wanted ≡ Err LoneSurrogate
+
+-- a refusal of the same: want of memory is told only where there is a text
+abbrev pub Refuses : Ucs2Error → Result (List ℕ) Ucs2Error → Type 0
+Refuses NoMemory wanted = (text : List ℕ) × (wanted ≡ Ok text)
+Refuses OddLength wanted = wanted ≡ Err OddLength
+Refuses LoneSurrogate wanted = wanted ≡ Err LoneSurrogate

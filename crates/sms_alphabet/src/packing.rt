@@ -1,6 +1,6 @@
 //! Septets into octets.
-ghost use Rattle.std.specs.Prelude.{◌≡◌, ◌<◌, IfOk, length, ◌+◌, ◌*◌};
-ghost use Rattle.sms_alphabet.specs.Packing.{IsPacking, AreSeptets, packed_len};
+ghost use Rattle.std.specs.Prelude.{◌≡◌, ◌<◌, ◌≤◌, ◌^◌, IfOk, length, take, drop, ◌+◌, ◌*◌};
+ghost use Rattle.sms_alphabet.specs.Packing.{IsPacking, AreSeptets, packed_len, value_in};
 
 use sms_base::Octets;
 use std::alloc::{AllocError, Global};
@@ -12,6 +12,26 @@ fn octets_for(fill: u8, septets: usize) -> usize
     septets / 8 * 7 + (usize::from(fill) + septets % 8 * 7 + 7) / 8
 }
 
+// The number whose digits in base 128 the first eight septets are, the least first.
+fn first_eight(septets: &[u8]) -> u64
+    requires enough { 8 ≤ length septets.now }
+    requires septets { AreSeptets septets.now }
+    ensures value { result ≡ value_in 128 (take 8 septets.now) }
+    ensures range { result < 2 ^ 56 }
+{
+    match septets {
+        [a, b, c, d, e, f, g, h, ..] => u64::from(*a)
+            + (u64::from(*b) << 7)
+            + (u64::from(*c) << 14)
+            + (u64::from(*d) << 21)
+            + (u64::from(*e) << 28)
+            + (u64::from(*f) << 35)
+            + (u64::from(*g) << 42)
+            + (u64::from(*h) << 49),
+        _ => unreachable!(),
+    }
+}
+
 /// The septets packed into octets behind `fill` bits of zero (3GPP TS 23.038 6.1.2.1).
 ///
 /// Takes memory once.
@@ -21,10 +41,16 @@ pub fn pack(alloc: Global, septets: &[u8], fill: u8) -> Result<Octets, AllocErro
     ensures { IfOk result (λ octets. IsPacking septets.now fill octets) }
 {
     let mut out = Octets::with_capacity(alloc, octets_for(fill, septets.len()))?;
-    let mut held: u32 = 0;
+    let mut held: u64 = 0;
+    let eights = septets.len() / 8;
+    for i in 0..eights {
+        held |= first_eight(&septets[8 * i..]) << fill;
+        out.append(&held.to_le_bytes()[..7])?;
+        held >>= 56;
+    }
     let mut bits: u8 = fill;
-    for septet in septets {
-        held |= u32::from(*septet) << bits;
+    for i in 8 * eights..septets.len() {
+        held |= u64::from(septets[i]) << bits;
         bits += 7;
         if bits >= 8 {
             out.push((held & 0xff) as u8)?;

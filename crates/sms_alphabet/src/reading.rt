@@ -48,7 +48,11 @@ impl From<AllocError> for ReadingError {
 fn are_septets(octets: &[u8]) -> bool
     ensures { result ≡ list_all (λ septet. nat_lt septet 128) octets.now }
 {
-    octets.iter().all(|octet| *octet < 128)
+    let mut most: u8 = 0;
+    for octet in octets {
+        most = most.max(*octet);
+    }
+    most < 128
 }
 
 fn text_of_septets(alloc: Global, septets: &[u8]) -> Result<String, AllocError>

@@ -1,11 +1,11 @@
 //! Texts into UCS2 and back.
-ghost use Rattle.std.specs.Prelude.{◌≡◌, ◌++◌, ◌+◌, ◌*◌, ◌<◌, ◌≤◌, ℕ, List, true, Ok, IfOk, OnOk, flat_map, length};
+ghost use Rattle.std.specs.Prelude.{◌≡◌, ◌++◌, ◌+◌, ◌*◌, ◌<◌, ◌≤◌, ℕ, List, [], true, Ok, IfOk, OnOk, flat_map, length};
 ghost use Rattle.std.specs.Str.{chars, all_scalars};
 ghost use Rattle.std.specs.Char.{IsScalar};
 ghost use Rattle.std.specs.Char.Utf16.{is_high_surrogate, is_low_surrogate};
 ghost use Rattle.std.specs.String.{string_bytes};
 ghost use Rattle.sms_base.specs.Reading.{Takes};
-ghost use Rattle.sms_alphabet.specs.Ucs2.{unit_octets, octets_for, ucs2_for, ucs2_in, Tested, AnswersUcs2};
+ghost use Rattle.sms_alphabet.specs.Ucs2.{unit_octets, octets_for, ucs2_for, ucs2_in, Tested, Refuses, AnswersUcs2};
 ghost use Rattle.sms_alphabet.specs.Ucs2Reading.{unit_in, partner_in, character_at, character_in};
 ghost use Rattle.sms_alphabet.specs.declared.ucs2.Ucs2Error.TheVariants.{NoMemory};
 
@@ -185,18 +185,28 @@ fn test(octets: &[u8]) -> Result<(), Ucs2Error>
     Ok(())
 }
 
-// The text of octets that have one.
-fn read(alloc: Global, octets: &[u8]) -> Result<String, AllocError>
-    requires { (text : List ℕ) × (ucs2_in octets.now ≡ Ok text) }
-    ensures { IfOk result (λ text. ucs2_in octets.now ≡ Ok (chars (string_bytes text))) }
+// What is answered where memory was refused: the first fault, or want of memory where there is none.
+fn refusal(octets: &[u8]) -> Ucs2Error
+    ensures { Refuses result (ucs2_in octets.now) }
 {
-    // No character takes more than three octets of UTF-8 for each of its units.
-    let mut text = String::with_capacity(alloc, octets.len() / 2 * 3)?;
+    match test(octets) {
+        Ok(()) => Ucs2Error::NoMemory,
+        Err(fault) => fault,
+    }
+}
+
+// The text of octets, put at the end of an empty one.
+fn read(empty: String, octets: &[u8]) -> Result<String, Ucs2Error>
+    requires { string_bytes empty ≡ [] }
+    ensures { AnswersUcs2 (λ text. chars (string_bytes text)) result (ucs2_in octets.now) }
+{
+    let mut text = empty;
     let mut rest = Cursor::of(octets);
     while !rest.is_empty() {
-        match character(&mut rest) {
-            Ok(character) => text.push(character)?,
-            Err(_) => unreachable!(),
+        let character = character(&mut rest)?;
+        match text.push(character) {
+            Ok(()) => {}
+            Err(_) => return Err(refusal(octets)),
         }
     }
     Ok(text)
@@ -205,8 +215,11 @@ fn read(alloc: Global, octets: &[u8]) -> Result<String, AllocError>
 fn decode(alloc: Global, octets: &[u8]) -> Result<String, Ucs2Error>
     ensures { AnswersUcs2 (λ text. chars (string_bytes text)) result (ucs2_in octets.now) }
 {
-    test(octets)?;
-    Ok(read(alloc, octets)?)
+    // No character takes more than three octets of UTF-8 for each of its units.
+    match String::with_capacity(alloc, octets.len() / 2 * 3) {
+        Ok(text) => read(text, octets),
+        Err(_) => Err(refusal(octets)),
+    }
 }
 
 /// The text of octets in UCS2, the high octet of a unit first (3GPP TS 23.038 6.2.3).

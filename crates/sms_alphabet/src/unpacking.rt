@@ -1,5 +1,5 @@
-ghost use Rattle.std.specs.Prelude.{◌≡◌, ◌<◌, ◌/◌, ◌%◌, ◌^◌, slice_index, nat_lt, length, ◌≤◌, ◌+◌, ℕ, List, Ok, IfOk};
-ghost use Rattle.sms_alphabet.specs.Packing.{IsPacking, AreSeptets, tested, unpacked, septets_in, value_in, Answers};
+ghost use Rattle.std.specs.Prelude.{◌≡◌, ◌<◌, ◌/◌, ◌%◌, ◌^◌, slice_index, drop, nat_lt, length, ◌≤◌, ◌+◌, ℕ, List, Ok, IfOk};
+ghost use Rattle.sms_alphabet.specs.Packing.{IsPacking, AreSeptets, tested, unpacked, septets_in, digits_in, value_in, Answers};
 ghost use Rattle.sms_alphabet.specs.declared.unpacking.UnpackError.TheVariants.{NoMemory};
 
 use sms_base::Octets;
@@ -91,12 +91,70 @@ pub fn check(octets: &[u8], fill: u8, count: u8) -> Result<(), UnpackError>
     Ok(())
 }
 
+// The number whose digits in base 256 the octets are, the least first.
+fn value_of(octets: &[u8]) -> u64
+    requires { length octets.now < 8 }
+    ensures value { result ≡ value_in 256 octets.now }
+    ensures below { result < 256 ^ length octets.now }
+{
+    match octets {
+        [] => 0,
+        [octet, rest @ ..] => u64::from(*octet) + 256 * value_of(rest),
+    }
+}
+
+// The number of the first eight octets, or of those that are there.
+fn window(octets: &[u8]) -> u64
+    ensures { result ≡ value_in 256 octets.now % 2 ^ 64 }
+{
+    match octets {
+        [a, b, c, d, e, f, g, h, ..] => u64::from_le_bytes([*a, *b, *c, *d, *e, *f, *g, *h]),
+        _ => value_of(octets),
+    }
+}
+
+// The number of the eight octets from a place on.
+fn window_at(octets: &[u8], place: usize) -> u64
+    ensures { result ≡ value_in 256 (drop place octets.now) % 2 ^ 64 }
+{
+    match octets.get(place..) {
+        Some(rest) => window(rest),
+        None => 0,
+    }
+}
+
+fn low_septet(number: u64) -> u8
+    ensures { result ≡ number % 128 }
+{
+    (number % 128) as u8
+}
+
+// Eight septets from a bit on.
+fn eight_septets(octets: &[u8], bit: usize) -> [u8; 8]
+    ensures { result ≡ digits_in 128 8 (value_in 256 octets.now / 2 ^ bit) }
+{
+    let septets = window_at(octets, bit / 8) >> (bit % 8);
+    [
+        low_septet(septets),
+        low_septet(septets >> 7),
+        low_septet(septets >> 14),
+        low_septet(septets >> 21),
+        low_septet(septets >> 28),
+        low_septet(septets >> 35),
+        low_septet(septets >> 42),
+        low_septet(septets >> 49),
+    ]
+}
+
 fn septets(alloc: Global, octets: &[u8], fill: u8, count: u8) -> Result<Octets, AllocError>
     requires { fill < 7 }
     ensures { IfOk result (λ septets. septets ≡ septets_in octets.now fill count) }
 {
     let mut out = Octets::with_capacity(alloc, usize::from(count))?;
-    for i in 0..count {
+    for i in 0..count / 8 {
+        out.append(&eight_septets(octets, usize::from(fill) + 56 * usize::from(i)))?;
+    }
+    for i in count / 8 * 8..count {
         out.push(septet_at(octets, usize::from(fill) + 7 * usize::from(i)))?;
     }
     Ok(out)

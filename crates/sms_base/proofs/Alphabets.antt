@@ -13,7 +13,7 @@ use Rattle.sms_base.specs.declared.alphabet.TheConstants.{ESCAPE, MAIN_TABLE, EX
 use Rattle.sms_base.specs.Alphabet.{IsPair, septets_in, main_septet_of, extended_septet_of, first_code, code_for, main_character, extended_character_of, escaped_character, text_in, IsSpelling}
 
 -- each element, with its place counted from a number, passes
-pub each_from : (ℕ → ℕ → Bool) → ℕ → List ℕ → Bool
+unfoldable pub each_from : (ℕ → ℕ → Bool) → ℕ → List ℕ → Bool
 each_from test i [] = true
 each_from test i (x ∷ xs) = test i x && each_from test (suc i) xs
 
@@ -35,14 +35,14 @@ all_at test [] k x e lt = absurd (omega arith)
 all_at test (y ∷ xs) zero x e lt = (both (test y) (list_all test xs) e).0
 all_at test (y ∷ xs) (suc k) x e lt = all_at test xs k x (both (test y) (list_all test xs) e).1 (omega arith)
 
-same_code : Option Code → Code → Bool
+unfoldable pub same_code : Option Code → Code → Bool
 same_code None code = false
 same_code (Some (Main a)) (Main b) = eqb a b
 same_code (Some (Main a)) (Extended b) = false
 same_code (Some (Extended a)) (Main b) = false
 same_code (Some (Extended a)) (Extended b) = eqb a b
 
-is_code : (found : Option Code) (code : Code) → same_code found code ≡ true → found ≡ Some code
+pub is_code : (found : Option Code) (code : Code) → same_code found code ≡ true → found ≡ Some code
 unfolding same_code
 is_code None code e = absurd cc
 is_code (Some (Main a)) (Main b) e = ap (λ (n : ℕ). Some (Main n)) (eqb-true a b e)

@@ -3,6 +3,7 @@ pub mod Alphabets
 pub mod Century
 pub mod Cuts
 pub mod MessageIds
+pub mod CodeTables
 pub mod NameWalk
 pub mod NumberWalk
 pub mod Places

@@ -6,6 +6,7 @@ pub mod Digits
 pub mod FaultCodes
 pub mod Inside
 pub mod MessageId
+pub mod LatinCodes
 pub mod Reading
 pub mod SemiOctet
 pub mod SmppTime

@@ -49,6 +49,7 @@ fn take_digits(cursor: &mut Cursor<'_>, count: u8) -> Result<Digits, TpduFault>
     Ok(digits)
 }
 
+#[inline(always)]
 #[tactic(auto, unfolding(crate::specs::AddressReading::characters_in))]
 fn take_characters(cursor: &mut Cursor<'_>, is_name: bool, count: u8) -> Result<Digits, TpduFault>
     requires { count ≤ 20 }
@@ -75,6 +76,7 @@ fn type_of_number(octet: u8) -> Result<TypeOfNumber, TpduFault>
 }
 
 /// Takes an address field.
+#[inline(always)]
 #[tactic(auto, unfolding(crate::specs::AddressReading::address_in))]
 pub(crate) fn take_address(cursor: &mut Cursor<'_>) -> Result<Address, TpduFault>
     ensures { Takes (λ x. x) result cursor.new (address_in cursor.old) }

@@ -53,6 +53,7 @@ fn text_of(value: u128, count: u8) -> (Digits, u128)
 }
 
 /// Takes the name of so many useful semi-octets.
+#[inline(never)]
 #[tactic(auto, unfolding(crate::specs::AddressReading::name_in))]
 pub(crate) fn take_name(cursor: &mut Cursor<'_>, count: u8) -> Result<Digits, TpduFault>
     requires { count ≤ 20 }

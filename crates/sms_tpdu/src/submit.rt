@@ -2,7 +2,7 @@
 ghost use Rattle.std.specs.Prelude.{◌≡◌, ◌<◌, length, IfOk};
 ghost use Rattle.sms_base.specs.Address.{IsAddress};
 ghost use Rattle.sms_tpdu.specs.TpduGrammar.{submit_head, IsSubmitData, IsWrittenSubmit};
-ghost use Rattle.sms_tpdu.specs.TpduReading.{submit_at, submit_rest_in};
+ghost use Rattle.sms_tpdu.specs.TpduReading.{submit_at};
 
 use crate::address_field::{put_address, take_address};
 use crate::bits::{bit, bit_value};
@@ -43,17 +43,25 @@ pub struct Submit<'a> {
     pub user_data: UserData<'a>,
 }
 
-// What follows the first octet.
-#[tactic(auto, unfolding(crate::specs::TpduReading::submit_rest_in))]
-fn rest_of<'a>(first: u8, cursor: &mut Cursor<'a>) -> Result<Submit<'a>, TpduFault>
-    ensures { result ≡ submit_rest_in first cursor.old }
+#[inline(never)]
+#[tactic(auto, unfolding(crate::specs::TpduReading::submit_at, crate::specs::TpduReading::submit_rest_in))]
+pub(crate) fn submit_of(octets: &[u8]) -> Result<Submit<'_>, TpduFault>
+    ensures { result ≡ submit_at octets.now }
 {
+    let mut cursor = Cursor::of(octets);
+    let first = cursor.octet(TpduFault::Truncated)?;
+    if first % 4 != 1 {
+        return Err(TpduFault::UnsupportedType);
+    }
+    if first / 8 % 4 == 1 {
+        return Err(TpduFault::UnsupportedValidity);
+    }
     let message_reference = cursor.octet(TpduFault::Truncated)?;
-    let destination_address = take_address(cursor)?;
+    let destination_address = take_address(&mut cursor)?;
     let protocol_identifier = cursor.octet(TpduFault::Truncated)?;
     let data_coding_scheme = cursor.octet(TpduFault::Truncated)?;
-    let validity_period = take_validity_period(cursor, first / 8 % 4)?;
-    let user_data = take_user_data(cursor, dcs(data_coding_scheme), bit(first, 0x40))?;
+    let validity_period = take_validity_period(&mut cursor, first / 8 % 4)?;
+    let user_data = take_user_data(&mut cursor, dcs(data_coding_scheme), bit(first, 0x40))?;
     cursor.end(TpduFault::TrailingOctets)?;
     Ok(Submit {
         reject_duplicates: bit(first, 0x04),
@@ -67,21 +75,6 @@ fn rest_of<'a>(first: u8, cursor: &mut Cursor<'a>) -> Result<Submit<'a>, TpduFau
         validity_period,
         user_data,
     })
-}
-
-#[tactic(auto, unfolding(crate::specs::TpduReading::submit_at))]
-pub(crate) fn submit_of(octets: &[u8]) -> Result<Submit<'_>, TpduFault>
-    ensures { result ≡ submit_at octets.now }
-{
-    let mut cursor = Cursor::of(octets);
-    let first = cursor.octet(TpduFault::Truncated)?;
-    if first % 4 != 1 {
-        return Err(TpduFault::UnsupportedType);
-    }
-    if first / 8 % 4 == 1 {
-        return Err(TpduFault::UnsupportedValidity);
-    }
-    rest_of(first, &mut cursor)
 }
 
 fn head_of(message: &Submit<'_>) -> u8

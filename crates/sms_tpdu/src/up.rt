@@ -1,7 +1,7 @@
 //! TPDUs from a handset to the service centre.
 ghost use Rattle.std.specs.Prelude.{◌≡◌, ◌<◌, IfOk, Ok, length};
 ghost use Rattle.sms_tpdu.specs.TpduGrammar.{IsUp, IsWritableUp, IsUpWritten};
-ghost use Rattle.sms_tpdu.specs.TpduReading.{data_up_at, report_up_at, up_at};
+ghost use Rattle.sms_tpdu.specs.TpduReading.{up_at};
 ghost use Rattle.sms_tpdu.specs.declared.up.Up.{Up as UpOf};
 
 use crate::carrier::Carrier;
@@ -20,30 +20,14 @@ pub enum Up<'a> {
     DeliverReport(DeliverReport<'a>),
 }
 
-#[tactic(auto, unfolding(crate::specs::TpduReading::data_up_at))]
-fn data_up_of(octets: &[u8]) -> Result<Up<'_>, TpduFault>
-    ensures { result ≡ data_up_at octets.now }
-{
-    let submit = submit_of(octets)?;
-    Ok(Up::Submit(submit))
-}
-
-#[tactic(auto, unfolding(crate::specs::TpduReading::report_up_at))]
-fn report_up_of(octets: &[u8], in_error: bool) -> Result<Up<'_>, TpduFault>
-    ensures { result ≡ report_up_at in_error octets.now }
-{
-    let report = deliver_report_of(octets, in_error)?;
-    Ok(Up::DeliverReport(report))
-}
-
-#[tactic(auto, unfolding(crate::specs::TpduReading::up_at))]
+#[tactic(auto, unfolding(crate::specs::TpduReading::up_at, crate::specs::TpduReading::data_up_at, crate::specs::TpduReading::report_up_at))]
 fn up_of(octets: &[u8], carrier: Carrier) -> Result<Up<'_>, TpduFault>
     ensures { result ≡ up_at carrier octets.now }
 {
     match carrier {
-        Carrier::InData => data_up_of(octets),
-        Carrier::InAck => report_up_of(octets, false),
-        Carrier::InError => report_up_of(octets, true),
+        Carrier::InData => Ok(Up::Submit(submit_of(octets)?)),
+        Carrier::InAck => Ok(Up::DeliverReport(deliver_report_of(octets, false)?)),
+        Carrier::InError => Ok(Up::DeliverReport(deliver_report_of(octets, true)?)),
     }
 }
 
