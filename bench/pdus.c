@@ -1,4 +1,4 @@
-/* PDUs of SMPP beside libsmpp34. submit_sm_t and deliver_sm_t have the same fields, so one text serves both. */
+/* PDUs of SMPP beside libsmpp34. submit_sm_t and deliver_sm_t have the same fields, so one macro serves both. */
 #include "peer.h"
 
 #include <netinet/in.h>

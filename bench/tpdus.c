@@ -11,7 +11,7 @@
 #include <string.h>
 #include <time.h>
 
-/* libosmocore: gsm340_gen_scts, which asks localtime_r; the time zone is UTC. */
+/* libosmocore: gsm340_gen_scts, which asks localtime; the time zone is UTC. */
 static uint64_t time_stamp_written(struct sum *sum, uint64_t turns)
 {
 	uint8_t stamp[7];
@@ -42,7 +42,7 @@ static void make_stamp(uint8_t *stamp, uint64_t turn)
 	stamp[4] = (uint8_t)(16 * minute);
 }
 
-/* libosmocore: gsm340_scts, which asks timegm. */
+/* libosmocore: gsm340_scts, which asks mktime. */
 static uint64_t time_stamp_read(struct sum *sum, uint64_t turns)
 {
 	uint8_t stamp[7];

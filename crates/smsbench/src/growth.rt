@@ -1,8 +1,9 @@
-//! How the cost of splitting grows with the parts.
+//! How the cost of splitting grows with the parts. How the cost of feeding a session grows comes with its crate.
 use crate::clock::{Clock, measured};
 use crate::error::BenchError;
 use crate::inputs::{ESCAPED, text};
 use crate::sum::{Measured, Sum};
+use crate::words::Words;
 use sms_alphabet::{Coding, septets_of};
 use sms_base::Octets;
 use sms_concat::{Content, split};
@@ -47,16 +48,18 @@ fn splitting(
     Ok(measured(nanos, sum))
 }
 
-/// Contents that fill 1 to 20 parts split.
-pub fn measure(rt: &HostRuntime, turns: u64) -> Result<(), BenchError> {
+/// A content that fills so many parts split, if the words ask for it.
+pub fn measure(rt: &HostRuntime, words: &Words, parts: u8) -> Result<(), BenchError> {
     let alloc = rt.alloc();
+    let name = format!(in alloc; "split_{parts:02}")?;
+    if !words.ask_for(name.as_str()) {
+        return Ok(());
+    }
     let text = text(alloc, ESCAPED, 3_040)?;
     let septets = septets_of(alloc, text.as_str())?;
-    for parts in 1..21_u8 {
-        let count = ROOM * usize::from(parts) - 8;
-        let measured = splitting(rt, septets.as_slice(), count, turns)?;
-        println!(rt; "split_{parts:02} {:016x}", measured.checksum)?;
-        eprint!(rt; "split_{parts:02} {turns} {}\n", measured.nanos)?;
-    }
+    let count = (ROOM * usize::from(parts)).saturating_sub(8);
+    let measured = splitting(rt, septets.as_slice(), count, words.turns)?;
+    println!(rt; "{name} {:016x}", measured.checksum)?;
+    eprint!(rt; "{name} {} {}\n", words.turns, measured.nanos)?;
     Ok(())
 }

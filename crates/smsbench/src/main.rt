@@ -53,12 +53,12 @@ fn failed(rt: &HostRuntime, error: BenchError) -> u8 {
 
 fn run(rt: &HostRuntime, words: &Words) -> Result<(), BenchError> {
     for kind in KINDS.iter() {
-        if words.names(*kind) {
+        if words.ask_for(kind.name()) {
             measure(rt, *kind, words.turns)?;
         }
     }
-    if words.kind.is_none() {
-        growth::measure(rt, words.turns)?;
+    for parts in 1..21 {
+        growth::measure(rt, words, parts)?;
     }
     Ok(())
 }

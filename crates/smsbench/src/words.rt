@@ -1,6 +1,5 @@
 //! The words of the command.
 use crate::error::BenchError;
-use crate::kind::Kind;
 use std::env;
 
 /// Turns of each kind where no word says how many.
@@ -16,10 +15,10 @@ pub struct Words {
 }
 
 impl Words {
-    /// Whether the kind is to be done.
-    pub fn names(&self, kind: Kind) -> bool {
+    /// Whether the kind of that name is to be done.
+    pub fn ask_for(&self, name: &str) -> bool {
         match &self.kind {
-            Some(name) => name.as_str() == kind.name(),
+            Some(kind) => kind.as_str() == name,
             None => true,
         }
     }
