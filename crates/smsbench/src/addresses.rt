@@ -1,0 +1,67 @@
+//! Addresses: written for the relay layer, and read in a SUBMIT without user data.
+use crate::clock::{Clock, measured};
+use crate::error::BenchError;
+use crate::sum::{Measured, Sum};
+use sms_base::{Address, Octets};
+use sms_tpdu::{Carrier, Up, read_up, write_relay_address};
+use std::alloc::Global;
+
+const NUMBER: &str = "447700900123";
+
+/// A SUBMIT to that number, of no septets.
+const SUBMIT: [u8; 13] = [
+    0x01, 0x2A, 0x0C, 0x91, 0x44, 0x77, 0x00, 0x09, 0x10, 0x32, 0x00, 0x00, 0x00,
+];
+
+// The address element of the number.
+fn written(alloc: Global) -> Result<Octets, BenchError> {
+    let address = Address::new(1, 1, NUMBER)?;
+    Ok(write_relay_address(alloc, &address)?)
+}
+
+/// A number of 12 digits into the octets of an address.
+pub fn writing(rt: &HostRuntime, turns: u64) -> Result<Measured, BenchError> {
+    let alloc = rt.alloc();
+    let mut sum = Sum::new();
+    let clock = Clock::start(rt)?;
+    for turn in 0..turns {
+        let octets = written(alloc)?;
+        sum.touch(octets.as_slice(), turn);
+    }
+    let nanos = clock.stop(rt)?;
+    sum.take(written(alloc)?.as_slice());
+    Ok(measured(nanos, sum))
+}
+
+// The destination of a SUBMIT.
+fn destination(octets: &[u8]) -> Result<Address, BenchError> {
+    match read_up(octets, Carrier::InData)? {
+        Up::Submit(submit) => Ok(submit.destination_address),
+        Up::DeliverReport(_) => Err(BenchError::Refused),
+    }
+}
+
+// The code of one of the address's first four digits.
+fn digit(address: &Address, turn: u64) -> u64 {
+    match address.digits.as_slice().get((turn % 4) as usize) {
+        Some(digit) => u64::from(*digit as u32),
+        None => 0,
+    }
+}
+
+/// A SUBMIT without user data read, for its destination.
+pub fn reading(rt: &HostRuntime, turns: u64) -> Result<Measured, BenchError> {
+    let mut octets = Octets::new(rt.alloc());
+    octets.append(&SUBMIT)?;
+    let mut sum = Sum::new();
+    let clock = Clock::start(rt)?;
+    for turn in 0..turns {
+        let address = destination(octets.as_slice())?;
+        sum.count(digit(&address, turn));
+    }
+    let nanos = clock.stop(rt)?;
+    for digit in destination(octets.as_slice())?.digits.as_slice() {
+        sum.take_number(u64::from(*digit as u32));
+    }
+    Ok(measured(nanos, sum))
+}

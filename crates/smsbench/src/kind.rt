@@ -1,0 +1,107 @@
+//! The kinds of work.
+use crate::error::BenchError;
+use crate::sum::Measured;
+use crate::{addresses, pdus, septets, stamps, texts, tpdus};
+
+/// A kind of work.
+#[derive(Clone, Copy, Debug, PartialEq, Eq)]
+pub enum Kind {
+    Pack,
+    Unpack,
+    TextToSeptets,
+    SeptetsToText,
+    TextToPacked,
+    PackedToText,
+    TextToUcs2,
+    Ucs2ToText,
+    MixedToUcs2,
+    Ucs2ToMixed,
+    TimeStampWritten,
+    TimeStampRead,
+    AddressWritten,
+    AddressRead,
+    SubmitRead,
+    DeliverWritten,
+    SubmitSmRead,
+    SubmitSmWritten,
+    DeliverSmRead,
+    DeliverSmWritten,
+}
+
+/// Every kind, in the order of the table.
+pub const KINDS: [Kind; 20] = [
+    Kind::Pack,
+    Kind::Unpack,
+    Kind::TextToSeptets,
+    Kind::SeptetsToText,
+    Kind::TextToPacked,
+    Kind::PackedToText,
+    Kind::TextToUcs2,
+    Kind::Ucs2ToText,
+    Kind::MixedToUcs2,
+    Kind::Ucs2ToMixed,
+    Kind::TimeStampWritten,
+    Kind::TimeStampRead,
+    Kind::AddressWritten,
+    Kind::AddressRead,
+    Kind::SubmitRead,
+    Kind::DeliverWritten,
+    Kind::SubmitSmRead,
+    Kind::SubmitSmWritten,
+    Kind::DeliverSmRead,
+    Kind::DeliverSmWritten,
+];
+
+impl Kind {
+    /// The name of the kind in words and output.
+    pub fn name(self) -> &'static str {
+        match self {
+            Kind::Pack => "pack",
+            Kind::Unpack => "unpack",
+            Kind::TextToSeptets => "text_to_septets",
+            Kind::SeptetsToText => "septets_to_text",
+            Kind::TextToPacked => "text_to_packed",
+            Kind::PackedToText => "packed_to_text",
+            Kind::TextToUcs2 => "text_to_ucs2",
+            Kind::Ucs2ToText => "ucs2_to_text",
+            Kind::MixedToUcs2 => "mixed_to_ucs2",
+            Kind::Ucs2ToMixed => "ucs2_to_mixed",
+            Kind::TimeStampWritten => "time_stamp_written",
+            Kind::TimeStampRead => "time_stamp_read",
+            Kind::AddressWritten => "address_written",
+            Kind::AddressRead => "address_read",
+            Kind::SubmitRead => "submit_read",
+            Kind::DeliverWritten => "deliver_written",
+            Kind::SubmitSmRead => "submit_sm_read",
+            Kind::SubmitSmWritten => "submit_sm_written",
+            Kind::DeliverSmRead => "deliver_sm_read",
+            Kind::DeliverSmWritten => "deliver_sm_written",
+        }
+    }
+
+    /// Does the work so many times.
+    pub fn run(self, rt: &HostRuntime, turns: u64) -> Result<Measured, BenchError> {
+        match self {
+            Kind::Pack => septets::packing(rt, turns),
+            Kind::Unpack => septets::unpacking(rt, turns),
+            Kind::TextToSeptets => septets::spelling(rt, turns),
+            Kind::SeptetsToText => septets::reading(rt, turns),
+            Kind::TextToPacked => texts::packing(rt, turns),
+            Kind::PackedToText => texts::unpacking(rt, turns),
+            Kind::TextToUcs2 => texts::writing_ucs2(rt, crate::inputs::ESCAPED, turns),
+            Kind::Ucs2ToText => texts::reading_ucs2(rt, crate::inputs::ESCAPED, turns),
+            Kind::MixedToUcs2 => texts::writing_ucs2(rt, crate::inputs::MIXED, turns),
+            Kind::Ucs2ToMixed => texts::reading_ucs2(rt, crate::inputs::MIXED, turns),
+            Kind::TimeStampWritten => stamps::writing(rt, turns),
+            Kind::TimeStampRead => stamps::reading(rt, turns),
+            Kind::AddressWritten => addresses::writing(rt, turns),
+            Kind::AddressRead => addresses::reading(rt, turns),
+            Kind::SubmitRead => tpdus::reading(rt, turns),
+            Kind::DeliverWritten => tpdus::writing(rt, turns),
+            Kind::SubmitSmRead => pdus::reading_submit(rt, turns),
+            Kind::SubmitSmWritten => pdus::writing_submit(rt, turns),
+            Kind::DeliverSmRead => pdus::reading_deliver(rt, turns),
+            Kind::DeliverSmWritten => pdus::writing_deliver(rt, turns),
+        }
+    }
+}

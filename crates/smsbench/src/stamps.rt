@@ -1,0 +1,53 @@
+//! Time stamps of the service centre.
+use crate::clock::{Clock, measured};
+use crate::error::BenchError;
+use crate::sum::{Measured, Sum};
+use sms_base::Moment;
+
+/// Thursday 29 February 2024, 23:59:58 at UTC.
+const START: u64 = 1_709_251_198;
+
+/// From one turn's moment to the next one's: a day, an hour, a minute and a second.
+const STEP: u64 = 90_061;
+
+// The moment of a turn.
+fn moment(turn: u64) -> Result<Moment, BenchError> {
+    Ok(Moment::from_seconds(START + turn % 1_024 * STEP)?)
+}
+
+/// A time stamp written.
+pub fn writing(rt: &HostRuntime, turns: u64) -> Result<Measured, BenchError> {
+    let mut sum = Sum::new();
+    let clock = Clock::start(rt)?;
+    for turn in 0..turns {
+        let stamp = moment(turn)?.to_scts();
+        sum.touch(stamp.as_slice(), turn);
+    }
+    let nanos = clock.stop(rt)?;
+    for turn in 0..64 {
+        sum.take(moment(turn)?.to_scts().as_slice());
+    }
+    Ok(measured(nanos, sum))
+}
+
+// The stamp of a turn: a day and a minute of that month.
+fn stamp(turn: u64) -> [u8; 7] {
+    let day = 1 + (turn % 4) as u8;
+    let minute = (turn / 4 % 10) as u8;
+    [0x42, 0x20, 16 * day, 0x32, 16 * minute, 0x85, 0x00]
+}
+
+/// A time stamp read.
+pub fn reading(rt: &HostRuntime, turns: u64) -> Result<Measured, BenchError> {
+    let mut sum = Sum::new();
+    let clock = Clock::start(rt)?;
+    for turn in 0..turns {
+        let moment = Moment::from_scts(stamp(turn))?;
+        sum.count(moment.seconds());
+    }
+    let nanos = clock.stop(rt)?;
+    for turn in 0..64 {
+        sum.take_number(Moment::from_scts(stamp(turn))?.seconds());
+    }
+    Ok(measured(nanos, sum))
+}
