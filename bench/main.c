@@ -90,5 +90,6 @@ int main(int argc, char **argv)
 	measure(TEXT_KINDS, turns, only);
 	measure(TPDU_KINDS, turns, only);
 	measure(PDU_KINDS, turns, only);
+	measure(STREAM_KINDS, turns, only);
 	return 0;
 }

@@ -49,6 +49,7 @@ void fail(const char *message);
 extern const struct kind TEXT_KINDS[];
 extern const struct kind TPDU_KINDS[];
 extern const struct kind PDU_KINDS[];
+extern const struct kind STREAM_KINDS[];
 
 /* A text of 160 characters as septets, packed behind fill bits; answers the octets. */
 size_t packed_text(uint8_t *octets, const char *characters, uint8_t *septets, size_t *count);

@@ -1,4 +1,4 @@
-//! How the cost of splitting grows with the parts. How the cost of feeding a session grows comes with its crate.
+//! How the cost of splitting grows with the parts.
 use crate::clock::{Clock, measured};
 use crate::error::BenchError;
 use crate::inputs::{ESCAPED, text};

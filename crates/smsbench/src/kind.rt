@@ -1,7 +1,7 @@
 //! The kinds of work.
 use crate::error::BenchError;
 use crate::sum::Measured;
-use crate::{addresses, pdus, septets, stamps, texts, tpdus};
+use crate::{addresses, pdus, septets, stamps, streams, texts, tpdus};
 
 /// A kind of work.
 #[derive(Clone, Copy, Debug, PartialEq, Eq)]
@@ -26,10 +26,13 @@ pub enum Kind {
     SubmitSmWritten,
     DeliverSmRead,
     DeliverSmWritten,
+    StreamWhole,
+    StreamOfThousands,
+    StreamOfOctets,
 }
 
 /// Every kind, in the order of the table.
-pub const KINDS: [Kind; 20] = [
+pub const KINDS: [Kind; 23] = [
     Kind::Pack,
     Kind::Unpack,
     Kind::TextToSeptets,
@@ -50,6 +53,9 @@ pub const KINDS: [Kind; 20] = [
     Kind::SubmitSmWritten,
     Kind::DeliverSmRead,
     Kind::DeliverSmWritten,
+    Kind::StreamWhole,
+    Kind::StreamOfThousands,
+    Kind::StreamOfOctets,
 ];
 
 impl Kind {
@@ -76,6 +82,9 @@ impl Kind {
             Kind::SubmitSmWritten => "submit_sm_written",
             Kind::DeliverSmRead => "deliver_sm_read",
             Kind::DeliverSmWritten => "deliver_sm_written",
+            Kind::StreamWhole => "stream_whole",
+            Kind::StreamOfThousands => "stream_of_thousands",
+            Kind::StreamOfOctets => "stream_of_octets",
         }
     }
 
@@ -102,6 +111,9 @@ impl Kind {
             Kind::SubmitSmWritten => pdus::writing_submit(rt, turns),
             Kind::DeliverSmRead => pdus::reading_deliver(rt, turns),
             Kind::DeliverSmWritten => pdus::writing_deliver(rt, turns),
+            Kind::StreamWhole => streams::whole(rt, turns),
+            Kind::StreamOfThousands => streams::thousands(rt, turns),
+            Kind::StreamOfOctets => streams::octet_by_octet(rt, turns),
         }
     }
 }

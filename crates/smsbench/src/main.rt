@@ -11,6 +11,7 @@ mod kind;
 mod pdus;
 mod septets;
 mod stamps;
+mod streams;
 mod sum;
 mod texts;
 mod tpdus;
@@ -60,7 +61,7 @@ fn run(rt: &HostRuntime, words: &Words) -> Result<(), BenchError> {
     for parts in 1..21 {
         growth::measure(rt, words, parts)?;
     }
-    Ok(())
+    streams::measure_growth(rt, words)
 }
 
 // Does one kind of work, and tells its checksum and its time.

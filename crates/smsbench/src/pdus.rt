@@ -9,7 +9,8 @@ use crate::error::BenchError;
 use crate::inputs::{PLAIN, text};
 use crate::sum::{Measured, Sum};
 use smpp_pdu::{Body, Message, Pdu, SmeAddress, Tlvs};
-use sms_base::OctetView;
+use sms_base::{OctetView, Octets};
+use std::alloc::Global;
 
 /// Up to when a submit_sm is kept: a day.
 const DAY: [u8; 16] = *b"000000010000000R";
@@ -136,6 +137,13 @@ fn writing(rt: &HostRuntime, pdu: &Pdu<'_>, turns: u64) -> Result<Measured, Benc
     let nanos = clock.stop(rt)?;
     sum.take(pdu.write(alloc)?.as_slice());
     Ok(measured(nanos, sum))
+}
+
+/// The octets of the submit_sm.
+pub fn submit_octets(alloc: Global) -> Result<Octets, BenchError> {
+    let text = text(alloc, PLAIN, 160)?;
+    let octets = submit_sm(front(text.as_bytes())).write(alloc)?;
+    Ok(octets)
 }
 
 /// A submit_sm read.
