@@ -20,7 +20,7 @@ fn written(alloc: Global) -> Result<Octets, BenchError> {
 }
 
 /// A number of 12 digits into the octets of an address.
-pub fn writing(rt: &HostRuntime, turns: u64) -> Result<Measured, BenchError> {
+pub(crate) fn writing(rt: &HostRuntime, turns: u64) -> Result<Measured, BenchError> {
     let alloc = rt.alloc();
     let mut sum = Sum::new();
     let clock = Clock::start(rt)?;
@@ -50,7 +50,7 @@ fn digit(address: &Address, turn: u64) -> u64 {
 }
 
 /// A SUBMIT without user data read, for its destination.
-pub fn reading(rt: &HostRuntime, turns: u64) -> Result<Measured, BenchError> {
+pub(crate) fn reading(rt: &HostRuntime, turns: u64) -> Result<Measured, BenchError> {
     let mut octets = Octets::new(rt.alloc());
     octets.append(&SUBMIT)?;
     let mut sum = Sum::new();

@@ -10,7 +10,7 @@ use thiserror::Error;
 
 /// Why a measurement failed.
 #[derive(Debug, Drop, Error)]
-pub enum BenchError {
+pub(crate) enum BenchError {
     /// A codec refused what it was given.
     #[error("a codec refused its input")]
     Refused,

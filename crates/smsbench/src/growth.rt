@@ -49,7 +49,7 @@ fn splitting(
 }
 
 /// A content that fills so many parts split, if the words ask for it.
-pub fn measure(rt: &HostRuntime, words: &Words, parts: u8) -> Result<(), BenchError> {
+pub(crate) fn measure(rt: &HostRuntime, words: &Words, parts: u8) -> Result<(), BenchError> {
     let alloc = rt.alloc();
     let name = format!(in alloc; "split_{parts:02}")?;
     if !words.ask_for(name.as_str()) {

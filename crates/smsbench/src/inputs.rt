@@ -5,16 +5,16 @@ use sms_base::Octets;
 use std::alloc::{AllocError, Global};
 
 /// Characters of the default alphabet that one septet spells, and one octet of UTF-8.
-pub const PLAIN: &str = "abcdefghijklmnopqrstuvwxyzABCDEFGHIJKLMNOPQRSTUVWXYZ0123456789 .";
+pub(crate) const PLAIN: &str = "abcdefghijklmnopqrstuvwxyzABCDEFGHIJKLMNOPQRSTUVWXYZ0123456789 .";
 
 /// Characters of which six have two septets.
-pub const ESCAPED: &str = "abcdefghijklmnopqrstuvwxyzABCDEFGHIJKLMNOPQRSTUVWXYZ0123[]{}|~ .";
+pub(crate) const ESCAPED: &str = "abcdefghijklmnopqrstuvwxyzABCDEFGHIJKLMNOPQRSTUVWXYZ0123[]{}|~ .";
 
 /// Characters of one to three octets of UTF-8.
-pub const MIXED: &str = "абвгдежзийклмнопрстуфхцчшщъыьэюяАБВГДЕЖЗИЙКЛМНОП ,.!?12345éä中文字€";
+pub(crate) const MIXED: &str = "абвгдежзийклмнопрстуфхцчшщъыьэюяАБВГДЕЖЗИЙКЛМНОП ,.!?12345éä中文字€";
 
 /// So many characters, each of 64 by the generator.
-pub fn text(alloc: Global, characters: &str, count: u32) -> Result<String, AllocError> {
+pub(crate) fn text(alloc: Global, characters: &str, count: u32) -> Result<String, AllocError> {
     let mut text = String::new(alloc);
     let mut seed: u32 = 1;
     for _ in 0..count {
@@ -26,7 +26,7 @@ pub fn text(alloc: Global, characters: &str, count: u32) -> Result<String, Alloc
 }
 
 /// The octets, and behind them 160 packed septets.
-pub fn with_packed_septets(alloc: Global, front: &[u8]) -> Result<Octets, BenchError> {
+pub(crate) fn with_packed_septets(alloc: Global, front: &[u8]) -> Result<Octets, BenchError> {
     let text = text(alloc, PLAIN, 160)?;
     let septets = septets_of(alloc, text.as_str())?;
     let packed = pack(alloc, septets.as_slice(), 0)?;

@@ -5,7 +5,7 @@ use crate::{addresses, pdus, septets, stamps, streams, texts, tpdus};
 
 /// A kind of work.
 #[derive(Clone, Copy, Debug, PartialEq, Eq)]
-pub enum Kind {
+pub(crate) enum Kind {
     Pack,
     Unpack,
     TextToSeptets,
@@ -32,7 +32,7 @@ pub enum Kind {
 }
 
 /// Every kind, in the order of the table.
-pub const KINDS: [Kind; 23] = [
+pub(crate) const KINDS: [Kind; 23] = [
     Kind::Pack,
     Kind::Unpack,
     Kind::TextToSeptets,
@@ -60,7 +60,7 @@ pub const KINDS: [Kind; 23] = [
 
 impl Kind {
     /// The name of the kind in words and output.
-    pub fn name(self) -> &'static str {
+    pub(crate) fn name(self) -> &'static str {
         match self {
             Kind::Pack => "pack",
             Kind::Unpack => "unpack",
@@ -89,7 +89,7 @@ impl Kind {
     }
 
     /// Does the work so many times.
-    pub fn run(self, rt: &HostRuntime, turns: u64) -> Result<Measured, BenchError> {
+    pub(crate) fn run(self, rt: &HostRuntime, turns: u64) -> Result<Measured, BenchError> {
         match self {
             Kind::Pack => septets::packing(rt, turns),
             Kind::Unpack => septets::unpacking(rt, turns),

@@ -140,32 +140,32 @@ fn writing(rt: &HostRuntime, pdu: &Pdu<'_>, turns: u64) -> Result<Measured, Benc
 }
 
 /// The octets of the submit_sm.
-pub fn submit_octets(alloc: Global) -> Result<Octets, BenchError> {
+pub(crate) fn submit_octets(alloc: Global) -> Result<Octets, BenchError> {
     let text = text(alloc, PLAIN, 160)?;
     let octets = submit_sm(front(text.as_bytes())).write(alloc)?;
     Ok(octets)
 }
 
 /// A submit_sm read.
-pub fn reading_submit(rt: &HostRuntime, turns: u64) -> Result<Measured, BenchError> {
+pub(crate) fn reading_submit(rt: &HostRuntime, turns: u64) -> Result<Measured, BenchError> {
     let text = text(rt.alloc(), PLAIN, 160)?;
     reading(rt, &submit_sm(front(text.as_bytes())), turns)
 }
 
 /// A submit_sm written.
-pub fn writing_submit(rt: &HostRuntime, turns: u64) -> Result<Measured, BenchError> {
+pub(crate) fn writing_submit(rt: &HostRuntime, turns: u64) -> Result<Measured, BenchError> {
     let text = text(rt.alloc(), PLAIN, 160)?;
     writing(rt, &submit_sm(front(text.as_bytes())), turns)
 }
 
 /// A deliver_sm read.
-pub fn reading_deliver(rt: &HostRuntime, turns: u64) -> Result<Measured, BenchError> {
+pub(crate) fn reading_deliver(rt: &HostRuntime, turns: u64) -> Result<Measured, BenchError> {
     let text = text(rt.alloc(), PLAIN, 160)?;
     reading(rt, &deliver_sm(front(text.as_bytes())), turns)
 }
 
 /// A deliver_sm written.
-pub fn writing_deliver(rt: &HostRuntime, turns: u64) -> Result<Measured, BenchError> {
+pub(crate) fn writing_deliver(rt: &HostRuntime, turns: u64) -> Result<Measured, BenchError> {
     let text = text(rt.alloc(), PLAIN, 160)?;
     writing(rt, &deliver_sm(front(text.as_bytes())), turns)
 }

@@ -6,7 +6,7 @@ use crate::sum::{Measured, Sum};
 use sms_alphabet::{pack, septets_of, text_of, unpack};
 
 /// 160 septets packed.
-pub fn packing(rt: &HostRuntime, turns: u64) -> Result<Measured, BenchError> {
+pub(crate) fn packing(rt: &HostRuntime, turns: u64) -> Result<Measured, BenchError> {
     let alloc = rt.alloc();
     let text = text(alloc, PLAIN, 160)?;
     let septets = septets_of(alloc, text.as_str())?;
@@ -22,7 +22,7 @@ pub fn packing(rt: &HostRuntime, turns: u64) -> Result<Measured, BenchError> {
 }
 
 /// 160 septets unpacked.
-pub fn unpacking(rt: &HostRuntime, turns: u64) -> Result<Measured, BenchError> {
+pub(crate) fn unpacking(rt: &HostRuntime, turns: u64) -> Result<Measured, BenchError> {
     let alloc = rt.alloc();
     let text = text(alloc, PLAIN, 160)?;
     let septets = septets_of(alloc, text.as_str())?;
@@ -39,7 +39,7 @@ pub fn unpacking(rt: &HostRuntime, turns: u64) -> Result<Measured, BenchError> {
 }
 
 /// The septets of a text of 160 characters, escapes among them.
-pub fn spelling(rt: &HostRuntime, turns: u64) -> Result<Measured, BenchError> {
+pub(crate) fn spelling(rt: &HostRuntime, turns: u64) -> Result<Measured, BenchError> {
     let alloc = rt.alloc();
     let text = text(alloc, ESCAPED, 160)?;
     let mut sum = Sum::new();
@@ -54,7 +54,7 @@ pub fn spelling(rt: &HostRuntime, turns: u64) -> Result<Measured, BenchError> {
 }
 
 /// The text of septets, 160 characters with escapes among them.
-pub fn reading(rt: &HostRuntime, turns: u64) -> Result<Measured, BenchError> {
+pub(crate) fn reading(rt: &HostRuntime, turns: u64) -> Result<Measured, BenchError> {
     let alloc = rt.alloc();
     let text = text(alloc, ESCAPED, 160)?;
     let septets = septets_of(alloc, text.as_str())?;

@@ -16,7 +16,7 @@ fn moment(turn: u64) -> Result<Moment, BenchError> {
 }
 
 /// A time stamp written.
-pub fn writing(rt: &HostRuntime, turns: u64) -> Result<Measured, BenchError> {
+pub(crate) fn writing(rt: &HostRuntime, turns: u64) -> Result<Measured, BenchError> {
     let mut sum = Sum::new();
     let clock = Clock::start(rt)?;
     for turn in 0..turns {
@@ -38,7 +38,7 @@ fn stamp(turn: u64) -> [u8; 7] {
 }
 
 /// A time stamp read.
-pub fn reading(rt: &HostRuntime, turns: u64) -> Result<Measured, BenchError> {
+pub(crate) fn reading(rt: &HostRuntime, turns: u64) -> Result<Measured, BenchError> {
     let mut sum = Sum::new();
     let clock = Clock::start(rt)?;
     for turn in 0..turns {

@@ -99,17 +99,17 @@ fn feeding(rt: &HostRuntime, piece: usize, pdus: u64) -> Result<Measured, BenchE
 }
 
 /// The stream as one piece.
-pub fn whole(rt: &HostRuntime, pdus: u64) -> Result<Measured, BenchError> {
+pub(crate) fn whole(rt: &HostRuntime, pdus: u64) -> Result<Measured, BenchError> {
     feeding(rt, usize::MAX, pdus)
 }
 
 /// The stream in pieces of 1,000 octets.
-pub fn thousands(rt: &HostRuntime, pdus: u64) -> Result<Measured, BenchError> {
+pub(crate) fn thousands(rt: &HostRuntime, pdus: u64) -> Result<Measured, BenchError> {
     feeding(rt, 1_000, pdus)
 }
 
 /// The stream octet by octet.
-pub fn octet_by_octet(rt: &HostRuntime, pdus: u64) -> Result<Measured, BenchError> {
+pub(crate) fn octet_by_octet(rt: &HostRuntime, pdus: u64) -> Result<Measured, BenchError> {
     feeding(rt, 1, pdus)
 }
 
@@ -133,7 +133,7 @@ fn behind(rt: &HostRuntime, waiting: u16, turns: u64) -> Result<Measured, BenchE
 }
 
 /// What one more octet costs behind more and more that wait, where the words ask for it.
-pub fn measure_growth(rt: &HostRuntime, words: &Words) -> Result<(), BenchError> {
+pub(crate) fn measure_growth(rt: &HostRuntime, words: &Words) -> Result<(), BenchError> {
     for waiting in WAITING.iter() {
         measure_behind(rt, words, *waiting)?;
     }

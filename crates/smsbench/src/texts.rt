@@ -20,7 +20,7 @@ fn unpacked(alloc: Global, octets: &[u8], count: u8) -> Result<String, BenchErro
 }
 
 /// A text of 160 characters, escapes among them, into packed septets.
-pub fn packing(rt: &HostRuntime, turns: u64) -> Result<Measured, BenchError> {
+pub(crate) fn packing(rt: &HostRuntime, turns: u64) -> Result<Measured, BenchError> {
     let alloc = rt.alloc();
     let text = text(alloc, ESCAPED, 160)?;
     let mut sum = Sum::new();
@@ -35,7 +35,7 @@ pub fn packing(rt: &HostRuntime, turns: u64) -> Result<Measured, BenchError> {
 }
 
 /// Packed septets into that text.
-pub fn unpacking(rt: &HostRuntime, turns: u64) -> Result<Measured, BenchError> {
+pub(crate) fn unpacking(rt: &HostRuntime, turns: u64) -> Result<Measured, BenchError> {
     let alloc = rt.alloc();
     let text = text(alloc, ESCAPED, 160)?;
     let septets = septets_of(alloc, text.as_str())?;
@@ -53,7 +53,7 @@ pub fn unpacking(rt: &HostRuntime, turns: u64) -> Result<Measured, BenchError> {
 }
 
 /// A text of 160 of those characters into UCS2.
-pub fn writing_ucs2(
+pub(crate) fn writing_ucs2(
     rt: &HostRuntime,
     characters: &str,
     turns: u64,
@@ -72,7 +72,7 @@ pub fn writing_ucs2(
 }
 
 /// UCS2 into a text of 160 of those characters.
-pub fn reading_ucs2(
+pub(crate) fn reading_ucs2(
     rt: &HostRuntime,
     characters: &str,
     turns: u64,

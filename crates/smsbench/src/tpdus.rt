@@ -54,7 +54,7 @@ fn touch_submit(sum: &mut Sum, submit: &Submit<'_>, turn: u64) {
 }
 
 /// A SUBMIT read.
-pub fn reading(rt: &HostRuntime, turns: u64) -> Result<Measured, BenchError> {
+pub(crate) fn reading(rt: &HostRuntime, turns: u64) -> Result<Measured, BenchError> {
     let octets = with_packed_septets(rt.alloc(), &SUBMIT)?;
     let mut sum = Sum::new();
     let clock = Clock::start(rt)?;
@@ -68,7 +68,7 @@ pub fn reading(rt: &HostRuntime, turns: u64) -> Result<Measured, BenchError> {
 }
 
 /// A DELIVER written.
-pub fn writing(rt: &HostRuntime, turns: u64) -> Result<Measured, BenchError> {
+pub(crate) fn writing(rt: &HostRuntime, turns: u64) -> Result<Measured, BenchError> {
     let alloc = rt.alloc();
     let octets = with_packed_septets(alloc, &DELIVER)?;
     let deliver = read_down(octets.as_slice(), Carrier::InData)?;

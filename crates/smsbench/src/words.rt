@@ -7,16 +7,16 @@ const DEFAULT_TURNS: u64 = 64;
 
 /// What the words ask for.
 #[derive(Debug, Drop)]
-pub struct Words {
+pub(crate) struct Words {
     /// How often each kind of work is done.
-    pub turns: u64,
+    pub(crate) turns: u64,
     /// The name of the only kind that is done, if not all are.
-    pub kind: Option<String>,
+    pub(crate) kind: Option<String>,
 }
 
 impl Words {
     /// Whether the kind of that name is to be done.
-    pub fn ask_for(&self, name: &str) -> bool {
+    pub(crate) fn ask_for(&self, name: &str) -> bool {
         match &self.kind {
             Some(kind) => kind.as_str() == name,
             None => true,
@@ -25,7 +25,7 @@ impl Words {
 }
 
 /// The words behind the program's name, if they are of the right form.
-pub fn words_of(rt: &HostRuntime) -> Result<Option<Words>, BenchError> {
+pub(crate) fn words_of(rt: &HostRuntime) -> Result<Option<Words>, BenchError> {
     let mut args = env::args(rt)?.skip(1);
     let turns = match args.next() {
         None => DEFAULT_TURNS,
