@@ -51,6 +51,9 @@ extern const struct kind TPDU_KINDS[];
 extern const struct kind PDU_KINDS[];
 extern const struct kind STREAM_KINDS[];
 
+/* The octets of the submit_sm that is read, written and streamed; answers how many. */
+size_t make_submit_sm(uint8_t *octets, size_t room);
+
 /* A text of 160 characters as septets, packed behind fill bits; answers the octets. */
 size_t packed_text(uint8_t *octets, const char *characters, uint8_t *septets, size_t *count);
 

@@ -67,35 +67,11 @@ static void feed(struct session *session, const uint8_t *octets, size_t count, s
 	session->length -= taken;
 }
 
-static size_t submit(uint8_t *octets, size_t room)
-{
-	submit_sm_t message;
-	char text[1024];
-	size_t count = make_text(text, PLAIN, 160);
-	int length = 0;
-
-	memset(&message, 0, sizeof(message));
-	message.command_id = SUBMIT_SM;
-	message.sequence_number = 7;
-	message.source_addr_ton = 5;
-	strcpy((char *)message.source_addr, "BANK");
-	message.dest_addr_ton = 1;
-	message.dest_addr_npi = 1;
-	strcpy((char *)message.destination_addr, "447700900123");
-	strcpy((char *)message.validity_period, "000000010000000R");
-	message.registered_delivery = 1;
-	message.sm_length = (uint8_t)count;
-	memcpy(message.short_message, text, count);
-	if (smpp34_pack2(octets, (int)room, &length, &message) != 0)
-		fail(smpp34_strerror);
-	return (size_t)length;
-}
-
 static uint64_t stream(struct sum *sum, uint64_t pdus, size_t piece)
 {
 	struct session session = { NULL, 0, 0 };
 	uint8_t octets[512];
-	size_t length = submit(octets, sizeof(octets)), count = length * pdus;
+	size_t length = make_submit_sm(octets, sizeof(octets)), count = length * pdus;
 	uint8_t *stream = malloc(count);
 	uint64_t start, nanos;
 
