@@ -1,0 +1,511 @@
+-- What is accepted is stored.
+use Rattle.std.proofs.Common.{◌≡◌, ◌⊎◌, ℕ, zero, suc, ◌<◌, ◌≤◌, arith, List, [], ◌∷◌, ◌++◌, Bool, true, false, Option, Some, None, Result, Ok, Err, refl, sym, ◌∙◌, ap, subst, inl, inr, ⊎_elim, cond, eq-eqb}
+use Rattle.std.specs.Prelude.{max, ◌+◌, ◌*◌, ◌==◌, ◌&&◌, ◌||◌, nat_lt, nat_le, if◌then◌else◌, length}
+use Rattle.std.proofs.Math.Nat.{eq-or-lt_of_le}
+use Rattle.std.proofs.lemmas.Bool.{cond_both, cond-false, cond-true, or_parts, and_parts, leb-true, ltb-true}
+use Rattle.sms_base.specs.Among.{Among}
+use Rattle.sms_base.proofs.Tables.{put_among}
+use Rattle.sms_base.specs.Table.{put, row_at}
+use Rattle.sms_base.specs.declared.change.Change.{Change}
+use Rattle.sms_base.specs.declared.change.Change.TheVariants.{Put, Remove}
+use Rattle.sms_base.specs.declared.holder.Holder.{Holder}
+use Rattle.sms_concat.specs.declared.concat_key.ConcatKey.{ConcatKey}
+use Rattle.sms_concat.specs.declared.content.Content.{Content}
+use Rattle.sms_concat.specs.declared.content.Part.{Part as PartOf}
+use Rattle.sms_concat.specs.Joining.{content_joined}
+use Rattle.sms_tpdu.specs.declared.carrier.Carrier.TheVariants.{InData}
+use Rattle.sms_tpdu.specs.declared.deliver.Deliver.{Deliver as DeliverOf}
+use Rattle.sms_tpdu.specs.declared.down.Down.{Down}
+use Rattle.sms_tpdu.specs.declared.down.Down.TheVariants.{Deliver, StatusReport, SubmitReport}
+use Rattle.sms_tpdu.specs.declared.fault.TpduFault.{TpduFault}
+use Rattle.sms_tpdu.specs.TpduReading.{down_at}
+use Rattle.sms_handset.specs.declared.entry.Entry.{Entry}
+use Rattle.sms_handset.specs.declared.entry.Group.{Group}
+use Rattle.sms_handset.specs.declared.entry.Message.{Message}
+use Rattle.sms_handset.specs.declared.entry.Message.TheVariants.{Single, Part, Joined}
+use Rattle.sms_handset.specs.declared.last.Last.{Last}
+use Rattle.sms_handset.specs.declared.mark.Mark.{Mark}
+use Rattle.sms_handset.specs.declared.out_entry.OutEntry.{OutEntry}
+use Rattle.sms_base.specs.declared.address.Address.{Address}
+use Rattle.sms_base.specs.declared.address_error.AddressError.{AddressError}
+use Rattle.sms_base.specs.Address.{address_of}
+use Rattle.sms_concat.specs.declared.split_error.SplitError.{SplitError}
+use Rattle.sms_concat.specs.Splitting.{split_of}
+use Rattle.sms_handset.specs.declared.refusal.Refusal.{Refusal}
+use Rattle.sms_handset.specs.declared.refusal.Refusal.TheVariants.{NoEntry, StillOpen, OutboxFull, TooManyDiscarded}
+use Rattle.sms_handset.specs.Accepted.{Holds, IsOfDiscarded, IsPut, StoresAccepted}
+use Rattle.sms_handset.specs.Draft.{Core, Draft, draft_of, heard, put_entry, remove_entry, put_counters, put_out, put_mark, remove_mark, remove_out}
+use Rattle.sms_handset.specs.Groups.{all_numbers, alone, completed, count_entry, drop_all, ended, entry_part, first_number, free_all, group_of, is_among, joined_content, joined_entry, joined_parts, keep, key_of, mark_of, marked, members, part_entry, part_number, part_numbers, part_with, parts_to, single_entry, store_part, store_single, with_part}
+use Rattle.sms_handset.specs.Keys.{entry_key, last_key, out_key}
+use Rattle.sms_base.specs.declared.holder.Holder.TheVariants.{Part as PartHolder, Report, Entry as EntryHolder, Memory}
+use Rattle.sms_concat.specs.declared.concat_key.ConcatReference.{ConcatReference}
+use Rattle.sms_concat.specs.declared.concat_key.ConcatReference.TheVariants.{EightBit, SixteenBit}
+use Rattle.sms_concat.specs.declared.element.Element.{Element}
+use Rattle.sms_concat.specs.declared.header_error.HeaderError.{HeaderError}
+use Rattle.sms_concat.specs.Concatenation.{counted, eight_bit_key, sixteen_bit_key, element_key, later, key_of as key_of_elements}
+use Rattle.sms_concat.specs.HeaderGrammar.{header_at}
+use Rattle.sms_concat.specs.UserData.{header_key, key_found}
+use Rattle.sms_control.specs.declared.out.Up.{Up}
+use Rattle.sms_control.specs.declared.out.Up.TheVariants.{Unit as UnitUp, Failed as FailedUp}
+use Rattle.sms_control.specs.declared.transaction.TransactionFlag.TheVariants.{FromOriginator, ToOriginator}
+use Rattle.sms_control.specs.LinkStep.{Step, is_busy, fire_step, take_step}
+use Rattle.sms_control.specs.Timers.{later as later_moment}
+use Rattle.sms_relay.specs.declared.fault.RelayFault.{RelayFault}
+use Rattle.sms_relay.specs.declared.frame.Rp.{Rp}
+use Rattle.sms_relay.specs.declared.frame.Rp.TheVariants.{DataUnit, AckUnit, ErrorUnit, Smma}
+use Rattle.sms_relay.specs.RelayReading.{down_at as unit_at}
+use Rattle.sms_handset.specs.declared.answers.Verdict.{Verdict}
+use Rattle.sms_handset.specs.declared.answers.Verdict.TheVariants.{Acknowledged, Temporary, Duplicate, Refused, Lost}
+use Rattle.sms_handset.specs.declared.notice.Notice.{Notice}
+use Rattle.sms_handset.specs.declared.outgoing.Carried.{Carried}
+use Rattle.sms_handset.specs.Answers.{verdict_of}
+use Rattle.sms_handset.specs.HandsetEvent.{acted, at_moment, deleted, discarded, failed, frame_came, frame_heard, ticked, timers_fired, went_up, wrote}
+use Rattle.sms_handset.specs.OwnersActs.{content_of_text, count_split, delete, delete_in, delete_out, discard, discard_at, discard_group, discard_in, discard_members, fits_outbox, is_open_part, write, write_part, write_parts, write_split, write_to, written}
+use Rattle.sms_handset.specs.MemoryAvailable.{first_notice, freed, has_room, notice_concluded, notice_ended, notice_failed, send_notice, tram, want_notice}
+use Rattle.sms_handset.specs.Outbox.{conclude, entry_concluded, first_due, follow, holder_concluded, is_fired, is_sending, lapse, lapse_rows, lost, offer, offer_after, offer_entry, offer_message, offer_wanted, transfer_concluded}
+use Rattle.sms_handset.specs.Receiving.{accept, acknowledge, data_came, deliver_came, is_double, member_came, new_part_came, no_room, note, part_came, reported, single_came, tpdu_came, unit_came}
+use Rattle.sms_handset.specs.References.{held_references, is_unfinished, next_free}
+
+-- ---- lists
+
+among_end : {X : Type 0} (x : X) (xs : List X) → Among x (xs ++ x ∷ [])
+among_end x [] = inl refl
+among_end x (y ∷ ys) = inr (among_end x ys)
+
+among_front : {X : Type 0} (x y : X) (xs : List X) → Among x xs → Among x (xs ++ y ∷ [])
+among_front x y [] m = absurd m
+among_front x y (z ∷ zs) m = ⊎_elim (λ (e : x ≡ z). inl e) (λ (r : Among x zs). inr (among_front x y zs r)) m
+
+-- ---- the parts of a full group
+
+extended : (a : Option (List PartOf)) (b : Option PartOf) (ps : List PartOf) → with_part a b ≡ Some ps → (qs : List PartOf) × (p : PartOf) × ((a ≡ Some qs) × (b ≡ Some p) × (ps ≡ qs ++ p ∷ []))
+extended None b ps e = absurd cc
+extended (Some qs) None ps e = absurd cc
+extended (Some qs) (Some p) ps e = (qs, p, (refl, refl, let q : ps ≡ qs ++ p ∷ [] = cc in q))
+
+part_there : (total k : ℕ) (es : List Entry) (ps : List PartOf) (e : Entry) → 0 < k → k ≤ total → parts_to total es ≡ Some ps → part_with k es ≡ Some e → (p : PartOf) × ((entry_part (Some e) ≡ Some p) × Among p ps)
+part_there zero k es ps e a b h w = absurd (omega arith)
+part_there (suc t) k es ps e a b h w =
+    let x = extended (parts_to t es) (entry_part (part_with (suc t) es)) ps h in
+    ⊎_elim
+    (λ (q : k ≡ suc t). (
+      x.1,
+      (
+        ap (λ (o : Option Entry). entry_part o) (sym w) ∙ ap (λ (n : ℕ). entry_part (part_with n es)) q ∙ x.2.1,
+        subst (λ (l : List PartOf). Among x.1 l) (sym x.2.2) (among_end x.1 x.0),
+      ),
+    ))
+    (λ (q : k < suc t).
+    let r = part_there t k es x.0 e a (let s : k ≤ t = omega arith in s) x.2.0 w in
+    (r.0, (r.1.0, subst (λ (l : List PartOf). Among r.0 l) (sym x.2.2) (among_front r.0 x.1 x.0 r.1.1))))
+    (eq-or-lt_of_le b)
+
+-- a new part is found under its number
+new_part : (n : ℕ) (es : List Entry) (e : Entry) → is_among n (part_numbers es) ≡ false → part_number e.message ≡ n → part_with n (es ++ e ∷ []) ≡ Some e
+new_part n [] e h w = cond-true (part_number e.message == n) (Some e) None (eq-eqb (part_number e.message) n w)
+new_part n (x ∷ xs) e h w =
+    let r = or_parts (part_number x.message == n) (is_among n (part_numbers xs)) h in
+    cond-false (part_number x.message == n) (Some x) (part_with n (xs ++ e ∷ [])) r.0 ∙ new_part n xs e r.1 w
+
+joined_from : (o : Option (List PartOf)) (content : Content) → joined_parts o ≡ Some content → (ps : List PartOf) × ((o ≡ Some ps) × (content_joined ps ≡ Some content))
+joined_from None content e = absurd cc
+joined_from (Some ps) content e = (ps, (refl, e))
+
+-- ---- an entry that was put and stands
+
+abbrev Stored : Draft → List ℕ → DeliverOf → Type 0
+Stored d tpdu m = (e : Entry) × (IsPut d.changes d.rows e × Holds tpdu m e.message)
+
+put_stands : (e : Entry) (d : Draft) → IsPut (put_entry e d).changes (put_entry e d).rows e
+put_stands e d = (among_end (Put e) d.changes.entries, put_among entry_key e e d.rows.entries (inl refl))
+
+freed_last : (es : List Entry) (e : Entry) (d : Draft) → IsPut (free_all (es ++ e ∷ []) d).changes (free_all (es ++ e ∷ []) d).rows (alone e)
+freed_last [] e d = put_stands (alone e) d
+freed_last (x ∷ xs) e d = freed_last xs e (put_entry (alone x) d)
+
+ended_stores : (g : Group) (n k : ℕ) (tpdu : List ℕ) (m : DeliverOf) (es : List Entry) (o : Option Content) (d : Draft)
+    → 0 < n → n ≤ g.total → g.source ≡ m.originating_address → is_among n (part_numbers es) ≡ false
+    → joined_content g (es ++ part_entry k g n tpdu ∷ []) ≡ o → Stored (ended g (es ++ part_entry k g n tpdu ∷ []) o d) tpdu m
+ended_stores g n k tpdu m es None d low high from new j = (alone (part_entry k g n tpdu), (freed_last es (part_entry k g n tpdu) d, refl))
+ended_stores g n k tpdu m es (Some content) d low high from new j =
+    let e : Entry = part_entry k g n tpdu in
+    let all : List Entry = es ++ e ∷ [] in
+    let x = joined_from (parts_to g.total all) content j in
+    let p = part_there g.total n all x.0 e low high x.1.0 (new_part n es e new refl) in (
+      joined_entry g all content,
+      (
+        put_stands (joined_entry g all content) (drop_all all d),
+        (from, (x.0, p.0, (x.1.1, p.1.0, p.1.1))),
+      ),
+    )
+
+part_stores : (g : Group) (n : ℕ) (tpdu : List ℕ) (m : DeliverOf) (es : List Entry) (d : Draft)
+    → 0 < n → n ≤ g.total → g.source ≡ m.originating_address → is_among n (part_numbers es) ≡ false → Stored (store_part g n tpdu es d) tpdu m
+part_stores g n tpdu m es d low high from new =
+    let k = d.rows.counters.entry in
+    let e : Entry = part_entry k g n tpdu in
+    let all : List Entry = es ++ e ∷ [] in
+    cond_both (all_numbers g.total (part_numbers all)) (ended g all (joined_content g all) (keep e d)) (keep e d) (λ (z : Draft). Stored z tpdu m)
+    (λ t. ended_stores g n k tpdu m es (joined_content g all) (keep e d) low high from new refl)
+    (λ t. (e, (put_stands e (count_entry d), (refl, from))))
+
+single_stores : (tpdu : List ℕ) (m : DeliverOf) (d : Draft) → Stored (store_single tpdu d) tpdu m
+single_stores tpdu m d = (single_entry d.rows.counters.entry tpdu, (put_stands (single_entry d.rows.counters.entry tpdu) (count_entry d), refl))
+
+-- ---- what is accepted
+
+abbrev Law : List Mark → Draft → Type 0
+Law marks d = StoresAccepted marks d.changes d.rows
+
+none_accepted : (marks : List Mark) (d : Draft) → d.changes.last ≡ [] → Law marks d
+none_accepted marks d e l a m f = absurd (subst (λ (cs : List (Change Last)). Among (Put l) cs) e a)
+
+-- the one that is put
+only_put : (x l : Last) (cs : List (Change Last)) → cs ≡ [] → Among (Put l) (cs ++ Put x ∷ []) → l ≡ x
+only_put x l cs e a =
+    let b : Among (Put l) (Put x ∷ []) = subst (λ (ds : List (Change Last)). Among (Put l) (ds ++ Put x ∷ [])) e a in
+    ⊎_elim (λ (q : Put l ≡ Put x). let r : l ≡ x = cc in r) (λ (q : ⊥). absurd q) b
+
+accept_stores : (marks : List Mark) (r : ℕ) (tag : Holder) (tpdu : List ℕ) (d : Draft) → d.changes.last ≡ []
+    → ((m : DeliverOf) → down_at InData tpdu ≡ Ok (Deliver m) → IsOfDiscarded marks m ⊎ Stored d tpdu m) → Law marks (accept r tag tpdu d)
+accept_stores marks r tag tpdu d e h l a m f =
+    let x : Last = record { reference = r; tpdu = tpdu } in
+    let q : l ≡ x = only_put x l d.changes.last e a in
+    let t : l.tpdu ≡ tpdu = ap (λ (z : Last). z.tpdu) q in
+    subst (λ (octets : List ℕ). IsOfDiscarded marks m ⊎ Stored d octets m) (sym t)
+    (h m (subst (λ (octets : List ℕ). down_at InData octets ≡ Ok (Deliver m)) t f))
+
+-- what is read of the TPDU is this DELIVER
+abbrev Reads : List ℕ → DeliverOf → Type 0
+Reads tpdu m = down_at InData tpdu ≡ Ok (Deliver m)
+
+same_deliver : (tpdu : List ℕ) (m n : DeliverOf) → Reads tpdu m → Reads tpdu n → m ≡ n
+same_deliver tpdu m n a b =
+    let x : Result Down TpduFault = Ok (Deliver m) in
+    let y : Result Down TpduFault = Ok (Deliver n) in
+    let e : x ≡ y = sym a ∙ b in cc
+
+single_law : (marks : List Mark) (r : ℕ) (tag : Holder) (tpdu : List ℕ) (d : Draft) → d.changes.last ≡ [] → Law marks (single_came r tag tpdu d)
+single_law marks r tag tpdu d e =
+    cond_both (has_room d) (accept r tag tpdu (store_single tpdu d)) (no_room r tag d) (λ (z : Draft). Law marks z)
+    (λ t. accept_stores marks r tag tpdu (store_single tpdu d) e (λ m f. inr (single_stores tpdu m d)))
+    (λ t. none_accepted marks (no_room r tag d) e)
+
+-- the changes of what was accepted last are not touched by storing
+completed_last : (g : Group) (es : List Entry) (d : Draft) → d.changes.last ≡ [] → (completed g es d).changes.last ≡ []
+completed_last g es d e =
+    cond_both (all_numbers g.total (part_numbers es)) (ended g es (joined_content g es) d) d (λ (z : Draft). z.changes.last ≡ [])
+    (λ t. ended_last g es (joined_content g es) d e) (λ t. e)
+  where
+    dropped_last : (es : List Entry) (d : Draft) → d.changes.last ≡ [] → (drop_all es d).changes.last ≡ []
+    dropped_last [] d e = e
+    dropped_last (x ∷ xs) d e = dropped_last xs (remove_entry x.number d) e
+
+    freed_last_too : (es : List Entry) (d : Draft) → d.changes.last ≡ [] → (free_all es d).changes.last ≡ []
+    freed_last_too [] d e = e
+    freed_last_too (x ∷ xs) d e = freed_last_too xs (put_entry (alone x) d) e
+
+    ended_last : (g : Group) (es : List Entry) (o : Option Content) (d : Draft) → d.changes.last ≡ [] → (ended g es o d).changes.last ≡ []
+    ended_last g es None d e = freed_last_too es d e
+    ended_last g es (Some c) d e = dropped_last es d e
+
+new_part_law : (marks : List Mark) (r : ℕ) (tag : Holder) (tpdu : List ℕ) (m : DeliverOf) (g : Group) (n : ℕ) (es : List Entry) (d : Draft) → d.changes.last ≡ []
+    → Reads tpdu m → 0 < n → n ≤ g.total → g.source ≡ m.originating_address → is_among n (part_numbers es) ≡ false → Law marks (new_part_came r tag tpdu g n es d)
+new_part_law marks r tag tpdu m g n es d e reads low high from new =
+    cond_both (has_room d) (accept r tag tpdu (store_part g n tpdu es d)) (no_room r tag d) (λ (z : Draft). Law marks z)
+    (λ t. accept_stores marks r tag tpdu (store_part g n tpdu es d) (completed_last g (es ++ part_entry d.rows.counters.entry g n tpdu ∷ []) (keep (part_entry d.rows.counters.entry g n tpdu) d) e)
+    (λ o f. inr (part_stores g n tpdu o es d low high (from ∙ ap (λ (z : DeliverOf). z.originating_address) (same_deliver tpdu m o reads f)) new)))
+    (λ t. none_accepted marks (no_room r tag d) e)
+
+member_law : (marks : List Mark) (r : ℕ) (tag : Holder) (tpdu : List ℕ) (m : DeliverOf) (g : Group) (n : ℕ) (es : List Entry) (d : Draft) → d.changes.last ≡ []
+    → Reads tpdu m → 0 < n → n ≤ g.total → g.source ≡ m.originating_address → Law marks (member_came r tag tpdu g n es d)
+member_law marks r tag tpdu m g n es d e reads low high from =
+    cond_both (is_among n (part_numbers es)) (single_came r tag tpdu d) (new_part_came r tag tpdu g n es d) (λ (z : Draft). Law marks z)
+    (λ t. single_law marks r tag tpdu d e) (λ t. new_part_law marks r tag tpdu m g n es d e reads low high from t)
+
+marked_last : (n : ℕ) (k : Mark) (d : Draft) → d.changes.last ≡ [] → (marked n k d).changes.last ≡ []
+marked_last n k d e = cond_both (all_numbers k.group.total (k.seen ++ n ∷ [])) (remove_mark k.number d) (put_mark (record k { seen = k.seen ++ n ∷ [] }) d) (λ (z : Draft). z.changes.last ≡ []) (λ t. e) (λ t. e)
+
+part_law : (marks : List Mark) (r : ℕ) (tag : Holder) (tpdu : List ℕ) (m : DeliverOf) (key : ConcatKey) (o : Option Mark) (d : Draft) → d.changes.last ≡ []
+    → Reads tpdu m → key_of m ≡ Some key → mark_of (group_of m.originating_address key) marks ≡ o → 0 < key.number → key.number ≤ key.total
+    → Law marks (part_came r tag tpdu (group_of m.originating_address key) key.number o d)
+part_law marks r tag tpdu m key None d e reads k marked low high =
+    member_law marks r tag tpdu m (group_of m.originating_address key) key.number (members (group_of m.originating_address key) d.rows.entries) d e reads low high refl
+part_law marks r tag tpdu m key (Some mark) d e reads k found low high =
+    cond_both (is_among key.number mark.seen) (single_came r tag tpdu d) (accept r tag tpdu (marked key.number mark d)) (λ (z : Draft). Law marks z)
+    (λ t. single_law marks r tag tpdu d e)
+    (λ t. accept_stores marks r tag tpdu (marked key.number mark d) (marked_last key.number mark d e)
+    (λ n f. inl (subst (λ (z : DeliverOf). IsOfDiscarded marks z) (same_deliver tpdu m n reads f) (key, mark, (k, found)))))
+
+-- a key is of a number from 1 to its total
+abbrev IsCounted : Option ConcatKey → Type 0
+IsCounted None = Unit {0}
+IsCounted (Some key) = (0 < key.number) × (key.number ≤ key.total)
+
+counted_counts : (reference : ConcatReference) (total number : ℕ) → IsCounted (counted reference total number)
+counted_counts reference total number =
+    let there : Option ConcatKey = Some (record { reference = reference; total = total; number = number }) in
+    cond_both (nat_lt 0 number && nat_le number total) there None (λ (z : Option ConcatKey). IsCounted z)
+    (λ t. let p = and_parts (nat_lt 0 number) (nat_le number total) t in (ltb-true 0 number p.0, leb-true number total p.1)) (λ t. tt)
+
+eight_counts : (octets : List ℕ) → IsCounted (eight_bit_key octets)
+eight_counts [] = tt
+eight_counts (a ∷ []) = tt
+eight_counts (a ∷ b ∷ []) = tt
+eight_counts (a ∷ b ∷ c ∷ []) = counted_counts (EightBit a) b c
+eight_counts (a ∷ b ∷ c ∷ d ∷ rest) = tt
+
+sixteen_counts : (octets : List ℕ) → IsCounted (sixteen_bit_key octets)
+sixteen_counts [] = tt
+sixteen_counts (a ∷ []) = tt
+sixteen_counts (a ∷ b ∷ []) = tt
+sixteen_counts (a ∷ b ∷ c ∷ []) = tt
+sixteen_counts (a ∷ b ∷ c ∷ d ∷ []) = counted_counts (SixteenBit (256 * a + b)) c d
+sixteen_counts (a ∷ b ∷ c ∷ d ∷ e ∷ rest) = tt
+
+element_counts : (e : Element) → IsCounted (element_key e)
+element_counts e =
+    cond_both (e.identifier == 0) (eight_bit_key e.octets) (cond (e.identifier == 8) (sixteen_bit_key e.octets) None) (λ (z : Option ConcatKey). IsCounted z)
+    (λ t. eight_counts e.octets)
+    (λ t. cond_both (e.identifier == 8) (sixteen_bit_key e.octets) None (λ (z : Option ConcatKey). IsCounted z) (λ u. sixteen_counts e.octets) (λ u. tt))
+
+later_counts : (a b : Option ConcatKey) → IsCounted a → IsCounted b → IsCounted (later a b)
+later_counts a None p q = p
+later_counts a (Some k) p q = q
+
+elements_count : (es : List Element) → IsCounted (key_of_elements es)
+unfolding key_of_elements
+elements_count [] = tt
+elements_count (e ∷ es) = later_counts (element_key e) (key_of_elements es) (element_counts e) (elements_count es)
+
+found_counts : (r : Result (List Element) HeaderError) → IsCounted (key_found r)
+found_counts (Ok es) = elements_count es
+found_counts (Err f) = tt
+
+header_counts : (indicator : Bool) (octets : List ℕ) → IsCounted (header_key indicator octets)
+header_counts false octets = tt
+header_counts true octets = found_counts (header_at octets)
+
+deliver_law : (marks : List Mark) (r : ℕ) (tag : Holder) (tpdu : List ℕ) (m : DeliverOf) (o : Option ConcatKey) (d : Draft) → d.changes.last ≡ [] → d.rows.marks ≡ marks
+    → Reads tpdu m → key_of m ≡ o → IsCounted o → Law marks (deliver_came r tag tpdu m o d)
+deliver_law marks r tag tpdu m None d e same reads k c = single_law marks r tag tpdu d e
+deliver_law marks r tag tpdu m (Some key) d e same reads k c =
+    let g : Group = group_of m.originating_address key in
+    part_law marks r tag tpdu m key (mark_of g d.rows.marks) d e reads k (ap (λ (ms : List Mark). mark_of g ms) (sym same)) c.0 c.1
+
+tpdu_law : (marks : List Mark) (r : ℕ) (tag : Holder) (tpdu : List ℕ) (t : Result Down TpduFault) (d : Draft) → d.changes.last ≡ [] → d.rows.marks ≡ marks
+    → down_at InData tpdu ≡ t → Law marks (tpdu_came r tag tpdu t d)
+tpdu_law marks r tag tpdu (Ok (Deliver m)) d e same q =
+    deliver_law marks r tag tpdu m (key_of m) d e same q refl (header_counts m.user_data_header_indicator m.user_data.octets)
+tpdu_law marks r tag tpdu (Ok (StatusReport s)) d e same q =
+    accept_stores marks r tag tpdu (note s.status (reported s d.rows.outbox) d) (noted_last s.status (reported s d.rows.outbox) d e)
+    (λ m f.
+    let x : Result Down TpduFault = Ok (StatusReport s) in
+    let y : Result Down TpduFault = Ok (Deliver m) in
+    let z : x ≡ y = sym q ∙ f in absurd cc)
+  where
+    noted_last : (status : ℕ) (o : Option OutEntry) (d : Draft) → d.changes.last ≡ [] → (note status o d).changes.last ≡ []
+    noted_last status None d e = e
+    noted_last status (Some o) d e = e
+tpdu_law marks r tag tpdu (Ok (SubmitReport s)) d e same q = none_accepted marks (tpdu_came r tag tpdu (Ok (SubmitReport s)) d) e
+tpdu_law marks r tag tpdu (Err f) d e same q = none_accepted marks (tpdu_came r tag tpdu (Err f) d) e
+
+data_law : (marks : List Mark) (r : ℕ) (tag : Holder) (tpdu : List ℕ) (d : Draft) → d.changes.last ≡ [] → d.rows.marks ≡ marks → Law marks (data_came r tag tpdu d)
+data_law marks r tag tpdu d e same =
+    cond_both (is_double tpdu (row_at last_key r d.rows.last)) (acknowledge r tag d) (tpdu_came r tag tpdu (down_at InData tpdu) d) (λ (z : Draft). Law marks z)
+    (λ t. none_accepted marks (acknowledge r tag d) e) (λ t. tpdu_law marks r tag tpdu (down_at InData tpdu) d e same refl)
+
+unit_law : (marks : List Mark) (tag : Holder) (unit : List ℕ) (u : Result Rp RelayFault) (d : Draft) → d.changes.last ≡ [] → d.rows.marks ≡ marks → Law marks (unit_came tag unit u d)
+unit_law marks tag unit (Ok (DataUnit r c tpdu)) d e same = data_law marks r tag tpdu d e same
+unit_law marks tag unit (Ok (AckUnit r tpdu)) d e same = none_accepted marks d e
+unit_law marks tag unit (Ok (ErrorUnit r c tpdu)) d e same = none_accepted marks d e
+unit_law marks tag unit (Ok (Smma r)) d e same = none_accepted marks d e
+unit_law marks tag unit (Err f) d e same = none_accepted marks (unit_came tag unit (Err f) d) e
+
+-- ---- what follows touches neither
+
+pub record Kept (d z : Draft) : Type 0 where
+  pub entries : z.rows.entries ≡ d.rows.entries
+  pub changed : z.changes.entries ≡ d.changes.entries
+  pub last : z.changes.last ≡ d.changes.last
+
+kept : (d : Draft) → Kept d d
+kept d = record { entries = refl; changed = refl; last = refl }
+
+kept_then : (d e z : Draft) → Kept d e → Kept e z → Kept d z
+kept_then d e z a b = record { entries = b.entries ∙ a.entries; changed = b.changed ∙ a.changed; last = b.last ∙ a.last }
+
+kept_law : (marks : List Mark) (d z : Draft) → Kept d z → Law marks d → Law marks z
+kept_law marks d z k h l a m f =
+    ⊎_elim (λ (x : IsOfDiscarded marks m). inl x)
+    (λ (x : Stored d l.tpdu m). inr (x.0, ((subst (λ (cs : List (Change Entry)). Among (Put x.0) cs) (sym k.changed) x.1.0.0, subst (λ (es : List Entry). Among x.0 es) (sym k.entries) x.1.0.1), x.1.1)))
+    (h l (subst (λ (cs : List (Change Last)). Among (Put l) cs) k.last a) m f)
+
+lapse_rows_kept : (os : List OutEntry) (d : Draft) → Kept d (lapse_rows os d)
+lapse_rows_kept [] d = kept d
+lapse_rows_kept (o ∷ os) d =
+    let e : Draft = cond (is_sending o.state) (put_out (lost o) d) d in
+    kept_then d e (lapse_rows os e)
+    (cond_both (is_sending o.state) (put_out (lost o) d) d (λ (z : Draft). Kept d z) (λ t. record { entries = refl; changed = refl; last = refl }) (λ t. kept d))
+    (lapse_rows_kept os e)
+
+lapse_kept : (d : Draft) → Kept d (lapse d)
+lapse_kept d =
+    cond_both d.is_recovered (lapse_rows d.rows.outbox (record d { is_recovered = false })) d (λ (z : Draft). Kept d z)
+    (λ t. let k = lapse_rows_kept d.rows.outbox (record d { is_recovered = false }) in record { entries = k.entries; changed = k.changed; last = k.last })
+    (λ t. kept d)
+
+offer_entry_kept : (o : Option OutEntry) (d : Draft) → Kept d (offer_entry o d)
+offer_entry_kept None d = kept d
+offer_entry_kept (Some o) d = record { entries = refl; changed = refl; last = refl }
+
+offer_wanted_kept : (d : Draft) → Kept d (offer_wanted d)
+offer_wanted_kept d =
+    cond_both (nat_lt 0 d.wanted && nat_lt d.rows.counters.notice 4294967295)
+    (first_notice d.rows.counters.notice (next_free d.rows.counters.reference (held_references None d.rows.outbox)) d) (offer_message d) (λ (z : Draft). Kept d z)
+    (λ t. record { entries = refl; changed = refl; last = refl }) (λ t. offer_entry_kept (first_due d.moment d.rows.outbox) d)
+
+offer_after_kept : (n : Option Notice) (d : Draft) → Kept d (offer_after n d)
+offer_after_kept None d = offer_wanted_kept d
+offer_after_kept (Some n) d =
+    cond_both (is_fired d.moment n.due) (send_notice n d) (offer_message d) (λ (z : Draft). Kept d z)
+    (λ t. record { entries = refl; changed = refl; last = refl }) (λ t. offer_entry_kept (first_due d.moment d.rows.outbox) d)
+
+follow_kept : (d : Draft) → Kept d (follow d)
+follow_kept d =
+    let e : Draft = lapse d in
+    kept_then d e (offer e) (lapse_kept d)
+    (cond_both (is_busy e.links) e (offer_after e.notice e) (λ (z : Draft). Kept e z) (λ t. kept e) (λ t. offer_after_kept e.notice e))
+
+-- ---- a frame
+
+notice_failed_none : (n : Notice) (d : Draft) → d.changes.last ≡ [] → (notice_failed n d).changes.last ≡ []
+notice_failed_none n d e =
+    cond_both n.is_second (record d { notice = None }) (record d { notice = Some (record n { is_second = true; due = Some (later_moment d.moment tram) }) }) (λ (z : Draft). z.changes.last ≡ []) (λ t. e) (λ t. e)
+
+notice_none : (v : Verdict) (n : Notice) (d : Draft) → d.changes.last ≡ [] → (notice_ended v n d).changes.last ≡ []
+notice_none Acknowledged n d e = e
+notice_none Temporary n d e = notice_failed_none n d e
+notice_none Duplicate n d e = notice_failed_none n d e
+notice_none Refused n d e = notice_failed_none n d e
+notice_none Lost n d e = notice_failed_none n d e
+
+concluded_none : (u : Option (Result Rp RelayFault)) (n : Option Notice) (d : Draft) → d.changes.last ≡ [] → (notice_concluded u n d).changes.last ≡ []
+concluded_none u None d e = e
+concluded_none u (Some n) d e = notice_none (verdict_of n.reference u) n d e
+
+entry_none : (u : Option (Result Rp RelayFault)) (o : Option OutEntry) (d : Draft) → d.changes.last ≡ [] → (entry_concluded u o d).changes.last ≡ []
+entry_none u None d e = e
+entry_none u (Some o) d e = e
+
+holder_none : (u : Option (Result Rp RelayFault)) (k : Holder) (d : Draft) → d.changes.last ≡ [] → (holder_concluded u k d).changes.last ≡ []
+holder_none u (PartHolder i n) d e = e
+holder_none u (Report i) d e = e
+holder_none u (EntryHolder n) d e = entry_none u (row_at out_key n d.rows.outbox) d e
+holder_none u (Memory n) d e = concluded_none u d.notice d e
+
+transfer_none : (u : Option (Result Rp RelayFault)) (c : Option Carried) (d : Draft) → d.changes.last ≡ [] → (transfer_concluded u c d).changes.last ≡ []
+transfer_none u None d e = e
+transfer_none u (Some c) d e = holder_none u c.tag d e
+
+up_law : (marks : List Mark) (tag : Holder) (up : Option Up) (d : Draft) → d.changes.last ≡ [] → d.rows.marks ≡ marks → Law marks (went_up tag up d)
+up_law marks tag None d e same = none_accepted marks d e
+up_law marks tag (Some (UnitUp FromOriginator unit)) d e same = unit_law marks tag unit (unit_at unit) d e same
+up_law marks tag (Some (UnitUp ToOriginator unit)) d e same =
+    none_accepted marks (conclude (Some (unit_at unit)) d) (transfer_none (Some (unit_at unit)) d.under_way (record d { under_way = None }) e)
+up_law marks tag (Some FailedUp) d e same = none_accepted marks (conclude None d) (transfer_none None d.under_way (record d { under_way = None }) e)
+
+pub frame_stores : (octets : List ℕ) (tag : Holder) (c : Core) → StoresAccepted c.rows.marks (frame_came octets tag c).changes (frame_came octets tag c).rows
+frame_stores octets tag c =
+    let step : Step = take_step octets c.links in
+    let d : Draft = frame_heard tag step (draft_of c) in
+    kept_law c.rows.marks d (follow d) (follow_kept d) (up_law c.rows.marks tag step.out.up (heard step (draft_of c)) refl refl)
+
+-- ---- other events accept nothing
+
+failed_none : (up : Option Up) (d : Draft) → d.changes.last ≡ [] → (failed up d).changes.last ≡ []
+failed_none None d e = e
+failed_none (Some (UnitUp flag unit)) d e = e
+failed_none (Some FailedUp) d e = transfer_none None d.under_way (record d { under_way = None }) e
+
+pub tick_stores : (now : ℕ) (c : Core) → StoresAccepted c.rows.marks (ticked now c).changes (ticked now c).rows
+tick_stores now c =
+    let step : Step = fire_step (max c.moment now) c.links in
+    let d : Draft = timers_fired step (at_moment now (draft_of c)) in
+    kept_law c.rows.marks d (follow d) (follow_kept d) (none_accepted c.rows.marks d (failed_none step.out.up (heard step (at_moment now (draft_of c))) refl))
+
+abbrev NoneIfDone : Result Draft Refusal → Type 0
+NoneIfDone (Ok d) = d.changes.last ≡ []
+NoneIfDone (Err refusal) = Unit {0}
+
+abbrev pub LawIfDone : List Mark → Result Draft Refusal → Type 0
+LawIfDone marks (Ok d) = StoresAccepted marks d.changes d.rows
+LawIfDone marks (Err refusal) = Unit {0}
+
+acted_law : (marks : List Mark) (r : Result Draft Refusal) → NoneIfDone r → LawIfDone marks (acted r)
+acted_law marks (Ok d) e = kept_law marks d (follow d) (follow_kept d) (none_accepted marks d e)
+acted_law marks (Err f) e = tt
+
+write_parts_none : (to : Address) (report is_long : Bool) (ps : List PartOf) (d : Draft) → d.changes.last ≡ [] → (write_parts to report is_long ps d).changes.last ≡ []
+write_parts_none to report is_long [] d e = e
+write_parts_none to report is_long (p ∷ ps) d e = write_parts_none to report is_long ps (write_part to report is_long p d) e
+
+count_split_none : (is_long : Bool) (d : Draft) → d.changes.last ≡ [] → (count_split is_long d).changes.last ≡ []
+count_split_none false d e = e
+count_split_none true d e = e
+
+write_to_none : (report : Bool) (ps : List PartOf) (to : Result Address AddressError) (d : Draft) → d.changes.last ≡ [] → NoneIfDone (write_to report ps to d)
+write_to_none report ps (Err f) d e = tt
+write_to_none report ps (Ok to) d e =
+    let is_long : Bool = nat_lt 1 (length ps) in
+    cond_both (fits_outbox (length ps) d) (Ok (written to report ps d)) (Err OutboxFull) (λ (z : Result Draft Refusal). NoneIfDone z)
+    (λ t. write_parts_none to report is_long ps (count_split is_long d) (count_split_none is_long d e)) (λ t. tt)
+
+write_split_none : (to : List ℕ) (report : Bool) (ps : Result (List PartOf) SplitError) (d : Draft) → d.changes.last ≡ [] → NoneIfDone (write_split to report ps d)
+write_split_none to report (Err f) d e = tt
+write_split_none to report (Ok ps) d e = write_to_none report ps (address_of 1 1 to) d e
+
+delete_out_none : (n : ℕ) (o : Option OutEntry) (d : Draft) → d.changes.last ≡ [] → NoneIfDone (delete_out n o d)
+delete_out_none n None d e = tt
+delete_out_none n (Some o) d e = cond_both (is_unfinished o.state) (Err StillOpen) (Ok (remove_out n d)) (λ (z : Result Draft Refusal). NoneIfDone z) (λ t. tt) (λ t. e)
+
+freed_none : (d : Draft) → d.changes.last ≡ [] → (freed d).changes.last ≡ []
+freed_none d e =
+    cond_both d.rows.counters.is_memory_full (want_notice (put_counters (record d.rows.counters { is_memory_full = false }) d)) d (λ (z : Draft). z.changes.last ≡ []) (λ t. e) (λ t. e)
+
+delete_in_none : (n : ℕ) (o : Option Entry) (d : Draft) → d.changes.last ≡ [] → NoneIfDone (delete_in n o d)
+delete_in_none n None d e = delete_out_none n (row_at out_key n d.rows.outbox) d e
+delete_in_none n (Some x) d e =
+    cond_both (is_open_part x.message) (Err StillOpen) (Ok (freed (remove_entry n d))) (λ (z : Result Draft Refusal). NoneIfDone z)
+    (λ t. tt) (λ t. freed_none (remove_entry n d) e)
+
+dropped_none : (es : List Entry) (d : Draft) → d.changes.last ≡ [] → (drop_all es d).changes.last ≡ []
+dropped_none [] d e = e
+dropped_none (x ∷ xs) d e = dropped_none xs (remove_entry x.number d) e
+
+discard_members_none : (n : ℕ) (g : Group) (es : List Entry) (d : Draft) → d.changes.last ≡ [] → NoneIfDone (discard_members n g es d)
+discard_members_none n g es d e =
+    cond_both (first_number es == n) (cond (nat_lt (length d.rows.marks) 64) (Ok (discard_group n g es d)) (Err TooManyDiscarded)) (Err NoEntry) (λ (z : Result Draft Refusal). NoneIfDone z)
+    (λ t. cond_both (nat_lt (length d.rows.marks) 64) (Ok (discard_group n g es d)) (Err TooManyDiscarded) (λ (z : Result Draft Refusal). NoneIfDone z)
+    (λ u. freed_none (put_mark (record { number = n; group = g; seen = part_numbers es }) (drop_all es d)) (dropped_none es d e)) (λ u. tt))
+    (λ t. tt)
+
+discard_in_none : (n : ℕ) (m : Message) (d : Draft) → d.changes.last ≡ [] → NoneIfDone (discard_in n m d)
+discard_in_none n (Single tpdu) d e = tt
+discard_in_none n (Part g k tpdu) d e = discard_members_none n g (members g d.rows.entries) d e
+discard_in_none n (Joined source content) d e = tt
+
+discard_at_none : (n : ℕ) (o : Option Entry) (d : Draft) → d.changes.last ≡ [] → NoneIfDone (discard_at n o d)
+discard_at_none n None d e = tt
+discard_at_none n (Some x) d e = discard_in_none n x.message d e
+
+pub write_stores : (text to : List ℕ) (report : Bool) (c : Core) → LawIfDone c.rows.marks (wrote text to report c)
+write_stores text to report c =
+    acted_law c.rows.marks (write text to report (draft_of c))
+    (write_split_none to report (split_of (content_of_text text) c.rows.counters.concat_reference) (draft_of c) refl)
+
+pub delete_stores : (n : ℕ) (c : Core) → LawIfDone c.rows.marks (deleted n c)
+delete_stores n c = acted_law c.rows.marks (delete n (draft_of c)) (delete_in_none n (row_at entry_key n c.rows.entries) (draft_of c) refl)
+
+pub discard_stores : (n : ℕ) (c : Core) → LawIfDone c.rows.marks (discarded n c)
+discard_stores n c = acted_law c.rows.marks (discard n (draft_of c)) (discard_at_none n (row_at entry_key n c.rows.entries) (draft_of c) refl)

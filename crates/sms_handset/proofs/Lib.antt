@@ -1,0 +1,8 @@
+pub mod Accepting
+pub mod CentreAddresses
+pub mod FreeReferences
+pub mod Judging
+pub mod Numbers
+pub mod PartFields
+pub mod Resting
+pub mod PlansStore

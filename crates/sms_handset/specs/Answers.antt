@@ -1,0 +1,50 @@
+-- How a transfer that the handset began ended.
+use Rattle.std.specs.Prelude.{ℕ, ◌==◌, ◌||◌, Bool, true, false, if◌then◌else◌, Option, Some, None, Result, Ok, Err, List}
+use Rattle.sms_relay.specs.declared.cause.RpCause.{RpCause}
+use Rattle.sms_relay.specs.declared.fault.RelayFault.{RelayFault}
+use Rattle.sms_relay.specs.declared.frame.Rp.{Rp}
+use Rattle.sms_relay.specs.declared.frame.Rp.TheVariants.{DataUnit, AckUnit, ErrorUnit, Smma}
+use Rattle.sms_relay.specs.Cause.{number_of}
+use Rattle.sms_tpdu.specs.declared.carrier.Carrier.TheVariants.{InError}
+use Rattle.sms_tpdu.specs.declared.down.Down.{Down}
+use Rattle.sms_tpdu.specs.declared.down.Down.TheVariants.{Deliver, StatusReport, SubmitReport}
+use Rattle.sms_tpdu.specs.declared.fault.TpduFault.{TpduFault}
+use Rattle.sms_tpdu.specs.TpduReading.{down_at}
+use Rattle.sms_handset.specs.declared.answers.Verdict.{Verdict}
+use Rattle.sms_handset.specs.declared.answers.Verdict.TheVariants.{Acknowledged, Temporary, Duplicate, Refused, Lost}
+
+-- 3GPP TS 24.011 8.2.5.4: network out of order, temporary failure, congestion, resources unavailable
+abbrev pub is_temporary : RpCause → Bool
+is_temporary cause = number_of cause == 38 || (number_of cause == 41 || (number_of cause == 42 || number_of cause == 47))
+
+-- 3GPP TS 23.040 9.2.3.22: TP-FCS C5 says that the short message is a duplicate
+abbrev pub is_duplicate_cause : Option ℕ → Bool
+is_duplicate_cause None = false
+is_duplicate_cause (Some failure) = failure == 197
+
+-- a report that can't be read has no cause
+abbrev pub tells_duplicate : Result Down TpduFault → Bool
+tells_duplicate (Ok (Deliver m)) = false
+tells_duplicate (Ok (StatusReport r)) = false
+tells_duplicate (Ok (SubmitReport r)) = is_duplicate_cause r.failure_cause
+tells_duplicate (Err fault) = false
+
+abbrev pub is_duplicate : Option (List ℕ) → Bool
+is_duplicate None = false
+is_duplicate (Some tpdu) = tells_duplicate (down_at InError tpdu)
+
+abbrev pub error_verdict : RpCause → Option (List ℕ) → Verdict
+error_verdict cause tpdu = if is_temporary cause then Temporary else (if is_duplicate tpdu then Duplicate else Refused)
+
+-- what a unit says of the transfer with that reference; a wrong reference is looked at first
+abbrev pub unit_verdict : ℕ → Result Rp RelayFault → Verdict
+unit_verdict reference (Ok (DataUnit r centre tpdu)) = Lost
+unit_verdict reference (Ok (AckUnit r tpdu)) = if r == reference then Acknowledged else Lost
+unit_verdict reference (Ok (ErrorUnit r cause tpdu)) = if r == reference then error_verdict cause tpdu else Lost
+unit_verdict reference (Ok (Smma r)) = Lost
+unit_verdict reference (Err fault) = Lost
+
+-- no unit: the transaction failed
+abbrev pub verdict_of : ℕ → Option (Result Rp RelayFault) → Verdict
+verdict_of reference None = Lost
+verdict_of reference (Some unit) = unit_verdict reference unit

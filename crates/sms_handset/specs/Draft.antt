@@ -1,0 +1,229 @@
+-- A handset, and a handset in the middle of an event: its rows, all that a restart forgets, and what has come of the
+-- event so far. All that a stage of an event does, it does by the moves below.
+use Rattle.std.specs.Prelude.{ℕ, ◌+◌, List, [], ◌∷◌, ◌++◌, Bool, true, false, Option, Some, None, Result, Ok, Err, unwrap_or, max}
+use Rattle.sms_control.specs.declared.link_state.LinkState.{LinkState}
+use Rattle.sms_control.specs.declared.message.Cp.{Cp}
+use Rattle.sms_control.specs.declared.message.Cp.TheVariants.{DataUnit, AckUnit, ErrorUnit}
+use Rattle.sms_control.specs.declared.fault.CpFault.{CpFault}
+use Rattle.sms_control.specs.declared.transaction.TransactionFlag.{TransactionFlag}
+use Rattle.sms_control.specs.declared.transaction.TransactionFlag.TheVariants.{FromOriginator, ToOriginator}
+use Rattle.sms_control.specs.ControlReading.{cp_at}
+use Rattle.sms_control.specs.LinkStep.{Step, fresh, begin_step, reply_step}
+use Rattle.sms_base.specs.declared.change.Change.{Change}
+use Rattle.sms_base.specs.declared.change.Change.TheVariants.{Put, Remove}
+use Rattle.sms_handset.specs.declared.counters.Counters.{Counters}
+use Rattle.sms_handset.specs.declared.entry.Entry.{Entry}
+use Rattle.sms_base.specs.declared.holder.Holder.{Holder}
+use Rattle.sms_handset.specs.declared.last.Last.{Last}
+use Rattle.sms_handset.specs.declared.mark.Mark.{Mark}
+use Rattle.sms_handset.specs.declared.notice.Notice.{Notice}
+use Rattle.sms_handset.specs.declared.out_entry.OutEntry.{OutEntry}
+use Rattle.sms_handset.specs.declared.outgoing.Kind.{Kind}
+use Rattle.sms_handset.specs.declared.outgoing.Kind.TheVariants.{Data}
+use Rattle.sms_handset.specs.declared.outgoing.Carried.{Carried}
+use Rattle.sms_handset.specs.declared.outgoing.Outgoing.{Outgoing}
+use Rattle.sms_handset.specs.declared.rows.Rows.{Rows}
+use Rattle.sms_handset.specs.declared.rows.Changes.{Changes}
+use Rattle.sms_handset.specs.declared.stored.Stored.{Stored}
+use Rattle.sms_handset.specs.Keys.{entry_key, last_key, out_key, mark_key}
+use Rattle.sms_base.specs.Table.{put, without, all_applied}
+
+-- ---- a handset between two events
+
+pub record Core : Type 0 where
+  pub rows : Rows
+  -- the greatest moment that it was told
+  pub moment : ℕ
+  pub links : LinkState
+  -- what the transaction that it began carries, and what its answer in the centre's transaction carries
+  pub under_way : Option Carried
+  pub answered : Option Carried
+  -- how many RP-SMMA are wanted that were not sent yet, and the one that was sent and has not ended
+  pub wanted : ℕ
+  pub notice : Option Notice
+  -- rows that are Sending may stand from before a restart
+  pub is_recovered : Bool
+
+-- the handset that starts with these rows
+abbrev pub recovered : Rows → Core
+recovered rows = record {
+  rows = rows;
+  moment = rows.setup.start;
+  links = fresh;
+  under_way = None;
+  answered = None;
+  wanted = 0;
+  notice = None;
+  is_recovered = true;
+}
+
+-- How many rows the memory of each list holds: a plan makes room first, so that adopting it takes no memory.
+pub record Room : Type 0 where
+  pub entries : ℕ
+  pub last : ℕ
+  pub outbox : ℕ
+  pub marks : ℕ
+
+pub record Standing : Type 0 where
+  pub core : Core
+  pub room : Room
+
+-- the rows that are kept
+abbrev pub rows_of : Stored → Rows
+rows_of s = record {
+  entries = s.entries.rows;
+  last = s.last.rows;
+  outbox = s.outbox.rows;
+  marks = s.marks.rows;
+  counters = s.counters;
+  setup = s.setup;
+}
+
+abbrev pub room_of : Stored → Room
+room_of s = record { entries = s.entries.capacity; last = s.last.capacity; outbox = s.outbox.capacity; marks = s.marks.capacity }
+
+-- ---- changes
+
+abbrev pub no_changes : Changes
+no_changes = record { entries = []; last = []; outbox = []; marks = []; counters = None }
+
+-- the rows after the changes
+abbrev pub rows_after : Changes → Rows → Rows
+rows_after changes rows = record {
+  entries = all_applied entry_key changes.entries rows.entries;
+  last = all_applied last_key changes.last rows.last;
+  outbox = all_applied out_key changes.outbox rows.outbox;
+  marks = all_applied mark_key changes.marks rows.marks;
+  counters = unwrap_or changes.counters rows.counters;
+  setup = rows.setup;
+}
+
+-- ---- a handset in the middle of an event
+
+pub record Draft : Type 0 where
+  pub rows : Rows
+  pub moment : ℕ
+  pub links : LinkState
+  pub under_way : Option Carried
+  pub answered : Option Carried
+  pub wanted : ℕ
+  pub notice : Option Notice
+  pub is_recovered : Bool
+  -- what came of the event so far
+  pub changes : Changes
+  pub frames : List Outgoing
+
+abbrev pub draft_of : Core → Draft
+draft_of c = record {
+  rows = c.rows;
+  moment = c.moment;
+  links = c.links;
+  under_way = c.under_way;
+  answered = c.answered;
+  wanted = c.wanted;
+  notice = c.notice;
+  is_recovered = c.is_recovered;
+  changes = no_changes;
+  frames = [];
+}
+
+abbrev pub core_of : Draft → Core
+core_of d = record {
+  rows = d.rows;
+  moment = d.moment;
+  links = d.links;
+  under_way = d.under_way;
+  answered = d.answered;
+  wanted = d.wanted;
+  notice = d.notice;
+  is_recovered = d.is_recovered;
+}
+
+-- ---- moves: changes of rows, each with what it leaves in the list
+
+abbrev pub put_entry : Entry → Draft → Draft
+put_entry e d = record d {
+  rows = record d.rows { entries = put entry_key e d.rows.entries };
+  changes = record d.changes { entries = d.changes.entries ++ Put e ∷ [] };
+}
+
+abbrev pub remove_entry : ℕ → Draft → Draft
+remove_entry n d = record d {
+  rows = record d.rows { entries = without entry_key n d.rows.entries };
+  changes = record d.changes { entries = d.changes.entries ++ Remove n ∷ [] };
+}
+
+abbrev pub put_last : Last → Draft → Draft
+put_last l d = record d {
+  rows = record d.rows { last = put last_key l d.rows.last };
+  changes = record d.changes { last = d.changes.last ++ Put l ∷ [] };
+}
+
+abbrev pub put_out : OutEntry → Draft → Draft
+put_out o d = record d {
+  rows = record d.rows { outbox = put out_key o d.rows.outbox };
+  changes = record d.changes { outbox = d.changes.outbox ++ Put o ∷ [] };
+}
+
+abbrev pub remove_out : ℕ → Draft → Draft
+remove_out n d = record d {
+  rows = record d.rows { outbox = without out_key n d.rows.outbox };
+  changes = record d.changes { outbox = d.changes.outbox ++ Remove n ∷ [] };
+}
+
+abbrev pub put_mark : Mark → Draft → Draft
+put_mark m d = record d {
+  rows = record d.rows { marks = put mark_key m d.rows.marks };
+  changes = record d.changes { marks = d.changes.marks ++ Put m ∷ [] };
+}
+
+abbrev pub remove_mark : ℕ → Draft → Draft
+remove_mark n d = record d {
+  rows = record d.rows { marks = without mark_key n d.rows.marks };
+  changes = record d.changes { marks = d.changes.marks ++ Remove n ∷ [] };
+}
+
+abbrev pub put_counters : Counters → Draft → Draft
+put_counters c d = record d { rows = record d.rows { counters = c }; changes = record d.changes { counters = Some c } }
+
+-- ---- moves: frames
+
+-- frames that all carry the same
+abbrev pub carrying : Option Carried → List (List ℕ) → List Outgoing
+carrying carried [] = []
+carrying carried (f ∷ fs) = record { octets = f; carried = carried } ∷ carrying carried fs
+
+-- The answer in the transaction that the centre began. It is kept what the answer carries: links may send it again.
+abbrev pub reply : Kind → ℕ → Holder → List ℕ → Draft → Draft
+reply kind reference tag unit d =
+    let carried : Option Carried = Some (record { kind = kind; reference = reference; tag = tag }) in
+    let step : Step = reply_step d.moment unit d.links in
+    record d { links = step.state; answered = carried; frames = d.frames ++ carrying carried step.out.frames }
+
+-- A transaction of this side.
+abbrev pub begin : ℕ → Holder → List ℕ → Draft → Draft
+begin reference tag unit d =
+    let carried : Option Carried = Some (record { kind = Data; reference = reference; tag = tag }) in
+    let step : Step = begin_step d.moment unit d.links in
+    record d { links = step.state; under_way = carried; frames = d.frames ++ carrying carried step.out.frames }
+
+-- What a frame of the links' own carries: CP-DATA of this side's transaction is that transaction's data, CP-DATA of the
+-- centre's is this side's answer there, and CP-ACK and CP-ERROR carry nothing.
+abbrev pub carried_by : TransactionFlag → Option Carried → Option Carried → Option Carried
+carried_by FromOriginator under_way answered = under_way
+carried_by ToOriginator under_way answered = answered
+
+abbrev pub carried_in : Result Cp CpFault → Option Carried → Option Carried → Option Carried
+carried_in (Ok (DataUnit transaction unit)) under_way answered = carried_by transaction.flag under_way answered
+carried_in (Ok (AckUnit transaction)) under_way answered = None
+carried_in (Ok (ErrorUnit transaction cause)) under_way answered = None
+carried_in (Err fault) under_way answered = None
+
+abbrev pub from_links : Option Carried → Option Carried → List (List ℕ) → List Outgoing
+from_links under_way answered [] = []
+from_links under_way answered (f ∷ fs) =
+    record { octets = f; carried = carried_in (cp_at f) under_way answered } ∷ from_links under_way answered fs
+
+-- the links did a step of their own
+abbrev pub heard : Step → Draft → Draft
+heard step d = record d { links = step.state; frames = d.frames ++ from_links d.under_way d.answered step.out.frames }

@@ -1,0 +1,13 @@
+-- The codes of the refusals in reports.
+use Rattle.std.specs.Prelude.{ℕ, List, codes}
+use Rattle.sms_base.specs.FaultCodes.{address_code}
+use Rattle.sms_handset.specs.declared.refusal.Refusal.{Refusal}
+use Rattle.sms_handset.specs.declared.refusal.Refusal.TheVariants.{NoEntry, StillOpen, OutboxFull, TooManyDiscarded, TooManyParts, Destination}
+
+abbrev pub refusal_code : Refusal → List ℕ
+refusal_code NoEntry = codes "H2"
+refusal_code StillOpen = codes "H3"
+refusal_code OutboxFull = codes "H4"
+refusal_code TooManyDiscarded = codes "H5"
+refusal_code TooManyParts = codes "C1"
+refusal_code (Destination fault) = address_code fault

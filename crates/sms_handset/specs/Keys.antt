@@ -1,0 +1,18 @@
+-- The keys of the four lists: by number the entries, the outbox and the discarded groups, by reference what was accepted last.
+use Rattle.std.specs.Prelude.{ℕ}
+use Rattle.sms_handset.specs.declared.entry.Entry.{Entry}
+use Rattle.sms_handset.specs.declared.last.Last.{Last}
+use Rattle.sms_handset.specs.declared.mark.Mark.{Mark}
+use Rattle.sms_handset.specs.declared.out_entry.OutEntry.{OutEntry}
+
+abbrev pub entry_key : Entry → ℕ
+entry_key e = e.number
+
+abbrev pub last_key : Last → ℕ
+last_key l = l.reference
+
+abbrev pub out_key : OutEntry → ℕ
+out_key o = o.number
+
+abbrev pub mark_key : Mark → ℕ
+mark_key m = m.number

@@ -1,0 +1,15 @@
+pub mod Keys
+pub mod Draft
+pub mod Groups
+pub mod References
+pub mod Answers
+pub mod MemoryAvailable
+pub mod Outbox
+pub mod Receiving
+pub mod Accepted
+pub mod OwnersActs
+pub mod HandsetEvent
+pub mod Planning
+pub mod SoundRows
+pub mod Trying
+pub mod FaultCodes

@@ -1,0 +1,71 @@
+-- Memory available (3GPP TS 23.040 10.3, 3GPP TS 24.011 6.3.3): a handset that refused a message for want of a slot says
+-- so by RP-SMMA once a slot has become free.
+use Rattle.std.specs.Prelude.{ℕ, ◌+◌, ◌-◌, ◌%◌, min, nat_lt, Bool, true, false, if◌then◌else◌, Option, Some, None, Result, List, [], ◌∷◌}
+use Rattle.sms_control.specs.Timers.{later}
+use Rattle.sms_relay.specs.declared.fault.RelayFault.{RelayFault}
+use Rattle.sms_relay.specs.declared.frame.Rp.{Rp}
+use Rattle.sms_relay.specs.RelayGrammar.{smma_up}
+use Rattle.sms_handset.specs.declared.counters.Counters.{Counters}
+use Rattle.sms_base.specs.declared.holder.Holder.TheVariants.{Memory}
+use Rattle.sms_handset.specs.declared.notice.Notice.{Notice}
+use Rattle.sms_handset.specs.declared.entry.Entry.{Entry}
+use Rattle.sms_handset.specs.declared.answers.Verdict.{Verdict}
+use Rattle.sms_handset.specs.declared.answers.Verdict.TheVariants.{Acknowledged, Temporary, Duplicate, Refused, Lost}
+use Rattle.sms_handset.specs.Answers.{verdict_of}
+use Rattle.sms_handset.specs.Draft.{Draft, put_counters, begin}
+
+-- TRAM, in seconds (this project's length)
+abbrev pub tram : ℕ
+tram = 30
+
+abbrev pub slots_taken : List Entry → ℕ
+slots_taken [] = 0
+slots_taken (e ∷ es) = e.slots + slots_taken es
+
+-- a slot is free, and an entry number is left
+abbrev pub has_room : Draft → Bool
+has_room d = if nat_lt (slots_taken d.rows.entries) d.rows.setup.slots then nat_lt d.rows.counters.entry 4294967295 else false
+
+-- a message was refused for want of a slot
+abbrev pub flag : Draft → Draft
+flag d = put_counters (record d.rows.counters { is_memory_full = true }) d
+
+-- one more RP-SMMA is wanted
+abbrev pub want_notice : Draft → Draft
+want_notice d = record d { wanted = min (d.wanted + 1) 4294967295 }
+
+-- a slot became free
+abbrev pub freed : Draft → Draft
+freed d =
+    if d.rows.counters.is_memory_full
+    then want_notice (put_counters (record d.rows.counters { is_memory_full = false }) d)
+    else d
+
+-- ---- sending: twice in all, the second time under its reference once TRAM fired
+
+abbrev pub send_notice : Notice → Draft → Draft
+send_notice n d = begin n.reference (Memory n.number) (smma_up n.reference) (record d { notice = Some (record n { due = None }) })
+
+-- its first sending takes a number and the next free reference
+abbrev pub first_notice : ℕ → ℕ → Draft → Draft
+first_notice number reference d =
+    send_notice (record { number = number; reference = reference; is_second = false; due = None })
+    (put_counters (record d.rows.counters { notice = number + 1; reference = (reference + 1) % 256 })
+    (record d { wanted = d.wanted - 1 }))
+
+-- the transaction of an RP-SMMA ended
+abbrev pub notice_failed : Notice → Draft → Draft
+notice_failed n d =
+    if n.is_second then record d { notice = None }
+    else record d { notice = Some (record n { is_second = true; due = Some (later d.moment tram) }) }
+
+abbrev pub notice_ended : Verdict → Notice → Draft → Draft
+notice_ended Acknowledged n d = record d { notice = None }
+notice_ended Temporary n d = notice_failed n d
+notice_ended Duplicate n d = notice_failed n d
+notice_ended Refused n d = notice_failed n d
+notice_ended Lost n d = notice_failed n d
+
+abbrev pub notice_concluded : Option (Result Rp RelayFault) → Option Notice → Draft → Draft
+notice_concluded unit None d = d
+notice_concluded unit (Some n) d = notice_ended (verdict_of n.reference unit) n d

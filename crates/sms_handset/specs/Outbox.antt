@@ -1,0 +1,149 @@
+-- The outbox: one message is under way at a time, the oldest that is due first; how it ends, and what a restart leaves.
+use Rattle.std.specs.Prelude.{ℕ, ◌+◌, ◌*◌, ◌/◌, ◌%◌, min, nat_le, nat_lt, ◌||◌, ◌&&◌, List, [], ◌∷◌, Bool, true, false, if◌then◌else◌, Option, Some, None, Result, is_some}
+use Rattle.sms_control.specs.Timers.{later}
+use Rattle.sms_control.specs.LinkStep.{is_busy}
+use Rattle.sms_relay.specs.declared.fault.RelayFault.{RelayFault}
+use Rattle.sms_relay.specs.declared.frame.Rp.{Rp}
+use Rattle.sms_relay.specs.RelayGrammar.{data_up}
+use Rattle.sms_tpdu.specs.AddressGrammar.{relay_address}
+use Rattle.sms_base.specs.declared.holder.Holder.{Holder}
+use Rattle.sms_base.specs.declared.holder.Holder.TheVariants.{Part, Report, Entry, Memory}
+use Rattle.sms_handset.specs.declared.notice.Notice.{Notice}
+use Rattle.sms_handset.specs.declared.outgoing.Carried.{Carried}
+use Rattle.sms_handset.specs.declared.out_entry.EntryState.{EntryState}
+use Rattle.sms_handset.specs.declared.out_entry.EntryState.TheVariants.{Queued, Sending, Sent, Failed, Unsure}
+use Rattle.sms_handset.specs.declared.out_entry.OutEntry.{OutEntry}
+use Rattle.sms_base.specs.Table.{row_at}
+use Rattle.sms_handset.specs.declared.answers.Verdict.{Verdict}
+use Rattle.sms_handset.specs.declared.answers.Verdict.TheVariants.{Acknowledged, Temporary, Duplicate, Refused, Lost}
+use Rattle.sms_handset.specs.Answers.{verdict_of}
+use Rattle.sms_handset.specs.References.{held_references, next_free}
+use Rattle.sms_handset.specs.MemoryAvailable.{first_notice, send_notice, notice_concluded}
+use Rattle.sms_handset.specs.Keys.{out_key}
+use Rattle.sms_handset.specs.Draft.{Draft, put_out, begin}
+
+-- how often an entry is sent
+abbrev pub most_tries : ℕ
+most_tries = 3
+
+-- seconds until an entry that a temporary cause put back is due
+abbrev pub retry_delay : ℕ
+retry_delay = 60
+
+-- ---- how a transfer ends
+
+-- Whether the centre took it is not known: it is sent again at once with TP-RD 1. After the last try, and for a part of a
+-- long text, it stays unknown.
+abbrev pub lost : OutEntry → OutEntry
+lost o =
+    if o.is_long || nat_le most_tries o.tries then record o { state = Unsure }
+    else record o { state = Queued; rejects_duplicates = true; due = None }
+
+-- the cause passes
+abbrev pub put_back : ℕ → OutEntry → OutEntry
+put_back moment o =
+    if nat_le most_tries o.tries then record o { state = Failed }
+    else record o { state = Queued; due = Some (later moment retry_delay) }
+
+abbrev pub settled : ℕ → Verdict → OutEntry → OutEntry
+settled moment Acknowledged o = record o { state = Sent }
+settled moment Temporary o = put_back moment o
+settled moment Duplicate o = record o { state = Unsure }
+settled moment Refused o = record o { state = Failed }
+settled moment Lost o = lost o
+
+abbrev pub entry_concluded : Option (Result Rp RelayFault) → Option OutEntry → Draft → Draft
+entry_concluded unit None d = d
+entry_concluded unit (Some o) d = put_out (settled d.moment (verdict_of o.reference unit) o) d
+
+-- what the transaction was for
+abbrev pub holder_concluded : Option (Result Rp RelayFault) → Holder → Draft → Draft
+holder_concluded unit (Part id number) d = d
+holder_concluded unit (Report id) d = d
+holder_concluded unit (Entry n) d = entry_concluded unit (row_at out_key n d.rows.outbox) d
+holder_concluded unit (Memory n) d = notice_concluded unit d.notice d
+
+abbrev pub transfer_concluded : Option (Result Rp RelayFault) → Option Carried → Draft → Draft
+transfer_concluded unit None d = d
+transfer_concluded unit (Some carried) d = holder_concluded unit carried.tag d
+
+-- The transaction that this side began has ended, by a unit or without one.
+abbrev pub conclude : Option (Result Rp RelayFault) → Draft → Draft
+conclude unit d = transfer_concluded unit d.under_way (record d { under_way = None })
+
+-- ---- after a restart: what was under way is lost
+
+abbrev pub is_sending : EntryState → Bool
+is_sending Queued = false
+is_sending Sending = true
+is_sending Sent = false
+is_sending Failed = false
+is_sending Unsure = false
+
+abbrev pub lapse_rows : List OutEntry → Draft → Draft
+lapse_rows [] d = d
+lapse_rows (o ∷ os) d = lapse_rows os (if is_sending o.state then put_out (lost o) d else d)
+
+abbrev pub lapse : Draft → Draft
+lapse d = if d.is_recovered then lapse_rows d.rows.outbox (record d { is_recovered = false }) else d
+
+-- ---- sending
+
+-- bit 2 of the first octet is TP-RD (3GPP TS 23.040 9.2.3.25)
+abbrev pub rejecting_duplicates : List ℕ → List ℕ
+rejecting_duplicates [] = []
+rejecting_duplicates (first ∷ rest) = (first / 8 * 8 + 4 + first % 4) ∷ rest
+
+abbrev pub submit_of : OutEntry → List ℕ
+submit_of o = if o.rejects_duplicates then rejecting_duplicates o.tpdu else o.tpdu
+
+abbrev pub is_past : ℕ → Option ℕ → Bool
+is_past moment None = true
+is_past moment (Some due) = nat_le due moment
+
+abbrev pub is_queued : EntryState → Bool
+is_queued Queued = true
+is_queued Sending = false
+is_queued Sent = false
+is_queued Failed = false
+is_queued Unsure = false
+
+abbrev pub is_due : ℕ → OutEntry → Bool
+is_due moment o = is_queued o.state && is_past moment o.due
+
+-- the oldest entry that is due
+abbrev pub first_due : ℕ → List OutEntry → Option OutEntry
+first_due moment [] = None
+first_due moment (o ∷ os) = if is_due moment o then Some o else first_due moment os
+
+abbrev pub offer_entry : Option OutEntry → Draft → Draft
+offer_entry None d = d
+offer_entry (Some o) d =
+    begin o.reference (Entry o.number) (data_up o.reference (relay_address d.rows.setup.centre) (submit_of o))
+    (put_out (record o { state = Sending; tries = min (o.tries + 1) 255; due = None }) d)
+
+abbrev pub offer_message : Draft → Draft
+offer_message d = offer_entry (first_due d.moment d.rows.outbox) d
+
+-- an RP-SMMA goes before messages; one that waits for TRAM holds nothing up
+abbrev pub offer_wanted : Draft → Draft
+offer_wanted d =
+    if nat_lt 0 d.wanted && nat_lt d.rows.counters.notice 4294967295
+    then first_notice d.rows.counters.notice (next_free d.rows.counters.reference (held_references None d.rows.outbox)) d
+    else offer_message d
+
+abbrev pub is_fired : ℕ → Option ℕ → Bool
+is_fired moment None = false
+is_fired moment (Some due) = nat_le due moment
+
+abbrev pub offer_after : Option Notice → Draft → Draft
+offer_after None d = offer_wanted d
+offer_after (Some n) d = if is_fired d.moment n.due then send_notice n d else offer_message d
+
+-- one transaction at a time
+abbrev pub offer : Draft → Draft
+offer d = if is_busy d.links then d else offer_after d.notice d
+
+-- after every event that is not refused
+abbrev pub follow : Draft → Draft
+follow d = offer (lapse d)

@@ -1,0 +1,146 @@
+-- A plan: what an event changes and sends, and all that a restart forgets as it will be. Adopting it puts it in.
+use Rattle.std.specs.Prelude.{◌≡◌, ℕ, ◌+◌, ◌≤◌, max, List, length, Bool, Option, Some, None, Result, Ok, Err}
+use Rattle.sms_base.specs.declared.holder.Holder.{Holder}
+use Rattle.sms_control.specs.declared.link_state.LinkState.{LinkState}
+use Rattle.sms_handset.specs.declared.event.HandsetEvent.{HandsetEvent}
+use Rattle.sms_handset.specs.declared.event.HandsetEvent.TheVariants.{Frame, Tick, Write, Delete, Discard}
+use Rattle.sms_handset.specs.declared.notice.Notice.{Notice}
+use Rattle.sms_handset.specs.declared.outgoing.Carried.{Carried}
+use Rattle.sms_handset.specs.declared.outgoing.Outgoing.{Outgoing}
+use Rattle.sms_handset.specs.declared.refusal.PlanError.{PlanError}
+use Rattle.sms_handset.specs.declared.refusal.PlanError.TheVariants.{Refused, NoMemory}
+use Rattle.sms_handset.specs.declared.refusal.Refusal.{Refusal}
+use Rattle.sms_handset.specs.declared.planned.Spares.{Spares}
+use Rattle.sms_handset.specs.declared.rows.Changes.{Changes}
+use Rattle.sms_handset.specs.declared.rows.Rows.{Rows}
+use Rattle.sms_handset.specs.Accepted.{StoresAccepted}
+use Rattle.sms_handset.specs.Draft.{Core, Draft, Room, Standing, rows_after}
+
+-- what came of an event
+pub record Outcome : Type 0 where
+  pub changes : Changes
+  pub frames : List Outgoing
+  pub moment : ℕ
+  pub links : LinkState
+  pub under_way : Option Carried
+  pub answered : Option Carried
+  pub wanted : ℕ
+  pub notice : Option Notice
+  pub is_recovered : Bool
+
+abbrev pub outcome_of : Draft → Outcome
+outcome_of d = record {
+  changes = d.changes;
+  frames = d.frames;
+  moment = d.moment;
+  links = d.links;
+  under_way = d.under_way;
+  answered = d.answered;
+  wanted = d.wanted;
+  notice = d.notice;
+  is_recovered = d.is_recovered;
+}
+
+-- the handset with the outcome put in
+abbrev pub adopted : Outcome → Core → Core
+adopted o c = record {
+  rows = rows_after o.changes c.rows;
+  moment = o.moment;
+  links = o.links;
+  under_way = o.under_way;
+  answered = o.answered;
+  wanted = o.wanted;
+  notice = o.notice;
+  is_recovered = o.is_recovered;
+}
+
+-- the outcome, and memory for rows that come
+pub record Plan : Type 0 where
+  pub outcome : Outcome
+  pub spare : Room
+
+-- The plan's changes fit the memory of the lists, with that which the plan brings.
+pub record Fits (plan : Plan) (s : Standing) : Type 0 where
+  pub entries : length s.core.rows.entries + length plan.outcome.changes.entries ≤ max s.room.entries plan.spare.entries
+  pub last : length s.core.rows.last + length plan.outcome.changes.last ≤ max s.room.last plan.spare.last
+  pub outbox : length s.core.rows.outbox + length plan.outcome.changes.outbox ≤ max s.room.outbox plan.spare.outbox
+  pub marks : length s.core.rows.marks + length plan.outcome.changes.marks ≤ max s.room.marks plan.spare.marks
+
+-- The changes fit the memory of the lists, with the spare.
+pub record HasSpares (spares : Spares) (changes : Changes) (s : Standing) : Type 0 where
+  pub entries : length s.core.rows.entries + length changes.entries ≤ max s.room.entries spares.entries
+  pub last : length s.core.rows.last + length changes.last ≤ max s.room.last spares.last
+  pub outbox : length s.core.rows.outbox + length changes.outbox ≤ max s.room.outbox spares.outbox
+  pub marks : length s.core.rows.marks + length changes.marks ≤ max s.room.marks spares.marks
+
+-- The plan has the outcome of the event that leads to the draft, and fits the handset.
+pub record IsPlanOf (d : Draft) (s : Standing) (plan : Plan) : Type 0 where
+  pub outcome : plan.outcome ≡ outcome_of d
+  pub fits : Fits plan s
+
+-- What was wanted, done: refused alike, or want of memory for what would have been done.
+abbrev pub Acts : Result (Unit {0}) PlanError → Draft → Result Draft Refusal → Type 0
+Acts (Ok done) d wanted = wanted ≡ Ok d
+Acts (Err (Refused refusal)) d wanted = wanted ≡ Err refusal
+Acts (Err NoMemory) d wanted = (e : Draft) × (wanted ≡ Ok e)
+
+-- Whether it is refused, and why.
+abbrev pub Judges : Option Refusal → Result Draft Refusal → Type 0
+Judges None wanted = (d : Draft) × (wanted ≡ Ok d)
+Judges (Some refusal) wanted = wanted ≡ Err refusal
+
+-- What was wanted, planned.
+abbrev pub Plans : Result Plan PlanError → Standing → Result Draft Refusal → Type 0
+Plans (Ok plan) s wanted = (d : Draft) × ((wanted ≡ Ok d) × IsPlanOf d s plan)
+Plans (Err (Refused refusal)) s wanted = wanted ≡ Err refusal
+Plans (Err NoMemory) s wanted = (d : Draft) × (wanted ≡ Ok d)
+
+-- What the plan accepts is stored in the rows that it leads to.
+abbrev pub Stores : Standing → Plan → Type 0
+Stores s plan = StoresAccepted s.core.rows.marks plan.outcome.changes (rows_after plan.outcome.changes s.core.rows)
+
+-- ---- a fact of events of one kind
+
+abbrev pub OfFrame : HandsetEvent → (List ℕ → Holder → Type 0) → Type 0
+OfFrame (Frame octets tag) P = P octets tag
+OfFrame (Tick now) P = Unit {0}
+OfFrame (Write text to report) P = Unit {0}
+OfFrame (Delete entry) P = Unit {0}
+OfFrame (Discard entry) P = Unit {0}
+
+abbrev pub OfTick : HandsetEvent → (ℕ → Type 0) → Type 0
+OfTick (Frame octets tag) P = Unit {0}
+OfTick (Tick now) P = P now
+OfTick (Write text to report) P = Unit {0}
+OfTick (Delete entry) P = Unit {0}
+OfTick (Discard entry) P = Unit {0}
+
+abbrev pub OfWrite : HandsetEvent → (List ℕ → List ℕ → Bool → Type 0) → Type 0
+OfWrite (Frame octets tag) P = Unit {0}
+OfWrite (Tick now) P = Unit {0}
+OfWrite (Write text to report) P = P text to report
+OfWrite (Delete entry) P = Unit {0}
+OfWrite (Discard entry) P = Unit {0}
+
+abbrev pub OfDelete : HandsetEvent → (ℕ → Type 0) → Type 0
+OfDelete (Frame octets tag) P = Unit {0}
+OfDelete (Tick now) P = Unit {0}
+OfDelete (Write text to report) P = Unit {0}
+OfDelete (Delete entry) P = P entry
+OfDelete (Discard entry) P = Unit {0}
+
+abbrev pub OfDiscard : HandsetEvent → (ℕ → Type 0) → Type 0
+OfDiscard (Frame octets tag) P = Unit {0}
+OfDiscard (Tick now) P = Unit {0}
+OfDiscard (Write text to report) P = Unit {0}
+OfDiscard (Delete entry) P = Unit {0}
+OfDiscard (Discard entry) P = P entry
+
+-- ---- the draft's rows are the rows with its changes, and nothing else
+
+abbrev pub Rests : Rows → Draft → Type 0
+Rests base d = d.rows ≡ rows_after d.changes base
+
+abbrev pub RestsIfDone : Rows → Result Draft Refusal → Type 0
+RestsIfDone base (Ok d) = Rests base d
+RestsIfDone base (Err refusal) = Unit {0}

@@ -1,0 +1,285 @@
+//! A handset in the middle of an event: the moves of which its stages are made.
+ghost use Rattle.std.specs.Prelude.{◌≡◌, ◌++◌, ◌<◌, ◌≤◌, [], length, OnOk, option_copied, IfOk};
+ghost use Rattle.sms_base.specs.Address.{IsAddress};
+ghost use Rattle.sms_base.specs.Table.{row_at};
+ghost use Rattle.sms_handset.specs.Keys.{entry_key, last_key, mark_key, out_key};
+ghost use Rattle.sms_handset.specs.Draft.{begin as begin_of, carried_in as carried_in_of, carrying, from_links, put_counters as put_counters_of, put_entry as put_entry_of, put_last as put_last_of, put_mark as put_mark_of, put_out as put_out_of, remove_entry as remove_entry_of, remove_mark as remove_mark_of, remove_out as remove_out_of, reply as reply_of};
+ghost use Rattle.sms_control.specs.ControlReading.{cp_at};
+
+use crate::counters::Counters;
+use crate::entry::Entry;
+use crate::last::Last;
+use crate::listed::Listed;
+use crate::mark::Mark;
+use crate::no_memory::NoMemory;
+use crate::notice::Notice;
+use crate::out_entry::OutEntry;
+use crate::outgoing::{Carried, Kind, Outgoing};
+use crate::rows::Changes;
+use crate::stored::Stored;
+use sms_base::{Address, Change, Holder, Moment};
+use sms_control::{Cp, Frames, LinkError, Links, TransactionFlag};
+use std::alloc::Global;
+use std::marker::Model;
+
+/// A handset in the middle of an event, over the rows as they were when it began.
+#[derive(Drop)]
+pub(crate) struct Draft<'a> {
+    pub(crate) alloc: Global,
+    pub(crate) base: &'a Stored,
+    pub(crate) moment: Moment,
+    pub(crate) links: Links,
+    pub(crate) under_way: Option<Carried>,
+    pub(crate) answered: Option<Carried>,
+    pub(crate) wanted: u32,
+    pub(crate) notice: Option<Notice>,
+    pub(crate) is_recovered: bool,
+    pub(crate) changes: Changes,
+    pub(crate) frames: Listed<Outgoing>,
+}
+
+impl<'a> Model for Draft<'a> {
+    ghost use Rattle.sms_base.specs.Address.{IsAddress};
+    ghost use Rattle.sms_handset.specs.Draft.{Draft as DraftOf, rows_after, rows_of};
+
+    ghost Value = { DraftOf };
+
+    ghost view = { λ d. record {
+      rows = rows_after d.changes (rows_of d.base.now);
+      moment = d.moment;
+      links = d.links;
+      under_way = d.under_way;
+      answered = d.answered;
+      wanted = d.wanted;
+      notice = d.notice;
+      is_recovered = d.is_recovered;
+      changes = d.changes;
+      frames = d.frames;
+    } };
+
+    ghost invariant = { λ d. IsAddress d.base.now.setup.centre };
+}
+
+impl<'a> Draft<'a> {
+    /// An entry of the inbox comes, or takes the place of that of its number.
+    #[tactic(auto, using(sms_base::proofs::Tables::all_applied_push))]
+    pub(crate) fn put_entry(&mut self, entry: Entry) -> Result<(), NoMemory>
+        ensures { OnOk result (self.new ≡ put_entry_of entry self.old) }
+    {
+        self.changes.entries.push(Change::Put(entry))?;
+        Ok(())
+    }
+
+    #[tactic(auto, using(sms_base::proofs::Tables::all_applied_push))]
+    pub(crate) fn remove_entry(&mut self, number: u32) -> Result<(), NoMemory>
+        ensures { OnOk result (self.new ≡ remove_entry_of number self.old) }
+    {
+        self.changes.entries.push(Change::Remove(number))?;
+        Ok(())
+    }
+
+    #[tactic(auto, using(sms_base::proofs::Tables::all_applied_push))]
+    pub(crate) fn put_last(&mut self, last: Last) -> Result<(), NoMemory>
+        ensures { OnOk result (self.new ≡ put_last_of last self.old) }
+    {
+        self.changes.last.push(Change::Put(last))?;
+        Ok(())
+    }
+
+    #[tactic(auto, using(sms_base::proofs::Tables::all_applied_push))]
+    pub(crate) fn put_out(&mut self, entry: OutEntry) -> Result<(), NoMemory>
+        ensures { OnOk result (self.new ≡ put_out_of entry self.old) }
+    {
+        self.changes.outbox.push(Change::Put(entry))?;
+        Ok(())
+    }
+
+    #[tactic(auto, using(sms_base::proofs::Tables::all_applied_push))]
+    pub(crate) fn remove_out(&mut self, number: u32) -> Result<(), NoMemory>
+        ensures { OnOk result (self.new ≡ remove_out_of number self.old) }
+    {
+        self.changes.outbox.push(Change::Remove(number))?;
+        Ok(())
+    }
+
+    #[tactic(auto, using(sms_base::proofs::Tables::all_applied_push))]
+    pub(crate) fn put_mark(&mut self, mark: Mark) -> Result<(), NoMemory>
+        ensures { OnOk result (self.new ≡ put_mark_of mark self.old) }
+    {
+        self.changes.marks.push(Change::Put(mark))?;
+        Ok(())
+    }
+
+    #[tactic(auto, using(sms_base::proofs::Tables::all_applied_push))]
+    pub(crate) fn remove_mark(&mut self, number: u32) -> Result<(), NoMemory>
+        ensures { OnOk result (self.new ≡ remove_mark_of number self.old) }
+    {
+        self.changes.marks.push(Change::Remove(number))?;
+        Ok(())
+    }
+
+    pub(crate) fn put_counters(&mut self, counters: Counters)
+        ensures { self.new ≡ put_counters_of counters self.old }
+    {
+        self.changes.counters = Some(counters);
+    }
+
+    /// The counters as they stand.
+    pub(crate) fn counters(&self) -> Counters
+        ensures { result ≡ self.now.rows.counters }
+    {
+        match self.changes.counters {
+            Some(counters) => counters,
+            None => self.base.counters,
+        }
+    }
+
+    /// The address of the service centre.
+    pub(crate) fn centre(&self) -> Address
+        ensures value { result ≡ self.now.rows.setup.centre }
+        ensures valid { IsAddress result }
+    {
+        self.base.setup.centre
+    }
+
+    /// The inbox, before anything of it has changed.
+    pub(crate) fn entries(&self) -> &'a [Entry]
+        requires { self.now.changes.entries ≡ [] }
+        ensures { result.now ≡ self.now.rows.entries }
+    {
+        self.base.entries.as_slice()
+    }
+
+    /// The discarded groups, before anything of them has changed.
+    pub(crate) fn marks(&self) -> &'a [Mark]
+        requires { self.now.changes.marks ≡ [] }
+        ensures { result.now ≡ self.now.rows.marks }
+    {
+        self.base.marks.as_slice()
+    }
+
+    /// The outbox, before anything of it has changed.
+    pub(crate) fn outbox(&self) -> &'a [OutEntry]
+        requires { self.now.changes.outbox ≡ [] }
+        ensures { result.now ≡ self.now.rows.outbox }
+    {
+        self.base.outbox.as_slice()
+    }
+
+    /// What was accepted last under a reference, before anything was accepted.
+    pub(crate) fn last(&self, reference: u8) -> Option<&'a Last>
+        requires { self.now.changes.last ≡ [] }
+        ensures { option_copied result ≡ row_at last_key reference self.now.rows.last }
+    {
+        self.base.last.find(u32::from(reference))
+    }
+}
+
+impl<'a> Draft<'a> {
+    /// The answer in the transaction that the centre began, if one waits for it: a unit of 1 to 248 octets.
+    #[tactic(auto, unfolding(sms_control::specs::LinkStep::reply_step))]
+    pub(crate) fn reply(
+        &mut self,
+        kind: Kind,
+        reference: u8,
+        tag: Holder,
+        unit: &[u8],
+    ) -> Result<(), NoMemory>
+        requires some { 0 < length unit.now }
+        requires fits { length unit.now ≤ 248 }
+        ensures { OnOk result (self.new ≡ reply_of kind reference tag unit.now self.old) }
+    {
+        let carried = Some(Carried {
+            kind,
+            reference,
+            tag,
+        });
+        let frames = match self.links.reply(self.moment, unit) {
+            Ok(out) => out.frames,
+            Err(LinkError::NothingToAnswer) => Frames::new(self.alloc),
+            Err(_) => return Err(NoMemory),
+        };
+        push_carrying(&mut self.frames, &carried, frames)?;
+        self.answered = carried;
+        Ok(())
+    }
+
+    /// A transaction of this side, unless one is under way: a unit of 1 to 248 octets.
+    #[tactic(auto, unfolding(sms_control::specs::LinkStep::begin_step))]
+    pub(crate) fn begin(&mut self, reference: u8, tag: Holder, unit: &[u8]) -> Result<(), NoMemory>
+        requires some { 0 < length unit.now }
+        requires fits { length unit.now ≤ 248 }
+        ensures { OnOk result (self.new ≡ begin_of reference tag unit.now self.old) }
+    {
+        let carried = Some(Carried {
+            kind: Kind::Data,
+            reference,
+            tag,
+        });
+        let frames = match self.links.begin(self.moment, unit) {
+            Ok(out) => out.frames,
+            Err(LinkError::Busy) => Frames::new(self.alloc),
+            Err(_) => return Err(NoMemory),
+        };
+        push_carrying(&mut self.frames, &carried, frames)?;
+        self.under_way = carried;
+        Ok(())
+    }
+
+    /// Frames of the links' own.
+    pub(crate) fn hear(&mut self, frames: Frames) -> Result<(), NoMemory>
+        ensures { OnOk result (self.new ≡ record self.old { frames = self.old.frames ++ from_links self.old.under_way self.old.answered frames }) }
+    {
+        push_heard(&mut self.frames, &self.under_way, &self.answered, frames)
+    }
+}
+
+// Frames that all carry the same.
+fn push_carrying(
+    out: &mut Listed<Outgoing>,
+    carried: &Option<Carried>,
+    frames: Frames,
+) -> Result<(), NoMemory>
+    ensures { OnOk result (out.new ≡ out.old ++ carrying carried.now frames) }
+{
+    for octets in frames.into_vec() {
+        out.push(Outgoing {
+            octets,
+            carried: *carried,
+        })?;
+    }
+    Ok(())
+}
+
+// What a frame of the links' own carries.
+fn carried_in(
+    frame: &[u8],
+    under_way: &Option<Carried>,
+    answered: &Option<Carried>,
+) -> Option<Carried>
+    ensures { result ≡ carried_in_of (cp_at frame.now) under_way.now answered.now }
+{
+    match Cp::read(frame) {
+        Ok(Cp::DataUnit { transaction, .. }) => match transaction.flag {
+            TransactionFlag::FromOriginator => *under_way,
+            TransactionFlag::ToOriginator => *answered,
+        },
+        _ => None,
+    }
+}
+
+// Frames of the links' own.
+fn push_heard(
+    out: &mut Listed<Outgoing>,
+    under_way: &Option<Carried>,
+    answered: &Option<Carried>,
+    frames: Frames,
+) -> Result<(), NoMemory>
+    ensures { OnOk result (out.new ≡ out.old ++ from_links under_way.now answered.now frames) }
+{
+    for octets in frames.into_vec() {
+        let carried = carried_in(octets.as_slice(), under_way, answered);
+        out.push(Outgoing { octets, carried })?;
+    }
+    Ok(())
+}

@@ -1,0 +1,165 @@
+//! Parts of long messages.
+ghost use Rattle.std.specs.Prelude.{◌≡◌, ◌++◌, ◌∷◌, [], ◌<◌, ◌≤◌, IfOk, OnOk, option_copied};
+ghost use Rattle.sms_concat.specs.Joining.{is_same_reference as is_same_reference_of};
+ghost use Rattle.sms_concat.specs.UserData.{header_key};
+ghost use Rattle.sms_handset.specs.declared.entry.Entry.{Entry as EntryOf};
+ghost use Rattle.sms_handset.specs.Groups.{all_numbers, first_number as first_number_of, part_number, is_among as is_among_of, is_part_of as is_part_of_group, is_same_address as is_same_address_of, is_same_group as is_same_group_of, mark_of, members, part_numbers};
+
+use crate::entry::{Entry, Group, Message};
+use crate::mark::Mark;
+use sms_base::Address;
+use sms_concat::{ConcatKey, ConcatReference, Header, concat_info};
+
+// Whether addresses are one.
+fn is_same_address(one: &Address, other: &Address) -> bool
+    ensures { result ≡ is_same_address_of one.now other.now }
+{
+    one.ton.number() == other.ton.number()
+        && one.npi == other.npi
+        && one.digits.as_slice() == other.digits.as_slice()
+}
+
+fn is_same_reference(one: ConcatReference, other: ConcatReference) -> bool
+    ensures { result ≡ is_same_reference_of one other }
+{
+    match (one, other) {
+        (ConcatReference::EightBit(one), ConcatReference::EightBit(other)) => one == other,
+        (ConcatReference::SixteenBit(one), ConcatReference::SixteenBit(other)) => one == other,
+        _ => false,
+    }
+}
+
+/// Whether groups are one.
+pub(crate) fn is_same_group(one: &Group, other: &Group) -> bool
+    ensures { result ≡ is_same_group_of one.now other.now }
+{
+    is_same_address(&one.source, &other.source)
+        && is_same_reference(one.reference, other.reference)
+        && one.total == other.total
+}
+
+/// Whether a number is one of these.
+pub(crate) fn is_among(number: u8, numbers: &[u8]) -> bool
+    ensures { result ≡ is_among_of number numbers.now }
+{
+    for other in numbers {
+        if *other == number {
+            return true;
+        }
+    }
+    false
+}
+
+/// The discarded group that is this group.
+pub(crate) fn find_mark<'a>(group: &Group, marks: &'a [Mark]) -> Option<&'a Mark>
+    ensures { option_copied result ≡ mark_of group.now marks.now }
+{
+    for mark in marks {
+        if is_same_group(&mark.group, group) {
+            return Some(mark);
+        }
+    }
+    None
+}
+
+/// Whether an entry is a part of the group.
+pub(crate) fn is_part_of(group: &Group, message: &Message) -> bool
+    ensures { result ≡ is_part_of_group group.now message.now }
+{
+    match message {
+        Message::Part { group: other, .. } => is_same_group(other, group),
+        _ => false,
+    }
+}
+
+/// Whether the group has the part of that number.
+pub(crate) fn has_part(group: &Group, entries: &[Entry], number: u8) -> bool
+    ensures { result ≡ is_among_of number (part_numbers (members group.now entries.now)) }
+{
+    for entry in entries {
+        if let Message::Part {
+            group: other,
+            number: there,
+            ..
+        } = &entry.message
+        {
+            if is_same_group(other, group) && *there == number {
+                return true;
+            }
+        }
+    }
+    false
+}
+
+/// The key of the header, if it has one.
+pub(crate) fn key_of(header_indicator: bool, octets: &[u8]) -> Option<ConcatKey>
+    ensures { result ≡ header_key header_indicator octets.now }
+{
+    if !header_indicator {
+        return None;
+    }
+    match Header::read(octets) {
+        Ok(header) => concat_info(&header),
+        Err(_) => None,
+    }
+}
+
+// Whether the group, with one more part, has the part of that number.
+fn has_number(group: &Group, entries: &[Entry], part: &Entry, number: u8) -> bool
+    ensures { result ≡ is_among_of number (part_numbers (members group.now entries.now ++ part.now ∷ [])) }
+{
+    for entry in entries {
+        if is_part_of(group, &entry.message) && number_of(&entry.message) == number {
+            return true;
+        }
+    }
+    number_of(&part.message) == number
+}
+
+/// Whether the group is full with one more part.
+#[tactic(auto, using(crate::proofs::Numbers::lacks_number))]
+pub(crate) fn is_full(group: &Group, entries: &[Entry], part: &Entry) -> bool
+    ensures { result ≡ all_numbers group.now.total (part_numbers (members group.now entries.now ++ part.now ∷ [])) }
+{
+    for below in 0..group.total {
+        if !has_number(group, entries, part, below + 1) {
+            return false;
+        }
+    }
+    true
+}
+
+/// Which part an entry is.
+pub(crate) fn number_of(message: &Message) -> u8
+    ensures { result ≡ part_number message.now }
+{
+    match message {
+        Message::Part { number, .. } => *number,
+        _ => 0,
+    }
+}
+
+/// The number of the group's first stored part, with one more part.
+pub(crate) fn first_number(group: &Group, entries: &[Entry], part: u32) -> u32
+    ensures { (e : EntryOf) → e.number ≡ part → result ≡ first_number_of (members group.now entries.now ++ e ∷ []) }
+{
+    for entry in entries {
+        if is_part_of(group, &entry.message) {
+            return entry.number;
+        }
+    }
+    part
+}
+
+/// Whether the numbers from 1 to the total are all there.
+#[tactic(auto, using(crate::proofs::Numbers::lacks_number))]
+pub(crate) fn has_every(total: u8, numbers: &[u8]) -> bool
+    ensures { result ≡ all_numbers total numbers.now }
+{
+    for below in 0..total {
+        if !is_among(below + 1, numbers) {
+            return false;
+        }
+    }
+    true
+}

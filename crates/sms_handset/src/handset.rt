@@ -1,0 +1,379 @@
+//! The handset.
+ghost use Rattle.std.specs.Prelude.{◌≡◌, Ok, IfOk, OnOk};
+ghost use Rattle.std.specs.Str.{chars};
+ghost use Rattle.sms_control.specs.LinkStep.{take_step, fire_step};
+ghost use Rattle.sms_handset.specs.Draft.{draft_of, no_changes, recovered};
+ghost use Rattle.sms_handset.specs.HandsetEvent.{deleted, discarded, frame_came as frame_came_of, ticked as ticked_of, wrote};
+ghost use Rattle.sms_handset.specs.Planning.{adopted, Fits, HasSpares, IsPlanOf, Judges, OfDelete, OfDiscard, OfFrame, OfTick, OfWrite, Plans, Stores};
+ghost use Rattle.sms_handset.specs.Trying.{TriesPlan as Tries};
+ghost use Rattle.sms_base.specs.Address.{IsAddress};
+ghost use Rattle.sms_base.specs.Table.{Rises, row_at};
+ghost use Rattle.sms_handset.specs.Groups.{members};
+ghost use Rattle.sms_handset.specs.Keys.{entry_key, last_key, mark_key, out_key};
+ghost use Rattle.sms_handset.specs.OwnersActs.{delete as delete_of, delete_out, discard as discard_of, discard_members};
+ghost use Rattle.sms_handset.specs.SoundRows.{IsSound};
+
+use crate::draft::Draft;
+use crate::entry::{Entry, Group, Message};
+use crate::event::HandsetEvent;
+use crate::listed::Listed;
+use crate::no_memory::NoMemory;
+use crate::notice::Notice;
+use crate::out_entry::OutEntry;
+use crate::outgoing::{Carried, Outgoing};
+use crate::owner::{first_member, is_open_part};
+use crate::planned::{Planned, Spares};
+use crate::references::is_unfinished;
+use crate::refusal::{PlanError, Refusal};
+use crate::rows::{Changes, Rows};
+use crate::stored::Stored;
+use sms_base::{Holder, Moment, Table};
+use sms_control::Links;
+use std::alloc::Global;
+use std::marker::Model;
+
+/// A handset: its rows, and all that a restart forgets.
+#[derive(Drop)]
+pub struct Handset {
+    alloc: Global,
+    stored: Stored,
+    moment: Moment,
+    links: Links,
+    under_way: Option<Carried>,
+    answered: Option<Carried>,
+    wanted: u32,
+    notice: Option<Notice>,
+    is_recovered: bool,
+}
+
+impl Model for Handset {
+    ghost use Rattle.sms_base.specs.Address.{IsAddress};
+    ghost use Rattle.sms_handset.specs.Draft.{Standing, room_of, rows_of};
+
+    ghost Value = { Standing };
+
+    ghost view = { λ h. record {
+      core = record {
+        rows = rows_of h.stored;
+        moment = h.moment;
+        links = h.links;
+        under_way = h.under_way;
+        answered = h.answered;
+        wanted = h.wanted;
+        notice = h.notice;
+        is_recovered = h.is_recovered;
+      };
+      room = room_of h.stored;
+    } };
+
+    ghost invariant = { λ h. IsAddress h.stored.setup.centre };
+}
+
+impl Handset {
+    /// The handset that starts with these rows. It takes no memory.
+    pub fn recover(alloc: Global, rows: Rows) -> Handset
+        requires { IsSound rows }
+        ensures { result.core ≡ recovered rows }
+    {
+        Handset::standing_on(alloc, rows)
+    }
+
+    // The same on rows in the order of their keys.
+    pub(crate) fn standing_on(alloc: Global, rows: Rows) -> Handset
+        requires entries { Rises entry_key rows.entries }
+        requires last { Rises last_key rows.last }
+        requires outbox { Rises out_key rows.outbox }
+        requires marks { Rises mark_key rows.marks }
+        requires centre { IsAddress rows.setup.centre }
+        ensures { result.core ≡ recovered rows }
+    {
+        let setup = rows.setup;
+        let counters = rows.counters;
+        let moment = setup.start;
+        let entries = Table::from_vec(rows.entries.into_vec());
+        let last = Table::from_vec(rows.last.into_vec());
+        let outbox = Table::from_vec(rows.outbox.into_vec());
+        let marks = Table::from_vec(rows.marks.into_vec());
+        Handset {
+            alloc,
+            stored: Stored {
+                entries,
+                last,
+                outbox,
+                marks,
+                counters,
+                setup,
+            },
+            moment,
+            links: Links::new(alloc),
+            under_way: None,
+            answered: None,
+            wanted: 0,
+            notice: None,
+            is_recovered: true,
+        }
+    }
+
+    /// The entries of the inbox, parts of open groups among them, in the order of their numbers.
+    pub fn inbox(&self) -> &[Entry]
+        ensures { result.now ≡ self.now.core.rows.entries }
+    {
+        self.stored.entries.as_slice()
+    }
+
+    /// The entries of the outbox, finished ones among them, in the order of their numbers.
+    pub fn outbox(&self) -> &[OutEntry]
+        ensures { result.now ≡ self.now.core.rows.outbox }
+    {
+        self.stored.outbox.as_slice()
+    }
+
+    /// What an event changes and sends. The handset is as it was until the plan is adopted.
+    pub fn plan(&self, event: &HandsetEvent<'_>) -> Result<Planned, PlanError>
+        ensures frame { OfFrame event.now (λ octets tag. Plans result self.now (Ok (frame_came_of octets tag self.now.core))) }
+        ensures tick { OfTick event.now (λ now. Plans result self.now (Ok (ticked_of now self.now.core))) }
+        // Only of a text may want of memory be told before a refusal.
+        ensures write { OfWrite event.now (λ text to report. Tries result self.now (wrote text to report self.now.core)) }
+        ensures delete { OfDelete event.now (λ entry. Plans result self.now (deleted entry self.now.core)) }
+        ensures discard { OfDiscard event.now (λ entry. Plans result self.now (discarded entry self.now.core)) }
+
+        // What every plan is good for.
+        ensures fits { IfOk result (λ planned. Fits planned self.now) }
+        // What is accepted is stored.
+        ensures stored { IfOk result (Stores self.now) }
+    {
+        self.plan_of(event)
+    }
+
+    /// Puts a plan in that was made for this handset as it is, once its changes are committed: gives the frames to
+    /// send. It takes no memory.
+    pub fn adopt(&mut self, planned: Planned) -> Listed<Outgoing>
+        requires fits { Fits planned self.old }
+        ensures state { self.new.core ≡ adopted planned.outcome self.old.core }
+        ensures frames { result ≡ planned.outcome.frames }
+    {
+        self.stored.entries.use_spare(planned.spares.entries);
+        self.stored.last.use_spare(planned.spares.last);
+        self.stored.outbox.use_spare(planned.spares.outbox);
+        self.stored.marks.use_spare(planned.spares.marks);
+        let Changes {
+            entries,
+            last,
+            outbox,
+            marks,
+            counters,
+        } = planned.changes;
+        self.stored.entries.apply_all(entries.into_vec());
+        self.stored.last.apply_all(last.into_vec());
+        self.stored.outbox.apply_all(outbox.into_vec());
+        self.stored.marks.apply_all(marks.into_vec());
+        if let Some(counters) = counters {
+            self.stored.counters = counters;
+        }
+        self.moment = planned.moment;
+        self.links = planned.links;
+        self.under_way = planned.under_way;
+        self.answered = planned.answered;
+        self.wanted = planned.wanted;
+        self.notice = planned.notice;
+        self.is_recovered = planned.is_recovered;
+        planned.frames
+    }
+}
+
+impl Handset {
+    // The handset as an event begins.
+    fn draft(&self) -> Result<Draft<'_>, NoMemory>
+        ensures { IfOk result (λ draft. draft ≡ draft_of self.now.core) }
+    {
+        Ok(Draft {
+            alloc: self.alloc,
+            base: &self.stored,
+            moment: self.moment,
+            links: self.links.copy()?,
+            under_way: self.under_way,
+            answered: self.answered,
+            wanted: self.wanted,
+            notice: self.notice,
+            is_recovered: self.is_recovered,
+            changes: Changes {
+                entries: Listed::new(self.alloc),
+                last: Listed::new(self.alloc),
+                outbox: Listed::new(self.alloc),
+                marks: Listed::new(self.alloc),
+                counters: None,
+            },
+            frames: Listed::new(self.alloc),
+        })
+    }
+
+    // The plan of an event, by its kind.
+    fn plan_of(&self, event: &HandsetEvent<'_>) -> Result<Planned, PlanError>
+        ensures frame { OfFrame event.now (λ octets tag. Plans result self.now (Ok (frame_came_of octets tag self.now.core))) }
+        ensures tick { OfTick event.now (λ now. Plans result self.now (Ok (ticked_of now self.now.core))) }
+        // Only of a text may want of memory be told before a refusal.
+        ensures write { OfWrite event.now (λ text to report. Tries result self.now (wrote text to report self.now.core)) }
+        ensures delete { OfDelete event.now (λ entry. Plans result self.now (deleted entry self.now.core)) }
+        ensures discard { OfDiscard event.now (λ entry. Plans result self.now (discarded entry self.now.core)) }
+
+        // What every plan is good for.
+        ensures fits { IfOk result (λ planned. Fits planned self.now) }
+    {
+        match event {
+            HandsetEvent::Frame { octets, tag } => self.plan_frame(octets.as_slice(), *tag),
+            HandsetEvent::Tick { now } => self.plan_tick(*now),
+            HandsetEvent::Write { text, to, report } => {
+                self.plan_write(text.as_str(), to.as_str(), *report)
+            }
+            HandsetEvent::Delete { entry } => self.plan_delete(*entry),
+            HandsetEvent::Discard { entry } => self.plan_discard(*entry),
+        }
+    }
+
+    // The draft's outcome, with memory for the rows that come.
+    fn planned(&self, draft: Draft<'_>) -> Result<Planned, NoMemory>
+        ensures { IfOk result (IsPlanOf draft.entry self.now) }
+    {
+        let spares = self.spares(&draft.changes)?;
+        Ok(Planned {
+            changes: draft.changes,
+            frames: draft.frames,
+            moment: draft.moment,
+            links: draft.links,
+            under_way: draft.under_way,
+            answered: draft.answered,
+            wanted: draft.wanted,
+            notice: draft.notice,
+            is_recovered: draft.is_recovered,
+            spares,
+        })
+    }
+
+    // Memory for the rows that the changes bring.
+    fn spares(&self, changes: &Changes) -> Result<Spares, NoMemory>
+        ensures { IfOk result (λ spares. HasSpares spares changes.now self.now) }
+    {
+        Ok(Spares {
+            entries: self
+                .stored
+                .entries
+                .make_spare(self.alloc, changes.entries.len())?,
+            last: self.stored.last.make_spare(self.alloc, changes.last.len())?,
+            outbox: self
+                .stored
+                .outbox
+                .make_spare(self.alloc, changes.outbox.len())?,
+            marks: self
+                .stored
+                .marks
+                .make_spare(self.alloc, changes.marks.len())?,
+        })
+    }
+
+    fn plan_frame(&self, octets: &[u8], tag: Holder) -> Result<Planned, PlanError>
+        ensures plan { Plans result self.now (Ok (frame_came_of octets.now tag self.now.core)) }
+        ensures fits { IfOk result (λ planned. Fits planned self.now) }
+    {
+        let mut draft = self.draft()?;
+        draft.frame_came(octets, tag)?;
+        draft.follow()?;
+        Ok(self.planned(draft)?)
+    }
+
+    fn plan_tick(&self, now: Moment) -> Result<Planned, PlanError>
+        ensures plan { Plans result self.now (Ok (ticked_of now self.now.core)) }
+        ensures fits { IfOk result (λ planned. Fits planned self.now) }
+    {
+        let mut draft = self.draft()?;
+        draft.tick(now)?;
+        draft.follow()?;
+        Ok(self.planned(draft)?)
+    }
+
+    fn plan_write(&self, text: &str, to: &str, report: bool) -> Result<Planned, PlanError>
+        ensures plan { Tries result self.now (wrote (chars text.now) (chars to.now) report self.now.core) }
+        ensures fits { IfOk result (λ planned. Fits planned self.now) }
+    {
+        let mut draft = self.draft()?;
+        draft.write(text, to, report)?;
+        draft.follow()?;
+        Ok(self.planned(draft)?)
+    }
+
+    // Why the owner's act is refused, before memory is asked for.
+    fn refuses_delete(&self, number: u32) -> Option<Refusal>
+        ensures { Judges result (delete_of number (draft_of self.now.core)) }
+    {
+        let Some(entry) = self.stored.entries.find(number) else {
+            return self.refuses_delete_out(number);
+        };
+        if is_open_part(&entry.message) {
+            return Some(Refusal::StillOpen);
+        }
+        None
+    }
+
+    fn refuses_delete_out(&self, number: u32) -> Option<Refusal>
+        ensures { Judges result (delete_out number (row_at out_key number self.now.core.rows.outbox) (draft_of self.now.core)) }
+    {
+        let Some(entry) = self.stored.outbox.find(number) else {
+            return Some(Refusal::NoEntry);
+        };
+        if is_unfinished(entry.state) {
+            return Some(Refusal::StillOpen);
+        }
+        None
+    }
+
+    fn refuses_discard(&self, number: u32) -> Option<Refusal>
+        ensures { Judges result (discard_of number (draft_of self.now.core)) }
+    {
+        match self.stored.entries.find(number) {
+            Some(
+                Entry {
+                    message: Message::Part { group, .. },
+                    ..
+                },
+            ) => self.refuses_group(number, group),
+            _ => Some(Refusal::NoEntry),
+        }
+    }
+
+    fn refuses_group(&self, number: u32, group: &Group) -> Option<Refusal>
+        ensures { Judges result (discard_members number group.now (members group.now self.now.core.rows.entries) (draft_of self.now.core)) }
+    {
+        if first_member(group, self.stored.entries.as_slice()) != number {
+            return Some(Refusal::NoEntry);
+        }
+        if self.stored.marks.as_slice().len() >= 64 {
+            return Some(Refusal::TooManyDiscarded);
+        }
+        None
+    }
+
+    fn plan_delete(&self, entry: u32) -> Result<Planned, PlanError>
+        ensures plan { Plans result self.now (deleted entry self.now.core) }
+        ensures fits { IfOk result (λ planned. Fits planned self.now) }
+    {
+        if let Some(refusal) = self.refuses_delete(entry) {
+            return Err(PlanError::Refused(refusal));
+        }
+        let mut draft = self.draft()?;
+        draft.delete(entry)?;
+        draft.follow()?;
+        Ok(self.planned(draft)?)
+    }
+
+    fn plan_discard(&self, entry: u32) -> Result<Planned, PlanError>
+        ensures plan { Plans result self.now (discarded entry self.now.core) }
+        ensures fits { IfOk result (λ planned. Fits planned self.now) }
+    {
+        if let Some(refusal) = self.refuses_discard(entry) {
+            return Err(PlanError::Refused(refusal));
+        }
+        let mut draft = self.draft()?;
+        draft.discard(entry)?;
+        draft.follow()?;
+        Ok(self.planned(draft)?)
+    }
+}

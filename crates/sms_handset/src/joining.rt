@@ -1,0 +1,109 @@
+//! Full groups.
+ghost use Rattle.std.specs.Prelude.{◌≡◌, ◌++◌, ◌∷◌, [], IfOk, option_copied};
+ghost use Rattle.sms_tpdu.specs.TpduReading.{down_at};
+ghost use Rattle.sms_tpdu.specs.declared.carrier.Carrier.TheVariants.{InData as Data};
+ghost use Rattle.sms_handset.specs.Groups.{carried_part, entry_part as entry_part_of, joined_content as joined_content_of, members, part_tpdu, part_with as part_with_of, parts_to};
+
+use crate::entry::{Entry, Group, Message};
+use crate::groups::{is_part_of, number_of};
+use crate::no_memory::NoMemory;
+use sms_alphabet::UnpackError;
+use sms_concat::{Content, Part, Parts, join, part_of};
+use sms_tpdu::{Carrier, Down, read_down};
+use std::alloc::Global;
+
+// The entry that holds the part of that number.
+fn part_with<'e>(
+    group: &Group,
+    entries: &'e [Entry],
+    part: &'e Entry,
+    number: u8,
+) -> Option<&'e Entry>
+    ensures { option_copied result ≡ part_with_of number (members group.now entries.now ++ part.now ∷ []) }
+{
+    for entry in entries {
+        if is_part_of(group, &entry.message) && number_of(&entry.message) == number {
+            return Some(entry);
+        }
+    }
+    if number_of(&part.message) == number {
+        Some(part)
+    } else {
+        None
+    }
+}
+
+/// The octets of a single message or of a part.
+pub(crate) fn tpdu_of(message: &Message) -> &[u8]
+    ensures { result.now ≡ part_tpdu message.now }
+{
+    match message {
+        Message::Single { tpdu } => tpdu.as_slice(),
+        Message::Part { tpdu, .. } => tpdu.as_slice(),
+        Message::Joined { .. } => &[],
+    }
+}
+
+// What a DELIVER carries.
+fn part_at(alloc: Global, tpdu: &[u8]) -> Result<Option<Part>, NoMemory>
+    ensures { IfOk result (λ part. part ≡ carried_part (down_at Data tpdu.now)) }
+{
+    match read_down(tpdu, Carrier::InData) {
+        Ok(Down::Deliver(message)) => match part_of(
+            alloc,
+            message.user_data_header_indicator,
+            message.data_coding_scheme,
+            message.user_data.length,
+            message.user_data.octets.as_slice(),
+        ) {
+            Ok(part) => Ok(Some(part)),
+            Err(UnpackError::NoMemory) => Err(NoMemory),
+            Err(_) => Ok(None),
+        },
+        _ => Ok(None),
+    }
+}
+
+fn entry_part(alloc: Global, entry: Option<&Entry>) -> Result<Option<Part>, NoMemory>
+    ensures { IfOk result (λ part. part ≡ entry_part_of (option_copied entry.entry)) }
+{
+    match entry {
+        Some(entry) => part_at(alloc, tpdu_of(&entry.message)),
+        None => Ok(None),
+    }
+}
+
+// The parts with the numbers 1 to the total, in order.
+#[tactic(auto, using(crate::proofs::Numbers::stops_at))]
+fn parts_in(
+    alloc: Global,
+    group: &Group,
+    entries: &[Entry],
+    part: &Entry,
+) -> Result<Option<Parts>, NoMemory>
+    ensures { IfOk result (λ parts. parts ≡ parts_to group.now.total (members group.now entries.now ++ part.now ∷ [])) }
+{
+    let mut parts = Parts::from_vec(Vec::with_capacity(alloc, usize::from(group.total))?);
+    for below in 0..group.total {
+        match entry_part(alloc, part_with(group, entries, part, below + 1))? {
+            Some(next) => parts.push(next)?,
+            None => return Ok(None),
+        }
+    }
+    Ok(Some(parts))
+}
+
+/// The content that a group joins to, with one more part.
+pub(crate) fn joined_content(
+    alloc: Global,
+    group: &Group,
+    entries: &[Entry],
+    part: &Entry,
+) -> Result<Option<Content>, NoMemory>
+    ensures { IfOk result (λ content. content ≡ joined_content_of group.now (members group.now entries.now ++ part.now ∷ [])) }
+{
+    match parts_in(alloc, group, entries, part)? {
+        Some(parts) => Ok(join(alloc, parts.as_slice())?),
+        None => Ok(None),
+    }
+}

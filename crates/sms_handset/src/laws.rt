@@ -1,0 +1,22 @@
+//! Laws of a handset's events, over their definitions alone.
+ghost use Rattle.std.specs.Prelude.{ℕ, Bool, List};
+ghost use Rattle.sms_base.specs.declared.holder.Holder.{Holder};
+ghost use Rattle.sms_handset.specs.Accepted.{StoresAccepted};
+ghost use Rattle.sms_handset.specs.Draft.{Core};
+ghost use Rattle.sms_handset.specs.HandsetEvent.{deleted, discarded, frame_came, ticked, wrote};
+ghost use Rattle.sms_handset.specs.Planning.{Rests, RestsIfDone};
+
+/// The rows that an event leads to are the rows with its changes.
+pub fn rows_are_the_changes()
+    ensures frame { (octets : List ℕ) (tag : Holder) (c : Core) → Rests c.rows (frame_came octets tag c) }
+    ensures tick { (now : ℕ) (c : Core) → Rests c.rows (ticked now c) }
+    ensures write { (text to : List ℕ) (report : Bool) (c : Core) → RestsIfDone c.rows (wrote text to report c) }
+    ensures delete { (entry : ℕ) (c : Core) → RestsIfDone c.rows (deleted entry c) }
+    ensures discard { (entry : ℕ) (c : Core) → RestsIfDone c.rows (discarded entry c) }
+{}
+
+/// What is accepted is stored: changes that put a DELIVER of no discarded group into what was accepted last also put an
+/// entry of its source and user data, alone or joined, which stands in the rows.
+pub fn accepted_is_stored()
+    ensures { (octets : List ℕ) (tag : Holder) (c : Core) → StoresAccepted c.rows.marks (frame_came octets tag c).changes (frame_came octets tag c).rows }
+{}

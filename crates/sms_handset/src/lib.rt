@@ -1,0 +1,72 @@
+//! The handset core (3GPP TS 23.040 9.2 and 10, 3GPP TS 24.011 6): what a handset does with a frame, with time and
+//! with what its owner wants.
+//!
+//! `Handset` is a machine over rows. `plan` takes an event and hands out, ready made, the changes of the rows, the
+//! frames to send and all that a restart forgets; nothing has changed yet. Its caller commits the changes, calls
+//! `adopt`, which can't fail, and only then lets the frames go.
+#![tactic(auto)]
+
+mod answers;
+mod counters;
+mod draft;
+mod entry;
+mod event;
+mod groups;
+mod handset;
+mod happening;
+mod joining;
+#[cfg(test)]
+mod kept;
+mod last;
+pub mod laws;
+mod listed;
+mod mark;
+mod no_memory;
+mod notice;
+mod notices;
+mod octet_copy;
+mod out_entry;
+mod out_view;
+#[cfg(test)]
+mod outbox_tests;
+mod outgoing;
+mod owner;
+#[cfg(test)]
+mod pair;
+#[cfg(test)]
+mod plain;
+mod planned;
+#[cfg(test)]
+mod random_tests;
+mod receiving;
+#[cfg(test)]
+mod reference_tests;
+mod references;
+mod refusal;
+mod rows;
+mod sending;
+mod setup;
+mod stored;
+mod storing;
+mod submit_tpdu;
+#[cfg(test)]
+mod tests;
+mod text_view;
+mod writing;
+
+pub use counters::Counters;
+pub use entry::{Entry, Group, Message};
+pub use event::HandsetEvent;
+pub use handset::Handset;
+pub use last::Last;
+pub use listed::Listed;
+pub use mark::Mark;
+pub use notice::Notice;
+pub use out_entry::{EntryState, OutEntry};
+pub use outgoing::{Carried, Kind, Outgoing};
+pub use planned::Planned;
+pub use refusal::{PlanError, Refusal};
+pub use rows::{Changes, Rows};
+pub use setup::Setup;
+pub use submit_tpdu::SubmitTpdu;
+pub use text_view::TextView;

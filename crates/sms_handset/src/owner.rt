@@ -1,0 +1,137 @@
+//! Deleting and discarding.
+ghost use Rattle.std.specs.Prelude.{◌≡◌, ◌++◌, [], List, IfOk, OnOk, option_copied};
+ghost use Rattle.sms_base.specs.Table.{row_at};
+ghost use Rattle.sms_handset.specs.Draft.{no_changes};
+ghost use Rattle.sms_handset.specs.Groups.{first_number as first_number_of, members, part_numbers};
+ghost use Rattle.sms_handset.specs.Keys.{entry_key, out_key};
+ghost use Rattle.sms_handset.specs.OwnersActs.{delete as delete_of, delete_out as delete_out_of, discard as discard_of, discard_members, is_open_part as is_open_part_of};
+ghost use Rattle.sms_handset.specs.Planning.{Acts};
+
+use crate::draft::Draft;
+use crate::entry::{Entry, Group, Message};
+use crate::groups::{is_part_of, number_of};
+use crate::mark::Mark;
+use crate::no_memory::NoMemory;
+use crate::out_entry::OutEntry;
+use crate::references::is_unfinished;
+use crate::refusal::{PlanError, Refusal};
+use sms_base::Octets;
+use std::alloc::Global;
+
+impl<'a> Draft<'a> {
+    // An entry of the inbox, before anything of it has changed.
+    fn entry(&self, number: u32) -> Option<&'a Entry>
+        requires { self.now.changes ≡ no_changes }
+        ensures { option_copied result ≡ row_at entry_key number self.now.rows.entries }
+    {
+        self.base.entries.find(number)
+    }
+
+    // An entry of the outbox, before anything of it has changed.
+    fn out_entry(&self, number: u32) -> Option<&'a OutEntry>
+        requires { self.now.changes ≡ no_changes }
+        ensures { option_copied result ≡ row_at out_key number self.now.rows.outbox }
+    {
+        self.base.outbox.find(number)
+    }
+
+    fn delete_out(&mut self, number: u32) -> Result<(), PlanError>
+        requires untouched { self.old.changes ≡ no_changes }
+        ensures { Acts result self.new (delete_out_of number (row_at out_key number self.old.rows.outbox) self.old) }
+    {
+        let Some(entry) = self.out_entry(number) else {
+            return Err(PlanError::Refused(Refusal::NoEntry));
+        };
+        if is_unfinished(entry.state) {
+            return Err(PlanError::Refused(Refusal::StillOpen));
+        }
+        self.remove_out(number)?;
+        Ok(())
+    }
+
+    /// The owner deletes an entry.
+    pub(crate) fn delete(&mut self, number: u32) -> Result<(), PlanError>
+        requires untouched { self.old.changes ≡ no_changes }
+        ensures { Acts result self.new (delete_of number self.old) }
+    {
+        let Some(entry) = self.entry(number) else {
+            return self.delete_out(number);
+        };
+        if is_open_part(&entry.message) {
+            return Err(PlanError::Refused(Refusal::StillOpen));
+        }
+        self.remove_entry(number)?;
+        self.free_slot();
+        Ok(())
+    }
+
+    fn discard_group(&mut self, number: u32, group: &Group) -> Result<(), PlanError>
+        requires untouched { self.old.changes ≡ no_changes }
+        ensures { Acts result self.new (discard_members number group.now (members group.now self.old.rows.entries) self.old) }
+    {
+        let entries = self.entries();
+        if first_member(group, entries) != number {
+            return Err(PlanError::Refused(Refusal::NoEntry));
+        }
+        if self.marks().len() >= 64 {
+            return Err(PlanError::Refused(Refusal::TooManyDiscarded));
+        }
+        let seen = numbers_in(self.alloc, group, entries)?;
+        self.drop_members(group, entries)?;
+        self.put_mark(Mark {
+            number,
+            group: *group,
+            seen,
+        })?;
+        self.free_slot();
+        Ok(())
+    }
+
+    /// The owner discards an open group.
+    pub(crate) fn discard(&mut self, number: u32) -> Result<(), PlanError>
+        requires untouched { self.old.changes ≡ no_changes }
+        ensures { Acts result self.new (discard_of number self.old) }
+    {
+        match self.entry(number) {
+            Some(
+                Entry {
+                    message: Message::Part { group, .. },
+                    ..
+                },
+            ) => self.discard_group(number, group),
+            _ => Err(PlanError::Refused(Refusal::NoEntry)),
+        }
+    }
+}
+
+/// Whether it is a part of an open group.
+pub(crate) fn is_open_part(message: &Message) -> bool
+    ensures { result ≡ is_open_part_of message.now }
+{
+    matches!(message, Message::Part { .. })
+}
+
+/// The number of the group's first stored part, or 0.
+pub(crate) fn first_member(group: &Group, entries: &[Entry]) -> u32
+    ensures { result ≡ first_number_of (members group.now entries.now) }
+{
+    for entry in entries {
+        if is_part_of(group, &entry.message) {
+            return entry.number;
+        }
+    }
+    0
+}
+
+// The numbers of the group's parts.
+fn numbers_in(alloc: Global, group: &Group, entries: &[Entry]) -> Result<Octets, NoMemory>
+    ensures { IfOk result (λ numbers. numbers ≡ part_numbers (members group.now entries.now)) }
+{
+    let mut numbers = Octets::new(alloc);
+    for entry in entries {
+        if is_part_of(group, &entry.message) {
+            numbers.push(number_of(&entry.message))?;
+        }
+    }
+    Ok(numbers)
+}

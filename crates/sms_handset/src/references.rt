@@ -1,0 +1,88 @@
+//! References: which are held, and the next that is free.
+ghost use Rattle.std.specs.Prelude.{◌≡◌, ◌+◌, ◌%◌, ◌++◌, IfOk, OnOk};
+ghost use Rattle.sms_handset.specs.References.{held_by_entries, held_message_references as held_message_references_of, held_references as held_references_of, is_unfinished as is_unfinished_state, next_free as next_free_of};
+
+use crate::groups::is_among;
+use crate::notice::Notice;
+use crate::out_entry::EntryState;
+use crate::out_view::OutView;
+use sms_base::Octets;
+use std::alloc::{AllocError, Global};
+
+/// Whether an entry is Queued or Sending.
+pub(crate) fn is_unfinished(state: EntryState) -> bool
+    ensures { result ≡ is_unfinished_state state }
+{
+    match state {
+        EntryState::Queued | EntryState::Sending => true,
+        EntryState::Sent | EntryState::Failed | EntryState::Unsure => false,
+    }
+}
+
+/// The reference behind that one, 0 behind 255.
+pub(crate) fn following(reference: u8) -> u8
+    ensures { result ≡ (reference + 1) % 256 }
+{
+    reference.wrapping_add(1)
+}
+
+/// The first reference from that one on, around from 255 to 0, that is not held.
+#[tactic(auto, using(crate::proofs::FreeReferences::free_held, crate::proofs::FreeReferences::free_here))]
+pub(crate) fn next_free(reference: u8, held: &[u8]) -> u8
+    ensures { result ≡ next_free_of reference held.now }
+{
+    let mut free = reference;
+    for turn in 0u16..256 {
+        if !is_among(free, held) {
+            return free;
+        }
+        free = following(free);
+    }
+    free
+}
+
+/// The TP-MRs that the unfinished entries hold.
+pub(crate) fn held_message_references(
+    alloc: Global,
+    outbox: &[OutView<'_>],
+) -> Result<Octets, AllocError>
+    ensures { IfOk result (λ held. held ≡ held_message_references_of outbox.now) }
+{
+    let mut held = Octets::with_capacity(alloc, outbox.len())?;
+    for view in outbox {
+        let entry = view.entry();
+        if is_unfinished(entry.state) {
+            held.push(entry.message_reference)?;
+        }
+    }
+    Ok(held)
+}
+
+// The references that the unfinished entries hold, behind others.
+fn push_held(held: &mut Octets, outbox: &[OutView<'_>]) -> Result<(), AllocError>
+    ensures { OnOk result (held.new ≡ held.old ++ held_by_entries outbox.now) }
+{
+    for view in outbox {
+        let entry = view.entry();
+        if is_unfinished(entry.state) {
+            held.push(entry.reference)?;
+        }
+    }
+    Ok(())
+}
+
+/// The references that the unfinished entries hold, and an RP-SMMA that has not ended.
+pub(crate) fn held_references(
+    alloc: Global,
+    notice: Option<Notice>,
+    outbox: &[OutView<'_>],
+) -> Result<Octets, AllocError>
+    ensures { IfOk result (λ held. held ≡ held_references_of notice outbox.now) }
+{
+    let mut held = Octets::with_capacity(alloc, outbox.len() + 1)?;
+    if let Some(notice) = notice {
+        held.push(notice.reference)?;
+    }
+    push_held(&mut held, outbox)?;
+    Ok(held)
+}

@@ -1,0 +1,31 @@
+//! What a handset stores, and what an event changes of it.
+
+use crate::counters::Counters;
+use crate::entry::Entry;
+use crate::last::Last;
+use crate::listed::Listed;
+use crate::mark::Mark;
+use crate::out_entry::OutEntry;
+use crate::setup::Setup;
+use sms_base::Change;
+
+/// All that a handset stores, and its setup, which is handed in.
+#[derive(Debug, Drop)]
+pub struct Rows {
+    pub entries: Listed<Entry>,
+    pub last: Listed<Last>,
+    pub outbox: Listed<OutEntry>,
+    pub marks: Listed<Mark>,
+    pub counters: Counters,
+    pub setup: Setup,
+}
+
+/// What an event changes of the rows: of each list in order, and the counters if they change.
+#[derive(Debug, Drop)]
+pub struct Changes {
+    pub entries: Listed<Change<Entry>>,
+    pub last: Listed<Change<Last>>,
+    pub outbox: Listed<Change<OutEntry>>,
+    pub marks: Listed<Change<Mark>>,
+    pub counters: Option<Counters>,
+}

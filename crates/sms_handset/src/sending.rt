@@ -1,0 +1,359 @@
+//! Sending: one message is under way at a time; how it ends, and what a restart leaves.
+ghost use Rattle.std.specs.Prelude.{◌≡◌, ◌+◌, ◌<◌, ◌≤◌, min, length, Some, None, IfOk, OnOk, option_copied};
+ghost use Rattle.std.specs.Option.{option_map};
+ghost use Rattle.sms_base.specs.Address.{IsAddress};
+ghost use Rattle.sms_base.specs.Table.{row_at};
+ghost use Rattle.sms_relay.specs.RelayGrammar.{data_up};
+ghost use Rattle.sms_relay.specs.RelayReading.{down_at};
+ghost use Rattle.sms_tpdu.specs.AddressGrammar.{relay_address};
+ghost use Rattle.sms_handset.specs.Keys.{out_key};
+ghost use Rattle.sms_handset.specs.References.{held_references as held_references_of, next_free as next_free_of};
+ghost use Rattle.sms_handset.specs.Outbox.{conclude as conclude_of, entry_concluded as entry_concluded_of, first_due as first_due_of, follow as follow_of, holder_concluded as holder_concluded_of, is_due as is_due_of, is_fired as is_fired_of, lapse as lapse_of, lapse_rows as lapse_rows_of, lost as lost_of, offer as offer_of, offer_after as offer_after_of, offer_entry as offer_entry_of, offer_message as offer_message_of, offer_wanted as offer_wanted_of, put_back as put_back_of, rejecting_duplicates as rejecting_duplicates_of, settled as settled_of, submit_of as submit_octets};
+
+use crate::answers::{Verdict, verdict_of};
+use crate::draft::Draft;
+use crate::no_memory::NoMemory;
+use crate::notice::Notice;
+use crate::octet_copy::copy_of;
+use crate::out_entry::{EntryState, OutEntry};
+use crate::out_view::OutView;
+use crate::references::{held_references, next_free};
+use sms_base::{Address, Holder, Moment, OctetView, Octets};
+use sms_relay::{RelayFault, Rp, read_down, write_up};
+use sms_tpdu::write_relay_address;
+use std::alloc::{AllocError, Global};
+
+/// How often an entry is sent.
+const MOST_TRIES: u8 = 3;
+
+/// Seconds until an entry that a temporary cause put back is due.
+const RETRY_DELAY: u64 = 60;
+
+// Whether the centre took the entry is not known.
+fn lost(entry: OutEntry) -> OutEntry
+    ensures { result ≡ lost_of entry }
+{
+    let mut entry = entry;
+    if entry.is_long || entry.tries >= MOST_TRIES {
+        entry.state = EntryState::Unsure;
+    } else {
+        entry.state = EntryState::Queued;
+        entry.rejects_duplicates = true;
+        entry.due = None;
+    }
+    entry
+}
+
+// The cause for which the centre didn't take the entry passes.
+fn put_back(moment: Moment, entry: OutEntry) -> OutEntry
+    ensures { result ≡ put_back_of moment entry }
+{
+    let mut entry = entry;
+    if entry.tries >= MOST_TRIES {
+        entry.state = EntryState::Failed;
+    } else {
+        entry.state = EntryState::Queued;
+        entry.due = Some(moment.plus(RETRY_DELAY));
+    }
+    entry
+}
+
+fn in_state(state: EntryState, entry: OutEntry) -> OutEntry
+    ensures { result ≡ record entry { state = state } }
+{
+    let mut entry = entry;
+    entry.state = state;
+    entry
+}
+
+// The entry as its transfer leaves it.
+fn settled(moment: Moment, verdict: Verdict, entry: OutEntry) -> OutEntry
+    ensures { result ≡ settled_of moment verdict entry }
+{
+    match verdict {
+        Verdict::Acknowledged => in_state(EntryState::Sent, entry),
+        Verdict::Temporary => put_back(moment, entry),
+        Verdict::Duplicate => in_state(EntryState::Unsure, entry),
+        Verdict::Refused => in_state(EntryState::Failed, entry),
+        Verdict::Lost => lost(entry),
+    }
+}
+
+// Whether a moment that was waited for is there; none is there at once.
+fn is_due(moment: Moment, entry: &OutEntry) -> bool
+    ensures { result ≡ is_due_of moment entry.now }
+{
+    if entry.state != EntryState::Queued {
+        return false;
+    }
+    match entry.due {
+        Some(due) => due <= moment,
+        None => true,
+    }
+}
+
+// Whether TRAM has fired.
+fn is_fired(moment: Moment, due: Option<Moment>) -> bool
+    ensures { result ≡ is_fired_of moment due }
+{
+    match due {
+        Some(due) => due <= moment,
+        None => false,
+    }
+}
+
+// The oldest entry that is due.
+fn first_due<'a>(moment: Moment, outbox: &'a [OutView<'a>]) -> Option<&'a OutEntry>
+    ensures { option_copied result ≡ first_due_of moment outbox.now }
+{
+    for view in outbox {
+        let entry = view.entry();
+        if is_due(moment, entry) {
+            return Some(entry);
+        }
+    }
+    None
+}
+
+// The SUBMIT as it is sent now: TP-RD is bit 2 of its first octet.
+fn submit_of(alloc: Global, entry: &OutEntry) -> Result<Octets, AllocError>
+    ensures value { IfOk result (λ tpdu. tpdu ≡ submit_octets entry.now) }
+    ensures few { IfOk result (λ tpdu. length tpdu ≤ 200) }
+{
+    let tpdu = entry.tpdu.as_slice();
+    if !entry.rejects_duplicates {
+        return copy_of(alloc, tpdu);
+    }
+    rejecting_duplicates(alloc, tpdu)
+}
+
+fn rejecting_duplicates(alloc: Global, tpdu: &[u8]) -> Result<Octets, AllocError>
+    ensures { IfOk result (λ sent. sent ≡ rejecting_duplicates_of tpdu.now) }
+{
+    let mut sent = Octets::with_capacity(alloc, tpdu.len())?;
+    if let [first, rest @ ..] = tpdu {
+        sent.push(first / 8 * 8 + 4 + first % 4)?;
+        sent.append(rest)?;
+    }
+    Ok(sent)
+}
+
+// The RP-DATA with the SUBMIT of an entry.
+#[tactic(auto, using(crate::proofs::CentreAddresses::relay_some))]
+fn data_unit(alloc: Global, centre: &Address, entry: &OutEntry) -> Result<Octets, AllocError>
+    requires { IsAddress centre.now }
+    ensures value { IfOk result (λ unit. unit ≡ data_up entry.now.reference (relay_address centre.now) (submit_octets entry.now)) }
+    ensures some { IfOk result (λ unit. 0 < length unit) }
+    ensures few { IfOk result (λ unit. length unit ≤ 248) }
+{
+    let centre = write_relay_address(alloc, centre)?;
+    let tpdu = submit_of(alloc, entry)?;
+    let unit = write_up(
+        alloc,
+        &Rp::DataUnit {
+            reference: entry.reference,
+            centre: OctetView::of(centre.as_slice()),
+            unit: OctetView::of(tpdu.as_slice()),
+        },
+    )?;
+    Ok(unit)
+}
+
+impl<'a> Draft<'a> {
+    // The entry of that number, our own.
+    fn found_entry(&self, number: u32) -> Result<Option<OutEntry>, NoMemory>
+        ensures { IfOk result (λ entry. entry ≡ row_at out_key number self.now.rows.outbox) }
+    {
+        let outbox = self.outbox_now()?;
+        match outbox.find(number) {
+            Some(view) => Ok(Some(view.entry().copy(self.alloc)?)),
+            None => Ok(None),
+        }
+    }
+
+    // The transfer of an entry has ended.
+    fn entry_concluded(
+        &mut self,
+        unit: &Option<Result<Rp<'_>, RelayFault>>,
+        number: u32,
+    ) -> Result<(), NoMemory>
+        ensures { OnOk result (self.new ≡ entry_concluded_of unit.now (row_at out_key number self.old.rows.outbox) self.old) }
+    {
+        match self.found_entry(number)? {
+            Some(entry) => {
+                let verdict = verdict_of(entry.reference, unit);
+                self.put_out(settled(self.moment, verdict, entry))
+            }
+            None => Ok(()),
+        }
+    }
+
+    // The transfer for a holder has ended.
+    fn holder_concluded(
+        &mut self,
+        unit: &Option<Result<Rp<'_>, RelayFault>>,
+        holder: Holder,
+    ) -> Result<(), NoMemory>
+        ensures { OnOk result (self.new ≡ holder_concluded_of unit.now holder self.old) }
+    {
+        match holder {
+            Holder::Entry(number) => self.entry_concluded(unit, number),
+            Holder::Memory(_) => {
+                self.notice_concluded(unit);
+                Ok(())
+            }
+            Holder::Part(..) | Holder::Report(_) => Ok(()),
+        }
+    }
+
+    /// The transaction that this side began has ended, by that unit or without one.
+    pub(crate) fn conclude(&mut self, unit: Option<&[u8]>) -> Result<(), NoMemory>
+        ensures { OnOk result (self.new ≡ conclude_of (option_map down_at (option_copied unit.entry)) self.old) }
+    {
+        let unit = match unit {
+            Some(octets) => Some(read_down(octets)),
+            None => None,
+        };
+        let under_way = self.under_way;
+        self.under_way = None;
+        match under_way {
+            Some(carried) => self.holder_concluded(&unit, carried.tag),
+            None => Ok(()),
+        }
+    }
+
+    // The outbox as it stands, our own.
+    fn outbox_copied(&self) -> Result<Vec<OutEntry>, NoMemory>
+        ensures { IfOk result (λ entries. entries.items ≡ self.now.rows.outbox) }
+    {
+        let outbox = self.outbox_now()?;
+        Ok(copies_of(self.alloc, outbox.as_slice())?)
+    }
+
+    // After a restart, what was under way is lost. The outbox is copied once.
+    fn lapse(&mut self) -> Result<(), NoMemory>
+        ensures { OnOk result (self.new ≡ lapse_of self.old) }
+    {
+        if self.is_recovered {
+            self.is_recovered = false;
+            let entries = self.outbox_copied()?;
+            self.lapse_rows(entries)?;
+        }
+        Ok(())
+    }
+
+    fn lapse_rows(&mut self, entries: Vec<OutEntry>) -> Result<(), NoMemory>
+        ensures { OnOk result (self.new ≡ lapse_rows_of entries.items self.old) }
+    {
+        for entry in entries {
+            if entry.state == EntryState::Sending {
+                self.put_out(lost(entry))?;
+            }
+        }
+        Ok(())
+    }
+
+    fn due_entry(&self) -> Result<Option<OutEntry>, NoMemory>
+        ensures { IfOk result (λ entry. entry ≡ first_due_of self.now.moment self.now.rows.outbox) }
+    {
+        let outbox = self.outbox_now()?;
+        match first_due(self.moment, outbox.as_slice()) {
+            Some(entry) => Ok(Some(entry.copy(self.alloc)?)),
+            None => Ok(None),
+        }
+    }
+
+    // Sends an entry.
+    fn offer_entry(&mut self, entry: OutEntry) -> Result<(), NoMemory>
+        ensures { OnOk result (self.new ≡ offer_entry_of (Some entry) self.old) }
+    {
+        let unit = data_unit(self.alloc, &self.centre(), &entry)?;
+        let number = entry.number;
+        let reference = entry.reference;
+        self.put_out(sent_once_more(entry))?;
+        self.begin(reference, Holder::Entry(number), unit.as_slice())
+    }
+
+    // Sends the oldest entry that is due.
+    fn offer_message(&mut self) -> Result<(), NoMemory>
+        ensures { OnOk result (self.new ≡ offer_message_of self.old) }
+    {
+        match self.due_entry()? {
+            Some(entry) => self.offer_entry(entry),
+            None => Ok(()),
+        }
+    }
+
+    // The next reference that nothing unfinished holds, beside that RP-SMMA.
+    pub(crate) fn free_reference(&self, notice: Option<Notice>) -> Result<u8, NoMemory>
+        ensures { IfOk result (λ reference. reference ≡ next_free_of self.now.rows.counters.reference (held_references_of notice self.now.rows.outbox)) }
+    {
+        let outbox = self.outbox_now()?;
+        let held = held_references(self.alloc, notice, outbox.as_slice())?;
+        Ok(next_free(self.counters().reference, held.as_slice()))
+    }
+
+    // An RP-SMMA that is wanted goes before messages.
+    fn offer_wanted(&mut self) -> Result<(), NoMemory>
+        ensures { OnOk result (self.new ≡ offer_wanted_of self.old) }
+    {
+        let number = self.counters().notice;
+        if 0 < self.wanted && number < 4294967295 {
+            let reference = self.free_reference(None)?;
+            self.first_notice(number, reference)?;
+        } else {
+            self.offer_message()?;
+        }
+        Ok(())
+    }
+
+    // An RP-SMMA that waits for TRAM holds nothing up.
+    fn offer_after(&mut self, notice: Option<Notice>) -> Result<(), NoMemory>
+        ensures { OnOk result (self.new ≡ offer_after_of notice self.old) }
+    {
+        match notice {
+            Some(notice) if is_fired(self.moment, notice.due) => self.send_notice(notice),
+            Some(_) => self.offer_message(),
+            None => self.offer_wanted(),
+        }
+    }
+
+    // One transaction at a time.
+    fn offer(&mut self) -> Result<(), NoMemory>
+        ensures { OnOk result (self.new ≡ offer_of self.old) }
+    {
+        if self.links.is_busy() {
+            return Ok(());
+        }
+        self.offer_after(self.notice)
+    }
+
+    /// What follows every event that isn't refused: what a restart left lapses, and the next is offered.
+    pub(crate) fn follow(&mut self) -> Result<(), NoMemory>
+        ensures { OnOk result (self.new ≡ follow_of self.old) }
+    {
+        self.lapse()?;
+        self.offer()
+    }
+}
+
+// The entry as it is under way.
+fn sent_once_more(entry: OutEntry) -> OutEntry
+    ensures { result ≡ record entry { state = EntryState.Sending; tries = min (entry.tries + 1) 255; due = None } }
+{
+    let mut entry = entry;
+    entry.state = EntryState::Sending;
+    entry.tries = entry.tries.saturating_add(1);
+    entry.due = None;
+    entry
+}
+
+fn copies_of(alloc: Global, outbox: &[OutView<'_>]) -> Result<Vec<OutEntry>, AllocError>
+    ensures { IfOk result (λ entries. entries.items ≡ outbox.now) }
+{
+    let mut entries = Vec::with_capacity(alloc, outbox.len())?;
+    for view in outbox {
+        entries.push(view.entry().copy(alloc)?)?;
+    }
+    Ok(entries)
+}

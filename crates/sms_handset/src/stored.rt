@@ -1,0 +1,54 @@
+//! The rows that a handset keeps.
+ghost use Rattle.std.specs.Prelude.{◌≡◌};
+ghost use Rattle.sms_handset.specs.Keys.{entry_key, last_key, mark_key, out_key};
+
+use crate::counters::Counters;
+use crate::entry::Entry;
+use crate::last::Last;
+use crate::mark::Mark;
+use crate::out_entry::OutEntry;
+use crate::setup::Setup;
+use sms_base::{Row, Table};
+
+impl Row for Entry {
+    ghost key = { entry_key };
+
+    fn key(&self) -> u32 {
+        self.number
+    }
+}
+
+impl Row for Last {
+    ghost key = { last_key };
+
+    fn key(&self) -> u32 {
+        u32::from(self.reference)
+    }
+}
+
+impl Row for OutEntry {
+    ghost key = { out_key };
+
+    fn key(&self) -> u32 {
+        self.number
+    }
+}
+
+impl Row for Mark {
+    ghost key = { mark_key };
+
+    fn key(&self) -> u32 {
+        self.number
+    }
+}
+
+/// The rows that a handset keeps, each list by its keys.
+#[derive(Drop)]
+pub(crate) struct Stored {
+    pub(crate) entries: Table<Entry>,
+    pub(crate) last: Table<Last>,
+    pub(crate) outbox: Table<OutEntry>,
+    pub(crate) marks: Table<Mark>,
+    pub(crate) counters: Counters,
+    pub(crate) setup: Setup,
+}

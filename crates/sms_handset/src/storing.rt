@@ -1,0 +1,219 @@
+//! Storing messages and parts, and what becomes of a group.
+ghost use Rattle.std.specs.Prelude.{◌≡◌, ◌++◌, ◌+◌, ◌∷◌, ◌<◌, [], true, nat_lt, List, OnOk, Some, None};
+ghost use Rattle.sms_handset.specs.declared.entry.Entry.{Entry as EntryOf};
+ghost use Rattle.sms_handset.specs.Draft.{no_changes, put_entry as put_entry_of};
+ghost use Rattle.sms_handset.specs.Groups.{all_numbers, alone, completed, count_entry as count_entry_of, drop_all, ended, free_all, is_part_of as is_part_of_group, keep as keep_of, marked as marked_of, members, part_entry, store_part as store_part_of, store_single as store_single_of};
+ghost use Rattle.sms_handset.specs.MemoryAvailable.{flag as flag_of, freed as freed_of, has_room as has_room_of, slots_taken, want_notice};
+
+use crate::draft::Draft;
+use crate::entry::{Entry, Group, Message};
+use crate::groups::{first_number, has_every, is_full, is_part_of};
+use crate::joining::{joined_content, tpdu_of};
+use crate::mark::Mark;
+use crate::no_memory::NoMemory;
+use crate::octet_copy::copy_of;
+use sms_base::Octets;
+use sms_concat::Content;
+
+// Whether the entries take fewer slots than there are.
+fn takes_fewer(entries: &[Entry], slots: u8) -> bool
+    ensures { result ≡ nat_lt (slots_taken entries.now) slots }
+{
+    let mut left = slots;
+    for entry in entries {
+        if entry.slots >= left {
+            return false;
+        }
+        left -= entry.slots;
+    }
+    left > 0
+}
+
+impl<'a> Draft<'a> {
+    /// Whether a slot is free and an entry number is left.
+    pub(crate) fn has_room(&self) -> bool
+        requires { self.now.changes ≡ no_changes }
+        ensures room { result ≡ has_room_of self.now }
+        ensures number { result ≡ true → self.now.rows.counters.entry < 4294967295 }
+    {
+        takes_fewer(self.entries(), self.base.setup.slots) && self.counters().entry < 4294967295
+    }
+
+    /// A message was refused for want of a slot.
+    pub(crate) fn flag(&mut self)
+        ensures { self.new ≡ flag_of self.old }
+    {
+        let mut counters = self.counters();
+        counters.is_memory_full = true;
+        self.put_counters(counters);
+    }
+
+    // An entry takes the next number.
+    fn count_entry(&mut self) -> u32
+        requires { self.old.rows.counters.entry < 4294967295 }
+        ensures number { result ≡ self.old.rows.counters.entry }
+        ensures counted { self.new ≡ count_entry_of self.old }
+    {
+        let mut counters = self.counters();
+        let number = counters.entry;
+        counters.entry += 1;
+        self.put_counters(counters);
+        number
+    }
+
+    /// A message that is no part of an open group.
+    pub(crate) fn store_single(&mut self, tpdu: &[u8]) -> Result<(), NoMemory>
+        requires { self.old.rows.counters.entry < 4294967295 }
+        ensures { OnOk result (self.new ≡ store_single_of tpdu.now self.old) }
+    {
+        let tpdu = copy_of(self.alloc, tpdu)?;
+        let number = self.count_entry();
+        self.put_entry(Entry {
+            number,
+            slots: 1,
+            message: Message::Single { tpdu },
+        })
+    }
+
+    /// A part of a group that has the parts among the entries.
+    pub(crate) fn store_part(
+        &mut self,
+        group: &Group,
+        number: u8,
+        tpdu: &[u8],
+        entries: &[Entry],
+    ) -> Result<(), NoMemory>
+        requires { self.old.rows.counters.entry < 4294967295 }
+        ensures { OnOk result (self.new ≡ store_part_of group.now number tpdu.now (members group.now entries.now) self.old) }
+    {
+        let stored = copy_of(self.alloc, tpdu)?;
+        let kept = copy_of(self.alloc, tpdu)?;
+        let entry = self.count_entry();
+        let part = part_of(entry, group, number, kept);
+        self.put_entry(part_of(entry, group, number, stored))?;
+        self.complete(group, entries, &part)
+    }
+
+    // The group, if it is full with one more part, ends.
+    fn complete(&mut self, group: &Group, entries: &[Entry], part: &Entry) -> Result<(), NoMemory>
+        ensures { OnOk result (self.new ≡ completed group.now (members group.now entries.now ++ part.now ∷ []) self.old) }
+    {
+        if is_full(group, entries, part) {
+            match joined_content(self.alloc, group, entries, part)? {
+                Some(content) => self.join(group, entries, part, content)?,
+                None => self.part_ways(group, entries, part)?,
+            }
+        }
+        Ok(())
+    }
+
+    // A full group becomes one entry.
+    fn join(
+        &mut self,
+        group: &Group,
+        entries: &[Entry],
+        part: &Entry,
+        content: Content,
+    ) -> Result<(), NoMemory>
+        ensures { OnOk result (self.new ≡ ended group.now (members group.now entries.now ++ part.now ∷ []) (Some content) self.old) }
+    {
+        self.drop_members(group, entries)?;
+        self.remove_entry(part.number)?;
+        self.put_entry(Entry {
+            number: first_number(group, entries, part.number),
+            slots: group.total,
+            message: Message::Joined {
+                source: group.source,
+                content,
+            },
+        })
+    }
+
+    // The parts of a group become single entries.
+    fn part_ways(&mut self, group: &Group, entries: &[Entry], part: &Entry) -> Result<(), NoMemory>
+        ensures { OnOk result (self.new ≡ ended group.now (members group.now entries.now ++ part.now ∷ []) None self.old) }
+    {
+        self.free_members(group, entries)?;
+        self.free(part)
+    }
+
+    /// The parts of a group leave.
+    pub(crate) fn drop_members(&mut self, group: &Group, entries: &[Entry]) -> Result<(), NoMemory>
+        ensures all { OnOk result (self.new ≡ drop_all (members group.now entries.now) self.old) }
+        ensures first { OnOk result ((rest : List EntryOf) → drop_all rest self.new ≡ drop_all (members group.now entries.now ++ rest) self.old) }
+    {
+        for entry in entries {
+            if is_part_of(group, &entry.message) {
+                self.remove_entry(entry.number)?;
+            }
+        }
+        Ok(())
+    }
+
+    // The parts of a group become single entries.
+    fn free_members(&mut self, group: &Group, entries: &[Entry]) -> Result<(), NoMemory>
+        ensures { OnOk result ((rest : List EntryOf) → free_all rest self.new ≡ free_all (members group.now entries.now ++ rest) self.old) }
+    {
+        for entry in entries {
+            if is_part_of(group, &entry.message) {
+                self.free(entry)?;
+            }
+        }
+        Ok(())
+    }
+
+    // A part becomes a single entry.
+    fn free(&mut self, entry: &Entry) -> Result<(), NoMemory>
+        ensures { OnOk result (self.new ≡ put_entry_of (alone entry.now) self.old) }
+    {
+        let tpdu = copy_of(self.alloc, tpdu_of(&entry.message))?;
+        self.put_entry(Entry {
+            number: entry.number,
+            slots: entry.slots,
+            message: Message::Single { tpdu },
+        })
+    }
+
+    /// A part of a discarded group came.
+    pub(crate) fn mark(&mut self, number: u8, mark: &Mark) -> Result<(), NoMemory>
+        ensures { OnOk result (self.new ≡ marked_of number mark.now self.old) }
+    {
+        let mut seen = copy_of(self.alloc, mark.seen.as_slice())?;
+        seen.push(number)?;
+        if has_every(mark.group.total, seen.as_slice()) {
+            return self.remove_mark(mark.number);
+        }
+        self.put_mark(Mark {
+            number: mark.number,
+            group: mark.group,
+            seen,
+        })
+    }
+
+    /// A slot became free.
+    pub(crate) fn free_slot(&mut self)
+        ensures { self.new ≡ freed_of self.old }
+    {
+        let mut counters = self.counters();
+        if counters.is_memory_full {
+            counters.is_memory_full = false;
+            self.put_counters(counters);
+            self.wanted = self.wanted.saturating_add(1);
+        }
+    }
+}
+
+// A part of a group.
+fn part_of(entry: u32, group: &Group, number: u8, tpdu: Octets) -> Entry
+    ensures { result ≡ part_entry entry group.now number tpdu }
+{
+    Entry {
+        number: entry,
+        slots: 1,
+        message: Message::Part {
+            group: *group,
+            number,
+            tpdu,
+        },
+    }
+}
