@@ -1,42 +1,42 @@
 //! What the owner writes, over frames that were written down elsewhere.
-use crate::tests::{T0, acts, handset, refuses, takes};
-use crate::{EntryState, Handset, HandsetEvent, PlanError, Refusal, TextView};
-use sms_base::{AddressError, Moment};
+use crate::pair::Pair;
+use crate::{EntryState, HandsetEvent, Refusal, TextView};
+use sms_base::AddressError;
 use std::test::Fail;
 
-// CP-DATA with the SUBMIT of `hello` to 447700900456, TP-MR 0, under the reference 0, through 447700900000.
+// CP-DATA with the SUBMIT of `hello` to 447700900123, TP-MR 0, under the reference 0, through 447700900000.
 const SUBMIT: &[u8] =
-    b"\x09\x01\x1E\x00\x00\x00\x07\x91\x44\x77\x00\x09\x00\x00\x12\x01\x00\x0C\x91\x44\x77\x00\x09\x40\x65\x00\x00\x05\xE8\x32\x9B\xFD\x06";
+    b"\x09\x01\x1E\x00\x00\x00\x07\x91\x44\x77\x00\x09\x00\x00\x12\x01\x00\x0C\x91\x44\x77\x00\x09\x10\x32\x00\x00\x05\xE8\x32\x9B\xFD\x06";
 
 // 161 septets.
 const LONG: &str =
     "aaaaaaaaaaaaaaaaaaaaaaaaaaaaaaaaaaaaaaaaaaaaaaaaaaaaaaaaaaaaaaaaaaaaaaaaaaaaaaaaaaaaaaaaaaaaaaaaaaaaaaaaaaaaaaaaaaaaaaaaaaaaaaaaaaaaaaaaaaaaaaaaaaaaaaaaaaaaaaaaa";
 
-fn to_b(text: &'static str) -> HandsetEvent<'static> {
+fn to_a(text: &'static str) -> HandsetEvent<'static> {
     HandsetEvent::Write {
         text: TextView::of(text),
-        to: TextView::of("447700900456"),
+        to: TextView::of("447700900123"),
         report: false,
     }
 }
 
-// Time goes on by so many seconds from the start.
-fn ticks(handset: &mut Handset, seconds: u64, frames: &[&[u8]]) -> Result<bool, Fail> {
-    let now = Moment::from_seconds(T0.saturating_add(seconds))?;
-    Ok(acts(handset, HandsetEvent::Tick { now }, frames)?)
+// Time goes on to so many seconds behind the start.
+fn ticks(pair: &mut Pair, seconds: u64, frames: &[&[u8]]) -> Result<bool, Fail> {
+    pair.tick(seconds)?;
+    Ok(pair.sent(frames))
 }
 
 // The state of the entry at a place of the outbox.
-fn is_in(handset: &Handset, place: usize, state: EntryState) -> bool {
-    match handset.outbox().get(place) {
+fn is_in(pair: &Pair, place: usize, state: EntryState) -> bool {
+    match pair.handset.outbox().get(place) {
         Some(entry) => entry.state == state,
         None => false,
     }
 }
 
 // The octets of the SUBMIT at a place of the outbox.
-fn has_tpdu(handset: &Handset, place: usize, tpdu: &[u8]) -> bool {
-    match handset.outbox().get(place) {
+fn has_tpdu(pair: &Pair, place: usize, tpdu: &[u8]) -> bool {
+    match pair.handset.outbox().get(place) {
         Some(entry) => entry.tpdu.as_slice() == tpdu,
         None => false,
     }
@@ -44,104 +44,78 @@ fn has_tpdu(handset: &Handset, place: usize, tpdu: &[u8]) -> bool {
 
 #[test]
 fn an_acknowledged_text_is_sent(rt: HostRuntime) -> Result<(), Fail> {
-    let mut handset = handset(rt.alloc(), 1)?;
-    assert!(rt; acts(&mut handset, to_b("hello"), &[SUBMIT])?);
-    assert!(rt; is_in(&handset, 0, EntryState::Sending));
-    assert!(rt; takes(&mut handset, b"\x89\x04", &[])?);
+    let mut pair = Pair::new(rt.alloc(), 1)?;
+    assert!(rt; pair.gives(&to_a("hello"), &[SUBMIT])?);
+    assert!(rt; is_in(&pair, 0, EntryState::Sending));
+    assert!(rt; pair.takes(b"\x89\x04", &[])?);
     let ack: &[u8] = b"\x89\x01\x0D\x03\x00\x41\x09\x01\x00\x42\x20\x92\x32\x95\x85\x00";
-    assert!(rt; takes(&mut handset, ack, &[b"\x09\x04"])?);
-    assert!(rt; is_in(&handset, 0, EntryState::Sent));
+    assert!(rt; pair.takes(ack, &[b"\x09\x04"])?);
+    assert!(rt; is_in(&pair, 0, EntryState::Sent));
     Ok(())
 }
 
 #[test]
 fn a_duplicate_of_a_lost_text_is_unsure(rt: HostRuntime) -> Result<(), Fail> {
-    let mut handset = handset(rt.alloc(), 1)?;
-    assert!(rt; acts(&mut handset, to_b("hello"), &[SUBMIT])?);
-    assert!(rt; takes(&mut handset, b"\x89\x04", &[])?);
-    assert!(rt; ticks(&mut handset, 39, &[])?);
+    let mut pair = Pair::new(rt.alloc(), 1)?;
+    assert!(rt; pair.gives(&to_a("hello"), &[SUBMIT])?);
+    assert!(rt; pair.takes(b"\x89\x04", &[])?);
+    assert!(rt; ticks(&mut pair, 39, &[])?);
     let mut again = [0x19; 33];
     again[1..].copy_from_slice(&SUBMIT[1..]);
     again[15] = 0x05;
-    assert!(rt; ticks(&mut handset, 40, &[&again])?);
+    assert!(rt; ticks(&mut pair, 40, &[&again])?);
     let duplicate: &[u8] =
         b"\x99\x01\x10\x05\x00\x01\x15\x41\x0A\x01\xC5\x00\x42\x20\x92\x32\x95\x85\x00";
-    assert!(rt; takes(&mut handset, duplicate, &[b"\x19\x04"])?);
-    assert!(rt; is_in(&handset, 0, EntryState::Unsure));
+    assert!(rt; pair.takes(duplicate, &[b"\x19\x04"])?);
+    assert!(rt; is_in(&pair, 0, EntryState::Unsure));
     Ok(())
 }
 
 #[test]
 fn a_cause_that_passes_is_tried_again_after_60_seconds(rt: HostRuntime) -> Result<(), Fail> {
-    let mut handset = handset(rt.alloc(), 1)?;
-    assert!(rt; acts(&mut handset, to_b("hello"), &[SUBMIT])?);
-    assert!(rt;
-        takes(
-            &mut handset,
-            b"\x89\x01\x04\x05\x00\x01\x29",
-            &[b"\x09\x04"]
-        )?
-    );
-    assert!(rt; is_in(&handset, 0, EntryState::Queued));
-    assert!(rt; ticks(&mut handset, 59, &[])?);
+    let mut pair = Pair::new(rt.alloc(), 1)?;
+    assert!(rt; pair.gives(&to_a("hello"), &[SUBMIT])?);
+    assert!(rt; pair.takes(b"\x89\x01\x04\x05\x00\x01\x29", &[b"\x09\x04"])?);
+    assert!(rt; is_in(&pair, 0, EntryState::Queued));
+    assert!(rt; ticks(&mut pair, 59, &[])?);
     let mut again = [0x19; 33];
     again[1..].copy_from_slice(&SUBMIT[1..]);
-    assert!(rt; ticks(&mut handset, 60, &[&again])?);
-    assert!(rt;
-        takes(
-            &mut handset,
-            b"\x99\x01\x04\x05\x00\x01\x29",
-            &[b"\x19\x04"]
-        )?
-    );
+    assert!(rt; ticks(&mut pair, 60, &[&again])?);
+    assert!(rt; pair.takes(b"\x99\x01\x04\x05\x00\x01\x29", &[b"\x19\x04"])?);
     again[0] = 0x29;
-    assert!(rt; ticks(&mut handset, 120, &[&again])?);
-    assert!(rt;
-        takes(
-            &mut handset,
-            b"\xA9\x01\x04\x05\x00\x01\x29",
-            &[b"\x29\x04"]
-        )?
-    );
-    assert!(rt; is_in(&handset, 0, EntryState::Failed));
+    assert!(rt; ticks(&mut pair, 120, &[&again])?);
+    assert!(rt; pair.takes(b"\xA9\x01\x04\x05\x00\x01\x29", &[b"\x29\x04"])?);
+    assert!(rt; is_in(&pair, 0, EntryState::Failed));
     Ok(())
 }
 
 #[test]
 fn a_long_text_is_split(rt: HostRuntime) -> Result<(), Fail> {
-    let mut handset = handset(rt.alloc(), 1)?;
-    let planned = handset.plan(&to_b(LONG))?;
-    let sent = handset.adopt(planned);
-    assert_eq!(rt; sent.len(), 1);
-    assert!(rt; is_in(&handset, 0, EntryState::Sending));
-    assert!(rt; is_in(&handset, 1, EntryState::Queued));
+    let mut pair = Pair::new(rt.alloc(), 1)?;
+    assert_eq!(rt; pair.event(&to_a(LONG))?, None);
+    assert_eq!(rt; pair.plain.sent.len(), 1);
+    assert!(rt; is_in(&pair, 0, EntryState::Sending));
+    assert!(rt; is_in(&pair, 1, EntryState::Queued));
     let second: &[u8] =
-        b"\x41\x01\x0C\x91\x44\x77\x00\x09\x40\x65\x00\x00\x11\x06\x08\x04\x00\x00\x02\x02\xE1\x70\x38\x1C\x0E\x87\xC3\x61";
-    assert!(rt; has_tpdu(&handset, 1, second));
-    assert!(rt;
-        refuses(
-            &handset,
-            HandsetEvent::Delete { entry: 2 },
-            Refusal::StillOpen
-        )
-    );
+        b"\x41\x01\x0C\x91\x44\x77\x00\x09\x10\x32\x00\x00\x11\x06\x08\x04\x00\x00\x02\x02\xE1\x70\x38\x1C\x0E\x87\xC3\x61";
+    assert!(rt; has_tpdu(&pair, 1, second));
+    assert!(rt; pair.refuses(&HandsetEvent::Delete { entry: 2 }, Refusal::StillOpen)?);
     Ok(())
 }
 
 #[test]
 fn a_faulty_number_is_refused_and_so_is_a_twenty_first_entry(rt: HostRuntime) -> Result<(), Fail> {
-    let mut handset = handset(rt.alloc(), 1)?;
+    let mut pair = Pair::new(rt.alloc(), 1)?;
     let nowhere = HandsetEvent::Write {
         text: TextView::of("hello"),
         to: TextView::of(""),
         report: false,
     };
-    assert!(rt; refuses(&handset, nowhere, Refusal::Destination(AddressError::Empty)));
+    assert!(rt; pair.refuses(&nowhere, Refusal::Destination(AddressError::Empty))?);
     for _ in 0u8..20 {
-        let planned = handset.plan(&to_b("hello"))?;
-        handset.adopt(planned);
+        assert_eq!(rt; pair.event(&to_a("hello"))?, None);
     }
-    assert!(rt; refuses(&handset, to_b("hello"), Refusal::OutboxFull));
-    assert_eq!(rt; handset.outbox().len(), 20);
+    assert!(rt; pair.refuses(&to_a("hello"), Refusal::OutboxFull)?);
+    assert_eq!(rt; pair.handset.outbox().len(), 20);
     Ok(())
 }

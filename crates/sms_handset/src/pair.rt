@@ -6,14 +6,43 @@ use crate::kept::Kept;
 use crate::out_entry::OutEntry;
 use crate::outgoing::Outgoing;
 use crate::plain::{Plain, Text};
-use crate::tests::{T0, handset};
-use crate::{Handset, HandsetEvent, PlanError, Refusal, Setup, TextView};
+use crate::{Counters, Handset, HandsetEvent, Listed, PlanError, Refusal, Rows, Setup, TextView};
 use sms_base::{Address, Holder, Moment, OctetView, Octets, rises};
 use std::alloc::Global;
 use std::test::Fail;
 
 /// The address of the centre in RP-DATA, 447700900000.
 const CENTRE: [u8; 8] = [0x07, 0x91, 0x44, 0x77, 0x00, 0x09, 0x00, 0x00];
+
+/// 2024-02-29 23:59:58.
+pub(crate) const T0: u64 = 1_709_251_198;
+
+// An empty handset.
+fn handset(alloc: Global, slots: u8) -> Result<Handset, Fail>
+    requires { 0 < slots }
+{
+    let rows = Rows {
+        entries: Listed::new(alloc),
+        last: Listed::new(alloc),
+        outbox: Listed::new(alloc),
+        marks: Listed::new(alloc),
+        counters: Counters {
+            entry: 1,
+            message_reference: 0,
+            reference: 0,
+            concat_reference: 0,
+            notice: 0,
+            is_memory_full: false,
+        },
+        setup: Setup {
+            number: Address::new(1, 1, "447700900456")?,
+            slots,
+            centre: Address::new(1, 1, "447700900000")?,
+            start: Moment::from_seconds(T0)?,
+        },
+    };
+    Ok(Handset::recover(alloc, rows))
+}
 
 /// A handset, the plain one, and how many events came.
 #[derive(Drop)]
@@ -180,6 +209,31 @@ impl Pair {
 
     pub(crate) fn discard(&mut self, entry: u32) -> Result<Option<Refusal>, Fail> {
         self.event(&HandsetEvent::Discard { entry })
+    }
+
+    /// Whether the event is not refused, and sends these frames and no others.
+    pub(crate) fn gives(
+        &mut self,
+        event: &HandsetEvent<'_>,
+        frames: &[&[u8]],
+    ) -> Result<bool, Fail> {
+        self.done(event)?;
+        Ok(self.sent(frames))
+    }
+
+    /// Whether a frame that comes sends these frames and no others.
+    pub(crate) fn takes(&mut self, frame: &[u8], frames: &[&[u8]]) -> Result<bool, Fail> {
+        self.frame(frame)?;
+        Ok(self.sent(frames))
+    }
+
+    /// Whether the event is refused so.
+    pub(crate) fn refuses(
+        &mut self,
+        event: &HandsetEvent<'_>,
+        refusal: Refusal,
+    ) -> Result<bool, Fail> {
+        Ok(self.event(event)? == Some(refusal))
     }
 
     /// Whether the last event sent these frames and no others.

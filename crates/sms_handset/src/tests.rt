@@ -1,18 +1,8 @@
-//! A handset over frames that were written down elsewhere.
-ghost use Rattle.std.specs.Prelude.{◌<◌, IfOk};
-ghost use Rattle.sms_handset.specs.Planning.{Fits};
-ghost use Rattle.sms_handset.specs.SoundRows.{IsSound};
-
-use crate::{
-    Counters, Entry, EntryState, Handset, HandsetEvent, Listed, Message, PlanError, Refusal, Rows,
-    Setup, TextView,
-};
-use sms_base::{Address, AddressError, Holder, Moment, OctetView};
-use std::alloc::Global;
+//! A handset, and the plain one beside it, over frames that were written down elsewhere.
+use crate::pair::Pair;
+use crate::{Entry, HandsetEvent, Message, Refusal, TextView};
+use sms_base::AddressError;
 use std::test::Fail;
-
-// 2024-02-29 23:59:58.
-pub(crate) const T0: u64 = 1_709_251_198;
 
 // CP-DATA with an RP-DATA of reference 0: `hello` from 447700900001.
 const HELLO: &[u8] =
@@ -22,123 +12,35 @@ const HELLO: &[u8] =
 const SECOND: &[u8] =
     b"\x19\x01\x24\x01\x01\x07\x91\x44\x77\x00\x09\x00\x00\x00\x18\x24\x0C\x91\x44\x77\x00\x09\x10\x00\x00\x00\x42\x20\x92\x32\x95\x85\x00\x05\xE8\x32\x9B\xFD\x06";
 
-// An empty handset.
-pub(crate) fn handset(alloc: Global, slots: u8) -> Result<Handset, Fail>
-    requires { 0 < slots }
-{
-    let rows = Rows {
-        entries: Listed::new(alloc),
-        last: Listed::new(alloc),
-        outbox: Listed::new(alloc),
-        marks: Listed::new(alloc),
-        counters: Counters {
-            entry: 1,
-            message_reference: 0,
-            reference: 0,
-            concat_reference: 0,
-            notice: 0,
-            is_memory_full: false,
-        },
-        setup: Setup {
-            number: Address::new(1, 1, "447700900456")?,
-            slots,
-            centre: Address::new(1, 1, "447700900000")?,
-            start: Moment::from_seconds(T0)?,
-        },
-    };
-    Ok(Handset::recover(alloc, rows))
-}
-
-// Whether the handset plans the event, and then sends these frames and no others.
-fn gives(
-    handset: &mut Handset,
-    event: &HandsetEvent<'_>,
-    frames: &[&[u8]],
-) -> Result<bool, PlanError> {
-    let planned = handset.plan(event)?;
-    let sent = handset.adopt(planned);
-    if sent.len() != frames.len() {
-        return Ok(false);
-    }
-    for (outgoing, frame) in sent.as_slice().iter().zip(frames) {
-        if outgoing.octets.as_slice() != *frame {
-            return Ok(false);
-        }
-    }
-    Ok(true)
-}
-
-// A frame that came, whose tag tells nothing here.
-pub(crate) fn takes(
-    handset: &mut Handset,
-    frame: &[u8],
-    frames: &[&[u8]],
-) -> Result<bool, PlanError> {
-    let event = HandsetEvent::Frame {
-        octets: OctetView::of(frame),
-        tag: Holder::Memory(0),
-    };
-    gives(handset, &event, frames)
-}
-
-pub(crate) fn acts(
-    handset: &mut Handset,
-    event: HandsetEvent<'_>,
-    frames: &[&[u8]],
-) -> Result<bool, PlanError> {
-    gives(handset, &event, frames)
-}
-
-pub(crate) fn refuses(handset: &Handset, event: HandsetEvent<'_>, refusal: Refusal) -> bool {
-    match handset.plan(&event) {
-        Err(error) => error == PlanError::Refused(refusal),
-        Ok(_) => false,
-    }
-}
-
-fn hello() -> HandsetEvent<'static> {
-    HandsetEvent::Write {
-        text: TextView::of("hello"),
-        to: TextView::of("447700900123"),
-        report: false,
-    }
-}
-
 #[test]
 fn a_double_is_acknowledged_alone(rt: HostRuntime) -> Result<(), Fail> {
-    let mut handset = handset(rt.alloc(), 1)?;
+    let mut pair = Pair::new(rt.alloc(), 1)?;
     let ack: &[u8] = b"\x89\x01\x06\x02\x00\x41\x02\x00\x00";
-    assert!(rt; takes(&mut handset, HELLO, &[b"\x89\x04", ack])?);
-    assert_eq!(rt; handset.inbox().len(), 1);
+    assert!(rt; pair.takes(HELLO, &[b"\x89\x04", ack])?);
+    assert_eq!(rt; pair.handset.inbox().len(), 1);
     let mut again = [0x19; 39];
     again[1..].copy_from_slice(&HELLO[1..]);
     let ack: &[u8] = b"\x99\x01\x06\x02\x00\x41\x02\x00\x00";
-    assert!(rt; takes(&mut handset, &again, &[b"\x99\x04", ack])?);
-    assert_eq!(rt; handset.inbox().len(), 1);
-    assert!(rt;
-        refuses(
-            &handset,
-            HandsetEvent::Delete { entry: 2 },
-            Refusal::NoEntry
-        )
-    );
+    assert!(rt; pair.takes(&again, &[b"\x99\x04", ack])?);
+    assert_eq!(rt; pair.handset.inbox().len(), 1);
+    assert!(rt; pair.refuses(&HandsetEvent::Delete { entry: 2 }, Refusal::NoEntry)?);
     Ok(())
 }
 
 #[test]
 fn a_full_handset_says_when_it_has_memory_again(rt: HostRuntime) -> Result<(), Fail> {
-    let mut handset = handset(rt.alloc(), 1)?;
+    let mut pair = Pair::new(rt.alloc(), 1)?;
     let ack: &[u8] = b"\x89\x01\x06\x02\x00\x41\x02\x00\x00";
-    assert!(rt; takes(&mut handset, HELLO, &[b"\x89\x04", ack])?);
-    assert!(rt; takes(&mut handset, b"\x09\x04", &[])?);
+    assert!(rt; pair.takes(HELLO, &[b"\x89\x04", ack])?);
+    assert!(rt; pair.takes(b"\x09\x04", &[])?);
     let full: &[u8] = b"\x99\x01\x09\x04\x01\x01\x16\x41\x03\x00\xD3\x00";
-    assert!(rt; takes(&mut handset, SECOND, &[b"\x99\x04", full])?);
-    assert!(rt; takes(&mut handset, b"\x19\x04", &[])?);
+    assert!(rt; pair.takes(SECOND, &[b"\x99\x04", full])?);
+    assert!(rt; pair.takes(b"\x19\x04", &[])?);
     let smma: &[u8] = b"\x09\x01\x02\x06\x00";
-    assert!(rt; acts(&mut handset, HandsetEvent::Delete { entry: 1 }, &[smma])?);
-    assert!(rt; handset.inbox().is_empty());
-    assert!(rt; takes(&mut handset, b"\x89\x04", &[])?);
-    assert!(rt; takes(&mut handset, b"\x89\x01\x02\x03\x00", &[b"\x09\x04"])?);
+    assert!(rt; pair.gives(&HandsetEvent::Delete { entry: 1 }, &[smma])?);
+    assert!(rt; pair.handset.inbox().is_empty());
+    assert!(rt; pair.takes(b"\x89\x04", &[])?);
+    assert!(rt; pair.takes(b"\x89\x01\x02\x03\x00", &[b"\x09\x04"])?);
     Ok(())
 }
 
@@ -154,11 +56,11 @@ fn part(head: u8, reference: u8, key: [u8; 3], septet: u8) -> [u8; 41] {
 }
 
 // A part comes, is acknowledged, and its acknowledgement is.
-fn takes_part(handset: &mut Handset, ti: u8, key: [u8; 3], septet: u8) -> Result<bool, Fail> {
+fn takes_part(pair: &mut Pair, ti: u8, key: [u8; 3], septet: u8) -> Result<bool, Fail> {
     let head = ti % 7 * 16 + 9;
     let ack = [head + 128, 0x01, 0x06, 0x02, ti, 0x41, 0x02, 0x00, 0x00];
     let frame = part(head, ti, key, septet);
-    Ok(takes(handset, &frame, &[&[head + 128, 0x04], &ack])? && takes(handset, &[head, 0x04], &[])?)
+    Ok(pair.takes(&frame, &[&[head + 128, 0x04], &ack])? && pair.takes(&[head, 0x04], &[])?)
 }
 
 // Whether the entry is a joined message of these septets.
@@ -171,108 +73,88 @@ fn is_joined(entry: &Entry, septets: &[u8]) -> bool {
 
 #[test]
 fn parts_are_joined_in_order(rt: HostRuntime) -> Result<(), Fail> {
-    let mut handset = handset(rt.alloc(), 4)?;
-    assert!(rt; takes_part(&mut handset, 0, [7, 3, 3], 0xC6)?);
-    assert!(rt; takes_part(&mut handset, 1, [7, 3, 1], 0xC2)?);
+    let mut pair = Pair::new(rt.alloc(), 4)?;
+    assert!(rt; takes_part(&mut pair, 0, [7, 3, 3], 0xC6)?);
+    assert!(rt; takes_part(&mut pair, 1, [7, 3, 1], 0xC2)?);
     let again = part(0x29, 1, [7, 3, 1], 0xC2);
     let ack: &[u8] = b"\xA9\x01\x06\x02\x01\x41\x02\x00\x00";
-    assert!(rt; takes(&mut handset, &again, &[b"\xA9\x04", ack])?);
-    assert_eq!(rt; handset.inbox().len(), 2);
-    assert!(rt; takes_part(&mut handset, 3, [7, 3, 2], 0xC4)?);
-    assert_eq!(rt; handset.inbox().len(), 1);
-    assert!(rt; is_joined(&handset.inbox()[0], b"abc"));
-    assert_eq!(rt; handset.inbox()[0].number, 1);
-    assert_eq!(rt; handset.inbox()[0].slots, 3);
+    assert!(rt; pair.takes(&again, &[b"\xA9\x04", ack])?);
+    assert_eq!(rt; pair.handset.inbox().len(), 2);
+    assert!(rt; takes_part(&mut pair, 3, [7, 3, 2], 0xC4)?);
+    assert_eq!(rt; pair.handset.inbox().len(), 1);
+    assert!(rt; is_joined(&pair.handset.inbox()[0], b"abc"));
+    assert_eq!(rt; pair.handset.inbox()[0].number, 1);
+    assert_eq!(rt; pair.handset.inbox()[0].slots, 3);
     Ok(())
 }
 
 #[test]
 fn a_discarded_group_is_forgotten_with_its_last_part(rt: HostRuntime) -> Result<(), Fail> {
-    let mut handset = handset(rt.alloc(), 2)?;
-    assert!(rt; takes_part(&mut handset, 0, [9, 2, 1], 0xC2)?);
-    assert!(rt;
-        refuses(
-            &handset,
-            HandsetEvent::Delete { entry: 1 },
-            Refusal::StillOpen
-        )
-    );
-    assert!(rt; acts(&mut handset, HandsetEvent::Discard { entry: 1 }, &[])?);
-    assert!(rt; handset.inbox().is_empty());
-    assert!(rt;
-        refuses(
-            &handset,
-            HandsetEvent::Discard { entry: 1 },
-            Refusal::NoEntry
-        )
-    );
-    assert!(rt; takes_part(&mut handset, 1, [9, 2, 2], 0xC4)?);
-    assert!(rt; handset.inbox().is_empty());
-    assert!(rt; takes_part(&mut handset, 2, [9, 2, 1], 0xF0)?);
-    assert!(rt; takes_part(&mut handset, 3, [9, 2, 2], 0xF2)?);
-    assert_eq!(rt; handset.inbox().len(), 1);
-    assert!(rt; is_joined(&handset.inbox()[0], b"xy"));
+    let mut pair = Pair::new(rt.alloc(), 2)?;
+    assert!(rt; takes_part(&mut pair, 0, [9, 2, 1], 0xC2)?);
+    assert!(rt; pair.refuses(&HandsetEvent::Delete { entry: 1 }, Refusal::StillOpen)?);
+    assert!(rt; pair.gives(&HandsetEvent::Discard { entry: 1 }, &[])?);
+    assert!(rt; pair.handset.inbox().is_empty());
+    assert!(rt; pair.refuses(&HandsetEvent::Discard { entry: 1 }, Refusal::NoEntry)?);
+    assert!(rt; takes_part(&mut pair, 1, [9, 2, 2], 0xC4)?);
+    assert!(rt; pair.handset.inbox().is_empty());
+    assert!(rt; takes_part(&mut pair, 2, [9, 2, 1], 0xF0)?);
+    assert!(rt; takes_part(&mut pair, 3, [9, 2, 2], 0xF2)?);
+    assert_eq!(rt; pair.handset.inbox().len(), 1);
+    assert!(rt; is_joined(&pair.handset.inbox()[0], b"xy"));
     Ok(())
 }
 
 #[test]
 fn at_most_64_groups_are_discarded(rt: HostRuntime) -> Result<(), Fail> {
-    let mut handset = handset(rt.alloc(), 2)?;
+    let mut pair = Pair::new(rt.alloc(), 2)?;
     for n in 0u8..64 {
-        assert!(rt; takes_part(&mut handset, n, [n, 2, 1], 0xC2)?);
+        assert!(rt; takes_part(&mut pair, n, [n, 2, 1], 0xC2)?);
         assert!(rt;
-            acts(
-                &mut handset,
-                HandsetEvent::Discard {
+            pair.gives(
+                &HandsetEvent::Discard {
                     entry: u32::from(n) + 1
                 },
                 &[]
             )?
         );
     }
-    assert!(rt; takes_part(&mut handset, 64, [64, 2, 1], 0xC2)?);
+    assert!(rt; takes_part(&mut pair, 64, [64, 2, 1], 0xC2)?);
     assert!(rt;
-        refuses(
-            &handset,
-            HandsetEvent::Discard { entry: 65 },
+        pair.refuses(
+            &HandsetEvent::Discard { entry: 65 },
             Refusal::TooManyDiscarded
-        )
+        )?
     );
     Ok(())
 }
 
 #[test]
 fn texts_are_refused_in_order(rt: HostRuntime) -> Result<(), Fail> {
-    let handset = handset(rt.alloc(), 1)?;
+    let mut pair = Pair::new(rt.alloc(), 1)?;
     let nobody = HandsetEvent::Write {
         text: TextView::of("hello"),
         to: TextView::of(""),
         report: false,
     };
-    assert!(rt; refuses(&handset, nobody, Refusal::Destination(AddressError::Empty)));
+    assert!(rt; pair.refuses(&nobody, Refusal::Destination(AddressError::Empty))?);
     let long = "a".repeat(rt.alloc(), 3041)?;
     let too_long = HandsetEvent::Write {
         text: TextView::of(&long),
         to: TextView::of(""),
         report: false,
     };
-    assert!(rt; refuses(&handset, too_long, Refusal::TooManyParts));
+    assert!(rt; pair.refuses(&too_long, Refusal::TooManyParts)?);
     Ok(())
 }
 
 #[test]
 fn an_unreadable_unit_is_refused(rt: HostRuntime) -> Result<(), Fail> {
-    let mut handset = handset(rt.alloc(), 1)?;
+    let mut pair = Pair::new(rt.alloc(), 1)?;
     let unknown: &[u8] = b"\x89\x01\x04\x04\x05\x01\x61";
-    assert!(rt;
-        takes(
-            &mut handset,
-            b"\x09\x01\x02\x07\x05",
-            &[b"\x89\x04", unknown]
-        )?
-    );
+    assert!(rt; pair.takes(b"\x09\x01\x02\x07\x05", &[b"\x89\x04", unknown])?);
     let short: &[u8] = b"\x99\x01\x04\x04\x00\x01\x60";
-    assert!(rt; takes(&mut handset, b"\x19\x01\x01\x01", &[b"\x99\x04", short])?);
-    assert!(rt; handset.inbox().is_empty());
+    assert!(rt; pair.takes(b"\x19\x01\x01\x01", &[b"\x99\x04", short])?);
+    assert!(rt; pair.handset.inbox().is_empty());
     Ok(())
 }

@@ -78,7 +78,9 @@ impl Plain {
         }
         if let Some(notice) = self.notice_to_send()? {
             let MemoryAvailable {
-                number, reference, ..
+                number,
+                reference,
+                ..
             } = notice;
             self.notice = Some(notice);
             self.under_way = UnderWay::MemoryAvailable { number, reference };
