@@ -1,13 +1,13 @@
 -- What is accepted is stored.
 use Rattle.std.proofs.Common.{◌≡◌, ◌⊎◌, ℕ, zero, suc, ◌<◌, ◌≤◌, arith, List, [], ◌∷◌, ◌++◌, Bool, true, false, Option, Some, None, Result, Ok, Err, refl, sym, ◌∙◌, ap, subst, inl, inr, ⊎_elim, cond, eq-eqb}
-use Rattle.std.specs.Prelude.{max, ◌+◌, ◌*◌, ◌==◌, ◌&&◌, ◌||◌, nat_lt, nat_le, if◌then◌else◌, length}
+use Rattle.std.specs.Prelude.{max, ◌+◌, ◌*◌, ◌==◌, ◌&&◌, nat_lt, nat_le, length}
 use Rattle.std.proofs.Math.Nat.{eq-or-lt_of_le}
 use Rattle.std.proofs.lemmas.Bool.{cond_both, cond-false, cond-true, or_parts, and_parts, leb-true, ltb-true}
 use Rattle.sms_base.specs.Among.{Among}
 use Rattle.sms_base.proofs.Tables.{put_among}
-use Rattle.sms_base.specs.Table.{put, row_at}
+use Rattle.sms_base.specs.Table.{row_at}
 use Rattle.sms_base.specs.declared.change.Change.{Change}
-use Rattle.sms_base.specs.declared.change.Change.TheVariants.{Put, Remove}
+use Rattle.sms_base.specs.declared.change.Change.TheVariants.{Put}
 use Rattle.sms_base.specs.declared.holder.Holder.{Holder}
 use Rattle.sms_concat.specs.declared.concat_key.ConcatKey.{ConcatKey}
 use Rattle.sms_concat.specs.declared.content.Content.{Content}
@@ -322,18 +322,19 @@ unit_law marks tag unit (Ok (ErrorUnit r c tpdu)) d e same = none_accepted marks
 unit_law marks tag unit (Ok (Smma r)) d e same = none_accepted marks d e
 unit_law marks tag unit (Err f) d e same = none_accepted marks (unit_came tag unit (Err f) d) e
 
--- ---- what follows touches neither
+-- ---- what follows touches none of these
 
 pub record Kept (d z : Draft) : Type 0 where
   pub entries : z.rows.entries ≡ d.rows.entries
   pub changed : z.changes.entries ≡ d.changes.entries
   pub last : z.changes.last ≡ d.changes.last
+  pub number : z.rows.counters.entry ≡ d.rows.counters.entry
 
-kept : (d : Draft) → Kept d d
-kept d = record { entries = refl; changed = refl; last = refl }
+pub kept : (d : Draft) → Kept d d
+kept d = record { entries = refl; changed = refl; last = refl; number = refl }
 
 kept_then : (d e z : Draft) → Kept d e → Kept e z → Kept d z
-kept_then d e z a b = record { entries = b.entries ∙ a.entries; changed = b.changed ∙ a.changed; last = b.last ∙ a.last }
+kept_then d e z a b = record { entries = b.entries ∙ a.entries; changed = b.changed ∙ a.changed; last = b.last ∙ a.last; number = b.number ∙ a.number }
 
 kept_law : (marks : List Mark) (d z : Draft) → Kept d z → Law marks d → Law marks z
 kept_law marks d z k h l a m f =
@@ -346,32 +347,32 @@ lapse_rows_kept [] d = kept d
 lapse_rows_kept (o ∷ os) d =
     let e : Draft = cond (is_sending o.state) (put_out (lost o) d) d in
     kept_then d e (lapse_rows os e)
-    (cond_both (is_sending o.state) (put_out (lost o) d) d (λ (z : Draft). Kept d z) (λ t. record { entries = refl; changed = refl; last = refl }) (λ t. kept d))
+    (cond_both (is_sending o.state) (put_out (lost o) d) d (λ (z : Draft). Kept d z) (λ t. record { entries = refl; changed = refl; last = refl; number = refl }) (λ t. kept d))
     (lapse_rows_kept os e)
 
 lapse_kept : (d : Draft) → Kept d (lapse d)
 lapse_kept d =
     cond_both d.is_recovered (lapse_rows d.rows.outbox (record d { is_recovered = false })) d (λ (z : Draft). Kept d z)
-    (λ t. let k = lapse_rows_kept d.rows.outbox (record d { is_recovered = false }) in record { entries = k.entries; changed = k.changed; last = k.last })
+    (λ t. let k = lapse_rows_kept d.rows.outbox (record d { is_recovered = false }) in record { entries = k.entries; changed = k.changed; last = k.last; number = k.number })
     (λ t. kept d)
 
 offer_entry_kept : (o : Option OutEntry) (d : Draft) → Kept d (offer_entry o d)
 offer_entry_kept None d = kept d
-offer_entry_kept (Some o) d = record { entries = refl; changed = refl; last = refl }
+offer_entry_kept (Some o) d = record { entries = refl; changed = refl; last = refl; number = refl }
 
 offer_wanted_kept : (d : Draft) → Kept d (offer_wanted d)
 offer_wanted_kept d =
     cond_both (nat_lt 0 d.wanted && nat_lt d.rows.counters.notice 4294967295)
     (first_notice d.rows.counters.notice (next_free d.rows.counters.reference (held_references None d.rows.outbox)) d) (offer_message d) (λ (z : Draft). Kept d z)
-    (λ t. record { entries = refl; changed = refl; last = refl }) (λ t. offer_entry_kept (first_due d.moment d.rows.outbox) d)
+    (λ t. record { entries = refl; changed = refl; last = refl; number = refl }) (λ t. offer_entry_kept (first_due d.moment d.rows.outbox) d)
 
 offer_after_kept : (n : Option Notice) (d : Draft) → Kept d (offer_after n d)
 offer_after_kept None d = offer_wanted_kept d
 offer_after_kept (Some n) d =
     cond_both (is_fired d.moment n.due) (send_notice n d) (offer_message d) (λ (z : Draft). Kept d z)
-    (λ t. record { entries = refl; changed = refl; last = refl }) (λ t. offer_entry_kept (first_due d.moment d.rows.outbox) d)
+    (λ t. record { entries = refl; changed = refl; last = refl; number = refl }) (λ t. offer_entry_kept (first_due d.moment d.rows.outbox) d)
 
-follow_kept : (d : Draft) → Kept d (follow d)
+pub follow_kept : (d : Draft) → Kept d (follow d)
 follow_kept d =
     let e : Draft = lapse d in
     kept_then d e (offer e) (lapse_kept d)

@@ -1,6 +1,8 @@
 pub mod Accepting
 pub mod CentreAddresses
 pub mod FreeReferences
+pub mod GroupStages
+pub mod Indexing
 pub mod Judging
 pub mod Numbers
 pub mod PartFields

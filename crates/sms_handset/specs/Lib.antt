@@ -1,6 +1,8 @@
 pub mod Keys
 pub mod Draft
 pub mod Groups
+pub mod OpenGroups
+pub mod GroupChanges
 pub mod References
 pub mod Answers
 pub mod MemoryAvailable

@@ -25,6 +25,7 @@ mod no_memory;
 mod notice;
 mod notices;
 mod octet_copy;
+mod open_group;
 mod out_entry;
 mod out_view;
 #[cfg(test)]

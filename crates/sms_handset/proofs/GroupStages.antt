@@ -1,0 +1,554 @@
+-- Through all stages the open groups change as is told, and each entry has a number that was given.
+use Rattle.std.proofs.Common.{◌≡◌, ℕ, ◌+◌, ◌<◌, ◌≤◌, arith, List, [], ◌∷◌, ◌++◌, append-nil, Bool, true, false, cond, Option, Some, None, Result, Ok, Err, refl, sym, ◌∙◌, ap, subst, inl, inr, ⊎_elim, eqb-true, true≢false, le_of_eq}
+use Rattle.std.specs.Prelude.{◌==◌, max, nat_lt, length}
+use Rattle.std.specs.List.{AllByRecursion}
+use Rattle.std.proofs.lemmas.Bool.{cond_both, cond-true, cond-false}
+use Rattle.sms_base.specs.Among.{Among}
+use Rattle.sms_base.specs.Table.{Rises, insert, put, row_at, without}
+use Rattle.sms_base.specs.declared.address.Address.{Address}
+use Rattle.sms_base.specs.declared.address_error.AddressError.{AddressError}
+use Rattle.sms_base.specs.declared.holder.Holder.{Holder}
+use Rattle.sms_base.specs.declared.holder.Holder.TheVariants.{Part as PartHolder, Report, Entry as EntryHolder, Memory}
+use Rattle.sms_base.specs.Address.{address_of}
+use Rattle.sms_base.proofs.Tables.{found_among, found_key, insert_behind, rises_put, rises_without, without_behind}
+use Rattle.sms_concat.specs.declared.concat_key.ConcatKey.{ConcatKey}
+use Rattle.sms_concat.specs.declared.content.Content.{Content}
+use Rattle.sms_concat.specs.declared.content.Part.{Part as PartOf}
+use Rattle.sms_concat.specs.declared.split_error.SplitError.{SplitError}
+use Rattle.sms_concat.specs.Splitting.{split_of}
+use Rattle.sms_control.specs.declared.out.Up.{Up}
+use Rattle.sms_control.specs.declared.out.Up.TheVariants.{Unit as UnitUp, Failed as FailedUp}
+use Rattle.sms_control.specs.declared.transaction.TransactionFlag.TheVariants.{FromOriginator, ToOriginator}
+use Rattle.sms_control.specs.LinkStep.{Step, fire_step, take_step}
+use Rattle.sms_control.specs.Timers.{later as later_moment}
+use Rattle.sms_relay.specs.declared.fault.RelayFault.{RelayFault}
+use Rattle.sms_relay.specs.declared.frame.Rp.{Rp}
+use Rattle.sms_relay.specs.declared.frame.Rp.TheVariants.{DataUnit, AckUnit, ErrorUnit, Smma}
+use Rattle.sms_relay.specs.RelayReading.{down_at as unit_at}
+use Rattle.sms_tpdu.specs.declared.carrier.Carrier.TheVariants.{InData}
+use Rattle.sms_tpdu.specs.declared.deliver.Deliver.{Deliver as DeliverOf}
+use Rattle.sms_tpdu.specs.declared.down.Down.{Down}
+use Rattle.sms_tpdu.specs.declared.down.Down.TheVariants.{Deliver, StatusReport, SubmitReport}
+use Rattle.sms_tpdu.specs.declared.fault.TpduFault.{TpduFault}
+use Rattle.sms_tpdu.specs.TpduReading.{down_at}
+use Rattle.sms_handset.specs.declared.answers.Verdict.{Verdict}
+use Rattle.sms_handset.specs.declared.answers.Verdict.TheVariants.{Acknowledged, Temporary, Duplicate, Refused, Lost}
+use Rattle.sms_handset.specs.declared.entry.Entry.{Entry}
+use Rattle.sms_handset.specs.declared.entry.Group.{Group}
+use Rattle.sms_handset.specs.declared.entry.Message.{Message}
+use Rattle.sms_handset.specs.declared.entry.Message.TheVariants.{Single, Part, Joined}
+use Rattle.sms_handset.specs.declared.mark.Mark.{Mark}
+use Rattle.sms_handset.specs.declared.notice.Notice.{Notice}
+use Rattle.sms_handset.specs.declared.open_group.Regrouping.{Regrouping}
+use Rattle.sms_handset.specs.declared.open_group.Regrouping.TheVariants.{Unchanged, Opened, Closed}
+use Rattle.sms_handset.specs.declared.out_entry.OutEntry.{OutEntry}
+use Rattle.sms_handset.specs.declared.outgoing.Carried.{Carried}
+use Rattle.sms_handset.specs.declared.refusal.Refusal.{Refusal}
+use Rattle.sms_handset.specs.declared.refusal.Refusal.TheVariants.{NoEntry, StillOpen, OutboxFull, TooManyDiscarded}
+use Rattle.sms_handset.specs.declared.rows.Rows.{Rows}
+use Rattle.sms_handset.specs.Answers.{verdict_of}
+use Rattle.sms_handset.specs.Draft.{Core, Draft, draft_of, heard, put_entry, remove_entry, put_counters, put_mark, remove_mark, remove_out}
+use Rattle.sms_handset.specs.GroupChanges.{data_groups, deliver_groups, member_groups, new_part_groups, part_groups, stored_groups, tpdu_groups, unit_groups, up_groups}
+use Rattle.sms_handset.specs.Groups.{all_numbers, alone, drop_all, ended, first_number, free_all, group_of, is_among, is_part_of, is_same_group, joined_content, joined_entry, keep, key_of, mark_of, marked, members, part_entry, part_numbers, single_entry, store_part, store_single}
+use Rattle.sms_handset.specs.HandsetEvent.{acted, at_moment, deleted, discarded, failed, frame_came, frame_heard, ticked, timers_fired, went_up, wrote}
+use Rattle.sms_handset.specs.Keys.{entry_key, last_key, out_key}
+use Rattle.sms_handset.specs.MemoryAvailable.{flag, freed, has_room, notice_concluded, notice_ended, notice_failed, tram, want_notice}
+use Rattle.sms_handset.specs.OpenGroups.{IsRegrouped, Numbered, Regroups, open_at, open_group}
+use Rattle.sms_handset.specs.Outbox.{conclude, entry_concluded, follow, holder_concluded, transfer_concluded}
+use Rattle.sms_handset.specs.OwnersActs.{content_of_text, count_split, delete, delete_in, delete_out, discard, discard_at, discard_group, discard_in, discard_members, fits_outbox, is_open_part, write, write_part, write_parts, write_split, write_to, written}
+use Rattle.sms_handset.specs.Receiving.{accept, acknowledge, data_came, deliver_came, is_double, member_came, new_part_came, no_room, note, part_came, reported, single_came, tpdu_came, unit_came}
+use Rattle.sms_handset.specs.References.{is_unfinished}
+use Rattle.sms_handset.proofs.Accepting.{Kept, follow_kept}
+use Rattle.sms_handset.proofs.Indexing.{all_stay, all_without, all_without_self, among_members, apart_groups, members_all_without, members_among, members_append, members_put, members_without, one_closes, one_group, one_opens, other_group, others_stay, same_entry, without_apart}
+
+-- ---- numbers that were given
+
+abbrev Below : ℕ → List Entry → Type 0
+Below k es = AllByRecursion (λ (e : Entry). e.number < k) es
+
+below_more : (k m : ℕ) (es : List Entry) → k ≤ m → Below k es → Below m es
+below_more k m [] l h = tt
+below_more k m (x ∷ xs) l h = (omega (arith, h.0), below_more k m xs l h.1)
+
+below_without : (k n : ℕ) (es : List Entry) → Below k es → Below k (without entry_key n es)
+below_without k n [] h = tt
+below_without k n (x ∷ xs) h =
+    cond_both (x.number == n) (without entry_key n xs) (x ∷ without entry_key n xs) (λ (l : List Entry). Below k l)
+    (λ t. below_without k n xs h.1) (λ t. (h.0, below_without k n xs h.1))
+
+below_insert : (k : ℕ) (x : Entry) (es : List Entry) → x.number < k → Below k es → Below k (insert entry_key x es)
+below_insert k x [] l h = (l, tt)
+below_insert k x (y ∷ ys) l h =
+    cond_both (nat_lt x.number y.number) (x ∷ y ∷ ys) (y ∷ insert entry_key x ys) (λ (z : List Entry). Below k z)
+    (λ t. (l, h)) (λ t. (h.0, below_insert k x ys l h.1))
+
+below_put : (k : ℕ) (x : Entry) (es : List Entry) → x.number < k → Below k es → Below k (put entry_key x es)
+below_put k x es l h = below_insert k x (without entry_key x.number es) l (below_without k x.number es h)
+
+below_among : (k : ℕ) (x : Entry) (es : List Entry) → Below k es → Among x es → x.number < k
+below_among k x [] h m = elim m [ ]
+below_among k x (y ∷ ys) h m = ⊎_elim
+    (λ (e : x ≡ y). subst (λ (z : Entry). z.number < k) (sym e) h.0)
+    (λ (r : Among x ys). below_among k x ys h.1 r)
+    m
+
+-- a row under a number that was not given stands last
+put_last : (x : Entry) (es : List Entry) → Below x.number es → put entry_key x es ≡ es ++ x ∷ []
+put_last x es h = ap (λ (l : List Entry). insert entry_key x l) (no_number x.number es h) ∙ last x es h
+  where
+    no_number : (k : ℕ) (es : List Entry) → Below k es → without entry_key k es ≡ es
+    no_number k [] h = refl
+    no_number k (y ∷ ys) h = without_behind entry_key k y ys (λ e. absurd (omega (arith, e, h.0))) ∙ ap (λ (l : List Entry). y ∷ l) (no_number k ys h.1)
+
+    last : (x : Entry) (es : List Entry) → Below x.number es → insert entry_key x es ≡ es ++ x ∷ []
+    last x [] h = refl
+    last x (y ∷ ys) h = insert_behind entry_key x y ys (let l : y.number ≤ x.number = omega (arith, h.0) in l) ∙ ap (λ (l : List Entry). y ∷ l) (last x ys h.1)
+
+-- ---- entries that leave, or become entries of their own
+
+dropped_entries : (xs : List Entry) (d : Draft) → (drop_all xs d).rows.entries ≡ all_without xs d.rows.entries
+dropped_entries [] d = refl
+dropped_entries (x ∷ xs) d = dropped_entries xs (remove_entry x.number d)
+
+freed_members : (g : Group) (xs : List Entry) (d : Draft) → members g (free_all xs d).rows.entries ≡ all_without xs (members g d.rows.entries)
+freed_members g [] d = refl
+freed_members g (x ∷ xs) d =
+    freed_members g xs (put_entry (alone x) d) ∙ ap (λ (l : List Entry). all_without xs l) (members_put g (alone x) d.rows.entries refl)
+
+-- what stands of the entries and of the numbers given
+pub record Stands (k : ℕ) (d : Draft) : Type 0 where
+  pub order : Rises entry_key d.rows.entries
+  pub counter : d.rows.counters.entry ≡ k
+  pub below : Below k d.rows.entries
+
+removed_stands : (k n : ℕ) (d : Draft) → Stands k d → Stands k (remove_entry n d)
+removed_stands k n d s = record {
+  order = rises_without entry_key n d.rows.entries s.order;
+  counter = s.counter;
+  below = below_without k n d.rows.entries s.below;
+}
+
+put_stands : (k : ℕ) (x : Entry) (d : Draft) → x.number < k → Stands k d → Stands k (put_entry x d)
+put_stands k x d l s = record {
+  order = rises_put entry_key x d.rows.entries s.order;
+  counter = s.counter;
+  below = below_put k x d.rows.entries l s.below;
+}
+
+dropped_stand : (k : ℕ) (xs : List Entry) (d : Draft) → Stands k d → Stands k (drop_all xs d)
+dropped_stand k [] d s = s
+dropped_stand k (x ∷ xs) d s = dropped_stand k xs (remove_entry x.number d) (removed_stands k x.number d s)
+
+freed_stand : (k : ℕ) (xs : List Entry) (d : Draft) → Below k xs → Stands k d → Stands k (free_all xs d)
+freed_stand k [] d b s = s
+freed_stand k (x ∷ xs) d b s = freed_stand k xs (put_entry (alone x) d) b.1 (put_stands k (alone x) d b.0 s)
+
+-- the members of a group are below what its entries are
+members_below : (k : ℕ) (g : Group) (es : List Entry) → Below k es → Below k (members g es)
+members_below k g [] h = tt
+members_below k g (x ∷ xs) h =
+    cond_both (is_part_of g x.message) (x ∷ members g xs) (members g xs) (λ (l : List Entry). Below k l)
+    (λ t. (h.0, members_below k g xs h.1)) (λ t. members_below k g xs h.1)
+
+first_below : (k : ℕ) (x : Entry) (xs : List Entry) → Below k (x ∷ xs) → first_number (x ∷ xs) < k
+first_below k x xs h = h.0
+
+-- ---- a group ends
+
+-- the members are gone, and those of other groups stand
+record Ends (k : ℕ) (g : Group) (es : List Entry) (z : Draft) : Type 0 where
+  stands : Stands k z
+  own : members g z.rows.entries ≡ []
+  others : (h : Group) → ¬ (g ≡ h) → members h z.rows.entries ≡ members h es
+
+gone : (k : ℕ) (g : Group) (d z : Draft) → Stands k d → Stands k z
+    → ((h : Group) → members h z.rows.entries ≡ all_without (members g d.rows.entries) (members h d.rows.entries)) → Ends k g d.rows.entries z
+gone k g d z s t m = record {
+  stands = t;
+  own = m g ∙ all_without_self (members g d.rows.entries);
+  others = λ h ne. m h ∙ others_stay g h d.rows.entries s.order ne;
+}
+
+dropped_end : (k : ℕ) (g : Group) (d : Draft) → Stands k d → Ends k g d.rows.entries (drop_all (members g d.rows.entries) d)
+dropped_end k g d s =
+    let xs = members g d.rows.entries in
+    gone k g d (drop_all xs d) s (dropped_stand k xs d s)
+    (λ h. ap (λ (l : List Entry). members h l) (dropped_entries xs d) ∙ members_all_without h xs d.rows.entries)
+
+freed_end : (k : ℕ) (g : Group) (d : Draft) → Stands k d → Ends k g d.rows.entries (free_all (members g d.rows.entries) d)
+freed_end k g d s =
+    let xs = members g d.rows.entries in
+    gone k g d (free_all xs d) s (freed_stand k xs d (members_below k g d.rows.entries s.below) s) (λ h. freed_members h xs d)
+
+-- one more entry that is no part comes under the number of the first
+first_put : (k : ℕ) (g : Group) (x y : Entry) (ys es : List Entry) (z : Draft) → Rises entry_key es → members g es ≡ y ∷ ys → x.number ≡ y.number → x.number < k
+    → ((h : Group) → is_part_of h x.message ≡ false) → Ends k g es z → Ends k g es (put_entry x z)
+first_put k g x y ys es z r l q b f e = record {
+  stands = put_stands k x z b e.stands;
+  own = members_put g x z.rows.entries (f g) ∙ ap (λ (m : List Entry). without entry_key x.number m) e.own;
+  others = λ h ne.
+      members_put h x z.rows.entries (f h) ∙ ap (λ (m : List Entry). without entry_key x.number m) (e.others h ne)
+      ∙ without_apart x.number (members h es) (apart_all h ne (members h es) (λ v m. m));
+}
+  where
+    apart_all : (h : Group) → ¬ (g ≡ h) → (vs : List Entry) → ((v : Entry) → Among v vs → Among v (members h es)) → AllByRecursion (λ (v : Entry). ¬ (v.number ≡ x.number)) vs
+    apart_all h ne [] a = tt
+    apart_all h ne (v ∷ vs) a = (
+      (λ e. apart_groups g h es y v r ne (subst (λ (m : List Entry). Among y m) (sym l) (inl refl)) (a v (inl refl)) (e ∙ q)),
+      apart_all h ne vs (λ w m. a w (inr m)),
+    )
+
+ended_ends : (k : ℕ) (g : Group) (y : Entry) (ys : List Entry) (c : Option Content) (d : Draft) → Stands k d → members g d.rows.entries ≡ y ∷ ys
+    → Ends k g d.rows.entries (ended g (members g d.rows.entries) c d)
+ended_ends k g y ys None d s l = freed_end k g d s
+ended_ends k g y ys (Some c) d s l =
+    let xs = members g d.rows.entries in
+    let q : first_number xs ≡ y.number = ap (λ (m : List Entry). first_number m) l in
+    let b : y.number < k = (subst (λ (m : List Entry). Below k m) l (members_below k g d.rows.entries s.below)).0 in
+    first_put k g (joined_entry g xs c) y ys d.rows.entries (drop_all xs d) s.order l q (omega (arith, q, b)) (λ h. refl) (dropped_end k g d s)
+
+-- ---- an entry comes under the next number
+
+kept_stands : (x : Entry) (d : Draft) → Rises entry_key d.rows.entries → Numbered d.rows → x.number ≡ d.rows.counters.entry → Stands (d.rows.counters.entry + 1) (keep x d)
+kept_stands x d order numbered e =
+    let k = d.rows.counters.entry in record {
+      order = rises_put entry_key x d.rows.entries order;
+      counter = refl;
+      below = below_put (k + 1) x d.rows.entries (omega (arith, e)) (below_more k (k + 1) d.rows.entries (omega arith) numbered);
+    }
+
+kept_members : (g : Group) (x : Entry) (d : Draft) → Numbered d.rows → x.number ≡ d.rows.counters.entry
+    → members g (keep x d).rows.entries ≡ members g d.rows.entries ++ members g (x ∷ [])
+kept_members g x d numbered e =
+    ap (λ (l : List Entry). members g l) (put_last x d.rows.entries (subst (λ (k : ℕ). Below k d.rows.entries) (sym e) numbered))
+    ∙ members_append g d.rows.entries (x ∷ [])
+
+other_members : (h : Group) (x : Entry) (d : Draft) → Numbered d.rows → x.number ≡ d.rows.counters.entry → is_part_of h x.message ≡ false
+    → members h (keep x d).rows.entries ≡ members h d.rows.entries
+other_members h x d numbered e f =
+    kept_members h x d numbered e
+    ∙ ap (λ (l : List Entry). members h d.rows.entries ++ l) (cond-false (is_part_of h x.message) (x ∷ []) [] f)
+    ∙ append-nil (members h d.rows.entries)
+
+single_regroups : (tpdu : List ℕ) (d : Draft) → Regroups Unchanged d.rows (store_single tpdu d).rows
+single_regroups tpdu d order numbered =
+    let x : Entry = single_entry d.rows.counters.entry tpdu in
+    let s = kept_stands x d order numbered refl in
+    (all_stay d.rows.entries (keep x d).rows.entries order s.order (λ g. other_members g x d numbered refl refl), s.below)
+
+-- ---- a part comes
+
+both_cond : (b : Bool) (P : Regrouping → Draft → Type 0) (r q : Regrouping) (x y : Draft) → (b ≡ true → P r x) → (b ≡ false → P q y) → P (cond b r q) (cond b x y)
+both_cond true P r q x y f g = f refl
+both_cond false P r q x y f g = g refl
+
+-- the first of the parts with one more
+record HasFirst (ms : List Entry) (e : Entry) : Type 0 where
+  x : Entry
+  xs : List Entry
+  all_is : ms ++ e ∷ [] ≡ x ∷ xs
+  stays : (y : Entry) (ys : List Entry) → ms ≡ y ∷ ys → y.number ≡ x.number
+
+has_first : (ms : List Entry) (e : Entry) → HasFirst ms e
+has_first [] e = record { x = e; xs = []; all_is = refl; stays = λ y ys q. absurd cc }
+has_first (m ∷ ms) e = record { x = m; xs = ms ++ e ∷ []; all_is = refl; stays = λ y ys q. let same : m ≡ y = cc in ap (λ (z : Entry). z.number) (sym same) }
+
+part_opens : (g : Group) (e : Entry) (d : Draft) → Rises entry_key d.rows.entries → Numbered d.rows → Stands (d.rows.counters.entry + 1) (keep e d)
+    → members g (keep e d).rows.entries ≡ members g d.rows.entries ++ e ∷ [] → ((h : Group) → ¬ (g ≡ h) → members h (keep e d).rows.entries ≡ members h d.rows.entries)
+    → IsRegrouped (Opened (first_number (members g d.rows.entries ++ e ∷ [])) (open_group g (members g d.rows.entries ++ e ∷ []))) d.rows (keep e d).rows
+part_opens g e d order numbered s own others =
+    let f = has_first (members g d.rows.entries) e in
+    subst (λ (l : List Entry). IsRegrouped (Opened (first_number l) (open_group g l)) d.rows (keep e d).rows) (sym f.all_is)
+    (one_opens g f.x f.xs d.rows.entries (keep e d).rows.entries order s.order others (own ∙ f.all_is) f.stays, s.below)
+
+part_closes : (g : Group) (e : Entry) (c : Option Content) (d : Draft) → Rises entry_key d.rows.entries → Numbered d.rows → Stands (d.rows.counters.entry + 1) (keep e d)
+    → members g (keep e d).rows.entries ≡ members g d.rows.entries ++ e ∷ [] → ((h : Group) → ¬ (g ≡ h) → members h (keep e d).rows.entries ≡ members h d.rows.entries)
+    → IsRegrouped (Closed (first_number (members g d.rows.entries ++ e ∷ []))) d.rows (ended g (members g d.rows.entries ++ e ∷ []) c (keep e d)).rows
+part_closes g e c d order numbered s own others =
+    let k = d.rows.counters.entry + 1 in
+    let z = keep e d in
+    let all = members g d.rows.entries ++ e ∷ [] in
+    let f = has_first (members g d.rows.entries) e in
+    let first : first_number all ≡ f.x.number = ap (λ (l : List Entry). first_number l) f.all_is in
+    let ends : Ends k g z.rows.entries (ended g all c z) =
+    subst (λ (l : List Entry). Ends k g z.rows.entries (ended g l c z)) own (ended_ends k g f.x f.xs c z s (own ∙ f.all_is)) in (
+      one_closes g (first_number all) d.rows.entries (ended g all c z).rows.entries order ends.stands.order
+          (λ h ne. ends.others h ne ∙ others h ne) ends.own (λ y ys q. f.stays y ys q ∙ sym first)
+          (λ h y ne a q. apart_groups g h z.rows.entries f.x y s.order ne
+          (subst (λ (l : List Entry). Among f.x l) (sym (own ∙ f.all_is)) (inl refl))
+          (subst (λ (l : List Entry). Among y l) (sym (others h ne)) a) (q ∙ first)),
+      subst (λ (n : ℕ). Below n (ended g all c z).rows.entries) (sym ends.stands.counter) ends.stands.below,
+    )
+
+pub part_regroups : (g : Group) (n : ℕ) (tpdu : List ℕ) (d : Draft) → Regroups (stored_groups g n tpdu (members g d.rows.entries) d) d.rows (store_part g n tpdu (members g d.rows.entries) d).rows
+part_regroups g n tpdu d order numbered =
+    let e : Entry = part_entry d.rows.counters.entry g n tpdu in
+    let all = members g d.rows.entries ++ e ∷ [] in
+    let s = kept_stands e d order numbered refl in
+    let own : members g (keep e d).rows.entries ≡ all =
+    kept_members g e d numbered refl ∙ ap (λ (l : List Entry). members g d.rows.entries ++ l) (cond-true (is_same_group g g) (e ∷ []) [] (one_group g)) in
+    let others : (h : Group) → ¬ (g ≡ h) → members h (keep e d).rows.entries ≡ members h d.rows.entries =
+    λ h ne. other_members h e d numbered refl (other_group g h ne) in
+    both_cond (all_numbers g.total (part_numbers all)) (λ (r : Regrouping) (z : Draft). IsRegrouped r d.rows z.rows)
+    (Closed (first_number all)) (Opened (first_number all) (open_group g all)) (ended g all (joined_content g all) (keep e d)) (keep e d)
+    (λ t. part_closes g e (joined_content g all) d order numbered s own others)
+    (λ t. part_opens g e d order numbered s own others)
+
+-- ---- what leaves the entries alone
+
+pub nothing : (rows : Rows) → Regroups Unchanged rows rows
+nothing rows order numbered = ((λ n. refl), numbered)
+
+pub goes_on : (r : Regrouping) (base : Rows) (d z : Draft) → z.rows.entries ≡ d.rows.entries → d.rows.counters.entry ≤ z.rows.counters.entry
+    → Regroups r base d.rows → Regroups r base z.rows
+goes_on r base d z e l h order numbered =
+    let is = h order numbered in (
+      (λ n. ap (λ (es : List Entry). open_at n es) e ∙ is.0 n),
+      below_more d.rows.counters.entry z.rows.counters.entry z.rows.entries l (subst (λ (es : List Entry). Below d.rows.counters.entry es) (sym e) is.1),
+    )
+
+kept_goes_on : (r : Regrouping) (base : Rows) (d z : Draft) → Kept d z → Regroups r base d.rows → Regroups r base z.rows
+kept_goes_on r base d z k h = goes_on r base d z k.entries (le_of_eq (sym k.number)) h
+
+pub follow_regroups : (r : Regrouping) (base : Rows) (d : Draft) → Regroups r base d.rows → Regroups r base (follow d).rows
+follow_regroups r base d h = kept_goes_on r base d (follow d) (follow_kept d) h
+
+-- ---- a frame
+
+single_came_regroups : (r : ℕ) (tag : Holder) (tpdu : List ℕ) (d : Draft) → Regroups Unchanged d.rows (single_came r tag tpdu d).rows
+single_came_regroups r tag tpdu d =
+    cond_both (has_room d) (accept r tag tpdu (store_single tpdu d)) (no_room r tag d) (λ (z : Draft). Regroups Unchanged d.rows z.rows)
+    (λ t. single_regroups tpdu d) (λ t. nothing d.rows)
+
+new_part_regroups : (r : ℕ) (tag : Holder) (tpdu : List ℕ) (g : Group) (n : ℕ) (d : Draft)
+    → Regroups (new_part_groups tpdu g n (members g d.rows.entries) d) d.rows (new_part_came r tag tpdu g n (members g d.rows.entries) d).rows
+new_part_regroups r tag tpdu g n d =
+    let es = members g d.rows.entries in
+    both_cond (has_room d) (λ (q : Regrouping) (z : Draft). Regroups q d.rows z.rows) (stored_groups g n tpdu es d) Unchanged
+    (accept r tag tpdu (store_part g n tpdu es d)) (no_room r tag d) (λ t. part_regroups g n tpdu d) (λ t. nothing d.rows)
+
+member_regroups : (r : ℕ) (tag : Holder) (tpdu : List ℕ) (g : Group) (n : ℕ) (d : Draft)
+    → Regroups (member_groups tpdu g n (members g d.rows.entries) d) d.rows (member_came r tag tpdu g n (members g d.rows.entries) d).rows
+member_regroups r tag tpdu g n d =
+    let es = members g d.rows.entries in
+    both_cond (is_among n (part_numbers es)) (λ (q : Regrouping) (z : Draft). Regroups q d.rows z.rows) Unchanged (new_part_groups tpdu g n es d)
+    (single_came r tag tpdu d) (new_part_came r tag tpdu g n es d) (λ t. single_came_regroups r tag tpdu d) (λ t. new_part_regroups r tag tpdu g n d)
+
+marked_regroups : (n : ℕ) (m : Mark) (d : Draft) → Regroups Unchanged d.rows (marked n m d).rows
+marked_regroups n m d =
+    cond_both (all_numbers m.group.total (m.seen ++ n ∷ [])) (remove_mark m.number d) (put_mark (record m { seen = m.seen ++ n ∷ [] }) d) (λ (z : Draft). Regroups Unchanged d.rows z.rows)
+    (λ t. nothing d.rows) (λ t. nothing d.rows)
+
+part_came_regroups : (r : ℕ) (tag : Holder) (tpdu : List ℕ) (g : Group) (n : ℕ) (m : Option Mark) (d : Draft) → Regroups (part_groups tpdu g n m d) d.rows (part_came r tag tpdu g n m d).rows
+part_came_regroups r tag tpdu g n None d = member_regroups r tag tpdu g n d
+part_came_regroups r tag tpdu g n (Some m) d =
+    cond_both (is_among n m.seen) (single_came r tag tpdu d) (accept r tag tpdu (marked n m d)) (λ (z : Draft). Regroups Unchanged d.rows z.rows)
+    (λ t. single_came_regroups r tag tpdu d) (λ t. marked_regroups n m d)
+
+deliver_regroups : (r : ℕ) (tag : Holder) (tpdu : List ℕ) (m : DeliverOf) (k : Option ConcatKey) (d : Draft) → Regroups (deliver_groups tpdu m k d) d.rows (deliver_came r tag tpdu m k d).rows
+deliver_regroups r tag tpdu m None d = single_came_regroups r tag tpdu d
+deliver_regroups r tag tpdu m (Some k) d =
+    let g : Group = group_of m.originating_address k in
+    part_came_regroups r tag tpdu g k.number (mark_of g d.rows.marks) d
+
+noted_regroups : (status : ℕ) (o : Option OutEntry) (d : Draft) → Regroups Unchanged d.rows (note status o d).rows
+noted_regroups status None d = nothing d.rows
+noted_regroups status (Some o) d = nothing d.rows
+
+tpdu_regroups : (r : ℕ) (tag : Holder) (tpdu : List ℕ) (t : Result Down TpduFault) (d : Draft) → Regroups (tpdu_groups tpdu t d) d.rows (tpdu_came r tag tpdu t d).rows
+tpdu_regroups r tag tpdu (Ok (Deliver m)) d = deliver_regroups r tag tpdu m (key_of m) d
+tpdu_regroups r tag tpdu (Ok (StatusReport s)) d = noted_regroups s.status (reported s d.rows.outbox) d
+tpdu_regroups r tag tpdu (Ok (SubmitReport s)) d = nothing d.rows
+tpdu_regroups r tag tpdu (Err f) d = nothing d.rows
+
+data_regroups : (r : ℕ) (tag : Holder) (tpdu : List ℕ) (d : Draft) → Regroups (data_groups r tpdu d) d.rows (data_came r tag tpdu d).rows
+data_regroups r tag tpdu d =
+    both_cond (is_double tpdu (row_at last_key r d.rows.last)) (λ (q : Regrouping) (z : Draft). Regroups q d.rows z.rows) Unchanged (tpdu_groups tpdu (down_at InData tpdu) d)
+    (acknowledge r tag d) (tpdu_came r tag tpdu (down_at InData tpdu) d) (λ t. nothing d.rows) (λ t. tpdu_regroups r tag tpdu (down_at InData tpdu) d)
+
+unit_regroups : (tag : Holder) (unit : List ℕ) (u : Result Rp RelayFault) (d : Draft) → Regroups (unit_groups u d) d.rows (unit_came tag unit u d).rows
+unit_regroups tag unit (Ok (DataUnit r c tpdu)) d = data_regroups r tag tpdu d
+unit_regroups tag unit (Ok (AckUnit r tpdu)) d = nothing d.rows
+unit_regroups tag unit (Ok (ErrorUnit r c tpdu)) d = nothing d.rows
+unit_regroups tag unit (Ok (Smma r)) d = nothing d.rows
+unit_regroups tag unit (Err f) d = nothing d.rows
+
+-- ---- a transfer ends
+
+notice_failed_regroups : (n : Notice) (d : Draft) → Regroups Unchanged d.rows (notice_failed n d).rows
+notice_failed_regroups n d =
+    cond_both n.is_second (record d { notice = None }) (record d { notice = Some (record n { is_second = true; due = Some (later_moment d.moment tram) }) }) (λ (z : Draft). Regroups Unchanged d.rows z.rows)
+    (λ t. nothing d.rows) (λ t. nothing d.rows)
+
+notice_regroups : (v : Verdict) (n : Notice) (d : Draft) → Regroups Unchanged d.rows (notice_ended v n d).rows
+notice_regroups Acknowledged n d = nothing d.rows
+notice_regroups Temporary n d = notice_failed_regroups n d
+notice_regroups Duplicate n d = notice_failed_regroups n d
+notice_regroups Refused n d = notice_failed_regroups n d
+notice_regroups Lost n d = notice_failed_regroups n d
+
+notice_concluded_regroups : (u : Option (Result Rp RelayFault)) (n : Option Notice) (d : Draft) → Regroups Unchanged d.rows (notice_concluded u n d).rows
+notice_concluded_regroups u None d = nothing d.rows
+notice_concluded_regroups u (Some n) d = notice_regroups (verdict_of n.reference u) n d
+
+entry_concluded_regroups : (u : Option (Result Rp RelayFault)) (o : Option OutEntry) (d : Draft) → Regroups Unchanged d.rows (entry_concluded u o d).rows
+entry_concluded_regroups u None d = nothing d.rows
+entry_concluded_regroups u (Some o) d = nothing d.rows
+
+holder_concluded_regroups : (u : Option (Result Rp RelayFault)) (k : Holder) (d : Draft) → Regroups Unchanged d.rows (holder_concluded u k d).rows
+holder_concluded_regroups u (PartHolder i n) d = nothing d.rows
+holder_concluded_regroups u (Report i) d = nothing d.rows
+holder_concluded_regroups u (EntryHolder n) d = entry_concluded_regroups u (row_at out_key n d.rows.outbox) d
+holder_concluded_regroups u (Memory n) d = notice_concluded_regroups u d.notice d
+
+transfer_regroups : (u : Option (Result Rp RelayFault)) (c : Option Carried) (d : Draft) → Regroups Unchanged d.rows (transfer_concluded u c d).rows
+transfer_regroups u None d = nothing d.rows
+transfer_regroups u (Some c) d = holder_concluded_regroups u c.tag d
+
+conclude_regroups : (u : Option (Result Rp RelayFault)) (d : Draft) → Regroups Unchanged d.rows (conclude u d).rows
+conclude_regroups u d = transfer_regroups u d.under_way (record d { under_way = None })
+
+went_up_regroups : (tag : Holder) (up : Option Up) (d : Draft) → Regroups (up_groups up d) d.rows (went_up tag up d).rows
+went_up_regroups tag None d = nothing d.rows
+went_up_regroups tag (Some (UnitUp FromOriginator unit)) d = unit_regroups tag unit (unit_at unit) d
+went_up_regroups tag (Some (UnitUp ToOriginator unit)) d = conclude_regroups (Some (unit_at unit)) d
+went_up_regroups tag (Some FailedUp) d = conclude_regroups None d
+
+failed_regroups : (up : Option Up) (d : Draft) → Regroups Unchanged d.rows (failed up d).rows
+failed_regroups None d = nothing d.rows
+failed_regroups (Some (UnitUp flag unit)) d = nothing d.rows
+failed_regroups (Some FailedUp) d = conclude_regroups None d
+
+-- ---- frames and ticks
+
+pub frame_regroups : (octets : List ℕ) (tag : Holder) (c : Core)
+    → Regroups (up_groups (take_step octets c.links).out.up (heard (take_step octets c.links) (draft_of c))) c.rows (frame_came octets tag c).rows
+frame_regroups octets tag c =
+    let step : Step = take_step octets c.links in
+    let d : Draft = heard step (draft_of c) in
+    follow_regroups (up_groups step.out.up d) c.rows (frame_heard tag step (draft_of c)) (went_up_regroups tag step.out.up d)
+
+pub tick_regroups : (now : ℕ) (c : Core) → Regroups Unchanged c.rows (ticked now c).rows
+tick_regroups now c =
+    let step : Step = fire_step (max c.moment now) c.links in
+    follow_regroups Unchanged c.rows (timers_fired step (at_moment now (draft_of c))) (failed_regroups step.out.up (heard step (at_moment now (draft_of c))))
+
+-- ---- acts of the owner
+
+abbrev pub RegroupsIfDone : Regrouping → Rows → Result Draft Refusal → Type 0
+RegroupsIfDone r base (Ok d) = Regroups r base d.rows
+RegroupsIfDone r base (Err refusal) = Unit {0}
+
+acted_regroups : (r : Regrouping) (base : Rows) (w : Result Draft Refusal) → RegroupsIfDone r base w → RegroupsIfDone r base (acted w)
+acted_regroups r base (Ok d) h = follow_regroups r base d h
+acted_regroups r base (Err f) h = tt
+
+write_parts_regroups : (base : Rows) (to : Address) (report is_long : Bool) (ps : List PartOf) (d : Draft) → Regroups Unchanged base d.rows → Regroups Unchanged base (write_parts to report is_long ps d).rows
+write_parts_regroups base to report is_long [] d h = h
+write_parts_regroups base to report is_long (p ∷ ps) d h =
+    write_parts_regroups base to report is_long ps (write_part to report is_long p d)
+    (goes_on Unchanged base d (write_part to report is_long p d) refl (let l : d.rows.counters.entry ≤ d.rows.counters.entry + 1 = omega arith in l) h)
+
+count_split_regroups : (is_long : Bool) (d : Draft) → Regroups Unchanged d.rows (count_split is_long d).rows
+count_split_regroups false d = nothing d.rows
+count_split_regroups true d = nothing d.rows
+
+write_to_regroups : (report : Bool) (ps : List PartOf) (to : Result Address AddressError) (d : Draft) → RegroupsIfDone Unchanged d.rows (write_to report ps to d)
+write_to_regroups report ps (Err f) d = tt
+write_to_regroups report ps (Ok to) d =
+    let is_long : Bool = nat_lt 1 (length ps) in
+    cond_both (fits_outbox (length ps) d) (Ok (written to report ps d)) (Err OutboxFull) (λ (z : Result Draft Refusal). RegroupsIfDone Unchanged d.rows z)
+    (λ t. write_parts_regroups d.rows to report is_long ps (count_split is_long d) (count_split_regroups is_long d)) (λ t. tt)
+
+write_split_regroups : (to : List ℕ) (report : Bool) (ps : Result (List PartOf) SplitError) (d : Draft) → RegroupsIfDone Unchanged d.rows (write_split to report ps d)
+write_split_regroups to report (Err f) d = tt
+write_split_regroups to report (Ok ps) d = write_to_regroups report ps (address_of 1 1 to) d
+
+delete_out_regroups : (n : ℕ) (o : Option OutEntry) (d : Draft) → RegroupsIfDone Unchanged d.rows (delete_out n o d)
+delete_out_regroups n None d = tt
+delete_out_regroups n (Some o) d =
+    cond_both (is_unfinished o.state) (Err StillOpen) (Ok (remove_out n d)) (λ (z : Result Draft Refusal). RegroupsIfDone Unchanged d.rows z) (λ t. tt) (λ t. nothing d.rows)
+
+freed_regroups : (r : Regrouping) (base : Rows) (d : Draft) → Regroups r base d.rows → Regroups r base (freed d).rows
+freed_regroups r base d h =
+    cond_both d.rows.counters.is_memory_full (want_notice (put_counters (record d.rows.counters { is_memory_full = false }) d)) d (λ (z : Draft). Regroups r base z.rows) (λ t. h) (λ t. h)
+
+no_part : (g : Group) (m : Message) → is_open_part m ≡ false → is_part_of g m ≡ false
+no_part g (Single tpdu) e = refl
+no_part g (Part h k tpdu) e = absurd (true≢false e)
+no_part g (Joined source content) e = refl
+
+-- an entry that is no part leaves
+removed_regroups : (n : ℕ) (x : Entry) (d : Draft) → row_at entry_key n d.rows.entries ≡ Some x → is_open_part x.message ≡ false → Regroups Unchanged d.rows (remove_entry n d).rows
+removed_regroups n x d q f order numbered =
+    let es = d.rows.entries in
+    let apart : (g : Group) → (vs : List Entry) → ((v : Entry) → Among v vs → Among v (members g es)) → AllByRecursion (λ (v : Entry). ¬ (v.number ≡ n)) vs = λ g. apart_all g in (
+      all_stay es (without entry_key n es) order (rises_without entry_key n es order)
+          (λ g. members_without g n es ∙ without_apart n (members g es) (apart g (members g es) (λ v m. m))),
+      below_without d.rows.counters.entry n es numbered,
+    )
+  where
+    apart_all : (g : Group) (vs : List Entry) → ((v : Entry) → Among v vs → Among v (members g d.rows.entries)) → AllByRecursion (λ (v : Entry). ¬ (v.number ≡ n)) vs
+    apart_all g [] a = tt
+    apart_all g (v ∷ vs) a = (
+      (λ e.
+          let m = members_among g v d.rows.entries (a v (inl refl)) in
+          let same : v ≡ x = same_entry d.rows.entries v x order m.0 (found_among entry_key n x d.rows.entries q) (e ∙ sym (found_key entry_key n x d.rows.entries q)) in
+          true≢false (sym m.1 ∙ ap (λ (z : Entry). is_part_of g z.message) same ∙ no_part g x.message f)),
+      apart_all g vs (λ w m. a w (inr m)),
+    )
+
+delete_in_regroups : (n : ℕ) (o : Option Entry) (d : Draft) → row_at entry_key n d.rows.entries ≡ o → RegroupsIfDone Unchanged d.rows (delete_in n o d)
+delete_in_regroups n None d q = delete_out_regroups n (row_at out_key n d.rows.outbox) d
+delete_in_regroups n (Some x) d q =
+    cond_both (is_open_part x.message) (Err StillOpen) (Ok (freed (remove_entry n d))) (λ (z : Result Draft Refusal). RegroupsIfDone Unchanged d.rows z)
+    (λ t. tt) (λ t. freed_regroups Unchanged d.rows (remove_entry n d) (removed_regroups n x d q t))
+
+-- an open group leaves
+discard_group_regroups : (n : ℕ) (g : Group) (x : Entry) (d : Draft) → Among x (members g d.rows.entries) → x.number ≡ n → first_number (members g d.rows.entries) ≡ n
+    → Regroups (Closed n) d.rows (discard_group n g (members g d.rows.entries) d).rows
+discard_group_regroups n g x d a q f =
+    freed_regroups (Closed n) d.rows (put_mark (record { number = n; group = g; seen = part_numbers (members g d.rows.entries) }) (drop_all (members g d.rows.entries) d)) closed
+  where
+    closed : Regroups (Closed n) d.rows (drop_all (members g d.rows.entries) d).rows
+    closed order numbered =
+        let es = d.rows.entries in
+        let z = drop_all (members g es) d in
+        let e = dropped_end d.rows.counters.entry g d (record { order = order; counter = refl; below = numbered }) in (
+          one_closes g n es z.rows.entries order e.stands.order e.others e.own
+              (λ y ys l. ap (λ (m : List Entry). first_number m) (sym l) ∙ f)
+              (λ h y ne b r. apart_groups g h es x y order ne a b (r ∙ sym q)),
+          subst (λ (k : ℕ). Below k z.rows.entries) (sym e.stands.counter) e.stands.below,
+        )
+
+discard_members_regroups : (n : ℕ) (g : Group) (x : Entry) (d : Draft) → Among x (members g d.rows.entries) → x.number ≡ n
+    → RegroupsIfDone (Closed n) d.rows (discard_members n g (members g d.rows.entries) d)
+discard_members_regroups n g x d a q =
+    let es = members g d.rows.entries in
+    cond_both (first_number es == n) (cond (nat_lt (length d.rows.marks) 64) (Ok (discard_group n g es d)) (Err TooManyDiscarded)) (Err NoEntry) (λ (z : Result Draft Refusal). RegroupsIfDone (Closed n) d.rows z)
+    (λ t. cond_both (nat_lt (length d.rows.marks) 64) (Ok (discard_group n g es d)) (Err TooManyDiscarded) (λ (z : Result Draft Refusal). RegroupsIfDone (Closed n) d.rows z)
+    (λ u. discard_group_regroups n g x d a q (eqb-true (first_number es) n t)) (λ u. tt))
+    (λ t. tt)
+
+discard_in_regroups : (n : ℕ) (x : Entry) (m : Message) (d : Draft) → x.message ≡ m → row_at entry_key n d.rows.entries ≡ Some x → RegroupsIfDone (Closed n) d.rows (discard_in n m d)
+discard_in_regroups n x (Single tpdu) d e q = tt
+discard_in_regroups n x (Part g k tpdu) d e q =
+    discard_members_regroups n g x d
+    (among_members g x d.rows.entries (found_among entry_key n x d.rows.entries q) (ap (λ (m : Message). is_part_of g m) e ∙ one_group g))
+    (found_key entry_key n x d.rows.entries q)
+discard_in_regroups n x (Joined source content) d e q = tt
+
+discard_at_regroups : (n : ℕ) (o : Option Entry) (d : Draft) → row_at entry_key n d.rows.entries ≡ o → RegroupsIfDone (Closed n) d.rows (discard_at n o d)
+discard_at_regroups n None d q = tt
+discard_at_regroups n (Some x) d q = discard_in_regroups n x x.message d refl q
+
+pub write_regroups : (text to : List ℕ) (report : Bool) (c : Core) → RegroupsIfDone Unchanged c.rows (wrote text to report c)
+write_regroups text to report c =
+    acted_regroups Unchanged c.rows (write text to report (draft_of c))
+    (write_split_regroups to report (split_of (content_of_text text) c.rows.counters.concat_reference) (draft_of c))
+
+pub delete_regroups : (n : ℕ) (c : Core) → RegroupsIfDone Unchanged c.rows (deleted n c)
+delete_regroups n c = acted_regroups Unchanged c.rows (delete n (draft_of c)) (delete_in_regroups n (row_at entry_key n c.rows.entries) (draft_of c) refl)
+
+pub discard_regroups : (n : ℕ) (c : Core) → RegroupsIfDone (Closed n) c.rows (discarded n c)
+discard_regroups n c = acted_regroups (Closed n) c.rows (discard n (draft_of c)) (discard_at_regroups n (row_at entry_key n c.rows.entries) (draft_of c) refl)

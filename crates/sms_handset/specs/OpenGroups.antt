@@ -1,0 +1,69 @@
+-- Open groups by their first stored parts, and what becomes of them.
+use Rattle.std.specs.Prelude.{◌≡◌, ℕ, ◌<◌, ◌==◌, List, [], ◌∷◌, if◌then◌else◌, Option, Some, None}
+use Rattle.std.specs.List.{AllByRecursion}
+use Rattle.sms_base.specs.Table.{Rises, row_at}
+use Rattle.sms_handset.specs.declared.entry.Entry.{Entry}
+use Rattle.sms_handset.specs.declared.entry.Group.{Group}
+use Rattle.sms_handset.specs.declared.entry.Message.{Message}
+use Rattle.sms_handset.specs.declared.entry.Message.TheVariants.{Single, Part, Joined}
+use Rattle.sms_handset.specs.declared.open_group.OpenGroup.{OpenGroup}
+use Rattle.sms_handset.specs.declared.open_group.Regrouping.{Regrouping}
+use Rattle.sms_handset.specs.declared.open_group.Regrouping.TheVariants.{Unchanged, Opened, Closed}
+use Rattle.sms_handset.specs.declared.open_group.StoredPart.{StoredPart}
+use Rattle.sms_handset.specs.declared.rows.Rows.{Rows}
+use Rattle.sms_handset.specs.Groups.{all_numbers, first_number, members, part_number, part_numbers}
+use Rattle.sms_handset.specs.Keys.{entry_key}
+
+-- ---- what stands under the number of a first stored part
+
+-- the number of a part's entry, and which part it is
+abbrev pub stored_part : Entry → StoredPart
+stored_part e = record { entry = e.number; number = part_number e.message }
+
+abbrev pub stored_parts : List Entry → List StoredPart
+stored_parts [] = []
+stored_parts (e ∷ es) = stored_part e ∷ stored_parts es
+
+abbrev pub open_group : Group → List Entry → OpenGroup
+open_group g es = record { group = g; parts = stored_parts es }
+
+abbrev pub open_first : ℕ → Group → List Entry → Option OpenGroup
+open_first n g es = if first_number es == n then Some (open_group g es) else None
+
+abbrev pub open_under : ℕ → Message → List Entry → Option OpenGroup
+open_under n (Single tpdu) entries = None
+open_under n (Part group number tpdu) entries = open_first n group (members group entries)
+open_under n (Joined source content) entries = None
+
+abbrev pub open_of : ℕ → Option Entry → List Entry → Option OpenGroup
+open_of n None entries = None
+open_of n (Some e) entries = open_under n e.message entries
+
+-- the open group whose first stored part is the entry of that number, if there is one
+abbrev pub open_at : ℕ → List Entry → Option OpenGroup
+open_at n entries = open_of n (row_at entry_key n entries) entries
+
+-- ---- what an event changes of it
+
+abbrev pub regrouped : Regrouping → ℕ → Option OpenGroup → Option OpenGroup
+regrouped Unchanged n there = there
+regrouped (Opened first group) n there = if first == n then Some group else there
+regrouped (Closed first) n there = if first == n then None else there
+
+-- each entry has a number that was given
+abbrev pub Numbered : Rows → Type 0
+Numbered rows = AllByRecursion (λ (e : Entry). e.number < rows.counters.entry) rows.entries
+
+-- The change leads from the open groups of these rows to those of the others.
+abbrev pub IsRegrouped : Regrouping → Rows → Rows → Type 0
+IsRegrouped change before after =
+    ((n : ℕ) → open_at n after.entries ≡ regrouped change n (open_at n before.entries)) × Numbered after
+
+-- The same, where the entries before stand in order under numbers that were given.
+abbrev pub Regroups : Regrouping → Rows → Rows → Type 0
+Regroups change before after = Rises entry_key before.entries → Numbered before → IsRegrouped change before after
+
+-- What becomes of a group that has these parts now: it ends once it is full.
+abbrev pub grouped : Group → List Entry → Regrouping
+grouped g es =
+    if all_numbers g.total (part_numbers es) then Closed (first_number es) else Opened (first_number es) (open_group g es)
