@@ -47,8 +47,8 @@ use Rattle.sms_handset.specs.declared.refusal.Refusal.{Refusal}
 use Rattle.sms_handset.specs.declared.refusal.Refusal.TheVariants.{NoEntry, StillOpen, OutboxFull, TooManyDiscarded}
 use Rattle.sms_handset.specs.declared.rows.Rows.{Rows}
 use Rattle.sms_handset.specs.Answers.{verdict_of}
-use Rattle.sms_handset.specs.Draft.{Core, Draft, draft_of, heard, put_entry, remove_entry, put_counters, put_mark, remove_mark, remove_out}
-use Rattle.sms_handset.specs.GroupChanges.{data_groups, deliver_groups, member_groups, new_part_groups, part_groups, stored_groups, tpdu_groups, unit_groups, up_groups}
+use Rattle.sms_handset.specs.Draft.{Core, rows_after, Draft, draft_of, heard, put_entry, remove_entry, put_counters, put_mark, remove_mark, remove_out}
+use Rattle.sms_handset.specs.GroupChanges.{data_groups, deliver_groups, frame_groups, member_groups, new_part_groups, part_groups, stored_groups, tpdu_groups, unit_groups, up_groups}
 use Rattle.sms_handset.specs.Groups.{all_numbers, alone, drop_all, ended, first_number, free_all, group_of, is_among, is_part_of, is_same_group, joined_content, joined_entry, keep, key_of, mark_of, marked, members, part_entry, part_numbers, single_entry, store_part, store_single}
 use Rattle.sms_handset.specs.HandsetEvent.{acted, at_moment, deleted, discarded, failed, frame_came, frame_heard, ticked, timers_fired, went_up, wrote}
 use Rattle.sms_handset.specs.Keys.{entry_key, last_key, out_key}
@@ -56,9 +56,11 @@ use Rattle.sms_handset.specs.MemoryAvailable.{flag, freed, has_room, notice_conc
 use Rattle.sms_handset.specs.OpenGroups.{IsRegrouped, Numbered, Regroups, open_at, open_group}
 use Rattle.sms_handset.specs.Outbox.{conclude, entry_concluded, follow, holder_concluded, transfer_concluded}
 use Rattle.sms_handset.specs.OwnersActs.{content_of_text, count_split, delete, delete_in, delete_out, discard, discard_at, discard_group, discard_in, discard_members, fits_outbox, is_open_part, write, write_part, write_parts, write_split, write_to, written}
+use Rattle.sms_handset.specs.Planning.{Rests, RestsIfDone}
 use Rattle.sms_handset.specs.Receiving.{accept, acknowledge, data_came, deliver_came, is_double, member_came, new_part_came, no_room, note, part_came, reported, single_came, tpdu_came, unit_came}
 use Rattle.sms_handset.specs.References.{is_unfinished}
 use Rattle.sms_handset.proofs.Accepting.{Kept, follow_kept}
+use Rattle.sms_handset.proofs.Resting.{frame_rests, tick_rests, write_rests, delete_rests, discard_rests}
 use Rattle.sms_handset.proofs.Indexing.{all_stay, all_without, all_without_self, among_members, apart_groups, members_all_without, members_among, members_append, members_put, members_without, one_closes, one_group, one_opens, other_group, others_stay, same_entry, without_apart}
 
 -- ---- numbers that were given
@@ -422,7 +424,7 @@ failed_regroups (Some FailedUp) d = conclude_regroups None d
 -- ---- frames and ticks
 
 pub frame_regroups : (octets : List ℕ) (tag : Holder) (c : Core)
-    → Regroups (up_groups (take_step octets c.links).out.up (heard (take_step octets c.links) (draft_of c))) c.rows (frame_came octets tag c).rows
+    → Regroups (frame_groups (take_step octets c.links) (draft_of c)) c.rows (frame_came octets tag c).rows
 frame_regroups octets tag c =
     let step : Step = take_step octets c.links in
     let d : Draft = heard step (draft_of c) in
@@ -552,3 +554,27 @@ delete_regroups n c = acted_regroups Unchanged c.rows (delete n (draft_of c)) (d
 
 pub discard_regroups : (n : ℕ) (c : Core) → RegroupsIfDone (Closed n) c.rows (discarded n c)
 discard_regroups n c = acted_regroups (Closed n) c.rows (discard n (draft_of c)) (discard_at_regroups n (row_at entry_key n c.rows.entries) (draft_of c) refl)
+
+-- ---- the rows that a plan leads to
+
+planned_by : (r : Regrouping) (base : Rows) (d : Draft) → Rests base d → Regroups r base d.rows → Regroups r base (rows_after d.changes base)
+planned_by r base d e h = subst (λ (rows : Rows). Regroups r base rows) e h
+
+done_by : (r : Regrouping) (base : Rows) (w : Result Draft Refusal) (d : Draft) → w ≡ Ok d → RestsIfDone base w → RegroupsIfDone r base w → Regroups r base (rows_after d.changes base)
+done_by r base w d e rests h =
+    planned_by r base d (subst (λ (x : Result Draft Refusal). RestsIfDone base x) e rests) (subst (λ (x : Result Draft Refusal). RegroupsIfDone r base x) e h)
+
+pub frame_plans : (octets : List ℕ) (tag : Holder) (c : Core) → Regroups (frame_groups (take_step octets c.links) (draft_of c)) c.rows (rows_after (frame_came octets tag c).changes c.rows)
+frame_plans octets tag c = planned_by (frame_groups (take_step octets c.links) (draft_of c)) c.rows (frame_came octets tag c) (frame_rests octets tag c) (frame_regroups octets tag c)
+
+pub tick_plans : (now : ℕ) (c : Core) → Regroups Unchanged c.rows (rows_after (ticked now c).changes c.rows)
+tick_plans now c = planned_by Unchanged c.rows (ticked now c) (tick_rests now c) (tick_regroups now c)
+
+pub write_plans : (text to : List ℕ) (report : Bool) (c : Core) (d : Draft) → wrote text to report c ≡ Ok d → Regroups Unchanged c.rows (rows_after d.changes c.rows)
+write_plans text to report c d e = done_by Unchanged c.rows (wrote text to report c) d e (write_rests text to report c) (write_regroups text to report c)
+
+pub delete_plans : (n : ℕ) (c : Core) (d : Draft) → deleted n c ≡ Ok d → Regroups Unchanged c.rows (rows_after d.changes c.rows)
+delete_plans n c d e = done_by Unchanged c.rows (deleted n c) d e (delete_rests n c) (delete_regroups n c)
+
+pub discard_plans : (n : ℕ) (c : Core) (d : Draft) → discarded n c ≡ Ok d → Regroups (Closed n) c.rows (rows_after d.changes c.rows)
+discard_plans n c d e = done_by (Closed n) c.rows (discarded n c) d e (discard_rests n c) (discard_regroups n c)

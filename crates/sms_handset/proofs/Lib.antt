@@ -1,10 +1,13 @@
 pub mod Accepting
 pub mod CentreAddresses
+pub mod FewNumbers
+pub mod FindingGroups
 pub mod FreeReferences
 pub mod GroupStages
 pub mod Indexing
 pub mod Judging
 pub mod Numbers
 pub mod PartFields
-pub mod Resting
+pub mod PartsFound
 pub mod PlansStore
+pub mod Resting

@@ -1,6 +1,7 @@
 -- A handset, and a handset in the middle of an event: its rows, all that a restart forgets, and what has come of the
 -- event so far. All that a stage of an event does, it does by the moves below.
 use Rattle.std.specs.Prelude.{ℕ, ◌+◌, List, [], ◌∷◌, ◌++◌, Bool, true, false, Option, Some, None, Result, Ok, Err, unwrap_or, max}
+use Rattle.indexmap.specs.IndexMap.{index_map_len, spare}
 use Rattle.sms_control.specs.declared.link_state.LinkState.{LinkState}
 use Rattle.sms_control.specs.declared.message.Cp.{Cp}
 use Rattle.sms_control.specs.declared.message.Cp.TheVariants.{DataUnit, AckUnit, ErrorUnit}
@@ -64,9 +65,15 @@ pub record Room : Type 0 where
   pub outbox : ℕ
   pub marks : ℕ
 
+-- How many groups are open, and how many the memory of their index holds.
+pub record GroupRoom : Type 0 where
+  pub taken : ℕ
+  pub capacity : ℕ
+
 pub record Standing : Type 0 where
   pub core : Core
   pub room : Room
+  pub groups : GroupRoom
 
 -- the rows that are kept
 abbrev pub rows_of : Stored → Rows
@@ -81,6 +88,12 @@ rows_of s = record {
 
 abbrev pub room_of : Stored → Room
 room_of s = record { entries = s.entries.capacity; last = s.last.capacity; outbox = s.outbox.capacity; marks = s.marks.capacity }
+
+abbrev pub group_room_of : Stored → GroupRoom
+group_room_of s = record {
+  taken = index_map_len s.groups.by_first_part;
+  capacity = index_map_len s.groups.by_first_part + spare s.groups.by_first_part;
+}
 
 -- ---- changes
 

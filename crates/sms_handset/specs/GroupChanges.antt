@@ -6,6 +6,7 @@ use Rattle.sms_control.specs.declared.out.Up.{Up}
 use Rattle.sms_control.specs.declared.out.Up.TheVariants.{Unit as UnitUp, Failed}
 use Rattle.sms_control.specs.declared.transaction.TransactionFlag.{TransactionFlag}
 use Rattle.sms_control.specs.declared.transaction.TransactionFlag.TheVariants.{FromOriginator, ToOriginator}
+use Rattle.sms_control.specs.LinkStep.{Step}
 use Rattle.sms_relay.specs.declared.fault.RelayFault.{RelayFault}
 use Rattle.sms_relay.specs.declared.frame.Rp.{Rp}
 use Rattle.sms_relay.specs.declared.frame.Rp.TheVariants.{DataUnit, AckUnit, ErrorUnit, Smma}
@@ -22,7 +23,7 @@ use Rattle.sms_handset.specs.declared.entry.Group.{Group}
 use Rattle.sms_handset.specs.declared.mark.Mark.{Mark}
 use Rattle.sms_handset.specs.declared.open_group.Regrouping.{Regrouping}
 use Rattle.sms_handset.specs.declared.open_group.Regrouping.TheVariants.{Unchanged}
-use Rattle.sms_handset.specs.Draft.{Draft}
+use Rattle.sms_handset.specs.Draft.{Draft, heard}
 use Rattle.sms_handset.specs.Groups.{group_of, is_among, key_of, mark_of, members, part_entry, part_numbers}
 use Rattle.sms_handset.specs.Keys.{last_key}
 use Rattle.sms_handset.specs.MemoryAvailable.{has_room}
@@ -74,3 +75,6 @@ abbrev pub up_groups : Option Up → Draft → Regrouping
 up_groups None d = Unchanged
 up_groups (Some (UnitUp flag unit)) d = unit_up_groups flag unit d
 up_groups (Some Failed) d = Unchanged
+
+abbrev pub frame_groups : Step → Draft → Regrouping
+frame_groups step d = up_groups step.out.up (heard step d)

@@ -2,6 +2,8 @@ pub mod Keys
 pub mod Draft
 pub mod Groups
 pub mod OpenGroups
+pub mod OpenIndex
+pub mod Standing
 pub mod GroupChanges
 pub mod References
 pub mod Answers

@@ -67,3 +67,22 @@ Regroups change before after = Rises entry_key before.entries → Numbered befor
 abbrev pub grouped : Group → List Entry → Regrouping
 grouped g es =
     if all_numbers g.total (part_numbers es) then Closed (first_number es) else Opened (first_number es) (open_group g es)
+
+-- ---- parts by their entries
+
+abbrev pub found_then : Option Entry → List Entry → List Entry
+found_then None es = es
+found_then (Some e) es = e ∷ es
+
+-- the entries of the parts
+abbrev pub entries_of : List StoredPart → List Entry → List Entry
+entries_of [] entries = []
+entries_of (p ∷ ps) entries = found_then (row_at entry_key p.entry entries) (entries_of ps entries)
+
+abbrev pub IsFoundAs : StoredPart → Option Entry → Type 0
+IsFoundAs p None = ⊥
+IsFoundAs p (Some e) = stored_part e ≡ p
+
+-- each part is the entry of its number
+abbrev pub AreFound : List StoredPart → List Entry → Type 0
+AreFound parts entries = AllByRecursion (λ (p : StoredPart). IsFoundAs p (row_at entry_key p.entry entries)) parts

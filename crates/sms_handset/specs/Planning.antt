@@ -5,6 +5,7 @@ use Rattle.sms_control.specs.declared.link_state.LinkState.{LinkState}
 use Rattle.sms_handset.specs.declared.event.HandsetEvent.{HandsetEvent}
 use Rattle.sms_handset.specs.declared.event.HandsetEvent.TheVariants.{Frame, Tick, Write, Delete, Discard}
 use Rattle.sms_handset.specs.declared.notice.Notice.{Notice}
+use Rattle.sms_handset.specs.declared.open_group.Regrouping.{Regrouping}
 use Rattle.sms_handset.specs.declared.outgoing.Carried.{Carried}
 use Rattle.sms_handset.specs.declared.outgoing.Outgoing.{Outgoing}
 use Rattle.sms_handset.specs.declared.refusal.PlanError.{PlanError}
@@ -14,6 +15,8 @@ use Rattle.sms_handset.specs.declared.planned.Spares.{Spares}
 use Rattle.sms_handset.specs.declared.rows.Changes.{Changes}
 use Rattle.sms_handset.specs.declared.rows.Rows.{Rows}
 use Rattle.sms_handset.specs.Accepted.{StoresAccepted}
+use Rattle.sms_handset.specs.OpenGroups.{IsRegrouped}
+use Rattle.sms_handset.specs.OpenIndex.{opening}
 use Rattle.sms_handset.specs.Draft.{Core, Draft, Room, Standing, rows_after}
 
 -- what came of an event
@@ -54,24 +57,30 @@ adopted o c = record {
   is_recovered = o.is_recovered;
 }
 
--- the outcome, and memory for rows that come
+-- the outcome, what becomes of the open groups, and memory for rows and for a group that come
 pub record Plan : Type 0 where
   pub outcome : Outcome
+  pub regrouping : Regrouping
   pub spare : Room
+  pub spare_groups : ℕ
 
--- The plan's changes fit the memory of the lists, with that which the plan brings.
+-- The plan's changes fit the memory of the lists and of the index, with that which the plan brings; and its change of the
+-- open groups is that of its rows.
 pub record Fits (plan : Plan) (s : Standing) : Type 0 where
   pub entries : length s.core.rows.entries + length plan.outcome.changes.entries ≤ max s.room.entries plan.spare.entries
   pub last : length s.core.rows.last + length plan.outcome.changes.last ≤ max s.room.last plan.spare.last
   pub outbox : length s.core.rows.outbox + length plan.outcome.changes.outbox ≤ max s.room.outbox plan.spare.outbox
   pub marks : length s.core.rows.marks + length plan.outcome.changes.marks ≤ max s.room.marks plan.spare.marks
+  pub groups : s.groups.taken + opening plan.regrouping ≤ max s.groups.capacity plan.spare_groups
+  pub index : IsRegrouped plan.regrouping s.core.rows (rows_after plan.outcome.changes s.core.rows)
 
--- The changes fit the memory of the lists, with the spare.
-pub record HasSpares (spares : Spares) (changes : Changes) (s : Standing) : Type 0 where
+-- The changes fit the memory of the lists and of the index, with the spare.
+pub record HasSpares (spares : Spares) (changes : Changes) (regrouping : Regrouping) (s : Standing) : Type 0 where
   pub entries : length s.core.rows.entries + length changes.entries ≤ max s.room.entries spares.entries
   pub last : length s.core.rows.last + length changes.last ≤ max s.room.last spares.last
   pub outbox : length s.core.rows.outbox + length changes.outbox ≤ max s.room.outbox spares.outbox
   pub marks : length s.core.rows.marks + length changes.marks ≤ max s.room.marks spares.marks
+  pub groups : s.groups.taken + opening regrouping ≤ max s.groups.capacity spares.groups
 
 -- The plan has the outcome of the event that leads to the draft, and fits the handset.
 pub record IsPlanOf (d : Draft) (s : Standing) (plan : Plan) : Type 0 where

@@ -3,16 +3,20 @@ ghost use Rattle.std.specs.Prelude.{◌≡◌, ◌++◌, ◌<◌, ◌≤◌, [],
 ghost use Rattle.sms_base.specs.Address.{IsAddress};
 ghost use Rattle.sms_base.specs.Table.{row_at};
 ghost use Rattle.sms_handset.specs.Keys.{entry_key, last_key, mark_key, out_key};
-ghost use Rattle.sms_handset.specs.Draft.{begin as begin_of, carried_in as carried_in_of, carrying, from_links, put_counters as put_counters_of, put_entry as put_entry_of, put_last as put_last_of, put_mark as put_mark_of, put_out as put_out_of, remove_entry as remove_entry_of, remove_mark as remove_mark_of, remove_out as remove_out_of, reply as reply_of};
+ghost use Rattle.sms_handset.specs.Draft.{begin as begin_of, carried_in as carried_in_of, carrying, from_links, no_changes, put_counters as put_counters_of, put_entry as put_entry_of, put_last as put_last_of, put_mark as put_mark_of, put_out as put_out_of, remove_entry as remove_entry_of, remove_mark as remove_mark_of, remove_out as remove_out_of, reply as reply_of};
 ghost use Rattle.sms_control.specs.ControlReading.{cp_at};
+ghost use Rattle.sms_handset.specs.Groups.{members as members_of};
+ghost use Rattle.sms_handset.specs.OpenGroups.{open_at as open_at_of, stored_parts};
 
 use crate::counters::Counters;
-use crate::entry::Entry;
+use crate::entry::{Entry, Group};
 use crate::last::Last;
 use crate::listed::Listed;
 use crate::mark::Mark;
+use crate::members::Members;
 use crate::no_memory::NoMemory;
 use crate::notice::Notice;
+use crate::open_group::OpenGroup;
 use crate::out_entry::OutEntry;
 use crate::outgoing::{Carried, Kind, Outgoing};
 use crate::rows::Changes;
@@ -39,8 +43,8 @@ pub(crate) struct Draft<'a> {
 }
 
 impl<'a> Model for Draft<'a> {
-    ghost use Rattle.sms_base.specs.Address.{IsAddress};
     ghost use Rattle.sms_handset.specs.Draft.{Draft as DraftOf, rows_after, rows_of};
+    ghost use Rattle.sms_handset.specs.Standing.{IsStanding};
 
     ghost Value = { DraftOf };
 
@@ -57,7 +61,7 @@ impl<'a> Model for Draft<'a> {
       frames = d.frames;
     } };
 
-    ghost invariant = { λ d. IsAddress d.base.now.setup.centre };
+    ghost invariant = { λ d. IsStanding d.base.now };
 }
 
 impl<'a> Draft<'a> {
@@ -148,6 +152,31 @@ impl<'a> Draft<'a> {
         ensures { result.now ≡ self.now.rows.entries }
     {
         self.base.entries.as_slice()
+    }
+
+    /// The stored parts of the group, before anything has changed.
+    pub(crate) fn members(&self, group: &Group) -> Members<'a>
+        requires { self.now.changes ≡ no_changes }
+        ensures { result ≡ members_of group.now self.now.rows.entries }
+    {
+        Members::of(&self.base.groups, &self.base.entries, group)
+    }
+
+    /// The open group whose first stored part is the entry of that number, before anything has changed.
+    pub(crate) fn open_at(&self, number: u32) -> Option<&'a OpenGroup>
+        requires { self.now.changes ≡ no_changes }
+        ensures { option_copied result ≡ open_at_of number self.now.rows.entries }
+    {
+        self.base.groups.at(number)
+    }
+
+    /// Its stored parts.
+    pub(crate) fn members_in(&self, there: &'a OpenGroup) -> Members<'a>
+        requires untouched { self.now.changes ≡ no_changes }
+        requires parts { there.entry.now.parts ≡ stored_parts (members_of there.entry.now.group self.now.rows.entries) }
+        ensures { result ≡ members_of there.entry.now.group self.now.rows.entries }
+    {
+        Members::in_group(&self.base.entries, there)
     }
 
     /// The discarded groups, before anything of them has changed.

@@ -7,6 +7,7 @@ ghost use Rattle.sms_handset.specs.Groups.{all_numbers, first_number as first_nu
 
 use crate::entry::{Entry, Group, Message};
 use crate::mark::Mark;
+use crate::members::Members;
 use sms_base::Address;
 use sms_concat::{ConcatKey, ConcatReference, Header, concat_info};
 
@@ -62,35 +63,6 @@ pub(crate) fn find_mark<'a>(group: &Group, marks: &'a [Mark]) -> Option<&'a Mark
     None
 }
 
-/// Whether an entry is a part of the group.
-pub(crate) fn is_part_of(group: &Group, message: &Message) -> bool
-    ensures { result ≡ is_part_of_group group.now message.now }
-{
-    match message {
-        Message::Part { group: other, .. } => is_same_group(other, group),
-        _ => false,
-    }
-}
-
-/// Whether the group has the part of that number.
-pub(crate) fn has_part(group: &Group, entries: &[Entry], number: u8) -> bool
-    ensures { result ≡ is_among_of number (part_numbers (members group.now entries.now)) }
-{
-    for entry in entries {
-        if let Message::Part {
-            group: other,
-            number: there,
-            ..
-        } = &entry.message
-        {
-            if is_same_group(other, group) && *there == number {
-                return true;
-            }
-        }
-    }
-    false
-}
-
 /// The key of the header, if it has one.
 pub(crate) fn key_of(header_indicator: bool, octets: &[u8]) -> Option<ConcatKey>
     ensures { result ≡ header_key header_indicator octets.now }
@@ -104,25 +76,17 @@ pub(crate) fn key_of(header_indicator: bool, octets: &[u8]) -> Option<ConcatKey>
     }
 }
 
-// Whether the group, with one more part, has the part of that number.
-fn has_number(group: &Group, entries: &[Entry], part: &Entry, number: u8) -> bool
-    ensures { result ≡ is_among_of number (part_numbers (members group.now entries.now ++ part.now ∷ [])) }
-{
-    for entry in entries {
-        if is_part_of(group, &entry.message) && number_of(&entry.message) == number {
-            return true;
-        }
-    }
-    number_of(&part.message) == number
-}
-
-/// Whether the group is full with one more part.
+/// Whether the group is full with one more part, as it can't be with fewer parts than its total.
 #[tactic(auto, using(crate::proofs::Numbers::lacks_number))]
-pub(crate) fn is_full(group: &Group, entries: &[Entry], part: &Entry) -> bool
-    ensures { result ≡ all_numbers group.now.total (part_numbers (members group.now entries.now ++ part.now ∷ [])) }
+pub(crate) fn is_full(total: u8, members: &Members<'_>, part: &Entry) -> bool
+    ensures { result ≡ all_numbers total (part_numbers (members.now ++ part.now ∷ [])) }
 {
-    for below in 0..group.total {
-        if !has_number(group, entries, part, below + 1) {
+    if members.len() + 1 < usize::from(total) {
+        return false;
+    }
+    let number = number_of(&part.message);
+    for below in 0..total {
+        if below + 1 != number && !members.has(below + 1) {
             return false;
         }
     }
@@ -137,18 +101,6 @@ pub(crate) fn number_of(message: &Message) -> u8
         Message::Part { number, .. } => *number,
         _ => 0,
     }
-}
-
-/// The number of the group's first stored part, with one more part.
-pub(crate) fn first_number(group: &Group, entries: &[Entry], part: u32) -> u32
-    ensures { (e : EntryOf) → e.number ≡ part → result ≡ first_number_of (members group.now entries.now ++ e ∷ []) }
-{
-    for entry in entries {
-        if is_part_of(group, &entry.message) {
-            return entry.number;
-        }
-    }
-    part
 }
 
 /// Whether the numbers from 1 to the total are all there.

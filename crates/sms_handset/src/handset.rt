@@ -1,27 +1,29 @@
 //! The handset.
-ghost use Rattle.std.specs.Prelude.{◌≡◌, Ok, IfOk, OnOk};
+ghost use Rattle.std.specs.Prelude.{◌≡◌, Ok, IfOk};
 ghost use Rattle.std.specs.Str.{chars};
 ghost use Rattle.sms_control.specs.LinkStep.{take_step, fire_step};
-ghost use Rattle.sms_handset.specs.Draft.{draft_of, no_changes, recovered};
+ghost use Rattle.sms_handset.specs.Draft.{draft_of, recovered, rows_after};
 ghost use Rattle.sms_handset.specs.HandsetEvent.{deleted, discarded, frame_came as frame_came_of, ticked as ticked_of, wrote};
 ghost use Rattle.sms_handset.specs.Planning.{adopted, Fits, HasSpares, IsPlanOf, Judges, OfDelete, OfDiscard, OfFrame, OfTick, OfWrite, Plans, Stores};
 ghost use Rattle.sms_handset.specs.Trying.{TriesPlan as Tries};
 ghost use Rattle.sms_base.specs.Address.{IsAddress};
 ghost use Rattle.sms_base.specs.Table.{Rises, row_at};
-ghost use Rattle.sms_handset.specs.Groups.{members};
+ghost use Rattle.sms_handset.specs.OpenGroups.{Numbered, Regroups};
 ghost use Rattle.sms_handset.specs.Keys.{entry_key, last_key, mark_key, out_key};
-ghost use Rattle.sms_handset.specs.OwnersActs.{delete as delete_of, delete_out, discard as discard_of, discard_members};
+ghost use Rattle.sms_handset.specs.OwnersActs.{delete as delete_of, delete_out, discard as discard_of};
 ghost use Rattle.sms_handset.specs.SoundRows.{IsSound};
 
 use crate::draft::Draft;
-use crate::entry::{Entry, Group, Message};
+use crate::entry::Entry;
 use crate::event::HandsetEvent;
 use crate::listed::Listed;
 use crate::no_memory::NoMemory;
 use crate::notice::Notice;
+use crate::open_group::Regrouping;
+use crate::open_groups::OpenGroups;
 use crate::out_entry::OutEntry;
 use crate::outgoing::{Carried, Outgoing};
-use crate::owner::{first_member, is_open_part};
+use crate::owner::is_open_part;
 use crate::planned::{Planned, Spares};
 use crate::references::is_unfinished;
 use crate::refusal::{PlanError, Refusal};
@@ -47,8 +49,8 @@ pub struct Handset {
 }
 
 impl Model for Handset {
-    ghost use Rattle.sms_base.specs.Address.{IsAddress};
-    ghost use Rattle.sms_handset.specs.Draft.{Standing, room_of, rows_of};
+    ghost use Rattle.sms_handset.specs.Draft.{Standing, group_room_of, room_of, rows_of};
+    ghost use Rattle.sms_handset.specs.Standing.{IsStanding};
 
     ghost Value = { Standing };
 
@@ -64,29 +66,32 @@ impl Model for Handset {
         is_recovered = h.is_recovered;
       };
       room = room_of h.stored;
+      groups = group_room_of h.stored;
     } };
 
-    ghost invariant = { λ h. IsAddress h.stored.setup.centre };
+    ghost invariant = { λ h. IsStanding h.stored };
 }
 
 impl Handset {
-    /// The handset that starts with these rows. It takes no memory.
-    pub fn recover(alloc: Global, rows: Rows) -> Handset
+    /// The handset that starts with these rows. It takes memory for the index of the open groups alone.
+    pub fn recover(alloc: Global, rows: Rows) -> Result<Handset, NoMemory>
         requires { IsSound rows }
-        ensures { result.core ≡ recovered rows }
+        ensures { IfOk result (λ handset. handset.core ≡ recovered rows) }
     {
         Handset::standing_on(alloc, rows)
     }
 
-    // The same on rows in the order of their keys.
-    pub(crate) fn standing_on(alloc: Global, rows: Rows) -> Handset
+    // The same on rows in the order of their keys, whose entries have numbers that were given.
+    pub(crate) fn standing_on(alloc: Global, rows: Rows) -> Result<Handset, NoMemory>
         requires entries { Rises entry_key rows.entries }
         requires last { Rises last_key rows.last }
         requires outbox { Rises out_key rows.outbox }
         requires marks { Rises mark_key rows.marks }
         requires centre { IsAddress rows.setup.centre }
-        ensures { result.core ≡ recovered rows }
+        requires numbers { Numbered rows }
+        ensures { IfOk result (λ handset. handset.core ≡ recovered rows) }
     {
+        let groups = OpenGroups::of(alloc, rows.entries.as_slice())?;
         let setup = rows.setup;
         let counters = rows.counters;
         let moment = setup.start;
@@ -94,10 +99,11 @@ impl Handset {
         let last = Table::from_vec(rows.last.into_vec());
         let outbox = Table::from_vec(rows.outbox.into_vec());
         let marks = Table::from_vec(rows.marks.into_vec());
-        Handset {
+        Ok(Handset {
             alloc,
             stored: Stored {
                 entries,
+                groups,
                 last,
                 outbox,
                 marks,
@@ -111,7 +117,7 @@ impl Handset {
             wanted: 0,
             notice: None,
             is_recovered: true,
-        }
+        })
     }
 
     /// The entries of the inbox, parts of open groups among them, in the order of their numbers.
@@ -156,6 +162,8 @@ impl Handset {
         self.stored.last.use_spare(planned.spares.last);
         self.stored.outbox.use_spare(planned.spares.outbox);
         self.stored.marks.use_spare(planned.spares.marks);
+        self.stored.groups.use_spare(planned.spares.groups);
+        self.stored.groups.apply(planned.regrouping);
         let Changes {
             entries,
             last,
@@ -231,10 +239,11 @@ impl Handset {
     }
 
     // The draft's outcome, with memory for the rows that come.
-    fn planned(&self, draft: Draft<'_>) -> Result<Planned, NoMemory>
+    fn planned(&self, draft: Draft<'_>, regrouping: Regrouping) -> Result<Planned, NoMemory>
+        requires { Regroups regrouping self.now.core.rows (rows_after draft.entry.changes self.now.core.rows) }
         ensures { IfOk result (IsPlanOf draft.entry self.now) }
     {
-        let spares = self.spares(&draft.changes)?;
+        let spares = self.spares(&draft.changes, &regrouping)?;
         Ok(Planned {
             changes: draft.changes,
             frames: draft.frames,
@@ -245,13 +254,14 @@ impl Handset {
             wanted: draft.wanted,
             notice: draft.notice,
             is_recovered: draft.is_recovered,
+            regrouping,
             spares,
         })
     }
 
-    // Memory for the rows that the changes bring.
-    fn spares(&self, changes: &Changes) -> Result<Spares, NoMemory>
-        ensures { IfOk result (λ spares. HasSpares spares changes.now self.now) }
+    // Memory for the rows and for the group that the changes bring.
+    fn spares(&self, changes: &Changes, regrouping: &Regrouping) -> Result<Spares, NoMemory>
+        ensures { IfOk result (λ spares. HasSpares spares changes.now regrouping.now self.now) }
     {
         Ok(Spares {
             entries: self
@@ -267,6 +277,7 @@ impl Handset {
                 .stored
                 .marks
                 .make_spare(self.alloc, changes.marks.len())?,
+            groups: self.stored.groups.make_spare(self.alloc, regrouping)?,
         })
     }
 
@@ -275,9 +286,9 @@ impl Handset {
         ensures fits { IfOk result (λ planned. Fits planned self.now) }
     {
         let mut draft = self.draft()?;
-        draft.frame_came(octets, tag)?;
+        let regrouping = draft.frame_came(octets, tag)?;
         draft.follow()?;
-        Ok(self.planned(draft)?)
+        Ok(self.planned(draft, regrouping)?)
     }
 
     fn plan_tick(&self, now: Moment) -> Result<Planned, PlanError>
@@ -287,7 +298,7 @@ impl Handset {
         let mut draft = self.draft()?;
         draft.tick(now)?;
         draft.follow()?;
-        Ok(self.planned(draft)?)
+        Ok(self.planned(draft, Regrouping::Unchanged)?)
     }
 
     fn plan_write(&self, text: &str, to: &str, report: bool) -> Result<Planned, PlanError>
@@ -297,7 +308,7 @@ impl Handset {
         let mut draft = self.draft()?;
         draft.write(text, to, report)?;
         draft.follow()?;
-        Ok(self.planned(draft)?)
+        Ok(self.planned(draft, Regrouping::Unchanged)?)
     }
 
     // Why the owner's act is refused, before memory is asked for.
@@ -328,21 +339,7 @@ impl Handset {
     fn refuses_discard(&self, number: u32) -> Option<Refusal>
         ensures { Judges result (discard_of number (draft_of self.now.core)) }
     {
-        match self.stored.entries.find(number) {
-            Some(
-                Entry {
-                    message: Message::Part { group, .. },
-                    ..
-                },
-            ) => self.refuses_group(number, group),
-            _ => Some(Refusal::NoEntry),
-        }
-    }
-
-    fn refuses_group(&self, number: u32, group: &Group) -> Option<Refusal>
-        ensures { Judges result (discard_members number group.now (members group.now self.now.core.rows.entries) (draft_of self.now.core)) }
-    {
-        if first_member(group, self.stored.entries.as_slice()) != number {
+        if self.stored.groups.at(number).is_none() {
             return Some(Refusal::NoEntry);
         }
         if self.stored.marks.as_slice().len() >= 64 {
@@ -361,7 +358,7 @@ impl Handset {
         let mut draft = self.draft()?;
         draft.delete(entry)?;
         draft.follow()?;
-        Ok(self.planned(draft)?)
+        Ok(self.planned(draft, Regrouping::Unchanged)?)
     }
 
     fn plan_discard(&self, entry: u32) -> Result<Planned, PlanError>
@@ -374,6 +371,6 @@ impl Handset {
         let mut draft = self.draft()?;
         draft.discard(entry)?;
         draft.follow()?;
-        Ok(self.planned(draft)?)
+        Ok(self.planned(draft, Regrouping::Closed { first: entry })?)
     }
 }

@@ -2,10 +2,11 @@
 ghost use Rattle.std.specs.Prelude.{◌≡◌, ◌++◌, ◌∷◌, [], IfOk, option_copied};
 ghost use Rattle.sms_tpdu.specs.TpduReading.{down_at};
 ghost use Rattle.sms_tpdu.specs.declared.carrier.Carrier.TheVariants.{InData as Data};
-ghost use Rattle.sms_handset.specs.Groups.{carried_part, entry_part as entry_part_of, joined_content as joined_content_of, members, part_tpdu, part_with as part_with_of, parts_to};
+ghost use Rattle.sms_handset.specs.Groups.{carried_part, entry_part as entry_part_of, joined_content as joined_content_of, part_tpdu, part_with as part_with_of, parts_to};
 
 use crate::entry::{Entry, Group, Message};
-use crate::groups::{is_part_of, number_of};
+use crate::groups::number_of;
+use crate::members::Members;
 use crate::no_memory::NoMemory;
 use sms_alphabet::UnpackError;
 use sms_concat::{Content, Part, Parts, join, part_of};
@@ -13,23 +14,13 @@ use sms_tpdu::{Carrier, Down, read_down};
 use std::alloc::Global;
 
 // The entry that holds the part of that number.
-fn part_with<'e>(
-    group: &Group,
-    entries: &'e [Entry],
-    part: &'e Entry,
-    number: u8,
-) -> Option<&'e Entry>
-    ensures { option_copied result ≡ part_with_of number (members group.now entries.now ++ part.now ∷ []) }
+fn part_with<'e>(members: &Members<'e>, part: &'e Entry, number: u8) -> Option<&'e Entry>
+    ensures { option_copied result ≡ part_with_of number (members.now ++ part.now ∷ []) }
 {
-    for entry in entries {
-        if is_part_of(group, &entry.message) && number_of(&entry.message) == number {
-            return Some(entry);
-        }
-    }
-    if number_of(&part.message) == number {
-        Some(part)
-    } else {
-        None
+    match members.part_with(number) {
+        Some(entry) => Some(entry),
+        None if number_of(&part.message) == number => Some(part),
+        None => None,
     }
 }
 
@@ -77,15 +68,15 @@ fn entry_part(alloc: Global, entry: Option<&Entry>) -> Result<Option<Part>, NoMe
 #[tactic(auto, using(crate::proofs::Numbers::stops_at))]
 fn parts_in(
     alloc: Global,
-    group: &Group,
-    entries: &[Entry],
+    total: u8,
+    members: &Members<'_>,
     part: &Entry,
 ) -> Result<Option<Parts>, NoMemory>
-    ensures { IfOk result (λ parts. parts ≡ parts_to group.now.total (members group.now entries.now ++ part.now ∷ [])) }
+    ensures { IfOk result (λ parts. parts ≡ parts_to total (members.now ++ part.now ∷ [])) }
 {
-    let mut parts = Parts::from_vec(Vec::with_capacity(alloc, usize::from(group.total))?);
-    for below in 0..group.total {
-        match entry_part(alloc, part_with(group, entries, part, below + 1))? {
+    let mut parts = Parts::from_vec(Vec::with_capacity(alloc, usize::from(total))?);
+    for below in 0..total {
+        match entry_part(alloc, part_with(members, part, below + 1))? {
             Some(next) => parts.push(next)?,
             None => return Ok(None),
         }
@@ -97,12 +88,12 @@ fn parts_in(
 pub(crate) fn joined_content(
     alloc: Global,
     group: &Group,
-    entries: &[Entry],
+    members: &Members<'_>,
     part: &Entry,
 ) -> Result<Option<Content>, NoMemory>
-    ensures { IfOk result (λ content. content ≡ joined_content_of group.now (members group.now entries.now ++ part.now ∷ [])) }
+    ensures { IfOk result (λ content. content ≡ joined_content_of group.now (members.now ++ part.now ∷ [])) }
 {
-    match parts_in(alloc, group, entries, part)? {
+    match parts_in(alloc, group.total, members, part)? {
         Some(parts) => Ok(join(alloc, parts.as_slice())?),
         None => Ok(None),
     }

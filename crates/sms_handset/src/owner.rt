@@ -1,22 +1,17 @@
 //! Deleting and discarding.
-ghost use Rattle.std.specs.Prelude.{◌≡◌, ◌++◌, [], List, IfOk, OnOk, option_copied};
+ghost use Rattle.std.specs.Prelude.{◌≡◌, option_copied};
 ghost use Rattle.sms_base.specs.Table.{row_at};
 ghost use Rattle.sms_handset.specs.Draft.{no_changes};
-ghost use Rattle.sms_handset.specs.Groups.{first_number as first_number_of, members, part_numbers};
 ghost use Rattle.sms_handset.specs.Keys.{entry_key, out_key};
-ghost use Rattle.sms_handset.specs.OwnersActs.{delete as delete_of, delete_out as delete_out_of, discard as discard_of, discard_members, is_open_part as is_open_part_of};
+ghost use Rattle.sms_handset.specs.OwnersActs.{delete as delete_of, delete_out as delete_out_of, discard as discard_of, is_open_part as is_open_part_of};
 ghost use Rattle.sms_handset.specs.Planning.{Acts};
 
 use crate::draft::Draft;
-use crate::entry::{Entry, Group, Message};
-use crate::groups::{is_part_of, number_of};
+use crate::entry::{Entry, Message};
 use crate::mark::Mark;
-use crate::no_memory::NoMemory;
 use crate::out_entry::OutEntry;
 use crate::references::is_unfinished;
 use crate::refusal::{PlanError, Refusal};
-use sms_base::Octets;
-use std::alloc::Global;
 
 impl<'a> Draft<'a> {
     // An entry of the inbox, before anything of it has changed.
@@ -65,42 +60,27 @@ impl<'a> Draft<'a> {
         Ok(())
     }
 
-    fn discard_group(&mut self, number: u32, group: &Group) -> Result<(), PlanError>
-        requires untouched { self.old.changes ≡ no_changes }
-        ensures { Acts result self.new (discard_members number group.now (members group.now self.old.rows.entries) self.old) }
-    {
-        let entries = self.entries();
-        if first_member(group, entries) != number {
-            return Err(PlanError::Refused(Refusal::NoEntry));
-        }
-        if self.marks().len() >= 64 {
-            return Err(PlanError::Refused(Refusal::TooManyDiscarded));
-        }
-        let seen = numbers_in(self.alloc, group, entries)?;
-        self.drop_members(group, entries)?;
-        self.put_mark(Mark {
-            number,
-            group: *group,
-            seen,
-        })?;
-        self.free_slot();
-        Ok(())
-    }
-
     /// The owner discards an open group.
     pub(crate) fn discard(&mut self, number: u32) -> Result<(), PlanError>
         requires untouched { self.old.changes ≡ no_changes }
         ensures { Acts result self.new (discard_of number self.old) }
     {
-        match self.entry(number) {
-            Some(
-                Entry {
-                    message: Message::Part { group, .. },
-                    ..
-                },
-            ) => self.discard_group(number, group),
-            _ => Err(PlanError::Refused(Refusal::NoEntry)),
+        let Some(open) = self.open_at(number) else {
+            return Err(PlanError::Refused(Refusal::NoEntry));
+        };
+        if self.marks().len() >= 64 {
+            return Err(PlanError::Refused(Refusal::TooManyDiscarded));
         }
+        let members = self.members_in(open);
+        let seen = members.numbers(self.alloc)?;
+        self.drop_members(&members)?;
+        self.put_mark(Mark {
+            number,
+            group: open.group,
+            seen,
+        })?;
+        self.free_slot();
+        Ok(())
     }
 }
 
@@ -109,29 +89,4 @@ pub(crate) fn is_open_part(message: &Message) -> bool
     ensures { result ≡ is_open_part_of message.now }
 {
     matches!(message, Message::Part { .. })
-}
-
-/// The number of the group's first stored part, or 0.
-pub(crate) fn first_member(group: &Group, entries: &[Entry]) -> u32
-    ensures { result ≡ first_number_of (members group.now entries.now) }
-{
-    for entry in entries {
-        if is_part_of(group, &entry.message) {
-            return entry.number;
-        }
-    }
-    0
-}
-
-// The numbers of the group's parts.
-fn numbers_in(alloc: Global, group: &Group, entries: &[Entry]) -> Result<Octets, NoMemory>
-    ensures { IfOk result (λ numbers. numbers ≡ part_numbers (members group.now entries.now)) }
-{
-    let mut numbers = Octets::new(alloc);
-    for entry in entries {
-        if is_part_of(group, &entry.message) {
-            numbers.push(number_of(&entry.message))?;
-        }
-    }
-    Ok(numbers)
 }

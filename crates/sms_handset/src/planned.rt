@@ -6,6 +6,8 @@ use crate::last::Last;
 use crate::listed::Listed;
 use crate::mark::Mark;
 use crate::notice::Notice;
+use crate::open_group::Regrouping;
+use crate::open_groups::SpareGroups;
 use crate::out_entry::OutEntry;
 use crate::outgoing::{Carried, Outgoing};
 use crate::rows::Changes;
@@ -13,13 +15,14 @@ use sms_base::{Moment, Spare};
 use sms_control::Links;
 use std::marker::Model;
 
-/// Memory for rows that come.
+/// Memory for rows and for a group that come.
 #[derive(Drop)]
 pub(crate) struct Spares {
     pub(crate) entries: Spare<Entry>,
     pub(crate) last: Spare<Last>,
     pub(crate) outbox: Spare<OutEntry>,
     pub(crate) marks: Spare<Mark>,
+    pub(crate) groups: SpareGroups,
 }
 
 /// What an event changes and sends, and the handset's state after it, ready made.
@@ -34,6 +37,7 @@ pub struct Planned {
     pub(crate) wanted: u32,
     pub(crate) notice: Option<Notice>,
     pub(crate) is_recovered: bool,
+    pub(crate) regrouping: Regrouping,
     pub(crate) spares: Spares,
 }
 
@@ -54,7 +58,9 @@ impl Model for Planned {
         notice = p.notice;
         is_recovered = p.is_recovered;
       };
+      regrouping = p.regrouping;
       spare = record { entries = p.spares.entries; last = p.spares.last; outbox = p.spares.outbox; marks = p.spares.marks };
+      spare_groups = p.spares.groups;
     } };
 }
 

@@ -1,20 +1,23 @@
 //! Receiving a message: it is stored before it is acknowledged.
-ghost use Rattle.std.specs.Prelude.{◌≡◌, ◌<◌, ℕ, List, OnOk, Some, None, option_copied};
+ghost use Rattle.std.specs.Prelude.{◌≡◌, IfOk, OnOk, Some, option_copied};
 ghost use Rattle.sms_relay.specs.Cause.{IsRpCause};
 ghost use Rattle.sms_relay.specs.RelayReading.{down_at as unit_at};
 ghost use Rattle.sms_tpdu.specs.TpduReading.{down_at};
 ghost use Rattle.sms_tpdu.specs.declared.carrier.Carrier.TheVariants.{InData as Data};
 ghost use Rattle.sms_handset.specs.Draft.{no_changes};
-ghost use Rattle.sms_handset.specs.Groups.{key_of as key_of_deliver, mark_of, members};
+ghost use Rattle.sms_handset.specs.GroupChanges.{data_groups, deliver_groups, member_groups, new_part_groups, part_groups, tpdu_groups, unit_groups};
+ghost use Rattle.sms_handset.specs.Groups.{key_of as key_of_deliver, mark_of, members as members_of};
 ghost use Rattle.sms_handset.specs.Receiving.{accept as accept_of, acknowledge as acknowledge_of, data_came as data_came_of, deliver_came as deliver_came_of, fault_cause as fault_cause_of, is_double as is_double_of, is_reported as is_reported_of, member_came as member_came_of, new_part_came as new_part_came_of, no_room as no_room_of, note as note_of, part_came as part_came_of, reference_octet as reference_octet_of, refuse as refuse_of, reject as reject_of, reported as reported_of, single_came as single_came_of, tpdu_came as tpdu_came_of, unit_came as unit_came_of};
 
 use crate::draft::Draft;
 use crate::entry::Group;
-use crate::groups::{find_mark, has_part, is_among, key_of};
+use crate::groups::{find_mark, is_among, key_of};
 use crate::last::Last;
 use crate::mark::Mark;
+use crate::members::Members;
 use crate::no_memory::NoMemory;
 use crate::octet_copy::copy_of;
+use crate::open_group::Regrouping;
 use crate::out_entry::OutEntry;
 use crate::outgoing::Kind;
 use sms_base::{Holder, OctetView};
@@ -117,16 +120,19 @@ impl<'a> Draft<'a> {
         tpdu: &[u8],
         group: &Group,
         number: u8,
-    ) -> Result<(), NoMemory>
+        members: &Members<'_>,
+    ) -> Result<Regrouping, NoMemory>
         requires untouched { self.old.changes ≡ no_changes }
-        ensures { OnOk result (self.new ≡ new_part_came_of reference tag tpdu.now group.now number (members group.now self.old.rows.entries) self.old) }
+        ensures moves { OnOk result (self.new ≡ new_part_came_of reference tag tpdu.now group.now number members.now self.old) }
+        ensures groups { IfOk result (λ change. change ≡ new_part_groups tpdu.now group.now number members.now self.old) }
     {
-        let entries = self.entries();
         if self.has_room() {
-            self.store_part(group, number, tpdu, entries)?;
-            self.accept(reference, tag, tpdu)
+            let change = self.store_part(group, number, tpdu, members)?;
+            self.accept(reference, tag, tpdu)?;
+            Ok(change)
         } else {
-            self.no_room(reference, tag)
+            self.no_room(reference, tag)?;
+            Ok(Regrouping::Unchanged)
         }
     }
 
@@ -138,14 +144,17 @@ impl<'a> Draft<'a> {
         tpdu: &[u8],
         group: &Group,
         number: u8,
-    ) -> Result<(), NoMemory>
+    ) -> Result<Regrouping, NoMemory>
         requires untouched { self.old.changes ≡ no_changes }
-        ensures { OnOk result (self.new ≡ member_came_of reference tag tpdu.now group.now number (members group.now self.old.rows.entries) self.old) }
+        ensures moves { OnOk result (self.new ≡ member_came_of reference tag tpdu.now group.now number (members_of group.now self.old.rows.entries) self.old) }
+        ensures groups { IfOk result (λ change. change ≡ member_groups tpdu.now group.now number (members_of group.now self.old.rows.entries) self.old) }
     {
-        if has_part(group, self.entries(), number) {
-            self.single_came(reference, tag, tpdu)
+        let members = self.members(group);
+        if members.has(number) {
+            self.single_came(reference, tag, tpdu)?;
+            Ok(Regrouping::Unchanged)
         } else {
-            self.new_part_came(reference, tag, tpdu, group, number)
+            self.new_part_came(reference, tag, tpdu, group, number, &members)
         }
     }
 
@@ -178,12 +187,16 @@ impl<'a> Draft<'a> {
         tpdu: &[u8],
         group: &Group,
         number: u8,
-    ) -> Result<(), NoMemory>
+    ) -> Result<Regrouping, NoMemory>
         requires untouched { self.old.changes ≡ no_changes }
-        ensures { OnOk result (self.new ≡ part_came_of reference tag tpdu.now group.now number (mark_of group.now self.old.rows.marks) self.old) }
+        ensures moves { OnOk result (self.new ≡ part_came_of reference tag tpdu.now group.now number (mark_of group.now self.old.rows.marks) self.old) }
+        ensures groups { IfOk result (λ change. change ≡ part_groups tpdu.now group.now number (mark_of group.now self.old.rows.marks) self.old) }
     {
         match find_mark(group, self.marks()) {
-            Some(mark) => self.marked_part_came(reference, tag, tpdu, group, number, mark),
+            Some(mark) => {
+                self.marked_part_came(reference, tag, tpdu, group, number, mark)?;
+                Ok(Regrouping::Unchanged)
+            }
             None => self.member_came(reference, tag, tpdu, group, number),
         }
     }
@@ -194,9 +207,10 @@ impl<'a> Draft<'a> {
         tag: Holder,
         tpdu: &[u8],
         message: &Deliver<'_>,
-    ) -> Result<(), NoMemory>
+    ) -> Result<Regrouping, NoMemory>
         requires untouched { self.old.changes ≡ no_changes }
-        ensures { OnOk result (self.new ≡ deliver_came_of reference tag tpdu.now message.now (key_of_deliver message.now) self.old) }
+        ensures moves { OnOk result (self.new ≡ deliver_came_of reference tag tpdu.now message.now (key_of_deliver message.now) self.old) }
+        ensures groups { IfOk result (λ change. change ≡ deliver_groups tpdu.now message.now (key_of_deliver message.now) self.old) }
     {
         match key_of(
             message.user_data_header_indicator,
@@ -210,7 +224,10 @@ impl<'a> Draft<'a> {
                 };
                 self.part_came(reference, tag, tpdu, &group, key.number)
             }
-            None => self.single_came(reference, tag, tpdu),
+            None => {
+                self.single_came(reference, tag, tpdu)?;
+                Ok(Regrouping::Unchanged)
+            }
         }
     }
 
@@ -241,38 +258,55 @@ impl<'a> Draft<'a> {
         self.accept(reference, tag, tpdu)
     }
 
-    fn tpdu_came(&mut self, reference: u8, tag: Holder, tpdu: &[u8]) -> Result<(), NoMemory>
+    fn tpdu_came(
+        &mut self,
+        reference: u8,
+        tag: Holder,
+        tpdu: &[u8],
+    ) -> Result<Regrouping, NoMemory>
         requires untouched { self.old.changes ≡ no_changes }
-        ensures { OnOk result (self.new ≡ tpdu_came_of reference tag tpdu.now (down_at Data tpdu.now) self.old) }
+        ensures moves { OnOk result (self.new ≡ tpdu_came_of reference tag tpdu.now (down_at Data tpdu.now) self.old) }
+        ensures groups { IfOk result (λ change. change ≡ tpdu_groups tpdu.now (down_at Data tpdu.now) self.old) }
     {
         match read_down(tpdu, Carrier::InData) {
-            Ok(Down::Deliver(message)) => self.deliver_came(reference, tag, tpdu, &message),
-            Ok(Down::StatusReport(report)) => self.report_came(reference, tag, tpdu, &report),
+            Ok(Down::Deliver(message)) => {
+                return self.deliver_came(reference, tag, tpdu, &message);
+            }
+            Ok(Down::StatusReport(report)) => self.report_came(reference, tag, tpdu, &report)?,
             _ => self.refuse(
                 reference,
                 tag,
                 RpCause::InvalidMandatoryInformation,
                 UNSPECIFIED,
-            ),
+            )?,
         }
+        Ok(Regrouping::Unchanged)
     }
 
     // RP-DATA.
-    fn data_came(&mut self, reference: u8, tag: Holder, tpdu: &[u8]) -> Result<(), NoMemory>
+    fn data_came(
+        &mut self,
+        reference: u8,
+        tag: Holder,
+        tpdu: &[u8],
+    ) -> Result<Regrouping, NoMemory>
         requires untouched { self.old.changes ≡ no_changes }
-        ensures { OnOk result (self.new ≡ data_came_of reference tag tpdu.now self.old) }
+        ensures moves { OnOk result (self.new ≡ data_came_of reference tag tpdu.now self.old) }
+        ensures groups { IfOk result (λ change. change ≡ data_groups reference tpdu.now self.old) }
     {
         if is_double(tpdu, self.last(reference)) {
-            self.acknowledge(reference, tag)
+            self.acknowledge(reference, tag)?;
+            Ok(Regrouping::Unchanged)
         } else {
             self.tpdu_came(reference, tag, tpdu)
         }
     }
 
-    /// A unit that opens a transaction of the centre's.
-    pub(crate) fn unit_came(&mut self, tag: Holder, unit: &[u8]) -> Result<(), NoMemory>
+    /// A unit that opens a transaction of the centre's: what becomes of the open groups.
+    pub(crate) fn unit_came(&mut self, tag: Holder, unit: &[u8]) -> Result<Regrouping, NoMemory>
         requires untouched { self.old.changes ≡ no_changes }
-        ensures { OnOk result (self.new ≡ unit_came_of tag unit.now (unit_at unit.now) self.old) }
+        ensures moves { OnOk result (self.new ≡ unit_came_of tag unit.now (unit_at unit.now) self.old) }
+        ensures groups { IfOk result (λ change. change ≡ unit_groups (unit_at unit.now) self.old) }
     {
         match read_unit(unit) {
             Ok(
@@ -282,8 +316,11 @@ impl<'a> Draft<'a> {
                     ..
                 },
             ) => self.data_came(reference, tag, unit.as_slice()),
-            Ok(_) => Ok(()),
-            Err(fault) => self.reject(reference_octet(unit), tag, fault_cause(fault)),
+            Ok(_) => Ok(Regrouping::Unchanged),
+            Err(fault) => {
+                self.reject(reference_octet(unit), tag, fault_cause(fault))?;
+                Ok(Regrouping::Unchanged)
+            }
         }
     }
 }

@@ -6,6 +6,7 @@ use crate::counters::Counters;
 use crate::entry::Entry;
 use crate::last::Last;
 use crate::mark::Mark;
+use crate::open_groups::OpenGroups;
 use crate::out_entry::OutEntry;
 use crate::setup::Setup;
 use sms_base::{Row, Table};
@@ -42,10 +43,12 @@ impl Row for Mark {
     }
 }
 
-/// The rows that a handset keeps, each list by its keys.
+/// The rows that a handset keeps, each list by its keys, and what finds open groups among them.
 #[derive(Drop)]
 pub(crate) struct Stored {
     pub(crate) entries: Table<Entry>,
+    /// The index of the open groups among the entries.
+    pub(crate) groups: OpenGroups,
     pub(crate) last: Table<Last>,
     pub(crate) outbox: Table<OutEntry>,
     pub(crate) marks: Table<Mark>,

@@ -1,19 +1,24 @@
 //! Storing messages and parts, and what becomes of a group.
-ghost use Rattle.std.specs.Prelude.{◌≡◌, ◌++◌, ◌+◌, ◌∷◌, ◌<◌, [], true, nat_lt, List, OnOk, Some, None};
-ghost use Rattle.sms_handset.specs.declared.entry.Entry.{Entry as EntryOf};
+ghost use Rattle.std.specs.Prelude.{◌≡◌, ◌++◌, ◌+◌, ◌∷◌, ◌<◌, [], true, nat_lt, IfOk, OnOk, Some, None};
 ghost use Rattle.sms_handset.specs.Draft.{no_changes, put_entry as put_entry_of};
-ghost use Rattle.sms_handset.specs.Groups.{all_numbers, alone, completed, count_entry as count_entry_of, drop_all, ended, free_all, is_part_of as is_part_of_group, keep as keep_of, marked as marked_of, members, part_entry, store_part as store_part_of, store_single as store_single_of};
+ghost use Rattle.sms_handset.specs.Groups.{alone, completed, count_entry as count_entry_of, ended, marked as marked_of, part_entry, store_part as store_part_of, store_single as store_single_of};
+ghost use Rattle.sms_handset.specs.GroupChanges.{stored_groups};
+ghost use Rattle.sms_handset.specs.OpenGroups.{grouped, open_group};
 ghost use Rattle.sms_handset.specs.MemoryAvailable.{flag as flag_of, freed as freed_of, has_room as has_room_of, slots_taken, want_notice};
 
 use crate::draft::Draft;
 use crate::entry::{Entry, Group, Message};
-use crate::groups::{first_number, has_every, is_full, is_part_of};
+use crate::groups::{has_every, is_full, number_of};
 use crate::joining::{joined_content, tpdu_of};
 use crate::mark::Mark;
+use crate::members::Members;
 use crate::no_memory::NoMemory;
 use crate::octet_copy::copy_of;
+use crate::open_group::{OpenGroup, Regrouping, StoredPart};
+use crate::open_groups::with_part;
 use sms_base::Octets;
 use sms_concat::Content;
+use std::alloc::Global;
 
 // Whether the entries take fewer slots than there are.
 fn takes_fewer(entries: &[Entry], slots: u8) -> bool
@@ -75,52 +80,62 @@ impl<'a> Draft<'a> {
         })
     }
 
-    /// A part of a group that has the parts among the entries.
+    /// A part of a group that has those parts so far: what becomes of the group.
     pub(crate) fn store_part(
         &mut self,
         group: &Group,
         number: u8,
         tpdu: &[u8],
-        entries: &[Entry],
-    ) -> Result<(), NoMemory>
+        members: &Members<'_>,
+    ) -> Result<Regrouping, NoMemory>
         requires { self.old.rows.counters.entry < 4294967295 }
-        ensures { OnOk result (self.new ≡ store_part_of group.now number tpdu.now (members group.now entries.now) self.old) }
+        ensures moves { OnOk result (self.new ≡ store_part_of group.now number tpdu.now members.now self.old) }
+        ensures groups { IfOk result (λ change. change ≡ stored_groups group.now number tpdu.now members.now self.old) }
     {
         let stored = copy_of(self.alloc, tpdu)?;
         let kept = copy_of(self.alloc, tpdu)?;
         let entry = self.count_entry();
         let part = part_of(entry, group, number, kept);
         self.put_entry(part_of(entry, group, number, stored))?;
-        self.complete(group, entries, &part)
+        self.complete(group, members, &part)
     }
 
     // The group, if it is full with one more part, ends.
-    fn complete(&mut self, group: &Group, entries: &[Entry], part: &Entry) -> Result<(), NoMemory>
-        ensures { OnOk result (self.new ≡ completed group.now (members group.now entries.now ++ part.now ∷ []) self.old) }
+    fn complete(
+        &mut self,
+        group: &Group,
+        members: &Members<'_>,
+        part: &Entry,
+    ) -> Result<Regrouping, NoMemory>
+        ensures moves { OnOk result (self.new ≡ completed group.now (members.now ++ part.now ∷ []) self.old) }
+        ensures groups { IfOk result (λ change. change ≡ grouped group.now (members.now ++ part.now ∷ [])) }
     {
-        if is_full(group, entries, part) {
-            match joined_content(self.alloc, group, entries, part)? {
-                Some(content) => self.join(group, entries, part, content)?,
-                None => self.part_ways(group, entries, part)?,
-            }
+        let first = members.first_number(part.number);
+        if !is_full(group.total, members, part) {
+            let group = opened(self.alloc, group, members, part)?;
+            return Ok(Regrouping::Opened { first, group });
         }
-        Ok(())
+        match joined_content(self.alloc, group, members, part)? {
+            Some(content) => self.join(group, members, part, content)?,
+            None => self.part_ways(group, members, part)?,
+        }
+        Ok(Regrouping::Closed { first })
     }
 
     // A full group becomes one entry.
     fn join(
         &mut self,
         group: &Group,
-        entries: &[Entry],
+        members: &Members<'_>,
         part: &Entry,
         content: Content,
     ) -> Result<(), NoMemory>
-        ensures { OnOk result (self.new ≡ ended group.now (members group.now entries.now ++ part.now ∷ []) (Some content) self.old) }
+        ensures { OnOk result (self.new ≡ ended group.now (members.now ++ part.now ∷ []) (Some content) self.old) }
     {
-        self.drop_members(group, entries)?;
+        self.drop_members(members)?;
         self.remove_entry(part.number)?;
         self.put_entry(Entry {
-            number: first_number(group, entries, part.number),
+            number: members.first_number(part.number),
             slots: group.total,
             message: Message::Joined {
                 source: group.source,
@@ -130,40 +145,20 @@ impl<'a> Draft<'a> {
     }
 
     // The parts of a group become single entries.
-    fn part_ways(&mut self, group: &Group, entries: &[Entry], part: &Entry) -> Result<(), NoMemory>
-        ensures { OnOk result (self.new ≡ ended group.now (members group.now entries.now ++ part.now ∷ []) None self.old) }
+    fn part_ways(
+        &mut self,
+        _group: &Group,
+        members: &Members<'_>,
+        part: &Entry,
+    ) -> Result<(), NoMemory>
+        ensures { OnOk result (self.new ≡ ended _group.now (members.now ++ part.now ∷ []) None self.old) }
     {
-        self.free_members(group, entries)?;
+        self.free_members(members)?;
         self.free(part)
     }
 
-    /// The parts of a group leave.
-    pub(crate) fn drop_members(&mut self, group: &Group, entries: &[Entry]) -> Result<(), NoMemory>
-        ensures all { OnOk result (self.new ≡ drop_all (members group.now entries.now) self.old) }
-        ensures first { OnOk result ((rest : List EntryOf) → drop_all rest self.new ≡ drop_all (members group.now entries.now ++ rest) self.old) }
-    {
-        for entry in entries {
-            if is_part_of(group, &entry.message) {
-                self.remove_entry(entry.number)?;
-            }
-        }
-        Ok(())
-    }
-
-    // The parts of a group become single entries.
-    fn free_members(&mut self, group: &Group, entries: &[Entry]) -> Result<(), NoMemory>
-        ensures { OnOk result ((rest : List EntryOf) → free_all rest self.new ≡ free_all (members group.now entries.now ++ rest) self.old) }
-    {
-        for entry in entries {
-            if is_part_of(group, &entry.message) {
-                self.free(entry)?;
-            }
-        }
-        Ok(())
-    }
-
-    // A part becomes a single entry.
-    fn free(&mut self, entry: &Entry) -> Result<(), NoMemory>
+    /// A part becomes a single entry.
+    pub(crate) fn free(&mut self, entry: &Entry) -> Result<(), NoMemory>
         ensures { OnOk result (self.new ≡ put_entry_of (alone entry.now) self.old) }
     {
         let tpdu = copy_of(self.alloc, tpdu_of(&entry.message))?;
@@ -216,4 +211,20 @@ fn part_of(entry: u32, group: &Group, number: u8, tpdu: Octets) -> Entry
             tpdu,
         },
     }
+}
+
+// A group that is not full, with one more part.
+fn opened(
+    alloc: Global,
+    group: &Group,
+    members: &Members<'_>,
+    part: &Entry,
+) -> Result<OpenGroup, NoMemory>
+    ensures { IfOk result (λ there. there ≡ open_group group.now (members.now ++ part.now ∷ [])) }
+{
+    let part = StoredPart {
+        entry: part.number,
+        number: number_of(&part.message),
+    };
+    with_part(alloc, group, members.parts(), part)
 }

@@ -1,0 +1,107 @@
+-- Groups in the index.
+use Rattle.std.proofs.Common.{◌≡◌, ◌⊎◌, ℕ, ◌+◌, List, [], ◌∷◌, ◌++◌, append-nil, append_assoc, Bool, true, false, cond, nat_eq, Option, Some, None, refl, sym, ◌∙◌, ap, subst, inl, inr, ⊎_elim, eq-eqb, eqb-true, true≢false}
+use Rattle.std.specs.Prelude.{if◌then◌else◌}
+use Rattle.std.specs.List.{AllByRecursion, IsDistinct}
+use Rattle.std.specs.Cmp.{nat_eq_equiv}
+use Rattle.std.specs.Map.{keys_of, lookup}
+use Rattle.std.proofs.lemmas.Bool.{cases_Bool, cases_eq, cond-true, cond-false, ne_eqb}
+use Rattle.indexmap.specs.IndexMap.{IsUnique, insert_all, insert_entry}
+use Rattle.indexmap.proofs.MapLemmas.{absent_before, absent_from_lookup, insert_entry-absent}
+use Rattle.sms_base.specs.Table.{Rises}
+use Rattle.sms_handset.specs.declared.entry.Entry.{Entry}
+use Rattle.sms_handset.specs.declared.entry.Group.{Group}
+use Rattle.sms_handset.specs.declared.open_group.OpenGroup.{OpenGroup}
+use Rattle.sms_handset.specs.declared.open_group.Regrouping.{Regrouping}
+use Rattle.sms_handset.specs.declared.open_groups.OpenGroups.{OpenGroups}
+use Rattle.sms_handset.specs.declared.rows.Rows.{Rows}
+use Rattle.sms_handset.specs.Groups.{is_same_group, members}
+use Rattle.sms_handset.specs.Keys.{entry_key}
+use Rattle.sms_handset.specs.OpenGroups.{IsRegrouped, open_at, open_group, regrouped, stored_parts}
+use Rattle.sms_handset.specs.OpenIndex.{Indexes, find_open, parts_of, under}
+use Rattle.sms_handset.proofs.Indexing.{cases_group, one_group, other_group, same_group, stands_first}
+use Rattle.sms_handset.proofs.PartsFound.{open_parts}
+
+-- a group of the list has a number under which it is found
+record IsThere (g : Group) (o : OpenGroup) (es : List (ℕ × OpenGroup)) : Type 0 where
+  number : ℕ
+  there : lookup (nat_eq number) es ≡ Some o
+  group_is : o.group ≡ g
+
+none_under : (n : ℕ) (es : List (ℕ × OpenGroup)) → AllByRecursion (λ (y : ℕ). nat_eq n y ≡ false) (keys_of es) → lookup (nat_eq n) es ≡ None
+none_under n [] h = refl
+none_under n (e ∷ es) h = cond-false (nat_eq n e.0) (Some e.1) (lookup (nat_eq n) es) h.0 ∙ none_under n es h.1
+
+found_there : (g : Group) (o : OpenGroup) (es : List (ℕ × OpenGroup)) → IsDistinct nat_eq (keys_of es) → find_open g es ≡ Some o → IsThere g o es
+unfolding IsDistinct
+found_there g o [] d s = absurd cc
+found_there g o (e ∷ es) d s = ⊎_elim
+    (λ (t : is_same_group e.1.group g ≡ true).
+    let both : Some e.1 ≡ Some o = sym (cond-true (is_same_group e.1.group g) (Some e.1) (find_open g es) t) ∙ s in
+    let is : e.1 ≡ o = cc in
+    record {
+      number = e.0;
+      there = cond-true (nat_eq e.0 e.0) (Some e.1) (lookup (nat_eq e.0) es) (eq-eqb e.0 e.0 refl) ∙ ap (λ (z : OpenGroup). Some z) is;
+      group_is = ap (λ (z : OpenGroup). z.group) (sym is) ∙ same_group e.1.group g t;
+    })
+    (λ (f : is_same_group e.1.group g ≡ false).
+    let r = found_there g o es d.1 (sym (cond-false (is_same_group e.1.group g) (Some e.1) (find_open g es) f) ∙ s) in ⊎_elim
+    (λ (q : r.number ≡ e.0).
+    let bad : None ≡ Some o = sym (none_under e.0 es d.0) ∙ ap (λ (n : ℕ). lookup (nat_eq n) es) (sym q) ∙ r.there in absurd cc)
+    (λ (q : r.number ≡ e.0 → ⊥). record {
+      number = r.number;
+      there = cond-false (nat_eq r.number e.0) (Some e.1) (lookup (nat_eq r.number) es) (ne_eqb r.number e.0 q) ∙ r.there;
+      group_is = r.group_is;
+    })
+    (cases_eq r.number e.0))
+    (cases_Bool (is_same_group e.1.group g))
+
+-- a group that is not found stands under no number
+not_there : (g : Group) (n : ℕ) (o : OpenGroup) (es : List (ℕ × OpenGroup)) → find_open g es ≡ None → lookup (nat_eq n) es ≡ Some o → ¬ (o.group ≡ g)
+not_there g n o [] s l q = absurd cc
+not_there g n o (e ∷ es) s l q = ⊎_elim
+    (λ (t : is_same_group e.1.group g ≡ true).
+    let bad : Some e.1 ≡ None = sym (cond-true (is_same_group e.1.group g) (Some e.1) (find_open g es) t) ∙ s in absurd cc)
+    (λ (f : is_same_group e.1.group g ≡ false). ⊎_elim
+    (λ (h : nat_eq n e.0 ≡ true).
+    let both : Some e.1 ≡ Some o = sym (cond-true (nat_eq n e.0) (Some e.1) (lookup (nat_eq n) es) h) ∙ l in
+    let is : e.1 ≡ o = cc in
+    let same : is_same_group e.1.group g ≡ true = ap (λ (x : Group). is_same_group x g) (ap (λ (z : OpenGroup). z.group) is ∙ q) ∙ one_group g in
+    absurd (true≢false (sym same ∙ f)))
+    (λ (h : nat_eq n e.0 ≡ false).
+    not_there g n o es (sym (cond-false (is_same_group e.1.group g) (Some e.1) (find_open g es) f) ∙ s)
+    (sym (cond-false (nat_eq n e.0) (Some e.1) (lookup (nat_eq n) es) h) ∙ l) q)
+    (cases_Bool (nat_eq n e.0)))
+    (cases_Bool (is_same_group e.1.group g))
+
+no_members : (g : Group) (index : OpenGroups) (es l : List Entry) → Rises entry_key es → Indexes index es → find_open g index.by_first_part.entries ≡ None → members g es ≡ l → stored_parts l ≡ []
+no_members g index es [] r i s q = refl
+no_members g index es (x ∷ xs) r i s q =
+    absurd (not_there g x.number (open_group g (x ∷ xs)) index.by_first_part.entries s (i x.number ∙ stands_first g x xs es r q) refl)
+
+by_found : (g : Group) (index : OpenGroups) (es : List Entry) (o : Option OpenGroup) → Rises entry_key es → Indexes index es → IsUnique nat_eq index.by_first_part
+    → find_open g index.by_first_part.entries ≡ o → parts_of o ≡ stored_parts (members g es)
+by_found g index es None r i u s = sym (no_members g index es (members g es) r i s refl)
+by_found g index es (Some o) r i u s =
+    let f = found_there g o index.by_first_part.entries u s in
+    open_parts f.number o es (sym (i f.number) ∙ f.there) ∙ ap (λ (h : Group). stored_parts (members h es)) f.group_is
+
+-- the parts that the index has of a group are those of its members
+pub parts_are : (g : Group) (index : OpenGroups) (es : List Entry) → Rises entry_key es → Indexes index es → IsUnique nat_eq index.by_first_part
+    → parts_of (find_open g index.by_first_part.entries) ≡ stored_parts (members g es)
+parts_are g index es r i u = by_found g index es (find_open g index.by_first_part.entries) r i u refl
+
+-- ---- changes
+
+pub indexes_then : (r : Regrouping) (i j : OpenGroups) (before after : Rows) → ((n : ℕ) → under j n ≡ regrouped r n (under i n)) → Indexes i before.entries
+    → IsRegrouped r before after → Indexes j after.entries
+indexes_then r i j before after h index is n = h n ∙ ap (λ (o : Option OpenGroup). regrouped r n o) (index n) ∙ sym (is.0 n)
+
+-- groups that are put into an empty index one by one stand as they stood
+pub put_all : (done es : List (ℕ × OpenGroup)) → IsDistinct nat_eq (keys_of (done ++ es)) → insert_all nat_eq done es ≡ done ++ es
+put_all done [] d = sym (append-nil done)
+put_all done (e ∷ es) d =
+    let one : insert_entry nat_eq done e.0 e.1 ≡ done ++ e ∷ [] =
+    insert_entry-absent nat_eq e.0 e.1 done (absent_from_lookup (nat_eq e.0) done (absent_before nat_eq_equiv done es e d)) in
+    let same : (done ++ e ∷ []) ++ es ≡ done ++ e ∷ es = append_assoc done (e ∷ []) es in
+    ap (λ (l : List (ℕ × OpenGroup)). insert_all nat_eq l es) one
+    ∙ put_all (done ++ e ∷ []) es (subst (λ (l : List (ℕ × OpenGroup)). IsDistinct nat_eq (keys_of l)) (sym same) d) ∙ same

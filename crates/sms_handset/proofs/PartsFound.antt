@@ -1,0 +1,141 @@
+-- Parts that stand as their entries.
+use Rattle.std.proofs.Common.{◌≡◌, ◌⊎◌, ℕ, ◌+◌, ◌<◌, ◌≤◌, arith, List, [], ◌∷◌, ◌++◌, length, Bool, true, false, cond, Option, Some, None, refl, sym, ◌∙◌, ap, subst, inl, inr, ⊎_elim}
+use Rattle.std.specs.Prelude.{◌==◌, if◌then◌else◌}
+use Rattle.std.specs.List.{AllByRecursion}
+use Rattle.std.proofs.lemmas.Bool.{cases_Bool}
+use Rattle.sms_base.specs.Among.{Among}
+use Rattle.sms_base.specs.Table.{Rises, row_at}
+use Rattle.sms_base.proofs.Tables.{among_found}
+use Rattle.sms_handset.specs.declared.entry.Entry.{Entry}
+use Rattle.sms_handset.specs.declared.entry.Group.{Group}
+use Rattle.sms_handset.specs.declared.open_group.OpenGroup.{OpenGroup}
+use Rattle.sms_handset.specs.declared.open_group.StoredPart.{StoredPart}
+use Rattle.sms_handset.specs.Draft.{Draft, put_entry, remove_entry}
+use Rattle.sms_handset.specs.Groups.{alone, drop_all, first_number, free_all, is_among, members, part_number, part_numbers, part_with}
+use Rattle.sms_handset.specs.Keys.{entry_key}
+use Rattle.sms_handset.specs.OpenGroups.{AreFound, IsFoundAs, entries_of, found_then, open_at, stored_part, stored_parts}
+use Rattle.sms_handset.proofs.Indexing.{is_first, members_among}
+
+-- ---- the parts of a group are found
+
+standing : (xs es : List Entry) → ((x : Entry) → Among x xs → row_at entry_key x.number es ≡ Some x) → AreFound (stored_parts xs) es
+standing [] es h = tt
+standing (x ∷ xs) es h = (
+  subst (λ (o : Option Entry). IsFoundAs (stored_part x) o) (sym (h x (inl refl))) refl,
+  standing xs es (λ y m. h y (inr m)),
+)
+
+again : (xs es : List Entry) → ((x : Entry) → Among x xs → row_at entry_key x.number es ≡ Some x) → entries_of (stored_parts xs) es ≡ xs
+again [] es h = refl
+again (x ∷ xs) es h =
+    ap (λ (o : Option Entry). found_then o (entries_of (stored_parts xs) es)) (h x (inl refl))
+    ∙ ap (λ (l : List Entry). x ∷ l) (again xs es (λ y m. h y (inr m)))
+
+pub members_found : (g : Group) (es : List Entry) → Rises entry_key es → AreFound (stored_parts (members g es)) es
+members_found g es r = standing (members g es) es (λ x m. among_found entry_key x es r (members_among g x es m).0)
+
+pub members_again : (g : Group) (es : List Entry) → Rises entry_key es → entries_of (stored_parts (members g es)) es ≡ members g es
+members_again g es r = again (members g es) es (λ x m. among_found entry_key x es r (members_among g x es m).0)
+
+-- ---- parts tell of their entries
+
+next_stored : (p : StoredPart) (o : Option Entry) (rest : List Entry) → IsFoundAs p o → stored_parts (found_then o rest) ≡ p ∷ stored_parts rest
+next_stored p None rest h = absurd h
+next_stored p (Some e) rest h = ap (λ (q : StoredPart). q ∷ stored_parts rest) h
+
+pub stored_again : (ps : List StoredPart) (es : List Entry) → AreFound ps es → stored_parts (entries_of ps es) ≡ ps
+stored_again [] es h = refl
+stored_again (p ∷ ps) es h =
+    next_stored p (row_at entry_key p.entry es) (entries_of ps es) h.0 ∙ ap (λ (l : List StoredPart). p ∷ l) (stored_again ps es h.1)
+
+abbrev pub numbers_of : List StoredPart → List ℕ
+numbers_of [] = []
+numbers_of (p ∷ ps) = p.number ∷ numbers_of ps
+
+numbers_stored : (es : List Entry) → numbers_of (stored_parts es) ≡ part_numbers es
+numbers_stored [] = refl
+numbers_stored (e ∷ es) = ap (λ (l : List ℕ). part_number e.message ∷ l) (numbers_stored es)
+
+pub numbers_are : (ps : List StoredPart) (es : List Entry) → AreFound ps es → numbers_of ps ≡ part_numbers (entries_of ps es)
+numbers_are ps es h = ap (λ (l : List StoredPart). numbers_of l) (sym (stored_again ps es h)) ∙ numbers_stored (entries_of ps es)
+
+length_stored : (es : List Entry) → length (stored_parts es) ≡ length es
+length_stored [] = refl
+length_stored (e ∷ es) = ap suc (length_stored es)
+
+pub length_is : (ps : List StoredPart) (es : List Entry) → AreFound ps es → length ps ≡ length (entries_of ps es)
+length_is ps es h = ap (λ (l : List StoredPart). length l) (sym (stored_again ps es h)) ∙ length_stored (entries_of ps es)
+
+-- the entry of the part of that number
+abbrev pub found_with : ℕ → List StoredPart → List Entry → Option Entry
+found_with n [] es = None
+found_with n (p ∷ ps) es = if p.number == n then row_at entry_key p.entry es else found_with n ps es
+
+with_next : (n : ℕ) (p : StoredPart) (o : Option Entry) (rest : List Entry) → IsFoundAs p o → part_with n (found_then o rest) ≡ cond (p.number == n) o (part_with n rest)
+with_next n p None rest h = absurd h
+with_next n p (Some e) rest h = ap (λ (q : StoredPart). cond (q.number == n) (Some e) (part_with n rest)) h
+
+pub with_is : (n : ℕ) (ps : List StoredPart) (es : List Entry) → AreFound ps es → found_with n ps es ≡ part_with n (entries_of ps es)
+with_is n [] es h = refl
+with_is n (p ∷ ps) es h =
+    ap (λ (o : Option Entry). cond (p.number == n) (row_at entry_key p.entry es) o) (with_is n ps es h.1)
+    ∙ sym (with_next n p (row_at entry_key p.entry es) (entries_of ps es) h.0)
+
+first_next : (p : StoredPart) (o : Option Entry) (rest : List Entry) → IsFoundAs p o → p.entry ≡ first_number (found_then o rest)
+first_next p None rest h = absurd h
+first_next p (Some e) rest h = ap (λ (q : StoredPart). q.entry) (sym h)
+
+-- ---- moves over parts
+
+abbrev pub drop_parts : List StoredPart → Draft → Draft
+drop_parts [] d = d
+drop_parts (p ∷ ps) d = drop_parts ps (remove_entry p.entry d)
+
+dropped_stored : (es : List Entry) (d : Draft) → drop_parts (stored_parts es) d ≡ drop_all es d
+dropped_stored [] d = refl
+dropped_stored (e ∷ es) d = dropped_stored es (remove_entry e.number d)
+
+pub drops : (ps : List StoredPart) (es : List Entry) (d : Draft) → AreFound ps es → drop_parts ps d ≡ drop_all (entries_of ps es) d
+drops ps es d h = ap (λ (l : List StoredPart). drop_parts l d) (sym (stored_again ps es h)) ∙ dropped_stored (entries_of ps es) d
+
+pub drop_more : (xs ys : List Entry) (d : Draft) → drop_all ys (drop_all xs d) ≡ drop_all (xs ++ ys) d
+drop_more [] ys d = refl
+drop_more (x ∷ xs) ys d = drop_more xs ys (remove_entry x.number d)
+
+abbrev pub free_found : Option Entry → Draft → Draft
+free_found None d = d
+free_found (Some e) d = put_entry (alone e) d
+
+abbrev pub free_parts : List StoredPart → List Entry → Draft → Draft
+free_parts [] es d = d
+free_parts (p ∷ ps) es d = free_parts ps es (free_found (row_at entry_key p.entry es) d)
+
+free_next : (o : Option Entry) (rest : List Entry) (d : Draft) → free_all rest (free_found o d) ≡ free_all (found_then o rest) d
+free_next None rest d = refl
+free_next (Some e) rest d = refl
+
+frees_all : (ps : List StoredPart) (es : List Entry) (d : Draft) → free_parts ps es d ≡ free_all (entries_of ps es) d
+frees_all [] es d = refl
+frees_all (p ∷ ps) es d =
+    frees_all ps es (free_found (row_at entry_key p.entry es) d) ∙ free_next (row_at entry_key p.entry es) (entries_of ps es) d
+
+free_more : (xs ys : List Entry) (d : Draft) → free_all ys (free_all xs d) ≡ free_all (xs ++ ys) d
+free_more [] ys d = refl
+free_more (x ∷ xs) ys d = free_more xs ys (put_entry (alone x) d)
+
+pub frees : (ps : List StoredPart) (es rest : List Entry) (d : Draft) → free_all rest (free_parts ps es d) ≡ free_all (entries_of ps es ++ rest) d
+frees ps es rest d = ap (λ (z : Draft). free_all rest z) (frees_all ps es d) ∙ free_more (entries_of ps es) rest d
+
+-- ---- what stands under a number
+
+pub open_parts : (n : ℕ) (o : OpenGroup) (es : List Entry) → open_at n es ≡ Some o → o.parts ≡ stored_parts (members o.group es)
+open_parts n o es s =
+    let f = is_first n o es s in
+    ap (λ (z : OpenGroup). z.parts) f.open_is ∙ ap (λ (l : List Entry). stored_parts l) (sym f.members_are)
+
+stored_append : (xs ys : List Entry) → stored_parts (xs ++ ys) ≡ stored_parts xs ++ stored_parts ys
+stored_append [] ys = refl
+stored_append (x ∷ xs) ys = ap (λ (l : List StoredPart). stored_part x ∷ l) (stored_append xs ys)
+
+pub stored_more : (xs : List Entry) (e : Entry) → stored_parts (xs ++ e ∷ []) ≡ stored_parts xs ++ stored_part e ∷ []
+stored_more xs e = stored_append xs (e ∷ [])
