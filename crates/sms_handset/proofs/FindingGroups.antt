@@ -1,5 +1,5 @@
 -- Groups in the index.
-use Rattle.std.proofs.Common.{◌≡◌, ◌⊎◌, ℕ, ◌+◌, List, [], ◌∷◌, ◌++◌, append-nil, append_assoc, Bool, true, false, cond, nat_eq, Option, Some, None, refl, sym, ◌∙◌, ap, subst, inl, inr, ⊎_elim, eq-eqb, eqb-true, true≢false}
+use Rattle.std.proofs.Common.{◌≡◌, ◌⊎◌, ℕ, zero, suc, ◌+◌, take, List, [], ◌∷◌, ◌++◌, append-nil, append_assoc, Bool, true, false, cond, nat_eq, Option, Some, None, refl, sym, ◌∙◌, ap, subst, inl, inr, ⊎_elim, eq-eqb, eqb-true, true≢false}
 use Rattle.std.specs.Prelude.{if◌then◌else◌}
 use Rattle.std.specs.List.{AllByRecursion, IsDistinct}
 use Rattle.std.specs.Cmp.{nat_eq_equiv}
@@ -7,19 +7,22 @@ use Rattle.std.specs.Map.{keys_of, lookup}
 use Rattle.std.proofs.lemmas.Bool.{cases_Bool, cases_eq, cond-true, cond-false, ne_eqb}
 use Rattle.indexmap.specs.IndexMap.{IsUnique, insert_all, insert_entry}
 use Rattle.indexmap.proofs.MapLemmas.{absent_before, absent_from_lookup, insert_entry-absent}
-use Rattle.sms_base.specs.Table.{Rises}
+use Rattle.sms_base.specs.Table.{AllAbove, Rises}
 use Rattle.sms_handset.specs.declared.entry.Entry.{Entry}
 use Rattle.sms_handset.specs.declared.entry.Group.{Group}
+use Rattle.sms_handset.specs.declared.entry.Message.{Message}
+use Rattle.sms_handset.specs.declared.entry.Message.TheVariants.{Single, Part, Joined}
+use Rattle.sms_handset.specs.declared.open_group.StoredPart.{StoredPart}
 use Rattle.sms_handset.specs.declared.open_group.OpenGroup.{OpenGroup}
 use Rattle.sms_handset.specs.declared.open_group.Regrouping.{Regrouping}
 use Rattle.sms_handset.specs.declared.open_groups.OpenGroups.{OpenGroups}
 use Rattle.sms_handset.specs.declared.rows.Rows.{Rows}
-use Rattle.sms_handset.specs.Groups.{is_same_group, members}
+use Rattle.sms_handset.specs.Groups.{is_part_of, is_same_group, members, part_number}
 use Rattle.sms_handset.specs.Keys.{entry_key}
-use Rattle.sms_handset.specs.OpenGroups.{IsRegrouped, open_at, open_group, regrouped, stored_parts}
-use Rattle.sms_handset.specs.OpenIndex.{Indexes, find_open, parts_of, under}
-use Rattle.sms_handset.proofs.Indexing.{cases_group, one_group, other_group, same_group, stands_first}
-use Rattle.sms_handset.proofs.PartsFound.{open_parts}
+use Rattle.sms_handset.specs.OpenGroups.{IsRegrouped, open_at, open_group, regrouped, stored_part, stored_parts}
+use Rattle.sms_handset.specs.OpenIndex.{Indexes, find_open, first_entry_of, parts_of, under, with_one_more}
+use Rattle.sms_handset.proofs.Indexing.{all_stay, cases_group, members_append, one_group, one_opens, other_group, same_group, stands_first}
+use Rattle.sms_handset.proofs.PartsFound.{open_parts, stored_more}
 
 -- a group of the list has a number under which it is found
 record IsThere (g : Group) (o : OpenGroup) (es : List (ℕ × OpenGroup)) : Type 0 where
@@ -105,3 +108,72 @@ put_all done (e ∷ es) d =
     let same : (done ++ e ∷ []) ++ es ≡ done ++ e ∷ es = append_assoc done (e ∷ []) es in
     ap (λ (l : List (ℕ × OpenGroup)). insert_all nat_eq l es) one
     ∙ put_all (done ++ e ∷ []) es (subst (λ (l : List (ℕ × OpenGroup)). IsDistinct nat_eq (keys_of l)) (sym same) d) ∙ same
+
+pub moved_all : (empty es new : List (ℕ × OpenGroup)) → empty ≡ [] → IsDistinct nat_eq (keys_of es) → new ≡ insert_all nat_eq empty es → new ≡ es
+moved_all empty es new e d n = n ∙ ap (λ (l : List (ℕ × OpenGroup)). insert_all nat_eq l es) e ∙ put_all [] es d
+
+-- ---- entries that come behind all others
+
+above_take : (k n : ℕ) (es : List Entry) → AllAbove entry_key k es → AllAbove entry_key k (take n es)
+above_take k zero es h = tt
+above_take k (suc n) [] h = tt
+above_take k (suc n) (x ∷ xs) h = (h.0, above_take k n xs h.1)
+
+pub rises_take : (n : ℕ) (es : List Entry) → Rises entry_key es → Rises entry_key (take n es)
+rises_take zero es h = tt
+rises_take (suc n) [] h = tt
+rises_take (suc n) (x ∷ xs) h = (above_take x.number n xs h.0, rises_take n xs h.1)
+
+above_front : (k : ℕ) (es : List Entry) (e : Entry) → AllAbove entry_key k (es ++ e ∷ []) → AllAbove entry_key k es
+above_front k [] e h = tt
+above_front k (x ∷ xs) e h = (h.0, above_front k xs e h.1)
+
+rises_front : (es : List Entry) (e : Entry) → Rises entry_key (es ++ e ∷ []) → Rises entry_key es
+rises_front [] e h = tt
+rises_front (x ∷ xs) e h = (above_front x.number xs e h.0, rises_front xs e h.1)
+
+none_more : (h : Group) (es : List Entry) (e : Entry) → is_part_of h e.message ≡ false → members h (es ++ e ∷ []) ≡ members h es
+none_more h es e f =
+    members_append h es (e ∷ []) ∙ ap (λ (l : List Entry). members h es ++ l) (cond-false (is_part_of h e.message) (e ∷ []) [] f) ∙ append-nil (members h es)
+
+-- an entry that is no part
+pub takes_other : (e : Entry) (index : OpenGroups) → ((h : Group) → is_part_of h e.message ≡ false) → (es : List Entry) → Rises entry_key (es ++ e ∷ [])
+    → Indexes index es → Indexes index (es ++ e ∷ [])
+takes_other e index f es r i n = i n ∙ sym (all_stay es (es ++ e ∷ []) (rises_front es e r) r (λ h. none_more h es e (f h)) n)
+
+-- the first of the parts with one more
+record HasFirst (ms : List Entry) (e : Entry) : Type 0 where
+  x : Entry
+  xs : List Entry
+  all_is : ms ++ e ∷ [] ≡ x ∷ xs
+  number : first_entry_of (stored_parts ms) e.number ≡ x.number
+  stays : (y : Entry) (ys : List Entry) → ms ≡ y ∷ ys → y.number ≡ x.number
+
+has_first : (ms : List Entry) (e : Entry) → HasFirst ms e
+has_first [] e = record { x = e; xs = []; all_is = refl; number = refl; stays = λ y ys q. absurd cc }
+has_first (m ∷ ms) e = record { x = m; xs = ms ++ e ∷ []; all_is = refl; number = refl; stays = λ y ys q. let same : m ≡ y = cc in ap (λ (z : Entry). z.number) (sym same) }
+
+-- a part: its group stands with one part more
+pub takes_part : (e : Entry) (g : Group) (k : ℕ) (t : List ℕ) (parts : List StoredPart) (first : ℕ) (there : OpenGroup) (i j : OpenGroups) → e.message ≡ Part g k t
+    → parts ≡ parts_of (find_open g i.by_first_part.entries) → IsUnique nat_eq i.by_first_part
+    → first ≡ first_entry_of parts e.number → there ≡ with_one_more g parts (record { entry = e.number; number = k })
+    → ((n : ℕ) → under j n ≡ cond (nat_eq first n) (Some there) (under i n))
+    → (es : List Entry) → Rises entry_key (es ++ e ∷ []) → Indexes i es → Indexes j (es ++ e ∷ [])
+takes_part e g k t parts first there i j m p u q o h es r index n =
+    let before = rises_front es e r in
+    let are : parts ≡ stored_parts (members g es) = p ∙ parts_are g i es before index u in
+    let f = has_first (members g es) e in
+    let first_is : first ≡ f.x.number = q ∙ ap (λ (l : List StoredPart). first_entry_of l e.number) are ∙ f.number in
+    let part : stored_part e ≡ record { entry = e.number; number = k } = ap (λ (z : Message). let s : StoredPart = record { entry = e.number; number = part_number z } in s) m in
+    let all : stored_parts (f.x ∷ f.xs) ≡ parts ++ record { entry = e.number; number = k } ∷ [] =
+    ap (λ (l : List Entry). stored_parts l) (sym f.all_is) ∙ stored_more (members g es) e
+    ∙ ap (λ (l : List StoredPart). l ++ stored_part e ∷ []) (sym are) ∙ ap (λ (s : StoredPart). parts ++ s ∷ []) part in
+    let there_is : there ≡ open_group g (f.x ∷ f.xs) = o ∙ ap (λ (l : List StoredPart). let z : OpenGroup = record { group = g; parts = l } in z) (sym all) in
+    let own : members g (es ++ e ∷ []) ≡ f.x ∷ f.xs =
+    members_append g es (e ∷ []) ∙ ap (λ (l : List Entry). members g es ++ l)
+    (cond-true (is_part_of g e.message) (e ∷ []) [] (ap (λ (z : Message). is_part_of g z) m ∙ one_group g)) ∙ f.all_is in
+    h n ∙ ap (λ (a : ℕ). cond (nat_eq a n) (Some there) (under i n)) first_is
+    ∙ ap (λ (z : OpenGroup). cond (nat_eq f.x.number n) (Some z) (under i n)) there_is
+    ∙ ap (λ (z : Option OpenGroup). cond (nat_eq f.x.number n) (Some (open_group g (f.x ∷ f.xs))) z) (index n)
+    ∙ sym (one_opens g f.x f.xs es (es ++ e ∷ []) before r
+    (λ b ne. none_more b es e (ap (λ (z : Message). is_part_of b z) m ∙ other_group g b ne)) own f.stays n)

@@ -1,5 +1,5 @@
 -- Parts that stand as their entries.
-use Rattle.std.proofs.Common.{◌≡◌, ◌⊎◌, ℕ, ◌+◌, ◌<◌, ◌≤◌, arith, List, [], ◌∷◌, ◌++◌, length, Bool, true, false, cond, Option, Some, None, refl, sym, ◌∙◌, ap, subst, inl, inr, ⊎_elim}
+use Rattle.std.proofs.Common.{◌≡◌, ◌⊎◌, ℕ, suc, ◌+◌, ◌<◌, ◌≤◌, arith, List, [], ◌∷◌, ◌++◌, length, Bool, true, false, cond, Option, Some, None, Result, Ok, Err, OnOk, refl, sym, ◌∙◌, ap, subst, inl, inr, ⊎_elim}
 use Rattle.std.specs.Prelude.{◌==◌, if◌then◌else◌}
 use Rattle.std.specs.List.{AllByRecursion}
 use Rattle.std.proofs.lemmas.Bool.{cases_Bool}
@@ -14,7 +14,14 @@ use Rattle.sms_handset.specs.Draft.{Draft, put_entry, remove_entry}
 use Rattle.sms_handset.specs.Groups.{alone, drop_all, first_number, free_all, is_among, members, part_number, part_numbers, part_with}
 use Rattle.sms_handset.specs.Keys.{entry_key}
 use Rattle.sms_handset.specs.OpenGroups.{AreFound, IsFoundAs, entries_of, found_then, open_at, stored_part, stored_parts}
+use Rattle.sms_handset.specs.OpenIndex.{first_entry_of}
+use Rattle.sms_handset.specs.StoredParts.{drop_parts, entry_with, free_found, free_parts, numbers_of}
 use Rattle.sms_handset.proofs.Indexing.{is_first, members_among}
+
+-- what is known where it is done leads to more
+pub done : {X E : Type 0} (r : Result X E) (P Q : Type 0) → (P → Q) → OnOk r P → OnOk r Q
+done (Ok x) P Q f h = f h
+done (Err e) P Q f h = tt
 
 -- ---- the parts of a group are found
 
@@ -48,10 +55,6 @@ stored_again [] es h = refl
 stored_again (p ∷ ps) es h =
     next_stored p (row_at entry_key p.entry es) (entries_of ps es) h.0 ∙ ap (λ (l : List StoredPart). p ∷ l) (stored_again ps es h.1)
 
-abbrev pub numbers_of : List StoredPart → List ℕ
-numbers_of [] = []
-numbers_of (p ∷ ps) = p.number ∷ numbers_of ps
-
 numbers_stored : (es : List Entry) → numbers_of (stored_parts es) ≡ part_numbers es
 numbers_stored [] = refl
 numbers_stored (e ∷ es) = ap (λ (l : List ℕ). part_number e.message ∷ l) (numbers_stored es)
@@ -66,30 +69,27 @@ length_stored (e ∷ es) = ap suc (length_stored es)
 pub length_is : (ps : List StoredPart) (es : List Entry) → AreFound ps es → length ps ≡ length (entries_of ps es)
 length_is ps es h = ap (λ (l : List StoredPart). length l) (sym (stored_again ps es h)) ∙ length_stored (entries_of ps es)
 
--- the entry of the part of that number
-abbrev pub found_with : ℕ → List StoredPart → List Entry → Option Entry
-found_with n [] es = None
-found_with n (p ∷ ps) es = if p.number == n then row_at entry_key p.entry es else found_with n ps es
-
 with_next : (n : ℕ) (p : StoredPart) (o : Option Entry) (rest : List Entry) → IsFoundAs p o → part_with n (found_then o rest) ≡ cond (p.number == n) o (part_with n rest)
 with_next n p None rest h = absurd h
 with_next n p (Some e) rest h = ap (λ (q : StoredPart). cond (q.number == n) (Some e) (part_with n rest)) h
 
-pub with_is : (n : ℕ) (ps : List StoredPart) (es : List Entry) → AreFound ps es → found_with n ps es ≡ part_with n (entries_of ps es)
+-- the entry of that number, if there is a number
+abbrev pub row_of : Option ℕ → List Entry → Option Entry
+row_of None es = None
+row_of (Some k) es = row_at entry_key k es
+
+row_next : (b : Bool) (k : ℕ) (o : Option ℕ) (es : List Entry) → row_of (cond b (Some k) o) es ≡ cond b (row_at entry_key k es) (row_of o es)
+row_next true k o es = refl
+row_next false k o es = refl
+
+pub with_is : (n : ℕ) (ps : List StoredPart) (es : List Entry) → AreFound ps es → row_of (entry_with n ps) es ≡ part_with n (entries_of ps es)
 with_is n [] es h = refl
 with_is n (p ∷ ps) es h =
-    ap (λ (o : Option Entry). cond (p.number == n) (row_at entry_key p.entry es) o) (with_is n ps es h.1)
+    row_next (p.number == n) p.entry (entry_with n ps) es
+    ∙ ap (λ (o : Option Entry). cond (p.number == n) (row_at entry_key p.entry es) o) (with_is n ps es h.1)
     ∙ sym (with_next n p (row_at entry_key p.entry es) (entries_of ps es) h.0)
 
-first_next : (p : StoredPart) (o : Option Entry) (rest : List Entry) → IsFoundAs p o → p.entry ≡ first_number (found_then o rest)
-first_next p None rest h = absurd h
-first_next p (Some e) rest h = ap (λ (q : StoredPart). q.entry) (sym h)
-
 -- ---- moves over parts
-
-abbrev pub drop_parts : List StoredPart → Draft → Draft
-drop_parts [] d = d
-drop_parts (p ∷ ps) d = drop_parts ps (remove_entry p.entry d)
 
 dropped_stored : (es : List Entry) (d : Draft) → drop_parts (stored_parts es) d ≡ drop_all es d
 dropped_stored [] d = refl
@@ -101,14 +101,6 @@ drops ps es d h = ap (λ (l : List StoredPart). drop_parts l d) (sym (stored_aga
 pub drop_more : (xs ys : List Entry) (d : Draft) → drop_all ys (drop_all xs d) ≡ drop_all (xs ++ ys) d
 drop_more [] ys d = refl
 drop_more (x ∷ xs) ys d = drop_more xs ys (remove_entry x.number d)
-
-abbrev pub free_found : Option Entry → Draft → Draft
-free_found None d = d
-free_found (Some e) d = put_entry (alone e) d
-
-abbrev pub free_parts : List StoredPart → List Entry → Draft → Draft
-free_parts [] es d = d
-free_parts (p ∷ ps) es d = free_parts ps es (free_found (row_at entry_key p.entry es) d)
 
 free_next : (o : Option Entry) (rest : List Entry) (d : Draft) → free_all rest (free_found o d) ≡ free_all (found_then o rest) d
 free_next None rest d = refl
@@ -139,3 +131,12 @@ stored_append (x ∷ xs) ys = ap (λ (l : List StoredPart). stored_part x ∷ l)
 
 pub stored_more : (xs : List Entry) (e : Entry) → stored_parts (xs ++ e ∷ []) ≡ stored_parts xs ++ stored_part e ∷ []
 stored_more xs e = stored_append xs (e ∷ [])
+
+-- the number of the first entry
+pub first_is : (ps : List StoredPart) (es : List Entry) (n : ℕ) (e : Entry) → AreFound ps es → e.number ≡ n → first_entry_of ps n ≡ first_number (entries_of ps es ++ e ∷ [])
+first_is [] es n e h q = sym q
+first_is (p ∷ ps) es n e h q = first_more p (row_at entry_key p.entry es) (entries_of ps es) e h.0
+  where
+    first_more : (p : StoredPart) (o : Option Entry) (rest : List Entry) (e : Entry) → IsFoundAs p o → p.entry ≡ first_number (found_then o rest ++ e ∷ [])
+    first_more p None rest e h = absurd h
+    first_more p (Some x) rest e h = ap (λ (q : StoredPart). q.entry) (sym h)

@@ -2,6 +2,7 @@ pub mod Keys
 pub mod Draft
 pub mod Groups
 pub mod OpenGroups
+pub mod StoredParts
 pub mod OpenIndex
 pub mod Standing
 pub mod GroupChanges

@@ -3,8 +3,6 @@ use Rattle.std.specs.Prelude.{◌≡◌, ℕ, ◌+◌, nat_eq, List, [], ◌∷�
 use Rattle.indexmap.specs.IndexMap.{get, index_map_len, spare}
 use Rattle.sms_handset.specs.declared.entry.Entry.{Entry}
 use Rattle.sms_handset.specs.declared.entry.Group.{Group}
-use Rattle.sms_handset.specs.declared.entry.Message.{Message}
-use Rattle.sms_handset.specs.declared.entry.Message.TheVariants.{Single, Part, Joined}
 use Rattle.sms_handset.specs.declared.open_group.OpenGroup.{OpenGroup}
 use Rattle.sms_handset.specs.declared.open_group.Regrouping.{Regrouping}
 use Rattle.sms_handset.specs.declared.open_group.Regrouping.TheVariants.{Unchanged, Opened, Closed}
@@ -46,25 +44,11 @@ opening Unchanged = 0
 opening (Opened first group) = 1
 opening (Closed first) = 0
 
--- ---- one entry more
-
-abbrev pub first_entry_of : List StoredPart → ℕ → ℕ
-first_entry_of [] n = n
-first_entry_of (p ∷ ps) n = p.entry
-
 -- the open group of the parts, with one more
 abbrev pub with_one_more : Group → List StoredPart → StoredPart → OpenGroup
 with_one_more g parts part = record { group = g; parts = parts ++ part ∷ [] }
 
--- what an entry that stands behind all others changes
-abbrev pub taking_part : Group → List StoredPart → StoredPart → Regrouping
-taking_part g parts part = Opened (first_entry_of (parts ++ part ∷ []) part.entry) (with_one_more g parts part)
-
-abbrev pub taking_message : ℕ → Message → OpenGroups → Regrouping
-taking_message n (Single tpdu) index = Unchanged
-taking_message n (Part group number tpdu) index =
-    taking_part group (parts_of (find_open group index.by_first_part.entries)) (record { entry = n; number = number })
-taking_message n (Joined source content) index = Unchanged
-
-abbrev pub taking : Entry → OpenGroups → Regrouping
-taking e index = taking_message e.number e.message index
+-- the entry of the first part, or that one where there is none
+abbrev pub first_entry_of : List StoredPart → ℕ → ℕ
+first_entry_of [] n = n
+first_entry_of (p ∷ ps) n = p.entry

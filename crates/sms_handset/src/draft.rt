@@ -173,7 +173,7 @@ impl<'a> Draft<'a> {
     /// Its stored parts.
     pub(crate) fn members_in(&self, there: &'a OpenGroup) -> Members<'a>
         requires untouched { self.now.changes ≡ no_changes }
-        requires parts { there.entry.now.parts ≡ stored_parts (members_of there.entry.now.group self.now.rows.entries) }
+        requires parts { there.now.parts ≡ stored_parts (members_of there.now.group self.now.rows.entries) }
         ensures { result ≡ members_of there.entry.now.group self.now.rows.entries }
     {
         Members::in_group(&self.base.entries, there)

@@ -77,7 +77,7 @@ pub(crate) fn key_of(header_indicator: bool, octets: &[u8]) -> Option<ConcatKey>
 }
 
 /// Whether the group is full with one more part, as it can't be with fewer parts than its total.
-#[tactic(auto, using(crate::proofs::Numbers::lacks_number))]
+#[tactic(auto, using(crate::proofs::Numbers::lacks_number, crate::proofs::FewNumbers::too_few))]
 pub(crate) fn is_full(total: u8, members: &Members<'_>, part: &Entry) -> bool
     ensures { result ≡ all_numbers total (part_numbers (members.now ++ part.now ∷ [])) }
 {

@@ -240,7 +240,7 @@ impl Handset {
 
     // The draft's outcome, with memory for the rows that come.
     fn planned(&self, draft: Draft<'_>, regrouping: Regrouping) -> Result<Planned, NoMemory>
-        requires { Regroups regrouping self.now.core.rows (rows_after draft.entry.changes self.now.core.rows) }
+        requires { Regroups regrouping self.now.core.rows (rows_after draft.changes self.now.core.rows) }
         ensures { IfOk result (IsPlanOf draft.entry self.now) }
     {
         let spares = self.spares(&draft.changes, &regrouping)?;

@@ -1,10 +1,11 @@
 //! The index of open groups.
-ghost use Rattle.std.specs.Prelude.{◌≡◌, ◌+◌, ◌≤◌, ◌++◌, ◌∷◌, ℕ, [], max, nat_eq, None, Some, IfOk, OnOk, option_copied};
+ghost use Rattle.std.specs.Prelude.{◌≡◌, ◌+◌, ◌≤◌, ◌++◌, ◌∷◌, ℕ, List, [], max, nat_eq, None, Some, IfOk, OnOk, option_copied};
 ghost use Rattle.indexmap.specs.IndexMap.{IsUnique, index_map_len, spare};
 ghost use Rattle.sms_base.specs.Table.{Rises};
+ghost use Rattle.sms_handset.specs.declared.entry.Entry.{Entry as EntryOf};
 ghost use Rattle.sms_handset.specs.Keys.{entry_key};
 ghost use Rattle.sms_handset.specs.OpenGroups.{regrouped};
-ghost use Rattle.sms_handset.specs.OpenIndex.{Indexes, find_open, first_entry_of, opening, parts_of, room_for, taken, taking, under, with_one_more};
+ghost use Rattle.sms_handset.specs.OpenIndex.{Indexes, find_open, first_entry_of, opening, parts_of, room_for, taken, under, with_one_more};
 
 use crate::entry::{Entry, Group, Message};
 use crate::groups::is_same_group;
@@ -55,15 +56,16 @@ impl OpenGroups {
 
     // One more entry stands behind all others.
     fn take(&mut self, alloc: Global, entry: &Entry) -> Result<(), NoMemory>
-        ensures { OnOk result ((n : ℕ) → under self.new n ≡ regrouped (taking entry.now self.old) n (under self.old n)) }
+        ensures { OnOk result ((before : List EntryOf) → Rises entry_key (before ++ entry.now ∷ []) → Indexes self.old before → Indexes self.new (before ++ entry.now ∷ [])) }
     {
         if let Message::Part { group, number, .. } = &entry.message {
             let part = StoredPart {
                 entry: entry.number,
                 number: *number,
             };
-            let open = with_part(alloc, group, self.parts(group), part)?;
-            let first = first_entry(open.parts.as_slice(), entry.number);
+            let parts = self.parts(group);
+            let first = first_entry(parts, entry.number);
+            let open = with_part(alloc, group, parts, part)?;
             self.by_first_part.insert(first, open)?;
         }
         Ok(())
@@ -124,6 +126,8 @@ impl OpenGroups {
         ensures room { max (room_for self.old) spare ≤ room_for self.new }
     {
         let mut map = spare.map;
+        // The call tells that no number stands twice.
+        let _len = self.by_first_part.len();
         if self.by_first_part.capacity() < map.capacity() {
             match map.append(&mut self.by_first_part) {
                 Ok(()) => self.by_first_part = map,
@@ -167,8 +171,8 @@ pub(crate) fn with_part(
     })
 }
 
-// The entry of the first part, or that number.
-fn first_entry(parts: &[StoredPart], number: u32) -> u32
+/// The entry of the first part, or that number.
+pub(crate) fn first_entry(parts: &[StoredPart], number: u32) -> u32
     ensures { result ≡ first_entry_of parts.now number }
 {
     match parts.first() {

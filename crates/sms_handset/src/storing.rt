@@ -214,6 +214,7 @@ fn part_of(entry: u32, group: &Group, number: u8, tpdu: Octets) -> Entry
 }
 
 // A group that is not full, with one more part.
+#[tactic(auto, using(crate::proofs::PartsFound::stored_more))]
 fn opened(
     alloc: Global,
     group: &Group,

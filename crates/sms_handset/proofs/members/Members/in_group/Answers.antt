@@ -1,0 +1,19 @@
+use Rattle.std.proofs.Common.{◌≡◌, ℕ, List, Option, Result, IfOk, OnOk, ◌++◌, length, refl, sym, ◌∙◌, ap, subst, arith}
+use Rattle.sms_handset.specs.declared.entry.Entry.{Entry}
+use Rattle.sms_handset.specs.Groups.{drop_all, first_number, free_all, is_among, part_numbers, part_with}
+use Rattle.sms_handset.specs.OpenGroups.{stored_parts}
+use Rattle.sms_handset.specs.declared.open_group.StoredPart.{StoredPart}
+use Rattle.sms_handset.specs.Groups.{members}
+use Rattle.sms_handset.specs.OpenGroups.{AreFound, entries_of}
+use Rattle.sms_handset.proofs.PartsFound.{members_again, members_found}
+use Rattle.sms_handset.proofs.members.Members.in_group.Goals as goal
+
+pub invariant_of-result : goal.invariant_of-result
+invariant_of-result c =
+    let rows = c.args.entries.now.rows in
+    subst (λ (ps : List StoredPart). AreFound ps rows) (sym (c.as_slice.ensures ∙ c.requires)) (members_found c.args.there.now.group rows c.as_slice-in_order.ensures.order)
+
+pub returns : goal.returns
+returns c =
+    let rows = c.args.entries.now.rows in
+    ap (λ (ps : List StoredPart). entries_of ps rows) (c.as_slice.ensures ∙ c.requires) ∙ members_again c.args.there.now.group rows c.as_slice-in_order.ensures.order

@@ -1,0 +1,9 @@
+use Rattle.std.proofs.Common.{◌≡◌, ℕ, List, Option, Result, IfOk, OnOk, ◌++◌, length, refl, sym, ◌∙◌, ap, subst, arith}
+use Rattle.sms_handset.specs.declared.entry.Entry.{Entry}
+use Rattle.sms_handset.specs.Groups.{drop_all, first_number, free_all, is_among, part_numbers, part_with}
+use Rattle.sms_handset.specs.OpenGroups.{stored_parts}
+use Rattle.sms_handset.proofs.PartsFound.{length_is}
+use Rattle.sms_handset.proofs.members.Members.len.Goals as goal
+
+pub returns : goal.returns
+returns c = length_is c.self.inside.parts.now c.self.inside.entries.now.rows c.self.invariant ∙ ap (λ (es : List Entry). length es) c.self.view_is

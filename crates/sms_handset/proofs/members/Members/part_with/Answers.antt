@@ -1,0 +1,19 @@
+use Rattle.std.proofs.Common.{◌≡◌, ℕ, List, Option, Result, IfOk, OnOk, ◌++◌, length, refl, sym, ◌∙◌, ap, subst, arith}
+use Rattle.sms_handset.specs.declared.entry.Entry.{Entry}
+use Rattle.sms_handset.specs.Groups.{drop_all, first_number, free_all, is_among, part_numbers, part_with}
+use Rattle.sms_handset.specs.OpenGroups.{stored_parts}
+use Rattle.sms_handset.specs.StoredParts.{entry_with}
+use Rattle.sms_handset.proofs.PartsFound.{row_of, with_is}
+use Rattle.sms_handset.proofs.members.Members.part_with.Goals as goal
+
+pub returns-in-Some : goal.returns-in-Some
+returns-in-Some c =
+    let rows = c.self.inside.entries.now.rows in
+    c.find.ensures ∙ ap (λ (o : Option ℕ). row_of o rows) (sym c.in-Some.is ∙ c.entry_with.ensures)
+    ∙ with_is c.args.number c.self.inside.parts.now rows c.self.invariant ∙ ap (λ (es : List Entry). part_with c.args.number es) c.self.view_is
+
+pub returns-in-None : goal.returns-in-None
+returns-in-None c =
+    let rows = c.self.inside.entries.now.rows in
+    ap (λ (o : Option ℕ). row_of o rows) (sym c.in-None.is ∙ c.entry_with.ensures)
+    ∙ with_is c.args.number c.self.inside.parts.now rows c.self.invariant ∙ ap (λ (es : List Entry). part_with c.args.number es) c.self.view_is
