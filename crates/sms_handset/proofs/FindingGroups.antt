@@ -1,9 +1,10 @@
 -- Groups in the index.
-use Rattle.std.proofs.Common.{◌≡◌, ◌⊎◌, ℕ, zero, suc, ◌+◌, take, List, [], ◌∷◌, ◌++◌, append-nil, append_assoc, Bool, true, false, cond, nat_eq, Option, Some, None, refl, sym, ◌∙◌, ap, subst, inl, inr, ⊎_elim, eq-eqb, eqb-true, true≢false}
+use Rattle.std.proofs.Common.{◌≡◌, ◌⊎◌, ℕ, zero, suc, ◌+◌, ◌<◌, take, length, get_or, List, [], ◌∷◌, ◌++◌, append-nil, append_assoc, Bool, true, false, cond, nat_eq, Option, Some, None, refl, sym, ◌∙◌, ap, subst, inl, inr, ⊎_elim, eq-eqb, eqb-true, true≢false}
 use Rattle.std.specs.Prelude.{if◌then◌else◌}
 use Rattle.std.specs.List.{AllByRecursion, IsDistinct}
 use Rattle.std.specs.Cmp.{nat_eq_equiv}
 use Rattle.std.specs.Map.{keys_of, lookup}
+use Rattle.std.proofs.lemmas.List.{take_more}
 use Rattle.std.proofs.lemmas.Bool.{cases_Bool, cases_eq, cond-true, cond-false, ne_eqb}
 use Rattle.indexmap.specs.IndexMap.{IsUnique, insert_all, insert_entry}
 use Rattle.indexmap.proofs.MapLemmas.{absent_before, absent_from_lookup, insert_entry-absent}
@@ -177,3 +178,17 @@ takes_part e g k t parts first there i j m p u q o h es r index n =
     ∙ ap (λ (z : Option OpenGroup). cond (nat_eq f.x.number n) (Some (open_group g (f.x ∷ f.xs))) z) (index n)
     ∙ sym (one_opens g f.x f.xs es (es ++ e ∷ []) before r
     (λ b ne. none_more b es e (ap (λ (z : Message). is_part_of b z) m ∙ other_group g b ne)) own f.stays n)
+
+pub no_part : (h : Group) (m : Message) → ((g : Group) (k : ℕ) (t : List ℕ) → m ≡ Part g k t → ⊥) → is_part_of h m ≡ false
+no_part h (Single tpdu) n = refl
+no_part h (Part g k t) n = absurd (n g k t refl)
+no_part h (Joined source content) n = refl
+
+-- the entries up to the next
+pub takes_next : (i : ℕ) (es : List Entry) (e : Entry) (old new : OpenGroups) → i < length es → e ≡ get_or es i e → Rises entry_key es
+    → ((before : List Entry) → Rises entry_key (before ++ e ∷ []) → Indexes old before → Indexes new (before ++ e ∷ []))
+    → Indexes old (take i es) → Indexes new (take (i + 1) es)
+takes_next i es e old new l q r h index =
+    let more : take (i + 1) es ≡ take i es ++ e ∷ [] = take_more es i e l ∙ ap (λ (x : Entry). take i es ++ x ∷ []) (sym q) in
+    subst (λ (xs : List Entry). Indexes new xs) (sym more)
+    (h (take i es) (subst (λ (xs : List Entry). Rises entry_key xs) more (rises_take (i + 1) es r)) index)

@@ -58,6 +58,7 @@ use Rattle.sms_handset.specs.Outbox.{conclude, entry_concluded, follow, holder_c
 use Rattle.sms_handset.specs.OwnersActs.{content_of_text, count_split, delete, delete_in, delete_out, discard, discard_at, discard_group, discard_in, discard_members, fits_outbox, is_open_part, write, write_part, write_parts, write_split, write_to, written}
 use Rattle.sms_handset.specs.Planning.{Rests, RestsIfDone}
 use Rattle.sms_handset.specs.Receiving.{accept, acknowledge, data_came, deliver_came, is_double, member_came, new_part_came, no_room, note, part_came, reported, single_came, tpdu_came, unit_came}
+use Rattle.sms_handset.specs.SoundRows.{AreEntries, IsSound}
 use Rattle.sms_handset.specs.References.{is_unfinished}
 use Rattle.sms_handset.proofs.Accepting.{Kept, follow_kept}
 use Rattle.sms_handset.proofs.Resting.{frame_rests, tick_rests, write_rests, delete_rests, discard_rests}
@@ -105,6 +106,13 @@ put_last x es h = ap (λ (l : List Entry). insert entry_key x l) (no_number x.nu
     last : (x : Entry) (es : List Entry) → Below x.number es → insert entry_key x es ≡ es ++ x ∷ []
     last x [] h = refl
     last x (y ∷ ys) h = insert_behind entry_key x y ys (let l : y.number ≤ x.number = omega (arith, h.0) in l) ∙ ap (λ (l : List Entry). y ∷ l) (last x ys h.1)
+
+given_below : (k : ℕ) (es : List Entry) → AreEntries k es → Below k es
+given_below k [] h = tt
+given_below k (x ∷ xs) h = (h.0.0.1, given_below k xs h.1)
+
+pub sound_numbers : (rows : Rows) → IsSound rows → Numbered rows
+sound_numbers rows h = given_below rows.counters.entry rows.entries h.entries
 
 -- ---- entries that leave, or become entries of their own
 
@@ -570,11 +578,26 @@ frame_plans octets tag c = planned_by (frame_groups (take_step octets c.links) (
 pub tick_plans : (now : ℕ) (c : Core) → Regroups Unchanged c.rows (rows_after (ticked now c).changes c.rows)
 tick_plans now c = planned_by Unchanged c.rows (ticked now c) (tick_rests now c) (tick_regroups now c)
 
-pub write_plans : (text to : List ℕ) (report : Bool) (c : Core) (d : Draft) → wrote text to report c ≡ Ok d → Regroups Unchanged c.rows (rows_after d.changes c.rows)
+write_plans : (text to : List ℕ) (report : Bool) (c : Core) (d : Draft) → wrote text to report c ≡ Ok d → Regroups Unchanged c.rows (rows_after d.changes c.rows)
 write_plans text to report c d e = done_by Unchanged c.rows (wrote text to report c) d e (write_rests text to report c) (write_regroups text to report c)
 
-pub delete_plans : (n : ℕ) (c : Core) (d : Draft) → deleted n c ≡ Ok d → Regroups Unchanged c.rows (rows_after d.changes c.rows)
+delete_plans : (n : ℕ) (c : Core) (d : Draft) → deleted n c ≡ Ok d → Regroups Unchanged c.rows (rows_after d.changes c.rows)
 delete_plans n c d e = done_by Unchanged c.rows (deleted n c) d e (delete_rests n c) (delete_regroups n c)
 
-pub discard_plans : (n : ℕ) (c : Core) (d : Draft) → discarded n c ≡ Ok d → Regroups (Closed n) c.rows (rows_after d.changes c.rows)
+discard_plans : (n : ℕ) (c : Core) (d : Draft) → discarded n c ≡ Ok d → Regroups (Closed n) c.rows (rows_after d.changes c.rows)
 discard_plans n c d e = done_by (Closed n) c.rows (discarded n c) d e (discard_rests n c) (discard_regroups n c)
+
+-- the same of an act that was done on a draft of the handset, and of what follows
+
+follows : (w : Result Draft Refusal) (d e : Draft) → w ≡ Ok d → e ≡ follow d → acted w ≡ Ok e
+follows w d e q f = ap (λ (r : Result Draft Refusal). acted r) q ∙ ap (λ (z : Draft). let r : Result Draft Refusal = Ok z in r) (sym f)
+
+pub write_then : (text to : List ℕ) (report : Bool) (c : Core) (o d e : Draft) → o ≡ draft_of c → write text to report o ≡ Ok d → e ≡ follow d → Regroups Unchanged c.rows (rows_after e.changes c.rows)
+write_then text to report c o d e p q f =
+    write_plans text to report c e (follows (write text to report (draft_of c)) d e (ap (λ (z : Draft). write text to report z) (sym p) ∙ q) f)
+
+pub delete_then : (n : ℕ) (c : Core) (o d e : Draft) → o ≡ draft_of c → delete n o ≡ Ok d → e ≡ follow d → Regroups Unchanged c.rows (rows_after e.changes c.rows)
+delete_then n c o d e p q f = delete_plans n c e (follows (delete n (draft_of c)) d e (ap (λ (z : Draft). delete n z) (sym p) ∙ q) f)
+
+pub discard_then : (n : ℕ) (c : Core) (o d e : Draft) → o ≡ draft_of c → discard n o ≡ Ok d → e ≡ follow d → Regroups (Closed n) c.rows (rows_after e.changes c.rows)
+discard_then n c o d e p q f = discard_plans n c e (follows (discard n (draft_of c)) d e (ap (λ (z : Draft). discard n z) (sym p) ∙ q) f)

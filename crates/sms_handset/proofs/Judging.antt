@@ -1,5 +1,5 @@
 -- Acts of the owner that are not refused.
-use Rattle.std.proofs.Common.{◌≡◌, ◌⊎◌, ℕ, ◌<◌, ◌≤◌, true, false, true≢false, is_some, ⊎_elim, List, Option, Some, None, Result, Ok, Err, length, refl, sym, ◌∙◌, ap, cond, eq-eqb}
+use Rattle.std.proofs.Common.{◌≡◌, ◌⊎◌, ℕ, ◌<◌, ◌≤◌, true, false, true≢false, is_some, option_copied, Bor, ⊎_elim, List, Option, Some, None, Result, Ok, Err, length, refl, sym, ◌∙◌, ap, cond, eq-eqb}
 use Rattle.std.specs.Prelude.{nat_lt, ◌==◌}
 use Rattle.std.proofs.lemmas.Bool.{cases_eq, cond-true, cond-false, le-ltb, lt-ltb, ne_eqb}
 use Rattle.sms_handset.specs.declared.entry.Entry.{Entry}
@@ -113,3 +113,7 @@ discards_none_more n (Some o) d s i l = discards_too_many n o d s l
 pub discards_nothing : (n : ℕ) (r : Option OpenGroup) (d : Draft) → open_at n d.rows.entries ≡ r → is_some r ≡ false → discard n d ≡ Err NoEntry
 discards_nothing n None d s i = discards_none n d s
 discards_nothing n (Some o) d s i = absurd (true≢false i)
+
+pub copied_some : {A : Type 0} (r : Option (Bor A)) → is_some (option_copied r) ≡ is_some r
+copied_some None = refl
+copied_some (Some x) = refl

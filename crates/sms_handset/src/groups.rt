@@ -76,17 +76,24 @@ pub(crate) fn key_of(header_indicator: bool, octets: &[u8]) -> Option<ConcatKey>
     }
 }
 
-/// Whether the group is full with one more part, as it can't be with fewer parts than its total.
+// Whether the part of that number is there, with one more part.
+#[tactic(auto, using(crate::proofs::Numbers::among_more))]
+fn has_number(members: &Members<'_>, part: &Entry, number: u8) -> bool
+    ensures { result ≡ is_among_of number (part_numbers (members.now ++ part.now ∷ [])) }
+{
+    members.has(number) || number_of(&part.message) == number
+}
+
+/// Whether the group is full with one more part, as it can't be where more than that is missing.
 #[tactic(auto, using(crate::proofs::Numbers::lacks_number, crate::proofs::FewNumbers::too_few))]
 pub(crate) fn is_full(total: u8, members: &Members<'_>, part: &Entry) -> bool
     ensures { result ≡ all_numbers total (part_numbers (members.now ++ part.now ∷ [])) }
 {
-    if members.len() + 1 < usize::from(total) {
+    if usize::from(total).saturating_sub(members.len()) > 1 {
         return false;
     }
-    let number = number_of(&part.message);
     for below in 0..total {
-        if below + 1 != number && !members.has(below + 1) {
+        if !has_number(members, part, below + 1) {
             return false;
         }
     }

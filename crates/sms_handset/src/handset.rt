@@ -74,6 +74,7 @@ impl Model for Handset {
 
 impl Handset {
     /// The handset that starts with these rows. It takes memory for the index of the open groups alone.
+    #[tactic(auto, using(crate::proofs::GroupStages::sound_numbers))]
     pub fn recover(alloc: Global, rows: Rows) -> Result<Handset, NoMemory>
         requires { IsSound rows }
         ensures { IfOk result (λ handset. handset.core ≡ recovered rows) }
@@ -243,6 +244,8 @@ impl Handset {
         requires { Regroups regrouping self.now.core.rows (rows_after draft.changes self.now.core.rows) }
         ensures { IfOk result (IsPlanOf draft.entry self.now) }
     {
+        // The call tells that the entries stand in order.
+        let _in_order = self.stored.entries.as_slice();
         let spares = self.spares(&draft.changes, &regrouping)?;
         Ok(Planned {
             changes: draft.changes,
@@ -281,6 +284,7 @@ impl Handset {
         })
     }
 
+    #[tactic(auto, using(crate::proofs::GroupStages::frame_plans))]
     fn plan_frame(&self, octets: &[u8], tag: Holder) -> Result<Planned, PlanError>
         ensures plan { Plans result self.now (Ok (frame_came_of octets.now tag self.now.core)) }
         ensures fits { IfOk result (λ planned. Fits planned self.now) }
@@ -291,6 +295,7 @@ impl Handset {
         Ok(self.planned(draft, regrouping)?)
     }
 
+    #[tactic(auto, using(crate::proofs::GroupStages::tick_plans))]
     fn plan_tick(&self, now: Moment) -> Result<Planned, PlanError>
         ensures plan { Plans result self.now (Ok (ticked_of now self.now.core)) }
         ensures fits { IfOk result (λ planned. Fits planned self.now) }

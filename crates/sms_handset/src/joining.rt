@@ -17,10 +17,13 @@ use std::alloc::Global;
 fn part_with<'e>(members: &Members<'e>, part: &'e Entry, number: u8) -> Option<&'e Entry>
     ensures { option_copied result ≡ part_with_of number (members.now ++ part.now ∷ []) }
 {
-    match members.part_with(number) {
-        Some(entry) => Some(entry),
-        None if number_of(&part.message) == number => Some(part),
-        None => None,
+    if let Some(entry) = members.part_with(number) {
+        return Some(entry);
+    }
+    if number_of(&part.message) == number {
+        Some(part)
+    } else {
+        None
     }
 }
 

@@ -1,0 +1,15 @@
+use Rattle.std.proofs.Common.{◌≡◌, ◌<◌, List, sym, ◌∙◌, ap, subst}
+use Rattle.std.specs.List.{AllByRecursion}
+use Rattle.sms_base.specs.Table.{Kept}
+use Rattle.sms_handset.specs.declared.entry.Entry.{Entry}
+use Rattle.sms_handset.specs.OpenIndex.{Indexes}
+use Rattle.sms_handset.proofs.handset.Handset.standing_on.Goals as goal
+
+pub invariant_of-result : goal.invariant_of-result
+invariant_of-result c =
+    let rows : c.from_vec-entries.result.rows ≡ c.args.rows.entries = ap (λ (t : Kept Entry). t.rows) c.from_vec-entries.ensures ∙ c.into_vec.ensures in
+    record {
+      centre = c.requires.centre;
+      index = subst (λ (es : List Entry). Indexes c.in_ok-groups.groups es) (c.as_slice.ensures ∙ sym rows) c.in_ok-groups.ensures;
+      numbers = subst (λ (es : List Entry). AllByRecursion (λ (e : Entry). e.number < c.args.rows.counters.entry) es) (sym rows) c.requires.numbers;
+    }

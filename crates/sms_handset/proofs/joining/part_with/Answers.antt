@@ -1,0 +1,21 @@
+use Rattle.std.proofs.Common.{◌≡◌, ℕ, Some, None, sym, ◌∙◌, ap, eq-eqb, ne_eqb}
+use Rattle.std.specs.Prelude.{◌==◌}
+use Rattle.std.proofs.lemmas.Bool.{cond-true, cond-false}
+use Rattle.sms_handset.specs.Groups.{part_number}
+use Rattle.sms_handset.proofs.Numbers.{with_last, with_there}
+use Rattle.sms_handset.proofs.joining.part_with.Goals as goal
+
+pub returns-in-Some : goal.returns-in-Some
+returns-in-Some c = sym (with_there c.args.number c.args.members.now c.args.part.now c.in-Some.entry.now (sym c.in-Some.ensures))
+
+pub returns-then-number_of-number : goal.returns-then-number_of-number
+returns-then-number_of-number c =
+    let n = part_number c.args.part.now.message in
+    sym (with_last c.args.number c.args.members.now c.args.part.now (sym c.in_default.ensures)
+    ∙ cond-true (n == c.args.number) (Some c.args.part.now) None (eq-eqb n c.args.number (sym c.number_of.ensures ∙ c.if-number_of-number.true)))
+
+pub returns-else-number_of-number : goal.returns-else-number_of-number
+returns-else-number_of-number c =
+    let n = part_number c.args.part.now.message in
+    sym (with_last c.args.number c.args.members.now c.args.part.now (sym c.in_default.ensures)
+    ∙ cond-false (n == c.args.number) (Some c.args.part.now) None (ne_eqb n c.args.number (λ e. c.if-number_of-number.false (c.number_of.ensures ∙ e))))
