@@ -1,5 +1,7 @@
 //! A handset and the plain one beside it: each event happens to both, and they must do and hold the same.
-ghost use Rattle.std.specs.Prelude.{◌<◌};
+ghost use Rattle.std.specs.Prelude.{◌≡◌, ◌<◌, true};
+ghost use Rattle.std.specs.List.{AllByRecursion};
+ghost use Rattle.sms_handset.specs.declared.entry.Entry.{Entry as EntryOf};
 
 use crate::entry::{Entry, Message};
 use crate::kept::Kept;
@@ -41,7 +43,7 @@ fn handset(alloc: Global, slots: u8) -> Result<Handset, Fail>
             start: Moment::from_seconds(T0)?,
         },
     };
-    Ok(Handset::recover(alloc, rows))
+    Ok(Handset::recover(alloc, rows)?)
 }
 
 /// A handset, the plain one, and how many events came.
@@ -83,10 +85,11 @@ impl Pair {
             || !rises(rows.last.as_slice())
             || !rises(rows.outbox.as_slice())
             || !rises(rows.marks.as_slice())
+            || !has_numbers_below(rows.entries.as_slice(), rows.counters.entry)
         {
-            return Err(Fail::new(format_args!("event {}: rows out of order", self.events)));
+            return Err(Fail::new(format_args!("event {}: rows out of order, or a number not given", self.events)));
         }
-        self.handset = Handset::standing_on(self.alloc, rows);
+        self.handset = Handset::standing_on(self.alloc, rows)?;
         self.plain.restart();
         self.compare_rows()
     }
@@ -248,6 +251,18 @@ impl Pair {
         }
         true
     }
+}
+
+// Whether each entry has a number below that one.
+fn has_numbers_below(entries: &[Entry], next: u32) -> bool
+    ensures { result ≡ true → AllByRecursion (λ (e : EntryOf). e.number < next) entries.now }
+{
+    for entry in entries {
+        if entry.number >= next {
+            return false;
+        }
+    }
+    true
 }
 
 fn is_same_inbox(entries: &[Entry], others: &[Entry]) -> bool {

@@ -1,7 +1,7 @@
 //! Storing messages and parts, and what becomes of a group.
 ghost use Rattle.std.specs.Prelude.{◌≡◌, ◌++◌, ◌+◌, ◌∷◌, ◌<◌, [], true, nat_lt, IfOk, OnOk, Some, None};
 ghost use Rattle.sms_handset.specs.Draft.{no_changes, put_entry as put_entry_of};
-ghost use Rattle.sms_handset.specs.Groups.{alone, completed, count_entry as count_entry_of, ended, marked as marked_of, part_entry, store_part as store_part_of, store_single as store_single_of};
+ghost use Rattle.sms_handset.specs.Groups.{alone, completed, count_entry as count_entry_of, ended, free_all, marked as marked_of, part_entry, store_part as store_part_of, store_single as store_single_of};
 ghost use Rattle.sms_handset.specs.GroupChanges.{stored_groups};
 ghost use Rattle.sms_handset.specs.OpenGroups.{grouped, open_group};
 ghost use Rattle.sms_handset.specs.MemoryAvailable.{flag as flag_of, freed as freed_of, has_room as has_room_of, slots_taken, want_notice};
@@ -117,7 +117,7 @@ impl<'a> Draft<'a> {
         }
         match joined_content(self.alloc, group, members, part)? {
             Some(content) => self.join(group, members, part, content)?,
-            None => self.part_ways(group, members, part)?,
+            None => self.part_ways(members, part)?,
         }
         Ok(Regrouping::Closed { first })
     }
@@ -145,13 +145,8 @@ impl<'a> Draft<'a> {
     }
 
     // The parts of a group become single entries.
-    fn part_ways(
-        &mut self,
-        _group: &Group,
-        members: &Members<'_>,
-        part: &Entry,
-    ) -> Result<(), NoMemory>
-        ensures { OnOk result (self.new ≡ ended _group.now (members.now ++ part.now ∷ []) None self.old) }
+    fn part_ways(&mut self, members: &Members<'_>, part: &Entry) -> Result<(), NoMemory>
+        ensures { OnOk result (self.new ≡ free_all (members.now ++ part.now ∷ []) self.old) }
     {
         self.free_members(members)?;
         self.free(part)
