@@ -47,7 +47,7 @@ use Rattle.sms_handset.specs.declared.refusal.Refusal.{Refusal}
 use Rattle.sms_handset.specs.declared.refusal.Refusal.TheVariants.{NoEntry, StillOpen, OutboxFull, TooManyDiscarded}
 use Rattle.sms_handset.specs.declared.rows.Rows.{Rows}
 use Rattle.sms_handset.specs.Answers.{verdict_of}
-use Rattle.sms_handset.specs.Draft.{Core, rows_after, Draft, draft_of, heard, put_entry, remove_entry, put_counters, put_mark, remove_mark, remove_out}
+use Rattle.sms_handset.specs.Draft.{Core, Draft, draft_of, heard, put_entry, remove_entry, put_counters, put_mark, remove_mark, remove_out}
 use Rattle.sms_handset.specs.GroupChanges.{data_groups, deliver_groups, frame_groups, member_groups, new_part_groups, part_groups, stored_groups, tpdu_groups, unit_groups, up_groups}
 use Rattle.sms_handset.specs.Groups.{all_numbers, alone, drop_all, ended, first_number, free_all, group_of, is_among, is_part_of, is_same_group, joined_content, joined_entry, keep, key_of, mark_of, marked, members, part_entry, part_numbers, single_entry, store_part, store_single}
 use Rattle.sms_handset.specs.HandsetEvent.{acted, at_moment, deleted, discarded, failed, frame_came, frame_heard, ticked, timers_fired, went_up, wrote}
@@ -61,7 +61,7 @@ use Rattle.sms_handset.specs.Receiving.{accept, acknowledge, data_came, deliver_
 use Rattle.sms_handset.specs.SoundRows.{AreEntries, IsSound}
 use Rattle.sms_handset.specs.References.{is_unfinished}
 use Rattle.sms_handset.proofs.Accepting.{Kept, follow_kept}
-use Rattle.sms_handset.proofs.Resting.{frame_rests, tick_rests, write_rests, delete_rests, discard_rests}
+use Rattle.sms_handset.proofs.Resting.{write_rests, delete_rests, discard_rests}
 use Rattle.sms_handset.proofs.Indexing.{all_stay, all_without, all_without_self, among_members, apart_groups, members_all_without, members_among, members_append, members_put, members_without, one_closes, one_group, one_opens, other_group, others_stay, same_entry, without_apart}
 
 -- ---- numbers that were given
@@ -552,52 +552,44 @@ discard_at_regroups : (n : ℕ) (o : Option Entry) (d : Draft) → row_at entry_
 discard_at_regroups n None d q = tt
 discard_at_regroups n (Some x) d q = discard_in_regroups n x x.message d refl q
 
-pub write_regroups : (text to : List ℕ) (report : Bool) (c : Core) → RegroupsIfDone Unchanged c.rows (wrote text to report c)
+write_regroups : (text to : List ℕ) (report : Bool) (c : Core) → RegroupsIfDone Unchanged c.rows (wrote text to report c)
 write_regroups text to report c =
     acted_regroups Unchanged c.rows (write text to report (draft_of c))
     (write_split_regroups to report (split_of (content_of_text text) c.rows.counters.concat_reference) (draft_of c))
 
-pub delete_regroups : (n : ℕ) (c : Core) → RegroupsIfDone Unchanged c.rows (deleted n c)
+delete_regroups : (n : ℕ) (c : Core) → RegroupsIfDone Unchanged c.rows (deleted n c)
 delete_regroups n c = acted_regroups Unchanged c.rows (delete n (draft_of c)) (delete_in_regroups n (row_at entry_key n c.rows.entries) (draft_of c) refl)
 
-pub discard_regroups : (n : ℕ) (c : Core) → RegroupsIfDone (Closed n) c.rows (discarded n c)
+discard_regroups : (n : ℕ) (c : Core) → RegroupsIfDone (Closed n) c.rows (discarded n c)
 discard_regroups n c = acted_regroups (Closed n) c.rows (discard n (draft_of c)) (discard_at_regroups n (row_at entry_key n c.rows.entries) (draft_of c) refl)
 
--- ---- the rows that a plan leads to
-
-planned_by : (r : Regrouping) (base : Rows) (d : Draft) → Rests base d → Regroups r base d.rows → Regroups r base (rows_after d.changes base)
-planned_by r base d e h = subst (λ (rows : Rows). Regroups r base rows) e h
-
-done_by : (r : Regrouping) (base : Rows) (w : Result Draft Refusal) (d : Draft) → w ≡ Ok d → RestsIfDone base w → RegroupsIfDone r base w → Regroups r base (rows_after d.changes base)
-done_by r base w d e rests h =
-    planned_by r base d (subst (λ (x : Result Draft Refusal). RestsIfDone base x) e rests) (subst (λ (x : Result Draft Refusal). RegroupsIfDone r base x) e h)
-
-pub frame_plans : (octets : List ℕ) (tag : Holder) (c : Core) → Regroups (frame_groups (take_step octets c.links) (draft_of c)) c.rows (rows_after (frame_came octets tag c).changes c.rows)
-frame_plans octets tag c = planned_by (frame_groups (take_step octets c.links) (draft_of c)) c.rows (frame_came octets tag c) (frame_rests octets tag c) (frame_regroups octets tag c)
-
-pub tick_plans : (now : ℕ) (c : Core) → Regroups Unchanged c.rows (rows_after (ticked now c).changes c.rows)
-tick_plans now c = planned_by Unchanged c.rows (ticked now c) (tick_rests now c) (tick_regroups now c)
-
-write_plans : (text to : List ℕ) (report : Bool) (c : Core) (d : Draft) → wrote text to report c ≡ Ok d → Regroups Unchanged c.rows (rows_after d.changes c.rows)
-write_plans text to report c d e = done_by Unchanged c.rows (wrote text to report c) d e (write_rests text to report c) (write_regroups text to report c)
-
-delete_plans : (n : ℕ) (c : Core) (d : Draft) → deleted n c ≡ Ok d → Regroups Unchanged c.rows (rows_after d.changes c.rows)
-delete_plans n c d e = done_by Unchanged c.rows (deleted n c) d e (delete_rests n c) (delete_regroups n c)
-
-discard_plans : (n : ℕ) (c : Core) (d : Draft) → discarded n c ≡ Ok d → Regroups (Closed n) c.rows (rows_after d.changes c.rows)
-discard_plans n c d e = done_by (Closed n) c.rows (discarded n c) d e (discard_rests n c) (discard_regroups n c)
-
--- the same of an act that was done on a draft of the handset, and of what follows
+-- ---- an act that was done on a draft of the handset, and what follows
 
 follows : (w : Result Draft Refusal) (d e : Draft) → w ≡ Ok d → e ≡ follow d → acted w ≡ Ok e
 follows w d e q f = ap (λ (r : Result Draft Refusal). acted r) q ∙ ap (λ (z : Draft). let r : Result Draft Refusal = Ok z in r) (sym f)
 
-pub write_then : (text to : List ℕ) (report : Bool) (c : Core) (o d e : Draft) → o ≡ draft_of c → write text to report o ≡ Ok d → e ≡ follow d → Regroups Unchanged c.rows (rows_after e.changes c.rows)
+-- the draft regroups as is told, and rests on the rows and its changes
+abbrev pub Leads : Regrouping → Rows → Draft → Type 0
+Leads r base d = Regroups r base d.rows × Rests base d
+
+leads : (r : Regrouping) (base : Rows) (w : Result Draft Refusal) (d : Draft) → w ≡ Ok d → RegroupsIfDone r base w → RestsIfDone base w → Leads r base d
+leads r base w d e h rests = (
+  subst (λ (x : Result Draft Refusal). RegroupsIfDone r base x) e h,
+  subst (λ (x : Result Draft Refusal). RestsIfDone base x) e rests,
+)
+
+pub write_then : (text to : List ℕ) (report : Bool) (c : Core) (o d e : Draft) → o ≡ draft_of c → write text to report o ≡ Ok d → e ≡ follow d → Leads Unchanged c.rows e
 write_then text to report c o d e p q f =
-    write_plans text to report c e (follows (write text to report (draft_of c)) d e (ap (λ (z : Draft). write text to report z) (sym p) ∙ q) f)
+    leads Unchanged c.rows (wrote text to report c) e
+    (follows (write text to report (draft_of c)) d e (ap (λ (z : Draft). write text to report z) (sym p) ∙ q) f)
+    (write_regroups text to report c) (write_rests text to report c)
 
-pub delete_then : (n : ℕ) (c : Core) (o d e : Draft) → o ≡ draft_of c → delete n o ≡ Ok d → e ≡ follow d → Regroups Unchanged c.rows (rows_after e.changes c.rows)
-delete_then n c o d e p q f = delete_plans n c e (follows (delete n (draft_of c)) d e (ap (λ (z : Draft). delete n z) (sym p) ∙ q) f)
+pub delete_then : (n : ℕ) (c : Core) (o d e : Draft) → o ≡ draft_of c → delete n o ≡ Ok d → e ≡ follow d → Leads Unchanged c.rows e
+delete_then n c o d e p q f =
+    leads Unchanged c.rows (deleted n c) e (follows (delete n (draft_of c)) d e (ap (λ (z : Draft). delete n z) (sym p) ∙ q) f)
+    (delete_regroups n c) (delete_rests n c)
 
-pub discard_then : (n : ℕ) (c : Core) (o d e : Draft) → o ≡ draft_of c → discard n o ≡ Ok d → e ≡ follow d → Regroups (Closed n) c.rows (rows_after e.changes c.rows)
-discard_then n c o d e p q f = discard_plans n c e (follows (discard n (draft_of c)) d e (ap (λ (z : Draft). discard n z) (sym p) ∙ q) f)
+pub discard_then : (n : ℕ) (c : Core) (o d e : Draft) → o ≡ draft_of c → discard n o ≡ Ok d → e ≡ follow d → Leads (Closed n) c.rows e
+discard_then n c o d e p q f =
+    leads (Closed n) c.rows (discarded n c) e (follows (discard n (draft_of c)) d e (ap (λ (z : Draft). discard n z) (sym p) ∙ q) f)
+    (discard_regroups n c) (discard_rests n c)

@@ -1,5 +1,6 @@
 pub mod Accepting
 pub mod CentreAddresses
+pub mod CountedSlots
 pub mod FewNumbers
 pub mod FindingGroups
 pub mod FreeReferences

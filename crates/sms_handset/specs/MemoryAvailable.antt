@@ -22,6 +22,11 @@ abbrev pub slots_taken : List Entry → ℕ
 slots_taken [] = 0
 slots_taken (e ∷ es) = e.slots + slots_taken es
 
+-- how many slots the entry of that number takes, if there is one
+abbrev pub slots_of : Option Entry → ℕ
+slots_of None = 0
+slots_of (Some e) = e.slots
+
 -- a slot is free, and an entry number is left
 abbrev pub has_room : Draft → Bool
 has_room d = if nat_lt (slots_taken d.rows.entries) d.rows.setup.slots then nat_lt d.rows.counters.entry 4294967295 else false

@@ -15,6 +15,7 @@ use Rattle.sms_handset.specs.declared.planned.Spares.{Spares}
 use Rattle.sms_handset.specs.declared.rows.Changes.{Changes}
 use Rattle.sms_handset.specs.declared.rows.Rows.{Rows}
 use Rattle.sms_handset.specs.Accepted.{StoresAccepted}
+use Rattle.sms_handset.specs.MemoryAvailable.{slots_taken}
 use Rattle.sms_handset.specs.OpenGroups.{IsRegrouped}
 use Rattle.sms_handset.specs.OpenIndex.{opening}
 use Rattle.sms_handset.specs.Draft.{Core, Draft, Room, Standing, rows_after}
@@ -57,15 +58,17 @@ adopted o c = record {
   is_recovered = o.is_recovered;
 }
 
--- the outcome, what becomes of the open groups, and memory for rows and for a group that come
+-- the outcome, what becomes of what is kept beside the rows, and memory for rows and for a group that come
 pub record Plan : Type 0 where
   pub outcome : Outcome
   pub regrouping : Regrouping
+  -- how many slots are taken then
+  pub taken : ℕ
   pub spare : Room
   pub spare_groups : ℕ
 
--- The plan's changes fit the memory of the lists and of the index, with that which the plan brings; and its change of the
--- open groups is that of its rows.
+-- The plan's changes fit the memory of the lists and of the index, with that which the plan brings; and its
+-- change of the open groups and its count of the slots are those of its rows.
 pub record Fits (plan : Plan) (s : Standing) : Type 0 where
   pub entries : length s.core.rows.entries + length plan.outcome.changes.entries ≤ max s.room.entries plan.spare.entries
   pub last : length s.core.rows.last + length plan.outcome.changes.last ≤ max s.room.last plan.spare.last
@@ -73,6 +76,7 @@ pub record Fits (plan : Plan) (s : Standing) : Type 0 where
   pub marks : length s.core.rows.marks + length plan.outcome.changes.marks ≤ max s.room.marks plan.spare.marks
   pub groups : s.groups.taken + opening plan.regrouping ≤ max s.groups.capacity plan.spare_groups
   pub index : IsRegrouped plan.regrouping s.core.rows (rows_after plan.outcome.changes s.core.rows)
+  pub slots : plan.taken ≡ slots_taken (rows_after plan.outcome.changes s.core.rows).entries
 
 -- The changes fit the memory of the lists and of the index, with the spare.
 pub record HasSpares (spares : Spares) (changes : Changes) (regrouping : Regrouping) (s : Standing) : Type 0 where

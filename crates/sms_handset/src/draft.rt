@@ -1,11 +1,12 @@
 //! A handset in the middle of an event: the moves of which its stages are made.
-ghost use Rattle.std.specs.Prelude.{◌≡◌, ◌++◌, ◌<◌, ◌≤◌, [], length, OnOk, option_copied, IfOk};
+ghost use Rattle.std.specs.Prelude.{◌≡◌, ◌++◌, ◌<◌, ◌≤◌, ◌+◌, [], length, OnOk, option_copied, IfOk};
 ghost use Rattle.sms_base.specs.Address.{IsAddress};
-ghost use Rattle.sms_base.specs.Table.{row_at};
+ghost use Rattle.sms_base.specs.Table.{Rises, all_applied, row_at};
 ghost use Rattle.sms_handset.specs.Keys.{entry_key, last_key, mark_key, out_key};
 ghost use Rattle.sms_handset.specs.Draft.{begin as begin_of, carried_in as carried_in_of, carrying, from_links, no_changes, put_counters as put_counters_of, put_entry as put_entry_of, put_last as put_last_of, put_mark as put_mark_of, put_out as put_out_of, remove_entry as remove_entry_of, remove_mark as remove_mark_of, remove_out as remove_out_of, reply as reply_of};
 ghost use Rattle.sms_control.specs.ControlReading.{cp_at};
 ghost use Rattle.sms_handset.specs.Groups.{members as members_of};
+ghost use Rattle.sms_handset.specs.MemoryAvailable.{slots_of};
 ghost use Rattle.sms_handset.specs.OpenGroups.{open_at as open_at_of, stored_parts};
 
 use crate::counters::Counters;
@@ -21,7 +22,7 @@ use crate::out_entry::OutEntry;
 use crate::outgoing::{Carried, Kind, Outgoing};
 use crate::rows::Changes;
 use crate::stored::Stored;
-use sms_base::{Address, Change, Holder, Moment};
+use sms_base::{Address, Change, Holder, Moment, Table};
 use sms_control::{Cp, Frames, LinkError, Links, TransactionFlag};
 use std::alloc::Global;
 use std::marker::Model;
@@ -39,12 +40,18 @@ pub(crate) struct Draft<'a> {
     pub(crate) notice: Option<Notice>,
     pub(crate) is_recovered: bool,
     pub(crate) changes: Changes,
+    /// How many slots the entries take as they stand.
+    pub(crate) taken: u32,
     pub(crate) frames: Listed<Outgoing>,
 }
 
 impl<'a> Model for Draft<'a> {
     ghost use Rattle.sms_handset.specs.Draft.{Draft as DraftOf, rows_after, rows_of};
+    ghost use Rattle.sms_handset.specs.Keys.{entry_key};
+    ghost use Rattle.sms_handset.specs.MemoryAvailable.{slots_taken};
     ghost use Rattle.sms_handset.specs.Standing.{IsStanding};
+    ghost use Rattle.sms_base.specs.Table.{all_applied};
+    ghost use Rattle.std.specs.Prelude.{◌≡◌};
 
     ghost Value = { DraftOf };
 
@@ -61,7 +68,7 @@ impl<'a> Model for Draft<'a> {
       frames = d.frames;
     } };
 
-    ghost invariant = { λ d. IsStanding d.base.now };
+    ghost invariant = { λ d. IsStanding d.base.now × (d.taken ≡ slots_taken (all_applied entry_key d.changes.entries d.base.now.entries.rows)) };
 }
 
 impl<'a> Draft<'a> {
@@ -70,7 +77,10 @@ impl<'a> Draft<'a> {
     pub(crate) fn put_entry(&mut self, entry: Entry) -> Result<(), NoMemory>
         ensures { OnOk result (self.new ≡ put_entry_of entry self.old) }
     {
+        let freed = slots_after(&self.base.entries, self.changes.entries.as_slice(), entry.number);
+        let taken = retaken(self.taken, freed, entry.slots)?;
         self.changes.entries.push(Change::Put(entry))?;
+        self.taken = taken;
         Ok(())
     }
 
@@ -78,7 +88,10 @@ impl<'a> Draft<'a> {
     pub(crate) fn remove_entry(&mut self, number: u32) -> Result<(), NoMemory>
         ensures { OnOk result (self.new ≡ remove_entry_of number self.old) }
     {
+        let freed = slots_after(&self.base.entries, self.changes.entries.as_slice(), number);
+        let taken = retaken(self.taken, freed, 0)?;
         self.changes.entries.push(Change::Remove(number))?;
+        self.taken = taken;
         Ok(())
     }
 
@@ -260,6 +273,30 @@ impl<'a> Draft<'a> {
         ensures { OnOk result (self.new ≡ record self.old { frames = self.old.frames ++ from_links self.old.under_way self.old.answered frames }) }
     {
         push_heard(&mut self.frames, &self.under_way, &self.answered, frames)
+    }
+}
+
+// How many slots the entry of that number takes after the changes, if there is one.
+fn slots_after(entries: &Table<Entry>, changes: &[Change<Entry>], number: u32) -> u8
+    ensures slots { result ≡ slots_of (row_at entry_key number (all_applied entry_key changes.now entries.now.rows)) }
+    ensures order { Rises entry_key entries.now.rows }
+{
+    // The call tells that the entries stand in order.
+    let _in_order = entries.as_slice();
+    match entries.find_after(changes, number) {
+        Some(entry) => entry.slots,
+        None => 0,
+    }
+}
+
+// How many slots are taken where some were freed and others taken, as far as they can be counted.
+fn retaken(taken: u32, freed: u8, slots: u8) -> Result<u32, NoMemory>
+    requires { freed ≤ taken }
+    ensures { IfOk result (λ now. now + freed ≡ taken + slots) }
+{
+    match (taken - u32::from(freed)).checked_add(u32::from(slots)) {
+        Some(now) => Ok(now),
+        None => Err(NoMemory),
     }
 }
 

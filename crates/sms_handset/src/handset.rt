@@ -2,9 +2,9 @@
 ghost use Rattle.std.specs.Prelude.{◌≡◌, Ok, IfOk};
 ghost use Rattle.std.specs.Str.{chars};
 ghost use Rattle.sms_control.specs.LinkStep.{take_step, fire_step};
-ghost use Rattle.sms_handset.specs.Draft.{draft_of, recovered, rows_after};
+ghost use Rattle.sms_handset.specs.Draft.{draft_of, recovered};
 ghost use Rattle.sms_handset.specs.HandsetEvent.{deleted, discarded, frame_came as frame_came_of, ticked as ticked_of, wrote};
-ghost use Rattle.sms_handset.specs.Planning.{adopted, Fits, HasSpares, IsPlanOf, Judges, OfDelete, OfDiscard, OfFrame, OfTick, OfWrite, Plans, Stores};
+ghost use Rattle.sms_handset.specs.Planning.{adopted, Fits, HasSpares, IsPlanOf, Judges, OfDelete, OfDiscard, OfFrame, OfTick, OfWrite, Plans, Rests, Stores};
 ghost use Rattle.sms_handset.specs.Trying.{TriesPlan as Tries};
 ghost use Rattle.sms_base.specs.Address.{IsAddress};
 ghost use Rattle.sms_base.specs.Table.{Rises, row_at};
@@ -29,6 +29,7 @@ use crate::references::is_unfinished;
 use crate::refusal::{PlanError, Refusal};
 use crate::rows::{Changes, Rows};
 use crate::stored::Stored;
+use crate::storing::slots_in;
 use sms_base::{Holder, Moment, Table};
 use sms_control::Links;
 use std::alloc::Global;
@@ -93,6 +94,7 @@ impl Handset {
         ensures { IfOk result (λ handset. handset.core ≡ recovered rows) }
     {
         let groups = OpenGroups::of(alloc, rows.entries.as_slice())?;
+        let taken = slots_in(rows.entries.as_slice())?;
         let setup = rows.setup;
         let counters = rows.counters;
         let moment = setup.start;
@@ -105,6 +107,7 @@ impl Handset {
             stored: Stored {
                 entries,
                 groups,
+                taken,
                 last,
                 outbox,
                 marks,
@@ -165,6 +168,7 @@ impl Handset {
         self.stored.marks.use_spare(planned.spares.marks);
         self.stored.groups.use_spare(planned.spares.groups);
         self.stored.groups.apply(planned.regrouping);
+        self.stored.taken = planned.taken;
         let Changes {
             entries,
             last,
@@ -212,6 +216,7 @@ impl Handset {
                 marks: Listed::new(self.alloc),
                 counters: None,
             },
+            taken: self.stored.taken,
             frames: Listed::new(self.alloc),
         })
     }
@@ -241,7 +246,8 @@ impl Handset {
 
     // The draft's outcome, with memory for the rows that come.
     fn planned(&self, draft: Draft<'_>, regrouping: Regrouping) -> Result<Planned, NoMemory>
-        requires { Regroups regrouping self.now.core.rows (rows_after draft.changes self.now.core.rows) }
+        requires groups { Regroups regrouping self.now.core.rows draft.rows }
+        requires rests { Rests self.now.core.rows draft }
         ensures { IfOk result (IsPlanOf draft.entry self.now) }
     {
         // The call tells that the entries stand in order.
@@ -258,6 +264,7 @@ impl Handset {
             notice: draft.notice,
             is_recovered: draft.is_recovered,
             regrouping,
+            taken: draft.taken,
             spares,
         })
     }
@@ -284,7 +291,7 @@ impl Handset {
         })
     }
 
-    #[tactic(auto, using(crate::proofs::GroupStages::frame_plans))]
+    #[tactic(auto, using(crate::proofs::GroupStages::frame_regroups, crate::proofs::Resting::frame_rests))]
     fn plan_frame(&self, octets: &[u8], tag: Holder) -> Result<Planned, PlanError>
         ensures plan { Plans result self.now (Ok (frame_came_of octets.now tag self.now.core)) }
         ensures fits { IfOk result (λ planned. Fits planned self.now) }
@@ -295,7 +302,7 @@ impl Handset {
         Ok(self.planned(draft, regrouping)?)
     }
 
-    #[tactic(auto, using(crate::proofs::GroupStages::tick_plans))]
+    #[tactic(auto, using(crate::proofs::GroupStages::tick_regroups, crate::proofs::Resting::tick_rests))]
     fn plan_tick(&self, now: Moment) -> Result<Planned, PlanError>
         ensures plan { Plans result self.now (Ok (ticked_of now self.now.core)) }
         ensures fits { IfOk result (λ planned. Fits planned self.now) }

@@ -38,6 +38,7 @@ pub struct Planned {
     pub(crate) notice: Option<Notice>,
     pub(crate) is_recovered: bool,
     pub(crate) regrouping: Regrouping,
+    pub(crate) taken: u32,
     pub(crate) spares: Spares,
 }
 
@@ -59,6 +60,7 @@ impl Model for Planned {
         is_recovered = p.is_recovered;
       };
       regrouping = p.regrouping;
+      taken = p.taken;
       spare = record { entries = p.spares.entries; last = p.spares.last; outbox = p.spares.outbox; marks = p.spares.marks };
       spare_groups = p.spares.groups;
     } };

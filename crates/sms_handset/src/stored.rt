@@ -43,12 +43,14 @@ impl Row for Mark {
     }
 }
 
-/// The rows that a handset keeps, each list by its keys, and what finds open groups among them.
+/// The rows that a handset keeps, each list by its keys, and what is kept of the entries beside them.
 #[derive(Drop)]
 pub(crate) struct Stored {
     pub(crate) entries: Table<Entry>,
     /// The index of the open groups among the entries.
     pub(crate) groups: OpenGroups,
+    /// How many slots the entries take.
+    pub(crate) taken: u32,
     pub(crate) last: Table<Last>,
     pub(crate) outbox: Table<OutEntry>,
     pub(crate) marks: Table<Mark>,

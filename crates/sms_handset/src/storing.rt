@@ -20,28 +20,27 @@ use sms_base::Octets;
 use sms_concat::Content;
 use std::alloc::Global;
 
-// Whether the entries take fewer slots than there are.
-fn takes_fewer(entries: &[Entry], slots: u8) -> bool
-    ensures { result ≡ nat_lt (slots_taken entries.now) slots }
+/// How many slots the entries take, as far as they can be counted.
+pub(crate) fn slots_in(entries: &[Entry]) -> Result<u32, NoMemory>
+    ensures { IfOk result (λ taken. taken ≡ slots_taken entries.now) }
 {
-    let mut left = slots;
+    let mut taken: u32 = 0;
     for entry in entries {
-        if entry.slots >= left {
-            return false;
-        }
-        left -= entry.slots;
+        let Some(more) = taken.checked_add(u32::from(entry.slots)) else {
+            return Err(NoMemory);
+        };
+        taken = more;
     }
-    left > 0
+    Ok(taken)
 }
 
 impl<'a> Draft<'a> {
     /// Whether a slot is free and an entry number is left.
     pub(crate) fn has_room(&self) -> bool
-        requires { self.now.changes ≡ no_changes }
         ensures room { result ≡ has_room_of self.now }
         ensures number { result ≡ true → self.now.rows.counters.entry < 4294967295 }
     {
-        takes_fewer(self.entries(), self.base.setup.slots) && self.counters().entry < 4294967295
+        self.taken < u32::from(self.base.setup.slots) && self.counters().entry < 4294967295
     }
 
     /// A message was refused for want of a slot.

@@ -1,7 +1,12 @@
 use Rattle.sms_handset.proofs.GroupStages.{delete_then}
 use Rattle.sms_handset.proofs.handset.Handset.plan_delete.Goals as goal
 
-pub planned-requires : goal.planned-requires
-planned-requires c =
-    delete_then c.args.entry c.args.self.now.core c.in_ok-draft.draft c.delete.new.self c.follow.new.self c.in_ok-draft.ensures c.in_ok-delete.ensures
-    c.in_ok-follow.ensures
+pub planned-requires-clause-groups : goal.planned-requires-clause-groups
+planned-requires-clause-groups c =
+    (delete_then c.args.entry c.args.self.now.core c.in_ok-draft.draft c.delete.new.self c.follow.new.self c.in_ok-draft.ensures c.in_ok-delete.ensures
+    c.in_ok-follow.ensures).0
+
+pub planned-requires-clause-rests : goal.planned-requires-clause-rests
+planned-requires-clause-rests c =
+    (delete_then c.args.entry c.args.self.now.core c.in_ok-draft.draft c.delete.new.self c.follow.new.self c.in_ok-draft.ensures c.in_ok-delete.ensures
+    c.in_ok-follow.ensures).1

@@ -2,6 +2,7 @@ use Rattle.std.proofs.Common.{◌≡◌, ◌<◌, List, sym, ◌∙◌, ap, subs
 use Rattle.std.specs.List.{AllByRecursion}
 use Rattle.sms_base.specs.Table.{Kept}
 use Rattle.sms_handset.specs.declared.entry.Entry.{Entry}
+use Rattle.sms_handset.specs.MemoryAvailable.{slots_taken}
 use Rattle.sms_handset.specs.OpenIndex.{Indexes}
 use Rattle.sms_handset.proofs.handset.Handset.standing_on.Goals as goal
 
@@ -11,5 +12,6 @@ invariant_of-result c =
     record {
       centre = c.requires.centre;
       index = subst (λ (es : List Entry). Indexes c.in_ok-groups.groups es) (c.as_slice.ensures ∙ sym rows) c.in_ok-groups.ensures;
+      slots = c.in_ok-taken.ensures ∙ ap (λ (es : List Entry). slots_taken es) (c.as_slice-2.ensures ∙ sym rows);
       numbers = subst (λ (es : List Entry). AllByRecursion (λ (e : Entry). e.number < c.args.rows.counters.entry) es) (sym rows) c.requires.numbers;
     }
