@@ -180,9 +180,7 @@ impl Handset {
         self.stored.last.apply_all(last.into_vec());
         self.stored.outbox.apply_all(outbox.into_vec());
         self.stored.marks.apply_all(marks.into_vec());
-        if let Some(counters) = counters {
-            self.stored.counters = counters;
-        }
+        self.stored.counters = counters.unwrap_or(self.stored.counters);
         self.moment = planned.moment;
         self.links = planned.links;
         self.under_way = planned.under_way;
