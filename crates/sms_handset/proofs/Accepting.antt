@@ -238,7 +238,7 @@ part_law marks r tag tpdu m key (Some mark) d e reads k found low high =
     (λ n f. inl (subst (λ (z : DeliverOf). IsOfDiscarded marks z) (same_deliver tpdu m n reads f) (key, mark, (k, found)))))
 
 -- a key is of a number from 1 to its total
-abbrev IsCounted : Option ConcatKey → Type 0
+abbrev pub IsCounted : Option ConcatKey → Type 0
 IsCounted None = Unit {0}
 IsCounted (Some key) = (0 < key.number) × (key.number ≤ key.total)
 
@@ -282,7 +282,7 @@ found_counts : (r : Result (List Element) HeaderError) → IsCounted (key_found 
 found_counts (Ok es) = elements_count es
 found_counts (Err f) = tt
 
-header_counts : (indicator : Bool) (octets : List ℕ) → IsCounted (header_key indicator octets)
+pub header_counts : (indicator : Bool) (octets : List ℕ) → IsCounted (header_key indicator octets)
 header_counts false octets = tt
 header_counts true octets = found_counts (header_at octets)
 

@@ -12,3 +12,15 @@ pub mod PartFields
 pub mod PartsFound
 pub mod PlansStore
 pub mod Resting
+pub mod GroupMembers
+pub mod SoundEntries
+pub mod SoundGroups
+pub mod SoundMarks
+pub mod SoundReferences
+pub mod SoundOutbox
+pub mod SoundWriting
+pub mod SoundDrafts
+pub mod SoundReceiving
+pub mod SoundTransfers
+pub mod SoundActs
+pub mod SoundEvents

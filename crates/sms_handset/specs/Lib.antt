@@ -16,5 +16,6 @@ pub mod OwnersActs
 pub mod HandsetEvent
 pub mod Planning
 pub mod SoundRows
+pub mod SoundCore
 pub mod Trying
 pub mod FaultCodes

@@ -1,11 +1,9 @@
 -- Rows that a handset can stand on.
-use Rattle.std.specs.Prelude.{◌≡◌, ℕ, ◌<◌, ◌≤◌, ◌⊎◌, List, [], ◌∷◌, length, Bool, true, false, Option, Some, None, Ok}
+use Rattle.std.specs.Prelude.{◌≡◌, ℕ, ◌<◌, ◌≤◌, ◌⊎◌, List, [], ◌∷◌, length, false, Some, None, Ok}
 use Rattle.std.specs.List.{AllByRecursion}
 use Rattle.sms_base.specs.Address.{IsAddress}
-use Rattle.sms_base.specs.TimeStamp.{IsMoment}
 use Rattle.sms_tpdu.specs.declared.carrier.Carrier.TheVariants.{InData}
 use Rattle.sms_tpdu.specs.declared.deliver.Deliver.{Deliver as DeliverOf}
-use Rattle.sms_tpdu.specs.declared.down.Down.{Down}
 use Rattle.sms_tpdu.specs.declared.down.Down.TheVariants.{Deliver, StatusReport}
 use Rattle.sms_tpdu.specs.declared.status_report.StatusReport.{StatusReport as StatusReportOf}
 use Rattle.sms_tpdu.specs.declared.submit.Submit.{Submit}
@@ -17,11 +15,14 @@ use Rattle.sms_handset.specs.declared.entry.Message.TheVariants.{Single, Part, J
 use Rattle.sms_handset.specs.declared.entry.Entry.{Entry}
 use Rattle.sms_handset.specs.declared.last.Last.{Last}
 use Rattle.sms_handset.specs.declared.mark.Mark.{Mark}
+use Rattle.sms_handset.specs.declared.out_entry.EntryState.{EntryState}
+use Rattle.sms_handset.specs.declared.out_entry.EntryState.TheVariants.{Queued, Sending, Sent, Failed, Unsure}
 use Rattle.sms_handset.specs.declared.out_entry.OutEntry.{OutEntry}
 use Rattle.sms_handset.specs.declared.rows.Rows.{Rows}
 use Rattle.sms_handset.specs.declared.setup.Setup.{Setup}
 use Rattle.sms_base.specs.Table.{Rises, row_at}
 use Rattle.sms_handset.specs.Groups.{is_among, all_numbers, group_of, key_of, members, part_numbers, mark_of}
+use Rattle.sms_handset.specs.Outbox.{most_tries}
 use Rattle.sms_handset.specs.References.{held_message_references, held_by_entries}
 use Rattle.sms_handset.specs.Keys.{entry_key, last_key, out_key, mark_key}
 
@@ -79,16 +80,34 @@ IsSubmitted o =
     (s : Submit)
     × ((submit_at o.tpdu ≡ Ok s) × (s.destination_address ≡ o.destination) × (s.message_reference ≡ o.message_reference) × (s.reject_duplicates ≡ false))
 
+-- the number is no entry's of the inbox
+abbrev pub IsApart : ℕ → List Entry → Type 0
+IsApart n entries = row_at entry_key n entries ≡ None
+
+-- sent, and no more often than an entry is
+abbrev pub WasSent : ℕ → Type 0
+WasSent tries = (0 < tries) × (tries ≤ most_tries)
+
+-- an entry that is queued has a try left, any other was sent
+abbrev pub AreTries : EntryState → ℕ → Type 0
+AreTries Queued tries = tries < most_tries
+AreTries Sending tries = WasSent tries
+AreTries Sent tries = WasSent tries
+AreTries Failed tries = WasSent tries
+AreTries Unsure tries = WasSent tries
+
 abbrev pub AreOutEntries : ℕ → List Entry → List OutEntry → Type 0
 AreOutEntries next entries outbox =
-    AllByRecursion (λ (o : OutEntry). IsGiven next o.number × (row_at entry_key o.number entries ≡ None) × IsSubmitted o × (o.tries ≤ 3)) outbox
+    AllByRecursion (λ (o : OutEntry). IsGiven next o.number × IsApart o.number entries × IsSubmitted o × AreTries o.state o.tries) outbox
 
 -- ---- discarded groups
 
-abbrev pub AreMarks : ℕ → List Mark → Type 0
-AreMarks next [] = Unit {0}
-AreMarks next (m ∷ ms) =
-    IsGiven next m.number × Differ m.seen × (all_numbers m.group.total m.seen ≡ false) × (mark_of m.group ms ≡ None) × AreMarks next ms
+-- Each has numbers that differ, not all of them, and no other is of its group.
+abbrev pub AreMarks : ℕ → List Entry → List Mark → Type 0
+AreMarks next entries [] = Unit {0}
+AreMarks next entries (m ∷ ms) =
+    IsGiven next m.number × IsApart m.number entries × Differ m.seen × (all_numbers m.group.total m.seen ≡ false) × (mark_of m.group ms ≡ None)
+    × AreMarks next entries ms
 
 -- ---- the setup, which is handed in
 
@@ -112,5 +131,5 @@ pub record IsSound (rows : Rows) : Type 0 where
   -- what unfinished entries hold differs
   pub message_references : Differ (held_message_references rows.outbox)
   pub references : Differ (held_by_entries rows.outbox)
-  pub marks : AreMarks rows.counters.entry rows.marks
+  pub marks : AreMarks rows.counters.entry rows.entries rows.marks
   pub few_marks : length rows.marks ≤ 64

@@ -11,6 +11,7 @@ ghost use Rattle.sms_base.specs.Table.{Rises, row_at};
 ghost use Rattle.sms_handset.specs.OpenGroups.{Numbered, Regroups};
 ghost use Rattle.sms_handset.specs.Keys.{entry_key, last_key, mark_key, out_key};
 ghost use Rattle.sms_handset.specs.OwnersActs.{delete as delete_of, delete_out, discard as discard_of};
+ghost use Rattle.sms_handset.specs.SoundCore.{IsSoundCore};
 ghost use Rattle.sms_handset.specs.SoundRows.{IsSound};
 
 use crate::draft::Draft;
@@ -78,7 +79,8 @@ impl Handset {
     #[tactic(auto, using(crate::proofs::GroupStages::sound_numbers))]
     pub fn recover(alloc: Global, rows: Rows) -> Result<Handset, NoMemory>
         requires { IsSound rows }
-        ensures { IfOk result (λ handset. handset.core ≡ recovered rows) }
+        ensures state { IfOk result (λ handset. handset.core ≡ recovered rows) }
+        ensures sound { IfOk result (λ handset. IsSoundCore handset.core) }
     {
         Handset::standing_on(alloc, rows)
     }
@@ -151,6 +153,8 @@ impl Handset {
         ensures fits { IfOk result (λ planned. Fits planned self.now) }
         // What is accepted is stored.
         ensures stored { IfOk result (Stores self.now) }
+        // A handset that was sound is sound with the plan put in: it recovers from the rows that were committed.
+        ensures sound { IsSoundCore self.now.core → IfOk result (λ planned. IsSoundCore (adopted planned.outcome self.now.core)) }
     {
         self.plan_of(event)
     }

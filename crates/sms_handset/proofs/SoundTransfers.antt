@@ -1,0 +1,277 @@
+-- How transfers end, lapse and begin leaves a sound handset sound.
+use Rattle.std.proofs.Common.{◌≡◌, ℕ, ◌+◌, ◌%◌, ◌<◌, ◌≤◌, arith, List, [], ◌∷◌, Bool, true, false, cond, Option, Some, None, Result, refl, sym, ◌∙◌, ap, subst, inl, inr, ⊎_elim}
+use Rattle.std.specs.Prelude.{◌&&◌, ◌||◌, nat_le, nat_lt, min}
+use Rattle.std.proofs.lemmas.Bool.{and_parts, cases_Bool, cond-true, cond-false, cond_both, leb-false}
+use Rattle.sms_base.specs.Among.{Among}
+use Rattle.sms_base.specs.Table.{Rises, put, row_at}
+use Rattle.sms_base.proofs.Tables.{found_among, put_among, row_at_put}
+use Rattle.sms_base.specs.declared.holder.Holder.{Holder}
+use Rattle.sms_base.specs.declared.holder.Holder.TheVariants.{Part as PartHolder, Report, Entry as EntryHolder, Memory}
+use Rattle.sms_control.specs.LinkStep.{is_busy}
+use Rattle.sms_control.specs.Timers.{later}
+use Rattle.sms_relay.specs.declared.fault.RelayFault.{RelayFault}
+use Rattle.sms_relay.specs.declared.frame.Rp.{Rp}
+use Rattle.sms_handset.specs.declared.answers.Verdict.{Verdict}
+use Rattle.sms_handset.specs.declared.answers.Verdict.TheVariants.{Acknowledged, Temporary, Duplicate, Refused, Lost}
+use Rattle.sms_handset.specs.declared.counters.Counters.{Counters}
+use Rattle.sms_handset.specs.declared.entry.Entry.{Entry}
+use Rattle.sms_handset.specs.declared.notice.Notice.{Notice}
+use Rattle.sms_handset.specs.declared.out_entry.EntryState.{EntryState}
+use Rattle.sms_handset.specs.declared.out_entry.EntryState.TheVariants.{Queued, Sending, Sent, Failed, Unsure}
+use Rattle.sms_handset.specs.declared.out_entry.OutEntry.{OutEntry}
+use Rattle.sms_handset.specs.declared.outgoing.Carried.{Carried}
+use Rattle.sms_handset.specs.Answers.{verdict_of}
+use Rattle.sms_handset.specs.Draft.{Draft, put_out}
+use Rattle.sms_handset.specs.Keys.{out_key}
+use Rattle.sms_handset.specs.MemoryAvailable.{first_notice, notice_concluded, notice_ended, notice_failed, send_notice, tram}
+use Rattle.sms_handset.specs.Outbox.{conclude, entry_concluded, first_due, follow, holder_concluded, is_due, is_fired, is_past, is_queued, is_sending, lapse, lapse_rows, lost, most_tries, offer, offer_after, offer_entry, offer_message, offer_wanted, retry_delay, settled, transfer_concluded}
+use Rattle.sms_handset.specs.References.{held_references, is_unfinished, next_free}
+use Rattle.sms_handset.specs.SoundCore.{IsSentFor, IsUnderWay}
+use Rattle.sms_handset.specs.SoundRows.{AreTries, WasSent}
+use Rattle.sms_handset.proofs.SoundDrafts.{Sound, SoundAt, counters_move, none_under_way, outbox_moves}
+use Rattle.sms_handset.proofs.SoundMarks.{above_at}
+use Rattle.sms_handset.proofs.SoundOutbox.{IsSoundOut, Replaces, replaced}
+
+-- ---- an entry that is Sending becomes another
+
+record Turns (k : ℕ) (es : List Entry) (o w : OutEntry) : Type 0 where
+  replaces : Replaces o w
+  sound : IsSoundOut k es w
+
+turns : (k : ℕ) (es : List Entry) (o : OutEntry) (s : EntryState) (r : Bool) (due : Option ℕ) → is_unfinished o.state ≡ true → AreTries s o.tries → IsSoundOut k es o
+    → Turns k es o (record o { state = s; rejects_duplicates = r; due = due })
+turns k es o s r due u t i = record {
+  replaces = record { number = refl; message_reference = refl; reference = refl; unfinished = λ v. u };
+  sound = (i.0, i.1, i.2, t);
+}
+
+-- an entry that is Sending was sent
+was_sent : (o : OutEntry) → o.state ≡ Sending → AreTries o.state o.tries → WasSent o.tries
+was_sent o e t = subst (λ (s : EntryState). AreTries s o.tries) e t
+
+sending_unfinished : (o : OutEntry) → o.state ≡ Sending → is_unfinished o.state ≡ true
+sending_unfinished o e = ap (λ (s : EntryState). is_unfinished s) e
+
+lost_turns : (k : ℕ) (es : List Entry) (o : OutEntry) → o.state ≡ Sending → IsSoundOut k es o → Turns k es o (lost o)
+lost_turns k es o e i =
+    let sent = was_sent o e i.3 in
+    let u = sending_unfinished o e in
+    by_long o.is_long k es o sent u i
+  where
+    ended : (k : ℕ) (es : List Entry) (o : OutEntry) → WasSent o.tries → is_unfinished o.state ≡ true → IsSoundOut k es o → Turns k es o (record o { state = Unsure })
+    ended k es o sent u i = turns k es o Unsure o.rejects_duplicates o.due u sent i
+
+    again : (k : ℕ) (es : List Entry) (o : OutEntry) → nat_le most_tries o.tries ≡ false → is_unfinished o.state ≡ true → IsSoundOut k es o
+        → Turns k es o (record o { state = Queued; rejects_duplicates = true; due = None })
+    again k es o t u i = turns k es o Queued true None u (leb-false most_tries o.tries t) i
+
+    by_tries : (k : ℕ) (es : List Entry) (o : OutEntry) → WasSent o.tries → is_unfinished o.state ≡ true → IsSoundOut k es o
+        → Turns k es o (cond (nat_le most_tries o.tries) (record o { state = Unsure }) (record o { state = Queued; rejects_duplicates = true; due = None }))
+    by_tries k es o sent u i =
+        cond_both (nat_le most_tries o.tries) (record o { state = Unsure }) (record o { state = Queued; rejects_duplicates = true; due = None }) (λ (w : OutEntry). Turns k es o w)
+        (λ t. ended k es o sent u i) (λ t. again k es o t u i)
+
+    by_long : (long : Bool) (k : ℕ) (es : List Entry) (o : OutEntry) → WasSent o.tries → is_unfinished o.state ≡ true → IsSoundOut k es o
+        → Turns k es o (cond (long || nat_le most_tries o.tries) (record o { state = Unsure }) (record o { state = Queued; rejects_duplicates = true; due = None }))
+    by_long true k es o sent u i = ended k es o sent u i
+    by_long false k es o sent u i = by_tries k es o sent u i
+
+settled_turns : (k : ℕ) (es : List Entry) (moment : ℕ) (v : Verdict) (o : OutEntry) → o.state ≡ Sending → IsSoundOut k es o → Turns k es o (settled moment v o)
+settled_turns k es moment Acknowledged o e i = turns k es o Sent o.rejects_duplicates o.due (sending_unfinished o e) (was_sent o e i.3) i
+settled_turns k es moment Temporary o e i =
+    cond_both (nat_le most_tries o.tries) (record o { state = Failed }) (record o { state = Queued; due = Some (later moment retry_delay) }) (λ (w : OutEntry). Turns k es o w)
+    (λ t. turns k es o Failed o.rejects_duplicates o.due (sending_unfinished o e) (was_sent o e i.3) i)
+    (λ t. turns k es o Queued o.rejects_duplicates (Some (later moment retry_delay)) (sending_unfinished o e) (leb-false most_tries o.tries t) i)
+settled_turns k es moment Duplicate o e i = turns k es o Unsure o.rejects_duplicates o.due (sending_unfinished o e) (was_sent o e i.3) i
+settled_turns k es moment Refused o e i = turns k es o Failed o.rejects_duplicates o.due (sending_unfinished o e) (was_sent o e i.3) i
+settled_turns k es moment Lost o e i = lost_turns k es o e i
+
+-- it does so where nothing is under way
+turned_sound : (o w : OutEntry) (d : Draft) → Among o d.rows.outbox → Turns d.rows.counters.entry d.rows.entries o w → d.under_way ≡ None → SoundAt d → SoundAt (put_out w d)
+turned_sound o w d a t e s =
+    outbox_moves d.rows d.under_way d.under_way d.is_recovered d.is_recovered (put out_key w d.rows.outbox)
+    (replaced d.rows.counters.entry d.rows.entries d.rows.outbox o w a t.replaces t.sound s.outbox) s.recovered
+    (none_under_way d.under_way (put out_key w d.rows.outbox) e) s
+
+-- ---- a transfer ends
+
+entry_concluded_sound : (u : Option (Result Rp RelayFault)) (f : Option OutEntry) (o : OutEntry) (d : Draft) → f ≡ Some o → Among o d.rows.outbox → o.state ≡ Sending → d.under_way ≡ None
+    → SoundAt d → SoundAt (entry_concluded u f d)
+entry_concluded_sound u None o d q a e n s = s
+entry_concluded_sound u (Some x) o d q a e n s =
+    let same : o ≡ x = cc in
+    let i : Among x d.rows.outbox = subst (λ (z : OutEntry). Among z d.rows.outbox) same a in
+    let f : x.state ≡ Sending = ap (λ (z : OutEntry). z.state) (sym same) ∙ e in
+    turned_sound x (settled d.moment (verdict_of x.reference u) x) d i
+    (settled_turns d.rows.counters.entry d.rows.entries d.moment (verdict_of x.reference u) x f (s.outbox.each x i)) n s
+
+notice_failed_sound : (n : Notice) (d : Draft) → SoundAt d → SoundAt (notice_failed n d)
+notice_failed_sound n d s =
+    cond_both n.is_second (record d { notice = None }) (record d { notice = Some (record n { is_second = true; due = Some (later d.moment tram) }) }) (λ (z : Draft). SoundAt z) (λ t. s) (λ t. s)
+
+notice_ended_sound : (v : Verdict) (n : Notice) (d : Draft) → SoundAt d → SoundAt (notice_ended v n d)
+notice_ended_sound Acknowledged n d s = s
+notice_ended_sound Temporary n d s = notice_failed_sound n d s
+notice_ended_sound Duplicate n d s = notice_failed_sound n d s
+notice_ended_sound Refused n d s = notice_failed_sound n d s
+notice_ended_sound Lost n d s = notice_failed_sound n d s
+
+notice_concluded_sound : (u : Option (Result Rp RelayFault)) (n : Option Notice) (d : Draft) → SoundAt d → SoundAt (notice_concluded u n d)
+notice_concluded_sound u None d s = s
+notice_concluded_sound u (Some n) d s = notice_ended_sound (verdict_of n.reference u) n d s
+
+holder_concluded_sound : (u : Option (Result Rp RelayFault)) (h : Holder) (d : Draft) → IsSentFor h d.rows.outbox → d.under_way ≡ None → SoundAt d → SoundAt (holder_concluded u h d)
+holder_concluded_sound u (PartHolder i n) d w e s = s
+holder_concluded_sound u (Report i) d w e s = s
+holder_concluded_sound u (EntryHolder n) d w e s =
+    entry_concluded_sound u (row_at out_key n d.rows.outbox) w.0 d w.1.0 (found_among out_key n w.0 d.rows.outbox w.1.0) w.1.1 e s
+holder_concluded_sound u (Memory n) d w e s = notice_concluded_sound u d.notice d s
+
+transfer_concluded_sound : (u : Option (Result Rp RelayFault)) (c : Option Carried) (d : Draft) → IsUnderWay c d.rows.outbox → d.under_way ≡ None → SoundAt d → SoundAt (transfer_concluded u c d)
+transfer_concluded_sound u None d w e s = s
+transfer_concluded_sound u (Some c) d w e s = holder_concluded_sound u c.tag d w e s
+
+-- nothing is under way any more
+over : (d : Draft) → SoundAt d → SoundAt (record d { under_way = None })
+over d s = outbox_moves d.rows d.under_way None d.is_recovered d.is_recovered d.rows.outbox s.outbox (λ t. refl) tt s
+
+pub conclude_sound : (u : Option (Result Rp RelayFault)) (d : Draft) → SoundAt d → SoundAt (conclude u d)
+conclude_sound u d s = transfer_concluded_sound u d.under_way (record d { under_way = None }) s.under_way refl (over d s)
+
+-- ---- after a restart
+
+-- nothing is under way, and these entries stand in the outbox
+record Lapses (os : List OutEntry) (z : Draft) : Type 0 where
+  sound : SoundAt z
+  none : z.under_way ≡ None
+  recovered : z.is_recovered ≡ false
+  stand : (x : OutEntry) → Among x os → Among x z.rows.outbox
+
+is_sending_state : (s : EntryState) → is_sending s ≡ true → s ≡ Sending
+is_sending_state Queued e = absurd cc
+is_sending_state Sending e = refl
+is_sending_state Sent e = absurd cc
+is_sending_state Failed e = absurd cc
+is_sending_state Unsure e = absurd cc
+
+one_lapses : (o : OutEntry) (os : List OutEntry) (z : Draft) → Rises out_key (o ∷ os) → Lapses (o ∷ os) z → Lapses os (cond (is_sending o.state) (put_out (lost o) z) z)
+one_lapses o os z r l =
+    let a = l.stand o (inl refl) in
+    cond_both (is_sending o.state) (put_out (lost o) z) z (λ (y : Draft). Lapses os y)
+    (λ t.
+    let turn = lost_turns z.rows.counters.entry z.rows.entries o (is_sending_state o.state t) (l.sound.outbox.each o a) in
+    let n : (lost o).number ≡ o.number = turn.replaces.number in
+    record {
+      sound = turned_sound o (lost o) z a turn l.none l.sound;
+      none = l.none;
+      recovered = l.recovered;
+      stand = λ x m.
+          let above = above_at out_key o.number os r.0 x m in
+          put_among out_key x (lost o) z.rows.outbox (inr (l.stand x (inr m), (λ e. absurd (omega (arith, n, e, above)))));
+    })
+    (λ t. record { sound = l.sound; none = l.none; recovered = l.recovered; stand = λ x m. l.stand x (inr m) })
+
+all_lapse : (os : List OutEntry) (z : Draft) → Rises out_key os → Lapses os z → Lapses [] (lapse_rows os z)
+all_lapse [] z r l = l
+all_lapse (o ∷ os) z r l = all_lapse os (cond (is_sending o.state) (put_out (lost o) z) z) r.1 (one_lapses o os z r l)
+
+-- rows that are Sending stand from no earlier start
+record Settles (z : Draft) : Type 0 where
+  sound : SoundAt z
+  recovered : z.is_recovered ≡ false
+
+lapse_settles : (d : Draft) → SoundAt d → Settles (lapse d)
+lapse_settles d s =
+    cond_both d.is_recovered (lapse_rows d.rows.outbox (record d { is_recovered = false })) d (λ (z : Draft). Settles z)
+    (λ t.
+    let none : d.under_way ≡ None = s.recovered t in
+    let l = all_lapse d.rows.outbox (record d { is_recovered = false }) s.outbox.order
+    (record {
+      sound = outbox_moves d.rows d.under_way d.under_way d.is_recovered false d.rows.outbox s.outbox (λ q. absurd cc) s.under_way s;
+      none = none;
+      recovered = refl;
+      stand = λ x m. m;
+    }) in
+    record { sound = l.sound; recovered = l.recovered })
+    (λ t. record { sound = s; recovered = t })
+
+-- ---- what is sent
+
+is_queued_state : (s : EntryState) → is_queued s ≡ true → s ≡ Queued
+is_queued_state Queued e = refl
+is_queued_state Sending e = absurd cc
+is_queued_state Sent e = absurd cc
+is_queued_state Failed e = absurd cc
+is_queued_state Unsure e = absurd cc
+
+record IsDue (os : List OutEntry) (o : OutEntry) : Type 0 where
+  among : Among o os
+  queued : o.state ≡ Queued
+
+first_due_is : (moment : ℕ) (os : List OutEntry) (o : OutEntry) → first_due moment os ≡ Some o → IsDue os o
+first_due_is moment [] o e = absurd cc
+first_due_is moment (x ∷ xs) o e = ⊎_elim
+    (λ (t : is_due moment x ≡ true).
+    let both : Some o ≡ Some x = sym e ∙ cond-true (is_due moment x) (Some x) (first_due moment xs) t in
+    let q : o ≡ x = cc in
+    let queued = is_queued_state x.state (and_parts (is_queued x.state) (is_past moment x.due) t).0 in
+    record { among = inl q; queued = ap (λ (z : OutEntry). z.state) q ∙ queued })
+    (λ (f : is_due moment x ≡ false).
+    let r = first_due_is moment xs o (sym (cond-false (is_due moment x) (Some x) (first_due moment xs) f) ∙ e) in
+    record { among = inr r.among; queued = r.queued })
+    (cases_Bool (is_due moment x))
+
+-- the entry as it is sent
+sent_now : OutEntry → OutEntry
+sent_now o = record o { state = Sending; tries = min (o.tries + 1) 255; due = None }
+
+offer_entry_sound : (f : Option OutEntry) (d : Draft) → ((o : OutEntry) → f ≡ Some o → IsDue d.rows.outbox o) → d.is_recovered ≡ false → SoundAt d → SoundAt (offer_entry f d)
+unfolding sent_now
+offer_entry_sound None d h n s = s
+offer_entry_sound (Some o) d h n s =
+    let os = d.rows.outbox in
+    let i = h o refl in
+    let w : OutEntry = sent_now o in
+    let was = s.outbox.each o i.among in
+    let left : o.tries < 3 = subst (λ (z : EntryState). AreTries z o.tries) i.queued was.3 in
+    let tries : WasSent w.tries = ((let p : 0 < min (o.tries + 1) 255 = omega arith in p), (let p : min (o.tries + 1) 255 ≤ 3 = omega arith in p)) in
+    outbox_moves d.rows d.under_way _ d.is_recovered d.is_recovered (put out_key w os)
+    (replaced d.rows.counters.entry d.rows.entries os o w i.among
+    (record { number = refl; message_reference = refl; reference = refl; unfinished = λ v. ap (λ (z : EntryState). is_unfinished z) i.queued })
+    (was.0, was.1, was.2, tries) s.outbox)
+    (λ t. absurd cc) (w, (row_at_put out_key w os, refl)) s
+
+offer_message_sound : (d : Draft) → d.is_recovered ≡ false → SoundAt d → SoundAt (offer_message d)
+offer_message_sound d n s = offer_entry_sound (first_due d.moment d.rows.outbox) d (λ o e. first_due_is d.moment d.rows.outbox o e) n s
+
+-- an RP-SMMA is under way
+noticed : (d : Draft) (w : Option Carried) → IsUnderWay w d.rows.outbox → d.is_recovered ≡ false → SoundAt d → Sound d.rows w d.is_recovered
+noticed d w u n s = outbox_moves d.rows d.under_way w d.is_recovered d.is_recovered d.rows.outbox s.outbox (λ t. absurd cc) u s
+
+send_notice_sound : (n : Notice) (d : Draft) → d.is_recovered ≡ false → SoundAt d → SoundAt (send_notice n d)
+send_notice_sound n d f s = noticed d (send_notice n d).under_way tt f s
+
+first_notice_sound : (n r : ℕ) (d : Draft) → d.is_recovered ≡ false → SoundAt d → SoundAt (first_notice n r d)
+first_notice_sound n r d f s =
+    let c : Counters = record d.rows.counters { notice = n + 1; reference = (r + 1) % 256 } in
+    let e : Draft = record d { rows = record d.rows { counters = c } } in
+    noticed e (first_notice n r d).under_way tt f
+    (counters_move d.rows d.under_way d.is_recovered c (let l : d.rows.counters.entry ≤ d.rows.counters.entry = omega arith in l) s)
+
+offer_wanted_sound : (d : Draft) → d.is_recovered ≡ false → SoundAt d → SoundAt (offer_wanted d)
+offer_wanted_sound d f s =
+    let r = next_free d.rows.counters.reference (held_references None d.rows.outbox) in
+    cond_both (nat_lt 0 d.wanted && nat_lt d.rows.counters.notice 4294967295) (first_notice d.rows.counters.notice r d) (offer_message d) (λ (z : Draft). SoundAt z)
+    (λ t. first_notice_sound d.rows.counters.notice r d f s) (λ t. offer_message_sound d f s)
+
+offer_after_sound : (n : Option Notice) (d : Draft) → d.is_recovered ≡ false → SoundAt d → SoundAt (offer_after n d)
+offer_after_sound None d f s = offer_wanted_sound d f s
+offer_after_sound (Some n) d f s =
+    cond_both (is_fired d.moment n.due) (send_notice n d) (offer_message d) (λ (z : Draft). SoundAt z)
+    (λ t. send_notice_sound n d f s) (λ t. offer_message_sound d f s)
+
+offer_sound : (d : Draft) → d.is_recovered ≡ false → SoundAt d → SoundAt (offer d)
+offer_sound d f s = cond_both (is_busy d.links) d (offer_after d.notice d) (λ (z : Draft). SoundAt z) (λ t. s) (λ t. offer_after_sound d.notice d f s)
+
+pub follow_sound : (d : Draft) → SoundAt d → SoundAt (follow d)
+follow_sound d s = let l = lapse_settles d s in offer_sound (lapse d) l.recovered l.sound

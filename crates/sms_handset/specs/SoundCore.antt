@@ -1,0 +1,33 @@
+-- A handset that stands on sound rows, between two events.
+use Rattle.std.specs.Prelude.{◌≡◌, ℕ, List, true, Option, Some, None}
+use Rattle.sms_base.specs.Table.{row_at}
+use Rattle.sms_base.specs.declared.holder.Holder.{Holder}
+use Rattle.sms_base.specs.declared.holder.Holder.TheVariants.{Part, Report, Entry, Memory}
+use Rattle.sms_handset.specs.declared.out_entry.EntryState.TheVariants.{Sending}
+use Rattle.sms_handset.specs.declared.out_entry.OutEntry.{OutEntry}
+use Rattle.sms_handset.specs.declared.outgoing.Carried.{Carried}
+use Rattle.sms_handset.specs.Draft.{Core}
+use Rattle.sms_handset.specs.Keys.{out_key}
+use Rattle.sms_handset.specs.SoundRows.{IsSound}
+
+-- the entry of the outbox with that number is Sending
+abbrev pub IsSendingEntry : ℕ → List OutEntry → Type 0
+IsSendingEntry n outbox = (o : OutEntry) × ((row_at out_key n outbox ≡ Some o) × (o.state ≡ Sending))
+
+-- what is sent for an entry of the outbox finds it Sending
+abbrev pub IsSentFor : Holder → List OutEntry → Type 0
+IsSentFor (Part id number) outbox = Unit {0}
+IsSentFor (Report id) outbox = Unit {0}
+IsSentFor (Entry n) outbox = IsSendingEntry n outbox
+IsSentFor (Memory n) outbox = Unit {0}
+
+abbrev pub IsUnderWay : Option Carried → List OutEntry → Type 0
+IsUnderWay None outbox = Unit {0}
+IsUnderWay (Some carried) outbox = IsSentFor carried.tag outbox
+
+pub record IsSoundCore (c : Core) : Type 0 where
+  pub rows : IsSound c.rows
+  -- until the first event after a recovery that is not refused, nothing is under way
+  pub recovered : c.is_recovered ≡ true → c.under_way ≡ None
+  -- so an answer settles no entry that is finished, whose references others may hold by now
+  pub under_way : IsUnderWay c.under_way c.rows.outbox
