@@ -1,6 +1,5 @@
 -- Groups in the index.
-use Rattle.std.proofs.Common.{◌≡◌, ◌⊎◌, ℕ, zero, suc, ◌+◌, ◌<◌, take, length, get_or, List, [], ◌∷◌, ◌++◌, append-nil, append_assoc, Bool, true, false, cond, nat_eq, Option, Some, None, refl, sym, ◌∙◌, ap, subst, inl, inr, ⊎_elim, eq-eqb, eqb-true, true≢false}
-use Rattle.std.specs.Prelude.{if◌then◌else◌}
+use Rattle.std.proofs.Common.{◌≡◌, ℕ, zero, suc, ◌+◌, ◌<◌, take, length, get_or, List, [], ◌∷◌, ◌++◌, append-nil, append_assoc, true, false, cond, nat_eq, Option, Some, None, refl, sym, ◌∙◌, ap, subst, ⊎_elim, eq-eqb, true≢false}
 use Rattle.std.specs.List.{AllByRecursion, IsDistinct}
 use Rattle.std.specs.Cmp.{nat_eq_equiv}
 use Rattle.std.specs.Map.{keys_of, lookup}
@@ -20,9 +19,9 @@ use Rattle.sms_handset.specs.declared.open_groups.OpenGroups.{OpenGroups}
 use Rattle.sms_handset.specs.declared.rows.Rows.{Rows}
 use Rattle.sms_handset.specs.Groups.{is_part_of, is_same_group, members, part_number}
 use Rattle.sms_handset.specs.Keys.{entry_key}
-use Rattle.sms_handset.specs.OpenGroups.{IsRegrouped, open_at, open_group, regrouped, stored_part, stored_parts}
+use Rattle.sms_handset.specs.OpenGroups.{IsRegrouped, open_group, regrouped, stored_part, stored_parts}
 use Rattle.sms_handset.specs.OpenIndex.{Indexes, find_open, first_entry_of, parts_of, under, with_one_more}
-use Rattle.sms_handset.proofs.Indexing.{all_stay, cases_group, members_append, one_group, one_opens, other_group, same_group, stands_first}
+use Rattle.sms_handset.proofs.Indexing.{all_stay, members_append, one_group, one_opens, other_group, same_group, stands_first}
 use Rattle.sms_handset.proofs.PartsFound.{open_parts, stored_more}
 
 -- a group of the list has a number under which it is found

@@ -1,5 +1,5 @@
 -- Acts of the owner that are not refused.
-use Rattle.std.proofs.Common.{◌≡◌, ◌⊎◌, ℕ, ◌<◌, ◌≤◌, true, false, true≢false, is_some, option_copied, Bor, ⊎_elim, List, Option, Some, None, Result, Ok, Err, length, refl, sym, ◌∙◌, ap, cond, eq-eqb}
+use Rattle.std.proofs.Common.{◌≡◌, ℕ, ◌<◌, ◌≤◌, true, false, true≢false, is_some, option_copied, Bor, ⊎_elim, List, Option, Some, None, Result, Ok, Err, length, refl, sym, ◌∙◌, ap, cond, eq-eqb}
 use Rattle.std.specs.Prelude.{nat_lt, ◌==◌}
 use Rattle.std.proofs.lemmas.Bool.{cases_eq, cond-true, cond-false, le-ltb, lt-ltb, ne_eqb}
 use Rattle.sms_handset.specs.declared.entry.Entry.{Entry}

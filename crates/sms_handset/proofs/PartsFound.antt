@@ -1,8 +1,6 @@
 -- Parts that stand as their entries.
-use Rattle.std.proofs.Common.{◌≡◌, ◌⊎◌, ℕ, suc, ◌+◌, ◌<◌, ◌≤◌, arith, List, [], ◌∷◌, ◌++◌, length, Bool, true, false, cond, Option, Some, None, Result, Ok, Err, OnOk, refl, sym, ◌∙◌, ap, subst, inl, inr, ⊎_elim}
-use Rattle.std.specs.Prelude.{◌==◌, if◌then◌else◌}
-use Rattle.std.specs.List.{AllByRecursion}
-use Rattle.std.proofs.lemmas.Bool.{cases_Bool}
+use Rattle.std.proofs.Common.{◌≡◌, ℕ, suc, List, [], ◌∷◌, ◌++◌, length, Bool, true, false, cond, Option, Some, None, Result, Ok, Err, OnOk, refl, sym, ◌∙◌, ap, subst, inl, inr}
+use Rattle.std.specs.Prelude.{◌==◌}
 use Rattle.sms_base.specs.Among.{Among}
 use Rattle.sms_base.specs.Table.{Rises, row_at}
 use Rattle.sms_base.proofs.Tables.{among_found}
@@ -11,7 +9,7 @@ use Rattle.sms_handset.specs.declared.entry.Group.{Group}
 use Rattle.sms_handset.specs.declared.open_group.OpenGroup.{OpenGroup}
 use Rattle.sms_handset.specs.declared.open_group.StoredPart.{StoredPart}
 use Rattle.sms_handset.specs.Draft.{Draft, put_entry, remove_entry}
-use Rattle.sms_handset.specs.Groups.{alone, drop_all, first_number, free_all, is_among, members, part_number, part_numbers, part_with}
+use Rattle.sms_handset.specs.Groups.{alone, drop_all, first_number, free_all, members, part_number, part_numbers, part_with}
 use Rattle.sms_handset.specs.Keys.{entry_key}
 use Rattle.sms_handset.specs.OpenGroups.{AreFound, IsFoundAs, entries_of, found_then, open_at, stored_part, stored_parts}
 use Rattle.sms_handset.specs.OpenIndex.{first_entry_of}

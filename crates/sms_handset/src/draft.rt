@@ -2,7 +2,7 @@
 ghost use Rattle.std.specs.Prelude.{◌≡◌, ◌++◌, ◌<◌, ◌≤◌, ◌+◌, [], length, OnOk, option_copied, IfOk};
 ghost use Rattle.sms_base.specs.Address.{IsAddress};
 ghost use Rattle.sms_base.specs.Table.{Rises, all_applied, row_at};
-ghost use Rattle.sms_handset.specs.Keys.{entry_key, last_key, mark_key, out_key};
+ghost use Rattle.sms_handset.specs.Keys.{entry_key, last_key};
 ghost use Rattle.sms_handset.specs.Draft.{begin as begin_of, carried_in as carried_in_of, carrying, from_links, no_changes, put_counters as put_counters_of, put_entry as put_entry_of, put_last as put_last_of, put_mark as put_mark_of, put_out as put_out_of, remove_entry as remove_entry_of, remove_mark as remove_mark_of, remove_out as remove_out_of, reply as reply_of};
 ghost use Rattle.sms_control.specs.ControlReading.{cp_at};
 ghost use Rattle.sms_handset.specs.Groups.{members as members_of};
@@ -77,7 +77,11 @@ impl<'a> Draft<'a> {
     pub(crate) fn put_entry(&mut self, entry: Entry) -> Result<(), NoMemory>
         ensures { OnOk result (self.new ≡ put_entry_of entry self.old) }
     {
-        let freed = slots_after(&self.base.entries, self.changes.entries.as_slice(), entry.number);
+        let freed = slots_after(
+            &self.base.entries,
+            self.changes.entries.as_slice(),
+            entry.number,
+        );
         let taken = retaken(self.taken, freed, entry.slots)?;
         self.changes.entries.push(Change::Put(entry))?;
         self.taken = taken;
@@ -157,14 +161,6 @@ impl<'a> Draft<'a> {
         ensures valid { IsAddress result }
     {
         self.base.setup.centre
-    }
-
-    /// The inbox, before anything of it has changed.
-    pub(crate) fn entries(&self) -> &'a [Entry]
-        requires { self.now.changes.entries ≡ [] }
-        ensures { result.now ≡ self.now.rows.entries }
-    {
-        self.base.entries.as_slice()
     }
 
     /// The stored parts of the group, before anything has changed.

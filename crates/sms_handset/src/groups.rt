@@ -1,9 +1,8 @@
 //! Parts of long messages.
-ghost use Rattle.std.specs.Prelude.{◌≡◌, ◌++◌, ◌∷◌, [], ◌<◌, ◌≤◌, IfOk, OnOk, option_copied};
+ghost use Rattle.std.specs.Prelude.{◌≡◌, ◌++◌, ◌∷◌, [], ◌<◌, option_copied};
 ghost use Rattle.sms_concat.specs.Joining.{is_same_reference as is_same_reference_of};
 ghost use Rattle.sms_concat.specs.UserData.{header_key};
-ghost use Rattle.sms_handset.specs.declared.entry.Entry.{Entry as EntryOf};
-ghost use Rattle.sms_handset.specs.Groups.{all_numbers, first_number as first_number_of, part_number, is_among as is_among_of, is_part_of as is_part_of_group, is_same_address as is_same_address_of, is_same_group as is_same_group_of, mark_of, members, part_numbers};
+ghost use Rattle.sms_handset.specs.Groups.{all_numbers, part_number, is_among as is_among_of, is_same_address as is_same_address_of, is_same_group as is_same_group_of, mark_of, members, part_numbers};
 
 use crate::entry::{Entry, Group, Message};
 use crate::mark::Mark;

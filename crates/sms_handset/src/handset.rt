@@ -1,7 +1,6 @@
 //! The handset.
 ghost use Rattle.std.specs.Prelude.{◌≡◌, Ok, IfOk};
 ghost use Rattle.std.specs.Str.{chars};
-ghost use Rattle.sms_control.specs.LinkStep.{take_step, fire_step};
 ghost use Rattle.sms_handset.specs.Draft.{draft_of, recovered};
 ghost use Rattle.sms_handset.specs.HandsetEvent.{deleted, discarded, frame_came as frame_came_of, ticked as ticked_of, wrote};
 ghost use Rattle.sms_handset.specs.Planning.{adopted, Fits, HasSpares, IsPlanOf, Judges, OfDelete, OfDiscard, OfFrame, OfTick, OfWrite, Plans, Rests, Stores};

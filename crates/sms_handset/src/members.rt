@@ -136,11 +136,7 @@ impl<'a> Draft<'a> {
         self.free_parts(members.parts, members.entries)
     }
 
-    fn free_parts(
-        &mut self,
-        parts: &[StoredPart],
-        entries: &Table<Entry>,
-    ) -> Result<(), NoMemory>
+    fn free_parts(&mut self, parts: &[StoredPart], entries: &Table<Entry>) -> Result<(), NoMemory>
         ensures { OnOk result (self.new ≡ free_parts_of parts.now entries.now.rows self.old) }
     {
         for part in parts {

@@ -23,12 +23,7 @@ pub(crate) struct OpenGroup {
 pub(crate) enum Regrouping {
     Unchanged,
     /// The group stands under the number of its first stored part, in the place of what stood there.
-    Opened {
-        first: u32,
-        group: OpenGroup,
-    },
+    Opened { first: u32, group: OpenGroup },
     /// The group whose first stored part has that number is open no longer.
-    Closed {
-        first: u32,
-    },
+    Closed { first: u32 },
 }

@@ -1,6 +1,6 @@
 //! The index of open groups.
 ghost use Rattle.std.specs.Prelude.{◌≡◌, ◌+◌, ◌≤◌, ◌++◌, ◌∷◌, ℕ, List, [], max, nat_eq, None, Some, IfOk, OnOk, option_copied};
-ghost use Rattle.indexmap.specs.IndexMap.{IsUnique, index_map_len, spare};
+ghost use Rattle.indexmap.specs.IndexMap.{IsUnique, spare};
 ghost use Rattle.sms_base.specs.Table.{Rises};
 ghost use Rattle.sms_handset.specs.declared.entry.Entry.{Entry as EntryOf};
 ghost use Rattle.sms_handset.specs.Keys.{entry_key};

@@ -87,7 +87,10 @@ impl Pair {
             || !rises(rows.marks.as_slice())
             || !has_numbers_below(rows.entries.as_slice(), rows.counters.entry)
         {
-            return Err(Fail::new(format_args!("event {}: rows out of order, or a number not given", self.events)));
+            return Err(Fail::new(format_args!(
+                "event {}: rows out of order, or a number not given",
+                self.events
+            )));
         }
         self.handset = Handset::standing_on(self.alloc, rows)?;
         self.plain.restart();

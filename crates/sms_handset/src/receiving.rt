@@ -258,12 +258,7 @@ impl<'a> Draft<'a> {
         self.accept(reference, tag, tpdu)
     }
 
-    fn tpdu_came(
-        &mut self,
-        reference: u8,
-        tag: Holder,
-        tpdu: &[u8],
-    ) -> Result<Regrouping, NoMemory>
+    fn tpdu_came(&mut self, reference: u8, tag: Holder, tpdu: &[u8]) -> Result<Regrouping, NoMemory>
         requires untouched { self.old.changes ≡ no_changes }
         ensures moves { OnOk result (self.new ≡ tpdu_came_of reference tag tpdu.now (down_at Data tpdu.now) self.old) }
         ensures groups { IfOk result (λ change. change ≡ tpdu_groups tpdu.now (down_at Data tpdu.now) self.old) }
@@ -284,12 +279,7 @@ impl<'a> Draft<'a> {
     }
 
     // RP-DATA.
-    fn data_came(
-        &mut self,
-        reference: u8,
-        tag: Holder,
-        tpdu: &[u8],
-    ) -> Result<Regrouping, NoMemory>
+    fn data_came(&mut self, reference: u8, tag: Holder, tpdu: &[u8]) -> Result<Regrouping, NoMemory>
         requires untouched { self.old.changes ≡ no_changes }
         ensures moves { OnOk result (self.new ≡ data_came_of reference tag tpdu.now self.old) }
         ensures groups { IfOk result (λ change. change ≡ data_groups reference tpdu.now self.old) }

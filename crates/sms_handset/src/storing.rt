@@ -1,10 +1,10 @@
 //! Storing messages and parts, and what becomes of a group.
-ghost use Rattle.std.specs.Prelude.{◌≡◌, ◌++◌, ◌+◌, ◌∷◌, ◌<◌, [], true, nat_lt, IfOk, OnOk, Some, None};
-ghost use Rattle.sms_handset.specs.Draft.{no_changes, put_entry as put_entry_of};
+ghost use Rattle.std.specs.Prelude.{◌≡◌, ◌++◌, ◌+◌, ◌∷◌, ◌<◌, [], true, IfOk, OnOk, Some, None};
+ghost use Rattle.sms_handset.specs.Draft.{put_entry as put_entry_of};
 ghost use Rattle.sms_handset.specs.Groups.{alone, completed, count_entry as count_entry_of, ended, free_all, marked as marked_of, part_entry, store_part as store_part_of, store_single as store_single_of};
 ghost use Rattle.sms_handset.specs.GroupChanges.{stored_groups};
 ghost use Rattle.sms_handset.specs.OpenGroups.{grouped, open_group};
-ghost use Rattle.sms_handset.specs.MemoryAvailable.{flag as flag_of, freed as freed_of, has_room as has_room_of, slots_taken, want_notice};
+ghost use Rattle.sms_handset.specs.MemoryAvailable.{flag as flag_of, freed as freed_of, has_room as has_room_of, slots_taken};
 
 use crate::draft::Draft;
 use crate::entry::{Entry, Group, Message};

@@ -1,4 +1,4 @@
-use Rattle.std.proofs.Common.{◌≡◌, ℕ, Some, None, sym, ◌∙◌, ap, eq-eqb, ne_eqb}
+use Rattle.std.proofs.Common.{Some, None, sym, ◌∙◌, eq-eqb, ne_eqb}
 use Rattle.std.specs.Prelude.{◌==◌}
 use Rattle.std.proofs.lemmas.Bool.{cond-true, cond-false}
 use Rattle.sms_handset.specs.Groups.{part_number}

@@ -1,7 +1,6 @@
-use Rattle.std.proofs.Common.{◌≡◌, ℕ, List, Option, Result, IfOk, OnOk, ◌++◌, length, refl, sym, ◌∙◌, ap, subst, arith}
+use Rattle.std.proofs.Common.{List, ◌++◌, ◌∙◌, ap}
 use Rattle.sms_handset.specs.declared.entry.Entry.{Entry}
-use Rattle.sms_handset.specs.Groups.{drop_all, first_number, free_all, is_among, part_numbers, part_with}
-use Rattle.sms_handset.specs.OpenGroups.{stored_parts}
+use Rattle.sms_handset.specs.Groups.{free_all}
 use Rattle.sms_handset.specs.Draft.{Draft}
 use Rattle.sms_handset.proofs.PartsFound.{done, frees}
 use Rattle.sms_handset.proofs.draft.Draft.free_members.Goals as goal

@@ -1,4 +1,4 @@
-use Rattle.std.proofs.Common.{◌≡◌, List, sym, ◌∙◌, ap, arith}
+use Rattle.std.proofs.Common.{List, sym, ◌∙◌, ap, arith}
 use Rattle.sms_base.specs.Table.{all_applied, row_at}
 use Rattle.sms_base.specs.declared.change.Change.{Change}
 use Rattle.sms_handset.specs.declared.entry.Entry.{Entry}

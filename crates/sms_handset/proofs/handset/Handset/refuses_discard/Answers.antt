@@ -1,4 +1,4 @@
-use Rattle.std.proofs.Common.{◌≡◌, ◌<◌, sym, ◌∙◌, ap, subst, true, not, is_some, List, Option, option_copied, length, Bool}
+use Rattle.std.proofs.Common.{◌≡◌, ◌<◌, sym, ◌∙◌, ap, subst, true, not, is_some, List, Option, length, Bool}
 use Rattle.sms_handset.specs.declared.mark.Mark.{Mark}
 use Rattle.sms_handset.specs.declared.open_group.OpenGroup.{OpenGroup}
 use Rattle.sms_handset.specs.Draft.{Standing, draft_of}

@@ -1,9 +1,5 @@
-use Rattle.std.proofs.Common.{◌≡◌, ℕ, List, Option, Result, IfOk, OnOk, ◌++◌, length, refl, sym, ◌∙◌, ap, subst, arith}
-use Rattle.sms_handset.specs.declared.entry.Entry.{Entry}
-use Rattle.sms_handset.specs.Groups.{drop_all, first_number, free_all, is_among, part_numbers, part_with}
-use Rattle.sms_handset.specs.OpenGroups.{stored_parts}
+use Rattle.std.proofs.Common.{List, sym, ◌∙◌, ap, subst}
 use Rattle.sms_handset.specs.declared.open_group.StoredPart.{StoredPart}
-use Rattle.sms_handset.specs.Groups.{members}
 use Rattle.sms_handset.specs.OpenGroups.{AreFound, entries_of}
 use Rattle.sms_handset.proofs.PartsFound.{members_again, members_found}
 use Rattle.sms_handset.proofs.members.Members.in_group.Goals as goal

@@ -1,8 +1,6 @@
-use Rattle.std.proofs.Common.{◌≡◌, ℕ, List, Option, Result, IfOk, OnOk, ◌++◌, length, refl, sym, ◌∙◌, ap, subst, arith}
+use Rattle.std.proofs.Common.{ℕ, List, Option, sym, ◌∙◌, ap}
 use Rattle.sms_handset.specs.declared.entry.Entry.{Entry}
-use Rattle.sms_handset.specs.Groups.{drop_all, first_number, free_all, is_among, part_numbers, part_with}
-use Rattle.sms_handset.specs.OpenGroups.{stored_parts}
-use Rattle.sms_handset.specs.StoredParts.{entry_with}
+use Rattle.sms_handset.specs.Groups.{part_with}
 use Rattle.sms_handset.proofs.PartsFound.{row_of, with_is}
 use Rattle.sms_handset.proofs.members.Members.part_with.Goals as goal
 

@@ -1,6 +1,5 @@
-use Rattle.std.proofs.Common.{◌≡◌, ℕ, List, Option, Result, IfOk, OnOk, ◌++◌, length, refl, sym, ◌∙◌, ap, subst, arith}
+use Rattle.std.proofs.Common.{List, sym, ◌∙◌, ap}
 use Rattle.sms_handset.specs.declared.entry.Entry.{Entry}
-use Rattle.sms_handset.specs.Groups.{drop_all, first_number, free_all, is_among, part_numbers, part_with}
 use Rattle.sms_handset.specs.OpenGroups.{stored_parts}
 use Rattle.sms_handset.proofs.PartsFound.{stored_again}
 use Rattle.sms_handset.proofs.members.Members.parts.Goals as goal

@@ -1,4 +1,4 @@
-use Rattle.std.proofs.Common.{◌≡◌, ℕ, List, nat_eq, length, ap, arith}
+use Rattle.std.proofs.Common.{ℕ, List, nat_eq, length, ap, arith}
 use Rattle.std.specs.Map.{lookup}
 use Rattle.sms_handset.specs.declared.open_group.OpenGroup.{OpenGroup}
 use Rattle.sms_handset.proofs.FindingGroups.{moved_all}
