@@ -41,7 +41,7 @@ pub(crate) struct Draft<'a> {
     pub(crate) is_recovered: bool,
     pub(crate) changes: Changes,
     /// How many slots the entries take as they stand.
-    pub(crate) taken: u32,
+    pub(crate) taken: u64,
     pub(crate) frames: Listed<Outgoing>,
 }
 
@@ -285,12 +285,13 @@ fn slots_after(entries: &Table<Entry>, changes: &[Change<Entry>], number: u32) -
     }
 }
 
-// How many slots are taken where some were freed and others taken, as far as they can be counted.
-fn retaken(taken: u32, freed: u8, slots: u8) -> Result<u32, NoMemory>
+// How many slots are taken where some were freed and others taken. A count that is too large for its type, which takes
+// more entries than there are numbers, is told as want of memory.
+fn retaken(taken: u64, freed: u8, slots: u8) -> Result<u64, NoMemory>
     requires { freed ≤ taken }
     ensures { IfOk result (λ now. now + freed ≡ taken + slots) }
 {
-    match (taken - u32::from(freed)).checked_add(u32::from(slots)) {
+    match (taken - u64::from(freed)).checked_add(u64::from(slots)) {
         Some(now) => Ok(now),
         None => Err(NoMemory),
     }

@@ -38,7 +38,7 @@ pub struct Planned {
     pub(crate) notice: Option<Notice>,
     pub(crate) is_recovered: bool,
     pub(crate) regrouping: Regrouping,
-    pub(crate) taken: u32,
+    pub(crate) taken: u64,
     pub(crate) spares: Spares,
 }
 

@@ -50,7 +50,7 @@ pub(crate) struct Stored {
     /// The index of the open groups among the entries.
     pub(crate) groups: OpenGroups,
     /// How many slots the entries take.
-    pub(crate) taken: u32,
+    pub(crate) taken: u64,
     pub(crate) last: Table<Last>,
     pub(crate) outbox: Table<OutEntry>,
     pub(crate) marks: Table<Mark>,

@@ -20,13 +20,14 @@ use sms_base::Octets;
 use sms_concat::Content;
 use std::alloc::Global;
 
-/// How many slots the entries take, as far as they can be counted.
-pub(crate) fn slots_in(entries: &[Entry]) -> Result<u32, NoMemory>
+/// How many slots the entries take. A count that is too large for its type, which takes more entries than there are
+/// numbers, is told as want of memory.
+pub(crate) fn slots_in(entries: &[Entry]) -> Result<u64, NoMemory>
     ensures { IfOk result (λ taken. taken ≡ slots_taken entries.now) }
 {
-    let mut taken: u32 = 0;
+    let mut taken: u64 = 0;
     for entry in entries {
-        let Some(more) = taken.checked_add(u32::from(entry.slots)) else {
+        let Some(more) = taken.checked_add(u64::from(entry.slots)) else {
             return Err(NoMemory);
         };
         taken = more;
@@ -40,7 +41,7 @@ impl<'a> Draft<'a> {
         ensures room { result ≡ has_room_of self.now }
         ensures number { result ≡ true → self.now.rows.counters.entry < 4294967295 }
     {
-        self.taken < u32::from(self.base.setup.slots) && self.counters().entry < 4294967295
+        self.taken < u64::from(self.base.setup.slots) && self.counters().entry < 4294967295
     }
 
     /// A message was refused for want of a slot.
