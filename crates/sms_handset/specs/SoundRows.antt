@@ -84,11 +84,11 @@ IsSubmitted o =
 abbrev pub IsApart : ℕ → List Entry → Type 0
 IsApart n entries = row_at entry_key n entries ≡ None
 
--- sent, and no more often than an entry is
+-- sent at least once, and no more often than an entry is sent
 abbrev pub WasSent : ℕ → Type 0
 WasSent tries = (0 < tries) × (tries ≤ most_tries)
 
--- an entry that is queued has a try left, any other was sent
+-- an entry that is Queued has a try left, any other was sent
 abbrev pub AreTries : EntryState → ℕ → Type 0
 AreTries Queued tries = tries < most_tries
 AreTries Sending tries = WasSent tries
@@ -102,7 +102,7 @@ AreOutEntries next entries outbox =
 
 -- ---- discarded groups
 
--- Each has numbers that differ, not all of them, and no other is of its group.
+-- The numbers seen of a group differ and are not all of them; no entry has the mark's number, and no other mark its group.
 abbrev pub AreMarks : ℕ → List Entry → List Mark → Type 0
 AreMarks next entries [] = Unit {0}
 AreMarks next entries (m ∷ ms) =
