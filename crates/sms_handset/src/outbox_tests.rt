@@ -21,101 +21,123 @@ fn to_a(text: &'static str) -> HandsetEvent<'static> {
 }
 
 // Time goes on to so many seconds behind the start.
-fn ticks(pair: &mut Pair, seconds: u64, frames: &[&[u8]]) -> Result<bool, Fail> {
+fn ticks(pair: &mut Pair, seconds: u64, frames: &[&[u8]]) -> Result<(), Fail> {
     pair.tick(seconds)?;
-    Ok(pair.sent(frames))
+    pair.has_sent(frames)
 }
 
-// The state of the entry at a place of the outbox.
-fn is_in(pair: &Pair, place: usize, state: EntryState) -> bool {
+// The entry at a place of the outbox is in that state.
+fn is_in(pair: &Pair, place: usize, state: EntryState) -> Result<(), Fail> {
     match pair.handset.outbox().get(place) {
-        Some(entry) => entry.state == state,
-        None => false,
+        Some(entry) if entry.state == state => Ok(()),
+        _ => Err(Fail::new("another state")),
     }
 }
 
-// The octets of the SUBMIT at a place of the outbox.
-fn has_tpdu(pair: &Pair, place: usize, tpdu: &[u8]) -> bool {
+// The entry at a place of the outbox has that SUBMIT.
+fn has_tpdu(pair: &Pair, place: usize, tpdu: &[u8]) -> Result<(), Fail> {
     match pair.handset.outbox().get(place) {
-        Some(entry) => entry.tpdu.as_slice() == tpdu,
-        None => false,
+        Some(entry) if entry.tpdu.as_slice() == tpdu => Ok(()),
+        _ => Err(Fail::new("another SUBMIT")),
     }
+}
+
+fn acknowledged(pair: &mut Pair) -> Result<(), Fail> {
+    pair.gives(&to_a("hello"), &[SUBMIT])?;
+    is_in(pair, 0, EntryState::Sending)?;
+    pair.takes(b"\x89\x04", &[])?;
+    let ack: &[u8] = b"\x89\x01\x0D\x03\x00\x41\x09\x01\x00\x42\x20\x92\x32\x95\x85\x00";
+    pair.takes(ack, &[b"\x09\x04"])?;
+    is_in(pair, 0, EntryState::Sent)?;
+    Ok(())
 }
 
 #[test]
 fn an_acknowledged_text_is_sent(rt: HostRuntime) -> Result<(), Fail> {
     let mut pair = Pair::new(rt.alloc(), 1)?;
-    assert!(rt; pair.gives(&to_a("hello"), &[SUBMIT])?);
-    assert!(rt; is_in(&pair, 0, EntryState::Sending));
-    assert!(rt; pair.takes(b"\x89\x04", &[])?);
-    let ack: &[u8] = b"\x89\x01\x0D\x03\x00\x41\x09\x01\x00\x42\x20\x92\x32\x95\x85\x00";
-    assert!(rt; pair.takes(ack, &[b"\x09\x04"])?);
-    assert!(rt; is_in(&pair, 0, EntryState::Sent));
+    acknowledged(&mut pair)
+}
+
+fn duplicate(pair: &mut Pair) -> Result<(), Fail> {
+    pair.gives(&to_a("hello"), &[SUBMIT])?;
+    pair.takes(b"\x89\x04", &[])?;
+    ticks(pair, 39, &[])?;
+    let mut again = [0x19; 33];
+    again[1..].copy_from_slice(&SUBMIT[1..]);
+    again[15] = 0x05;
+    ticks(pair, 40, &[&again])?;
+    let duplicate: &[u8] =
+        b"\x99\x01\x10\x05\x00\x01\x15\x41\x0A\x01\xC5\x00\x42\x20\x92\x32\x95\x85\x00";
+    pair.takes(duplicate, &[b"\x19\x04"])?;
+    is_in(pair, 0, EntryState::Unsure)?;
     Ok(())
 }
 
 #[test]
 fn a_duplicate_of_a_lost_text_is_unsure(rt: HostRuntime) -> Result<(), Fail> {
     let mut pair = Pair::new(rt.alloc(), 1)?;
-    assert!(rt; pair.gives(&to_a("hello"), &[SUBMIT])?);
-    assert!(rt; pair.takes(b"\x89\x04", &[])?);
-    assert!(rt; ticks(&mut pair, 39, &[])?);
+    duplicate(&mut pair)
+}
+
+fn passing_cause(pair: &mut Pair) -> Result<(), Fail> {
+    pair.gives(&to_a("hello"), &[SUBMIT])?;
+    pair.takes(b"\x89\x01\x04\x05\x00\x01\x29", &[b"\x09\x04"])?;
+    is_in(pair, 0, EntryState::Queued)?;
+    ticks(pair, 59, &[])?;
     let mut again = [0x19; 33];
     again[1..].copy_from_slice(&SUBMIT[1..]);
-    again[15] = 0x05;
-    assert!(rt; ticks(&mut pair, 40, &[&again])?);
-    let duplicate: &[u8] =
-        b"\x99\x01\x10\x05\x00\x01\x15\x41\x0A\x01\xC5\x00\x42\x20\x92\x32\x95\x85\x00";
-    assert!(rt; pair.takes(duplicate, &[b"\x19\x04"])?);
-    assert!(rt; is_in(&pair, 0, EntryState::Unsure));
+    ticks(pair, 60, &[&again])?;
+    pair.takes(b"\x99\x01\x04\x05\x00\x01\x29", &[b"\x19\x04"])?;
+    again[0] = 0x29;
+    ticks(pair, 120, &[&again])?;
+    pair.takes(b"\xA9\x01\x04\x05\x00\x01\x29", &[b"\x29\x04"])?;
+    is_in(pair, 0, EntryState::Failed)?;
     Ok(())
 }
 
 #[test]
 fn a_cause_that_passes_is_tried_again_after_60_seconds(rt: HostRuntime) -> Result<(), Fail> {
     let mut pair = Pair::new(rt.alloc(), 1)?;
-    assert!(rt; pair.gives(&to_a("hello"), &[SUBMIT])?);
-    assert!(rt; pair.takes(b"\x89\x01\x04\x05\x00\x01\x29", &[b"\x09\x04"])?);
-    assert!(rt; is_in(&pair, 0, EntryState::Queued));
-    assert!(rt; ticks(&mut pair, 59, &[])?);
-    let mut again = [0x19; 33];
-    again[1..].copy_from_slice(&SUBMIT[1..]);
-    assert!(rt; ticks(&mut pair, 60, &[&again])?);
-    assert!(rt; pair.takes(b"\x99\x01\x04\x05\x00\x01\x29", &[b"\x19\x04"])?);
-    again[0] = 0x29;
-    assert!(rt; ticks(&mut pair, 120, &[&again])?);
-    assert!(rt; pair.takes(b"\xA9\x01\x04\x05\x00\x01\x29", &[b"\x29\x04"])?);
-    assert!(rt; is_in(&pair, 0, EntryState::Failed));
+    passing_cause(&mut pair)
+}
+
+fn long_text(pair: &mut Pair) -> Result<(), Fail> {
+    pair.done(&to_a(LONG))?;
+    is_in(pair, 0, EntryState::Sending)?;
+    is_in(pair, 1, EntryState::Queued)?;
+    let second: &[u8] =
+        b"\x41\x01\x0C\x91\x44\x77\x00\x09\x10\x32\x00\x00\x11\x06\x08\x04\x00\x00\x02\x02\xE1\x70\x38\x1C\x0E\x87\xC3\x61";
+    has_tpdu(pair, 1, second)?;
+    pair.refuses(&HandsetEvent::Delete { entry: 2 }, Refusal::StillOpen)?;
     Ok(())
 }
 
 #[test]
 fn a_long_text_is_split(rt: HostRuntime) -> Result<(), Fail> {
     let mut pair = Pair::new(rt.alloc(), 1)?;
-    assert_eq!(rt; pair.event(&to_a(LONG))?, None);
-    assert_eq!(rt; pair.plain.sent.len(), 1);
-    assert!(rt; is_in(&pair, 0, EntryState::Sending));
-    assert!(rt; is_in(&pair, 1, EntryState::Queued));
-    let second: &[u8] =
-        b"\x41\x01\x0C\x91\x44\x77\x00\x09\x10\x32\x00\x00\x11\x06\x08\x04\x00\x00\x02\x02\xE1\x70\x38\x1C\x0E\x87\xC3\x61";
-    assert!(rt; has_tpdu(&pair, 1, second));
-    assert!(rt; pair.refuses(&HandsetEvent::Delete { entry: 2 }, Refusal::StillOpen)?);
-    Ok(())
+    long_text(&mut pair)
 }
 
-#[test]
-fn a_faulty_number_is_refused_and_so_is_a_twenty_first_entry(rt: HostRuntime) -> Result<(), Fail> {
-    let mut pair = Pair::new(rt.alloc(), 1)?;
+fn full_outbox(pair: &mut Pair) -> Result<(), Fail> {
     let nowhere = HandsetEvent::Write {
         text: TextView::of("hello"),
         to: TextView::of(""),
         report: false,
     };
-    assert!(rt; pair.refuses(&nowhere, Refusal::Destination(AddressError::Empty))?);
+    pair.refuses(&nowhere, Refusal::Destination(AddressError::Empty))?;
     for _ in 0u8..20 {
-        assert_eq!(rt; pair.event(&to_a("hello"))?, None);
+        pair.done(&to_a("hello"))?;
     }
-    assert!(rt; pair.refuses(&to_a("hello"), Refusal::OutboxFull)?);
-    assert_eq!(rt; pair.handset.outbox().len(), 20);
-    Ok(())
+    pair.refuses(&to_a("hello"), Refusal::OutboxFull)?;
+    if pair.handset.outbox().len() == 20 {
+        Ok(())
+    } else {
+        Err(Fail::new("not 20 entries"))
+    }
+}
+
+#[test]
+fn a_faulty_number_is_refused_and_so_is_a_twenty_first_entry(rt: HostRuntime) -> Result<(), Fail> {
+    let mut pair = Pair::new(rt.alloc(), 1)?;
+    full_outbox(&mut pair)
 }

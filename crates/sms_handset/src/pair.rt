@@ -187,7 +187,8 @@ impl Pair {
         self.done(&HandsetEvent::Tick { now })
     }
 
-    fn done(&mut self, event: &HandsetEvent<'_>) -> Result<(), Fail> {
+    /// The event happens to both, and is not refused.
+    pub(crate) fn done(&mut self, event: &HandsetEvent<'_>) -> Result<(), Fail> {
         match self.event(event)? {
             None => Ok(()),
             Some(refusal) => Err(Fail::new(refusal)),
@@ -217,33 +218,51 @@ impl Pair {
         self.event(&HandsetEvent::Discard { entry })
     }
 
-    /// Whether the event is not refused, and sends these frames and no others.
-    pub(crate) fn gives(
-        &mut self,
-        event: &HandsetEvent<'_>,
-        frames: &[&[u8]],
-    ) -> Result<bool, Fail> {
+    /// The event is not refused, and sends these frames and no others.
+    pub(crate) fn gives(&mut self, event: &HandsetEvent<'_>, frames: &[&[u8]]) -> Result<(), Fail> {
         self.done(event)?;
-        Ok(self.sent(frames))
+        self.has_sent(frames)
     }
 
-    /// Whether a frame that comes sends these frames and no others.
-    pub(crate) fn takes(&mut self, frame: &[u8], frames: &[&[u8]]) -> Result<bool, Fail> {
+    /// A frame that comes sends these frames and no others.
+    pub(crate) fn takes(&mut self, frame: &[u8], frames: &[&[u8]]) -> Result<(), Fail> {
         self.frame(frame)?;
-        Ok(self.sent(frames))
+        self.has_sent(frames)
     }
 
-    /// Whether the event is refused so.
+    /// The event is refused so.
     pub(crate) fn refuses(
         &mut self,
         event: &HandsetEvent<'_>,
         refusal: Refusal,
-    ) -> Result<bool, Fail> {
-        Ok(self.event(event)? == Some(refusal))
+    ) -> Result<(), Fail> {
+        if self.event(event)? == Some(refusal) {
+            Ok(())
+        } else {
+            Err(Fail::new(format_args!("event {}: not refused as {refusal}", self.events)))
+        }
     }
 
-    /// Whether the last event sent these frames and no others.
-    pub(crate) fn sent(&self, frames: &[&[u8]]) -> bool {
+    /// The inbox has so many entries.
+    pub(crate) fn has_stored(&self, entries: usize) -> Result<(), Fail> {
+        if self.handset.inbox().len() == entries {
+            Ok(())
+        } else {
+            Err(Fail::new(format_args!("event {}: not {entries} entries", self.events)))
+        }
+    }
+
+    /// The last event sent these frames and no others.
+    pub(crate) fn has_sent(&self, frames: &[&[u8]]) -> Result<(), Fail> {
+        if self.sent(frames) {
+            Ok(())
+        } else {
+            Err(Fail::new(format_args!("event {}: other frames", self.events)))
+        }
+    }
+
+    // Whether the last event sent these frames and no others.
+    fn sent(&self, frames: &[&[u8]]) -> bool {
         if self.plain.sent.len() != frames.len() {
             return false;
         }

@@ -1,5 +1,5 @@
 //! References go around, past those that are held.
-use crate::Refusal;
+use crate::HandsetEvent;
 use crate::pair::Pair;
 use std::test::Fail;
 
@@ -41,45 +41,55 @@ fn write(pair: &mut Pair) -> Result<(), Fail> {
     }
 }
 
+// The owner deletes that entry.
+fn delete(pair: &mut Pair, number: u32) -> Result<(), Fail> {
+    pair.done(&HandsetEvent::Delete { entry: number })
+}
+
 // An RP-SMMA that waits for its second sending holds the reference 0, and a text that waits for its second try holds the
 // reference 1 and TP-MR 0.
-fn holding(pair: &mut Pair) -> Result<Option<Refusal>, Fail> {
+fn holding(pair: &mut Pair) -> Result<(), Fail> {
     pair.frame(&FIRST)?;
     pair.frame(&SECOND)?;
-    let refusal = pair.delete(1)?;
+    delete(pair, 1)?;
     pair.frame(&[0x89, 1, 2, 3, 9])?;
     write(pair)?;
     let (head, reference) = begun(pair)?;
-    pair.frame(&[head.saturating_add(128), 1, 4, 5, reference, 1, 41])?;
-    Ok(refusal)
+    pair.frame(&[head.saturating_add(128), 1, 4, 5, reference, 1, 41])
 }
 
 // A text goes, and is deleted.
-fn text_goes(pair: &mut Pair, number: u32) -> Result<Option<Refusal>, Fail> {
+fn text_goes(pair: &mut Pair, number: u32) -> Result<(), Fail> {
     write(pair)?;
     acknowledged(pair)?;
-    pair.delete(number)
+    delete(pair, number)
 }
 
-// TP-MR and the reference of the newest text.
-fn newest(pair: &Pair) -> Option<(u8, u8)> {
+// The newest text has that TP-MR and that reference.
+fn newest_has(pair: &Pair, message_reference: u8, reference: u8) -> Result<(), Fail> {
     match pair.handset.outbox() {
-        [.., newest] => Some((newest.message_reference, newest.reference)),
-        [] => None,
+        [.., newest]
+            if newest.message_reference == message_reference && newest.reference == reference => {
+            Ok(())
+        }
+        _ => Err(Fail::new("other references")),
     }
+}
+
+fn references(pair: &mut Pair) -> Result<(), Fail> {
+    holding(pair)?;
+    newest_has(pair, 0, 1)?;
+    for number in 3u32..257 {
+        text_goes(pair, number)?;
+    }
+    write(pair)?;
+    newest_has(pair, 255, 2)?;
+    write(pair)?;
+    newest_has(pair, 1, 3)
 }
 
 #[test]
 fn references_go_around_those_that_are_held(rt: HostRuntime) -> Result<(), Fail> {
     let mut pair = Pair::new(rt.alloc(), 1)?;
-    assert_eq!(rt; holding(&mut pair)?, None);
-    assert_eq!(rt; newest(&pair), Some((0, 1)));
-    for number in 3u32..257 {
-        assert_eq!(rt; text_goes(&mut pair, number)?, None);
-    }
-    write(&mut pair)?;
-    assert_eq!(rt; newest(&pair), Some((255, 2)));
-    write(&mut pair)?;
-    assert_eq!(rt; newest(&pair), Some((1, 3)));
-    Ok(())
+    references(&mut pair)
 }
