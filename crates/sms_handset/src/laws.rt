@@ -1,10 +1,13 @@
 //! Laws of a handset's events, over their definitions alone.
 ghost use Rattle.std.specs.Prelude.{ℕ, Bool, List};
 ghost use Rattle.sms_base.specs.declared.holder.Holder.{Holder};
+ghost use Rattle.sms_handset.specs.declared.rows.Rows.{Rows};
+ghost use Rattle.sms_handset.specs.declared.setup.Setup.{Setup};
 ghost use Rattle.sms_handset.specs.Accepted.{StoresAccepted};
 ghost use Rattle.sms_handset.specs.Draft.{Core};
 ghost use Rattle.sms_handset.specs.HandsetEvent.{deleted, discarded, frame_came, ticked, wrote};
 ghost use Rattle.sms_handset.specs.Planning.{Rests, RestsIfDone};
+ghost use Rattle.sms_handset.specs.SoundRows.{IsSetup, IsSound};
 
 /// The rows that an event leads to are the rows with its changes.
 pub fn rows_are_the_changes()
@@ -19,4 +22,9 @@ pub fn rows_are_the_changes()
 /// entry of its source and user data, alone or joined, which stands in the rows.
 pub fn accepted_is_stored()
     ensures { (octets : List ℕ) (tag : Holder) (c : Core) → StoresAccepted c.rows.marks (frame_came octets tag c).changes (frame_came octets tag c).rows }
+{}
+
+/// Sound rows are so with any setup: a handset recovers with what it is told then.
+pub fn sound_rows_take_any_setup()
+    ensures { (rows : Rows) (setup : Setup) → IsSound rows → IsSetup setup → IsSound (record rows { setup = setup }) }
 {}
