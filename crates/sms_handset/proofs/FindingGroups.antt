@@ -21,7 +21,8 @@ use Rattle.sms_handset.specs.Groups.{is_part_of, is_same_group, members, part_nu
 use Rattle.sms_handset.specs.Keys.{entry_key}
 use Rattle.sms_handset.specs.OpenGroups.{IsRegrouped, open_group, regrouped, stored_part, stored_parts}
 use Rattle.sms_handset.specs.OpenIndex.{Indexes, find_open, first_entry_of, parts_of, under, with_one_more}
-use Rattle.sms_handset.proofs.Indexing.{all_stay, members_append, one_group, one_opens, other_group, same_group, stands_first}
+use Rattle.sms_handset.proofs.GroupMembers.{members_append, one_group, other_group, same_group}
+use Rattle.sms_handset.proofs.Indexing.{all_stay, one_opens, stands_first}
 use Rattle.sms_handset.proofs.PartsFound.{open_parts, stored_more}
 
 -- a group of the list has a number under which it is found

@@ -62,7 +62,8 @@ use Rattle.sms_handset.specs.SoundRows.{AreEntries, IsSound}
 use Rattle.sms_handset.specs.References.{is_unfinished}
 use Rattle.sms_handset.proofs.Accepting.{Kept, follow_kept}
 use Rattle.sms_handset.proofs.Resting.{write_rests, delete_rests, discard_rests}
-use Rattle.sms_handset.proofs.Indexing.{all_stay, all_without, all_without_self, among_members, apart_groups, members_all_without, members_among, members_append, members_put, members_without, one_closes, one_group, one_opens, other_group, others_stay, same_entry, without_apart}
+use Rattle.sms_handset.proofs.GroupMembers.{all_without, all_without_self, among_members, apart_groups, members_all_without, members_among, members_append, members_put, members_without, one_group, other_group, others_stay, same_entry, without_apart}
+use Rattle.sms_handset.proofs.Indexing.{all_stay, one_closes, one_opens}
 
 -- ---- numbers that were given
 

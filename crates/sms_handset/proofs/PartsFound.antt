@@ -14,7 +14,8 @@ use Rattle.sms_handset.specs.Keys.{entry_key}
 use Rattle.sms_handset.specs.OpenGroups.{AreFound, IsFoundAs, entries_of, found_then, open_at, stored_part, stored_parts}
 use Rattle.sms_handset.specs.OpenIndex.{first_entry_of}
 use Rattle.sms_handset.specs.StoredParts.{drop_parts, entry_with, free_found, free_parts, numbers_of}
-use Rattle.sms_handset.proofs.Indexing.{is_first, members_among}
+use Rattle.sms_handset.proofs.GroupMembers.{members_among}
+use Rattle.sms_handset.proofs.Indexing.{is_first}
 
 -- what is known where it is done leads to more
 pub done : {X E : Type 0} (r : Result X E) (P Q : Type 0) → (P → Q) → OnOk r P → OnOk r Q
