@@ -6,10 +6,8 @@ pub mod MessageIds
 pub mod CodeTables
 pub mod NameWalk
 pub mod NumberWalk
-pub mod Places
 pub mod Shown
 pub mod Steps
 pub mod SmppTimes
 pub mod Stamps
-pub mod Tables
 pub mod WrittenStamps

@@ -1,7 +1,7 @@
 pub mod Address
 pub mod AddressKind
-pub mod Alphabet
 pub mod Among
+pub mod Alphabet
 pub mod Digits
 pub mod FaultCodes
 pub mod Inside
@@ -10,5 +10,4 @@ pub mod LatinCodes
 pub mod Reading
 pub mod SemiOctet
 pub mod SmppTime
-pub mod Table
 pub mod TimeStamp

@@ -1,4 +1,4 @@
-//! The words that every layer above speaks in, none of which takes memory but `Octets` and `Table`.
+//! The words that every layer above speaks in, none of which takes memory but `Octets` and `Listed`.
 //!
 //! Moments and addresses equal their spelling: a time stamp is read as the moment that its clock shows
 //! (3GPP TS 23.040 9.2.3.11), a moment is written as one time stamp, and an address is the type of number, the
@@ -6,30 +6,27 @@
 //! `Octets` and `OctetView` are octets as contracts see them, a list; `Cursor` reads them from left to right,
 //! with the words of `specs/Reading.antt`, which the readers of all formats share.
 //! The default alphabet's two tables (3GPP TS 23.038 6.2.1) stand here, since a name is measured in septets.
-//! `Table` keeps rows in the order of their keys, at most one row a key, and is changed by `Change`s without memory
-//! where room was made before; `MessageId` and `Holder` name messages and those for whom a frame is made.
+//! `MessageId` and `Holder` name messages and those for whom a frame is made, `Carried` what a frame carries.
 #![tactic(auto)]
 
 mod address;
 mod address_error;
 mod address_text;
 mod alphabet;
-mod change;
+mod carried;
 mod clock;
 mod cursor;
 mod digits;
 mod final_state;
 mod holder;
 pub mod laws;
+mod listed;
 mod message_id;
 mod moment;
 mod octets;
 mod reference;
 mod semi_octet;
 mod smpp_time;
-mod table;
-#[cfg(test)]
-mod tests;
 mod type_of_number;
 
 pub use address::Address;
@@ -37,16 +34,16 @@ pub use address_error::AddressError;
 pub use alphabet::{
     Code, ESCAPE, EXTENSION_TABLE, MAIN_TABLE, character_after_escape, character_of, code_of,
 };
-pub use change::Change;
+pub use carried::{Carried, Kind};
 pub use cursor::Cursor;
 pub use digits::Digits;
 pub use final_state::FinalState;
 pub use holder::Holder;
+pub use listed::Listed;
 pub use message_id::MessageId;
 pub use moment::{Moment, MomentError};
 pub use octets::{OctetView, Octets};
 pub use reference::Reference;
 pub use semi_octet::{digit_of, semi_octet_of};
 pub use smpp_time::SmppTimeError;
-pub use table::{Row, Spare, Table, rises};
 pub use type_of_number::TypeOfNumber;

@@ -3,3 +3,4 @@ pub mod LinkLaws
 pub mod ReplyLaws
 pub mod TickLaws
 pub mod RepeatLaws
+pub mod FiringCases

@@ -4,10 +4,10 @@ use Rattle.std.specs.Prelude.{max, ◌+◌, ◌*◌, ◌==◌, ◌&&◌, nat_lt,
 use Rattle.std.proofs.Math.Nat.{eq-or-lt_of_le}
 use Rattle.std.proofs.lemmas.Bool.{cond_both, cond-false, cond-true, or_parts, and_parts, leb-true, ltb-true}
 use Rattle.sms_base.specs.Among.{Among}
-use Rattle.sms_base.proofs.Tables.{put_among}
-use Rattle.sms_base.specs.Table.{row_at}
-use Rattle.sms_base.specs.declared.change.Change.{Change}
-use Rattle.sms_base.specs.declared.change.Change.TheVariants.{Put}
+use Rattle.sms_table.proofs.Tables.{put_among}
+use Rattle.sms_table.specs.Table.{row_at}
+use Rattle.sms_table.specs.declared.change.Change.{Change}
+use Rattle.sms_table.specs.declared.change.Change.TheVariants.{Put}
 use Rattle.sms_base.specs.declared.holder.Holder.{Holder}
 use Rattle.sms_concat.specs.declared.concat_key.ConcatKey.{ConcatKey}
 use Rattle.sms_concat.specs.declared.content.Content.{Content}
@@ -57,7 +57,7 @@ use Rattle.sms_relay.specs.RelayReading.{down_at as unit_at}
 use Rattle.sms_handset.specs.declared.answers.Verdict.{Verdict}
 use Rattle.sms_handset.specs.declared.answers.Verdict.TheVariants.{Acknowledged, Temporary, Duplicate, Refused, Lost}
 use Rattle.sms_handset.specs.declared.notice.Notice.{Notice}
-use Rattle.sms_handset.specs.declared.outgoing.Carried.{Carried}
+use Rattle.sms_base.specs.declared.carried.Carried.{Carried}
 use Rattle.sms_handset.specs.Answers.{verdict_of}
 use Rattle.sms_handset.specs.HandsetEvent.{acted, at_moment, deleted, discarded, failed, frame_came, frame_heard, ticked, timers_fired, went_up, wrote}
 use Rattle.sms_handset.specs.OwnersActs.{content_of_text, count_split, delete, delete_in, delete_out, discard, discard_at, discard_group, discard_in, discard_members, fits_outbox, is_open_part, write, write_part, write_parts, write_split, write_to, written}

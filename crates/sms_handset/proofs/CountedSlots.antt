@@ -1,10 +1,10 @@
 -- How many slots are taken, as entries come and go.
 use Rattle.std.proofs.Common.{◌≡◌, ℕ, ◌+◌, ◌<◌, ◌≤◌, arith, List, [], ◌∷◌, ◌++◌, Option, refl, ◌∙◌, ap, subst, ⊎_elim}
 use Rattle.std.proofs.lemmas.Bool.{cases_eq, cases_lt}
-use Rattle.sms_base.specs.Table.{AllAbove, Rises, all_applied, insert, put, row_at, without}
-use Rattle.sms_base.specs.declared.change.Change.{Change}
-use Rattle.sms_base.specs.declared.change.Change.TheVariants.{Put, Remove}
-use Rattle.sms_base.proofs.Tables.{all_applied_push, insert_behind, insert_here, rises_all_applied, row_behind, row_here, without_behind, without_here}
+use Rattle.sms_table.specs.Table.{AllAbove, Rises, all_applied, insert, put, row_at, without}
+use Rattle.sms_table.specs.declared.change.Change.{Change}
+use Rattle.sms_table.specs.declared.change.Change.TheVariants.{Put, Remove}
+use Rattle.sms_table.proofs.Tables.{all_applied_push, insert_behind, insert_here, rises_all_applied, row_behind, row_here, without_behind, without_here}
 use Rattle.sms_handset.specs.declared.entry.Entry.{Entry}
 use Rattle.sms_handset.specs.Keys.{entry_key}
 use Rattle.sms_handset.specs.MemoryAvailable.{slots_of, slots_taken}

@@ -6,11 +6,11 @@ use Rattle.std.proofs.lemmas.Bool.{cases_Bool, cases_eq, cond_both, cond-true, c
 use Rattle.std.proofs.lemmas.Slice.Eq.{bytes_eq-Decides}
 use Rattle.sms_base.specs.Among.{Among}
 use Rattle.sms_base.specs.AddressKind.{type_number, type_of}
-use Rattle.sms_base.specs.Table.{Rises, insert, put, row_at, without}
+use Rattle.sms_table.specs.Table.{Rises, insert, put, row_at, without}
 use Rattle.sms_base.specs.declared.address.Address.{Address}
 use Rattle.sms_base.specs.declared.type_of_number.TypeOfNumber.{TypeOfNumber}
 use Rattle.sms_base.specs.declared.type_of_number.TypeOfNumber.TheVariants.{Unknown, International, National, NetworkSpecific, Subscriber, Alphanumeric, Abbreviated}
-use Rattle.sms_base.proofs.Tables.{among_found, without_behind, without_here}
+use Rattle.sms_table.proofs.Tables.{among_found, without_behind, without_here}
 use Rattle.sms_concat.specs.Joining.{is_same_reference}
 use Rattle.sms_concat.specs.declared.concat_key.ConcatReference.{ConcatReference}
 use Rattle.sms_concat.specs.declared.concat_key.ConcatReference.TheVariants.{EightBit, SixteenBit}

@@ -4,13 +4,13 @@ use Rattle.std.specs.Prelude.{◌==◌, max, nat_lt, length}
 use Rattle.std.specs.List.{AllByRecursion}
 use Rattle.std.proofs.lemmas.Bool.{cond_both, cond-true, cond-false}
 use Rattle.sms_base.specs.Among.{Among}
-use Rattle.sms_base.specs.Table.{Rises, insert, put, row_at, without}
+use Rattle.sms_table.specs.Table.{Rises, insert, put, row_at, without}
 use Rattle.sms_base.specs.declared.address.Address.{Address}
 use Rattle.sms_base.specs.declared.address_error.AddressError.{AddressError}
 use Rattle.sms_base.specs.declared.holder.Holder.{Holder}
 use Rattle.sms_base.specs.declared.holder.Holder.TheVariants.{Part as PartHolder, Report, Entry as EntryHolder, Memory}
 use Rattle.sms_base.specs.Address.{address_of}
-use Rattle.sms_base.proofs.Tables.{found_among, found_key, insert_behind, rises_put, rises_without, without_behind}
+use Rattle.sms_table.proofs.Tables.{found_among, found_key, insert_behind, rises_put, rises_without, without_behind}
 use Rattle.sms_concat.specs.declared.concat_key.ConcatKey.{ConcatKey}
 use Rattle.sms_concat.specs.declared.content.Content.{Content}
 use Rattle.sms_concat.specs.declared.content.Part.{Part as PartOf}
@@ -42,7 +42,7 @@ use Rattle.sms_handset.specs.declared.notice.Notice.{Notice}
 use Rattle.sms_handset.specs.declared.open_group.Regrouping.{Regrouping}
 use Rattle.sms_handset.specs.declared.open_group.Regrouping.TheVariants.{Unchanged, Opened, Closed}
 use Rattle.sms_handset.specs.declared.out_entry.OutEntry.{OutEntry}
-use Rattle.sms_handset.specs.declared.outgoing.Carried.{Carried}
+use Rattle.sms_base.specs.declared.carried.Carried.{Carried}
 use Rattle.sms_handset.specs.declared.refusal.Refusal.{Refusal}
 use Rattle.sms_handset.specs.declared.refusal.Refusal.TheVariants.{NoEntry, StillOpen, OutboxFull, TooManyDiscarded}
 use Rattle.sms_handset.specs.declared.rows.Rows.{Rows}

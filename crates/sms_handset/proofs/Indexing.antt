@@ -3,8 +3,8 @@ use Rattle.std.proofs.Common.{◌≡◌, ◌⊎◌, ℕ, List, [], ◌∷◌, tr
 use Rattle.std.specs.Prelude.{◌==◌, if◌then◌else◌}
 use Rattle.std.proofs.lemmas.Bool.{cases_eq, cond-true, cond-false, ne_eqb}
 use Rattle.sms_base.specs.Among.{Among}
-use Rattle.sms_base.specs.Table.{Rises, row_at}
-use Rattle.sms_base.proofs.Tables.{among_found, found_among}
+use Rattle.sms_table.specs.Table.{Rises, row_at}
+use Rattle.sms_table.proofs.Tables.{among_found, found_among}
 use Rattle.sms_handset.specs.declared.entry.Entry.{Entry}
 use Rattle.sms_handset.specs.declared.entry.Group.{Group}
 use Rattle.sms_handset.specs.declared.entry.Message.{Message}

@@ -14,7 +14,7 @@ use Rattle.sms_handset.specs.Draft.{Draft, remove_entry, remove_out}
 use Rattle.sms_handset.specs.Groups.{first_number, members}
 use Rattle.sms_handset.specs.Keys.{entry_key}
 use Rattle.sms_handset.specs.OpenGroups.{open_at, open_first, open_group, open_of, open_under}
-use Rattle.sms_base.specs.Table.{row_at}
+use Rattle.sms_table.specs.Table.{row_at}
 use Rattle.sms_handset.specs.MemoryAvailable.{freed}
 use Rattle.sms_handset.specs.OwnersActs.{delete_in, delete_out, discard, discard_at, discard_group, discard_in, is_open_part}
 use Rattle.sms_handset.specs.References.{is_unfinished}

@@ -2,10 +2,10 @@
 use Rattle.std.proofs.Common.{◌≡◌, ℕ, List, [], ◌∷◌, ◌++◌, Bool, true, false, Option, Some, None, Result, Ok, Err, refl, sym, ◌∙◌, ap}
 use Rattle.std.proofs.lemmas.Bool.{cond_both}
 use Rattle.std.specs.Prelude.{max, nat_lt, nat_le, length, ◌==◌, ◌&&◌, ◌+◌, ◌%◌}
-use Rattle.sms_base.proofs.Tables.{all_applied_push}
-use Rattle.sms_base.specs.Table.{all_applied, put, without, row_at}
-use Rattle.sms_base.specs.declared.change.Change.{Change}
-use Rattle.sms_base.specs.declared.change.Change.TheVariants.{Put, Remove}
+use Rattle.sms_table.proofs.Tables.{all_applied_push}
+use Rattle.sms_table.specs.Table.{all_applied, put, without, row_at}
+use Rattle.sms_table.specs.declared.change.Change.{Change}
+use Rattle.sms_table.specs.declared.change.Change.TheVariants.{Put, Remove}
 use Rattle.sms_base.specs.declared.address.Address.{Address}
 use Rattle.sms_base.specs.declared.address_error.AddressError.{AddressError}
 use Rattle.sms_base.specs.declared.holder.Holder.{Holder}
@@ -44,7 +44,7 @@ use Rattle.sms_handset.specs.declared.last.Last.{Last}
 use Rattle.sms_handset.specs.declared.mark.Mark.{Mark}
 use Rattle.sms_handset.specs.declared.notice.Notice.{Notice}
 use Rattle.sms_handset.specs.declared.out_entry.OutEntry.{OutEntry}
-use Rattle.sms_handset.specs.declared.outgoing.Carried.{Carried}
+use Rattle.sms_base.specs.declared.carried.Carried.{Carried}
 use Rattle.sms_handset.specs.declared.refusal.Refusal.{Refusal}
 use Rattle.sms_handset.specs.declared.refusal.Refusal.TheVariants.{NoEntry, StillOpen, OutboxFull, TooManyDiscarded, TooManyParts, Destination}
 use Rattle.sms_handset.specs.declared.rows.Rows.{Rows}

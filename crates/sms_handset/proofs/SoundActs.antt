@@ -5,9 +5,9 @@ use Rattle.std.specs.List.{AllByRecursion}
 use Rattle.std.proofs.lemmas.Bool.{cond_both, leb-true, ltb-true, or_parts}
 use Rattle.sms_base.specs.Among.{Among}
 use Rattle.sms_base.specs.Address.{IsAddress, address_of}
-use Rattle.sms_base.specs.Table.{put, row_at, without}
+use Rattle.sms_table.specs.Table.{put, row_at, without}
 use Rattle.sms_base.proofs.Addresses.{address_found}
-use Rattle.sms_base.proofs.Tables.{found_among, found_key, length_put}
+use Rattle.sms_table.proofs.Tables.{found_among, found_key, length_put}
 use Rattle.sms_base.specs.declared.address.Address.{Address}
 use Rattle.sms_base.specs.declared.address_error.AddressError.{AddressError}
 use Rattle.sms_concat.specs.declared.content.Part.{Part as PartOf}
@@ -54,11 +54,11 @@ few_messages os = subst (λ (l : List ℕ). length l ≤ length os) (sym (held_m
 few_entries : (os : List OutEntry) → length (held_by_entries os) ≤ length os
 few_entries os = subst (λ (l : List ℕ). length l ≤ length os) (sym (held_entries os)) (held_few (λ (o : OutEntry). o.reference) os)
 
-few_references : (n : Option Notice) (os : List OutEntry) → length (held_references n os) ≤ length os + 1
+pub few_references : (n : Option Notice) (os : List OutEntry) → length (held_references n os) ≤ length os + 1
 few_references None os = omega (arith, few_entries os)
 few_references (Some n) os = omega (arith, few_entries os)
 
-not_by_entries : (n : Option Notice) (os : List OutEntry) (r : ℕ) → is_among r (held_references n os) ≡ false → is_among r (held_by_entries os) ≡ false
+pub not_by_entries : (n : Option Notice) (os : List OutEntry) (r : ℕ) → is_among r (held_references n os) ≡ false → is_among r (held_by_entries os) ≡ false
 not_by_entries None os r e = e
 not_by_entries (Some n) os r e = (or_parts (n.reference == r) (is_among r (held_by_entries os)) e).1
 
@@ -69,7 +69,7 @@ sending_below k n w os e b h =
     let q : h.0.number ≡ n = found_key out_key n h.0 os h.1.0 in
     sending_put n w os (λ f. absurd (omega arith)) h
 
-write_part_sound : (to : Address) (report is_long : Bool) (p : PartOf) (d : Draft) → IsAddress to → IsWritable p → length d.rows.outbox < 20 → SoundAt d → SoundAt (write_part to report is_long p d)
+pub write_part_sound : (to : Address) (report is_long : Bool) (p : PartOf) (d : Draft) → IsAddress to → IsWritable p → length d.rows.outbox < 20 → SoundAt d → SoundAt (write_part to report is_long p d)
 write_part_sound to report is_long p d a i room s =
     let k = d.rows.counters.entry in
     let es = d.rows.entries in
@@ -101,17 +101,17 @@ write_parts_sound to report is_long (p ∷ ps) d a i room s =
     let l : length e.rows.outbox ≤ length d.rows.outbox + 1 = length_put out_key (written_entry d.rows.counters.entry m r to report is_long p) d.rows.outbox in
     write_parts_sound to report is_long ps e a i.1 (omega arith) (write_part_sound to report is_long p d a i.0 (omega arith) s)
 
-count_split_sound : (is_long : Bool) (d : Draft) → SoundAt d → SoundAt (count_split is_long d)
+pub count_split_sound : (is_long : Bool) (d : Draft) → SoundAt d → SoundAt (count_split is_long d)
 count_split_sound false d s = s
 count_split_sound true d s =
     counters_move d.rows d.under_way d.is_recovered (record d.rows.counters { concat_reference = (d.rows.counters.concat_reference + 1) % 65536 })
     (let l : d.rows.counters.entry ≤ d.rows.counters.entry = omega arith in l) s
 
-count_split_outbox : (is_long : Bool) (d : Draft) → (count_split is_long d).rows.outbox ≡ d.rows.outbox
+pub count_split_outbox : (is_long : Bool) (d : Draft) → (count_split is_long d).rows.outbox ≡ d.rows.outbox
 count_split_outbox false d = refl
 count_split_outbox true d = refl
 
-first_test : (a b : Bool) → cond a b false ≡ true → a ≡ true
+pub first_test : (a b : Bool) → cond a b false ≡ true → a ≡ true
 first_test true b e = refl
 first_test false b e = e
 

@@ -1,14 +1,14 @@
 -- A sound handset in the middle of an event, and the moves that keep it so.
 use Rattle.std.proofs.Common.{◌≡◌, ◌<◌, ◌≤◌, arith, List, Bool, true, Option, Some, None, sym, subst, ⊎_elim}
 use Rattle.sms_base.specs.Among.{Among}
-use Rattle.sms_base.specs.Table.{Rises, put}
-use Rattle.sms_base.proofs.Tables.{among_put, rises_put}
+use Rattle.sms_table.specs.Table.{Rises, put}
+use Rattle.sms_table.proofs.Tables.{among_put, rises_put}
 use Rattle.sms_handset.specs.declared.counters.Counters.{Counters}
 use Rattle.sms_handset.specs.declared.entry.Entry.{Entry}
 use Rattle.sms_handset.specs.declared.last.Last.{Last}
 use Rattle.sms_handset.specs.declared.mark.Mark.{Mark}
 use Rattle.sms_handset.specs.declared.out_entry.OutEntry.{OutEntry}
-use Rattle.sms_handset.specs.declared.outgoing.Carried.{Carried}
+use Rattle.sms_base.specs.declared.carried.Carried.{Carried}
 use Rattle.sms_handset.specs.declared.rows.Rows.{Rows}
 use Rattle.sms_handset.specs.Draft.{Core, Draft, core_of}
 use Rattle.sms_handset.specs.Keys.{last_key}

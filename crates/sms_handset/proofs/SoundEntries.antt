@@ -4,8 +4,8 @@ use Rattle.std.specs.Prelude.{◌==◌}
 use Rattle.std.specs.List.{AllByRecursion}
 use Rattle.std.proofs.lemmas.Bool.{cases_eq, eqb-false, ne_eqb, or_from, or_parts}
 use Rattle.sms_base.specs.Among.{Among}
-use Rattle.sms_base.specs.Table.{Rises, put, row_at, without}
-use Rattle.sms_base.proofs.Tables.{among_put, among_without, found_among, found_key, rises_put, rises_without, row_behind, row_here}
+use Rattle.sms_table.specs.Table.{Rises, put, row_at, without}
+use Rattle.sms_table.proofs.Tables.{among_put, among_without, found_among, found_key, rises_put, rises_without, row_behind, row_here}
 use Rattle.sms_handset.specs.declared.entry.Entry.{Entry}
 use Rattle.sms_handset.specs.declared.entry.Group.{Group}
 use Rattle.sms_handset.specs.declared.entry.Message.{Message}

@@ -2,8 +2,8 @@
 use Rattle.std.proofs.Common.{◌≡◌, ℕ, ◌+◌, ◌<◌, ◌≤◌, arith, List, [], ◌∷◌, ◌++◌, true, false, Option, Some, None, refl, sym, ◌∙◌, ap, subst, inl, inr, ⊎_elim, append-nil}
 use Rattle.std.proofs.lemmas.Bool.{cond-true, cond-false}
 use Rattle.sms_base.specs.Among.{Among}
-use Rattle.sms_base.specs.Table.{Rises, insert, put, without}
-use Rattle.sms_base.proofs.Tables.{among_put, among_without, insert_behind, rises_put, rises_without}
+use Rattle.sms_table.specs.Table.{Rises, insert, put, without}
+use Rattle.sms_table.proofs.Tables.{among_put, among_without, insert_behind, rises_put, rises_without}
 use Rattle.sms_concat.specs.declared.content.Content.{Content}
 use Rattle.sms_handset.specs.declared.entry.Entry.{Entry}
 use Rattle.sms_handset.specs.declared.entry.Group.{Group}

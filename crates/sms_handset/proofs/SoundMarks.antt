@@ -2,8 +2,8 @@
 use Rattle.std.proofs.Common.{◌≡◌, ℕ, ◌+◌, ◌<◌, ◌≤◌, arith, List, [], ◌∷◌, ◌++◌, length, true, false, Some, None, refl, sym, ◌∙◌, ap, subst, inl, inr, ⊎_elim}
 use Rattle.std.proofs.lemmas.Bool.{cases_Bool, cases_eq, cases_lt, cond-true, cond-false}
 use Rattle.sms_base.specs.Among.{Among}
-use Rattle.sms_base.specs.Table.{AllAbove, Rises, insert, put, without}
-use Rattle.sms_base.proofs.Tables.{among_put, among_without, insert_behind, insert_here, length_put, length_without, rises_put, rises_without, without_behind, without_here}
+use Rattle.sms_table.specs.Table.{AllAbove, Rises, insert, put, without}
+use Rattle.sms_table.proofs.Tables.{among_put, among_without, insert_behind, insert_here, length_put, length_without, rises_put, rises_without, without_behind, without_here}
 use Rattle.sms_handset.specs.declared.entry.Entry.{Entry}
 use Rattle.sms_handset.specs.declared.entry.Group.{Group}
 use Rattle.sms_handset.specs.declared.mark.Mark.{Mark}

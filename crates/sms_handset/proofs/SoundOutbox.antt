@@ -3,8 +3,8 @@ use Rattle.std.proofs.Common.{◌≡◌, ℕ, ◌<◌, ◌≤◌, arith, List, [
 use Rattle.std.specs.Prelude.{◌==◌, ◌||◌, if◌then◌else◌}
 use Rattle.std.proofs.lemmas.Bool.{cases_Bool, cases_eq, cond-true, cond-false, cond_both, eq-eqb, eqb-true, false_from_ne_true, or_left, or_right}
 use Rattle.sms_base.specs.Among.{Among}
-use Rattle.sms_base.specs.Table.{Rises, put, row_at, without}
-use Rattle.sms_base.proofs.Tables.{among_found, among_put, among_without, length_put, length_without, rises_put, rises_without, row_at_put, row_at_put_other, row_at_without_other}
+use Rattle.sms_table.specs.Table.{Rises, put, row_at, without}
+use Rattle.sms_table.proofs.Tables.{among_found, among_put, among_without, length_put, length_without, rises_put, rises_without, row_at_put, row_at_put_other, row_at_without_other}
 use Rattle.sms_handset.specs.declared.entry.Entry.{Entry}
 use Rattle.sms_handset.specs.declared.out_entry.EntryState.{EntryState}
 use Rattle.sms_handset.specs.declared.out_entry.EntryState.TheVariants.{Sending}

@@ -2,7 +2,7 @@
 use Rattle.std.proofs.Common.{◌≡◌, ◌⊎◌, ℕ, ◌+◌, ◌<◌, ◌≤◌, arith, List, [], ◌∷◌, ◌++◌, true, false, cond, Option, Some, None, Result, Ok, Err, refl, sym, ap, inl, inr, ⊎_elim}
 use Rattle.std.proofs.lemmas.Bool.{cases_cond, cond_both}
 use Rattle.sms_base.specs.Among.{Among}
-use Rattle.sms_base.specs.Table.{latest, put, row_at}
+use Rattle.sms_table.specs.Table.{latest, put, row_at}
 use Rattle.sms_base.specs.declared.holder.Holder.{Holder}
 use Rattle.sms_concat.specs.declared.concat_key.ConcatKey.{ConcatKey}
 use Rattle.sms_concat.specs.declared.content.Content.{Content}
@@ -21,7 +21,7 @@ use Rattle.sms_handset.specs.declared.entry.Entry.{Entry}
 use Rattle.sms_handset.specs.declared.entry.Group.{Group}
 use Rattle.sms_handset.specs.declared.mark.Mark.{Mark}
 use Rattle.sms_handset.specs.declared.out_entry.OutEntry.{OutEntry}
-use Rattle.sms_handset.specs.declared.outgoing.Carried.{Carried}
+use Rattle.sms_base.specs.declared.carried.Carried.{Carried}
 use Rattle.sms_handset.specs.declared.rows.Rows.{Rows}
 use Rattle.sms_handset.specs.Draft.{Draft, put_entry, put_mark, remove_entry, remove_mark}
 use Rattle.sms_handset.specs.Groups.{all_numbers, alone, drop_all, ended, free_all, group_of, is_among, joined_content, joined_entry, keep, key_of, mark_of, marked, members, part_entry, part_numbers, single_entry, store_part, store_single}

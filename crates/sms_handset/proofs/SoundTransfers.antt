@@ -3,8 +3,8 @@ use Rattle.std.proofs.Common.{◌≡◌, ℕ, ◌+◌, ◌%◌, ◌<◌, ◌≤�
 use Rattle.std.specs.Prelude.{◌&&◌, ◌||◌, nat_le, nat_lt, min}
 use Rattle.std.proofs.lemmas.Bool.{and_parts, cases_Bool, cond-true, cond-false, cond_both, leb-false}
 use Rattle.sms_base.specs.Among.{Among}
-use Rattle.sms_base.specs.Table.{Rises, put, row_at}
-use Rattle.sms_base.proofs.Tables.{found_among, put_among, row_at_put}
+use Rattle.sms_table.specs.Table.{Rises, put, row_at}
+use Rattle.sms_table.proofs.Tables.{found_among, put_among, row_at_put}
 use Rattle.sms_base.specs.declared.holder.Holder.{Holder}
 use Rattle.sms_base.specs.declared.holder.Holder.TheVariants.{Part as PartHolder, Report, Entry as EntryHolder, Memory}
 use Rattle.sms_control.specs.LinkStep.{is_busy}
@@ -19,7 +19,7 @@ use Rattle.sms_handset.specs.declared.notice.Notice.{Notice}
 use Rattle.sms_handset.specs.declared.out_entry.EntryState.{EntryState}
 use Rattle.sms_handset.specs.declared.out_entry.EntryState.TheVariants.{Queued, Sending, Sent, Failed, Unsure}
 use Rattle.sms_handset.specs.declared.out_entry.OutEntry.{OutEntry}
-use Rattle.sms_handset.specs.declared.outgoing.Carried.{Carried}
+use Rattle.sms_base.specs.declared.carried.Carried.{Carried}
 use Rattle.sms_handset.specs.Answers.{verdict_of}
 use Rattle.sms_handset.specs.Draft.{Draft, put_out}
 use Rattle.sms_handset.specs.Keys.{out_key}
@@ -176,11 +176,11 @@ all_lapse [] z r l = l
 all_lapse (o ∷ os) z r l = all_lapse os (cond (is_sending o.state) (put_out (lost o) z) z) r.1 (one_lapses o os z r l)
 
 -- rows that are Sending stand from no earlier start
-record Settles (z : Draft) : Type 0 where
-  sound : SoundAt z
-  recovered : z.is_recovered ≡ false
+pub record Settles (z : Draft) : Type 0 where
+  pub sound : SoundAt z
+  pub recovered : z.is_recovered ≡ false
 
-lapse_settles : (d : Draft) → SoundAt d → Settles (lapse d)
+pub lapse_settles : (d : Draft) → SoundAt d → Settles (lapse d)
 lapse_settles d s =
     cond_both d.is_recovered (lapse_rows d.rows.outbox (record d { is_recovered = false })) d (λ (z : Draft). Settles z)
     (λ t.
@@ -204,11 +204,11 @@ is_queued_state Sent e = absurd cc
 is_queued_state Failed e = absurd cc
 is_queued_state Unsure e = absurd cc
 
-record IsDue (os : List OutEntry) (o : OutEntry) : Type 0 where
-  among : Among o os
-  queued : o.state ≡ Queued
+pub record IsDue (os : List OutEntry) (o : OutEntry) : Type 0 where
+  pub among : Among o os
+  pub queued : o.state ≡ Queued
 
-first_due_is : (moment : ℕ) (os : List OutEntry) (o : OutEntry) → first_due moment os ≡ Some o → IsDue os o
+pub first_due_is : (moment : ℕ) (os : List OutEntry) (o : OutEntry) → first_due moment os ≡ Some o → IsDue os o
 first_due_is moment [] o e = absurd cc
 first_due_is moment (x ∷ xs) o e = ⊎_elim
     (λ (t : is_due moment x ≡ true).

@@ -31,7 +31,7 @@ use Rattle.sms_tpdu.proofs.Submits.{submit_again}
 use Rattle.sms_tpdu.proofs.WrittenUnits.{written_up}
 use Rattle.sms_handset.specs.OwnersActs.{content_of_text, content_spelled, packed_behind, submit_for, submit_octets, written_entry}
 use Rattle.sms_handset.specs.SoundRows.{IsSubmitted}
-use Rattle.sms_handset.proofs.PartFields.{carries}
+use Rattle.sms_handset.proofs.PartFields.{carries, submit_short}
 
 -- ---- packed units
 
@@ -97,6 +97,15 @@ pub written_is_submitted : (number message_reference reference : ℕ) (destinati
     → IsSubmitted (written_entry number message_reference reference destination report is_long part)
 written_is_submitted number message_reference reference destination report is_long part a p r =
     (submit_for message_reference destination report part, (submit_read message_reference destination report part a p r, refl, refl, refl))
+
+-- it has 200 octets at most
+pub written_fits : (message_reference : ℕ) (destination : Address) (report : Bool) (part : Part) → IsAddress destination → IsPart part → HasRoom part
+    → length (submit_octets (submit_for message_reference destination report part)) ≤ 200
+unfolding user_of
+written_fits message_reference destination report part a p r =
+    let s : SubmitOf = submit_for message_reference destination report part in
+    let w : IsWrittenSubmit (submit_octets s) s = ([], a, refl, submit_data message_reference destination report part p r, refl) in
+    (submit_short part (user_of part) message_reference destination report (submit_octets s) w).1
 
 -- ---- the parts of a text
 

@@ -1,7 +1,7 @@
 -- What an accepted message leaves: a DELIVER of no discarded group that is accepted stands in the inbox, alone or joined.
 use Rattle.std.specs.Prelude.{◌≡◌, ◌⊎◌, ℕ, List, Option, Some, Ok}
 use Rattle.sms_base.specs.Among.{Among}
-use Rattle.sms_base.specs.declared.change.Change.TheVariants.{Put}
+use Rattle.sms_table.specs.declared.change.Change.TheVariants.{Put}
 use Rattle.sms_concat.specs.declared.concat_key.ConcatKey.{ConcatKey}
 use Rattle.sms_concat.specs.declared.content.Part.{Part as PartOf}
 use Rattle.sms_concat.specs.Joining.{content_joined}

@@ -10,8 +10,8 @@ use Rattle.sms_control.specs.declared.transaction.TransactionFlag.{TransactionFl
 use Rattle.sms_control.specs.declared.transaction.TransactionFlag.TheVariants.{FromOriginator, ToOriginator}
 use Rattle.sms_control.specs.ControlReading.{cp_at}
 use Rattle.sms_control.specs.LinkStep.{Step, fresh, begin_step, reply_step}
-use Rattle.sms_base.specs.declared.change.Change.{Change}
-use Rattle.sms_base.specs.declared.change.Change.TheVariants.{Put, Remove}
+use Rattle.sms_table.specs.declared.change.Change.{Change}
+use Rattle.sms_table.specs.declared.change.Change.TheVariants.{Put, Remove}
 use Rattle.sms_handset.specs.declared.counters.Counters.{Counters}
 use Rattle.sms_handset.specs.declared.entry.Entry.{Entry}
 use Rattle.sms_base.specs.declared.holder.Holder.{Holder}
@@ -19,15 +19,15 @@ use Rattle.sms_handset.specs.declared.last.Last.{Last}
 use Rattle.sms_handset.specs.declared.mark.Mark.{Mark}
 use Rattle.sms_handset.specs.declared.notice.Notice.{Notice}
 use Rattle.sms_handset.specs.declared.out_entry.OutEntry.{OutEntry}
-use Rattle.sms_handset.specs.declared.outgoing.Kind.{Kind}
-use Rattle.sms_handset.specs.declared.outgoing.Kind.TheVariants.{Data}
-use Rattle.sms_handset.specs.declared.outgoing.Carried.{Carried}
+use Rattle.sms_base.specs.declared.carried.Kind.{Kind}
+use Rattle.sms_base.specs.declared.carried.Kind.TheVariants.{Data}
+use Rattle.sms_base.specs.declared.carried.Carried.{Carried}
 use Rattle.sms_handset.specs.declared.outgoing.Outgoing.{Outgoing}
 use Rattle.sms_handset.specs.declared.rows.Rows.{Rows}
 use Rattle.sms_handset.specs.declared.rows.Changes.{Changes}
 use Rattle.sms_handset.specs.declared.stored.Stored.{Stored}
 use Rattle.sms_handset.specs.Keys.{entry_key, last_key, out_key, mark_key}
-use Rattle.sms_base.specs.Table.{put, without, all_applied}
+use Rattle.sms_table.specs.Table.{put, without, all_applied}
 
 -- ---- a handset between two events
 

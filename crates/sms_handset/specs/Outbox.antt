@@ -9,11 +9,11 @@ use Rattle.sms_tpdu.specs.AddressGrammar.{relay_address}
 use Rattle.sms_base.specs.declared.holder.Holder.{Holder}
 use Rattle.sms_base.specs.declared.holder.Holder.TheVariants.{Part, Report, Entry, Memory}
 use Rattle.sms_handset.specs.declared.notice.Notice.{Notice}
-use Rattle.sms_handset.specs.declared.outgoing.Carried.{Carried}
+use Rattle.sms_base.specs.declared.carried.Carried.{Carried}
 use Rattle.sms_handset.specs.declared.out_entry.EntryState.{EntryState}
 use Rattle.sms_handset.specs.declared.out_entry.EntryState.TheVariants.{Queued, Sending, Sent, Failed, Unsure}
 use Rattle.sms_handset.specs.declared.out_entry.OutEntry.{OutEntry}
-use Rattle.sms_base.specs.Table.{row_at}
+use Rattle.sms_table.specs.Table.{row_at}
 use Rattle.sms_handset.specs.declared.answers.Verdict.{Verdict}
 use Rattle.sms_handset.specs.declared.answers.Verdict.TheVariants.{Acknowledged, Temporary, Duplicate, Refused, Lost}
 use Rattle.sms_handset.specs.Answers.{verdict_of}

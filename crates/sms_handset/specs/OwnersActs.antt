@@ -28,7 +28,7 @@ use Rattle.sms_handset.specs.declared.out_entry.EntryState.TheVariants.{Queued}
 use Rattle.sms_handset.specs.declared.out_entry.OutEntry.{OutEntry}
 use Rattle.sms_handset.specs.declared.refusal.Refusal.{Refusal}
 use Rattle.sms_handset.specs.declared.refusal.Refusal.TheVariants.{NoEntry, StillOpen, OutboxFull, TooManyDiscarded, TooManyParts, Destination}
-use Rattle.sms_base.specs.Table.{row_at}
+use Rattle.sms_table.specs.Table.{row_at}
 use Rattle.sms_handset.specs.Groups.{members, part_numbers, first_number, drop_all}
 use Rattle.sms_handset.specs.MemoryAvailable.{freed}
 use Rattle.sms_handset.specs.References.{is_unfinished, held_message_references, held_references, next_free}

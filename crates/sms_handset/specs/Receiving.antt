@@ -22,8 +22,8 @@ use Rattle.sms_base.specs.declared.holder.Holder.{Holder}
 use Rattle.sms_handset.specs.declared.last.Last.{Last}
 use Rattle.sms_handset.specs.declared.mark.Mark.{Mark}
 use Rattle.sms_handset.specs.declared.out_entry.OutEntry.{OutEntry}
-use Rattle.sms_handset.specs.declared.outgoing.Kind.TheVariants.{Ack, Error}
-use Rattle.sms_base.specs.Table.{row_at, latest}
+use Rattle.sms_base.specs.declared.carried.Kind.TheVariants.{Ack, Error}
+use Rattle.sms_table.specs.Table.{row_at, latest}
 use Rattle.sms_handset.specs.Groups.{is_among, group_of, key_of, members, part_numbers, mark_of, marked, store_single, store_part}
 use Rattle.sms_handset.specs.MemoryAvailable.{has_room, flag}
 use Rattle.sms_handset.specs.Keys.{last_key}

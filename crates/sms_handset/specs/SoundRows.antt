@@ -20,7 +20,7 @@ use Rattle.sms_handset.specs.declared.out_entry.EntryState.TheVariants.{Queued, 
 use Rattle.sms_handset.specs.declared.out_entry.OutEntry.{OutEntry}
 use Rattle.sms_handset.specs.declared.rows.Rows.{Rows}
 use Rattle.sms_handset.specs.declared.setup.Setup.{Setup}
-use Rattle.sms_base.specs.Table.{Rises, row_at}
+use Rattle.sms_table.specs.Table.{Rises, row_at}
 use Rattle.sms_handset.specs.Groups.{is_among, all_numbers, group_of, key_of, members, part_numbers, mark_of}
 use Rattle.sms_handset.specs.Outbox.{most_tries}
 use Rattle.sms_handset.specs.References.{held_message_references, held_by_entries}

@@ -1,6 +1,6 @@
 -- Stored parts, as the index has them: what they tell, and moves of their entries.
 use Rattle.std.specs.Prelude.{ℕ, ◌==◌, List, [], ◌∷◌, if◌then◌else◌, Option, Some, None}
-use Rattle.sms_base.specs.Table.{row_at}
+use Rattle.sms_table.specs.Table.{row_at}
 use Rattle.sms_handset.specs.declared.entry.Entry.{Entry}
 use Rattle.sms_handset.specs.declared.open_group.StoredPart.{StoredPart}
 use Rattle.sms_handset.specs.Draft.{Draft, put_entry, remove_entry}

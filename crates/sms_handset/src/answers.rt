@@ -8,7 +8,7 @@ use sms_tpdu::{Carrier, Down, FailureCause, read_down};
 
 /// How a transfer that the handset began ended.
 #[derive(Clone, Copy, Debug, PartialEq, Eq)]
-pub(crate) enum Verdict {
+pub enum Verdict {
     /// RP-ACK under its reference.
     Acknowledged,
     /// RP-ERROR under its reference, for a cause that passes.

@@ -1,7 +1,7 @@
 //! A handset in the middle of an event: the moves of which its stages are made.
 ghost use Rattle.std.specs.Prelude.{◌≡◌, ◌++◌, ◌<◌, ◌≤◌, ◌+◌, [], length, OnOk, option_copied, IfOk};
 ghost use Rattle.sms_base.specs.Address.{IsAddress};
-ghost use Rattle.sms_base.specs.Table.{Rises, all_applied, row_at};
+ghost use Rattle.sms_table.specs.Table.{Rises, all_applied, row_at};
 ghost use Rattle.sms_handset.specs.Keys.{entry_key, last_key};
 ghost use Rattle.sms_handset.specs.Draft.{begin as begin_of, carried_in as carried_in_of, carrying, from_links, no_changes, put_counters as put_counters_of, put_entry as put_entry_of, put_last as put_last_of, put_mark as put_mark_of, put_out as put_out_of, remove_entry as remove_entry_of, remove_mark as remove_mark_of, remove_out as remove_out_of, reply as reply_of};
 ghost use Rattle.sms_control.specs.ControlReading.{cp_at};
@@ -12,18 +12,18 @@ ghost use Rattle.sms_handset.specs.OpenGroups.{open_at as open_at_of, stored_par
 use crate::counters::Counters;
 use crate::entry::{Entry, Group};
 use crate::last::Last;
-use crate::listed::Listed;
 use crate::mark::Mark;
 use crate::members::Members;
 use crate::no_memory::NoMemory;
 use crate::notice::Notice;
 use crate::open_group::OpenGroup;
 use crate::out_entry::OutEntry;
-use crate::outgoing::{Carried, Kind, Outgoing};
+use crate::outgoing::Outgoing;
 use crate::rows::Changes;
 use crate::stored::Stored;
-use sms_base::{Address, Change, Holder, Moment, Table};
+use sms_base::{Address, Carried, Holder, Kind, Listed, Moment};
 use sms_control::{Cp, Frames, LinkError, Links, TransactionFlag};
+use sms_table::{Change, Key, Table};
 use std::alloc::Global;
 use std::marker::Model;
 
@@ -50,7 +50,7 @@ impl<'a> Model for Draft<'a> {
     ghost use Rattle.sms_handset.specs.Keys.{entry_key};
     ghost use Rattle.sms_handset.specs.MemoryAvailable.{slots_taken};
     ghost use Rattle.sms_handset.specs.Standing.{IsStanding};
-    ghost use Rattle.sms_base.specs.Table.{all_applied};
+    ghost use Rattle.sms_table.specs.Table.{all_applied};
     ghost use Rattle.std.specs.Prelude.{◌≡◌};
 
     ghost Value = { DraftOf };
@@ -73,7 +73,7 @@ impl<'a> Model for Draft<'a> {
 
 impl<'a> Draft<'a> {
     /// An entry of the inbox comes, or takes the place of that of its number.
-    #[tactic(auto, using(sms_base::proofs::Tables::all_applied_push))]
+    #[tactic(auto, using(sms_table::proofs::Tables::all_applied_push))]
     pub(crate) fn put_entry(&mut self, entry: Entry) -> Result<(), NoMemory>
         ensures { OnOk result (self.new ≡ put_entry_of entry self.old) }
     {
@@ -88,18 +88,20 @@ impl<'a> Draft<'a> {
         Ok(())
     }
 
-    #[tactic(auto, using(sms_base::proofs::Tables::all_applied_push))]
+    #[tactic(auto, using(sms_table::proofs::Tables::all_applied_push))]
     pub(crate) fn remove_entry(&mut self, number: u32) -> Result<(), NoMemory>
         ensures { OnOk result (self.new ≡ remove_entry_of number self.old) }
     {
         let freed = slots_after(&self.base.entries, self.changes.entries.as_slice(), number);
         let taken = retaken(self.taken, freed, 0)?;
-        self.changes.entries.push(Change::Remove(number))?;
+        self.changes
+            .entries
+            .push(Change::Remove(Key::of(u64::from(number))))?;
         self.taken = taken;
         Ok(())
     }
 
-    #[tactic(auto, using(sms_base::proofs::Tables::all_applied_push))]
+    #[tactic(auto, using(sms_table::proofs::Tables::all_applied_push))]
     pub(crate) fn put_last(&mut self, last: Last) -> Result<(), NoMemory>
         ensures { OnOk result (self.new ≡ put_last_of last self.old) }
     {
@@ -107,7 +109,7 @@ impl<'a> Draft<'a> {
         Ok(())
     }
 
-    #[tactic(auto, using(sms_base::proofs::Tables::all_applied_push))]
+    #[tactic(auto, using(sms_table::proofs::Tables::all_applied_push))]
     pub(crate) fn put_out(&mut self, entry: OutEntry) -> Result<(), NoMemory>
         ensures { OnOk result (self.new ≡ put_out_of entry self.old) }
     {
@@ -115,15 +117,17 @@ impl<'a> Draft<'a> {
         Ok(())
     }
 
-    #[tactic(auto, using(sms_base::proofs::Tables::all_applied_push))]
+    #[tactic(auto, using(sms_table::proofs::Tables::all_applied_push))]
     pub(crate) fn remove_out(&mut self, number: u32) -> Result<(), NoMemory>
         ensures { OnOk result (self.new ≡ remove_out_of number self.old) }
     {
-        self.changes.outbox.push(Change::Remove(number))?;
+        self.changes
+            .outbox
+            .push(Change::Remove(Key::of(u64::from(number))))?;
         Ok(())
     }
 
-    #[tactic(auto, using(sms_base::proofs::Tables::all_applied_push))]
+    #[tactic(auto, using(sms_table::proofs::Tables::all_applied_push))]
     pub(crate) fn put_mark(&mut self, mark: Mark) -> Result<(), NoMemory>
         ensures { OnOk result (self.new ≡ put_mark_of mark self.old) }
     {
@@ -131,11 +135,13 @@ impl<'a> Draft<'a> {
         Ok(())
     }
 
-    #[tactic(auto, using(sms_base::proofs::Tables::all_applied_push))]
+    #[tactic(auto, using(sms_table::proofs::Tables::all_applied_push))]
     pub(crate) fn remove_mark(&mut self, number: u32) -> Result<(), NoMemory>
         ensures { OnOk result (self.new ≡ remove_mark_of number self.old) }
     {
-        self.changes.marks.push(Change::Remove(number))?;
+        self.changes
+            .marks
+            .push(Change::Remove(Key::of(u64::from(number))))?;
         Ok(())
     }
 
@@ -209,7 +215,7 @@ impl<'a> Draft<'a> {
         requires { self.now.changes.last ≡ [] }
         ensures { option_copied result ≡ row_at last_key reference self.now.rows.last }
     {
-        self.base.last.find(u32::from(reference))
+        self.base.last.find(Key::of(u64::from(reference)))
     }
 }
 
@@ -279,7 +285,7 @@ fn slots_after(entries: &Table<Entry>, changes: &[Change<Entry>], number: u32) -
 {
     // The call tells that the entries stand in order.
     let _in_order = entries.as_slice();
-    match entries.find_after(changes, number) {
+    match entries.find_after(changes, Key::of(u64::from(number))) {
         Some(entry) => entry.slots,
         None => 0,
     }

@@ -6,7 +6,7 @@ ghost use Rattle.sms_handset.specs.HandsetEvent.{deleted, discarded, frame_came 
 ghost use Rattle.sms_handset.specs.Planning.{adopted, Fits, HasSpares, IsPlanOf, Judges, OfDelete, OfDiscard, OfFrame, OfTick, OfWrite, Plans, Rests, Stores};
 ghost use Rattle.sms_handset.specs.Trying.{TriesPlan as Tries};
 ghost use Rattle.sms_base.specs.Address.{IsAddress};
-ghost use Rattle.sms_base.specs.Table.{Rises, row_at};
+ghost use Rattle.sms_table.specs.Table.{Rises, row_at};
 ghost use Rattle.sms_handset.specs.OpenGroups.{Numbered, Regroups};
 ghost use Rattle.sms_handset.specs.Keys.{entry_key, last_key, mark_key, out_key};
 ghost use Rattle.sms_handset.specs.OwnersActs.{delete as delete_of, delete_out, discard as discard_of};
@@ -16,13 +16,12 @@ ghost use Rattle.sms_handset.specs.SoundRows.{IsSound};
 use crate::draft::Draft;
 use crate::entry::Entry;
 use crate::event::HandsetEvent;
-use crate::listed::Listed;
 use crate::no_memory::NoMemory;
 use crate::notice::Notice;
 use crate::open_group::Regrouping;
 use crate::open_groups::OpenGroups;
 use crate::out_entry::OutEntry;
-use crate::outgoing::{Carried, Outgoing};
+use crate::outgoing::Outgoing;
 use crate::owner::is_open_part;
 use crate::planned::{Planned, Spares};
 use crate::references::is_unfinished;
@@ -30,8 +29,9 @@ use crate::refusal::{PlanError, Refusal};
 use crate::rows::{Changes, Rows};
 use crate::stored::Stored;
 use crate::storing::slots_in;
-use sms_base::{Holder, Moment, Table};
+use sms_base::{Carried, Holder, Listed, Moment};
 use sms_control::Links;
+use sms_table::{Key, Table};
 use std::alloc::Global;
 use std::marker::Model;
 
@@ -328,7 +328,7 @@ impl Handset {
     fn refuses_delete(&self, number: u32) -> Option<Refusal>
         ensures { Judges result (delete_of number (draft_of self.now.core)) }
     {
-        let Some(entry) = self.stored.entries.find(number) else {
+        let Some(entry) = self.stored.entries.find(Key::of(u64::from(number))) else {
             return self.refuses_delete_out(number);
         };
         if is_open_part(&entry.message) {
@@ -340,7 +340,7 @@ impl Handset {
     fn refuses_delete_out(&self, number: u32) -> Option<Refusal>
         ensures { Judges result (delete_out number (row_at out_key number self.now.core.rows.outbox) (draft_of self.now.core)) }
     {
-        let Some(entry) = self.stored.outbox.find(number) else {
+        let Some(entry) = self.stored.outbox.find(Key::of(u64::from(number))) else {
             return Some(Refusal::NoEntry);
         };
         if is_unfinished(entry.state) {

@@ -6,9 +6,10 @@ use crate::last::Last;
 use crate::mark::Mark;
 use crate::out_entry::OutEntry;
 use crate::plain::{Accepted, Discarded, Plain};
-use crate::{Changes, Counters, Listed, Rows, Setup};
-use sms_base::{Change, Octets, Row};
+use crate::{Changes, Counters, Rows, Setup};
+use sms_base::{Listed, Octets};
 use sms_concat::Content;
+use sms_table::{Change, Key, Row};
 use std::alloc::Global;
 use std::test::Fail;
 
@@ -23,7 +24,7 @@ pub(crate) struct Kept {
     counters: Counters,
 }
 
-fn remove<T: Row + Drop>(rows: &mut Vec<T>, key: u32) {
+fn remove<T: Row + Drop>(rows: &mut Vec<T>, key: Key) {
     rows.retain(|row| row.key() != key);
 }
 
@@ -33,7 +34,7 @@ fn put<T: Row + Drop>(rows: &mut Vec<T>, row: T) -> Result<(), Fail> {
     remove(rows, key);
     let mut place: usize = 0;
     for other in rows.iter() {
-        if other.key() < key {
+        if other.key().number() < key.number() {
             place = place.saturating_add(1);
         }
     }

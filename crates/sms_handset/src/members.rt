@@ -11,7 +11,8 @@ use crate::entry::{Entry, Group};
 use crate::no_memory::NoMemory;
 use crate::open_group::{OpenGroup, StoredPart};
 use crate::open_groups::{OpenGroups, first_entry};
-use sms_base::{Octets, Table};
+use sms_base::Octets;
+use sms_table::{Key, Table};
 use std::alloc::Global;
 use std::marker::Model;
 
@@ -91,7 +92,7 @@ impl<'a> Members<'a> {
         ensures { option_copied result ≡ part_with_of number self.now }
     {
         match entry_with(self.parts, number) {
-            Some(entry) => self.entries.find(entry),
+            Some(entry) => self.entries.find(Key::of(u64::from(entry))),
             None => None,
         }
     }
@@ -140,7 +141,7 @@ impl<'a> Draft<'a> {
         ensures { OnOk result (self.new ≡ free_parts_of parts.now entries.now.rows self.old) }
     {
         for part in parts {
-            if let Some(entry) = entries.find(part.entry) {
+            if let Some(entry) = entries.find(Key::of(u64::from(part.entry))) {
                 self.free(entry)?;
             }
         }

@@ -1,6 +1,6 @@
 //! Open groups, as their index has them.
 use crate::entry::Group;
-use crate::listed::Listed;
+use sms_base::Listed;
 
 /// A stored part of an open group.
 #[derive(Clone, Copy, Debug, PartialEq, Eq)]

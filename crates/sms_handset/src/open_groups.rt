@@ -1,7 +1,7 @@
 //! The index of open groups.
 ghost use Rattle.std.specs.Prelude.{◌≡◌, ◌+◌, ◌≤◌, ◌++◌, ◌∷◌, ℕ, List, [], max, nat_eq, None, Some, IfOk, OnOk, option_copied};
 ghost use Rattle.indexmap.specs.IndexMap.{IsUnique, spare};
-ghost use Rattle.sms_base.specs.Table.{Rises};
+ghost use Rattle.sms_table.specs.Table.{Rises};
 ghost use Rattle.sms_handset.specs.declared.entry.Entry.{Entry as EntryOf};
 ghost use Rattle.sms_handset.specs.Keys.{entry_key};
 ghost use Rattle.sms_handset.specs.OpenGroups.{regrouped};
@@ -9,10 +9,10 @@ ghost use Rattle.sms_handset.specs.OpenIndex.{Indexes, find_open, first_entry_of
 
 use crate::entry::{Entry, Group, Message};
 use crate::groups::is_same_group;
-use crate::listed::Listed;
 use crate::no_memory::NoMemory;
 use crate::open_group::{OpenGroup, Regrouping, StoredPart};
 use indexmap::IndexMap;
+use sms_base::Listed;
 use std::alloc::{AllocError, Global};
 use std::marker::Model;
 

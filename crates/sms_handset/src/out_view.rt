@@ -1,12 +1,12 @@
 //! The outbox in the middle of an event.
 ghost use Rattle.std.specs.Prelude.{◌≡◌, IfOk, OnOk};
-ghost use Rattle.sms_base.specs.Table.{all_applied, applied};
+ghost use Rattle.sms_table.specs.Table.{all_applied, applied};
 ghost use Rattle.sms_handset.specs.Keys.{out_key};
 
 use crate::draft::Draft;
 use crate::no_memory::NoMemory;
 use crate::out_entry::OutEntry;
-use sms_base::{Change, Row, Table};
+use sms_table::{Change, Key, Row, Table};
 use std::alloc::{AllocError, Global};
 use std::marker::Model;
 
@@ -42,8 +42,8 @@ impl<'a> OutView<'a> {
 impl<'a> Row for OutView<'a> {
     ghost key = { out_key };
 
-    fn key(&self) -> u32 {
-        self.entry.number
+    fn key(&self) -> Key {
+        Key::of(u64::from(self.entry.number))
     }
 }
 

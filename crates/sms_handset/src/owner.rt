@@ -1,6 +1,6 @@
 //! Deleting and discarding.
 ghost use Rattle.std.specs.Prelude.{◌≡◌, option_copied};
-ghost use Rattle.sms_base.specs.Table.{row_at};
+ghost use Rattle.sms_table.specs.Table.{row_at};
 ghost use Rattle.sms_handset.specs.Draft.{no_changes};
 ghost use Rattle.sms_handset.specs.Keys.{entry_key, out_key};
 ghost use Rattle.sms_handset.specs.OwnersActs.{delete as delete_of, delete_out as delete_out_of, discard as discard_of, is_open_part as is_open_part_of};
@@ -12,6 +12,7 @@ use crate::mark::Mark;
 use crate::out_entry::OutEntry;
 use crate::references::is_unfinished;
 use crate::refusal::{PlanError, Refusal};
+use sms_table::Key;
 
 impl<'a> Draft<'a> {
     // An entry of the inbox, before anything of it has changed.
@@ -19,7 +20,7 @@ impl<'a> Draft<'a> {
         requires { self.now.changes ≡ no_changes }
         ensures { option_copied result ≡ row_at entry_key number self.now.rows.entries }
     {
-        self.base.entries.find(number)
+        self.base.entries.find(Key::of(u64::from(number)))
     }
 
     // An entry of the outbox, before anything of it has changed.
@@ -27,7 +28,7 @@ impl<'a> Draft<'a> {
         requires { self.now.changes ≡ no_changes }
         ensures { option_copied result ≡ row_at out_key number self.now.rows.outbox }
     {
-        self.base.outbox.find(number)
+        self.base.outbox.find(Key::of(u64::from(number)))
     }
 
     fn delete_out(&mut self, number: u32) -> Result<(), PlanError>

@@ -8,8 +8,9 @@ use crate::kept::Kept;
 use crate::out_entry::OutEntry;
 use crate::outgoing::Outgoing;
 use crate::plain::{Plain, Text};
-use crate::{Counters, Handset, HandsetEvent, Listed, PlanError, Refusal, Rows, Setup, TextView};
-use sms_base::{Address, Holder, Moment, OctetView, Octets, rises};
+use crate::{Counters, Handset, HandsetEvent, PlanError, Refusal, Rows, Setup, TextView};
+use sms_base::{Address, Holder, Listed, Moment, OctetView, Octets};
+use sms_table::rises;
 use std::alloc::Global;
 use std::test::Fail;
 

@@ -3,16 +3,16 @@ ghost use Rattle.std.specs.Prelude.{◌≡◌};
 
 use crate::entry::Entry;
 use crate::last::Last;
-use crate::listed::Listed;
 use crate::mark::Mark;
 use crate::notice::Notice;
 use crate::open_group::Regrouping;
 use crate::open_groups::SpareGroups;
 use crate::out_entry::OutEntry;
-use crate::outgoing::{Carried, Outgoing};
+use crate::outgoing::Outgoing;
 use crate::rows::Changes;
-use sms_base::{Moment, Spare};
+use sms_base::{Carried, Listed, Moment};
 use sms_control::Links;
+use sms_table::Spare;
 use std::marker::Model;
 
 /// Memory for rows and for a group that come.

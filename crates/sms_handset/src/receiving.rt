@@ -19,8 +19,7 @@ use crate::no_memory::NoMemory;
 use crate::octet_copy::copy_of;
 use crate::open_group::Regrouping;
 use crate::out_entry::OutEntry;
-use crate::outgoing::Kind;
-use sms_base::{Holder, OctetView};
+use sms_base::{Holder, Kind, OctetView};
 use sms_relay::{RelayFault, Rp, RpCause, read_down as read_unit, write_up};
 use sms_tpdu::{Carrier, Deliver, Down, StatusReport, read_down};
 

@@ -3,11 +3,11 @@
 use crate::counters::Counters;
 use crate::entry::Entry;
 use crate::last::Last;
-use crate::listed::Listed;
 use crate::mark::Mark;
 use crate::out_entry::OutEntry;
 use crate::setup::Setup;
-use sms_base::Change;
+use sms_base::Listed;
+use sms_table::Change;
 
 /// All that a handset stores, and its setup, which is handed in.
 #[derive(Debug, Drop)]

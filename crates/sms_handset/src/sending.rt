@@ -2,7 +2,7 @@
 ghost use Rattle.std.specs.Prelude.{◌≡◌, ◌+◌, ◌<◌, ◌≤◌, min, length, Some, None, IfOk, OnOk, option_copied};
 ghost use Rattle.std.specs.Option.{option_map};
 ghost use Rattle.sms_base.specs.Address.{IsAddress};
-ghost use Rattle.sms_base.specs.Table.{row_at};
+ghost use Rattle.sms_table.specs.Table.{row_at};
 ghost use Rattle.sms_relay.specs.RelayGrammar.{data_up};
 ghost use Rattle.sms_relay.specs.RelayReading.{down_at};
 ghost use Rattle.sms_tpdu.specs.AddressGrammar.{relay_address};
@@ -20,6 +20,7 @@ use crate::out_view::OutView;
 use crate::references::{held_references, next_free};
 use sms_base::{Address, Holder, Moment, OctetView, Octets};
 use sms_relay::{RelayFault, Rp, read_down, write_up};
+use sms_table::Key;
 use sms_tpdu::write_relay_address;
 use std::alloc::{AllocError, Global};
 
@@ -165,7 +166,7 @@ impl<'a> Draft<'a> {
         ensures { IfOk result (λ entry. entry ≡ row_at out_key number self.now.rows.outbox) }
     {
         let outbox = self.outbox_now()?;
-        match outbox.find(number) {
+        match outbox.find(Key::of(u64::from(number))) {
             Some(view) => Ok(Some(view.entry().copy(self.alloc)?)),
             None => Ok(None),
         }

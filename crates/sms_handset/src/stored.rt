@@ -9,37 +9,37 @@ use crate::mark::Mark;
 use crate::open_groups::OpenGroups;
 use crate::out_entry::OutEntry;
 use crate::setup::Setup;
-use sms_base::{Row, Table};
+use sms_table::{Key, Row, Table};
 
 impl Row for Entry {
     ghost key = { entry_key };
 
-    fn key(&self) -> u32 {
-        self.number
+    fn key(&self) -> Key {
+        Key::of(u64::from(self.number))
     }
 }
 
 impl Row for Last {
     ghost key = { last_key };
 
-    fn key(&self) -> u32 {
-        u32::from(self.reference)
+    fn key(&self) -> Key {
+        Key::of(u64::from(self.reference))
     }
 }
 
 impl Row for OutEntry {
     ghost key = { out_key };
 
-    fn key(&self) -> u32 {
-        self.number
+    fn key(&self) -> Key {
+        Key::of(u64::from(self.number))
     }
 }
 
 impl Row for Mark {
     ghost key = { mark_key };
 
-    fn key(&self) -> u32 {
-        self.number
+    fn key(&self) -> Key {
+        Key::of(u64::from(self.number))
     }
 }
 

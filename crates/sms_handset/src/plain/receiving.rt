@@ -1,8 +1,7 @@
 //! What comes to the handset.
 use super::{Accepted, Plain, is_part_of, owned};
 use crate::entry::{Entry, Group, Message};
-use crate::outgoing::{Carried, Kind};
-use sms_base::{Address, Holder, Octets};
+use sms_base::{Address, Carried, Holder, Kind, Octets};
 use sms_concat::{ConcatKey, Content, Part, join, part_of};
 use sms_relay::{RelayFault, Rp, read_down as read_unit};
 use sms_tpdu::{Carrier, Deliver, Down, StatusReport, read_down};

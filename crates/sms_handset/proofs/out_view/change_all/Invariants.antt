@@ -1,5 +1,5 @@
 use Rattle.std.proofs.Common.{◌≡◌, drop}
-use Rattle.sms_base.specs.Table.{all_applied}
+use Rattle.sms_table.specs.Table.{all_applied}
 use Rattle.sms_handset.specs.Keys.{out_key}
 use Rattle.sms_handset.proofs.out_view.change_all.Given as goal
 

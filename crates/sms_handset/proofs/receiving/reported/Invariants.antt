@@ -1,5 +1,5 @@
 use Rattle.std.proofs.Common.{◌≡◌, drop, option_copied}
-use Rattle.sms_base.specs.Table.{latest}
+use Rattle.sms_table.specs.Table.{latest}
 use Rattle.sms_handset.specs.Receiving.{reported}
 use Rattle.sms_handset.proofs.receiving.reported.Given as goal
 

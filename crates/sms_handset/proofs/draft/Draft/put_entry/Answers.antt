@@ -1,6 +1,6 @@
 use Rattle.std.proofs.Common.{List, sym, ◌∙◌, ap, arith}
-use Rattle.sms_base.specs.Table.{all_applied, row_at}
-use Rattle.sms_base.specs.declared.change.Change.{Change}
+use Rattle.sms_table.specs.Table.{all_applied, row_at}
+use Rattle.sms_table.specs.declared.change.Change.{Change}
 use Rattle.sms_handset.specs.declared.entry.Entry.{Entry}
 use Rattle.sms_handset.specs.Keys.{entry_key}
 use Rattle.sms_handset.specs.MemoryAvailable.{slots_of, slots_taken}

@@ -1,6 +1,7 @@
-use Rattle.std.proofs.Common.{List, sym, ◌∙◌, ap, arith}
-use Rattle.sms_base.specs.Table.{all_applied, row_at}
-use Rattle.sms_base.specs.declared.change.Change.{Change}
+use Rattle.std.proofs.Common.{◌≡◌, ℕ, List, [], ◌∷◌, ◌++◌, sym, subst, ◌∙◌, ap, arith}
+use Rattle.sms_table.specs.Table.{all_applied, row_at}
+use Rattle.sms_table.specs.declared.change.Change.{Change}
+use Rattle.sms_table.specs.declared.change.Change.TheVariants.{Remove}
 use Rattle.sms_handset.specs.declared.entry.Entry.{Entry}
 use Rattle.sms_handset.specs.Keys.{entry_key}
 use Rattle.sms_handset.specs.MemoryAvailable.{slots_of, slots_taken}
@@ -20,7 +21,8 @@ invariant_of-self-2 c =
     let freed =
     c.slots_after-freed.ensures.slots ∙ ap (λ (cs : List (Change Entry)). slots_of (row_at entry_key c.args.number (all_applied entry_key cs rows))) c.as_slice.ensures in (
       c.self.invariant.0,
-      one_removed c.args.number c.self.inside.changes.entries rows c.self.inside.taken c.in_ok-taken.taken c.slots_after-freed.result c.slots_after-freed.ensures.order
-          c.self.invariant.1 freed c.in_ok-taken.ensures
+      subst (λ (n : ℕ). c.in_ok-taken.taken ≡ slots_taken (all_applied entry_key (c.self.inside.changes.entries ++ Remove n ∷ []) rows)) (sym (c.of.ensures ∙ c.from.ensures))
+          (one_removed c.args.number c.self.inside.changes.entries rows c.self.inside.taken c.in_ok-taken.taken c.slots_after-freed.result c.slots_after-freed.ensures.order
+          c.self.invariant.1 freed c.in_ok-taken.ensures)
           ∙ ap (λ (cs : List (Change Entry)). slots_taken (all_applied entry_key cs rows)) (sym c.in_ok-push.ensures.ok),
     )

@@ -1,5 +1,5 @@
 use Rattle.std.proofs.Common.{sym, ◌∙◌, ap, subst}
-use Rattle.sms_base.specs.Table.{Rises}
+use Rattle.sms_table.specs.Table.{Rises}
 use Rattle.sms_handset.specs.declared.rows.Rows.{Rows}
 use Rattle.sms_handset.specs.Draft.{Draft, Standing, rows_after}
 use Rattle.sms_handset.specs.Keys.{entry_key}

@@ -1,6 +1,6 @@
 use Rattle.std.proofs.Common.{◌≡◌, ◌<◌, List, sym, ◌∙◌, ap, subst}
 use Rattle.std.specs.List.{AllByRecursion}
-use Rattle.sms_base.specs.Table.{Kept}
+use Rattle.sms_table.specs.Table.{Kept}
 use Rattle.sms_handset.specs.declared.entry.Entry.{Entry}
 use Rattle.sms_handset.specs.MemoryAvailable.{slots_taken}
 use Rattle.sms_handset.specs.OpenIndex.{Indexes}

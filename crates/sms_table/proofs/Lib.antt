@@ -1,0 +1,4 @@
+pub mod KeyLaws
+pub mod Places
+pub mod SinceLaws
+pub mod Tables

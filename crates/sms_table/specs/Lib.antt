@@ -1,0 +1,4 @@
+pub mod Keys
+pub mod Pending
+pub mod Since
+pub mod Table
