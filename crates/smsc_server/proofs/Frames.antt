@@ -1,13 +1,12 @@
 -- The octets of an input, fault by fault.
-use Rattle.std.proofs.Common.{◌≡◌, ℕ, suc, ◌+◌, ◌<◌, ◌≤◌, Bool, true, false, cond, eqb, ltb, List, [], ◌∷◌, ◌++◌, length, Result, Ok, Err, refl, sym, ap, ◌∙◌, arith}
-use Rattle.std.specs.Result.{IsErr}
-use Rattle.std.proofs.lemmas.Bool.{lt-ltb, le-ltb, eqb-true}
-use Rattle.hex.specs.Hex.{decode_of}
+use Rattle.std.proofs.Common.{◌≡◌, ℕ, suc, ◌+◌, ◌<◌, ◌≤◌, ◌/◌, ◌%◌, Bool, true, false, cond, eqb, ltb, List, [], ◌∷◌, length, take, Result, Ok, Err, refl, sym, ap, subst, ◌∙◌, arith}
+use Rattle.std.proofs.lemmas.Bool.{lt-ltb, le-ltb, eqb-true, eq-eqb}
+use Rattle.hex.specs.Hex.{decode_of, decode_pairs, decode_sized}
 use Rattle.hex.specs.declared.error.FromHexError.{FromHexError}
+use Rattle.hex.specs.declared.error.FromHexError.TheVariants.{OddLength, InvalidStringLength}
 use Rattle.smsc_server.specs.Lines.{first_line, behind_line, frame_in, line_octets, alone, longest_line}
-use Rattle.smsc_server.specs.LineReading.{ReadsLine, SpellsOctets}
-use Rattle.smsc_server.specs.declared.lines.LineFault.{LineFault}
-use Rattle.smsc_server.specs.declared.lines.LineFault.TheVariants.{BadLine, NoMemory}
+use Rattle.std.specs.Prelude.{MatchResult}
+use Rattle.smsc_server.specs.LineReading.{ReadsLine}
 
 -- an input that is not empty, cut behind its first line
 pub record Cut (input line behind : List ℕ) : Type 0 where
@@ -31,13 +30,24 @@ frame_long input line behind h lt = frame_is input line behind h ∙ rw (lt-ltb 
 frame_short : (input line behind : List ℕ) → Cut input line behind → length line ≤ 16384 → frame_in input ≡ line_octets (decode_of line) behind
 frame_short input line behind h le = frame_is input line behind h ∙ rw (le-ltb 16384 (length line) le) refl
 
-is_err_octets : (r : Result (List ℕ) FromHexError) (behind : List ℕ) → IsErr r → line_octets r behind ≡ Err 1
-is_err_octets (Ok x) behind h = absurd cc
-is_err_octets (Err e) behind h = refl
+-- room for half as many octets is what a line needs
+decoded : (line : List ℕ) (n : ℕ) → n ≡ length line / 2 → decode_sized line n ≡ decode_of line
+decoded line n e = ap (λ (b : Bool). cond (eqb (length line % 2) 1) (Err OddLength) (cond b (decode_pairs 0 line) (Err InvalidStringLength))) (eq-eqb (length line / 2) n (sym e))
 
-pub frame_bad : (input line behind : List ℕ) (fault : LineFault) → Cut input line behind → length line ≤ 16384 → SpellsOctets (Err fault) line → ReadsLine (Err fault) input
-frame_bad input line behind (BadLine number) h le e = frame_short input line behind h le ∙ is_err_octets (decode_of line) behind e.1 ∙ ap (λ (n : ℕ). let r : Result (List ℕ) ℕ = Err n in r) (sym e.0)
-frame_bad input line behind NoMemory h le e = tt
+abbrev Decodes : List ℕ → Result (Unit {0}) FromHexError → Result (List ℕ) FromHexError → Type 0
+Decodes out r answer = MatchResult answer (λ bytes. (r ≡ Ok tt) × (out ≡ bytes)) (λ e. r ≡ Err e)
+
+pub some_octets : (line out : List ℕ) (n : ℕ) (r : Result (Unit {0}) FromHexError) → n ≡ length line / 2 → Decodes out r (decode_sized line n) → r ≡ Ok tt → decode_of line ≡ Ok out
+some_octets line out n r e d ok = go (decode_of line) (subst (Decodes out r) (decoded line n e) d) where
+  go : (answer : Result (List ℕ) FromHexError) → Decodes out r answer → answer ≡ Ok out
+  go (Ok bytes) d = ap (λ (l : List ℕ). let a : Result (List ℕ) FromHexError = Ok l in a) (sym d.1)
+  go (Err f) d = absurd (let z : Ok tt ≡ Err f = sym ok ∙ d in cc)
+
+pub no_octets : (line out : List ℕ) (n : ℕ) (r : Result (Unit {0}) FromHexError) (f : FromHexError) → n ≡ length line / 2 → Decodes out r (decode_sized line n) → r ≡ Err f → decode_of line ≡ Err f
+no_octets line out n r f e d err = go (decode_of line) (subst (Decodes out r) (decoded line n e) d) where
+  go : (answer : Result (List ℕ) FromHexError) → Decodes out r answer → answer ≡ Err f
+  go (Ok bytes) d = absurd (let z : Err f ≡ Ok tt = sym err ∙ d.0 in cc)
+  go (Err g) d = let z : Err g ≡ Err f = sym d ∙ err in ap (λ (h : FromHexError). let a : Result (List ℕ) FromHexError = Err h in a) (let w : g ≡ f = cc in w)
 
 second : (octets behind : List ℕ) → eqb (length behind) 0 ≡ false → alone octets behind ≡ Err 2
 second octets [] some = absurd (let z : true ≡ false = some in cc)
@@ -47,8 +57,18 @@ only : (octets behind : List ℕ) → eqb (length behind) 0 ≡ true → alone o
 only octets [] none = refl
 only octets (x ∷ xs) none = absurd (let z : suc (length xs) ≡ 0 = eqb-true _ _ none in omega arith)
 
+pub frame_bad : (input line behind : List ℕ) (e : FromHexError) → Cut input line behind → length line ≤ 16384 → decode_of line ≡ Err e → frame_in input ≡ Err 1
+frame_bad input line behind e h le bad = frame_short input line behind h le ∙ rw bad refl
+
 pub frame_second : (input line behind octets : List ℕ) → Cut input line behind → length line ≤ 16384 → decode_of line ≡ Ok octets → eqb (length behind) 0 ≡ false → frame_in input ≡ Err 2
 frame_second input line behind octets h le e more = frame_short input line behind h le ∙ rw e (second octets behind more)
 
 pub frame_ok : (input line behind octets : List ℕ) → Cut input line behind → length line ≤ 16384 → decode_of line ≡ Ok octets → eqb (length behind) 0 ≡ true → frame_in input ≡ Ok octets
 frame_ok input line behind octets h le e none = frame_short input line behind h le ∙ rw e (only octets behind none)
+
+-- what reading answers where the input is so
+pub reads_bad : (input room : List ℕ) (line : ℕ) → frame_in input ≡ Err line → ReadsLine (frame_in input) (Err line) room
+reads_bad input room line e = subst (λ r. ReadsLine r (Err line) room) (sym e) refl
+
+pub reads_good : (input room octets : List ℕ) (count : ℕ) → frame_in input ≡ Ok octets → count ≡ length octets → take (length octets) room ≡ octets → ReadsLine (frame_in input) (Ok count) room
+reads_good input room octets count e n t = subst (λ r. ReadsLine r (Ok count) room) (sym e) (ap (λ (k : ℕ). let r : Result ℕ ℕ = Ok k in r) n, t)

@@ -1,6 +1,6 @@
 -- A front that is enough is judged as the whole input.
 use Rattle.std.proofs.Common.{◌≡◌, ◌⊎◌, ℕ, suc, ◌+◌, ◌<◌, ◌≤◌, Bool, true, false, cond, eqb, ltb, List, [], ◌∷◌, ◌++◌, length, Option, Some, None, Result, Ok, Err, refl, sym, ap, subst, ◌∙◌, arith, inl, inr, append_assoc}
-use Rattle.std.specs.Prelude.{IfSome}
+use Rattle.std.specs.Prelude.{IfSome, OnOk}
 use Rattle.std.proofs.lemmas.Bool.{lt-ltb, le-ltb, ltb-true, ltb-false, ne_eqb}
 use Rattle.std.proofs.lemmas.List.{length-append, append-nil}
 use Rattle.hex.specs.Hex.{decode_of}
@@ -75,8 +75,9 @@ if_some_of P Q (Some x) p f = f x p
 if_some_of P Q None p f = tt
 
 -- what is written for enough of an input is written for the input
-pub written_for : (centre from : Address) (now : ℕ) (input front seen text : List ℕ) (write : List ℕ → Type 0) → IsFront input front → seen ≡ front → IsOutput centre from now seen text → write text → (x : List ℕ) × IsOutput centre from now input x × write x
-written_for centre from now input front seen text write p e o done = (text, (o.0, front_judges input front p ∙ ap frame_in (sym e) ∙ o.1, o.2), done)
+pub written_for : (centre from : Address) (now : ℕ) (input front text : List ℕ) (write : List ℕ → Type 0) → IsFront input front → IsOutput centre from now front text → write text → (x : List ℕ) × IsOutput centre from now input x × write x
+written_for centre from now input front text write p o done = (text, (o.0, front_judges input front p ∙ o.1, o.2), done)
 
-pub bad_for : (centre from : Address) (now : ℕ) (input front seen : List ℕ) (line : ℕ) → IsFront input front → seen ≡ front → frame_in seen ≡ Err line → frame_in input ≡ Err line
-bad_for centre from now input front seen line p e bad = front_judges input front p ∙ ap frame_in (sym e) ∙ bad
+pub on_ok : {P Q : Type 0} {E : Type 0} (r : Result (Unit {0}) E) → OnOk r P → (P → Q) → OnOk r Q
+on_ok (Ok done) p f = f p
+on_ok (Err e) p f = tt

@@ -1,3 +1,5 @@
 pub mod FirstLines
 pub mod Frames
 pub mod FrontsJudge
+pub mod Fronting
+pub mod Options

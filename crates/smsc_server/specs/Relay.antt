@@ -1,5 +1,5 @@
 -- What an empty service centre sends for one unit of the relay layer that a handset sends up.
-use Rattle.std.specs.Prelude.{◌≡◌, ℕ, ◌≤◌, List, [], Bool, true, false, nat_le, slice_index, Option, Some, None, Result, MatchResult, MatchBool}
+use Rattle.std.specs.Prelude.{◌≡◌, ℕ, ◌≤◌, List, [], Bool, true, false, nat_le, slice_index, Option, Some, None, Result, Ok, Err, MatchResult, MatchBool}
 use Rattle.sms_base.specs.declared.address.Address.{Address}
 use Rattle.sms_relay.specs.declared.cause.RpCause.{RpCause}
 use Rattle.sms_relay.specs.declared.cause.RpCause.TheVariants.{ShortMessageTransferRejected, InvalidMandatoryInformation, MessageTypeNonExistent}
@@ -144,3 +144,11 @@ RelaysUnit centre from now r (Smma reference) = IsAnswer (ack_down reference Non
 
 abbrev pub IsRelayed : Address → Address → ℕ → List ℕ → Relayed → Type 0
 IsRelayed centre from now frame r = MatchResult (up_at frame) (RelaysUnit centre from now r) (λ fault. IsAnswer (unreadable_answer frame fault) r)
+
+-- the unit is an answer, for which nothing is sent
+abbrev pub IsAnswerUnit : Result Rp RelayFault → Type 0
+IsAnswerUnit (Ok (DataUnit reference centre unit)) = ⊥
+IsAnswerUnit (Ok (AckUnit reference unit)) = Unit {0}
+IsAnswerUnit (Ok (ErrorUnit reference cause unit)) = Unit {0}
+IsAnswerUnit (Ok (Smma reference)) = ⊥
+IsAnswerUnit (Err fault) = ⊥

@@ -1,8 +1,9 @@
 -- What a relay run writes for an input.
 use Rattle.std.specs.Prelude.{◌≡◌, ℕ, List, [], ◌++◌, Option, Some, None, Result, Ok, Err}
+use Rattle.std.specs.Result.{IsOk}
 use Rattle.sms_base.specs.declared.address.Address.{Address}
-use Rattle.smsc_server.specs.declared.lines.LineFault.{LineFault}
-use Rattle.smsc_server.specs.declared.lines.LineFault.TheVariants.{BadLine, NoMemory}
+use Rattle.smsc_server.specs.declared.run.LineFault.{LineFault}
+use Rattle.smsc_server.specs.declared.run.LineFault.TheVariants.{BadLine, NoMemory}
 use Rattle.smsc_server.specs.declared.once.Relayed.{Relayed}
 use Rattle.smsc_server.specs.Relay.{IsRelayed}
 use Rattle.smsc_server.specs.Lines.{frame_in, line_of}
@@ -27,8 +28,8 @@ IsTextFor centre from now frame text = (r : Relayed) × IsRelayed centre from no
 abbrev pub IsOutput : Address → Address → ℕ → List ℕ → List ℕ → Type 0
 IsOutput centre from now input text = (frame : List ℕ) × (frame_in input ≡ Ok frame) × IsTextFor centre from now frame text
 
--- the text, or the number of the bad line; want of memory says nothing
+-- the text, or the number of the bad line; want of memory is told of a good line alone
 abbrev pub Outputs : Address → Address → ℕ → List ℕ → Result (List ℕ) LineFault → Type 0
 Outputs centre from now input (Ok text) = IsOutput centre from now input text
 Outputs centre from now input (Err (BadLine line)) = frame_in input ≡ Err line
-Outputs centre from now input (Err NoMemory) = Unit {0}
+Outputs centre from now input (Err NoMemory) = IsOk (frame_in input)

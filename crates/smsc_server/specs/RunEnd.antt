@@ -1,17 +1,14 @@
 -- How a run ends.
-use Rattle.std.specs.Prelude.{◌≡◌, ℕ, List, Option, Result, Ok, Err, IfSome}
-use Rattle.smsc_server.specs.Lines.{frame_in}
+use Rattle.std.specs.Prelude.{◌≡◌, ℕ, List, Result, Ok, Err}
+use Rattle.std.specs.Result.{IsErr, IsOk}
 use Rattle.smsc_server.specs.declared.run.RunError.{RunError}
 use Rattle.smsc_server.specs.declared.run.RunError.TheVariants.{BadLine, NoMemory, Io}
 
--- a line that is told as bad is bad, and nothing was done
-abbrev pub IsBadLine : Result (Unit {0}) RunError → Type 0 → Option (List ℕ) → Type 0
-IsBadLine (Ok done) nothing remaining = Unit {0}
-IsBadLine (Err (BadLine line)) nothing remaining = nothing × IfSome remaining (λ input. frame_in input ≡ Err line)
-IsBadLine (Err NoMemory) nothing remaining = Unit {0}
-IsBadLine (Err (Io error)) nothing remaining = Unit {0}
-
-abbrev pub IsNoBadLine : RunError → Type 0
-IsNoBadLine (BadLine line) = ⊥
-IsNoBadLine NoMemory = Unit {0}
-IsNoBadLine (Io error) = Unit {0}
+-- A bad line is told by its number and want of memory only of a good line, both before anything is written. A read or
+-- a write that failed may be told of any input, but for a bad line nothing is written then either. `same` says that
+-- the writer is as it was, `judged` is what the line reads as.
+abbrev pub EndsFor : Result (Unit {0}) RunError → Type 0 → Result (List ℕ) ℕ → Type 0
+EndsFor (Ok done) same judged = IsOk judged
+EndsFor (Err (BadLine line)) same judged = same × (judged ≡ Err line)
+EndsFor (Err NoMemory) same judged = same × IsOk judged
+EndsFor (Err (Io error)) same judged = IsErr judged → same

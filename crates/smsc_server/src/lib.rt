@@ -6,8 +6,6 @@ mod lines;
 mod once;
 mod refusal;
 mod run;
-#[cfg(test)]
-mod tests;
 mod words;
 
 pub use handset::own_address;

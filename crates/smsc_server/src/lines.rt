@@ -1,25 +1,15 @@
 //! Lines of hexadecimal digits.
-ghost use Rattle.std.specs.Prelude.{◌≡◌, ◌++◌, ◌==◌, ◌<◌, ℕ, length, position, OnOk, IfOk, IfSome, Ok, Err};
-ghost use Rattle.smsc_server.specs.LineReading.{ReadsLine, SpellsOctets};
+ghost use Rattle.std.specs.Prelude.{◌≡◌, ◌++◌, ◌==◌, ◌<◌, ℕ, length, position, OnOk, IfSome};
+ghost use Rattle.smsc_server.specs.LineReading.{ReadsLine};
 ghost use Rattle.std.specs.Char.{encode_utf8};
 ghost use Rattle.std.specs.Str.{encode_utf8_all};
 ghost use Rattle.smsc_server.specs.Lines.{first_line, behind_line, frame_in, line_of};
 
-use hex::FromHexError;
 use sms_base::Octets;
 use std::alloc::{AllocError, Global};
 
 /// Octets in a line of input, its end not counted.
 pub(crate) const LONGEST_LINE: usize = 16_384;
-
-/// What is wrong with an input.
-#[derive(Clone, Copy, Debug, PartialEq, Eq)]
-pub enum LineFault {
-    /// The line of that number, from 1, is no line of hexadecimal digits or one too many.
-    BadLine(u64),
-    /// There was no memory for the octets.
-    NoMemory,
-}
 
 // Where the first line ends, if it has an end.
 fn line_end(input: &[u8]) -> Option<usize>
@@ -40,32 +30,27 @@ fn cut_line(input: &[u8]) -> (&[u8], &[u8])
     }
 }
 
-/// The octets that the one line of an input spells.
-pub(crate) fn frame_of(alloc: Global, input: &[u8]) -> Result<Octets, LineFault>
-    ensures { ReadsLine result input.now }
+/// Octets that a line spells at most.
+pub(crate) const MOST_OCTETS: usize = LONGEST_LINE / 2;
+
+/// Puts the octets that the one line of an input spells to the front of a room of 8,192, and tells how many they are,
+/// or the number of the bad line, from 1. Takes no memory.
+pub(crate) fn read_frame(input: &[u8], room: &mut [u8]) -> Result<usize, u64>
+    requires { length room.old ≡ MOST_OCTETS }
+    ensures { ReadsLine (frame_in input.now) result room.new }
 {
     if input.is_empty() {
-        return Err(LineFault::BadLine(1));
+        return Err(1);
     }
     let (line, behind) = cut_line(input);
     if line.len() > LONGEST_LINE {
-        return Err(LineFault::BadLine(1));
+        return Err(1);
     }
-    match octets_of(alloc, line) {
-        Ok(octets) if behind.is_empty() => Ok(octets),
-        Ok(_) => Err(LineFault::BadLine(2)),
-        Err(fault) => Err(fault),
-    }
-}
-
-// The octets that a line spells, as the first line of an input.
-fn octets_of(alloc: Global, line: &[u8]) -> Result<Octets, LineFault>
-    ensures { SpellsOctets result line.now }
-{
-    match hex::decode(alloc, line) {
-        Ok(octets) => Ok(Octets::from_vec(octets)),
-        Err(FromHexError::OutOfMemory) => Err(LineFault::NoMemory),
-        Err(_) => Err(LineFault::BadLine(1)),
+    let count = line.len() / 2;
+    match hex::decode_to_slice(line, &mut room[..count]) {
+        Ok(()) if behind.is_empty() => Ok(count),
+        Ok(()) => Err(2),
+        Err(_) => Err(1),
     }
 }
 

@@ -1,11 +1,12 @@
 //! One unit of a handset, relayed by a centre that holds nothing.
-ghost use Rattle.std.specs.Prelude.{◌≡◌, ℕ, IfOk, [], Some, None, ◌<◌, length};
+ghost use Rattle.std.specs.Prelude.{◌≡◌, ℕ, IfOk, IsOk, [], Some, None, ◌<◌, length};
+ghost use Rattle.sms_relay.specs.RelayReading.{up_at};
 ghost use Rattle.sms_relay.specs.RelayGrammar.{IsCentre, ack_down, data_down};
 ghost use Rattle.sms_tpdu.specs.AddressGrammar.{relay_address};
 ghost use Rattle.sms_tpdu.specs.TpduGrammar.{IsSubmitData, IsWrittenSubmitReport, IsWrittenDeliver};
 ghost use Rattle.sms_relay.specs.declared.frame.Rp.{Rp as RpOf};
 ghost use Rattle.smsc_server.specs.Handsets.{IsOwnAddress};
-ghost use Rattle.smsc_server.specs.Relay.{IsNothing, IsAnswer, IsRefused, IsAccepted, RelaysSubmit, RelaysUnit, IsRelayed, unreadable_answer, is_past, report_of, deliver_for};
+ghost use Rattle.smsc_server.specs.Relay.{IsNothing, IsAnswer, IsAnswerUnit, IsRefused, IsAccepted, RelaysSubmit, RelaysUnit, IsRelayed, unreadable_answer, is_past, report_of, deliver_for};
 
 use crate::handset::names_handset;
 use crate::refusal::{Refusal, unreadable_cause};
@@ -246,7 +247,9 @@ pub fn relay_once(
 ) -> Result<Relayed, AllocError>
     requires centre { IsOwnAddress centre }
     requires from { IsOwnAddress from }
-    ensures { IfOk result (λ r. IsRelayed centre from now frame.now r) }
+    ensures relayed { IfOk result (λ r. IsRelayed centre from now frame.now r) }
+    // What is answered by nothing takes no memory.
+    ensures quiet { IsAnswerUnit (up_at frame.now) → IsOk result }
 {
     match read_up(frame) {
         Ok(

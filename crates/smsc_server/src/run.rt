@@ -1,16 +1,17 @@
 //! A relay run: a line of hexadecimal in, a line for each frame out.
-ghost use Rattle.std.specs.Prelude.{◌≡◌, ℕ, List, IfOk, IfSome, OnOk};
+ghost use Rattle.std.specs.Prelude.{◌≡◌, ◌≤◌, ℕ, List, length, take, IfOk, IfSome, OnOk};
 ghost use Rattle.std.specs.Io.KnownBytes.{Appends};
 ghost use Rattle.smsc_server.specs.Handsets.{IsOwnAddress};
 ghost use Rattle.smsc_server.specs.Run.{IsOutput, IsTextFor, Outputs, text_of};
 ghost use Rattle.smsc_server.specs.Fronts.{IsFront};
-ghost use Rattle.smsc_server.specs.RunEnd.{IsBadLine, IsNoBadLine};
+ghost use Rattle.smsc_server.specs.Lines.{frame_in};
+ghost use Rattle.smsc_server.specs.RunEnd.{EndsFor};
 
-use crate::lines::{LONGEST_LINE, LineFault, frame_of, push_line};
+use crate::lines::{LONGEST_LINE, MOST_OCTETS, push_line, read_frame};
 use crate::once::{Relayed, relay_once};
 use sms_base::{Address, Moment, Octets};
 use std::alloc::{AllocError, Global};
-use std::io::{self, ErrorKind, Read, Write};
+use std::io::{self, Read, Write};
 use thiserror::Error;
 
 /// Why a run ended before its work was done.
@@ -27,16 +28,13 @@ pub enum RunError {
     Io(io::Error),
 }
 
-impl RunError {
-    // A read or write that failed; want of memory in it is want of memory.
-    fn of(error: io::Error) -> RunError
-        ensures { IsNoBadLine result }
-    {
-        if error.kind() == ErrorKind::OutOfMemory {
-            return RunError::NoMemory;
-        }
-        RunError::Io(error)
-    }
+// What is wrong with an input.
+#[derive(Clone, Copy, Debug, PartialEq, Eq)]
+enum LineFault {
+    // The line of that number, from 1, is no line of hexadecimal digits or one too many.
+    BadLine(u64),
+    // There was no memory for what is sent.
+    NoMemory,
 }
 
 // The lines of what is sent, the answer first.
@@ -65,10 +63,13 @@ fn output(
     requires from { IsOwnAddress from }
     ensures { Outputs centre from now input.now result }
 {
-    let frame = frame_of(alloc, input)?;
-    match relayed_text(alloc, centre, from, now, frame.as_slice()) {
-        Ok(text) => Ok(text),
-        Err(_) => Err(LineFault::NoMemory),
+    let mut room = [0; MOST_OCTETS];
+    match read_frame(input, &mut room) {
+        Ok(count) => match relayed_text(alloc, centre, from, now, &room[..count]) {
+            Ok(text) => Ok(text),
+            Err(_) => Err(LineFault::NoMemory),
+        },
+        Err(line) => Err(LineFault::BadLine(line)),
     }
 }
 
@@ -91,27 +92,54 @@ fn relayed_text(
 // As many octets of an input as show whether it is more than a line.
 const ENOUGH: usize = LONGEST_LINE + 2;
 
-// The whole input, or its first octets where they are enough.
-fn read_front<R: Read>(alloc: Global, reader: &mut R) -> io::Result<Vec<u8>>
-    ensures { IfOk result (λ front. IfSome (R.remaining reader.old) (λ input. IsFront input front.items)) }
+// The whole input, or its first octets where they are enough, into the front of a buffer; how many they are.
+fn read_front<R: Read>(reader: &mut R, buffer: &mut [u8]) -> io::Result<usize>
+    requires { length buffer.old ≡ ENOUGH }
+    ensures within { IfOk result (λ count. count ≤ length buffer.new) }
+    ensures front { IfOk result (λ count. IfSome (R.remaining reader.old) (λ input. IsFront input (take count buffer.new))) }
 {
-    let mut front = Vec::new(alloc);
-    let mut buffer = [0; 4096];
-    while front.len() < ENOUGH {
-        let count = reader.read(&mut buffer)?;
+    let mut filled = 0;
+    while filled < buffer.len() {
+        let count = reader.read(&mut buffer[filled..])?;
         if count == 0 {
-            return Ok(front);
+            return Ok(filled);
         }
-        front.extend_from_slice(&buffer[..count])?;
+        filled += count;
     }
-    Ok(front)
+    Ok(filled)
+}
+
+// The text for an input, written.
+fn write_output<W: Write>(
+    alloc: Global,
+    writer: &mut W,
+    centre: Address,
+    from: Address,
+    now: Moment,
+    input: &[u8],
+) -> Result<(), RunError>
+    requires centre { IsOwnAddress centre }
+    requires from { IsOwnAddress from }
+    ensures written { OnOk result ((text : List ℕ) × IsOutput centre from now input.now text
+        × Appends (W.contents writer.old) (W.contents writer.new) text) }
+    ensures ends { EndsFor result (writer.new ≡ writer.old) (frame_in input.now) }
+{
+    match output(alloc, centre, from, now, input) {
+        Ok(text) => match writer.write_all(text.as_slice()) {
+            Ok(()) => Ok(()),
+            Err(error) => Err(RunError::Io(error)),
+        },
+        Err(LineFault::BadLine(line)) => Err(RunError::BadLine(line)),
+        Err(LineFault::NoMemory) => Err(RunError::NoMemory),
+    }
 }
 
 /// Reads one line of hexadecimal digits, an RP unit of the handset `from`, and writes a line for each frame that a
 /// centre without rows sends for it at the moment `now`: the number of the handset, a space, and the frame in capital
 /// hexadecimal digits; the answer comes first.
 ///
-/// A bad line is told by its number, and nothing is written for it. A read or write that fails ends the run.
+/// A bad line is told by its number. Nothing is written for it, nor where memory is wanting, which is told of a good
+/// line alone. A read or write that fails ends the run.
 pub fn run_relay<R: Read, W: Write>(
     alloc: Global,
     reader: &mut R,
@@ -126,19 +154,11 @@ pub fn run_relay<R: Read, W: Write>(
     ensures written { OnOk result (IfSome (R.remaining reader.old) (λ input. (text : List ℕ)
         × IsOutput centre from now input text
         × Appends (W.contents writer.old) (W.contents writer.new) text)) }
-    // A line that is told as bad is bad, and nothing is written.
-    ensures bad { IsBadLine result (writer.new ≡ writer.old) (R.remaining reader.old) }
+    ensures ends { IfSome (R.remaining reader.old) (λ input. EndsFor result (writer.new ≡ writer.old) (frame_in input)) }
 {
-    let input = match read_front(alloc, reader) {
-        Ok(input) => input,
-        Err(error) => return Err(RunError::of(error)),
-    };
-    match output(alloc, centre, from, now, input.as_slice()) {
-        Ok(text) => match writer.write_all(text.as_slice()) {
-            Ok(()) => Ok(()),
-            Err(error) => Err(RunError::of(error)),
-        },
-        Err(LineFault::BadLine(line)) => Err(RunError::BadLine(line)),
-        Err(LineFault::NoMemory) => Err(RunError::NoMemory),
+    let mut buffer = [0; ENOUGH];
+    match read_front(reader, &mut buffer) {
+        Ok(count) => write_output(alloc, writer, centre, from, now, &buffer[..count]),
+        Err(error) => Err(RunError::Io(error)),
     }
 }

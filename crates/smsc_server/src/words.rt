@@ -1,7 +1,9 @@
 //! The words of the programs.
-ghost use Rattle.std.specs.Prelude.{◌≡◌, option_map, codes, IfSome, IfOk};
-ghost use Rattle.clap.specs.Words.{first_value, found_of};
-ghost use Rattle.smsc_server.specs.SimWords.{AreSimWords};
+ghost use Rattle.std.specs.Prelude.{◌≡◌, false, map, option_map, codes, IfSome, IfOk};
+ghost use Rattle.std.specs.List.{list_all};
+ghost use Rattle.smsc_server.specs.Handsets.{is_decimal};
+ghost use Rattle.clap.specs.Words.{app_of, first_value, found_of, rule_of};
+ghost use Rattle.smsc_server.specs.SimWords.{AsksFor, Spelled, SpellsNumber, SpellsSeconds, relay_command, required_option, value_of};
 
 use crate::handset::own_address;
 use clap::error::ErrorKind;
@@ -40,7 +42,10 @@ struct RelayOptions<'a> {
     now: Option<&'a str>,
 }
 
-fn required<'a>(alloc: Global, name: &'a str) -> Arg<'a> {
+fn required<'a>(alloc: Global, name: &'a str) -> Arg<'a>
+    ensures rule { rule_of result ≡ required_option name.entry.now }
+    ensures local { result.global ≡ false }
+{
     Arg::new(alloc, name)
         .long(name)
         .required(true)
@@ -60,29 +65,55 @@ fn options_of<'a>(matches: &ArgMatches<'a>) -> RelayOptions<'a>
     }
 }
 
-fn relay_options<'a>(alloc: Global, words: &'a [&'a str]) -> Result<RelayOptions<'a>, Error> {
-    let relay = Command::new(alloc, "relay")
+// The command line of a relay run.
+fn relay_command<'a>(alloc: Global) -> Result<Command<'a>, AllocError>
+    ensures { IfOk result (λ command. app_of command ≡ relay_command) }
+{
+    let command = Command::new(alloc, "relay")
         .arg(required(alloc, "centre"))?
         .arg(required(alloc, "from"))?
         .arg(required(alloc, "now"))?;
-    let matches = relay.try_get_matches_from(words)?;
+    Ok(command)
+}
+
+fn relay_options<'a>(alloc: Global, words: &'a [&'a str]) -> Result<RelayOptions<'a>, Error>
+    ensures centre { IfOk result (λ o. option_map (λ s. s.now) o.centre ≡ value_of (codes "centre") (map (λ w. w.now) words.entry.now)) }
+    ensures from { IfOk result (λ o. option_map (λ s. s.now) o.from ≡ value_of (codes "from") (map (λ w. w.now) words.entry.now)) }
+    ensures now { IfOk result (λ o. option_map (λ s. s.now) o.now ≡ value_of (codes "now") (map (λ w. w.now) words.entry.now)) }
+{
+    let command = relay_command(alloc)?;
+    let matches = command.try_get_matches_from(words)?;
     Ok(options_of(&matches))
 }
 
+fn is_decimal_text(text: &str) -> bool
+    ensures { result ≡ list_all is_decimal text.now }
+{
+    text.as_bytes().iter().all(|digit| digit.is_ascii_digit())
+}
+
 // The moment of a number of seconds, in decimal digits alone.
-fn moment_of(text: &str) -> Option<Moment> {
-    if !text.bytes().all(|digit| digit.is_ascii_digit()) {
+fn moment_of(text: &str) -> Option<Moment>
+    ensures { IfSome result (λ moment. SpellsSeconds text.now moment) }
+{
+    if !is_decimal_text(text) {
         return None;
     }
     let seconds: u64 = text.parse().ok()?;
     Moment::from_seconds(seconds).ok()
 }
 
-fn relay_words(options: &RelayOptions<'_>) -> Option<SimWords>
-    ensures { IfSome result (λ words. AreSimWords words) }
+fn number_of(text: &str) -> Option<Address>
+    ensures { IfSome result (λ address. SpellsNumber text.now address) }
 {
-    let centre = own_address(options.centre?)?;
-    let from = own_address(options.from?)?;
+    own_address(text)
+}
+
+fn relay_words(options: &RelayOptions<'_>) -> Option<SimWords>
+    ensures { IfSome result (λ words. Spelled (option_map (λ s. s.now) options.entry.now.centre) (option_map (λ s. s.now) options.entry.now.from) (option_map (λ s. s.now) options.entry.now.now) words) }
+{
+    let centre = number_of(options.centre?)?;
+    let from = number_of(options.from?)?;
     let now = moment_of(options.now?)?;
     Some(SimWords::Relay { centre, from, now })
 }
@@ -90,9 +121,10 @@ fn relay_words(options: &RelayOptions<'_>) -> Option<SimWords>
 /// What the words after the program's name ask of the simulator.
 ///
 /// `relay --centre NUMBER --from NUMBER --now SECONDS`, where a number is 1 to 20 digits 0 to 9 and the seconds are
-/// counted from 1970, in the years 2000 to 2099; all else is bad words.
+/// counted from 1970, in the years 2000 to 2099; all else is bad words. Each value is the one that clap's matches of
+/// the words have for its option.
 pub fn sim_words(alloc: Global, words: &[&str]) -> Result<SimWords, WordsFault>
-    ensures { IfOk result (λ words. AreSimWords words) }
+    ensures { IfOk result (λ asked. AsksFor (map (λ w. w.now) words.now) asked) }
 {
     match words.first() {
         Some(command) if *command == "relay" => match relay_options(alloc, words) {

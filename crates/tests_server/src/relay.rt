@@ -1,5 +1,5 @@
-use crate::{RunError, SimWords, WordsFault, own_address, run_relay, sim_words};
 use sms_base::Moment;
+use smsc_server::{RunError, own_address, run_relay};
 use std::alloc::Global;
 use std::test::Fail;
 
@@ -129,42 +129,38 @@ fn bad_lines_are_told_by_their_number(rt: HostRuntime) {
     assert_eq!(rt; bad_line(rt.alloc(), "0605\n\n"), 2, "a second line");
 }
 
+// A line of that many zeros.
+fn zeros(alloc: Global, count: usize) -> Result<Vec<u8>, RunError> {
+    let mut line = Vec::new(alloc);
+    for _ in 0..count {
+        if line.push(b'0').is_err() {
+            return Err(RunError::NoMemory);
+        }
+    }
+    Ok(line)
+}
+
+// What is written for a line of zeros, or the number of the bad line.
+fn relayed_zeros(alloc: Global, count: usize) -> Result<Vec<u8>, RunError> {
+    let line = zeros(alloc, count)?;
+    let Ok(text) = str::from_utf8(line.as_slice()) else {
+        return Err(RunError::BadLine(0));
+    };
+    relayed(alloc, text)
+}
+
 #[test]
-fn words_are_read(rt: HostRuntime) {
-    let words = [
-        "relay",
-        "--centre",
-        "447700900000",
-        "--from",
-        "447700900123",
-        "--now",
-        "1709251198",
-    ];
-    assert!(rt; matches!(sim_words(rt.alloc(), &words), Ok(SimWords::Relay { .. })));
-    let late = [
-        "relay",
-        "--centre",
-        "447700900000",
-        "--from",
-        "447700900123",
-        "--now",
-        "4102444800",
-    ];
-    assert_eq!(rt; sim_words(rt.alloc(), &late), Err(WordsFault::BadWords));
-    let letter = [
-        "relay",
-        "--centre",
-        "44770090000a",
-        "--from",
-        "447700900123",
-        "--now",
-        "1709251198",
-    ];
-    assert_eq!(rt; sim_words(rt.alloc(), &letter), Err(WordsFault::BadWords));
-    assert_eq!(rt;
-        sim_words(rt.alloc(), &["relay", "--centre", "1"]),
-        Err(WordsFault::BadWords)
-    );
-    assert_eq!(rt; sim_words(rt.alloc(), &["play"]), Err(WordsFault::BadWords));
-    assert_eq!(rt; sim_words(rt.alloc(), &[]), Err(WordsFault::BadWords));
+fn the_longest_line_is_read(rt: HostRuntime) {
+    let alloc = rt.alloc();
+    // RP-DATA of reference 0 whose side that must be unnamed is, and whose other side isn't named
+    let longest = match relayed_zeros(alloc, 16_384) {
+        Ok(written) => written.as_slice() == "447700900123 05000160\n".as_bytes(),
+        Err(_) => false,
+    };
+    assert!(rt; longest);
+    let longer = match relayed_zeros(alloc, 16_385) {
+        Err(RunError::BadLine(line)) => line,
+        Ok(_) | Err(_) => 0,
+    };
+    assert_eq!(rt; longer, 1);
 }

@@ -1,0 +1,7 @@
+//! Tests of the programs' runs over readers and writers, and of their words.
+#![tactic(auto)]
+
+#[cfg(test)]
+mod relay;
+#[cfg(test)]
+mod words;
