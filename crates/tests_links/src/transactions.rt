@@ -1,0 +1,216 @@
+//! Transactions of one end of a link, over frames from outside: rows of calls, with the frames that each sends and what
+//! goes up.
+use crate::octets::are;
+use sms_base::Moment;
+use sms_control::{LinkError, Links, Out, Up};
+use std::test::Fail;
+
+// 2024-02-29 23:59:58.
+const T0: u64 = 1_709_251_198;
+
+const SMMA: &[u8] = b"\x06\x05";
+
+const ACK: &[u8] = b"\x03\x05";
+
+const FAILED: &[u8] = b"failed";
+
+const NOTHING: &[u8] = b"";
+
+// A call, at so many seconds.
+enum Call {
+    Begin(u64, &'static [u8]),
+    Reply(u64, &'static [u8]),
+    Take(&'static [u8]),
+    Fire(u64),
+}
+
+type Row = (Call, &'static [&'static [u8]], &'static [u8]);
+
+fn at(seconds: u64) -> Result<Moment, Fail> {
+    Ok(Moment::from_seconds(T0)?.plus(seconds))
+}
+
+fn begun(links: &mut Links, seconds: u64, unit: &[u8]) -> Result<Out, Fail> {
+    if unit.is_empty() || unit.len() > 248 {
+        return Err(Fail::from("no unit"));
+    }
+    Ok(links.begin(at(seconds)?, unit)?)
+}
+
+fn replied(links: &mut Links, seconds: u64, unit: &[u8]) -> Result<Out, Fail> {
+    if unit.is_empty() || unit.len() > 248 {
+        return Err(Fail::from("no unit"));
+    }
+    Ok(links.reply(at(seconds)?, unit)?)
+}
+
+fn called(links: &mut Links, call: &Call) -> Result<Out, Fail> {
+    match call {
+        Call::Begin(seconds, unit) => begun(links, *seconds, unit),
+        Call::Reply(seconds, unit) => replied(links, *seconds, unit),
+        Call::Take(frame) => Ok(links.take(frame)?),
+        Call::Fire(seconds) => Ok(links.fire(at(*seconds)?)?),
+    }
+}
+
+// What went up: the octets of a unit, a word for a failure, or nothing.
+fn up(out: &Out) -> &[u8] {
+    match &out.up {
+        Some(Up::Unit { unit, .. }) => unit.as_slice(),
+        Some(Up::Failed) => FAILED,
+        None => NOTHING,
+    }
+}
+
+// Whether these frames, and no others, are sent.
+fn sends(out: &Out, frames: &[&[u8]]) -> bool {
+    if out.frames.len() != frames.len() {
+        return false;
+    }
+    for (sent, frame) in out.frames.as_slice().iter().zip(frames) {
+        if sent.as_slice() != *frame {
+            return false;
+        }
+    }
+    true
+}
+
+// The first row that differs.
+fn differing(links: &mut Links, rows: &[Row]) -> Result<Option<usize>, Fail> {
+    for (index, (call, frames, told)) in rows.iter().enumerate() {
+        let out = called(links, call)?;
+        if !sends(&out, frames) || up(&out) != *told {
+            return Ok(Some(index));
+        }
+    }
+    Ok(None)
+}
+
+const REPEATED: [Row; 6] = [
+    (Call::Begin(0, SMMA), &[b"\x09\x01\x02\x06\x05"], NOTHING),
+    (Call::Fire(9), &[], NOTHING),
+    (Call::Fire(10), &[b"\x09\x01\x02\x06\x05"], NOTHING),
+    (Call::Fire(20), &[b"\x09\x01\x02\x06\x05"], NOTHING),
+    (Call::Fire(30), &[], FAILED),
+    (Call::Begin(30, SMMA), &[b"\x19\x01\x02\x06\x05"], NOTHING),
+];
+
+#[test]
+fn a_begun_transaction_is_repeated_and_fails(rt: HostRuntime) -> Result<(), Fail> {
+    let mut links = Links::new(rt.alloc());
+    assert_eq!(rt; differing(&mut links, &REPEATED)?, None);
+    assert!(rt; matches!(links.begin(at(30)?, SMMA), Err(LinkError::Busy)));
+    assert!(rt; links.is_busy());
+    Ok(())
+}
+
+// After a jump of the clock nothing is repeated.
+const JUMPED: [Row; 2] = [
+    (Call::Begin(0, SMMA), &[b"\x09\x01\x02\x06\x05"], NOTHING),
+    (Call::Fire(40), &[], FAILED),
+];
+
+#[test]
+fn a_jump_of_the_clock_repeats_nothing(rt: HostRuntime) -> Result<(), Fail> {
+    let mut links = Links::new(rt.alloc());
+    assert_eq!(rt; differing(&mut links, &JUMPED)?, None);
+    Ok(())
+}
+
+// An answer is taken once, remembered while the next one is awaited, and none of another identifier is taken.
+const ANSWERED: [Row; 8] = [
+    (Call::Begin(0, SMMA), &[b"\x09\x01\x02\x06\x05"], NOTHING),
+    (Call::Take(b"\x89\x04"), &[], NOTHING),
+    (Call::Take(b"\x89\x01\x02\x03\x05"), &[b"\x09\x04"], ACK),
+    (Call::Take(b"\x89\x01\x02\x03\x05"), &[b"\x09\x04"], NOTHING),
+    (
+        Call::Take(b"\x89\x01\x02\x03\x06"),
+        &[b"\x09\x10\x51"],
+        NOTHING,
+    ),
+    (Call::Begin(0, SMMA), &[b"\x19\x01\x02\x06\x05"], NOTHING),
+    (Call::Take(b"\x89\x01\x02\x03\x05"), &[b"\x09\x04"], NOTHING),
+    (Call::Take(b"\x99\x10\x51"), &[], FAILED),
+];
+
+#[test]
+fn an_answer_is_taken_once(rt: HostRuntime) -> Result<(), Fail> {
+    let mut links = Links::new(rt.alloc());
+    assert_eq!(rt; differing(&mut links, &ANSWERED)?, None);
+    assert!(rt; !links.is_busy());
+    Ok(())
+}
+
+const OPENED: [Row; 5] = [
+    (Call::Take(b"\x09\x01\x02\x06\x05"), &[b"\x89\x04"], SMMA),
+    (Call::Reply(0, ACK), &[b"\x89\x01\x02\x03\x05"], NOTHING),
+    (
+        Call::Take(b"\x09\x01\x02\x06\x05"),
+        &[b"\x89\x04", b"\x89\x01\x02\x03\x05"],
+        NOTHING,
+    ),
+    (Call::Take(b"\x09\x04"), &[], NOTHING),
+    (Call::Take(b"\x09\x01\x02\x06\x05"), &[b"\x89\x04"], NOTHING),
+];
+
+#[test]
+fn an_opening_is_taken_once(rt: HostRuntime) -> Result<(), Fail> {
+    let mut links = Links::new(rt.alloc());
+    assert_eq!(rt; differing(&mut links, &OPENED)?, None);
+    assert!(rt; matches!(links.reply(at(0)?, ACK), Err(LinkError::NothingToAnswer)));
+    assert!(rt; !links.awaits_reply());
+    Ok(())
+}
+
+// The longest unit.
+const LONGEST: [u8; 248] = [0x5A; 248];
+
+// Whether one frame is sent: the octets, the length 248 and the longest unit.
+fn sends_longest(out: &Out, first: &[u8]) -> bool {
+    match out.frames.as_slice() {
+        [frame] => are(frame.as_slice(), &[first, &[0xF8], &LONGEST]),
+        _ => false,
+    }
+}
+
+// The other end takes the frame that was sent.
+fn passed(out: &Out, links: &mut Links) -> Result<Out, Fail> {
+    match out.frames.as_slice() {
+        [frame] => Ok(links.take(frame.as_slice())?),
+        _ => Err(Fail::from("not one frame")),
+    }
+}
+
+// The longest unit is sent, lost, and sent again; the other end takes it.
+fn goes_over(near: &mut Links, far: &mut Links) -> Result<bool, Fail> {
+    let sent = near.begin(at(0)?, &LONGEST)?;
+    let again = near.fire(at(10)?)?;
+    let taken = passed(&again, far)?;
+    Ok(
+        sends_longest(&sent, &[0x09, 0x01])
+            && sends_longest(&again, &[0x09, 0x01])
+            && up(&taken) == LONGEST.as_slice(),
+    )
+}
+
+// So is the longest answer, by a copy of the link that gave it.
+fn comes_back(near: &mut Links, far: &mut Links) -> Result<bool, Fail> {
+    let sent = far.reply(at(10)?, &LONGEST)?;
+    let mut copy = far.copy()?;
+    let again = copy.fire(at(20)?)?;
+    let taken = passed(&again, near)?;
+    Ok(
+        sends_longest(&sent, &[0x89, 0x01])
+            && sends_longest(&again, &[0x89, 0x01])
+            && up(&taken) == LONGEST.as_slice(),
+    )
+}
+
+#[test]
+fn the_longest_unit_goes_both_ways(rt: HostRuntime) -> Result<(), Fail> {
+    let mut near = Links::new(rt.alloc());
+    let mut far = Links::new(rt.alloc());
+    assert!(rt; goes_over(&mut near, &mut far)?);
+    assert!(rt; comes_back(&mut near, &mut far)?);
+    Ok(())
+}
