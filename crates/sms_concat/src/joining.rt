@@ -7,8 +7,8 @@ use crate::content::{Content, Part};
 use sms_base::Octets;
 use std::alloc::{AllocError, Global};
 
-// The key of a part; without one it counts as part 1 of 1.
-fn key_or_alone(key: Option<ConcatKey>) -> ConcatKey
+/// The key of a part; without one it counts as part 1 of 1.
+pub(crate) fn key_or_alone(key: Option<ConcatKey>) -> ConcatKey
     ensures { result ≡ key_or_alone key }
 {
     match key {
@@ -21,7 +21,8 @@ fn key_or_alone(key: Option<ConcatKey>) -> ConcatKey
     }
 }
 
-fn is_same_reference(one: ConcatReference, other: ConcatReference) -> bool
+/// Whether references are one: in width and in number.
+pub(crate) fn is_same_reference(one: ConcatReference, other: ConcatReference) -> bool
     ensures { result ≡ is_same_reference one other }
 {
     match (one, other) {
