@@ -1,5 +1,6 @@
 //! The parts of a message joined step by step.
-ghost use Rattle.std.specs.Prelude.{◌≡◌, ◌↔◌, ◌<◌, ◌≤◌, ℕ, true, IfErr, IfOk, OnErr, OnOk, length, nat_lt, position, unwrap_or};
+ghost use Rattle.std.specs.Prelude.{◌≡◌, ◌↔◌, ◌<◌, ◌≤◌, ℕ, true, IfErr, IfOk, OnErr, OnOk, Some, length, nat_lt, position, unwrap_or};
+ghost use Rattle.sms_concat.specs.declared.content.Content.{Content as ContentOf};
 ghost use Rattle.sms_concat.specs.Joining.{content_joined};
 ghost use Rattle.sms_concat.specs.StepwiseJoining.{Adds, IsTaken, belongs, has_number, inserted, is_full, none_taken, number_of, takes};
 
@@ -170,9 +171,10 @@ impl Joiner {
         })
     }
 
-    /// What `join` answers for the parts that were taken, by number. Takes memory once.
+    /// What `join` answers for the parts that were taken, by number. Takes memory once, and only where they join.
     pub fn finish(&self, alloc: Global) -> Result<Option<Content>, AllocError>
-        ensures { IfOk result (λ content. content ≡ content_joined self.now.parts) }
+        ensures ok { IfOk result (λ content. content ≡ content_joined self.now.parts) }
+        ensures err { OnErr result ((content : ContentOf) × (content_joined self.now.parts ≡ Some content)) }
     {
         join(alloc, self.parts.as_slice())
     }
