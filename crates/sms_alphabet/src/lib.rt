@@ -21,6 +21,3 @@ pub use scheme::{Coding, dcs};
 pub use spelling::{SpellingError, septets_of};
 pub use ucs2::{Ucs2Error, ucs2_of, ucs2_text};
 pub use unpacking::{UnpackError, check, unpack};
-
-#[cfg(test)]
-mod tests;

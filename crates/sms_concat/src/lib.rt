@@ -39,6 +39,3 @@ pub use sms_alphabet::{fill_bits, header_septets};
 pub use split_error::SplitError;
 pub use splitting::split;
 pub use writing::{user_data, user_data_behind};
-
-#[cfg(test)]
-mod tests;

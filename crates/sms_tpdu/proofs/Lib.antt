@@ -18,3 +18,5 @@ pub mod WrittenUnits
 pub mod CutUnits
 pub mod CutReports
 pub mod MoreBits
+pub mod FaultSteps
+pub mod FaultFields

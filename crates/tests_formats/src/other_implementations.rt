@@ -1,195 +1,12 @@
-//! The worked examples, and strings worked out by other implementations.
+//! Texts as other implementations write them.
 //!
 //! `SEPTETS` has texts of every character of the alphabet: as Python's codec `utf-16-be` writes them, their septets as
 //! Gammu 1.42 (`EncodeDefault`) gives them, and those packed behind the fill bits as libosmogsm 1.7
 //! (`gsm_septet_pack`) gives them; with no fill bits Gammu's `GSM_PackSevenBitsToEight` packed them alike. `UCS2` has
 //! other texts in UTF-8 and in UTF-16BE, as Python's codecs write them.
-ghost use Rattle.std.specs.Prelude.{◌<◌, IfOk};
 
-use crate::{
-    Coding, ReadingError, SpellingError, Ucs2Error, UnpackError, check, dcs, pack, septets_of,
-    text_of, ucs2_of, ucs2_text, unpack,
-};
-use std::alloc::Global;
-use std::test::Fail;
-
-fn digit(code: u8) -> Result<u8, Fail>
-    ensures { IfOk result (λ value. value < 16) }
-{
-    match code {
-        b'0'..=b'9' => Ok(code - b'0'),
-        b'A'..=b'F' => Ok(code - b'A' + 10),
-        _ => Err(Fail::from("no hexadecimal digit")),
-    }
-}
-
-fn octets_of(alloc: Global, digits: &str) -> Result<Vec<u8>, Fail> {
-    let mut octets = Vec::new(alloc);
-    for pair in digits.as_bytes().chunks(2) {
-        let [high, low] = pair else {
-            return Err(Fail::from("half an octet"));
-        };
-        octets.push(16 * digit(*high)? + digit(*low)?)?;
-    }
-    Ok(octets)
-}
-
-fn agrees(alloc: Global, ucs2: &[u8], septets: &[u8], fill: u8, packed: &[u8]) -> Result<bool, Fail>
-    requires { fill < 7 }
-{
-    let text = ucs2_text(alloc, ucs2)?;
-    let spelled = septets_of(alloc, text.as_str())?;
-    let octets = pack(alloc, spelled.as_slice(), fill)?;
-    let count = u8::try_from(septets.len())?;
-    check(packed, fill, count)?;
-    let unpacked = unpack(alloc, packed, fill, count)?;
-    let read = text_of(alloc, septets)?;
-    Ok(
-        spelled.as_slice() == septets
-            && octets.as_slice() == packed
-            && unpacked.as_slice() == septets
-            && read.as_str() == text.as_str(),
-    )
-}
-
-fn agrees_in_ucs2(alloc: Global, text: &str, octets: &[u8]) -> Result<bool, Fail> {
-    let written = ucs2_of(alloc, text)?;
-    let read = ucs2_text(alloc, octets)?;
-    Ok(written.as_slice() == octets && read.as_str() == text)
-}
-
-fn line_agrees(alloc: Global, line: &str) -> Result<bool, Fail> {
-    let mut fields = line.split(' ');
-    let ucs2 = octets_of(alloc, fields.next().ok_or("no text")?)?;
-    let septets = octets_of(alloc, fields.next().ok_or("no septets")?)?;
-    let fill = fields.next().ok_or("no fill")?.parse::<u8>()?;
-    let packed = octets_of(alloc, fields.next().ok_or("no octets")?)?;
-    if fill >= 7 {
-        return Err(Fail::from("too many fill bits"));
-    }
-    agrees(alloc, &ucs2, &septets, fill, &packed)
-}
-
-fn ucs2_line_agrees(alloc: Global, line: &str) -> Result<bool, Fail> {
-    let mut fields = line.split(' ');
-    let text = octets_of(alloc, fields.next().ok_or("no text")?)?;
-    let octets = octets_of(alloc, fields.next().ok_or("no octets")?)?;
-    agrees_in_ucs2(alloc, str::from_utf8(&text)?, &octets)
-}
-
-#[test]
-fn agrees_with_other_implementations(rt: HostRuntime) -> Result<(), Fail> {
-    for line in SEPTETS.lines() {
-        assert!(rt; line_agrees(rt.alloc(), line)?, "at {line}");
-    }
-    for line in UCS2.lines() {
-        assert!(rt; ucs2_line_agrees(rt.alloc(), line)?, "at {line}");
-    }
-    Ok(())
-}
-
-#[test]
-fn packs_the_worked_examples(rt: HostRuntime) -> Result<(), Fail> {
-    for (text, packed) in [
-        ("", b"".as_slice()),
-        ("hello", b"\xE8\x32\x9B\xFD\x06".as_slice()),
-        ("€", b"\x9B\x32".as_slice()),
-        ("aaaaaaa", b"\xE1\x70\x38\x1C\x0E\x87\x01".as_slice()),
-        ("aaaaaaa@", b"\xE1\x70\x38\x1C\x0E\x87\x01".as_slice()),
-    ] {
-        let septets = septets_of(rt.alloc(), text)?;
-        let octets = pack(rt.alloc(), septets.as_slice(), 0)?;
-        assert_eq!(rt; octets.as_slice(), packed, "at {text}");
-        let count = u8::try_from(septets.len())?;
-        let back = unpack(rt.alloc(), packed, 0, count)?;
-        assert_eq!(rt; text_of(rt.alloc(), back.as_slice())?.as_str(), text);
-    }
-    assert!(rt; agrees_in_ucs2(rt.alloc(), "ж😀", b"\x04\x36\xD8\x3D\xDE\x00")?);
-    Ok(())
-}
-
-#[test]
-fn reads_what_no_one_writes(rt: HostRuntime) -> Result<(), Fail> {
-    for (septets, text) in [
-        (b"\x1B\x65".as_slice(), "€"),
-        (b"\x1B\x41".as_slice(), "A"),
-        (b"\x1B\x1B\x65".as_slice(), " e"),
-        (b"\x61\x1B".as_slice(), "a "),
-    ] {
-        let read = text_of(rt.alloc(), septets)?;
-        assert_eq!(rt; read.as_str(), text);
-    }
-    Ok(())
-}
-
-#[test]
-fn refuses_by_name(rt: HostRuntime) -> Result<(), Fail> {
-    let alloc = rt.alloc();
-    assert!(rt; matches!(&septets_of(alloc, "aж"), Err(SpellingError::NoCode(1))));
-    assert!(rt; matches!(&septets_of(alloc, "\u{1B}"), Err(SpellingError::NoCode(0))));
-    assert!(rt; matches!(&text_of(alloc, b"\x41\x80"), Err(ReadingError::NotSeptet)));
-    assert!(rt; matches!(&unpack(alloc, b"\xE8", 0, 2), Err(UnpackError::TooShort)));
-    assert!(rt;
-        matches!(
-            &unpack(alloc, b"\xE8\x32", 0, 1),
-            Err(UnpackError::SpareBits)
-        )
-    );
-    assert!(rt; matches!(&unpack(alloc, b"\x01", 1, 0), Err(UnpackError::SpareBits)));
-    assert!(rt;
-        matches!(
-            &ucs2_text(alloc, b"\xD8\x3D"),
-            Err(Ucs2Error::LoneSurrogate)
-        )
-    );
-    assert!(rt;
-        matches!(
-            &ucs2_text(alloc, b"\xD8\x3D\xDE"),
-            Err(Ucs2Error::OddLength)
-        )
-    );
-    assert!(rt;
-        matches!(
-            &ucs2_text(alloc, b"\xD8\x3D\x00\x41"),
-            Err(Ucs2Error::LoneSurrogate)
-        )
-    );
-    assert!(rt;
-        matches!(
-            &ucs2_text(alloc, b"\xDE\x00\x00"),
-            Err(Ucs2Error::LoneSurrogate)
-        )
-    );
-    assert_eq!(rt; Ucs2Error::OddLength.code(), Some("S4"));
-    Ok(())
-}
-
-#[test]
-fn names_the_coding(rt: HostRuntime) -> Result<(), Fail> {
-    for (octet, coding) in [
-        (0x00, Coding::Septets),
-        (0x04, Coding::Octets),
-        (0x08, Coding::Ucs2),
-        (0x0C, Coding::Septets),
-        (0x11, Coding::Septets),
-        (0x15, Coding::Octets),
-        (0x20, Coding::Compressed),
-        (0x7C, Coding::Compressed),
-        (0x84, Coding::Septets),
-        (0xC8, Coding::Septets),
-        (0xD0, Coding::Septets),
-        (0xE0, Coding::Ucs2),
-        (0xF1, Coding::Septets),
-        (0xF5, Coding::Octets),
-        (0xFC, Coding::Octets),
-    ] {
-        assert_eq!(rt; dcs(octet), coding, "at {octet}");
-    }
-    Ok(())
-}
-
-// A line: the text in UTF-16BE, its septets, the fill bits, the packed octets.
-const SEPTETS: &str = "\
+/// A line: the text in UTF-16BE, its septets, the fill bits, the packed octets.
+pub const SEPTETS: &str = "\
 00680065006C006C006F 68656C6C6F 3 4097D9EC37
 0061 61 1 C2
 002C005F 2C11 1 5811
@@ -391,8 +208,8 @@ const SEPTETS: &str = "\
 006F 6F 3 7803
 ";
 
-// A line: the text in UTF-8, the same in UTF-16BE.
-const UCS2: &str = "\
+/// A line: the text in UTF-8, the same in UTF-16BE.
+pub const UCS2: &str = "\
 ED9FBFEE8080EFBFBFF0908080F48FBFBF007FC280 D7FFE000FFFFD800DC00DBFFDFFF0000007F0080
 29F0BBB79350E298A3E6B081 0029D8AFDDD3005026236C01
 F3B49DB7 DB91DF77

@@ -1,9 +1,10 @@
 //! Whole TPDUs in their octets, each public call once with ample memory, and SUBMITs that another implementation made.
-use crate::{
-    Carrier, Down, FailureCause, Status, TpduFault, Up, ValidityPeriod, read_down, read_up,
-    validity, write_down, write_relay_address, write_up,
+use sms_base::{Address, Moment, Octets};
+use sms_tpdu::{
+    Carrier, Down, FailureCause, Status, Up, ValidityPeriod, read_down, read_up, same_message,
+    tell_more_messages, validity, write_down, write_relay_address, write_up,
 };
-use sms_base::{Address, Moment};
+use std::alloc::Global;
 use std::test::Fail;
 
 // Thursday 29 February 2024, 23:59:58 at UTC.
@@ -37,15 +38,6 @@ fn a_submit_is_read(rt: HostRuntime) -> Result<(), Fail> {
     assert_eq!(rt; submit.validity_period, ValidityPeriod::NotPresent);
     assert_eq!(rt; submit.user_data.length, 5);
     assert!(rt; submit.user_data.octets.as_slice() == b"\xE8\x32\x9B\xFD\x06".as_slice());
-    for length in 0..SUBMIT.len() {
-        assert!(rt;
-            matches!(
-                read_up(&SUBMIT[..length], Carrier::InData),
-                Err(TpduFault::Truncated)
-            ),
-            "at {length}"
-        );
-    }
     Ok(())
 }
 
@@ -61,15 +53,6 @@ fn a_deliver_is_read(rt: HostRuntime) -> Result<(), Fail> {
         Address::new(1, 1, "447700900123")?
     );
     assert_eq!(rt; deliver.service_centre_time_stamp.seconds(), LEAP_DAY);
-    for length in 0..DELIVER.len() {
-        assert!(rt;
-            matches!(
-                read_down(&DELIVER[..length], Carrier::InData),
-                Err(TpduFault::Truncated)
-            ),
-            "at {length}"
-        );
-    }
     Ok(())
 }
 
@@ -185,6 +168,18 @@ fn the_first_fault_of_a_deliver_is_told(rt: HostRuntime) {
     }
 }
 
+fn goes_down(alloc: Global, octets: &[u8], carrier: Carrier) -> Result<bool, Fail> {
+    let tpdu = read_down(octets, carrier)?;
+    let written = write_down(alloc, &tpdu)?;
+    Ok(written.as_slice() == octets)
+}
+
+fn goes_up(alloc: Global, octets: &[u8], carrier: Carrier) -> Result<bool, Fail> {
+    let tpdu = read_up(octets, carrier)?;
+    let written = write_up(alloc, &tpdu)?;
+    Ok(written.as_slice() == octets)
+}
+
 #[test]
 fn what_goes_down_is_written_as_it_was_read(rt: HostRuntime) -> Result<(), Fail> {
     let cases: [(&[u8], Carrier); 6] = [
@@ -199,8 +194,7 @@ fn what_goes_down_is_written_as_it_was_read(rt: HostRuntime) -> Result<(), Fail>
         ),
     ];
     for (octets, carrier) in cases {
-        let tpdu = read_down(octets, carrier)?;
-        assert!(rt; write_down(rt.alloc(), &tpdu)?.as_slice() == octets);
+        assert!(rt; goes_down(rt.alloc(), octets, carrier)?);
     }
     Ok(())
 }
@@ -214,8 +208,85 @@ fn what_goes_up_is_written_as_it_was_read(rt: HostRuntime) -> Result<(), Fail> {
         (b"\x00\x07\x00\x00\x02\xE8\x34", Carrier::InAck),
     ];
     for (octets, carrier) in cases {
-        let tpdu = read_up(octets, carrier)?;
-        assert!(rt; write_up(rt.alloc(), &tpdu)?.as_slice() == octets);
+        assert!(rt; goes_up(rt.alloc(), octets, carrier)?);
+    }
+    Ok(())
+}
+
+// Fields, and 140 octets of user data behind them.
+fn with_longest_data(alloc: Global, fields: &[u8]) -> Result<Octets, Fail> {
+    let mut octets = Octets::copy_of(alloc, fields)?;
+    for _ in 0..140_u8 {
+        octets.push(0x61)?;
+    }
+    Ok(octets)
+}
+
+// Each with an address of 20 digits or every parameter, and 160 septets or 140 octets.
+#[test]
+fn the_longest_go_down(rt: HostRuntime) -> Result<(), Fail> {
+    let cases: [(&[u8], Carrier); 4] = [
+        (
+            b"\x04\x14\x91\x44\x77\x00\x09\x10\x32\x54\x76\x98\x10\x00\x00\x42\x20\x92\x32\x95\x85\x00\xA0",
+            Carrier::InData,
+        ),
+        (
+            b"\x04\x14\x91\x44\x77\x00\x09\x10\x32\x54\x76\x98\x10\x00\x08\x42\x20\x92\x32\x95\x85\x00\x8C",
+            Carrier::InData,
+        ),
+        (
+            b"\x06\x07\x14\x91\x44\x77\x00\x09\x10\x32\x54\x76\x98\x10\x42\x20\x92\x32\x95\x85\x00\x42\x30\x10\x00\x00\x00\x00\x00\x07\x00\x04\x8C",
+            Carrier::InData,
+        ),
+        (
+            b"\x01\xC6\x07\x42\x20\x92\x32\x95\x85\x00\x00\x00\xA0",
+            Carrier::InError,
+        ),
+    ];
+    for (fields, carrier) in cases {
+        let octets = with_longest_data(rt.alloc(), fields)?;
+        assert!(rt; goes_down(rt.alloc(), octets.as_slice(), carrier)?);
+    }
+    Ok(())
+}
+
+#[test]
+fn the_longest_go_up(rt: HostRuntime) -> Result<(), Fail> {
+    let cases: [(&[u8], Carrier); 3] = [
+        (
+            b"\x19\x07\x14\x91\x44\x77\x00\x09\x10\x32\x54\x76\x98\x10\x00\x00\x42\x20\x92\x32\x95\x85\x00\xA0",
+            Carrier::InData,
+        ),
+        (
+            b"\x19\x07\x14\x91\x44\x77\x00\x09\x10\x32\x54\x76\x98\x10\x00\x04\x42\x20\x92\x32\x95\x85\x00\x8C",
+            Carrier::InData,
+        ),
+        (b"\x00\xD3\x07\x00\x08\x8C", Carrier::InError),
+    ];
+    for (fields, carrier) in cases {
+        let octets = with_longest_data(rt.alloc(), fields)?;
+        assert!(rt; goes_up(rt.alloc(), octets.as_slice(), carrier)?);
+    }
+    Ok(())
+}
+
+// Whether the first octet is so once the octets tell whether more messages wait, and they are one message still.
+fn tells(alloc: Global, octets: &[u8], more: bool, first: u8) -> Result<bool, Fail> {
+    let mut items = Octets::copy_of(alloc, octets)?.into_vec();
+    tell_more_messages(items.as_mut_slice(), more);
+    Ok(items.first() == Some(&first) && same_message(items.as_slice(), octets))
+}
+
+#[test]
+fn a_message_that_is_sent_twice_is_known(rt: HostRuntime) -> Result<(), Fail> {
+    // from the worked example of two messages that wait: the first is sent with 20, the last with 24
+    assert!(rt; tells(rt.alloc(), b"\x24\x0C\x91\x44", true, 0x20)?);
+    assert!(rt; tells(rt.alloc(), b"\x20\x0C\x91\x44", false, 0x24)?);
+    assert!(rt; same_message(DELIVER, DELIVER));
+    assert!(rt; same_message(b"", b""));
+    let others: [&[u8]; 5] = [b"", b"\x20", b"\x24\x0D", b"\x64\x0C", b"\x24\x0C\x00"];
+    for other in others {
+        assert!(rt; !same_message(b"\x24\x0C", other));
     }
     Ok(())
 }
@@ -244,8 +315,7 @@ const OF_GAMMU: [&[u8]; 14] = [
 #[test]
 fn what_gammu_encodes_is_read_and_written_alike(rt: HostRuntime) -> Result<(), Fail> {
     for octets in OF_GAMMU {
-        let tpdu = read_up(octets, Carrier::InData)?;
-        assert!(rt; write_up(rt.alloc(), &tpdu)?.as_slice() == octets);
+        assert!(rt; goes_up(rt.alloc(), octets, Carrier::InData)?);
     }
     Ok(())
 }
