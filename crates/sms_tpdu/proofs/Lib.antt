@@ -17,3 +17,6 @@ pub mod CutFields
 pub mod WrittenUnits
 pub mod CutUnits
 pub mod CutReports
+pub mod MoreBits
+pub mod FaultSteps
+pub mod FaultFields
