@@ -14,7 +14,7 @@ use Rattle.smpp_session.specs.declared.standing.SessionState.{SessionState}
 use Rattle.smpp_session.specs.declared.standing.SessionState.TheVariants.{Opened, BoundRx, BoundTrx}
 use Rattle.smpp_session.specs.declared.standing.Standing.{Standing}
 use Rattle.smpp_session.specs.declared.turn.Turn.{Turn}
-use Rattle.smpp_session.specs.Windows.{window, number_after}
+use Rattle.smpp_session.specs.Windows.{window, number_after, free_number}
 use Rattle.smpp_session.specs.SessionTable.{response, closed_standing}
 use Rattle.smpp_session.specs.SessionRun.{Course, stream}
 
@@ -73,13 +73,20 @@ IsRefused None error = error ≡ NoMemory
 abbrev pub deliver_pdu : ℕ → Message → Pdu
 deliver_pdu number message = response (DeliverSm message) ESME_ROK number
 
+abbrev pub number_to_send : Standing → ℕ
+number_to_send standing = free_number standing.next_number standing.unanswered
+
+-- the deliver_sm of that number waits for its answer
+abbrev pub awaiting_under : ℕ → Standing → Standing
+awaiting_under number standing = record {
+  state = standing.state;
+  unanswered = standing.unanswered ++ number ∷ [];
+  next_number = number_after number;
+}
+
 -- one more waits for its answer
 abbrev pub awaiting : Standing → Standing
-awaiting standing = record {
-  state = standing.state;
-  unanswered = standing.unanswered ++ standing.next_number ∷ [];
-  next_number = number_after standing.next_number;
-}
+awaiting standing = awaiting_under (number_to_send standing) standing
 
 abbrev pub after_delivery : SessionView → SessionView
 after_delivery session = record { accounts = session.accounts; standing = awaiting session.standing; buffered = session.buffered }
