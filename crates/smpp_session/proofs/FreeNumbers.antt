@@ -28,7 +28,7 @@ all_map : {A : Type 0} {P Q : A → Type 0} → ((x : A) → P x → Q x) → (x
 all_map f [] h = tt
 all_map f (x ∷ xs) h = (f x h.0, all_map f xs h.1)
 
-all_append : {A : Type 0} (P : A → Type 0) (xs ys : List A) → AllByRecursion P xs → AllByRecursion P ys → AllByRecursion P (xs ++ ys)
+pub all_append : {A : Type 0} (P : A → Type 0) (xs ys : List A) → AllByRecursion P xs → AllByRecursion P ys → AllByRecursion P (xs ++ ys)
 all_append P [] ys h k = k
 all_append P (x ∷ xs) ys h k = (h.0, all_append P xs ys h.1 k)
 

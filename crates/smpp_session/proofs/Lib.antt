@@ -6,3 +6,4 @@ pub mod Adding
 pub mod Cuts
 pub mod Pieces
 pub mod FreeNumbers
+pub mod Promises

@@ -3,6 +3,7 @@ pub mod Bindings
 pub mod Calls
 pub mod Faults
 pub mod Logins
+pub mod Promises
 pub mod SessionRun
 pub mod SessionTable
 pub mod Sessions
