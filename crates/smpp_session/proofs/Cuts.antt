@@ -12,11 +12,10 @@ use Rattle.smpp_session.specs.declared.fault.DeliverFault.{DeliverFault}
 use Rattle.smpp_session.specs.declared.front.Front.{Front}
 use Rattle.smpp_session.specs.declared.front.Front.TheVariants.{Waiting, Whole, BadLength, Dropped}
 use Rattle.smpp_session.specs.declared.standing.SessionState.{SessionState}
-use Rattle.smpp_session.specs.declared.standing.Standing.{Standing}
 use Rattle.smpp_session.specs.declared.turn.Turn.{Turn}
 use Rattle.smpp_session.specs.Stream.{front_of}
 use Rattle.smpp_session.specs.SessionRun.{Course, fronted, one_more, stream}
-use Rattle.smpp_session.specs.Sessions.{SessionView, opened, turn_of, after_course, fed, delivery_fault, deliver_pdu, number_to_send, after_delivery}
+use Rattle.smpp_session.specs.Sessions.{SessionView, opened, turn_of, after_course, with_more, treated_input, fed, delivery_fault, deliver_pdu, number_to_send, after_delivery}
 use Rattle.smpp_session.specs.Calls.{called, delivering, and_then, ran, singles, each_octet}
 use Rattle.smpp_session.proofs.Cutting.{stream-append, waiting_kept}
 use Rattle.smpp_session.proofs.Adding.{course_behind, stream_behind}
@@ -93,17 +92,14 @@ feed_joins s xs ys = from (stream s.accounts (turn_of s, []) (s.buffered ++ xs))
       in
       left ∙ (middle ∙ (sym right ∙ same))
 
-abbrev session_of : List Account → Standing → List ℕ → SessionView
-session_of accounts standing buffered = record { accounts = accounts; standing = standing; buffered = buffered }
-
-pub feed_waits : (accounts : List Account) (standing : Standing) (buffered xs all : List ℕ) (actions : List Action) → all ≡ buffered ++ xs → Waiting ≡ front_of standing.state all → actions ≡ []
-    → (let given : Given = (session_of accounts standing all, actions) in fed (session_of accounts standing buffered) xs ≡ given)
-feed_waits accounts standing buffered xs all actions is e none =
-    ap (λ (ys : List ℕ). after_course (session_of accounts standing buffered) (stream accounts (turn_of (session_of accounts standing buffered), []) ys)) (sym is)
-    ∙ (ap (after_course (session_of accounts standing buffered)) (waiting_kept accounts (turn_of (session_of accounts standing buffered)) all (sym e))
+pub feed_waits : (s next : SessionView) (xs : List ℕ) (actions : List Action) → next ≡ with_more xs s → Waiting ≡ front_of next.standing.state next.buffered → actions ≡ []
+    → (let given : Given = (next, actions) in fed s xs ≡ given)
+feed_waits s next xs actions is e none =
+    ap treated_input (sym is)
+    ∙ (ap (after_course next) (waiting_kept next.accounts (turn_of next) next.buffered (sym e))
     ∙ ap (λ (more : List Action). pair more) (sym none)) where
       pair : List Action → Given
-      pair more = (session_of accounts standing all, more)
+      pair more = (next, more)
 
 -- ---- calls
 

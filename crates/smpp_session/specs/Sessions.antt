@@ -1,5 +1,5 @@
 -- A session as its owner sees it, and its calls.
-use Rattle.std.specs.Prelude.{◌≡◌, ℕ, ◌+◌, ◌≤◌, List, [], ◌∷◌, ◌++◌, length, Option, Some, None, nat_lt, if◌then◌else◌}
+use Rattle.std.specs.Prelude.{◌≡◌, ℕ, ◌+◌, ◌≤◌, List, [], ◌∷◌, ◌++◌, length, take, Option, Some, None, nat_lt, if◌then◌else◌}
 use Rattle.smpp_pdu.specs.declared.status.CommandStatus.TheVariants.{ESME_ROK}
 use Rattle.smpp_pdu.specs.declared.body.Body.TheVariants.{DeliverSm}
 use Rattle.smpp_pdu.specs.declared.message.Message.{Message}
@@ -42,9 +42,20 @@ abbrev pub after_course : SessionView → Course → SessionView × List Action
 after_course session course =
     (record { accounts = session.accounts; standing = course.0.standing; buffered = course.1 }, course.0.actions)
 
+-- the session with octets that came, and with the first of its octets alone
+abbrev pub with_more : List ℕ → SessionView → SessionView
+with_more octets session = record { accounts = session.accounts; standing = session.standing; buffered = session.buffered ++ octets }
+
+abbrev pub with_first : ℕ → SessionView → SessionView
+with_first count session = record { accounts = session.accounts; standing = session.standing; buffered = take count session.buffered }
+
+-- its octets one after the other
+abbrev pub treated_input : SessionView → SessionView × List Action
+treated_input session = after_course session (stream session.accounts (turn_of session, []) session.buffered)
+
 -- The octets that weren't treated yet and those that come now, one after the other.
 abbrev pub fed : SessionView → List ℕ → SessionView × List Action
-fed session octets = after_course session (stream session.accounts (turn_of session, []) (session.buffered ++ octets))
+fed session octets = treated_input (with_more octets session)
 
 -- ---- deliver
 

@@ -4,8 +4,7 @@ ghost use Rattle.std.specs.Arc.{arc_value};
 ghost use Rattle.smpp_pdu.specs.Writing.{written};
 ghost use Rattle.smpp_session.specs.Answers.{answered, IsAnswer};
 ghost use Rattle.smpp_session.specs.Bindings.{is_bound, is_bind_lost};
-ghost use Rattle.smpp_session.specs.SessionRun.{stream};
-ghost use Rattle.smpp_session.specs.Sessions.{SessionView, opened, turn_of, after_course, fed, IsDeliverable, delivery_fault, IsRefused, deliver_pdu, number_to_send, after_delivery, after_close};
+ghost use Rattle.smpp_session.specs.Sessions.{SessionView, opened, with_more, with_first, treated_input, fed, IsDeliverable, delivery_fault, IsRefused, deliver_pdu, number_to_send, after_delivery, after_close};
 
 use crate::account::Accounts;
 use crate::action::{Actions, Fed};
@@ -93,18 +92,42 @@ impl Session {
         ensures err { OnErr result (self.new ≡ self.old) }
     {
         let waiting = self.input.len();
-        self.input.extend_from_slice(octets)?;
+        self.take_in(octets)?;
         if let Front::Waiting = front_of(self.standing.state, self.input.as_slice()) {
             return Ok(Fed {
                 actions: Actions::new(self.alloc),
                 bind_lost: false,
             });
         }
+        let given = self.treat_input(waiting)?;
+        Ok(given)
+    }
+
+    // Puts octets at the end of the buffer. A slow line gives them one by one, and one is put without a copy in a loop.
+    #[inline]
+    fn take_in(&mut self, octets: &[u8]) -> Result<(), AllocError>
+        ensures ok { OnOk result (self.new ≡ with_more octets.now self.old) }
+        ensures err { OnErr result (self.new ≡ self.old) }
+    {
+        match octets {
+            [octet] => self.input.extend_from_slice(&[*octet])?,
+            _ => self.input.extend_from_slice(octets)?,
+        }
+        Ok(())
+    }
+
+    // Treats the octets that stand in the buffer. Without memory those behind so many are taken back.
+    #[inline(never)]
+    fn treat_input(&mut self, waiting: usize) -> Result<Fed, AllocError>
+        ensures actions { IfOk result (λ given. treated_input self.old ≡ (self.new, given.actions)) }
+        ensures bind_lost { IfOk result (λ given. given.bind_lost ≡ is_bind_lost self.old.standing.state given.actions self.new.standing.state) }
+        ensures err { OnErr result (self.new ≡ with_first waiting self.old) }
+    {
         let before = self.standing.state;
-        match self.treat_input() {
+        match self.cut_input() {
             Ok(actions) => {
-                let bind_lost = self.standing.state == SessionState::Closed
-                    && actions.bound_behind(before.is_bound());
+                let closed = self.standing.state == SessionState::Closed;
+                let bind_lost = closed && actions.bound_behind(before.is_bound());
                 Ok(Fed { actions, bind_lost })
             }
             Err(error) => {
@@ -114,9 +137,9 @@ impl Session {
         }
     }
 
-    // Treats the octets that stand in the buffer, and cuts from its front those that are done with.
-    fn treat_input(&mut self) -> Result<Actions, AllocError>
-        ensures ok { IfOk result (λ actions. after_course self.old (stream self.old.accounts (turn_of self.old, []) self.old.buffered) ≡ (self.new, actions)) }
+    // Cuts whole PDUs from the front of the buffer, and treats each where it stands.
+    fn cut_input(&mut self) -> Result<Actions, AllocError>
+        ensures ok { IfOk result (λ actions. treated_input self.old ≡ (self.new, actions)) }
         ensures err { OnErr result (self.new ≡ self.old) }
     {
         let mut turn = Turn {
