@@ -1,5 +1,5 @@
 -- A proper front of a PDU: an octet is missing, and no octet of it is wrong.
-use Rattle.std.proofs.Common.{◌≡◌, ◌⊎◌, ℕ, zero, suc, ◌+◌, ◌-◌, ◌*◌, ◌<◌, Bool, true, false, ◌&&◌, ◌||◌, cond, eqb, ltb, leb, List, [], ◌∷◌, ◌++◌, length, take, drop, Option, Some, None, Result, Ok, Err, refl, ap, subst, ◌∙◌, arith, inl, inr}
+use Rattle.std.proofs.Common.{◌≡◌, ◌⊎◌, ℕ, zero, suc, ◌+◌, ◌-◌, ◌*◌, ◌<◌, Bool, true, false, ◌&&◌, ◌||◌, cond, eqb, ltb, leb, List, [], ◌∷◌, ◌++◌, length, take, drop, Option, Some, None, Result, Ok, Err, refl, sym, ap, subst, ◌∙◌, arith, inl, inr}
 use Rattle.std.specs.Option.{ok_or}
 use Rattle.std.proofs.lemmas.Bool.{lt-ltb}
 use Rattle.std.proofs.lemmas.List.{length-append}
@@ -14,9 +14,9 @@ use Rattle.smpp_pdu.specs.declared.body.Body.TheVariants.{Unbind, EnquireLink, G
 use Rattle.smpp_pdu.specs.declared.pdu.Pdu.{Pdu}
 use Rattle.smpp_pdu.specs.declared.tlv.Tlvs.{Tlvs}
 use Rattle.smpp_pdu.specs.Commands.{command_of}
-use Rattle.smpp_pdu.specs.Tlvs.{keep, no_tlvs}
+use Rattle.smpp_pdu.specs.Tlvs.{values_of}
 use Rattle.smpp_pdu.specs.FieldReading.{two_in, four_in, text_in, c_string_in, time_in, short_message_in}
-use Rattle.smpp_pdu.specs.TlvReading.{tlv_in, tlvs_in, tlvs_at}
+use Rattle.smpp_pdu.specs.TlvReading.{tlv_in, parameters_in, tlvs_at}
 use Rattle.smpp_pdu.specs.BodyReading.{address_in, bind_at, bind_resp_at, message_at, message_resp_at, query_at, query_resp_at, cancel_at}
 use Rattle.smpp_pdu.specs.PduGrammar.{IsPdu}
 use Rattle.smpp_pdu.specs.PduReading.{or_none, body_at, cut_short, body_in, pdu_at}
@@ -170,17 +170,30 @@ tlv_ends xs =
     ends_bind (two_in BadTlv tag.1) _ (two_ends tag.1) (λ len.
     ends_bind (run_in BadTlv len.0 len.1) _ (run_ends len.0 len.1) (λ value. inl (((tag.0, value.0), value.1), refl))))
 
-tlvs_end : (n : ℕ) (before : Tlvs) (xs : List ℕ) → OnlyEnds (tlvs_in n before xs)
-unfolding tlvs_in OnlyEnds
-tlvs_end zero before [] = inl (before, refl)
-tlvs_end zero before (o ∷ xs) = inr refl
-tlvs_end (suc n) before [] = inl (before, refl)
-tlvs_end (suc n) before (o ∷ xs) = ends_bind (tlv_in (o ∷ xs)) _ (tlv_ends (o ∷ xs)) (λ tlv. tlvs_end n (keep tlv.0.0 tlv.0.1 before) tlv.1)
+parameters_end : (n : ℕ) (xs : List ℕ) → OnlyEnds (parameters_in n xs)
+unfolding parameters_in OnlyEnds
+parameters_end zero [] = inl ([], refl)
+parameters_end zero (o ∷ xs) = inr refl
+parameters_end (suc n) [] = inl ([], refl)
+parameters_end (suc n) (o ∷ xs) =
+    ends_bind (tlv_in (o ∷ xs)) _ (tlv_ends (o ∷ xs)) (λ tlv.
+    ends_bind (parameters_in n tlv.1) _ (parameters_end n tlv.1) (λ tlvs. inl (tlv.0 ∷ tlvs, refl)))
+
+tlvs_end : (xs : List ℕ) → OnlyEnds (tlvs_at xs)
+unfolding tlvs_at OnlyEnds
+tlvs_end xs = ends_bind (parameters_in (length xs) xs) _ (parameters_end (length xs) xs) (λ tlvs. inl (values_of tlvs, refl))
+
+pub only_bad_tlv : (xs : List ℕ) (f : PduFault) → tlvs_at xs ≡ Err f → f ≡ BadTlv
+unfolding OnlyEnds
+only_bad_tlv xs f e = elim (tlvs_end xs) [
+  | inl p ↦ absurd (let q = sym p.1 ∙ e in cc)
+  | inr p ↦ (let q : (let r : Result Tlvs PduFault = Err BadTlv in r) ≡ Err f = sym p ∙ e in cc)
+]
 
 at_tlvs : {Z : Type 0} (k : Tlvs → Z) → IsNotWrong (λ xs. tlvs_at xs >>= (λ tlvs. Ok (k tlvs)))
-unfolding tlvs_at OnlyEnds
+unfolding OnlyEnds
 at_tlvs {Z} k xs ys z e =
-    elim (tlvs_end (length xs) no_tlvs xs) [
+    elim (tlvs_end xs) [
       | inl p ↦ ap (λ (m : Result Tlvs PduFault). cut_short (m >>= (λ tlvs. let r : Result Z PduFault = Ok (k tlvs) in r))) p.1
       | inr p ↦ ap (λ (m : Result Tlvs PduFault). cut_short (m >>= (λ tlvs. let r : Result Z PduFault = Ok (k tlvs) in r))) p
     ]

@@ -11,7 +11,7 @@ use Rattle.smpp_pdu.specs.FieldReading.{two_in}
 use Rattle.smpp_pdu.specs.Tlvs.{Tlv, keep, later, no_tlvs, tag_number, tlv_octets, value_of, values_of, AreTlvs, tlv_of, tlvs_of}
 use Rattle.smpp_pdu.specs.declared.tlv.TlvTag.{TlvTag}
 use Rattle.smpp_pdu.specs.declared.tlv.TlvTag.TheVariants.{ReceiptedMessageId, SarMsgRefNum, SarTotalSegments, SarSegmentSeqnum, MessagePayload, MessageState}
-use Rattle.smpp_pdu.specs.TlvReading.{tlv_in, tlvs_in, tlvs_at}
+use Rattle.smpp_pdu.specs.TlvReading.{tlv_in, parameters_in, tlvs_at}
 use Rattle.std.proofs.lemmas.Bool.{eq-eqb}
 use Rattle.smpp_pdu.proofs.FieldLaws.{took, two_takes, two_again}
 
@@ -36,6 +36,13 @@ tlv_shorter xs x e =
     let r = run_takes BadTlv b.0.0 b.0.1 d.0 d.1 in
     let g : length d.0.1 ≡ length x.1 = ap (λ (y : Tlv × List ℕ). length y.1) {y = x} (ok_is {E = PduFault} ((a.0.0, d.0.0), d.0.1) x d.2) in
     omega (arith, two_shorter BadTlv xs a.0 a.1, two_shorter BadTlv a.0.1 b.0 b.1, ap length r.0, length-append d.0.0 d.0.1, g)
+
+-- the values, as the walk over the parameters gives them: those of the parameters before, and one parameter more at a time
+unfoldable pub tlvs_in : ℕ → Tlvs → List ℕ → Result Tlvs PduFault
+tlvs_in zero before [] = Ok before
+tlvs_in zero before (octet ∷ rest) = Err BadTlv
+tlvs_in (suc most) before [] = Ok before
+tlvs_in (suc most) before (octet ∷ rest) = tlv_in (octet ∷ rest) >>= (λ tlv. tlvs_in most (keep tlv.0.0 tlv.0.1 before) tlv.1)
 
 bind_same : {A B E : Type 0} (r : Result A E) (f g : A → Result B E) → ((x : A) → r ≡ Ok x → f x ≡ g x) → (r >>= f) ≡ (r >>= g)
 bind_same (Ok x) f g h = h x refl
@@ -75,6 +82,25 @@ no_step before (o ∷ xs) e some h = rw h refl
 pub keeps : Tlvs → List Tlv → Tlvs
 keeps before [] = before
 keeps before (tlv ∷ tlvs) = keeps (keep tlv.0 tlv.1 before) tlvs
+
+-- the walk gives the values of the parameters
+walked : (n : ℕ) (before : Tlvs) (xs : List ℕ) → tlvs_in n before xs ≡ (parameters_in n xs >>= (λ tlvs. Ok (keeps before tlvs)))
+unfolding tlvs_in parameters_in keeps
+walked zero before [] = refl
+walked zero before (o ∷ xs) = refl
+walked (suc n) before [] = refl
+walked (suc n) before (o ∷ xs) = first (λ x. walked n (keep x.0.0 x.0.1 before) x.1) (tlv_in (o ∷ xs)) where
+  after : Tlv → Result (List Tlv) PduFault → Result Tlvs PduFault
+  after tlv r = r >>= (λ tlvs. Ok (keeps (keep tlv.0 tlv.1 before) tlvs))
+
+  joined : (tlv : Tlv) (r : Result (List Tlv) PduFault) → after tlv r ≡ ((r >>= (λ tlvs. Ok (tlv ∷ tlvs))) >>= (λ tlvs. Ok (keeps before tlvs)))
+  joined tlv (Ok tlvs) = refl
+  joined tlv (Err f) = refl
+
+  first : ((x : Tlv × List ℕ) → tlvs_in n (keep x.0.0 x.0.1 before) x.1 ≡ after x.0 (parameters_in n x.1)) → (r : Result (Tlv × List ℕ) PduFault)
+      → (r >>= (λ x. tlvs_in n (keep x.0.0 x.0.1 before) x.1)) ≡ ((r >>= (λ x. parameters_in n x.1 >>= (λ tlvs. Ok (x.0 ∷ tlvs)))) >>= (λ tlvs. Ok (keeps before tlvs)))
+  first more (Ok x) = more x ∙ joined x.0 (parameters_in n x.1)
+  first more (Err f) = refl
 
 -- the values of parameters, before which others were read
 over : List Tlv → Tlvs → Tlvs
@@ -122,6 +148,13 @@ keeps_values tlvs =
     ∙ all_same _ _ _ _ _ _ _ _ _ _ _ _
     (none_later (value_of 524 tlvs)) (none_later (value_of 526 tlvs)) (none_later (value_of 527 tlvs))
     (none_later (value_of 1060 tlvs)) (none_later (value_of 30 tlvs)) (none_later (value_of 1063 tlvs))
+
+pub walk_is : (xs : List ℕ) → tlvs_in (length xs) no_tlvs xs ≡ tlvs_at xs
+unfolding tlvs_at
+walk_is xs = walked (length xs) no_tlvs xs ∙ same (parameters_in (length xs) xs) where
+  same : (r : Result (List Tlv) PduFault) → (r >>= (λ tlvs. let v : Result Tlvs PduFault = Ok (keeps no_tlvs tlvs) in v)) ≡ (r >>= (λ tlvs. Ok (values_of tlvs)))
+  same (Ok tlvs) = ap (λ (t : Tlvs). let v : Result Tlvs PduFault = Ok t in v) (keeps_values tlvs)
+  same (Err f) = refl
 
 -- ---- takes and again
 
@@ -171,14 +204,13 @@ tlvs_again (x ∷ xs) (suc n) before h =
     rw (tlv_again x.0 x.1 (tlv_octets xs)) (tlvs_again xs n (keep x.0 x.1 before) (omega (arith, length-append x.1 (tlv_octets xs))))
 
 pub parameters_take : (xs : List ℕ) (t : Tlvs) → AreOctets xs → tlvs_at xs ≡ Ok t → AreTlvs xs t
-unfolding tlvs_at AreKept
-parameters_take xs t h e = let q = tlvs_takes (length xs) no_tlvs xs t h e in (q.0, q.1, q.2 ∙ keeps_values q.0)
+unfolding AreKept
+parameters_take xs t h e = let q = tlvs_takes (length xs) no_tlvs xs t h (walk_is xs ∙ e) in (q.0, q.1, q.2 ∙ keeps_values q.0)
 
 pub parameters_again : (xs : List ℕ) (t : Tlvs) → AreTlvs xs t → tlvs_at xs ≡ Ok t
-unfolding tlvs_at
 parameters_again xs t (tlvs, spelled, values) =
     let same : keeps no_tlvs tlvs ≡ t = keeps_values tlvs ∙ sym values in
-    rw spelled (tlvs_again tlvs (length (tlv_octets tlvs)) no_tlvs (omega arith) ∙ ap (λ (y : Tlvs). let r : Result Tlvs PduFault = Ok y in r) same)
+    rw spelled (sym (walk_is (tlv_octets tlvs)) ∙ tlvs_again tlvs (length (tlv_octets tlvs)) no_tlvs (omega arith) ∙ ap (λ (y : Tlvs). let r : Result Tlvs PduFault = Ok y in r) same)
 
 -- ---- as they are written
 

@@ -35,8 +35,3 @@ pub use pdu::Pdu;
 pub use query::{QuerySm, QuerySmResp};
 pub use status::CommandStatus;
 pub use tlv::{TlvTag, Tlvs};
-
-#[cfg(test)]
-mod tests;
-#[cfg(test)]
-mod vectors;

@@ -27,7 +27,7 @@ use Rattle.smpp_session.specs.declared.turn.Turn.{Turn}
 use Rattle.smpp_session.specs.Logins.{login}
 use Rattle.smpp_session.specs.Windows.{is_among}
 use Rattle.smpp_session.specs.Stream.{header_at, front_of}
-use Rattle.smpp_session.specs.SessionTable.{judged, judged_fault, refusal, with_bind_resp, without_bind_resp, bound_as, centre_name, response, given, sent, closed, in_state, logged_in, bind_taken, unbound, delivered, taken, refused, read, judging, by_command, treated, bad_length}
+use Rattle.smpp_session.specs.SessionTable.{judged, judged_fault, refusal, with_bind_resp, without_bind_resp, bound_as, centre_name, response, given, sent, closed, in_state, logged_in, bind_taken, unbound, delivered, taken, refused, read, judging, by_command, treated, bad_length, priority_of}
 use Rattle.smpp_session.specs.SessionRun.{Course, fronted, one_more, stream}
 
 -- a turn that gave these actions before
@@ -68,7 +68,7 @@ taken_behind : (before : List Action) (accounts : List Account) (octets : List â
 taken_behind before accounts octets pdu (BindTransmitter bind) turn = bind_behind before accounts Transmitter pdu.sequence_number bind turn
 taken_behind before accounts octets pdu (BindReceiver bind) turn = bind_behind before accounts Receiver pdu.sequence_number bind turn
 taken_behind before accounts octets pdu (BindTransceiver bind) turn = bind_behind before accounts Transceiver pdu.sequence_number bind turn
-taken_behind before accounts octets pdu (SubmitSm message) turn = given_behind before (Submit octets) turn
+taken_behind before accounts octets pdu (SubmitSm message) turn = given_behind before (Submit octets (priority_of message.priority_flag)) turn
 taken_behind before accounts octets pdu (QuerySm query) turn = given_behind before (Query octets) turn
 taken_behind before accounts octets pdu (CancelSm cancel) turn = given_behind before (Cancel octets) turn
 taken_behind before accounts octets pdu Unbind turn = unbound_behind before pdu.sequence_number turn

@@ -15,7 +15,7 @@ use Rattle.smpp_session.specs.declared.standing.SessionState.{SessionState}
 use Rattle.smpp_session.specs.declared.turn.Turn.{Turn}
 use Rattle.smpp_session.specs.Stream.{front_of}
 use Rattle.smpp_session.specs.SessionRun.{Course, fronted, one_more, stream}
-use Rattle.smpp_session.specs.Sessions.{SessionView, opened, turn_of, after_course, fed, delivery_fault, deliver_pdu, after_delivery}
+use Rattle.smpp_session.specs.Sessions.{SessionView, opened, turn_of, after_course, with_more, treated_input, fed, delivery_fault, deliver_pdu, number_to_send, after_delivery}
 use Rattle.smpp_session.specs.Calls.{called, delivering, and_then, ran, singles, each_octet}
 use Rattle.smpp_session.proofs.Cutting.{stream-append, waiting_kept}
 use Rattle.smpp_session.proofs.Adding.{course_behind, stream_behind}
@@ -92,6 +92,15 @@ feed_joins s xs ys = from (stream s.accounts (turn_of s, []) (s.buffered ++ xs))
       in
       left ∙ (middle ∙ (sym right ∙ same))
 
+pub feed_waits : (s next : SessionView) (xs : List ℕ) (actions : List Action) → next ≡ with_more xs s → Waiting ≡ front_of next.standing.state next.buffered → actions ≡ []
+    → (let given : Given = (next, actions) in fed s xs ≡ given)
+feed_waits s next xs actions is e none =
+    ap treated_input (sym is)
+    ∙ (ap (after_course next) (waiting_kept next.accounts (turn_of next) next.buffered (sym e))
+    ∙ ap (λ (more : List Action). pair more) (sym none)) where
+      pair : List Action → Given
+      pair more = (next, more)
+
 -- ---- calls
 
 pub ran-append : (c : Given) (xs ys : List Call) → ran c (xs ++ ys) ≡ ran (ran c xs) ys
@@ -147,10 +156,10 @@ pub ran_one : (start c d : SessionView × List Action) (calls : List Call) (call
 ran_one start c d calls call is next =
     ran-append start calls (call ∷ []) ∙ (ap (λ (q : SessionView × List Action). ran q (call ∷ [])) is ∙ sym next)
 
-pub deliver_called : (s next : SessionView) (acts more : List Action) (message : Message) (octets : List ℕ) (number : ℕ) → delivery_fault s.standing ≡ None → number ≡ s.standing.next_number → octets ≡ written (deliver_pdu number message) → next ≡ after_delivery s → more ≡ acts ++ Send octets ∷ []
+pub deliver_called : (s next : SessionView) (acts more : List Action) (message : Message) (octets : List ℕ) (number : ℕ) → delivery_fault s.standing ≡ None → number ≡ number_to_send s.standing → octets ≡ written (deliver_pdu number message) → next ≡ after_delivery s → more ≡ acts ++ Send octets ∷ []
     → (let given : SessionView × List Action = (next, more) in given ≡ and_then (s, acts) (called s (Deliver message)))
 deliver_called s next acts more message octets number room number_is octets_is next_is more_is =
-    let octets_here : octets ≡ written (deliver_pdu s.standing.next_number message) = octets_is ∙ ap (λ (n : ℕ). written (deliver_pdu n message)) number_is in
+    let octets_here : octets ≡ written (deliver_pdu (number_to_send s.standing) message) = octets_is ∙ ap (λ (n : ℕ). written (deliver_pdu n message)) number_is in
     let gives : and_then (s, acts) (called s (Deliver message)) ≡ and_then (s, acts) (delivering s message None) = ap (λ (f : Option DeliverFault). and_then (s, acts) (delivering s message f)) room in
     ap (λ (q : SessionView). pair q more) next_is
     ∙ (ap (λ (m : List Action). pair (after_delivery s) m) (more_is ∙ ap (λ (o : List ℕ). acts ++ Send o ∷ []) octets_here) ∙ sym gives) where

@@ -1,10 +1,10 @@
 -- Octets that are fed one after the other, where they are cut.
-use Rattle.std.proofs.Common.{◌≡◌, ◌⊎◌, inl, inr, ℕ, zero, suc, ◌+◌, ◌<◌, ◌≤◌, Bool, true, false, ◌&&◌, cond, ltb, leb, List, [], ◌∷◌, ◌++◌, length, get_or, take, drop, refl, sym, ap, subst, ◌∙◌, arith, append_assoc}
+use Rattle.std.proofs.Common.{◌≡◌, ◌⊎◌, inl, inr, ℕ, zero, suc, ◌+◌, ◌<◌, ◌≤◌, Bool, true, false, ◌&&◌, cond, ltb, leb, List, [], ◌∷◌, ◌++◌, length, get_or, take, drop, refl, sym, ap, subst, ◌∙◌, arith, append_assoc, drop-drop}
 use Rattle.std.proofs.lemmas.Bool.{ltb-true, ltb-false}
 use Rattle.std.proofs.lemmas.Bool.Decides.{leb_tells}
 use Rattle.std.proofs.Math.ListN.{get_or-append}
 use Rattle.std.proofs.Math.Seq.{drop-cons, take-suc}
-use Rattle.std.proofs.lemmas.List.{append-nil, take-append-drop, length-append, length-take}
+use Rattle.std.proofs.lemmas.List.{append-nil, take-append-drop, length-append, length-take, drop_all}
 use Rattle.smpp_session.specs.declared.account.Account.{Account}
 use Rattle.smpp_session.specs.declared.front.Front.{Front}
 use Rattle.smpp_session.specs.declared.front.Front.TheVariants.{Waiting, Whole, BadLength, Dropped}
@@ -306,3 +306,29 @@ pub ends_bad : (accounts : List Account) (turn next : Turn) (xs : List ℕ) → 
 ends_bad accounts turn next xs e is_next = bad_ends accounts turn xs (sym e) ∙ ap (λ (t : Turn). with_none t) (sym is_next) where
   with_none : Turn → Course
   with_none t = (t, [])
+
+-- ---- in a list of which the front is done with
+
+pub waits_behind : (accounts : List Account) (turn : Turn) (xs rest : List ℕ) (done : ℕ) → rest ≡ drop done xs → Waiting ≡ front_of turn.standing.state rest
+    → stream accounts (turn, []) (drop done xs) ≡ (turn, drop done xs)
+waits_behind accounts turn xs rest done is e = waiting_kept accounts turn (drop done xs) (ap (front_of turn.standing.state) (sym is) ∙ sym e)
+
+none_left : (turn : Turn) (xs : List ℕ) → (let c : Course = (turn, []) in let d : Course = (turn, drop (length xs) xs) in c ≡ d)
+none_left turn xs = ap (λ (ys : List ℕ). with_rest ys) (sym (drop_all (length xs) xs (omega arith))) where
+  with_rest : List ℕ → Course
+  with_rest ys = (turn, ys)
+
+pub drops_behind : (accounts : List Account) (turn : Turn) (xs rest : List ℕ) (done : ℕ) → rest ≡ drop done xs → Dropped ≡ front_of turn.standing.state rest
+    → stream accounts (turn, []) (drop done xs) ≡ (turn, drop (length xs) xs)
+drops_behind accounts turn xs rest done is e = closed_drops accounts turn (drop done xs) (ap (front_of turn.standing.state) (sym is) ∙ sym e) ∙ none_left turn xs
+
+pub ends_behind : (accounts : List Account) (turn next : Turn) (xs rest : List ℕ) (done : ℕ) → rest ≡ drop done xs → BadLength ≡ front_of turn.standing.state rest → next ≡ bad_length rest turn
+    → stream accounts (turn, []) (drop done xs) ≡ (next, drop (length xs) xs)
+ends_behind accounts turn next xs rest done is e is_next =
+    ends_bad accounts turn next (drop done xs) (e ∙ ap (front_of turn.standing.state) is) (is_next ∙ ap (λ (ys : List ℕ). bad_length ys turn) is) ∙ none_left next xs
+
+pub goes_on : (accounts : List Account) (turn next : Turn) (xs rest piece : List ℕ) (done len : ℕ) → rest ≡ drop done xs → Whole len ≡ front_of turn.standing.state rest → piece ≡ take len rest → next ≡ treated accounts piece turn
+    → stream accounts (turn, []) (drop done xs) ≡ stream accounts (next, []) (drop (done + len) xs)
+goes_on accounts turn next xs rest piece done len is e is_piece is_next =
+    walks_on accounts turn next (drop done xs) piece (drop len (drop done xs)) len (e ∙ ap (front_of turn.standing.state) is) (is_piece ∙ ap (take len) is) refl is_next
+    ∙ ap (λ (ys : List ℕ). stream accounts (next, []) ys) (drop-drop len done xs)

@@ -5,3 +5,5 @@ pub mod Stages
 pub mod Adding
 pub mod Cuts
 pub mod Pieces
+pub mod FreeNumbers
+pub mod Promises

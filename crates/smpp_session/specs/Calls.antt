@@ -8,7 +8,7 @@ use Rattle.smpp_session.specs.declared.fault.DeliverFault.{DeliverFault}
 use Rattle.smpp_session.specs.declared.calling.Call.{Call}
 use Rattle.smpp_session.specs.declared.calling.Call.TheVariants.{Feed, Answer, Deliver, Close}
 use Rattle.smpp_session.specs.Answers.{answered, IsAnswer}
-use Rattle.smpp_session.specs.Sessions.{SessionView, fed, IsDeliverable, delivery_fault, deliver_pdu, after_delivery, after_close}
+use Rattle.smpp_session.specs.Sessions.{SessionView, fed, IsDeliverable, delivery_fault, deliver_pdu, number_to_send, after_delivery, after_close}
 
 -- the conditions of the calls
 abbrev pub IsCall : Call → Type 0
@@ -23,7 +23,7 @@ sending (Some octets) = Send octets ∷ []
 
 -- a refused deliver_sm gives nothing and changes nothing
 abbrev pub delivering : SessionView → Message → Option DeliverFault → SessionView × List Action
-delivering session message None = (after_delivery session, Send (written (deliver_pdu session.standing.next_number message)) ∷ [])
+delivering session message None = (after_delivery session, Send (written (deliver_pdu (number_to_send session.standing) message)) ∷ [])
 delivering session message (Some fault) = (session, [])
 
 -- the session after a call, and the actions of the call

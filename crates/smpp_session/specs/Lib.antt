@@ -1,7 +1,9 @@
 pub mod Answers
+pub mod Bindings
 pub mod Calls
 pub mod Faults
 pub mod Logins
+pub mod Promises
 pub mod SessionRun
 pub mod SessionTable
 pub mod Sessions

@@ -173,6 +173,10 @@ delivered number accepted turn =
     }
     else turn
 
+-- the levels of priority are 0 to 3 (SMPP v3.4 5.2.14); a greater flag is as 3
+abbrev pub priority_of : ℕ → ℕ
+priority_of flag = if nat_lt flag 3 then flag else 3
+
 -- ---- one PDU
 
 -- a PDU that can be read, in a state that takes its command; requests are passed up as they came
@@ -180,7 +184,7 @@ abbrev pub taken : List Account → List ℕ → Pdu → Body → Turn → Turn
 taken accounts octets pdu (BindTransmitter bind) turn = bind_taken accounts Transmitter pdu.sequence_number bind turn
 taken accounts octets pdu (BindReceiver bind) turn = bind_taken accounts Receiver pdu.sequence_number bind turn
 taken accounts octets pdu (BindTransceiver bind) turn = bind_taken accounts Transceiver pdu.sequence_number bind turn
-taken accounts octets pdu (SubmitSm message) turn = given (Submit octets) turn
+taken accounts octets pdu (SubmitSm message) turn = given (Submit octets (priority_of message.priority_flag)) turn
 taken accounts octets pdu (QuerySm query) turn = given (Query octets) turn
 taken accounts octets pdu (CancelSm cancel) turn = given (Cancel octets) turn
 taken accounts octets pdu Unbind turn = unbound pdu.sequence_number turn

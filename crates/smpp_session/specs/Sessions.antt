@@ -1,5 +1,5 @@
 -- A session as its owner sees it, and its calls.
-use Rattle.std.specs.Prelude.{◌≡◌, ℕ, ◌+◌, ◌≤◌, List, [], ◌∷◌, ◌++◌, length, Option, Some, None, nat_lt, if◌then◌else◌}
+use Rattle.std.specs.Prelude.{◌≡◌, ℕ, ◌+◌, ◌≤◌, List, [], ◌∷◌, ◌++◌, length, take, Option, Some, None, nat_lt, if◌then◌else◌}
 use Rattle.smpp_pdu.specs.declared.status.CommandStatus.TheVariants.{ESME_ROK}
 use Rattle.smpp_pdu.specs.declared.body.Body.TheVariants.{DeliverSm}
 use Rattle.smpp_pdu.specs.declared.message.Message.{Message}
@@ -14,7 +14,7 @@ use Rattle.smpp_session.specs.declared.standing.SessionState.{SessionState}
 use Rattle.smpp_session.specs.declared.standing.SessionState.TheVariants.{Opened, BoundRx, BoundTrx}
 use Rattle.smpp_session.specs.declared.standing.Standing.{Standing}
 use Rattle.smpp_session.specs.declared.turn.Turn.{Turn}
-use Rattle.smpp_session.specs.Windows.{window, number_after}
+use Rattle.smpp_session.specs.Windows.{window, number_after, free_number}
 use Rattle.smpp_session.specs.SessionTable.{response, closed_standing}
 use Rattle.smpp_session.specs.SessionRun.{Course, stream}
 
@@ -42,9 +42,20 @@ abbrev pub after_course : SessionView → Course → SessionView × List Action
 after_course session course =
     (record { accounts = session.accounts; standing = course.0.standing; buffered = course.1 }, course.0.actions)
 
+-- the session with octets that came, and with the first of its octets alone
+abbrev pub with_more : List ℕ → SessionView → SessionView
+with_more octets session = record { accounts = session.accounts; standing = session.standing; buffered = session.buffered ++ octets }
+
+abbrev pub with_first : ℕ → SessionView → SessionView
+with_first count session = record { accounts = session.accounts; standing = session.standing; buffered = take count session.buffered }
+
+-- its octets one after the other
+abbrev pub treated_input : SessionView → SessionView × List Action
+treated_input session = after_course session (stream session.accounts (turn_of session, []) session.buffered)
+
 -- The octets that weren't treated yet and those that come now, one after the other.
 abbrev pub fed : SessionView → List ℕ → SessionView × List Action
-fed session octets = after_course session (stream session.accounts (turn_of session, []) (session.buffered ++ octets))
+fed session octets = treated_input (with_more octets session)
 
 -- ---- deliver
 
@@ -73,13 +84,20 @@ IsRefused None error = error ≡ NoMemory
 abbrev pub deliver_pdu : ℕ → Message → Pdu
 deliver_pdu number message = response (DeliverSm message) ESME_ROK number
 
+abbrev pub number_to_send : Standing → ℕ
+number_to_send standing = free_number standing.next_number standing.unanswered
+
+-- the deliver_sm of that number waits for its answer
+abbrev pub awaiting_under : ℕ → Standing → Standing
+awaiting_under number standing = record {
+  state = standing.state;
+  unanswered = standing.unanswered ++ number ∷ [];
+  next_number = number_after number;
+}
+
 -- one more waits for its answer
 abbrev pub awaiting : Standing → Standing
-awaiting standing = record {
-  state = standing.state;
-  unanswered = standing.unanswered ++ standing.next_number ∷ [];
-  next_number = number_after standing.next_number;
-}
+awaiting standing = awaiting_under (number_to_send standing) standing
 
 abbrev pub after_delivery : SessionView → SessionView
 after_delivery session = record { accounts = session.accounts; standing = awaiting session.standing; buffered = session.buffered }

@@ -1,9 +1,10 @@
-//! Who may bind. Nothing here can be printed, so that no password is.
+//! Who may bind.
 ghost use Rattle.std.specs.Prelude.{◌≡◌, List};
 ghost use Rattle.smpp_session.specs.declared.account.Account.{Account as AccountOf};
 ghost use Rattle.smpp_session.specs.Logins.{login};
 
 use sms_base::Octets;
+use std::fmt;
 use std::marker::Model;
 
 /// An application that may bind.
@@ -15,8 +16,19 @@ pub struct Account {
     pub password: Octets,
 }
 
+// The password is a secret, so it is not shown.
+impl fmt::Debug for Account {
+    fn fmt<W: fmt::Write>(&self, f: &mut fmt::Formatter<W>) -> fmt::Result {
+        f.debug_struct("Account")
+            .field("name", &self.name)
+            .finish_non_exhaustive()
+    }
+}
+
 /// The accounts in order, seen by contracts as a list. Of equal names the first counts.
-#[derive(Drop)]
+///
+/// All sessions of a server share one list, in an `Arc`, since each runs on a thread of its own.
+#[derive(Debug, Drop)]
 pub struct Accounts {
     items: Vec<Account>,
 }

@@ -1,6 +1,7 @@
-//! What a session wants done.
+//! What a session wants done, and whether it was bound when it closed.
 ghost use Rattle.std.specs.Prelude.{◌≡◌, List, [], ◌∷◌, ◌++◌, OnOk, OnErr};
 ghost use Rattle.smpp_session.specs.declared.action.Action.{Action as ActionOf};
+ghost use Rattle.smpp_session.specs.Bindings.{bound_after, bound_behind};
 
 use sms_base::Octets;
 use std::alloc::{AllocError, Global};
@@ -23,8 +24,8 @@ pub enum Action {
     Send(Octets),
     /// The account at this place, from 0, is bound.
     Bound(usize, BindKind),
-    /// A submit_sm to answer.
-    Submit(Octets),
+    /// A submit_sm to answer, and its priority_flag, 0 to 3 (SMPP v3.4 5.2.14): a flag above 3 is as 3.
+    Submit(Octets, u8),
     /// A query_sm to answer.
     Query(Octets),
     /// A cancel_sm to answer.
@@ -33,6 +34,19 @@ pub enum Action {
     DeliverAnswered(u32, bool),
     /// The account is no longer bound, and the session is closed.
     Unbound,
+}
+
+impl Action {
+    // Whether an account is bound, by what this tells, if it was so before.
+    fn bound_after(&self, before: bool) -> bool
+        ensures { result ≡ bound_after before self.now }
+    {
+        match self {
+            Action::Bound(_, _) => true,
+            Action::Unbound => false,
+            _ => before,
+        }
+    }
 }
 
 /// Actions in order, seen by contracts as a list.
@@ -45,6 +59,16 @@ impl Model for Actions {
     ghost Value = { List ActionOf };
 
     ghost view = { λ a. a.items.items };
+}
+
+/// What a session gives for octets that came.
+#[derive(Debug, Drop)]
+pub struct Fed {
+    /// What is to be done, in order.
+    pub actions: Actions,
+    /// The session closed by a bad command_length while an account was bound, and no `Unbound` says so: the owner, who
+    /// has been told `Bound` and not `Unbound`, has one account less.
+    pub bind_lost: bool,
 }
 
 impl Actions {
@@ -70,6 +94,18 @@ impl Actions {
         ensures { result.now ≡ self.now }
     {
         self.items.as_slice()
+    }
+
+    // Whether an account is bound behind them, by what they tell, if it was so before them.
+    pub(crate) fn bound_behind(&self, before: bool) -> bool
+        ensures { result ≡ bound_behind before self.now }
+    {
+        let actions = self.items.as_slice();
+        let mut bound = before;
+        for action in actions {
+            bound = action.bound_after(bound);
+        }
+        bound
     }
 
     // Puts an action at the end.

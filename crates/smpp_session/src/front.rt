@@ -1,6 +1,6 @@
 //! What the octets that aren't treated yet begin with.
-ghost use Rattle.std.specs.Prelude.{◌≡◌, length, nat_lt, if◌then◌else◌};
-ghost use Rattle.smpp_session.specs.Stream.{header_at, front_at, front_of as front_of_state};
+ghost use Rattle.std.specs.Prelude.{◌≡◌, ◌≤◌, length, nat_lt, if◌then◌else◌};
+ghost use Rattle.smpp_session.specs.Stream.{number_at, header_at, front_of as front_of_state};
 
 use crate::standing::SessionState;
 use smpp_pdu::Header;
@@ -25,6 +25,17 @@ pub(crate) fn header_of(octets: &[u8]) -> Option<Header>
     Header::read(octets)
 }
 
+// The command_length of a header, alone: it is looked at whenever octets come.
+fn command_length_of(header: &[u8]) -> u32
+    requires { 16 ≤ length header.now }
+    ensures { result ≡ number_at 0 header.now }
+{
+    16_777_216 * u32::from(header[0])
+        + 65_536 * u32::from(header[1])
+        + 256 * u32::from(header[2])
+        + u32::from(header[3])
+}
+
 // What the octets begin with in that state.
 pub(crate) fn front_of(state: SessionState, octets: &[u8]) -> Front
     ensures { result ≡ front_of_state state octets.now }
@@ -32,10 +43,10 @@ pub(crate) fn front_of(state: SessionState, octets: &[u8]) -> Front
     if state == SessionState::Closed {
         return Front::Dropped;
     }
-    let Some(header) = header_of(octets) else {
+    if octets.len() < 16 {
         return Front::Waiting;
-    };
-    let len = header.command_length as usize;
+    }
+    let len = command_length_of(octets) as usize;
     if !(16..=65_536).contains(&len) {
         return Front::BadLength;
     }

@@ -1,11 +1,18 @@
 //! Laws of sessions, over their definitions alone.
 ghost use Rattle.std.specs.Prelude.{◌≡◌, ◌++◌, List, [], ℕ};
+ghost use Rattle.std.specs.List.{AllByRecursion};
 ghost use Rattle.smpp_session.specs.declared.account.Account.{Account as AccountOf};
+ghost use Rattle.smpp_session.specs.declared.action.Action.{Action as ActionOf};
+ghost use Rattle.smpp_session.specs.declared.calling.Call.{Call as CallOf};
+ghost use Rattle.smpp_session.specs.declared.standing.SessionState.TheVariants.{Closed};
 ghost use Rattle.smpp_session.specs.declared.turn.Turn.{Turn as TurnOf};
 ghost use Rattle.smpp_session.specs.Stream.{IsStream};
 ghost use Rattle.smpp_session.specs.SessionRun.{stream, by_pieces};
-ghost use Rattle.smpp_session.specs.Sessions.{SessionView, fed};
-ghost use Rattle.smpp_session.specs.Calls.{and_then};
+ghost use Rattle.smpp_session.specs.Sessions.{SessionView, opened, number_to_send, fed};
+ghost use Rattle.smpp_session.specs.Bindings.{is_bound};
+ghost use Rattle.smpp_session.specs.Calls.{and_then, ran};
+ghost use Rattle.smpp_session.specs.Promises.{ReadsAsItsCommand, bound_as_told};
+ghost use Rattle.smpp_session.specs.Windows.{IsSequenceNumber, IsWindow};
 
 /// A stream has one cut into pieces and a rest.
 pub fn stream_has_one_cut()
@@ -20,4 +27,30 @@ pub fn octets_give_what_pieces_give()
 /// Two lists of octets fed one after the other give what both give together.
 pub fn feeds_join()
     ensures { (session : SessionView) (one other : List ℕ) → fed session (one ++ other) ≡ and_then (fed session one) (fed (fed session one).0 other) }
+{}
+
+/// Over any calls, the octets of each request that is passed up read as that request.
+pub fn passed_up_reads_as_its_command()
+    ensures { (accounts : List AccountOf) (calls : List CallOf) → AllByRecursion ReadsAsItsCommand (ran (opened accounts, []) calls).1 }
+{}
+
+/// Over any calls, at most ten deliver_sm wait for their answers, under different numbers of 1 to 7FFFFFFF.
+pub fn few_wait_under_different_numbers()
+    ensures { (accounts : List AccountOf) (calls : List CallOf) → IsWindow (ran (opened accounts, []) calls).0.standing.unanswered }
+{}
+
+/// Over any calls, the next deliver_sm has a number of 1 to 7FFFFFFF.
+pub fn numbers_stay_in_range()
+    ensures { (accounts : List AccountOf) (calls : List CallOf) → IsSequenceNumber (number_to_send (ran (opened accounts, []) calls).0.standing) }
+{}
+
+/// A closed session stays closed and gives nothing, whatever is called.
+pub fn nothing_after_closed()
+    ensures { (session : SessionView) (before : List ActionOf) (calls : List CallOf) → session.standing.state ≡ Closed → ((ran (session, before) calls).0.standing.state ≡ Closed) × ((ran (session, before) calls).1 ≡ before) }
+{}
+
+/// Over any calls, an account is bound behind octets that are fed then exactly where the owner was told so: by the actions,
+/// and by the word of a lost bind.
+pub fn owner_knows_whether_an_account_is_bound()
+    ensures { (accounts : List AccountOf) (calls : List CallOf) (octets : List ℕ) → is_bound (fed (ran (opened accounts, []) calls).0 octets).0.standing.state ≡ bound_as_told (ran (opened accounts, []) calls).0 octets }
 {}

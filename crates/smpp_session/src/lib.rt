@@ -17,12 +17,10 @@ mod numbers;
 mod session;
 mod standing;
 mod table;
-#[cfg(test)]
-mod tests;
 mod turn;
 
 pub use account::{Account, Accounts};
-pub use action::{Action, Actions, BindKind};
+pub use action::{Action, Actions, BindKind, Fed};
 pub use answer::{Answer, Request};
 pub use calling::{Call, run};
 pub use fault::DeliverFault;

@@ -7,7 +7,7 @@ use std::alloc::{AllocError, Global};
 use std::marker::Model;
 
 // Sequence numbers in the order in which they were sent, seen by contracts as a list.
-#[derive(Drop)]
+#[derive(Debug, Drop)]
 pub(crate) struct Numbers {
     items: Vec<u32>,
 }
@@ -51,6 +51,13 @@ impl Numbers {
     {
         self.items.push(number)?;
         Ok(())
+    }
+
+    // Whether the number is there.
+    pub(crate) fn contains(&self, number: u32) -> bool
+        ensures { result ≡ is_among number self.now }
+    {
+        place_of(self.items.as_slice(), number).is_some()
     }
 
     // Takes the number away, and says whether it was there.

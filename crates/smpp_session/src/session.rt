@@ -1,37 +1,52 @@
 //! A session of an application with the centre.
-ghost use Rattle.std.specs.Prelude.{◌≡◌, IfOk, IfErr, OnOk, OnErr, None};
+ghost use Rattle.std.specs.Prelude.{◌≡◌, IfOk, IfErr, OnOk, OnErr, None, []};
+ghost use Rattle.std.specs.Arc.{arc_value};
 ghost use Rattle.smpp_pdu.specs.Writing.{written};
 ghost use Rattle.smpp_session.specs.Answers.{answered, IsAnswer};
-ghost use Rattle.smpp_session.specs.Sessions.{SessionView, opened, fed, IsDeliverable, delivery_fault, IsRefused, deliver_pdu, after_delivery, after_close};
+ghost use Rattle.smpp_session.specs.Bindings.{is_bound, is_bind_lost};
+ghost use Rattle.smpp_session.specs.Sessions.{SessionView, opened, with_more, with_first, treated_input, fed, IsDeliverable, delivery_fault, IsRefused, deliver_pdu, number_to_send, after_delivery, after_close};
 
 use crate::account::Accounts;
-use crate::action::Actions;
+use crate::action::{Actions, Fed};
 use crate::answer::Answer;
 use crate::fault::DeliverFault;
+use crate::front::{Front, front_of};
 use crate::numbers::Numbers;
 use crate::standing::{SessionState, Standing};
-use crate::turn::{Turn, owned};
+use crate::turn::Turn;
+use bytes::BytesMut;
 use smpp_pdu::{Body, CommandStatus, Message, Pdu};
 use sms_base::Octets;
 use std::alloc::{AllocError, Global};
+use std::fmt;
 use std::marker::Model;
+use std::sync::Arc;
 
 /// A session, seen by contracts as its accounts, what it remembers and the octets that aren't treated yet.
 ///
-/// It can't be printed, since it holds the accounts' passwords. A session that is closed without an `Unbound` action
-/// (by a bad command_length, or by `close`) tells its owner nothing more: the owner itself knows that nobody is bound.
+/// The octets that come stand in one buffer, from whose front whole PDUs are cut; they are read there, where they stand.
 #[derive(Drop)]
 pub struct Session {
     alloc: Global,
-    accounts: Accounts,
+    accounts: Arc<Accounts, Global>,
     standing: Standing,
-    buffered: Octets,
+    input: BytesMut,
 }
 
 impl Model for Session {
     ghost Value = { SessionView };
 
-    ghost view = { λ s. record { accounts = s.accounts; standing = s.standing; buffered = s.buffered } };
+    ghost view = { λ s. record { accounts = arc_value s.accounts; standing = s.standing; buffered = s.input.items } };
+}
+
+// The accounts and the octets of a bind hold passwords, so they are not shown.
+impl fmt::Debug for Session {
+    fn fmt<W: fmt::Write>(&self, f: &mut fmt::Formatter<W>) -> fmt::Result {
+        f.debug_struct("Session")
+            .field("standing", &self.standing)
+            .field("waiting_octets", &self.input.len())
+            .finish_non_exhaustive()
+    }
 }
 
 /// A deliver_sm that goes out.
@@ -45,8 +60,8 @@ pub struct Outgoing {
 
 impl Session {
     /// A session on a connection that was just opened.
-    pub fn new(alloc: Global, accounts: Accounts) -> Session
-        ensures { result ≡ opened accounts }
+    pub fn new(alloc: Global, accounts: Arc<Accounts, Global>) -> Session
+        ensures { result ≡ opened (arc_value accounts) }
     {
         Session {
             alloc,
@@ -56,7 +71,7 @@ impl Session {
                 unanswered: Numbers::new(alloc),
                 next_number: 1,
             },
-            buffered: Octets::new(alloc),
+            input: BytesMut::new(alloc),
         }
     }
 
@@ -70,21 +85,71 @@ impl Session {
     /// Takes octets that came, and answers what is to be done.
     ///
     /// Without memory the octets are not taken.
-    pub fn feed(&mut self, octets: &[u8]) -> Result<Actions, AllocError>
-        ensures ok { IfOk result (λ actions. fed self.old octets.now ≡ (self.new, actions)) }
+    pub fn feed(&mut self, octets: &[u8]) -> Result<Fed, AllocError>
+        ensures actions { IfOk result (λ given. fed self.old octets.now ≡ (self.new, given.actions)) }
+        // The call that closed the session tells whether an account was bound, where no action tells it.
+        ensures bind_lost { IfOk result (λ given. given.bind_lost ≡ is_bind_lost self.old.standing.state given.actions self.new.standing.state) }
+        ensures err { OnErr result (self.new ≡ self.old) }
+    {
+        let waiting = self.input.len();
+        self.take_in(octets)?;
+        if let Front::Waiting = front_of(self.standing.state, self.input.as_slice()) {
+            return Ok(Fed {
+                actions: Actions::new(self.alloc),
+                bind_lost: false,
+            });
+        }
+        let given = self.treat_input(waiting)?;
+        Ok(given)
+    }
+
+    // Puts octets at the end of the buffer. A slow line gives them one by one, and one is put without a copy in a loop.
+    #[inline]
+    fn take_in(&mut self, octets: &[u8]) -> Result<(), AllocError>
+        ensures ok { OnOk result (self.new ≡ with_more octets.now self.old) }
+        ensures err { OnErr result (self.new ≡ self.old) }
+    {
+        match octets {
+            [octet] => self.input.extend_from_slice(&[*octet])?,
+            _ => self.input.extend_from_slice(octets)?,
+        }
+        Ok(())
+    }
+
+    // Treats the octets that stand in the buffer. Without memory those behind so many are taken back.
+    #[inline(never)]
+    fn treat_input(&mut self, waiting: usize) -> Result<Fed, AllocError>
+        ensures actions { IfOk result (λ given. treated_input self.old ≡ (self.new, given.actions)) }
+        ensures bind_lost { IfOk result (λ given. given.bind_lost ≡ is_bind_lost self.old.standing.state given.actions self.new.standing.state) }
+        ensures err { OnErr result (self.new ≡ with_first waiting self.old) }
+    {
+        let before = self.standing.state;
+        match self.cut_input() {
+            Ok(actions) => {
+                let closed = self.standing.state == SessionState::Closed;
+                let bind_lost = closed && actions.bound_behind(before.is_bound());
+                Ok(Fed { actions, bind_lost })
+            }
+            Err(error) => {
+                self.input.truncate(waiting);
+                Err(error)
+            }
+        }
+    }
+
+    // Cuts whole PDUs from the front of the buffer, and treats each where it stands.
+    fn cut_input(&mut self) -> Result<Actions, AllocError>
+        ensures ok { IfOk result (λ actions. treated_input self.old ≡ (self.new, actions)) }
         ensures err { OnErr result (self.new ≡ self.old) }
     {
         let mut turn = Turn {
             standing: self.standing.copy(self.alloc)?,
             actions: Actions::new(self.alloc),
         };
-        let mut joined = owned(self.alloc, self.buffered.as_slice())?;
-        joined.append(octets)?;
-        let rest = turn.walk(self.alloc, &self.accounts, joined.as_slice())?;
-        let buffered = owned(self.alloc, rest)?;
+        let done = turn.walk(self.alloc, &self.accounts, self.input.as_slice())?;
         let Turn { standing, actions } = turn;
         self.standing = standing;
-        self.buffered = buffered;
+        self.input.advance(done);
         Ok(actions)
     }
 
@@ -106,14 +171,15 @@ impl Session {
         Ok(Some(octets))
     }
 
-    /// A deliver_sm that goes out under the next sequence number and then waits for its answer.
+    /// A deliver_sm that goes out under the next sequence number and then waits for its answer. A number under which one
+    /// waits still is passed over.
     ///
     /// It is refused where no receiver or transceiver is bound, and where ten wait already.
     pub fn deliver(&mut self, message: Message<'_>) -> Result<Outgoing, DeliverFault>
         requires { IsDeliverable message }
-        // The deliver_sm, under the next number.
+        // The deliver_sm, under the next number that is free.
         ensures octets { IfOk result (λ sent. sent.octets ≡ written (deliver_pdu sent.sequence_number message.entry)) }
-        ensures number { IfOk result (λ sent. sent.sequence_number ≡ self.old.standing.next_number) }
+        ensures number { IfOk result (λ sent. sent.sequence_number ≡ number_to_send self.old.standing) }
         // It waits for its answer.
         ensures ok { OnOk result (self.new ≡ after_delivery self.old) }
         // Only where nothing stands against it.
@@ -122,21 +188,24 @@ impl Session {
         ensures err { OnErr result (self.new ≡ self.old) }
     {
         self.standing.check()?;
-        let sequence_number = self.standing.next_number;
+        let sequence_number = self.standing.free_number();
         let octets = deliver_octets(self.alloc, sequence_number, message)?;
-        self.standing.await_answer()?;
+        self.standing.await_answer(sequence_number)?;
         Ok(Outgoing {
             sequence_number,
             octets,
         })
     }
 
-    /// Ends the session, whose connection is gone.
-    pub fn close(&mut self)
-        ensures { self.new ≡ after_close self.old }
+    /// Ends the session, whose connection is gone, and tells whether an account was bound until now.
+    pub fn close(&mut self) -> bool
+        ensures bind_lost { result ≡ is_bound self.old.standing.state }
+        ensures closed { self.new ≡ after_close self.old }
     {
+        let bind_lost = self.standing.state.is_bound();
         self.standing.close();
-        self.buffered = Octets::new(self.alloc);
+        self.input = BytesMut::new(self.alloc);
+        bind_lost
     }
 }
 

@@ -1,7 +1,9 @@
 //! What a session remembers beside its accounts and the octets that aren't treated yet.
 ghost use Rattle.std.specs.Prelude.{◌≡◌, IfOk, OnOk, OnErr, IfErr};
 ghost use Rattle.smpp_session.specs.SessionTable.{closed_standing};
-ghost use Rattle.smpp_session.specs.Sessions.{awaiting, delivery_fault};
+ghost use Rattle.smpp_session.specs.Bindings.{is_bound};
+ghost use Rattle.smpp_session.specs.Windows.{number_after, free_number};
+ghost use Rattle.smpp_session.specs.Sessions.{awaiting_under, delivery_fault};
 
 use crate::fault::DeliverFault;
 use crate::numbers::Numbers;
@@ -28,13 +30,25 @@ pub enum SessionState {
     Closed,
 }
 
+impl SessionState {
+    /// Whether an account is bound.
+    pub fn is_bound(self) -> bool
+        ensures { result ≡ is_bound self }
+    {
+        match self {
+            SessionState::BoundTx | SessionState::BoundRx | SessionState::BoundTrx => true,
+            SessionState::Opened | SessionState::Closed => false,
+        }
+    }
+}
+
 // The state, and the deliver_sm that wait for their answers.
-#[derive(Drop)]
+#[derive(Debug, Drop)]
 pub(crate) struct Standing {
     pub state: SessionState,
     // The sequence numbers of the deliver_sm that were sent and aren't answered, at most ten.
     pub unanswered: Numbers,
-    // The sequence number of the next deliver_sm, 1 to 7FFFFFFF hexadecimal.
+    // The sequence number of the next deliver_sm, unless one waits under it still: 1 to 7FFFFFFF hexadecimal.
     pub next_number: u32,
 }
 
@@ -68,14 +82,27 @@ impl Standing {
         }
     }
 
-    // The next number waits for its answer.
-    pub(crate) fn await_answer(&mut self) -> Result<(), AllocError>
-        ensures ok { OnOk result (self.new ≡ awaiting self.old) }
+    // The number of a deliver_sm that goes out now.
+    pub(crate) fn free_number(&self) -> u32
+        ensures { result ≡ free_number self.now.next_number self.now.unanswered }
+    {
+        let mut number = self.next_number;
+        for _passed in 0..WINDOW {
+            if !self.unanswered.contains(number) {
+                return number;
+            }
+            number = after(number);
+        }
+        self.next_number
+    }
+
+    // The deliver_sm of this number waits for its answer.
+    pub(crate) fn await_answer(&mut self, number: u32) -> Result<(), AllocError>
+        ensures ok { OnOk result (self.new ≡ awaiting_under number self.old) }
         ensures err { OnErr result (self.new ≡ self.old) }
     {
-        let number = self.next_number;
         self.unanswered.push(number)?;
-        self.next_number = if number < LAST_NUMBER { number + 1 } else { 1 };
+        self.next_number = after(number);
         Ok(())
     }
 
@@ -86,4 +113,11 @@ impl Standing {
         self.state = SessionState::Closed;
         self.unanswered.clear();
     }
+}
+
+// The sequence number behind that one.
+fn after(number: u32) -> u32
+    ensures { result ≡ number_after number }
+{
+    if number < LAST_NUMBER { number + 1 } else { 1 }
 }

@@ -1,7 +1,7 @@
 //! The session table: what becomes of a command by the state (SMPP v3.4 2.2, 2.3).
 ghost use Rattle.std.specs.Prelude.{◌≡◌};
 ghost use Rattle.smpp_session.specs.SessionTable.{judged, judged_fault, refusal, bound_as};
-ghost use Rattle.smpp_session.specs.SessionTable.{with_bind_resp, without_bind_resp};
+ghost use Rattle.smpp_session.specs.SessionTable.{with_bind_resp, without_bind_resp, priority_of};
 
 use crate::action::BindKind;
 use crate::standing::SessionState;
@@ -81,6 +81,13 @@ pub(crate) fn refusal_of(command: CommandId) -> Body<'static>
         CommandId::EnquireLink => Body::EnquireLinkResp,
         _ => Body::GenericNack,
     }
+}
+
+// The priority of a submit_sm by its priority_flag.
+pub(crate) fn priority_of(flag: u8) -> u8
+    ensures { result ≡ priority_of flag }
+{
+    if flag < 3 { flag } else { 3 }
 }
 
 // The state of a session that is bound so.

@@ -1,5 +1,5 @@
 //! A session's turn: what it is and what it gives, PDU by PDU.
-ghost use Rattle.std.specs.Prelude.{◌≡◌, ◌≤◌, length, OnOk, IfOk, []};
+ghost use Rattle.std.specs.Prelude.{◌≡◌, ◌≤◌, length, drop, OnOk, IfOk, []};
 ghost use Rattle.smpp_pdu.specs.Writing.{IsWritable};
 ghost use Rattle.smpp_pdu.specs.declared.body.Body.TheVariants.{GenericNack};
 ghost use Rattle.smpp_session.specs.SessionTable.{judged, response, sent, given, closed, bind_taken, unbound, delivered, taken, refused, read, judging, treated, bad_length};
@@ -11,7 +11,7 @@ use crate::action::{Action, Actions, BindKind};
 use crate::front::{Front, front_of, header_of};
 use crate::standing::Standing;
 use crate::table::{
-    Judgement, bind_answer, bind_refusal, judge, judge_fault, refusal_of, state_of,
+    Judgement, bind_answer, bind_refusal, judge, judge_fault, priority_of, refusal_of, state_of,
 };
 use smpp_pdu::{Bind, BindResp, Body, CommandId, CommandStatus, Pdu, Tlvs};
 use sms_base::{OctetView, Octets};
@@ -22,15 +22,6 @@ use std::alloc::{AllocError, Global};
 pub(crate) struct Turn {
     pub standing: Standing,
     pub actions: Actions,
-}
-
-// The octets, owned.
-pub(crate) fn owned(alloc: Global, octets: &[u8]) -> Result<Octets, AllocError>
-    ensures { IfOk result (λ o. o ≡ octets.now) }
-{
-    let mut out = Octets::from_vec(Vec::with_capacity(alloc, octets.len())?);
-    out.append(octets)?;
-    Ok(out)
 }
 
 impl Turn {
@@ -187,9 +178,12 @@ impl Turn {
             Body::BindTransceiver(bind) => {
                 self.bind(alloc, accounts, BindKind::Transceiver, number, &bind)?;
             }
-            Body::SubmitSm(_) => self.give(Action::Submit(owned(alloc, octets)?))?,
-            Body::QuerySm(_) => self.give(Action::Query(owned(alloc, octets)?))?,
-            Body::CancelSm(_) => self.give(Action::Cancel(owned(alloc, octets)?))?,
+            Body::SubmitSm(message) => self.give(Action::Submit(
+                Octets::copy_of(alloc, octets)?,
+                priority_of(message.priority_flag),
+            ))?,
+            Body::QuerySm(_) => self.give(Action::Query(Octets::copy_of(alloc, octets)?))?,
+            Body::CancelSm(_) => self.give(Action::Cancel(Octets::copy_of(alloc, octets)?))?,
             Body::Unbind => self.unbind(alloc, number)?,
             Body::EnquireLink => {
                 self.send(
@@ -291,28 +285,30 @@ impl Turn {
         Ok(())
     }
 
-    // Treats the octets from the left, and answers those that are left.
-    pub(crate) fn walk<'a>(
+    // Treats the octets from the left, and answers how many of them are done with.
+    pub(crate) fn walk(
         &mut self,
         alloc: Global,
         accounts: &Accounts,
-        octets: &'a [u8],
-    ) -> Result<&'a [u8], AllocError>
-        ensures { IfOk result (λ rest. stream accounts.now (self.old, []) octets.entry.now ≡ (self.new, rest.now)) }
+        octets: &[u8],
+    ) -> Result<usize, AllocError>
+        ensures within { IfOk result (λ done. done ≤ length octets.now) }
+        ensures stream { IfOk result (λ done. stream accounts.now (self.old, []) octets.now ≡ (self.new, drop done octets.now)) }
     {
-        let mut rest = octets;
+        let mut done = 0;
         loop {
+            let (_, rest) = octets.split_at(done);
             match front_of(self.standing.state, rest) {
-                Front::Waiting => return Ok(rest),
-                Front::Dropped => return Ok(&[]),
+                Front::Waiting => return Ok(done),
+                Front::Dropped => return Ok(octets.len()),
                 Front::BadLength => {
                     self.end(alloc, rest)?;
-                    return Ok(&[]);
+                    return Ok(octets.len());
                 }
                 Front::Whole(len) => {
-                    let (piece, after) = rest.split_at(len);
+                    let (piece, _) = rest.split_at(len);
                     self.treat(alloc, accounts, piece)?;
-                    rest = after;
+                    done += len;
                 }
             }
         }

@@ -20,17 +20,17 @@ fault_is d e p = cc
 
 -- a fault of a reading that goes on is that of the first, or of what follows
 pub data Cause {A B : Type 0} (r : Result A TpduFault) (k : A → Result B TpduFault) (e : TpduFault) : Type 0 where
-  first : r ≡ Err e → Cause r k e
-  later : (x : A) → r ≡ Ok x → k x ≡ Err e → Cause r k e
+  at_once : r ≡ Err e → Cause r k e
+  behind : (x : A) → r ≡ Ok x → k x ≡ Err e → Cause r k e
 
 pub cause_of : {A B : Type 0} (r : Result A TpduFault) (k : A → Result B TpduFault) (e : TpduFault) → (r >>= k) ≡ Err e → Cause r k e
-cause_of (Ok x) k e p = later x refl p
-cause_of {A} {B} (Err d) k e p = first (ap (λ (f : TpduFault). Err f) (fault_is {X = B} d e p))
+cause_of (Ok x) k e p = behind x refl p
+cause_of {A} {B} (Err d) k e p = at_once (ap (λ (f : TpduFault). Err f) (fault_is {X = B} d e p))
 
 pub untrailed_bind : {A B : Type 0} (r : Result A TpduFault) (k : A → Result B TpduFault) → (r ≡ Err TrailingOctets → ⊥) → ((x : A) → k x ≡ Err TrailingOctets → ⊥) → (r >>= k) ≡ Err TrailingOctets → ⊥
 untrailed_bind r k h g p = elim (cause_of r k TrailingOctets p) [
-  | first q ↦ h q
-  | later x q s ↦ g x s
+  | at_once q ↦ h q
+  | behind x q s ↦ g x s
 ]
 
 pub untrailed_test : {B : Type 0} (b : Bool) (bad : TpduFault) (r : Result B TpduFault) → (bad ≡ TrailingOctets → ⊥) → (r ≡ Err TrailingOctets → ⊥) → (only_if b bad >>= (λ u. r)) ≡ Err TrailingOctets → ⊥
@@ -86,8 +86,8 @@ trails_end z (o ∷ rest) fits e = ([], o, rest, z, refl, refl)
 
 pub trails_bind : {X Z : Type 0} (r : Reading X) (k : X × List ℕ → Result Z TpduFault) → IsField r → ((x : X) → Trails (λ rest. k (x, rest))) → Trails (λ xs. r xs >>= k)
 trails_bind {X} {Z} r k hr hk xs fits e = elim (cause_of (r xs) k TrailingOctets e) [
-  | first p ↦ absurd (hr.untrailed xs p)
-  | later x p q ↦
+  | at_once p ↦ absurd (hr.untrailed xs p)
+  | behind x p q ↦
       let f = hr.front xs x fits p in
       let t = hk x.0 x.1 (suffix_fits f.0 x.1 (subst AreOctets f.1.0 fits)) q in
       let whole : xs ≡ (f.0 ++ t.0) ++ t.1 ∷ t.2 = f.1.0 ∙ ap (λ (l : List ℕ). f.0 ++ l) t.4 ∙ sym (append_assoc f.0 t.0 (t.1 ∷ t.2)) in
@@ -136,13 +136,13 @@ pure_completes {X} x = record {
 pub bind_completes : {X Y : Type 0} (r : Reading X) (k : X × List ℕ → Result (Y × List ℕ) TpduFault) → IsField r → Completes r → ((x : X) → Completes (λ rest. k (x, rest))) → Completes (λ xs. r xs >>= k)
 bind_completes {X} {Y} r k f hr hk = record {
   grows = λ xs fits e. elim (cause_of (r xs) k Truncated e) [
-    | first p ↦
+    | at_once p ↦
         let g = hr.grows xs fits p in
         let s = (hk g.1.1.0).starts in
         let both = joined_fits xs g.0 fits g.1.0 in
         let one : r (xs ++ (g.0 ++ s.0)) ≡ Ok (g.1.1.0, s.0) = ap r (sym (append_assoc xs g.0 s.0)) ∙ extended r f (xs ++ g.0) g.1.1.0 both g.1.1.1 s.0 in
         (g.0 ++ s.0, (joined_fits g.0 s.0 g.1.0 s.1.0, (s.1.1.0, ap (λ (m : Result (X × List ℕ) TpduFault). m >>= k) one ∙ s.1.1.1)))
-    | later x p q ↦
+    | behind x p q ↦
         let t = f.front xs x fits p in
         let g = (hk x.0).grows x.1 (suffix_fits t.0 x.1 (subst AreOctets t.1.0 fits)) q in
         let one : r (xs ++ g.0) ≡ Ok (x.0, x.1 ++ g.0) = ap (λ (l : List ℕ). r (l ++ g.0)) t.1.0 ∙ ap r (append_assoc t.0 x.1 g.0) ∙ t.1.1 (x.1 ++ g.0) in
@@ -157,13 +157,13 @@ bind_completes {X} {Y} r k f hr hk = record {
 pub whole_completes : {X Z : Type 0} (r : Reading X) (k : X × List ℕ → Result Z TpduFault) → IsField r → Completes r → ((x : X) → CompletesWhole (λ rest. k (x, rest))) → CompletesWhole (λ xs. r xs >>= k)
 whole_completes {X} {Z} r k f hr hk = record {
   grows = λ xs fits e. elim (cause_of (r xs) k Truncated e) [
-    | first p ↦
+    | at_once p ↦
         let g = hr.grows xs fits p in
         let s = (hk g.1.1.0).starts in
         let both = joined_fits xs g.0 fits g.1.0 in
         let one : r (xs ++ (g.0 ++ s.0)) ≡ Ok (g.1.1.0, s.0) = ap r (sym (append_assoc xs g.0 s.0)) ∙ extended r f (xs ++ g.0) g.1.1.0 both g.1.1.1 s.0 in
         (g.0 ++ s.0, (joined_fits g.0 s.0 g.1.0 s.1.0, (s.1.1.0, ap (λ (m : Result (X × List ℕ) TpduFault). m >>= k) one ∙ s.1.1.1)))
-    | later x p q ↦
+    | behind x p q ↦
         let t = f.front xs x fits p in
         let g = (hk x.0).grows x.1 (suffix_fits t.0 x.1 (subst AreOctets t.1.0 fits)) q in
         let one : r (xs ++ g.0) ≡ Ok (x.0, x.1 ++ g.0) = ap (λ (l : List ℕ). r (l ++ g.0)) t.1.0 ∙ ap r (append_assoc t.0 x.1 g.0) ∙ t.1.1 (x.1 ++ g.0) in

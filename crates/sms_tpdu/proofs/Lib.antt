@@ -20,3 +20,4 @@ pub mod CutReports
 pub mod MoreBits
 pub mod FaultSteps
 pub mod FaultFields
+pub mod FaultReasons

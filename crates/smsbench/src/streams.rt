@@ -10,6 +10,7 @@ use smpp_session::{Account, Accounts, Action, Actions, Session};
 use sms_base::Octets;
 use std::alloc::{AllocError, Global};
 use std::io::Print;
+use std::sync::Arc;
 
 /// A bind_transmitter of `bank` with the password `secret`.
 const BIND: [u8; 33] = [
@@ -32,14 +33,14 @@ fn octets(alloc: Global, items: &[u8]) -> Result<Octets, AllocError> {
     Ok(octets)
 }
 
-fn accounts(alloc: Global) -> Result<Accounts, AllocError> {
+fn accounts(alloc: Global) -> Result<Arc<Accounts, Global>, AllocError> {
     let account = Account {
         name: octets(alloc, b"bank")?,
         password: octets(alloc, b"secret")?,
     };
     let mut accounts = Vec::new(alloc);
     accounts.push(account)?;
-    Ok(Accounts::from_vec(accounts))
+    Ok(Arc::new(alloc, Accounts::from_vec(accounts))?)
 }
 
 // A session that is bound.
@@ -62,7 +63,7 @@ fn repeated(alloc: Global, octets: &[u8], times: u64) -> Result<Octets, AllocErr
 fn touch_requests(sum: &mut Sum, actions: &Actions) {
     for action in actions.as_slice() {
         match action {
-            Action::Submit(request) => sum.touch(request.as_slice(), 3),
+            Action::Submit(request, _) => sum.touch(request.as_slice(), 3),
             _ => {}
         }
     }
@@ -72,7 +73,7 @@ fn touch_requests(sum: &mut Sum, actions: &Actions) {
 fn take_requests(sum: &mut Sum, actions: &Actions) {
     for action in actions.as_slice() {
         match action {
-            Action::Submit(request) => sum.take(request.as_slice()),
+            Action::Submit(request, _) => sum.take(request.as_slice()),
             _ => {}
         }
     }
@@ -89,12 +90,12 @@ fn feeding(rt: &HostRuntime, piece: usize, pdus: u64) -> Result<Measured, BenchE
     let mut sum = Sum::new();
     let clock = Clock::start(rt)?;
     for octets in stream.as_slice().chunks(piece) {
-        let actions = session.feed(octets)?;
-        touch_requests(&mut sum, &actions);
+        let given = session.feed(octets)?;
+        touch_requests(&mut sum, &given.actions);
     }
     let nanos = clock.stop(rt)?;
     let last = session.feed(submit.as_slice())?;
-    take_requests(&mut sum, &last);
+    take_requests(&mut sum, &last.actions);
     Ok(measured(nanos, sum))
 }
 
@@ -125,9 +126,9 @@ fn behind(rt: &HostRuntime, waiting: u16, turns: u64) -> Result<Measured, BenchE
         let mut session = bound(alloc)?;
         let _none = session.feed(front.as_slice())?;
         let clock = Clock::start(rt)?;
-        let actions = session.feed(&[0x20])?;
+        let given = session.feed(&[0x20])?;
         nanos = nanos.saturating_add(clock.stop(rt)?);
-        sum.count(actions.as_slice().len() as u64);
+        sum.count(given.actions.as_slice().len() as u64);
     }
     Ok(measured(nanos, sum))
 }

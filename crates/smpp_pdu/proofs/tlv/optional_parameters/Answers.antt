@@ -1,12 +1,10 @@
 use Rattle.std.proofs.Common.{◌≡◌, ◌∙◌, refl, sym, []}
 use Rattle.std.proofs.lemmas.Result.{err_from_is_err_and}
-use Rattle.smpp_pdu.specs.TlvReading.{tlvs_at}
-use Rattle.smpp_pdu.proofs.TlvLaws.{tlv_shorter, one_step, last_step, no_step}
+use Rattle.smpp_pdu.proofs.TlvLaws.{tlv_shorter, one_step, last_step, no_step, walk_is}
 use Rattle.smpp_pdu.proofs.tlv.optional_parameters.Goals as goal
 
 pub loop-cursor-init : goal.loop-cursor-init
-unfolding tlvs_at
-loop-cursor-init c = rw c.none-tlvs.ensures refl
+loop-cursor-init c = rw c.none-tlvs.ensures (walk_is c.args.cursor.now)
 
 pub returns-in_err-tag : goal.returns-in_err-tag
 returns-in_err-tag c =

@@ -1,5 +1,6 @@
 use Rattle.std.proofs.Common.{◌≡◌, length}
-use Rattle.smpp_pdu.specs.TlvReading.{tlvs_in, tlvs_at}
+use Rattle.smpp_pdu.specs.TlvReading.{tlvs_at}
+use Rattle.smpp_pdu.proofs.TlvLaws.{tlvs_in}
 use Rattle.smpp_pdu.proofs.tlv.optional_parameters.Given as goal
 
 abbrev pub invariant-loop-cursor : goal.invariant-loop-cursor

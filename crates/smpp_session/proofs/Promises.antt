@@ -1,0 +1,300 @@
+-- What every turn, and so every list of calls, keeps.
+use Rattle.std.proofs.Common.{◌≡◌, ◌⊎◌, inl, inr, ℕ, ◌<◌, Bool, true, false, ◌&&◌, cond, eqb, ltb, List, [], ◌∷◌, ◌++◌, length, Option, Some, None, Result, Ok, Err, refl, sym, ap, subst, ◌∙◌, arith}
+use Rattle.std.specs.List.{AllByRecursion}
+use Rattle.std.proofs.lemmas.Bool.{ltb-true}
+use Rattle.std.proofs.lemmas.List.{append-nil}
+use Rattle.smpp_pdu.specs.declared.fault.PduFault.{PduFault}
+use Rattle.smpp_pdu.specs.declared.command.CommandId.{CommandId}
+use Rattle.smpp_pdu.specs.declared.status.CommandStatus.{CommandStatus}
+use Rattle.smpp_pdu.specs.declared.status.CommandStatus.TheVariants.{ESME_ROK, ESME_RINVCMDLEN, ESME_RINVCMDID, ESME_RINVPASWD, ESME_RINVSYSID}
+use Rattle.smpp_pdu.specs.declared.bind.Bind.{Bind}
+use Rattle.smpp_pdu.specs.declared.body.Body.{Body}
+use Rattle.smpp_pdu.specs.declared.body.Body.TheVariants.{BindReceiver, BindTransmitter, BindTransceiver, SubmitSm, QuerySm, CancelSm, Unbind, EnquireLink, GenericNack, DeliverSmResp, UnbindResp, EnquireLinkResp}
+use Rattle.smpp_pdu.specs.declared.header.Header.{Header}
+use Rattle.smpp_pdu.specs.declared.message.Message.{Message}
+use Rattle.smpp_pdu.specs.declared.pdu.Pdu.{Pdu}
+use Rattle.smpp_pdu.specs.Commands.{command_of}
+use Rattle.smpp_pdu.specs.PduReading.{pdu_at}
+use Rattle.smpp_pdu.specs.Writing.{written}
+use Rattle.smpp_session.specs.declared.account.Account.{Account}
+use Rattle.smpp_session.specs.declared.account.Login.{Login}
+use Rattle.smpp_session.specs.declared.account.Login.TheVariants.{Known, UnknownName, WrongPassword}
+use Rattle.smpp_session.specs.declared.action.Action.{Action}
+use Rattle.smpp_session.specs.declared.action.Action.TheVariants.{Send, Bound, Submit, Query, Cancel, DeliverAnswered, Unbound}
+use Rattle.smpp_session.specs.declared.action.BindKind.{BindKind}
+use Rattle.smpp_session.specs.declared.action.BindKind.TheVariants.{Transmitter, Receiver, Transceiver}
+use Rattle.smpp_session.specs.declared.calling.Call.{Call}
+use Rattle.smpp_session.specs.declared.calling.Call.TheVariants.{Feed, Answer, Deliver, Close}
+use Rattle.smpp_session.specs.declared.fault.DeliverFault.{DeliverFault}
+use Rattle.smpp_session.specs.declared.fault.DeliverFault.TheVariants.{WindowFull, NotBound}
+use Rattle.smpp_session.specs.declared.front.Front.{Front}
+use Rattle.smpp_session.specs.declared.front.Front.TheVariants.{Waiting, Whole, BadLength, Dropped}
+use Rattle.smpp_session.specs.declared.standing.SessionState.{SessionState}
+use Rattle.smpp_session.specs.declared.standing.SessionState.TheVariants.{Opened, BoundTx, BoundRx, BoundTrx, Closed}
+use Rattle.smpp_session.specs.declared.standing.Standing.{Standing}
+use Rattle.smpp_session.specs.declared.table.Judgement.{Judgement}
+use Rattle.smpp_session.specs.declared.table.Judgement.TheVariants.{Read, Refused, Ignored}
+use Rattle.smpp_session.specs.declared.turn.Turn.{Turn}
+use Rattle.smpp_session.specs.Answers.{answered}
+use Rattle.smpp_session.specs.Bindings.{is_bound, is_closed, bound_after, bound_behind, is_bind_lost}
+use Rattle.smpp_session.specs.Calls.{called, delivering, sending, and_then, ran}
+use Rattle.smpp_session.specs.Logins.{login}
+use Rattle.smpp_session.specs.Promises.{ReadsAsItsCommand, bound_as_told}
+use Rattle.smpp_session.specs.Sessions.{SessionView, opened, turn_of, after_course, fed, if_room, fault_in, delivery_fault, number_to_send, after_delivery}
+use Rattle.smpp_session.specs.SessionRun.{Course, fronted, one_more, stream}
+use Rattle.smpp_session.specs.SessionTable.{judged, judged_fault, refusal, with_bind_resp, without_bind_resp, bound_as, centre_name, response, priority_of, given, sent, closed, in_state, logged_in, bind_taken, unbound, delivered, taken, refused, read, judging, by_command, treated, bad_length}
+use Rattle.smpp_session.specs.Stream.{header_at, front_of}
+use Rattle.smpp_session.specs.Windows.{is_among, without, window, IsSequenceNumber, IsWindow}
+use Rattle.smpp_session.proofs.Cutting.{dropped}
+use Rattle.smpp_session.proofs.FreeNumbers.{all_append, after_is_number, free_is_free, free_is_number, window_added, window_taken, no_window}
+
+-- what the actions of a turn told, where an account was bound before them or not
+record IsSound (before : Bool) (turn : Turn) : Type 0 where
+  waiting : IsWindow turn.standing.unanswered
+  number : IsSequenceNumber turn.standing.next_number
+  reads : AllByRecursion ReadsAsItsCommand turn.actions
+  bound : (turn.standing.state ≡ Closed) ⊎ (is_bound turn.standing.state ≡ bound_behind before turn.actions)
+
+bound_end : (before : Bool) (acts : List Action) (action : Action) → bound_behind before (acts ++ action ∷ []) ≡ bound_after (bound_behind before acts) action
+bound_end before [] action = refl
+bound_end before (first ∷ acts) action = bound_end (bound_after before first) acts action
+
+reads_end : (acts : List Action) (action : Action) → AllByRecursion ReadsAsItsCommand acts → ReadsAsItsCommand action → AllByRecursion ReadsAsItsCommand (acts ++ action ∷ [])
+reads_end acts action h r = all_append ReadsAsItsCommand acts (action ∷ []) h (r, tt)
+
+-- an action that binds and unbinds nobody
+given_sound : (before : Bool) (action : Action) (turn : Turn) → IsSound before turn → ReadsAsItsCommand action → ((b : Bool) → bound_after b action ≡ b) → IsSound before (given action turn)
+given_sound before action turn h r same = record {
+  waiting = h.waiting;
+  number = h.number;
+  reads = reads_end turn.actions action h.reads r;
+  bound = still h.bound;
+} where
+  still : (turn.standing.state ≡ Closed) ⊎ (is_bound turn.standing.state ≡ bound_behind before turn.actions) → (turn.standing.state ≡ Closed) ⊎ (is_bound turn.standing.state ≡ bound_behind before (turn.actions ++ action ∷ []))
+  still (inl c) = inl c
+  still (inr e) = inr (e ∙ (sym (same (bound_behind before turn.actions)) ∙ sym (bound_end before turn.actions action)))
+
+sent_sound : (before : Bool) (body : Body) (status : CommandStatus) (n : ℕ) (turn : Turn) → IsSound before turn → IsSound before (sent body status n turn)
+unfolding sent
+sent_sound before body status n turn h = given_sound before (Send (written (response body status n))) turn h tt (λ b. refl)
+
+kind_is_bound : (kind : BindKind) → is_bound (bound_as kind) ≡ true
+kind_is_bound Transmitter = refl
+kind_is_bound Receiver = refl
+kind_is_bound Transceiver = refl
+
+now_bound : (before : Bool) (kind : BindKind) (place : ℕ) (turn : Turn) → IsSound before turn → IsSound before (in_state (bound_as kind) (given (Bound place kind) turn))
+now_bound before kind place turn h = record {
+  waiting = h.waiting;
+  number = h.number;
+  reads = reads_end turn.actions (Bound place kind) h.reads tt;
+  bound = inr (kind_is_bound kind ∙ sym (bound_end before turn.actions (Bound place kind)));
+}
+
+logged_in_sound : (before : Bool) (kind : BindKind) (n : ℕ) (l : Login) (turn : Turn) → IsSound before turn → IsSound before (logged_in kind n l turn)
+logged_in_sound before kind n (Known place) turn h = now_bound before kind place (sent (with_bind_resp kind centre_name) ESME_ROK n turn) (sent_sound before (with_bind_resp kind centre_name) ESME_ROK n turn h)
+logged_in_sound before kind n UnknownName turn h = sent_sound before (without_bind_resp kind) ESME_RINVSYSID n turn h
+logged_in_sound before kind n WrongPassword turn h = sent_sound before (without_bind_resp kind) ESME_RINVPASWD n turn h
+
+bind_sound : (before : Bool) (accounts : List Account) (kind : BindKind) (n : ℕ) (bind : Bind) (turn : Turn) → IsSound before turn → IsSound before (bind_taken accounts kind n bind turn)
+bind_sound before accounts kind n bind turn h = logged_in_sound before kind n (login 0 bind.system_id bind.password accounts) turn h
+
+closed_sound : (before : Bool) (turn : Turn) → IsSound before turn → IsSound before (closed turn)
+closed_sound before turn h = record { waiting = no_window; number = h.number; reads = h.reads; bound = inl refl }
+
+unbound_sound : (before : Bool) (n : ℕ) (turn : Turn) → IsSound before turn → IsSound before (unbound n turn)
+unbound_sound before n turn h = record {
+  waiting = no_window;
+  number = first.number;
+  reads = reads_end (sent UnbindResp ESME_ROK n turn).actions Unbound first.reads tt;
+  bound = inl refl;
+} where
+  first : IsSound before (sent UnbindResp ESME_ROK n turn)
+  first = sent_sound before UnbindResp ESME_ROK n turn h
+
+delivered_sound : (before : Bool) (n : ℕ) (accepted : Bool) (turn : Turn) → IsSound before turn → IsSound before (delivered n accepted turn)
+delivered_sound before n accepted turn h = by_test (is_among n turn.standing.unanswered) where
+  told : Turn
+  told = given (DeliverAnswered n accepted) turn
+
+  told_sound : IsSound before told
+  told_sound = given_sound before (DeliverAnswered n accepted) turn h tt (λ b. refl)
+
+  answered_turn : Turn
+  answered_turn = record {
+    standing = record { state = turn.standing.state; unanswered = without n turn.standing.unanswered; next_number = turn.standing.next_number };
+    actions = turn.actions ++ DeliverAnswered n accepted ∷ [];
+  }
+
+  by_test : (b : Bool) → IsSound before (cond b answered_turn turn)
+  by_test true = record { waiting = window_taken n turn.standing.unanswered h.waiting; number = h.number; reads = told_sound.reads; bound = told_sound.bound }
+  by_test false = h
+
+taken_sound : (before : Bool) (accounts : List Account) (octets : List ℕ) (pdu : Pdu) (body : Body) (turn : Turn) → pdu_at octets ≡ Ok pdu → pdu.body ≡ body → IsSound before turn → IsSound before (taken accounts octets pdu body turn)
+taken_sound before accounts octets pdu (BindTransmitter bind) turn e is h = bind_sound before accounts Transmitter pdu.sequence_number bind turn h
+taken_sound before accounts octets pdu (BindReceiver bind) turn e is h = bind_sound before accounts Receiver pdu.sequence_number bind turn h
+taken_sound before accounts octets pdu (BindTransceiver bind) turn e is h = bind_sound before accounts Transceiver pdu.sequence_number bind turn h
+taken_sound before accounts octets pdu (SubmitSm message) turn e is h = given_sound before (Submit octets (priority_of message.priority_flag)) turn h (pdu, message, e, is, refl) (λ b. refl)
+taken_sound before accounts octets pdu (QuerySm query) turn e is h = given_sound before (Query octets) turn h (pdu, query, e, is) (λ b. refl)
+taken_sound before accounts octets pdu (CancelSm cancel) turn e is h = given_sound before (Cancel octets) turn h (pdu, cancel, e, is) (λ b. refl)
+taken_sound before accounts octets pdu Unbind turn e is h = unbound_sound before pdu.sequence_number turn h
+taken_sound before accounts octets pdu EnquireLink turn e is h = sent_sound before EnquireLinkResp ESME_ROK pdu.sequence_number turn h
+taken_sound before accounts octets pdu (DeliverSmResp body) turn e is h = delivered_sound before pdu.sequence_number (eqb pdu.command_status 0) turn h
+taken_sound before accounts octets pdu GenericNack turn e is h = delivered_sound before pdu.sequence_number false turn h
+taken_sound before accounts octets pdu body turn e is h = h
+
+refused_sound : (before : Bool) (c : CommandId) (n : ℕ) (j : Judgement) (turn : Turn) → IsSound before turn → IsSound before (refused c n j turn)
+refused_sound before c n (Refused status) turn h = sent_sound before (refusal c) status n turn h
+refused_sound before c n Ignored turn h = h
+refused_sound before c n Read turn h = h
+
+read_sound : (before : Bool) (accounts : List Account) (octets : List ℕ) (c : CommandId) (n : ℕ) (r : Result Pdu PduFault) (turn : Turn) → pdu_at octets ≡ r → IsSound before turn → IsSound before (read accounts octets c n r turn)
+read_sound before accounts octets c n (Ok pdu) turn e h = taken_sound before accounts octets pdu pdu.body turn e refl h
+read_sound before accounts octets c n (Err fault) turn e h = refused_sound before c n (judged_fault c fault) turn h
+
+judging_sound : (before : Bool) (accounts : List Account) (octets : List ℕ) (c : CommandId) (n : ℕ) (j : Judgement) (turn : Turn) → IsSound before turn → IsSound before (judging accounts octets c n j turn)
+judging_sound before accounts octets c n Read turn h = read_sound before accounts octets c n (pdu_at octets) turn refl h
+judging_sound before accounts octets c n (Refused status) turn h = refused_sound before c n (Refused status) turn h
+judging_sound before accounts octets c n Ignored turn h = h
+
+command_sound : (before : Bool) (accounts : List Account) (octets : List ℕ) (header : Header) (c : Option CommandId) (turn : Turn) → IsSound before turn → IsSound before (by_command accounts octets header c turn)
+command_sound before accounts octets header (Some c) turn h = judging_sound before accounts octets c header.sequence_number (judged c turn.standing.state) turn h
+command_sound before accounts octets header None turn h = by_test (ltb header.command_id 0x80000000) where
+  by_test : (b : Bool) → IsSound before (cond b (sent GenericNack ESME_RINVCMDID header.sequence_number turn) turn)
+  by_test true = sent_sound before GenericNack ESME_RINVCMDID header.sequence_number turn h
+  by_test false = h
+
+treated_sound : (before : Bool) (accounts : List Account) (octets : List ℕ) (turn : Turn) → IsSound before turn → IsSound before (treated accounts octets turn)
+unfolding treated
+treated_sound before accounts octets turn h = command_sound before accounts octets (header_at octets) (command_of (header_at octets).command_id) turn h
+
+bad_sound : (before : Bool) (octets : List ℕ) (turn : Turn) → IsSound before turn → IsSound before (bad_length octets turn)
+unfolding bad_length
+bad_sound before octets turn h =
+    closed_sound before (sent GenericNack ESME_RINVCMDLEN (header_at octets).sequence_number turn) (sent_sound before GenericNack ESME_RINVCMDLEN (header_at octets).sequence_number turn h)
+
+fronted_sound : (before : Bool) (accounts : List Account) (f : Front) (turn : Turn) (octets : List ℕ) → IsSound before turn → IsSound before (fronted accounts f turn octets).0
+fronted_sound before accounts Waiting turn octets h = h
+fronted_sound before accounts (Whole len) turn octets h = treated_sound before accounts octets turn h
+fronted_sound before accounts BadLength turn octets h = bad_sound before octets turn h
+fronted_sound before accounts Dropped turn octets h = h
+
+more_sound : (before : Bool) (accounts : List Account) (c : Course) (x : ℕ) → IsSound before c.0 → IsSound before (one_more accounts c x).0
+unfolding one_more
+more_sound before accounts c x h = fronted_sound before accounts (front_of c.0.standing.state (c.1 ++ x ∷ [])) c.0 (c.1 ++ x ∷ []) h
+
+stream_sound : (before : Bool) (accounts : List Account) (c : Course) (xs : List ℕ) → IsSound before c.0 → IsSound before (stream accounts c xs).0
+unfolding stream
+stream_sound before accounts c [] h = h
+stream_sound before accounts c (x ∷ xs) h = stream_sound before accounts (one_more accounts c x) xs (more_sound before accounts c x h)
+
+-- ---- feed
+
+fed_sound : (s : SessionView) (xs : List ℕ) → IsWindow s.standing.unanswered → IsSequenceNumber s.standing.next_number → IsSound (is_bound s.standing.state) (stream s.accounts (turn_of s, []) (s.buffered ++ xs)).0
+fed_sound s xs waiting number =
+    stream_sound (is_bound s.standing.state) s.accounts (turn_of s, []) (s.buffered ++ xs) (record { waiting = waiting; number = number; reads = tt; bound = inr refl })
+
+pub told : (s : SessionView) (xs : List ℕ) → IsWindow s.standing.unanswered → IsSequenceNumber s.standing.next_number → is_bound (fed s xs).0.standing.state ≡ bound_as_told s xs
+told s xs waiting number = by_state (fed s xs).0.standing.state refl (fed_sound s xs waiting number).bound where
+  acts : List Action
+  acts = (fed s xs).1
+
+  by_closed : (b : Bool) → false ≡ cond b false b
+  by_closed true = refl
+  by_closed false = refl
+
+  by_state : (state : SessionState) → (fed s xs).0.standing.state ≡ state → (state ≡ Closed) ⊎ (is_bound state ≡ bound_behind (is_bound s.standing.state) acts)
+      → is_bound state ≡ cond (is_bind_lost s.standing.state acts state) false (bound_behind (is_bound s.standing.state) acts)
+  by_state Closed e h = by_closed (bound_behind (is_bound s.standing.state) acts)
+  by_state Opened e (inl c) = absurd cc
+  by_state Opened e (inr h) = h
+  by_state BoundTx e (inl c) = absurd cc
+  by_state BoundTx e (inr h) = h
+  by_state BoundRx e (inl c) = absurd cc
+  by_state BoundRx e (inr h) = h
+  by_state BoundTrx e (inl c) = absurd cc
+  by_state BoundTrx e (inr h) = h
+
+-- ---- lists of calls
+
+pub record IsKept (c : SessionView × List Action) : Type 0 where
+  pub waiting : IsWindow c.0.standing.unanswered
+  pub number : IsSequenceNumber c.0.standing.next_number
+  pub reads : AllByRecursion ReadsAsItsCommand c.1
+
+in_window : (standing : Standing) → if_room standing ≡ None → length standing.unanswered < 10
+in_window standing e = by_test (ltb (length standing.unanswered) 10) refl e where
+  by_test : (b : Bool) → ltb (length standing.unanswered) 10 ≡ b → cond b None (Some WindowFull) ≡ None → length standing.unanswered < 10
+  by_test true t h = ltb-true (length standing.unanswered) 10 t
+  by_test false t h = absurd cc
+
+room : (state : SessionState) (standing : Standing) → fault_in state standing ≡ None → length standing.unanswered < 10
+room Opened standing e = absurd cc
+room BoundTx standing e = absurd cc
+room BoundRx standing e = in_window standing e
+room BoundTrx standing e = in_window standing e
+room Closed standing e = absurd cc
+
+delivering_kept : (s : SessionView) (message : Message) (f : Option DeliverFault) → delivery_fault s.standing ≡ f → IsWindow s.standing.unanswered → IsSequenceNumber s.standing.next_number → IsKept (delivering s message f)
+delivering_kept s message (Some fault) e waiting number = record { waiting = waiting; number = number; reads = tt }
+delivering_kept s message None e waiting number =
+    let few = room s.standing.state s.standing e in
+    let own = free_is_number s.standing.next_number s.standing.unanswered number in
+    record {
+      waiting = window_added (number_to_send s.standing) s.standing.unanswered waiting few (free_is_free s.standing.next_number s.standing.unanswered few) own;
+      number = after_is_number (number_to_send s.standing) own;
+      reads = (tt, tt);
+    }
+
+sending_reads : (o : Option (List ℕ)) → AllByRecursion ReadsAsItsCommand (sending o)
+sending_reads None = tt
+sending_reads (Some octets) = (tt, tt)
+
+called_kept : (s : SessionView) (call : Call) → IsWindow s.standing.unanswered → IsSequenceNumber s.standing.next_number → IsKept (called s call)
+called_kept s (Feed xs) waiting number = let h = fed_sound s xs waiting number in record { waiting = h.waiting; number = h.number; reads = h.reads }
+called_kept s (Answer n answer) waiting number = record { waiting = waiting; number = number; reads = sending_reads (answered s.standing.state n answer) }
+called_kept s (Deliver message) waiting number = delivering_kept s message (delivery_fault s.standing) refl waiting number
+called_kept s Close waiting number = record { waiting = no_window; number = number; reads = tt }
+
+ran_kept : (c : SessionView × List Action) (calls : List Call) → IsKept c → IsKept (ran c calls)
+ran_kept c [] h = h
+ran_kept c (call ∷ calls) h =
+    let next = called_kept c.0 call h.waiting h.number in
+    ran_kept (and_then c (called c.0 call)) calls (record { waiting = next.waiting; number = next.number; reads = all_append ReadsAsItsCommand c.1 (called c.0 call).1 h.reads next.reads })
+
+pub opened_kept : (accounts : List Account) (calls : List Call) → IsKept (ran (opened accounts, []) calls)
+opened_kept accounts calls = ran_kept (opened accounts, []) calls (record { waiting = no_window; number = (omega arith, omega arith); reads = tt })
+
+pub number_is_kept : (accounts : List Account) (calls : List Call) → IsSequenceNumber (number_to_send (ran (opened accounts, []) calls).0.standing)
+number_is_kept accounts calls =
+    let standing = (ran (opened accounts, []) calls).0.standing in
+    free_is_number standing.next_number standing.unanswered (opened_kept accounts calls).number
+
+pub told_over : (accounts : List Account) (calls : List Call) (xs : List ℕ) → is_bound (fed (ran (opened accounts, []) calls).0 xs).0.standing.state ≡ bound_as_told (ran (opened accounts, []) calls).0 xs
+told_over accounts calls xs = let h = opened_kept accounts calls in told (ran (opened accounts, []) calls).0 xs h.waiting h.number
+
+-- ---- a closed session
+
+record IsQuiet (c : SessionView × List Action) : Type 0 where
+  closed : c.0.standing.state ≡ Closed
+  nothing : c.1 ≡ []
+
+feed_quiet : (s : SessionView) (xs : List ℕ) → s.standing.state ≡ Closed → IsQuiet (fed s xs)
+feed_quiet s xs e =
+    let none : stream s.accounts (turn_of s, []) (s.buffered ++ xs) ≡ (turn_of s, []) = dropped s.accounts (turn_of s) (s.buffered ++ xs) e in
+    record { closed = ap (λ (c : Course). c.0.standing.state) none ∙ e; nothing = ap (λ (c : Course). c.0.actions) none }
+
+call_quiet : (s : SessionView) (call : Call) → s.standing.state ≡ Closed → IsQuiet (called s call)
+call_quiet s (Feed xs) e = feed_quiet s xs e
+call_quiet s (Answer n answer) e = record { closed = e; nothing = ap (λ (state : SessionState). sending (answered state n answer)) e }
+call_quiet s (Deliver message) e =
+    let none : delivery_fault s.standing ≡ Some NotBound = ap (λ (state : SessionState). fault_in state s.standing) e in
+    subst (λ (f : Option DeliverFault). IsQuiet (delivering s message f)) (sym none) (record { closed = e; nothing = refl })
+call_quiet s Close e = record { closed = refl; nothing = refl }
+
+pub closed_is_quiet : (s : SessionView) (before : List Action) (calls : List Call) → s.standing.state ≡ Closed → ((ran (s, before) calls).0.standing.state ≡ Closed) × ((ran (s, before) calls).1 ≡ before)
+closed_is_quiet s before [] e = (e, refl)
+closed_is_quiet s before (call ∷ calls) e =
+    let q = call_quiet s call e in
+    let rest = closed_is_quiet (called s call).0 (before ++ (called s call).1) calls q.closed in
+    (rest.0, rest.1 ∙ (ap (λ (acts : List Action). before ++ acts) q.nothing ∙ append-nil before))

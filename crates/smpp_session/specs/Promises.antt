@@ -1,0 +1,30 @@
+-- What a session promises over any list of calls.
+use Rattle.std.specs.Prelude.{◌≡◌, ℕ, List, Bool, false, Result, Ok, if◌then◌else◌}
+use Rattle.std.specs.List.{AllByRecursion}
+use Rattle.smpp_pdu.specs.declared.body.Body.TheVariants.{SubmitSm as SubmitSmBody, QuerySm as QuerySmBody, CancelSm as CancelSmBody}
+use Rattle.smpp_pdu.specs.declared.message.Message.{Message}
+use Rattle.smpp_pdu.specs.declared.query.QuerySm.{QuerySm}
+use Rattle.smpp_pdu.specs.declared.cancel.CancelSm.{CancelSm}
+use Rattle.smpp_pdu.specs.declared.pdu.Pdu.{Pdu}
+use Rattle.smpp_pdu.specs.PduReading.{pdu_at}
+use Rattle.smpp_session.specs.declared.action.Action.{Action}
+use Rattle.smpp_session.specs.declared.action.Action.TheVariants.{Send, Bound, Submit, Query, Cancel, DeliverAnswered, Unbound}
+use Rattle.smpp_session.specs.SessionTable.{priority_of}
+use Rattle.smpp_session.specs.Bindings.{is_bound, bound_behind, is_bind_lost}
+use Rattle.smpp_session.specs.Sessions.{SessionView, fed}
+
+-- The octets of a request that is passed up read as that request (SMPP v3.4 4.4.1, 4.8.1, 4.9.1), and the priority of a
+-- submit_sm is its own.
+abbrev pub ReadsAsItsCommand : Action → Type 0
+ReadsAsItsCommand (Submit octets priority) =
+    (pdu : Pdu) × (message : Message) × (pdu_at octets ≡ Ok pdu) × (pdu.body ≡ SubmitSmBody message) × (priority ≡ priority_of message.priority_flag)
+ReadsAsItsCommand (Query octets) = (pdu : Pdu) × (query : QuerySm) × (pdu_at octets ≡ Ok pdu) × (pdu.body ≡ QuerySmBody query)
+ReadsAsItsCommand (Cancel octets) = (pdu : Pdu) × (cancel : CancelSm) × (pdu_at octets ≡ Ok pdu) × (pdu.body ≡ CancelSmBody cancel)
+ReadsAsItsCommand action = Unit {0}
+
+-- Whether an account is bound behind octets that were fed, by what the owner was told: the actions, and a lost bind.
+abbrev pub bound_as_told : SessionView → List ℕ → Bool
+bound_as_told session octets =
+    if is_bind_lost session.standing.state (fed session octets).1 (fed session octets).0.standing.state
+    then false
+    else bound_behind (is_bound session.standing.state) (fed session octets).1

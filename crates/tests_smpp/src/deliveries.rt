@@ -1,0 +1,54 @@
+//! Deliver_sm that go out, and their answers.
+use crate::exchanges::{BIND, BIND_ANSWER, BIND_TRANSMITTER, DELIVERED_4, TRANSMITTER_ANSWER};
+use crate::limits::message;
+use crate::sessions::{bound, session};
+use smpp_session::{Action, DeliverFault, Fed, Session};
+use std::test::Fail;
+
+// A deliver_sm that goes out under that number.
+fn delivers(session: &mut Session, number: u32) -> Result<(), Fail> {
+    let sent = session.deliver(message(&[]))?;
+    if sent.sequence_number == number {
+        Ok(())
+    } else {
+        Err("another number")?
+    }
+}
+
+// A deliver_sm that is refused so.
+fn refuses(session: &mut Session, fault: DeliverFault) -> Result<(), Fail> {
+    match session.deliver(message(&[])) {
+        Err(told) if told == fault => Ok(()),
+        _ => Err("not refused")?,
+    }
+}
+
+// The deliver_sm of number 4 was accepted, and nothing else.
+fn is_settled(given: &Fed) -> bool {
+    match given.actions.as_slice() {
+        [Action::DeliverAnswered(4, true)] => true,
+        _ => false,
+    }
+}
+
+#[test]
+fn delivers_ten(rt: HostRuntime) -> Result<(), Fail> {
+    let mut session = session(rt.alloc())?;
+    bound(&mut session, &BIND, &BIND_ANSWER)?;
+    for number in 1..11 {
+        delivers(&mut session, number)?;
+    }
+    refuses(&mut session, DeliverFault::WindowFull)?;
+    assert!(rt; is_settled(&session.feed(&DELIVERED_4)?));
+    delivers(&mut session, 11)
+}
+
+#[test]
+fn delivers_to_receivers_alone(rt: HostRuntime) -> Result<(), Fail> {
+    let mut session = session(rt.alloc())?;
+    refuses(&mut session, DeliverFault::NotBound)?;
+    bound(&mut session, &BIND_TRANSMITTER, &TRANSMITTER_ANSWER)?;
+    refuses(&mut session, DeliverFault::NotBound)?;
+    assert_eq!(rt; DeliverFault::NotBound.code(), Some("N2"));
+    Ok(())
+}

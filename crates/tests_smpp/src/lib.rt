@@ -1,0 +1,17 @@
+//! Tests of PDUs and sessions over their public calls: what no clause says.
+#![tactic(auto)]
+
+#[cfg(test)]
+mod deliveries;
+#[cfg(test)]
+mod exchanges;
+#[cfg(test)]
+mod limits;
+#[cfg(test)]
+mod pdus;
+#[cfg(test)]
+mod secrets;
+#[cfg(test)]
+mod sessions;
+#[cfg(test)]
+mod vectors;

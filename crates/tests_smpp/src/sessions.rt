@@ -1,0 +1,338 @@
+//! Sessions: whole exchanges, cut in many ways, and how they end.
+ghost use Rattle.std.specs.Prelude.{IfOk};
+ghost use Rattle.std.specs.List.{AllByRecursion};
+ghost use Rattle.smpp_pdu.specs.BodyGrammar.{IsQueryRespValue};
+ghost use Rattle.smpp_pdu.specs.Writing.{IsMessageRespValue};
+ghost use Rattle.smpp_session.specs.Calls.{IsCall};
+
+use crate::exchanges::{
+    ALREADY_BOUND, BIND, BIND_ANSWER, ENQUIRE, ENQUIRE_ANSWER, LENGTH_REFUSED, LONG_LENGTH,
+    NET_SMPP, SHORT_LENGTH, SUBMIT, SUBMIT_ANSWER, SUBMIT_CUT_SHORT, SUBMIT_HEADER,
+    SUBMIT_NOT_BOUND,
+};
+use crate::vectors::QUERY_SM_RESP;
+use smpp_pdu::{CommandStatus, MessageResp, QuerySmResp};
+use smpp_session::{
+    Account, Accounts, Action, Actions, Answer, Call, Fed, Request, Session, SessionState, run,
+};
+use sms_base::{OctetView, Octets};
+use std::alloc::Global;
+use std::sync::Arc;
+use std::test::Fail;
+use std::thread;
+
+// One account, app1 with the password secret.
+pub(crate) fn accounts(alloc: Global) -> Result<Arc<Accounts, Global>, Fail> {
+    let name = Octets::copy_of(alloc, b"app1")?;
+    let password = Octets::copy_of(alloc, b"secret")?;
+    let mut accounts = Vec::new(alloc);
+    accounts.push(Account { name, password })?;
+    Ok(Arc::new(alloc, Accounts::from_vec(accounts))?)
+}
+
+pub(crate) fn session(alloc: Global) -> Result<Session, Fail> {
+    let accounts = accounts(alloc)?;
+    Ok(Session::new(alloc, accounts))
+}
+
+// Actions that are one answer.
+fn is_answer(actions: &Actions, wanted: &[u8]) -> bool {
+    match actions.as_slice() {
+        [Action::Send(sent)] => sent.as_slice() == wanted,
+        _ => false,
+    }
+}
+
+// Actions that are a bind and its answer.
+fn is_bind(actions: &Actions, wanted: &[u8]) -> bool {
+    match actions.as_slice() {
+        [Action::Send(sent), Action::Bound(0, _)] => sent.as_slice() == wanted,
+        _ => false,
+    }
+}
+
+// Octets that give nothing.
+pub(crate) fn silent(session: &mut Session, octets: &[u8]) -> Result<(), Fail> {
+    let given = session.feed(octets)?;
+    if given.actions.as_slice().is_empty() {
+        Ok(())
+    } else {
+        Err("an action")?
+    }
+}
+
+// Octets that are answered so, and give nothing else.
+pub(crate) fn answered(session: &mut Session, octets: &[u8], wanted: &[u8]) -> Result<(), Fail> {
+    let given = session.feed(octets)?;
+    if is_answer(&given.actions, wanted) {
+        Ok(())
+    } else {
+        Err("another answer")?
+    }
+}
+
+// A bind that is answered so.
+pub(crate) fn bound(session: &mut Session, octets: &[u8], wanted: &[u8]) -> Result<(), Fail> {
+    let given = session.feed(octets)?;
+    if is_bind(&given.actions, wanted) {
+        Ok(())
+    } else {
+        Err("not bound")?
+    }
+}
+
+#[test]
+fn enquire_cut_after_each_octet(rt: HostRuntime) -> Result<(), Fail> {
+    for cut in 0..16 {
+        let mut session = session(rt.alloc())?;
+        let (front, rest) = ENQUIRE.as_slice().split_at(cut);
+        silent(&mut session, front)?;
+        answered(&mut session, rest, &ENQUIRE_ANSWER)?;
+    }
+    Ok(())
+}
+
+#[test]
+fn bad_length_closes(rt: HostRuntime) -> Result<(), Fail> {
+    let mut short = session(rt.alloc())?;
+    answered(&mut short, &SHORT_LENGTH, &LENGTH_REFUSED)?;
+    silent(&mut short, &ENQUIRE)?;
+    let mut long = session(rt.alloc())?;
+    answered(&mut long, &LONG_LENGTH, &LENGTH_REFUSED)?;
+    silent(&mut long, &ENQUIRE)
+}
+
+// A bind_transceiver without a body is cut short (2), and the session is still open.
+const BIND_HEADER: [u8; 16] = [
+    0x00, 0x00, 0x00, 0x10, 0x00, 0x00, 0x00, 0x09, 0x00, 0x00, 0x00, 0x00, 0x00, 0x00, 0x00, 0x01,
+];
+
+const BIND_CUT_SHORT: [u8; 16] = [
+    0x00, 0x00, 0x00, 0x10, 0x80, 0x00, 0x00, 0x09, 0x00, 0x00, 0x00, 0x02, 0x00, 0x00, 0x00, 0x01,
+];
+
+// The submit_sm with sm_length 255 is answered ESME_RINVMSGLEN (1).
+const MESSAGE_TOO_LONG: [u8; 16] = [
+    0x00, 0x00, 0x00, 0x10, 0x80, 0x00, 0x00, 0x04, 0x00, 0x00, 0x00, 0x01, 0x00, 0x00, 0x00, 0x02,
+];
+
+// A data_sm, of which this centre knows nothing, is answered by a generic_nack with ESME_RINVCMDID (3).
+const DATA_SM: [u8; 16] = [
+    0x00, 0x00, 0x00, 0x10, 0x00, 0x00, 0x01, 0x03, 0x00, 0x00, 0x00, 0x00, 0x00, 0x00, 0x00, 0x05,
+];
+
+const UNKNOWN_COMMAND: [u8; 16] = [
+    0x00, 0x00, 0x00, 0x10, 0x80, 0x00, 0x00, 0x00, 0x00, 0x00, 0x00, 0x03, 0x00, 0x00, 0x00, 0x05,
+];
+
+#[test]
+fn faults_are_answered(rt: HostRuntime) -> Result<(), Fail> {
+    let mut session = session(rt.alloc())?;
+    answered(&mut session, &BIND_HEADER, &BIND_CUT_SHORT)?;
+    answered(&mut session, &DATA_SM, &UNKNOWN_COMMAND)?;
+    bound(&mut session, &BIND, &BIND_ANSWER)?;
+    let mut too_long = SUBMIT;
+    // sm_length stands before the five octets of the message.
+    too_long[44] = 0xFF;
+    answered(&mut session, &too_long, &MESSAGE_TOO_LONG)?;
+    // The response of a command that is unknown is ignored.
+    let mut response = DATA_SM;
+    response[4] = 0x80;
+    silent(&mut session, &response)
+}
+
+// Octets that close a session, which tells then whether a bind was lost.
+fn closes(session: &mut Session, octets: &[u8], bind_lost: bool) -> Result<(), Fail> {
+    let given = session.feed(octets)?;
+    if session.state() == SessionState::Closed && given.bind_lost == bind_lost {
+        Ok(())
+    } else {
+        Err("another word of the bind")?
+    }
+}
+
+// A bind and a bad length in one piece.
+fn bind_and_bad_length(alloc: Global) -> Result<Octets, Fail> {
+    let mut octets = Octets::copy_of(alloc, &BIND)?;
+    octets.append(&SHORT_LENGTH)?;
+    Ok(octets)
+}
+
+#[test]
+fn tells_lost_binds(rt: HostRuntime) -> Result<(), Fail> {
+    let mut never_bound = session(rt.alloc())?;
+    closes(&mut never_bound, &SHORT_LENGTH, false)?;
+    let mut at_once = session(rt.alloc())?;
+    closes(
+        &mut at_once,
+        bind_and_bad_length(rt.alloc())?.as_slice(),
+        true,
+    )?;
+    let mut later = session(rt.alloc())?;
+    bound(&mut later, &BIND, &BIND_ANSWER)?;
+    closes(&mut later, &LONG_LENGTH, true)?;
+    let mut unbound = session(rt.alloc())?;
+    closes(&mut unbound, &NET_SMPP, false)?;
+    let mut cut_off = session(rt.alloc())?;
+    bound(&mut cut_off, &BIND, &BIND_ANSWER)?;
+    assert!(rt; cut_off.close());
+    assert!(rt; !cut_off.close());
+    assert!(rt; !session(rt.alloc())?.close());
+    Ok(())
+}
+
+#[test]
+fn binds_once(rt: HostRuntime) -> Result<(), Fail> {
+    let mut session = session(rt.alloc())?;
+    answered(&mut session, &SUBMIT_HEADER, &SUBMIT_NOT_BOUND)?;
+    bound(&mut session, &BIND, &BIND_ANSWER)?;
+    assert!(rt; session.state().is_bound());
+    answered(&mut session, &BIND, &ALREADY_BOUND)?;
+    answered(&mut session, &SUBMIT_HEADER, &SUBMIT_CUT_SHORT)
+}
+
+// The priority of a submit_sm that is passed up as it came.
+fn passed_up(given: &Fed, octets: &[u8]) -> Option<u8> {
+    match given.actions.as_slice() {
+        [Action::Submit(request, priority)] if request.as_slice() == octets => Some(*priority),
+        _ => None,
+    }
+}
+
+#[test]
+fn passes_priorities_up(rt: HostRuntime) -> Result<(), Fail> {
+    let mut session = session(rt.alloc())?;
+    bound(&mut session, &BIND, &BIND_ANSWER)?;
+    for (flag, priority) in [(0, 0), (1, 1), (2, 2), (3, 3), (4, 3), (255, 3)] {
+        let mut submit = SUBMIT;
+        // Behind the header, an empty service_type, an empty source, a destination of 12 digits, esm_class and
+        // protocol_id.
+        submit[37] = flag;
+        let given = session.feed(&submit)?;
+        assert_eq!(rt; passed_up(&given, &submit), Some(priority));
+    }
+    Ok(())
+}
+
+fn message_id() -> MessageResp<'static>
+    ensures { IsMessageRespValue result }
+{
+    MessageResp {
+        message_id: OctetView::of(b"0000000001"),
+    }
+}
+
+fn state_of_message() -> QuerySmResp<'static>
+    ensures { IsQueryRespValue result }
+{
+    QuerySmResp {
+        message_id: OctetView::of(b"0000000001"),
+        final_date: OctetView::of(b"240229235958000+"),
+        message_state: 2,
+        error_code: 0,
+    }
+}
+
+// An answer of these octets.
+fn is(answer: Option<Octets>, wanted: &[u8]) -> bool {
+    match answer {
+        Some(octets) => octets.as_slice() == wanted,
+        None => false,
+    }
+}
+
+#[test]
+fn answers(rt: HostRuntime) -> Result<(), Fail> {
+    let mut session = session(rt.alloc())?;
+    let submitted = session.answer(2, Answer::Submitted(message_id()))?;
+    assert!(rt; is(submitted, &SUBMIT_ANSWER));
+    let queried = session.answer(8, Answer::Queried(state_of_message()))?;
+    assert!(rt; is(queried, &QUERY_SM_RESP));
+    let not_bound = Answer::Refused(Request::Submit, CommandStatus::ESME_RINVBNDSTS);
+    assert!(rt; is(session.answer(7, not_bound)?, &SUBMIT_NOT_BOUND));
+    session.close();
+    assert!(rt; session.answer(2, Answer::Cancelled)?.is_none());
+    Ok(())
+}
+
+// A letter for the kind of an action.
+fn letter(action: &Action) -> u8 {
+    match action {
+        Action::Send(_) => b's',
+        Action::Bound(_, _) => b'B',
+        Action::Submit(_, _) => b'S',
+        Action::Query(_) => b'Q',
+        Action::Cancel(_) => b'C',
+        Action::DeliverAnswered(_, _) => b'D',
+        Action::Unbound => b'U',
+    }
+}
+
+// Puts the letters of the actions behind the others.
+fn tell(letters: &mut Octets, actions: &Actions) -> Result<(), Fail> {
+    for action in actions.as_slice() {
+        letters.push(letter(action))?;
+    }
+    Ok(())
+}
+
+// The letters of all actions that the octets give in pieces of so many.
+fn letters_in_pieces(alloc: Global, octets: &[u8], piece: usize) -> Result<Octets, Fail> {
+    let mut session = session(alloc)?;
+    let mut letters = Octets::new(alloc);
+    for front in octets.chunks(piece.max(1)) {
+        tell(&mut letters, &session.feed(front)?.actions)?;
+    }
+    Ok(letters)
+}
+
+#[test]
+fn reads_net_smpp_in_pieces(rt: HostRuntime) -> Result<(), Fail> {
+    for piece in [1, 2, 3, 7, 16, 33, 34, 100, 243] {
+        let letters = letters_in_pieces(rt.alloc(), &NET_SMPP, piece)?;
+        assert_eq!(rt; letters.as_slice(), b"sBSQCssU".as_slice());
+    }
+    Ok(())
+}
+
+// A bind, the end of the connection, and an enquire_link that comes too late.
+fn calls(alloc: Global) -> Result<Vec<Call<'static>>, Fail>
+    ensures { IfOk result (λ calls. AllByRecursion IsCall calls.items) }
+{
+    let mut calls = Vec::new(alloc);
+    calls.push(Call::Feed(OctetView::of(&BIND)))?;
+    calls.push(Call::Close)?;
+    calls.push(Call::Feed(OctetView::of(&ENQUIRE)))?;
+    Ok(calls)
+}
+
+#[test]
+fn runs_calls(rt: HostRuntime) -> Result<(), Fail> {
+    let actions = run(rt.alloc(), accounts(rt.alloc())?, calls(rt.alloc())?)?;
+    assert!(rt; is_bind(&actions, &BIND_ANSWER));
+    assert_eq!(rt; actions.into_vec().len(), 2);
+    Ok(())
+}
+
+// Whether a session of these accounts binds.
+fn binds(alloc: Global, accounts: Arc<Accounts, Global>) -> bool {
+    let mut session = Session::new(alloc, accounts);
+    match session.feed(&BIND) {
+        Ok(given) => is_bind(&given.actions, &BIND_ANSWER),
+        Err(_) => false,
+    }
+}
+
+#[test]
+fn sessions_on_threads_share_accounts(rt: HostRuntime) -> Result<(), Fail> {
+    let alloc = rt.alloc();
+    let here = accounts(alloc)?;
+    let there = Arc::try_clone(&here)?;
+    let Ok(thread) = thread::spawn(&rt, move || binds(alloc, there)) else {
+        return Err("no thread")?;
+    };
+    let bound_here = binds(alloc, here);
+    assert!(rt; thread.join(&rt));
+    assert!(rt; bound_here);
+    Ok(())
+}
