@@ -16,7 +16,7 @@ use Rattle.sms_control.specs.declared.timers.Firing.TheVariants.{Idle, Again, Cl
 use Rattle.sms_control.specs.ControlReading.{cp_at}
 use Rattle.sms_control.specs.Timers.{begun_firing, opened_firing, sent_again}
 use Rattle.sms_control.specs.LinkStep.{Step, quiet, in_transaction, begin_step, reply_in, reply_step, answer_taken, opening_taken, data_taken, ack_taken, error_taken, frame_taken, take_step, fired, fire_step, is_same, has_begun, has_opened, opening_of, answer_of}
-use Rattle.sms_control.specs.LinkRuns.{Call, Begin, Reply, Take, Fire, Begins, Concludes, TakesTurns}
+use Rattle.sms_control.specs.LinkRuns.{Call, Begin, Reply, Take, Fire, TurnBegins, TurnEnds, TakesTurns}
 use Rattle.sms_control.proofs.LinkLaws.{either, state_of}
 
 -- what waits for its end is the transaction under way
@@ -38,7 +38,7 @@ waits_same f (Some i) (Some b) e h = e b ∙ h
 
 module _ (Rest : Option ℕ → LinkState → Type 0) (go : (w : Option ℕ) (s : LinkState) → Waits w s.begun → Rest w s) where
   begin_turns : (now : ℕ) (unit : List ℕ) (w : Option ℕ) (n : ℕ) (b : Option Begun) (o : Option Opened) (a p : Option (List ℕ)) → Waits w b
-      → (let t = begin_step now unit (state_of n b o a p) in Begins unit t.out.frames w (λ v. Rest v t.state))
+      → (let t = begin_step now unit (state_of n b o a p) in TurnBegins unit t.out.frames w (λ v. Rest v t.state))
   unfolding begin_step
   begin_turns now unit None n None o a p h = (refl, (n, refl, go (Some n) (begin_step now unit (state_of n None o a p)).state refl))
   begin_turns now unit (Some i) n None o a p h = absurd h
@@ -50,7 +50,7 @@ module _ (Rest : Option ℕ → LinkState → Type 0) (go : (w : Option ℕ) (s 
 
   module _ (Fits : ℕ → List ℕ → Type 0) (w : Option ℕ) where
     abbrev Goes : Step → Type 0
-    Goes t = Concludes Fits t.out.up w (λ v. Rest v t.state)
+    Goes t = TurnEnds Fits t.out.up w (λ v. Rest v t.state)
 
   answered_turns : (Fits : ℕ → List ℕ → Type 0) (frame unit : List ℕ) (t : Transaction) (w : Option ℕ) (n : ℕ) (b : Begun) (o : Option Opened) (a p : Option (List ℕ)) → Waits w (Some b) → Fits t.identifier unit
       → t.identifier ≡ b.identifier → (identifier : ℕ) × (w ≡ Some identifier) × Fits identifier unit

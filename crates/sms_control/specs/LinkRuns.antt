@@ -85,27 +85,27 @@ openings calls s = tally (λ c out. opens_by out.up) calls s
 -- ---- transactions of this side, in turn: while none is under way one may begin, and only what is under way ends
 
 -- CP-DATA that a call of begin sends begins a transaction where none waits for its end; with it waits its identifier.
-abbrev pub Begins : List ℕ → List (List ℕ) → Option ℕ → (Option ℕ → Type 0) → Type 0
-Begins unit [] waiting Rest = Rest waiting
-Begins unit (f ∷ fs) waiting Rest =
+abbrev pub TurnBegins : List ℕ → List (List ℕ) → Option ℕ → (Option ℕ → Type 0) → Type 0
+TurnBegins unit [] waiting Rest = Rest waiting
+TurnBegins unit (f ∷ fs) waiting Rest =
     (waiting ≡ None) × ((identifier : ℕ) × (f ∷ fs ≡ spelled (DataUnit (in_transaction FromOriginator identifier) unit) ∷ []) × Rest (Some identifier))
 
 -- What comes up ends what waits: an answer that fits its identifier, or a failure.
-abbrev pub Concludes : (ℕ → List ℕ → Type 0) → Option Up → Option ℕ → (Option ℕ → Type 0) → Type 0
-Concludes Fits None waiting Rest = Rest waiting
-Concludes Fits (Some (UnitUp FromOriginator unit)) waiting Rest = Rest waiting
-Concludes Fits (Some (UnitUp ToOriginator unit)) waiting Rest = ((identifier : ℕ) × (waiting ≡ Some identifier) × Fits identifier unit) × Rest None
-Concludes Fits (Some Failed) waiting Rest = IsSome waiting × Rest None
+abbrev pub TurnEnds : (ℕ → List ℕ → Type 0) → Option Up → Option ℕ → (Option ℕ → Type 0) → Type 0
+TurnEnds Fits None waiting Rest = Rest waiting
+TurnEnds Fits (Some (UnitUp FromOriginator unit)) waiting Rest = Rest waiting
+TurnEnds Fits (Some (UnitUp ToOriginator unit)) waiting Rest = ((identifier : ℕ) × (waiting ≡ Some identifier) × Fits identifier unit) × Rest None
+TurnEnds Fits (Some Failed) waiting Rest = IsSome waiting × Rest None
 
 -- An answer is CP-DATA to the originator with the identifier; a timer gives none.
 abbrev pub TakesTurns : List Call → LinkState → Option ℕ → Type 0
 TakesTurns [] s waiting = Unit {0}
-TakesTurns (Begin now unit ∷ cs) s waiting = Begins unit (begin_step now unit s).out.frames waiting (λ next. TakesTurns cs (begin_step now unit s).state next)
+TakesTurns (Begin now unit ∷ cs) s waiting = TurnBegins unit (begin_step now unit s).out.frames waiting (λ next. TakesTurns cs (begin_step now unit s).state next)
 TakesTurns (Reply now unit ∷ cs) s waiting = TakesTurns cs (reply_step now unit s).state waiting
 TakesTurns (Take frame ∷ cs) s waiting =
-    Concludes (λ identifier unit. cp_at frame ≡ Ok (DataUnit (in_transaction ToOriginator identifier) unit)) (take_step frame s).out.up waiting
+    TurnEnds (λ identifier unit. cp_at frame ≡ Ok (DataUnit (in_transaction ToOriginator identifier) unit)) (take_step frame s).out.up waiting
     (λ next. TakesTurns cs (take_step frame s).state next)
-TakesTurns (Fire now ∷ cs) s waiting = Concludes (λ identifier unit. ⊥) (fire_step now s).out.up waiting (λ next. TakesTurns cs (fire_step now s).state next)
+TakesTurns (Fire now ∷ cs) s waiting = TurnEnds (λ identifier unit. ⊥) (fire_step now s).out.up waiting (λ next. TakesTurns cs (fire_step now s).state next)
 
 -- ---- frames that timers send again
 

@@ -29,7 +29,7 @@ use Rattle.sms_link.specs.declared.ending.Upward.{Upward}
 use Rattle.sms_link.specs.declared.ending.Upward.TheVariants.{Ended}
 use Rattle.sms_link.specs.Ending.{unit_at, ended_by}
 use Rattle.sms_link.specs.LinkTurn.{LinkOf, Turn, new_link, still, carrying, of_kind, started, begun, answering, replied, heard}
-use Rattle.sms_link.specs.LinkCalls.{LinkCall, Begin, Reply, Take, Fire, turn, run, Begins, Concludes, TakesTurns}
+use Rattle.sms_link.specs.LinkCalls.{LinkCall, Begin, Reply, Take, Fire, turn, run, TurnBegins, TurnEnds, TakesTurns}
 use Rattle.sms_link.proofs.Known.{by_test, begin_is}
 
 -- ---- steps of the links' own: what comes up tells whether the transaction under way has ended
@@ -147,13 +147,13 @@ none_is (Some t) e = absurd cc
 
 module _ (Rest : Option Carried → LinkOf → Type 0) (go : (w : Option Carried) (l : LinkOf) → l.under_way ≡ w → Agrees l → Rest w l) where
   ended_turns : (ending : Carried → Ending) (w : Option Carried) (l m : LinkOf) → l.under_way ≡ w → is_some l.under_way ≡ true → Rest None m
-      → Concludes (option_map (λ (t : Carried). Ended t (ending t)) l.under_way) w (λ next. Rest next m)
+      → TurnEnds (option_map (λ (t : Carried). Ended t (ending t)) l.under_way) w (λ next. Rest next m)
   ended_turns ending w l m h some rest =
       let e = ended_is ending l.under_way some in
-      subst (λ (up : Option Upward). Concludes up w (λ next. Rest next m)) (sym e.2) (sym h ∙ e.1, rest)
+      subst (λ (up : Option Upward). TurnEnds up w (λ next. Rest next m)) (sym e.2) (sym h ∙ e.1, rest)
 
   heard_turns : (t : LinkState) (fs : List (List ℕ)) (up : Option Up) (w : Option Carried) (l : LinkOf) → l.under_way ≡ w → Agrees l → Moves l.links t up
-      → (let turn = heard (step_of t fs up) l in Concludes turn.out.up w (λ next. Rest next turn.link))
+      → (let turn = heard (step_of t fs up) l in TurnEnds turn.out.up w (λ next. Rest next turn.link))
   heard_turns t fs None w l h a k = go w (heard (step_of t fs None) l).link h (agrees_heard t fs None l a k)
   heard_turns t fs (Some (UnitUp FromOriginator unit)) w l h a k =
       let up : Option Up = Some (UnitUp FromOriginator unit) in go w (heard (step_of t fs up) l).link h (agrees_heard t fs up l a k)
@@ -165,10 +165,10 @@ module _ (Rest : Option Carried → LinkOf → Type 0) (go : (w : Option Carried
       ended_turns (λ transfer. Lost) w l m h (sym a ∙ k.0) (go None m refl k.1)
 
   begun_turns : (now reference : ℕ) (tag : Holder) (unit : List ℕ) (w : Option Carried) (l : LinkOf) → l.under_way ≡ w → Agrees l
-      → (let turn = begun now reference tag unit l in Begins (of_kind Data reference tag) turn.out.frames w (λ next. Rest next turn.link))
+      → (let turn = begun now reference tag unit l in TurnBegins (of_kind Data reference tag) turn.out.frames w (λ next. Rest next turn.link))
   begun_turns now reference tag unit w l h a =
       let carried = of_kind Data reference tag in
-      let P : Turn → Type 0 = λ turn. Begins carried turn.out.frames w (λ next. Rest next turn.link) in
+      let P : Turn → Type 0 = λ turn. TurnBegins carried turn.out.frames w (λ next. Rest next turn.link) in
       by_test P (is_busy l.links) (still l) (started carried (begin_step now unit l.links) l) (λ e. go w l h a)
       (λ e.
         let step = begin_step now unit l.links in
@@ -176,7 +176,7 @@ module _ (Rest : Option Carried → LinkOf → Type 0) (go : (w : Option Carried
         let busy : is_busy step.state ≡ true = ap (λ (s : Step). is_busy s.state) is in
         let none : w ≡ None = sym h ∙ none_is l.under_way (sym a ∙ e) in
         let rest : Rest (Some carried) (started carried step l).link = go (Some carried) (started carried step l).link refl busy in
-        subst (λ (fs : List (List ℕ)). Begins carried (carrying (Some carried) fs) w (λ next. Rest next (started carried step l).link)) (sym (ap (λ (s : Step). s.out.frames) is)) (none, rest))
+        subst (λ (fs : List (List ℕ)). TurnBegins carried (carrying (Some carried) fs) w (λ next. Rest next (started carried step l).link)) (sym (ap (λ (s : Step). s.out.frames) is)) (none, rest))
 
   replied_turns : (now : ℕ) (kind : Kind) (reference : ℕ) (tag : Holder) (unit : List ℕ) (w : Option Carried) (l : LinkOf) → l.under_way ≡ w → Agrees l → Rest w (replied now kind reference tag unit l).link
   replied_turns now kind reference tag unit w l h a =

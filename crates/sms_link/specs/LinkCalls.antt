@@ -91,19 +91,19 @@ AllSend (c ∷ cs) l before = Sends c before (turn c l).out.frames × AllSend cs
 -- ---- transfers of this side, in turn: while none is under way one may begin, and only the one under way ends
 
 -- a call of begin that sends something
-abbrev pub Begins : Carried → List Outgoing → Option Carried → (Option Carried → Type 0) → Type 0
-Begins transfer [] waiting Rest = Rest waiting
-Begins transfer (f ∷ fs) waiting Rest = (waiting ≡ None) × Rest (Some transfer)
+abbrev pub TurnBegins : Carried → List Outgoing → Option Carried → (Option Carried → Type 0) → Type 0
+TurnBegins transfer [] waiting Rest = Rest waiting
+TurnBegins transfer (f ∷ fs) waiting Rest = (waiting ≡ None) × Rest (Some transfer)
 
-abbrev pub Concludes : Option Upward → Option Carried → (Option Carried → Type 0) → Type 0
-Concludes None waiting Rest = Rest waiting
-Concludes (Some (Opened unit)) waiting Rest = Rest waiting
-Concludes (Some (Ended transfer ending)) waiting Rest = (waiting ≡ Some transfer) × Rest None
+abbrev pub TurnEnds : Option Upward → Option Carried → (Option Carried → Type 0) → Type 0
+TurnEnds None waiting Rest = Rest waiting
+TurnEnds (Some (Opened unit)) waiting Rest = Rest waiting
+TurnEnds (Some (Ended transfer ending)) waiting Rest = (waiting ≡ Some transfer) × Rest None
 
 abbrev pub TakesTurns : List LinkCall → LinkOf → Option Carried → Type 0
 TakesTurns [] l waiting = Unit {0}
 TakesTurns (Begin now reference tag unit ∷ cs) l waiting =
-    Begins (of_kind Data reference tag) (begun now reference tag unit l).out.frames waiting (λ next. TakesTurns cs (begun now reference tag unit l).link next)
+    TurnBegins (of_kind Data reference tag) (begun now reference tag unit l).out.frames waiting (λ next. TakesTurns cs (begun now reference tag unit l).link next)
 TakesTurns (Reply now kind reference tag unit ∷ cs) l waiting = TakesTurns cs (replied now kind reference tag unit l).link waiting
-TakesTurns (Take frame ∷ cs) l waiting = Concludes (taken frame l).out.up waiting (λ next. TakesTurns cs (taken frame l).link next)
-TakesTurns (Fire now ∷ cs) l waiting = Concludes (fired now l).out.up waiting (λ next. TakesTurns cs (fired now l).link next)
+TakesTurns (Take frame ∷ cs) l waiting = TurnEnds (taken frame l).out.up waiting (λ next. TakesTurns cs (taken frame l).link next)
+TakesTurns (Fire now ∷ cs) l waiting = TurnEnds (fired now l).out.up waiting (λ next. TakesTurns cs (fired now l).link next)
