@@ -1,18 +1,16 @@
 -- The fields: what is read is read in front of anything, and no field finds octets left over.
-use Rattle.std.proofs.Common.{◌≡◌, ℕ, zero, suc, ◌/◌, ◌%◌, ◌^◌, ◌<◌, ◌-◌, Bool, true, false, cond, not, ◌&&◌, ◌||◌, eqb, ltb, leb, List, [], ◌∷◌, ◌++◌, length, take, drop, Result, Ok, Err, Option, Some, None, refl, sym, ap, subst, ◌∙◌}
+use Rattle.std.proofs.Common.{◌≡◌, ℕ, zero, suc, ◌/◌, ◌%◌, ◌^◌, ◌-◌, Bool, true, false, cond, not, ◌&&◌, ◌||◌, eqb, ltb, leb, List, length, take, drop, Result, Ok, Err, Option, Some, None}
 use Rattle.std.specs.Option.{ok_or}
-use Rattle.sms_base.specs.Reading.{◌>>=◌, only_if, octet_in, run_in, AreOctets}
+use Rattle.sms_base.specs.Reading.{octet_in, run_in}
 use Rattle.sms_base.specs.TimeStamp.{scts_in}
 use Rattle.sms_base.specs.AddressKind.{is_name, type_of}
-use Rattle.sms_base.specs.declared.address.Address.{Address}
 use Rattle.sms_alphabet.specs.Packing.{value_in, tested}
 use Rattle.sms_alphabet.specs.declared.scheme.Coding.{Coding}
 use Rattle.sms_alphabet.specs.declared.scheme.Coding.TheVariants.{Septets, Octets, Ucs2, Compressed}
 use Rattle.sms_alphabet.specs.declared.unpacking.UnpackError.{UnpackError}
 use Rattle.sms_alphabet.specs.declared.unpacking.UnpackError.TheVariants.{TooShort, SpareBits as BitsOutside, NoMemory}
 use Rattle.sms_tpdu.specs.declared.fault.TpduFault.{TpduFault}
-use Rattle.sms_tpdu.specs.declared.fault.TpduFault.TheVariants.{Truncated, TrailingOctets, BadAddress, BadTime, UserDataTooLong, BadHeader, SpareBits}
-use Rattle.sms_tpdu.specs.declared.user_data.UserData.{UserData}
+use Rattle.sms_tpdu.specs.declared.fault.TpduFault.TheVariants.{Truncated, TrailingOctets, BadAddress, BadTime, UserDataTooLong, BadHeader}
 use Rattle.sms_tpdu.specs.AddressGrammar.{octets_for, name_length}
 use Rattle.sms_tpdu.specs.AddressReading.{two_digits_in, last_digit_in, digits_in, name_in, characters_in, type_of_number_in, address_in}
 use Rattle.sms_tpdu.specs.TimeReading.{completed, time_in}
@@ -52,13 +50,13 @@ found_untrailed None bad other e = other (let q : bad ≡ TrailingOctets = cc in
 
 -- ---- addresses
 
-two_untrailed : (xs : List ℕ) → two_digits_in xs ≡ Err TrailingOctets → ⊥
+pub two_untrailed : (xs : List ℕ) → two_digits_in xs ≡ Err TrailingOctets → ⊥
 unfolding two_digits_in
 two_untrailed xs e =
     untrailed_bind (octet_in Truncated xs) _ (octet_field_is.untrailed xs)
     (λ o p. untrailed_test (not (eqb (o.0 % 16) 15) && not (eqb (o.0 / 16) 15)) BadAddress _ address_isn't (λ q. absurd cc) p) e
 
-last_untrailed : (xs : List ℕ) → last_digit_in xs ≡ Err TrailingOctets → ⊥
+pub last_untrailed : (xs : List ℕ) → last_digit_in xs ≡ Err TrailingOctets → ⊥
 unfolding last_digit_in
 last_untrailed xs e =
     untrailed_bind (octet_in Truncated xs) _ (octet_field_is.untrailed xs)

@@ -9,12 +9,6 @@ use Rattle.sms_tpdu.specs.declared.fault.TpduFault.{TpduFault}
 use Rattle.sms_tpdu.specs.declared.fault.TpduFault.TheVariants.{Truncated, TrailingOctets, UnsupportedType, UnsupportedValidity}
 use Rattle.sms_tpdu.specs.declared.carrier.Carrier.{Carrier}
 use Rattle.sms_tpdu.specs.declared.carrier.Carrier.TheVariants.{InData, InAck, InError}
-use Rattle.sms_tpdu.specs.declared.parameters.Parameters.{Parameters}
-use Rattle.sms_tpdu.specs.declared.deliver.Deliver.{Deliver as DeliverOf}
-use Rattle.sms_tpdu.specs.declared.submit.Submit.{Submit as SubmitOf}
-use Rattle.sms_tpdu.specs.declared.submit_report.SubmitReport.{SubmitReport as SubmitReportOf}
-use Rattle.sms_tpdu.specs.declared.deliver_report.DeliverReport.{DeliverReport as DeliverReportOf}
-use Rattle.sms_tpdu.specs.declared.status_report.StatusReport.{StatusReport as StatusReportOf}
 use Rattle.sms_tpdu.specs.declared.down.Down.{Down}
 use Rattle.sms_tpdu.specs.declared.down.Down.TheVariants.{Deliver, StatusReport, SubmitReport}
 use Rattle.sms_tpdu.specs.declared.up.Up.{Up}
@@ -28,7 +22,7 @@ use Rattle.sms_tpdu.specs.TpduReading.{deliver_at, validity_in, submit_rest_in, 
 use Rattle.sms_tpdu.proofs.Carriers.{down_takes, down_again, up_takes, up_again}
 use Rattle.sms_tpdu.proofs.CutUnits.{deliver_cut, submit_cut}
 use Rattle.sms_tpdu.proofs.CutReports.{submit_report_cut, deliver_report_cut, status_report_cut}
-use Rattle.sms_tpdu.proofs.FaultSteps.{no_fault, fault_is, Cause, at_once, behind, cause_of, octet_field_is, Trails, trails_end, trails_bind, trails_test}
+use Rattle.sms_tpdu.proofs.FaultSteps.{no_fault, fault_is, at_once, behind, cause_of, octet_field_is, Trails, trails_end, trails_bind, trails_test}
 use Rattle.sms_tpdu.proofs.FaultFields.{address_field_is, time_field_is, data_field_is, validity_field_is, optional_octet_field_is, parameters_field_is}
 
 -- ---- octets left over

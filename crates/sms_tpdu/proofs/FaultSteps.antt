@@ -64,13 +64,18 @@ pure_field {X} x = record {
 pub bind_field : {X Y : Type 0} (r : Reading X) (k : X × List ℕ → Result (Y × List ℕ) TpduFault) → IsField r → ((x : X) → IsField (λ rest. k (x, rest))) → IsField (λ xs. r xs >>= k)
 bind_field {X} {Y} r k hr hk = record {
   front = λ xs y fits e.
-    let a = bind_ok (r xs) k y e in
-    let f = hr.front xs a.0 fits a.1 in
-    let rest = suffix_fits f.0 a.0.1 (subst AreOctets f.1.0 fits) in
-    let g = (hk a.0.0).front a.0.1 y rest a.2 in
-    let whole : xs ≡ (f.0 ++ g.0) ++ y.1 = f.1.0 ∙ ap (λ (l : List ℕ). f.0 ++ l) g.1.0 ∙ sym (append_assoc f.0 g.0 y.1) in
-    (f.0 ++ g.0, (whole, λ ys.
-    ap (λ (l : List ℕ). r l >>= k) (append_assoc f.0 g.0 ys) ∙ ap (λ (m : Result (X × List ℕ) TpduFault). m >>= k) (f.1.1 (g.0 ++ ys)) ∙ g.1.1 ys));
+      let a = bind_ok (r xs) k y e in
+      let f = hr.front xs a.0 fits a.1 in
+      let rest = suffix_fits f.0 a.0.1 (subst AreOctets f.1.0 fits) in
+      let g = (hk a.0.0).front a.0.1 y rest a.2 in
+      let whole : xs ≡ (f.0 ++ g.0) ++ y.1 = f.1.0 ∙ ap (λ (l : List ℕ). f.0 ++ l) g.1.0 ∙ sym (append_assoc f.0 g.0 y.1) in (
+        f.0 ++ g.0,
+        (
+          whole,
+          λ ys.
+              ap (λ (l : List ℕ). r l >>= k) (append_assoc f.0 g.0 ys) ∙ ap (λ (m : Result (X × List ℕ) TpduFault). m >>= k) (f.1.1 (g.0 ++ ys)) ∙ g.1.1 ys,
+        ),
+      );
   untrailed = λ xs e. untrailed_bind (r xs) k (hr.untrailed xs) (λ x p. (hk x.0).untrailed x.1 p) e;
 }
 
@@ -149,9 +154,9 @@ bind_completes {X} {Y} r k f hr hk = record {
         (g.0, (g.1.0, (g.1.1.0, ap (λ (m : Result (X × List ℕ) TpduFault). m >>= k) one ∙ g.1.1.1)))
   ];
   starts =
-    let s = hr.starts in
-    let t = (hk s.1.1.0).starts in
-    (s.0 ++ t.0, (joined_fits s.0 t.0 s.1.0 t.1.0, (t.1.1.0, ap (λ (m : Result (X × List ℕ) TpduFault). m >>= k) (extended r f s.0 s.1.1.0 s.1.0 s.1.1.1 t.0) ∙ t.1.1.1)));
+      let s = hr.starts in
+      let t = (hk s.1.1.0).starts in
+      (s.0 ++ t.0, (joined_fits s.0 t.0 s.1.0 t.1.0, (t.1.1.0, ap (λ (m : Result (X × List ℕ) TpduFault). m >>= k) (extended r f s.0 s.1.1.0 s.1.0 s.1.1.1 t.0) ∙ t.1.1.1)));
 }
 
 pub whole_completes : {X Z : Type 0} (r : Reading X) (k : X × List ℕ → Result Z TpduFault) → IsField r → Completes r → ((x : X) → CompletesWhole (λ rest. k (x, rest))) → CompletesWhole (λ xs. r xs >>= k)
@@ -170,9 +175,9 @@ whole_completes {X} {Z} r k f hr hk = record {
         (g.0, (g.1.0, (g.1.1.0, ap (λ (m : Result (X × List ℕ) TpduFault). m >>= k) one ∙ g.1.1.1)))
   ];
   starts =
-    let s = hr.starts in
-    let t = (hk s.1.1.0).starts in
-    (s.0 ++ t.0, (joined_fits s.0 t.0 s.1.0 t.1.0, (t.1.1.0, ap (λ (m : Result (X × List ℕ) TpduFault). m >>= k) (extended r f s.0 s.1.1.0 s.1.0 s.1.1.1 t.0) ∙ t.1.1.1)));
+      let s = hr.starts in
+      let t = (hk s.1.1.0).starts in
+      (s.0 ++ t.0, (joined_fits s.0 t.0 s.1.0 t.1.0, (t.1.1.0, ap (λ (m : Result (X × List ℕ) TpduFault). m >>= k) (extended r f s.0 s.1.1.0 s.1.0 s.1.1.1 t.0) ∙ t.1.1.1)));
 }
 
 pub end_completes : {Z : Type 0} (z : Z) → CompletesWhole (λ xs. end_in TrailingOctets xs >>= (λ u. Ok z))

@@ -21,3 +21,5 @@ pub mod MoreBits
 pub mod FaultSteps
 pub mod FaultFields
 pub mod FaultReasons
+pub mod Completing
+pub mod CompletingUnits

@@ -1,5 +1,5 @@
 -- User data and its length (3GPP TS 23.040 9.2.3.16, 9.2.3.24), in each coding, with and without a header.
-use Rattle.std.specs.Prelude.{◌≡◌, ℕ, ◌+◌, ◌-◌, ◌*◌, ◌/◌, ◌≤◌, List, [], ◌∷◌, length, drop, Bool, true, false, nat_le, if◌then◌else◌}
+use Rattle.std.specs.Prelude.{◌≡◌, ℕ, ◌+◌, ◌-◌, ◌≤◌, List, [], ◌∷◌, length, drop, Bool, true, false, nat_le, if◌then◌else◌}
 use Rattle.sms_alphabet.specs.Packing.{IsPacking, AreSeptets, packed_len}
 use Rattle.sms_alphabet.specs.UserDataLength.{fill_bits}
 pub use Rattle.sms_alphabet.specs.UserDataLength.{greatest_length, header_septets}

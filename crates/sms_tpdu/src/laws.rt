@@ -35,15 +35,17 @@ pub fn a_list_is_one_tpdu()
     ensures up { (carrier : Carrier) (octets : List ℕ) (one other : Up) → IsUp carrier octets one → IsUp carrier octets other → one ≡ other }
 {}
 
-/// Downwards octets are told to be left over only behind a TPDU, and octets that are refused for any other fault than
-/// missing octets are the front of none.
+/// Downwards octets are told to be missing only where some can be added so that a TPDU stands there, and to be left over
+/// only behind a TPDU; and octets that are refused for any other fault than missing octets are the front of none.
 pub fn a_fault_down_has_its_reason()
+    ensures truncated { (carrier : Carrier) (octets : List ℕ) → AreOctets octets → down_at carrier octets ≡ Err Truncated → (rest : List ℕ) × (tpdu : Down) × AreOctets rest × IsDown carrier (octets ++ rest) tpdu }
     ensures trailing { (carrier : Carrier) (octets : List ℕ) → AreOctets octets → down_at carrier octets ≡ Err TrailingOctets → (front : List ℕ) × (octet : ℕ) × (rest : List ℕ) × (tpdu : Down) × (octets ≡ front ++ octet ∷ rest) × IsDown carrier front tpdu }
     ensures other { (carrier : Carrier) (octets rest : List ℕ) (tpdu : Down) (fault : TpduFault) → down_at carrier octets ≡ Err fault → fault ≢ Truncated → IsDown carrier (octets ++ rest) tpdu → ⊥ }
 {}
 
 /// The same upwards.
 pub fn a_fault_up_has_its_reason()
+    ensures truncated { (carrier : Carrier) (octets : List ℕ) → AreOctets octets → up_at carrier octets ≡ Err Truncated → (rest : List ℕ) × (tpdu : Up) × AreOctets rest × IsUp carrier (octets ++ rest) tpdu }
     ensures trailing { (carrier : Carrier) (octets : List ℕ) → AreOctets octets → up_at carrier octets ≡ Err TrailingOctets → (front : List ℕ) × (octet : ℕ) × (rest : List ℕ) × (tpdu : Up) × (octets ≡ front ++ octet ∷ rest) × IsUp carrier front tpdu }
     ensures other { (carrier : Carrier) (octets rest : List ℕ) (tpdu : Up) (fault : TpduFault) → up_at carrier octets ≡ Err fault → fault ≢ Truncated → IsUp carrier (octets ++ rest) tpdu → ⊥ }
 {}
