@@ -1,10 +1,10 @@
 -- The sequence number of a deliver_sm is free, and those that wait stay different.
-use Rattle.std.proofs.Common.{◌≡◌, ◌⊎◌, inl, inr, ℕ, zero, suc, ◌+◌, ◌-◌, ◌<◌, ◌≤◌, Bool, true, false, cond, eqb, ltb, ◌||◌, List, [], ◌∷◌, ◌++◌, length, refl, sym, ap, ◌∙◌, arith}
+use Rattle.std.proofs.Common.{◌≡◌, ◌⊎◌, inl, inr, ℕ, zero, suc, ◌+◌, ◌-◌, ◌<◌, ◌≤◌, Bool, true, false, cond, eqb, ltb, List, [], ◌∷◌, ◌++◌, length, refl, sym, ap, ◌∙◌, arith}
 use Rattle.std.specs.List.{AllByRecursion}
 use Rattle.std.proofs.lemmas.Bool.{ltb-true, ltb-false}
 use Rattle.std.proofs.lemmas.Bool.Decides.{eqb_tells}
 use Rattle.std.proofs.lemmas.List.{length-append}
-use Rattle.smpp_session.specs.Windows.{is_among, without, number_after, window, numbers_from, first_free, free_number, IsSequenceNumber, AreDistinct, IsWindow}
+use Rattle.smpp_session.specs.Windows.{is_among, without, number_after, numbers_from, first_free, free_number, IsSequenceNumber, AreDistinct, IsWindow}
 
 -- ---- as the walk over the numbers goes
 

@@ -1,5 +1,5 @@
 -- What every turn, and so every list of calls, keeps.
-use Rattle.std.proofs.Common.{◌≡◌, ◌⊎◌, inl, inr, ℕ, ◌<◌, Bool, true, false, ◌&&◌, cond, eqb, ltb, List, [], ◌∷◌, ◌++◌, length, Option, Some, None, Result, Ok, Err, refl, sym, ap, subst, ◌∙◌, arith}
+use Rattle.std.proofs.Common.{◌≡◌, ◌⊎◌, inl, inr, ℕ, ◌<◌, Bool, true, false, cond, eqb, ltb, List, [], ◌∷◌, ◌++◌, length, Option, Some, None, Result, Ok, Err, refl, sym, ap, subst, ◌∙◌, arith}
 use Rattle.std.specs.List.{AllByRecursion}
 use Rattle.std.proofs.lemmas.Bool.{ltb-true}
 use Rattle.std.proofs.lemmas.List.{append-nil}
@@ -36,15 +36,15 @@ use Rattle.smpp_session.specs.declared.table.Judgement.{Judgement}
 use Rattle.smpp_session.specs.declared.table.Judgement.TheVariants.{Read, Refused, Ignored}
 use Rattle.smpp_session.specs.declared.turn.Turn.{Turn}
 use Rattle.smpp_session.specs.Answers.{answered}
-use Rattle.smpp_session.specs.Bindings.{is_bound, is_closed, bound_after, bound_behind, is_bind_lost}
+use Rattle.smpp_session.specs.Bindings.{is_bound, bound_after, bound_behind, is_bind_lost}
 use Rattle.smpp_session.specs.Calls.{called, delivering, sending, and_then, ran}
 use Rattle.smpp_session.specs.Logins.{login}
 use Rattle.smpp_session.specs.Promises.{ReadsAsItsCommand, bound_as_told}
-use Rattle.smpp_session.specs.Sessions.{SessionView, opened, turn_of, after_course, fed, if_room, fault_in, delivery_fault, number_to_send, after_delivery}
+use Rattle.smpp_session.specs.Sessions.{SessionView, opened, turn_of, fed, if_room, fault_in, delivery_fault, number_to_send}
 use Rattle.smpp_session.specs.SessionRun.{Course, fronted, one_more, stream}
 use Rattle.smpp_session.specs.SessionTable.{judged, judged_fault, refusal, with_bind_resp, without_bind_resp, bound_as, centre_name, response, priority_of, given, sent, closed, in_state, logged_in, bind_taken, unbound, delivered, taken, refused, read, judging, by_command, treated, bad_length}
 use Rattle.smpp_session.specs.Stream.{header_at, front_of}
-use Rattle.smpp_session.specs.Windows.{is_among, without, window, IsSequenceNumber, IsWindow}
+use Rattle.smpp_session.specs.Windows.{is_among, without, IsSequenceNumber, IsWindow}
 use Rattle.smpp_session.proofs.Cutting.{dropped}
 use Rattle.smpp_session.proofs.FreeNumbers.{all_append, after_is_number, free_is_free, free_is_number, window_added, window_taken, no_window}
 

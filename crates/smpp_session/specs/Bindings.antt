@@ -1,7 +1,7 @@
 -- Whether an account is bound, by the state of its session and by what the owner of the session was told.
 use Rattle.std.specs.Prelude.{List, [], ◌∷◌, Bool, true, false, ◌&&◌}
 use Rattle.smpp_session.specs.declared.action.Action.{Action}
-use Rattle.smpp_session.specs.declared.action.Action.TheVariants.{Send, Bound, Submit, Query, Cancel, DeliverAnswered, Unbound}
+use Rattle.smpp_session.specs.declared.action.Action.TheVariants.{Bound, Unbound}
 use Rattle.smpp_session.specs.declared.standing.SessionState.{SessionState}
 use Rattle.smpp_session.specs.declared.standing.SessionState.TheVariants.{Opened, BoundTx, BoundRx, BoundTrx, Closed}
 

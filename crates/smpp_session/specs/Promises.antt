@@ -1,6 +1,5 @@
 -- What a session promises over any list of calls.
-use Rattle.std.specs.Prelude.{◌≡◌, ℕ, List, Bool, false, Result, Ok, if◌then◌else◌}
-use Rattle.std.specs.List.{AllByRecursion}
+use Rattle.std.specs.Prelude.{◌≡◌, ℕ, List, Bool, false, Ok, if◌then◌else◌}
 use Rattle.smpp_pdu.specs.declared.body.Body.TheVariants.{SubmitSm as SubmitSmBody, QuerySm as QuerySmBody, CancelSm as CancelSmBody}
 use Rattle.smpp_pdu.specs.declared.message.Message.{Message}
 use Rattle.smpp_pdu.specs.declared.query.QuerySm.{QuerySm}
@@ -8,7 +7,7 @@ use Rattle.smpp_pdu.specs.declared.cancel.CancelSm.{CancelSm}
 use Rattle.smpp_pdu.specs.declared.pdu.Pdu.{Pdu}
 use Rattle.smpp_pdu.specs.PduReading.{pdu_at}
 use Rattle.smpp_session.specs.declared.action.Action.{Action}
-use Rattle.smpp_session.specs.declared.action.Action.TheVariants.{Send, Bound, Submit, Query, Cancel, DeliverAnswered, Unbound}
+use Rattle.smpp_session.specs.declared.action.Action.TheVariants.{Submit, Query, Cancel}
 use Rattle.smpp_session.specs.SessionTable.{priority_of}
 use Rattle.smpp_session.specs.Bindings.{is_bound, bound_behind, is_bind_lost}
 use Rattle.smpp_session.specs.Sessions.{SessionView, fed}

@@ -141,43 +141,56 @@ fn faults_are_answered(rt: HostRuntime) -> Result<(), Fail> {
     silent(&mut session, &response)
 }
 
-// Octets that close a session, which tells then whether a bind was lost.
-fn closes(session: &mut Session, octets: &[u8], bind_lost: bool) -> Result<(), Fail> {
-    let given = session.feed(octets)?;
-    if session.state() == SessionState::Closed && given.bind_lost == bind_lost {
-        Ok(())
-    } else {
-        Err("another word of the bind")?
-    }
-}
-
 // A bind and a bad length in one piece.
-fn bind_and_bad_length(alloc: Global) -> Result<Octets, Fail> {
-    let mut octets = Octets::copy_of(alloc, &BIND)?;
-    octets.append(&SHORT_LENGTH)?;
-    Ok(octets)
+const BIND_AND_SHORT_LENGTH: [u8; 49] = [
+    0x00, 0x00, 0x00, 0x21, 0x00, 0x00, 0x00, 0x09, 0x00, 0x00, 0x00, 0x00, 0x00, 0x00, 0x00, 0x01,
+    0x61, 0x70, 0x70, 0x31, 0x00, 0x73, 0x65, 0x63, 0x72, 0x65, 0x74, 0x00, 0x00, 0x34, 0x00, 0x00,
+    0x00, 0x00, 0x00, 0x00, 0x0F, 0x00, 0x00, 0x00, 0x15, 0x00, 0x00, 0x00, 0x00, 0x00, 0x00, 0x00,
+    0x02,
+];
+
+// Whether octets behind others lose a bind, if they close the session.
+fn closes(alloc: Global, before: &[u8], octets: &[u8]) -> Result<Option<bool>, Fail> {
+    let mut session = session(alloc)?;
+    let _ = session.feed(before)?;
+    let bind_lost = session.feed(octets)?.bind_lost;
+    if session.state() == SessionState::Closed {
+        Ok(Some(bind_lost))
+    } else {
+        Ok(None)
+    }
 }
 
 #[test]
 fn tells_lost_binds(rt: HostRuntime) -> Result<(), Fail> {
-    let mut never_bound = session(rt.alloc())?;
-    closes(&mut never_bound, &SHORT_LENGTH, false)?;
-    let mut at_once = session(rt.alloc())?;
-    closes(
-        &mut at_once,
-        bind_and_bad_length(rt.alloc())?.as_slice(),
-        true,
-    )?;
-    let mut later = session(rt.alloc())?;
-    bound(&mut later, &BIND, &BIND_ANSWER)?;
-    closes(&mut later, &LONG_LENGTH, true)?;
-    let mut unbound = session(rt.alloc())?;
-    closes(&mut unbound, &NET_SMPP, false)?;
-    let mut cut_off = session(rt.alloc())?;
-    bound(&mut cut_off, &BIND, &BIND_ANSWER)?;
-    assert!(rt; cut_off.close());
-    assert!(rt; !cut_off.close());
-    assert!(rt; !session(rt.alloc())?.close());
+    for (before, octets, bind_lost) in [
+        (b"".as_slice(), SHORT_LENGTH.as_slice(), false),
+        (b"".as_slice(), BIND_AND_SHORT_LENGTH.as_slice(), true),
+        (BIND.as_slice(), LONG_LENGTH.as_slice(), true),
+        (b"".as_slice(), NET_SMPP.as_slice(), false),
+        (
+            BIND_AND_SHORT_LENGTH.as_slice(),
+            SHORT_LENGTH.as_slice(),
+            false,
+        ),
+    ] {
+        assert_eq!(rt; closes(rt.alloc(), before, octets)?, Some(bind_lost));
+    }
+    Ok(())
+}
+
+// What the closing of a session tells, twice.
+fn closed_twice(alloc: Global, before: &[u8]) -> Result<(bool, bool), Fail> {
+    let mut session = session(alloc)?;
+    let _ = session.feed(before)?;
+    let first = session.close();
+    Ok((first, session.close()))
+}
+
+#[test]
+fn tells_binds_that_are_cut_off(rt: HostRuntime) -> Result<(), Fail> {
+    assert_eq!(rt; closed_twice(rt.alloc(), &BIND)?, (true, false));
+    assert_eq!(rt; closed_twice(rt.alloc(), &ENQUIRE)?, (false, false));
     Ok(())
 }
 

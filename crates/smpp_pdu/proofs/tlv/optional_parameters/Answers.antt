@@ -1,4 +1,4 @@
-use Rattle.std.proofs.Common.{◌≡◌, ◌∙◌, refl, sym, []}
+use Rattle.std.proofs.Common.{◌≡◌, ◌∙◌, sym, []}
 use Rattle.std.proofs.lemmas.Result.{err_from_is_err_and}
 use Rattle.smpp_pdu.proofs.TlvLaws.{tlv_shorter, one_step, last_step, no_step, walk_is}
 use Rattle.smpp_pdu.proofs.tlv.optional_parameters.Goals as goal

@@ -1,5 +1,4 @@
-use Rattle.std.proofs.Common.{◌≡◌, ◌<◌, Bool, true, false, not, refl, sym, ◌∙◌, arith}
-use Rattle.sms_base.proofs.Steps.{not_true}
+use Rattle.std.proofs.Common.{◌≡◌, ◌<◌, true, false, refl, sym, ◌∙◌, arith}
 use Rattle.smpp_session.specs.Windows.{is_among, free_number}
 use Rattle.smpp_session.proofs.FreeNumbers.{found_free, passed_over}
 use Rattle.smpp_session.proofs.standing.Standing.free_number.Goals as goal

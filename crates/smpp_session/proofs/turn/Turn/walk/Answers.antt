@@ -1,4 +1,4 @@
-use Rattle.std.proofs.Common.{◌≤◌, ◌+◌, ◌∙◌, length, arith}
+use Rattle.std.proofs.Common.{◌∙◌, arith}
 use Rattle.smpp_session.proofs.Cutting.{whole_fits, waits_behind, drops_behind, ends_behind, goes_on}
 use Rattle.smpp_session.proofs.turn.Turn.walk.Goals as goal
 
