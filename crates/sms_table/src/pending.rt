@@ -83,7 +83,17 @@ impl<'a, T: Drop + Row> Pending<'a, T> {
         ensures changes { IfOk result (λ s. s.changes ≡ self.entry.changes) }
         ensures fits { IfOk result (λ s. FitsIn s self.entry.base) }
     {
-        let spare = self.base.make_spare(alloc, self.changes.len())?;
+        let base = self.base;
+        self.settle_for(alloc, base)
+    }
+
+    /// The changes, with memory for the rows that they bring to that table: the one that the event began with, where
+    /// contracts can't see any more that it is.
+    pub fn settle_for(self, alloc: Global, table: &Table<T>) -> Result<Settled<T>, AllocError>
+        ensures changes { IfOk result (λ s. s.changes ≡ self.entry.changes) }
+        ensures fits { IfOk result (λ s. FitsIn s table.now) }
+    {
+        let spare = table.make_spare(alloc, self.changes.len())?;
         Ok(Settled {
             changes: self.changes,
             spare,
