@@ -34,9 +34,9 @@ use Rattle.sms_concat.specs.Splitting.{split_of}
 use Rattle.sms_handset.specs.declared.refusal.Refusal.{Refusal}
 use Rattle.sms_handset.specs.declared.refusal.Refusal.TheVariants.{NoEntry, StillOpen, OutboxFull, TooManyDiscarded}
 use Rattle.sms_handset.specs.Accepted.{Holds, IsOfDiscarded, IsPut, StoresAccepted}
-use Rattle.sms_handset.specs.Draft.{Core, Draft, draft_of, heard, put_entry, remove_entry, put_counters, put_out, put_mark, remove_mark, remove_out}
+use Rattle.sms_handset.specs.Draft.{Core, Draft, draft_of, link_of, put_entry, remove_entry, put_counters, put_out, put_mark, remove_mark, remove_out, with_turn}
 use Rattle.sms_handset.specs.Groups.{all_numbers, alone, completed, count_entry, drop_all, ended, entry_part, first_number, free_all, group_of, is_among, joined_content, joined_entry, joined_parts, keep, key_of, mark_of, marked, members, part_entry, part_number, part_numbers, part_with, parts_to, single_entry, store_part, store_single, with_part}
-use Rattle.sms_handset.specs.Keys.{entry_key, last_key, out_key}
+use Rattle.sms_handset.specs.Keys.{entry_key, last_key, notice_key, out_key}
 use Rattle.sms_base.specs.declared.holder.Holder.TheVariants.{Part as PartHolder, Report, Entry as EntryHolder, Memory}
 use Rattle.sms_concat.specs.declared.concat_key.ConcatReference.{ConcatReference}
 use Rattle.sms_concat.specs.declared.concat_key.ConcatReference.TheVariants.{EightBit, SixteenBit}
@@ -45,24 +45,23 @@ use Rattle.sms_concat.specs.declared.header_error.HeaderError.{HeaderError}
 use Rattle.sms_concat.specs.Concatenation.{counted, eight_bit_key, sixteen_bit_key, element_key, later, key_of as key_of_elements}
 use Rattle.sms_concat.specs.HeaderGrammar.{header_at}
 use Rattle.sms_concat.specs.UserData.{header_key, key_found}
-use Rattle.sms_control.specs.declared.out.Up.{Up}
-use Rattle.sms_control.specs.declared.out.Up.TheVariants.{Unit as UnitUp, Failed as FailedUp}
-use Rattle.sms_control.specs.declared.transaction.TransactionFlag.TheVariants.{FromOriginator, ToOriginator}
-use Rattle.sms_control.specs.LinkStep.{Step, is_busy, fire_step, take_step}
+use Rattle.sms_link.specs.declared.ending.Ending.{Ending}
+use Rattle.sms_link.specs.declared.ending.Ending.TheVariants.{Acknowledged as AcknowledgedEnd, Refused as RefusedEnd, Wrong as WrongEnd, Lost as LostEnd}
+use Rattle.sms_link.specs.declared.ending.Upward.{Upward}
+use Rattle.sms_link.specs.declared.ending.Upward.TheVariants.{Opened, Ended}
+use Rattle.sms_link.specs.LinkTurn.{Turn, fired, taken}
+use Rattle.sms_control.specs.LinkStep.{is_busy}
 use Rattle.sms_control.specs.Timers.{later as later_moment}
 use Rattle.sms_relay.specs.declared.fault.RelayFault.{RelayFault}
 use Rattle.sms_relay.specs.declared.frame.Rp.{Rp}
 use Rattle.sms_relay.specs.declared.frame.Rp.TheVariants.{DataUnit, AckUnit, ErrorUnit, Smma}
 use Rattle.sms_relay.specs.RelayReading.{down_at as unit_at}
-use Rattle.sms_handset.specs.declared.answers.Verdict.{Verdict}
-use Rattle.sms_handset.specs.declared.answers.Verdict.TheVariants.{Acknowledged, Temporary, Duplicate, Refused, Lost}
 use Rattle.sms_handset.specs.declared.notice.Notice.{Notice}
 use Rattle.sms_base.specs.declared.carried.Carried.{Carried}
-use Rattle.sms_handset.specs.Answers.{verdict_of}
-use Rattle.sms_handset.specs.HandsetEvent.{acted, at_moment, deleted, discarded, failed, frame_came, frame_heard, ticked, timers_fired, went_up, wrote}
+use Rattle.sms_handset.specs.HandsetEvent.{acted, at_moment, deleted, discarded, frame_came, frame_heard, ticked, timed_out, timers_fired, went_up, wrote}
 use Rattle.sms_handset.specs.OwnersActs.{content_of_text, count_split, delete, delete_in, delete_out, discard, discard_at, discard_group, discard_in, discard_members, fits_outbox, is_open_part, write, write_part, write_parts, write_split, write_to, written}
-use Rattle.sms_handset.specs.MemoryAvailable.{first_notice, freed, has_room, notice_concluded, notice_ended, notice_failed, send_notice, tram, want_notice}
-use Rattle.sms_handset.specs.Outbox.{conclude, entry_concluded, first_due, follow, holder_concluded, is_fired, is_sending, lapse, lapse_rows, lost, offer, offer_after, offer_entry, offer_message, offer_wanted, transfer_concluded}
+use Rattle.sms_handset.specs.MemoryAvailable.{first_notice, freed, has_room, notice_concluded, notice_ended, notice_failed, put_notice, remove_notice, send_notice, tram, want_notice}
+use Rattle.sms_handset.specs.Outbox.{entry_concluded, first_due, first_fired, follow, holder_concluded, is_notice_next, is_sending, lapse, lapse_rows, lost, offer, offer_after, offer_entry, offer_message, offer_wanted, transfer_ended}
 use Rattle.sms_handset.specs.Receiving.{accept, acknowledge, data_came, deliver_came, is_double, member_came, new_part_came, no_room, note, part_came, reported, single_came, tpdu_came, unit_came}
 use Rattle.sms_handset.specs.References.{held_references, is_unfinished, next_free}
 
@@ -362,78 +361,70 @@ offer_entry_kept (Some o) d = record { entries = refl; changed = refl; last = re
 
 offer_wanted_kept : (d : Draft) → Kept d (offer_wanted d)
 offer_wanted_kept d =
-    cond_both (nat_lt 0 d.wanted && nat_lt d.rows.counters.notice 4294967295)
-    (first_notice d.rows.counters.notice (next_free d.rows.counters.reference (held_references None d.rows.outbox)) d) (offer_message d) (λ (z : Draft). Kept d z)
+    cond_both (is_notice_next d)
+    (first_notice d.rows.counters.notice (next_free d.rows.counters.reference (held_references d.notices d.rows.outbox)) d) (offer_message d) (λ (z : Draft). Kept d z)
     (λ t. record { entries = refl; changed = refl; last = refl; number = refl }) (λ t. offer_entry_kept (first_due d.moment d.rows.outbox) d)
 
 offer_after_kept : (n : Option Notice) (d : Draft) → Kept d (offer_after n d)
 offer_after_kept None d = offer_wanted_kept d
-offer_after_kept (Some n) d =
-    cond_both (is_fired d.moment n.due) (send_notice n d) (offer_message d) (λ (z : Draft). Kept d z)
-    (λ t. record { entries = refl; changed = refl; last = refl; number = refl }) (λ t. offer_entry_kept (first_due d.moment d.rows.outbox) d)
+offer_after_kept (Some n) d = record { entries = refl; changed = refl; last = refl; number = refl }
 
 pub follow_kept : (d : Draft) → Kept d (follow d)
 follow_kept d =
     let e : Draft = lapse d in
     kept_then d e (offer e) (lapse_kept d)
-    (cond_both (is_busy e.links) e (offer_after e.notice e) (λ (z : Draft). Kept e z) (λ t. kept e) (λ t. offer_after_kept e.notice e))
+    (cond_both (is_busy e.links) e (offer_after (first_fired e.moment e.notices) e) (λ (z : Draft). Kept e z) (λ t. kept e) (λ t. offer_after_kept (first_fired e.moment e.notices) e))
 
 -- ---- a frame
 
 notice_failed_none : (n : Notice) (d : Draft) → d.changes.last ≡ [] → (notice_failed n d).changes.last ≡ []
 notice_failed_none n d e =
-    cond_both n.is_second (record d { notice = None }) (record d { notice = Some (record n { is_second = true; due = Some (later_moment d.moment tram) }) }) (λ (z : Draft). z.changes.last ≡ []) (λ t. e) (λ t. e)
+    cond_both n.is_second (remove_notice n.number d) (put_notice (record n { is_second = true; due = Some (later_moment d.moment tram) }) d) (λ (z : Draft). z.changes.last ≡ []) (λ t. e) (λ t. e)
 
-notice_none : (v : Verdict) (n : Notice) (d : Draft) → d.changes.last ≡ [] → (notice_ended v n d).changes.last ≡ []
-notice_none Acknowledged n d e = e
-notice_none Temporary n d e = notice_failed_none n d e
-notice_none Duplicate n d e = notice_failed_none n d e
-notice_none Refused n d e = notice_failed_none n d e
-notice_none Lost n d e = notice_failed_none n d e
+notice_none : (v : Ending) (n : Notice) (d : Draft) → d.changes.last ≡ [] → (notice_ended v n d).changes.last ≡ []
+notice_none AcknowledgedEnd n d e = e
+notice_none (RefusedEnd cause tpdu) n d e = notice_failed_none n d e
+notice_none WrongEnd n d e = notice_failed_none n d e
+notice_none LostEnd n d e = notice_failed_none n d e
 
-concluded_none : (u : Option (Result Rp RelayFault)) (n : Option Notice) (d : Draft) → d.changes.last ≡ [] → (notice_concluded u n d).changes.last ≡ []
-concluded_none u None d e = e
-concluded_none u (Some n) d e = notice_none (verdict_of n.reference u) n d e
+concluded_none : (v : Ending) (n : Option Notice) (d : Draft) → d.changes.last ≡ [] → (notice_concluded v n d).changes.last ≡ []
+concluded_none v None d e = e
+concluded_none v (Some n) d e = notice_none v n d e
 
-entry_none : (u : Option (Result Rp RelayFault)) (o : Option OutEntry) (d : Draft) → d.changes.last ≡ [] → (entry_concluded u o d).changes.last ≡ []
-entry_none u None d e = e
-entry_none u (Some o) d e = e
+entry_none : (v : Ending) (o : Option OutEntry) (d : Draft) → d.changes.last ≡ [] → (entry_concluded v o d).changes.last ≡ []
+entry_none v None d e = e
+entry_none v (Some o) d e = e
 
-holder_none : (u : Option (Result Rp RelayFault)) (k : Holder) (d : Draft) → d.changes.last ≡ [] → (holder_concluded u k d).changes.last ≡ []
-holder_none u (PartHolder i n) d e = e
-holder_none u (Report i) d e = e
-holder_none u (EntryHolder n) d e = entry_none u (row_at out_key n d.rows.outbox) d e
-holder_none u (Memory n) d e = concluded_none u d.notice d e
+holder_none : (v : Ending) (k : Holder) (d : Draft) → d.changes.last ≡ [] → (holder_concluded v k d).changes.last ≡ []
+holder_none v (PartHolder i n) d e = e
+holder_none v (Report i) d e = e
+holder_none v (EntryHolder n) d e = entry_none v (row_at out_key n d.rows.outbox) d e
+holder_none v (Memory n) d e = concluded_none v (row_at notice_key n d.notices) d e
 
-transfer_none : (u : Option (Result Rp RelayFault)) (c : Option Carried) (d : Draft) → d.changes.last ≡ [] → (transfer_concluded u c d).changes.last ≡ []
-transfer_none u None d e = e
-transfer_none u (Some c) d e = holder_none u c.tag d e
-
-up_law : (marks : List Mark) (tag : Holder) (up : Option Up) (d : Draft) → d.changes.last ≡ [] → d.rows.marks ≡ marks → Law marks (went_up tag up d)
+up_law : (marks : List Mark) (tag : Holder) (up : Option Upward) (d : Draft) → d.changes.last ≡ [] → d.rows.marks ≡ marks → Law marks (went_up tag up d)
 up_law marks tag None d e same = none_accepted marks d e
-up_law marks tag (Some (UnitUp FromOriginator unit)) d e same = unit_law marks tag unit (unit_at unit) d e same
-up_law marks tag (Some (UnitUp ToOriginator unit)) d e same =
-    none_accepted marks (conclude (Some (unit_at unit)) d) (transfer_none (Some (unit_at unit)) d.under_way (record d { under_way = None }) e)
-up_law marks tag (Some FailedUp) d e same = none_accepted marks (conclude None d) (transfer_none None d.under_way (record d { under_way = None }) e)
+up_law marks tag (Some (Opened unit)) d e same = unit_law marks tag unit (unit_at unit) d e same
+up_law marks tag (Some (Ended transfer ending)) d e same = none_accepted marks (transfer_ended transfer ending d) (holder_none ending transfer.tag d e)
 
 pub frame_stores : (octets : List ℕ) (tag : Holder) (c : Core) → StoresAccepted c.rows.marks (frame_came octets tag c).changes (frame_came octets tag c).rows
 frame_stores octets tag c =
-    let step : Step = take_step octets c.links in
-    let d : Draft = frame_heard tag step (draft_of c) in
-    kept_law c.rows.marks d (follow d) (follow_kept d) (up_law c.rows.marks tag step.out.up (heard step (draft_of c)) refl refl)
+    let turn : Turn = taken octets (link_of (draft_of c)) in
+    let d : Draft = frame_heard tag turn (draft_of c) in
+    kept_law c.rows.marks d (follow d) (follow_kept d) (up_law c.rows.marks tag turn.out.up (with_turn turn (draft_of c)) refl refl)
 
 -- ---- other events accept nothing
 
-failed_none : (up : Option Up) (d : Draft) → d.changes.last ≡ [] → (failed up d).changes.last ≡ []
-failed_none None d e = e
-failed_none (Some (UnitUp flag unit)) d e = e
-failed_none (Some FailedUp) d e = transfer_none None d.under_way (record d { under_way = None }) e
+timed_out_none : (up : Option Upward) (d : Draft) → d.changes.last ≡ [] → (timed_out up d).changes.last ≡ []
+timed_out_none None d e = e
+timed_out_none (Some (Opened unit)) d e = e
+timed_out_none (Some (Ended transfer ending)) d e = holder_none ending transfer.tag d e
 
 pub tick_stores : (now : ℕ) (c : Core) → StoresAccepted c.rows.marks (ticked now c).changes (ticked now c).rows
 tick_stores now c =
-    let step : Step = fire_step (max c.moment now) c.links in
-    let d : Draft = timers_fired step (at_moment now (draft_of c)) in
-    kept_law c.rows.marks d (follow d) (follow_kept d) (none_accepted c.rows.marks d (failed_none step.out.up (heard step (at_moment now (draft_of c))) refl))
+    let o : Draft = at_moment now (draft_of c) in
+    let turn : Turn = fired o.moment (link_of o) in
+    let d : Draft = timers_fired turn o in
+    kept_law c.rows.marks d (follow d) (follow_kept d) (none_accepted c.rows.marks d (timed_out_none turn.out.up (with_turn turn o) refl))
 
 abbrev NoneIfDone : Result Draft Refusal → Type 0
 NoneIfDone (Ok d) = d.changes.last ≡ []

@@ -4,6 +4,7 @@ pub mod CountedSlots
 pub mod FewNumbers
 pub mod FindingGroups
 pub mod FreeReferences
+pub mod HandsetLink
 pub mod GroupStages
 pub mod Indexing
 pub mod Judging

@@ -8,10 +8,9 @@ use Rattle.sms_handset.specs.declared.refusal.PlanError.{PlanError}
 use Rattle.sms_handset.specs.declared.refusal.PlanError.TheVariants.{Refused, NoMemory}
 use Rattle.sms_handset.specs.declared.refusal.Refusal.{Refusal}
 use Rattle.sms_handset.specs.declared.rows.Rows.{Rows}
-use Rattle.sms_handset.specs.declared.rows.Changes.{Changes}
 use Rattle.sms_handset.specs.Accepted.{StoresAccepted}
-use Rattle.sms_handset.specs.Draft.{Core, Draft, Standing, rows_after}
-use Rattle.sms_handset.specs.HandsetEvent.{deleted, discarded, frame_came, ticked, wrote}
+use Rattle.sms_handset.specs.Draft.{Changes, Core, Draft, Standing, rows_after}
+use Rattle.sms_handset.specs.HandsetEvent.{deleted, discarded, frame_came, tag_of, ticked, wrote}
 use Rattle.sms_handset.specs.Planning.{IsPlanOf, OfDelete, OfDiscard, OfFrame, OfTick, OfWrite, Outcome, Plan, Plans, Rests, RestsIfDone, Stores}
 use Rattle.sms_handset.specs.Trying.{TriesPlan}
 use Rattle.sms_handset.proofs.Accepting.{LawIfDone, frame_stores, tick_stores, write_stores, delete_stores, discard_stores}
@@ -41,13 +40,13 @@ tries_store (Ok p) s w rests stores h =
 tries_store (Err e) s w rests stores h = tt
 
 pub event_stores : (event : HandsetEvent) (r : Result Plan PlanError) (s : Standing)
-    → OfFrame event (λ octets tag. Plans r s (Ok (frame_came octets tag s.core)))
+    → OfFrame event (λ octets tag. Plans r s (Ok (frame_came octets (tag_of tag) s.core)))
     → OfTick event (λ now. Plans r s (Ok (ticked now s.core)))
     → OfWrite event (λ text to report. TriesPlan r s (wrote text to report s.core))
     → OfDelete event (λ entry. Plans r s (deleted entry s.core))
     → OfDiscard event (λ entry. Plans r s (discarded entry s.core))
     → IfOk r (Stores s)
-event_stores (Frame octets tag) r s a b c d e = plans_store r s (Ok (frame_came octets tag s.core)) (frame_rests octets tag s.core) (frame_stores octets tag s.core) a
+event_stores (Frame octets tag) r s a b c d e = plans_store r s (Ok (frame_came octets (tag_of tag) s.core)) (frame_rests octets (tag_of tag) s.core) (frame_stores octets (tag_of tag) s.core) a
 event_stores (Tick now) r s a b c d e = plans_store r s (Ok (ticked now s.core)) (tick_rests now s.core) (tick_stores now s.core) b
 event_stores (Write text to report) r s a b c d e = tries_store r s (wrote text to report s.core) (write_rests text to report s.core) (write_stores text to report s.core) c
 event_stores (Delete entry) r s a b c d e = plans_store r s (deleted entry s.core) (delete_rests entry s.core) (delete_stores entry s.core) d

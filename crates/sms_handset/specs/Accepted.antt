@@ -14,8 +14,8 @@ use Rattle.sms_handset.specs.declared.entry.Message.{Message}
 use Rattle.sms_handset.specs.declared.entry.Message.TheVariants.{Single, Part, Joined}
 use Rattle.sms_handset.specs.declared.last.Last.{Last}
 use Rattle.sms_handset.specs.declared.mark.Mark.{Mark}
-use Rattle.sms_handset.specs.declared.rows.Changes.{Changes}
 use Rattle.sms_handset.specs.declared.rows.Rows.{Rows}
+use Rattle.sms_handset.specs.Draft.{Changes}
 use Rattle.sms_handset.specs.Groups.{carried_part, group_of, key_of, mark_of}
 
 -- The message has the DELIVER's source and user data: it is that DELIVER, or was joined from parts of which it is one.

@@ -3,6 +3,7 @@ use Rattle.std.specs.Prelude.{ℕ}
 use Rattle.sms_handset.specs.declared.entry.Entry.{Entry}
 use Rattle.sms_handset.specs.declared.last.Last.{Last}
 use Rattle.sms_handset.specs.declared.mark.Mark.{Mark}
+use Rattle.sms_handset.specs.declared.notice.Notice.{Notice}
 use Rattle.sms_handset.specs.declared.out_entry.OutEntry.{OutEntry}
 
 abbrev pub entry_key : Entry → ℕ
@@ -16,3 +17,7 @@ out_key o = o.number
 
 abbrev pub mark_key : Mark → ℕ
 mark_key m = m.number
+
+-- of the RP-SMMA that were sent and have not ended
+abbrev pub notice_key : Notice → ℕ
+notice_key n = n.number

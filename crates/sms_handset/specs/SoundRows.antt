@@ -75,10 +75,12 @@ IsLast l = IsDelivered l.tpdu ⊎ ((r : StatusReportOf) × (down_at InData l.tpd
 
 -- ---- the outbox
 
+-- the octets are the SUBMIT of the entry, as it is sent first, and fit the unit that carries it
 abbrev pub IsSubmitted : OutEntry → Type 0
 IsSubmitted o =
     (s : Submit)
-    × ((submit_at o.tpdu ≡ Ok s) × (s.destination_address ≡ o.destination) × (s.message_reference ≡ o.message_reference) × (s.reject_duplicates ≡ false))
+    × ((submit_at o.tpdu ≡ Ok s) × (s.destination_address ≡ o.destination) × (s.message_reference ≡ o.message_reference) × (s.reject_duplicates ≡ false)
+    × (length o.tpdu ≤ 200))
 
 -- the number is no entry's of the inbox
 abbrev pub IsApart : ℕ → List Entry → Type 0

@@ -15,8 +15,6 @@ mod groups;
 mod handset;
 mod happening;
 mod joining;
-#[cfg(test)]
-mod kept;
 mod last;
 pub mod laws;
 mod mark;
@@ -24,25 +22,13 @@ mod members;
 mod no_memory;
 mod notice;
 mod notices;
-mod octet_copy;
 mod open_group;
 mod open_groups;
 mod out_entry;
 mod out_view;
-#[cfg(test)]
-mod outbox_tests;
-mod outgoing;
 mod owner;
-#[cfg(test)]
-mod pair;
-#[cfg(test)]
-mod plain;
 mod planned;
-#[cfg(test)]
-mod random_tests;
 mod receiving;
-#[cfg(test)]
-mod reference_tests;
 mod references;
 mod refusal;
 mod rows;
@@ -51,8 +37,6 @@ mod setup;
 mod stored;
 mod storing;
 mod submit_tpdu;
-#[cfg(test)]
-mod tests;
 mod text_view;
 mod writing;
 
@@ -66,7 +50,6 @@ pub use mark::Mark;
 pub use no_memory::NoMemory;
 pub use notice::Notice;
 pub use out_entry::{EntryState, OutEntry};
-pub use outgoing::Outgoing;
 pub use planned::Planned;
 pub use refusal::{PlanError, Refusal};
 pub use rows::{Changes, Rows};

@@ -16,10 +16,9 @@ use crate::last::Last;
 use crate::mark::Mark;
 use crate::members::Members;
 use crate::no_memory::NoMemory;
-use crate::octet_copy::copy_of;
 use crate::open_group::Regrouping;
 use crate::out_entry::OutEntry;
-use sms_base::{Holder, Kind, OctetView};
+use sms_base::{Holder, Kind, OctetView, Octets};
 use sms_relay::{RelayFault, Rp, RpCause, read_down as read_unit, write_up};
 use sms_tpdu::{Carrier, Deliver, Down, StatusReport, read_down};
 
@@ -81,7 +80,7 @@ impl<'a> Draft<'a> {
     fn accept(&mut self, reference: u8, tag: Holder, tpdu: &[u8]) -> Result<(), NoMemory>
         ensures { OnOk result (self.new ≡ accept_of reference tag tpdu.now self.old) }
     {
-        let tpdu = copy_of(self.alloc, tpdu)?;
+        let tpdu = Octets::copy_of(self.alloc, tpdu)?;
         self.put_last(Last { reference, tpdu })?;
         self.acknowledge(reference, tag)
     }

@@ -7,7 +7,7 @@ use crate::mark::Mark;
 use crate::out_entry::OutEntry;
 use crate::setup::Setup;
 use sms_base::Listed;
-use sms_table::Change;
+use sms_table::Settled;
 
 /// All that a handset stores, and its setup, which is handed in.
 #[derive(Debug, Drop)]
@@ -21,11 +21,11 @@ pub struct Rows {
 }
 
 /// What an event changes of the rows: of each list in order, and the counters if they change.
-#[derive(Debug, Drop)]
+#[derive(Drop)]
 pub struct Changes {
-    pub entries: Listed<Change<Entry>>,
-    pub last: Listed<Change<Last>>,
-    pub outbox: Listed<Change<OutEntry>>,
-    pub marks: Listed<Change<Mark>>,
+    pub entries: Settled<Entry>,
+    pub last: Settled<Last>,
+    pub outbox: Settled<OutEntry>,
+    pub marks: Settled<Mark>,
     pub counters: Option<Counters>,
 }

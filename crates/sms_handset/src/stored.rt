@@ -1,11 +1,12 @@
 //! The rows that a handset keeps.
 ghost use Rattle.std.specs.Prelude.{◌≡◌};
-ghost use Rattle.sms_handset.specs.Keys.{entry_key, last_key, mark_key, out_key};
+ghost use Rattle.sms_handset.specs.Keys.{entry_key, last_key, mark_key, notice_key, out_key};
 
 use crate::counters::Counters;
 use crate::entry::Entry;
 use crate::last::Last;
 use crate::mark::Mark;
+use crate::notice::Notice;
 use crate::open_groups::OpenGroups;
 use crate::out_entry::OutEntry;
 use crate::setup::Setup;
@@ -37,6 +38,14 @@ impl Row for OutEntry {
 
 impl Row for Mark {
     ghost key = { mark_key };
+
+    fn key(&self) -> Key {
+        Key::of(u64::from(self.number))
+    }
+}
+
+impl Row for Notice {
+    ghost key = { notice_key };
 
     fn key(&self) -> Key {
         Key::of(u64::from(self.number))

@@ -13,7 +13,6 @@ use crate::joining::{joined_content, tpdu_of};
 use crate::mark::Mark;
 use crate::members::Members;
 use crate::no_memory::NoMemory;
-use crate::octet_copy::copy_of;
 use crate::open_group::{OpenGroup, Regrouping, StoredPart};
 use crate::open_groups::with_part;
 use sms_base::Octets;
@@ -71,7 +70,7 @@ impl<'a> Draft<'a> {
         requires { self.old.rows.counters.entry < 4294967295 }
         ensures { OnOk result (self.new ≡ store_single_of tpdu.now self.old) }
     {
-        let tpdu = copy_of(self.alloc, tpdu)?;
+        let tpdu = Octets::copy_of(self.alloc, tpdu)?;
         let number = self.count_entry();
         self.put_entry(Entry {
             number,
@@ -92,8 +91,8 @@ impl<'a> Draft<'a> {
         ensures moves { OnOk result (self.new ≡ store_part_of group.now number tpdu.now members.now self.old) }
         ensures groups { IfOk result (λ change. change ≡ stored_groups group.now number tpdu.now members.now self.old) }
     {
-        let stored = copy_of(self.alloc, tpdu)?;
-        let kept = copy_of(self.alloc, tpdu)?;
+        let stored = Octets::copy_of(self.alloc, tpdu)?;
+        let kept = Octets::copy_of(self.alloc, tpdu)?;
         let entry = self.count_entry();
         let part = part_of(entry, group, number, kept);
         self.put_entry(part_of(entry, group, number, stored))?;
@@ -156,7 +155,7 @@ impl<'a> Draft<'a> {
     pub(crate) fn free(&mut self, entry: &Entry) -> Result<(), NoMemory>
         ensures { OnOk result (self.new ≡ put_entry_of (alone entry.now) self.old) }
     {
-        let tpdu = copy_of(self.alloc, tpdu_of(&entry.message))?;
+        let tpdu = Octets::copy_of(self.alloc, tpdu_of(&entry.message))?;
         self.put_entry(Entry {
             number: entry.number,
             slots: entry.slots,
@@ -168,7 +167,7 @@ impl<'a> Draft<'a> {
     pub(crate) fn mark(&mut self, number: u8, mark: &Mark) -> Result<(), NoMemory>
         ensures { OnOk result (self.new ≡ marked_of number mark.now self.old) }
     {
-        let mut seen = copy_of(self.alloc, mark.seen.as_slice())?;
+        let mut seen = Octets::copy_of(self.alloc, mark.seen.as_slice())?;
         seen.push(number)?;
         if has_every(mark.group.total, seen.as_slice()) {
             return self.remove_mark(mark.number);
