@@ -3,4 +3,7 @@ pub mod LinkLaws
 pub mod ReplyLaws
 pub mod TickLaws
 pub mod RepeatLaws
+pub mod TurnLaws
+pub mod AnswerLaws
+pub mod RepetitionLaws
 pub mod FiringCases

@@ -91,7 +91,7 @@ fresh_sound = record { present = tt; last = tt }
 
 -- ---- a repeat is quiet
 
-same_itself : (xs : List ℕ) → bytes_eq xs xs ≡ true
+pub same_itself : (xs : List ℕ) → bytes_eq xs xs ≡ true
 same_itself xs = (bytes_eq-Decides xs xs).1 refl
 
 abbrev Quiet : Step → Type 0

@@ -1,12 +1,14 @@
 -- What one side of a link does over a list of calls, as the layer above and the link see it.
-use Rattle.std.specs.Prelude.{◌≡◌, ℕ, ◌+◌, ◌<◌, ◌≤◌, ◌⊎◌, List, [], ◌∷◌, Option, Some, None, Ok, IsSome}
+use Rattle.std.specs.Prelude.{◌≡◌, ℕ, ◌+◌, ◌<◌, ◌≤◌, ◌⊎◌, List, [], ◌∷◌, Option, Some, None, Ok, IsSome, if◌then◌else◌}
+use Rattle.std.specs.Str.{bytes_eq}
 use Rattle.sms_control.specs.declared.transaction.TransactionFlag.TheVariants.{FromOriginator, ToOriginator}
-use Rattle.sms_control.specs.declared.message.Cp.TheVariants.{AckUnit}
+use Rattle.sms_control.specs.declared.message.Cp.TheVariants.{DataUnit, AckUnit}
 use Rattle.sms_control.specs.declared.link_state.Opened.{Opened}
 use Rattle.sms_control.specs.declared.link_state.LinkState.{LinkState}
 use Rattle.sms_control.specs.declared.out.Out.{Out}
 use Rattle.sms_control.specs.declared.out.Up.{Up}
 use Rattle.sms_control.specs.declared.out.Up.TheVariants.{Unit as UnitUp, Failed}
+use Rattle.sms_control.specs.ControlGrammar.{spelled}
 use Rattle.sms_control.specs.ControlReading.{cp_at}
 use Rattle.sms_control.specs.LinkStep.{Step, in_transaction, begin_step, reply_step, take_step, fire_step}
 
@@ -80,7 +82,73 @@ ends calls s = tally (λ c out. ends_by out.up) calls s
 abbrev pub openings : List Call → LinkState → ℕ
 openings calls s = tally (λ c out. opens_by out.up) calls s
 
--- ---- repeats
+-- ---- transactions of this side, in turn: while none is under way one may begin, and only what is under way ends
+
+-- CP-DATA that a call of begin sends begins a transaction where none waits for its end; with it waits its identifier.
+abbrev pub Begins : List ℕ → List (List ℕ) → Option ℕ → (Option ℕ → Type 0) → Type 0
+Begins unit [] waiting Rest = Rest waiting
+Begins unit (f ∷ fs) waiting Rest =
+    (waiting ≡ None) × ((identifier : ℕ) × (f ∷ fs ≡ spelled (DataUnit (in_transaction FromOriginator identifier) unit) ∷ []) × Rest (Some identifier))
+
+-- What comes up ends what waits: an answer that fits its identifier, or a failure.
+abbrev pub Concludes : (ℕ → List ℕ → Type 0) → Option Up → Option ℕ → (Option ℕ → Type 0) → Type 0
+Concludes Fits None waiting Rest = Rest waiting
+Concludes Fits (Some (UnitUp FromOriginator unit)) waiting Rest = Rest waiting
+Concludes Fits (Some (UnitUp ToOriginator unit)) waiting Rest = ((identifier : ℕ) × (waiting ≡ Some identifier) × Fits identifier unit) × Rest None
+Concludes Fits (Some Failed) waiting Rest = IsSome waiting × Rest None
+
+-- An answer is CP-DATA to the originator with the identifier; a timer gives none.
+abbrev pub TakesTurns : List Call → LinkState → Option ℕ → Type 0
+TakesTurns [] s waiting = Unit {0}
+TakesTurns (Begin now unit ∷ cs) s waiting = Begins unit (begin_step now unit s).out.frames waiting (λ next. TakesTurns cs (begin_step now unit s).state next)
+TakesTurns (Reply now unit ∷ cs) s waiting = TakesTurns cs (reply_step now unit s).state waiting
+TakesTurns (Take frame ∷ cs) s waiting =
+    Concludes (λ identifier unit. cp_at frame ≡ Ok (DataUnit (in_transaction ToOriginator identifier) unit)) (take_step frame s).out.up waiting
+    (λ next. TakesTurns cs (take_step frame s).state next)
+TakesTurns (Fire now ∷ cs) s waiting = Concludes (λ identifier unit. ⊥) (fire_step now s).out.up waiting (λ next. TakesTurns cs (fire_step now s).state next)
+
+-- ---- frames that timers send again
+
+-- how often the frame is among these
+abbrev pub times : List ℕ → List (List ℕ) → ℕ
+times frame [] = 0
+times frame (f ∷ fs) = (if bytes_eq frame f then 1 else 0) + times frame fs
+
+-- the layer above sends it
+abbrev pub sent_by : List ℕ → Call → Out → ℕ
+sent_by frame (Begin now unit) out = times frame out.frames
+sent_by frame (Reply now unit) out = times frame out.frames
+sent_by frame (Take other) out = 0
+sent_by frame (Fire now) out = 0
+
+-- a timer sends it
+abbrev pub repeated_by : List ℕ → Call → Out → ℕ
+repeated_by frame (Begin now unit) out = 0
+repeated_by frame (Reply now unit) out = 0
+repeated_by frame (Take other) out = 0
+repeated_by frame (Fire now) out = times frame out.frames
+
+abbrev pub sendings : List ℕ → List Call → LinkState → ℕ
+sendings frame calls s = tally (sent_by frame) calls s
+
+abbrev pub repeats : List ℕ → List Call → LinkState → ℕ
+repeats frame calls s = tally (repeated_by frame) calls s
+
+-- ---- the answer that is remembered
+
+-- what comes up is no answer
+abbrev pub IsNoAnswer : Option Up → Type 0
+IsNoAnswer None = Unit {0}
+IsNoAnswer (Some (UnitUp FromOriginator unit)) = Unit {0}
+IsNoAnswer (Some (UnitUp ToOriginator unit)) = ⊥
+IsNoAnswer (Some Failed) = Unit {0}
+
+-- no transaction of this side is answered in these calls
+abbrev pub NoneAnswered : List Call → LinkState → Type 0
+NoneAnswered [] s = Unit {0}
+NoneAnswered (c ∷ cs) s = IsNoAnswer (step c s).out.up × NoneAnswered cs (step c s).state
+
+-- ---- repeats of openings
 
 -- The frame is CP-ACK of the other side's transaction, which this opening began and this side answered.
 pub record Acknowledges (s : LinkState) (frame opening : List ℕ) : Type 0 where

@@ -1,5 +1,6 @@
--- The timers of a transaction (3GPP TS 24.011 5.3.2 and 6.2): TC1* repeats CP-DATA that is not acknowledged, and
--- TR1N or TR1M, here TR1, ends a transaction that this side began. The lengths are this project's profile.
+-- The timers of a transaction (3GPP TS 24.011 5.3.2.1, 6.2 and 10): TC1* repeats CP-DATA that is not acknowledged, and
+-- TR1N of the network or TR1M of a handset ends a transaction that this side began. Both are as long, and are called tr1
+-- here, since an end of a link does not know which it is. The lengths are this project's profile.
 use Rattle.std.specs.Prelude.{ℕ, ◌+◌, ◌-◌, min, nat_lt, ◌==◌, if◌then◌else◌, Option, Some, None}
 use Rattle.sms_control.specs.declared.link_state.Repetition.{Repetition}
 use Rattle.sms_control.specs.declared.link_state.Begun.{Begun}
@@ -9,8 +10,8 @@ use Rattle.sms_control.specs.declared.timers.Firing.{Firing}
 use Rattle.sms_control.specs.declared.timers.Firing.TheVariants.{Idle, Again, Closes}
 
 -- seconds
-abbrev pub tc1 : ℕ
-tc1 = 10
+abbrev pub tc1_star : ℕ
+tc1_star = 10
 
 abbrev pub tr1 : ℕ
 tr1 = 40
@@ -25,11 +26,11 @@ later now seconds = min (now + seconds) 4102444799
 
 -- TC1* of a frame that is sent now
 abbrev pub first_sending : ℕ → Repetition
-first_sending now = record { due = later now tc1; repeats_left = most_repeats }
+first_sending now = record { due = later now tc1_star; repeats_left = most_repeats }
 
 -- TC1* of a frame that is sent again now
 abbrev pub sent_again : ℕ → Repetition → Repetition
-sent_again now r = record { due = later now tc1; repeats_left = r.repeats_left - 1 }
+sent_again now r = record { due = later now tc1_star; repeats_left = r.repeats_left - 1 }
 
 -- A timer fires at its moment and past it; TC1* sends again while a repeat is left, and then closes.
 abbrev pub tc1_firing : ℕ → Repetition → Firing
@@ -40,7 +41,7 @@ abbrev pub repetition_firing : ℕ → Option Repetition → Firing
 repetition_firing now None = Idle
 repetition_firing now (Some r) = tc1_firing now r
 
--- TR1 is looked at first, then TC1*
+-- TR1N or TR1M is looked at first, then TC1*
 abbrev pub begun_firing : ℕ → Option Begun → Firing
 begun_firing now None = Idle
 begun_firing now (Some b) = if nat_lt now b.closes then repetition_firing now b.repetition else Closes

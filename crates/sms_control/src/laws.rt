@@ -1,14 +1,17 @@
 //! Laws of the control layer, over its definitions alone.
-ghost use Rattle.std.specs.Prelude.{◌≡◌, ◌++◌, ◌≢◌, ◌≤◌, ◌+◌, List, [], ℕ, Ok, Err, Some, None, false};
+ghost use Rattle.std.specs.Prelude.{◌≡◌, ◌++◌, ◌≢◌, ◌≤◌, ◌+◌, List, [], ◌∷◌, ℕ, Ok, Err, Some, None, false};
 ghost use Rattle.sms_control.specs.ControlGrammar.{IsCp, IsCpValue, spelled};
 ghost use Rattle.sms_control.specs.ControlReading.{cp_at};
-ghost use Rattle.sms_control.specs.LinkRuns.{Acknowledges, Call, FiresPast, NoneAcknowledged, Rising, begins, ends, openings, replies, run, ticks};
-ghost use Rattle.sms_control.specs.LinkStep.{begin_step, fresh, is_busy, take_step};
+ghost use Rattle.sms_control.specs.LinkRuns.{Acknowledges, Call, FiresPast, NoneAcknowledged, NoneAnswered, Rising, TakesTurns, begins, ends, openings, repeats, replies, run, sendings, ticks};
+ghost use Rattle.sms_control.specs.LinkStep.{begin_step, fresh, has_begun, in_transaction, is_busy, take_step};
 ghost use Rattle.sms_control.specs.Timers.{later, tr1};
 ghost use Rattle.sms_control.specs.declared.link_state.LinkState.{LinkState};
 ghost use Rattle.sms_control.specs.declared.link_state.Opened.{Opened};
 ghost use Rattle.sms_control.specs.declared.fault.CpFault.TheVariants.{Truncated};
 ghost use Rattle.sms_control.specs.declared.message.Cp.{Cp};
+ghost use Rattle.sms_control.specs.declared.message.Cp.TheVariants.{AckUnit, DataUnit};
+ghost use Rattle.sms_control.specs.declared.out.Up.TheVariants.{Unit};
+ghost use Rattle.sms_control.specs.declared.transaction.TransactionFlag.TheVariants.{FromOriginator, ToOriginator};
 
 /// What is written is in the grammar, and is read as the same value.
 pub fn written_is_read()
@@ -65,7 +68,7 @@ pub fn an_acknowledged_opening_is_quiet()
         → (take_step opening (run after (take_step ack (run before fresh)).state)).out.up ≡ None }
 {}
 
-/// A begun transaction has ended once the timers fired at TR1 or past it, whatever else was called.
+/// A begun transaction has ended once the timers fired at TR1N or past it, whatever else was called.
 pub fn a_begun_transaction_ends_in_time()
     ensures { (state : LinkState) (now : ℕ) (unit : List ℕ) (calls : List Call)
         → is_busy state ≡ false → FiresPast (later now tr1) calls → 1 ≤ ends calls (begin_step now unit state).state }
@@ -75,4 +78,33 @@ pub fn a_begun_transaction_ends_in_time()
 pub fn a_begun_transaction_ends_within_40_ticks()
     ensures { (state : LinkState) (now : ℕ) (unit : List ℕ) (calls : List Call)
         → is_busy state ≡ false → Rising now calls → 40 ≤ ticks calls → 1 ≤ ends calls (begin_step now unit state).state }
+{}
+
+/// Transactions of this side take turns: one begins, with CP-DATA to the other side, only where none is under way, and
+/// what ends is the one under way, by CP-DATA of its own identifier or by a failure. So an answer of another identifier
+/// never comes up.
+pub fn transactions_take_turns()
+    ensures { (calls : List Call) → TakesTurns calls fresh None }
+{}
+
+/// Until the layer above sends it anew, a frame is sent at most twice by timers: three times in all.
+pub fn a_frame_is_repeated_at_most_twice()
+    ensures { (before after : List Call) (frame : List ℕ) → sendings frame after (run before fresh) ≡ 0 → repeats frame after (run before fresh) ≤ 2 }
+{}
+
+/// An answer that was taken is acknowledged alone, whatever is called until another one is taken: the frame that comes
+/// again is answered by CP-ACK and nothing else, and does not come up, unless a transaction of its identifier is under
+/// way, whose answer it then is.
+pub fn a_taken_answer_is_acknowledged_alone()
+    ensures alone { (state : LinkState) (after : List Call) (answer unit : List ℕ) (identifier : ℕ)
+        → cp_at answer ≡ Ok (DataUnit (in_transaction ToOriginator identifier) unit)
+        → (take_step answer state).out.up ≡ Some (Unit ToOriginator unit)
+        → NoneAnswered after (take_step answer state).state
+        → (take_step answer (run after (take_step answer state).state)).out.frames ≡ spelled (AckUnit (in_transaction FromOriginator identifier)) ∷ [] }
+    ensures quiet { (state : LinkState) (after : List Call) (answer unit : List ℕ) (identifier : ℕ)
+        → cp_at answer ≡ Ok (DataUnit (in_transaction ToOriginator identifier) unit)
+        → (take_step answer state).out.up ≡ Some (Unit ToOriginator unit)
+        → NoneAnswered after (take_step answer state).state
+        → has_begun identifier (run after (take_step answer state).state).begun ≡ false
+        → (take_step answer (run after (take_step answer state).state)).out.up ≡ None }
 {}

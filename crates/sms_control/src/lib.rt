@@ -11,11 +11,8 @@ pub mod laws;
 mod link_error;
 mod link_state;
 mod links;
-#[cfg(test)]
-mod links_tests;
 mod message;
 mod message_type;
-mod octet_copy;
 mod out;
 mod sending;
 mod timers;
@@ -29,4 +26,5 @@ pub use links::Links;
 pub use message::Cp;
 pub use message_type::MessageType;
 pub use out::{Frames, Out, Up};
+pub use timers::{MOST_REPEATS, TC1_STAR, TR1M, TR1N};
 pub use transaction::{Transaction, TransactionFlag, TransactionIdentifier};

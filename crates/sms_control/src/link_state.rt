@@ -5,8 +5,7 @@ ghost use Rattle.sms_control.specs.Timers.{first_sending};
 ghost use Rattle.sms_control.specs.declared.link_state.Opened.{Opened as OpenedOf};
 ghost use Rattle.sms_control.specs.declared.transaction.TransactionFlag.TheVariants.{FromOriginator, ToOriginator};
 
-use crate::octet_copy::copy_of;
-use crate::timers::{Firing, TR1};
+use crate::timers::{Firing, TR1N};
 use crate::transaction::TransactionIdentifier;
 use sms_base::{Moment, Octets};
 use std::alloc::{AllocError, Global};
@@ -28,7 +27,7 @@ pub struct Begun {
     pub frame: Octets,
     /// None once CP-ACK came.
     pub repetition: Option<Repetition>,
-    /// When TR1 ends it.
+    /// When TR1N ends it, or TR1M.
     pub closes: Moment,
 }
 
@@ -69,7 +68,7 @@ impl Begun {
     {
         Ok(Begun {
             identifier: self.identifier,
-            frame: copy_of(alloc, self.frame.as_slice())?,
+            frame: Octets::copy_of(alloc, self.frame.as_slice())?,
             repetition: self.repetition,
             closes: self.closes,
         })
@@ -81,7 +80,7 @@ impl Answer {
         ensures { IfOk result (λ c. c ≡ self.now) }
     {
         Ok(Answer {
-            frame: copy_of(alloc, self.frame.as_slice())?,
+            frame: Octets::copy_of(alloc, self.frame.as_slice())?,
             repetition: self.repetition,
         })
     }
@@ -97,7 +96,7 @@ impl Opened {
         };
         Ok(Opened {
             identifier: self.identifier,
-            opening: copy_of(alloc, self.opening.as_slice())?,
+            opening: Octets::copy_of(alloc, self.opening.as_slice())?,
             answer,
         })
     }
@@ -108,7 +107,7 @@ fn remembered_copy(alloc: Global, frame: &Option<Octets>) -> Result<Option<Octet
     ensures { IfOk result (λ c. c ≡ frame.now) }
 {
     match frame {
-        Some(frame) => Ok(Some(copy_of(alloc, frame.as_slice())?)),
+        Some(frame) => Ok(Some(Octets::copy_of(alloc, frame.as_slice())?)),
         None => Ok(None),
     }
 }
@@ -154,7 +153,7 @@ impl LinkState {
             identifier,
             frame,
             repetition: Some(Repetition::first(now)),
-            closes: now.plus(TR1),
+            closes: now.plus(TR1N),
         });
     }
 

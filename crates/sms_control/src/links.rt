@@ -4,12 +4,11 @@ ghost use Rattle.sms_control.specs.LinkStep.{ack_taken, answer_frames, answer_ta
 use crate::link_error::LinkError;
 use crate::link_state::{LinkState, has_begun, has_opened, is_same, opens};
 use crate::message::Cp;
-use crate::octet_copy::copy_of;
 use crate::out::{Frames, Out, Up};
 use crate::sending::{acknowledged, data_frame, frames_with, push_answer, push_begun, rejected};
 use crate::timers::{Firing, begun_firing, failed_by, opened_firing};
 use crate::transaction::{Transaction, TransactionFlag, TransactionIdentifier};
-use sms_base::Moment;
+use sms_base::{Moment, Octets};
 use std::alloc::{AllocError, Global};
 use std::marker::Model;
 
@@ -75,7 +74,8 @@ impl Links {
         }
     }
 
-    /// Begins a transaction with a unit of 1 to 248 octets: gives its CP-DATA, and sets TC1* and TR1.
+    /// Begins a transaction with a unit of 1 to 248 octets: gives its CP-DATA, and sets TC1* and TR1N (of a handset
+    /// TR1M).
     #[tactic(auto, unfolding(crate::specs::LinkStep::begin_step))]
     pub fn begin(&mut self, now: Moment, unit: &[u8]) -> Result<Out, LinkError>
         requires some { 0 < length unit.now }
@@ -148,8 +148,8 @@ impl Links {
         }
     }
 
-    /// Lets the timers fire that are due: TR1 is looked at before TC1* of the begun transaction, and then TC1* of the
-    /// other side's.
+    /// Lets the timers fire that are due: TR1N or TR1M is looked at before TC1* of the begun transaction, and then
+    /// TC1* of the other side's.
     #[tactic(auto, unfolding(crate::specs::LinkStep::fire_step))]
     pub fn fire(&mut self, now: Moment) -> Result<Out, AllocError>
         ensures out { IfOk result (λ out. out ≡ (fire_step now self.old).out) }
@@ -190,8 +190,8 @@ impl Links {
     {
         if has_begun(&self.state.begun, transaction.identifier) {
             let frames = acknowledged(self.alloc, transaction)?;
-            let unit = copy_of(self.alloc, unit)?;
-            let answer = copy_of(self.alloc, frame)?;
+            let unit = Octets::copy_of(self.alloc, unit)?;
+            let answer = Octets::copy_of(self.alloc, frame)?;
             self.state.begun = None;
             self.state.last_answer = Some(answer);
             return Ok(Out {
@@ -230,8 +230,8 @@ impl Links {
         if is_same(frame, &self.state.last_opening) {
             return Ok(Out { frames, up: None });
         }
-        let unit = copy_of(self.alloc, unit)?;
-        let opening = copy_of(self.alloc, frame)?;
+        let unit = Octets::copy_of(self.alloc, unit)?;
+        let opening = Octets::copy_of(self.alloc, frame)?;
         self.state.open(identifier, opening);
         Ok(Out {
             frames,

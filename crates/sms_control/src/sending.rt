@@ -6,7 +6,6 @@ ghost use Rattle.sms_control.specs.declared.message.Cp.TheVariants.{DataUnit};
 use crate::cause::CpCause;
 use crate::link_state::{Begun, Opened};
 use crate::message::Cp;
-use crate::octet_copy::copy_of;
 use crate::out::Frames;
 use crate::transaction::{Transaction, TransactionFlag, TransactionIdentifier};
 use sms_base::{OctetView, Octets};
@@ -44,7 +43,7 @@ fn frame_alone(alloc: Global, frame: Octets) -> Result<Frames, AllocError>
 pub(crate) fn frames_with(alloc: Global, frame: &[u8]) -> Result<Frames, AllocError>
     ensures { IfOk result (λ frames. frames ≡ frame.now ∷ []) }
 {
-    let frame = copy_of(alloc, frame)?;
+    let frame = Octets::copy_of(alloc, frame)?;
     let frames = frame_alone(alloc, frame)?;
     Ok(frames)
 }
@@ -83,7 +82,7 @@ pub(crate) fn push_begun(
     ensures { OnOk result (frames.new ≡ frames.old ++ begun_frames begun.now) }
 {
     if let Some(begun) = begun {
-        let frame = copy_of(alloc, begun.frame.as_slice())?;
+        let frame = Octets::copy_of(alloc, begun.frame.as_slice())?;
         frames.push(frame)?;
     }
     Ok(())
@@ -99,7 +98,7 @@ pub(crate) fn push_answer(
 {
     if let Some(opened) = opened {
         if let Some(answer) = &opened.answer {
-            let frame = copy_of(alloc, answer.frame.as_slice())?;
+            let frame = Octets::copy_of(alloc, answer.frame.as_slice())?;
             frames.push(frame)?;
         }
     }

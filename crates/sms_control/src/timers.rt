@@ -6,14 +6,18 @@ use crate::link_state::{Begun, Opened, Repetition};
 use crate::out::Up;
 use sms_base::Moment;
 
-/// TC1*, in seconds.
-const TC1: u64 = 10;
+/// TC1*, in seconds: CP-DATA that was not acknowledged by then is sent again (3GPP TS 24.011 5.3.2.1).
+pub const TC1_STAR: u64 = 10;
 
-/// TR1N and TR1M, in seconds.
-pub(crate) const TR1: u64 = 40;
+/// How often TC1* sends CP-DATA again: the standard allows one to three times (3GPP TS 24.011 5.3.2.1).
+pub const MOST_REPEATS: u8 = 2;
 
-/// How often CP-DATA is sent again.
-const MOST_REPEATS: u8 = 2;
+/// TR1N, in seconds: how long the network waits for the answer to RP-DATA (3GPP TS 24.011 6.2.2 and 10: 35 to 45).
+pub const TR1N: u64 = 40;
+
+/// TR1M, in seconds: how long a handset waits for the answer to RP-DATA or RP-SMMA (3GPP TS 24.011 6.2.1 and 10:
+/// 35 to 45). It is as long as TR1N, since an end of a link does not know which it is.
+pub const TR1M: u64 = TR1N;
 
 /// What the timers of a transaction do at a moment.
 #[derive(Clone, Copy, Debug, PartialEq, Eq)]
@@ -22,7 +26,7 @@ pub(crate) enum Firing {
     Idle,
     /// TC1* fires, and the frame is sent again.
     Again,
-    /// TR1 fires, or TC1* with no repeat left.
+    /// TR1N or TR1M fires, or TC1* with no repeat left.
     Closes,
 }
 
@@ -32,7 +36,7 @@ impl Repetition {
         ensures { result ≡ first_sending now }
     {
         Repetition {
-            due: now.plus(TC1),
+            due: now.plus(TC1_STAR),
             repeats_left: MOST_REPEATS,
         }
     }
@@ -42,7 +46,7 @@ impl Repetition {
         ensures { result ≡ sent_again now self }
     {
         Repetition {
-            due: now.plus(TC1),
+            due: now.plus(TC1_STAR),
             repeats_left: self.repeats_left.saturating_sub(1),
         }
     }
@@ -60,7 +64,7 @@ impl Repetition {
     }
 }
 
-// What TR1 and TC1* of the begun transaction do.
+// What TR1N or TR1M and TC1* of the begun transaction do.
 pub(crate) fn begun_firing(begun: &Option<Begun>, now: Moment) -> Firing
     ensures { result ≡ begun_firing_of now begun.now }
 {

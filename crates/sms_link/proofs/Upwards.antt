@@ -1,5 +1,5 @@
 -- What goes up: an opened unit waits for its reply, and a transfer that ended was under way and leaves the link free.
-use Rattle.std.proofs.Common.{◌≡◌, ℕ, List, [], ◌∷◌, ◌++◌, Bool, true, false, cond, refl, sym, ◌∙◌, ap, subst, Option, Some, None, Result, Ok, Err, is_some, is_none}
+use Rattle.std.proofs.Common.{◌≡◌, ℕ, List, true, false, refl, ◌∙◌, ap, Option, Some, None, Result, Ok, Err, is_some}
 use Rattle.std.specs.Prelude.{◌&&◌}
 use Rattle.std.specs.Option.{option_map}
 use Rattle.std.proofs.lemmas.Bool.{cond-true, cond-false}
@@ -13,7 +13,7 @@ use Rattle.sms_control.specs.declared.transaction.TransactionFlag.{TransactionFl
 use Rattle.sms_control.specs.declared.transaction.TransactionFlag.TheVariants.{FromOriginator, ToOriginator}
 use Rattle.sms_control.specs.ControlReading.{cp_at}
 use Rattle.sms_control.specs.Timers.{begun_firing, opened_firing}
-use Rattle.sms_control.specs.LinkStep.{Step, is_busy, awaits_reply, begin_step, reply_step, is_same, has_begun, has_opened, answer_of, opening_of, answer_taken, opening_taken, data_taken, ack_taken, error_taken, frame_taken, take_step, begun_fired, failed_by, fired as links_fired, fire_step}
+use Rattle.sms_control.specs.LinkStep.{Step, is_busy, awaits_reply, begin_step, reply_step, is_same, has_begun, has_opened, answer_of, opening_of, answer_taken, opening_taken, data_taken, ack_taken, error_taken, frame_taken, take_step, fired as links_fired, fire_step}
 use Rattle.sms_control.proofs.LinkLaws.{either}
 use Rattle.sms_control.proofs.FiringCases.{firing_cases}
 use Rattle.sms_base.specs.declared.carried.Kind.{Kind}
@@ -21,10 +21,9 @@ use Rattle.sms_base.specs.declared.carried.Kind.TheVariants.{Data}
 use Rattle.sms_base.specs.declared.carried.Carried.{Carried}
 use Rattle.sms_link.specs.declared.ending.Ending.{Ending}
 use Rattle.sms_link.specs.declared.ending.Ending.TheVariants.{Lost}
-use Rattle.sms_link.specs.declared.ending.Side.{Side}
 use Rattle.sms_link.specs.declared.ending.Upward.{Upward}
 use Rattle.sms_link.specs.declared.ending.Upward.TheVariants.{Opened, Ended}
-use Rattle.sms_link.specs.LinkTurn.{LinkOf, still, of_kind, started, begun, answering, replied, unit_ended, came_up, taken, fired}
+use Rattle.sms_link.specs.LinkTurn.{LinkOf, still, of_kind, started, begun, answering, replied, came_up, taken, fired}
 
 pub begun_free : (now reference : ℕ) (tag : Holder) (unit : List ℕ) (l : LinkOf) → is_busy l.links ≡ false
     → begun now reference tag unit l ≡ started (of_kind Data reference tag) (begin_step now unit l.links) l

@@ -1,6 +1,6 @@
 -- One end of a link and what its transactions carry. A turn is what one call does: the link after it, the frames that it
 -- sends, each with what it carries, and what goes up.
-use Rattle.std.specs.Prelude.{ℕ, List, [], ◌∷◌, Option, Some, None, Result, Ok, Err, if◌then◌else◌}
+use Rattle.std.specs.Prelude.{ℕ, List, [], ◌∷◌, Option, Some, None, Result, Ok, Err, if◌then◌else◌, false, is_some}
 use Rattle.std.specs.Option.{option_map}
 use Rattle.sms_base.specs.declared.holder.Holder.{Holder}
 use Rattle.sms_control.specs.declared.fault.CpFault.{CpFault}
@@ -42,10 +42,10 @@ new_link side = record { side = side; links = fresh; under_way = None; answered 
 abbrev pub still : LinkOf → Turn
 still l = record { link = l; out = record { frames = []; up = None } }
 
--- frames that all carry the same
+-- new frames that all carry the same
 abbrev pub carrying : Option Carried → List (List ℕ) → List Outgoing
 carrying carried [] = []
-carrying carried (f ∷ fs) = record { octets = f; carried = carried } ∷ carrying carried fs
+carrying carried (f ∷ fs) = record { octets = f; carried = carried; is_copy = false } ∷ carrying carried fs
 
 -- ---- this side's own: a transaction, unless one is under way, and the answer in the other side's, if one waits for it
 
@@ -85,10 +85,14 @@ carried_in (Ok (AckUnit transaction)) under_way answered = None
 carried_in (Ok (ErrorUnit transaction cause)) under_way answered = None
 carried_in (Err fault) under_way answered = None
 
+-- where they carry something, they are copies
+abbrev pub of_links : List ℕ → Option Carried → Outgoing
+of_links frame carried = record { octets = frame; carried = carried; is_copy = is_some carried }
+
 abbrev pub from_links : Option Carried → Option Carried → List (List ℕ) → List Outgoing
 from_links under_way answered [] = []
 from_links under_way answered (f ∷ fs) =
-    record { octets = f; carried = carried_in (cp_at f) under_way answered } ∷ from_links under_way answered fs
+    of_links f (carried_in (cp_at f) under_way answered) ∷ from_links under_way answered fs
 
 -- ---- what goes up
 

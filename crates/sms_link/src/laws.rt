@@ -1,8 +1,8 @@
 //! Laws of one end of a link, over its definitions alone.
-ghost use Rattle.std.specs.Prelude.{◌≡◌, ℕ, List, [], Some, true, false};
+ghost use Rattle.std.specs.Prelude.{◌≡◌, ℕ, List, [], Some, None, true, false, is_some};
 ghost use Rattle.sms_base.specs.declared.holder.Holder.{Holder};
 ghost use Rattle.sms_control.specs.LinkStep.{awaits_reply, begin_step, is_busy, reply_step};
-ghost use Rattle.sms_link.specs.LinkCalls.{AllSend, AreCalls, LinkCall};
+ghost use Rattle.sms_link.specs.LinkCalls.{AllSend, AreCalls, LinkCall, TakesTurns, run};
 ghost use Rattle.sms_link.specs.LinkTurn.{LinkOf, answering, begun, fired, new_link, of_kind, replied, started, taken};
 ghost use Rattle.sms_base.specs.declared.carried.Carried.{Carried};
 ghost use Rattle.sms_base.specs.declared.carried.Kind.{Kind};
@@ -11,10 +11,23 @@ ghost use Rattle.sms_link.specs.declared.ending.Ending.{Ending};
 ghost use Rattle.sms_link.specs.declared.ending.Upward.TheVariants.{Ended, Opened};
 ghost use Rattle.sms_link.specs.declared.ending.Side.{Side};
 
-/// Over any calls, what `begin` and `reply` send carries what they were given, and each frame that a frame or a tick
-/// brings out was sent before and carries the same, or is CP-ACK or CP-ERROR and carries nothing.
+/// Over any calls, each frame out is one of three. What `begin` and `reply` send is new: CP-DATA with the unit that they
+/// were given, and it carries what they were given. What a timer sends is a copy of a new frame that was sent before,
+/// with what that one carried. What a frame that came brings out is such a copy, or CP-ACK or CP-ERROR, which carries
+/// nothing.
 pub fn frames_carry_what_they_did()
     ensures { (side : Side) (calls : List LinkCall) → AreCalls calls → AllSend calls (new_link side) [] }
+{}
+
+/// Over any calls, transfers of this side take turns: one begins only where none is under way, and only the one under way
+/// ends, once.
+pub fn transfers_take_turns()
+    ensures { (side : Side) (calls : List LinkCall) → TakesTurns calls (new_link side) None }
+{}
+
+/// Over any calls, a link is busy exactly while it has a transfer under way.
+pub fn a_busy_link_has_a_transfer()
+    ensures { (side : Side) (calls : List LinkCall) → is_busy (run calls (new_link side)).links ≡ is_some (run calls (new_link side)).under_way }
 {}
 
 /// Where no transaction is under way, one begins, and it carries what was given.

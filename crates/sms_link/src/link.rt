@@ -176,7 +176,7 @@ impl Link {
     }
 }
 
-// Frames that all carry the same.
+// New frames that all carry the same.
 fn carrying(
     alloc: Global,
     carried: &Option<Carried>,
@@ -189,6 +189,7 @@ fn carrying(
         out.push(Outgoing {
             octets,
             carried: *carried,
+            is_copy: false,
         })?;
     }
     Ok(out)
@@ -211,7 +212,7 @@ fn carried_in(
     }
 }
 
-// Frames of the links' own.
+// Frames of the links' own: copies, where they carry something.
 fn from_links(
     alloc: Global,
     under_way: &Option<Carried>,
@@ -223,7 +224,11 @@ fn from_links(
     let mut out = Listed::new(alloc);
     for octets in frames.into_vec() {
         let carried = carried_in(octets.as_slice(), under_way, answered);
-        out.push(Outgoing { octets, carried })?;
+        out.push(Outgoing {
+            octets,
+            carried,
+            is_copy: carried.is_some(),
+        })?;
     }
     Ok(out)
 }

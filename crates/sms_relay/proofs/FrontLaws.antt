@@ -153,18 +153,24 @@ front_of read h front rest rp e =
       | inr p ↦ inr (inr (p.1 ∙ ap (λ (l : List ℕ). user_data_of z.0 ++ l) last ∙ append-nil (user_data_of z.0) ∙ ap user_data_of is))
     ]
 
-pub up_front : (front rest : List ℕ) (rp : Rp) → IsUp (front ++ rest) rp → (rest ≡ [] → ⊥) → (rest ≡ user_data_of rp → ⊥) → up_at front ≡ Err Truncated
+pub up_fronts : (front rest : List ℕ) (rp : Rp) → IsUp (front ++ rest) rp → (rest ≡ []) ⊎ ((up_at front ≡ Err Truncated) ⊎ (rest ≡ user_data_of rp))
 unfolding up_at
+up_fronts front rest rp h = front_of up_in up_in_cuts front rest rp (up_again (front ++ rest) rp h)
+
+pub down_fronts : (front rest : List ℕ) (rp : Rp) → IsDown (front ++ rest) rp → (rest ≡ []) ⊎ ((down_at front ≡ Err Truncated) ⊎ (rest ≡ user_data_of rp))
+unfolding down_at
+down_fronts front rest rp h = front_of down_in down_in_cuts front rest rp (down_again (front ++ rest) rp h)
+
+pub up_front : (front rest : List ℕ) (rp : Rp) → IsUp (front ++ rest) rp → (rest ≡ [] → ⊥) → (rest ≡ user_data_of rp → ⊥) → up_at front ≡ Err Truncated
 up_front front rest rp h some other =
-    elim (front_of up_in up_in_cuts front rest rp (up_again (front ++ rest) rp h)) [
+    elim (up_fronts front rest rp h) [
       | inl none ↦ absurd (some none)
       | inr p ↦ elim p [ inl short ↦ short | inr same ↦ absurd (other same) ]
     ]
 
 pub down_front : (front rest : List ℕ) (rp : Rp) → IsDown (front ++ rest) rp → (rest ≡ [] → ⊥) → (rest ≡ user_data_of rp → ⊥) → down_at front ≡ Err Truncated
-unfolding down_at
 down_front front rest rp h some other =
-    elim (front_of down_in down_in_cuts front rest rp (down_again (front ++ rest) rp h)) [
+    elim (down_fronts front rest rp h) [
       | inl none ↦ absurd (some none)
       | inr p ↦ elim p [ inl short ↦ short | inr same ↦ absurd (other same) ]
     ]

@@ -1,6 +1,7 @@
 pub mod CauseLaws
 pub mod FieldLaws
 pub mod FrontLaws
+pub mod FaultLaws
 pub mod Rows
 pub mod TypeLaws
 pub mod UnitLaws

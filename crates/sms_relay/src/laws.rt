@@ -3,11 +3,13 @@ ghost use Rattle.std.specs.Prelude.{◌≡◌, ◌≢◌, ◌<◌, ℕ, List, []
 ghost use Rattle.std.specs.List.{AllByRecursion};
 ghost use Rattle.sms_base.specs.Reading.{AreOctets};
 ghost use Rattle.sms_relay.specs.Cause.{number_of, named, cause_of, IsRpCause};
+ghost use Rattle.sms_relay.specs.RelayFaults.{HasContinuation, HasFront};
 ghost use Rattle.sms_relay.specs.RelayGrammar.{IsUp, IsDown, IsWrittenUp, IsWrittenDown, up_octets, down_octets, user_data_of, bare};
 ghost use Rattle.sms_relay.specs.RelayReading.{up_at, down_at};
 ghost use Rattle.sms_relay.specs.declared.cause.RpCause.{RpCause as CauseOf};
 ghost use Rattle.sms_relay.specs.declared.cause.RpCause.TheVariants.{Reserved};
-ghost use Rattle.sms_relay.specs.declared.fault.RelayFault.TheVariants.{Truncated};
+ghost use Rattle.sms_relay.specs.declared.fault.RelayFault.{RelayFault as FaultOf};
+ghost use Rattle.sms_relay.specs.declared.fault.RelayFault.TheVariants.{Trailing, Truncated};
 ghost use Rattle.sms_relay.specs.declared.frame.Rp.{Rp as RpOf};
 
 /// Each number is that of the cause that it stands for.
@@ -71,4 +73,19 @@ pub fn front_up_is_truncated()
 pub fn front_down_is_truncated()
     ensures truncated { (front rest : List ℕ) (rp : RpOf) → IsDown (front ++ rest) rp → rest ≢ [] → rest ≢ user_data_of rp → down_at front ≡ Err Truncated }
     ensures bare { (front : List ℕ) (rp : RpOf) → IsDown (front ++ user_data_of rp) rp → down_at front ≡ Ok (bare rp) }
+{}
+
+/// Upwards, octets end too early only where octets may follow with which they are a unit; octets are left over only
+/// behind a unit; and where the fault is any but the first, they are no unit whatever follows.
+pub fn faults_up_tell_what_may_follow()
+    ensures truncated { (octets : List ℕ) → AreOctets octets → up_at octets ≡ Err Truncated → HasContinuation IsUp octets }
+    ensures trailing { (octets : List ℕ) → AreOctets octets → up_at octets ≡ Err Trailing → HasFront IsUp octets }
+    ensures other { (octets more : List ℕ) (rp : RpOf) (fault : FaultOf) → up_at octets ≡ Err fault → fault ≢ Truncated → ¬ IsUp (octets ++ more) rp }
+{}
+
+/// The same downwards.
+pub fn faults_down_tell_what_may_follow()
+    ensures truncated { (octets : List ℕ) → AreOctets octets → down_at octets ≡ Err Truncated → HasContinuation IsDown octets }
+    ensures trailing { (octets : List ℕ) → AreOctets octets → down_at octets ≡ Err Trailing → HasFront IsDown octets }
+    ensures other { (octets more : List ℕ) (rp : RpOf) (fault : FaultOf) → down_at octets ≡ Err fault → fault ≢ Truncated → ¬ IsDown (octets ++ more) rp }
 {}
