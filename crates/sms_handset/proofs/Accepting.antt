@@ -45,6 +45,7 @@ use Rattle.sms_concat.specs.declared.header_error.HeaderError.{HeaderError}
 use Rattle.sms_concat.specs.Concatenation.{counted, eight_bit_key, sixteen_bit_key, element_key, later, key_of as key_of_elements}
 use Rattle.sms_concat.specs.HeaderGrammar.{header_at}
 use Rattle.sms_concat.specs.UserData.{header_key, key_found}
+use Rattle.sms_link.specs.Timers.{tram}
 use Rattle.sms_link.specs.declared.ending.Ending.{Ending}
 use Rattle.sms_link.specs.declared.ending.Ending.TheVariants.{Acknowledged as AcknowledgedEnd, Refused as RefusedEnd, Wrong as WrongEnd, Lost as LostEnd}
 use Rattle.sms_link.specs.declared.ending.Upward.{Upward}
@@ -60,7 +61,7 @@ use Rattle.sms_handset.specs.declared.notice.Notice.{Notice}
 use Rattle.sms_base.specs.declared.carried.Carried.{Carried}
 use Rattle.sms_handset.specs.HandsetEvent.{acted, at_moment, deleted, discarded, frame_came, frame_heard, ticked, timed_out, timers_fired, went_up, wrote}
 use Rattle.sms_handset.specs.OwnersActs.{content_of_text, count_split, delete, delete_in, delete_out, discard, discard_at, discard_group, discard_in, discard_members, fits_outbox, is_open_part, write, write_part, write_parts, write_split, write_to, written}
-use Rattle.sms_handset.specs.MemoryAvailable.{first_notice, freed, has_room, notice_concluded, notice_ended, notice_failed, put_notice, remove_notice, send_notice, tram, want_notice}
+use Rattle.sms_handset.specs.MemoryAvailable.{first_notice, freed, has_room, notice_concluded, notice_ended, notice_failed, put_notice, remove_notice, send_notice, want_notice}
 use Rattle.sms_handset.specs.Outbox.{entry_concluded, first_due, first_fired, follow, holder_concluded, is_notice_next, is_sending, lapse, lapse_rows, lost, offer, offer_after, offer_entry, offer_message, offer_wanted, transfer_ended}
 use Rattle.sms_handset.specs.Receiving.{accept, acknowledge, data_came, deliver_came, is_double, member_came, new_part_came, no_room, note, part_came, reported, single_came, tpdu_came, unit_came}
 use Rattle.sms_handset.specs.References.{held_references, is_unfinished, next_free}

@@ -16,6 +16,7 @@ use Rattle.sms_concat.specs.declared.content.Content.{Content}
 use Rattle.sms_concat.specs.declared.content.Part.{Part as PartOf}
 use Rattle.sms_concat.specs.declared.split_error.SplitError.{SplitError}
 use Rattle.sms_concat.specs.Splitting.{split_of}
+use Rattle.sms_link.specs.Timers.{tram}
 use Rattle.sms_link.specs.declared.ending.Ending.{Ending}
 use Rattle.sms_link.specs.declared.ending.Ending.TheVariants.{Acknowledged as AcknowledgedEnd, Refused as RefusedEnd, Wrong as WrongEnd, Lost as LostEnd}
 use Rattle.sms_link.specs.declared.ending.Upward.{Upward}
@@ -50,7 +51,7 @@ use Rattle.sms_handset.specs.GroupChanges.{data_groups, deliver_groups, frame_gr
 use Rattle.sms_handset.specs.Groups.{all_numbers, alone, drop_all, ended, first_number, free_all, group_of, is_among, is_part_of, is_same_group, joined_content, joined_entry, keep, key_of, mark_of, marked, members, part_entry, part_numbers, single_entry, store_part, store_single}
 use Rattle.sms_handset.specs.HandsetEvent.{acted, at_moment, deleted, discarded, frame_came, frame_heard, ticked, timed_out, timers_fired, went_up, wrote}
 use Rattle.sms_handset.specs.Keys.{entry_key, last_key, notice_key, out_key}
-use Rattle.sms_handset.specs.MemoryAvailable.{flag, freed, has_room, notice_concluded, notice_ended, notice_failed, put_notice, remove_notice, tram, want_notice}
+use Rattle.sms_handset.specs.MemoryAvailable.{flag, freed, has_room, notice_concluded, notice_ended, notice_failed, put_notice, remove_notice, want_notice}
 use Rattle.sms_handset.specs.OpenGroups.{IsRegrouped, Numbered, Regroups, open_at, open_group}
 use Rattle.sms_handset.specs.Outbox.{entry_concluded, follow, holder_concluded}
 use Rattle.sms_handset.specs.OwnersActs.{content_of_text, count_split, delete, delete_in, delete_out, discard, discard_at, discard_group, discard_in, discard_members, fits_outbox, is_open_part, write, write_part, write_parts, write_split, write_to, written}

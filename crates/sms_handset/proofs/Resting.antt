@@ -16,6 +16,7 @@ use Rattle.sms_concat.specs.declared.content.Content.{Content}
 use Rattle.sms_concat.specs.declared.content.Part.{Part as PartOf}
 use Rattle.sms_concat.specs.declared.split_error.SplitError.{SplitError}
 use Rattle.sms_concat.specs.Splitting.{split_of}
+use Rattle.sms_link.specs.Timers.{tram}
 use Rattle.sms_link.specs.declared.ending.Ending.{Ending}
 use Rattle.sms_link.specs.declared.ending.Ending.TheVariants.{Acknowledged as AcknowledgedEnd, Refused as RefusedEnd, Wrong as WrongEnd, Lost as LostEnd}
 use Rattle.sms_link.specs.declared.ending.Upward.{Upward}
@@ -52,7 +53,7 @@ use Rattle.sms_handset.specs.Draft.{Core, Draft, draft_of, rows_after, put_entry
 use Rattle.sms_handset.specs.Groups.{all_numbers, alone, completed, drop_all, ended, free_all, group_of, is_among, joined_content, joined_entry, key_of, mark_of, marked, members, part_entry, part_numbers, single_entry, store_part, store_single, first_number}
 use Rattle.sms_handset.specs.HandsetEvent.{acted, at_moment, deleted, discarded, frame_came, frame_heard, ticked, timed_out, timers_fired, went_up, wrote}
 use Rattle.sms_handset.specs.Keys.{entry_key, last_key, out_key, mark_key, notice_key}
-use Rattle.sms_handset.specs.MemoryAvailable.{first_notice, flag, freed, has_room, notice_concluded, notice_ended, notice_failed, send_notice, tram, want_notice}
+use Rattle.sms_handset.specs.MemoryAvailable.{first_notice, flag, freed, has_room, notice_concluded, notice_ended, notice_failed, send_notice, want_notice}
 use Rattle.sms_handset.specs.Outbox.{entry_concluded, first_due, first_fired, follow, holder_concluded, is_notice_next, is_sending, lapse, lapse_rows, lost, offer, offer_after, offer_entry, offer_message, offer_wanted, settled, transfer_ended}
 use Rattle.sms_handset.specs.OwnersActs.{content_of_text, count_split, delete, delete_in, delete_out, discard, discard_at, discard_group, discard_in, discard_members, fits_outbox, is_open_part, write, write_part, write_parts, write_split, write_to, write_with, written, written_entry}
 use Rattle.sms_handset.specs.Planning.{Rests, RestsIfDone}

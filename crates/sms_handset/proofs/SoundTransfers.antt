@@ -9,6 +9,7 @@ use Rattle.sms_base.specs.declared.holder.Holder.{Holder}
 use Rattle.sms_base.specs.declared.holder.Holder.TheVariants.{Part as PartHolder, Report, Entry as EntryHolder, Memory}
 use Rattle.sms_control.specs.LinkStep.{begin_step, is_busy}
 use Rattle.sms_control.specs.Timers.{later}
+use Rattle.sms_link.specs.Timers.{tram}
 use Rattle.sms_link.specs.declared.ending.Ending.{Ending}
 use Rattle.sms_link.specs.declared.ending.Ending.TheVariants.{Acknowledged as AcknowledgedEnd, Refused as RefusedEnd, Wrong as WrongEnd, Lost as LostEnd}
 use Rattle.sms_link.specs.LinkTurn.{LinkOf, Turn, of_kind, started, still}
@@ -27,7 +28,7 @@ use Rattle.sms_base.specs.declared.carried.Carried.{Carried}
 use Rattle.sms_handset.specs.Answers.{verdict_of}
 use Rattle.sms_handset.specs.Draft.{Draft, begin, link_of, put_out, with_turn}
 use Rattle.sms_handset.specs.Keys.{notice_key, out_key}
-use Rattle.sms_handset.specs.MemoryAvailable.{first_notice, most_notices, notice_concluded, notice_ended, notice_failed, put_notice, remove_notice, send_notice, tram}
+use Rattle.sms_handset.specs.MemoryAvailable.{first_notice, most_notices, notice_concluded, notice_ended, notice_failed, put_notice, remove_notice, send_notice}
 use Rattle.sms_handset.specs.Outbox.{entry_concluded, first_due, first_fired, follow, holder_concluded, is_due, is_fired, is_notice_next, is_past, is_queued, is_sending, lapse, lapse_rows, lost, most_tries, offer, offer_after, offer_entry, offer_message, offer_wanted, retry_delay, settled, submit_of, transfer_ended}
 use Rattle.sms_handset.specs.References.{held_references, is_unfinished, next_free}
 use Rattle.sms_handset.specs.SoundCore.{IsSentFor, IsUnderWay}

@@ -4,6 +4,7 @@ use Rattle.std.specs.Prelude.{ℕ, ◌+◌, ◌-◌, ◌%◌, min, nat_lt, Bool,
 use Rattle.sms_control.specs.Timers.{later}
 use Rattle.sms_link.specs.declared.ending.Ending.{Ending}
 use Rattle.sms_link.specs.declared.ending.Ending.TheVariants.{Acknowledged, Refused, Wrong, Lost}
+use Rattle.sms_link.specs.Timers.{tram}
 use Rattle.sms_relay.specs.RelayGrammar.{smma_up}
 use Rattle.sms_table.specs.Table.{put, without}
 use Rattle.sms_handset.specs.declared.counters.Counters.{Counters}
@@ -12,10 +13,6 @@ use Rattle.sms_handset.specs.declared.notice.Notice.{Notice}
 use Rattle.sms_handset.specs.declared.entry.Entry.{Entry}
 use Rattle.sms_handset.specs.Keys.{notice_key}
 use Rattle.sms_handset.specs.Draft.{Draft, put_counters, begin}
-
--- TRAM, in seconds (this project's length)
-abbrev pub tram : ℕ
-tram = 30
 
 abbrev pub slots_taken : List Entry → ℕ
 slots_taken [] = 0

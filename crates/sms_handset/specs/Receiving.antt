@@ -15,6 +15,7 @@ use Rattle.sms_tpdu.specs.declared.down.Down.{Down}
 use Rattle.sms_tpdu.specs.declared.down.Down.TheVariants.{Deliver, StatusReport, SubmitReport}
 use Rattle.sms_tpdu.specs.declared.fault.TpduFault.{TpduFault}
 use Rattle.sms_tpdu.specs.declared.status_report.StatusReport.{StatusReport as StatusReportOf}
+use Rattle.sms_tpdu.specs.MoreMessages.{same_message}
 use Rattle.sms_tpdu.specs.TpduReading.{down_at}
 use Rattle.sms_handset.specs.declared.entry.Entry.{Entry}
 use Rattle.sms_handset.specs.declared.entry.Group.{Group}
@@ -53,13 +54,10 @@ no_room reference tag d = refuse reference tag MemoryCapacityExceeded 211 (flag 
 
 -- ---- doubles
 
--- the octets by which a TPDU is told from another
-abbrev pub compared : List ℕ → List ℕ
-compared tpdu = tpdu
-
+-- the TPDU is the one that was accepted last under its reference, which may tell otherwise now whether more messages wait
 abbrev pub is_double : List ℕ → Option Last → Bool
 is_double tpdu None = false
-is_double tpdu (Some l) = bytes_eq (compared tpdu) (compared l.tpdu)
+is_double tpdu (Some l) = same_message tpdu l.tpdu
 
 -- ---- DELIVER
 

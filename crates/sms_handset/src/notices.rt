@@ -11,13 +11,10 @@ use crate::no_memory::NoMemory;
 use crate::notice::Notice;
 use crate::references::following;
 use sms_base::{Holder, Octets};
-use sms_link::Ending;
+use sms_link::{Ending, TRAM};
 use sms_relay::{Rp, write_up};
 use sms_table::Key;
 use std::alloc::{AllocError, Global};
-
-/// TRAM: after so many seconds an RP-SMMA that failed is sent again.
-const TRAM: u64 = 30;
 
 // An RP-SMMA.
 fn smma(alloc: Global, reference: u8) -> Result<Octets, AllocError>

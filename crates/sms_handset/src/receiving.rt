@@ -20,7 +20,7 @@ use crate::open_group::Regrouping;
 use crate::out_entry::OutEntry;
 use sms_base::{Holder, Kind, OctetView, Octets};
 use sms_relay::{RelayFault, Rp, RpCause, read_down as read_unit, write_up};
-use sms_tpdu::{Carrier, Deliver, Down, StatusReport, read_down};
+use sms_tpdu::{Carrier, Deliver, Down, StatusReport, read_down, same_message};
 
 /// TP-FCS: memory capacity exceeded (3GPP TS 23.040 9.2.3.22).
 const MEMORY_CAPACITY_EXCEEDED: u8 = 0xD3;
@@ -318,7 +318,7 @@ fn is_double(tpdu: &[u8], last: Option<&Last>) -> bool
     ensures { result ≡ is_double_of tpdu.now (option_copied last.entry) }
 {
     match last {
-        Some(last) => tpdu == last.tpdu.as_slice(),
+        Some(last) => same_message(tpdu, last.tpdu.as_slice()),
         None => false,
     }
 }
