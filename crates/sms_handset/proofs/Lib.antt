@@ -17,10 +17,12 @@ pub mod GroupMembers
 pub mod SoundEntries
 pub mod SoundGroups
 pub mod SoundMarks
+pub mod Soundness
 pub mod SoundReferences
 pub mod SoundOutbox
 pub mod SoundWriting
 pub mod SoundDrafts
+pub mod SoundRoom
 pub mod SoundReceiving
 pub mod SoundTransfers
 pub mod SoundActs

@@ -7,7 +7,7 @@ use Rattle.sms_base.specs.Among.{Among}
 use Rattle.sms_base.specs.Address.{IsAddress, address_of}
 use Rattle.sms_table.specs.Table.{put, row_at, without}
 use Rattle.sms_base.proofs.Addresses.{address_found}
-use Rattle.sms_table.proofs.Tables.{found_among, found_key, length_put}
+use Rattle.sms_table.proofs.Tables.{found_among, found_key, length_put, length_without}
 use Rattle.sms_base.specs.declared.address.Address.{Address}
 use Rattle.sms_base.specs.declared.address_error.AddressError.{AddressError}
 use Rattle.sms_concat.specs.declared.content.Part.{Part as PartOf}
@@ -40,6 +40,7 @@ use Rattle.sms_handset.proofs.SoundMarks.{IsKept, mark_new, new_none}
 use Rattle.sms_handset.proofs.SoundOutbox.{IsSoundOut, added, deleted_out, held_entries, held_few, held_messages, sending_put, sending_stays}
 use Rattle.sms_handset.proofs.SoundReceiving.{dropped_only, same_under_way}
 use Rattle.sms_handset.proofs.SoundReferences.{next_is_free}
+use Rattle.sms_handset.proofs.SoundRoom.{length_left}
 use Rattle.sms_handset.proofs.SoundWriting.{IsWritable, split_is_writable, written_is_submitted}
 
 abbrev pub SoundIfDone : Result Draft Refusal → Type 0
@@ -164,7 +165,7 @@ delete_in_sound n (Some x) d q s =
     cond_both (is_open_part x.message) (Err StillOpen) (Ok (freed (remove_entry n d))) (λ (z : Result Draft Refusal). SoundIfDone z) (λ t. tt)
     (λ t. freed_sound (remove_entry n d)
     (entries_move d.rows d.under_way d.is_recovered d.notices d.rows.counters (without entry_key n es) (let l : k ≤ k = omega arith in l)
-    (removed k n x es d.rows.marks q t s.inbox) (without_free k n es) s))
+    (let p = length_without entry_key n es in let f = s.few_stored in omega arith) (removed k n x es d.rows.marks q t s.inbox) (without_free k n es) s))
 
 pub delete_sound : (n : ℕ) (d : Draft) → SoundAt d → SoundIfDone (delete n d)
 delete_sound n d s = delete_in_sound n (row_at entry_key n d.rows.entries) d refl s
@@ -187,7 +188,7 @@ discard_group_sound n g x d a b e few s =
     freed_sound (put_mark w (drop_all xs d))
     (sound_as d (put_mark w (drop_all xs d)) (record d.rows { entries = fs; marks = put mark_key w ms })
     (ap (λ (r : Rows). record r { marks = put mark_key w r.marks }) o.rows) o.under_way o.recovered o.notices
-    (group_moves d.rows d.under_way d.is_recovered d.notices fs (put mark_key w ms) (group_leaves k g es ms (put mark_key w ms) (λ h ne f. new_none w ms h ne f) s.inbox) (left_free k xs es)
+    (group_moves d.rows d.under_way d.is_recovered d.notices fs (put mark_key w ms) (let p = length_left xs es in let f = s.few_stored in omega arith) (group_leaves k g es ms (put mark_key w ms) (λ h ne f. new_none w ms h ne f) s.inbox) (left_free k xs es)
     (λ z. mark_new k w fs ms kept open_group.kept few z) s))
 
 discard_members_sound : (n : ℕ) (g : Group) (x : Entry) (d : Draft) → Among x (members g d.rows.entries) → Among x d.rows.entries → x.number ≡ n

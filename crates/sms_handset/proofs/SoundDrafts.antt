@@ -23,6 +23,7 @@ use Rattle.sms_handset.proofs.SoundOutbox.{Outbox, message_references_differ, ou
 pub record Sound (r : Rows) (w : Option Carried) (b : Bool) (n : List Notice) : Type 0 where
   pub setup : IsSetup r.setup
   pub counted : 0 < r.counters.entry
+  pub few_stored : length r.entries ≤ 255
   pub inbox : Inbox r.counters.entry r.entries r.marks
   pub last_keys : Rises last_key r.last
   pub last : (l : Last) → Among l r.last → IsLast l
@@ -51,6 +52,7 @@ sound_from c s =
     let k = c.rows.counters.entry in record {
       setup = r.setup;
       counted = r.counted;
+      few_stored = r.few_stored;
       inbox = inbox_from k c.rows.entries c.rows.marks r.entry_keys r.entries r.groups;
       last_keys = r.last_keys;
       last = all_at (λ (l : Last). IsLast l) c.rows.last r.last;
@@ -69,6 +71,7 @@ rows_are_sound r w b n s = record {
   out_keys = s.outbox.order;
   mark_keys = s.marks.order;
   counted = s.counted;
+  few_stored = s.few_stored;
   entries = entries_are r.counters.entry r.entries r.marks s.inbox;
   groups = groups_are r.counters.entry r.entries r.marks s.inbox;
   last = all_from (λ (l : Last). IsLast l) r.last s.last;
@@ -90,11 +93,12 @@ none_under_way (Some c) os e = absurd cc
 -- ---- moves
 
 -- entries of the inbox come and leave, and numbers are given
-pub entries_move : (r : Rows) (w : Option Carried) (b : Bool) (n : List Notice) (c : Counters) (es : List Entry) → r.counters.entry ≤ c.entry → Inbox c.entry es r.marks → StaysFree r.counters.entry r.entries es
+pub entries_move : (r : Rows) (w : Option Carried) (b : Bool) (n : List Notice) (c : Counters) (es : List Entry) → r.counters.entry ≤ c.entry → length es ≤ 255 → Inbox c.entry es r.marks → StaysFree r.counters.entry r.entries es
     → Sound r w b n → Sound (record r { entries = es; counters = c }) w b n
-entries_move r w b n c es l i f s = record {
+entries_move r w b n c es l few i f s = record {
   setup = s.setup;
   counted = (let p = s.counted in omega arith);
+  few_stored = few;
   inbox = i;
   last_keys = s.last_keys;
   last = s.last;
@@ -107,12 +111,13 @@ entries_move r w b n c es l i f s = record {
 
 pub counters_move : (r : Rows) (w : Option Carried) (b : Bool) (n : List Notice) (c : Counters) → r.counters.entry ≤ c.entry → Sound r w b n → Sound (record r { counters = c }) w b n
 counters_move r w b n c l s =
-    entries_move r w b n c r.entries l (inbox_more r.counters.entry c.entry r.entries r.marks l s.inbox) (λ k h f. f) s
+    entries_move r w b n c r.entries l s.few_stored (inbox_more r.counters.entry c.entry r.entries r.marks l s.inbox) (λ k h f. f) s
 
 pub last_moves : (r : Rows) (w : Option Carried) (b : Bool) (n : List Notice) (x : Last) → IsLast x → Sound r w b n → Sound (record r { last = put last_key x r.last }) w b n
 last_moves r w b n x i s = record {
   setup = s.setup;
   counted = s.counted;
+  few_stored = s.few_stored;
   inbox = s.inbox;
   last_keys = rises_put last_key x r.last s.last_keys;
   last = λ l a. ⊎_elim (λ (e : l ≡ x). subst (λ (z : Last). IsLast z) (sym e) i) (λ (q : Among l r.last × ¬ (l.reference ≡ x.reference)). s.last l q.0) (among_put last_key l x r.last a);
@@ -128,6 +133,7 @@ pub outbox_moves : (r : Rows) (w v : Option Carried) (b a : Bool) (n : List Noti
 outbox_moves r w v b a n os o q u s = record {
   setup = s.setup;
   counted = s.counted;
+  few_stored = s.few_stored;
   inbox = s.inbox;
   last_keys = s.last_keys;
   last = s.last;
@@ -142,6 +148,7 @@ pub marks_move : (r : Rows) (w : Option Carried) (b : Bool) (n : List Notice) (m
 marks_move r w b n ms i d s = record {
   setup = s.setup;
   counted = s.counted;
+  few_stored = s.few_stored;
   inbox = i;
   last_keys = s.last_keys;
   last = s.last;
@@ -153,11 +160,12 @@ marks_move r w b n ms i d s = record {
 }
 
 -- a group leaves the inbox and is discarded
-pub group_moves : (r : Rows) (w : Option Carried) (b : Bool) (n : List Notice) (es : List Entry) (ms : List Mark) → Inbox r.counters.entry es ms → StaysFree r.counters.entry r.entries es → (Discarded r.counters.entry es r.marks → Discarded r.counters.entry es ms)
+pub group_moves : (r : Rows) (w : Option Carried) (b : Bool) (n : List Notice) (es : List Entry) (ms : List Mark) → length es ≤ 255 → Inbox r.counters.entry es ms → StaysFree r.counters.entry r.entries es → (Discarded r.counters.entry es r.marks → Discarded r.counters.entry es ms)
     → Sound r w b n → Sound (record r { entries = es; marks = ms }) w b n
-group_moves r w b n es ms i f d s = record {
+group_moves r w b n es ms few i f d s = record {
   setup = s.setup;
   counted = s.counted;
+  few_stored = few;
   inbox = i;
   last_keys = s.last_keys;
   last = s.last;
@@ -173,6 +181,7 @@ pub notices_move : (r : Rows) (w : Option Carried) (b : Bool) (n m : List Notice
 notices_move r w b n m l s = record {
   setup = s.setup;
   counted = s.counted;
+  few_stored = s.few_stored;
   inbox = s.inbox;
   last_keys = s.last_keys;
   last = s.last;

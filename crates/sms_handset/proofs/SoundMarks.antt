@@ -25,7 +25,7 @@ length_inserted {A} key x (y ∷ ys) = ⊎_elim
     (λ (e : key y ≤ key x). let q = ap (λ (l : List A). length l) (insert_behind key x y ys e) in omega (arith, q, length_inserted key x ys))
     (cases_lt (key x) (key y))
 
-length_shorter : {A : Type 0} (key : A → ℕ) (n : ℕ) (xs : List A) (x : A) → Among x xs → key x ≡ n → length (without key n xs) + 1 ≤ length xs
+pub length_shorter : {A : Type 0} (key : A → ℕ) (n : ℕ) (xs : List A) (x : A) → Among x xs → key x ≡ n → length (without key n xs) + 1 ≤ length xs
 length_shorter key n [] x m e = elim m [ ]
 length_shorter {A} key n (y ∷ ys) x m e = ⊎_elim
     (λ (q : key y ≡ n). let s = ap (λ (l : List A). length l) (without_here key n y ys q) in omega (arith, s, length_without key n ys))

@@ -1,8 +1,9 @@
 -- What comes from the centre leaves a sound handset sound.
-use Rattle.std.proofs.Common.{◌≡◌, ◌⊎◌, ℕ, ◌+◌, ◌<◌, ◌≤◌, arith, List, [], ◌∷◌, ◌++◌, true, false, cond, Option, Some, None, Result, Ok, Err, refl, sym, ap, inl, inr, ⊎_elim}
+use Rattle.std.proofs.Common.{◌≡◌, ◌⊎◌, ℕ, ◌+◌, ◌<◌, ◌≤◌, arith, List, [], ◌∷◌, ◌++◌, length, true, false, cond, Option, Some, None, Result, Ok, Err, refl, sym, ap, inl, inr, ⊎_elim}
 use Rattle.std.proofs.lemmas.Bool.{cases_cond, cond_both}
 use Rattle.sms_base.specs.Among.{Among}
 use Rattle.sms_table.specs.Table.{latest, put, row_at}
+use Rattle.sms_table.proofs.Tables.{length_put}
 use Rattle.sms_base.specs.declared.holder.Holder.{Holder}
 use Rattle.sms_concat.specs.declared.concat_key.ConcatKey.{ConcatKey}
 use Rattle.sms_concat.specs.declared.content.Content.{Content}
@@ -42,6 +43,7 @@ use Rattle.sms_handset.proofs.Accepting.{IsCounted, header_counts}
 use Rattle.sms_handset.proofs.GroupMembers.{all_without}
 use Rattle.sms_handset.proofs.SoundDrafts.{Sound, SoundAt, counters_move, entries_move, last_moves, marks_move, outbox_moves, sound_as}
 use Rattle.sms_handset.proofs.SoundEntries.{inbox_marks, put_free, single_put}
+use Rattle.sms_handset.proofs.SoundRoom.{closed_few, room_left}
 use Rattle.sms_handset.proofs.SoundGroups.{all_freed, arrives, closed_free, ended_entries, part_closes, part_opens}
 use Rattle.sms_handset.proofs.SoundMarks.{gone_none, mark_found, mark_gone, mark_more, more_none, seen_too}
 use Rattle.sms_handset.proofs.SoundOutbox.{replaced, sending_same}
@@ -81,12 +83,13 @@ ended_only g xs (Some content) d =
 counted : Draft → Counters
 counted d = record d.rows.counters { entry = d.rows.counters.entry + 1 }
 
-single_sound : (tpdu : List ℕ) (d : Draft) → IsDelivered tpdu → SoundAt d → SoundAt (store_single tpdu d)
+single_sound : (tpdu : List ℕ) (d : Draft) → has_room d ≡ true → IsDelivered tpdu → SoundAt d → SoundAt (store_single tpdu d)
 unfolding counted
-single_sound tpdu d i s =
+single_sound tpdu d t i s =
     let k = d.rows.counters.entry in
     let x : Entry = single_entry k tpdu in
     entries_move d.rows d.under_way d.is_recovered d.notices (counted d) (put entry_key x d.rows.entries) (let l : k ≤ k + 1 = omega arith in l)
+    (let p = length_put entry_key x d.rows.entries in let r = room_left d t s in omega arith)
     (single_put k x d.rows.entries d.rows.marks refl s.counted (λ g. refl) (refl, i) s.inbox) (put_free k x d.rows.entries refl) s
 
 -- a part of a group that is not discarded, whose number it lacks
@@ -97,9 +100,9 @@ record Fresh (g : Group) (n : ℕ) (tpdu : List ℕ) (d : Draft) : Type 0 where
   new : is_among n (part_numbers (members g d.rows.entries)) ≡ false
   kept : mark_of g d.rows.marks ≡ None
 
-part_sound : (g : Group) (n : ℕ) (tpdu : List ℕ) (d : Draft) → Fresh g n tpdu d → SoundAt d → SoundAt (store_part g n tpdu (members g d.rows.entries) d)
+part_sound : (g : Group) (n : ℕ) (tpdu : List ℕ) (d : Draft) → has_room d ≡ true → Fresh g n tpdu d → SoundAt d → SoundAt (store_part g n tpdu (members g d.rows.entries) d)
 unfolding counted
-part_sound g n tpdu d f s =
+part_sound g n tpdu d room f s =
     let k = d.rows.counters.entry in
     let e : Entry = part_entry k g n tpdu in
     let es = d.rows.entries in
@@ -111,13 +114,15 @@ part_sound g n tpdu d f s =
     let free = put_free k e es refl in
     let more : k ≤ k + 1 = omega arith in
     let total : 0 < g.total = (let l = f.low in let h = f.high in omega arith) in
+    let few : length fs ≤ 255 = (let p = length_put entry_key e es in let r = room_left d room s in omega arith) in
     cond_both (all_numbers g.total (part_numbers all)) (ended g all c z) z (λ (y : Draft). SoundAt y)
     (λ t.
     sound_only z (ended g all c z) (ended_entries g all c fs) (ended_only g all c z)
     (entries_move d.rows d.under_way d.is_recovered d.notices (counted d) (ended_entries g all c fs) more
+    (let p = closed_few (k + 1) g e c es fs a in omega arith)
     (part_closes k g e c es fs d.rows.marks s.inbox a total) (closed_free k g e c es fs a free) s))
     (λ t.
-    entries_move d.rows d.under_way d.is_recovered d.notices (counted d) fs more
+    entries_move d.rows d.under_way d.is_recovered d.notices (counted d) fs more few
     (part_opens k g e es fs d.rows.marks s.inbox a f.new f.kept t) free s)
 
 -- a number of a discarded group
@@ -160,13 +165,13 @@ accept_sound r tag tpdu d i s =
 single_came_sound : (r : ℕ) (tag : Holder) (tpdu : List ℕ) (d : Draft) → IsDelivered tpdu → SoundAt d → SoundAt (single_came r tag tpdu d)
 single_came_sound r tag tpdu d i s =
     cond_both (has_room d) (accept r tag tpdu (store_single tpdu d)) (no_room r tag d) (λ (y : Draft). SoundAt y)
-    (λ t. accept_sound r tag tpdu (store_single tpdu d) (inl i) (single_sound tpdu d i s)) (λ t. no_room_sound r tag d s)
+    (λ t. accept_sound r tag tpdu (store_single tpdu d) (inl i) (single_sound tpdu d t i s)) (λ t. no_room_sound r tag d s)
 
 new_part_sound : (r : ℕ) (tag : Holder) (tpdu : List ℕ) (g : Group) (n : ℕ) (d : Draft) → IsDelivered tpdu → Fresh g n tpdu d → SoundAt d → SoundAt (new_part_came r tag tpdu g n (members g d.rows.entries) d)
 new_part_sound r tag tpdu g n d i f s =
     let es = members g d.rows.entries in
     cond_both (has_room d) (accept r tag tpdu (store_part g n tpdu es d)) (no_room r tag d) (λ (y : Draft). SoundAt y)
-    (λ t. accept_sound r tag tpdu (store_part g n tpdu es d) (inl i) (part_sound g n tpdu d f s)) (λ t. no_room_sound r tag d s)
+    (λ t. accept_sound r tag tpdu (store_part g n tpdu es d) (inl i) (part_sound g n tpdu d t f s)) (λ t. no_room_sound r tag d s)
 
 member_sound : (r : ℕ) (tag : Holder) (tpdu : List ℕ) (g : Group) (n : ℕ) (d : Draft) → IsDelivered tpdu → IsPartOf g n tpdu → 0 < n → n ≤ g.total → mark_of g d.rows.marks ≡ None
     → SoundAt d → SoundAt (member_came r tag tpdu g n (members g d.rows.entries) d)

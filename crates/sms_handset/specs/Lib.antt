@@ -16,6 +16,7 @@ pub mod OwnersActs
 pub mod HandsetEvent
 pub mod Planning
 pub mod SoundRows
+pub mod SoundnessTest
 pub mod SoundCore
 pub mod Trying
 pub mod FaultCodes

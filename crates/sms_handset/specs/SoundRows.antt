@@ -115,6 +115,7 @@ AreMarks next entries (m ∷ ms) =
 
 pub record IsSetup (setup : Setup) : Type 0 where
   pub slots : 0 < setup.slots
+  pub slots_fit : setup.slots ≤ 255
   pub number : IsAddress setup.number
   pub centre : IsAddress setup.centre
 
@@ -125,6 +126,8 @@ pub record IsSound (rows : Rows) : Type 0 where
   pub out_keys : Rises out_key rows.outbox
   pub mark_keys : Rises mark_key rows.marks
   pub counted : 0 < rows.counters.entry
+  -- as each takes a slot
+  pub few_stored : length rows.entries ≤ 255
   pub entries : AreEntries rows.counters.entry rows.entries
   pub groups : AreOpenGroups rows.entries rows.marks
   pub last : AllByRecursion IsLast rows.last
