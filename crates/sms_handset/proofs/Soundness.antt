@@ -1,9 +1,7 @@
 -- The test tells exactly whether rows are sound.
 use Rattle.std.proofs.Common.{◌≡◌, ◌⊎◌, ℕ, ◌<◌, ◌≤◌, arith, List, [], ◌∷◌, length, Bool, true, false, cond, Option, Some, None, Result, Ok, Err, refl, sym, ◌∙◌, ap, subst, inl, inr, ⊎_elim, eq-eqb, eqb-true, true≢false}
-use Rattle.std.specs.Prelude.{◌==◌, ◌&&◌, ◌||◌, nat_le, nat_lt, not, is_none}
+use Rattle.std.specs.Prelude.{◌↔◌, ◌==◌, ◌&&◌, ◌||◌, nat_le, nat_lt, not, is_none}
 use Rattle.std.specs.List.{AllByRecursion}
-use Rattle.std.specs.Str.{bytes_eq}
-use Rattle.std.proofs.Str.{bytes_eq-Decides}
 use Rattle.std.proofs.lemmas.Bool.{and_from, and_parts, cases_Bool, cond-true, cond-false, le-leb, leb-true, lt-ltb, ltb-true, not-true, not_from_false}
 use Rattle.sms_base.specs.Among.{Among}
 use Rattle.sms_base.specs.Reading.{◌>>=◌}
@@ -33,8 +31,8 @@ use Rattle.sms_handset.specs.Groups.{all_numbers, first_number, group_of, is_amo
 use Rattle.sms_handset.specs.Keys.{entry_key}
 use Rattle.sms_handset.specs.Outbox.{most_tries}
 use Rattle.sms_handset.specs.References.{held_by_entries, held_message_references}
-use Rattle.sms_handset.specs.SoundRows.{AreEntries, AreMarks, AreOpenGroups, AreOutEntries, AreTries, Differ, IsApart, IsDelivered, IsGiven, IsLast, IsMessage, IsOfOpenGroup, IsOpenGroup, IsPartOf, IsSubmitted, WasSent}
-use Rattle.sms_handset.specs.SoundnessTest.{are_marks, are_tries, differ, each_passes, has_key, is_apart, is_entry, is_given, is_last, is_message, is_of_open_group, is_open_group, is_out_entry, is_submitted, reads_deliver, reads_last, reads_part, reads_submit, was_sent}
+use Rattle.sms_handset.specs.SoundRows.{AreEntries, AreMarks, AreOpenGroups, AreOutEntries, AreTries, Differ, IsApart, IsDelivered, IsGiven, IsLast, IsMessage, IsOfOpenGroup, IsOpenGroup, IsPartOf, IsSetup, IsSound, IsSubmitted, WasSent}
+use Rattle.sms_handset.specs.SoundnessTest.{KeysRise, are_few, are_marks, are_tries, differ, each_passes, has_key, inbox_passes, is_apart, is_entry, is_given, is_last, is_message, is_of_open_group, is_open_group, is_out_entry, is_submitted, outbox_passes, reads_deliver, reads_last, reads_part, reads_submit, was_sent}
 use Rattle.sms_handset.proofs.GroupMembers.{among_members, members_among, one_address, one_group, part_is, same_address, same_group}
 use Rattle.sms_handset.proofs.SoundEntries.{all_at}
 
@@ -295,9 +293,6 @@ out_tells next es o =
 pub outbox_tells : (next : ℕ) (es : List Entry) (os : List OutEntry) → Tells (each_passes (λ (o : OutEntry). is_out_entry next es o) os) (AreOutEntries next es os)
 outbox_tells next es os = each (λ (o : OutEntry). is_out_entry next es o) (λ (o : OutEntry). IsOut next es o) (λ o. out_tells next es o) os
 
-pub held_tells : (ns : List ℕ) → Tells (differ ns) (Differ ns)
-held_tells ns = differ_tells ns
-
 -- ---- discarded groups
 
 abbrev IsGood : ℕ → List Entry → Mark → List Mark → Type 0
@@ -321,3 +316,92 @@ marks_tell next es (m ∷ ms) =
     told_as (are_marks next es (m ∷ ms)) (IsGood next es m ms × AreMarks next es ms) (AreMarks next es (m ∷ ms))
     (λ h. (h.0.0.0, h.0.0.1, h.0.1.0, h.0.1.1.0, h.0.1.1.1, h.1)) (λ h. (((h.0, h.1), (h.2, (h.3, h.4))), h.5))
     (both (is_good next es m ms) (are_marks next es ms) (IsGood next es m ms) (AreMarks next es ms) (good_tells next es m ms) (marks_tell next es ms))
+
+-- ---- all rows
+
+pub rise_of : (r : Rows) → IsSound r → KeysRise r
+rise_of r s = record { entries = s.entry_keys; last = s.last_keys; outbox = s.out_keys; marks = s.mark_keys }
+
+few_tells : (r : Rows) → Tells (are_few r) ((length r.entries ≤ 255) × ((length r.outbox ≤ 20) × (length r.marks ≤ 64)))
+few_tells r =
+    both (nat_le (length r.entries) 255) (nat_le (length r.outbox) 20 && nat_le (length r.marks) 64) (length r.entries ≤ 255) ((length r.outbox ≤ 20) × (length r.marks ≤ 64))
+    (at_most (length r.entries) 255)
+    (both (nat_le (length r.outbox) 20) (nat_le (length r.marks) 64) (length r.outbox ≤ 20) (length r.marks ≤ 64) (at_most (length r.outbox) 20) (at_most (length r.marks) 64))
+
+pub few_of : (r : Rows) → IsSound r → are_few r ≡ true
+few_of r s = (few_tells r).1 (s.few_stored, (s.few_entries, s.few_marks))
+
+abbrev IsInbox : Rows → Type 0
+IsInbox r = (0 < r.counters.entry) × (AreEntries r.counters.entry r.entries × (AreOpenGroups r.entries r.marks × AllByRecursion IsLast r.last))
+
+inbox_tells : (r : Rows) → Tells (inbox_passes r) (IsInbox r)
+inbox_tells r =
+    let k = r.counters.entry in
+    let a = each_passes (λ (e : Entry). is_entry k e) r.entries in
+    let b = each_passes (λ (e : Entry). is_of_open_group r.entries r.marks e.number e.message) r.entries in
+    let c = each_passes (λ (l : Last). is_last l) r.last in
+    both (nat_lt 0 k) (a && (b && c)) (0 < k) (AreEntries k r.entries × (AreOpenGroups r.entries r.marks × AllByRecursion IsLast r.last)) (less 0 k)
+    (both a (b && c) (AreEntries k r.entries) (AreOpenGroups r.entries r.marks × AllByRecursion IsLast r.last) (entries_tell k r.entries)
+    (both b c (AreOpenGroups r.entries r.marks) (AllByRecursion IsLast r.last) (groups_tell r.entries r.marks) (last_tells r.last)))
+
+abbrev IsOutbox : Rows → Type 0
+IsOutbox r =
+    AreOutEntries r.counters.entry r.entries r.outbox
+    × (Differ (held_message_references r.outbox) × (Differ (held_by_entries r.outbox) × AreMarks r.counters.entry r.entries r.marks))
+
+outbox_tell : (r : Rows) → Tells (outbox_passes r) (IsOutbox r)
+outbox_tell r =
+    let k = r.counters.entry in
+    let a = each_passes (λ (o : OutEntry). is_out_entry k r.entries o) r.outbox in
+    let b = differ (held_message_references r.outbox) in
+    let c = differ (held_by_entries r.outbox) in
+    let d = are_marks k r.entries r.marks in
+    both a (b && (c && d)) (AreOutEntries k r.entries r.outbox) (Differ (held_message_references r.outbox) × (Differ (held_by_entries r.outbox) × AreMarks k r.entries r.marks))
+    (outbox_tells k r.entries r.outbox)
+    (both b (c && d) (Differ (held_message_references r.outbox)) (Differ (held_by_entries r.outbox) × AreMarks k r.entries r.marks) (differ_tells (held_message_references r.outbox))
+    (both c d (Differ (held_by_entries r.outbox)) (AreMarks k r.entries r.marks) (differ_tells (held_by_entries r.outbox)) (marks_tell k r.entries r.marks)))
+
+pub inbox_of : (r : Rows) → IsSound r → inbox_passes r ≡ true
+inbox_of r s = (inbox_tells r).1 (s.counted, (s.entries, (s.groups, s.last)))
+
+pub outbox_of : (r : Rows) → IsSound r → outbox_passes r ≡ true
+outbox_of r s = (outbox_tell r).1 (s.outbox, (s.message_references, (s.references, s.marks)))
+
+pub sound_is : (r : Rows) → IsSetup r.setup → KeysRise r → are_few r ≡ true → inbox_passes r ≡ true → outbox_passes r ≡ true → IsSound r
+sound_is r setup rise few inbox outbox =
+    let f = (few_tells r).0 few in
+    let i = (inbox_tells r).0 inbox in
+    let o = (outbox_tell r).0 outbox in
+    record {
+      setup = setup;
+      entry_keys = rise.entries;
+      last_keys = rise.last;
+      out_keys = rise.outbox;
+      mark_keys = rise.marks;
+      counted = i.0;
+      few_stored = f.0;
+      entries = i.1.0;
+      groups = i.1.1.0;
+      last = i.1.1.1;
+      outbox = o.0;
+      few_entries = f.1.0;
+      message_references = o.1.0;
+      references = o.1.1.0;
+      marks = o.1.1.1;
+      few_marks = f.1.1;
+    }
+
+-- what the test answers
+
+pub told : (r : Rows) (b rise inbox outbox : Bool) → IsSetup r.setup → are_few r ≡ true → ((rise ≡ true) ↔ KeysRise r) → inbox ≡ inbox_passes r → outbox ≡ outbox_passes r
+    → b ≡ (rise && (inbox && outbox)) → (b ≡ true) ↔ IsSound r
+told r b rise inbox outbox setup few keys i o e = (
+  (λ t.
+      let p = and_parts rise (inbox && outbox) (sym e ∙ t) in
+      let q = and_parts inbox outbox p.1 in
+      sound_is r setup (keys.0 p.0) few (sym i ∙ q.0) (sym o ∙ q.1)),
+  (λ s. e ∙ and_from rise (inbox && outbox) (keys.1 (rise_of r s)) (and_from inbox outbox (i ∙ inbox_of r s) (o ∙ outbox_of r s))),
+)
+
+pub told_many : (r : Rows) → are_few r ≡ false → (false ≡ true) ↔ IsSound r
+told_many r e = ((λ t. absurd cc), (λ s. let f = few_of r s in absurd (true≢false (sym f ∙ e))))

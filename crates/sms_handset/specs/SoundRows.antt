@@ -18,6 +18,8 @@ use Rattle.sms_handset.specs.declared.mark.Mark.{Mark}
 use Rattle.sms_handset.specs.declared.out_entry.EntryState.{EntryState}
 use Rattle.sms_handset.specs.declared.out_entry.EntryState.TheVariants.{Queued, Sending, Sent, Failed, Unsure}
 use Rattle.sms_handset.specs.declared.out_entry.OutEntry.{OutEntry}
+use Rattle.sms_handset.specs.declared.recover_error.RecoverError.{RecoverError}
+use Rattle.sms_handset.specs.declared.recover_error.RecoverError.TheVariants.{BadRows, NoMemory}
 use Rattle.sms_handset.specs.declared.rows.Rows.{Rows}
 use Rattle.sms_handset.specs.declared.setup.Setup.{Setup}
 use Rattle.sms_table.specs.Table.{Rises, row_at}
@@ -138,3 +140,21 @@ pub record IsSound (rows : Rows) : Type 0 where
   pub references : Differ (held_by_entries rows.outbox)
   pub marks : AreMarks rows.counters.entry rows.entries rows.marks
   pub few_marks : length rows.marks ≤ 64
+
+-- ---- the first rows of a new store
+
+abbrev pub first_rows : Setup → Rows
+first_rows setup = record {
+  entries = [];
+  last = [];
+  outbox = [];
+  marks = [];
+  counters = record { entry = 1; message_reference = 0; reference = 0; concat_reference = 0; notice = 0; is_memory_full = false };
+  setup = setup;
+}
+
+-- ---- why there is no handset: the rows are not sound; memory is asked for only where they are
+
+abbrev pub RefusesRows : RecoverError → Rows → Type 0
+RefusesRows BadRows rows = ¬ IsSound rows
+RefusesRows NoMemory rows = IsSound rows

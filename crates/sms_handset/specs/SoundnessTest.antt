@@ -18,9 +18,11 @@ use Rattle.sms_handset.specs.declared.mark.Mark.{Mark}
 use Rattle.sms_handset.specs.declared.out_entry.EntryState.{EntryState}
 use Rattle.sms_handset.specs.declared.out_entry.EntryState.TheVariants.{Queued, Sending, Sent, Failed, Unsure}
 use Rattle.sms_handset.specs.declared.out_entry.OutEntry.{OutEntry}
-use Rattle.sms_table.specs.Table.{row_at}
+use Rattle.sms_handset.specs.declared.rows.Rows.{Rows}
+use Rattle.sms_table.specs.Table.{Rises, row_at}
 use Rattle.sms_handset.specs.Groups.{all_numbers, first_number, group_of, is_among, is_same_address, is_same_group, key_of, mark_of, members, part_numbers}
-use Rattle.sms_handset.specs.Keys.{entry_key}
+use Rattle.sms_handset.specs.Keys.{entry_key, last_key, mark_key, out_key}
+use Rattle.sms_handset.specs.References.{held_by_entries, held_message_references}
 use Rattle.sms_handset.specs.Outbox.{most_tries}
 
 -- each item passes
@@ -118,3 +120,26 @@ are_marks next entries [] = true
 are_marks next entries (m ∷ ms) =
     ((is_given next m.number && is_apart m.number entries) && (differ m.seen && (not (all_numbers m.group.total m.seen) && is_none (mark_of m.group ms))))
     && are_marks next entries ms
+
+-- ---- all rows
+
+-- the keys of each list rise
+pub record KeysRise (rows : Rows) : Type 0 where
+  pub entries : Rises entry_key rows.entries
+  pub last : Rises last_key rows.last
+  pub outbox : Rises out_key rows.outbox
+  pub marks : Rises mark_key rows.marks
+
+-- few enough to be looked at one with another
+abbrev pub are_few : Rows → Bool
+are_few rows = nat_le (length rows.entries) 255 && (nat_le (length rows.outbox) 20 && nat_le (length rows.marks) 64)
+
+abbrev pub inbox_passes : Rows → Bool
+inbox_passes rows =
+    nat_lt 0 rows.counters.entry && (each_passes (λ (e : Entry). is_entry rows.counters.entry e) rows.entries
+    && (each_passes (λ (e : Entry). is_of_open_group rows.entries rows.marks e.number e.message) rows.entries && each_passes (λ (l : Last). is_last l) rows.last))
+
+abbrev pub outbox_passes : Rows → Bool
+outbox_passes rows =
+    each_passes (λ (o : OutEntry). is_out_entry rows.counters.entry rows.entries o) rows.outbox
+    && (differ (held_message_references rows.outbox) && (differ (held_by_entries rows.outbox) && are_marks rows.counters.entry rows.entries rows.marks))

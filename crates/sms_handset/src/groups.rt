@@ -10,8 +10,8 @@ use crate::members::Members;
 use sms_base::Address;
 use sms_concat::{ConcatKey, ConcatReference, Header, concat_info};
 
-// Whether addresses are one.
-fn is_same_address(one: &Address, other: &Address) -> bool
+/// Whether addresses are one.
+pub(crate) fn is_same_address(one: &Address, other: &Address) -> bool
     ensures { result ≡ is_same_address_of one.now other.now }
 {
     one.ton.number() == other.ton.number()

@@ -1,5 +1,5 @@
 //! The handset.
-ghost use Rattle.std.specs.Prelude.{◌≡◌, ◌+◌, ◌≤◌, max, Ok, IfOk};
+ghost use Rattle.std.specs.Prelude.{◌≡◌, ◌+◌, ◌≤◌, max, Ok, IfErr, IfOk};
 ghost use Rattle.std.specs.Str.{chars};
 ghost use Rattle.sms_handset.specs.Draft.{draft_of, recovered};
 ghost use Rattle.sms_handset.specs.HandsetEvent.{deleted, discarded, frame_came as frame_came_of, tag_of, ticked as ticked_of, wrote};
@@ -12,7 +12,7 @@ ghost use Rattle.sms_handset.specs.OpenIndex.{opening};
 ghost use Rattle.sms_handset.specs.Keys.{entry_key, last_key, mark_key, out_key};
 ghost use Rattle.sms_handset.specs.OwnersActs.{delete as delete_of, delete_out, discard as discard_of};
 ghost use Rattle.sms_handset.specs.SoundCore.{IsSoundCore};
-ghost use Rattle.sms_handset.specs.SoundRows.{IsSound};
+ghost use Rattle.sms_handset.specs.SoundRows.{IsSetup, IsSound, RefusesRows};
 
 use crate::counters::Counters;
 use crate::draft::Draft;
@@ -27,9 +27,11 @@ use crate::open_groups::{OpenGroups, SpareGroups};
 use crate::out_entry::OutEntry;
 use crate::owner::is_open_part;
 use crate::planned::Planned;
+use crate::recover_error::RecoverError;
 use crate::references::is_unfinished;
 use crate::refusal::{PlanError, Refusal};
 use crate::rows::{Changes, Rows};
+use crate::sound_rows::are_sound;
 use crate::stored::Stored;
 use crate::storing::slots_in;
 use sms_base::{Holder, Listed, Moment};
@@ -77,9 +79,23 @@ impl Model for Handset {
 }
 
 impl Handset {
-    /// The handset that starts with these rows. It takes memory for the index of the open groups alone.
+    /// The handset that starts with these rows, if it can: `BadRows` exactly where they are not sound, in a time that
+    /// grows as the rows do. It takes memory for the index of the open groups alone.
+    pub fn recover(alloc: Global, rows: Rows) -> Result<Handset, RecoverError>
+        requires { IsSetup rows.setup }
+        ensures state { IfOk result (λ handset. handset.core ≡ recovered rows) }
+        ensures sound { IfOk result (λ handset. IsSoundCore handset.core) }
+        ensures refused { IfErr result (λ error. RefusesRows error rows) }
+    {
+        if !are_sound(&rows) {
+            return Err(RecoverError::BadRows);
+        }
+        Ok(Handset::starting(alloc, rows)?)
+    }
+
+    // The same on sound rows.
     #[tactic(auto, using(crate::proofs::GroupStages::sound_numbers))]
-    pub fn recover(alloc: Global, rows: Rows) -> Result<Handset, NoMemory>
+    fn starting(alloc: Global, rows: Rows) -> Result<Handset, NoMemory>
         requires { IsSound rows }
         ensures state { IfOk result (λ handset. handset.core ≡ recovered rows) }
         ensures sound { IfOk result (λ handset. IsSoundCore handset.core) }
@@ -88,7 +104,7 @@ impl Handset {
     }
 
     // The same on rows in the order of their keys, whose entries have numbers that were given.
-    pub(crate) fn standing_on(alloc: Global, rows: Rows) -> Result<Handset, NoMemory>
+    fn standing_on(alloc: Global, rows: Rows) -> Result<Handset, NoMemory>
         requires entries { Rises entry_key rows.entries }
         requires last { Rises last_key rows.last }
         requires outbox { Rises out_key rows.outbox }

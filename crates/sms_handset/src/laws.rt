@@ -7,7 +7,7 @@ ghost use Rattle.sms_handset.specs.Accepted.{StoresAccepted};
 ghost use Rattle.sms_handset.specs.Draft.{Core};
 ghost use Rattle.sms_handset.specs.HandsetEvent.{deleted, discarded, frame_came, ticked, wrote};
 ghost use Rattle.sms_handset.specs.Planning.{Rests, RestsIfDone};
-ghost use Rattle.sms_handset.specs.SoundRows.{IsSetup, IsSound};
+ghost use Rattle.sms_handset.specs.SoundRows.{IsSetup, IsSound, first_rows};
 
 /// The rows that an event leads to are the rows with its changes.
 pub fn rows_are_the_changes()
@@ -27,4 +27,9 @@ pub fn accepted_is_stored()
 /// Sound rows are so with any setup: a handset recovers with what it is told then.
 pub fn sound_rows_take_any_setup()
     ensures { (rows : Rows) (setup : Setup) → IsSound rows → IsSetup setup → IsSound (record rows { setup = setup }) }
+{}
+
+/// The first rows of a new store are sound.
+pub fn first_rows_are_sound()
+    ensures { (setup : Setup) → IsSetup setup → IsSound (first_rows setup) }
 {}

@@ -1,4 +1,6 @@
 //! What a handset stores, and what an event changes of it.
+ghost use Rattle.std.specs.Prelude.{◌≡◌};
+ghost use Rattle.sms_handset.specs.SoundRows.{first_rows};
 
 use crate::counters::Counters;
 use crate::entry::Entry;
@@ -8,6 +10,7 @@ use crate::out_entry::OutEntry;
 use crate::setup::Setup;
 use sms_base::Listed;
 use sms_table::Settled;
+use std::alloc::Global;
 
 /// All that a handset stores, and its setup, which is handed in.
 #[derive(Debug, Drop)]
@@ -18,6 +21,29 @@ pub struct Rows {
     pub marks: Listed<Mark>,
     pub counters: Counters,
     pub setup: Setup,
+}
+
+impl Rows {
+    /// The rows of a new store.
+    pub fn first(alloc: Global, setup: Setup) -> Rows
+        ensures { result ≡ first_rows setup }
+    {
+        Rows {
+            entries: Listed::new(alloc),
+            last: Listed::new(alloc),
+            outbox: Listed::new(alloc),
+            marks: Listed::new(alloc),
+            counters: Counters {
+                entry: 1,
+                message_reference: 0,
+                reference: 0,
+                concat_reference: 0,
+                notice: 0,
+                is_memory_full: false,
+            },
+            setup,
+        }
+    }
 }
 
 /// What an event changes of the rows: of each list in order, and the counters if they change.
