@@ -23,8 +23,8 @@ use Rattle.sms_handset.specs.declared.entry.Entry.{Entry}
 use Rattle.sms_handset.specs.declared.entry.Group.{Group}
 use Rattle.sms_handset.specs.declared.entry.Message.{Message}
 use Rattle.sms_handset.specs.declared.entry.Message.TheVariants.{Single, Part, Joined}
-use Rattle.sms_handset.specs.declared.last.Last.{Last}
-use Rattle.sms_handset.specs.declared.mark.Mark.{Mark}
+use Rattle.sms_handset.specs.declared.last_accepted.LastAccepted.{LastAccepted}
+use Rattle.sms_handset.specs.declared.discarded_group.DiscardedGroup.{DiscardedGroup}
 use Rattle.sms_handset.specs.declared.out_entry.OutEntry.{OutEntry}
 use Rattle.sms_base.specs.declared.address.Address.{Address}
 use Rattle.sms_base.specs.declared.address_error.AddressError.{AddressError}
@@ -154,24 +154,24 @@ single_stores tpdu m d = (single_entry d.rows.counters.entry tpdu, (put_stands (
 
 -- ---- what is accepted
 
-abbrev Law : List Mark → Draft → Type 0
+abbrev Law : List DiscardedGroup → Draft → Type 0
 Law marks d = StoresAccepted marks d.changes d.rows
 
-none_accepted : (marks : List Mark) (d : Draft) → d.changes.last ≡ [] → Law marks d
-none_accepted marks d e l a m f = absurd (subst (λ (cs : List (Change Last)). Among (Put l) cs) e a)
+none_accepted : (marks : List DiscardedGroup) (d : Draft) → d.changes.last ≡ [] → Law marks d
+none_accepted marks d e l a m f = absurd (subst (λ (cs : List (Change LastAccepted)). Among (Put l) cs) e a)
 
 -- the one that is put
-only_put : (x l : Last) (cs : List (Change Last)) → cs ≡ [] → Among (Put l) (cs ++ Put x ∷ []) → l ≡ x
+only_put : (x l : LastAccepted) (cs : List (Change LastAccepted)) → cs ≡ [] → Among (Put l) (cs ++ Put x ∷ []) → l ≡ x
 only_put x l cs e a =
-    let b : Among (Put l) (Put x ∷ []) = subst (λ (ds : List (Change Last)). Among (Put l) (ds ++ Put x ∷ [])) e a in
+    let b : Among (Put l) (Put x ∷ []) = subst (λ (ds : List (Change LastAccepted)). Among (Put l) (ds ++ Put x ∷ [])) e a in
     ⊎_elim (λ (q : Put l ≡ Put x). let r : l ≡ x = cc in r) (λ (q : ⊥). absurd q) b
 
-accept_stores : (marks : List Mark) (r : ℕ) (tag : Holder) (tpdu : List ℕ) (d : Draft) → d.changes.last ≡ []
+accept_stores : (marks : List DiscardedGroup) (r : ℕ) (tag : Holder) (tpdu : List ℕ) (d : Draft) → d.changes.last ≡ []
     → ((m : DeliverOf) → down_at InData tpdu ≡ Ok (Deliver m) → IsOfDiscarded marks m ⊎ Stored d tpdu m) → Law marks (accept r tag tpdu d)
 accept_stores marks r tag tpdu d e h l a m f =
-    let x : Last = record { reference = r; tpdu = tpdu } in
+    let x : LastAccepted = record { reference = r; tpdu = tpdu } in
     let q : l ≡ x = only_put x l d.changes.last e a in
-    let t : l.tpdu ≡ tpdu = ap (λ (z : Last). z.tpdu) q in
+    let t : l.tpdu ≡ tpdu = ap (λ (z : LastAccepted). z.tpdu) q in
     subst (λ (octets : List ℕ). IsOfDiscarded marks m ⊎ Stored d octets m) (sym t)
     (h m (subst (λ (octets : List ℕ). down_at InData octets ≡ Ok (Deliver m)) t f))
 
@@ -185,7 +185,7 @@ same_deliver tpdu m n a b =
     let y : Result Down TpduFault = Ok (Deliver n) in
     let e : x ≡ y = sym a ∙ b in cc
 
-single_law : (marks : List Mark) (r : ℕ) (tag : Holder) (tpdu : List ℕ) (d : Draft) → d.changes.last ≡ [] → Law marks (single_came r tag tpdu d)
+single_law : (marks : List DiscardedGroup) (r : ℕ) (tag : Holder) (tpdu : List ℕ) (d : Draft) → d.changes.last ≡ [] → Law marks (single_came r tag tpdu d)
 single_law marks r tag tpdu d e =
     cond_both (has_room d) (accept r tag tpdu (store_single tpdu d)) (no_room r tag d) (λ (z : Draft). Law marks z)
     (λ t. accept_stores marks r tag tpdu (store_single tpdu d) e (λ m f. inr (single_stores tpdu m d)))
@@ -209,7 +209,7 @@ completed_last g es d e =
     ended_last g es None d e = freed_last_too es d e
     ended_last g es (Some c) d e = dropped_last es d e
 
-new_part_law : (marks : List Mark) (r : ℕ) (tag : Holder) (tpdu : List ℕ) (m : DeliverOf) (g : Group) (n : ℕ) (es : List Entry) (d : Draft) → d.changes.last ≡ []
+new_part_law : (marks : List DiscardedGroup) (r : ℕ) (tag : Holder) (tpdu : List ℕ) (m : DeliverOf) (g : Group) (n : ℕ) (es : List Entry) (d : Draft) → d.changes.last ≡ []
     → Reads tpdu m → 0 < n → n ≤ g.total → g.source ≡ m.originating_address → is_among n (part_numbers es) ≡ false → Law marks (new_part_came r tag tpdu g n es d)
 new_part_law marks r tag tpdu m g n es d e reads low high from new =
     cond_both (has_room d) (accept r tag tpdu (store_part g n tpdu es d)) (no_room r tag d) (λ (z : Draft). Law marks z)
@@ -217,16 +217,16 @@ new_part_law marks r tag tpdu m g n es d e reads low high from new =
     (λ o f. inr (part_stores g n tpdu o es d low high (from ∙ ap (λ (z : DeliverOf). z.originating_address) (same_deliver tpdu m o reads f)) new)))
     (λ t. none_accepted marks (no_room r tag d) e)
 
-member_law : (marks : List Mark) (r : ℕ) (tag : Holder) (tpdu : List ℕ) (m : DeliverOf) (g : Group) (n : ℕ) (es : List Entry) (d : Draft) → d.changes.last ≡ []
+member_law : (marks : List DiscardedGroup) (r : ℕ) (tag : Holder) (tpdu : List ℕ) (m : DeliverOf) (g : Group) (n : ℕ) (es : List Entry) (d : Draft) → d.changes.last ≡ []
     → Reads tpdu m → 0 < n → n ≤ g.total → g.source ≡ m.originating_address → Law marks (member_came r tag tpdu g n es d)
 member_law marks r tag tpdu m g n es d e reads low high from =
     cond_both (is_among n (part_numbers es)) (single_came r tag tpdu d) (new_part_came r tag tpdu g n es d) (λ (z : Draft). Law marks z)
     (λ t. single_law marks r tag tpdu d e) (λ t. new_part_law marks r tag tpdu m g n es d e reads low high from t)
 
-marked_last : (n : ℕ) (k : Mark) (d : Draft) → d.changes.last ≡ [] → (marked n k d).changes.last ≡ []
+marked_last : (n : ℕ) (k : DiscardedGroup) (d : Draft) → d.changes.last ≡ [] → (marked n k d).changes.last ≡ []
 marked_last n k d e = cond_both (all_numbers k.group.total (k.seen ++ n ∷ [])) (remove_mark k.number d) (put_mark (record k { seen = k.seen ++ n ∷ [] }) d) (λ (z : Draft). z.changes.last ≡ []) (λ t. e) (λ t. e)
 
-part_law : (marks : List Mark) (r : ℕ) (tag : Holder) (tpdu : List ℕ) (m : DeliverOf) (key : ConcatKey) (o : Option Mark) (d : Draft) → d.changes.last ≡ []
+part_law : (marks : List DiscardedGroup) (r : ℕ) (tag : Holder) (tpdu : List ℕ) (m : DeliverOf) (key : ConcatKey) (o : Option DiscardedGroup) (d : Draft) → d.changes.last ≡ []
     → Reads tpdu m → key_of m ≡ Some key → mark_of (group_of m.originating_address key) marks ≡ o → 0 < key.number → key.number ≤ key.total
     → Law marks (part_came r tag tpdu (group_of m.originating_address key) key.number o d)
 part_law marks r tag tpdu m key None d e reads k marked low high =
@@ -286,14 +286,14 @@ pub header_counts : (indicator : Bool) (octets : List ℕ) → IsCounted (header
 header_counts false octets = tt
 header_counts true octets = found_counts (header_at octets)
 
-deliver_law : (marks : List Mark) (r : ℕ) (tag : Holder) (tpdu : List ℕ) (m : DeliverOf) (o : Option ConcatKey) (d : Draft) → d.changes.last ≡ [] → d.rows.marks ≡ marks
+deliver_law : (marks : List DiscardedGroup) (r : ℕ) (tag : Holder) (tpdu : List ℕ) (m : DeliverOf) (o : Option ConcatKey) (d : Draft) → d.changes.last ≡ [] → d.rows.marks ≡ marks
     → Reads tpdu m → key_of m ≡ o → IsCounted o → Law marks (deliver_came r tag tpdu m o d)
 deliver_law marks r tag tpdu m None d e same reads k c = single_law marks r tag tpdu d e
 deliver_law marks r tag tpdu m (Some key) d e same reads k c =
     let g : Group = group_of m.originating_address key in
-    part_law marks r tag tpdu m key (mark_of g d.rows.marks) d e reads k (ap (λ (ms : List Mark). mark_of g ms) (sym same)) c.0 c.1
+    part_law marks r tag tpdu m key (mark_of g d.rows.marks) d e reads k (ap (λ (ms : List DiscardedGroup). mark_of g ms) (sym same)) c.0 c.1
 
-tpdu_law : (marks : List Mark) (r : ℕ) (tag : Holder) (tpdu : List ℕ) (t : Result Down TpduFault) (d : Draft) → d.changes.last ≡ [] → d.rows.marks ≡ marks
+tpdu_law : (marks : List DiscardedGroup) (r : ℕ) (tag : Holder) (tpdu : List ℕ) (t : Result Down TpduFault) (d : Draft) → d.changes.last ≡ [] → d.rows.marks ≡ marks
     → down_at InData tpdu ≡ t → Law marks (tpdu_came r tag tpdu t d)
 tpdu_law marks r tag tpdu (Ok (Deliver m)) d e same q =
     deliver_law marks r tag tpdu m (key_of m) d e same q refl (header_counts m.user_data_header_indicator m.user_data.octets)
@@ -310,12 +310,12 @@ tpdu_law marks r tag tpdu (Ok (StatusReport s)) d e same q =
 tpdu_law marks r tag tpdu (Ok (SubmitReport s)) d e same q = none_accepted marks (tpdu_came r tag tpdu (Ok (SubmitReport s)) d) e
 tpdu_law marks r tag tpdu (Err f) d e same q = none_accepted marks (tpdu_came r tag tpdu (Err f) d) e
 
-data_law : (marks : List Mark) (r : ℕ) (tag : Holder) (tpdu : List ℕ) (d : Draft) → d.changes.last ≡ [] → d.rows.marks ≡ marks → Law marks (data_came r tag tpdu d)
+data_law : (marks : List DiscardedGroup) (r : ℕ) (tag : Holder) (tpdu : List ℕ) (d : Draft) → d.changes.last ≡ [] → d.rows.marks ≡ marks → Law marks (data_came r tag tpdu d)
 data_law marks r tag tpdu d e same =
     cond_both (is_double tpdu (row_at last_key r d.rows.last)) (acknowledge r tag d) (tpdu_came r tag tpdu (down_at InData tpdu) d) (λ (z : Draft). Law marks z)
     (λ t. none_accepted marks (acknowledge r tag d) e) (λ t. tpdu_law marks r tag tpdu (down_at InData tpdu) d e same refl)
 
-unit_law : (marks : List Mark) (tag : Holder) (unit : List ℕ) (u : Result Rp RelayFault) (d : Draft) → d.changes.last ≡ [] → d.rows.marks ≡ marks → Law marks (unit_came tag unit u d)
+unit_law : (marks : List DiscardedGroup) (tag : Holder) (unit : List ℕ) (u : Result Rp RelayFault) (d : Draft) → d.changes.last ≡ [] → d.rows.marks ≡ marks → Law marks (unit_came tag unit u d)
 unit_law marks tag unit (Ok (DataUnit r c tpdu)) d e same = data_law marks r tag tpdu d e same
 unit_law marks tag unit (Ok (AckUnit r tpdu)) d e same = none_accepted marks d e
 unit_law marks tag unit (Ok (ErrorUnit r c tpdu)) d e same = none_accepted marks d e
@@ -336,11 +336,11 @@ kept d = record { entries = refl; changed = refl; last = refl; number = refl }
 kept_then : (d e z : Draft) → Kept d e → Kept e z → Kept d z
 kept_then d e z a b = record { entries = b.entries ∙ a.entries; changed = b.changed ∙ a.changed; last = b.last ∙ a.last; number = b.number ∙ a.number }
 
-kept_law : (marks : List Mark) (d z : Draft) → Kept d z → Law marks d → Law marks z
+kept_law : (marks : List DiscardedGroup) (d z : Draft) → Kept d z → Law marks d → Law marks z
 kept_law marks d z k h l a m f =
     ⊎_elim (λ (x : IsOfDiscarded marks m). inl x)
     (λ (x : Stored d l.tpdu m). inr (x.0, ((subst (λ (cs : List (Change Entry)). Among (Put x.0) cs) (sym k.changed) x.1.0.0, subst (λ (es : List Entry). Among x.0 es) (sym k.entries) x.1.0.1), x.1.1)))
-    (h l (subst (λ (cs : List (Change Last)). Among (Put l) cs) k.last a) m f)
+    (h l (subst (λ (cs : List (Change LastAccepted)). Among (Put l) cs) k.last a) m f)
 
 lapse_rows_kept : (os : List OutEntry) (d : Draft) → Kept d (lapse_rows os d)
 lapse_rows_kept [] d = kept d
@@ -402,7 +402,7 @@ holder_none v (Report i) d e = e
 holder_none v (EntryHolder n) d e = entry_none v (row_at out_key n d.rows.outbox) d e
 holder_none v (Memory n) d e = concluded_none v (row_at notice_key n d.notices) d e
 
-up_law : (marks : List Mark) (tag : Holder) (up : Option Upward) (d : Draft) → d.changes.last ≡ [] → d.rows.marks ≡ marks → Law marks (went_up tag up d)
+up_law : (marks : List DiscardedGroup) (tag : Holder) (up : Option Upward) (d : Draft) → d.changes.last ≡ [] → d.rows.marks ≡ marks → Law marks (went_up tag up d)
 up_law marks tag None d e same = none_accepted marks d e
 up_law marks tag (Some (Opened unit)) d e same = unit_law marks tag unit (unit_at unit) d e same
 up_law marks tag (Some (Ended transfer ending)) d e same = none_accepted marks (transfer_ended transfer ending d) (holder_none ending transfer.tag d e)
@@ -431,11 +431,11 @@ abbrev NoneIfDone : Result Draft Refusal → Type 0
 NoneIfDone (Ok d) = d.changes.last ≡ []
 NoneIfDone (Err refusal) = Unit {0}
 
-abbrev pub LawIfDone : List Mark → Result Draft Refusal → Type 0
+abbrev pub LawIfDone : List DiscardedGroup → Result Draft Refusal → Type 0
 LawIfDone marks (Ok d) = StoresAccepted marks d.changes d.rows
 LawIfDone marks (Err refusal) = Unit {0}
 
-acted_law : (marks : List Mark) (r : Result Draft Refusal) → NoneIfDone r → LawIfDone marks (acted r)
+acted_law : (marks : List DiscardedGroup) (r : Result Draft Refusal) → NoneIfDone r → LawIfDone marks (acted r)
 acted_law marks (Ok d) e = kept_law marks d (follow d) (follow_kept d) (none_accepted marks d e)
 acted_law marks (Err f) e = tt
 

@@ -37,7 +37,7 @@ use Rattle.sms_handset.specs.declared.entry.Entry.{Entry}
 use Rattle.sms_handset.specs.declared.entry.Group.{Group}
 use Rattle.sms_handset.specs.declared.entry.Message.{Message}
 use Rattle.sms_handset.specs.declared.entry.Message.TheVariants.{Single, Part, Joined}
-use Rattle.sms_handset.specs.declared.mark.Mark.{Mark}
+use Rattle.sms_handset.specs.declared.discarded_group.DiscardedGroup.{DiscardedGroup}
 use Rattle.sms_handset.specs.declared.notice.Notice.{Notice}
 use Rattle.sms_handset.specs.declared.open_group.Regrouping.{Regrouping}
 use Rattle.sms_handset.specs.declared.open_group.Regrouping.TheVariants.{Unchanged, Opened, Closed}
@@ -344,12 +344,12 @@ member_regroups r tag tpdu g n d =
     both_cond (is_among n (part_numbers es)) (λ (q : Regrouping) (z : Draft). Regroups q d.rows z.rows) Unchanged (new_part_groups tpdu g n es d)
     (single_came r tag tpdu d) (new_part_came r tag tpdu g n es d) (λ t. single_came_regroups r tag tpdu d) (λ t. new_part_regroups r tag tpdu g n d)
 
-marked_regroups : (n : ℕ) (m : Mark) (d : Draft) → Regroups Unchanged d.rows (marked n m d).rows
+marked_regroups : (n : ℕ) (m : DiscardedGroup) (d : Draft) → Regroups Unchanged d.rows (marked n m d).rows
 marked_regroups n m d =
     cond_both (all_numbers m.group.total (m.seen ++ n ∷ [])) (remove_mark m.number d) (put_mark (record m { seen = m.seen ++ n ∷ [] }) d) (λ (z : Draft). Regroups Unchanged d.rows z.rows)
     (λ t. nothing d.rows) (λ t. nothing d.rows)
 
-part_came_regroups : (r : ℕ) (tag : Holder) (tpdu : List ℕ) (g : Group) (n : ℕ) (m : Option Mark) (d : Draft) → Regroups (part_groups tpdu g n m d) d.rows (part_came r tag tpdu g n m d).rows
+part_came_regroups : (r : ℕ) (tag : Holder) (tpdu : List ℕ) (g : Group) (n : ℕ) (m : Option DiscardedGroup) (d : Draft) → Regroups (part_groups tpdu g n m d) d.rows (part_came r tag tpdu g n m d).rows
 part_came_regroups r tag tpdu g n None d = member_regroups r tag tpdu g n d
 part_came_regroups r tag tpdu g n (Some m) d =
     cond_both (is_among n m.seen) (single_came r tag tpdu d) (accept r tag tpdu (marked n m d)) (λ (z : Draft). Regroups Unchanged d.rows z.rows)

@@ -40,8 +40,8 @@ use Rattle.sms_handset.specs.declared.entry.Entry.{Entry}
 use Rattle.sms_handset.specs.declared.entry.Group.{Group}
 use Rattle.sms_handset.specs.declared.entry.Message.{Message}
 use Rattle.sms_handset.specs.declared.entry.Message.TheVariants.{Single, Part, Joined}
-use Rattle.sms_handset.specs.declared.last.Last.{Last}
-use Rattle.sms_handset.specs.declared.mark.Mark.{Mark}
+use Rattle.sms_handset.specs.declared.last_accepted.LastAccepted.{LastAccepted}
+use Rattle.sms_handset.specs.declared.discarded_group.DiscardedGroup.{DiscardedGroup}
 use Rattle.sms_handset.specs.declared.notice.Notice.{Notice}
 use Rattle.sms_handset.specs.declared.out_entry.OutEntry.{OutEntry}
 use Rattle.sms_base.specs.declared.carried.Carried.{Carried}
@@ -72,10 +72,10 @@ remove_entry_rests base n d h =
     ap (λ (r : Rows). record r { entries = without entry_key n r.entries }) h
     ∙ ap (λ (es : List Entry). record (rows_after d.changes base) { entries = es }) (sym (all_applied_push entry_key d.changes.entries (Remove n) base.entries))
 
-put_last_rests : (base : Rows) (l : Last) (d : Draft) → Rests base d → Rests base (put_last l d)
+put_last_rests : (base : Rows) (l : LastAccepted) (d : Draft) → Rests base d → Rests base (put_last l d)
 put_last_rests base l d h =
     ap (λ (r : Rows). record r { last = put last_key l r.last }) h
-    ∙ ap (λ (ls : List Last). record (rows_after d.changes base) { last = ls }) (sym (all_applied_push last_key d.changes.last (Put l) base.last))
+    ∙ ap (λ (ls : List LastAccepted). record (rows_after d.changes base) { last = ls }) (sym (all_applied_push last_key d.changes.last (Put l) base.last))
 
 put_out_rests : (base : Rows) (o : OutEntry) (d : Draft) → Rests base d → Rests base (put_out o d)
 put_out_rests base o d h =
@@ -87,15 +87,15 @@ remove_out_rests base n d h =
     ap (λ (r : Rows). record r { outbox = without out_key n r.outbox }) h
     ∙ ap (λ (os : List OutEntry). record (rows_after d.changes base) { outbox = os }) (sym (all_applied_push out_key d.changes.outbox (Remove n) base.outbox))
 
-put_mark_rests : (base : Rows) (m : Mark) (d : Draft) → Rests base d → Rests base (put_mark m d)
+put_mark_rests : (base : Rows) (m : DiscardedGroup) (d : Draft) → Rests base d → Rests base (put_mark m d)
 put_mark_rests base m d h =
     ap (λ (r : Rows). record r { marks = put mark_key m r.marks }) h
-    ∙ ap (λ (ms : List Mark). record (rows_after d.changes base) { marks = ms }) (sym (all_applied_push mark_key d.changes.marks (Put m) base.marks))
+    ∙ ap (λ (ms : List DiscardedGroup). record (rows_after d.changes base) { marks = ms }) (sym (all_applied_push mark_key d.changes.marks (Put m) base.marks))
 
 remove_mark_rests : (base : Rows) (n : ℕ) (d : Draft) → Rests base d → Rests base (remove_mark n d)
 remove_mark_rests base n d h =
     ap (λ (r : Rows). record r { marks = without mark_key n r.marks }) h
-    ∙ ap (λ (ms : List Mark). record (rows_after d.changes base) { marks = ms }) (sym (all_applied_push mark_key d.changes.marks (Remove n) base.marks))
+    ∙ ap (λ (ms : List DiscardedGroup). record (rows_after d.changes base) { marks = ms }) (sym (all_applied_push mark_key d.changes.marks (Remove n) base.marks))
 
 put_counters_rests : (base : Rows) (c : Counters) (d : Draft) → Rests base d → Rests base (put_counters c d)
 put_counters_rests base c d h = ap (λ (r : Rows). record r { counters = c }) h
@@ -134,7 +134,7 @@ store_part_rests base g n tpdu es d h =
     completed_rests base g (es ++ e ∷ []) (put_entry e (put_counters (counted d) d))
     (put_entry_rests base e (put_counters (counted d) d) (put_counters_rests base (counted d) d h))
 
-marked_rests : (base : Rows) (n : ℕ) (m : Mark) (d : Draft) → Rests base d → Rests base (marked n m d)
+marked_rests : (base : Rows) (n : ℕ) (m : DiscardedGroup) (d : Draft) → Rests base d → Rests base (marked n m d)
 marked_rests base n m d h =
     cond_both (all_numbers m.group.total (m.seen ++ n ∷ [])) (remove_mark m.number d) (put_mark (record m { seen = m.seen ++ n ∷ [] }) d) (λ (z : Draft). Rests base z)
     (λ t. remove_mark_rests base m.number d h) (λ t. put_mark_rests base (record m { seen = m.seen ++ n ∷ [] }) d h)
@@ -162,7 +162,7 @@ member_came_rests base r tag tpdu g n es d h =
     cond_both (is_among n (part_numbers es)) (single_came r tag tpdu d) (new_part_came r tag tpdu g n es d) (λ (z : Draft). Rests base z)
     (λ t. single_came_rests base r tag tpdu d h) (λ t. new_part_came_rests base r tag tpdu g n es d h)
 
-part_came_rests : (base : Rows) (r : ℕ) (tag : Holder) (tpdu : List ℕ) (g : Group) (n : ℕ) (m : Option Mark) (d : Draft) → Rests base d → Rests base (part_came r tag tpdu g n m d)
+part_came_rests : (base : Rows) (r : ℕ) (tag : Holder) (tpdu : List ℕ) (g : Group) (n : ℕ) (m : Option DiscardedGroup) (d : Draft) → Rests base d → Rests base (part_came r tag tpdu g n m d)
 part_came_rests base r tag tpdu g n None d h = member_came_rests base r tag tpdu g n (members g d.rows.entries) d h
 part_came_rests base r tag tpdu g n (Some m) d h =
     cond_both (is_among n m.seen) (single_came r tag tpdu d) (accept r tag tpdu (marked n m d)) (λ (z : Draft). Rests base z)

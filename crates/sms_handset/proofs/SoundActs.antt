@@ -18,7 +18,7 @@ use Rattle.sms_handset.specs.declared.entry.Entry.{Entry}
 use Rattle.sms_handset.specs.declared.entry.Group.{Group}
 use Rattle.sms_handset.specs.declared.entry.Message.{Message}
 use Rattle.sms_handset.specs.declared.entry.Message.TheVariants.{Single, Part, Joined}
-use Rattle.sms_handset.specs.declared.mark.Mark.{Mark}
+use Rattle.sms_handset.specs.declared.discarded_group.DiscardedGroup.{DiscardedGroup}
 use Rattle.sms_handset.specs.declared.notice.Notice.{Notice}
 use Rattle.sms_handset.specs.declared.out_entry.OutEntry.{OutEntry}
 use Rattle.sms_handset.specs.declared.refusal.Refusal.{Refusal}
@@ -96,7 +96,7 @@ write_part_sound to report is_long p d a i room s =
     (added (k + 1) es os w out free free_too room s1.outbox) s.recovered
     (same_under_way d.under_way os (put out_key w os) (λ r n h. sending_below k r n w os refl (λ o b. (s.outbox.each o b).0.1) h) s.under_way) s1
 
-write_parts_sound : (to : Address) (report is_long : Bool) (ps : List PartOf) (d : Draft) → IsAddress to → AllByRecursion (λ (p : PartOf). IsWritable p) ps → length d.rows.outbox + length ps ≤ 20
+pub write_parts_sound : (to : Address) (report is_long : Bool) (ps : List PartOf) (d : Draft) → IsAddress to → AllByRecursion (λ (p : PartOf). IsWritable p) ps → length d.rows.outbox + length ps ≤ 20
     → SoundAt d → SoundAt (write_parts to report is_long ps d)
 write_parts_sound to report is_long [] d a i room s = s
 write_parts_sound to report is_long (p ∷ ps) d a i room s =
@@ -120,7 +120,7 @@ pub first_test : (a b : Bool) → cond a b false ≡ true → a ≡ true
 first_test true b e = refl
 first_test false b e = e
 
-write_to_sound : (report : Bool) (ps : List PartOf) (text : List ℕ) (to : Result Address AddressError) (d : Draft) → address_of 1 1 text ≡ to → AllByRecursion (λ (p : PartOf). IsWritable p) ps
+pub write_to_sound : (report : Bool) (ps : List PartOf) (text : List ℕ) (to : Result Address AddressError) (d : Draft) → address_of 1 1 text ≡ to → AllByRecursion (λ (p : PartOf). IsWritable p) ps
     → SoundAt d → SoundIfDone (write_to report ps to d)
 write_to_sound report ps text (Err f) d q i s = tt
 write_to_sound report ps text (Ok to) d q i s =
@@ -132,7 +132,7 @@ write_to_sound report ps text (Ok to) d q i s =
     write_parts_sound to report is_long ps (count_split is_long d) (address_found 1 1 text to q).valid i room (count_split_sound is_long d s))
     (λ t. tt)
 
-write_split_sound : (text to : List ℕ) (report : Bool) (reference : ℕ) (ps : Result (List PartOf) SplitError) (d : Draft) → split_of (content_of_text text) reference ≡ ps
+pub write_split_sound : (text to : List ℕ) (report : Bool) (reference : ℕ) (ps : Result (List PartOf) SplitError) (d : Draft) → split_of (content_of_text text) reference ≡ ps
     → SoundAt d → SoundIfDone (write_split to report ps d)
 write_split_sound text to report reference (Err f) d q s = tt
 write_split_sound text to report reference (Ok ps) d q s = write_to_sound report ps to (address_of 1 1 to) d refl (split_is_writable text reference ps q) s
@@ -142,13 +142,13 @@ write_sound text to report d s = write_split_sound text to report d.rows.counter
 
 -- ---- deleting
 
-freed_sound : (d : Draft) → SoundAt d → SoundAt (freed d)
+pub freed_sound : (d : Draft) → SoundAt d → SoundAt (freed d)
 freed_sound d s =
     cond_both d.rows.counters.is_memory_full (want_notice (put_counters (record d.rows.counters { is_memory_full = false }) d)) d (λ (z : Draft). SoundAt z)
     (λ t. counters_move d.rows d.under_way d.is_recovered d.notices (record d.rows.counters { is_memory_full = false }) (let l : d.rows.counters.entry ≤ d.rows.counters.entry = omega arith in l) s)
     (λ t. s)
 
-delete_out_sound : (n : ℕ) (o : Option OutEntry) (d : Draft) → row_at out_key n d.rows.outbox ≡ o → SoundAt d → SoundIfDone (delete_out n o d)
+pub delete_out_sound : (n : ℕ) (o : Option OutEntry) (d : Draft) → row_at out_key n d.rows.outbox ≡ o → SoundAt d → SoundIfDone (delete_out n o d)
 delete_out_sound n None d q s = tt
 delete_out_sound n (Some o) d q s =
     let os = d.rows.outbox in
@@ -157,7 +157,7 @@ delete_out_sound n (Some o) d q s =
     outbox_moves d.rows d.under_way d.under_way d.is_recovered d.is_recovered d.notices (without out_key n os) (deleted_out d.rows.counters.entry n d.rows.entries os s.outbox) s.recovered
     (same_under_way d.under_way os (without out_key n os) (λ r m h. sending_stays r m n o os q t h) s.under_way) s)
 
-delete_in_sound : (n : ℕ) (x : Option Entry) (d : Draft) → row_at entry_key n d.rows.entries ≡ x → SoundAt d → SoundIfDone (delete_in n x d)
+pub delete_in_sound : (n : ℕ) (x : Option Entry) (d : Draft) → row_at entry_key n d.rows.entries ≡ x → SoundAt d → SoundIfDone (delete_in n x d)
 delete_in_sound n None d q s = delete_out_sound n (row_at out_key n d.rows.outbox) d refl s
 delete_in_sound n (Some x) d q s =
     let k = d.rows.counters.entry in
@@ -172,7 +172,7 @@ delete_sound n d s = delete_in_sound n (row_at entry_key n d.rows.entries) d ref
 
 -- ---- discarding
 
-discard_group_sound : (n : ℕ) (g : Group) (x : Entry) (d : Draft) → Among x (members g d.rows.entries) → Among x d.rows.entries → x.number ≡ n → length d.rows.marks < 64
+pub discard_group_sound : (n : ℕ) (g : Group) (x : Entry) (d : Draft) → Among x (members g d.rows.entries) → Among x d.rows.entries → x.number ≡ n → length d.rows.marks < 64
     → SoundAt d → SoundAt (discard_group n g (members g d.rows.entries) d)
 discard_group_sound n g x d a b e few s =
     let k = d.rows.counters.entry in
@@ -180,7 +180,7 @@ discard_group_sound n g x d a b e few s =
     let ms = d.rows.marks in
     let xs = members g es in
     let fs = all_without xs es in
-    let w : Mark = record { number = n; group = g; seen = part_numbers xs } in
+    let w : DiscardedGroup = record { number = n; group = g; seen = part_numbers xs } in
     let o = dropped_only xs d in
     let open_group = s.inbox.groups g x a in
     let given : IsGiven k n = subst (λ (m : ℕ). IsGiven k m) e (s.inbox.each x b).0 in
@@ -191,7 +191,7 @@ discard_group_sound n g x d a b e few s =
     (group_moves d.rows d.under_way d.is_recovered d.notices fs (put mark_key w ms) (let p = length_left xs es in let f = s.few_stored in omega arith) (group_leaves k g es ms (put mark_key w ms) (λ h ne f. new_none w ms h ne f) s.inbox) (left_free k xs es)
     (λ z. mark_new k w fs ms kept open_group.kept few z) s))
 
-discard_members_sound : (n : ℕ) (g : Group) (x : Entry) (d : Draft) → Among x (members g d.rows.entries) → Among x d.rows.entries → x.number ≡ n
+pub discard_members_sound : (n : ℕ) (g : Group) (x : Entry) (d : Draft) → Among x (members g d.rows.entries) → Among x d.rows.entries → x.number ≡ n
     → SoundAt d → SoundIfDone (discard_members n g (members g d.rows.entries) d)
 discard_members_sound n g x d a b e s =
     let xs = members g d.rows.entries in
@@ -200,14 +200,14 @@ discard_members_sound n g x d a b e s =
     (λ u. discard_group_sound n g x d a b e (ltb-true (length d.rows.marks) 64 u) s) (λ u. tt))
     (λ t. tt)
 
-discard_in_sound : (n : ℕ) (x : Entry) (m : Message) (d : Draft) → x.message ≡ m → row_at entry_key n d.rows.entries ≡ Some x → SoundAt d → SoundIfDone (discard_in n m d)
+pub discard_in_sound : (n : ℕ) (x : Entry) (m : Message) (d : Draft) → x.message ≡ m → row_at entry_key n d.rows.entries ≡ Some x → SoundAt d → SoundIfDone (discard_in n m d)
 discard_in_sound n x (Single tpdu) d q r s = tt
 discard_in_sound n x (Part g k tpdu) d q r s =
     let b = found_among entry_key n x d.rows.entries r in
     discard_members_sound n g x d (among_members g x d.rows.entries b (ap (λ (m : Message). is_part_of g m) q ∙ one_group g)) b (found_key entry_key n x d.rows.entries r) s
 discard_in_sound n x (Joined source content) d q r s = tt
 
-discard_at_sound : (n : ℕ) (o : Option Entry) (d : Draft) → row_at entry_key n d.rows.entries ≡ o → SoundAt d → SoundIfDone (discard_at n o d)
+pub discard_at_sound : (n : ℕ) (o : Option Entry) (d : Draft) → row_at entry_key n d.rows.entries ≡ o → SoundAt d → SoundIfDone (discard_at n o d)
 discard_at_sound n None d r s = tt
 discard_at_sound n (Some x) d r s = discard_in_sound n x x.message d refl r s
 

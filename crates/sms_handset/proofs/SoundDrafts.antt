@@ -5,8 +5,8 @@ use Rattle.sms_table.specs.Table.{Rises, put}
 use Rattle.sms_table.proofs.Tables.{among_put, rises_put}
 use Rattle.sms_handset.specs.declared.counters.Counters.{Counters}
 use Rattle.sms_handset.specs.declared.entry.Entry.{Entry}
-use Rattle.sms_handset.specs.declared.last.Last.{Last}
-use Rattle.sms_handset.specs.declared.mark.Mark.{Mark}
+use Rattle.sms_handset.specs.declared.last_accepted.LastAccepted.{LastAccepted}
+use Rattle.sms_handset.specs.declared.discarded_group.DiscardedGroup.{DiscardedGroup}
 use Rattle.sms_handset.specs.declared.notice.Notice.{Notice}
 use Rattle.sms_handset.specs.declared.out_entry.OutEntry.{OutEntry}
 use Rattle.sms_base.specs.declared.carried.Carried.{Carried}
@@ -26,7 +26,7 @@ pub record Sound (r : Rows) (w : Option Carried) (b : Bool) (n : List Notice) : 
   pub few_stored : length r.entries ≤ 255
   pub inbox : Inbox r.counters.entry r.entries r.marks
   pub last_keys : Rises last_key r.last
-  pub last : (l : Last) → Among l r.last → IsLast l
+  pub last : (l : LastAccepted) → Among l r.last → IsLast l
   pub outbox : Outbox r.counters.entry r.entries r.outbox
   pub marks : Discarded r.counters.entry r.entries r.marks
   pub recovered : b ≡ true → w ≡ None
@@ -55,7 +55,7 @@ sound_from c s =
       few_stored = r.few_stored;
       inbox = inbox_from k c.rows.entries c.rows.marks r.entry_keys r.entries r.groups;
       last_keys = r.last_keys;
-      last = all_at (λ (l : Last). IsLast l) c.rows.last r.last;
+      last = all_at (λ (l : LastAccepted). IsLast l) c.rows.last r.last;
       outbox = outbox_from k c.rows.entries c.rows.outbox r.out_keys r.outbox r.few_entries r.message_references r.references;
       marks = discarded_from k c.rows.entries c.rows.marks r.mark_keys r.marks r.few_marks;
       recovered = s.recovered;
@@ -74,7 +74,7 @@ rows_are_sound r w b n s = record {
   few_stored = s.few_stored;
   entries = entries_are r.counters.entry r.entries r.marks s.inbox;
   groups = groups_are r.counters.entry r.entries r.marks s.inbox;
-  last = all_from (λ (l : Last). IsLast l) r.last s.last;
+  last = all_from (λ (l : LastAccepted). IsLast l) r.last s.last;
   outbox = out_entries_are r.counters.entry r.entries r.outbox s.outbox;
   few_entries = s.outbox.few;
   message_references = message_references_differ r.counters.entry r.entries r.outbox s.outbox;
@@ -113,14 +113,14 @@ pub counters_move : (r : Rows) (w : Option Carried) (b : Bool) (n : List Notice)
 counters_move r w b n c l s =
     entries_move r w b n c r.entries l s.few_stored (inbox_more r.counters.entry c.entry r.entries r.marks l s.inbox) (λ k h f. f) s
 
-pub last_moves : (r : Rows) (w : Option Carried) (b : Bool) (n : List Notice) (x : Last) → IsLast x → Sound r w b n → Sound (record r { last = put last_key x r.last }) w b n
+pub last_moves : (r : Rows) (w : Option Carried) (b : Bool) (n : List Notice) (x : LastAccepted) → IsLast x → Sound r w b n → Sound (record r { last = put last_key x r.last }) w b n
 last_moves r w b n x i s = record {
   setup = s.setup;
   counted = s.counted;
   few_stored = s.few_stored;
   inbox = s.inbox;
   last_keys = rises_put last_key x r.last s.last_keys;
-  last = λ l a. ⊎_elim (λ (e : l ≡ x). subst (λ (z : Last). IsLast z) (sym e) i) (λ (q : Among l r.last × ¬ (l.reference ≡ x.reference)). s.last l q.0) (among_put last_key l x r.last a);
+  last = λ l a. ⊎_elim (λ (e : l ≡ x). subst (λ (z : LastAccepted). IsLast z) (sym e) i) (λ (q : Among l r.last × ¬ (l.reference ≡ x.reference)). s.last l q.0) (among_put last_key l x r.last a);
   outbox = s.outbox;
   marks = s.marks;
   recovered = s.recovered;
@@ -144,7 +144,7 @@ outbox_moves r w v b a n os o q u s = record {
   few_notices = s.few_notices;
 }
 
-pub marks_move : (r : Rows) (w : Option Carried) (b : Bool) (n : List Notice) (ms : List Mark) → Inbox r.counters.entry r.entries ms → Discarded r.counters.entry r.entries ms → Sound r w b n → Sound (record r { marks = ms }) w b n
+pub marks_move : (r : Rows) (w : Option Carried) (b : Bool) (n : List Notice) (ms : List DiscardedGroup) → Inbox r.counters.entry r.entries ms → Discarded r.counters.entry r.entries ms → Sound r w b n → Sound (record r { marks = ms }) w b n
 marks_move r w b n ms i d s = record {
   setup = s.setup;
   counted = s.counted;
@@ -160,7 +160,7 @@ marks_move r w b n ms i d s = record {
 }
 
 -- a group leaves the inbox and is discarded
-pub group_moves : (r : Rows) (w : Option Carried) (b : Bool) (n : List Notice) (es : List Entry) (ms : List Mark) → length es ≤ 255 → Inbox r.counters.entry es ms → StaysFree r.counters.entry r.entries es → (Discarded r.counters.entry es r.marks → Discarded r.counters.entry es ms)
+pub group_moves : (r : Rows) (w : Option Carried) (b : Bool) (n : List Notice) (es : List Entry) (ms : List DiscardedGroup) → length es ≤ 255 → Inbox r.counters.entry es ms → StaysFree r.counters.entry r.entries es → (Discarded r.counters.entry es r.marks → Discarded r.counters.entry es ms)
     → Sound r w b n → Sound (record r { entries = es; marks = ms }) w b n
 group_moves r w b n es ms few i f d s = record {
   setup = s.setup;

@@ -17,7 +17,7 @@ use Rattle.sms_handset.specs.declared.event.HandsetEvent.TheVariants.{Frame, Tic
 use Rattle.sms_handset.specs.declared.refusal.PlanError.{PlanError}
 use Rattle.sms_handset.specs.declared.refusal.Refusal.{Refusal}
 use Rattle.sms_handset.specs.declared.rows.Rows.{Rows}
-use Rattle.sms_handset.specs.Draft.{Core, Draft, Standing, core_of, draft_of, link_of, with_turn}
+use Rattle.sms_handset.specs.Draft.{Core, Draft, HandsetOf, core_of, draft_of, link_of, with_turn}
 use Rattle.sms_handset.specs.HandsetEvent.{acted, at_moment, deleted, discarded, frame_came, frame_heard, tag_of, ticked, timed_out, timers_fired, went_up, wrote}
 use Rattle.sms_handset.specs.OwnersActs.{delete, discard, write}
 use Rattle.sms_handset.specs.Planning.{IsPlanOf, OfDelete, OfDiscard, OfFrame, OfTick, OfWrite, Outcome, Plan, Plans, Rests, RestsIfDone, adopted}
@@ -32,15 +32,15 @@ use Rattle.sms_handset.proofs.SoundTransfers.{follow_sound, transfer_sound}
 -- ---- what goes up from the link
 
 -- as what was under way is sound with what is under way now
-still_sound : (w v : Option Carried) (d : Draft) → d.under_way ≡ v → Sound d.rows w d.is_recovered d.notices → w ≡ v → SoundAt d
+pub still_sound : (w v : Option Carried) (d : Draft) → d.under_way ≡ v → Sound d.rows w d.is_recovered d.notices → w ≡ v → SoundAt d
 still_sound w v d e s q = subst (λ (u : Option Carried). Sound d.rows u d.is_recovered d.notices) (q ∙ sym e) s
 
-over_sound : (w : Option Carried) (d : Draft) → d.under_way ≡ None → Sound d.rows w d.is_recovered d.notices → SoundAt d
+pub over_sound : (w : Option Carried) (d : Draft) → d.under_way ≡ None → Sound d.rows w d.is_recovered d.notices → SoundAt d
 over_sound w d e s =
     subst (λ (u : Option Carried). Sound d.rows u d.is_recovered d.notices) (sym e)
     (outbox_moves d.rows w None d.is_recovered d.is_recovered d.notices d.rows.outbox s.outbox (λ t. refl) tt s)
 
-went_up_sound : (tag : Holder) (up : Option Up) (w : Option Carried) (d : Draft) → d.under_way ≡ still_under_way up w → Sound d.rows w d.is_recovered d.notices
+pub went_up_sound : (tag : Holder) (up : Option Up) (w : Option Carried) (d : Draft) → d.under_way ≡ still_under_way up w → Sound d.rows w d.is_recovered d.notices
     → SoundAt (went_up tag (came_up HandsetSide w up) d)
 went_up_sound tag None w d e s = still_sound w w d e s refl
 went_up_sound tag (Some (UnitUp FromOriginator unit)) w d e s = unit_sound tag unit (unit_at unit) d (still_sound w w d e s refl)
@@ -49,7 +49,7 @@ went_up_sound tag (Some (UnitUp ToOriginator unit)) (Some c) d e s = transfer_so
 went_up_sound tag (Some FailedUp) None d e s = over_sound None d e s
 went_up_sound tag (Some FailedUp) (Some c) d e s = transfer_sound c LostEnd d s.under_way e (over_sound (Some c) d e s)
 
-timed_out_sound : (up : Option Up) (w : Option Carried) (d : Draft) → d.under_way ≡ still_under_way up w → Sound d.rows w d.is_recovered d.notices
+pub timed_out_sound : (up : Option Up) (w : Option Carried) (d : Draft) → d.under_way ≡ still_under_way up w → Sound d.rows w d.is_recovered d.notices
     → SoundAt (timed_out (came_up HandsetSide w up) d)
 timed_out_sound None w d e s = still_sound w w d e s refl
 timed_out_sound (Some (UnitUp FromOriginator unit)) w d e s = still_sound w w d e s refl
@@ -60,36 +60,36 @@ timed_out_sound (Some FailedUp) (Some c) d e s = transfer_sound c LostEnd d s.un
 
 -- ---- events
 
-frame_sound : (octets : List ℕ) (tag : Holder) (c : Core) → IsSoundCore c → SoundAt (frame_came octets tag c)
+pub frame_sound : (octets : List ℕ) (tag : Holder) (c : Core) → IsSoundCore c → SoundAt (frame_came octets tag c)
 frame_sound octets tag c s =
     let turn : Turn = taken octets (link_of (draft_of c)) in
     let step : Step = take_step octets c.links in
     follow_sound (frame_heard tag turn (draft_of c)) (went_up_sound tag step.out.up c.under_way (with_turn turn (draft_of c)) refl (sound_from c s))
 
-tick_sound : (now : ℕ) (c : Core) → IsSoundCore c → SoundAt (ticked now c)
+pub tick_sound : (now : ℕ) (c : Core) → IsSoundCore c → SoundAt (ticked now c)
 tick_sound now c s =
     let d : Draft = at_moment now (draft_of c) in
     let turn : Turn = fired d.moment (link_of d) in
     let step : Step = fire_step d.moment c.links in
     follow_sound (timers_fired turn d) (timed_out_sound step.out.up c.under_way (with_turn turn d) refl (sound_from c s))
 
-acted_sound : (r : Result Draft Refusal) → SoundIfDone r → SoundIfDone (acted r)
+pub acted_sound : (r : Result Draft Refusal) → SoundIfDone r → SoundIfDone (acted r)
 acted_sound (Ok d) s = follow_sound d s
 acted_sound (Err f) s = tt
 
-wrote_sound : (text to : List ℕ) (report : Bool) (c : Core) → IsSoundCore c → SoundIfDone (wrote text to report c)
+pub wrote_sound : (text to : List ℕ) (report : Bool) (c : Core) → IsSoundCore c → SoundIfDone (wrote text to report c)
 wrote_sound text to report c s = acted_sound (write text to report (draft_of c)) (write_sound text to report (draft_of c) (sound_from c s))
 
-deleted_sound : (n : ℕ) (c : Core) → IsSoundCore c → SoundIfDone (deleted n c)
+pub deleted_sound : (n : ℕ) (c : Core) → IsSoundCore c → SoundIfDone (deleted n c)
 deleted_sound n c s = acted_sound (delete n (draft_of c)) (delete_sound n (draft_of c) (sound_from c s))
 
-discarded_sound : (n : ℕ) (c : Core) → IsSoundCore c → SoundIfDone (discarded n c)
+pub discarded_sound : (n : ℕ) (c : Core) → IsSoundCore c → SoundIfDone (discarded n c)
 discarded_sound n c s = acted_sound (discard n (draft_of c)) (discard_sound n (draft_of c) (sound_from c s))
 
 -- ---- plans
 
 -- the handset that adopts the plan is the one that the event leads to
-sound_of : (s : Standing) (d : Draft) (p : Plan) → IsPlanOf d s p → Rests s.core.rows d → SoundAt d → IsSoundCore (adopted p.outcome s.core)
+sound_of : (s : HandsetOf) (d : Draft) (p : Plan) → IsPlanOf d s p → Rests s.core.rows d → SoundAt d → IsSoundCore (adopted p.outcome s.core)
 sound_of s d p is rests sound =
     subst (λ (o : Outcome). IsSoundCore (adopted o s.core)) (sym is.outcome)
     (subst (λ (r : Rows). IsSoundCore (record (core_of d) { rows = r })) rests (sound_core d sound))
@@ -100,18 +100,18 @@ sound_done w d e h = subst (λ (r : Result Draft Refusal). SoundIfDone r) e h
 rests_done : (base : Rows) (w : Result Draft Refusal) (d : Draft) → w ≡ Ok d → RestsIfDone base w → Rests base d
 rests_done base w d e h = subst (λ (r : Result Draft Refusal). RestsIfDone base r) e h
 
-abbrev pub AdoptsSound : Standing → Plan → Type 0
+abbrev pub AdoptsSound : HandsetOf → Plan → Type 0
 AdoptsSound s p = IsSoundCore (adopted p.outcome s.core)
 
-plans_sound : (r : Result Plan PlanError) (s : Standing) (w : Result Draft Refusal) → RestsIfDone s.core.rows w → SoundIfDone w → Plans r s w → IfOk r (AdoptsSound s)
+pub plans_sound : (r : Result Plan PlanError) (s : HandsetOf) (w : Result Draft Refusal) → RestsIfDone s.core.rows w → SoundIfDone w → Plans r s w → IfOk r (AdoptsSound s)
 plans_sound (Ok p) s w rests sound h = sound_of s h.0 p h.1.1 (rests_done s.core.rows w h.0 h.1.0 rests) (sound_done w h.0 h.1.0 sound)
 plans_sound (Err e) s w rests sound h = tt
 
-tries_sound : (r : Result Plan PlanError) (s : Standing) (w : Result Draft Refusal) → RestsIfDone s.core.rows w → SoundIfDone w → TriesPlan r s w → IfOk r (AdoptsSound s)
+pub tries_sound : (r : Result Plan PlanError) (s : HandsetOf) (w : Result Draft Refusal) → RestsIfDone s.core.rows w → SoundIfDone w → TriesPlan r s w → IfOk r (AdoptsSound s)
 tries_sound (Ok p) s w rests sound h = sound_of s h.0 p h.1.1 (rests_done s.core.rows w h.0 h.1.0 rests) (sound_done w h.0 h.1.0 sound)
 tries_sound (Err e) s w rests sound h = tt
 
-pub event_sound : (event : HandsetEvent) (r : Result Plan PlanError) (s : Standing)
+pub event_sound : (event : HandsetEvent) (r : Result Plan PlanError) (s : HandsetOf)
     → OfFrame event (λ octets tag. Plans r s (Ok (frame_came octets (tag_of tag) s.core)))
     → OfTick event (λ now. Plans r s (Ok (ticked now s.core)))
     → OfWrite event (λ text to report. TriesPlan r s (wrote text to report s.core))

@@ -20,7 +20,7 @@ use Rattle.sms_tpdu.specs.TpduReading.{down_at}
 use Rattle.sms_handset.specs.declared.counters.Counters.{Counters}
 use Rattle.sms_handset.specs.declared.entry.Entry.{Entry}
 use Rattle.sms_handset.specs.declared.entry.Group.{Group}
-use Rattle.sms_handset.specs.declared.mark.Mark.{Mark}
+use Rattle.sms_handset.specs.declared.discarded_group.DiscardedGroup.{DiscardedGroup}
 use Rattle.sms_handset.specs.declared.out_entry.OutEntry.{OutEntry}
 use Rattle.sms_base.specs.declared.carried.Carried.{Carried}
 use Rattle.sms_handset.specs.declared.rows.Rows.{Rows}
@@ -83,7 +83,7 @@ ended_only g xs (Some content) d =
 counted : Draft → Counters
 counted d = record d.rows.counters { entry = d.rows.counters.entry + 1 }
 
-single_sound : (tpdu : List ℕ) (d : Draft) → has_room d ≡ true → IsDelivered tpdu → SoundAt d → SoundAt (store_single tpdu d)
+pub single_sound : (tpdu : List ℕ) (d : Draft) → has_room d ≡ true → IsDelivered tpdu → SoundAt d → SoundAt (store_single tpdu d)
 unfolding counted
 single_sound tpdu d t i s =
     let k = d.rows.counters.entry in
@@ -93,14 +93,14 @@ single_sound tpdu d t i s =
     (single_put k x d.rows.entries d.rows.marks refl s.counted (λ g. refl) (refl, i) s.inbox) (put_free k x d.rows.entries refl) s
 
 -- a part of a group that is not discarded, whose number it lacks
-record Fresh (g : Group) (n : ℕ) (tpdu : List ℕ) (d : Draft) : Type 0 where
-  part : IsPartOf g n tpdu
-  low : 0 < n
-  high : n ≤ g.total
-  new : is_among n (part_numbers (members g d.rows.entries)) ≡ false
-  kept : mark_of g d.rows.marks ≡ None
+pub record Fresh (g : Group) (n : ℕ) (tpdu : List ℕ) (d : Draft) : Type 0 where
+  pub part : IsPartOf g n tpdu
+  pub low : 0 < n
+  pub high : n ≤ g.total
+  pub new : is_among n (part_numbers (members g d.rows.entries)) ≡ false
+  pub kept : mark_of g d.rows.marks ≡ None
 
-part_sound : (g : Group) (n : ℕ) (tpdu : List ℕ) (d : Draft) → has_room d ≡ true → Fresh g n tpdu d → SoundAt d → SoundAt (store_part g n tpdu (members g d.rows.entries) d)
+pub part_sound : (g : Group) (n : ℕ) (tpdu : List ℕ) (d : Draft) → has_room d ≡ true → Fresh g n tpdu d → SoundAt d → SoundAt (store_part g n tpdu (members g d.rows.entries) d)
 unfolding counted
 part_sound g n tpdu d room f s =
     let k = d.rows.counters.entry in
@@ -126,7 +126,7 @@ part_sound g n tpdu d room f s =
     (part_opens k g e es fs d.rows.marks s.inbox a f.new f.kept t) free s)
 
 -- a number of a discarded group
-marked_sound : (n : ℕ) (m : Mark) (g : Group) (d : Draft) → mark_of g d.rows.marks ≡ Some m → is_among n m.seen ≡ false → SoundAt d → SoundAt (marked n m d)
+pub marked_sound : (n : ℕ) (m : DiscardedGroup) (g : Group) (d : Draft) → mark_of g d.rows.marks ≡ Some m → is_among n m.seen ≡ false → SoundAt d → SoundAt (marked n m d)
 marked_sound n m g d q new s =
     let ms = d.rows.marks in
     let k = d.rows.counters.entry in
@@ -140,40 +140,40 @@ marked_sound n m g d q new s =
 
 -- ---- answers
 
-reply_sound : (kind : Kind) (r : ℕ) (tag : Holder) (unit : List ℕ) (d : Draft) → SoundAt d → SoundAt (reply kind r tag unit d)
+pub reply_sound : (kind : Kind) (r : ℕ) (tag : Holder) (unit : List ℕ) (d : Draft) → SoundAt d → SoundAt (reply kind r tag unit d)
 reply_sound kind r tag unit d s =
     let l = link_of d in
     cond_both (awaits_reply d.links) (answering (of_kind kind r tag) (reply_step d.moment unit d.links) l) (still l) (λ (t : Turn). SoundAt (with_turn t d)) (λ e. s) (λ e. s)
 
-acknowledge_sound : (r : ℕ) (tag : Holder) (d : Draft) → SoundAt d → SoundAt (acknowledge r tag d)
+pub acknowledge_sound : (r : ℕ) (tag : Holder) (d : Draft) → SoundAt d → SoundAt (acknowledge r tag d)
 acknowledge_sound r tag d s = reply_sound Ack r tag (ack_up r (Some (0 ∷ 0 ∷ []))) d s
 
-refuse_sound : (r : ℕ) (tag : Holder) (cause : RpCause) (failure : ℕ) (d : Draft) → SoundAt d → SoundAt (refuse r tag cause failure d)
+pub refuse_sound : (r : ℕ) (tag : Holder) (cause : RpCause) (failure : ℕ) (d : Draft) → SoundAt d → SoundAt (refuse r tag cause failure d)
 refuse_sound r tag cause failure d s = reply_sound Error r tag (error_up r cause (Some (0 ∷ failure ∷ 0 ∷ []))) d s
 
-no_room_sound : (r : ℕ) (tag : Holder) (d : Draft) → SoundAt d → SoundAt (no_room r tag d)
+pub no_room_sound : (r : ℕ) (tag : Holder) (d : Draft) → SoundAt d → SoundAt (no_room r tag d)
 no_room_sound r tag d s =
     refuse_sound r tag MemoryCapacityExceeded 211 (flag d)
     (counters_move d.rows d.under_way d.is_recovered d.notices (record d.rows.counters { is_memory_full = true }) (let l : d.rows.counters.entry ≤ d.rows.counters.entry = omega arith in l) s)
 
-accept_sound : (r : ℕ) (tag : Holder) (tpdu : List ℕ) (d : Draft) → IsLast (record { reference = r; tpdu = tpdu }) → SoundAt d → SoundAt (accept r tag tpdu d)
+pub accept_sound : (r : ℕ) (tag : Holder) (tpdu : List ℕ) (d : Draft) → IsLast (record { reference = r; tpdu = tpdu }) → SoundAt d → SoundAt (accept r tag tpdu d)
 accept_sound r tag tpdu d i s =
     acknowledge_sound r tag (put_last (record { reference = r; tpdu = tpdu }) d) (last_moves d.rows d.under_way d.is_recovered d.notices (record { reference = r; tpdu = tpdu }) i s)
 
 -- ---- DELIVER
 
-single_came_sound : (r : ℕ) (tag : Holder) (tpdu : List ℕ) (d : Draft) → IsDelivered tpdu → SoundAt d → SoundAt (single_came r tag tpdu d)
+pub single_came_sound : (r : ℕ) (tag : Holder) (tpdu : List ℕ) (d : Draft) → IsDelivered tpdu → SoundAt d → SoundAt (single_came r tag tpdu d)
 single_came_sound r tag tpdu d i s =
     cond_both (has_room d) (accept r tag tpdu (store_single tpdu d)) (no_room r tag d) (λ (y : Draft). SoundAt y)
     (λ t. accept_sound r tag tpdu (store_single tpdu d) (inl i) (single_sound tpdu d t i s)) (λ t. no_room_sound r tag d s)
 
-new_part_sound : (r : ℕ) (tag : Holder) (tpdu : List ℕ) (g : Group) (n : ℕ) (d : Draft) → IsDelivered tpdu → Fresh g n tpdu d → SoundAt d → SoundAt (new_part_came r tag tpdu g n (members g d.rows.entries) d)
+pub new_part_sound : (r : ℕ) (tag : Holder) (tpdu : List ℕ) (g : Group) (n : ℕ) (d : Draft) → IsDelivered tpdu → Fresh g n tpdu d → SoundAt d → SoundAt (new_part_came r tag tpdu g n (members g d.rows.entries) d)
 new_part_sound r tag tpdu g n d i f s =
     let es = members g d.rows.entries in
     cond_both (has_room d) (accept r tag tpdu (store_part g n tpdu es d)) (no_room r tag d) (λ (y : Draft). SoundAt y)
     (λ t. accept_sound r tag tpdu (store_part g n tpdu es d) (inl i) (part_sound g n tpdu d t f s)) (λ t. no_room_sound r tag d s)
 
-member_sound : (r : ℕ) (tag : Holder) (tpdu : List ℕ) (g : Group) (n : ℕ) (d : Draft) → IsDelivered tpdu → IsPartOf g n tpdu → 0 < n → n ≤ g.total → mark_of g d.rows.marks ≡ None
+pub member_sound : (r : ℕ) (tag : Holder) (tpdu : List ℕ) (g : Group) (n : ℕ) (d : Draft) → IsDelivered tpdu → IsPartOf g n tpdu → 0 < n → n ≤ g.total → mark_of g d.rows.marks ≡ None
     → SoundAt d → SoundAt (member_came r tag tpdu g n (members g d.rows.entries) d)
 member_sound r tag tpdu g n d i p low high kept s =
     let es = members g d.rows.entries in
@@ -181,7 +181,7 @@ member_sound r tag tpdu g n d i p low high kept s =
     (λ t. single_came_sound r tag tpdu d i s)
     (λ t. new_part_sound r tag tpdu g n d i (record { part = p; low = low; high = high; new = t; kept = kept }) s)
 
-part_came_sound : (r : ℕ) (tag : Holder) (tpdu : List ℕ) (g : Group) (n : ℕ) (o : Option Mark) (d : Draft) → IsDelivered tpdu → IsPartOf g n tpdu → 0 < n → n ≤ g.total → mark_of g d.rows.marks ≡ o
+pub part_came_sound : (r : ℕ) (tag : Holder) (tpdu : List ℕ) (g : Group) (n : ℕ) (o : Option DiscardedGroup) (d : Draft) → IsDelivered tpdu → IsPartOf g n tpdu → 0 < n → n ≤ g.total → mark_of g d.rows.marks ≡ o
     → SoundAt d → SoundAt (part_came r tag tpdu g n o d)
 part_came_sound r tag tpdu g n None d i p low high q s = member_sound r tag tpdu g n d i p low high q s
 part_came_sound r tag tpdu g n (Some m) d i p low high q s =
@@ -189,7 +189,7 @@ part_came_sound r tag tpdu g n (Some m) d i p low high q s =
     (λ t. single_came_sound r tag tpdu d i s)
     (λ t. accept_sound r tag tpdu (marked n m d) (inl i) (marked_sound n m g d q t s))
 
-deliver_sound : (r : ℕ) (tag : Holder) (tpdu : List ℕ) (m : DeliverOf) (o : Option ConcatKey) (d : Draft) → down_at InData tpdu ≡ Ok (Deliver m) → key_of m ≡ o → IsCounted o
+pub deliver_sound : (r : ℕ) (tag : Holder) (tpdu : List ℕ) (m : DeliverOf) (o : Option ConcatKey) (d : Draft) → down_at InData tpdu ≡ Ok (Deliver m) → key_of m ≡ o → IsCounted o
     → SoundAt d → SoundAt (deliver_came r tag tpdu m o d)
 deliver_sound r tag tpdu m None d e q c s = single_came_sound r tag tpdu d (m, e) s
 deliver_sound r tag tpdu m (Some key) d e q c s =
@@ -222,7 +222,7 @@ same_under_way (Some c) os fs f u = same_holder c.reference c.tag os fs f u
     same_holder r (EntryHolder n) os fs f u = f r n u
     same_holder r (Memory n) os fs f u = tt
 
-note_sound : (status : ℕ) (o : Option OutEntry) (d : Draft) → ((x : OutEntry) → o ≡ Some x → Among x d.rows.outbox) → SoundAt d → SoundAt (note status o d)
+pub note_sound : (status : ℕ) (o : Option OutEntry) (d : Draft) → ((x : OutEntry) → o ≡ Some x → Among x d.rows.outbox) → SoundAt d → SoundAt (note status o d)
 note_sound status None d a s = s
 note_sound status (Some o) d a s =
     let os = d.rows.outbox in
@@ -234,14 +234,14 @@ note_sound status (Some o) d a s =
 
 -- ---- RP-DATA
 
-tpdu_sound : (r : ℕ) (tag : Holder) (tpdu : List ℕ) (t : Result Down TpduFault) (d : Draft) → down_at InData tpdu ≡ t → SoundAt d → SoundAt (tpdu_came r tag tpdu t d)
+pub tpdu_sound : (r : ℕ) (tag : Holder) (tpdu : List ℕ) (t : Result Down TpduFault) (d : Draft) → down_at InData tpdu ≡ t → SoundAt d → SoundAt (tpdu_came r tag tpdu t d)
 tpdu_sound r tag tpdu (Ok (Deliver m)) d q s = deliver_sound r tag tpdu m (key_of m) d q refl (header_counts m.user_data_header_indicator m.user_data.octets) s
 tpdu_sound r tag tpdu (Ok (StatusReport p)) d q s =
     accept_sound r tag tpdu (note p.status (reported p d.rows.outbox) d) (inr (p, q)) (note_sound p.status (reported p d.rows.outbox) d (λ x e. reported_among p d.rows.outbox x e) s)
 tpdu_sound r tag tpdu (Ok (SubmitReport p)) d q s = refuse_sound r tag InvalidMandatoryInformation 255 d s
 tpdu_sound r tag tpdu (Err f) d q s = refuse_sound r tag InvalidMandatoryInformation 255 d s
 
-data_sound : (r : ℕ) (tag : Holder) (tpdu : List ℕ) (d : Draft) → SoundAt d → SoundAt (data_came r tag tpdu d)
+pub data_sound : (r : ℕ) (tag : Holder) (tpdu : List ℕ) (d : Draft) → SoundAt d → SoundAt (data_came r tag tpdu d)
 data_sound r tag tpdu d s =
     cond_both (is_double tpdu (row_at last_key r d.rows.last)) (acknowledge r tag d) (tpdu_came r tag tpdu (down_at InData tpdu) d) (λ (y : Draft). SoundAt y)
     (λ t. acknowledge_sound r tag d s) (λ t. tpdu_sound r tag tpdu (down_at InData tpdu) d refl s)

@@ -39,9 +39,9 @@ use Rattle.sms_handset.proofs.SoundOutbox.{IsSoundOut, Replaces, replaced}
 
 -- ---- an entry that is Sending becomes another
 
-record Turns (k : ℕ) (es : List Entry) (o w : OutEntry) : Type 0 where
-  replaces : Replaces o w
-  sound : IsSoundOut k es w
+pub record Turns (k : ℕ) (es : List Entry) (o w : OutEntry) : Type 0 where
+  pub replaces : Replaces o w
+  pub sound : IsSoundOut k es w
 
 turns : (k : ℕ) (es : List Entry) (o : OutEntry) (s : EntryState) (r : Bool) (due : Option ℕ) → is_unfinished o.state ≡ true → AreTries s o.tries → IsSoundOut k es o
     → Turns k es o (record o { state = s; rejects_duplicates = r; due = due })
@@ -92,7 +92,7 @@ settled_turns k es moment Refused o e i = turns k es o Failed o.rejects_duplicat
 settled_turns k es moment Lost o e i = lost_turns k es o e i
 
 -- it does so where nothing is under way
-turned_sound : (o w : OutEntry) (d : Draft) → Among o d.rows.outbox → Turns d.rows.counters.entry d.rows.entries o w → d.under_way ≡ None → SoundAt d → SoundAt (put_out w d)
+pub turned_sound : (o w : OutEntry) (d : Draft) → Among o d.rows.outbox → Turns d.rows.counters.entry d.rows.entries o w → d.under_way ≡ None → SoundAt d → SoundAt (put_out w d)
 turned_sound o w d a t e s =
     outbox_moves d.rows d.under_way d.under_way d.is_recovered d.is_recovered d.notices (put out_key w d.rows.outbox)
     (replaced d.rows.counters.entry d.rows.entries d.rows.outbox o w a t.replaces t.sound s.outbox) s.recovered
@@ -100,7 +100,7 @@ turned_sound o w d a t e s =
 
 -- ---- a transfer ends
 
-entry_concluded_sound : (v : Ending) (f : Option OutEntry) (o : OutEntry) (d : Draft) → f ≡ Some o → Among o d.rows.outbox → o.state ≡ Sending → d.under_way ≡ None
+pub entry_concluded_sound : (v : Ending) (f : Option OutEntry) (o : OutEntry) (d : Draft) → f ≡ Some o → Among o d.rows.outbox → o.state ≡ Sending → d.under_way ≡ None
     → SoundAt d → SoundAt (entry_concluded v f d)
 entry_concluded_sound v None o d q a e n s = s
 entry_concluded_sound v (Some x) o d q a e n s =
@@ -120,22 +120,22 @@ gone_notice : (number : ℕ) (d : Draft) → SoundAt d → SoundAt (remove_notic
 gone_notice number d s =
     notices_move d.rows d.under_way d.is_recovered d.notices _ (let l = length_without notice_key number d.notices in let f = s.few_notices in omega arith) s
 
-notice_failed_sound : (n : Notice) (d : Draft) → Among n d.notices → SoundAt d → SoundAt (notice_failed n d)
+pub notice_failed_sound : (n : Notice) (d : Draft) → Among n d.notices → SoundAt d → SoundAt (notice_failed n d)
 notice_failed_sound n d a s =
     let w : Notice = record n { is_second = true; due = Some (later d.moment tram) } in
     cond_both n.is_second (remove_notice n.number d) (put_notice w d) (λ (z : Draft). SoundAt z) (λ t. gone_notice n.number d s) (λ t. same_notice n w d a refl s)
 
-notice_ended_sound : (v : Ending) (n : Notice) (d : Draft) → Among n d.notices → SoundAt d → SoundAt (notice_ended v n d)
+pub notice_ended_sound : (v : Ending) (n : Notice) (d : Draft) → Among n d.notices → SoundAt d → SoundAt (notice_ended v n d)
 notice_ended_sound AcknowledgedEnd n d a s = gone_notice n.number d s
 notice_ended_sound (RefusedEnd cause tpdu) n d a s = notice_failed_sound n d a s
 notice_ended_sound WrongEnd n d a s = notice_failed_sound n d a s
 notice_ended_sound LostEnd n d a s = notice_failed_sound n d a s
 
-notice_concluded_sound : (v : Ending) (k : ℕ) (n : Option Notice) (d : Draft) → row_at notice_key k d.notices ≡ n → SoundAt d → SoundAt (notice_concluded v n d)
+pub notice_concluded_sound : (v : Ending) (k : ℕ) (n : Option Notice) (d : Draft) → row_at notice_key k d.notices ≡ n → SoundAt d → SoundAt (notice_concluded v n d)
 notice_concluded_sound v k None d q s = s
 notice_concluded_sound v k (Some n) d q s = notice_ended_sound v n d (found_among notice_key k n d.notices q) s
 
-holder_concluded_sound : (v : Ending) (r : ℕ) (h : Holder) (d : Draft) → IsSentFor r h d.rows.outbox → d.under_way ≡ None → SoundAt d → SoundAt (holder_concluded v h d)
+pub holder_concluded_sound : (v : Ending) (r : ℕ) (h : Holder) (d : Draft) → IsSentFor r h d.rows.outbox → d.under_way ≡ None → SoundAt d → SoundAt (holder_concluded v h d)
 holder_concluded_sound v r (PartHolder i n) d w e s = s
 holder_concluded_sound v r (Report i) d w e s = s
 holder_concluded_sound v r (EntryHolder n) d w e s =
@@ -239,7 +239,7 @@ begins : (r : ℕ) (tag : Holder) (unit : List ℕ) (d : Draft) (P : Draft → T
 begins r tag unit d P e h =
     subst (λ (t : Turn). P (with_turn t d)) (sym (cond-false (is_busy d.links) (still (link_of d)) (started (of_kind Data r tag) (begin_step d.moment unit d.links) (link_of d)) e)) h
 
-offer_entry_sound : (f : Option OutEntry) (d : Draft) → ((o : OutEntry) → f ≡ Some o → IsDue d.rows.outbox o) → is_busy d.links ≡ false → d.is_recovered ≡ false → SoundAt d → SoundAt (offer_entry f d)
+pub offer_entry_sound : (f : Option OutEntry) (d : Draft) → ((o : OutEntry) → f ≡ Some o → IsDue d.rows.outbox o) → is_busy d.links ≡ false → d.is_recovered ≡ false → SoundAt d → SoundAt (offer_entry f d)
 unfolding sent_now
 offer_entry_sound None d h free n s = s
 offer_entry_sound (Some o) d h free n s =
@@ -256,7 +256,7 @@ offer_entry_sound (Some o) d h free n s =
     (was.0, was.1, was.2, tries) s.outbox)
     (λ t. absurd cc) (w, (row_at_put out_key w os, (refl, refl))) s)
 
-offer_message_sound : (d : Draft) → is_busy d.links ≡ false → d.is_recovered ≡ false → SoundAt d → SoundAt (offer_message d)
+pub offer_message_sound : (d : Draft) → is_busy d.links ≡ false → d.is_recovered ≡ false → SoundAt d → SoundAt (offer_message d)
 offer_message_sound d free n s = offer_entry_sound (first_due d.moment d.rows.outbox) d (λ o e. first_due_is d.moment d.rows.outbox o e) free n s
 
 -- an RP-SMMA is under way
@@ -264,26 +264,26 @@ noticed : (d : Draft) (w : Option Carried) → IsUnderWay w d.rows.outbox → d.
 noticed d w u n s = outbox_moves d.rows d.under_way w d.is_recovered d.is_recovered d.notices d.rows.outbox s.outbox (λ t. absurd cc) u s
 
 -- it is sent, as few as may be sent
-send_notice_sound : (n : Notice) (d : Draft) → length (put notice_key (record n { due = None }) d.notices) ≤ most_notices → is_busy d.links ≡ false → d.is_recovered ≡ false → SoundAt d → SoundAt (send_notice n d)
+pub send_notice_sound : (n : Notice) (d : Draft) → length (put notice_key (record n { due = None }) d.notices) ≤ most_notices → is_busy d.links ≡ false → d.is_recovered ≡ false → SoundAt d → SoundAt (send_notice n d)
 send_notice_sound n d few free f s =
     let e : Draft = put_notice (record n { due = None }) d in
     begins n.reference (Memory n.number) (smma_up n.reference) e (λ (z : Draft). SoundAt z) free
     (noticed e _ tt f (notices_move d.rows d.under_way d.is_recovered d.notices e.notices few s))
 
-first_notice_sound : (n r : ℕ) (d : Draft) → length d.notices < most_notices → is_busy d.links ≡ false → d.is_recovered ≡ false → SoundAt d → SoundAt (first_notice n r d)
+pub first_notice_sound : (n r : ℕ) (d : Draft) → length d.notices < most_notices → is_busy d.links ≡ false → d.is_recovered ≡ false → SoundAt d → SoundAt (first_notice n r d)
 first_notice_sound n r d few free f s =
     let c : Counters = record d.rows.counters { notice = n + 1; reference = (r + 1) % 256 } in
-    let e : Draft = record d { rows = record d.rows { counters = c }; changes = record d.changes { counters = Some c }; wanted = d.wanted - 1 } in
+    let e : Draft = record d { rows = record d.rows { counters = c }; changes = record d.changes { counters = Some c }; notices_wanted = d.notices_wanted - 1 } in
     let w : Notice = record { number = n; reference = r; is_second = false; due = None } in
     send_notice_sound w e (let l = length_put notice_key w d.notices in omega arith) free f
     (counters_move d.rows d.under_way d.is_recovered d.notices c (let l : d.rows.counters.entry ≤ d.rows.counters.entry = omega arith in l) s)
 
-offer_wanted_sound : (d : Draft) → is_busy d.links ≡ false → d.is_recovered ≡ false → SoundAt d → SoundAt (offer_wanted d)
+pub offer_wanted_sound : (d : Draft) → is_busy d.links ≡ false → d.is_recovered ≡ false → SoundAt d → SoundAt (offer_wanted d)
 offer_wanted_sound d free f s =
     let r = next_free d.rows.counters.reference (held_references d.notices d.rows.outbox) in
     cond_both (is_notice_next d) (first_notice d.rows.counters.notice r d) (offer_message d) (λ (z : Draft). SoundAt z)
     (λ t.
-    let both = and_parts (nat_lt 0 d.wanted) (nat_lt d.rows.counters.notice 4294967295 && nat_lt (length d.notices) most_notices) t in
+    let both = and_parts (nat_lt 0 d.notices_wanted) (nat_lt d.rows.counters.notice 4294967295 && nat_lt (length d.notices) most_notices) t in
     let few = and_parts (nat_lt d.rows.counters.notice 4294967295) (nat_lt (length d.notices) most_notices) both.1 in
     first_notice_sound d.rows.counters.notice r d (ltb-true (length d.notices) most_notices few.1) free f s)
     (λ t. offer_message_sound d free f s)
@@ -297,14 +297,14 @@ first_fired_among moment (x ∷ xs) n e = ⊎_elim
     (λ (t : is_fired moment x.due ≡ false). inr (first_fired_among moment xs n (sym (cond-false (is_fired moment x.due) (Some x) (first_fired moment xs) t) ∙ e)))
     (cases_Bool (is_fired moment x.due))
 
-offer_after_sound : (n : Option Notice) (d : Draft) → first_fired d.moment d.notices ≡ n → is_busy d.links ≡ false → d.is_recovered ≡ false → SoundAt d → SoundAt (offer_after n d)
+pub offer_after_sound : (n : Option Notice) (d : Draft) → first_fired d.moment d.notices ≡ n → is_busy d.links ≡ false → d.is_recovered ≡ false → SoundAt d → SoundAt (offer_after n d)
 offer_after_sound None d q free f s = offer_wanted_sound d free f s
 offer_after_sound (Some n) d q free f s =
     let w : Notice = record n { due = None } in
     let l = length_replaced notice_key w n d.notices (first_fired_among d.moment d.notices n q) refl in
     send_notice_sound n d (let k = s.few_notices in omega arith) free f s
 
-offer_sound : (d : Draft) → d.is_recovered ≡ false → SoundAt d → SoundAt (offer d)
+pub offer_sound : (d : Draft) → d.is_recovered ≡ false → SoundAt d → SoundAt (offer d)
 offer_sound d f s =
     let n = first_fired d.moment d.notices in
     cond_both (is_busy d.links) d (offer_after n d) (λ (z : Draft). SoundAt z) (λ t. s) (λ t. offer_after_sound n d refl t f s)

@@ -20,8 +20,8 @@ use Rattle.sms_handset.specs.declared.entry.Entry.{Entry}
 use Rattle.sms_handset.specs.declared.entry.Group.{Group}
 use Rattle.sms_handset.specs.declared.entry.Message.{Message}
 use Rattle.sms_handset.specs.declared.entry.Message.TheVariants.{Single, Part, Joined}
-use Rattle.sms_handset.specs.declared.last.Last.{Last}
-use Rattle.sms_handset.specs.declared.mark.Mark.{Mark}
+use Rattle.sms_handset.specs.declared.last_accepted.LastAccepted.{LastAccepted}
+use Rattle.sms_handset.specs.declared.discarded_group.DiscardedGroup.{DiscardedGroup}
 use Rattle.sms_handset.specs.declared.out_entry.EntryState.{EntryState}
 use Rattle.sms_handset.specs.declared.out_entry.EntryState.TheVariants.{Queued, Sending, Sent, Failed, Unsure}
 use Rattle.sms_handset.specs.declared.out_entry.OutEntry.{OutEntry}
@@ -132,7 +132,7 @@ entries_tell next es = each (λ (e : Entry). is_entry next e) (λ (e : Entry). I
 
 -- ---- open groups
 
-open_tells : (es : List Entry) (ms : List Mark) (g : Group) → Tells (is_open_group es ms g) (IsOpenGroup es ms g)
+open_tells : (es : List Entry) (ms : List DiscardedGroup) (g : Group) → Tells (is_open_group es ms g) (IsOpenGroup es ms g)
 open_tells es ms g =
     let ns = part_numbers (members g es) in
     let d = both (differ ns) (not (all_numbers g.total ns) && is_none (mark_of g ms)) (Differ ns) ((all_numbers g.total ns ≡ false) × (mark_of g ms ≡ None)) (differ_tells ns)
@@ -141,17 +141,17 @@ open_tells es ms g =
       (λ h. d.1 (h.once, (h.open_yet, h.kept))),
     )
 
-abbrev IsOfOpen : List Entry → List Mark → Entry → Type 0
+abbrev IsOfOpen : List Entry → List DiscardedGroup → Entry → Type 0
 IsOfOpen es ms e = is_of_open_group es ms e.number e.message ≡ true
 
-abbrev AreOfOpen : List Entry → List Mark → List Entry → Type 0
+abbrev AreOfOpen : List Entry → List DiscardedGroup → List Entry → Type 0
 AreOfOpen es ms xs = AllByRecursion (λ (e : Entry). IsOfOpen es ms e) xs
 
 passing : (test : Entry → Bool) (xs : List Entry) → each_passes test xs ≡ true → AllByRecursion (λ (e : Entry). test e ≡ true) xs
 passing test xs t = (each test (λ (e : Entry). test e ≡ true) (λ e. ((λ u. u), (λ u. u))) xs).0 t
 
 -- the first part of a group was looked at
-of_first : (es : List Entry) (ms : List Mark) (g : Group) (x : Entry) (m : Message) → x.message ≡ m → is_part_of g m ≡ true → first_number (members g es) ≡ x.number
+of_first : (es : List Entry) (ms : List DiscardedGroup) (g : Group) (x : Entry) (m : Message) → x.message ≡ m → is_part_of g m ≡ true → first_number (members g es) ≡ x.number
     → is_of_open_group es ms x.number m ≡ true → IsOpenGroup es ms g
 of_first es ms g x (Single tpdu) q p f t = absurd (true≢false (sym p))
 of_first es ms g x (Part h n tpdu) q p f t =
@@ -162,19 +162,19 @@ of_first es ms g x (Part h n tpdu) q p f t =
     subst (λ (z : Group). IsOpenGroup es ms z) e ((open_tells es ms h).0 told)
 of_first es ms g x (Joined source content) q p f t = absurd (true≢false (sym p))
 
-has_head : (g : Group) (es xs : List Entry) (ms : List Mark) (y : Entry) → members g es ≡ xs → Among y xs → ((e : Entry) → Among e es → IsOfOpen es ms e) → IsOpenGroup es ms g
+has_head : (g : Group) (es xs : List Entry) (ms : List DiscardedGroup) (y : Entry) → members g es ≡ xs → Among y xs → ((e : Entry) → Among e es → IsOfOpen es ms e) → IsOpenGroup es ms g
 has_head g es [] ms y q a h = elim a [ ]
 has_head g es (x ∷ xs) ms y q a h =
     let m = members_among g x es (subst (λ (l : List Entry). Among x l) (sym q) (inl refl)) in
     of_first es ms g x x.message refl m.1 (ap (λ (l : List Entry). first_number l) q) (h x m.0)
 
-open_from : (es : List Entry) (ms : List Mark) (e : Entry) (m : Message) → e.message ≡ m → Among e es → ((x : Entry) → Among x es → IsOfOpen es ms x) → IsOfOpenGroup es ms m
+open_from : (es : List Entry) (ms : List DiscardedGroup) (e : Entry) (m : Message) → e.message ≡ m → Among e es → ((x : Entry) → Among x es → IsOfOpen es ms x) → IsOfOpenGroup es ms m
 open_from es ms e (Single tpdu) q a h = tt
 open_from es ms e (Part g n tpdu) q a h =
     has_head g es (members g es) ms e refl (among_members g e es a (ap (λ (z : Message). is_part_of g z) q ∙ one_group g)) h
 open_from es ms e (Joined source content) q a h = tt
 
-open_to : (es : List Entry) (ms : List Mark) (n : ℕ) (m : Message) → IsOfOpenGroup es ms m → is_of_open_group es ms n m ≡ true
+open_to : (es : List Entry) (ms : List DiscardedGroup) (n : ℕ) (m : Message) → IsOfOpenGroup es ms m → is_of_open_group es ms n m ≡ true
 open_to es ms n (Single tpdu) h = refl
 open_to es ms n (Part g k tpdu) h = ⊎_elim
     (λ (t : (first_number (members g es) == n) ≡ true). cond-true (first_number (members g es) == n) (is_open_group es ms g) true t ∙ (open_tells es ms g).1 h)
@@ -182,19 +182,19 @@ open_to es ms n (Part g k tpdu) h = ⊎_elim
     (cases_Bool (first_number (members g es) == n))
 open_to es ms n (Joined source content) h = refl
 
-all_open : (es : List Entry) (ms : List Mark) (xs : List Entry) → ((e : Entry) → Among e xs → Among e es) → ((x : Entry) → Among x es → IsOfOpen es ms x)
+all_open : (es : List Entry) (ms : List DiscardedGroup) (xs : List Entry) → ((e : Entry) → Among e xs → Among e es) → ((x : Entry) → Among x es → IsOfOpen es ms x)
     → AllByRecursion (λ (e : Entry). IsOfOpenGroup es ms e.message) xs
 all_open es ms [] a h = tt
 all_open es ms (x ∷ xs) a h = (open_from es ms x x.message refl (a x (inl refl)) h, all_open es ms xs (λ e m. a e (inr m)) h)
 
-all_pass : (es : List Entry) (ms : List Mark) (xs : List Entry) → AllByRecursion (λ (e : Entry). IsOfOpenGroup es ms e.message) xs
+all_pass : (es : List Entry) (ms : List DiscardedGroup) (xs : List Entry) → AllByRecursion (λ (e : Entry). IsOfOpenGroup es ms e.message) xs
     → each_passes (λ (e : Entry). is_of_open_group es ms e.number e.message) xs ≡ true
 all_pass es ms [] h = refl
 all_pass es ms (x ∷ xs) h =
     and_from (is_of_open_group es ms x.number x.message) (each_passes (λ (e : Entry). is_of_open_group es ms e.number e.message) xs)
     (open_to es ms x.number x.message h.0) (all_pass es ms xs h.1)
 
-pub groups_tell : (es : List Entry) (ms : List Mark) → Tells (each_passes (λ (e : Entry). is_of_open_group es ms e.number e.message) es) (AreOpenGroups es ms)
+pub groups_tell : (es : List Entry) (ms : List DiscardedGroup) → Tells (each_passes (λ (e : Entry). is_of_open_group es ms e.number e.message) es) (AreOpenGroups es ms)
 groups_tell es ms = (
   (λ t. all_open es ms es (λ e a. a) (all_at (λ (e : Entry). IsOfOpen es ms e) es (passing (λ (e : Entry). is_of_open_group es ms e.number e.message) es t))),
   (λ h. all_pass es ms es h),
@@ -218,8 +218,8 @@ last_reads tpdu (Err f) q = (
       (λ i. let e : Err f ≡ Ok (StatusReport i.0) = sym q ∙ i.1 in absurd cc) h),
 )
 
-pub last_tells : (ls : List Last) → Tells (each_passes (λ (l : Last). is_last l) ls) (AllByRecursion IsLast ls)
-last_tells ls = each (λ (l : Last). is_last l) IsLast (λ l. last_reads l.tpdu (down_at InData l.tpdu) refl) ls
+pub last_tells : (ls : List LastAccepted) → Tells (each_passes (λ (l : LastAccepted). is_last l) ls) (AllByRecursion IsLast ls)
+last_tells ls = each (λ (l : LastAccepted). is_last l) IsLast (λ l. last_reads l.tpdu (down_at InData l.tpdu) refl) ls
 
 -- ---- the outbox
 
@@ -295,13 +295,13 @@ outbox_tells next es os = each (λ (o : OutEntry). is_out_entry next es o) (λ (
 
 -- ---- discarded groups
 
-abbrev IsGood : ℕ → List Entry → Mark → List Mark → Type 0
+abbrev IsGood : ℕ → List Entry → DiscardedGroup → List DiscardedGroup → Type 0
 IsGood next es m ms = (IsGiven next m.number × IsApart m.number es) × (Differ m.seen × ((all_numbers m.group.total m.seen ≡ false) × (mark_of m.group ms ≡ None)))
 
-abbrev is_good : ℕ → List Entry → Mark → List Mark → Bool
+abbrev is_good : ℕ → List Entry → DiscardedGroup → List DiscardedGroup → Bool
 is_good next es m ms = (is_given next m.number && is_apart m.number es) && (differ m.seen && (not (all_numbers m.group.total m.seen) && is_none (mark_of m.group ms)))
 
-good_tells : (next : ℕ) (es : List Entry) (m : Mark) (ms : List Mark) → Tells (is_good next es m ms) (IsGood next es m ms)
+good_tells : (next : ℕ) (es : List Entry) (m : DiscardedGroup) (ms : List DiscardedGroup) → Tells (is_good next es m ms) (IsGood next es m ms)
 good_tells next es m ms =
     both (is_given next m.number && is_apart m.number es) (differ m.seen && (not (all_numbers m.group.total m.seen) && is_none (mark_of m.group ms)))
     (IsGiven next m.number × IsApart m.number es) (Differ m.seen × ((all_numbers m.group.total m.seen ≡ false) × (mark_of m.group ms ≡ None)))
@@ -310,7 +310,7 @@ good_tells next es m ms =
     (both (not (all_numbers m.group.total m.seen)) (is_none (mark_of m.group ms)) (all_numbers m.group.total m.seen ≡ false) (mark_of m.group ms ≡ None)
     (not_tells (all_numbers m.group.total m.seen)) (nothing (mark_of m.group ms))))
 
-pub marks_tell : (next : ℕ) (es : List Entry) (ms : List Mark) → Tells (are_marks next es ms) (AreMarks next es ms)
+pub marks_tell : (next : ℕ) (es : List Entry) (ms : List DiscardedGroup) → Tells (are_marks next es ms) (AreMarks next es ms)
 marks_tell next es [] = ((λ t. tt), (λ h. refl))
 marks_tell next es (m ∷ ms) =
     told_as (are_marks next es (m ∷ ms)) (IsGood next es m ms × AreMarks next es ms) (AreMarks next es (m ∷ ms))
@@ -339,7 +339,7 @@ inbox_tells r =
     let k = r.counters.entry in
     let a = each_passes (λ (e : Entry). is_entry k e) r.entries in
     let b = each_passes (λ (e : Entry). is_of_open_group r.entries r.marks e.number e.message) r.entries in
-    let c = each_passes (λ (l : Last). is_last l) r.last in
+    let c = each_passes (λ (l : LastAccepted). is_last l) r.last in
     both (nat_lt 0 k) (a && (b && c)) (0 < k) (AreEntries k r.entries × (AreOpenGroups r.entries r.marks × AllByRecursion IsLast r.last)) (less 0 k)
     (both a (b && c) (AreEntries k r.entries) (AreOpenGroups r.entries r.marks × AllByRecursion IsLast r.last) (entries_tell k r.entries)
     (both b c (AreOpenGroups r.entries r.marks) (AllByRecursion IsLast r.last) (groups_tell r.entries r.marks) (last_tells r.last)))

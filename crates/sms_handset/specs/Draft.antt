@@ -12,8 +12,8 @@ use Rattle.sms_table.specs.declared.change.Change.TheVariants.{Put, Remove}
 use Rattle.sms_handset.specs.declared.counters.Counters.{Counters}
 use Rattle.sms_handset.specs.declared.entry.Entry.{Entry}
 use Rattle.sms_base.specs.declared.holder.Holder.{Holder}
-use Rattle.sms_handset.specs.declared.last.Last.{Last}
-use Rattle.sms_handset.specs.declared.mark.Mark.{Mark}
+use Rattle.sms_handset.specs.declared.last_accepted.LastAccepted.{LastAccepted}
+use Rattle.sms_handset.specs.declared.discarded_group.DiscardedGroup.{DiscardedGroup}
 use Rattle.sms_handset.specs.declared.notice.Notice.{Notice}
 use Rattle.sms_handset.specs.declared.out_entry.OutEntry.{OutEntry}
 use Rattle.sms_base.specs.declared.carried.Kind.{Kind}
@@ -34,7 +34,7 @@ pub record Core : Type 0 where
   pub under_way : Option Carried
   pub answered : Option Carried
   -- how many RP-SMMA are wanted that were not sent yet, and those that were sent and have not ended
-  pub wanted : ℕ
+  pub notices_wanted : ℕ
   pub notices : List Notice
   -- rows that are Sending may stand from before a restart
   pub is_recovered : Bool
@@ -47,7 +47,7 @@ recovered rows = record {
   links = fresh;
   under_way = None;
   answered = None;
-  wanted = 0;
+  notices_wanted = 0;
   notices = [];
   is_recovered = true;
 }
@@ -64,7 +64,7 @@ pub record GroupRoom : Type 0 where
   pub taken : ℕ
   pub capacity : ℕ
 
-pub record Standing : Type 0 where
+pub record HandsetOf : Type 0 where
   pub core : Core
   pub room : Room
   pub groups : GroupRoom
@@ -94,9 +94,9 @@ group_room_of s = record {
 -- what came and went of each list, in order, and the counters if they changed
 pub record Changes : Type 0 where
   pub entries : List (Change Entry)
-  pub last : List (Change Last)
+  pub last : List (Change LastAccepted)
   pub outbox : List (Change OutEntry)
-  pub marks : List (Change Mark)
+  pub marks : List (Change DiscardedGroup)
   pub counters : Option Counters
 
 abbrev pub no_changes : Changes
@@ -121,7 +121,7 @@ pub record Draft : Type 0 where
   pub links : LinkState
   pub under_way : Option Carried
   pub answered : Option Carried
-  pub wanted : ℕ
+  pub notices_wanted : ℕ
   pub notices : List Notice
   pub is_recovered : Bool
   -- what came of the event so far
@@ -135,7 +135,7 @@ draft_of c = record {
   links = c.links;
   under_way = c.under_way;
   answered = c.answered;
-  wanted = c.wanted;
+  notices_wanted = c.notices_wanted;
   notices = c.notices;
   is_recovered = c.is_recovered;
   changes = no_changes;
@@ -149,7 +149,7 @@ core_of d = record {
   links = d.links;
   under_way = d.under_way;
   answered = d.answered;
-  wanted = d.wanted;
+  notices_wanted = d.notices_wanted;
   notices = d.notices;
   is_recovered = d.is_recovered;
 }
@@ -168,7 +168,7 @@ remove_entry n d = record d {
   changes = record d.changes { entries = d.changes.entries ++ Remove n ∷ [] };
 }
 
-abbrev pub put_last : Last → Draft → Draft
+abbrev pub put_last : LastAccepted → Draft → Draft
 put_last l d = record d {
   rows = record d.rows { last = put last_key l d.rows.last };
   changes = record d.changes { last = d.changes.last ++ Put l ∷ [] };
@@ -186,7 +186,7 @@ remove_out n d = record d {
   changes = record d.changes { outbox = d.changes.outbox ++ Remove n ∷ [] };
 }
 
-abbrev pub put_mark : Mark → Draft → Draft
+abbrev pub put_mark : DiscardedGroup → Draft → Draft
 put_mark m d = record d {
   rows = record d.rows { marks = put mark_key m d.rows.marks };
   changes = record d.changes { marks = d.changes.marks ++ Put m ∷ [] };

@@ -18,7 +18,7 @@ use Rattle.sms_tpdu.specs.TpduReading.{down_at}
 use Rattle.sms_table.specs.Table.{row_at}
 use Rattle.sms_handset.specs.declared.entry.Entry.{Entry}
 use Rattle.sms_handset.specs.declared.entry.Group.{Group}
-use Rattle.sms_handset.specs.declared.mark.Mark.{Mark}
+use Rattle.sms_handset.specs.declared.discarded_group.DiscardedGroup.{DiscardedGroup}
 use Rattle.sms_handset.specs.declared.open_group.Regrouping.{Regrouping}
 use Rattle.sms_handset.specs.declared.open_group.Regrouping.TheVariants.{Unchanged}
 use Rattle.sms_handset.specs.Draft.{Draft, with_turn}
@@ -37,7 +37,7 @@ new_part_groups tpdu g n es d = if has_room d then stored_groups g n tpdu es d e
 abbrev pub member_groups : List ℕ → Group → ℕ → List Entry → Draft → Regrouping
 member_groups tpdu g n es d = if is_among n (part_numbers es) then Unchanged else new_part_groups tpdu g n es d
 
-abbrev pub part_groups : List ℕ → Group → ℕ → Option Mark → Draft → Regrouping
+abbrev pub part_groups : List ℕ → Group → ℕ → Option DiscardedGroup → Draft → Regrouping
 part_groups tpdu g n None d = member_groups tpdu g n (members g d.rows.entries) d
 part_groups tpdu g n (Some m) d = Unchanged
 

@@ -4,7 +4,7 @@ pub mod Groups
 pub mod OpenGroups
 pub mod StoredParts
 pub mod OpenIndex
-pub mod Standing
+pub mod Consistent
 pub mod GroupChanges
 pub mod References
 pub mod Answers

@@ -33,7 +33,7 @@ flag d = put_counters (record d.rows.counters { is_memory_full = true }) d
 
 -- one more RP-SMMA is wanted
 abbrev pub want_notice : Draft → Draft
-want_notice d = record d { wanted = min (d.wanted + 1) 4294967295 }
+want_notice d = record d { notices_wanted = min (d.notices_wanted + 1) 4294967295 }
 
 -- a slot became free
 abbrev pub freed : Draft → Draft
@@ -62,7 +62,7 @@ abbrev pub first_notice : ℕ → ℕ → Draft → Draft
 first_notice number reference d =
     send_notice (record { number = number; reference = reference; is_second = false; due = None })
     (put_counters (record d.rows.counters { notice = number + 1; reference = (reference + 1) % 256 })
-    (record d { wanted = d.wanted - 1 }))
+    (record d { notices_wanted = d.notices_wanted - 1 }))
 
 -- the transaction of an RP-SMMA ended without its RP-ACK
 abbrev pub notice_failed : Notice → Draft → Draft

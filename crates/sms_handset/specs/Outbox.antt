@@ -122,7 +122,7 @@ offer_message d = offer_entry (first_due d.moment d.rows.outbox) d
 
 -- An RP-SMMA is wanted, a number is left for it, and few wait to be sent again: where it is not so, messages go on.
 abbrev pub is_notice_next : Draft → Bool
-is_notice_next d = nat_lt 0 d.wanted && (nat_lt d.rows.counters.notice 4294967295 && nat_lt (length d.notices) most_notices)
+is_notice_next d = nat_lt 0 d.notices_wanted && (nat_lt d.rows.counters.notice 4294967295 && nat_lt (length d.notices) most_notices)
 
 -- an RP-SMMA that is wanted goes before messages, however many wait for TRAM
 abbrev pub offer_wanted : Draft → Draft

@@ -18,7 +18,7 @@ use Rattle.sms_handset.specs.Accepted.{StoresAccepted}
 use Rattle.sms_handset.specs.MemoryAvailable.{slots_taken}
 use Rattle.sms_handset.specs.OpenGroups.{IsRegrouped}
 use Rattle.sms_handset.specs.OpenIndex.{opening}
-use Rattle.sms_handset.specs.Draft.{Changes, Core, Draft, Room, Standing, rows_after}
+use Rattle.sms_handset.specs.Draft.{Changes, Core, Draft, Room, HandsetOf, rows_after}
 
 -- the changes of the rows, without the memory that comes with them
 abbrev pub changes_in : SettledChanges → Changes
@@ -42,7 +42,7 @@ pub record Outcome : Type 0 where
   pub links : LinkState
   pub under_way : Option Carried
   pub answered : Option Carried
-  pub wanted : ℕ
+  pub notices_wanted : ℕ
   pub notices : List Notice
   pub is_recovered : Bool
 
@@ -54,7 +54,7 @@ outcome_of d = record {
   links = d.links;
   under_way = d.under_way;
   answered = d.answered;
-  wanted = d.wanted;
+  notices_wanted = d.notices_wanted;
   notices = d.notices;
   is_recovered = d.is_recovered;
 }
@@ -67,7 +67,7 @@ adopted o c = record {
   links = o.links;
   under_way = o.under_way;
   answered = o.answered;
-  wanted = o.wanted;
+  notices_wanted = o.notices_wanted;
   notices = o.notices;
   is_recovered = o.is_recovered;
 }
@@ -83,7 +83,7 @@ pub record Plan : Type 0 where
 
 -- The plan's changes fit the memory of the lists and of the index, with that which the plan brings; and its
 -- change of the open groups and its count of the slots are those of its rows.
-pub record Fits (plan : Plan) (s : Standing) : Type 0 where
+pub record Fits (plan : Plan) (s : HandsetOf) : Type 0 where
   pub entries : length s.core.rows.entries + length plan.outcome.changes.entries ≤ max s.room.entries plan.spare.entries
   pub last : length s.core.rows.last + length plan.outcome.changes.last ≤ max s.room.last plan.spare.last
   pub outbox : length s.core.rows.outbox + length plan.outcome.changes.outbox ≤ max s.room.outbox plan.spare.outbox
@@ -93,14 +93,14 @@ pub record Fits (plan : Plan) (s : Standing) : Type 0 where
   pub slots : plan.taken ≡ slots_taken (rows_after plan.outcome.changes s.core.rows).entries
 
 -- The changes fit the memory of the lists, with that which they bring.
-pub record HaveRoom (changes : SettledChanges) (s : Standing) : Type 0 where
+pub record HaveRoom (changes : SettledChanges) (s : HandsetOf) : Type 0 where
   pub entries : FitsIn changes.entries (record { rows = s.core.rows.entries; capacity = s.room.entries })
   pub last : FitsIn changes.last (record { rows = s.core.rows.last; capacity = s.room.last })
   pub outbox : FitsIn changes.outbox (record { rows = s.core.rows.outbox; capacity = s.room.outbox })
   pub marks : FitsIn changes.marks (record { rows = s.core.rows.marks; capacity = s.room.marks })
 
 -- The plan has the outcome of the event that leads to the draft, and fits the handset.
-pub record IsPlanOf (d : Draft) (s : Standing) (plan : Plan) : Type 0 where
+pub record IsPlanOf (d : Draft) (s : HandsetOf) (plan : Plan) : Type 0 where
   pub outcome : plan.outcome ≡ outcome_of d
   pub fits : Fits plan s
 
@@ -116,13 +116,13 @@ Judges None wanted = (d : Draft) × (wanted ≡ Ok d)
 Judges (Some refusal) wanted = wanted ≡ Err refusal
 
 -- What was wanted, planned.
-abbrev pub Plans : Result Plan PlanError → Standing → Result Draft Refusal → Type 0
+abbrev pub Plans : Result Plan PlanError → HandsetOf → Result Draft Refusal → Type 0
 Plans (Ok plan) s wanted = (d : Draft) × ((wanted ≡ Ok d) × IsPlanOf d s plan)
 Plans (Err (Refused refusal)) s wanted = wanted ≡ Err refusal
 Plans (Err NoMemory) s wanted = (d : Draft) × (wanted ≡ Ok d)
 
 -- What the plan accepts is stored in the rows that it leads to.
-abbrev pub Stores : Standing → Plan → Type 0
+abbrev pub Stores : HandsetOf → Plan → Type 0
 Stores s plan = StoresAccepted s.core.rows.marks plan.outcome.changes (rows_after plan.outcome.changes s.core.rows)
 
 -- ---- a fact of events of one kind

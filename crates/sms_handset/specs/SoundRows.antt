@@ -13,8 +13,8 @@ use Rattle.sms_handset.specs.declared.entry.Group.{Group}
 use Rattle.sms_handset.specs.declared.entry.Message.{Message}
 use Rattle.sms_handset.specs.declared.entry.Message.TheVariants.{Single, Part, Joined}
 use Rattle.sms_handset.specs.declared.entry.Entry.{Entry}
-use Rattle.sms_handset.specs.declared.last.Last.{Last}
-use Rattle.sms_handset.specs.declared.mark.Mark.{Mark}
+use Rattle.sms_handset.specs.declared.last_accepted.LastAccepted.{LastAccepted}
+use Rattle.sms_handset.specs.declared.discarded_group.DiscardedGroup.{DiscardedGroup}
 use Rattle.sms_handset.specs.declared.out_entry.EntryState.{EntryState}
 use Rattle.sms_handset.specs.declared.out_entry.EntryState.TheVariants.{Queued, Sending, Sent, Failed, Unsure}
 use Rattle.sms_handset.specs.declared.out_entry.OutEntry.{OutEntry}
@@ -57,22 +57,22 @@ Differ [] = Unit {0}
 Differ (n ∷ ns) = (is_among n ns ≡ false) × Differ ns
 
 -- An open group has each of its numbers once, not all of them, and is not discarded.
-pub record IsOpenGroup (entries : List Entry) (marks : List Mark) (g : Group) : Type 0 where
+pub record IsOpenGroup (entries : List Entry) (marks : List DiscardedGroup) (g : Group) : Type 0 where
   pub once : Differ (part_numbers (members g entries))
   pub open_yet : all_numbers g.total (part_numbers (members g entries)) ≡ false
   pub kept : mark_of g marks ≡ None
 
-abbrev pub IsOfOpenGroup : List Entry → List Mark → Message → Type 0
+abbrev pub IsOfOpenGroup : List Entry → List DiscardedGroup → Message → Type 0
 IsOfOpenGroup entries marks (Single tpdu) = Unit {0}
 IsOfOpenGroup entries marks (Part g n tpdu) = IsOpenGroup entries marks g
 IsOfOpenGroup entries marks (Joined source content) = Unit {0}
 
-abbrev pub AreOpenGroups : List Entry → List Mark → Type 0
+abbrev pub AreOpenGroups : List Entry → List DiscardedGroup → Type 0
 AreOpenGroups entries marks = AllByRecursion (λ (e : Entry). IsOfOpenGroup entries marks e.message) entries
 
 -- ---- what was accepted last
 
-abbrev pub IsLast : Last → Type 0
+abbrev pub IsLast : LastAccepted → Type 0
 IsLast l = IsDelivered l.tpdu ⊎ ((r : StatusReportOf) × (down_at InData l.tpdu ≡ Ok (StatusReport r)))
 
 -- ---- the outbox
@@ -107,7 +107,7 @@ AreOutEntries next entries outbox =
 -- ---- discarded groups
 
 -- The numbers seen of a group differ and are not all of them; no entry has the mark's number, and no other mark its group.
-abbrev pub AreMarks : ℕ → List Entry → List Mark → Type 0
+abbrev pub AreMarks : ℕ → List Entry → List DiscardedGroup → Type 0
 AreMarks next entries [] = Unit {0}
 AreMarks next entries (m ∷ ms) =
     IsGiven next m.number × IsApart m.number entries × Differ m.seen × (all_numbers m.group.total m.seen ≡ false) × (mark_of m.group ms ≡ None)

@@ -13,8 +13,8 @@ use Rattle.sms_handset.specs.declared.entry.Entry.{Entry}
 use Rattle.sms_handset.specs.declared.entry.Group.{Group}
 use Rattle.sms_handset.specs.declared.entry.Message.{Message}
 use Rattle.sms_handset.specs.declared.entry.Message.TheVariants.{Single, Part, Joined}
-use Rattle.sms_handset.specs.declared.last.Last.{Last}
-use Rattle.sms_handset.specs.declared.mark.Mark.{Mark}
+use Rattle.sms_handset.specs.declared.last_accepted.LastAccepted.{LastAccepted}
+use Rattle.sms_handset.specs.declared.discarded_group.DiscardedGroup.{DiscardedGroup}
 use Rattle.sms_handset.specs.declared.out_entry.EntryState.{EntryState}
 use Rattle.sms_handset.specs.declared.out_entry.EntryState.TheVariants.{Queued, Sending, Sent, Failed, Unsure}
 use Rattle.sms_handset.specs.declared.out_entry.OutEntry.{OutEntry}
@@ -65,12 +65,12 @@ abbrev pub is_entry : ℕ → Entry → Bool
 is_entry next e = is_given next e.number && is_message e.slots e.message
 
 -- each of its numbers once, not all of them, and not discarded
-abbrev pub is_open_group : List Entry → List Mark → Group → Bool
+abbrev pub is_open_group : List Entry → List DiscardedGroup → Group → Bool
 is_open_group entries marks g =
     differ (part_numbers (members g entries)) && (not (all_numbers g.total (part_numbers (members g entries))) && is_none (mark_of g marks))
 
 -- a group is looked at with its first part
-abbrev pub is_of_open_group : List Entry → List Mark → ℕ → Message → Bool
+abbrev pub is_of_open_group : List Entry → List DiscardedGroup → ℕ → Message → Bool
 is_of_open_group entries marks number (Single tpdu) = true
 is_of_open_group entries marks number (Part g n tpdu) = if first_number (members g entries) == number then is_open_group entries marks g else true
 is_of_open_group entries marks number (Joined source content) = true
@@ -83,7 +83,7 @@ reads_last (Ok (StatusReport r)) = true
 reads_last (Ok (SubmitReport r)) = false
 reads_last (Err fault) = false
 
-abbrev pub is_last : Last → Bool
+abbrev pub is_last : LastAccepted → Bool
 is_last l = reads_last (down_at InData l.tpdu)
 
 -- ---- the outbox
@@ -115,7 +115,7 @@ is_out_entry next entries o = (is_given next o.number && is_apart o.number entri
 
 -- ---- discarded groups
 
-abbrev pub are_marks : ℕ → List Entry → List Mark → Bool
+abbrev pub are_marks : ℕ → List Entry → List DiscardedGroup → Bool
 are_marks next entries [] = true
 are_marks next entries (m ∷ ms) =
     ((is_given next m.number && is_apart m.number entries) && (differ m.seen && (not (all_numbers m.group.total m.seen) && is_none (mark_of m.group ms))))
@@ -137,7 +137,7 @@ are_few rows = nat_le (length rows.entries) 255 && (nat_le (length rows.outbox) 
 abbrev pub inbox_passes : Rows → Bool
 inbox_passes rows =
     nat_lt 0 rows.counters.entry && (each_passes (λ (e : Entry). is_entry rows.counters.entry e) rows.entries
-    && (each_passes (λ (e : Entry). is_of_open_group rows.entries rows.marks e.number e.message) rows.entries && each_passes (λ (l : Last). is_last l) rows.last))
+    && (each_passes (λ (e : Entry). is_of_open_group rows.entries rows.marks e.number e.message) rows.entries && each_passes (λ (l : LastAccepted). is_last l) rows.last))
 
 abbrev pub outbox_passes : Rows → Bool
 outbox_passes rows =

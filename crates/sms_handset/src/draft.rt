@@ -12,8 +12,8 @@ ghost use Rattle.sms_handset.specs.OpenGroups.{open_at as open_at_of, stored_par
 
 use crate::counters::Counters;
 use crate::entry::{Entry, Group};
-use crate::last::Last;
-use crate::mark::Mark;
+use crate::last_accepted::LastAccepted;
+use crate::discarded_group::DiscardedGroup;
 use crate::members::Members;
 use crate::no_memory::NoMemory;
 use crate::notice::Notice;
@@ -33,13 +33,13 @@ pub(crate) struct Draft<'a> {
     pub(crate) base: &'a Stored,
     pub(crate) moment: Moment,
     pub(crate) link: Link,
-    pub(crate) wanted: u32,
+    pub(crate) notices_wanted: u32,
     pub(crate) notices: Table<Notice>,
     pub(crate) is_recovered: bool,
     pub(crate) entries: Pending<'a, Entry>,
-    pub(crate) last: Pending<'a, Last>,
+    pub(crate) last: Pending<'a, LastAccepted>,
     pub(crate) outbox: Pending<'a, OutEntry>,
-    pub(crate) marks: Pending<'a, Mark>,
+    pub(crate) marks: Pending<'a, DiscardedGroup>,
     pub(crate) counters: Option<Counters>,
     /// How many slots the entries take as they stand.
     pub(crate) taken: u64,
@@ -50,7 +50,7 @@ impl<'a> Model for Draft<'a> {
     ghost use Rattle.sms_handset.specs.Draft.{Draft as DraftOf, rows_after, rows_of};
     ghost use Rattle.sms_handset.specs.Keys.{entry_key};
     ghost use Rattle.sms_handset.specs.MemoryAvailable.{slots_taken};
-    ghost use Rattle.sms_handset.specs.Standing.{IsStanding};
+    ghost use Rattle.sms_handset.specs.Consistent.{IsConsistent};
     ghost use Rattle.sms_link.specs.declared.ending.Side.TheVariants.{Handset as HandsetSide};
     ghost use Rattle.sms_table.specs.Table.{all_applied};
     ghost use Rattle.std.specs.Prelude.{◌≡◌};
@@ -63,7 +63,7 @@ impl<'a> Model for Draft<'a> {
       links = d.link.links;
       under_way = d.link.under_way;
       answered = d.link.answered;
-      wanted = d.wanted;
+      notices_wanted = d.notices_wanted;
       notices = d.notices.rows;
       is_recovered = d.is_recovered;
       changes = record { entries = d.entries.changes; last = d.last.changes; outbox = d.outbox.changes; marks = d.marks.changes; counters = d.counters };
@@ -71,7 +71,7 @@ impl<'a> Model for Draft<'a> {
     } };
 
     ghost invariant = { λ d.
-        IsStanding d.base.now
+        IsConsistent d.base.now
         × (d.taken ≡ slots_taken (all_applied entry_key d.entries.changes d.base.now.entries.rows))
         × (d.link.side ≡ HandsetSide)
         × (d.entries.base ≡ d.base.now.entries)
@@ -108,7 +108,7 @@ impl<'a> Draft<'a> {
     }
 
     #[tactic(auto, using(sms_table::proofs::Tables::all_applied_push))]
-    pub(crate) fn put_last(&mut self, last: Last) -> Result<(), NoMemory>
+    pub(crate) fn put_last(&mut self, last: LastAccepted) -> Result<(), NoMemory>
         ensures { OnOk result (self.new ≡ put_last_of last self.old) }
     {
         self.last.put(last)?;
@@ -132,7 +132,7 @@ impl<'a> Draft<'a> {
     }
 
     #[tactic(auto, using(sms_table::proofs::Tables::all_applied_push))]
-    pub(crate) fn put_mark(&mut self, mark: Mark) -> Result<(), NoMemory>
+    pub(crate) fn put_mark(&mut self, mark: DiscardedGroup) -> Result<(), NoMemory>
         ensures { OnOk result (self.new ≡ put_mark_of mark self.old) }
     {
         self.marks.put(mark)?;
@@ -197,7 +197,7 @@ impl<'a> Draft<'a> {
     }
 
     /// The discarded groups, before anything of them has changed.
-    pub(crate) fn marks(&self) -> &'a [Mark]
+    pub(crate) fn marks(&self) -> &'a [DiscardedGroup]
         requires { self.now.changes.marks ≡ [] }
         ensures { result.now ≡ self.now.rows.marks }
     {
@@ -213,7 +213,7 @@ impl<'a> Draft<'a> {
     }
 
     /// What was accepted last under a reference, before anything was accepted.
-    pub(crate) fn last(&self, reference: u8) -> Option<&'a Last>
+    pub(crate) fn last(&self, reference: u8) -> Option<&'a LastAccepted>
         requires { self.now.changes.last ≡ [] }
         ensures { option_copied result ≡ row_at last_key reference self.now.rows.last }
     {

@@ -18,14 +18,14 @@ use crate::counters::Counters;
 use crate::draft::Draft;
 use crate::entry::Entry;
 use crate::event::HandsetEvent;
-use crate::last::Last;
-use crate::mark::Mark;
+use crate::last_accepted::LastAccepted;
+use crate::discarded_group::DiscardedGroup;
 use crate::no_memory::NoMemory;
 use crate::notice::Notice;
 use crate::open_group::Regrouping;
 use crate::open_groups::{OpenGroups, SpareGroups};
 use crate::out_entry::OutEntry;
-use crate::owner::is_open_part;
+use crate::deleting::is_open_part;
 use crate::planned::Planned;
 use crate::recover_error::RecoverError;
 use crate::references::is_unfinished;
@@ -47,18 +47,18 @@ pub struct Handset {
     stored: Stored,
     moment: Moment,
     link: Link,
-    wanted: u32,
+    notices_wanted: u32,
     notices: Table<Notice>,
     is_recovered: bool,
 }
 
 impl Model for Handset {
-    ghost use Rattle.sms_handset.specs.Draft.{Standing, group_room_of, room_of, rows_of};
-    ghost use Rattle.sms_handset.specs.Standing.{IsStanding};
+    ghost use Rattle.sms_handset.specs.Draft.{HandsetOf, group_room_of, room_of, rows_of};
+    ghost use Rattle.sms_handset.specs.Consistent.{IsConsistent};
     ghost use Rattle.sms_link.specs.declared.ending.Side.TheVariants.{Handset as HandsetSide};
     ghost use Rattle.std.specs.Prelude.{◌≡◌};
 
-    ghost Value = { Standing };
+    ghost Value = { HandsetOf };
 
     ghost view = { λ h. record {
       core = record {
@@ -67,7 +67,7 @@ impl Model for Handset {
         links = h.link.links;
         under_way = h.link.under_way;
         answered = h.link.answered;
-        wanted = h.wanted;
+        notices_wanted = h.notices_wanted;
         notices = h.notices.rows;
         is_recovered = h.is_recovered;
       };
@@ -75,7 +75,7 @@ impl Model for Handset {
       groups = group_room_of h.stored;
     } };
 
-    ghost invariant = { λ h. IsStanding h.stored × (h.link.side ≡ HandsetSide) };
+    ghost invariant = { λ h. IsConsistent h.stored × (h.link.side ≡ HandsetSide) };
 }
 
 impl Handset {
@@ -136,7 +136,7 @@ impl Handset {
             },
             moment,
             link: Link::new(alloc, Side::Handset),
-            wanted: 0,
+            notices_wanted: 0,
             notices: Table::new(alloc),
             is_recovered: true,
         })
@@ -199,7 +199,7 @@ impl Handset {
         self.stored.counters = counters.unwrap_or(self.stored.counters);
         self.moment = planned.moment;
         self.link = planned.link;
-        self.wanted = planned.wanted;
+        self.notices_wanted = planned.notices_wanted;
         self.notices = planned.notices;
         self.is_recovered = planned.is_recovered;
         planned.frames
@@ -217,7 +217,7 @@ impl Handset {
             base: &self.stored,
             moment: self.moment,
             link: self.link.copy()?,
-            wanted: self.wanted,
+            notices_wanted: self.notices_wanted,
             notices: Table::from_vec(notices),
             is_recovered: self.is_recovered,
             entries: Pending::of(self.alloc, &self.stored.entries),
@@ -274,7 +274,7 @@ impl Handset {
             frames: draft.frames,
             moment: draft.moment,
             link: draft.link,
-            wanted: draft.wanted,
+            notices_wanted: draft.notices_wanted,
             notices: draft.notices,
             is_recovered: draft.is_recovered,
             regrouping,
@@ -294,9 +294,9 @@ impl Handset {
     fn settled(
         &self,
         entries: Pending<'_, Entry>,
-        last: Pending<'_, Last>,
+        last: Pending<'_, LastAccepted>,
         outbox: Pending<'_, OutEntry>,
-        marks: Pending<'_, Mark>,
+        marks: Pending<'_, DiscardedGroup>,
         counters: Option<Counters>,
     ) -> Result<Changes, NoMemory>
         ensures same { IfOk result (λ c. changes_in c ≡ record { entries = entries.entry.changes; last = last.entry.changes; outbox = outbox.entry.changes; marks = marks.entry.changes; counters = counters }) }

@@ -60,7 +60,7 @@ impl<'a> Draft<'a> {
         ensures { OnOk result (self.new ≡ first_notice_of number reference self.old) }
     {
         let counters = self.counters();
-        self.wanted = self.wanted.saturating_sub(1);
+        self.notices_wanted = self.notices_wanted.saturating_sub(1);
         self.put_counters(Counters {
             notice: number + 1,
             reference: following(reference),

@@ -18,7 +18,7 @@ pub struct Planned {
     pub(crate) frames: Listed<Outgoing>,
     pub(crate) moment: Moment,
     pub(crate) link: Link,
-    pub(crate) wanted: u32,
+    pub(crate) notices_wanted: u32,
     pub(crate) notices: Table<Notice>,
     pub(crate) is_recovered: bool,
     pub(crate) regrouping: Regrouping,
@@ -41,7 +41,7 @@ impl Model for Planned {
         links = p.link.links;
         under_way = p.link.under_way;
         answered = p.link.answered;
-        wanted = p.wanted;
+        notices_wanted = p.notices_wanted;
         notices = p.notices.rows;
         is_recovered = p.is_recovered;
       };

@@ -12,8 +12,8 @@ ghost use Rattle.sms_handset.specs.Receiving.{accept as accept_of, acknowledge a
 use crate::draft::Draft;
 use crate::entry::Group;
 use crate::groups::{find_mark, is_among, key_of};
-use crate::last::Last;
-use crate::mark::Mark;
+use crate::last_accepted::LastAccepted;
+use crate::discarded_group::DiscardedGroup;
 use crate::members::Members;
 use crate::no_memory::NoMemory;
 use crate::open_group::Regrouping;
@@ -81,7 +81,7 @@ impl<'a> Draft<'a> {
         ensures { OnOk result (self.new ≡ accept_of reference tag tpdu.now self.old) }
     {
         let tpdu = Octets::copy_of(self.alloc, tpdu)?;
-        self.put_last(Last { reference, tpdu })?;
+        self.put_last(LastAccepted { reference, tpdu })?;
         self.acknowledge(reference, tag)
     }
 
@@ -164,7 +164,7 @@ impl<'a> Draft<'a> {
         tpdu: &[u8],
         group: &Group,
         number: u8,
-        mark: &Mark,
+        mark: &DiscardedGroup,
     ) -> Result<(), NoMemory>
         requires untouched { self.old.changes ≡ no_changes }
         ensures { OnOk result (self.new ≡ part_came_of reference tag tpdu.now group.now number (Some mark.now) self.old) }
@@ -314,7 +314,7 @@ impl<'a> Draft<'a> {
 }
 
 // Whether the TPDU is the one that was accepted last under its reference.
-fn is_double(tpdu: &[u8], last: Option<&Last>) -> bool
+fn is_double(tpdu: &[u8], last: Option<&LastAccepted>) -> bool
     ensures { result ≡ is_double_of tpdu.now (option_copied last.entry) }
 {
     match last {

@@ -4,8 +4,8 @@ ghost use Rattle.sms_handset.specs.SoundRows.{first_rows};
 
 use crate::counters::Counters;
 use crate::entry::Entry;
-use crate::last::Last;
-use crate::mark::Mark;
+use crate::last_accepted::LastAccepted;
+use crate::discarded_group::DiscardedGroup;
 use crate::out_entry::OutEntry;
 use crate::setup::Setup;
 use sms_base::Listed;
@@ -16,9 +16,9 @@ use std::alloc::Global;
 #[derive(Debug, Drop)]
 pub struct Rows {
     pub entries: Listed<Entry>,
-    pub last: Listed<Last>,
+    pub last: Listed<LastAccepted>,
     pub outbox: Listed<OutEntry>,
-    pub marks: Listed<Mark>,
+    pub marks: Listed<DiscardedGroup>,
     pub counters: Counters,
     pub setup: Setup,
 }
@@ -50,8 +50,8 @@ impl Rows {
 #[derive(Drop)]
 pub struct Changes {
     pub entries: Settled<Entry>,
-    pub last: Settled<Last>,
+    pub last: Settled<LastAccepted>,
     pub outbox: Settled<OutEntry>,
-    pub marks: Settled<Mark>,
+    pub marks: Settled<DiscardedGroup>,
     pub counters: Option<Counters>,
 }

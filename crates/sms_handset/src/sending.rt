@@ -292,7 +292,7 @@ impl<'a> Draft<'a> {
         ensures next { result ≡ is_notice_next_of self.now }
         ensures number { result ≡ true → self.now.rows.counters.notice < 4294967295 }
     {
-        0 < self.wanted
+        0 < self.notices_wanted
             && self.counters().notice < 4294967295
             && self.notices.as_slice().len() < MOST_NOTICES
     }

@@ -9,8 +9,8 @@ ghost use Rattle.sms_handset.specs.SoundnessTest.{KeysRise, are_few as are_few_o
 
 use crate::entry::{Entry, Group, Message};
 use crate::groups::{find_mark, has_every, is_among, is_same_address, is_same_group, key_of, number_of};
-use crate::last::Last;
-use crate::mark::Mark;
+use crate::last_accepted::LastAccepted;
+use crate::discarded_group::DiscardedGroup;
 use crate::out_entry::{EntryState, OutEntry};
 use crate::references::is_unfinished;
 use crate::rows::Rows;
@@ -170,7 +170,7 @@ fn first_part(group: &Group, entries: &[Entry]) -> u32
     0
 }
 
-fn is_open_group(entries: &[Entry], marks: &[Mark], group: &Group) -> bool
+fn is_open_group(entries: &[Entry], marks: &[DiscardedGroup], group: &Group) -> bool
     ensures { result ≡ is_open_group_of entries.now marks.now group.now }
 {
     parts_differ(group, entries)
@@ -178,7 +178,7 @@ fn is_open_group(entries: &[Entry], marks: &[Mark], group: &Group) -> bool
         && find_mark(group, marks).is_none()
 }
 
-fn is_of_open_group(entries: &[Entry], marks: &[Mark], entry: &Entry) -> bool
+fn is_of_open_group(entries: &[Entry], marks: &[DiscardedGroup], entry: &Entry) -> bool
     ensures { result ≡ is_of_open_group_of entries.now marks.now entry.now.number entry.now.message }
 {
     match &entry.message {
@@ -193,7 +193,7 @@ fn is_of_open_group(entries: &[Entry], marks: &[Mark], entry: &Entry) -> bool
     }
 }
 
-fn are_of_open_groups(entries: &[Entry], marks: &[Mark]) -> bool
+fn are_of_open_groups(entries: &[Entry], marks: &[DiscardedGroup]) -> bool
     ensures { result ≡ each_passes (λ e. is_of_open_group_of entries.now marks.now e.number e.message) entries.now }
 {
     for entry in entries {
@@ -206,7 +206,7 @@ fn are_of_open_groups(entries: &[Entry], marks: &[Mark]) -> bool
 
 // ---- what was accepted last
 
-fn is_last(last: &Last) -> bool
+fn is_last(last: &LastAccepted) -> bool
     ensures { result ≡ is_last_of last.now }
 {
     matches!(
@@ -215,7 +215,7 @@ fn is_last(last: &Last) -> bool
     )
 }
 
-fn are_last(rows: &[Last]) -> bool
+fn are_last(rows: &[LastAccepted]) -> bool
     ensures { result ≡ each_passes (λ l. is_last_of l) rows.now }
 {
     for last in rows {
@@ -349,7 +349,7 @@ fn references_differ(outbox: &[OutEntry]) -> bool
 
 // ---- discarded groups
 
-fn are_marks(next: u32, entries: &[Entry], marks: &[Mark]) -> bool
+fn are_marks(next: u32, entries: &[Entry], marks: &[DiscardedGroup]) -> bool
     ensures { result ≡ are_marks_of next entries.now marks.now }
 {
     match marks {

@@ -4,8 +4,8 @@ ghost use Rattle.sms_handset.specs.Keys.{entry_key, last_key, mark_key, notice_k
 
 use crate::counters::Counters;
 use crate::entry::Entry;
-use crate::last::Last;
-use crate::mark::Mark;
+use crate::last_accepted::LastAccepted;
+use crate::discarded_group::DiscardedGroup;
 use crate::notice::Notice;
 use crate::open_groups::OpenGroups;
 use crate::out_entry::OutEntry;
@@ -20,7 +20,7 @@ impl Row for Entry {
     }
 }
 
-impl Row for Last {
+impl Row for LastAccepted {
     ghost key = { last_key };
 
     fn key(&self) -> Key {
@@ -36,7 +36,7 @@ impl Row for OutEntry {
     }
 }
 
-impl Row for Mark {
+impl Row for DiscardedGroup {
     ghost key = { mark_key };
 
     fn key(&self) -> Key {
@@ -60,9 +60,9 @@ pub(crate) struct Stored {
     pub(crate) groups: OpenGroups,
     /// How many slots the entries take.
     pub(crate) taken: u64,
-    pub(crate) last: Table<Last>,
+    pub(crate) last: Table<LastAccepted>,
     pub(crate) outbox: Table<OutEntry>,
-    pub(crate) marks: Table<Mark>,
+    pub(crate) marks: Table<DiscardedGroup>,
     pub(crate) counters: Counters,
     pub(crate) setup: Setup,
 }

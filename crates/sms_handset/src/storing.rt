@@ -10,7 +10,7 @@ use crate::draft::Draft;
 use crate::entry::{Entry, Group, Message};
 use crate::groups::{has_every, is_full, number_of};
 use crate::joining::{joined_content, tpdu_of};
-use crate::mark::Mark;
+use crate::discarded_group::DiscardedGroup;
 use crate::members::Members;
 use crate::no_memory::NoMemory;
 use crate::open_group::{OpenGroup, Regrouping, StoredPart};
@@ -164,7 +164,7 @@ impl<'a> Draft<'a> {
     }
 
     /// A part of a discarded group came.
-    pub(crate) fn mark(&mut self, number: u8, mark: &Mark) -> Result<(), NoMemory>
+    pub(crate) fn mark(&mut self, number: u8, mark: &DiscardedGroup) -> Result<(), NoMemory>
         ensures { OnOk result (self.new ≡ marked_of number mark.now self.old) }
     {
         let mut seen = Octets::copy_of(self.alloc, mark.seen.as_slice())?;
@@ -172,7 +172,7 @@ impl<'a> Draft<'a> {
         if has_every(mark.group.total, seen.as_slice()) {
             return self.remove_mark(mark.number);
         }
-        self.put_mark(Mark {
+        self.put_mark(DiscardedGroup {
             number: mark.number,
             group: mark.group,
             seen,
@@ -187,7 +187,7 @@ impl<'a> Draft<'a> {
         if counters.is_memory_full {
             counters.is_memory_full = false;
             self.put_counters(counters);
-            self.wanted = self.wanted.saturating_add(1);
+            self.notices_wanted = self.notices_wanted.saturating_add(1);
         }
     }
 }

@@ -1,7 +1,7 @@
 use Rattle.std.proofs.Common.{◌≡◌, sym, ◌∙◌, ap, subst}
 use Rattle.sms_table.specs.Table.{Rises}
 use Rattle.sms_handset.specs.declared.rows.Rows.{Rows}
-use Rattle.sms_handset.specs.Draft.{Changes, Draft, Standing, rows_after}
+use Rattle.sms_handset.specs.Draft.{Changes, Draft, HandsetOf, rows_after}
 use Rattle.sms_handset.specs.Keys.{entry_key}
 use Rattle.sms_handset.specs.MemoryAvailable.{slots_taken}
 use Rattle.sms_handset.specs.OpenGroups.{IsRegrouped, Numbered}
@@ -14,8 +14,8 @@ outcome_is i d cs e f = ap (λ (c : Changes). record (outcome_of i) { changes = 
 pub returns : goal.returns
 returns c =
     let s = c.args.self.now in
-    let order = subst (λ (z : Standing). Rises entry_key z.core.rows.entries) c.self.view_is c.as_slice-in_order.ensures.order in
-    let numbers = subst (λ (z : Standing). Numbered z.core.rows) c.self.view_is c.self.invariant.0.numbers in
+    let order = subst (λ (z : HandsetOf). Rises entry_key z.core.rows.entries) c.self.view_is c.as_slice-in_order.ensures.order in
+    let numbers = subst (λ (z : HandsetOf). Numbered z.core.rows) c.self.view_is c.self.invariant.0.numbers in
     let has = c.in_ok-changes.ensures.fits in
     let same = c.in_ok-changes.ensures.same ∙ ap (λ (d : Draft). d.changes) c.draft.view_is in
     let rows = c.requires.rests ∙ ap (λ (cs : Changes). rows_after cs s.core.rows) (sym same) in

@@ -7,7 +7,7 @@ use Rattle.sms_handset.specs.MemoryAvailable.{slots_taken}
 use Rattle.sms_handset.specs.OpenGroups.{Numbered}
 use Rattle.sms_handset.specs.OpenIndex.{Indexes}
 
-pub record IsStanding (s : Stored) : Type 0 where
+pub record IsConsistent (s : Stored) : Type 0 where
   pub centre : IsAddress s.setup.centre
   -- the index has the open groups of the entries
   pub index : Indexes s.groups s.entries.rows

@@ -4,7 +4,7 @@ use sms_base::Octets;
 
 /// A discarded group, until each of its parts has come.
 #[derive(Debug, Drop)]
-pub struct Mark {
+pub struct DiscardedGroup {
     /// The entry number of the group's first stored part.
     pub number: u32,
     pub group: Group,

@@ -8,7 +8,7 @@ ghost use Rattle.sms_handset.specs.Planning.{Acts};
 
 use crate::draft::Draft;
 use crate::entry::{Entry, Message};
-use crate::mark::Mark;
+use crate::discarded_group::DiscardedGroup;
 use crate::out_entry::OutEntry;
 use crate::references::is_unfinished;
 use crate::refusal::{PlanError, Refusal};
@@ -75,7 +75,7 @@ impl<'a> Draft<'a> {
         let members = self.members_in(open);
         let seen = members.numbers(self.alloc)?;
         self.drop_members(&members)?;
-        self.put_mark(Mark {
+        self.put_mark(DiscardedGroup {
             number,
             group: open.group,
             seen,
