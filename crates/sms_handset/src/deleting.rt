@@ -6,9 +6,9 @@ ghost use Rattle.sms_handset.specs.Keys.{entry_key, out_key};
 ghost use Rattle.sms_handset.specs.OwnersActs.{delete as delete_of, delete_out as delete_out_of, discard as discard_of, is_open_part as is_open_part_of};
 ghost use Rattle.sms_handset.specs.Planning.{Acts};
 
+use crate::discarded_group::DiscardedGroup;
 use crate::draft::Draft;
 use crate::entry::{Entry, Message};
-use crate::discarded_group::DiscardedGroup;
 use crate::out_entry::OutEntry;
 use crate::references::is_unfinished;
 use crate::refusal::{PlanError, Refusal};

@@ -11,9 +11,9 @@ ghost use Rattle.sms_handset.specs.MemoryAvailable.{slots_of};
 ghost use Rattle.sms_handset.specs.OpenGroups.{open_at as open_at_of, stored_parts};
 
 use crate::counters::Counters;
+use crate::discarded_group::DiscardedGroup;
 use crate::entry::{Entry, Group};
 use crate::last_accepted::LastAccepted;
-use crate::discarded_group::DiscardedGroup;
 use crate::members::Members;
 use crate::no_memory::NoMemory;
 use crate::notice::Notice;
@@ -75,8 +75,7 @@ impl<'a> Model for Draft<'a> {
         × (d.taken ≡ slots_taken (all_applied entry_key d.entries.changes d.base.now.entries.rows))
         × (d.link.side ≡ HandsetSide)
         × (d.entries.base ≡ d.base.now.entries)
-        × (d.outbox.base ≡ d.base.now.outbox)
-    };
+        × (d.outbox.base ≡ d.base.now.outbox) };
 }
 
 impl<'a> Draft<'a> {

@@ -9,11 +9,11 @@ ghost use Rattle.sms_handset.specs.GroupChanges.{data_groups, deliver_groups, me
 ghost use Rattle.sms_handset.specs.Groups.{key_of as key_of_deliver, mark_of, members as members_of};
 ghost use Rattle.sms_handset.specs.Receiving.{accept as accept_of, acknowledge as acknowledge_of, data_came as data_came_of, deliver_came as deliver_came_of, fault_cause as fault_cause_of, is_double as is_double_of, is_reported as is_reported_of, member_came as member_came_of, new_part_came as new_part_came_of, no_room as no_room_of, note as note_of, part_came as part_came_of, reference_octet as reference_octet_of, refuse as refuse_of, reject as reject_of, reported as reported_of, single_came as single_came_of, tpdu_came as tpdu_came_of, unit_came as unit_came_of};
 
+use crate::discarded_group::DiscardedGroup;
 use crate::draft::Draft;
 use crate::entry::Group;
 use crate::groups::{find_mark, is_among, key_of};
 use crate::last_accepted::LastAccepted;
-use crate::discarded_group::DiscardedGroup;
 use crate::members::Members;
 use crate::no_memory::NoMemory;
 use crate::open_group::Regrouping;

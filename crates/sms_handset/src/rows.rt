@@ -3,9 +3,9 @@ ghost use Rattle.std.specs.Prelude.{◌≡◌};
 ghost use Rattle.sms_handset.specs.SoundRows.{first_rows};
 
 use crate::counters::Counters;
+use crate::discarded_group::DiscardedGroup;
 use crate::entry::Entry;
 use crate::last_accepted::LastAccepted;
-use crate::discarded_group::DiscardedGroup;
 use crate::out_entry::OutEntry;
 use crate::setup::Setup;
 use sms_base::Listed;

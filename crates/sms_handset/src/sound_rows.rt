@@ -7,10 +7,12 @@ ghost use Rattle.sms_handset.specs.References.{held_by_entries, held_message_ref
 ghost use Rattle.sms_handset.specs.SoundRows.{IsSetup, IsSound};
 ghost use Rattle.sms_handset.specs.SoundnessTest.{KeysRise, are_few as are_few_of, are_marks as are_marks_of, are_tries as are_tries_of, differ as differ_of, each_passes, has_key as has_key_of, inbox_passes as inbox_passes_of, is_apart as is_apart_of, is_entry as is_entry_of, is_given as is_given_of, is_last as is_last_of, is_message as is_message_of, is_of_open_group as is_of_open_group_of, is_open_group as is_open_group_of, is_out_entry as is_out_entry_of, is_submitted as is_submitted_of, outbox_passes as outbox_passes_of, reads_deliver as reads_deliver_of, reads_part as reads_part_of, reads_submit as reads_submit_of, was_sent as was_sent_of};
 
-use crate::entry::{Entry, Group, Message};
-use crate::groups::{find_mark, has_every, is_among, is_same_address, is_same_group, key_of, number_of};
-use crate::last_accepted::LastAccepted;
 use crate::discarded_group::DiscardedGroup;
+use crate::entry::{Entry, Group, Message};
+use crate::groups::{
+    find_mark, has_every, is_among, is_same_address, is_same_group, key_of, number_of,
+};
+use crate::last_accepted::LastAccepted;
 use crate::out_entry::{EntryState, OutEntry};
 use crate::references::is_unfinished;
 use crate::rows::Rows;

@@ -3,9 +3,9 @@ ghost use Rattle.std.specs.Prelude.{◌≡◌};
 ghost use Rattle.sms_handset.specs.Keys.{entry_key, last_key, mark_key, notice_key, out_key};
 
 use crate::counters::Counters;
+use crate::discarded_group::DiscardedGroup;
 use crate::entry::Entry;
 use crate::last_accepted::LastAccepted;
-use crate::discarded_group::DiscardedGroup;
 use crate::notice::Notice;
 use crate::open_groups::OpenGroups;
 use crate::out_entry::OutEntry;

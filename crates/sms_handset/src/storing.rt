@@ -6,11 +6,11 @@ ghost use Rattle.sms_handset.specs.GroupChanges.{stored_groups};
 ghost use Rattle.sms_handset.specs.OpenGroups.{grouped, open_group};
 ghost use Rattle.sms_handset.specs.MemoryAvailable.{flag as flag_of, freed as freed_of, has_room as has_room_of, slots_taken};
 
+use crate::discarded_group::DiscardedGroup;
 use crate::draft::Draft;
 use crate::entry::{Entry, Group, Message};
 use crate::groups::{has_every, is_full, number_of};
 use crate::joining::{joined_content, tpdu_of};
-use crate::discarded_group::DiscardedGroup;
 use crate::members::Members;
 use crate::no_memory::NoMemory;
 use crate::open_group::{OpenGroup, Regrouping, StoredPart};

@@ -1,14 +1,11 @@
 //! What a handset's store holds: the rows as the changes of its plans left them.
-ghost use Rattle.std.specs.Prelude.{◌≡◌, IfOk};
-
-use crate::entry::{Entry, Message};
-use crate::last::Last;
-use crate::mark::Mark;
-use crate::out_entry::OutEntry;
 use crate::plain::{Accepted, Discarded, Plain};
-use crate::{Changes, Counters, Rows, Setup};
 use sms_base::{Listed, Octets};
 use sms_concat::Content;
+use sms_handset::{
+    Changes, Counters, DiscardedGroup, Entry, LastAccepted, Message, OutEntry, Rows, Setup,
+    SubmitTpdu,
+};
 use sms_table::{Change, Key, Row};
 use std::alloc::Global;
 use std::test::Fail;
@@ -18,9 +15,9 @@ use std::test::Fail;
 pub(crate) struct Kept {
     alloc: Global,
     entries: Vec<Entry>,
-    last: Vec<Last>,
+    last: Vec<LastAccepted>,
     outbox: Vec<OutEntry>,
-    marks: Vec<Mark>,
+    marks: Vec<DiscardedGroup>,
     counters: Counters,
 }
 
@@ -45,9 +42,7 @@ fn put<T: Row + Drop>(rows: &mut Vec<T>, row: T) -> Result<(), Fail> {
 }
 
 fn owned(alloc: Global, octets: &Octets) -> Result<Octets, Fail> {
-    let mut copy = Octets::new(alloc);
-    copy.append(octets.as_slice())?;
-    Ok(copy)
+    Ok(Octets::copy_of(alloc, octets.as_slice())?)
 }
 
 fn message(alloc: Global, message: &Message) -> Result<Message, Fail> {
@@ -83,18 +78,35 @@ fn entry(alloc: Global, entry: &Entry) -> Result<Entry, Fail> {
     })
 }
 
-fn last(alloc: Global, last: &Last) -> Result<Last, Fail> {
-    Ok(Last {
+fn last(alloc: Global, last: &LastAccepted) -> Result<LastAccepted, Fail> {
+    Ok(LastAccepted {
         reference: last.reference,
         tpdu: owned(alloc, &last.tpdu)?,
     })
 }
 
-fn mark(alloc: Global, mark: &Mark) -> Result<Mark, Fail> {
-    Ok(Mark {
+fn mark(alloc: Global, mark: &DiscardedGroup) -> Result<DiscardedGroup, Fail> {
+    Ok(DiscardedGroup {
         number: mark.number,
         group: mark.group,
         seen: owned(alloc, &mark.seen)?,
+    })
+}
+
+fn out_entry(alloc: Global, entry: &OutEntry) -> Result<OutEntry, Fail> {
+    let tpdu = Octets::copy_of(alloc, entry.tpdu.as_slice())?;
+    Ok(OutEntry {
+        number: entry.number,
+        message_reference: entry.message_reference,
+        reference: entry.reference,
+        destination: entry.destination,
+        tpdu: SubmitTpdu::of(tpdu),
+        is_long: entry.is_long,
+        state: entry.state,
+        tries: entry.tries,
+        rejects_duplicates: entry.rejects_duplicates,
+        due: entry.due,
+        status: entry.status,
     })
 }
 
@@ -120,10 +132,10 @@ impl Kept {
 
     /// The changes are carried out, each list's in their order.
     pub(crate) fn commit(&mut self, changes: &Changes) -> Result<(), Fail> {
-        self.change_entries(changes.entries.as_slice())?;
-        self.change_last(changes.last.as_slice())?;
-        self.change_outbox(changes.outbox.as_slice())?;
-        self.change_marks(changes.marks.as_slice())?;
+        self.change_entries(changes.entries.changes())?;
+        self.change_last(changes.last.changes())?;
+        self.change_outbox(changes.outbox.changes())?;
+        self.change_marks(changes.marks.changes())?;
         if let Some(counters) = changes.counters {
             self.counters = counters;
         }
@@ -140,7 +152,7 @@ impl Kept {
         Ok(())
     }
 
-    fn change_last(&mut self, changes: &[Change<Last>]) -> Result<(), Fail> {
+    fn change_last(&mut self, changes: &[Change<LastAccepted>]) -> Result<(), Fail> {
         for change in changes {
             match change {
                 Change::Put(row) => put(&mut self.last, last(self.alloc, row)?)?,
@@ -153,14 +165,14 @@ impl Kept {
     fn change_outbox(&mut self, changes: &[Change<OutEntry>]) -> Result<(), Fail> {
         for change in changes {
             match change {
-                Change::Put(row) => put(&mut self.outbox, row.copy(self.alloc)?)?,
+                Change::Put(row) => put(&mut self.outbox, out_entry(self.alloc, row)?)?,
                 Change::Remove(key) => remove(&mut self.outbox, *key),
             }
         }
         Ok(())
     }
 
-    fn change_marks(&mut self, changes: &[Change<Mark>]) -> Result<(), Fail> {
+    fn change_marks(&mut self, changes: &[Change<DiscardedGroup>]) -> Result<(), Fail> {
         for change in changes {
             match change {
                 Change::Put(row) => put(&mut self.marks, mark(self.alloc, row)?)?,
@@ -171,9 +183,7 @@ impl Kept {
     }
 
     /// A copy of the rows.
-    pub(crate) fn rows(&self, setup: Setup) -> Result<Rows, Fail>
-        ensures { IfOk result (λ rows. rows.setup ≡ setup) }
-    {
+    pub(crate) fn rows(&self, setup: Setup) -> Result<Rows, Fail> {
         Ok(Rows {
             entries: self.copied_entries()?,
             last: self.copied_last()?,
@@ -192,7 +202,7 @@ impl Kept {
         Ok(rows)
     }
 
-    fn copied_last(&self) -> Result<Listed<Last>, Fail> {
+    fn copied_last(&self) -> Result<Listed<LastAccepted>, Fail> {
         let mut rows = Listed::new(self.alloc);
         for row in &self.last {
             rows.push(last(self.alloc, row)?)?;
@@ -203,12 +213,12 @@ impl Kept {
     fn copied_outbox(&self) -> Result<Listed<OutEntry>, Fail> {
         let mut rows = Listed::new(self.alloc);
         for row in &self.outbox {
-            rows.push(row.copy(self.alloc)?)?;
+            rows.push(out_entry(self.alloc, row)?)?;
         }
         Ok(rows)
     }
 
-    fn copied_marks(&self) -> Result<Listed<Mark>, Fail> {
+    fn copied_marks(&self) -> Result<Listed<DiscardedGroup>, Fail> {
         let mut rows = Listed::new(self.alloc);
         for row in &self.marks {
             rows.push(mark(self.alloc, row)?)?;
@@ -233,7 +243,7 @@ fn has_counters(counters: &Counters, plain: &Plain) -> bool {
         && counters.is_memory_full == plain.is_memory_full
 }
 
-fn is_same_last(rows: &[Last], others: &[Accepted]) -> bool {
+fn is_same_last(rows: &[LastAccepted], others: &[Accepted]) -> bool {
     if rows.len() != others.len() {
         return false;
     }
@@ -248,7 +258,7 @@ fn is_same_last(rows: &[Last], others: &[Accepted]) -> bool {
     true
 }
 
-fn is_same_marks(rows: &[Mark], others: &[Discarded]) -> bool {
+fn is_same_marks(rows: &[DiscardedGroup], others: &[Discarded]) -> bool {
     if rows.len() != others.len() {
         return false;
     }

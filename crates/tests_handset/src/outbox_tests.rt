@@ -1,7 +1,7 @@
 //! What the owner writes, over frames that were written down elsewhere.
 use crate::pair::Pair;
-use crate::{EntryState, HandsetEvent, Refusal, TextView};
 use sms_base::AddressError;
+use sms_handset::{EntryState, HandsetEvent, Refusal, TextView};
 use std::test::Fail;
 
 // CP-DATA with the SUBMIT of `hello` to 447700900123, TP-MR 0, under the reference 0, through 447700900000.
@@ -140,4 +140,22 @@ fn full_outbox(pair: &mut Pair) -> Result<(), Fail> {
 fn a_faulty_number_is_refused_and_so_is_a_twenty_first_entry(rt: HostRuntime) -> Result<(), Fail> {
     let mut pair = Pair::new(rt.alloc(), 1)?;
     full_outbox(&mut pair)
+}
+
+fn longest_text(pair: &mut Pair, text: &str) -> Result<(), Fail> {
+    if let Some(refusal) = pair.write(text, "447700900123", false)? {
+        return Err(Fail::new(refusal));
+    }
+    if pair.handset.outbox().len() == 20 {
+        Ok(())
+    } else {
+        Err(Fail::new("not 20 parts"))
+    }
+}
+
+#[test]
+fn the_longest_text_takes_twenty_parts(rt: HostRuntime) -> Result<(), Fail> {
+    let mut pair = Pair::new(rt.alloc(), 1)?;
+    let text = "a".repeat(rt.alloc(), 3040)?;
+    longest_text(&mut pair, text.as_str())
 }

@@ -1,16 +1,14 @@
 //! A handset and the plain one beside it: each event happens to both, and they must do and hold the same.
-ghost use Rattle.std.specs.Prelude.{◌≡◌, ◌<◌, true};
-ghost use Rattle.std.specs.List.{AllByRecursion};
-ghost use Rattle.sms_handset.specs.declared.entry.Entry.{Entry as EntryOf};
+ghost use Rattle.std.specs.Prelude.{◌<◌};
 
-use crate::entry::{Entry, Message};
 use crate::kept::Kept;
-use crate::out_entry::OutEntry;
-use crate::outgoing::Outgoing;
 use crate::plain::{Plain, Text};
-use crate::{Counters, Handset, HandsetEvent, PlanError, Refusal, Rows, Setup, TextView};
-use sms_base::{Address, Holder, Listed, Moment, OctetView, Octets};
-use sms_table::rises;
+use sms_base::{Address, Holder, Moment, OctetView, Octets};
+use sms_handset::{
+    Entry, Handset, HandsetEvent, Message, OutEntry, PlanError, RecoverError, Refusal, Rows, Setup,
+    TextView,
+};
+use sms_link::Outgoing;
 use std::alloc::Global;
 use std::test::Fail;
 
@@ -20,31 +18,42 @@ const CENTRE: [u8; 8] = [0x07, 0x91, 0x44, 0x77, 0x00, 0x09, 0x00, 0x00];
 /// 2024-02-29 23:59:58.
 pub(crate) const T0: u64 = 1_709_251_198;
 
-// An empty handset.
-fn handset(alloc: Global, slots: u8) -> Result<Handset, Fail>
+/// What a handset of 447700900456 is told when it starts.
+pub(crate) fn setup(slots: u8) -> Result<Setup, Fail> {
+    Ok(Setup {
+        number: Address::new(1, 1, "447700900456")?,
+        slots,
+        centre: Address::new(1, 1, "447700900000")?,
+        start: Moment::from_seconds(T0)?,
+    })
+}
+
+/// What a handset of so many slots answers that is to start with the rows.
+pub(crate) fn started(
+    alloc: Global,
+    rows: Rows,
+    slots: u8,
+) -> Result<Result<Handset, RecoverError>, Fail>
     requires { 0 < slots }
 {
-    let rows = Rows {
-        entries: Listed::new(alloc),
-        last: Listed::new(alloc),
-        outbox: Listed::new(alloc),
-        marks: Listed::new(alloc),
-        counters: Counters {
-            entry: 1,
-            message_reference: 0,
-            reference: 0,
-            concat_reference: 0,
-            notice: 0,
-            is_memory_full: false,
-        },
-        setup: Setup {
-            number: Address::new(1, 1, "447700900456")?,
-            slots,
-            centre: Address::new(1, 1, "447700900000")?,
-            start: Moment::from_seconds(T0)?,
-        },
+    let mut rows = rows;
+    rows.setup = Setup {
+        number: Address::new(1, 1, "447700900456")?,
+        slots,
+        centre: Address::new(1, 1, "447700900000")?,
+        start: Moment::from_seconds(T0)?,
     };
-    Ok(Handset::recover(alloc, rows)?)
+    Ok(Handset::recover(alloc, rows))
+}
+
+// The handset that starts with the rows.
+fn recovered(alloc: Global, rows: Rows, slots: u8) -> Result<Handset, Fail>
+    requires { 0 < slots }
+{
+    match started(alloc, rows, slots)? {
+        Ok(handset) => Ok(handset),
+        Err(error) => Err(Fail::new(error)),
+    }
 }
 
 /// A handset, the plain one, and how many events came.
@@ -65,7 +74,7 @@ impl Pair {
         let mut centre = Octets::new(alloc);
         centre.append(&CENTRE)?;
         Ok(Pair {
-            handset: handset(alloc, slots)?,
+            handset: recovered(alloc, Rows::first(alloc, setup(slots)?), slots)?,
             plain: Plain::new(alloc, slots, centre, Moment::from_seconds(T0)?),
             kept: Kept::new(alloc),
             alloc,
@@ -75,25 +84,12 @@ impl Pair {
 
     /// Both are switched off and on; the handset begins with the rows that the changes left.
     pub(crate) fn restart(&mut self) -> Result<(), Fail> {
-        let setup = Setup {
-            number: Address::new(1, 1, "447700900456")?,
-            slots: self.plain.slots,
-            centre: Address::new(1, 1, "447700900000")?,
-            start: Moment::from_seconds(T0)?,
-        };
-        let rows = self.kept.rows(setup)?;
-        if !rises(rows.entries.as_slice())
-            || !rises(rows.last.as_slice())
-            || !rises(rows.outbox.as_slice())
-            || !rises(rows.marks.as_slice())
-            || !has_numbers_below(rows.entries.as_slice(), rows.counters.entry)
-        {
-            return Err(Fail::new(format_args!(
-                "event {}: rows out of order, or a number not given",
-                self.events
-            )));
+        let slots = self.plain.slots;
+        if slots == 0 {
+            return Err(Fail::new("no slots"));
         }
-        self.handset = Handset::standing_on(self.alloc, rows)?;
+        let rows = self.kept.rows(setup(slots)?)?;
+        self.handset = recovered(self.alloc, rows, slots)?;
         self.plain.restart();
         self.compare_rows()
     }
@@ -175,9 +171,15 @@ impl Pair {
 
     /// A frame comes, made for the holder of that number.
     pub(crate) fn frame(&mut self, frame: &[u8]) -> Result<(), Fail> {
+        // now and then a frame from a socket
+        let tag = if self.events % 8 == 7 {
+            None
+        } else {
+            Some(Holder::Memory(self.events))
+        };
         let event = HandsetEvent::Frame {
             octets: OctetView::of(frame),
-            tag: Holder::Memory(self.events),
+            tag,
         };
         self.done(&event)
     }
@@ -274,18 +276,6 @@ impl Pair {
         }
         true
     }
-}
-
-// Whether each entry has a number below that one.
-fn has_numbers_below(entries: &[Entry], next: u32) -> bool
-    ensures { result ≡ true → AllByRecursion (λ (e : EntryOf). e.number < next) entries.now }
-{
-    for entry in entries {
-        if entry.number >= next {
-            return false;
-        }
-    }
-    true
 }
 
 fn is_same_inbox(entries: &[Entry], others: &[Entry]) -> bool {

@@ -4,13 +4,10 @@ mod receiving;
 mod sending;
 mod writing;
 
-use crate::entry::{Entry, Group, Message};
-use crate::event::HandsetEvent;
-use crate::out_entry::EntryState;
-use crate::outgoing::Outgoing;
-use crate::refusal::Refusal;
-use sms_base::{Address, Carried, Holder, Kind, Moment, Octets};
-use sms_control::{Frames, Links, TransactionFlag, Up};
+use sms_base::{Address, Carried, Holder, Kind, Listed, Moment, Octets};
+use sms_control::{Links, TransactionFlag, Up};
+use sms_handset::{Entry, EntryState, Group, HandsetEvent, Message, Refusal};
+use sms_link::Outgoing;
 use std::alloc::Global;
 use std::test::Fail;
 pub(crate) use writing::submit_of;
@@ -100,7 +97,7 @@ pub(crate) struct Plain {
     pub(crate) under_way: UnderWay,
     pub(crate) answer: Option<Carried>,
     pub(crate) notices_wanted: u32,
-    pub(crate) notice: Option<MemoryAvailable>,
+    pub(crate) notices: Vec<MemoryAvailable>,
     pub(crate) is_restarted: bool,
     /// The frames of the last event.
     pub(crate) sent: Vec<Outgoing>,
@@ -129,7 +126,7 @@ impl Plain {
             under_way: UnderWay::Nothing,
             answer: None,
             notices_wanted: 0,
-            notice: None,
+            notices: Vec::new(alloc),
             is_restarted: true,
             sent: Vec::new(alloc),
         }
@@ -142,7 +139,7 @@ impl Plain {
         self.under_way = UnderWay::Nothing;
         self.answer = None;
         self.notices_wanted = 0;
-        self.notice = None;
+        self.notices.clear();
         self.is_restarted = true;
     }
 
@@ -175,9 +172,11 @@ impl Plain {
         }
     }
 
-    fn frame(&mut self, frame: &[u8], tag: Holder) -> Result<(), Fail> {
+    fn frame(&mut self, frame: &[u8], tag: Option<Holder>) -> Result<(), Fail> {
+        // entry 0 is none
+        let tag = tag.unwrap_or(Holder::Entry(0));
         let out = self.links.take(frame)?;
-        self.send_all(out.frames)?;
+        self.send_all(out.frames, true)?;
         match out.up {
             None => Ok(()),
             Some(Up::Failed) => {
@@ -199,18 +198,23 @@ impl Plain {
             self.now = now;
         }
         let out = self.links.fire(self.now)?;
-        self.send_all(out.frames)?;
+        self.send_all(out.frames, true)?;
         if matches!(out.up, Some(Up::Failed)) {
             self.ended(Ending::Lost);
         }
         Ok(())
     }
 
-    // Frames that links gave: CP-DATA has what its transaction carries, anything else nothing.
-    pub(crate) fn send_all(&mut self, frames: Frames) -> Result<(), Fail> {
+    // Frames that links gave, of their own or not: CP-DATA has what its transaction carries, anything else nothing.
+    pub(crate) fn send_all(&mut self, frames: Listed<Octets>, again: bool) -> Result<(), Fail> {
         for octets in frames.into_vec() {
             let carried = self.carried_by(octets.as_slice());
-            self.sent.push(Outgoing { octets, carried })?;
+            let is_copy = again && carried.is_some();
+            self.sent.push(Outgoing {
+                octets,
+                carried,
+                is_copy,
+            })?;
         }
         Ok(())
     }
@@ -360,7 +364,5 @@ pub(crate) fn is_part_of(group: &Group, entry: &Entry) -> bool {
 
 /// The octets, owned.
 pub(crate) fn owned(alloc: Global, octets: &[u8]) -> Result<Octets, Fail> {
-    let mut copy = Octets::new(alloc);
-    copy.append(octets)?;
-    Ok(copy)
+    Ok(Octets::copy_of(alloc, octets)?)
 }

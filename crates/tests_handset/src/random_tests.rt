@@ -1,9 +1,9 @@
 //! Long lists of events from a fixed generator, which happen to the handset and to the plain one.
 ghost use Rattle.std.specs.Prelude.{◌<◌};
 
-use crate::outgoing::Outgoing;
 use crate::pair::Pair;
 use sms_base::Octets;
+use sms_link::Outgoing;
 use std::alloc::Global;
 use std::test::Fail;
 
@@ -67,19 +67,16 @@ fn other_head(identifier: u8) -> u8 {
 
 // CP-DATA with the unit.
 fn data_frame(alloc: Global, head: u8, unit: &[u8]) -> Result<Octets, Fail> {
-    let mut frame = Octets::new(alloc);
-    frame.push(head)?;
-    frame.push(1)?;
-    frame.push(u8::try_from(unit.len())?)?;
+    let mut frame = Octets::copy_of(alloc, &[head, 1, u8::try_from(unit.len())?])?;
     frame.append(unit)?;
     Ok(frame)
 }
 
 // RP-DATA from the centre 447700900000.
 fn data_unit(alloc: Global, reference: u8, tpdu: &[u8]) -> Result<Octets, Fail> {
-    let mut unit = Octets::new(alloc);
-    unit.append(&[1, reference, 7, 0x91, 0x44, 0x77, 0, 9, 0, 0, 0])?;
-    unit.push(u8::try_from(tpdu.len())?)?;
+    let len = u8::try_from(tpdu.len())?;
+    let head = [1, reference, 7, 0x91, 0x44, 0x77, 0, 9, 0, 0, 0, len];
+    let mut unit = Octets::copy_of(alloc, &head)?;
     unit.append(tpdu)?;
     Ok(unit)
 }
@@ -93,10 +90,12 @@ fn deliver(
     length: u8,
     user_data: &[u8],
 ) -> Result<Octets, Fail> {
-    let mut tpdu = Octets::new(alloc);
-    tpdu.append(&[first, 0x0C, 0x91, 0x44, 0x77, 0, 9])?;
-    tpdu.append(&[0, if sender == 0 { 0x10 } else { 0x20 }, 0, scheme])?;
-    tpdu.append(&[0x42, 0x20, 0x92, 0x32, 0x95, 0x85, 0, length])?;
+    let last = if sender == 0 { 0x10 } else { 0x20 };
+    let head = [
+        first, 0x0C, 0x91, 0x44, 0x77, 0, 9, 0, last, 0, scheme, 0x42, 0x20, 0x92, 0x32, 0x95,
+        0x85, 0, length,
+    ];
+    let mut tpdu = Octets::copy_of(alloc, &head)?;
     tpdu.append(user_data)?;
     Ok(tpdu)
 }
@@ -136,12 +135,26 @@ fn wide_part(alloc: Global, reference: u8, number: u8, letter: u8) -> Result<Oct
 
 // STATUS-REPORT for a message to 447700900123 or 447700900124.
 fn status_report(alloc: Global, reference: u8, to: u8, status: u8) -> Result<Octets, Fail> {
-    let mut tpdu = Octets::new(alloc);
-    tpdu.append(&[6, reference, 0x0C, 0x91, 0x44, 0x77, 0, 9, 0x10])?;
-    tpdu.push(if to == 0 { 0x32 } else { 0x42 })?;
-    tpdu.append(&[0x42, 0x20, 0x92, 0x32, 0x95, 0x85, 0])?;
-    tpdu.append(&[0x42, 0x30, 0x10, 0, 0, 0, 0, status])?;
-    Ok(tpdu)
+    let last = if to == 0 { 0x32 } else { 0x42 };
+    let tpdu = [
+        6, reference, 0x0C, 0x91, 0x44, 0x77, 0, 9, 0x10, last, 0x42, 0x20, 0x92, 0x32, 0x95, 0x85,
+        0, 0x42, 0x30, 0x10, 0, 0, 0, 0, status,
+    ];
+    Ok(Octets::copy_of(alloc, &tpdu)?)
+}
+
+// RP-ACK, RP-ERROR with a cause, or a unit that is unknown.
+fn plain_answer(alloc: Global, choice: u8, reference: u8) -> Result<Octets, Fail> {
+    let cause = match choice {
+        0..=4 => return Ok(Octets::copy_of(alloc, &[3, reference])?),
+        5 => return Ok(Octets::copy_of(alloc, &[9, reference])?),
+        6 => 41,
+        7 => 38,
+        8 => 42,
+        9 => 47,
+        _ => 21,
+    };
+    Ok(Octets::copy_of(alloc, &[5, reference, 1, cause])?)
 }
 
 impl Others {
@@ -240,25 +253,12 @@ impl Others {
         data_frame(self.alloc, other_head(self.begun), unit.as_slice())
     }
 
+    // Now and then under another reference, and with a report that has the failure cause of a duplicate.
     fn answer_unit(&mut self) -> Result<Octets, Fail> {
-        let reference = self.reference;
-        let other = reference.wrapping_add(1);
-        let mut unit = Octets::new(self.alloc);
-        match self.dice.roll(14) {
-            0..=3 => unit.append(&[3, reference])?,
-            4 => unit.append(&[3, other])?,
-            5 => unit.append(&[5, reference, 1, 41])?,
-            6 => unit.append(&[5, reference, 1, 38])?,
-            7 => unit.append(&[5, reference, 1, 42])?,
-            8 => unit.append(&[5, reference, 1, 21])?,
-            9 => unit.append(&[5, other, 1, 21])?,
-            10 => unit.append(&[5, reference, 1, 21, 0x41, 2, 1, 0xC5])?,
-            11 => unit.append(&[9, reference])?,
-            12 => unit.append(&[5, reference, 1, 47])?,
-            _ => unit.append(&[5, reference, 1, 21])?,
-        }
-        // a report with the failure cause of a duplicate stands behind some
-        if matches!(unit.as_slice(), [5, _, 1, _]) && self.dice.roll(3) == 0 {
+        let other = if self.dice.roll(8) == 0 { 1 } else { 0 };
+        let choice = self.dice.roll(13);
+        let mut unit = plain_answer(self.alloc, choice, self.reference.wrapping_add(other))?;
+        if choice > 5 && self.dice.roll(3) == 0 {
             unit.append(&DUPLICATE)?;
         }
         Ok(unit)
@@ -266,26 +266,24 @@ impl Others {
 
     // CP-ACK or CP-ERROR for one of the two transactions.
     fn control(&mut self) -> Result<Octets, Fail> {
-        let mut frame = Octets::new(self.alloc);
-        match self.dice.roll(7) {
-            0..=1 => frame.append(&[other_head(self.begun), 4])?,
-            2..=4 => frame.append(&[head(self.opened), 4])?,
-            5 => frame.append(&[other_head(self.begun), 0x10, 0x51])?,
-            _ => frame.append(&[head(self.opened), 0x10, 0x51])?,
-        }
-        Ok(frame)
+        let choice = self.dice.roll(7);
+        let head = match choice {
+            0..=2 => other_head(self.begun),
+            _ => head(self.opened),
+        };
+        let frame: &[u8] = if choice < 5 { &[4] } else { &[0x10, 0x51] };
+        let mut octets = Octets::copy_of(self.alloc, &[head])?;
+        octets.append(frame)?;
+        Ok(octets)
     }
 
     // A frame that came before, or one that can't be read.
     fn repeated(&mut self) -> Result<Octets, Fail> {
-        let mut frame = Octets::new(self.alloc);
         let back = usize::from(self.dice.roll(6));
-        for (place, earlier) in self.frames.iter().rev().enumerate() {
-            if place == back {
-                frame.append(earlier.as_slice())?;
-            }
+        match self.frames.iter().rev().nth(back) {
+            Some(earlier) => Ok(Octets::copy_of(self.alloc, earlier.as_slice())?),
+            None => Ok(Octets::new(self.alloc)),
         }
-        Ok(frame)
     }
 
     fn frame(&mut self) -> Result<Octets, Fail> {
@@ -296,8 +294,7 @@ impl Others {
             28..=34 => self.control()?,
             _ => self.repeated()?,
         };
-        let mut copy = Octets::new(self.alloc);
-        copy.append(frame.as_slice())?;
+        let copy = Octets::copy_of(self.alloc, frame.as_slice())?;
         self.frames.push(copy)?;
         Ok(frame)
     }

@@ -1,6 +1,6 @@
 //! References go around, past those that are held.
-use crate::HandsetEvent;
 use crate::pair::Pair;
+use sms_handset::HandsetEvent;
 use std::test::Fail;
 
 // CP-DATA with an RP-DATA of reference 0, and one of reference 1: DELIVERs with no user data.

@@ -1,8 +1,8 @@
 //! What comes to the handset.
 use super::{Accepted, Plain, is_part_of, owned};
-use crate::entry::{Entry, Group, Message};
 use sms_base::{Address, Carried, Holder, Kind, Octets};
 use sms_concat::{ConcatKey, Content, Part, join, part_of};
+use sms_handset::{Entry, Group, Message};
 use sms_relay::{RelayFault, Rp, read_down as read_unit};
 use sms_tpdu::{Carrier, Deliver, Down, StatusReport, read_down};
 use std::alloc::Global;
@@ -40,7 +40,7 @@ impl Plain {
             tag,
         });
         let out = self.links.reply(self.now, unit)?;
-        self.send_all(out.frames)
+        self.send_all(out.frames, false)
     }
 
     fn acknowledge(&mut self, reference: u8, tag: Holder) -> Result<(), Fail> {
@@ -67,7 +67,8 @@ impl Plain {
     }
 
     fn is_accepted(&self, reference: u8, tpdu: &[u8]) -> bool {
-        self.accepted.iter().any(|last| last.reference == reference && last.tpdu.as_slice() == tpdu)
+        self.accepted.iter().any(|last| last.reference == reference
+            && is_one_message(last.tpdu.as_slice(), tpdu))
     }
 
     fn tpdu(&mut self, reference: u8, tpdu: &[u8], tag: Holder) -> Result<(), Fail> {
@@ -254,6 +255,16 @@ impl Plain {
             }
         }
         Ok(())
+    }
+}
+
+// Whether TPDUs are one but for the bit that tells whether more messages wait.
+fn is_one_message(one: &[u8], other: &[u8]) -> bool {
+    match (one, other) {
+        ([first, rest @ ..], [other_first, other_rest @ ..]) => {
+            first | 4 == other_first | 4 && rest == other_rest
+        }
+        _ => one.is_empty() && other.is_empty(),
     }
 }
 

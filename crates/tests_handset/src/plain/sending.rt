@@ -1,7 +1,7 @@
 //! What the handset sends, and how it ends.
 use super::{Ending, MemoryAvailable, Plain, Text, UnderWay, owned};
-use crate::out_entry::EntryState;
 use sms_base::{Moment, OctetView, Octets};
+use sms_handset::EntryState;
 use sms_relay::{Rp, read_down as read_unit};
 use sms_tpdu::{Carrier, Down, read_down};
 use std::test::Fail;
@@ -25,26 +25,21 @@ impl Plain {
         match self.under_way {
             UnderWay::Nothing => {}
             UnderWay::Text { number, .. } => self.text_ended(number, ending),
-            UnderWay::MemoryAvailable { .. } => self.notice_ended(ending),
+            UnderWay::MemoryAvailable { number, .. } => self.notice_ended(number, ending),
         }
         self.under_way = UnderWay::Nothing;
     }
 
     // RP-SMMA goes once more, 30 seconds after its first sending has failed.
-    fn notice_ended(&mut self, ending: Ending) {
-        let notice = match self.notice {
-            Some(notice) => notice,
-            None => return,
-        };
-        if ending == Ending::Acknowledged || notice.times_sent >= 2 {
-            self.notice = None;
-        } else {
-            self.notice = Some(MemoryAvailable {
-                number: notice.number,
-                reference: notice.reference,
-                times_sent: notice.times_sent,
-                again: Some(self.now.plus(30)),
-            });
+    fn notice_ended(&mut self, number: u32, ending: Ending) {
+        let again = self.now.plus(30);
+        let is_done = ending == Ending::Acknowledged;
+        self.notices.retain(|notice| notice.number != number
+            || !(is_done || notice.times_sent >= 2));
+        for notice in self.notices.iter_mut() {
+            if notice.number == number {
+                notice.again = Some(again);
+            }
         }
     }
 
@@ -82,7 +77,6 @@ impl Plain {
                 reference,
                 ..
             } = notice;
-            self.notice = Some(notice);
             self.under_way = UnderWay::MemoryAvailable { number, reference };
             return self.begin(&[6, reference]);
         }
@@ -92,32 +86,29 @@ impl Plain {
         }
     }
 
-    // The one that waited for its second sending, else a first one.
+    // The oldest that waited for its second sending until now, else a first one, however many wait.
     fn notice_to_send(&mut self) -> Result<Option<MemoryAvailable>, Fail> {
-        if let Some(notice) = self.notice {
-            return match notice.again {
-                Some(moment) if moment <= self.now => Ok(Some(MemoryAvailable {
-                    number: notice.number,
-                    reference: notice.reference,
-                    times_sent: 2,
-                    again: None,
-                })),
-                _ => Ok(None),
-            };
+        let now = self.now;
+        for notice in self.notices.iter_mut() {
+            if is_past(notice.again, now) {
+                notice.times_sent = 2;
+                notice.again = None;
+                return Ok(Some(*notice));
+            }
         }
         if self.notices_wanted == 0 {
             return Ok(None);
         }
         self.notices_wanted = self.notices_wanted.saturating_sub(1);
-        let reference = self.free_reference()?;
-        let number = self.next_notice;
-        self.next_notice = number.saturating_add(1);
-        Ok(Some(MemoryAvailable {
-            number,
-            reference,
+        let notice = MemoryAvailable {
+            number: self.next_notice,
+            reference: self.free_reference()?,
             times_sent: 1,
             again: None,
-        }))
+        };
+        self.next_notice = notice.number.saturating_add(1);
+        self.notices.push(notice)?;
+        Ok(Some(notice))
     }
 
     fn text_to_send(&self) -> Option<u32> {
@@ -168,7 +159,7 @@ impl Plain {
             return Err(Fail::new("no unit"));
         }
         let out = self.links.begin(self.now, unit)?;
-        self.send_all(out.frames)
+        self.send_all(out.frames, false)
     }
 
     // The next RP reference that no unfinished text and no RP-SMMA holds.
@@ -185,14 +176,13 @@ impl Plain {
     }
 
     fn holds_reference(&self, reference: u8) -> bool {
-        if let Some(notice) = self.notice {
-            if notice.reference == reference {
-                return true;
-            }
-        }
-        self.outbox
+        self.notices
             .iter()
-            .any(|text| is_unfinished(text) && text.reference == reference)
+            .any(|notice| notice.reference == reference)
+            || self
+                .outbox
+                .iter()
+                .any(|text| is_unfinished(text) && text.reference == reference)
     }
 
     // The next TP-MR that no unfinished text holds.
@@ -208,6 +198,13 @@ impl Plain {
             reference = reference.wrapping_add(1);
         }
         Err(Fail::new("no TP-MR is free"))
+    }
+}
+
+fn is_past(moment: Option<Moment>, now: Moment) -> bool {
+    match moment {
+        Some(moment) => moment <= now,
+        None => false,
     }
 }
 

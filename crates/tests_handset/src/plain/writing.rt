@@ -1,10 +1,9 @@
 //! What the owner writes.
 use super::{Plain, Text, owned};
-use crate::out_entry::EntryState;
-use crate::refusal::Refusal;
 use sms_alphabet::{Coding, SpellingError, septets_of, ucs2_of};
 use sms_base::{Address, Octets};
 use sms_concat::{Content, Part, Parts, SplitError, fits, split, user_data};
+use sms_handset::{EntryState, Refusal};
 use std::alloc::Global;
 use std::test::Fail;
 

@@ -1,7 +1,7 @@
 //! A handset, and the plain one beside it, over frames that were written down elsewhere.
 use crate::pair::Pair;
-use crate::{Entry, HandsetEvent, Message, Refusal, TextView};
 use sms_base::AddressError;
+use sms_handset::{Entry, HandsetEvent, Message, Refusal, TextView};
 use std::test::Fail;
 
 // CP-DATA with an RP-DATA of reference 0: `hello` from 447700900001.
@@ -20,6 +20,12 @@ fn double(pair: &mut Pair) -> Result<(), Fail> {
     again[1..].copy_from_slice(&HELLO[1..]);
     let ack: &[u8] = b"\x99\x01\x06\x02\x00\x41\x02\x00\x00";
     pair.takes(&again, &[b"\x99\x04", ack])?;
+    pair.has_stored(1)?;
+    // the same, which tells now that more messages wait
+    again[0] = 0x29;
+    again[15] = 0x20;
+    let ack: &[u8] = b"\xA9\x01\x06\x02\x00\x41\x02\x00\x00";
+    pair.takes(&again, &[b"\xA9\x04", ack])?;
     pair.has_stored(1)?;
     pair.refuses(&HandsetEvent::Delete { entry: 2 }, Refusal::NoEntry)?;
     Ok(())
@@ -50,6 +56,73 @@ fn memory_available(pair: &mut Pair) -> Result<(), Fail> {
 fn a_full_handset_says_when_it_has_memory_again(rt: HostRuntime) -> Result<(), Fail> {
     let mut pair = Pair::new(rt.alloc(), 1)?;
     memory_available(&mut pair)
+}
+
+// The slot is taken, the next message is refused, and the slot becomes free.
+fn fills_and_frees(
+    pair: &mut Pair,
+    entry: u32,
+    stored: [u8; 2],
+    refused: [u8; 2],
+    smma: &[u8],
+) -> Result<(), Fail> {
+    let [head, reference] = stored;
+    let ack = [
+        head + 128,
+        0x01,
+        0x06,
+        0x02,
+        reference,
+        0x41,
+        0x02,
+        0x00,
+        0x00,
+    ];
+    let mut frame = [head; 39];
+    frame[1..].copy_from_slice(&HELLO[1..]);
+    frame[4] = reference;
+    pair.takes(&frame, &[&[head + 128, 0x04], &ack])?;
+    pair.takes(&[head, 0x04], &[])?;
+    let [head, reference] = refused;
+    let full = [
+        head + 128,
+        0x01,
+        0x09,
+        0x04,
+        reference,
+        0x01,
+        0x16,
+        0x41,
+        0x03,
+        0x00,
+        0xD3,
+        0x00,
+    ];
+    frame[0] = head;
+    frame[4] = reference;
+    pair.takes(&frame, &[&[head + 128, 0x04], &full])?;
+    pair.takes(&[head, 0x04], &[])?;
+    pair.gives(&HandsetEvent::Delete { entry }, &[smma])
+}
+
+fn two_notices(pair: &mut Pair) -> Result<(), Fail> {
+    let first: &[u8] = b"\x09\x01\x02\x06\x00";
+    fills_and_frees(pair, 1, [0x09, 0], [0x19, 1], first)?;
+    // RP-ERROR 38: it waits for TRAM
+    pair.takes(b"\x89\x01\x04\x05\x00\x01\x26", &[b"\x09\x04"])?;
+    let second: &[u8] = b"\x19\x01\x02\x06\x01";
+    fills_and_frees(pair, 2, [0x29, 2], [0x39, 3], second)?;
+    pair.takes(b"\x99\x01\x02\x03\x01", &[b"\x19\x04"])?;
+    pair.tick(29)?;
+    pair.has_sent(&[])?;
+    pair.tick(30)?;
+    pair.has_sent(&[b"\x29\x01\x02\x06\x00"])
+}
+
+#[test]
+fn a_notice_that_waits_holds_up_no_other(rt: HostRuntime) -> Result<(), Fail> {
+    let mut pair = Pair::new(rt.alloc(), 1)?;
+    two_notices(&mut pair)
 }
 
 // CP-DATA with a part: the octet of its transaction, its RP reference, the concatenation reference, total and number,
