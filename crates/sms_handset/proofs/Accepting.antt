@@ -23,8 +23,8 @@ use Rattle.sms_handset.specs.declared.entry.Entry.{Entry}
 use Rattle.sms_handset.specs.declared.entry.Group.{Group}
 use Rattle.sms_handset.specs.declared.entry.Message.{Message}
 use Rattle.sms_handset.specs.declared.entry.Message.TheVariants.{Single, Part, Joined}
-use Rattle.sms_handset.specs.declared.last.Last.{Last}
-use Rattle.sms_handset.specs.declared.mark.Mark.{Mark}
+use Rattle.sms_handset.specs.declared.last_accepted.LastAccepted.{LastAccepted}
+use Rattle.sms_handset.specs.declared.discarded_group.DiscardedGroup.{DiscardedGroup}
 use Rattle.sms_handset.specs.declared.out_entry.OutEntry.{OutEntry}
 use Rattle.sms_base.specs.declared.address.Address.{Address}
 use Rattle.sms_base.specs.declared.address_error.AddressError.{AddressError}
@@ -34,9 +34,9 @@ use Rattle.sms_concat.specs.Splitting.{split_of}
 use Rattle.sms_handset.specs.declared.refusal.Refusal.{Refusal}
 use Rattle.sms_handset.specs.declared.refusal.Refusal.TheVariants.{NoEntry, StillOpen, OutboxFull, TooManyDiscarded}
 use Rattle.sms_handset.specs.Accepted.{Holds, IsOfDiscarded, IsPut, StoresAccepted}
-use Rattle.sms_handset.specs.Draft.{Core, Draft, draft_of, heard, put_entry, remove_entry, put_counters, put_out, put_mark, remove_mark, remove_out}
+use Rattle.sms_handset.specs.Draft.{Core, Draft, draft_of, link_of, put_entry, remove_entry, put_counters, put_out, put_mark, remove_mark, remove_out, with_turn}
 use Rattle.sms_handset.specs.Groups.{all_numbers, alone, completed, count_entry, drop_all, ended, entry_part, first_number, free_all, group_of, is_among, joined_content, joined_entry, joined_parts, keep, key_of, mark_of, marked, members, part_entry, part_number, part_numbers, part_with, parts_to, single_entry, store_part, store_single, with_part}
-use Rattle.sms_handset.specs.Keys.{entry_key, last_key, out_key}
+use Rattle.sms_handset.specs.Keys.{entry_key, last_key, notice_key, out_key}
 use Rattle.sms_base.specs.declared.holder.Holder.TheVariants.{Part as PartHolder, Report, Entry as EntryHolder, Memory}
 use Rattle.sms_concat.specs.declared.concat_key.ConcatReference.{ConcatReference}
 use Rattle.sms_concat.specs.declared.concat_key.ConcatReference.TheVariants.{EightBit, SixteenBit}
@@ -45,24 +45,24 @@ use Rattle.sms_concat.specs.declared.header_error.HeaderError.{HeaderError}
 use Rattle.sms_concat.specs.Concatenation.{counted, eight_bit_key, sixteen_bit_key, element_key, later, key_of as key_of_elements}
 use Rattle.sms_concat.specs.HeaderGrammar.{header_at}
 use Rattle.sms_concat.specs.UserData.{header_key, key_found}
-use Rattle.sms_control.specs.declared.out.Up.{Up}
-use Rattle.sms_control.specs.declared.out.Up.TheVariants.{Unit as UnitUp, Failed as FailedUp}
-use Rattle.sms_control.specs.declared.transaction.TransactionFlag.TheVariants.{FromOriginator, ToOriginator}
-use Rattle.sms_control.specs.LinkStep.{Step, is_busy, fire_step, take_step}
+use Rattle.sms_link.specs.Timers.{tram}
+use Rattle.sms_link.specs.declared.ending.Ending.{Ending}
+use Rattle.sms_link.specs.declared.ending.Ending.TheVariants.{Acknowledged as AcknowledgedEnd, Refused as RefusedEnd, Wrong as WrongEnd, Lost as LostEnd}
+use Rattle.sms_link.specs.declared.ending.Upward.{Upward}
+use Rattle.sms_link.specs.declared.ending.Upward.TheVariants.{Opened, Ended}
+use Rattle.sms_link.specs.LinkTurn.{Turn, fired, taken}
+use Rattle.sms_control.specs.LinkStep.{is_busy}
 use Rattle.sms_control.specs.Timers.{later as later_moment}
 use Rattle.sms_relay.specs.declared.fault.RelayFault.{RelayFault}
 use Rattle.sms_relay.specs.declared.frame.Rp.{Rp}
 use Rattle.sms_relay.specs.declared.frame.Rp.TheVariants.{DataUnit, AckUnit, ErrorUnit, Smma}
 use Rattle.sms_relay.specs.RelayReading.{down_at as unit_at}
-use Rattle.sms_handset.specs.declared.answers.Verdict.{Verdict}
-use Rattle.sms_handset.specs.declared.answers.Verdict.TheVariants.{Acknowledged, Temporary, Duplicate, Refused, Lost}
 use Rattle.sms_handset.specs.declared.notice.Notice.{Notice}
 use Rattle.sms_base.specs.declared.carried.Carried.{Carried}
-use Rattle.sms_handset.specs.Answers.{verdict_of}
-use Rattle.sms_handset.specs.HandsetEvent.{acted, at_moment, deleted, discarded, failed, frame_came, frame_heard, ticked, timers_fired, went_up, wrote}
+use Rattle.sms_handset.specs.HandsetEvent.{acted, at_moment, deleted, discarded, frame_came, frame_heard, ticked, timed_out, timers_fired, went_up, wrote}
 use Rattle.sms_handset.specs.OwnersActs.{content_of_text, count_split, delete, delete_in, delete_out, discard, discard_at, discard_group, discard_in, discard_members, fits_outbox, is_open_part, write, write_part, write_parts, write_split, write_to, written}
-use Rattle.sms_handset.specs.MemoryAvailable.{first_notice, freed, has_room, notice_concluded, notice_ended, notice_failed, send_notice, tram, want_notice}
-use Rattle.sms_handset.specs.Outbox.{conclude, entry_concluded, first_due, follow, holder_concluded, is_fired, is_sending, lapse, lapse_rows, lost, offer, offer_after, offer_entry, offer_message, offer_wanted, transfer_concluded}
+use Rattle.sms_handset.specs.MemoryAvailable.{first_notice, freed, has_room, notice_concluded, notice_ended, notice_failed, put_notice, remove_notice, send_notice, want_notice}
+use Rattle.sms_handset.specs.Outbox.{entry_concluded, first_due, first_fired, follow, holder_concluded, is_notice_next, is_sending, lapse, lapse_rows, lost, offer, offer_after, offer_entry, offer_message, offer_wanted, transfer_ended}
 use Rattle.sms_handset.specs.Receiving.{accept, acknowledge, data_came, deliver_came, is_double, member_came, new_part_came, no_room, note, part_came, reported, single_came, tpdu_came, unit_came}
 use Rattle.sms_handset.specs.References.{held_references, is_unfinished, next_free}
 
@@ -154,24 +154,24 @@ single_stores tpdu m d = (single_entry d.rows.counters.entry tpdu, (put_stands (
 
 -- ---- what is accepted
 
-abbrev Law : List Mark → Draft → Type 0
+abbrev Law : List DiscardedGroup → Draft → Type 0
 Law marks d = StoresAccepted marks d.changes d.rows
 
-none_accepted : (marks : List Mark) (d : Draft) → d.changes.last ≡ [] → Law marks d
-none_accepted marks d e l a m f = absurd (subst (λ (cs : List (Change Last)). Among (Put l) cs) e a)
+none_accepted : (marks : List DiscardedGroup) (d : Draft) → d.changes.last ≡ [] → Law marks d
+none_accepted marks d e l a m f = absurd (subst (λ (cs : List (Change LastAccepted)). Among (Put l) cs) e a)
 
 -- the one that is put
-only_put : (x l : Last) (cs : List (Change Last)) → cs ≡ [] → Among (Put l) (cs ++ Put x ∷ []) → l ≡ x
+only_put : (x l : LastAccepted) (cs : List (Change LastAccepted)) → cs ≡ [] → Among (Put l) (cs ++ Put x ∷ []) → l ≡ x
 only_put x l cs e a =
-    let b : Among (Put l) (Put x ∷ []) = subst (λ (ds : List (Change Last)). Among (Put l) (ds ++ Put x ∷ [])) e a in
+    let b : Among (Put l) (Put x ∷ []) = subst (λ (ds : List (Change LastAccepted)). Among (Put l) (ds ++ Put x ∷ [])) e a in
     ⊎_elim (λ (q : Put l ≡ Put x). let r : l ≡ x = cc in r) (λ (q : ⊥). absurd q) b
 
-accept_stores : (marks : List Mark) (r : ℕ) (tag : Holder) (tpdu : List ℕ) (d : Draft) → d.changes.last ≡ []
+accept_stores : (marks : List DiscardedGroup) (r : ℕ) (tag : Holder) (tpdu : List ℕ) (d : Draft) → d.changes.last ≡ []
     → ((m : DeliverOf) → down_at InData tpdu ≡ Ok (Deliver m) → IsOfDiscarded marks m ⊎ Stored d tpdu m) → Law marks (accept r tag tpdu d)
 accept_stores marks r tag tpdu d e h l a m f =
-    let x : Last = record { reference = r; tpdu = tpdu } in
+    let x : LastAccepted = record { reference = r; tpdu = tpdu } in
     let q : l ≡ x = only_put x l d.changes.last e a in
-    let t : l.tpdu ≡ tpdu = ap (λ (z : Last). z.tpdu) q in
+    let t : l.tpdu ≡ tpdu = ap (λ (z : LastAccepted). z.tpdu) q in
     subst (λ (octets : List ℕ). IsOfDiscarded marks m ⊎ Stored d octets m) (sym t)
     (h m (subst (λ (octets : List ℕ). down_at InData octets ≡ Ok (Deliver m)) t f))
 
@@ -185,7 +185,7 @@ same_deliver tpdu m n a b =
     let y : Result Down TpduFault = Ok (Deliver n) in
     let e : x ≡ y = sym a ∙ b in cc
 
-single_law : (marks : List Mark) (r : ℕ) (tag : Holder) (tpdu : List ℕ) (d : Draft) → d.changes.last ≡ [] → Law marks (single_came r tag tpdu d)
+single_law : (marks : List DiscardedGroup) (r : ℕ) (tag : Holder) (tpdu : List ℕ) (d : Draft) → d.changes.last ≡ [] → Law marks (single_came r tag tpdu d)
 single_law marks r tag tpdu d e =
     cond_both (has_room d) (accept r tag tpdu (store_single tpdu d)) (no_room r tag d) (λ (z : Draft). Law marks z)
     (λ t. accept_stores marks r tag tpdu (store_single tpdu d) e (λ m f. inr (single_stores tpdu m d)))
@@ -209,7 +209,7 @@ completed_last g es d e =
     ended_last g es None d e = freed_last_too es d e
     ended_last g es (Some c) d e = dropped_last es d e
 
-new_part_law : (marks : List Mark) (r : ℕ) (tag : Holder) (tpdu : List ℕ) (m : DeliverOf) (g : Group) (n : ℕ) (es : List Entry) (d : Draft) → d.changes.last ≡ []
+new_part_law : (marks : List DiscardedGroup) (r : ℕ) (tag : Holder) (tpdu : List ℕ) (m : DeliverOf) (g : Group) (n : ℕ) (es : List Entry) (d : Draft) → d.changes.last ≡ []
     → Reads tpdu m → 0 < n → n ≤ g.total → g.source ≡ m.originating_address → is_among n (part_numbers es) ≡ false → Law marks (new_part_came r tag tpdu g n es d)
 new_part_law marks r tag tpdu m g n es d e reads low high from new =
     cond_both (has_room d) (accept r tag tpdu (store_part g n tpdu es d)) (no_room r tag d) (λ (z : Draft). Law marks z)
@@ -217,16 +217,16 @@ new_part_law marks r tag tpdu m g n es d e reads low high from new =
     (λ o f. inr (part_stores g n tpdu o es d low high (from ∙ ap (λ (z : DeliverOf). z.originating_address) (same_deliver tpdu m o reads f)) new)))
     (λ t. none_accepted marks (no_room r tag d) e)
 
-member_law : (marks : List Mark) (r : ℕ) (tag : Holder) (tpdu : List ℕ) (m : DeliverOf) (g : Group) (n : ℕ) (es : List Entry) (d : Draft) → d.changes.last ≡ []
+member_law : (marks : List DiscardedGroup) (r : ℕ) (tag : Holder) (tpdu : List ℕ) (m : DeliverOf) (g : Group) (n : ℕ) (es : List Entry) (d : Draft) → d.changes.last ≡ []
     → Reads tpdu m → 0 < n → n ≤ g.total → g.source ≡ m.originating_address → Law marks (member_came r tag tpdu g n es d)
 member_law marks r tag tpdu m g n es d e reads low high from =
     cond_both (is_among n (part_numbers es)) (single_came r tag tpdu d) (new_part_came r tag tpdu g n es d) (λ (z : Draft). Law marks z)
     (λ t. single_law marks r tag tpdu d e) (λ t. new_part_law marks r tag tpdu m g n es d e reads low high from t)
 
-marked_last : (n : ℕ) (k : Mark) (d : Draft) → d.changes.last ≡ [] → (marked n k d).changes.last ≡ []
+marked_last : (n : ℕ) (k : DiscardedGroup) (d : Draft) → d.changes.last ≡ [] → (marked n k d).changes.last ≡ []
 marked_last n k d e = cond_both (all_numbers k.group.total (k.seen ++ n ∷ [])) (remove_mark k.number d) (put_mark (record k { seen = k.seen ++ n ∷ [] }) d) (λ (z : Draft). z.changes.last ≡ []) (λ t. e) (λ t. e)
 
-part_law : (marks : List Mark) (r : ℕ) (tag : Holder) (tpdu : List ℕ) (m : DeliverOf) (key : ConcatKey) (o : Option Mark) (d : Draft) → d.changes.last ≡ []
+part_law : (marks : List DiscardedGroup) (r : ℕ) (tag : Holder) (tpdu : List ℕ) (m : DeliverOf) (key : ConcatKey) (o : Option DiscardedGroup) (d : Draft) → d.changes.last ≡ []
     → Reads tpdu m → key_of m ≡ Some key → mark_of (group_of m.originating_address key) marks ≡ o → 0 < key.number → key.number ≤ key.total
     → Law marks (part_came r tag tpdu (group_of m.originating_address key) key.number o d)
 part_law marks r tag tpdu m key None d e reads k marked low high =
@@ -286,14 +286,14 @@ pub header_counts : (indicator : Bool) (octets : List ℕ) → IsCounted (header
 header_counts false octets = tt
 header_counts true octets = found_counts (header_at octets)
 
-deliver_law : (marks : List Mark) (r : ℕ) (tag : Holder) (tpdu : List ℕ) (m : DeliverOf) (o : Option ConcatKey) (d : Draft) → d.changes.last ≡ [] → d.rows.marks ≡ marks
+deliver_law : (marks : List DiscardedGroup) (r : ℕ) (tag : Holder) (tpdu : List ℕ) (m : DeliverOf) (o : Option ConcatKey) (d : Draft) → d.changes.last ≡ [] → d.rows.marks ≡ marks
     → Reads tpdu m → key_of m ≡ o → IsCounted o → Law marks (deliver_came r tag tpdu m o d)
 deliver_law marks r tag tpdu m None d e same reads k c = single_law marks r tag tpdu d e
 deliver_law marks r tag tpdu m (Some key) d e same reads k c =
     let g : Group = group_of m.originating_address key in
-    part_law marks r tag tpdu m key (mark_of g d.rows.marks) d e reads k (ap (λ (ms : List Mark). mark_of g ms) (sym same)) c.0 c.1
+    part_law marks r tag tpdu m key (mark_of g d.rows.marks) d e reads k (ap (λ (ms : List DiscardedGroup). mark_of g ms) (sym same)) c.0 c.1
 
-tpdu_law : (marks : List Mark) (r : ℕ) (tag : Holder) (tpdu : List ℕ) (t : Result Down TpduFault) (d : Draft) → d.changes.last ≡ [] → d.rows.marks ≡ marks
+tpdu_law : (marks : List DiscardedGroup) (r : ℕ) (tag : Holder) (tpdu : List ℕ) (t : Result Down TpduFault) (d : Draft) → d.changes.last ≡ [] → d.rows.marks ≡ marks
     → down_at InData tpdu ≡ t → Law marks (tpdu_came r tag tpdu t d)
 tpdu_law marks r tag tpdu (Ok (Deliver m)) d e same q =
     deliver_law marks r tag tpdu m (key_of m) d e same q refl (header_counts m.user_data_header_indicator m.user_data.octets)
@@ -310,12 +310,12 @@ tpdu_law marks r tag tpdu (Ok (StatusReport s)) d e same q =
 tpdu_law marks r tag tpdu (Ok (SubmitReport s)) d e same q = none_accepted marks (tpdu_came r tag tpdu (Ok (SubmitReport s)) d) e
 tpdu_law marks r tag tpdu (Err f) d e same q = none_accepted marks (tpdu_came r tag tpdu (Err f) d) e
 
-data_law : (marks : List Mark) (r : ℕ) (tag : Holder) (tpdu : List ℕ) (d : Draft) → d.changes.last ≡ [] → d.rows.marks ≡ marks → Law marks (data_came r tag tpdu d)
+data_law : (marks : List DiscardedGroup) (r : ℕ) (tag : Holder) (tpdu : List ℕ) (d : Draft) → d.changes.last ≡ [] → d.rows.marks ≡ marks → Law marks (data_came r tag tpdu d)
 data_law marks r tag tpdu d e same =
     cond_both (is_double tpdu (row_at last_key r d.rows.last)) (acknowledge r tag d) (tpdu_came r tag tpdu (down_at InData tpdu) d) (λ (z : Draft). Law marks z)
     (λ t. none_accepted marks (acknowledge r tag d) e) (λ t. tpdu_law marks r tag tpdu (down_at InData tpdu) d e same refl)
 
-unit_law : (marks : List Mark) (tag : Holder) (unit : List ℕ) (u : Result Rp RelayFault) (d : Draft) → d.changes.last ≡ [] → d.rows.marks ≡ marks → Law marks (unit_came tag unit u d)
+unit_law : (marks : List DiscardedGroup) (tag : Holder) (unit : List ℕ) (u : Result Rp RelayFault) (d : Draft) → d.changes.last ≡ [] → d.rows.marks ≡ marks → Law marks (unit_came tag unit u d)
 unit_law marks tag unit (Ok (DataUnit r c tpdu)) d e same = data_law marks r tag tpdu d e same
 unit_law marks tag unit (Ok (AckUnit r tpdu)) d e same = none_accepted marks d e
 unit_law marks tag unit (Ok (ErrorUnit r c tpdu)) d e same = none_accepted marks d e
@@ -336,11 +336,11 @@ kept d = record { entries = refl; changed = refl; last = refl; number = refl }
 kept_then : (d e z : Draft) → Kept d e → Kept e z → Kept d z
 kept_then d e z a b = record { entries = b.entries ∙ a.entries; changed = b.changed ∙ a.changed; last = b.last ∙ a.last; number = b.number ∙ a.number }
 
-kept_law : (marks : List Mark) (d z : Draft) → Kept d z → Law marks d → Law marks z
+kept_law : (marks : List DiscardedGroup) (d z : Draft) → Kept d z → Law marks d → Law marks z
 kept_law marks d z k h l a m f =
     ⊎_elim (λ (x : IsOfDiscarded marks m). inl x)
     (λ (x : Stored d l.tpdu m). inr (x.0, ((subst (λ (cs : List (Change Entry)). Among (Put x.0) cs) (sym k.changed) x.1.0.0, subst (λ (es : List Entry). Among x.0 es) (sym k.entries) x.1.0.1), x.1.1)))
-    (h l (subst (λ (cs : List (Change Last)). Among (Put l) cs) k.last a) m f)
+    (h l (subst (λ (cs : List (Change LastAccepted)). Among (Put l) cs) k.last a) m f)
 
 lapse_rows_kept : (os : List OutEntry) (d : Draft) → Kept d (lapse_rows os d)
 lapse_rows_kept [] d = kept d
@@ -362,88 +362,80 @@ offer_entry_kept (Some o) d = record { entries = refl; changed = refl; last = re
 
 offer_wanted_kept : (d : Draft) → Kept d (offer_wanted d)
 offer_wanted_kept d =
-    cond_both (nat_lt 0 d.wanted && nat_lt d.rows.counters.notice 4294967295)
-    (first_notice d.rows.counters.notice (next_free d.rows.counters.reference (held_references None d.rows.outbox)) d) (offer_message d) (λ (z : Draft). Kept d z)
+    cond_both (is_notice_next d)
+    (first_notice d.rows.counters.notice (next_free d.rows.counters.reference (held_references d.notices d.rows.outbox)) d) (offer_message d) (λ (z : Draft). Kept d z)
     (λ t. record { entries = refl; changed = refl; last = refl; number = refl }) (λ t. offer_entry_kept (first_due d.moment d.rows.outbox) d)
 
 offer_after_kept : (n : Option Notice) (d : Draft) → Kept d (offer_after n d)
 offer_after_kept None d = offer_wanted_kept d
-offer_after_kept (Some n) d =
-    cond_both (is_fired d.moment n.due) (send_notice n d) (offer_message d) (λ (z : Draft). Kept d z)
-    (λ t. record { entries = refl; changed = refl; last = refl; number = refl }) (λ t. offer_entry_kept (first_due d.moment d.rows.outbox) d)
+offer_after_kept (Some n) d = record { entries = refl; changed = refl; last = refl; number = refl }
 
 pub follow_kept : (d : Draft) → Kept d (follow d)
 follow_kept d =
     let e : Draft = lapse d in
     kept_then d e (offer e) (lapse_kept d)
-    (cond_both (is_busy e.links) e (offer_after e.notice e) (λ (z : Draft). Kept e z) (λ t. kept e) (λ t. offer_after_kept e.notice e))
+    (cond_both (is_busy e.links) e (offer_after (first_fired e.moment e.notices) e) (λ (z : Draft). Kept e z) (λ t. kept e) (λ t. offer_after_kept (first_fired e.moment e.notices) e))
 
 -- ---- a frame
 
 notice_failed_none : (n : Notice) (d : Draft) → d.changes.last ≡ [] → (notice_failed n d).changes.last ≡ []
 notice_failed_none n d e =
-    cond_both n.is_second (record d { notice = None }) (record d { notice = Some (record n { is_second = true; due = Some (later_moment d.moment tram) }) }) (λ (z : Draft). z.changes.last ≡ []) (λ t. e) (λ t. e)
+    cond_both n.is_second (remove_notice n.number d) (put_notice (record n { is_second = true; due = Some (later_moment d.moment tram) }) d) (λ (z : Draft). z.changes.last ≡ []) (λ t. e) (λ t. e)
 
-notice_none : (v : Verdict) (n : Notice) (d : Draft) → d.changes.last ≡ [] → (notice_ended v n d).changes.last ≡ []
-notice_none Acknowledged n d e = e
-notice_none Temporary n d e = notice_failed_none n d e
-notice_none Duplicate n d e = notice_failed_none n d e
-notice_none Refused n d e = notice_failed_none n d e
-notice_none Lost n d e = notice_failed_none n d e
+notice_none : (v : Ending) (n : Notice) (d : Draft) → d.changes.last ≡ [] → (notice_ended v n d).changes.last ≡ []
+notice_none AcknowledgedEnd n d e = e
+notice_none (RefusedEnd cause tpdu) n d e = notice_failed_none n d e
+notice_none WrongEnd n d e = notice_failed_none n d e
+notice_none LostEnd n d e = notice_failed_none n d e
 
-concluded_none : (u : Option (Result Rp RelayFault)) (n : Option Notice) (d : Draft) → d.changes.last ≡ [] → (notice_concluded u n d).changes.last ≡ []
-concluded_none u None d e = e
-concluded_none u (Some n) d e = notice_none (verdict_of n.reference u) n d e
+concluded_none : (v : Ending) (n : Option Notice) (d : Draft) → d.changes.last ≡ [] → (notice_concluded v n d).changes.last ≡ []
+concluded_none v None d e = e
+concluded_none v (Some n) d e = notice_none v n d e
 
-entry_none : (u : Option (Result Rp RelayFault)) (o : Option OutEntry) (d : Draft) → d.changes.last ≡ [] → (entry_concluded u o d).changes.last ≡ []
-entry_none u None d e = e
-entry_none u (Some o) d e = e
+entry_none : (v : Ending) (o : Option OutEntry) (d : Draft) → d.changes.last ≡ [] → (entry_concluded v o d).changes.last ≡ []
+entry_none v None d e = e
+entry_none v (Some o) d e = e
 
-holder_none : (u : Option (Result Rp RelayFault)) (k : Holder) (d : Draft) → d.changes.last ≡ [] → (holder_concluded u k d).changes.last ≡ []
-holder_none u (PartHolder i n) d e = e
-holder_none u (Report i) d e = e
-holder_none u (EntryHolder n) d e = entry_none u (row_at out_key n d.rows.outbox) d e
-holder_none u (Memory n) d e = concluded_none u d.notice d e
+holder_none : (v : Ending) (k : Holder) (d : Draft) → d.changes.last ≡ [] → (holder_concluded v k d).changes.last ≡ []
+holder_none v (PartHolder i n) d e = e
+holder_none v (Report i) d e = e
+holder_none v (EntryHolder n) d e = entry_none v (row_at out_key n d.rows.outbox) d e
+holder_none v (Memory n) d e = concluded_none v (row_at notice_key n d.notices) d e
 
-transfer_none : (u : Option (Result Rp RelayFault)) (c : Option Carried) (d : Draft) → d.changes.last ≡ [] → (transfer_concluded u c d).changes.last ≡ []
-transfer_none u None d e = e
-transfer_none u (Some c) d e = holder_none u c.tag d e
-
-up_law : (marks : List Mark) (tag : Holder) (up : Option Up) (d : Draft) → d.changes.last ≡ [] → d.rows.marks ≡ marks → Law marks (went_up tag up d)
+up_law : (marks : List DiscardedGroup) (tag : Holder) (up : Option Upward) (d : Draft) → d.changes.last ≡ [] → d.rows.marks ≡ marks → Law marks (went_up tag up d)
 up_law marks tag None d e same = none_accepted marks d e
-up_law marks tag (Some (UnitUp FromOriginator unit)) d e same = unit_law marks tag unit (unit_at unit) d e same
-up_law marks tag (Some (UnitUp ToOriginator unit)) d e same =
-    none_accepted marks (conclude (Some (unit_at unit)) d) (transfer_none (Some (unit_at unit)) d.under_way (record d { under_way = None }) e)
-up_law marks tag (Some FailedUp) d e same = none_accepted marks (conclude None d) (transfer_none None d.under_way (record d { under_way = None }) e)
+up_law marks tag (Some (Opened unit)) d e same = unit_law marks tag unit (unit_at unit) d e same
+up_law marks tag (Some (Ended transfer ending)) d e same = none_accepted marks (transfer_ended transfer ending d) (holder_none ending transfer.tag d e)
 
 pub frame_stores : (octets : List ℕ) (tag : Holder) (c : Core) → StoresAccepted c.rows.marks (frame_came octets tag c).changes (frame_came octets tag c).rows
 frame_stores octets tag c =
-    let step : Step = take_step octets c.links in
-    let d : Draft = frame_heard tag step (draft_of c) in
-    kept_law c.rows.marks d (follow d) (follow_kept d) (up_law c.rows.marks tag step.out.up (heard step (draft_of c)) refl refl)
+    let turn : Turn = taken octets (link_of (draft_of c)) in
+    let d : Draft = frame_heard tag turn (draft_of c) in
+    kept_law c.rows.marks d (follow d) (follow_kept d) (up_law c.rows.marks tag turn.out.up (with_turn turn (draft_of c)) refl refl)
 
 -- ---- other events accept nothing
 
-failed_none : (up : Option Up) (d : Draft) → d.changes.last ≡ [] → (failed up d).changes.last ≡ []
-failed_none None d e = e
-failed_none (Some (UnitUp flag unit)) d e = e
-failed_none (Some FailedUp) d e = transfer_none None d.under_way (record d { under_way = None }) e
+timed_out_none : (up : Option Upward) (d : Draft) → d.changes.last ≡ [] → (timed_out up d).changes.last ≡ []
+timed_out_none None d e = e
+timed_out_none (Some (Opened unit)) d e = e
+timed_out_none (Some (Ended transfer ending)) d e = holder_none ending transfer.tag d e
 
 pub tick_stores : (now : ℕ) (c : Core) → StoresAccepted c.rows.marks (ticked now c).changes (ticked now c).rows
 tick_stores now c =
-    let step : Step = fire_step (max c.moment now) c.links in
-    let d : Draft = timers_fired step (at_moment now (draft_of c)) in
-    kept_law c.rows.marks d (follow d) (follow_kept d) (none_accepted c.rows.marks d (failed_none step.out.up (heard step (at_moment now (draft_of c))) refl))
+    let o : Draft = at_moment now (draft_of c) in
+    let turn : Turn = fired o.moment (link_of o) in
+    let d : Draft = timers_fired turn o in
+    kept_law c.rows.marks d (follow d) (follow_kept d) (none_accepted c.rows.marks d (timed_out_none turn.out.up (with_turn turn o) refl))
 
 abbrev NoneIfDone : Result Draft Refusal → Type 0
 NoneIfDone (Ok d) = d.changes.last ≡ []
 NoneIfDone (Err refusal) = Unit {0}
 
-abbrev pub LawIfDone : List Mark → Result Draft Refusal → Type 0
+abbrev pub LawIfDone : List DiscardedGroup → Result Draft Refusal → Type 0
 LawIfDone marks (Ok d) = StoresAccepted marks d.changes d.rows
 LawIfDone marks (Err refusal) = Unit {0}
 
-acted_law : (marks : List Mark) (r : Result Draft Refusal) → NoneIfDone r → LawIfDone marks (acted r)
+acted_law : (marks : List DiscardedGroup) (r : Result Draft Refusal) → NoneIfDone r → LawIfDone marks (acted r)
 acted_law marks (Ok d) e = kept_law marks d (follow d) (follow_kept d) (none_accepted marks d e)
 acted_law marks (Err f) e = tt
 

@@ -37,7 +37,7 @@ same_type t u e =
     let both : Some t ≡ Some u = sym (type_is t) ∙ ap (λ (n : ℕ). type_of n) e ∙ type_is u in
     let q : t ≡ u = cc in q
 
-same_address : (a b : Address) → is_same_address a b ≡ true → a ≡ b
+pub same_address : (a b : Address) → is_same_address a b ≡ true → a ≡ b
 same_address a b e =
     let p = and_parts ((type_number a.ton == type_number b.ton) && (a.npi == b.npi)) (bytes_eq a.digits b.digits) e in
     let q = and_parts (type_number a.ton == type_number b.ton) (a.npi == b.npi) p.0 in
@@ -69,13 +69,16 @@ one_reference : (r : ConcatReference) → is_same_reference r r ≡ true
 one_reference (EightBit n) = eq-eqb n n refl
 one_reference (SixteenBit n) = eq-eqb n n refl
 
+pub one_address : (a : Address) → is_same_address a a ≡ true
+one_address a =
+    and_from ((type_number a.ton == type_number a.ton) && (a.npi == a.npi)) (bytes_eq a.digits a.digits)
+    (and_from (type_number a.ton == type_number a.ton) (a.npi == a.npi) (eq-eqb (type_number a.ton) (type_number a.ton) refl) (eq-eqb a.npi a.npi refl))
+    ((bytes_eq-Decides a.digits a.digits).1 refl)
+
 pub one_group : (g : Group) → is_same_group g g ≡ true
 one_group g =
     let a : Address = g.source in
-    let address : is_same_address a a ≡ true =
-    and_from ((type_number a.ton == type_number a.ton) && (a.npi == a.npi)) (bytes_eq a.digits a.digits)
-    (and_from (type_number a.ton == type_number a.ton) (a.npi == a.npi) (eq-eqb (type_number a.ton) (type_number a.ton) refl) (eq-eqb a.npi a.npi refl))
-    ((bytes_eq-Decides a.digits a.digits).1 refl) in
+    let address = one_address a in
     and_from (is_same_address a a && is_same_reference g.reference g.reference) (g.total == g.total)
     (and_from (is_same_address a a) (is_same_reference g.reference g.reference) address (one_reference g.reference)) (eq-eqb g.total g.total refl)
 

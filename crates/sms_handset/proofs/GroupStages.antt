@@ -16,10 +16,12 @@ use Rattle.sms_concat.specs.declared.content.Content.{Content}
 use Rattle.sms_concat.specs.declared.content.Part.{Part as PartOf}
 use Rattle.sms_concat.specs.declared.split_error.SplitError.{SplitError}
 use Rattle.sms_concat.specs.Splitting.{split_of}
-use Rattle.sms_control.specs.declared.out.Up.{Up}
-use Rattle.sms_control.specs.declared.out.Up.TheVariants.{Unit as UnitUp, Failed as FailedUp}
-use Rattle.sms_control.specs.declared.transaction.TransactionFlag.TheVariants.{FromOriginator, ToOriginator}
-use Rattle.sms_control.specs.LinkStep.{Step, fire_step, take_step}
+use Rattle.sms_link.specs.Timers.{tram}
+use Rattle.sms_link.specs.declared.ending.Ending.{Ending}
+use Rattle.sms_link.specs.declared.ending.Ending.TheVariants.{Acknowledged as AcknowledgedEnd, Refused as RefusedEnd, Wrong as WrongEnd, Lost as LostEnd}
+use Rattle.sms_link.specs.declared.ending.Upward.{Upward}
+use Rattle.sms_link.specs.declared.ending.Upward.TheVariants.{Opened, Ended}
+use Rattle.sms_link.specs.LinkTurn.{Turn, fired, taken}
 use Rattle.sms_control.specs.Timers.{later as later_moment}
 use Rattle.sms_relay.specs.declared.fault.RelayFault.{RelayFault}
 use Rattle.sms_relay.specs.declared.frame.Rp.{Rp}
@@ -31,13 +33,11 @@ use Rattle.sms_tpdu.specs.declared.down.Down.{Down}
 use Rattle.sms_tpdu.specs.declared.down.Down.TheVariants.{Deliver, StatusReport, SubmitReport}
 use Rattle.sms_tpdu.specs.declared.fault.TpduFault.{TpduFault}
 use Rattle.sms_tpdu.specs.TpduReading.{down_at}
-use Rattle.sms_handset.specs.declared.answers.Verdict.{Verdict}
-use Rattle.sms_handset.specs.declared.answers.Verdict.TheVariants.{Acknowledged, Temporary, Duplicate, Refused, Lost}
 use Rattle.sms_handset.specs.declared.entry.Entry.{Entry}
 use Rattle.sms_handset.specs.declared.entry.Group.{Group}
 use Rattle.sms_handset.specs.declared.entry.Message.{Message}
 use Rattle.sms_handset.specs.declared.entry.Message.TheVariants.{Single, Part, Joined}
-use Rattle.sms_handset.specs.declared.mark.Mark.{Mark}
+use Rattle.sms_handset.specs.declared.discarded_group.DiscardedGroup.{DiscardedGroup}
 use Rattle.sms_handset.specs.declared.notice.Notice.{Notice}
 use Rattle.sms_handset.specs.declared.open_group.Regrouping.{Regrouping}
 use Rattle.sms_handset.specs.declared.open_group.Regrouping.TheVariants.{Unchanged, Opened, Closed}
@@ -46,15 +46,14 @@ use Rattle.sms_base.specs.declared.carried.Carried.{Carried}
 use Rattle.sms_handset.specs.declared.refusal.Refusal.{Refusal}
 use Rattle.sms_handset.specs.declared.refusal.Refusal.TheVariants.{NoEntry, StillOpen, OutboxFull, TooManyDiscarded}
 use Rattle.sms_handset.specs.declared.rows.Rows.{Rows}
-use Rattle.sms_handset.specs.Answers.{verdict_of}
-use Rattle.sms_handset.specs.Draft.{Core, Draft, draft_of, heard, put_entry, remove_entry, put_counters, put_mark, remove_mark, remove_out}
+use Rattle.sms_handset.specs.Draft.{Core, Draft, draft_of, link_of, put_entry, remove_entry, put_counters, put_mark, remove_mark, remove_out, with_turn}
 use Rattle.sms_handset.specs.GroupChanges.{data_groups, deliver_groups, frame_groups, member_groups, new_part_groups, part_groups, stored_groups, tpdu_groups, unit_groups, up_groups}
 use Rattle.sms_handset.specs.Groups.{all_numbers, alone, drop_all, ended, first_number, free_all, group_of, is_among, is_part_of, is_same_group, joined_content, joined_entry, keep, key_of, mark_of, marked, members, part_entry, part_numbers, single_entry, store_part, store_single}
-use Rattle.sms_handset.specs.HandsetEvent.{acted, at_moment, deleted, discarded, failed, frame_came, frame_heard, ticked, timers_fired, went_up, wrote}
-use Rattle.sms_handset.specs.Keys.{entry_key, last_key, out_key}
-use Rattle.sms_handset.specs.MemoryAvailable.{flag, freed, has_room, notice_concluded, notice_ended, notice_failed, tram, want_notice}
+use Rattle.sms_handset.specs.HandsetEvent.{acted, at_moment, deleted, discarded, frame_came, frame_heard, ticked, timed_out, timers_fired, went_up, wrote}
+use Rattle.sms_handset.specs.Keys.{entry_key, last_key, notice_key, out_key}
+use Rattle.sms_handset.specs.MemoryAvailable.{flag, freed, has_room, notice_concluded, notice_ended, notice_failed, put_notice, remove_notice, want_notice}
 use Rattle.sms_handset.specs.OpenGroups.{IsRegrouped, Numbered, Regroups, open_at, open_group}
-use Rattle.sms_handset.specs.Outbox.{conclude, entry_concluded, follow, holder_concluded, transfer_concluded}
+use Rattle.sms_handset.specs.Outbox.{entry_concluded, follow, holder_concluded}
 use Rattle.sms_handset.specs.OwnersActs.{content_of_text, count_split, delete, delete_in, delete_out, discard, discard_at, discard_group, discard_in, discard_members, fits_outbox, is_open_part, write, write_part, write_parts, write_split, write_to, written}
 use Rattle.sms_handset.specs.Planning.{Rests, RestsIfDone}
 use Rattle.sms_handset.specs.Receiving.{accept, acknowledge, data_came, deliver_came, is_double, member_came, new_part_came, no_room, note, part_came, reported, single_came, tpdu_came, unit_came}
@@ -345,12 +344,12 @@ member_regroups r tag tpdu g n d =
     both_cond (is_among n (part_numbers es)) (λ (q : Regrouping) (z : Draft). Regroups q d.rows z.rows) Unchanged (new_part_groups tpdu g n es d)
     (single_came r tag tpdu d) (new_part_came r tag tpdu g n es d) (λ t. single_came_regroups r tag tpdu d) (λ t. new_part_regroups r tag tpdu g n d)
 
-marked_regroups : (n : ℕ) (m : Mark) (d : Draft) → Regroups Unchanged d.rows (marked n m d).rows
+marked_regroups : (n : ℕ) (m : DiscardedGroup) (d : Draft) → Regroups Unchanged d.rows (marked n m d).rows
 marked_regroups n m d =
     cond_both (all_numbers m.group.total (m.seen ++ n ∷ [])) (remove_mark m.number d) (put_mark (record m { seen = m.seen ++ n ∷ [] }) d) (λ (z : Draft). Regroups Unchanged d.rows z.rows)
     (λ t. nothing d.rows) (λ t. nothing d.rows)
 
-part_came_regroups : (r : ℕ) (tag : Holder) (tpdu : List ℕ) (g : Group) (n : ℕ) (m : Option Mark) (d : Draft) → Regroups (part_groups tpdu g n m d) d.rows (part_came r tag tpdu g n m d).rows
+part_came_regroups : (r : ℕ) (tag : Holder) (tpdu : List ℕ) (g : Group) (n : ℕ) (m : Option DiscardedGroup) (d : Draft) → Regroups (part_groups tpdu g n m d) d.rows (part_came r tag tpdu g n m d).rows
 part_came_regroups r tag tpdu g n None d = member_regroups r tag tpdu g n d
 part_came_regroups r tag tpdu g n (Some m) d =
     cond_both (is_among n m.seen) (single_came r tag tpdu d) (accept r tag tpdu (marked n m d)) (λ (z : Draft). Regroups Unchanged d.rows z.rows)
@@ -388,61 +387,53 @@ unit_regroups tag unit (Err f) d = nothing d.rows
 
 notice_failed_regroups : (n : Notice) (d : Draft) → Regroups Unchanged d.rows (notice_failed n d).rows
 notice_failed_regroups n d =
-    cond_both n.is_second (record d { notice = None }) (record d { notice = Some (record n { is_second = true; due = Some (later_moment d.moment tram) }) }) (λ (z : Draft). Regroups Unchanged d.rows z.rows)
+    cond_both n.is_second (remove_notice n.number d) (put_notice (record n { is_second = true; due = Some (later_moment d.moment tram) }) d) (λ (z : Draft). Regroups Unchanged d.rows z.rows)
     (λ t. nothing d.rows) (λ t. nothing d.rows)
 
-notice_regroups : (v : Verdict) (n : Notice) (d : Draft) → Regroups Unchanged d.rows (notice_ended v n d).rows
-notice_regroups Acknowledged n d = nothing d.rows
-notice_regroups Temporary n d = notice_failed_regroups n d
-notice_regroups Duplicate n d = notice_failed_regroups n d
-notice_regroups Refused n d = notice_failed_regroups n d
-notice_regroups Lost n d = notice_failed_regroups n d
+notice_regroups : (e : Ending) (n : Notice) (d : Draft) → Regroups Unchanged d.rows (notice_ended e n d).rows
+notice_regroups AcknowledgedEnd n d = nothing d.rows
+notice_regroups (RefusedEnd cause tpdu) n d = notice_failed_regroups n d
+notice_regroups WrongEnd n d = notice_failed_regroups n d
+notice_regroups LostEnd n d = notice_failed_regroups n d
 
-notice_concluded_regroups : (u : Option (Result Rp RelayFault)) (n : Option Notice) (d : Draft) → Regroups Unchanged d.rows (notice_concluded u n d).rows
-notice_concluded_regroups u None d = nothing d.rows
-notice_concluded_regroups u (Some n) d = notice_regroups (verdict_of n.reference u) n d
+notice_concluded_regroups : (e : Ending) (n : Option Notice) (d : Draft) → Regroups Unchanged d.rows (notice_concluded e n d).rows
+notice_concluded_regroups e None d = nothing d.rows
+notice_concluded_regroups e (Some n) d = notice_regroups e n d
 
-entry_concluded_regroups : (u : Option (Result Rp RelayFault)) (o : Option OutEntry) (d : Draft) → Regroups Unchanged d.rows (entry_concluded u o d).rows
-entry_concluded_regroups u None d = nothing d.rows
-entry_concluded_regroups u (Some o) d = nothing d.rows
+entry_concluded_regroups : (e : Ending) (o : Option OutEntry) (d : Draft) → Regroups Unchanged d.rows (entry_concluded e o d).rows
+entry_concluded_regroups e None d = nothing d.rows
+entry_concluded_regroups e (Some o) d = nothing d.rows
 
-holder_concluded_regroups : (u : Option (Result Rp RelayFault)) (k : Holder) (d : Draft) → Regroups Unchanged d.rows (holder_concluded u k d).rows
-holder_concluded_regroups u (PartHolder i n) d = nothing d.rows
-holder_concluded_regroups u (Report i) d = nothing d.rows
-holder_concluded_regroups u (EntryHolder n) d = entry_concluded_regroups u (row_at out_key n d.rows.outbox) d
-holder_concluded_regroups u (Memory n) d = notice_concluded_regroups u d.notice d
+holder_concluded_regroups : (e : Ending) (k : Holder) (d : Draft) → Regroups Unchanged d.rows (holder_concluded e k d).rows
+holder_concluded_regroups e (PartHolder i n) d = nothing d.rows
+holder_concluded_regroups e (Report i) d = nothing d.rows
+holder_concluded_regroups e (EntryHolder n) d = entry_concluded_regroups e (row_at out_key n d.rows.outbox) d
+holder_concluded_regroups e (Memory n) d = notice_concluded_regroups e (row_at notice_key n d.notices) d
 
-transfer_regroups : (u : Option (Result Rp RelayFault)) (c : Option Carried) (d : Draft) → Regroups Unchanged d.rows (transfer_concluded u c d).rows
-transfer_regroups u None d = nothing d.rows
-transfer_regroups u (Some c) d = holder_concluded_regroups u c.tag d
-
-conclude_regroups : (u : Option (Result Rp RelayFault)) (d : Draft) → Regroups Unchanged d.rows (conclude u d).rows
-conclude_regroups u d = transfer_regroups u d.under_way (record d { under_way = None })
-
-went_up_regroups : (tag : Holder) (up : Option Up) (d : Draft) → Regroups (up_groups up d) d.rows (went_up tag up d).rows
+went_up_regroups : (tag : Holder) (up : Option Upward) (d : Draft) → Regroups (up_groups up d) d.rows (went_up tag up d).rows
 went_up_regroups tag None d = nothing d.rows
-went_up_regroups tag (Some (UnitUp FromOriginator unit)) d = unit_regroups tag unit (unit_at unit) d
-went_up_regroups tag (Some (UnitUp ToOriginator unit)) d = conclude_regroups (Some (unit_at unit)) d
-went_up_regroups tag (Some FailedUp) d = conclude_regroups None d
+went_up_regroups tag (Some (Opened unit)) d = unit_regroups tag unit (unit_at unit) d
+went_up_regroups tag (Some (Ended transfer ending)) d = holder_concluded_regroups ending transfer.tag d
 
-failed_regroups : (up : Option Up) (d : Draft) → Regroups Unchanged d.rows (failed up d).rows
-failed_regroups None d = nothing d.rows
-failed_regroups (Some (UnitUp flag unit)) d = nothing d.rows
-failed_regroups (Some FailedUp) d = conclude_regroups None d
+timed_out_regroups : (up : Option Upward) (d : Draft) → Regroups Unchanged d.rows (timed_out up d).rows
+timed_out_regroups None d = nothing d.rows
+timed_out_regroups (Some (Opened unit)) d = nothing d.rows
+timed_out_regroups (Some (Ended transfer ending)) d = holder_concluded_regroups ending transfer.tag d
 
 -- ---- frames and ticks
 
 pub frame_regroups : (octets : List ℕ) (tag : Holder) (c : Core)
-    → Regroups (frame_groups (take_step octets c.links) (draft_of c)) c.rows (frame_came octets tag c).rows
+    → Regroups (frame_groups (taken octets (link_of (draft_of c))) (draft_of c)) c.rows (frame_came octets tag c).rows
 frame_regroups octets tag c =
-    let step : Step = take_step octets c.links in
-    let d : Draft = heard step (draft_of c) in
-    follow_regroups (up_groups step.out.up d) c.rows (frame_heard tag step (draft_of c)) (went_up_regroups tag step.out.up d)
+    let turn : Turn = taken octets (link_of (draft_of c)) in
+    let d : Draft = with_turn turn (draft_of c) in
+    follow_regroups (up_groups turn.out.up d) c.rows (frame_heard tag turn (draft_of c)) (went_up_regroups tag turn.out.up d)
 
 pub tick_regroups : (now : ℕ) (c : Core) → Regroups Unchanged c.rows (ticked now c).rows
 tick_regroups now c =
-    let step : Step = fire_step (max c.moment now) c.links in
-    follow_regroups Unchanged c.rows (timers_fired step (at_moment now (draft_of c))) (failed_regroups step.out.up (heard step (at_moment now (draft_of c))))
+    let d : Draft = at_moment now (draft_of c) in
+    let turn : Turn = fired d.moment (link_of d) in
+    follow_regroups Unchanged c.rows (timers_fired turn d) (timed_out_regroups turn.out.up (with_turn turn d))
 
 -- ---- acts of the owner
 

@@ -4,6 +4,7 @@ pub mod CountedSlots
 pub mod FewNumbers
 pub mod FindingGroups
 pub mod FreeReferences
+pub mod HandsetLink
 pub mod GroupStages
 pub mod Indexing
 pub mod Judging
@@ -16,10 +17,12 @@ pub mod GroupMembers
 pub mod SoundEntries
 pub mod SoundGroups
 pub mod SoundMarks
+pub mod Soundness
 pub mod SoundReferences
 pub mod SoundOutbox
 pub mod SoundWriting
 pub mod SoundDrafts
+pub mod SoundRoom
 pub mod SoundReceiving
 pub mod SoundTransfers
 pub mod SoundActs

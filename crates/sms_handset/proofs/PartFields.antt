@@ -14,7 +14,7 @@ use Rattle.sms_concat.specs.declared.concat_key.ConcatKey.{ConcatKey}
 use Rattle.sms_concat.specs.declared.content.Part.{Part}
 use Rattle.sms_concat.specs.declared.content.UserData.{UserData}
 use Rattle.sms_concat.specs.UserData.{AreUnits, HasRoom, IsBody, IsPart, IsUserData, capacity, data_length, fill_bits, header_of, header_septets, is_there, key_element}
-use Rattle.sms_tpdu.specs.UserDataGrammar.{HasHeader, IsContentBehind, IsPackedBehind, greatest_length, header_octets, octets_of, fill_bits as fill_behind, header_septets as septets_of_header, IsUserData as AreFields, user_data_field}
+use Rattle.sms_tpdu.specs.UserDataGrammar.{HasHeader, IsContentBehind, IsPackedBehind, greatest_length, header_octets, octets_of, fill_behind, header_septets as septets_of_header, IsUserData as AreFields, user_data_field}
 use Rattle.sms_tpdu.specs.declared.user_data.UserData.{UserData as FieldsOf}
 use Rattle.sms_tpdu.specs.declared.submit.Submit.{Submit}
 use Rattle.sms_tpdu.specs.declared.validity_period.ValidityPeriod.{ValidityPeriod}

@@ -16,11 +16,13 @@ use Rattle.sms_concat.specs.declared.content.Content.{Content}
 use Rattle.sms_concat.specs.declared.content.Part.{Part as PartOf}
 use Rattle.sms_concat.specs.declared.split_error.SplitError.{SplitError}
 use Rattle.sms_concat.specs.Splitting.{split_of}
-use Rattle.sms_control.specs.declared.out.Up.{Up}
-use Rattle.sms_control.specs.declared.out.Up.TheVariants.{Unit as UnitUp, Failed as FailedUp}
-use Rattle.sms_control.specs.declared.transaction.TransactionFlag.{TransactionFlag}
-use Rattle.sms_control.specs.declared.transaction.TransactionFlag.TheVariants.{FromOriginator, ToOriginator}
-use Rattle.sms_control.specs.LinkStep.{Step, is_busy, take_step, fire_step}
+use Rattle.sms_link.specs.Timers.{tram}
+use Rattle.sms_link.specs.declared.ending.Ending.{Ending}
+use Rattle.sms_link.specs.declared.ending.Ending.TheVariants.{Acknowledged as AcknowledgedEnd, Refused as RefusedEnd, Wrong as WrongEnd, Lost as LostEnd}
+use Rattle.sms_link.specs.declared.ending.Upward.{Upward}
+use Rattle.sms_link.specs.declared.ending.Upward.TheVariants.{Opened, Ended}
+use Rattle.sms_link.specs.LinkTurn.{Turn, fired, taken}
+use Rattle.sms_control.specs.LinkStep.{is_busy}
 use Rattle.sms_relay.specs.declared.cause.RpCause.{RpCause}
 use Rattle.sms_relay.specs.declared.cause.RpCause.TheVariants.{InvalidMandatoryInformation}
 use Rattle.sms_relay.specs.declared.fault.RelayFault.{RelayFault}
@@ -33,15 +35,13 @@ use Rattle.sms_tpdu.specs.declared.down.Down.{Down}
 use Rattle.sms_tpdu.specs.declared.down.Down.TheVariants.{Deliver, StatusReport, SubmitReport}
 use Rattle.sms_tpdu.specs.declared.fault.TpduFault.{TpduFault}
 use Rattle.sms_tpdu.specs.TpduReading.{down_at}
-use Rattle.sms_handset.specs.declared.answers.Verdict.{Verdict}
-use Rattle.sms_handset.specs.declared.answers.Verdict.TheVariants.{Acknowledged, Temporary, Duplicate, Refused, Lost}
 use Rattle.sms_handset.specs.declared.counters.Counters.{Counters}
 use Rattle.sms_handset.specs.declared.entry.Entry.{Entry}
 use Rattle.sms_handset.specs.declared.entry.Group.{Group}
 use Rattle.sms_handset.specs.declared.entry.Message.{Message}
 use Rattle.sms_handset.specs.declared.entry.Message.TheVariants.{Single, Part, Joined}
-use Rattle.sms_handset.specs.declared.last.Last.{Last}
-use Rattle.sms_handset.specs.declared.mark.Mark.{Mark}
+use Rattle.sms_handset.specs.declared.last_accepted.LastAccepted.{LastAccepted}
+use Rattle.sms_handset.specs.declared.discarded_group.DiscardedGroup.{DiscardedGroup}
 use Rattle.sms_handset.specs.declared.notice.Notice.{Notice}
 use Rattle.sms_handset.specs.declared.out_entry.OutEntry.{OutEntry}
 use Rattle.sms_base.specs.declared.carried.Carried.{Carried}
@@ -49,12 +49,12 @@ use Rattle.sms_handset.specs.declared.refusal.Refusal.{Refusal}
 use Rattle.sms_handset.specs.declared.refusal.Refusal.TheVariants.{NoEntry, StillOpen, OutboxFull, TooManyDiscarded, TooManyParts, Destination}
 use Rattle.sms_handset.specs.declared.rows.Rows.{Rows}
 use Rattle.sms_handset.specs.Answers.{verdict_of}
-use Rattle.sms_handset.specs.Draft.{Core, Draft, draft_of, rows_after, put_entry, remove_entry, put_last, put_out, remove_out, put_mark, remove_mark, put_counters, heard}
+use Rattle.sms_handset.specs.Draft.{Core, Draft, draft_of, rows_after, put_entry, remove_entry, put_last, put_out, remove_out, put_mark, remove_mark, put_counters, link_of, with_turn}
 use Rattle.sms_handset.specs.Groups.{all_numbers, alone, completed, drop_all, ended, free_all, group_of, is_among, joined_content, joined_entry, key_of, mark_of, marked, members, part_entry, part_numbers, single_entry, store_part, store_single, first_number}
-use Rattle.sms_handset.specs.HandsetEvent.{acted, at_moment, deleted, discarded, failed, frame_came, frame_heard, ticked, timers_fired, unit_up, went_up, wrote}
-use Rattle.sms_handset.specs.Keys.{entry_key, last_key, out_key, mark_key}
-use Rattle.sms_handset.specs.MemoryAvailable.{first_notice, flag, freed, has_room, notice_concluded, notice_ended, notice_failed, send_notice, tram, want_notice}
-use Rattle.sms_handset.specs.Outbox.{conclude, entry_concluded, first_due, follow, holder_concluded, is_fired, is_sending, lapse, lapse_rows, lost, offer, offer_after, offer_entry, offer_message, offer_wanted, settled, transfer_concluded}
+use Rattle.sms_handset.specs.HandsetEvent.{acted, at_moment, deleted, discarded, frame_came, frame_heard, ticked, timed_out, timers_fired, went_up, wrote}
+use Rattle.sms_handset.specs.Keys.{entry_key, last_key, out_key, mark_key, notice_key}
+use Rattle.sms_handset.specs.MemoryAvailable.{first_notice, flag, freed, has_room, notice_concluded, notice_ended, notice_failed, send_notice, want_notice}
+use Rattle.sms_handset.specs.Outbox.{entry_concluded, first_due, first_fired, follow, holder_concluded, is_notice_next, is_sending, lapse, lapse_rows, lost, offer, offer_after, offer_entry, offer_message, offer_wanted, settled, transfer_ended}
 use Rattle.sms_handset.specs.OwnersActs.{content_of_text, count_split, delete, delete_in, delete_out, discard, discard_at, discard_group, discard_in, discard_members, fits_outbox, is_open_part, write, write_part, write_parts, write_split, write_to, write_with, written, written_entry}
 use Rattle.sms_handset.specs.Planning.{Rests, RestsIfDone}
 use Rattle.sms_handset.specs.Receiving.{accept, acknowledge, data_came, deliver_came, is_double, member_came, new_part_came, no_room, note, part_came, refuse, reported, single_came, tpdu_came, unit_came}
@@ -72,10 +72,10 @@ remove_entry_rests base n d h =
     ap (λ (r : Rows). record r { entries = without entry_key n r.entries }) h
     ∙ ap (λ (es : List Entry). record (rows_after d.changes base) { entries = es }) (sym (all_applied_push entry_key d.changes.entries (Remove n) base.entries))
 
-put_last_rests : (base : Rows) (l : Last) (d : Draft) → Rests base d → Rests base (put_last l d)
+put_last_rests : (base : Rows) (l : LastAccepted) (d : Draft) → Rests base d → Rests base (put_last l d)
 put_last_rests base l d h =
     ap (λ (r : Rows). record r { last = put last_key l r.last }) h
-    ∙ ap (λ (ls : List Last). record (rows_after d.changes base) { last = ls }) (sym (all_applied_push last_key d.changes.last (Put l) base.last))
+    ∙ ap (λ (ls : List LastAccepted). record (rows_after d.changes base) { last = ls }) (sym (all_applied_push last_key d.changes.last (Put l) base.last))
 
 put_out_rests : (base : Rows) (o : OutEntry) (d : Draft) → Rests base d → Rests base (put_out o d)
 put_out_rests base o d h =
@@ -87,15 +87,15 @@ remove_out_rests base n d h =
     ap (λ (r : Rows). record r { outbox = without out_key n r.outbox }) h
     ∙ ap (λ (os : List OutEntry). record (rows_after d.changes base) { outbox = os }) (sym (all_applied_push out_key d.changes.outbox (Remove n) base.outbox))
 
-put_mark_rests : (base : Rows) (m : Mark) (d : Draft) → Rests base d → Rests base (put_mark m d)
+put_mark_rests : (base : Rows) (m : DiscardedGroup) (d : Draft) → Rests base d → Rests base (put_mark m d)
 put_mark_rests base m d h =
     ap (λ (r : Rows). record r { marks = put mark_key m r.marks }) h
-    ∙ ap (λ (ms : List Mark). record (rows_after d.changes base) { marks = ms }) (sym (all_applied_push mark_key d.changes.marks (Put m) base.marks))
+    ∙ ap (λ (ms : List DiscardedGroup). record (rows_after d.changes base) { marks = ms }) (sym (all_applied_push mark_key d.changes.marks (Put m) base.marks))
 
 remove_mark_rests : (base : Rows) (n : ℕ) (d : Draft) → Rests base d → Rests base (remove_mark n d)
 remove_mark_rests base n d h =
     ap (λ (r : Rows). record r { marks = without mark_key n r.marks }) h
-    ∙ ap (λ (ms : List Mark). record (rows_after d.changes base) { marks = ms }) (sym (all_applied_push mark_key d.changes.marks (Remove n) base.marks))
+    ∙ ap (λ (ms : List DiscardedGroup). record (rows_after d.changes base) { marks = ms }) (sym (all_applied_push mark_key d.changes.marks (Remove n) base.marks))
 
 put_counters_rests : (base : Rows) (c : Counters) (d : Draft) → Rests base d → Rests base (put_counters c d)
 put_counters_rests base c d h = ap (λ (r : Rows). record r { counters = c }) h
@@ -134,7 +134,7 @@ store_part_rests base g n tpdu es d h =
     completed_rests base g (es ++ e ∷ []) (put_entry e (put_counters (counted d) d))
     (put_entry_rests base e (put_counters (counted d) d) (put_counters_rests base (counted d) d h))
 
-marked_rests : (base : Rows) (n : ℕ) (m : Mark) (d : Draft) → Rests base d → Rests base (marked n m d)
+marked_rests : (base : Rows) (n : ℕ) (m : DiscardedGroup) (d : Draft) → Rests base d → Rests base (marked n m d)
 marked_rests base n m d h =
     cond_both (all_numbers m.group.total (m.seen ++ n ∷ [])) (remove_mark m.number d) (put_mark (record m { seen = m.seen ++ n ∷ [] }) d) (λ (z : Draft). Rests base z)
     (λ t. remove_mark_rests base m.number d h) (λ t. put_mark_rests base (record m { seen = m.seen ++ n ∷ [] }) d h)
@@ -162,7 +162,7 @@ member_came_rests base r tag tpdu g n es d h =
     cond_both (is_among n (part_numbers es)) (single_came r tag tpdu d) (new_part_came r tag tpdu g n es d) (λ (z : Draft). Rests base z)
     (λ t. single_came_rests base r tag tpdu d h) (λ t. new_part_came_rests base r tag tpdu g n es d h)
 
-part_came_rests : (base : Rows) (r : ℕ) (tag : Holder) (tpdu : List ℕ) (g : Group) (n : ℕ) (m : Option Mark) (d : Draft) → Rests base d → Rests base (part_came r tag tpdu g n m d)
+part_came_rests : (base : Rows) (r : ℕ) (tag : Holder) (tpdu : List ℕ) (g : Group) (n : ℕ) (m : Option DiscardedGroup) (d : Draft) → Rests base d → Rests base (part_came r tag tpdu g n m d)
 part_came_rests base r tag tpdu g n None d h = member_came_rests base r tag tpdu g n (members g d.rows.entries) d h
 part_came_rests base r tag tpdu g n (Some m) d h =
     cond_both (is_among n m.seen) (single_came r tag tpdu d) (accept r tag tpdu (marked n m d)) (λ (z : Draft). Rests base z)
@@ -201,33 +201,25 @@ unit_came_rests base tag unit (Err f) d h = h
 notice_failed_rests : (base : Rows) (n : Notice) (d : Draft) → Rests base d → Rests base (notice_failed n d)
 notice_failed_rests base n d h = cond_both n.is_second _ _ (λ (z : Draft). Rests base z) (λ t. h) (λ t. h)
 
-notice_ended_rests : (base : Rows) (v : Verdict) (n : Notice) (d : Draft) → Rests base d → Rests base (notice_ended v n d)
-notice_ended_rests base Acknowledged n d h = h
-notice_ended_rests base Temporary n d h = notice_failed_rests base n d h
-notice_ended_rests base Duplicate n d h = notice_failed_rests base n d h
-notice_ended_rests base Refused n d h = notice_failed_rests base n d h
-notice_ended_rests base Lost n d h = notice_failed_rests base n d h
+notice_ended_rests : (base : Rows) (e : Ending) (n : Notice) (d : Draft) → Rests base d → Rests base (notice_ended e n d)
+notice_ended_rests base AcknowledgedEnd n d h = h
+notice_ended_rests base (RefusedEnd cause tpdu) n d h = notice_failed_rests base n d h
+notice_ended_rests base WrongEnd n d h = notice_failed_rests base n d h
+notice_ended_rests base LostEnd n d h = notice_failed_rests base n d h
 
-notice_concluded_rests : (base : Rows) (u : Option (Result Rp RelayFault)) (n : Option Notice) (d : Draft) → Rests base d → Rests base (notice_concluded u n d)
-notice_concluded_rests base u None d h = h
-notice_concluded_rests base u (Some n) d h = notice_ended_rests base (verdict_of n.reference u) n d h
+notice_concluded_rests : (base : Rows) (e : Ending) (n : Option Notice) (d : Draft) → Rests base d → Rests base (notice_concluded e n d)
+notice_concluded_rests base e None d h = h
+notice_concluded_rests base e (Some n) d h = notice_ended_rests base e n d h
 
-entry_concluded_rests : (base : Rows) (u : Option (Result Rp RelayFault)) (o : Option OutEntry) (d : Draft) → Rests base d → Rests base (entry_concluded u o d)
-entry_concluded_rests base u None d h = h
-entry_concluded_rests base u (Some o) d h = put_out_rests base (settled d.moment (verdict_of o.reference u) o) d h
+entry_concluded_rests : (base : Rows) (e : Ending) (o : Option OutEntry) (d : Draft) → Rests base d → Rests base (entry_concluded e o d)
+entry_concluded_rests base e None d h = h
+entry_concluded_rests base e (Some o) d h = put_out_rests base (settled d.moment (verdict_of e) o) d h
 
-holder_concluded_rests : (base : Rows) (u : Option (Result Rp RelayFault)) (k : Holder) (d : Draft) → Rests base d → Rests base (holder_concluded u k d)
-holder_concluded_rests base u (PartHolder i n) d h = h
-holder_concluded_rests base u (Report i) d h = h
-holder_concluded_rests base u (EntryHolder n) d h = entry_concluded_rests base u (row_at out_key n d.rows.outbox) d h
-holder_concluded_rests base u (Memory n) d h = notice_concluded_rests base u d.notice d h
-
-transfer_concluded_rests : (base : Rows) (u : Option (Result Rp RelayFault)) (c : Option Carried) (d : Draft) → Rests base d → Rests base (transfer_concluded u c d)
-transfer_concluded_rests base u None d h = h
-transfer_concluded_rests base u (Some c) d h = holder_concluded_rests base u c.tag d h
-
-conclude_rests : (base : Rows) (u : Option (Result Rp RelayFault)) (d : Draft) → Rests base d → Rests base (conclude u d)
-conclude_rests base u d h = transfer_concluded_rests base u d.under_way (record d { under_way = None }) h
+holder_concluded_rests : (base : Rows) (e : Ending) (k : Holder) (d : Draft) → Rests base d → Rests base (holder_concluded e k d)
+holder_concluded_rests base e (PartHolder i n) d h = h
+holder_concluded_rests base e (Report i) d h = h
+holder_concluded_rests base e (EntryHolder n) d h = entry_concluded_rests base e (row_at out_key n d.rows.outbox) d h
+holder_concluded_rests base e (Memory n) d h = notice_concluded_rests base e (row_at notice_key n d.notices) d h
 
 lapse_rows_rests : (base : Rows) (os : List OutEntry) (d : Draft) → Rests base d → Rests base (lapse_rows os d)
 lapse_rows_rests base [] d h = h
@@ -251,18 +243,18 @@ first_notice_rests base n r d h = put_counters_rests base (record d.rows.counter
 
 offer_wanted_rests : (base : Rows) (d : Draft) → Rests base d → Rests base (offer_wanted d)
 offer_wanted_rests base d h =
-    let r = next_free d.rows.counters.reference (held_references None d.rows.outbox) in
-    cond_both (nat_lt 0 d.wanted && nat_lt d.rows.counters.notice 4294967295)
-    (first_notice d.rows.counters.notice r d) (offer_message d) (λ (z : Draft). Rests base z)
+    let r = next_free d.rows.counters.reference (held_references d.notices d.rows.outbox) in
+    cond_both (is_notice_next d) (first_notice d.rows.counters.notice r d) (offer_message d) (λ (z : Draft). Rests base z)
     (λ t. first_notice_rests base d.rows.counters.notice r d h) (λ t. offer_message_rests base d h)
 
 offer_after_rests : (base : Rows) (n : Option Notice) (d : Draft) → Rests base d → Rests base (offer_after n d)
 offer_after_rests base None d h = offer_wanted_rests base d h
-offer_after_rests base (Some n) d h =
-    cond_both (is_fired d.moment n.due) (send_notice n d) (offer_message d) (λ (z : Draft). Rests base z) (λ t. h) (λ t. offer_message_rests base d h)
+offer_after_rests base (Some n) d h = h
 
 offer_rests : (base : Rows) (d : Draft) → Rests base d → Rests base (offer d)
-offer_rests base d h = cond_both (is_busy d.links) d (offer_after d.notice d) (λ (z : Draft). Rests base z) (λ t. h) (λ t. offer_after_rests base d.notice d h)
+offer_rests base d h =
+    cond_both (is_busy d.links) d (offer_after (first_fired d.moment d.notices) d) (λ (z : Draft). Rests base z)
+    (λ t. h) (λ t. offer_after_rests base (first_fired d.moment d.notices) d h)
 
 follow_rests : (base : Rows) (d : Draft) → Rests base d → Rests base (follow d)
 follow_rests base d h = offer_rests base (lapse d) (lapse_rests base d h)
@@ -329,26 +321,26 @@ discard_at_rests base n (Some e) d h = discard_in_rests base n e.message d h
 
 -- ---- events
 
-went_up_rests : (base : Rows) (tag : Holder) (up : Option Up) (d : Draft) → Rests base d → Rests base (went_up tag up d)
+went_up_rests : (base : Rows) (tag : Holder) (up : Option Upward) (d : Draft) → Rests base d → Rests base (went_up tag up d)
 went_up_rests base tag None d h = h
-went_up_rests base tag (Some (UnitUp FromOriginator unit)) d h = unit_came_rests base tag unit (unit_at unit) d h
-went_up_rests base tag (Some (UnitUp ToOriginator unit)) d h = conclude_rests base (Some (unit_at unit)) d h
-went_up_rests base tag (Some FailedUp) d h = conclude_rests base None d h
+went_up_rests base tag (Some (Opened unit)) d h = unit_came_rests base tag unit (unit_at unit) d h
+went_up_rests base tag (Some (Ended transfer ending)) d h = holder_concluded_rests base ending transfer.tag d h
 
-failed_rests : (base : Rows) (up : Option Up) (d : Draft) → Rests base d → Rests base (failed up d)
-failed_rests base None d h = h
-failed_rests base (Some (UnitUp flag unit)) d h = h
-failed_rests base (Some FailedUp) d h = conclude_rests base None d h
+timed_out_rests : (base : Rows) (up : Option Upward) (d : Draft) → Rests base d → Rests base (timed_out up d)
+timed_out_rests base None d h = h
+timed_out_rests base (Some (Opened unit)) d h = h
+timed_out_rests base (Some (Ended transfer ending)) d h = holder_concluded_rests base ending transfer.tag d h
 
 pub frame_rests : (octets : List ℕ) (tag : Holder) (c : Core) → Rests c.rows (frame_came octets tag c)
 frame_rests octets tag c =
-    let step : Step = take_step octets c.links in
-    follow_rests c.rows (frame_heard tag step (draft_of c)) (went_up_rests c.rows tag step.out.up (heard step (draft_of c)) refl)
+    let turn : Turn = taken octets (link_of (draft_of c)) in
+    follow_rests c.rows (frame_heard tag turn (draft_of c)) (went_up_rests c.rows tag turn.out.up (with_turn turn (draft_of c)) refl)
 
 pub tick_rests : (now : ℕ) (c : Core) → Rests c.rows (ticked now c)
 tick_rests now c =
-    let step : Step = fire_step (max c.moment now) c.links in
-    follow_rests c.rows (timers_fired step (at_moment now (draft_of c))) (failed_rests c.rows step.out.up (heard step (at_moment now (draft_of c))) refl)
+    let d : Draft = at_moment now (draft_of c) in
+    let turn : Turn = fired d.moment (link_of d) in
+    follow_rests c.rows (timers_fired turn d) (timed_out_rests c.rows turn.out.up (with_turn turn d) refl)
 
 pub write_rests : (text to : List ℕ) (report : Bool) (c : Core) → RestsIfDone c.rows (wrote text to report c)
 write_rests text to report c =

@@ -1,5 +1,5 @@
 -- What the owner does leaves a sound handset sound.
-use Rattle.std.proofs.Common.{◌≡◌, ℕ, ◌+◌, ◌%◌, ◌<◌, ◌≤◌, arith, List, [], ◌∷◌, length, Bool, true, false, cond, Option, Some, None, Result, Ok, Err, refl, sym, ◌∙◌, ap, subst}
+use Rattle.std.proofs.Common.{◌≡◌, ℕ, suc, ◌+◌, ◌%◌, ◌<◌, ◌≤◌, arith, List, [], ◌∷◌, length, Bool, true, false, cond, Option, Some, None, Result, Ok, Err, refl, sym, ◌∙◌, ap, subst}
 use Rattle.std.specs.Prelude.{◌==◌, nat_le, nat_lt}
 use Rattle.std.specs.List.{AllByRecursion}
 use Rattle.std.proofs.lemmas.Bool.{cond_both, leb-true, ltb-true, or_parts}
@@ -7,7 +7,7 @@ use Rattle.sms_base.specs.Among.{Among}
 use Rattle.sms_base.specs.Address.{IsAddress, address_of}
 use Rattle.sms_table.specs.Table.{put, row_at, without}
 use Rattle.sms_base.proofs.Addresses.{address_found}
-use Rattle.sms_table.proofs.Tables.{found_among, found_key, length_put}
+use Rattle.sms_table.proofs.Tables.{found_among, found_key, length_put, length_without}
 use Rattle.sms_base.specs.declared.address.Address.{Address}
 use Rattle.sms_base.specs.declared.address_error.AddressError.{AddressError}
 use Rattle.sms_concat.specs.declared.content.Part.{Part as PartOf}
@@ -18,7 +18,7 @@ use Rattle.sms_handset.specs.declared.entry.Entry.{Entry}
 use Rattle.sms_handset.specs.declared.entry.Group.{Group}
 use Rattle.sms_handset.specs.declared.entry.Message.{Message}
 use Rattle.sms_handset.specs.declared.entry.Message.TheVariants.{Single, Part, Joined}
-use Rattle.sms_handset.specs.declared.mark.Mark.{Mark}
+use Rattle.sms_handset.specs.declared.discarded_group.DiscardedGroup.{DiscardedGroup}
 use Rattle.sms_handset.specs.declared.notice.Notice.{Notice}
 use Rattle.sms_handset.specs.declared.out_entry.OutEntry.{OutEntry}
 use Rattle.sms_handset.specs.declared.refusal.Refusal.{Refusal}
@@ -40,6 +40,7 @@ use Rattle.sms_handset.proofs.SoundMarks.{IsKept, mark_new, new_none}
 use Rattle.sms_handset.proofs.SoundOutbox.{IsSoundOut, added, deleted_out, held_entries, held_few, held_messages, sending_put, sending_stays}
 use Rattle.sms_handset.proofs.SoundReceiving.{dropped_only, same_under_way}
 use Rattle.sms_handset.proofs.SoundReferences.{next_is_free}
+use Rattle.sms_handset.proofs.SoundRoom.{length_left}
 use Rattle.sms_handset.proofs.SoundWriting.{IsWritable, split_is_writable, written_is_submitted}
 
 abbrev pub SoundIfDone : Result Draft Refusal → Type 0
@@ -54,20 +55,23 @@ few_messages os = subst (λ (l : List ℕ). length l ≤ length os) (sym (held_m
 few_entries : (os : List OutEntry) → length (held_by_entries os) ≤ length os
 few_entries os = subst (λ (l : List ℕ). length l ≤ length os) (sym (held_entries os)) (held_few (λ (o : OutEntry). o.reference) os)
 
-pub few_references : (n : Option Notice) (os : List OutEntry) → length (held_references n os) ≤ length os + 1
-few_references None os = omega (arith, few_entries os)
-few_references (Some n) os = omega (arith, few_entries os)
+notices_hold : (ns : List Notice) (os : List OutEntry) → length (held_references ns os) ≡ length ns + length (held_by_entries os)
+notices_hold [] os = omega arith
+notices_hold (n ∷ ns) os = omega (arith, notices_hold ns os)
 
-pub not_by_entries : (n : Option Notice) (os : List OutEntry) (r : ℕ) → is_among r (held_references n os) ≡ false → is_among r (held_by_entries os) ≡ false
-not_by_entries None os r e = e
-not_by_entries (Some n) os r e = (or_parts (n.reference == r) (is_among r (held_by_entries os)) e).1
+pub few_references : (ns : List Notice) (os : List OutEntry) → length (held_references ns os) ≤ length os + length ns
+few_references ns os = omega (arith, few_entries os, notices_hold ns os)
+
+pub not_by_entries : (ns : List Notice) (os : List OutEntry) (r : ℕ) → is_among r (held_references ns os) ≡ false → is_among r (held_by_entries os) ≡ false
+not_by_entries [] os r e = e
+not_by_entries (n ∷ ns) os r e = not_by_entries ns os r (or_parts (n.reference == r) (is_among r (held_references ns os)) e).1
 
 -- a new number is no entry's that is under way
-sending_below : (k n : ℕ) (w : OutEntry) (os : List OutEntry) → w.number ≡ k → ((o : OutEntry) → Among o os → o.number < k) → IsSendingEntry n os → IsSendingEntry n (put out_key w os)
-sending_below k n w os e b h =
+sending_below : (k r n : ℕ) (w : OutEntry) (os : List OutEntry) → w.number ≡ k → ((o : OutEntry) → Among o os → o.number < k) → IsSendingEntry r n os → IsSendingEntry r n (put out_key w os)
+sending_below k r n w os e b h =
     let l = b h.0 (found_among out_key n h.0 os h.1.0) in
     let q : h.0.number ≡ n = found_key out_key n h.0 os h.1.0 in
-    sending_put n w os (λ f. absurd (omega arith)) h
+    sending_put r n w os (λ f. absurd (omega arith)) h
 
 pub write_part_sound : (to : Address) (report is_long : Bool) (p : PartOf) (d : Draft) → IsAddress to → IsWritable p → length d.rows.outbox < 20 → SoundAt d → SoundAt (write_part to report is_long p d)
 write_part_sound to report is_long p d a i room s =
@@ -75,36 +79,37 @@ write_part_sound to report is_long p d a i room s =
     let es = d.rows.entries in
     let os = d.rows.outbox in
     let m = next_free d.rows.counters.message_reference (held_message_references os) in
-    let r = next_free d.rows.counters.reference (held_references d.notice os) in
+    let r = next_free d.rows.counters.reference (held_references d.notices os) in
     let c : Counters = record d.rows.counters { entry = k + 1; message_reference = (m + 1) % 256; reference = (r + 1) % 256 } in
     let w : OutEntry = written_entry k m r to report is_long p in
     let more : k ≤ k + 1 = omega arith in
-    let s1 = counters_move d.rows d.under_way d.is_recovered c more s in
+    let s1 = counters_move d.rows d.under_way d.is_recovered d.notices c more s in
     let few1 = few_messages os in
-    let few2 = few_references d.notice os in
+    let few2 = few_references d.notices os in
+    let few3 = s.few_notices in
     let free : is_among m (held_message_references os) ≡ false = next_is_free d.rows.counters.message_reference (held_message_references os) (omega arith) in
-    let free_too : is_among r (held_by_entries os) ≡ false = not_by_entries d.notice os r (next_is_free d.rows.counters.reference (held_references d.notice os) (omega arith)) in
+    let free_too : is_among r (held_by_entries os) ≡ false = not_by_entries d.notices os r (next_is_free d.rows.counters.reference (held_references d.notices os) (omega arith)) in
     let given : IsGiven (k + 1) k = (s.counted, omega arith) in
     let out : IsSoundOut (k + 1) es w =
     (given, is_apart k es (new_apart k es d.rows.marks s.inbox), written_is_submitted k m r to report is_long p a i.0 i.1, (let l : 0 < 3 = omega arith in l)) in
-    outbox_moves (record d.rows { counters = c }) d.under_way d.under_way d.is_recovered d.is_recovered (put out_key w os)
+    outbox_moves (record d.rows { counters = c }) d.under_way d.under_way d.is_recovered d.is_recovered d.notices (put out_key w os)
     (added (k + 1) es os w out free free_too room s1.outbox) s.recovered
-    (same_under_way d.under_way os (put out_key w os) (λ n h. sending_below k n w os refl (λ o b. (s.outbox.each o b).0.1) h) s.under_way) s1
+    (same_under_way d.under_way os (put out_key w os) (λ r n h. sending_below k r n w os refl (λ o b. (s.outbox.each o b).0.1) h) s.under_way) s1
 
-write_parts_sound : (to : Address) (report is_long : Bool) (ps : List PartOf) (d : Draft) → IsAddress to → AllByRecursion (λ (p : PartOf). IsWritable p) ps → length d.rows.outbox + length ps ≤ 20
+pub write_parts_sound : (to : Address) (report is_long : Bool) (ps : List PartOf) (d : Draft) → IsAddress to → AllByRecursion (λ (p : PartOf). IsWritable p) ps → length d.rows.outbox + length ps ≤ 20
     → SoundAt d → SoundAt (write_parts to report is_long ps d)
 write_parts_sound to report is_long [] d a i room s = s
 write_parts_sound to report is_long (p ∷ ps) d a i room s =
     let e : Draft = write_part to report is_long p d in
     let m = next_free d.rows.counters.message_reference (held_message_references d.rows.outbox) in
-    let r = next_free d.rows.counters.reference (held_references d.notice d.rows.outbox) in
+    let r = next_free d.rows.counters.reference (held_references d.notices d.rows.outbox) in
     let l : length e.rows.outbox ≤ length d.rows.outbox + 1 = length_put out_key (written_entry d.rows.counters.entry m r to report is_long p) d.rows.outbox in
     write_parts_sound to report is_long ps e a i.1 (omega arith) (write_part_sound to report is_long p d a i.0 (omega arith) s)
 
 pub count_split_sound : (is_long : Bool) (d : Draft) → SoundAt d → SoundAt (count_split is_long d)
 count_split_sound false d s = s
 count_split_sound true d s =
-    counters_move d.rows d.under_way d.is_recovered (record d.rows.counters { concat_reference = (d.rows.counters.concat_reference + 1) % 65536 })
+    counters_move d.rows d.under_way d.is_recovered d.notices (record d.rows.counters { concat_reference = (d.rows.counters.concat_reference + 1) % 65536 })
     (let l : d.rows.counters.entry ≤ d.rows.counters.entry = omega arith in l) s
 
 pub count_split_outbox : (is_long : Bool) (d : Draft) → (count_split is_long d).rows.outbox ≡ d.rows.outbox
@@ -115,7 +120,7 @@ pub first_test : (a b : Bool) → cond a b false ≡ true → a ≡ true
 first_test true b e = refl
 first_test false b e = e
 
-write_to_sound : (report : Bool) (ps : List PartOf) (text : List ℕ) (to : Result Address AddressError) (d : Draft) → address_of 1 1 text ≡ to → AllByRecursion (λ (p : PartOf). IsWritable p) ps
+pub write_to_sound : (report : Bool) (ps : List PartOf) (text : List ℕ) (to : Result Address AddressError) (d : Draft) → address_of 1 1 text ≡ to → AllByRecursion (λ (p : PartOf). IsWritable p) ps
     → SoundAt d → SoundIfDone (write_to report ps to d)
 write_to_sound report ps text (Err f) d q i s = tt
 write_to_sound report ps text (Ok to) d q i s =
@@ -127,7 +132,7 @@ write_to_sound report ps text (Ok to) d q i s =
     write_parts_sound to report is_long ps (count_split is_long d) (address_found 1 1 text to q).valid i room (count_split_sound is_long d s))
     (λ t. tt)
 
-write_split_sound : (text to : List ℕ) (report : Bool) (reference : ℕ) (ps : Result (List PartOf) SplitError) (d : Draft) → split_of (content_of_text text) reference ≡ ps
+pub write_split_sound : (text to : List ℕ) (report : Bool) (reference : ℕ) (ps : Result (List PartOf) SplitError) (d : Draft) → split_of (content_of_text text) reference ≡ ps
     → SoundAt d → SoundIfDone (write_split to report ps d)
 write_split_sound text to report reference (Err f) d q s = tt
 write_split_sound text to report reference (Ok ps) d q s = write_to_sound report ps to (address_of 1 1 to) d refl (split_is_writable text reference ps q) s
@@ -137,37 +142,37 @@ write_sound text to report d s = write_split_sound text to report d.rows.counter
 
 -- ---- deleting
 
-freed_sound : (d : Draft) → SoundAt d → SoundAt (freed d)
+pub freed_sound : (d : Draft) → SoundAt d → SoundAt (freed d)
 freed_sound d s =
     cond_both d.rows.counters.is_memory_full (want_notice (put_counters (record d.rows.counters { is_memory_full = false }) d)) d (λ (z : Draft). SoundAt z)
-    (λ t. counters_move d.rows d.under_way d.is_recovered (record d.rows.counters { is_memory_full = false }) (let l : d.rows.counters.entry ≤ d.rows.counters.entry = omega arith in l) s)
+    (λ t. counters_move d.rows d.under_way d.is_recovered d.notices (record d.rows.counters { is_memory_full = false }) (let l : d.rows.counters.entry ≤ d.rows.counters.entry = omega arith in l) s)
     (λ t. s)
 
-delete_out_sound : (n : ℕ) (o : Option OutEntry) (d : Draft) → row_at out_key n d.rows.outbox ≡ o → SoundAt d → SoundIfDone (delete_out n o d)
+pub delete_out_sound : (n : ℕ) (o : Option OutEntry) (d : Draft) → row_at out_key n d.rows.outbox ≡ o → SoundAt d → SoundIfDone (delete_out n o d)
 delete_out_sound n None d q s = tt
 delete_out_sound n (Some o) d q s =
     let os = d.rows.outbox in
     cond_both (is_unfinished o.state) (Err StillOpen) (Ok (remove_out n d)) (λ (z : Result Draft Refusal). SoundIfDone z) (λ t. tt)
     (λ t.
-    outbox_moves d.rows d.under_way d.under_way d.is_recovered d.is_recovered (without out_key n os) (deleted_out d.rows.counters.entry n d.rows.entries os s.outbox) s.recovered
-    (same_under_way d.under_way os (without out_key n os) (λ m h. sending_stays m n o os q t h) s.under_way) s)
+    outbox_moves d.rows d.under_way d.under_way d.is_recovered d.is_recovered d.notices (without out_key n os) (deleted_out d.rows.counters.entry n d.rows.entries os s.outbox) s.recovered
+    (same_under_way d.under_way os (without out_key n os) (λ r m h. sending_stays r m n o os q t h) s.under_way) s)
 
-delete_in_sound : (n : ℕ) (x : Option Entry) (d : Draft) → row_at entry_key n d.rows.entries ≡ x → SoundAt d → SoundIfDone (delete_in n x d)
+pub delete_in_sound : (n : ℕ) (x : Option Entry) (d : Draft) → row_at entry_key n d.rows.entries ≡ x → SoundAt d → SoundIfDone (delete_in n x d)
 delete_in_sound n None d q s = delete_out_sound n (row_at out_key n d.rows.outbox) d refl s
 delete_in_sound n (Some x) d q s =
     let k = d.rows.counters.entry in
     let es = d.rows.entries in
     cond_both (is_open_part x.message) (Err StillOpen) (Ok (freed (remove_entry n d))) (λ (z : Result Draft Refusal). SoundIfDone z) (λ t. tt)
     (λ t. freed_sound (remove_entry n d)
-    (entries_move d.rows d.under_way d.is_recovered d.rows.counters (without entry_key n es) (let l : k ≤ k = omega arith in l)
-    (removed k n x es d.rows.marks q t s.inbox) (without_free k n es) s))
+    (entries_move d.rows d.under_way d.is_recovered d.notices d.rows.counters (without entry_key n es) (let l : k ≤ k = omega arith in l)
+    (let p = length_without entry_key n es in let f = s.few_stored in omega arith) (removed k n x es d.rows.marks q t s.inbox) (without_free k n es) s))
 
 pub delete_sound : (n : ℕ) (d : Draft) → SoundAt d → SoundIfDone (delete n d)
 delete_sound n d s = delete_in_sound n (row_at entry_key n d.rows.entries) d refl s
 
 -- ---- discarding
 
-discard_group_sound : (n : ℕ) (g : Group) (x : Entry) (d : Draft) → Among x (members g d.rows.entries) → Among x d.rows.entries → x.number ≡ n → length d.rows.marks < 64
+pub discard_group_sound : (n : ℕ) (g : Group) (x : Entry) (d : Draft) → Among x (members g d.rows.entries) → Among x d.rows.entries → x.number ≡ n → length d.rows.marks < 64
     → SoundAt d → SoundAt (discard_group n g (members g d.rows.entries) d)
 discard_group_sound n g x d a b e few s =
     let k = d.rows.counters.entry in
@@ -175,18 +180,18 @@ discard_group_sound n g x d a b e few s =
     let ms = d.rows.marks in
     let xs = members g es in
     let fs = all_without xs es in
-    let w : Mark = record { number = n; group = g; seen = part_numbers xs } in
+    let w : DiscardedGroup = record { number = n; group = g; seen = part_numbers xs } in
     let o = dropped_only xs d in
     let open_group = s.inbox.groups g x a in
     let given : IsGiven k n = subst (λ (m : ℕ). IsGiven k m) e (s.inbox.each x b).0 in
     let kept : IsKept k fs w = (given, subst (λ (m : ℕ). row_at entry_key m fs ≡ None) e (is_apart x.number fs (number_free x xs es a)), open_group.once, open_group.open_yet) in
     freed_sound (put_mark w (drop_all xs d))
     (sound_as d (put_mark w (drop_all xs d)) (record d.rows { entries = fs; marks = put mark_key w ms })
-    (ap (λ (r : Rows). record r { marks = put mark_key w r.marks }) o.rows) o.under_way o.recovered
-    (group_moves d.rows d.under_way d.is_recovered fs (put mark_key w ms) (group_leaves k g es ms (put mark_key w ms) (λ h ne f. new_none w ms h ne f) s.inbox) (left_free k xs es)
+    (ap (λ (r : Rows). record r { marks = put mark_key w r.marks }) o.rows) o.under_way o.recovered o.notices
+    (group_moves d.rows d.under_way d.is_recovered d.notices fs (put mark_key w ms) (let p = length_left xs es in let f = s.few_stored in omega arith) (group_leaves k g es ms (put mark_key w ms) (λ h ne f. new_none w ms h ne f) s.inbox) (left_free k xs es)
     (λ z. mark_new k w fs ms kept open_group.kept few z) s))
 
-discard_members_sound : (n : ℕ) (g : Group) (x : Entry) (d : Draft) → Among x (members g d.rows.entries) → Among x d.rows.entries → x.number ≡ n
+pub discard_members_sound : (n : ℕ) (g : Group) (x : Entry) (d : Draft) → Among x (members g d.rows.entries) → Among x d.rows.entries → x.number ≡ n
     → SoundAt d → SoundIfDone (discard_members n g (members g d.rows.entries) d)
 discard_members_sound n g x d a b e s =
     let xs = members g d.rows.entries in
@@ -195,14 +200,14 @@ discard_members_sound n g x d a b e s =
     (λ u. discard_group_sound n g x d a b e (ltb-true (length d.rows.marks) 64 u) s) (λ u. tt))
     (λ t. tt)
 
-discard_in_sound : (n : ℕ) (x : Entry) (m : Message) (d : Draft) → x.message ≡ m → row_at entry_key n d.rows.entries ≡ Some x → SoundAt d → SoundIfDone (discard_in n m d)
+pub discard_in_sound : (n : ℕ) (x : Entry) (m : Message) (d : Draft) → x.message ≡ m → row_at entry_key n d.rows.entries ≡ Some x → SoundAt d → SoundIfDone (discard_in n m d)
 discard_in_sound n x (Single tpdu) d q r s = tt
 discard_in_sound n x (Part g k tpdu) d q r s =
     let b = found_among entry_key n x d.rows.entries r in
     discard_members_sound n g x d (among_members g x d.rows.entries b (ap (λ (m : Message). is_part_of g m) q ∙ one_group g)) b (found_key entry_key n x d.rows.entries r) s
 discard_in_sound n x (Joined source content) d q r s = tt
 
-discard_at_sound : (n : ℕ) (o : Option Entry) (d : Draft) → row_at entry_key n d.rows.entries ≡ o → SoundAt d → SoundIfDone (discard_at n o d)
+pub discard_at_sound : (n : ℕ) (o : Option Entry) (d : Draft) → row_at entry_key n d.rows.entries ≡ o → SoundAt d → SoundIfDone (discard_at n o d)
 discard_at_sound n None d r s = tt
 discard_at_sound n (Some x) d r s = discard_in_sound n x x.message d refl r s
 

@@ -10,7 +10,7 @@ use Rattle.sms_handset.specs.declared.entry.Entry.{Entry}
 use Rattle.sms_handset.specs.declared.entry.Group.{Group}
 use Rattle.sms_handset.specs.declared.entry.Message.{Message}
 use Rattle.sms_handset.specs.declared.entry.Message.TheVariants.{Single, Part, Joined}
-use Rattle.sms_handset.specs.declared.mark.Mark.{Mark}
+use Rattle.sms_handset.specs.declared.discarded_group.DiscardedGroup.{DiscardedGroup}
 use Rattle.sms_handset.specs.Groups.{all_numbers, is_among, is_part_of, mark_of, members, part_numbers}
 use Rattle.sms_handset.specs.Keys.{entry_key}
 use Rattle.sms_handset.specs.OwnersActs.{is_open_part}
@@ -69,12 +69,12 @@ StaysFree k es fs = (n : ℕ) → n < k → NoEntry n es → NoEntry n fs
 abbrev pub IsStored : ℕ → Entry → Type 0
 IsStored k e = IsGiven k e.number × IsMessage e.slots e.message
 
-pub record Inbox (k : ℕ) (es : List Entry) (ms : List Mark) : Type 0 where
+pub record Inbox (k : ℕ) (es : List Entry) (ms : List DiscardedGroup) : Type 0 where
   pub order : Rises entry_key es
   pub each : (e : Entry) → Among e es → IsStored k e
   pub groups : (g : Group) (x : Entry) → Among x (members g es) → IsOpenGroup es ms g
 
-pub inbox_from : (k : ℕ) (es : List Entry) (ms : List Mark) → Rises entry_key es → AreEntries k es → AreOpenGroups es ms → Inbox k es ms
+pub inbox_from : (k : ℕ) (es : List Entry) (ms : List DiscardedGroup) → Rises entry_key es → AreEntries k es → AreOpenGroups es ms → Inbox k es ms
 inbox_from k es ms r a o = record {
   order = r;
   each = all_at (λ (e : Entry). IsGiven k e.number × IsMessage e.slots e.message) es a;
@@ -84,10 +84,10 @@ inbox_from k es ms r a o = record {
       subst (λ (z : Message). IsOfOpenGroup es ms z) p.2 (all_at (λ (e : Entry). IsOfOpenGroup es ms e.message) es o x s.0);
 }
 
-pub entries_are : (k : ℕ) (es : List Entry) (ms : List Mark) → Inbox k es ms → AreEntries k es
+pub entries_are : (k : ℕ) (es : List Entry) (ms : List DiscardedGroup) → Inbox k es ms → AreEntries k es
 entries_are k es ms h = all_from (λ (e : Entry). IsGiven k e.number × IsMessage e.slots e.message) es h.each
 
-pub groups_are : (k : ℕ) (es : List Entry) (ms : List Mark) → Inbox k es ms → AreOpenGroups es ms
+pub groups_are : (k : ℕ) (es : List Entry) (ms : List DiscardedGroup) → Inbox k es ms → AreOpenGroups es ms
 groups_are k es ms h = all_from (λ (e : Entry). IsOfOpenGroup es ms e.message) es (λ e a. of_group e e.message a refl)
   where
     of_group : (e : Entry) (m : Message) → Among e es → e.message ≡ m → IsOfOpenGroup es ms m
@@ -98,7 +98,7 @@ groups_are k es ms h = all_from (λ (e : Entry). IsOfOpenGroup es ms e.message) 
 stored_more : (k m : ℕ) (e : Entry) → k ≤ m → IsStored k e → IsStored m e
 stored_more k m e l s = ((s.0.0, omega (arith, s.0.1)), s.1)
 
-pub open_as : (g : Group) (es fs : List Entry) (ms ns : List Mark) → members g fs ≡ members g es → mark_of g ns ≡ None → IsOpenGroup es ms g → IsOpenGroup fs ns g
+pub open_as : (g : Group) (es fs : List Entry) (ms ns : List DiscardedGroup) → members g fs ≡ members g es → mark_of g ns ≡ None → IsOpenGroup es ms g → IsOpenGroup fs ns g
 open_as g es fs ms ns e k h = record {
   once = subst (λ (l : List Entry). Differ (part_numbers l)) (sym e) h.once;
   open_yet = ap (λ (l : List Entry). all_numbers g.total (part_numbers l)) e ∙ h.open_yet;
@@ -106,7 +106,7 @@ open_as g es fs ms ns e k h = record {
 }
 
 -- entries among which each group keeps its members
-same_groups : (k m : ℕ) (es fs : List Entry) (ms : List Mark) → Rises entry_key fs → ((e : Entry) → Among e fs → IsStored m e)
+same_groups : (k m : ℕ) (es fs : List Entry) (ms : List DiscardedGroup) → Rises entry_key fs → ((e : Entry) → Among e fs → IsStored m e)
     → ((g : Group) → members g fs ≡ members g es) → Inbox k es ms → Inbox m fs ms
 same_groups k m es fs ms r s e h = record {
   order = r;
@@ -117,11 +117,11 @@ same_groups k m es fs ms r s e h = record {
 }
 
 -- more numbers were given
-pub inbox_more : (k m : ℕ) (es : List Entry) (ms : List Mark) → k ≤ m → Inbox k es ms → Inbox m es ms
+pub inbox_more : (k m : ℕ) (es : List Entry) (ms : List DiscardedGroup) → k ≤ m → Inbox k es ms → Inbox m es ms
 inbox_more k m es ms l h = same_groups k m es es ms h.order (λ e a. stored_more k m e l (h.each e a)) (λ g. refl) h
 
 -- no group that is open was discarded since
-pub inbox_marks : (k : ℕ) (es : List Entry) (ms ns : List Mark) → ((g : Group) → mark_of g ms ≡ None → mark_of g ns ≡ None) → Inbox k es ms → Inbox k es ns
+pub inbox_marks : (k : ℕ) (es : List Entry) (ms ns : List DiscardedGroup) → ((g : Group) → mark_of g ms ≡ None → mark_of g ns ≡ None) → Inbox k es ms → Inbox k es ns
 inbox_marks k es ms ns f h = record {
   order = h.order;
   each = h.each;
@@ -129,7 +129,7 @@ inbox_marks k es ms ns f h = record {
 }
 
 -- the members of a group lack numbers, and have none twice, if there are any
-pub once_of : (k : ℕ) (g : Group) (es : List Entry) (ms : List Mark) → Inbox k es ms → Differ (part_numbers (members g es))
+pub once_of : (k : ℕ) (g : Group) (es : List Entry) (ms : List DiscardedGroup) → Inbox k es ms → Differ (part_numbers (members g es))
 once_of k g es ms h = of_members (members g es) refl
   where
     of_members : (l : List Entry) → members g es ≡ l → Differ (part_numbers (members g es))
@@ -141,14 +141,14 @@ once_of k g es ms h = of_members (members g es) refl
 abbrev pub NoPart : Entry → Type 0
 NoPart x = (g : Group) → is_part_of g x.message ≡ false
 
-pub put_each : (k : ℕ) (x : Entry) (es : List Entry) (ms : List Mark) → x.number ≡ k → 0 < k → IsMessage x.slots x.message → Inbox k es ms
+pub put_each : (k : ℕ) (x : Entry) (es : List Entry) (ms : List DiscardedGroup) → x.number ≡ k → 0 < k → IsMessage x.slots x.message → Inbox k es ms
     → (e : Entry) → Among e (put entry_key x es) → IsStored (k + 1) e
 put_each k x es ms q some s h e a = ⊎_elim
     (λ (f : e ≡ x). subst (λ (z : Entry). IsStored (k + 1) z) (sym f) ((omega (arith, q, some), omega (arith, q)), s))
     (λ (r : Among e es × ¬ (e.number ≡ x.number)). stored_more k (k + 1) e (omega arith) (h.each e r.0))
     (among_put entry_key e x es a)
 
-pub new_apart : (k : ℕ) (es : List Entry) (ms : List Mark) → Inbox k es ms → NoEntry k es
+pub new_apart : (k : ℕ) (es : List Entry) (ms : List DiscardedGroup) → Inbox k es ms → NoEntry k es
 new_apart k es ms h x a q = absurd (omega (arith, q, (h.each x a).0.1))
 
 members_apart : (n : ℕ) (g : Group) (es : List Entry) → NoEntry n es → without entry_key n (members g es) ≡ members g es
@@ -156,7 +156,7 @@ members_apart n g es f =
     without_apart n (members g es) (all_from (λ (e : Entry). ¬ (e.number ≡ n)) (members g es) (λ x a. f x (members_among g x es a).0))
 
 -- an entry of its own
-pub single_put : (k : ℕ) (x : Entry) (es : List Entry) (ms : List Mark) → x.number ≡ k → 0 < k → NoPart x → IsMessage x.slots x.message
+pub single_put : (k : ℕ) (x : Entry) (es : List Entry) (ms : List DiscardedGroup) → x.number ≡ k → 0 < k → NoPart x → IsMessage x.slots x.message
     → Inbox k es ms → Inbox (k + 1) (put entry_key x es) ms
 single_put k x es ms q some p s h =
     same_groups k (k + 1) es (put entry_key x es) ms (rises_put entry_key x es h.order) (put_each k x es ms q some s h)
@@ -175,7 +175,7 @@ no_part g (Single tpdu) e = refl
 no_part g (Part h k tpdu) e = absurd cc
 no_part g (Joined source content) e = refl
 
-pub removed : (k n : ℕ) (x : Entry) (es : List Entry) (ms : List Mark) → row_at entry_key n es ≡ Some x → is_open_part x.message ≡ false
+pub removed : (k n : ℕ) (x : Entry) (es : List Entry) (ms : List DiscardedGroup) → row_at entry_key n es ≡ Some x → is_open_part x.message ≡ false
     → Inbox k es ms → Inbox k (without entry_key n es) ms
 removed k n x es ms q f h =
     same_groups k k es (without entry_key n es) ms (rises_without entry_key n es h.order) (λ e a. h.each e (among_without entry_key e n es a).0)

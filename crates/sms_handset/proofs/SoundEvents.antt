@@ -1,67 +1,95 @@
 -- Each event leaves a sound handset sound, and what is planned of it too.
-use Rattle.std.proofs.Common.{◌≡◌, ℕ, List, Bool, Option, Some, None, Result, Ok, Err, sym, subst, IfOk}
+use Rattle.std.proofs.Common.{◌≡◌, ℕ, List, Bool, Option, Some, None, Result, Ok, Err, refl, sym, ◌∙◌, subst, IfOk}
 use Rattle.std.specs.Prelude.{max}
 use Rattle.sms_base.specs.declared.holder.Holder.{Holder}
+use Rattle.sms_base.specs.declared.carried.Carried.{Carried}
 use Rattle.sms_control.specs.declared.out.Up.{Up}
 use Rattle.sms_control.specs.declared.out.Up.TheVariants.{Unit as UnitUp, Failed as FailedUp}
 use Rattle.sms_control.specs.declared.transaction.TransactionFlag.TheVariants.{FromOriginator, ToOriginator}
 use Rattle.sms_control.specs.LinkStep.{Step, fire_step, take_step}
+use Rattle.sms_link.specs.declared.ending.Side.TheVariants.{Handset as HandsetSide}
+use Rattle.sms_link.specs.declared.ending.Ending.TheVariants.{Lost as LostEnd}
+use Rattle.sms_link.specs.Ending.{ended_by, unit_at as unit_for}
+use Rattle.sms_link.specs.LinkTurn.{Turn, came_up, fired, still_under_way, taken}
 use Rattle.sms_relay.specs.RelayReading.{down_at as unit_at}
 use Rattle.sms_handset.specs.declared.event.HandsetEvent.{HandsetEvent}
 use Rattle.sms_handset.specs.declared.event.HandsetEvent.TheVariants.{Frame, Tick, Write, Delete, Discard}
 use Rattle.sms_handset.specs.declared.refusal.PlanError.{PlanError}
 use Rattle.sms_handset.specs.declared.refusal.Refusal.{Refusal}
 use Rattle.sms_handset.specs.declared.rows.Rows.{Rows}
-use Rattle.sms_handset.specs.Draft.{Core, Draft, Standing, core_of, draft_of, heard}
-use Rattle.sms_handset.specs.HandsetEvent.{acted, at_moment, deleted, discarded, failed, frame_came, frame_heard, ticked, timers_fired, went_up, wrote}
+use Rattle.sms_handset.specs.Draft.{Core, Draft, HandsetOf, core_of, draft_of, link_of, with_turn}
+use Rattle.sms_handset.specs.HandsetEvent.{acted, at_moment, deleted, discarded, frame_came, frame_heard, tag_of, ticked, timed_out, timers_fired, went_up, wrote}
 use Rattle.sms_handset.specs.OwnersActs.{delete, discard, write}
 use Rattle.sms_handset.specs.Planning.{IsPlanOf, OfDelete, OfDiscard, OfFrame, OfTick, OfWrite, Outcome, Plan, Plans, Rests, RestsIfDone, adopted}
 use Rattle.sms_handset.specs.SoundCore.{IsSoundCore}
 use Rattle.sms_handset.specs.Trying.{TriesPlan}
 use Rattle.sms_handset.proofs.Resting.{delete_rests, discard_rests, frame_rests, tick_rests, write_rests}
 use Rattle.sms_handset.proofs.SoundActs.{SoundIfDone, delete_sound, discard_sound, write_sound}
-use Rattle.sms_handset.proofs.SoundDrafts.{SoundAt, sound_core, sound_from}
+use Rattle.sms_handset.proofs.SoundDrafts.{Sound, SoundAt, outbox_moves, sound_core, sound_from}
 use Rattle.sms_handset.proofs.SoundReceiving.{unit_sound}
-use Rattle.sms_handset.proofs.SoundTransfers.{conclude_sound, follow_sound}
+use Rattle.sms_handset.proofs.SoundTransfers.{follow_sound, transfer_sound}
 
-went_up_sound : (tag : Holder) (up : Option Up) (d : Draft) → SoundAt d → SoundAt (went_up tag up d)
-went_up_sound tag None d s = s
-went_up_sound tag (Some (UnitUp FromOriginator unit)) d s = unit_sound tag unit (unit_at unit) d s
-went_up_sound tag (Some (UnitUp ToOriginator unit)) d s = conclude_sound (Some (unit_at unit)) d s
-went_up_sound tag (Some FailedUp) d s = conclude_sound None d s
+-- ---- what goes up from the link
 
-failed_sound : (up : Option Up) (d : Draft) → SoundAt d → SoundAt (failed up d)
-failed_sound None d s = s
-failed_sound (Some (UnitUp flag unit)) d s = s
-failed_sound (Some FailedUp) d s = conclude_sound None d s
+-- as what was under way is sound with what is under way now
+pub still_sound : (w v : Option Carried) (d : Draft) → d.under_way ≡ v → Sound d.rows w d.is_recovered d.notices → w ≡ v → SoundAt d
+still_sound w v d e s q = subst (λ (u : Option Carried). Sound d.rows u d.is_recovered d.notices) (q ∙ sym e) s
 
-frame_sound : (octets : List ℕ) (tag : Holder) (c : Core) → IsSoundCore c → SoundAt (frame_came octets tag c)
+pub over_sound : (w : Option Carried) (d : Draft) → d.under_way ≡ None → Sound d.rows w d.is_recovered d.notices → SoundAt d
+over_sound w d e s =
+    subst (λ (u : Option Carried). Sound d.rows u d.is_recovered d.notices) (sym e)
+    (outbox_moves d.rows w None d.is_recovered d.is_recovered d.notices d.rows.outbox s.outbox (λ t. refl) tt s)
+
+pub went_up_sound : (tag : Holder) (up : Option Up) (w : Option Carried) (d : Draft) → d.under_way ≡ still_under_way up w → Sound d.rows w d.is_recovered d.notices
+    → SoundAt (went_up tag (came_up HandsetSide w up) d)
+went_up_sound tag None w d e s = still_sound w w d e s refl
+went_up_sound tag (Some (UnitUp FromOriginator unit)) w d e s = unit_sound tag unit (unit_at unit) d (still_sound w w d e s refl)
+went_up_sound tag (Some (UnitUp ToOriginator unit)) None d e s = over_sound None d e s
+went_up_sound tag (Some (UnitUp ToOriginator unit)) (Some c) d e s = transfer_sound c (ended_by c.reference (unit_for HandsetSide unit)) d s.under_way e (over_sound (Some c) d e s)
+went_up_sound tag (Some FailedUp) None d e s = over_sound None d e s
+went_up_sound tag (Some FailedUp) (Some c) d e s = transfer_sound c LostEnd d s.under_way e (over_sound (Some c) d e s)
+
+pub timed_out_sound : (up : Option Up) (w : Option Carried) (d : Draft) → d.under_way ≡ still_under_way up w → Sound d.rows w d.is_recovered d.notices
+    → SoundAt (timed_out (came_up HandsetSide w up) d)
+timed_out_sound None w d e s = still_sound w w d e s refl
+timed_out_sound (Some (UnitUp FromOriginator unit)) w d e s = still_sound w w d e s refl
+timed_out_sound (Some (UnitUp ToOriginator unit)) None d e s = over_sound None d e s
+timed_out_sound (Some (UnitUp ToOriginator unit)) (Some c) d e s = transfer_sound c (ended_by c.reference (unit_for HandsetSide unit)) d s.under_way e (over_sound (Some c) d e s)
+timed_out_sound (Some FailedUp) None d e s = over_sound None d e s
+timed_out_sound (Some FailedUp) (Some c) d e s = transfer_sound c LostEnd d s.under_way e (over_sound (Some c) d e s)
+
+-- ---- events
+
+pub frame_sound : (octets : List ℕ) (tag : Holder) (c : Core) → IsSoundCore c → SoundAt (frame_came octets tag c)
 frame_sound octets tag c s =
+    let turn : Turn = taken octets (link_of (draft_of c)) in
     let step : Step = take_step octets c.links in
-    follow_sound (frame_heard tag step (draft_of c)) (went_up_sound tag step.out.up (heard step (draft_of c)) (sound_from c s))
+    follow_sound (frame_heard tag turn (draft_of c)) (went_up_sound tag step.out.up c.under_way (with_turn turn (draft_of c)) refl (sound_from c s))
 
-tick_sound : (now : ℕ) (c : Core) → IsSoundCore c → SoundAt (ticked now c)
+pub tick_sound : (now : ℕ) (c : Core) → IsSoundCore c → SoundAt (ticked now c)
 tick_sound now c s =
-    let step : Step = fire_step (max c.moment now) c.links in
-    follow_sound (timers_fired step (at_moment now (draft_of c))) (failed_sound step.out.up (heard step (at_moment now (draft_of c))) (sound_from c s))
+    let d : Draft = at_moment now (draft_of c) in
+    let turn : Turn = fired d.moment (link_of d) in
+    let step : Step = fire_step d.moment c.links in
+    follow_sound (timers_fired turn d) (timed_out_sound step.out.up c.under_way (with_turn turn d) refl (sound_from c s))
 
-acted_sound : (r : Result Draft Refusal) → SoundIfDone r → SoundIfDone (acted r)
+pub acted_sound : (r : Result Draft Refusal) → SoundIfDone r → SoundIfDone (acted r)
 acted_sound (Ok d) s = follow_sound d s
 acted_sound (Err f) s = tt
 
-wrote_sound : (text to : List ℕ) (report : Bool) (c : Core) → IsSoundCore c → SoundIfDone (wrote text to report c)
+pub wrote_sound : (text to : List ℕ) (report : Bool) (c : Core) → IsSoundCore c → SoundIfDone (wrote text to report c)
 wrote_sound text to report c s = acted_sound (write text to report (draft_of c)) (write_sound text to report (draft_of c) (sound_from c s))
 
-deleted_sound : (n : ℕ) (c : Core) → IsSoundCore c → SoundIfDone (deleted n c)
+pub deleted_sound : (n : ℕ) (c : Core) → IsSoundCore c → SoundIfDone (deleted n c)
 deleted_sound n c s = acted_sound (delete n (draft_of c)) (delete_sound n (draft_of c) (sound_from c s))
 
-discarded_sound : (n : ℕ) (c : Core) → IsSoundCore c → SoundIfDone (discarded n c)
+pub discarded_sound : (n : ℕ) (c : Core) → IsSoundCore c → SoundIfDone (discarded n c)
 discarded_sound n c s = acted_sound (discard n (draft_of c)) (discard_sound n (draft_of c) (sound_from c s))
 
 -- ---- plans
 
 -- the handset that adopts the plan is the one that the event leads to
-sound_of : (s : Standing) (d : Draft) (p : Plan) → IsPlanOf d s p → Rests s.core.rows d → SoundAt d → IsSoundCore (adopted p.outcome s.core)
+sound_of : (s : HandsetOf) (d : Draft) (p : Plan) → IsPlanOf d s p → Rests s.core.rows d → SoundAt d → IsSoundCore (adopted p.outcome s.core)
 sound_of s d p is rests sound =
     subst (λ (o : Outcome). IsSoundCore (adopted o s.core)) (sym is.outcome)
     (subst (λ (r : Rows). IsSoundCore (record (core_of d) { rows = r })) rests (sound_core d sound))
@@ -72,25 +100,25 @@ sound_done w d e h = subst (λ (r : Result Draft Refusal). SoundIfDone r) e h
 rests_done : (base : Rows) (w : Result Draft Refusal) (d : Draft) → w ≡ Ok d → RestsIfDone base w → Rests base d
 rests_done base w d e h = subst (λ (r : Result Draft Refusal). RestsIfDone base r) e h
 
-abbrev pub AdoptsSound : Standing → Plan → Type 0
+abbrev pub AdoptsSound : HandsetOf → Plan → Type 0
 AdoptsSound s p = IsSoundCore (adopted p.outcome s.core)
 
-plans_sound : (r : Result Plan PlanError) (s : Standing) (w : Result Draft Refusal) → RestsIfDone s.core.rows w → SoundIfDone w → Plans r s w → IfOk r (AdoptsSound s)
+pub plans_sound : (r : Result Plan PlanError) (s : HandsetOf) (w : Result Draft Refusal) → RestsIfDone s.core.rows w → SoundIfDone w → Plans r s w → IfOk r (AdoptsSound s)
 plans_sound (Ok p) s w rests sound h = sound_of s h.0 p h.1.1 (rests_done s.core.rows w h.0 h.1.0 rests) (sound_done w h.0 h.1.0 sound)
 plans_sound (Err e) s w rests sound h = tt
 
-tries_sound : (r : Result Plan PlanError) (s : Standing) (w : Result Draft Refusal) → RestsIfDone s.core.rows w → SoundIfDone w → TriesPlan r s w → IfOk r (AdoptsSound s)
+pub tries_sound : (r : Result Plan PlanError) (s : HandsetOf) (w : Result Draft Refusal) → RestsIfDone s.core.rows w → SoundIfDone w → TriesPlan r s w → IfOk r (AdoptsSound s)
 tries_sound (Ok p) s w rests sound h = sound_of s h.0 p h.1.1 (rests_done s.core.rows w h.0 h.1.0 rests) (sound_done w h.0 h.1.0 sound)
 tries_sound (Err e) s w rests sound h = tt
 
-pub event_sound : (event : HandsetEvent) (r : Result Plan PlanError) (s : Standing)
-    → OfFrame event (λ octets tag. Plans r s (Ok (frame_came octets tag s.core)))
+pub event_sound : (event : HandsetEvent) (r : Result Plan PlanError) (s : HandsetOf)
+    → OfFrame event (λ octets tag. Plans r s (Ok (frame_came octets (tag_of tag) s.core)))
     → OfTick event (λ now. Plans r s (Ok (ticked now s.core)))
     → OfWrite event (λ text to report. TriesPlan r s (wrote text to report s.core))
     → OfDelete event (λ entry. Plans r s (deleted entry s.core))
     → OfDiscard event (λ entry. Plans r s (discarded entry s.core))
     → IsSoundCore s.core → IfOk r (AdoptsSound s)
-event_sound (Frame octets tag) r s a b c d e h = plans_sound r s (Ok (frame_came octets tag s.core)) (frame_rests octets tag s.core) (frame_sound octets tag s.core h) a
+event_sound (Frame octets tag) r s a b c d e h = plans_sound r s (Ok (frame_came octets (tag_of tag) s.core)) (frame_rests octets (tag_of tag) s.core) (frame_sound octets (tag_of tag) s.core h) a
 event_sound (Tick now) r s a b c d e h = plans_sound r s (Ok (ticked now s.core)) (tick_rests now s.core) (tick_sound now s.core h) b
 event_sound (Write text to report) r s a b c d e h = tries_sound r s (wrote text to report s.core) (write_rests text to report s.core) (wrote_sound text to report s.core h) c
 event_sound (Delete entry) r s a b c d e h = plans_sound r s (deleted entry s.core) (delete_rests entry s.core) (deleted_sound entry s.core h) d

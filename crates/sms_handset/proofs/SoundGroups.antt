@@ -9,7 +9,7 @@ use Rattle.sms_handset.specs.declared.entry.Entry.{Entry}
 use Rattle.sms_handset.specs.declared.entry.Group.{Group}
 use Rattle.sms_handset.specs.declared.entry.Message.{Message}
 use Rattle.sms_handset.specs.declared.entry.Message.TheVariants.{Part}
-use Rattle.sms_handset.specs.declared.mark.Mark.{Mark}
+use Rattle.sms_handset.specs.declared.discarded_group.DiscardedGroup.{DiscardedGroup}
 use Rattle.sms_handset.specs.Groups.{all_numbers, alone, first_number, is_among, is_part_of, is_same_group, joined_entry, mark_of, members, part_entry, part_number, part_numbers, part_tpdu}
 use Rattle.sms_handset.specs.Keys.{entry_key}
 use Rattle.sms_handset.specs.SoundRows.{Differ, IsDelivered, IsGiven, IsMessage, IsOpenGroup, IsPartOf}
@@ -37,7 +37,7 @@ pub record Arrived (k : ℕ) (g : Group) (e : Entry) (es fs : List Entry) : Type
   pub own : members g fs ≡ members g es ++ e ∷ []
   pub others : (h : Group) → ¬ (g ≡ h) → members h fs ≡ members h es
 
-pub arrives : (k : ℕ) (g : Group) (n : ℕ) (tpdu : List ℕ) (es : List Entry) (ms : List Mark) → 0 < k → IsPartOf g n tpdu → Inbox k es ms
+pub arrives : (k : ℕ) (g : Group) (n : ℕ) (tpdu : List ℕ) (es : List Entry) (ms : List DiscardedGroup) → 0 < k → IsPartOf g n tpdu → Inbox k es ms
     → Arrived (k + 1) g (part_entry k g n tpdu) es (put entry_key (part_entry k g n tpdu) es)
 arrives k g n tpdu es ms some p h =
     let e : Entry = part_entry k g n tpdu in
@@ -54,7 +54,7 @@ arrives k g n tpdu es ms some p h =
     }
 
 -- the group is open still
-pub part_opens : (k : ℕ) (g : Group) (e : Entry) (es fs : List Entry) (ms : List Mark) → Inbox k es ms → Arrived (k + 1) g e es fs
+pub part_opens : (k : ℕ) (g : Group) (e : Entry) (es fs : List Entry) (ms : List DiscardedGroup) → Inbox k es ms → Arrived (k + 1) g e es fs
     → is_among (part_number e.message) (part_numbers (members g es)) ≡ false → mark_of g ms ≡ None → all_numbers g.total (part_numbers (members g es ++ e ∷ [])) ≡ false
     → Inbox (k + 1) fs ms
 part_opens k g e es fs ms h a new kept lacks = record {
@@ -156,7 +156,7 @@ alone_stored k x m q s g t =
     (s.0, (v.0, subst (λ (z : Message). IsDelivered (part_tpdu z)) (sym p.2 ∙ q) (v.1.0, v.1.2.0)))
 
 -- no member is left, and other groups keep theirs
-one_ended : (k : ℕ) (g : Group) (es fs : List Entry) (ms ns : List Mark) → Rises entry_key fs → ((e : Entry) → Among e fs → IsStored k e)
+one_ended : (k : ℕ) (g : Group) (es fs : List Entry) (ms ns : List DiscardedGroup) → Rises entry_key fs → ((e : Entry) → Among e fs → IsStored k e)
     → members g fs ≡ [] → ((h : Group) → ¬ (g ≡ h) → members h fs ≡ members h es)
     → ((h : Group) (x : Entry) → ¬ (g ≡ h) → Among x (members h es) → IsOpenGroup es ms h) → ((h : Group) → ¬ (g ≡ h) → mark_of h ms ≡ None → mark_of h ns ≡ None)
     → Inbox k fs ns
@@ -172,7 +172,7 @@ one_ended k g es fs ms ns r s own others groups kept = record {
 }
 
 -- the group is full
-pub part_closes : (k : ℕ) (g : Group) (e : Entry) (c : Option Content) (es fs : List Entry) (ms : List Mark) → Inbox k es ms → Arrived (k + 1) g e es fs → 0 < g.total
+pub part_closes : (k : ℕ) (g : Group) (e : Entry) (c : Option Content) (es fs : List Entry) (ms : List DiscardedGroup) → Inbox k es ms → Arrived (k + 1) g e es fs → 0 < g.total
     → Inbox (k + 1) (ended_entries g (members g es ++ e ∷ []) c fs) ms
 part_closes k g e c es fs ms h a total =
     let xs = members g fs in
@@ -207,7 +207,7 @@ closed_free k g e c es fs a s n l free =
 
 -- ---- a group is discarded
 
-pub group_leaves : (k : ℕ) (g : Group) (es : List Entry) (ms ns : List Mark) → ((h : Group) → ¬ (g ≡ h) → mark_of h ms ≡ None → mark_of h ns ≡ None)
+pub group_leaves : (k : ℕ) (g : Group) (es : List Entry) (ms ns : List DiscardedGroup) → ((h : Group) → ¬ (g ≡ h) → mark_of h ms ≡ None → mark_of h ns ≡ None)
     → Inbox k es ms → Inbox k (all_without (members g es) es) ns
 group_leaves k g es ms ns kept h =
     let xs = members g es in

@@ -1,16 +1,21 @@
 -- How transfers end, lapse and begin leaves a sound handset sound.
-use Rattle.std.proofs.Common.{◌≡◌, ℕ, ◌+◌, ◌%◌, ◌<◌, ◌≤◌, arith, List, [], ◌∷◌, Bool, true, false, cond, Option, Some, None, Result, refl, sym, ◌∙◌, ap, subst, inl, inr, ⊎_elim}
+use Rattle.std.proofs.Common.{◌≡◌, ℕ, ◌+◌, ◌-◌, ◌%◌, ◌<◌, ◌≤◌, arith, List, [], ◌∷◌, length, Bool, true, false, cond, Option, Some, None, refl, sym, ◌∙◌, ap, subst, inl, inr, ⊎_elim}
 use Rattle.std.specs.Prelude.{◌&&◌, ◌||◌, nat_le, nat_lt, min}
-use Rattle.std.proofs.lemmas.Bool.{and_parts, cases_Bool, cond-true, cond-false, cond_both, leb-false}
+use Rattle.std.proofs.lemmas.Bool.{and_parts, cases_Bool, cond-true, cond-false, cond_both, leb-false, ltb-true}
 use Rattle.sms_base.specs.Among.{Among}
 use Rattle.sms_table.specs.Table.{Rises, put, row_at}
-use Rattle.sms_table.proofs.Tables.{found_among, put_among, row_at_put}
+use Rattle.sms_table.proofs.Tables.{found_among, found_key, length_put, length_without, put_among, row_at_put}
 use Rattle.sms_base.specs.declared.holder.Holder.{Holder}
 use Rattle.sms_base.specs.declared.holder.Holder.TheVariants.{Part as PartHolder, Report, Entry as EntryHolder, Memory}
-use Rattle.sms_control.specs.LinkStep.{is_busy}
+use Rattle.sms_control.specs.LinkStep.{begin_step, is_busy}
 use Rattle.sms_control.specs.Timers.{later}
-use Rattle.sms_relay.specs.declared.fault.RelayFault.{RelayFault}
-use Rattle.sms_relay.specs.declared.frame.Rp.{Rp}
+use Rattle.sms_link.specs.Timers.{tram}
+use Rattle.sms_link.specs.declared.ending.Ending.{Ending}
+use Rattle.sms_link.specs.declared.ending.Ending.TheVariants.{Acknowledged as AcknowledgedEnd, Refused as RefusedEnd, Wrong as WrongEnd, Lost as LostEnd}
+use Rattle.sms_link.specs.LinkTurn.{LinkOf, Turn, of_kind, started, still}
+use Rattle.sms_relay.specs.RelayGrammar.{data_up, smma_up}
+use Rattle.sms_tpdu.specs.AddressGrammar.{relay_address}
+use Rattle.sms_base.specs.declared.carried.Kind.TheVariants.{Data}
 use Rattle.sms_handset.specs.declared.answers.Verdict.{Verdict}
 use Rattle.sms_handset.specs.declared.answers.Verdict.TheVariants.{Acknowledged, Temporary, Duplicate, Refused, Lost}
 use Rattle.sms_handset.specs.declared.counters.Counters.{Counters}
@@ -21,22 +26,22 @@ use Rattle.sms_handset.specs.declared.out_entry.EntryState.TheVariants.{Queued, 
 use Rattle.sms_handset.specs.declared.out_entry.OutEntry.{OutEntry}
 use Rattle.sms_base.specs.declared.carried.Carried.{Carried}
 use Rattle.sms_handset.specs.Answers.{verdict_of}
-use Rattle.sms_handset.specs.Draft.{Draft, put_out}
-use Rattle.sms_handset.specs.Keys.{out_key}
-use Rattle.sms_handset.specs.MemoryAvailable.{first_notice, notice_concluded, notice_ended, notice_failed, send_notice, tram}
-use Rattle.sms_handset.specs.Outbox.{conclude, entry_concluded, first_due, follow, holder_concluded, is_due, is_fired, is_past, is_queued, is_sending, lapse, lapse_rows, lost, most_tries, offer, offer_after, offer_entry, offer_message, offer_wanted, retry_delay, settled, transfer_concluded}
+use Rattle.sms_handset.specs.Draft.{Draft, begin, link_of, put_out, with_turn}
+use Rattle.sms_handset.specs.Keys.{notice_key, out_key}
+use Rattle.sms_handset.specs.MemoryAvailable.{first_notice, most_notices, notice_concluded, notice_ended, notice_failed, put_notice, remove_notice, send_notice}
+use Rattle.sms_handset.specs.Outbox.{entry_concluded, first_due, first_fired, follow, holder_concluded, is_due, is_fired, is_notice_next, is_past, is_queued, is_sending, lapse, lapse_rows, lost, most_tries, offer, offer_after, offer_entry, offer_message, offer_wanted, retry_delay, settled, submit_of, transfer_ended}
 use Rattle.sms_handset.specs.References.{held_references, is_unfinished, next_free}
 use Rattle.sms_handset.specs.SoundCore.{IsSentFor, IsUnderWay}
 use Rattle.sms_handset.specs.SoundRows.{AreTries, WasSent}
-use Rattle.sms_handset.proofs.SoundDrafts.{Sound, SoundAt, counters_move, none_under_way, outbox_moves}
-use Rattle.sms_handset.proofs.SoundMarks.{above_at}
+use Rattle.sms_handset.proofs.SoundDrafts.{Sound, SoundAt, counters_move, none_under_way, notices_move, outbox_moves}
+use Rattle.sms_handset.proofs.SoundMarks.{above_at, length_replaced}
 use Rattle.sms_handset.proofs.SoundOutbox.{IsSoundOut, Replaces, replaced}
 
 -- ---- an entry that is Sending becomes another
 
-record Turns (k : ℕ) (es : List Entry) (o w : OutEntry) : Type 0 where
-  replaces : Replaces o w
-  sound : IsSoundOut k es w
+pub record Turns (k : ℕ) (es : List Entry) (o w : OutEntry) : Type 0 where
+  pub replaces : Replaces o w
+  pub sound : IsSoundOut k es w
 
 turns : (k : ℕ) (es : List Entry) (o : OutEntry) (s : EntryState) (r : Bool) (due : Option ℕ) → is_unfinished o.state ≡ true → AreTries s o.tries → IsSoundOut k es o
     → Turns k es o (record o { state = s; rejects_duplicates = r; due = due })
@@ -87,56 +92,59 @@ settled_turns k es moment Refused o e i = turns k es o Failed o.rejects_duplicat
 settled_turns k es moment Lost o e i = lost_turns k es o e i
 
 -- it does so where nothing is under way
-turned_sound : (o w : OutEntry) (d : Draft) → Among o d.rows.outbox → Turns d.rows.counters.entry d.rows.entries o w → d.under_way ≡ None → SoundAt d → SoundAt (put_out w d)
+pub turned_sound : (o w : OutEntry) (d : Draft) → Among o d.rows.outbox → Turns d.rows.counters.entry d.rows.entries o w → d.under_way ≡ None → SoundAt d → SoundAt (put_out w d)
 turned_sound o w d a t e s =
-    outbox_moves d.rows d.under_way d.under_way d.is_recovered d.is_recovered (put out_key w d.rows.outbox)
+    outbox_moves d.rows d.under_way d.under_way d.is_recovered d.is_recovered d.notices (put out_key w d.rows.outbox)
     (replaced d.rows.counters.entry d.rows.entries d.rows.outbox o w a t.replaces t.sound s.outbox) s.recovered
     (none_under_way d.under_way (put out_key w d.rows.outbox) e) s
 
 -- ---- a transfer ends
 
-entry_concluded_sound : (u : Option (Result Rp RelayFault)) (f : Option OutEntry) (o : OutEntry) (d : Draft) → f ≡ Some o → Among o d.rows.outbox → o.state ≡ Sending → d.under_way ≡ None
-    → SoundAt d → SoundAt (entry_concluded u f d)
-entry_concluded_sound u None o d q a e n s = s
-entry_concluded_sound u (Some x) o d q a e n s =
+pub entry_concluded_sound : (v : Ending) (f : Option OutEntry) (o : OutEntry) (d : Draft) → f ≡ Some o → Among o d.rows.outbox → o.state ≡ Sending → d.under_way ≡ None
+    → SoundAt d → SoundAt (entry_concluded v f d)
+entry_concluded_sound v None o d q a e n s = s
+entry_concluded_sound v (Some x) o d q a e n s =
     let same : o ≡ x = cc in
     let i : Among x d.rows.outbox = subst (λ (z : OutEntry). Among z d.rows.outbox) same a in
     let f : x.state ≡ Sending = ap (λ (z : OutEntry). z.state) (sym same) ∙ e in
-    turned_sound x (settled d.moment (verdict_of x.reference u) x) d i
-    (settled_turns d.rows.counters.entry d.rows.entries d.moment (verdict_of x.reference u) x f (s.outbox.each x i)) n s
+    turned_sound x (settled d.moment (verdict_of v) x) d i
+    (settled_turns d.rows.counters.entry d.rows.entries d.moment (verdict_of v) x f (s.outbox.each x i)) n s
 
-notice_failed_sound : (n : Notice) (d : Draft) → SoundAt d → SoundAt (notice_failed n d)
-notice_failed_sound n d s =
-    cond_both n.is_second (record d { notice = None }) (record d { notice = Some (record n { is_second = true; due = Some (later d.moment tram) }) }) (λ (z : Draft). SoundAt z) (λ t. s) (λ t. s)
+-- an RP-SMMA takes the place of itself, or leaves
+same_notice : (n : Notice) (w : Notice) (d : Draft) → Among n d.notices → n.number ≡ w.number → SoundAt d → SoundAt (put_notice w d)
+same_notice n w d a e s =
+    notices_move d.rows d.under_way d.is_recovered d.notices (put notice_key w d.notices)
+    (let l = length_replaced notice_key w n d.notices a e in let f = s.few_notices in omega arith) s
 
-notice_ended_sound : (v : Verdict) (n : Notice) (d : Draft) → SoundAt d → SoundAt (notice_ended v n d)
-notice_ended_sound Acknowledged n d s = s
-notice_ended_sound Temporary n d s = notice_failed_sound n d s
-notice_ended_sound Duplicate n d s = notice_failed_sound n d s
-notice_ended_sound Refused n d s = notice_failed_sound n d s
-notice_ended_sound Lost n d s = notice_failed_sound n d s
+gone_notice : (number : ℕ) (d : Draft) → SoundAt d → SoundAt (remove_notice number d)
+gone_notice number d s =
+    notices_move d.rows d.under_way d.is_recovered d.notices _ (let l = length_without notice_key number d.notices in let f = s.few_notices in omega arith) s
 
-notice_concluded_sound : (u : Option (Result Rp RelayFault)) (n : Option Notice) (d : Draft) → SoundAt d → SoundAt (notice_concluded u n d)
-notice_concluded_sound u None d s = s
-notice_concluded_sound u (Some n) d s = notice_ended_sound (verdict_of n.reference u) n d s
+pub notice_failed_sound : (n : Notice) (d : Draft) → Among n d.notices → SoundAt d → SoundAt (notice_failed n d)
+notice_failed_sound n d a s =
+    let w : Notice = record n { is_second = true; due = Some (later d.moment tram) } in
+    cond_both n.is_second (remove_notice n.number d) (put_notice w d) (λ (z : Draft). SoundAt z) (λ t. gone_notice n.number d s) (λ t. same_notice n w d a refl s)
 
-holder_concluded_sound : (u : Option (Result Rp RelayFault)) (h : Holder) (d : Draft) → IsSentFor h d.rows.outbox → d.under_way ≡ None → SoundAt d → SoundAt (holder_concluded u h d)
-holder_concluded_sound u (PartHolder i n) d w e s = s
-holder_concluded_sound u (Report i) d w e s = s
-holder_concluded_sound u (EntryHolder n) d w e s =
-    entry_concluded_sound u (row_at out_key n d.rows.outbox) w.0 d w.1.0 (found_among out_key n w.0 d.rows.outbox w.1.0) w.1.1 e s
-holder_concluded_sound u (Memory n) d w e s = notice_concluded_sound u d.notice d s
+pub notice_ended_sound : (v : Ending) (n : Notice) (d : Draft) → Among n d.notices → SoundAt d → SoundAt (notice_ended v n d)
+notice_ended_sound AcknowledgedEnd n d a s = gone_notice n.number d s
+notice_ended_sound (RefusedEnd cause tpdu) n d a s = notice_failed_sound n d a s
+notice_ended_sound WrongEnd n d a s = notice_failed_sound n d a s
+notice_ended_sound LostEnd n d a s = notice_failed_sound n d a s
 
-transfer_concluded_sound : (u : Option (Result Rp RelayFault)) (c : Option Carried) (d : Draft) → IsUnderWay c d.rows.outbox → d.under_way ≡ None → SoundAt d → SoundAt (transfer_concluded u c d)
-transfer_concluded_sound u None d w e s = s
-transfer_concluded_sound u (Some c) d w e s = holder_concluded_sound u c.tag d w e s
+pub notice_concluded_sound : (v : Ending) (k : ℕ) (n : Option Notice) (d : Draft) → row_at notice_key k d.notices ≡ n → SoundAt d → SoundAt (notice_concluded v n d)
+notice_concluded_sound v k None d q s = s
+notice_concluded_sound v k (Some n) d q s = notice_ended_sound v n d (found_among notice_key k n d.notices q) s
 
--- nothing is under way any more
-over : (d : Draft) → SoundAt d → SoundAt (record d { under_way = None })
-over d s = outbox_moves d.rows d.under_way None d.is_recovered d.is_recovered d.rows.outbox s.outbox (λ t. refl) tt s
+pub holder_concluded_sound : (v : Ending) (r : ℕ) (h : Holder) (d : Draft) → IsSentFor r h d.rows.outbox → d.under_way ≡ None → SoundAt d → SoundAt (holder_concluded v h d)
+holder_concluded_sound v r (PartHolder i n) d w e s = s
+holder_concluded_sound v r (Report i) d w e s = s
+holder_concluded_sound v r (EntryHolder n) d w e s =
+    entry_concluded_sound v (row_at out_key n d.rows.outbox) w.0 d w.1.0 (found_among out_key n w.0 d.rows.outbox w.1.0) w.1.1.0 e s
+holder_concluded_sound v r (Memory n) d w e s = notice_concluded_sound v n (row_at notice_key n d.notices) d refl s
 
-pub conclude_sound : (u : Option (Result Rp RelayFault)) (d : Draft) → SoundAt d → SoundAt (conclude u d)
-conclude_sound u d s = transfer_concluded_sound u d.under_way (record d { under_way = None }) s.under_way refl (over d s)
+-- the transfer that was under way
+pub transfer_sound : (c : Carried) (v : Ending) (d : Draft) → IsUnderWay (Some c) d.rows.outbox → d.under_way ≡ None → SoundAt d → SoundAt (transfer_ended c v d)
+transfer_sound c v d w e s = holder_concluded_sound v c.reference c.tag d w e s
 
 -- ---- after a restart
 
@@ -187,7 +195,7 @@ lapse_settles d s =
     let none : d.under_way ≡ None = s.recovered t in
     let l = all_lapse d.rows.outbox (record d { is_recovered = false }) s.outbox.order
     (record {
-      sound = outbox_moves d.rows d.under_way d.under_way d.is_recovered false d.rows.outbox s.outbox (λ q. absurd cc) s.under_way s;
+      sound = outbox_moves d.rows d.under_way d.under_way d.is_recovered false d.notices d.rows.outbox s.outbox (λ q. absurd cc) s.under_way s;
       none = none;
       recovered = refl;
       stand = λ x m. m;
@@ -225,53 +233,81 @@ first_due_is moment (x ∷ xs) o e = ⊎_elim
 sent_now : OutEntry → OutEntry
 sent_now o = record o { state = Sending; tries = min (o.tries + 1) 255; due = None }
 
-offer_entry_sound : (f : Option OutEntry) (d : Draft) → ((o : OutEntry) → f ≡ Some o → IsDue d.rows.outbox o) → d.is_recovered ≡ false → SoundAt d → SoundAt (offer_entry f d)
+-- where no transaction is under way, one begins
+begins : (r : ℕ) (tag : Holder) (unit : List ℕ) (d : Draft) (P : Draft → Type 0) → is_busy d.links ≡ false
+    → P (with_turn (started (of_kind Data r tag) (begin_step d.moment unit d.links) (link_of d)) d) → P (begin r tag unit d)
+begins r tag unit d P e h =
+    subst (λ (t : Turn). P (with_turn t d)) (sym (cond-false (is_busy d.links) (still (link_of d)) (started (of_kind Data r tag) (begin_step d.moment unit d.links) (link_of d)) e)) h
+
+pub offer_entry_sound : (f : Option OutEntry) (d : Draft) → ((o : OutEntry) → f ≡ Some o → IsDue d.rows.outbox o) → is_busy d.links ≡ false → d.is_recovered ≡ false → SoundAt d → SoundAt (offer_entry f d)
 unfolding sent_now
-offer_entry_sound None d h n s = s
-offer_entry_sound (Some o) d h n s =
+offer_entry_sound None d h free n s = s
+offer_entry_sound (Some o) d h free n s =
     let os = d.rows.outbox in
     let i = h o refl in
     let w : OutEntry = sent_now o in
     let was = s.outbox.each o i.among in
     let left : o.tries < 3 = subst (λ (z : EntryState). AreTries z o.tries) i.queued was.3 in
     let tries : WasSent w.tries = ((let p : 0 < min (o.tries + 1) 255 = omega arith in p), (let p : min (o.tries + 1) 255 ≤ 3 = omega arith in p)) in
-    outbox_moves d.rows d.under_way _ d.is_recovered d.is_recovered (put out_key w os)
+    begins o.reference (EntryHolder o.number) (data_up o.reference (relay_address d.rows.setup.centre) (submit_of o)) (put_out w d) (λ (z : Draft). SoundAt z) free
+    (outbox_moves d.rows d.under_way _ d.is_recovered d.is_recovered d.notices (put out_key w os)
     (replaced d.rows.counters.entry d.rows.entries os o w i.among
     (record { number = refl; message_reference = refl; reference = refl; unfinished = λ v. ap (λ (z : EntryState). is_unfinished z) i.queued })
     (was.0, was.1, was.2, tries) s.outbox)
-    (λ t. absurd cc) (w, (row_at_put out_key w os, refl)) s
+    (λ t. absurd cc) (w, (row_at_put out_key w os, (refl, refl))) s)
 
-offer_message_sound : (d : Draft) → d.is_recovered ≡ false → SoundAt d → SoundAt (offer_message d)
-offer_message_sound d n s = offer_entry_sound (first_due d.moment d.rows.outbox) d (λ o e. first_due_is d.moment d.rows.outbox o e) n s
+pub offer_message_sound : (d : Draft) → is_busy d.links ≡ false → d.is_recovered ≡ false → SoundAt d → SoundAt (offer_message d)
+offer_message_sound d free n s = offer_entry_sound (first_due d.moment d.rows.outbox) d (λ o e. first_due_is d.moment d.rows.outbox o e) free n s
 
 -- an RP-SMMA is under way
-noticed : (d : Draft) (w : Option Carried) → IsUnderWay w d.rows.outbox → d.is_recovered ≡ false → SoundAt d → Sound d.rows w d.is_recovered
-noticed d w u n s = outbox_moves d.rows d.under_way w d.is_recovered d.is_recovered d.rows.outbox s.outbox (λ t. absurd cc) u s
+noticed : (d : Draft) (w : Option Carried) → IsUnderWay w d.rows.outbox → d.is_recovered ≡ false → SoundAt d → Sound d.rows w d.is_recovered d.notices
+noticed d w u n s = outbox_moves d.rows d.under_way w d.is_recovered d.is_recovered d.notices d.rows.outbox s.outbox (λ t. absurd cc) u s
 
-send_notice_sound : (n : Notice) (d : Draft) → d.is_recovered ≡ false → SoundAt d → SoundAt (send_notice n d)
-send_notice_sound n d f s = noticed d (send_notice n d).under_way tt f s
+-- it is sent, as few as may be sent
+pub send_notice_sound : (n : Notice) (d : Draft) → length (put notice_key (record n { due = None }) d.notices) ≤ most_notices → is_busy d.links ≡ false → d.is_recovered ≡ false → SoundAt d → SoundAt (send_notice n d)
+send_notice_sound n d few free f s =
+    let e : Draft = put_notice (record n { due = None }) d in
+    begins n.reference (Memory n.number) (smma_up n.reference) e (λ (z : Draft). SoundAt z) free
+    (noticed e _ tt f (notices_move d.rows d.under_way d.is_recovered d.notices e.notices few s))
 
-first_notice_sound : (n r : ℕ) (d : Draft) → d.is_recovered ≡ false → SoundAt d → SoundAt (first_notice n r d)
-first_notice_sound n r d f s =
+pub first_notice_sound : (n r : ℕ) (d : Draft) → length d.notices < most_notices → is_busy d.links ≡ false → d.is_recovered ≡ false → SoundAt d → SoundAt (first_notice n r d)
+first_notice_sound n r d few free f s =
     let c : Counters = record d.rows.counters { notice = n + 1; reference = (r + 1) % 256 } in
-    let e : Draft = record d { rows = record d.rows { counters = c } } in
-    noticed e (first_notice n r d).under_way tt f
-    (counters_move d.rows d.under_way d.is_recovered c (let l : d.rows.counters.entry ≤ d.rows.counters.entry = omega arith in l) s)
+    let e : Draft = record d { rows = record d.rows { counters = c }; changes = record d.changes { counters = Some c }; notices_wanted = d.notices_wanted - 1 } in
+    let w : Notice = record { number = n; reference = r; is_second = false; due = None } in
+    send_notice_sound w e (let l = length_put notice_key w d.notices in omega arith) free f
+    (counters_move d.rows d.under_way d.is_recovered d.notices c (let l : d.rows.counters.entry ≤ d.rows.counters.entry = omega arith in l) s)
 
-offer_wanted_sound : (d : Draft) → d.is_recovered ≡ false → SoundAt d → SoundAt (offer_wanted d)
-offer_wanted_sound d f s =
-    let r = next_free d.rows.counters.reference (held_references None d.rows.outbox) in
-    cond_both (nat_lt 0 d.wanted && nat_lt d.rows.counters.notice 4294967295) (first_notice d.rows.counters.notice r d) (offer_message d) (λ (z : Draft). SoundAt z)
-    (λ t. first_notice_sound d.rows.counters.notice r d f s) (λ t. offer_message_sound d f s)
+pub offer_wanted_sound : (d : Draft) → is_busy d.links ≡ false → d.is_recovered ≡ false → SoundAt d → SoundAt (offer_wanted d)
+offer_wanted_sound d free f s =
+    let r = next_free d.rows.counters.reference (held_references d.notices d.rows.outbox) in
+    cond_both (is_notice_next d) (first_notice d.rows.counters.notice r d) (offer_message d) (λ (z : Draft). SoundAt z)
+    (λ t.
+    let both = and_parts (nat_lt 0 d.notices_wanted) (nat_lt d.rows.counters.notice 4294967295 && nat_lt (length d.notices) most_notices) t in
+    let few = and_parts (nat_lt d.rows.counters.notice 4294967295) (nat_lt (length d.notices) most_notices) both.1 in
+    first_notice_sound d.rows.counters.notice r d (ltb-true (length d.notices) most_notices few.1) free f s)
+    (λ t. offer_message_sound d free f s)
 
-offer_after_sound : (n : Option Notice) (d : Draft) → d.is_recovered ≡ false → SoundAt d → SoundAt (offer_after n d)
-offer_after_sound None d f s = offer_wanted_sound d f s
-offer_after_sound (Some n) d f s =
-    cond_both (is_fired d.moment n.due) (send_notice n d) (offer_message d) (λ (z : Draft). SoundAt z)
-    (λ t. send_notice_sound n d f s) (λ t. offer_message_sound d f s)
+first_fired_among : (moment : ℕ) (ns : List Notice) (n : Notice) → first_fired moment ns ≡ Some n → Among n ns
+first_fired_among moment [] n e = absurd cc
+first_fired_among moment (x ∷ xs) n e = ⊎_elim
+    (λ (t : is_fired moment x.due ≡ true).
+    let both : Some n ≡ Some x = sym e ∙ cond-true (is_fired moment x.due) (Some x) (first_fired moment xs) t in
+    let q : n ≡ x = cc in inl q)
+    (λ (t : is_fired moment x.due ≡ false). inr (first_fired_among moment xs n (sym (cond-false (is_fired moment x.due) (Some x) (first_fired moment xs) t) ∙ e)))
+    (cases_Bool (is_fired moment x.due))
 
-offer_sound : (d : Draft) → d.is_recovered ≡ false → SoundAt d → SoundAt (offer d)
-offer_sound d f s = cond_both (is_busy d.links) d (offer_after d.notice d) (λ (z : Draft). SoundAt z) (λ t. s) (λ t. offer_after_sound d.notice d f s)
+pub offer_after_sound : (n : Option Notice) (d : Draft) → first_fired d.moment d.notices ≡ n → is_busy d.links ≡ false → d.is_recovered ≡ false → SoundAt d → SoundAt (offer_after n d)
+offer_after_sound None d q free f s = offer_wanted_sound d free f s
+offer_after_sound (Some n) d q free f s =
+    let w : Notice = record n { due = None } in
+    let l = length_replaced notice_key w n d.notices (first_fired_among d.moment d.notices n q) refl in
+    send_notice_sound n d (let k = s.few_notices in omega arith) free f s
+
+pub offer_sound : (d : Draft) → d.is_recovered ≡ false → SoundAt d → SoundAt (offer d)
+offer_sound d f s =
+    let n = first_fired d.moment d.notices in
+    cond_both (is_busy d.links) d (offer_after n d) (λ (z : Draft). SoundAt z) (λ t. s) (λ t. offer_after_sound n d refl t f s)
 
 pub follow_sound : (d : Draft) → SoundAt d → SoundAt (follow d)
 follow_sound d s = let l = lapse_settles d s in offer_sound (lapse d) l.recovered l.sound

@@ -93,11 +93,6 @@ submit_read message_reference destination report part a p r =
     let w : IsWrittenSubmit (submit_octets s) s = ([], a, refl, submit_data message_reference destination report part p r, refl) in
     submit_again (submit_octets s) s (written_up InData (submit_octets s) (Submit s) w)
 
-pub written_is_submitted : (number message_reference reference : ℕ) (destination : Address) (report is_long : Bool) (part : Part) → IsAddress destination → IsPart part → HasRoom part
-    → IsSubmitted (written_entry number message_reference reference destination report is_long part)
-written_is_submitted number message_reference reference destination report is_long part a p r =
-    (submit_for message_reference destination report part, (submit_read message_reference destination report part a p r, refl, refl, refl))
-
 -- it has 200 octets at most
 pub written_fits : (message_reference : ℕ) (destination : Address) (report : Bool) (part : Part) → IsAddress destination → IsPart part → HasRoom part
     → length (submit_octets (submit_for message_reference destination report part)) ≤ 200
@@ -106,6 +101,11 @@ written_fits message_reference destination report part a p r =
     let s : SubmitOf = submit_for message_reference destination report part in
     let w : IsWrittenSubmit (submit_octets s) s = ([], a, refl, submit_data message_reference destination report part p r, refl) in
     (submit_short part (user_of part) message_reference destination report (submit_octets s) w).1
+
+pub written_is_submitted : (number message_reference reference : ℕ) (destination : Address) (report is_long : Bool) (part : Part) → IsAddress destination → IsPart part → HasRoom part
+    → IsSubmitted (written_entry number message_reference reference destination report is_long part)
+written_is_submitted number message_reference reference destination report is_long part a p r =
+    (submit_for message_reference destination report part, (submit_read message_reference destination report part a p r, refl, refl, refl, written_fits message_reference destination report part a p r))
 
 -- ---- the parts of a text
 

@@ -12,10 +12,10 @@ use Rattle.sms_tpdu.specs.TpduReading.{down_at}
 use Rattle.sms_handset.specs.declared.entry.Entry.{Entry}
 use Rattle.sms_handset.specs.declared.entry.Message.{Message}
 use Rattle.sms_handset.specs.declared.entry.Message.TheVariants.{Single, Part, Joined}
-use Rattle.sms_handset.specs.declared.last.Last.{Last}
-use Rattle.sms_handset.specs.declared.mark.Mark.{Mark}
-use Rattle.sms_handset.specs.declared.rows.Changes.{Changes}
+use Rattle.sms_handset.specs.declared.last_accepted.LastAccepted.{LastAccepted}
+use Rattle.sms_handset.specs.declared.discarded_group.DiscardedGroup.{DiscardedGroup}
 use Rattle.sms_handset.specs.declared.rows.Rows.{Rows}
+use Rattle.sms_handset.specs.Draft.{Changes}
 use Rattle.sms_handset.specs.Groups.{carried_part, group_of, key_of, mark_of}
 
 -- The message has the DELIVER's source and user data: it is that DELIVER, or was joined from parts of which it is one.
@@ -27,15 +27,15 @@ Holds tpdu m (Joined source content) =
     × ((parts : List PartOf) × (part : PartOf) × ((content_joined parts ≡ Some content) × (carried_part (down_at InData tpdu) ≡ Some part) × Among part parts))
 
 -- a part of a discarded group
-abbrev pub IsOfDiscarded : List Mark → DeliverOf → Type 0
-IsOfDiscarded marks m = (key : ConcatKey) × (mark : Mark) × ((key_of m ≡ Some key) × (mark_of (group_of m.originating_address key) marks ≡ Some mark))
+abbrev pub IsOfDiscarded : List DiscardedGroup → DeliverOf → Type 0
+IsOfDiscarded marks m = (key : ConcatKey) × (mark : DiscardedGroup) × ((key_of m ≡ Some key) × (mark_of (group_of m.originating_address key) marks ≡ Some mark))
 
 -- an entry that was put, and stands in the rows
 abbrev pub IsPut : Changes → Rows → Entry → Type 0
 IsPut changes rows e = Among (Put e) changes.entries × Among e rows.entries
 
 -- Changes that put a DELIVER of no discarded group into what was accepted last also put an entry of its source and user data.
-abbrev pub StoresAccepted : List Mark → Changes → Rows → Type 0
+abbrev pub StoresAccepted : List DiscardedGroup → Changes → Rows → Type 0
 StoresAccepted marks changes rows =
-    (l : Last) → Among (Put l) changes.last → (m : DeliverOf) → down_at InData l.tpdu ≡ Ok (Deliver m)
+    (l : LastAccepted) → Among (Put l) changes.last → (m : DeliverOf) → down_at InData l.tpdu ≡ Ok (Deliver m)
     → IsOfDiscarded marks m ⊎ ((e : Entry) × (IsPut changes rows e × Holds l.tpdu m e.message))

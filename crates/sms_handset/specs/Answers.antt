@@ -1,15 +1,14 @@
 -- How a transfer that the handset began ended.
 use Rattle.std.specs.Prelude.{ℕ, ◌==◌, ◌||◌, Bool, true, false, if◌then◌else◌, Option, Some, None, Result, Ok, Err, List}
 use Rattle.sms_relay.specs.declared.cause.RpCause.{RpCause}
-use Rattle.sms_relay.specs.declared.fault.RelayFault.{RelayFault}
-use Rattle.sms_relay.specs.declared.frame.Rp.{Rp}
-use Rattle.sms_relay.specs.declared.frame.Rp.TheVariants.{DataUnit, AckUnit, ErrorUnit, Smma}
 use Rattle.sms_relay.specs.Cause.{number_of}
 use Rattle.sms_tpdu.specs.declared.carrier.Carrier.TheVariants.{InError}
 use Rattle.sms_tpdu.specs.declared.down.Down.{Down}
 use Rattle.sms_tpdu.specs.declared.down.Down.TheVariants.{Deliver, StatusReport, SubmitReport}
 use Rattle.sms_tpdu.specs.declared.fault.TpduFault.{TpduFault}
 use Rattle.sms_tpdu.specs.TpduReading.{down_at}
+use Rattle.sms_link.specs.declared.ending.Ending.{Ending}
+use Rattle.sms_link.specs.declared.ending.Ending.TheVariants.{Acknowledged as AcknowledgedEnd, Refused as RefusedEnd, Wrong as WrongEnd, Lost as LostEnd}
 use Rattle.sms_handset.specs.declared.answers.Verdict.{Verdict}
 use Rattle.sms_handset.specs.declared.answers.Verdict.TheVariants.{Acknowledged, Temporary, Duplicate, Refused, Lost}
 
@@ -36,15 +35,9 @@ is_duplicate (Some tpdu) = tells_duplicate (down_at InError tpdu)
 abbrev pub error_verdict : RpCause → Option (List ℕ) → Verdict
 error_verdict cause tpdu = if is_temporary cause then Temporary else (if is_duplicate tpdu then Duplicate else Refused)
 
--- what a unit says of the transfer with that reference; a wrong reference is looked at first
-abbrev pub unit_verdict : ℕ → Result Rp RelayFault → Verdict
-unit_verdict reference (Ok (DataUnit r centre tpdu)) = Lost
-unit_verdict reference (Ok (AckUnit r tpdu)) = if r == reference then Acknowledged else Lost
-unit_verdict reference (Ok (ErrorUnit r cause tpdu)) = if r == reference then error_verdict cause tpdu else Lost
-unit_verdict reference (Ok (Smma r)) = Lost
-unit_verdict reference (Err fault) = Lost
-
--- no unit: the transaction failed
-abbrev pub verdict_of : ℕ → Option (Result Rp RelayFault) → Verdict
-verdict_of reference None = Lost
-verdict_of reference (Some unit) = unit_verdict reference unit
+-- What the end of its transfer says of an entry. Of an answer that is none to it, and of no answer, nothing is learnt.
+abbrev pub verdict_of : Ending → Verdict
+verdict_of AcknowledgedEnd = Acknowledged
+verdict_of (RefusedEnd cause tpdu) = error_verdict cause tpdu
+verdict_of WrongEnd = Lost
+verdict_of LostEnd = Lost

@@ -1,30 +1,24 @@
 -- A handset, and a handset in the middle of an event: its rows, all that a restart forgets, and what has come of the
 -- event so far. All that a stage of an event does, it does by the moves below.
-use Rattle.std.specs.Prelude.{ℕ, ◌+◌, List, [], ◌∷◌, ◌++◌, Bool, true, false, Option, Some, None, Result, Ok, Err, unwrap_or, max}
+use Rattle.std.specs.Prelude.{ℕ, ◌+◌, List, [], ◌∷◌, ◌++◌, Bool, true, false, Option, Some, None, unwrap_or, max}
 use Rattle.indexmap.specs.IndexMap.{index_map_len, spare}
 use Rattle.sms_control.specs.declared.link_state.LinkState.{LinkState}
-use Rattle.sms_control.specs.declared.message.Cp.{Cp}
-use Rattle.sms_control.specs.declared.message.Cp.TheVariants.{DataUnit, AckUnit, ErrorUnit}
-use Rattle.sms_control.specs.declared.fault.CpFault.{CpFault}
-use Rattle.sms_control.specs.declared.transaction.TransactionFlag.{TransactionFlag}
-use Rattle.sms_control.specs.declared.transaction.TransactionFlag.TheVariants.{FromOriginator, ToOriginator}
-use Rattle.sms_control.specs.ControlReading.{cp_at}
-use Rattle.sms_control.specs.LinkStep.{Step, fresh, begin_step, reply_step}
+use Rattle.sms_control.specs.LinkStep.{fresh}
+use Rattle.sms_link.specs.declared.ending.Side.TheVariants.{Handset as HandsetSide}
+use Rattle.sms_link.specs.declared.outgoing.Outgoing.{Outgoing}
+use Rattle.sms_link.specs.LinkTurn.{LinkOf, Turn, begun, replied}
 use Rattle.sms_table.specs.declared.change.Change.{Change}
 use Rattle.sms_table.specs.declared.change.Change.TheVariants.{Put, Remove}
 use Rattle.sms_handset.specs.declared.counters.Counters.{Counters}
 use Rattle.sms_handset.specs.declared.entry.Entry.{Entry}
 use Rattle.sms_base.specs.declared.holder.Holder.{Holder}
-use Rattle.sms_handset.specs.declared.last.Last.{Last}
-use Rattle.sms_handset.specs.declared.mark.Mark.{Mark}
+use Rattle.sms_handset.specs.declared.last_accepted.LastAccepted.{LastAccepted}
+use Rattle.sms_handset.specs.declared.discarded_group.DiscardedGroup.{DiscardedGroup}
 use Rattle.sms_handset.specs.declared.notice.Notice.{Notice}
 use Rattle.sms_handset.specs.declared.out_entry.OutEntry.{OutEntry}
 use Rattle.sms_base.specs.declared.carried.Kind.{Kind}
-use Rattle.sms_base.specs.declared.carried.Kind.TheVariants.{Data}
 use Rattle.sms_base.specs.declared.carried.Carried.{Carried}
-use Rattle.sms_handset.specs.declared.outgoing.Outgoing.{Outgoing}
 use Rattle.sms_handset.specs.declared.rows.Rows.{Rows}
-use Rattle.sms_handset.specs.declared.rows.Changes.{Changes}
 use Rattle.sms_handset.specs.declared.stored.Stored.{Stored}
 use Rattle.sms_handset.specs.Keys.{entry_key, last_key, out_key, mark_key}
 use Rattle.sms_table.specs.Table.{put, without, all_applied}
@@ -39,9 +33,9 @@ pub record Core : Type 0 where
   -- what the transaction that it began carries, and what its answer in the centre's transaction carries
   pub under_way : Option Carried
   pub answered : Option Carried
-  -- how many RP-SMMA are wanted that were not sent yet, and the one that was sent and has not ended
-  pub wanted : ℕ
-  pub notice : Option Notice
+  -- how many RP-SMMA are wanted that were not sent yet, and those that were sent and have not ended
+  pub notices_wanted : ℕ
+  pub notices : List Notice
   -- rows that are Sending may stand from before a restart
   pub is_recovered : Bool
 
@@ -53,8 +47,8 @@ recovered rows = record {
   links = fresh;
   under_way = None;
   answered = None;
-  wanted = 0;
-  notice = None;
+  notices_wanted = 0;
+  notices = [];
   is_recovered = true;
 }
 
@@ -70,7 +64,7 @@ pub record GroupRoom : Type 0 where
   pub taken : ℕ
   pub capacity : ℕ
 
-pub record Standing : Type 0 where
+pub record HandsetOf : Type 0 where
   pub core : Core
   pub room : Room
   pub groups : GroupRoom
@@ -97,6 +91,14 @@ group_room_of s = record {
 
 -- ---- changes
 
+-- what came and went of each list, in order, and the counters if they changed
+pub record Changes : Type 0 where
+  pub entries : List (Change Entry)
+  pub last : List (Change LastAccepted)
+  pub outbox : List (Change OutEntry)
+  pub marks : List (Change DiscardedGroup)
+  pub counters : Option Counters
+
 abbrev pub no_changes : Changes
 no_changes = record { entries = []; last = []; outbox = []; marks = []; counters = None }
 
@@ -119,8 +121,8 @@ pub record Draft : Type 0 where
   pub links : LinkState
   pub under_way : Option Carried
   pub answered : Option Carried
-  pub wanted : ℕ
-  pub notice : Option Notice
+  pub notices_wanted : ℕ
+  pub notices : List Notice
   pub is_recovered : Bool
   -- what came of the event so far
   pub changes : Changes
@@ -133,8 +135,8 @@ draft_of c = record {
   links = c.links;
   under_way = c.under_way;
   answered = c.answered;
-  wanted = c.wanted;
-  notice = c.notice;
+  notices_wanted = c.notices_wanted;
+  notices = c.notices;
   is_recovered = c.is_recovered;
   changes = no_changes;
   frames = [];
@@ -147,8 +149,8 @@ core_of d = record {
   links = d.links;
   under_way = d.under_way;
   answered = d.answered;
-  wanted = d.wanted;
-  notice = d.notice;
+  notices_wanted = d.notices_wanted;
+  notices = d.notices;
   is_recovered = d.is_recovered;
 }
 
@@ -166,7 +168,7 @@ remove_entry n d = record d {
   changes = record d.changes { entries = d.changes.entries ++ Remove n ∷ [] };
 }
 
-abbrev pub put_last : Last → Draft → Draft
+abbrev pub put_last : LastAccepted → Draft → Draft
 put_last l d = record d {
   rows = record d.rows { last = put last_key l d.rows.last };
   changes = record d.changes { last = d.changes.last ++ Put l ∷ [] };
@@ -184,7 +186,7 @@ remove_out n d = record d {
   changes = record d.changes { outbox = d.changes.outbox ++ Remove n ∷ [] };
 }
 
-abbrev pub put_mark : Mark → Draft → Draft
+abbrev pub put_mark : DiscardedGroup → Draft → Draft
 put_mark m d = record d {
   rows = record d.rows { marks = put mark_key m d.rows.marks };
   changes = record d.changes { marks = d.changes.marks ++ Put m ∷ [] };
@@ -199,44 +201,25 @@ remove_mark n d = record d {
 abbrev pub put_counters : Counters → Draft → Draft
 put_counters c d = record d { rows = record d.rows { counters = c }; changes = record d.changes { counters = Some c } }
 
--- ---- moves: frames
+-- ---- moves: the link
 
--- frames that all carry the same
-abbrev pub carrying : Option Carried → List (List ℕ) → List Outgoing
-carrying carried [] = []
-carrying carried (f ∷ fs) = record { octets = f; carried = carried } ∷ carrying carried fs
+-- the handset's end of the link
+abbrev pub link_of : Draft → LinkOf
+link_of d = record { side = HandsetSide; links = d.links; under_way = d.under_way; answered = d.answered }
 
--- The answer in the transaction that the centre began. It is kept what the answer carries: links may send it again.
+-- the link did that
+abbrev pub with_turn : Turn → Draft → Draft
+with_turn turn d = record d {
+  links = turn.link.links;
+  under_way = turn.link.under_way;
+  answered = turn.link.answered;
+  frames = d.frames ++ turn.out.frames;
+}
+
+-- the answer in the transaction that the centre began
 abbrev pub reply : Kind → ℕ → Holder → List ℕ → Draft → Draft
-reply kind reference tag unit d =
-    let carried : Option Carried = Some (record { kind = kind; reference = reference; tag = tag }) in
-    let step : Step = reply_step d.moment unit d.links in
-    record d { links = step.state; answered = carried; frames = d.frames ++ carrying carried step.out.frames }
+reply kind reference tag unit d = with_turn (replied d.moment kind reference tag unit (link_of d)) d
 
--- A transaction of this side.
+-- a transaction of this side
 abbrev pub begin : ℕ → Holder → List ℕ → Draft → Draft
-begin reference tag unit d =
-    let carried : Option Carried = Some (record { kind = Data; reference = reference; tag = tag }) in
-    let step : Step = begin_step d.moment unit d.links in
-    record d { links = step.state; under_way = carried; frames = d.frames ++ carrying carried step.out.frames }
-
--- What a frame of the links' own carries: CP-DATA of this side's transaction is that transaction's data, CP-DATA of the
--- centre's is this side's answer there, and CP-ACK and CP-ERROR carry nothing.
-abbrev pub carried_by : TransactionFlag → Option Carried → Option Carried → Option Carried
-carried_by FromOriginator under_way answered = under_way
-carried_by ToOriginator under_way answered = answered
-
-abbrev pub carried_in : Result Cp CpFault → Option Carried → Option Carried → Option Carried
-carried_in (Ok (DataUnit transaction unit)) under_way answered = carried_by transaction.flag under_way answered
-carried_in (Ok (AckUnit transaction)) under_way answered = None
-carried_in (Ok (ErrorUnit transaction cause)) under_way answered = None
-carried_in (Err fault) under_way answered = None
-
-abbrev pub from_links : Option Carried → Option Carried → List (List ℕ) → List Outgoing
-from_links under_way answered [] = []
-from_links under_way answered (f ∷ fs) =
-    record { octets = f; carried = carried_in (cp_at f) under_way answered } ∷ from_links under_way answered fs
-
--- the links did a step of their own
-abbrev pub heard : Step → Draft → Draft
-heard step d = record d { links = step.state; frames = d.frames ++ from_links d.under_way d.answered step.out.frames }
+begin reference tag unit d = with_turn (begun d.moment reference tag unit (link_of d)) d

@@ -2,11 +2,9 @@
 -- it, the last part ends it, and nothing else that comes touches a group.
 use Rattle.std.specs.Prelude.{ℕ, List, [], ◌∷◌, ◌++◌, if◌then◌else◌, Option, Some, None, Result, Ok, Err}
 use Rattle.sms_concat.specs.declared.concat_key.ConcatKey.{ConcatKey}
-use Rattle.sms_control.specs.declared.out.Up.{Up}
-use Rattle.sms_control.specs.declared.out.Up.TheVariants.{Unit as UnitUp, Failed}
-use Rattle.sms_control.specs.declared.transaction.TransactionFlag.{TransactionFlag}
-use Rattle.sms_control.specs.declared.transaction.TransactionFlag.TheVariants.{FromOriginator, ToOriginator}
-use Rattle.sms_control.specs.LinkStep.{Step}
+use Rattle.sms_link.specs.declared.ending.Upward.{Upward}
+use Rattle.sms_link.specs.declared.ending.Upward.TheVariants.{Opened, Ended}
+use Rattle.sms_link.specs.LinkTurn.{Turn}
 use Rattle.sms_relay.specs.declared.fault.RelayFault.{RelayFault}
 use Rattle.sms_relay.specs.declared.frame.Rp.{Rp}
 use Rattle.sms_relay.specs.declared.frame.Rp.TheVariants.{DataUnit, AckUnit, ErrorUnit, Smma}
@@ -20,10 +18,10 @@ use Rattle.sms_tpdu.specs.TpduReading.{down_at}
 use Rattle.sms_table.specs.Table.{row_at}
 use Rattle.sms_handset.specs.declared.entry.Entry.{Entry}
 use Rattle.sms_handset.specs.declared.entry.Group.{Group}
-use Rattle.sms_handset.specs.declared.mark.Mark.{Mark}
+use Rattle.sms_handset.specs.declared.discarded_group.DiscardedGroup.{DiscardedGroup}
 use Rattle.sms_handset.specs.declared.open_group.Regrouping.{Regrouping}
 use Rattle.sms_handset.specs.declared.open_group.Regrouping.TheVariants.{Unchanged}
-use Rattle.sms_handset.specs.Draft.{Draft, heard}
+use Rattle.sms_handset.specs.Draft.{Draft, with_turn}
 use Rattle.sms_handset.specs.Groups.{group_of, is_among, key_of, mark_of, members, part_entry, part_numbers}
 use Rattle.sms_handset.specs.Keys.{last_key}
 use Rattle.sms_handset.specs.MemoryAvailable.{has_room}
@@ -39,7 +37,7 @@ new_part_groups tpdu g n es d = if has_room d then stored_groups g n tpdu es d e
 abbrev pub member_groups : List ℕ → Group → ℕ → List Entry → Draft → Regrouping
 member_groups tpdu g n es d = if is_among n (part_numbers es) then Unchanged else new_part_groups tpdu g n es d
 
-abbrev pub part_groups : List ℕ → Group → ℕ → Option Mark → Draft → Regrouping
+abbrev pub part_groups : List ℕ → Group → ℕ → Option DiscardedGroup → Draft → Regrouping
 part_groups tpdu g n None d = member_groups tpdu g n (members g d.rows.entries) d
 part_groups tpdu g n (Some m) d = Unchanged
 
@@ -66,15 +64,11 @@ unit_groups (Ok (ErrorUnit reference cause tpdu)) d = Unchanged
 unit_groups (Ok (Smma reference)) d = Unchanged
 unit_groups (Err fault) d = Unchanged
 
-abbrev pub unit_up_groups : TransactionFlag → List ℕ → Draft → Regrouping
-unit_up_groups FromOriginator unit d = unit_groups (unit_at unit) d
-unit_up_groups ToOriginator unit d = Unchanged
-
--- what the links pass up
-abbrev pub up_groups : Option Up → Draft → Regrouping
+-- what goes up from the link
+abbrev pub up_groups : Option Upward → Draft → Regrouping
 up_groups None d = Unchanged
-up_groups (Some (UnitUp flag unit)) d = unit_up_groups flag unit d
-up_groups (Some Failed) d = Unchanged
+up_groups (Some (Opened unit)) d = unit_groups (unit_at unit) d
+up_groups (Some (Ended transfer ending)) d = Unchanged
 
-abbrev pub frame_groups : Step → Draft → Regrouping
-frame_groups step d = up_groups step.out.up (heard step d)
+abbrev pub frame_groups : Turn → Draft → Regrouping
+frame_groups turn d = up_groups turn.out.up (with_turn turn d)

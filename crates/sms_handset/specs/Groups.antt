@@ -20,7 +20,7 @@ use Rattle.sms_handset.specs.declared.entry.Group.{Group}
 use Rattle.sms_handset.specs.declared.entry.Message.{Message}
 use Rattle.sms_handset.specs.declared.entry.Message.TheVariants.{Single, Part, Joined}
 use Rattle.sms_handset.specs.declared.entry.Entry.{Entry}
-use Rattle.sms_handset.specs.declared.mark.Mark.{Mark}
+use Rattle.sms_handset.specs.declared.discarded_group.DiscardedGroup.{DiscardedGroup}
 use Rattle.sms_handset.specs.Draft.{Draft, put_entry, remove_entry, put_mark, remove_mark, put_counters}
 
 -- ---- numbers
@@ -176,12 +176,12 @@ store_part g n tpdu es d =
 
 -- ---- discarded groups
 
-abbrev pub mark_of : Group → List Mark → Option Mark
+abbrev pub mark_of : Group → List DiscardedGroup → Option DiscardedGroup
 mark_of g [] = None
 mark_of g (m ∷ ms) = if is_same_group m.group g then Some m else mark_of g ms
 
 -- A part of a discarded group is noted; the group is forgotten with its last part.
-abbrev pub marked : ℕ → Mark → Draft → Draft
+abbrev pub marked : ℕ → DiscardedGroup → Draft → Draft
 marked n m d =
     if all_numbers m.group.total (m.seen ++ n ∷ []) then remove_mark m.number d
     else put_mark (record m { seen = m.seen ++ n ∷ [] }) d

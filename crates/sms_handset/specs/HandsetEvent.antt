@@ -1,52 +1,53 @@
 -- An event of a handset: what it does, then what follows every event, lapsed transfers and the next offer.
-use Rattle.std.specs.Prelude.{ℕ, max, List, Bool, Option, Some, None, Result, Ok, Err}
-use Rattle.sms_control.specs.declared.out.Up.{Up}
-use Rattle.sms_control.specs.declared.out.Up.TheVariants.{Unit as UnitUp, Failed}
-use Rattle.sms_control.specs.declared.transaction.TransactionFlag.{TransactionFlag}
-use Rattle.sms_control.specs.declared.transaction.TransactionFlag.TheVariants.{FromOriginator, ToOriginator}
-use Rattle.sms_control.specs.LinkStep.{Step, take_step, fire_step}
+use Rattle.std.specs.Prelude.{ℕ, max, List, Bool, Option, Some, None, Result, Ok, Err, unwrap_or}
+use Rattle.sms_link.specs.declared.ending.Upward.{Upward}
+use Rattle.sms_link.specs.declared.ending.Upward.TheVariants.{Opened, Ended}
+use Rattle.sms_link.specs.LinkTurn.{Turn, taken, fired}
 use Rattle.sms_relay.specs.RelayReading.{down_at}
 use Rattle.sms_base.specs.declared.holder.Holder.{Holder}
+use Rattle.sms_base.specs.declared.holder.Holder.TheVariants.{Entry as EntryHolder}
 use Rattle.sms_handset.specs.declared.refusal.Refusal.{Refusal}
-use Rattle.sms_handset.specs.Draft.{Core, Draft, draft_of, heard}
-use Rattle.sms_handset.specs.Outbox.{conclude, follow}
+use Rattle.sms_handset.specs.Draft.{Core, Draft, draft_of, link_of, with_turn}
+use Rattle.sms_handset.specs.Outbox.{follow, transfer_ended}
 use Rattle.sms_handset.specs.OwnersActs.{write, delete, discard}
 use Rattle.sms_handset.specs.Receiving.{unit_came}
 
 -- ---- a frame
 
-abbrev pub unit_up : Holder → TransactionFlag → List ℕ → Draft → Draft
-unit_up tag FromOriginator unit d = unit_came tag unit (down_at unit) d
-unit_up tag ToOriginator unit d = conclude (Some (down_at unit)) d
-
--- what the links pass up
-abbrev pub went_up : Holder → Option Up → Draft → Draft
+-- what goes up from the link: a unit that opens a transaction, or how the handset's own transfer ended
+abbrev pub went_up : Holder → Option Upward → Draft → Draft
 went_up tag None d = d
-went_up tag (Some (UnitUp flag unit)) d = unit_up tag flag unit d
-went_up tag (Some Failed) d = conclude None d
+went_up tag (Some (Opened unit)) d = unit_came tag unit (down_at unit) d
+went_up tag (Some (Ended transfer ending)) d = transfer_ended transfer ending d
 
-abbrev pub frame_heard : Holder → Step → Draft → Draft
-frame_heard tag step d = went_up tag step.out.up (heard step d)
+abbrev pub frame_heard : Holder → Turn → Draft → Draft
+frame_heard tag turn d = went_up tag turn.out.up (with_turn turn d)
 
 abbrev pub frame_came : List ℕ → Holder → Core → Draft
-frame_came octets tag c = follow (frame_heard tag (take_step octets c.links) (draft_of c))
+frame_came octets tag c = follow (frame_heard tag (taken octets (link_of (draft_of c))) (draft_of c))
+
+-- A frame that comes without a tag, from a socket, is taken as one of entry 0, which no entry is.
+abbrev pub tag_of : Option Holder → Holder
+tag_of tag = unwrap_or tag (EntryHolder 0)
 
 -- ---- a tick: timers fire; time never goes back
 
 abbrev pub at_moment : ℕ → Draft → Draft
 at_moment now d = record d { moment = max d.moment now }
 
--- a transaction of this side that a timer closes has failed
-abbrev pub failed : Option Up → Draft → Draft
-failed None d = d
-failed (Some (UnitUp flag unit)) d = d
-failed (Some Failed) d = conclude None d
+-- a transfer of this side that a timer ended
+abbrev pub timed_out : Option Upward → Draft → Draft
+timed_out None d = d
+timed_out (Some (Opened unit)) d = d
+timed_out (Some (Ended transfer ending)) d = transfer_ended transfer ending d
 
-abbrev pub timers_fired : Step → Draft → Draft
-timers_fired step d = failed step.out.up (heard step d)
+abbrev pub timers_fired : Turn → Draft → Draft
+timers_fired turn d = timed_out turn.out.up (with_turn turn d)
 
 abbrev pub ticked : ℕ → Core → Draft
-ticked now c = follow (timers_fired (fire_step (max c.moment now) c.links) (at_moment now (draft_of c)))
+ticked now c =
+    let d : Draft = at_moment now (draft_of c) in
+    follow (timers_fired (fired d.moment (link_of d)) d)
 
 -- ---- an act of the owner: one that is refused changes nothing at all
 

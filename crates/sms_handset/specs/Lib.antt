@@ -4,7 +4,7 @@ pub mod Groups
 pub mod OpenGroups
 pub mod StoredParts
 pub mod OpenIndex
-pub mod Standing
+pub mod Consistent
 pub mod GroupChanges
 pub mod References
 pub mod Answers
@@ -16,6 +16,7 @@ pub mod OwnersActs
 pub mod HandsetEvent
 pub mod Planning
 pub mod SoundRows
+pub mod SoundnessTest
 pub mod SoundCore
 pub mod Trying
 pub mod FaultCodes

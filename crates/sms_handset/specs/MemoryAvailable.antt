@@ -2,21 +2,17 @@
 -- so by RP-SMMA once a slot has become free.
 use Rattle.std.specs.Prelude.{ℕ, ◌+◌, ◌-◌, ◌%◌, min, nat_lt, Bool, true, false, if◌then◌else◌, Option, Some, None, Result, List, [], ◌∷◌}
 use Rattle.sms_control.specs.Timers.{later}
-use Rattle.sms_relay.specs.declared.fault.RelayFault.{RelayFault}
-use Rattle.sms_relay.specs.declared.frame.Rp.{Rp}
+use Rattle.sms_link.specs.declared.ending.Ending.{Ending}
+use Rattle.sms_link.specs.declared.ending.Ending.TheVariants.{Acknowledged, Refused, Wrong, Lost}
+use Rattle.sms_link.specs.Timers.{tram}
 use Rattle.sms_relay.specs.RelayGrammar.{smma_up}
+use Rattle.sms_table.specs.Table.{put, without}
 use Rattle.sms_handset.specs.declared.counters.Counters.{Counters}
 use Rattle.sms_base.specs.declared.holder.Holder.TheVariants.{Memory}
 use Rattle.sms_handset.specs.declared.notice.Notice.{Notice}
 use Rattle.sms_handset.specs.declared.entry.Entry.{Entry}
-use Rattle.sms_handset.specs.declared.answers.Verdict.{Verdict}
-use Rattle.sms_handset.specs.declared.answers.Verdict.TheVariants.{Acknowledged, Temporary, Duplicate, Refused, Lost}
-use Rattle.sms_handset.specs.Answers.{verdict_of}
+use Rattle.sms_handset.specs.Keys.{notice_key}
 use Rattle.sms_handset.specs.Draft.{Draft, put_counters, begin}
-
--- TRAM, in seconds (this project's length)
-abbrev pub tram : ℕ
-tram = 30
 
 abbrev pub slots_taken : List Entry → ℕ
 slots_taken [] = 0
@@ -37,7 +33,7 @@ flag d = put_counters (record d.rows.counters { is_memory_full = true }) d
 
 -- one more RP-SMMA is wanted
 abbrev pub want_notice : Draft → Draft
-want_notice d = record d { wanted = min (d.wanted + 1) 4294967295 }
+want_notice d = record d { notices_wanted = min (d.notices_wanted + 1) 4294967295 }
 
 -- a slot became free
 abbrev pub freed : Draft → Draft
@@ -48,29 +44,38 @@ freed d =
 
 -- ---- sending: twice in all, the second time under its reference once TRAM fired
 
+-- How many RP-SMMA may have been sent and not have ended: of 256 references enough are left for the outbox.
+abbrev pub most_notices : ℕ
+most_notices = 200
+
+abbrev pub put_notice : Notice → Draft → Draft
+put_notice n d = record d { notices = put notice_key n d.notices }
+
+abbrev pub remove_notice : ℕ → Draft → Draft
+remove_notice number d = record d { notices = without notice_key number d.notices }
+
 abbrev pub send_notice : Notice → Draft → Draft
-send_notice n d = begin n.reference (Memory n.number) (smma_up n.reference) (record d { notice = Some (record n { due = None }) })
+send_notice n d = begin n.reference (Memory n.number) (smma_up n.reference) (put_notice (record n { due = None }) d)
 
 -- its first sending takes a number and the next free reference
 abbrev pub first_notice : ℕ → ℕ → Draft → Draft
 first_notice number reference d =
     send_notice (record { number = number; reference = reference; is_second = false; due = None })
     (put_counters (record d.rows.counters { notice = number + 1; reference = (reference + 1) % 256 })
-    (record d { wanted = d.wanted - 1 }))
+    (record d { notices_wanted = d.notices_wanted - 1 }))
 
--- the transaction of an RP-SMMA ended
+-- the transaction of an RP-SMMA ended without its RP-ACK
 abbrev pub notice_failed : Notice → Draft → Draft
 notice_failed n d =
-    if n.is_second then record d { notice = None }
-    else record d { notice = Some (record n { is_second = true; due = Some (later d.moment tram) }) }
+    if n.is_second then remove_notice n.number d
+    else put_notice (record n { is_second = true; due = Some (later d.moment tram) }) d
 
-abbrev pub notice_ended : Verdict → Notice → Draft → Draft
-notice_ended Acknowledged n d = record d { notice = None }
-notice_ended Temporary n d = notice_failed n d
-notice_ended Duplicate n d = notice_failed n d
-notice_ended Refused n d = notice_failed n d
+abbrev pub notice_ended : Ending → Notice → Draft → Draft
+notice_ended Acknowledged n d = remove_notice n.number d
+notice_ended (Refused cause tpdu) n d = notice_failed n d
+notice_ended Wrong n d = notice_failed n d
 notice_ended Lost n d = notice_failed n d
 
-abbrev pub notice_concluded : Option (Result Rp RelayFault) → Option Notice → Draft → Draft
-notice_concluded unit None d = d
-notice_concluded unit (Some n) d = notice_ended (verdict_of n.reference unit) n d
+abbrev pub notice_concluded : Ending → Option Notice → Draft → Draft
+notice_concluded ending None d = d
+notice_concluded ending (Some n) d = notice_ended ending n d

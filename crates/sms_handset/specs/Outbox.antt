@@ -1,9 +1,8 @@
 -- The outbox: one message is under way at a time, the oldest that is due first; how it ends, and what a restart leaves.
-use Rattle.std.specs.Prelude.{ℕ, ◌+◌, ◌*◌, ◌/◌, ◌%◌, min, nat_le, nat_lt, ◌||◌, ◌&&◌, List, [], ◌∷◌, Bool, true, false, if◌then◌else◌, Option, Some, None, Result, is_some}
+use Rattle.std.specs.Prelude.{ℕ, ◌+◌, ◌*◌, ◌/◌, ◌%◌, min, nat_le, nat_lt, ◌||◌, ◌&&◌, List, [], ◌∷◌, Bool, true, false, if◌then◌else◌, Option, Some, None, length}
 use Rattle.sms_control.specs.Timers.{later}
 use Rattle.sms_control.specs.LinkStep.{is_busy}
-use Rattle.sms_relay.specs.declared.fault.RelayFault.{RelayFault}
-use Rattle.sms_relay.specs.declared.frame.Rp.{Rp}
+use Rattle.sms_link.specs.declared.ending.Ending.{Ending}
 use Rattle.sms_relay.specs.RelayGrammar.{data_up}
 use Rattle.sms_tpdu.specs.AddressGrammar.{relay_address}
 use Rattle.sms_base.specs.declared.holder.Holder.{Holder}
@@ -18,8 +17,8 @@ use Rattle.sms_handset.specs.declared.answers.Verdict.{Verdict}
 use Rattle.sms_handset.specs.declared.answers.Verdict.TheVariants.{Acknowledged, Temporary, Duplicate, Refused, Lost}
 use Rattle.sms_handset.specs.Answers.{verdict_of}
 use Rattle.sms_handset.specs.References.{held_references, next_free}
-use Rattle.sms_handset.specs.MemoryAvailable.{first_notice, send_notice, notice_concluded}
-use Rattle.sms_handset.specs.Keys.{out_key}
+use Rattle.sms_handset.specs.MemoryAvailable.{first_notice, most_notices, send_notice, notice_concluded}
+use Rattle.sms_handset.specs.Keys.{notice_key, out_key}
 use Rattle.sms_handset.specs.Draft.{Draft, put_out, begin}
 
 -- how often an entry is sent
@@ -52,24 +51,20 @@ settled moment Duplicate o = record o { state = Unsure }
 settled moment Refused o = record o { state = Failed }
 settled moment Lost o = lost o
 
-abbrev pub entry_concluded : Option (Result Rp RelayFault) → Option OutEntry → Draft → Draft
-entry_concluded unit None d = d
-entry_concluded unit (Some o) d = put_out (settled d.moment (verdict_of o.reference unit) o) d
+abbrev pub entry_concluded : Ending → Option OutEntry → Draft → Draft
+entry_concluded ending None d = d
+entry_concluded ending (Some o) d = put_out (settled d.moment (verdict_of ending) o) d
 
 -- what the transaction was for
-abbrev pub holder_concluded : Option (Result Rp RelayFault) → Holder → Draft → Draft
-holder_concluded unit (Part id number) d = d
-holder_concluded unit (Report id) d = d
-holder_concluded unit (Entry n) d = entry_concluded unit (row_at out_key n d.rows.outbox) d
-holder_concluded unit (Memory n) d = notice_concluded unit d.notice d
+abbrev pub holder_concluded : Ending → Holder → Draft → Draft
+holder_concluded ending (Part id number) d = d
+holder_concluded ending (Report id) d = d
+holder_concluded ending (Entry n) d = entry_concluded ending (row_at out_key n d.rows.outbox) d
+holder_concluded ending (Memory n) d = notice_concluded ending (row_at notice_key n d.notices) d
 
-abbrev pub transfer_concluded : Option (Result Rp RelayFault) → Option Carried → Draft → Draft
-transfer_concluded unit None d = d
-transfer_concluded unit (Some carried) d = holder_concluded unit carried.tag d
-
--- The transaction that this side began has ended, by a unit or without one.
-abbrev pub conclude : Option (Result Rp RelayFault) → Draft → Draft
-conclude unit d = transfer_concluded unit d.under_way (record d { under_way = None })
+-- the transfer that this side began has ended
+abbrev pub transfer_ended : Carried → Ending → Draft → Draft
+transfer_ended transfer ending d = holder_concluded ending transfer.tag d
 
 -- ---- after a restart: what was under way is lost
 
@@ -125,24 +120,33 @@ offer_entry (Some o) d =
 abbrev pub offer_message : Draft → Draft
 offer_message d = offer_entry (first_due d.moment d.rows.outbox) d
 
--- an RP-SMMA goes before messages; one that waits for TRAM holds nothing up
+-- An RP-SMMA is wanted, a number is left for it, and few wait to be sent again: where it is not so, messages go on.
+abbrev pub is_notice_next : Draft → Bool
+is_notice_next d = nat_lt 0 d.notices_wanted && (nat_lt d.rows.counters.notice 4294967295 && nat_lt (length d.notices) most_notices)
+
+-- an RP-SMMA that is wanted goes before messages, however many wait for TRAM
 abbrev pub offer_wanted : Draft → Draft
 offer_wanted d =
-    if nat_lt 0 d.wanted && nat_lt d.rows.counters.notice 4294967295
-    then first_notice d.rows.counters.notice (next_free d.rows.counters.reference (held_references None d.rows.outbox)) d
+    if is_notice_next d
+    then first_notice d.rows.counters.notice (next_free d.rows.counters.reference (held_references d.notices d.rows.outbox)) d
     else offer_message d
 
 abbrev pub is_fired : ℕ → Option ℕ → Bool
 is_fired moment None = false
 is_fired moment (Some due) = nat_le due moment
 
+-- the oldest RP-SMMA whose TRAM has fired
+abbrev pub first_fired : ℕ → List Notice → Option Notice
+first_fired moment [] = None
+first_fired moment (n ∷ ns) = if is_fired moment n.due then Some n else first_fired moment ns
+
 abbrev pub offer_after : Option Notice → Draft → Draft
 offer_after None d = offer_wanted d
-offer_after (Some n) d = if is_fired d.moment n.due then send_notice n d else offer_message d
+offer_after (Some n) d = send_notice n d
 
 -- one transaction at a time
 abbrev pub offer : Draft → Draft
-offer d = if is_busy d.links then d else offer_after d.notice d
+offer d = if is_busy d.links then d else offer_after (first_fired d.moment d.notices) d
 
 -- after every event that is not refused
 abbrev pub follow : Draft → Draft

@@ -102,7 +102,7 @@ write_with message_reference reference destination report is_long part d =
 abbrev pub write_part : Address → Bool → Bool → PartOf → Draft → Draft
 write_part destination report is_long part d =
     write_with (next_free d.rows.counters.message_reference (held_message_references d.rows.outbox))
-    (next_free d.rows.counters.reference (held_references d.notice d.rows.outbox)) destination report is_long part d
+    (next_free d.rows.counters.reference (held_references d.notices d.rows.outbox)) destination report is_long part d
 
 abbrev pub write_parts : Address → Bool → Bool → List PartOf → Draft → Draft
 write_parts destination report is_long [] d = d

@@ -7,18 +7,32 @@ use Rattle.sms_handset.specs.declared.event.HandsetEvent.TheVariants.{Frame, Tic
 use Rattle.sms_handset.specs.declared.notice.Notice.{Notice}
 use Rattle.sms_handset.specs.declared.open_group.Regrouping.{Regrouping}
 use Rattle.sms_base.specs.declared.carried.Carried.{Carried}
-use Rattle.sms_handset.specs.declared.outgoing.Outgoing.{Outgoing}
+use Rattle.sms_link.specs.declared.outgoing.Outgoing.{Outgoing}
 use Rattle.sms_handset.specs.declared.refusal.PlanError.{PlanError}
 use Rattle.sms_handset.specs.declared.refusal.PlanError.TheVariants.{Refused, NoMemory}
 use Rattle.sms_handset.specs.declared.refusal.Refusal.{Refusal}
-use Rattle.sms_handset.specs.declared.planned.Spares.{Spares}
-use Rattle.sms_handset.specs.declared.rows.Changes.{Changes}
+use Rattle.sms_handset.specs.declared.rows.Changes.{Changes as SettledChanges}
+use Rattle.sms_table.specs.Pending.{FitsIn}
 use Rattle.sms_handset.specs.declared.rows.Rows.{Rows}
 use Rattle.sms_handset.specs.Accepted.{StoresAccepted}
 use Rattle.sms_handset.specs.MemoryAvailable.{slots_taken}
 use Rattle.sms_handset.specs.OpenGroups.{IsRegrouped}
 use Rattle.sms_handset.specs.OpenIndex.{opening}
-use Rattle.sms_handset.specs.Draft.{Core, Draft, Room, Standing, rows_after}
+use Rattle.sms_handset.specs.Draft.{Changes, Core, Draft, Room, HandsetOf, rows_after}
+
+-- the changes of the rows, without the memory that comes with them
+abbrev pub changes_in : SettledChanges → Changes
+changes_in c = record {
+  entries = c.entries.changes;
+  last = c.last.changes;
+  outbox = c.outbox.changes;
+  marks = c.marks.changes;
+  counters = c.counters;
+}
+
+-- how many rows that memory holds
+abbrev pub spare_in : SettledChanges → Room
+spare_in c = record { entries = c.entries.spare; last = c.last.spare; outbox = c.outbox.spare; marks = c.marks.spare }
 
 -- what came of an event
 pub record Outcome : Type 0 where
@@ -28,8 +42,8 @@ pub record Outcome : Type 0 where
   pub links : LinkState
   pub under_way : Option Carried
   pub answered : Option Carried
-  pub wanted : ℕ
-  pub notice : Option Notice
+  pub notices_wanted : ℕ
+  pub notices : List Notice
   pub is_recovered : Bool
 
 abbrev pub outcome_of : Draft → Outcome
@@ -40,8 +54,8 @@ outcome_of d = record {
   links = d.links;
   under_way = d.under_way;
   answered = d.answered;
-  wanted = d.wanted;
-  notice = d.notice;
+  notices_wanted = d.notices_wanted;
+  notices = d.notices;
   is_recovered = d.is_recovered;
 }
 
@@ -53,8 +67,8 @@ adopted o c = record {
   links = o.links;
   under_way = o.under_way;
   answered = o.answered;
-  wanted = o.wanted;
-  notice = o.notice;
+  notices_wanted = o.notices_wanted;
+  notices = o.notices;
   is_recovered = o.is_recovered;
 }
 
@@ -69,7 +83,7 @@ pub record Plan : Type 0 where
 
 -- The plan's changes fit the memory of the lists and of the index, with that which the plan brings; and its
 -- change of the open groups and its count of the slots are those of its rows.
-pub record Fits (plan : Plan) (s : Standing) : Type 0 where
+pub record Fits (plan : Plan) (s : HandsetOf) : Type 0 where
   pub entries : length s.core.rows.entries + length plan.outcome.changes.entries ≤ max s.room.entries plan.spare.entries
   pub last : length s.core.rows.last + length plan.outcome.changes.last ≤ max s.room.last plan.spare.last
   pub outbox : length s.core.rows.outbox + length plan.outcome.changes.outbox ≤ max s.room.outbox plan.spare.outbox
@@ -78,16 +92,15 @@ pub record Fits (plan : Plan) (s : Standing) : Type 0 where
   pub index : IsRegrouped plan.regrouping s.core.rows (rows_after plan.outcome.changes s.core.rows)
   pub slots : plan.taken ≡ slots_taken (rows_after plan.outcome.changes s.core.rows).entries
 
--- The changes fit the memory of the lists and of the index, with the spare.
-pub record HasSpares (spares : Spares) (changes : Changes) (regrouping : Regrouping) (s : Standing) : Type 0 where
-  pub entries : length s.core.rows.entries + length changes.entries ≤ max s.room.entries spares.entries
-  pub last : length s.core.rows.last + length changes.last ≤ max s.room.last spares.last
-  pub outbox : length s.core.rows.outbox + length changes.outbox ≤ max s.room.outbox spares.outbox
-  pub marks : length s.core.rows.marks + length changes.marks ≤ max s.room.marks spares.marks
-  pub groups : s.groups.taken + opening regrouping ≤ max s.groups.capacity spares.groups
+-- The changes fit the memory of the lists, with that which they bring.
+pub record HaveRoom (changes : SettledChanges) (s : HandsetOf) : Type 0 where
+  pub entries : FitsIn changes.entries (record { rows = s.core.rows.entries; capacity = s.room.entries })
+  pub last : FitsIn changes.last (record { rows = s.core.rows.last; capacity = s.room.last })
+  pub outbox : FitsIn changes.outbox (record { rows = s.core.rows.outbox; capacity = s.room.outbox })
+  pub marks : FitsIn changes.marks (record { rows = s.core.rows.marks; capacity = s.room.marks })
 
 -- The plan has the outcome of the event that leads to the draft, and fits the handset.
-pub record IsPlanOf (d : Draft) (s : Standing) (plan : Plan) : Type 0 where
+pub record IsPlanOf (d : Draft) (s : HandsetOf) (plan : Plan) : Type 0 where
   pub outcome : plan.outcome ≡ outcome_of d
   pub fits : Fits plan s
 
@@ -103,18 +116,18 @@ Judges None wanted = (d : Draft) × (wanted ≡ Ok d)
 Judges (Some refusal) wanted = wanted ≡ Err refusal
 
 -- What was wanted, planned.
-abbrev pub Plans : Result Plan PlanError → Standing → Result Draft Refusal → Type 0
+abbrev pub Plans : Result Plan PlanError → HandsetOf → Result Draft Refusal → Type 0
 Plans (Ok plan) s wanted = (d : Draft) × ((wanted ≡ Ok d) × IsPlanOf d s plan)
 Plans (Err (Refused refusal)) s wanted = wanted ≡ Err refusal
 Plans (Err NoMemory) s wanted = (d : Draft) × (wanted ≡ Ok d)
 
 -- What the plan accepts is stored in the rows that it leads to.
-abbrev pub Stores : Standing → Plan → Type 0
+abbrev pub Stores : HandsetOf → Plan → Type 0
 Stores s plan = StoresAccepted s.core.rows.marks plan.outcome.changes (rows_after plan.outcome.changes s.core.rows)
 
 -- ---- a fact of events of one kind
 
-abbrev pub OfFrame : HandsetEvent → (List ℕ → Holder → Type 0) → Type 0
+abbrev pub OfFrame : HandsetEvent → (List ℕ → Option Holder → Type 0) → Type 0
 OfFrame (Frame octets tag) P = P octets tag
 OfFrame (Tick now) P = Unit {0}
 OfFrame (Write text to report) P = Unit {0}

@@ -15,12 +15,13 @@ use Rattle.sms_tpdu.specs.declared.down.Down.{Down}
 use Rattle.sms_tpdu.specs.declared.down.Down.TheVariants.{Deliver, StatusReport, SubmitReport}
 use Rattle.sms_tpdu.specs.declared.fault.TpduFault.{TpduFault}
 use Rattle.sms_tpdu.specs.declared.status_report.StatusReport.{StatusReport as StatusReportOf}
+use Rattle.sms_tpdu.specs.MoreMessages.{same_message}
 use Rattle.sms_tpdu.specs.TpduReading.{down_at}
 use Rattle.sms_handset.specs.declared.entry.Entry.{Entry}
 use Rattle.sms_handset.specs.declared.entry.Group.{Group}
 use Rattle.sms_base.specs.declared.holder.Holder.{Holder}
-use Rattle.sms_handset.specs.declared.last.Last.{Last}
-use Rattle.sms_handset.specs.declared.mark.Mark.{Mark}
+use Rattle.sms_handset.specs.declared.last_accepted.LastAccepted.{LastAccepted}
+use Rattle.sms_handset.specs.declared.discarded_group.DiscardedGroup.{DiscardedGroup}
 use Rattle.sms_handset.specs.declared.out_entry.OutEntry.{OutEntry}
 use Rattle.sms_base.specs.declared.carried.Kind.TheVariants.{Ack, Error}
 use Rattle.sms_table.specs.Table.{row_at, latest}
@@ -53,13 +54,10 @@ no_room reference tag d = refuse reference tag MemoryCapacityExceeded 211 (flag 
 
 -- ---- doubles
 
--- the octets by which a TPDU is told from another
-abbrev pub compared : List ℕ → List ℕ
-compared tpdu = tpdu
-
-abbrev pub is_double : List ℕ → Option Last → Bool
+-- the TPDU is the one that was accepted last under its reference, which may tell otherwise now whether more messages wait
+abbrev pub is_double : List ℕ → Option LastAccepted → Bool
 is_double tpdu None = false
-is_double tpdu (Some l) = bytes_eq (compared tpdu) (compared l.tpdu)
+is_double tpdu (Some l) = same_message tpdu l.tpdu
 
 -- ---- DELIVER
 
@@ -79,7 +77,7 @@ member_came reference tag tpdu g n es d =
     if is_among n (part_numbers es) then single_came reference tag tpdu d else new_part_came reference tag tpdu g n es d
 
 -- so is a number that was seen of a discarded group
-abbrev pub part_came : ℕ → Holder → List ℕ → Group → ℕ → Option Mark → Draft → Draft
+abbrev pub part_came : ℕ → Holder → List ℕ → Group → ℕ → Option DiscardedGroup → Draft → Draft
 part_came reference tag tpdu g n None d = member_came reference tag tpdu g n (members g d.rows.entries) d
 part_came reference tag tpdu g n (Some m) d =
     if is_among n m.seen then single_came reference tag tpdu d else accept reference tag tpdu (marked n m d)

@@ -1,5 +1,5 @@
 -- References: which are held, and the next that is free.
-use Rattle.std.specs.Prelude.{ℕ, zero, suc, ◌+◌, ◌%◌, List, [], ◌∷◌, Bool, true, false, if◌then◌else◌, Option, Some, None}
+use Rattle.std.specs.Prelude.{ℕ, zero, suc, ◌+◌, ◌%◌, List, [], ◌∷◌, ◌++◌, Bool, true, false, if◌then◌else◌}
 use Rattle.sms_handset.specs.declared.notice.Notice.{Notice}
 use Rattle.sms_handset.specs.declared.out_entry.EntryState.{EntryState}
 use Rattle.sms_handset.specs.declared.out_entry.EntryState.TheVariants.{Queued, Sending, Sent, Failed, Unsure}
@@ -23,10 +23,13 @@ abbrev pub held_by_entries : List OutEntry → List ℕ
 held_by_entries [] = []
 held_by_entries (o ∷ os) = if is_unfinished o.state then o.reference ∷ held_by_entries os else held_by_entries os
 
--- an RP-SMMA that has not ended holds its reference too
-abbrev pub held_references : Option Notice → List OutEntry → List ℕ
-held_references None os = held_by_entries os
-held_references (Some n) os = n.reference ∷ held_by_entries os
+-- each RP-SMMA that was sent and has not ended holds its reference too
+abbrev pub held_by_notices : List Notice → List ℕ
+held_by_notices [] = []
+held_by_notices (n ∷ ns) = n.reference ∷ held_by_notices ns
+
+abbrev pub held_references : List Notice → List OutEntry → List ℕ
+held_references ns os = held_by_notices ns ++ held_by_entries os
 
 -- the first from that one on, around from 255 to 0, that is not held
 unfoldable pub free_from : ℕ → ℕ → List ℕ → ℕ

@@ -1,5 +1,5 @@
 -- A handset that stands on sound rows, between two events.
-use Rattle.std.specs.Prelude.{◌≡◌, ℕ, List, true, Option, Some, None}
+use Rattle.std.specs.Prelude.{◌≡◌, ℕ, ◌≤◌, List, length, true, Option, Some, None}
 use Rattle.sms_table.specs.Table.{row_at}
 use Rattle.sms_base.specs.declared.holder.Holder.{Holder}
 use Rattle.sms_base.specs.declared.holder.Holder.TheVariants.{Part, Report, Entry, Memory}
@@ -8,22 +8,23 @@ use Rattle.sms_handset.specs.declared.out_entry.OutEntry.{OutEntry}
 use Rattle.sms_base.specs.declared.carried.Carried.{Carried}
 use Rattle.sms_handset.specs.Draft.{Core}
 use Rattle.sms_handset.specs.Keys.{out_key}
+use Rattle.sms_handset.specs.MemoryAvailable.{most_notices}
 use Rattle.sms_handset.specs.SoundRows.{IsSound}
 
--- the entry of the outbox with that number is Sending
-abbrev pub IsSendingEntry : ℕ → List OutEntry → Type 0
-IsSendingEntry n outbox = (o : OutEntry) × ((row_at out_key n outbox ≡ Some o) × (o.state ≡ Sending))
+-- the entry of the outbox with that number is Sending, under that reference
+abbrev pub IsSendingEntry : ℕ → ℕ → List OutEntry → Type 0
+IsSendingEntry reference n outbox = (o : OutEntry) × ((row_at out_key n outbox ≡ Some o) × ((o.state ≡ Sending) × (o.reference ≡ reference)))
 
 -- what is sent for an entry of the outbox finds it Sending
-abbrev pub IsSentFor : Holder → List OutEntry → Type 0
-IsSentFor (Part id number) outbox = Unit {0}
-IsSentFor (Report id) outbox = Unit {0}
-IsSentFor (Entry n) outbox = IsSendingEntry n outbox
-IsSentFor (Memory n) outbox = Unit {0}
+abbrev pub IsSentFor : ℕ → Holder → List OutEntry → Type 0
+IsSentFor reference (Part id number) outbox = Unit {0}
+IsSentFor reference (Report id) outbox = Unit {0}
+IsSentFor reference (Entry n) outbox = IsSendingEntry reference n outbox
+IsSentFor reference (Memory n) outbox = Unit {0}
 
 abbrev pub IsUnderWay : Option Carried → List OutEntry → Type 0
 IsUnderWay None outbox = Unit {0}
-IsUnderWay (Some carried) outbox = IsSentFor carried.tag outbox
+IsUnderWay (Some carried) outbox = IsSentFor carried.reference carried.tag outbox
 
 pub record IsSoundCore (c : Core) : Type 0 where
   pub rows : IsSound c.rows
@@ -31,3 +32,5 @@ pub record IsSoundCore (c : Core) : Type 0 where
   pub recovered : c.is_recovered ≡ true → c.under_way ≡ None
   -- so an answer settles no entry that is finished, whose references others may hold by now
   pub under_way : IsUnderWay c.under_way c.rows.outbox
+  -- so that references are left for the outbox
+  pub few_notices : length c.notices ≤ most_notices

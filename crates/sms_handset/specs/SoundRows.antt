@@ -13,11 +13,13 @@ use Rattle.sms_handset.specs.declared.entry.Group.{Group}
 use Rattle.sms_handset.specs.declared.entry.Message.{Message}
 use Rattle.sms_handset.specs.declared.entry.Message.TheVariants.{Single, Part, Joined}
 use Rattle.sms_handset.specs.declared.entry.Entry.{Entry}
-use Rattle.sms_handset.specs.declared.last.Last.{Last}
-use Rattle.sms_handset.specs.declared.mark.Mark.{Mark}
+use Rattle.sms_handset.specs.declared.last_accepted.LastAccepted.{LastAccepted}
+use Rattle.sms_handset.specs.declared.discarded_group.DiscardedGroup.{DiscardedGroup}
 use Rattle.sms_handset.specs.declared.out_entry.EntryState.{EntryState}
 use Rattle.sms_handset.specs.declared.out_entry.EntryState.TheVariants.{Queued, Sending, Sent, Failed, Unsure}
 use Rattle.sms_handset.specs.declared.out_entry.OutEntry.{OutEntry}
+use Rattle.sms_handset.specs.declared.recover_error.RecoverError.{RecoverError}
+use Rattle.sms_handset.specs.declared.recover_error.RecoverError.TheVariants.{BadRows, NoMemory}
 use Rattle.sms_handset.specs.declared.rows.Rows.{Rows}
 use Rattle.sms_handset.specs.declared.setup.Setup.{Setup}
 use Rattle.sms_table.specs.Table.{Rises, row_at}
@@ -55,30 +57,32 @@ Differ [] = Unit {0}
 Differ (n ∷ ns) = (is_among n ns ≡ false) × Differ ns
 
 -- An open group has each of its numbers once, not all of them, and is not discarded.
-pub record IsOpenGroup (entries : List Entry) (marks : List Mark) (g : Group) : Type 0 where
+pub record IsOpenGroup (entries : List Entry) (marks : List DiscardedGroup) (g : Group) : Type 0 where
   pub once : Differ (part_numbers (members g entries))
   pub open_yet : all_numbers g.total (part_numbers (members g entries)) ≡ false
   pub kept : mark_of g marks ≡ None
 
-abbrev pub IsOfOpenGroup : List Entry → List Mark → Message → Type 0
+abbrev pub IsOfOpenGroup : List Entry → List DiscardedGroup → Message → Type 0
 IsOfOpenGroup entries marks (Single tpdu) = Unit {0}
 IsOfOpenGroup entries marks (Part g n tpdu) = IsOpenGroup entries marks g
 IsOfOpenGroup entries marks (Joined source content) = Unit {0}
 
-abbrev pub AreOpenGroups : List Entry → List Mark → Type 0
+abbrev pub AreOpenGroups : List Entry → List DiscardedGroup → Type 0
 AreOpenGroups entries marks = AllByRecursion (λ (e : Entry). IsOfOpenGroup entries marks e.message) entries
 
 -- ---- what was accepted last
 
-abbrev pub IsLast : Last → Type 0
+abbrev pub IsLast : LastAccepted → Type 0
 IsLast l = IsDelivered l.tpdu ⊎ ((r : StatusReportOf) × (down_at InData l.tpdu ≡ Ok (StatusReport r)))
 
 -- ---- the outbox
 
+-- the octets are the SUBMIT of the entry, as it is sent first, and fit the unit that carries it
 abbrev pub IsSubmitted : OutEntry → Type 0
 IsSubmitted o =
     (s : Submit)
-    × ((submit_at o.tpdu ≡ Ok s) × (s.destination_address ≡ o.destination) × (s.message_reference ≡ o.message_reference) × (s.reject_duplicates ≡ false))
+    × ((submit_at o.tpdu ≡ Ok s) × (s.destination_address ≡ o.destination) × (s.message_reference ≡ o.message_reference) × (s.reject_duplicates ≡ false)
+    × (length o.tpdu ≤ 200))
 
 -- the number is no entry's of the inbox
 abbrev pub IsApart : ℕ → List Entry → Type 0
@@ -103,7 +107,7 @@ AreOutEntries next entries outbox =
 -- ---- discarded groups
 
 -- The numbers seen of a group differ and are not all of them; no entry has the mark's number, and no other mark its group.
-abbrev pub AreMarks : ℕ → List Entry → List Mark → Type 0
+abbrev pub AreMarks : ℕ → List Entry → List DiscardedGroup → Type 0
 AreMarks next entries [] = Unit {0}
 AreMarks next entries (m ∷ ms) =
     IsGiven next m.number × IsApart m.number entries × Differ m.seen × (all_numbers m.group.total m.seen ≡ false) × (mark_of m.group ms ≡ None)
@@ -113,6 +117,7 @@ AreMarks next entries (m ∷ ms) =
 
 pub record IsSetup (setup : Setup) : Type 0 where
   pub slots : 0 < setup.slots
+  pub slots_fit : setup.slots ≤ 255
   pub number : IsAddress setup.number
   pub centre : IsAddress setup.centre
 
@@ -123,6 +128,8 @@ pub record IsSound (rows : Rows) : Type 0 where
   pub out_keys : Rises out_key rows.outbox
   pub mark_keys : Rises mark_key rows.marks
   pub counted : 0 < rows.counters.entry
+  -- as each takes a slot
+  pub few_stored : length rows.entries ≤ 255
   pub entries : AreEntries rows.counters.entry rows.entries
   pub groups : AreOpenGroups rows.entries rows.marks
   pub last : AllByRecursion IsLast rows.last
@@ -133,3 +140,21 @@ pub record IsSound (rows : Rows) : Type 0 where
   pub references : Differ (held_by_entries rows.outbox)
   pub marks : AreMarks rows.counters.entry rows.entries rows.marks
   pub few_marks : length rows.marks ≤ 64
+
+-- ---- the first rows of a new store
+
+abbrev pub first_rows : Setup → Rows
+first_rows setup = record {
+  entries = [];
+  last = [];
+  outbox = [];
+  marks = [];
+  counters = record { entry = 1; message_reference = 0; reference = 0; concat_reference = 0; notice = 0; is_memory_full = false };
+  setup = setup;
+}
+
+-- ---- why there is no handset: the rows are not sound; memory is asked for only where they are
+
+abbrev pub RefusesRows : RecoverError → Rows → Type 0
+RefusesRows BadRows rows = ¬ IsSound rows
+RefusesRows NoMemory rows = IsSound rows

@@ -1,9 +1,10 @@
 //! How a transfer that the handset began ended.
-ghost use Rattle.std.specs.Prelude.{◌≡◌, Ok};
-ghost use Rattle.sms_handset.specs.Answers.{error_verdict as error_verdict_of, is_duplicate as is_duplicate_tpdu, is_temporary as is_temporary_cause, unit_verdict as unit_verdict_of, verdict_of as verdict_of_transfer};
+ghost use Rattle.std.specs.Prelude.{◌≡◌};
+ghost use Rattle.sms_handset.specs.Answers.{error_verdict as error_verdict_of, is_duplicate as is_duplicate_tpdu, is_temporary as is_temporary_cause, verdict_of as verdict_of_ending};
 
-use sms_base::OctetView;
-use sms_relay::{RelayFault, Rp, RpCause};
+use sms_base::Octets;
+use sms_link::Ending;
+use sms_relay::RpCause;
 use sms_tpdu::{Carrier, Down, FailureCause, read_down};
 
 /// How a transfer that the handset began ended.
@@ -17,38 +18,22 @@ pub enum Verdict {
     Duplicate,
     /// Any other RP-ERROR under its reference.
     Refused,
-    /// No answer, or one that is none to it.
+    /// No answer, or one that is none to it: of another reference, of another kind, or one that can't be read.
     Lost,
 }
 
-/// What the unit that ended a transfer says of it, or that it ended without one; a wrong reference is looked at first.
-pub(crate) fn verdict_of(reference: u8, unit: &Option<Result<Rp<'_>, RelayFault>>) -> Verdict
-    ensures { result ≡ verdict_of_transfer reference unit.now }
+/// What the end of its transfer says of an entry.
+pub(crate) fn verdict_of(ending: &Ending) -> Verdict
+    ensures { result ≡ verdict_of_ending ending.now }
 {
-    match unit {
-        Some(Ok(rp)) => unit_verdict(reference, rp),
-        _ => Verdict::Lost,
+    match ending {
+        Ending::Acknowledged => Verdict::Acknowledged,
+        Ending::Refused { cause, tpdu } => error_verdict(*cause, tpdu),
+        Ending::Wrong | Ending::Lost => Verdict::Lost,
     }
 }
 
-fn unit_verdict(reference: u8, rp: &Rp<'_>) -> Verdict
-    ensures { result ≡ unit_verdict_of reference (Ok rp.now) }
-{
-    match rp {
-        Rp::AckUnit {
-            reference: answered,
-            ..
-        } if *answered == reference => Verdict::Acknowledged,
-        Rp::ErrorUnit {
-            reference: answered,
-            cause,
-            unit,
-        } if *answered == reference => error_verdict(*cause, unit),
-        _ => Verdict::Lost,
-    }
-}
-
-fn error_verdict(cause: RpCause, tpdu: &Option<OctetView<'_>>) -> Verdict
+fn error_verdict(cause: RpCause, tpdu: &Option<Octets>) -> Verdict
     ensures { result ≡ error_verdict_of cause tpdu.now }
 {
     if is_temporary(cause) {
@@ -69,7 +54,7 @@ fn is_temporary(cause: RpCause) -> bool
 }
 
 // Whether the report says that the short message is a duplicate.
-fn is_duplicate(tpdu: &Option<OctetView<'_>>) -> bool
+fn is_duplicate(tpdu: &Option<Octets>) -> bool
     ensures { result ≡ is_duplicate_tpdu tpdu.now }
 {
     match tpdu {

@@ -1,29 +1,28 @@
 //! A handset in the middle of an event: the moves of which its stages are made.
 ghost use Rattle.std.specs.Prelude.{◌≡◌, ◌++◌, ◌<◌, ◌≤◌, ◌+◌, [], length, OnOk, option_copied, IfOk};
 ghost use Rattle.sms_base.specs.Address.{IsAddress};
-ghost use Rattle.sms_table.specs.Table.{Rises, all_applied, row_at};
+ghost use Rattle.sms_link.specs.LinkTurn.{begun, fired, replied, taken};
+ghost use Rattle.sms_table.specs.Pending.{rows_in};
+ghost use Rattle.sms_table.specs.Table.{row_at};
 ghost use Rattle.sms_handset.specs.Keys.{entry_key, last_key};
-ghost use Rattle.sms_handset.specs.Draft.{begin as begin_of, carried_in as carried_in_of, carrying, from_links, no_changes, put_counters as put_counters_of, put_entry as put_entry_of, put_last as put_last_of, put_mark as put_mark_of, put_out as put_out_of, remove_entry as remove_entry_of, remove_mark as remove_mark_of, remove_out as remove_out_of, reply as reply_of};
-ghost use Rattle.sms_control.specs.ControlReading.{cp_at};
+ghost use Rattle.sms_handset.specs.Draft.{begin as begin_of, link_of, no_changes, put_counters as put_counters_of, put_entry as put_entry_of, put_last as put_last_of, put_mark as put_mark_of, put_out as put_out_of, remove_entry as remove_entry_of, remove_mark as remove_mark_of, remove_out as remove_out_of, reply as reply_of, with_turn};
 ghost use Rattle.sms_handset.specs.Groups.{members as members_of};
 ghost use Rattle.sms_handset.specs.MemoryAvailable.{slots_of};
 ghost use Rattle.sms_handset.specs.OpenGroups.{open_at as open_at_of, stored_parts};
 
 use crate::counters::Counters;
+use crate::discarded_group::DiscardedGroup;
 use crate::entry::{Entry, Group};
-use crate::last::Last;
-use crate::mark::Mark;
+use crate::last_accepted::LastAccepted;
 use crate::members::Members;
 use crate::no_memory::NoMemory;
 use crate::notice::Notice;
 use crate::open_group::OpenGroup;
 use crate::out_entry::OutEntry;
-use crate::outgoing::Outgoing;
-use crate::rows::Changes;
 use crate::stored::Stored;
-use sms_base::{Address, Carried, Holder, Kind, Listed, Moment};
-use sms_control::{Cp, Frames, LinkError, Links, TransactionFlag};
-use sms_table::{Change, Key, Table};
+use sms_base::{Address, Holder, Kind, Listed, Moment};
+use sms_link::{Link, Outgoing, Upward};
+use sms_table::{Key, Pending, Table};
 use std::alloc::Global;
 use std::marker::Model;
 
@@ -33,13 +32,15 @@ pub(crate) struct Draft<'a> {
     pub(crate) alloc: Global,
     pub(crate) base: &'a Stored,
     pub(crate) moment: Moment,
-    pub(crate) links: Links,
-    pub(crate) under_way: Option<Carried>,
-    pub(crate) answered: Option<Carried>,
-    pub(crate) wanted: u32,
-    pub(crate) notice: Option<Notice>,
+    pub(crate) link: Link,
+    pub(crate) notices_wanted: u32,
+    pub(crate) notices: Table<Notice>,
     pub(crate) is_recovered: bool,
-    pub(crate) changes: Changes,
+    pub(crate) entries: Pending<'a, Entry>,
+    pub(crate) last: Pending<'a, LastAccepted>,
+    pub(crate) outbox: Pending<'a, OutEntry>,
+    pub(crate) marks: Pending<'a, DiscardedGroup>,
+    pub(crate) counters: Option<Counters>,
     /// How many slots the entries take as they stand.
     pub(crate) taken: u64,
     pub(crate) frames: Listed<Outgoing>,
@@ -49,26 +50,32 @@ impl<'a> Model for Draft<'a> {
     ghost use Rattle.sms_handset.specs.Draft.{Draft as DraftOf, rows_after, rows_of};
     ghost use Rattle.sms_handset.specs.Keys.{entry_key};
     ghost use Rattle.sms_handset.specs.MemoryAvailable.{slots_taken};
-    ghost use Rattle.sms_handset.specs.Standing.{IsStanding};
+    ghost use Rattle.sms_handset.specs.Consistent.{IsConsistent};
+    ghost use Rattle.sms_link.specs.declared.ending.Side.TheVariants.{Handset as HandsetSide};
     ghost use Rattle.sms_table.specs.Table.{all_applied};
     ghost use Rattle.std.specs.Prelude.{◌≡◌};
 
     ghost Value = { DraftOf };
 
     ghost view = { λ d. record {
-      rows = rows_after d.changes (rows_of d.base.now);
+      rows = rows_after (record { entries = d.entries.changes; last = d.last.changes; outbox = d.outbox.changes; marks = d.marks.changes; counters = d.counters }) (rows_of d.base.now);
       moment = d.moment;
-      links = d.links;
-      under_way = d.under_way;
-      answered = d.answered;
-      wanted = d.wanted;
-      notice = d.notice;
+      links = d.link.links;
+      under_way = d.link.under_way;
+      answered = d.link.answered;
+      notices_wanted = d.notices_wanted;
+      notices = d.notices.rows;
       is_recovered = d.is_recovered;
-      changes = d.changes;
+      changes = record { entries = d.entries.changes; last = d.last.changes; outbox = d.outbox.changes; marks = d.marks.changes; counters = d.counters };
       frames = d.frames;
     } };
 
-    ghost invariant = { λ d. IsStanding d.base.now × (d.taken ≡ slots_taken (all_applied entry_key d.changes.entries d.base.now.entries.rows)) };
+    ghost invariant = { λ d.
+        IsConsistent d.base.now
+        × (d.taken ≡ slots_taken (all_applied entry_key d.entries.changes d.base.now.entries.rows))
+        × (d.link.side ≡ HandsetSide)
+        × (d.entries.base ≡ d.base.now.entries)
+        × (d.outbox.base ≡ d.base.now.outbox) };
 }
 
 impl<'a> Draft<'a> {
@@ -77,13 +84,11 @@ impl<'a> Draft<'a> {
     pub(crate) fn put_entry(&mut self, entry: Entry) -> Result<(), NoMemory>
         ensures { OnOk result (self.new ≡ put_entry_of entry self.old) }
     {
-        let freed = slots_after(
-            &self.base.entries,
-            self.changes.entries.as_slice(),
-            entry.number,
-        );
+        // The call tells that the entries stand in order.
+        let _in_order = self.base.entries.as_slice();
+        let freed = slots_at(&self.entries, entry.number);
         let taken = retaken(self.taken, freed, entry.slots)?;
-        self.changes.entries.push(Change::Put(entry))?;
+        self.entries.put(entry)?;
         self.taken = taken;
         Ok(())
     }
@@ -92,20 +97,20 @@ impl<'a> Draft<'a> {
     pub(crate) fn remove_entry(&mut self, number: u32) -> Result<(), NoMemory>
         ensures { OnOk result (self.new ≡ remove_entry_of number self.old) }
     {
-        let freed = slots_after(&self.base.entries, self.changes.entries.as_slice(), number);
+        // The call tells that the entries stand in order.
+        let _in_order = self.base.entries.as_slice();
+        let freed = slots_at(&self.entries, number);
         let taken = retaken(self.taken, freed, 0)?;
-        self.changes
-            .entries
-            .push(Change::Remove(Key::of(u64::from(number))))?;
+        self.entries.remove(Key::of(u64::from(number)))?;
         self.taken = taken;
         Ok(())
     }
 
     #[tactic(auto, using(sms_table::proofs::Tables::all_applied_push))]
-    pub(crate) fn put_last(&mut self, last: Last) -> Result<(), NoMemory>
+    pub(crate) fn put_last(&mut self, last: LastAccepted) -> Result<(), NoMemory>
         ensures { OnOk result (self.new ≡ put_last_of last self.old) }
     {
-        self.changes.last.push(Change::Put(last))?;
+        self.last.put(last)?;
         Ok(())
     }
 
@@ -113,7 +118,7 @@ impl<'a> Draft<'a> {
     pub(crate) fn put_out(&mut self, entry: OutEntry) -> Result<(), NoMemory>
         ensures { OnOk result (self.new ≡ put_out_of entry self.old) }
     {
-        self.changes.outbox.push(Change::Put(entry))?;
+        self.outbox.put(entry)?;
         Ok(())
     }
 
@@ -121,17 +126,15 @@ impl<'a> Draft<'a> {
     pub(crate) fn remove_out(&mut self, number: u32) -> Result<(), NoMemory>
         ensures { OnOk result (self.new ≡ remove_out_of number self.old) }
     {
-        self.changes
-            .outbox
-            .push(Change::Remove(Key::of(u64::from(number))))?;
+        self.outbox.remove(Key::of(u64::from(number)))?;
         Ok(())
     }
 
     #[tactic(auto, using(sms_table::proofs::Tables::all_applied_push))]
-    pub(crate) fn put_mark(&mut self, mark: Mark) -> Result<(), NoMemory>
+    pub(crate) fn put_mark(&mut self, mark: DiscardedGroup) -> Result<(), NoMemory>
         ensures { OnOk result (self.new ≡ put_mark_of mark self.old) }
     {
-        self.changes.marks.push(Change::Put(mark))?;
+        self.marks.put(mark)?;
         Ok(())
     }
 
@@ -139,23 +142,21 @@ impl<'a> Draft<'a> {
     pub(crate) fn remove_mark(&mut self, number: u32) -> Result<(), NoMemory>
         ensures { OnOk result (self.new ≡ remove_mark_of number self.old) }
     {
-        self.changes
-            .marks
-            .push(Change::Remove(Key::of(u64::from(number))))?;
+        self.marks.remove(Key::of(u64::from(number)))?;
         Ok(())
     }
 
     pub(crate) fn put_counters(&mut self, counters: Counters)
         ensures { self.new ≡ put_counters_of counters self.old }
     {
-        self.changes.counters = Some(counters);
+        self.counters = Some(counters);
     }
 
     /// The counters as they stand.
     pub(crate) fn counters(&self) -> Counters
         ensures { result ≡ self.now.rows.counters }
     {
-        match self.changes.counters {
+        match self.counters {
             Some(counters) => counters,
             None => self.base.counters,
         }
@@ -195,7 +196,7 @@ impl<'a> Draft<'a> {
     }
 
     /// The discarded groups, before anything of them has changed.
-    pub(crate) fn marks(&self) -> &'a [Mark]
+    pub(crate) fn marks(&self) -> &'a [DiscardedGroup]
         requires { self.now.changes.marks ≡ [] }
         ensures { result.now ≡ self.now.rows.marks }
     {
@@ -211,7 +212,7 @@ impl<'a> Draft<'a> {
     }
 
     /// What was accepted last under a reference, before anything was accepted.
-    pub(crate) fn last(&self, reference: u8) -> Option<&'a Last>
+    pub(crate) fn last(&self, reference: u8) -> Option<&'a LastAccepted>
         requires { self.now.changes.last ≡ [] }
         ensures { option_copied result ≡ row_at last_key reference self.now.rows.last }
     {
@@ -221,7 +222,7 @@ impl<'a> Draft<'a> {
 
 impl<'a> Draft<'a> {
     /// The answer in the transaction that the centre began, if one waits for it: a unit of 1 to 248 octets.
-    #[tactic(auto, unfolding(sms_control::specs::LinkStep::reply_step))]
+    #[tactic(auto, using(crate::proofs::HandsetLink::on_its_side))]
     pub(crate) fn reply(
         &mut self,
         kind: Kind,
@@ -233,59 +234,49 @@ impl<'a> Draft<'a> {
         requires fits { length unit.now ≤ 248 }
         ensures { OnOk result (self.new ≡ reply_of kind reference tag unit.now self.old) }
     {
-        let carried = Some(Carried {
-            kind,
-            reference,
-            tag,
-        });
-        let frames = match self.links.reply(self.moment, unit) {
-            Ok(out) => out.frames,
-            Err(LinkError::NothingToAnswer) => Frames::new(self.alloc),
-            Err(_) => return Err(NoMemory),
-        };
-        push_carrying(&mut self.frames, &carried, frames)?;
-        self.answered = carried;
-        Ok(())
+        let frames = self.link.reply(self.moment, kind, reference, tag, unit)?;
+        push_all(&mut self.frames, frames)
     }
 
     /// A transaction of this side, unless one is under way: a unit of 1 to 248 octets.
-    #[tactic(auto, unfolding(sms_control::specs::LinkStep::begin_step))]
+    #[tactic(auto, using(crate::proofs::HandsetLink::on_its_side))]
     pub(crate) fn begin(&mut self, reference: u8, tag: Holder, unit: &[u8]) -> Result<(), NoMemory>
         requires some { 0 < length unit.now }
         requires fits { length unit.now ≤ 248 }
         ensures { OnOk result (self.new ≡ begin_of reference tag unit.now self.old) }
     {
-        let carried = Some(Carried {
-            kind: Kind::Data,
-            reference,
-            tag,
-        });
-        let frames = match self.links.begin(self.moment, unit) {
-            Ok(out) => out.frames,
-            Err(LinkError::Busy) => Frames::new(self.alloc),
-            Err(_) => return Err(NoMemory),
-        };
-        push_carrying(&mut self.frames, &carried, frames)?;
-        self.under_way = carried;
-        Ok(())
+        let frames = self.link.begin(self.moment, reference, tag, unit)?;
+        push_all(&mut self.frames, frames)
     }
 
-    /// Frames of the links' own.
-    pub(crate) fn hear(&mut self, frames: Frames) -> Result<(), NoMemory>
-        ensures { OnOk result (self.new ≡ record self.old { frames = self.old.frames ++ from_links self.old.under_way self.old.answered frames }) }
+    /// The link takes a frame: what goes up.
+    #[tactic(auto, using(crate::proofs::HandsetLink::on_its_side))]
+    pub(crate) fn take(&mut self, frame: &[u8]) -> Result<Option<Upward>, NoMemory>
+        ensures moves { OnOk result (self.new ≡ with_turn (taken frame.now (link_of self.old)) self.old) }
+        ensures up { IfOk result (λ up. up ≡ (taken frame.now (link_of self.old)).out.up) }
     {
-        push_heard(&mut self.frames, &self.under_way, &self.answered, frames)
+        let out = self.link.take(frame)?;
+        push_all(&mut self.frames, out.frames)?;
+        Ok(out.up)
+    }
+
+    /// The timers of the link fire that are due: what goes up.
+    #[tactic(auto, using(crate::proofs::HandsetLink::on_its_side))]
+    pub(crate) fn fire(&mut self) -> Result<Option<Upward>, NoMemory>
+        ensures moves { OnOk result (self.new ≡ with_turn (fired self.old.moment (link_of self.old)) self.old) }
+        ensures up { IfOk result (λ up. up ≡ (fired self.old.moment (link_of self.old)).out.up) }
+    {
+        let out = self.link.fire(self.moment)?;
+        push_all(&mut self.frames, out.frames)?;
+        Ok(out.up)
     }
 }
 
-// How many slots the entry of that number takes after the changes, if there is one.
-fn slots_after(entries: &Table<Entry>, changes: &[Change<Entry>], number: u32) -> u8
-    ensures slots { result ≡ slots_of (row_at entry_key number (all_applied entry_key changes.now entries.now.rows)) }
-    ensures order { Rises entry_key entries.now.rows }
+// How many slots the entry of that number takes as the entries stand, if there is one.
+fn slots_at(entries: &Pending<'_, Entry>, number: u32) -> u8
+    ensures { result ≡ slots_of (row_at entry_key number (rows_in entry_key entries.now)) }
 {
-    // The call tells that the entries stand in order.
-    let _in_order = entries.as_slice();
-    match entries.find_after(changes, Key::of(u64::from(number))) {
+    match entries.find(Key::of(u64::from(number))) {
         Some(entry) => entry.slots,
         None => 0,
     }
@@ -303,52 +294,12 @@ fn retaken(taken: u64, freed: u8, slots: u8) -> Result<u64, NoMemory>
     }
 }
 
-// Frames that all carry the same.
-fn push_carrying(
-    out: &mut Listed<Outgoing>,
-    carried: &Option<Carried>,
-    frames: Frames,
-) -> Result<(), NoMemory>
-    ensures { OnOk result (out.new ≡ out.old ++ carrying carried.now frames) }
+// Frames behind others.
+fn push_all(out: &mut Listed<Outgoing>, frames: Listed<Outgoing>) -> Result<(), NoMemory>
+    ensures { OnOk result (out.new ≡ out.old ++ frames) }
 {
-    for octets in frames.into_vec() {
-        out.push(Outgoing {
-            octets,
-            carried: *carried,
-        })?;
-    }
-    Ok(())
-}
-
-// What a frame of the links' own carries.
-fn carried_in(
-    frame: &[u8],
-    under_way: &Option<Carried>,
-    answered: &Option<Carried>,
-) -> Option<Carried>
-    ensures { result ≡ carried_in_of (cp_at frame.now) under_way.now answered.now }
-{
-    match Cp::read(frame) {
-        Ok(Cp::DataUnit { transaction, .. }) => match transaction.flag {
-            TransactionFlag::FromOriginator => *under_way,
-            TransactionFlag::ToOriginator => *answered,
-        },
-        _ => None,
-    }
-}
-
-// Frames of the links' own.
-fn push_heard(
-    out: &mut Listed<Outgoing>,
-    under_way: &Option<Carried>,
-    answered: &Option<Carried>,
-    frames: Frames,
-) -> Result<(), NoMemory>
-    ensures { OnOk result (out.new ≡ out.old ++ from_links under_way.now answered.now frames) }
-{
-    for octets in frames.into_vec() {
-        let carried = carried_in(octets.as_slice(), under_way, answered);
-        out.push(Outgoing { octets, carried })?;
+    for frame in frames.into_vec() {
+        out.push(frame)?;
     }
     Ok(())
 }

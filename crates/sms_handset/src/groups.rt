@@ -4,14 +4,14 @@ ghost use Rattle.sms_concat.specs.Joining.{is_same_reference as is_same_referenc
 ghost use Rattle.sms_concat.specs.UserData.{header_key};
 ghost use Rattle.sms_handset.specs.Groups.{all_numbers, part_number, is_among as is_among_of, is_same_address as is_same_address_of, is_same_group as is_same_group_of, mark_of, members, part_numbers};
 
+use crate::discarded_group::DiscardedGroup;
 use crate::entry::{Entry, Group, Message};
-use crate::mark::Mark;
 use crate::members::Members;
 use sms_base::Address;
 use sms_concat::{ConcatKey, ConcatReference, Header, concat_info};
 
-// Whether addresses are one.
-fn is_same_address(one: &Address, other: &Address) -> bool
+/// Whether addresses are one.
+pub(crate) fn is_same_address(one: &Address, other: &Address) -> bool
     ensures { result ≡ is_same_address_of one.now other.now }
 {
     one.ton.number() == other.ton.number()
@@ -51,7 +51,10 @@ pub(crate) fn is_among(number: u8, numbers: &[u8]) -> bool
 }
 
 /// The discarded group that is this group.
-pub(crate) fn find_mark<'a>(group: &Group, marks: &'a [Mark]) -> Option<&'a Mark>
+pub(crate) fn find_mark<'a>(
+    group: &Group,
+    marks: &'a [DiscardedGroup],
+) -> Option<&'a DiscardedGroup>
     ensures { option_copied result ≡ mark_of group.now marks.now }
 {
     for mark in marks {

@@ -1,37 +1,42 @@
 //! The handset.
-ghost use Rattle.std.specs.Prelude.{◌≡◌, Ok, IfOk};
+ghost use Rattle.std.specs.Prelude.{◌≡◌, ◌+◌, ◌≤◌, max, Ok, IfErr, IfOk};
 ghost use Rattle.std.specs.Str.{chars};
 ghost use Rattle.sms_handset.specs.Draft.{draft_of, recovered};
-ghost use Rattle.sms_handset.specs.HandsetEvent.{deleted, discarded, frame_came as frame_came_of, ticked as ticked_of, wrote};
-ghost use Rattle.sms_handset.specs.Planning.{adopted, Fits, HasSpares, IsPlanOf, Judges, OfDelete, OfDiscard, OfFrame, OfTick, OfWrite, Plans, Rests, Stores};
+ghost use Rattle.sms_handset.specs.HandsetEvent.{deleted, discarded, frame_came as frame_came_of, tag_of, ticked as ticked_of, wrote};
+ghost use Rattle.sms_handset.specs.Planning.{adopted, changes_in, Fits, HaveRoom, IsPlanOf, Judges, OfDelete, OfDiscard, OfFrame, OfTick, OfWrite, Plans, Rests, Stores};
 ghost use Rattle.sms_handset.specs.Trying.{TriesPlan as Tries};
 ghost use Rattle.sms_base.specs.Address.{IsAddress};
 ghost use Rattle.sms_table.specs.Table.{Rises, row_at};
 ghost use Rattle.sms_handset.specs.OpenGroups.{Numbered, Regroups};
+ghost use Rattle.sms_handset.specs.OpenIndex.{opening};
 ghost use Rattle.sms_handset.specs.Keys.{entry_key, last_key, mark_key, out_key};
 ghost use Rattle.sms_handset.specs.OwnersActs.{delete as delete_of, delete_out, discard as discard_of};
 ghost use Rattle.sms_handset.specs.SoundCore.{IsSoundCore};
-ghost use Rattle.sms_handset.specs.SoundRows.{IsSound};
+ghost use Rattle.sms_handset.specs.SoundRows.{IsSetup, IsSound, RefusesRows};
 
+use crate::counters::Counters;
+use crate::deleting::is_open_part;
+use crate::discarded_group::DiscardedGroup;
 use crate::draft::Draft;
 use crate::entry::Entry;
 use crate::event::HandsetEvent;
+use crate::last_accepted::LastAccepted;
 use crate::no_memory::NoMemory;
 use crate::notice::Notice;
 use crate::open_group::Regrouping;
-use crate::open_groups::OpenGroups;
+use crate::open_groups::{OpenGroups, SpareGroups};
 use crate::out_entry::OutEntry;
-use crate::outgoing::Outgoing;
-use crate::owner::is_open_part;
-use crate::planned::{Planned, Spares};
+use crate::planned::Planned;
+use crate::recover_error::RecoverError;
 use crate::references::is_unfinished;
 use crate::refusal::{PlanError, Refusal};
 use crate::rows::{Changes, Rows};
+use crate::sound_rows::are_sound;
 use crate::stored::Stored;
 use crate::storing::slots_in;
-use sms_base::{Carried, Holder, Listed, Moment};
-use sms_control::Links;
-use sms_table::{Key, Table};
+use sms_base::{Holder, Listed, Moment};
+use sms_link::{Link, Outgoing, Side};
+use sms_table::{Key, Pending, Table, adopt};
 use std::alloc::Global;
 use std::marker::Model;
 
@@ -41,42 +46,56 @@ pub struct Handset {
     alloc: Global,
     stored: Stored,
     moment: Moment,
-    links: Links,
-    under_way: Option<Carried>,
-    answered: Option<Carried>,
-    wanted: u32,
-    notice: Option<Notice>,
+    link: Link,
+    notices_wanted: u32,
+    notices: Table<Notice>,
     is_recovered: bool,
 }
 
 impl Model for Handset {
-    ghost use Rattle.sms_handset.specs.Draft.{Standing, group_room_of, room_of, rows_of};
-    ghost use Rattle.sms_handset.specs.Standing.{IsStanding};
+    ghost use Rattle.sms_handset.specs.Draft.{HandsetOf, group_room_of, room_of, rows_of};
+    ghost use Rattle.sms_handset.specs.Consistent.{IsConsistent};
+    ghost use Rattle.sms_link.specs.declared.ending.Side.TheVariants.{Handset as HandsetSide};
+    ghost use Rattle.std.specs.Prelude.{◌≡◌};
 
-    ghost Value = { Standing };
+    ghost Value = { HandsetOf };
 
     ghost view = { λ h. record {
       core = record {
         rows = rows_of h.stored;
         moment = h.moment;
-        links = h.links;
-        under_way = h.under_way;
-        answered = h.answered;
-        wanted = h.wanted;
-        notice = h.notice;
+        links = h.link.links;
+        under_way = h.link.under_way;
+        answered = h.link.answered;
+        notices_wanted = h.notices_wanted;
+        notices = h.notices.rows;
         is_recovered = h.is_recovered;
       };
       room = room_of h.stored;
       groups = group_room_of h.stored;
     } };
 
-    ghost invariant = { λ h. IsStanding h.stored };
+    ghost invariant = { λ h. IsConsistent h.stored × (h.link.side ≡ HandsetSide) };
 }
 
 impl Handset {
-    /// The handset that starts with these rows. It takes memory for the index of the open groups alone.
+    /// The handset that starts with these rows, if it can: `BadRows` exactly where they are not sound, in a time that
+    /// grows as the rows do. It takes memory for the index of the open groups alone.
+    pub fn recover(alloc: Global, rows: Rows) -> Result<Handset, RecoverError>
+        requires { IsSetup rows.setup }
+        ensures state { IfOk result (λ handset. handset.core ≡ recovered rows) }
+        ensures sound { IfOk result (λ handset. IsSoundCore handset.core) }
+        ensures refused { IfErr result (λ error. RefusesRows error rows) }
+    {
+        if !are_sound(&rows) {
+            return Err(RecoverError::BadRows);
+        }
+        Ok(Handset::starting(alloc, rows)?)
+    }
+
+    // The same on sound rows.
     #[tactic(auto, using(crate::proofs::GroupStages::sound_numbers))]
-    pub fn recover(alloc: Global, rows: Rows) -> Result<Handset, NoMemory>
+    fn starting(alloc: Global, rows: Rows) -> Result<Handset, NoMemory>
         requires { IsSound rows }
         ensures state { IfOk result (λ handset. handset.core ≡ recovered rows) }
         ensures sound { IfOk result (λ handset. IsSoundCore handset.core) }
@@ -85,7 +104,7 @@ impl Handset {
     }
 
     // The same on rows in the order of their keys, whose entries have numbers that were given.
-    pub(crate) fn standing_on(alloc: Global, rows: Rows) -> Result<Handset, NoMemory>
+    fn standing_on(alloc: Global, rows: Rows) -> Result<Handset, NoMemory>
         requires entries { Rises entry_key rows.entries }
         requires last { Rises last_key rows.last }
         requires outbox { Rises out_key rows.outbox }
@@ -116,11 +135,9 @@ impl Handset {
                 setup,
             },
             moment,
-            links: Links::new(alloc),
-            under_way: None,
-            answered: None,
-            wanted: 0,
-            notice: None,
+            link: Link::new(alloc, Side::Handset),
+            notices_wanted: 0,
+            notices: Table::new(alloc),
             is_recovered: true,
         })
     }
@@ -141,7 +158,7 @@ impl Handset {
 
     /// What an event changes and sends. The handset is as it was until the plan is adopted.
     pub fn plan(&self, event: &HandsetEvent<'_>) -> Result<Planned, PlanError>
-        ensures frame { OfFrame event.now (λ octets tag. Plans result self.now (Ok (frame_came_of octets tag self.now.core))) }
+        ensures frame { OfFrame event.now (λ octets tag. Plans result self.now (Ok (frame_came_of octets (tag_of tag) self.now.core))) }
         ensures tick { OfTick event.now (λ now. Plans result self.now (Ok (ticked_of now self.now.core))) }
         // Only of a text may want of memory be told before a refusal.
         ensures write { OfWrite event.now (λ text to report. Tries result self.now (wrote text to report self.now.core)) }
@@ -165,13 +182,6 @@ impl Handset {
         ensures state { self.new.core ≡ adopted planned.outcome self.old.core }
         ensures frames { result ≡ planned.outcome.frames }
     {
-        self.stored.entries.use_spare(planned.spares.entries);
-        self.stored.last.use_spare(planned.spares.last);
-        self.stored.outbox.use_spare(planned.spares.outbox);
-        self.stored.marks.use_spare(planned.spares.marks);
-        self.stored.groups.use_spare(planned.spares.groups);
-        self.stored.groups.apply(planned.regrouping);
-        self.stored.taken = planned.taken;
         let Changes {
             entries,
             last,
@@ -179,17 +189,18 @@ impl Handset {
             marks,
             counters,
         } = planned.changes;
-        self.stored.entries.apply_all(entries.into_vec());
-        self.stored.last.apply_all(last.into_vec());
-        self.stored.outbox.apply_all(outbox.into_vec());
-        self.stored.marks.apply_all(marks.into_vec());
+        self.stored.groups.use_spare(planned.spare_groups);
+        self.stored.groups.apply(planned.regrouping);
+        self.stored.taken = planned.taken;
+        adopt(&mut self.stored.entries, entries);
+        adopt(&mut self.stored.last, last);
+        adopt(&mut self.stored.outbox, outbox);
+        adopt(&mut self.stored.marks, marks);
         self.stored.counters = counters.unwrap_or(self.stored.counters);
         self.moment = planned.moment;
-        self.links = planned.links;
-        self.under_way = planned.under_way;
-        self.answered = planned.answered;
-        self.wanted = planned.wanted;
-        self.notice = planned.notice;
+        self.link = planned.link;
+        self.notices_wanted = planned.notices_wanted;
+        self.notices = planned.notices;
         self.is_recovered = planned.is_recovered;
         planned.frames
     }
@@ -200,23 +211,20 @@ impl Handset {
     fn draft(&self) -> Result<Draft<'_>, NoMemory>
         ensures { IfOk result (λ draft. draft ≡ draft_of self.now.core) }
     {
+        let notices = Vec::from_slice(self.alloc, self.notices.as_slice())?;
         Ok(Draft {
             alloc: self.alloc,
             base: &self.stored,
             moment: self.moment,
-            links: self.links.copy()?,
-            under_way: self.under_way,
-            answered: self.answered,
-            wanted: self.wanted,
-            notice: self.notice,
+            link: self.link.copy()?,
+            notices_wanted: self.notices_wanted,
+            notices: Table::from_vec(notices),
             is_recovered: self.is_recovered,
-            changes: Changes {
-                entries: Listed::new(self.alloc),
-                last: Listed::new(self.alloc),
-                outbox: Listed::new(self.alloc),
-                marks: Listed::new(self.alloc),
-                counters: None,
-            },
+            entries: Pending::of(self.alloc, &self.stored.entries),
+            last: Pending::of(self.alloc, &self.stored.last),
+            outbox: Pending::of(self.alloc, &self.stored.outbox),
+            marks: Pending::of(self.alloc, &self.stored.marks),
+            counters: None,
             taken: self.stored.taken,
             frames: Listed::new(self.alloc),
         })
@@ -224,7 +232,7 @@ impl Handset {
 
     // The plan of an event, by its kind.
     fn plan_of(&self, event: &HandsetEvent<'_>) -> Result<Planned, PlanError>
-        ensures frame { OfFrame event.now (λ octets tag. Plans result self.now (Ok (frame_came_of octets tag self.now.core))) }
+        ensures frame { OfFrame event.now (λ octets tag. Plans result self.now (Ok (frame_came_of octets (tag_of tag) self.now.core))) }
         ensures tick { OfTick event.now (λ now. Plans result self.now (Ok (ticked_of now self.now.core))) }
         // Only of a text may want of memory be told before a refusal.
         ensures write { OfWrite event.now (λ text to report. Tries result self.now (wrote text to report self.now.core)) }
@@ -253,51 +261,64 @@ impl Handset {
     {
         // The call tells that the entries stand in order.
         let _in_order = self.stored.entries.as_slice();
-        let spares = self.spares(&draft.changes, &regrouping)?;
+        let spare_groups = self.spare_groups(&regrouping)?;
+        let changes = self.settled(
+            draft.entries,
+            draft.last,
+            draft.outbox,
+            draft.marks,
+            draft.counters,
+        )?;
         Ok(Planned {
-            changes: draft.changes,
+            changes,
             frames: draft.frames,
             moment: draft.moment,
-            links: draft.links,
-            under_way: draft.under_way,
-            answered: draft.answered,
-            wanted: draft.wanted,
-            notice: draft.notice,
+            link: draft.link,
+            notices_wanted: draft.notices_wanted,
+            notices: draft.notices,
             is_recovered: draft.is_recovered,
             regrouping,
             taken: draft.taken,
-            spares,
+            spare_groups,
         })
     }
 
-    // Memory for the rows and for the group that the changes bring.
-    fn spares(&self, changes: &Changes, regrouping: &Regrouping) -> Result<Spares, NoMemory>
-        ensures { IfOk result (λ spares. HasSpares spares changes.now regrouping.now self.now) }
+    // Memory for the group that opens.
+    fn spare_groups(&self, regrouping: &Regrouping) -> Result<SpareGroups, NoMemory>
+        ensures { IfOk result (λ spare. self.now.groups.taken + opening regrouping.now ≤ max self.now.groups.capacity spare) }
     {
-        Ok(Spares {
-            entries: self
-                .stored
-                .entries
-                .make_spare(self.alloc, changes.entries.len())?,
-            last: self.stored.last.make_spare(self.alloc, changes.last.len())?,
-            outbox: self
-                .stored
-                .outbox
-                .make_spare(self.alloc, changes.outbox.len())?,
-            marks: self
-                .stored
-                .marks
-                .make_spare(self.alloc, changes.marks.len())?,
-            groups: self.stored.groups.make_spare(self.alloc, regrouping)?,
+        Ok(self.stored.groups.make_spare(self.alloc, regrouping)?)
+    }
+
+    // The changes, with memory for the rows that they bring.
+    fn settled(
+        &self,
+        entries: Pending<'_, Entry>,
+        last: Pending<'_, LastAccepted>,
+        outbox: Pending<'_, OutEntry>,
+        marks: Pending<'_, DiscardedGroup>,
+        counters: Option<Counters>,
+    ) -> Result<Changes, NoMemory>
+        ensures same { IfOk result (λ c. changes_in c ≡ record { entries = entries.entry.changes; last = last.entry.changes; outbox = outbox.entry.changes; marks = marks.entry.changes; counters = counters }) }
+        ensures fits { IfOk result (λ c. HaveRoom c self.now) }
+    {
+        let stored = &self.stored;
+        Ok(Changes {
+            entries: entries.settle_for(self.alloc, &stored.entries)?,
+            last: last.settle_for(self.alloc, &stored.last)?,
+            outbox: outbox.settle_for(self.alloc, &stored.outbox)?,
+            marks: marks.settle_for(self.alloc, &stored.marks)?,
+            counters,
         })
     }
 
     #[tactic(auto, using(crate::proofs::GroupStages::frame_regroups, crate::proofs::Resting::frame_rests))]
-    fn plan_frame(&self, octets: &[u8], tag: Holder) -> Result<Planned, PlanError>
-        ensures plan { Plans result self.now (Ok (frame_came_of octets.now tag self.now.core)) }
+    fn plan_frame(&self, octets: &[u8], tag: Option<Holder>) -> Result<Planned, PlanError>
+        ensures plan { Plans result self.now (Ok (frame_came_of octets.now (tag_of tag) self.now.core)) }
         ensures fits { IfOk result (λ planned. Fits planned self.now) }
     {
         let mut draft = self.draft()?;
+        let tag = tag.unwrap_or(Holder::Entry(0));
         let regrouping = draft.frame_came(octets, tag)?;
         draft.follow()?;
         Ok(self.planned(draft, regrouping)?)

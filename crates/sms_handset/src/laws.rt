@@ -1,13 +1,14 @@
 //! Laws of a handset's events, over their definitions alone.
-ghost use Rattle.std.specs.Prelude.{ℕ, Bool, List};
+ghost use Rattle.std.specs.Prelude.{◌≡◌, ℕ, Bool, List};
 ghost use Rattle.sms_base.specs.declared.holder.Holder.{Holder};
 ghost use Rattle.sms_handset.specs.declared.rows.Rows.{Rows};
 ghost use Rattle.sms_handset.specs.declared.setup.Setup.{Setup};
 ghost use Rattle.sms_handset.specs.Accepted.{StoresAccepted};
-ghost use Rattle.sms_handset.specs.Draft.{Core};
+ghost use Rattle.sms_handset.specs.Draft.{Core, Draft};
 ghost use Rattle.sms_handset.specs.HandsetEvent.{deleted, discarded, frame_came, ticked, wrote};
+ghost use Rattle.sms_handset.specs.Outbox.{offer_message, offer_wanted};
 ghost use Rattle.sms_handset.specs.Planning.{Rests, RestsIfDone};
-ghost use Rattle.sms_handset.specs.SoundRows.{IsSetup, IsSound};
+ghost use Rattle.sms_handset.specs.SoundRows.{IsSetup, IsSound, first_rows};
 
 /// The rows that an event leads to are the rows with its changes.
 pub fn rows_are_the_changes()
@@ -27,4 +28,15 @@ pub fn accepted_is_stored()
 /// Sound rows are so with any setup: a handset recovers with what it is told then.
 pub fn sound_rows_take_any_setup()
     ensures { (rows : Rows) (setup : Setup) → IsSound rows → IsSetup setup → IsSound (record rows { setup = setup }) }
+{}
+
+/// The first rows of a new store are sound.
+pub fn first_rows_are_sound()
+    ensures { (setup : Setup) → IsSetup setup → IsSound (first_rows setup) }
+{}
+
+/// Where the numbers of RP-SMMA have come to their last, which is given to none, no further one is sent, and messages go
+/// on.
+pub fn the_last_notice_holds_nothing_up()
+    ensures { (d : Draft) → d.rows.counters.notice ≡ 4294967295 → offer_wanted d ≡ offer_message d }
 {}

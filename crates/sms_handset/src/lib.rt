@@ -8,66 +8,52 @@
 
 mod answers;
 mod counters;
+mod deleting;
+mod discarded_group;
 mod draft;
 mod entry;
 mod event;
+mod frames_and_ticks;
 mod groups;
 mod handset;
-mod happening;
 mod joining;
-#[cfg(test)]
-mod kept;
-mod last;
+mod last_accepted;
 pub mod laws;
-mod mark;
 mod members;
 mod no_memory;
 mod notice;
 mod notices;
-mod octet_copy;
 mod open_group;
 mod open_groups;
 mod out_entry;
 mod out_view;
-#[cfg(test)]
-mod outbox_tests;
-mod outgoing;
-mod owner;
-#[cfg(test)]
-mod pair;
-#[cfg(test)]
-mod plain;
 mod planned;
-#[cfg(test)]
-mod random_tests;
 mod receiving;
-#[cfg(test)]
-mod reference_tests;
+mod recover_error;
 mod references;
 mod refusal;
 mod rows;
 mod sending;
 mod setup;
+mod sound_rows;
 mod stored;
 mod storing;
 mod submit_tpdu;
-#[cfg(test)]
-mod tests;
 mod text_view;
 mod writing;
 
 pub use answers::Verdict;
 pub use counters::Counters;
+pub use discarded_group::DiscardedGroup;
 pub use entry::{Entry, Group, Message};
 pub use event::HandsetEvent;
 pub use handset::Handset;
-pub use last::Last;
-pub use mark::Mark;
+pub use last_accepted::LastAccepted;
 pub use no_memory::NoMemory;
 pub use notice::Notice;
 pub use out_entry::{EntryState, OutEntry};
-pub use outgoing::Outgoing;
 pub use planned::Planned;
+pub use recover_error::RecoverError;
 pub use refusal::{PlanError, Refusal};
 pub use rows::{Changes, Rows};
 pub use setup::Setup;

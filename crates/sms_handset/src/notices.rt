@@ -1,20 +1,20 @@
 //! Memory available: RP-SMMA once a slot has become free (3GPP TS 23.040 10.3, 3GPP TS 24.011 6.3.3).
 ghost use Rattle.std.specs.Prelude.{◌≡◌, ◌<◌, ◌≤◌, length, IfOk, OnOk};
 ghost use Rattle.sms_relay.specs.RelayGrammar.{smma_up};
-ghost use Rattle.sms_handset.specs.MemoryAvailable.{first_notice as first_notice_of, notice_concluded as notice_concluded_of, notice_failed as notice_failed_of, send_notice as send_notice_of};
+ghost use Rattle.sms_table.specs.Table.{row_at};
+ghost use Rattle.sms_handset.specs.Keys.{notice_key};
+ghost use Rattle.sms_handset.specs.MemoryAvailable.{first_notice as first_notice_of, notice_concluded as notice_concluded_of, notice_failed as notice_failed_of, put_notice as put_notice_of, remove_notice as remove_notice_of, send_notice as send_notice_of};
 
-use crate::answers::{Verdict, verdict_of};
 use crate::counters::Counters;
 use crate::draft::Draft;
 use crate::no_memory::NoMemory;
 use crate::notice::Notice;
 use crate::references::following;
 use sms_base::{Holder, Octets};
-use sms_relay::{RelayFault, Rp, write_up};
+use sms_link::{Ending, TRAM};
+use sms_relay::{Rp, write_up};
+use sms_table::Key;
 use std::alloc::{AllocError, Global};
-
-/// TRAM: after so many seconds an RP-SMMA that failed is sent again.
-const TRAM: u64 = 30;
 
 // An RP-SMMA.
 fn smma(alloc: Global, reference: u8) -> Result<Octets, AllocError>
@@ -25,15 +25,28 @@ fn smma(alloc: Global, reference: u8) -> Result<Octets, AllocError>
 }
 
 impl<'a> Draft<'a> {
+    fn put_notice(&mut self, notice: Notice) -> Result<(), NoMemory>
+        ensures { OnOk result (self.new ≡ put_notice_of notice self.old) }
+    {
+        self.notices.put(notice)?;
+        Ok(())
+    }
+
+    fn remove_notice(&mut self, number: u32)
+        ensures { self.new ≡ remove_notice_of number self.old }
+    {
+        self.notices.remove(Key::of(u64::from(number)));
+    }
+
     /// Sends an RP-SMMA.
     pub(crate) fn send_notice(&mut self, notice: Notice) -> Result<(), NoMemory>
         ensures { OnOk result (self.new ≡ send_notice_of notice self.old) }
     {
         let unit = smma(self.alloc, notice.reference)?;
-        self.notice = Some(Notice {
+        self.put_notice(Notice {
             due: None,
             ..notice
-        });
+        })?;
         self.begin(
             notice.reference,
             Holder::Memory(notice.number),
@@ -47,7 +60,7 @@ impl<'a> Draft<'a> {
         ensures { OnOk result (self.new ≡ first_notice_of number reference self.old) }
     {
         let counters = self.counters();
-        self.wanted = self.wanted.saturating_sub(1);
+        self.notices_wanted = self.notices_wanted.saturating_sub(1);
         self.put_counters(Counters {
             notice: number + 1,
             reference: following(reference),
@@ -62,29 +75,43 @@ impl<'a> Draft<'a> {
     }
 
     // The transaction of an RP-SMMA ended without its RP-ACK: it is sent twice in all.
-    fn notice_failed(&mut self, notice: Notice)
-        ensures { self.new ≡ notice_failed_of notice self.old }
+    fn notice_failed(&mut self, notice: Notice) -> Result<(), NoMemory>
+        ensures { OnOk result (self.new ≡ notice_failed_of notice self.old) }
     {
-        self.notice = if notice.is_second {
-            None
-        } else {
-            Some(Notice {
-                is_second: true,
-                due: Some(self.moment.plus(TRAM)),
-                ..notice
-            })
-        };
+        if notice.is_second {
+            self.remove_notice(notice.number);
+            return Ok(());
+        }
+        self.put_notice(Notice {
+            is_second: true,
+            due: Some(self.moment.plus(TRAM)),
+            ..notice
+        })
     }
 
-    /// The transaction of the RP-SMMA that was sent has ended, by that unit or without one.
-    pub(crate) fn notice_concluded(&mut self, unit: &Option<Result<Rp<'_>, RelayFault>>)
-        ensures { self.new ≡ notice_concluded_of unit.now self.old.notice self.old }
+    // The RP-SMMA of that number, if it has not ended.
+    fn notice_at(&self, number: u32) -> Option<Notice>
+        ensures { result ≡ row_at notice_key number self.now.notices }
     {
-        if let Some(notice) = self.notice {
-            match verdict_of(notice.reference, unit) {
-                Verdict::Acknowledged => self.notice = None,
-                _ => self.notice_failed(notice),
+        match self.notices.find(Key::of(u64::from(number))) {
+            Some(notice) => Some(*notice),
+            None => None,
+        }
+    }
+
+    /// The transfer of the RP-SMMA of that number has ended.
+    pub(crate) fn notice_concluded(&mut self, ending: &Ending, number: u32) -> Result<(), NoMemory>
+        ensures { OnOk result (self.new ≡ notice_concluded_of ending.now (row_at notice_key number self.old.notices) self.old) }
+    {
+        let Some(notice) = self.notice_at(number) else {
+            return Ok(());
+        };
+        match ending {
+            Ending::Acknowledged => {
+                self.remove_notice(notice.number);
+                Ok(())
             }
+            _ => self.notice_failed(notice),
         }
     }
 }

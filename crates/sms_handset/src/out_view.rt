@@ -54,7 +54,7 @@ impl<'a> Draft<'a> {
     {
         let base = self.base;
         let mut outbox = Table::from_vec(views_of(self.alloc, base.outbox.as_slice())?);
-        change_all(&mut outbox, self.changes.outbox.as_slice())?;
+        change_all(&mut outbox, self.outbox.changes())?;
         Ok(outbox)
     }
 }

@@ -9,19 +9,18 @@ ghost use Rattle.sms_handset.specs.GroupChanges.{data_groups, deliver_groups, me
 ghost use Rattle.sms_handset.specs.Groups.{key_of as key_of_deliver, mark_of, members as members_of};
 ghost use Rattle.sms_handset.specs.Receiving.{accept as accept_of, acknowledge as acknowledge_of, data_came as data_came_of, deliver_came as deliver_came_of, fault_cause as fault_cause_of, is_double as is_double_of, is_reported as is_reported_of, member_came as member_came_of, new_part_came as new_part_came_of, no_room as no_room_of, note as note_of, part_came as part_came_of, reference_octet as reference_octet_of, refuse as refuse_of, reject as reject_of, reported as reported_of, single_came as single_came_of, tpdu_came as tpdu_came_of, unit_came as unit_came_of};
 
+use crate::discarded_group::DiscardedGroup;
 use crate::draft::Draft;
 use crate::entry::Group;
 use crate::groups::{find_mark, is_among, key_of};
-use crate::last::Last;
-use crate::mark::Mark;
+use crate::last_accepted::LastAccepted;
 use crate::members::Members;
 use crate::no_memory::NoMemory;
-use crate::octet_copy::copy_of;
 use crate::open_group::Regrouping;
 use crate::out_entry::OutEntry;
-use sms_base::{Holder, Kind, OctetView};
+use sms_base::{Holder, Kind, OctetView, Octets};
 use sms_relay::{RelayFault, Rp, RpCause, read_down as read_unit, write_up};
-use sms_tpdu::{Carrier, Deliver, Down, StatusReport, read_down};
+use sms_tpdu::{Carrier, Deliver, Down, StatusReport, read_down, same_message};
 
 /// TP-FCS: memory capacity exceeded (3GPP TS 23.040 9.2.3.22).
 const MEMORY_CAPACITY_EXCEEDED: u8 = 0xD3;
@@ -81,8 +80,8 @@ impl<'a> Draft<'a> {
     fn accept(&mut self, reference: u8, tag: Holder, tpdu: &[u8]) -> Result<(), NoMemory>
         ensures { OnOk result (self.new ≡ accept_of reference tag tpdu.now self.old) }
     {
-        let tpdu = copy_of(self.alloc, tpdu)?;
-        self.put_last(Last { reference, tpdu })?;
+        let tpdu = Octets::copy_of(self.alloc, tpdu)?;
+        self.put_last(LastAccepted { reference, tpdu })?;
         self.acknowledge(reference, tag)
     }
 
@@ -165,7 +164,7 @@ impl<'a> Draft<'a> {
         tpdu: &[u8],
         group: &Group,
         number: u8,
-        mark: &Mark,
+        mark: &DiscardedGroup,
     ) -> Result<(), NoMemory>
         requires untouched { self.old.changes ≡ no_changes }
         ensures { OnOk result (self.new ≡ part_came_of reference tag tpdu.now group.now number (Some mark.now) self.old) }
@@ -315,11 +314,11 @@ impl<'a> Draft<'a> {
 }
 
 // Whether the TPDU is the one that was accepted last under its reference.
-fn is_double(tpdu: &[u8], last: Option<&Last>) -> bool
+fn is_double(tpdu: &[u8], last: Option<&LastAccepted>) -> bool
     ensures { result ≡ is_double_of tpdu.now (option_copied last.entry) }
 {
     match last {
-        Some(last) => tpdu == last.tpdu.as_slice(),
+        Some(last) => same_message(tpdu, last.tpdu.as_slice()),
         None => false,
     }
 }

@@ -1,6 +1,6 @@
 //! References: which are held, and the next that is free.
 ghost use Rattle.std.specs.Prelude.{◌≡◌, ◌+◌, ◌%◌, ◌++◌, IfOk, OnOk};
-ghost use Rattle.sms_handset.specs.References.{held_by_entries, held_message_references as held_message_references_of, held_references as held_references_of, is_unfinished as is_unfinished_state, next_free as next_free_of};
+ghost use Rattle.sms_handset.specs.References.{held_by_entries, held_by_notices, held_message_references as held_message_references_of, held_references as held_references_of, is_unfinished as is_unfinished_state, next_free as next_free_of};
 
 use crate::groups::is_among;
 use crate::notice::Notice;
@@ -71,18 +71,26 @@ fn push_held(held: &mut Octets, outbox: &[OutView<'_>]) -> Result<(), AllocError
     Ok(())
 }
 
-/// The references that the unfinished entries hold, and an RP-SMMA that has not ended.
-pub(crate) fn held_references(
-    alloc: Global,
-    notice: Option<Notice>,
-    outbox: &[OutView<'_>],
-) -> Result<Octets, AllocError>
-    ensures { IfOk result (λ held. held ≡ held_references_of notice outbox.now) }
+// The references that the RP-SMMA hold that have not ended.
+fn push_noticed(held: &mut Octets, notices: &[Notice]) -> Result<(), AllocError>
+    ensures { OnOk result (held.new ≡ held.old ++ held_by_notices notices.now) }
 {
-    let mut held = Octets::with_capacity(alloc, outbox.len() + 1)?;
-    if let Some(notice) = notice {
+    for notice in notices {
         held.push(notice.reference)?;
     }
+    Ok(())
+}
+
+/// The references that RP-SMMA hold that have not ended, and the unfinished entries.
+pub(crate) fn held_references(
+    alloc: Global,
+    notices: &[Notice],
+    outbox: &[OutView<'_>],
+) -> Result<Octets, AllocError>
+    ensures { IfOk result (λ held. held ≡ held_references_of notices.now outbox.now) }
+{
+    let mut held = Octets::new(alloc);
+    push_noticed(&mut held, notices)?;
     push_held(&mut held, outbox)?;
     Ok(held)
 }

@@ -1,31 +1,57 @@
 //! What a handset stores, and what an event changes of it.
+ghost use Rattle.std.specs.Prelude.{◌≡◌};
+ghost use Rattle.sms_handset.specs.SoundRows.{first_rows};
 
 use crate::counters::Counters;
+use crate::discarded_group::DiscardedGroup;
 use crate::entry::Entry;
-use crate::last::Last;
-use crate::mark::Mark;
+use crate::last_accepted::LastAccepted;
 use crate::out_entry::OutEntry;
 use crate::setup::Setup;
 use sms_base::Listed;
-use sms_table::Change;
+use sms_table::Settled;
+use std::alloc::Global;
 
 /// All that a handset stores, and its setup, which is handed in.
 #[derive(Debug, Drop)]
 pub struct Rows {
     pub entries: Listed<Entry>,
-    pub last: Listed<Last>,
+    pub last: Listed<LastAccepted>,
     pub outbox: Listed<OutEntry>,
-    pub marks: Listed<Mark>,
+    pub marks: Listed<DiscardedGroup>,
     pub counters: Counters,
     pub setup: Setup,
 }
 
+impl Rows {
+    /// The rows of a new store.
+    pub fn first(alloc: Global, setup: Setup) -> Rows
+        ensures { result ≡ first_rows setup }
+    {
+        Rows {
+            entries: Listed::new(alloc),
+            last: Listed::new(alloc),
+            outbox: Listed::new(alloc),
+            marks: Listed::new(alloc),
+            counters: Counters {
+                entry: 1,
+                message_reference: 0,
+                reference: 0,
+                concat_reference: 0,
+                notice: 0,
+                is_memory_full: false,
+            },
+            setup,
+        }
+    }
+}
+
 /// What an event changes of the rows: of each list in order, and the counters if they change.
-#[derive(Debug, Drop)]
+#[derive(Drop)]
 pub struct Changes {
-    pub entries: Listed<Change<Entry>>,
-    pub last: Listed<Change<Last>>,
-    pub outbox: Listed<Change<OutEntry>>,
-    pub marks: Listed<Change<Mark>>,
+    pub entries: Settled<Entry>,
+    pub last: Settled<LastAccepted>,
+    pub outbox: Settled<OutEntry>,
+    pub marks: Settled<DiscardedGroup>,
     pub counters: Option<Counters>,
 }

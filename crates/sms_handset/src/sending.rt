@@ -1,31 +1,32 @@
 //! Sending: one message is under way at a time; how it ends, and what a restart leaves.
-ghost use Rattle.std.specs.Prelude.{◌≡◌, ◌+◌, ◌<◌, ◌≤◌, min, length, Some, None, IfOk, OnOk, option_copied};
-ghost use Rattle.std.specs.Option.{option_map};
+ghost use Rattle.std.specs.Prelude.{◌≡◌, ◌+◌, ◌<◌, ◌≤◌, min, length, true, Some, None, IfOk, OnOk, option_copied};
 ghost use Rattle.sms_base.specs.Address.{IsAddress};
 ghost use Rattle.sms_table.specs.Table.{row_at};
 ghost use Rattle.sms_relay.specs.RelayGrammar.{data_up};
-ghost use Rattle.sms_relay.specs.RelayReading.{down_at};
 ghost use Rattle.sms_tpdu.specs.AddressGrammar.{relay_address};
 ghost use Rattle.sms_handset.specs.Keys.{out_key};
 ghost use Rattle.sms_handset.specs.References.{held_references as held_references_of, next_free as next_free_of};
-ghost use Rattle.sms_handset.specs.Outbox.{conclude as conclude_of, entry_concluded as entry_concluded_of, first_due as first_due_of, follow as follow_of, holder_concluded as holder_concluded_of, is_due as is_due_of, is_fired as is_fired_of, lapse as lapse_of, lapse_rows as lapse_rows_of, lost as lost_of, offer as offer_of, offer_after as offer_after_of, offer_entry as offer_entry_of, offer_message as offer_message_of, offer_wanted as offer_wanted_of, put_back as put_back_of, rejecting_duplicates as rejecting_duplicates_of, settled as settled_of, submit_of as submit_octets};
+ghost use Rattle.sms_handset.specs.Outbox.{entry_concluded as entry_concluded_of, first_due as first_due_of, first_fired as first_fired_of, follow as follow_of, holder_concluded as holder_concluded_of, is_due as is_due_of, is_fired as is_fired_of, is_notice_next as is_notice_next_of, lapse as lapse_of, lapse_rows as lapse_rows_of, lost as lost_of, offer as offer_of, offer_after as offer_after_of, offer_entry as offer_entry_of, offer_message as offer_message_of, offer_wanted as offer_wanted_of, put_back as put_back_of, rejecting_duplicates as rejecting_duplicates_of, settled as settled_of, submit_of as submit_octets, transfer_ended as transfer_ended_of};
 
 use crate::answers::{Verdict, verdict_of};
 use crate::draft::Draft;
 use crate::no_memory::NoMemory;
 use crate::notice::Notice;
-use crate::octet_copy::copy_of;
 use crate::out_entry::{EntryState, OutEntry};
 use crate::out_view::OutView;
 use crate::references::{held_references, next_free};
-use sms_base::{Address, Holder, Moment, OctetView, Octets};
-use sms_relay::{RelayFault, Rp, read_down, write_up};
+use sms_base::{Address, Carried, Holder, Moment, OctetView, Octets};
+use sms_link::Ending;
+use sms_relay::{Rp, write_up};
 use sms_table::Key;
 use sms_tpdu::write_relay_address;
 use std::alloc::{AllocError, Global};
 
 /// How often an entry is sent.
 const MOST_TRIES: u8 = 3;
+
+/// How many RP-SMMA may have been sent and not have ended.
+const MOST_NOTICES: usize = 200;
 
 /// Seconds until an entry that a temporary cause put back is due.
 const RETRY_DELAY: u64 = 60;
@@ -103,6 +104,18 @@ fn is_fired(moment: Moment, due: Option<Moment>) -> bool
     }
 }
 
+// The oldest RP-SMMA whose TRAM has fired.
+fn first_fired(moment: Moment, notices: &[Notice]) -> Option<Notice>
+    ensures { result ≡ first_fired_of moment notices.now }
+{
+    for notice in notices {
+        if is_fired(moment, notice.due) {
+            return Some(*notice);
+        }
+    }
+    None
+}
+
 // The oldest entry that is due.
 fn first_due<'a>(moment: Moment, outbox: &'a [OutView<'a>]) -> Option<&'a OutEntry>
     ensures { option_copied result ≡ first_due_of moment outbox.now }
@@ -123,7 +136,7 @@ fn submit_of(alloc: Global, entry: &OutEntry) -> Result<Octets, AllocError>
 {
     let tpdu = entry.tpdu.as_slice();
     if !entry.rejects_duplicates {
-        return copy_of(alloc, tpdu);
+        return Octets::copy_of(alloc, tpdu);
     }
     rejecting_duplicates(alloc, tpdu)
 }
@@ -165,62 +178,42 @@ impl<'a> Draft<'a> {
     fn found_entry(&self, number: u32) -> Result<Option<OutEntry>, NoMemory>
         ensures { IfOk result (λ entry. entry ≡ row_at out_key number self.now.rows.outbox) }
     {
-        let outbox = self.outbox_now()?;
-        match outbox.find(Key::of(u64::from(number))) {
-            Some(view) => Ok(Some(view.entry().copy(self.alloc)?)),
+        match self.outbox.find(Key::of(u64::from(number))) {
+            Some(entry) => Ok(Some(entry.copy(self.alloc)?)),
             None => Ok(None),
         }
     }
 
     // The transfer of an entry has ended.
-    fn entry_concluded(
-        &mut self,
-        unit: &Option<Result<Rp<'_>, RelayFault>>,
-        number: u32,
-    ) -> Result<(), NoMemory>
-        ensures { OnOk result (self.new ≡ entry_concluded_of unit.now (row_at out_key number self.old.rows.outbox) self.old) }
+    fn entry_concluded(&mut self, ending: &Ending, number: u32) -> Result<(), NoMemory>
+        ensures { OnOk result (self.new ≡ entry_concluded_of ending.now (row_at out_key number self.old.rows.outbox) self.old) }
     {
         match self.found_entry(number)? {
-            Some(entry) => {
-                let verdict = verdict_of(entry.reference, unit);
-                self.put_out(settled(self.moment, verdict, entry))
-            }
+            Some(entry) => self.put_out(settled(self.moment, verdict_of(ending), entry)),
             None => Ok(()),
         }
     }
 
     // The transfer for a holder has ended.
-    fn holder_concluded(
-        &mut self,
-        unit: &Option<Result<Rp<'_>, RelayFault>>,
-        holder: Holder,
-    ) -> Result<(), NoMemory>
-        ensures { OnOk result (self.new ≡ holder_concluded_of unit.now holder self.old) }
+    fn holder_concluded(&mut self, ending: &Ending, holder: Holder) -> Result<(), NoMemory>
+        ensures { OnOk result (self.new ≡ holder_concluded_of ending.now holder self.old) }
     {
         match holder {
-            Holder::Entry(number) => self.entry_concluded(unit, number),
-            Holder::Memory(_) => {
-                self.notice_concluded(unit);
-                Ok(())
-            }
+            Holder::Entry(number) => self.entry_concluded(ending, number),
+            Holder::Memory(number) => self.notice_concluded(ending, number),
             Holder::Part(..) | Holder::Report(_) => Ok(()),
         }
     }
 
-    /// The transaction that this side began has ended, by that unit or without one.
-    pub(crate) fn conclude(&mut self, unit: Option<&[u8]>) -> Result<(), NoMemory>
-        ensures { OnOk result (self.new ≡ conclude_of (option_map down_at (option_copied unit.entry)) self.old) }
+    /// The transfer that this side began has ended.
+    pub(crate) fn transfer_ended(
+        &mut self,
+        transfer: &Carried,
+        ending: &Ending,
+    ) -> Result<(), NoMemory>
+        ensures { OnOk result (self.new ≡ transfer_ended_of transfer.now ending.now self.old) }
     {
-        let unit = match unit {
-            Some(octets) => Some(read_down(octets)),
-            None => None,
-        };
-        let under_way = self.under_way;
-        self.under_way = None;
-        match under_way {
-            Some(carried) => self.holder_concluded(&unit, carried.tag),
-            None => Ok(()),
-        }
+        self.holder_concluded(ending, transfer.tag)
     }
 
     // The outbox as it stands, our own.
@@ -285,36 +278,44 @@ impl<'a> Draft<'a> {
         }
     }
 
-    // The next reference that nothing unfinished holds, beside that RP-SMMA.
-    pub(crate) fn free_reference(&self, notice: Option<Notice>) -> Result<u8, NoMemory>
-        ensures { IfOk result (λ reference. reference ≡ next_free_of self.now.rows.counters.reference (held_references_of notice self.now.rows.outbox)) }
+    /// The next reference that nothing unfinished holds.
+    pub(crate) fn free_reference(&self) -> Result<u8, NoMemory>
+        ensures { IfOk result (λ reference. reference ≡ next_free_of self.now.rows.counters.reference (held_references_of self.now.notices self.now.rows.outbox)) }
     {
         let outbox = self.outbox_now()?;
-        let held = held_references(self.alloc, notice, outbox.as_slice())?;
+        let held = held_references(self.alloc, self.notices.as_slice(), outbox.as_slice())?;
         Ok(next_free(self.counters().reference, held.as_slice()))
+    }
+
+    // Whether an RP-SMMA is wanted, a number is left for it, and few wait to be sent again.
+    fn is_notice_next(&self) -> bool
+        ensures next { result ≡ is_notice_next_of self.now }
+        ensures number { result ≡ true → self.now.rows.counters.notice < 4294967295 }
+    {
+        0 < self.notices_wanted
+            && self.counters().notice < 4294967295
+            && self.notices.as_slice().len() < MOST_NOTICES
     }
 
     // An RP-SMMA that is wanted goes before messages.
     fn offer_wanted(&mut self) -> Result<(), NoMemory>
         ensures { OnOk result (self.new ≡ offer_wanted_of self.old) }
     {
-        let number = self.counters().notice;
-        if 0 < self.wanted && number < 4294967295 {
-            let reference = self.free_reference(None)?;
-            self.first_notice(number, reference)?;
+        if self.is_notice_next() {
+            let reference = self.free_reference()?;
+            self.first_notice(self.counters().notice, reference)?;
         } else {
             self.offer_message()?;
         }
         Ok(())
     }
 
-    // An RP-SMMA that waits for TRAM holds nothing up.
-    fn offer_after(&mut self, notice: Option<Notice>) -> Result<(), NoMemory>
-        ensures { OnOk result (self.new ≡ offer_after_of notice self.old) }
+    // An RP-SMMA whose TRAM has fired goes first; one that waits for TRAM holds nothing up.
+    fn offer_next(&mut self) -> Result<(), NoMemory>
+        ensures { OnOk result (self.new ≡ offer_after_of (first_fired_of self.old.moment self.old.notices) self.old) }
     {
-        match notice {
-            Some(notice) if is_fired(self.moment, notice.due) => self.send_notice(notice),
-            Some(_) => self.offer_message(),
+        match first_fired(self.moment, self.notices.as_slice()) {
+            Some(notice) => self.send_notice(notice),
             None => self.offer_wanted(),
         }
     }
@@ -323,10 +324,10 @@ impl<'a> Draft<'a> {
     fn offer(&mut self) -> Result<(), NoMemory>
         ensures { OnOk result (self.new ≡ offer_of self.old) }
     {
-        if self.links.is_busy() {
+        if self.link.is_busy() {
             return Ok(());
         }
-        self.offer_after(self.notice)
+        self.offer_next()
     }
 
     /// What follows every event that isn't refused: what a restart left lapses, and the next is offered.

@@ -1,11 +1,12 @@
 //! The rows that a handset keeps.
 ghost use Rattle.std.specs.Prelude.{◌≡◌};
-ghost use Rattle.sms_handset.specs.Keys.{entry_key, last_key, mark_key, out_key};
+ghost use Rattle.sms_handset.specs.Keys.{entry_key, last_key, mark_key, notice_key, out_key};
 
 use crate::counters::Counters;
+use crate::discarded_group::DiscardedGroup;
 use crate::entry::Entry;
-use crate::last::Last;
-use crate::mark::Mark;
+use crate::last_accepted::LastAccepted;
+use crate::notice::Notice;
 use crate::open_groups::OpenGroups;
 use crate::out_entry::OutEntry;
 use crate::setup::Setup;
@@ -19,7 +20,7 @@ impl Row for Entry {
     }
 }
 
-impl Row for Last {
+impl Row for LastAccepted {
     ghost key = { last_key };
 
     fn key(&self) -> Key {
@@ -35,8 +36,16 @@ impl Row for OutEntry {
     }
 }
 
-impl Row for Mark {
+impl Row for DiscardedGroup {
     ghost key = { mark_key };
+
+    fn key(&self) -> Key {
+        Key::of(u64::from(self.number))
+    }
+}
+
+impl Row for Notice {
+    ghost key = { notice_key };
 
     fn key(&self) -> Key {
         Key::of(u64::from(self.number))
@@ -51,9 +60,9 @@ pub(crate) struct Stored {
     pub(crate) groups: OpenGroups,
     /// How many slots the entries take.
     pub(crate) taken: u64,
-    pub(crate) last: Table<Last>,
+    pub(crate) last: Table<LastAccepted>,
     pub(crate) outbox: Table<OutEntry>,
-    pub(crate) marks: Table<Mark>,
+    pub(crate) marks: Table<DiscardedGroup>,
     pub(crate) counters: Counters,
     pub(crate) setup: Setup,
 }

@@ -6,14 +6,13 @@ ghost use Rattle.sms_handset.specs.GroupChanges.{stored_groups};
 ghost use Rattle.sms_handset.specs.OpenGroups.{grouped, open_group};
 ghost use Rattle.sms_handset.specs.MemoryAvailable.{flag as flag_of, freed as freed_of, has_room as has_room_of, slots_taken};
 
+use crate::discarded_group::DiscardedGroup;
 use crate::draft::Draft;
 use crate::entry::{Entry, Group, Message};
 use crate::groups::{has_every, is_full, number_of};
 use crate::joining::{joined_content, tpdu_of};
-use crate::mark::Mark;
 use crate::members::Members;
 use crate::no_memory::NoMemory;
-use crate::octet_copy::copy_of;
 use crate::open_group::{OpenGroup, Regrouping, StoredPart};
 use crate::open_groups::with_part;
 use sms_base::Octets;
@@ -71,7 +70,7 @@ impl<'a> Draft<'a> {
         requires { self.old.rows.counters.entry < 4294967295 }
         ensures { OnOk result (self.new ≡ store_single_of tpdu.now self.old) }
     {
-        let tpdu = copy_of(self.alloc, tpdu)?;
+        let tpdu = Octets::copy_of(self.alloc, tpdu)?;
         let number = self.count_entry();
         self.put_entry(Entry {
             number,
@@ -92,8 +91,8 @@ impl<'a> Draft<'a> {
         ensures moves { OnOk result (self.new ≡ store_part_of group.now number tpdu.now members.now self.old) }
         ensures groups { IfOk result (λ change. change ≡ stored_groups group.now number tpdu.now members.now self.old) }
     {
-        let stored = copy_of(self.alloc, tpdu)?;
-        let kept = copy_of(self.alloc, tpdu)?;
+        let stored = Octets::copy_of(self.alloc, tpdu)?;
+        let kept = Octets::copy_of(self.alloc, tpdu)?;
         let entry = self.count_entry();
         let part = part_of(entry, group, number, kept);
         self.put_entry(part_of(entry, group, number, stored))?;
@@ -156,7 +155,7 @@ impl<'a> Draft<'a> {
     pub(crate) fn free(&mut self, entry: &Entry) -> Result<(), NoMemory>
         ensures { OnOk result (self.new ≡ put_entry_of (alone entry.now) self.old) }
     {
-        let tpdu = copy_of(self.alloc, tpdu_of(&entry.message))?;
+        let tpdu = Octets::copy_of(self.alloc, tpdu_of(&entry.message))?;
         self.put_entry(Entry {
             number: entry.number,
             slots: entry.slots,
@@ -165,15 +164,15 @@ impl<'a> Draft<'a> {
     }
 
     /// A part of a discarded group came.
-    pub(crate) fn mark(&mut self, number: u8, mark: &Mark) -> Result<(), NoMemory>
+    pub(crate) fn mark(&mut self, number: u8, mark: &DiscardedGroup) -> Result<(), NoMemory>
         ensures { OnOk result (self.new ≡ marked_of number mark.now self.old) }
     {
-        let mut seen = copy_of(self.alloc, mark.seen.as_slice())?;
+        let mut seen = Octets::copy_of(self.alloc, mark.seen.as_slice())?;
         seen.push(number)?;
         if has_every(mark.group.total, seen.as_slice()) {
             return self.remove_mark(mark.number);
         }
-        self.put_mark(Mark {
+        self.put_mark(DiscardedGroup {
             number: mark.number,
             group: mark.group,
             seen,
@@ -188,7 +187,7 @@ impl<'a> Draft<'a> {
         if counters.is_memory_full {
             counters.is_memory_full = false;
             self.put_counters(counters);
-            self.wanted = self.wanted.saturating_add(1);
+            self.notices_wanted = self.notices_wanted.saturating_add(1);
         }
     }
 }

@@ -1,7 +1,6 @@
 //! The SUBMIT of an entry.
 ghost use Rattle.std.specs.Prelude.{◌≡◌, ◌<◌, ◌≤◌, length, IfOk};
 
-use crate::octet_copy::copy_of;
 use sms_base::Octets;
 use std::alloc::{AllocError, Global};
 use std::marker::Model;
@@ -45,7 +44,7 @@ impl SubmitTpdu {
         ensures { IfOk result (λ copy. copy ≡ self.now) }
     {
         Ok(SubmitTpdu {
-            octets: copy_of(alloc, self.octets.as_slice())?,
+            octets: Octets::copy_of(alloc, self.octets.as_slice())?,
         })
     }
 }

@@ -136,7 +136,7 @@ impl<'a> Draft<'a> {
         ensures { OnOk result (self.new ≡ write_part_of destination.now report is_long part.now self.old) }
     {
         let message_reference = self.free_message_reference()?;
-        let reference = self.free_reference(self.notice)?;
+        let reference = self.free_reference()?;
         let tpdu = submit_tpdu(self.alloc, message_reference, destination, report, part)?;
         let counters = self.counters();
         self.put_counters(Counters {

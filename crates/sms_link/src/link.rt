@@ -96,6 +96,7 @@ impl Link {
         requires fits { length unit.now ≤ 248 }
         ensures frames { IfOk result (λ frames. frames ≡ (begun now reference tag unit.now self.old).out.frames) }
         ensures state { OnOk result (self.new ≡ (begun now reference tag unit.now self.old).link) }
+        ensures side { self.new.side ≡ self.old.side }
     {
         if self.links.is_busy() {
             return Ok(Listed::new(self.alloc));
@@ -127,6 +128,7 @@ impl Link {
         requires fits { length unit.now ≤ 248 }
         ensures frames { IfOk result (λ frames. frames ≡ (replied now kind reference tag unit.now self.old).out.frames) }
         ensures state { OnOk result (self.new ≡ (replied now kind reference tag unit.now self.old).link) }
+        ensures side { self.new.side ≡ self.old.side }
     {
         if !self.links.awaits_reply() {
             return Ok(Listed::new(self.alloc));
@@ -149,6 +151,7 @@ impl Link {
     pub fn take(&mut self, frame: &[u8]) -> Result<LinkOut, AllocError>
         ensures out { IfOk result (λ out. out ≡ (taken frame.now self.old).out) }
         ensures state { OnOk result (self.new ≡ (taken frame.now self.old).link) }
+        ensures side { self.new.side ≡ self.old.side }
     {
         let out = self.links.take(frame)?;
         self.hear(out)
@@ -158,6 +161,7 @@ impl Link {
     pub fn fire(&mut self, now: Moment) -> Result<LinkOut, AllocError>
         ensures out { IfOk result (λ out. out ≡ (fired now self.old).out) }
         ensures state { OnOk result (self.new ≡ (fired now self.old).link) }
+        ensures side { self.new.side ≡ self.old.side }
     {
         let out = self.links.fire(now)?;
         self.hear(out)
@@ -168,6 +172,7 @@ impl Link {
         ensures frames { IfOk result (λ heard. heard.frames ≡ from_links_of self.old.under_way self.old.answered out.frames) }
         ensures up { IfOk result (λ heard. heard.up ≡ came_up_of self.old.side self.old.under_way out.up) }
         ensures state { OnOk result (self.new ≡ record self.old { under_way = still_under_way_of out.up self.old.under_way }) }
+        ensures side { self.new.side ≡ self.old.side }
     {
         let frames = from_links(self.alloc, &self.under_way, &self.answered, out.frames)?;
         let up = came_up(self.alloc, self.side, &self.under_way, &out.up)?;

@@ -1,5 +1,5 @@
 //! A table in the middle of an event.
-ghost use Rattle.std.specs.Prelude.{◌≡◌, ℕ, [], OnOk, IfOk, option_copied};
+ghost use Rattle.std.specs.Prelude.{◌≡◌, ℕ, [], OnOk, OnErr, IfOk, option_copied};
 ghost use Rattle.sms_table.specs.Table.{all_applied, put, row_at, without};
 ghost use Rattle.sms_table.specs.declared.change.Change.TheVariants.{Put, Remove};
 ghost use Rattle.sms_table.specs.Pending.{FitsIn, changed, rows_in};
@@ -51,6 +51,13 @@ impl<'a, T: Drop + Row> Pending<'a, T> {
         }
     }
 
+    /// The changes so far, in order.
+    pub fn changes(&self) -> &[Change<T>]
+        ensures { result.now ≡ self.now.changes }
+    {
+        self.changes.as_slice()
+    }
+
     /// The row of that key as it stands, if there is one.
     pub fn find(&self, key: Key) -> Option<&T>
         ensures { option_copied result ≡ row_at T.key key (rows_in T.key self.now) }
@@ -58,21 +65,23 @@ impl<'a, T: Drop + Row> Pending<'a, T> {
         self.base.find_after(self.changes.as_slice(), key)
     }
 
-    /// A row comes, or takes the place of that of its key.
+    /// A row comes, or takes the place of that of its key. Where memory is wanting, nothing has changed.
     #[tactic(auto, using(crate::proofs::Tables::all_applied_push))]
     pub fn put(&mut self, row: T) -> Result<(), AllocError>
         ensures change { OnOk result (self.new ≡ changed (Put row) self.old) }
         ensures rows { OnOk result (rows_in T.key self.new ≡ put T.key row (rows_in T.key self.old)) }
+        ensures err { OnErr result (self.new ≡ self.old) }
     {
         self.changes.push(Change::Put(row))?;
         Ok(())
     }
 
-    /// The row of that key goes.
+    /// The row of that key goes. Where memory is wanting, nothing has changed.
     #[tactic(auto, using(crate::proofs::Tables::all_applied_push))]
     pub fn remove(&mut self, key: Key) -> Result<(), AllocError>
         ensures change { OnOk result (self.new ≡ changed (Remove key) self.old) }
         ensures rows { OnOk result (rows_in T.key self.new ≡ without T.key key (rows_in T.key self.old)) }
+        ensures err { OnErr result (self.new ≡ self.old) }
     {
         self.changes.push(Change::Remove(key))?;
         Ok(())
@@ -83,7 +92,17 @@ impl<'a, T: Drop + Row> Pending<'a, T> {
         ensures changes { IfOk result (λ s. s.changes ≡ self.entry.changes) }
         ensures fits { IfOk result (λ s. FitsIn s self.entry.base) }
     {
-        let spare = self.base.make_spare(alloc, self.changes.len())?;
+        let base = self.base;
+        self.settle_for(alloc, base)
+    }
+
+    /// The changes, with memory for the rows that they bring to that table: the one that the event began with, where
+    /// contracts can't see any more that it is.
+    pub fn settle_for(self, alloc: Global, table: &Table<T>) -> Result<Settled<T>, AllocError>
+        ensures changes { IfOk result (λ s. s.changes ≡ self.entry.changes) }
+        ensures fits { IfOk result (λ s. FitsIn s table.now) }
+    {
+        let spare = table.make_spare(alloc, self.changes.len())?;
         Ok(Settled {
             changes: self.changes,
             spare,

@@ -11,6 +11,7 @@ other_setup rows setup s t = record {
   out_keys = s.out_keys;
   mark_keys = s.mark_keys;
   counted = s.counted;
+  few_stored = s.few_stored;
   entries = s.entries;
   groups = s.groups;
   last = s.last;

@@ -1,7 +1,7 @@
 use Rattle.std.proofs.Common.{◌≡◌, ◌<◌, sym, ◌∙◌, ap, subst, true, not, is_some, List, Option, length, Bool}
-use Rattle.sms_handset.specs.declared.mark.Mark.{Mark}
+use Rattle.sms_handset.specs.declared.discarded_group.DiscardedGroup.{DiscardedGroup}
 use Rattle.sms_handset.specs.declared.open_group.OpenGroup.{OpenGroup}
-use Rattle.sms_handset.specs.Draft.{Standing, draft_of}
+use Rattle.sms_handset.specs.Draft.{HandsetOf, draft_of}
 use Rattle.sms_handset.specs.OpenGroups.{open_at}
 use Rattle.sms_handset.specs.OpenIndex.{under}
 use Rattle.sms_handset.proofs.Judging.{copied_some, discards_some}
@@ -11,6 +11,6 @@ pub returns : goal.returns
 returns c =
     let there : is_some c.at.result ≡ true = c.is_none.ensures ∙ ap (λ (b : Bool). not b) c.if-is_none.false in
     discards_some c.args.number (under c.self.inside.stored.groups c.args.number) (draft_of c.args.self.now.core)
-    (sym (c.self.invariant.index c.args.number ∙ ap (λ (s : Standing). open_at c.args.number s.core.rows.entries) c.self.view_is))
+    (sym (c.self.invariant.0.index c.args.number ∙ ap (λ (s : HandsetOf). open_at c.args.number s.core.rows.entries) c.self.view_is))
     (ap (λ (o : Option OpenGroup). is_some o) (sym c.at.ensures) ∙ copied_some c.at.result ∙ there)
-    (subst (λ (ms : List Mark). length ms < 64) (c.as_slice.ensures.rows ∙ ap (λ (s : Standing). s.core.rows.marks) c.self.view_is) c.if-as_slice-ge64.false)
+    (subst (λ (ms : List DiscardedGroup). length ms < 64) (c.as_slice.ensures.rows ∙ ap (λ (s : HandsetOf). s.core.rows.marks) c.self.view_is) c.if-as_slice-ge64.false)

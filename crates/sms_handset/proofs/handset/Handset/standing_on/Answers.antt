@@ -4,14 +4,17 @@ use Rattle.sms_table.specs.Table.{Kept}
 use Rattle.sms_handset.specs.declared.entry.Entry.{Entry}
 use Rattle.sms_handset.specs.MemoryAvailable.{slots_taken}
 use Rattle.sms_handset.specs.OpenIndex.{Indexes}
+use Rattle.sms_link.specs.LinkTurn.{LinkOf}
 use Rattle.sms_handset.proofs.handset.Handset.standing_on.Goals as goal
 
 pub invariant_of-result : goal.invariant_of-result
 invariant_of-result c =
-    let rows : c.from_vec-entries.result.rows ≡ c.args.rows.entries = ap (λ (t : Kept Entry). t.rows) c.from_vec-entries.ensures ∙ c.into_vec.ensures in
-    record {
-      centre = c.requires.centre;
-      index = subst (λ (es : List Entry). Indexes c.in_ok-groups.groups es) (c.as_slice.ensures ∙ sym rows) c.in_ok-groups.ensures;
-      slots = c.in_ok-taken.ensures ∙ ap (λ (es : List Entry). slots_taken es) (c.as_slice-2.ensures ∙ sym rows);
-      numbers = subst (λ (es : List Entry). AllByRecursion (λ (e : Entry). e.number < c.args.rows.counters.entry) es) (sym rows) c.requires.numbers;
-    }
+    let rows : c.from_vec-entries.result.rows ≡ c.args.rows.entries = ap (λ (t : Kept Entry). t.rows) c.from_vec-entries.ensures ∙ c.into_vec.ensures in (
+      record {
+        centre = c.requires.centre;
+        index = subst (λ (es : List Entry). Indexes c.in_ok-groups.groups es) (c.as_slice.ensures ∙ sym rows) c.in_ok-groups.ensures;
+        slots = c.in_ok-taken.ensures ∙ ap (λ (es : List Entry). slots_taken es) (c.as_slice-2.ensures ∙ sym rows);
+        numbers = subst (λ (es : List Entry). AllByRecursion (λ (e : Entry). e.number < c.args.rows.counters.entry) es) (sym rows) c.requires.numbers;
+      },
+      ap (λ (l : LinkOf). l.side) c.new.ensures,
+    )

@@ -1,0 +1,25 @@
+//! Why rows are no handset.
+ghost use Rattle.std.specs.Prelude.{◌≡◌};
+ghost use Rattle.sms_handset.specs.declared.recover_error.RecoverError.TheVariants.{NoMemory as NoMemoryOf};
+
+use crate::no_memory::NoMemory;
+use thiserror::Error;
+
+/// Why rows are no handset.
+#[derive(Clone, Copy, Debug, PartialEq, Eq, Error)]
+pub enum RecoverError {
+    /// H1: no handset committed such rows.
+    #[error("the rows are not sound")]
+    BadRows,
+    /// A growth was refused.
+    #[error("out of memory")]
+    NoMemory,
+}
+
+impl From<NoMemory> for RecoverError {
+    ghost from_gives = { λ _ e. e ≡ NoMemoryOf };
+
+    fn from(_error: NoMemory) -> RecoverError {
+        RecoverError::NoMemory
+    }
+}
