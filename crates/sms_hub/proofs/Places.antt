@@ -38,6 +38,10 @@ module _ {A : Type 0} where
   pub upd_else : (f : ℕ → A) (k : ℕ) (a : A) (s : ℕ) → s ≢ k → upd f k a s ≡ f s
   upd_else f k a s n = ap (λ b. if b then a else f s) (ne_eqb s k n)
 
+  pub length_nil : (xs : List A) → length xs ≡ 0 → xs ≡ []
+  length_nil [] e = refl
+  length_nil (x ∷ xs) e = absurd (omega arith)
+
   pub length_snoc : (xs : List A) (y : A) (zs : List A) → zs ≡ xs ++ y ∷ [] → length zs ≡ length xs + 1
   length_snoc xs y zs e = ap length e ∙ length-append xs (y ∷ [])
 

@@ -23,5 +23,5 @@ pub use hub_fault::HubFault;
 pub use keeper::{End, Keeper, Term};
 pub use machine::{Broken, Clock, Fate, Gate, Item, Machine, Step, Stimulus};
 pub use outs::{Out, Outs};
-pub use run::{ManyRun, Run};
+pub use run::{ManyRun, Run, many_sessions, two_sessions};
 pub use seat::Seat;

@@ -5,8 +5,10 @@ mod many;
 mod opened;
 mod terms;
 mod threads;
+mod two;
 
-// pub use many::many_sessions;
+pub use many::many_sessions;
+pub use two::two_sessions;
 
 /// What some sessions did.
 #[derive(Drop)]
