@@ -83,6 +83,7 @@ module _ {J O : Type 0} where
   pub same_count : (ts : List (SessionThread J O)) (ls : List (Vec J Global)) → jobs_for ts ≡ lists_of ls → length ts ≡ length ls
   same_count ts ls e = sym (length-map ts (λ (t : SessionThread J O). t.promise.jobs.value.items)) ∙ ap length e ∙ length-map ls (λ (v : Vec J Global). v.items)
 
+module _ {O : Type 0} where
   -- there are as many vectors of answers as seats
   pub answer_count : (os : List (Vec O Global)) (n m : ℕ) (f : ℕ → List O) → lists_of os ≡ each_seat n f → n ≡ m → length os ≡ m
   answer_count os n m f e is = sym (length-map os (λ (v : Vec O Global). v.items)) ∙ ap length e ∙ each_length n f ∙ is
