@@ -55,6 +55,10 @@ module _ {J : Type 0} where
   has_end-append [] ys = refl
   has_end-append (x ∷ xs) ys = ap (λ b. is_end x || b) (has_end-append xs ys) ∙ or_assoc (is_end x) (has_end xs) (has_end ys)
 
+  -- a job is no end mark
+  pub open_more : (xs ys : List (Option J)) (j : J) → has_end xs ≡ false → ys ≡ xs ++ Some j ∷ [] → has_end ys ≡ false
+  open_more xs ys j h e = ap has_end e ∙ has_end-append xs (Some j ∷ []) ∙ ap (λ b. b || false) h
+
   -- an end mark that was there stays
   pub stays : (closed : List Bool) (ran : List (Letter J)) (x : Letter J) → ((k : ℕ) → slice_get closed k ≡ Some true → has_end (of k ran) ≡ true)
       → (k : ℕ) → slice_get closed k ≡ Some true → has_end (of k (ran ++ x ∷ [])) ≡ true

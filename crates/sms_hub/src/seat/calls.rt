@@ -24,6 +24,7 @@ impl<J: Drop, O: Drop> Seat<J, O> {
         requires open { has_end (put_by self.old) ≡ false }
         ensures seat { IsSameSeat self.old self.new }
         ensures taken { taken_by self.new ≡ taken_by self.old }
+        ensures open { has_end (put_by self.new) ≡ false }
         ensures put { MatchResult result
             (λ _. put_by self.new ≡ put_by self.old ++ Some job ∷ [])
             (λ back. (back ≡ job) × (put_by self.new ≡ put_by self.old) × Held (slots_of self.old) (λ items. EndsWith (put_by self.old) (of (number_of self.old) items))) }
