@@ -8,6 +8,8 @@
 pub mod counter;
 pub mod gates;
 #[cfg(test)]
+mod outs;
+#[cfg(test)]
 mod runs;
 #[cfg(test)]
 mod seats;
