@@ -6,7 +6,6 @@ use Rattle.sms_hub.specs.declared.machine.Fate.TheVariants.{Done, NoMemory, Refu
 use Rattle.sms_hub.specs.declared.outs.Out.{Out}
 use Rattle.sms_hub.specs.declared.machine.Item.{Item}
 use Rattle.sms_hub.specs.declared.keeper.Keeper.{Keeper}
-use Rattle.sms_hub.specs.Ends.{MatchEnd}
 use Rattle.sms_hub.specs.Fates.{MatchFate, WentOn, EndsRefused}
 use Rattle.sms_hub.specs.History.{IsHistory, IsRising, IsTimely, tick_after, outs_to, answers_in, asked_by, asked, work}
 use Rattle.sms_hub.specs.Keeping.{given_at, given_by, ran_by, IsSameHub, Gave, IsStretch}

@@ -8,7 +8,7 @@ use Rattle.sms_hub.specs.declared.machine.Item.{Item}
 use Rattle.sms_hub.specs.declared.keeper.Keeper.{Keeper}
 use Rattle.sms_hub.specs.Jobs.{of, is_end, has_end}
 use Rattle.sms_hub.specs.History.{for_seat, job_of, work, asked, jobs_of, answers_in}
-use Rattle.sms_hub.specs.Keeping.{ran_by, seats_of, IsClosed, IsStretch}
+use Rattle.sms_hub.specs.Keeping.{ran_by, IsClosed, IsStretch}
 use Rattle.sms_hub.specs.Seating.{IsNewKeeper, IsAll}
 use Rattle.sms_hub.proofs.Histories.{same_length}
 

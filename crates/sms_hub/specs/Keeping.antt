@@ -1,5 +1,5 @@
 -- What contracts see of a keeper.
-use Rattle.std.specs.Prelude.{◌≡◌, ◌<◌, ℕ, zero, suc, true, List, [], ◌∷◌, ◌++◌, length, map}
+use Rattle.std.specs.Prelude.{◌≡◌, ◌<◌, ◌≤◌, ℕ, zero, suc, true, List, [], ◌∷◌, ◌++◌, length, map}
 use Rattle.std.specs.Arc.{arc_value}
 use Rattle.crossbeam_queue.specs.Passes.{view, ruled_capacity}
 use Rattle.sms_hub.specs.declared.jobs.Letter.{Letter}
@@ -7,6 +7,7 @@ use Rattle.sms_hub.specs.declared.machine.Stimulus.{Stimulus}
 use Rattle.sms_hub.specs.declared.machine.Fate.{Fate}
 use Rattle.sms_hub.specs.declared.machine.Item.{Item}
 use Rattle.sms_hub.specs.declared.outs.Out.{Out}
+use Rattle.sms_hub.specs.Fates.{MatchFate, WentOn, EndsRefused}
 use Rattle.sms_hub.specs.Jobs.{of, has_end}
 use Rattle.sms_hub.specs.History.{IsHistory, IsRising, asked, answers_in, outs_to, work}
 use Rattle.sms_hub.specs.declared.keeper.Line.{Line}
@@ -60,3 +61,12 @@ module _ {J O S : Type 0} (gives : S → Stimulus J → Fate → List (Out O)) (
     pub ran : work (ran_by b) ≡ work (ran_by a) ++ asked items
     pub given : (k : ℕ) → k < seats_of a → given_by b k ≡ given_by a k ++ answers_in k items
     pub ticks : IsRising shows a.last items b.last
+
+  -- What a turn did while the machine went from the state s to t, or where it was refused is to begin again at u: at most one item more than before, and at most one job.
+  pub record IsTurn (a : Keeper J O) (s : S) (before : List (Item J O)) (b : Keeper J O) (t u : S) (now : List (Item J O)) (jobs : ℕ) (fate : Fate) : Type 0 where
+    pub more : List (Item J O)
+    pub written : now ≡ before ++ more
+    pub count : length (asked more) ≡ jobs
+    pub most : jobs ≤ 1
+    pub told : MatchFate fate (WentOn more) (EndsRefused more)
+    pub did : MatchFate fate (IsStretch a s more b t) (IsStretch a s more b u)

@@ -70,11 +70,7 @@ impl<J: Drop, O: Drop> Keeper<J, O> {
     }
 
     /// Makes the next seat.
-    pub(crate) fn add_seat(
-        &mut self,
-        alloc: Global,
-        slots: usize,
-    ) -> Result<Seat<J, O>, AllocError>
+    pub(crate) fn add_seat(&mut self, alloc: Global, slots: usize) -> Result<Seat<J, O>, AllocError>
         requires { 0 < slots }
         ensures seat { IfOk result (λ s. IsNewSeat self.new (seats_of self.old) s) }
         ensures keeper { IfOk result (λ s. IsNewKeeper (seats_of self.old) self.old → IsNewKeeper (seats_of self.old + 1) self.new) }

@@ -86,13 +86,7 @@ impl<O: Drop> Outs<O> {
     {
         match &self.held {
             Held::Nothing => None,
-            Held::One(out) => {
-                if at == 0 {
-                    Some(out)
-                } else {
-                    None
-                }
-            }
+            Held::One(out) => { if at == 0 { Some(out) } else { None } }
             Held::Many(outs) => outs.get(at),
         }
     }

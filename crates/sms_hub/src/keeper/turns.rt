@@ -5,7 +5,7 @@ ghost use Rattle.sms_hub.specs.declared.keeper.End.TheVariants.{AllClosed, Full}
 ghost use Rattle.sms_hub.specs.Ends.{MatchEnd};
 ghost use Rattle.sms_hub.specs.Fates.{MatchFate, EndsRefused, WentOn};
 ghost use Rattle.sms_hub.specs.History.{asked, IsLater};
-ghost use Rattle.sms_hub.specs.Keeping.{Gave, ran_by, IsClosed, IsSameHub, IsStretch};
+ghost use Rattle.sms_hub.specs.Keeping.{Gave, ran_by, IsClosed, IsSameHub, IsStretch, IsTurn};
 
 use super::giving::give_outs;
 use super::{End, Keeper, Term};
@@ -79,11 +79,8 @@ impl<J: Drop, O: Drop> Keeper<J, O> {
         history: &mut Vec<Item<J, O>>,
     ) -> Turn
         requires room { vec_len history.old < vec_capacity history.old }
-        ensures { (more : List (Item J O)) × (history.new.items ≡ history.old.items ++ more) × (length (asked more) ≡ result.jobs) × (result.jobs ≤ 1)
-            × MatchFate result.fate (WentOn more) (EndsRefused more)
-            × MatchFate result.fate
-            (IsStretch M.gives M.after (C.shows clock.now) self.old (M.state machine.old) more self.new (M.state machine.new))
-            (IsStretch M.gives M.after (C.shows clock.now) self.old (M.state machine.old) more self.new (M.resumes machine.new)) }
+        ensures { IsTurn M.gives M.after (C.shows clock.now) self.old (M.state machine.old) history.old.items
+            self.new (M.state machine.new) (M.resumes machine.new) history.new.items result.jobs result.fate }
     {
         match self.pop(rt) {
             Some(letter) => {
@@ -131,11 +128,8 @@ impl<J: Drop, O: Drop> Keeper<J, O> {
         history: &mut Vec<Item<J, O>>,
     ) -> Turn
         requires room { vec_len history.old < vec_capacity history.old }
-        ensures { (more : List (Item J O)) × (history.new.items ≡ history.old.items ++ more) × (length (asked more) ≡ result.jobs) × (result.jobs ≤ 1)
-            × MatchFate result.fate (WentOn more) (EndsRefused more)
-            × MatchFate result.fate
-            (IsStretch M.gives M.after (C.shows clock.now) self.old (M.state machine.old) more self.new (M.state machine.new))
-            (IsStretch M.gives M.after (C.shows clock.now) self.old (M.state machine.old) more self.new (M.resumes machine.new)) }
+        ensures { IsTurn M.gives M.after (C.shows clock.now) self.old (M.state machine.old) history.old.items
+            self.new (M.state machine.new) (M.resumes machine.new) history.new.items result.jobs result.fate }
     {
         let now = clock.now();
         if self.is_due(now) {

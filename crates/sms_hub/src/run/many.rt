@@ -76,12 +76,7 @@ fn open_sessions<
     J: Drop + Send + 'static,
     O: Drop + Send + 'static,
     R: Threads + Wait + Copy + Send + 'static,
->(
-    rt: R,
-    alloc: Global,
-    slots: usize,
-    lists: Vec<Vec<J>>,
-) -> Result<Opened<J, O>, HubFault>
+>(rt: R, alloc: Global, slots: usize, lists: Vec<Vec<J>>) -> Result<Opened<J, O>, HubFault>
     requires { 1 ≤ slots }
     ensures opened { IfOk result (λ r. IsOpened r) }
     ensures jobs { IfOk result (λ r. jobs_for r.threads.items ≡ lists_of lists.items) }

@@ -1,4 +1,4 @@
-use Rattle.std.proofs.Common.{◌≡◌, ℕ, ◌∙◌, sym, subst}
+use Rattle.std.proofs.Common.{ℕ, subst}
 use Rattle.sms_hub.specs.Seating.{IsNewSeat}
 use Rattle.sms_hub.proofs.Histories.{seat_stays}
 use Rattle.sms_hub.proofs.hub.Hub.new.Goals as goal

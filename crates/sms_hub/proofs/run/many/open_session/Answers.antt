@@ -1,4 +1,4 @@
-use Rattle.std.proofs.Common.{◌+◌, ◌++◌, ◌∷◌, [], ◌∙◌, List, length, ap, sym, subst, zero-add, arith}
+use Rattle.std.proofs.Common.{◌++◌, ◌∷◌, [], ◌∙◌, List, length, ap, sym, subst, zero-add}
 use Rattle.sms_hub.specs.declared.seat.Seat.{Seat}
 use Rattle.sms_hub.specs.Running.{SessionThread, AreAt}
 use Rattle.sms_hub.specs.Seating.{IsSeatOf}

@@ -1,4 +1,4 @@
-use Rattle.std.proofs.Common.{◌≡◌, ◌+◌, [], ◌∷◌, ◌∙◌, ℕ, List, true, true≢false, ◌++◌, refl, length, map, sym, ap, subst, zero-add, arith}
+use Rattle.std.proofs.Common.{◌≡◌, [], ◌∷◌, ◌∙◌, List, true≢false, ◌++◌, refl, length, sym, ap, subst, zero-add, arith}
 use Rattle.std.specs.Vec.Iter.{into_iter_items}
 use Rattle.sms_hub.specs.History.{each_seat, for_seat, work}
 use Rattle.sms_hub.specs.Keeping.{given_by, ran_by}
