@@ -180,7 +180,7 @@ module _ {J : Type 0} where
 module _ {J O : Type 0} where
   -- a new seat is one of the keeper that has more seats
   pub seat_stays : (a b : Keeper J O) (n : ℕ) (s : Seat J O) → (IsSeatOf a s → IsSeatOf b s) → slots_in b ≡ slots_in a → IsNewSeat a n s → IsNewSeat b n s
-  seat_stays a b n s stays slots h = record { seat = stays h.seat; number = h.number; slots = h.slots ∙ sym slots; put = h.put; taken = h.taken }
+  seat_stays a b n s stays slots h = record { seat = stays h.seat; number = h.number; slots = h.slots ∙ sym slots; room = h.room ∙ sym slots; put = h.put; taken = h.taken }
 
   -- a seat is one of the keeper that did something
   pub seat_kept : (a b : Keeper J O) (s : Seat J O) → IsSameHub a b → IsSeatOf a s → IsSeatOf b s

@@ -25,6 +25,10 @@ module _ {J O : Type 0} where
   abbrev pub slots_of : Seat J O → ℕ
   slots_of s = ruled_capacity (arc_value s.jobs)
 
+  -- how many answers the seat's queue holds at most
+  abbrev pub room_of : Seat J O → ℕ
+  room_of s = ruled_capacity (arc_value s.answers)
+
   -- the number and the queues are the same
   pub record IsSameSeat (a b : Seat J O) : Type 0 where
     pub number : b.number ≡ a.number
@@ -41,6 +45,7 @@ module _ {J O : Type 0} where
     pub seat : IsSeatOf k s
     pub number : s.number ≡ n
     pub slots : slots_of s ≡ slots_in k
+    pub room : room_of s ≡ slots_in k
     pub put : put_by s ≡ []
     pub taken : taken_by s ≡ []
 

@@ -69,9 +69,8 @@ impl<J: Drop, O: Drop> Keeper<J, O> {
         })
     }
 
-    /// Makes the next seat.
-    pub(crate) fn add_seat(&mut self, alloc: Global, slots: usize) -> Result<Seat<J, O>, AllocError>
-        requires { 0 < slots }
+    /// Makes the next seat, with as many slots for its answers as there are for jobs.
+    pub(crate) fn add_seat(&mut self, alloc: Global) -> Result<Seat<J, O>, AllocError>
         ensures seat { IfOk result (λ s. IsNewSeat self.new (seats_of self.old) s) }
         ensures keeper { IfOk result (λ s. IsNewKeeper (seats_of self.old) self.old → IsNewKeeper (seats_of self.old + 1) self.new) }
         ensures others { IfOk result (λ s. (o : Seat J O) → IsSeatOf self.old o → IsSeatOf self.new o) }
@@ -81,7 +80,7 @@ impl<J: Drop, O: Drop> Keeper<J, O> {
         let keeper = Arc::try_clone(&self.bell)?;
         self.lines.reserve(1)?;
         self.closed.reserve(1)?;
-        let (line, end) = open_line(alloc, slots)?;
+        let (line, end) = open_line(alloc, self.jobs.capacity())?;
         let FarEnd {
             answers,
             taker,
@@ -128,7 +127,7 @@ impl Hub {
         let mut keeper = Keeper::<J, O>::open(alloc, slots)?;
         let mut all = Vec::with_capacity(alloc, seats)?;
         for made in 0..seats {
-            all.push_reserved(keeper.add_seat(alloc, slots)?);
+            all.push_reserved(keeper.add_seat(alloc)?);
         }
         Ok((keeper, all))
     }
@@ -146,8 +145,8 @@ impl Hub {
         ensures fault { IfErr result (λ fault. fault ≡ NoMemory) }
     {
         let mut keeper = Keeper::<J, O>::open(alloc, slots)?;
-        let first = keeper.add_seat(alloc, slots)?;
-        let second = keeper.add_seat(alloc, slots)?;
+        let first = keeper.add_seat(alloc)?;
+        let second = keeper.add_seat(alloc)?;
         Ok((keeper, first, second))
     }
 }

@@ -1,7 +1,7 @@
 //! The keeper, which owns the other end of each queue.
-ghost use Rattle.std.specs.Prelude.{◌≡◌, ℕ, true, Some, slice_get, length};
+ghost use Rattle.std.specs.Prelude.{◌≡◌, ◌<◌, ℕ, true, Some, slice_get, length};
 ghost use Rattle.std.specs.Arc.{arc_value};
-ghost use Rattle.crossbeam_queue.specs.Passes.{view, IsPassOf};
+ghost use Rattle.crossbeam_queue.specs.Passes.{view, IsPassOf, ruled_capacity};
 ghost use Rattle.sms_hub.specs.Answers.{giver_view};
 ghost use Rattle.sms_hub.specs.Jobs.{of, keeper_view, has_end};
 
@@ -60,6 +60,7 @@ pub struct Keeper<J, O> {
     // A put wakes it.
     pub(crate) bell: Arc<Parker, Global>,
     ghost seated: { IsPassOf (arc_value jobs) pass },
+    ghost roomy: { 0 < ruled_capacity (arc_value jobs) },
     ghost runs: { view pass ≡ keeper_view (view pass).made (view pass).ran },
     ghost numbered: { (view pass).made ≡ length lines.items },
     ghost sized: { length closed.items ≡ length lines.items },

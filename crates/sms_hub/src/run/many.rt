@@ -39,18 +39,16 @@ fn open_session<
 >(
     rt: R,
     alloc: Global,
-    slots: usize,
     opened: &mut Opened<J, O>,
     jobs: Vec<J>,
 ) -> Result<(), HubFault>
-    requires { 1 ≤ slots }
     ensures opened { OnOk result (IsOpened opened.old → IsOpened opened.new) }
     ensures jobs { OnOk result (jobs_for opened.new.threads.items ≡ jobs_for opened.old.threads.items ++ jobs.items ∷ []) }
     ensures fault { IfErr result (λ fault. MatchFault fault ⊤ ⊤ ⊥ ⊥) }
 {
     opened.threads.reserve(1)?;
     let over = Arc::try_clone(&opened.over)?;
-    let seat = opened.keeper.add_seat(alloc, slots)?;
+    let seat = opened.keeper.add_seat(alloc)?;
     let thread = start(rt, alloc, over, seat, jobs)?;
     opened.threads.push_reserved(thread);
     Ok(())
@@ -86,7 +84,7 @@ fn open_sessions<
     let mut fault = None;
     for jobs in lists {
         if fault.is_none() {
-            if let Err(why) = open_session(rt, alloc, slots, &mut opened, jobs) {
+            if let Err(why) = open_session(rt, alloc, &mut opened, jobs) {
                 fault = Some(why);
             }
         }

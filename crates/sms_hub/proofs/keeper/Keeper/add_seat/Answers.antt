@@ -25,11 +25,12 @@ invariant_of-self-2-clause-ended g c k e = ap (λ v. has_end (of k v.ran)) c.ano
 pub returns-clause-seat : goal.returns-clause-seat
 returns-clause-seat g c = let k = c.len-number.result in let ids = λ (ls : List (Line g.row.O.Denot)). slice_get (map (λ (l : Line g.row.O.Denot). l.pass.table_id) ls) k in record {
   seat = (
-    c.another-pass.ensures.queue.1.0 ∙ ap (λ q. q.table.shared.table_id) c.deref.ensures ∙ sym c.args.self.now.seated.0 ∙ sym c.another-pass.ensures.queue.0.0,
+    c.another-pass.ensures.queue.1.0 ∙ ap (λ q. q.table.shared.table_id) c.deref-2.ensures ∙ sym c.args.self.now.seated.0 ∙ sym c.another-pass.ensures.queue.0.0,
     ap ids c.push_reserved.ensures.items ∙ slice_get_last (λ (l : Line g.row.O.Denot). l.pass.table_id) c.reserve.new.self.items c.in_ok-line.line k (let n = c.len-number.ensures in omega arith) ∙ ap Some (sym c.in_ok-line.ensures.queue.1),
   );
   number = (let n = c.len-number.ensures in let e = ap length c.reserve.ensures.items in omega arith);
   slots = ap (λ q. q.cap) c.in_ok-jobs.ensures;
+  room = c.in_ok-line.ensures.slots ∙ c.capacity.ensures ∙ ap (λ q. q.cap) c.deref.ensures;
   put = ap (λ v. v.put) c.another-pass.ensures.rule.1;
   taken = ap (λ v. v.taken) c.in_ok-line.ensures.empty.1;
 }
