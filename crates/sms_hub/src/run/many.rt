@@ -36,12 +36,7 @@ fn open_session<
     J: Drop + Send + 'static,
     O: Drop + Send + 'static,
     R: Threads + Wait + Copy + Send + 'static,
->(
-    rt: R,
-    alloc: Global,
-    opened: &mut Opened<J, O>,
-    jobs: Vec<J>,
-) -> Result<(), HubFault>
+>(rt: R, alloc: Global, opened: &mut Opened<J, O>, jobs: Vec<J>) -> Result<(), HubFault>
     ensures opened { OnOk result (IsOpened opened.old → IsOpened opened.new) }
     ensures jobs { OnOk result (jobs_for opened.new.threads.items ≡ jobs_for opened.old.threads.items ++ jobs.items ∷ []) }
     ensures fault { IfErr result (λ fault. MatchFault fault ⊤ ⊤ ⊥ ⊥) }
