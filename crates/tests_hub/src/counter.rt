@@ -1,5 +1,6 @@
 //! A machine that adds up the jobs.
 ghost use Rattle.std.specs.Prelude.{◌≡◌, ◌==◌, if◌then◌else◌, [], ◌∷◌};
+
 use sms_base::Moment;
 use sms_hub::{Broken, Clock, Fate, Gate, Machine, Out, Outs, Step, Stimulus};
 

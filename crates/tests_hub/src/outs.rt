@@ -6,7 +6,16 @@ use std::test::Fail;
 
 #[test]
 fn outs_are_read_in_order(rt: HostRuntime) -> Result<(), Fail> {
-    let pair = vec![in rt.alloc(); Out { seat: 3, out: Reply::Sum(1) }, Out { seat: 4, out: Reply::Sum(2) }]?;
+    let pair = vec![in rt.alloc();
+        Out {
+            seat: 3,
+            out: Reply::Sum(1)
+        },
+        Out {
+            seat: 4,
+            out: Reply::Sum(2)
+        },
+    ]?;
     let outs = Outs::from_vec(pair);
     assert_eq!(rt; (outs.len(), outs.get(1).map(|out| out.seat)), (2, Some(4)));
     assert!(rt; outs.get(2).is_none());

@@ -1,9 +1,7 @@
 //! Runs of lists of jobs, each in a thread of its own.
 use crate::counter::{Counter, Open, Reply, Still};
 use sms_base::Moment;
-use sms_hub::{
-    Fate, HubFault, Item, ManyRun, Run, Stimulus, many_sessions, two_sessions,
-};
+use sms_hub::{Fate, HubFault, Item, ManyRun, Run, Stimulus, many_sessions, two_sessions};
 use std::alloc::Global;
 use std::sync::Wait;
 use std::test::Fail;
@@ -63,12 +61,16 @@ fn two_lists_are_run(rt: HostRuntime) -> Result<(), Fail> {
 }
 
 #[test]
-fn a_refused_commit_ends_a_term_and_the_next_begins_at_the_rows(rt: HostRuntime) -> Result<(), Fail> {
+fn a_refused_commit_ends_a_term_and_the_next_begins_at_the_rows(
+    rt: HostRuntime,
+) -> Result<(), Fail> {
     for refuses in 1..6u64 {
         let mut machine = Counter::new(refuses, true);
         let run = run_two(rt, rt.alloc(), &mut machine)?;
         let (missing, count) = refused_in(run.history.as_slice());
-        let failed = failed_in(run.answers_a.as_slice()).wrapping_add(failed_in(run.answers_b.as_slice()));
+        let failed = failed_in(run.answers_a.as_slice()).wrapping_add(failed_in(
+            run.answers_b.as_slice(),
+        ));
         assert_eq!(rt; (count, failed, machine.opened), (1, 1, 1));
         assert_eq!(rt; jobs_in(run.history.as_slice()), 5);
         assert_eq!(rt; machine.sum.wrapping_add(missing), 36);
@@ -107,7 +109,10 @@ fn run_many<R: Threads + Wait + Copy + Send + 'static>(
 fn thirty_two_lists_are_run(rt: HostRuntime) -> Result<(), Fail> {
     let mut machine = Counter::new(0, true);
     let run = run_many(rt, rt.alloc(), &mut machine, 32)??;
-    assert_eq!(rt; (run.answers.len(), jobs_in(run.history.as_slice())), (32, 64));
+    assert_eq!(rt;
+        (run.answers.len(), jobs_in(run.history.as_slice())),
+        (32, 64)
+    );
     assert!(rt; run.answers.iter().all(|answers| answers.len() == 2));
     assert_eq!(rt; machine.sum, 2080);
     Ok(())

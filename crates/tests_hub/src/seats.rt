@@ -6,7 +6,7 @@ ghost use Rattle.sms_hub.specs.Seating.{put_by, IsSeatOf};
 use crate::counter::{Counter, Open, Reply, Still};
 use crate::gates::Held;
 use sms_base::Moment;
-use sms_hub::{End, Hub, HubFault, Keeper, Out, Outs, Seat};
+use sms_hub::{End, Hub, HubFault, Keeper, Seat};
 use std::alloc::Global;
 use std::sync::Wait;
 use std::sync::atomic::{AtomicBool, Ordering};
