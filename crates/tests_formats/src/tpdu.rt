@@ -26,11 +26,11 @@ const STATUS_REPORT: &[u8] =
     b"\x06\x07\x0C\x91\x44\x77\x00\x09\x40\x65\x42\x20\x92\x32\x95\x85\x00\x42\x30\x10\x00\x00\x00\x00\x00";
 
 // Whether the octets are a SUBMIT with that reference to that number, without a validity period, with five septets.
-fn is_submit_to(octets: &[u8], reference: u8, to: Address) -> bool {
+fn is_submit_to(octets: &[u8], reference: u8, to: &Address) -> bool {
     match read_up(octets, Carrier::InData) {
         Ok(Up::Submit(submit)) => {
             submit.message_reference == reference
-                && submit.destination_address == to
+                && submit.destination_address == *to
                 && submit.validity_period == ValidityPeriod::NotPresent
                 && submit.user_data.length == 5
                 && submit.user_data.octets.as_slice() == b"\xE8\x32\x9B\xFD\x06".as_slice()
@@ -39,23 +39,23 @@ fn is_submit_to(octets: &[u8], reference: u8, to: Address) -> bool {
     }
 }
 
-fn is_deliver_from(octets: &[u8], from: Address) -> bool {
+fn is_deliver_from(octets: &[u8], from: &Address) -> bool {
     match read_down(octets, Carrier::InData) {
         Ok(Down::Deliver(deliver)) => {
             deliver.no_more_messages_to_send
                 && !deliver.status_report_indication
-                && deliver.originating_address == from
+                && deliver.originating_address == *from
                 && deliver.service_centre_time_stamp.seconds() == LEAP_DAY
         }
         Ok(_) | Err(_) => false,
     }
 }
 
-fn is_report_on(octets: &[u8], reference: u8, to: Address) -> bool {
+fn is_report_on(octets: &[u8], reference: u8, to: &Address) -> bool {
     match read_down(octets, Carrier::InData) {
         Ok(Down::StatusReport(report)) => {
             report.message_reference == reference
-                && report.recipient_address == to
+                && report.recipient_address == *to
                 && report.service_centre_time_stamp.seconds() == LEAP_DAY
                 && report.discharge_time.seconds() == LEAP_DAY + 2
                 && report.status == Status::Received.octet()
@@ -84,10 +84,10 @@ fn the_worked_examples_are_read(rt: HostRuntime) -> Result<(), Fail> {
     let a = Address::new(1, 1, "447700900123")?;
     let b = Address::new(1, 1, "447700900456")?;
     let bank = Address::new(5, 0, "Bank")?;
-    assert!(rt; is_submit_to(SUBMIT, 0x07, b));
-    assert!(rt; is_deliver_from(DELIVER, a));
-    assert!(rt; is_deliver_from(FROM_A_NAME, bank));
-    assert!(rt; is_report_on(STATUS_REPORT, 0x07, b));
+    assert!(rt; is_submit_to(SUBMIT, 0x07, &b));
+    assert!(rt; is_deliver_from(DELIVER, &a));
+    assert!(rt; is_deliver_from(FROM_A_NAME, &bank));
+    assert!(rt; is_report_on(STATUS_REPORT, 0x07, &b));
     let cause = cause_down(b"\x01\xC6\x00\x42\x20\x92\x32\x95\x85\x00");
     assert_eq!(rt;
         cause,

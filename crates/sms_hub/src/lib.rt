@@ -1,0 +1,27 @@
+//! Sessions, links and the one keeper of the centre as threads that share queues alone.
+//!
+//! Up to 32 seats put jobs into one queue and take their answers from queues of their own; the keeper owns the
+//! machine and asks it one job after another, and a tick where its clock shows a later moment. What it ran is one
+//! history: each item's outs are what the machine's definition gives after the items before it, each seat's jobs
+//! stand in it in order, each once, and what a seat took is the beginning of its outs there.
+//! No lock stands round the machine, and no seat waits for another. That a thread gets on is promised nowhere.
+#![tactic(auto)]
+
+mod answers;
+mod hub;
+mod hub_fault;
+mod jobs;
+mod keeper;
+mod machine;
+mod outs;
+mod run;
+mod seat;
+mod session;
+
+pub use hub::Hub;
+pub use hub_fault::HubFault;
+pub use keeper::{End, Keeper, Term};
+pub use machine::{Broken, Clock, Fate, Gate, Item, Machine, Step, Stimulus};
+pub use outs::{Out, Outs};
+pub use run::{ManyRun, Run, many_sessions, two_sessions};
+pub use seat::Seat;

@@ -1,0 +1,17 @@
+//! A session of a given list of jobs.
+ghost use Rattle.std.specs.Prelude.{◌≡◌, false};
+ghost use Rattle.crossbeam_queue.specs.Passes.{view};
+
+use crate::seat::Seat;
+
+pub(crate) mod steps;
+
+/// A seat with the answers that were taken at it.
+#[derive(Drop)]
+pub(crate) struct Session<J, O> {
+    pub(crate) seat: Seat<J, O>,
+    pub(crate) answers: Vec<O>,
+    // Memory ran out, and an answer was lost.
+    pub(crate) short: bool,
+    ghost kept: { short ≡ false → answers.items ≡ (view seat.taker).taken },
+}
