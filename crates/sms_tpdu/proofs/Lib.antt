@@ -17,3 +17,4 @@ pub mod CutFields
 pub mod WrittenUnits
 pub mod CutUnits
 pub mod CutReports
+pub mod MoreBits

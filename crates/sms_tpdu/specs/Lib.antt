@@ -6,6 +6,7 @@ pub mod UserDataGrammar
 pub mod UserDataReading
 pub mod TpduGrammar
 pub mod TpduReading
+pub mod MoreMessages
 pub mod ValidityTable
 pub mod Codes
 pub mod FaultCodes

@@ -1,8 +1,12 @@
 //! Laws of TPDUs, over their definitions alone.
-ghost use Rattle.std.specs.Prelude.{◌≡◌, ◌⊎◌, ℕ, Bool, List, [], ◌++◌, Ok, Err};
+ghost use Rattle.std.specs.Prelude.{◌≡◌, ◌⊎◌, ◌↔◌, ◌/◌, ◌%◌, ℕ, Bool, true, false, not, List, [], ◌∷◌, ◌++◌, Ok, Err};
+ghost use Rattle.sms_base.specs.Reading.{AreOctets};
+ghost use Rattle.sms_tpdu.specs.Bits.{bit};
+ghost use Rattle.sms_tpdu.specs.MoreMessages.{compared, octet_telling, read_told, same_message, telling};
 ghost use Rattle.sms_tpdu.specs.TpduGrammar.{IsDown, IsUp, IsWrittenDown, IsWrittenUp, without_parameters};
 ghost use Rattle.sms_tpdu.specs.TpduReading.{deliver_at, submit_at, submit_report_at, deliver_report_at, status_report_at, down_at, up_at};
 ghost use Rattle.sms_tpdu.specs.declared.carrier.Carrier.{Carrier};
+ghost use Rattle.sms_tpdu.specs.declared.carrier.Carrier.TheVariants.{InData};
 ghost use Rattle.sms_tpdu.specs.declared.deliver.Deliver.{Deliver};
 ghost use Rattle.sms_tpdu.specs.declared.submit.Submit.{Submit};
 ghost use Rattle.sms_tpdu.specs.declared.submit_report.SubmitReport.{SubmitReport};
@@ -56,4 +60,35 @@ pub fn cut_deliver_report_is_truncated()
 /// the report without its parameters.
 pub fn cut_status_report_is_truncated()
     ensures { (front rest : List ℕ) (report : StatusReport) → status_report_at (front ++ rest) ≡ Ok report → (status_report_at front ≡ Ok report) ⊎ ((status_report_at front ≡ Ok (without_parameters report)) ⊎ (status_report_at front ≡ Err Truncated)) }
+{}
+
+/// Octets are one message exactly where what is compared of them is equal; so they are one with themselves, one with each
+/// other, and where two are one with a third, one.
+pub fn one_message_is_an_equivalence()
+    ensures is { (one other : List ℕ) → (same_message one other ≡ true) ↔ (compared one ≡ compared other) }
+    ensures itself { (octets : List ℕ) → same_message octets octets ≡ true }
+    ensures back { (one other : List ℕ) → same_message one other ≡ true → same_message other one ≡ true }
+    ensures on { (one other third : List ℕ) → same_message one other ≡ true → same_message other third ≡ true → same_message one third ≡ true }
+{}
+
+/// Octets are one message exactly where all bits are equal but bit 2 of the first octet.
+pub fn one_message_differs_in_one_bit()
+    ensures some { (first other : ℕ) (rest tail : List ℕ) → (same_message (first ∷ rest) (other ∷ tail) ≡ true) ↔ ((first / 8 ≡ other / 8) × (first % 4 ≡ other % 4) × (rest ≡ tail)) }
+    ensures none { (octets : List ℕ) → (same_message [] octets ≡ true) ↔ (octets ≡ []) }
+{}
+
+/// What is told whether more messages wait says so, is the same message, and is told once: the last telling holds.
+pub fn more_messages_are_told()
+    ensures told { (more : Bool) (first : ℕ) → bit (octet_telling more first) 4 ≡ not more }
+    ensures kept { (more : Bool) (first : ℕ) (rest : List ℕ) → bit first 4 ≡ not more → telling more (first ∷ rest) ≡ first ∷ rest }
+    ensures same { (more : Bool) (octets : List ℕ) → compared (telling more octets) ≡ compared octets }
+    ensures last { (more before : Bool) (octets : List ℕ) → telling more (telling before octets) ≡ telling more octets }
+    ensures octets { (more : Bool) (octets : List ℕ) → AreOctets octets → AreOctets (telling more octets) }
+{}
+
+/// A TPDU that tells whether more messages wait is read as the same TPDU but for that, or refused for the same fault; and
+/// so is what is compared of it.
+pub fn telling_is_read_alike()
+    ensures telling { (more : Bool) (octets : List ℕ) → down_at InData (telling more octets) ≡ read_told more (down_at InData octets) }
+    ensures compared { (octets : List ℕ) → down_at InData (compared octets) ≡ read_told false (down_at InData octets) }
 {}

@@ -4,7 +4,8 @@
 //! the first fault from left to right, octet by octet, with octets left over last. What is written is in the grammar,
 //! is read as the same value, and is that value's one written list (`laws`); a readable TPDU that is cut is refused as
 //! truncated, but for what a report may lose (`laws` says what). User data is kept as it came, so that it can be
-//! passed on octet for octet. Readers and `validity` take no memory; each writer takes it once.
+//! passed on octet for octet. `same_message` knows a TPDU that is sent twice, whatever it says of waiting messages.
+//! Readers, `validity`, `same_message` and `tell_more_messages` take no memory; each writer takes it once.
 #![tactic(auto)]
 
 mod address_field;
@@ -16,6 +17,7 @@ mod deliver_report;
 mod down;
 mod fault;
 pub mod laws;
+mod more_messages;
 mod name_field;
 mod parameters;
 mod slices;
@@ -36,6 +38,7 @@ pub use deliver::{Deliver, write_deliver};
 pub use deliver_report::{DeliverReport, write_deliver_report};
 pub use down::{Down, read_down, write_down};
 pub use fault::TpduFault;
+pub use more_messages::{same_message, tell_more_messages};
 pub use parameters::Parameters;
 pub use status_report::{StatusReport, write_status_report};
 pub use submit::{Submit, write_submit};

@@ -1,0 +1,43 @@
+//! Whether more messages wait for the handset (TP-MMS, 3GPP TS 23.040 9.2.3.2).
+ghost use Rattle.std.specs.Prelude.{◌≡◌};
+ghost use Rattle.sms_tpdu.specs.MoreMessages.{octet_telling, same_message, telling};
+
+use sms_base::Octets;
+
+/// Bit 2 of the first octet, by its value.
+const NO_MORE_MESSAGES: u8 = 4;
+
+fn octet_telling(more: bool, first: u8) -> u8
+    ensures { result ≡ octet_telling more first }
+{
+    let bit = if more { 0 } else { NO_MORE_MESSAGES };
+    8 * (first / 8) + bit + first % 4
+}
+
+/// Whether the octets of two TPDUs are equal but for bit 2 of the first octet: one message, sent twice.
+///
+/// Takes no memory.
+#[tactic(auto, unfolding(crate::specs::MoreMessages::compared))]
+pub fn same_message(one: &[u8], other: &[u8]) -> bool
+    ensures { result ≡ same_message one.now other.now }
+{
+    match (one, other) {
+        ([], []) => true,
+        ([first, rest @ ..], [other_first, other_rest @ ..]) => {
+            octet_telling(false, *first) == octet_telling(false, *other_first) && rest == other_rest
+        }
+        _ => false,
+    }
+}
+
+/// Has the octets of a DELIVER or of a STATUS-REPORT tell whether more messages wait for the handset.
+///
+/// Takes no memory.
+pub fn tell_more_messages(octets: &mut [u8], more: bool)
+    ensures { octets.new ≡ telling more octets.old }
+{
+    match octets {
+        [] => {}
+        [first, ..] => *first = octet_telling(more, *first),
+    }
+}
