@@ -1,0 +1,4 @@
+pub mod Pieces
+pub mod Spelled
+pub mod Texts
+pub mod Decimals

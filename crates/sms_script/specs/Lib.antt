@@ -1,0 +1,6 @@
+pub mod Lines
+pub mod Hexadecimal
+pub mod TextCuts
+pub mod Keywords
+pub mod Numbers
+pub mod ScriptReading

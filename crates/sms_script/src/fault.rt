@@ -1,0 +1,20 @@
+//! Why a text is no script.
+use thiserror::Error;
+
+/// What is wrong with a line.
+#[derive(Clone, Copy, Debug, PartialEq, Eq)]
+pub(crate) enum LineFault {
+    /// The line is none of a script.
+    BadLine,
+}
+
+/// Why there is no script.
+#[derive(Clone, Copy, Debug, PartialEq, Eq, Error)]
+pub enum ScriptFault {
+    /// The line of that number, from 1, is none that may stand there, or is missing.
+    #[error("line {0}: bad line")]
+    BadLine(u64),
+    /// A growth was refused. No line is bad.
+    #[error("out of memory")]
+    NoMemory,
+}
