@@ -1,11 +1,14 @@
 //! Scripts and reports.
 #![tactic(auto)]
 
+mod act;
 mod cutting;
 mod event;
 mod fault;
+mod fields;
 mod hexadecimal;
 mod keyword;
+mod line;
 mod number;
 mod setup;
 mod text;
