@@ -2,3 +2,4 @@ pub mod Pieces
 pub mod Spelled
 pub mod Texts
 pub mod Decimals
+pub mod Judged

@@ -4,3 +4,5 @@ pub mod TextCuts
 pub mod Keywords
 pub mod Numbers
 pub mod ScriptReading
+pub mod WholeScript
+pub mod ScriptGrammar

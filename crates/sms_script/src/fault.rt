@@ -1,4 +1,8 @@
 //! Why a text is no script.
+ghost use Rattle.std.specs.Prelude.{◌≡◌};
+ghost use Rattle.sms_script.specs.declared.fault.ScriptFault.TheVariants.{NoMemory as NoMemoryOf};
+
+use std::alloc::AllocError;
 use thiserror::Error;
 
 /// What is wrong with a line.
@@ -17,4 +21,12 @@ pub enum ScriptFault {
     /// A growth was refused. No line is bad.
     #[error("out of memory")]
     NoMemory,
+}
+
+impl From<AllocError> for ScriptFault {
+    ghost from_gives = { λ _ e. e ≡ NoMemoryOf };
+
+    fn from(_error: AllocError) -> ScriptFault {
+        ScriptFault::NoMemory
+    }
 }
