@@ -3,3 +3,4 @@ pub mod Spelled
 pub mod Texts
 pub mod Decimals
 pub mod Judged
+pub mod WordLaws
