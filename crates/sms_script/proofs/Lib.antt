@@ -4,3 +4,4 @@ pub mod Texts
 pub mod Decimals
 pub mod Judged
 pub mod WordLaws
+pub mod ActLaws

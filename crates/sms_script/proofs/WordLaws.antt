@@ -136,10 +136,10 @@ stop_again After = refl
 
 found_passes : (p : Keyword → Bool) (ks : List Keyword) (k : Keyword) → find p ks ≡ Some k → p k ≡ true
 found_passes p [] k e = absurd (cc)
-found_passes p (x ∷ ks) k e = by (p x) refl e where
-  by : (b : Bool) → p x ≡ b → cond b (Some x) (find p ks) ≡ Some k → p k ≡ true
-  by true t e = let same : x ≡ k = cc in subst (λ y. p y ≡ true) same t
-  by false f e = found_passes p ks k e
+found_passes p (x ∷ ks) k e = by (p x) refl e (found_passes p ks k) where
+  by : (b : Bool) → p x ≡ b → cond b (Some x) (find p ks) ≡ Some k → (find p ks ≡ Some k → p k ≡ true) → p k ≡ true
+  by true t e again = let same : x ≡ k = cc in subst (λ y. p y ≡ true) same t
+  by false f e again = again e
 
 pub keyword_takes : (word : List ℕ) (k : Keyword) → keyword_of word ≡ Some k → word ≡ keyword_text k
 unfolding keyword_of
