@@ -5,3 +5,5 @@ pub mod Decimals
 pub mod Judged
 pub mod WordLaws
 pub mod ActLaws
+pub mod LineLaws
+pub mod ScriptLaws
