@@ -15,5 +15,6 @@ mod writing;
 pub use answers::{Answer, Answered, MessageState};
 pub use report::{Broken, Report, report_text};
 pub use rows::{
-    AcceptedRow, Direction, EntryState, FrameRow, GivenRow, JoinedCoding, JoinedRow, MessageRow, OutboxRow, ReceiptRow,
+    AcceptedRow, Direction, EntryState, FrameRow, GivenRow, JoinedCoding, JoinedRow, MessageRow,
+    OutboxRow, ReceiptRow,
 };

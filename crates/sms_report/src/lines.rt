@@ -4,7 +4,8 @@ ghost use Rattle.sms_report.specs.ReportText.{status_text, final_text, state_tex
 
 use crate::answers::{Answer, Answered, MessageState};
 use crate::rows::{
-    AcceptedRow, Direction, EntryState, FrameRow, JoinedCoding, JoinedRow, MessageRow, OutboxRow, ReceiptRow,
+    AcceptedRow, Direction, EntryState, FrameRow, JoinedCoding, JoinedRow, MessageRow, OutboxRow,
+    ReceiptRow,
 };
 use crate::writing::{put_body, put_characters, put_id, put_number, put_octets};
 use smpp_pdu::CommandStatus;
@@ -191,11 +192,7 @@ pub(crate) fn put_outbox(out: &mut Octets, entry: &OutboxRow) -> Result<(), Allo
     out.append(b"\n")
 }
 
-pub(crate) fn put_frame(
-    alloc: Global,
-    out: &mut Octets,
-    frame: &FrameRow,
-) -> Result<(), AllocError>
+pub(crate) fn put_frame(alloc: Global, out: &mut Octets, frame: &FrameRow) -> Result<(), AllocError>
     ensures { OnOk result (out.new ≡ out.old ++ frame_line frame.now) }
 {
     out.append(b"frame ")?;

@@ -3,7 +3,9 @@ ghost use Rattle.std.specs.Prelude.{◌≡◌, ◌++◌, OnOk, IfOk};
 ghost use Rattle.sms_report.specs.ReportText.{lines, answer_line, message_line, accepted_line, joined_line, receipt_line, outbox_line, frame_line, premises_line, report_text};
 
 use crate::answers::Answer;
-use crate::lines::{put_accepted, put_answer, put_frame, put_joined, put_message, put_outbox, put_receipt};
+use crate::lines::{
+    put_accepted, put_answer, put_frame, put_joined, put_message, put_outbox, put_receipt,
+};
 use crate::rows::{AcceptedRow, FrameRow, GivenRow, JoinedRow, MessageRow, OutboxRow, ReceiptRow};
 use crate::writing::put_number;
 use sms_base::{Listed, Octets};
@@ -70,11 +72,7 @@ fn put_all_accepted(
     Ok(())
 }
 
-fn put_all_joined(
-    alloc: Global,
-    out: &mut Octets,
-    joined: &[JoinedRow],
-) -> Result<(), AllocError>
+fn put_all_joined(alloc: Global, out: &mut Octets, joined: &[JoinedRow]) -> Result<(), AllocError>
     ensures { OnOk result (out.new ≡ out.old ++ lines joined_line joined.now) }
 {
     for row in joined {

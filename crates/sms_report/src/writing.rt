@@ -44,11 +44,7 @@ pub(crate) fn put_characters(out: &mut Octets, characters: &[char]) -> Result<()
 }
 
 /// Octets in hexadecimal digits, in capitals.
-pub(crate) fn put_octets(
-    alloc: Global,
-    out: &mut Octets,
-    octets: &[u8],
-) -> Result<(), AllocError>
+pub(crate) fn put_octets(alloc: Global, out: &mut Octets, octets: &[u8]) -> Result<(), AllocError>
     ensures { OnOk result (out.new ≡ out.old ++ encode_upper octets.now) }
 {
     let digits = hex::encode_upper(alloc, octets)?;

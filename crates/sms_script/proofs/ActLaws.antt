@@ -1,7 +1,6 @@
 -- Acts: the words that a reading took are those of the act, and those of an act are read as it.
-use Rattle.std.proofs.Common.{◌≡◌, ℕ, Bool, true, false, List, [], ◌∷◌, Option, Some, None, Result, Ok, Err, refl, sym, ap, ◌∙◌, subst, inl, inr, ⊎_elim, ◌⊎◌}
+use Rattle.std.proofs.Common.{◌≡◌, ℕ, Bool, true, List, [], ◌∷◌, Option, Some, Result, Ok, refl, sym, ap, ◌∙◌, subst, inl, inr, ⊎_elim}
 use Rattle.std.specs.Prelude.{codes}
-use Rattle.sms_base.specs.Reading.{◌>>=◌}
 use Rattle.sms_base.proofs.Steps.{bind_ok}
 use Rattle.sms_script.specs.Lines.{is_word}
 use Rattle.sms_script.specs.Keywords.{keyword_text, keyword_of}
@@ -15,8 +14,8 @@ use Rattle.sms_script.specs.declared.event.Side.{Side}
 use Rattle.sms_script.specs.declared.event.Submission.{Submission}
 use Rattle.sms_script.specs.declared.fault.LineFault.{LineFault}
 use Rattle.sms_script.specs.declared.keyword.Keyword.{Keyword}
-use Rattle.sms_script.specs.declared.keyword.Keyword.TheVariants.{Start as StartWord, Centre as CentreWord, Account as AccountWord, Handset as HandsetWord, Submit as SubmitWord, Urgent as UrgentWord, Query as QueryWord, Cancel as CancelWord, Write as WriteWord, Delete as DeleteWord, Discard as DiscardWord, Deliver as DeliverWord, Tick as TickWord, Restart as RestartWord, Stopped as StoppedWord}
-use Rattle.sms_script.proofs.WordLaws.{word_takes, word_again, field_takes, field_again, IsField, validity_takes, validity_again, body_takes, body_again, text_takes, text_again, side_takes, side_again, keyword_takes, keyword_again, keyword_good}
+use Rattle.sms_script.specs.declared.keyword.Keyword.TheVariants.{Submit as SubmitWord, Urgent as UrgentWord, Query as QueryWord, Cancel as CancelWord, Write as WriteWord, Delete as DeleteWord, Discard as DiscardWord, Deliver as DeliverWord, Tick as TickWord}
+use Rattle.sms_script.proofs.WordLaws.{word_takes, word_again, field_takes, field_again, validity_takes, validity_again, body_takes, body_again, text_takes, text_again, side_takes, side_again, keyword_takes, keyword_again}
 
 -- ---- what a reading took
 
@@ -253,8 +252,13 @@ cancel_again name id w = rw (keyword_again CancelWord, word_again name (id ∷ [
 write_again : (handset to asked spelling text : List ℕ) (report : Bool) → flag_of asked ≡ Ok report → text_in spelling ≡ Ok text → Again (keyword_text WriteWord ∷ handset ∷ to ∷ asked ∷ spelling ∷ []) (Write handset to report text)
 unfolding act_in write_in
 write_again handset to asked spelling text report f t w =
-    rw (keyword_again WriteWord, word_again handset (to ∷ asked ∷ spelling ∷ []) w.1.0, word_again to (asked ∷ spelling ∷ []) w.1.1.0,
-      field_again flag_of asked (spelling ∷ []) report w.1.1.1.0 f, field_again text_in spelling [] text w.1.1.1.1.0 t) refl
+    rw (
+      keyword_again WriteWord,
+      word_again handset (to ∷ asked ∷ spelling ∷ []) w.1.0,
+      word_again to (asked ∷ spelling ∷ []) w.1.1.0,
+      field_again flag_of asked (spelling ∷ []) report w.1.1.1.0 f,
+      field_again text_in spelling [] text w.1.1.1.1.0 t,
+    ) refl
 
 delete_again : (handset number : List ℕ) (entry : ℕ) → number_of number ≡ Ok entry → Again (keyword_text DeleteWord ∷ handset ∷ number ∷ []) (Delete handset entry)
 unfolding act_in delete_in

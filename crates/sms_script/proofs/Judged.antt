@@ -1,5 +1,5 @@
 -- Whether a text is a script is told without keeping what its lines say.
-use Rattle.std.proofs.Common.{◌≡◌, ℕ, Bool, true, false, cond, List, [], ◌∷◌, Result, Ok, Err, refl, sym, ap, ◌∙◌, subst}
+use Rattle.std.proofs.Common.{◌≡◌, ℕ, Bool, true, false, cond, List, [], ◌∷◌, Result, Ok, Err, refl, subst}
 use Rattle.std.specs.Result.{IsOk}
 use Rattle.sms_base.specs.Reading.{◌>>=◌}
 use Rattle.sms_script.specs.declared.fault.LineFault.{LineFault}

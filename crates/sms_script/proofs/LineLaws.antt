@@ -1,14 +1,14 @@
 -- Lines: what a line that is read says stands in it, and what stands in a line is read.
-use Rattle.std.proofs.Common.{◌≡◌, ℕ, ◌≤◌, Bool, true, false, List, [], ◌∷◌, length, Option, Some, None, Result, Ok, Err, refl, sym, ap, ◌∙◌, subst}
-use Rattle.std.specs.Prelude.{codes, nat_le}
+use Rattle.std.proofs.Common.{◌≡◌, ℕ, true, List, [], ◌∷◌, length, Option, Some, None, Result, Ok, refl, sym, ap, ◌∙◌, subst}
+use Rattle.std.specs.Prelude.{nat_le}
 use Rattle.std.proofs.lemmas.Bool.{leb-true, le-leb}
 use Rattle.sms_base.specs.Reading.{◌>>=◌, only_if}
 use Rattle.sms_base.proofs.Steps.{bind_ok, passes}
-use Rattle.sms_script.specs.Lines.{is_word, words_of}
+use Rattle.sms_script.specs.Lines.{words_of}
 use Rattle.sms_script.specs.Keywords.{keyword_text, keyword_of}
 use Rattle.sms_script.specs.Numbers.{number_of}
 use Rattle.sms_script.specs.ScriptReading.{word_in, field_in, done_in, side_of, stop_of, act_of, act_in, start_in, centre_in, account_in, handset_in, restart_in, stopped_in, whole_in, line_of, longest_line, line_at}
-use Rattle.sms_script.specs.ScriptGrammar.{IsAct, IsSide, stop_text, AreWords, Says, IsLine}
+use Rattle.sms_script.specs.ScriptGrammar.{IsAct, stop_text, AreWords, Says, IsLine}
 use Rattle.sms_script.specs.declared.event.Act.{Act}
 use Rattle.sms_script.specs.declared.event.Side.{Side}
 use Rattle.sms_script.specs.declared.event.Stop.{Stop}
@@ -16,12 +16,12 @@ use Rattle.sms_script.specs.declared.event.WorldEvent.TheVariants.{Whole, Stoppe
 use Rattle.sms_script.specs.declared.fault.LineFault.{LineFault}
 use Rattle.sms_script.specs.declared.fault.LineFault.TheVariants.{BadLine}
 use Rattle.sms_script.specs.declared.keyword.Keyword.{Keyword}
-use Rattle.sms_script.specs.declared.keyword.Keyword.TheVariants.{Start as StartWord, Centre as CentreWord, Account as AccountWord, Handset as HandsetWord, Submit as SubmitWord, Urgent as UrgentWord, Query as QueryWord, Cancel as CancelWord, Write as WriteWord, Delete as DeleteWord, Discard as DiscardWord, Deliver as DeliverWord, Tick as TickWord, Restart as RestartWord, Stopped as StoppedWord}
+use Rattle.sms_script.specs.declared.keyword.Keyword.TheVariants.{Start as StartWord, Centre as CentreWord, Account as AccountWord, Handset as HandsetWord, Restart as RestartWord, Stopped as StoppedWord}
 use Rattle.sms_script.specs.declared.line.Line.{Line}
 use Rattle.sms_script.specs.declared.line.Line.TheVariants.{Start, Centre, Account, Handset, Event}
 use Rattle.sms_script.specs.declared.setup.Account.{Account as AccountOf}
 use Rattle.sms_script.specs.declared.setup.HandsetSetup.{HandsetSetup}
-use Rattle.sms_script.proofs.WordLaws.{word_takes, word_again, field_takes, field_again, IsField, side_takes, side_again, stop_takes, stop_again, keyword_takes, keyword_again, keyword_good}
+use Rattle.sms_script.proofs.WordLaws.{word_takes, word_again, field_takes, field_again, side_takes, side_again, stop_takes, stop_again, keyword_takes, keyword_again, keyword_good}
 use Rattle.sms_script.proofs.ActLaws.{Ends, ends_on, act_of_takes, act_takes, act_again}
 
 -- ---- what a reading took
@@ -130,9 +130,10 @@ line_takes octets line e =
     let p = word_takes (words_of octets) a.0 a.1 in
     let h = line_of_takes (keyword_of a.0.0) a.0.1 b.0 b.1 (done_takes b.0.1 d.0 d.1) in
     let k : a.0.0 ≡ keyword_text h.0 = keyword_takes a.0.0 h.0 h.1.0 in
-    let all : words_of octets ≡ keyword_text h.0 ∷ a.0.1 = p.0 ∙ ap (λ (w : List ℕ). w ∷ a.0.1) k in
-    (leb-true (length octets) longest_line (passes (nat_le (length octets) longest_line) BadLine f.0 f.1),
-    (keyword_text h.0 ∷ a.0.1, (all, (keyword_good h.0, h.1.1.0), subst (λ l. Says (keyword_text h.0 ∷ a.0.1) l) same h.1.1.1)))
+    let all : words_of octets ≡ keyword_text h.0 ∷ a.0.1 = p.0 ∙ ap (λ (w : List ℕ). w ∷ a.0.1) k in (
+      leb-true (length octets) longest_line (passes (nat_le (length octets) longest_line) BadLine f.0 f.1),
+      (keyword_text h.0 ∷ a.0.1, (all, (keyword_good h.0, h.1.1.0), subst (λ l. Says (keyword_text h.0 ∷ a.0.1) l) same h.1.1.1)),
+    )
 
 -- ---- what is read again
 

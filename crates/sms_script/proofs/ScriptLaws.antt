@@ -1,5 +1,5 @@
 -- Scripts: what is read is in the grammar, and what is in the grammar is read.
-use Rattle.std.proofs.Common.{◌≡◌, ℕ, suc, ◌+◌, ◌<◌, ◌≤◌, Bool, true, false, cond, List, [], ◌∷◌, ◌++◌, length, map, Option, Some, None, Result, Ok, Err, refl, sym, ap, ◌∙◌, subst, arith}
+use Rattle.std.proofs.Common.{◌≡◌, ℕ, ◌+◌, ◌<◌, ◌≤◌, Bool, true, false, cond, List, [], ◌∷◌, ◌++◌, length, map, Result, Ok, Err, refl, sym, ap, ◌∙◌, subst, arith}
 use Rattle.std.specs.Prelude.{IfOk, nat_le, nat_lt}
 use Rattle.std.proofs.lemmas.Bool.{leb-true, le-leb, ltb-true, lt-ltb}
 use Rattle.std.proofs.lemmas.List.{append-nil, append_assoc, length-append}
@@ -207,3 +207,128 @@ accounts_read p script done (octets ∷ lines) s e =
     by (Account account) next t l again handsets events = let h = again (cc t) in (account ∷ h.0, h.1, h.2, account_line octets lines account script done h.0 h.1 h.2 l h.3)
     by (Start start) next t l again handsets events = absurd (cc t)
     by (Centre number) next t l again handsets events = absurd (cc t)
+
+-- ---- whole scripts
+
+abbrev CentreRead : ℕ → List (List ℕ) → Script → Type 0
+CentreRead start lines done =
+    (done.setup.start ≡ start) × AreLines lines (Centre done.setup.centre ∷ (map (λ account. Account account) done.setup.accounts ++ (map (λ handset. Handset handset) done.setup.handsets ++ map (λ event. Event event) done.events)))
+
+centre_read : (p : Progress) (start : ℕ) (done : Script) (lines : List (List ℕ)) → p.stage ≡ AtCentre → read_lines p (with_line blank (Start start)) lines ≡ Ok done → CentreRead start lines done
+centre_read p start done [] s e = let q = subst (λ t. (let r : Result Script ℕ = cond (is_whole t) (Ok (with_line blank (Start start))) (Err p.number) in r ≡ Ok done)) s e in absurd (cc q)
+centre_read p start done (octets ∷ lines) s e =
+    let g = goes_on p.number (line_in p octets) (with_line blank (Start start)) done lines e in
+    let r = line_in_takes p.number p.stage p.events octets g.0 g.1.0 in
+    by g.0.1 g.0.0.stage (subst (λ t. next_stage t g.0.1 ≡ Ok g.0.0.stage) s r.stage_is) r.says (λ t. accounts_read g.0.0 (with_line (with_line blank (Start start)) g.0.1) done lines t g.1.1)
+  where
+    by : (line : Line) (next : Stage) → next_stage AtCentre line ≡ Ok next → line_at octets ≡ Ok line → (next ≡ InAccounts → AccountsRead lines (with_line (with_line blank (Start start)) line) done) → CentreRead start (octets ∷ lines) done
+    by (Centre number) next t l again =
+        let h = again (cc t) in
+        let a = h.3 in
+        (a.start_is, rw (a.centre_is, a.accounts_are, a.handsets_are, a.events_are) (line_takes octets (Centre number) l, a.are))
+    by (Event event) next t l again = absurd (cc t)
+    by (Handset handset) next t l again = absurd (cc t)
+    by (Account account) next t l again = absurd (cc t)
+    by (Start other) next t l again = absurd (cc t)
+
+start_read : (p : Progress) (done : Script) (lines : List (List ℕ)) → p.stage ≡ AtStart → read_lines p blank lines ≡ Ok done → AreLines lines (script_lines done)
+start_read p done [] s e = let q = subst (λ t. (let r : Result Script ℕ = cond (is_whole t) (Ok blank) (Err p.number) in r ≡ Ok done)) s e in absurd (cc q)
+start_read p done (octets ∷ lines) s e =
+    let g = goes_on p.number (line_in p octets) blank done lines e in
+    let r = line_in_takes p.number p.stage p.events octets g.0 g.1.0 in
+    by g.0.1 g.0.0.stage (subst (λ t. next_stage t g.0.1 ≡ Ok g.0.0.stage) s r.stage_is) r.says (λ start t same. centre_read g.0.0 start done lines t (subst (λ line. read_lines g.0.0 (with_line blank line) lines ≡ Ok done) same g.1.1))
+  where
+    by : (line : Line) (next : Stage) → next_stage AtStart line ≡ Ok next → line_at octets ≡ Ok line → ((start : ℕ) → next ≡ AtCentre → line ≡ Start start → CentreRead start lines done) → AreLines (octets ∷ lines) (script_lines done)
+    by (Start start) next t l again = let c = again start (cc t) refl in (subst (λ n. IsLine octets (Start n)) (sym c.0) (line_takes octets (Start start) l), c.1)
+    by (Centre number) next t l again = absurd (cc t)
+    by (Event event) next t l again = absurd (cc t)
+    by (Handset handset) next t l again = absurd (cc t)
+    by (Account account) next t l again = absurd (cc t)
+
+read_found : (text : List ℕ) (script : Script) → script_in text ≡ Ok script → IsScript text script
+unfolding script_in
+read_found text script e =
+    let c = counts 1 AtStart 0 blank script (lines_of text) refl (omega arith) (omega arith) e in
+    let few = c.few_lines in
+    (start_read beginning script (lines_of text) refl e, omega arith, c.few_events)
+
+pub script_found : (text : List ℕ) (r : Result Script ScriptFault) → ReadsScript r (script_in text) → IfOk r (λ script. IsScript text script)
+script_found text (Ok script) e = read_found text script e
+script_found text (Err fault) e = tt
+
+-- ---- what is read again
+
+read_on : (number : ℕ) (stage next : Stage) (events more : ℕ) (octets : List ℕ) (line : Line) (script done : Script) (lines : List (List ℕ)) → number ≤ most_lines → IsLine octets line → next_stage stage line ≡ Ok next →
+    events_in events line ≡ Ok more → read_lines (at (number + 1) next more) (with_line script line) lines ≡ Ok done → read_lines (at number stage events) script (octets ∷ lines) ≡ Ok done
+read_on number stage next events more octets line script done lines le l s n h = rw (line_in_again number stage next events more octets line le (line_again octets line l) s n) h
+
+-- a script with more accounts, handsets and events
+abbrev adding : Script → List AccountOf → List HandsetSetup → List WorldEvent → Script
+adding script accounts handsets events = record {
+  setup = record { start = script.setup.start; centre = script.setup.centre; accounts = script.setup.accounts ++ accounts; handsets = script.setup.handsets ++ handsets };
+  events = script.events ++ events;
+}
+
+adding_none : (script : Script) → script ≡ adding script [] [] []
+adding_none script =
+    let a = sym (append-nil script.setup.accounts) in
+    let h = sym (append-nil script.setup.handsets) in
+    let e = sym (append-nil script.events) in
+    λ j. record { setup = record { start = script.setup.start; centre = script.setup.centre; accounts = a j; handsets = h j }; events = e j }
+
+one_event : (script : Script) (event : WorldEvent) (events : List WorldEvent) → adding (with_line script (Event event)) [] [] events ≡ adding script [] [] (event ∷ events)
+one_event script event events = ap (λ (es : List WorldEvent). record (adding script [] [] []) { events = es }) (append_assoc script.events (event ∷ []) events)
+
+one_handset : (script : Script) (handset : HandsetSetup) (handsets : List HandsetSetup) (events : List WorldEvent) → adding (with_line script (Handset handset)) [] handsets events ≡ adding script [] (handset ∷ handsets) events
+one_handset script handset handsets events =
+    ap (λ (hs : List HandsetSetup). record { setup = record { start = script.setup.start; centre = script.setup.centre; accounts = script.setup.accounts ++ []; handsets = hs }; events = script.events ++ events })
+    (append_assoc script.setup.handsets (handset ∷ []) handsets)
+
+one_account : (script : Script) (account : AccountOf) (accounts : List AccountOf) (handsets : List HandsetSetup) (events : List WorldEvent) → adding (with_line script (Account account)) accounts handsets events ≡ adding script (account ∷ accounts) handsets events
+one_account script account accounts handsets events =
+    ap (λ (xs : List AccountOf). record { setup = record { start = script.setup.start; centre = script.setup.centre; accounts = xs; handsets = script.setup.handsets ++ handsets }; events = script.events ++ events })
+    (append_assoc script.setup.accounts (account ∷ []) accounts)
+
+event_counted : (events : ℕ) (event : WorldEvent) → events < most_events → events_in events (Event event) ≡ Ok (events + 1)
+event_counted events event lt = rw (lt-ltb events most_events lt) refl
+
+events_again : (stage : Stage) (number count : ℕ) (script : Script) (lines : List (List ℕ)) (events : List WorldEvent) → ((event : WorldEvent) → next_stage stage (Event event) ≡ Ok InEvents) → is_whole stage ≡ true →
+    AreLines lines (map (λ event. Event event) events) → number + length lines ≤ most_lines + 1 → count + length events ≤ most_events → read_lines (at number stage count) script lines ≡ Ok (adding script [] [] events)
+events_again stage number count script [] [] s w h few some = rw w (ap (λ (d : Script). Ok d) (adding_none script))
+events_again stage number count script [] (event ∷ events) s w h few some = absurd h
+events_again stage number count script (octets ∷ lines) [] s w h few some = absurd h
+events_again stage number count script (octets ∷ lines) (event ∷ events) s w h few some =
+    read_on number stage InEvents count (count + 1) octets (Event event) script _ lines (omega arith) h.0 (s event) (event_counted count event (omega arith))
+    (events_again InEvents (number + 1) (count + 1) (with_line script (Event event)) lines events (λ _. refl) refl h.1 (omega arith) (omega arith) ∙ ap (λ (d : Script). Ok d) (one_event script event events))
+
+handsets_again : (stage : Stage) (number count : ℕ) (script : Script) (lines : List (List ℕ)) (handsets : List HandsetSetup) (events : List WorldEvent) → ((handset : HandsetSetup) → next_stage stage (Handset handset) ≡ Ok InHandsets) →
+    ((event : WorldEvent) → next_stage stage (Event event) ≡ Ok InEvents) → is_whole stage ≡ true → AreLines lines (map (λ handset. Handset handset) handsets ++ map (λ event. Event event) events) →
+    number + length lines ≤ most_lines + 1 → count + length events ≤ most_events → read_lines (at number stage count) script lines ≡ Ok (adding script [] handsets events)
+handsets_again stage number count script lines [] events t s w h few some = events_again stage number count script lines events s w h few some
+handsets_again stage number count script [] (handset ∷ handsets) events t s w h few some = absurd h
+handsets_again stage number count script (octets ∷ lines) (handset ∷ handsets) events t s w h few some =
+    read_on number stage InHandsets count count octets (Handset handset) script _ lines (omega arith) h.0 (t handset) refl
+    (handsets_again InHandsets (number + 1) count (with_line script (Handset handset)) lines handsets events (λ _. refl) (λ _. refl) refl h.1 (omega arith) some ∙ ap (λ (d : Script). Ok d) (one_handset script handset handsets events))
+
+accounts_again : (number count : ℕ) (script : Script) (lines : List (List ℕ)) (accounts : List AccountOf) (handsets : List HandsetSetup) (events : List WorldEvent) →
+    AreLines lines (map (λ account. Account account) accounts ++ (map (λ handset. Handset handset) handsets ++ map (λ event. Event event) events)) →
+    number + length lines ≤ most_lines + 1 → count + length events ≤ most_events → read_lines (at number InAccounts count) script lines ≡ Ok (adding script accounts handsets events)
+accounts_again number count script lines [] handsets events h few some = handsets_again InAccounts number count script lines handsets events (λ _. refl) (λ _. refl) refl h few some
+accounts_again number count script [] (account ∷ accounts) handsets events h few some = absurd h
+accounts_again number count script (octets ∷ lines) (account ∷ accounts) handsets events h few some =
+    read_on number InAccounts InAccounts count count octets (Account account) script _ lines (omega arith) h.0 refl refl
+    (accounts_again (number + 1) count (with_line script (Account account)) lines accounts handsets events h.1 (omega arith) some ∙ ap (λ (d : Script). Ok d) (one_account script account accounts handsets events))
+
+lines_again : (lines : List (List ℕ)) (s : Script) → AreLines lines (script_lines s) → length lines ≤ most_lines → length s.events ≤ most_events → read_lines beginning blank lines ≡ Ok s
+lines_again [] s h few some = absurd h
+lines_again (first ∷ []) s h few some = absurd h.1
+lines_again (first ∷ second ∷ lines) s h few some =
+    read_on 1 AtStart AtCentre 0 0 first (Start s.setup.start) blank s (second ∷ lines) (omega arith) h.0 refl refl
+    (read_on 2 AtCentre InAccounts 0 0 second (Centre s.setup.centre) (with_line blank (Start s.setup.start)) s lines (omega arith) h.1.0 refl refl
+    (accounts_again 3 0 (with_line (with_line blank (Start s.setup.start)) (Centre s.setup.centre)) lines s.setup.accounts s.setup.handsets s.events h.1.1 (omega arith) (omega arith)))
+
+pub script_only : (text : List ℕ) (script : Script) (r : Result Script ScriptFault) → ReadsScript r (script_in text) → IsScript text script → IsReadAs script r
+unfolding script_in
+script_only text script (Ok read) e h = let again = lines_again (lines_of text) script h.0 h.1 h.2 in cc
+script_only text script (Err (BadLine number)) e h = let again = lines_again (lines_of text) script h.0 h.1 h.2 in absurd (cc)
+script_only text script (Err NoMemory) e h = tt

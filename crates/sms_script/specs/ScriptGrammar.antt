@@ -1,6 +1,6 @@
 -- Which texts are which scripts: a relation between whole texts and scripts. A text is lines, each ended by LF but perhaps
 -- the last; a line is words with a space between each two.
-use Rattle.std.specs.Prelude.{◌≡◌, ◌⊎◌, ℕ, ◌≤◌, List, [], ◌∷◌, ◌++◌, map, length, Bool, true, false, Ok, codes}
+use Rattle.std.specs.Prelude.{◌≡◌, ◌⊎◌, ℕ, ◌≤◌, List, [], ◌∷◌, ◌++◌, map, length, true, Ok, codes}
 use Rattle.sms_script.specs.Lines.{is_word, words_of, lines_of}
 use Rattle.sms_script.specs.Hexadecimal.{octets_of, octet_of, text_of}
 use Rattle.sms_script.specs.Numbers.{number_of, small_of, flag_of, moment_of}

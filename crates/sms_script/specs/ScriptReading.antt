@@ -1,5 +1,5 @@
 -- Reading a script, line by line; a line by its words, from left to right.
-use Rattle.std.specs.Prelude.{◌≡◌, ℕ, List, [], ◌∷◌, length, nat_le, Bool, Option, Some, None, Result, Ok, Err, codes, bytes_eq, if◌then◌else◌}
+use Rattle.std.specs.Prelude.{◌≡◌, ℕ, List, [], ◌∷◌, length, nat_le, Bool, Option, Some, Result, Ok, Err, codes, bytes_eq, if◌then◌else◌}
 use Rattle.sms_base.specs.Reading.{◌>>=◌, only_if}
 use Rattle.sms_script.specs.Lines.{is_word, words_of}
 use Rattle.sms_script.specs.Hexadecimal.{octets_of, octet_of, text_of}
@@ -74,16 +74,19 @@ submission_in name priority words = do
   registered_delivery ← field_in (small_of 255) esm_class.1
   validity ← field_in validity_of registered_delivery.1
   message ← field_in body_of validity.1
-  Ok (Submit (record {
-    name = name;
-    to = to.0;
-    coding = coding.0;
-    esm_class = esm_class.0;
-    registered_delivery = registered_delivery.0;
-    validity = validity.0;
-    message = message.0;
-    priority = priority;
-  }), message.1)
+  Ok (
+    Submit (record {
+      name = name;
+      to = to.0;
+      coding = coding.0;
+      esm_class = esm_class.0;
+      registered_delivery = registered_delivery.0;
+      validity = validity.0;
+      message = message.0;
+      priority = priority;
+    }),
+    message.1,
+  )
 
 unfoldable pub submit_in : List (List ℕ) → Result (Act × List (List ℕ)) LineFault
 submit_in words = do

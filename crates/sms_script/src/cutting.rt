@@ -7,7 +7,9 @@ use crate::fault::LineFault;
 use std::marker::Model;
 
 const SPACE: u8 = b' ';
+
 const LINE_FEED: u8 = b'\n';
+
 const CARRIAGE_RETURN: u8 = b'\r';
 
 fn place_of(octets: &[u8], mark: u8) -> Option<usize>

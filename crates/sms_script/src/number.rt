@@ -12,9 +12,11 @@ fn with_digit(number: u64, octet: u8) -> Result<u64, LineFault>
     if !octet.is_ascii_digit() {
         return Err(LineFault::BadLine);
     }
-    Ok(number
-        .saturating_mul(10)
-        .saturating_add(u64::from(octet - b'0')))
+    Ok(
+        number
+            .saturating_mul(10)
+            .saturating_add(u64::from(octet - b'0')),
+    )
 }
 
 /// The number that decimal digits write, leading zeros among them; one that doesn't fit 64 bits is kept as the greatest

@@ -1,6 +1,8 @@
 //! Whole scripts.
-ghost use Rattle.std.specs.Prelude.{◌≡◌, OnOk};
-ghost use Rattle.sms_script.specs.WholeScript.{blank, with_line, script_in, judge_in, Reads, ReadsScript};
+ghost use Rattle.std.specs.Prelude.{◌≡◌, OnOk, IfOk};
+ghost use Rattle.sms_script.specs.ScriptGrammar.{IsScript};
+ghost use Rattle.sms_script.specs.declared.script.Script.{Script as ScriptOf};
+ghost use Rattle.sms_script.specs.WholeScript.{blank, with_line, script_in, judge_in, Reads, ReadsScript, IsReadAs};
 
 use crate::cutting::Lines;
 use crate::event::WorldEvent;
@@ -105,6 +107,11 @@ fn read(alloc: Global, text: &[u8]) -> Result<Script<'_>, ScriptFault>
 /// where it stands or that passes a limit, or the line that is missing behind the last. The script borrows the text; its
 /// lists alone take memory, which is wanted only once all lines are good.
 pub fn read_script(alloc: Global, text: &[u8]) -> Result<Script<'_>, ScriptFault>
+    // What is read is in the grammar.
+    ensures found { IfOk result (λ script. IsScript text.now script) }
+    // What is in the grammar is read.
+    ensures only { (script : ScriptOf) → IsScript text.now script → IsReadAs script result }
+    // Which fault it is.
     ensures exact { ReadsScript result (script_in text.now) }
 {
     read(alloc, text)

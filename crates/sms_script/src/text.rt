@@ -1,7 +1,6 @@
 //! Texts that a line writes in hexadecimal digits.
 ghost use Rattle.std.specs.Prelude.{◌≡◌, ◌<◌, ◌≤◌, ◌*◌, ◌%◌, ℕ, true, length, take, option_map, IfOk};
 ghost use Rattle.std.specs.Str.{is_utf8, IsUtf8};
-
 ghost use Rattle.sms_script.specs.Hexadecimal.{spelled, text_of};
 ghost use Rattle.sms_script.specs.TextCuts.{GoesOn};
 
@@ -21,7 +20,12 @@ fn window(digits: &[u8]) -> ([u8; 4], usize)
 {
     match digits {
         [a, b, c, d, e, f, g, h, ..] => (
-            [octet_at(*a, *b), octet_at(*c, *d), octet_at(*e, *f), octet_at(*g, *h)],
+            [
+                octet_at(*a, *b),
+                octet_at(*c, *d),
+                octet_at(*e, *f),
+                octet_at(*g, *h),
+            ],
             4,
         ),
         [a, b, c, d, e, f, ..] => ([octet_at(*a, *b), octet_at(*c, *d), octet_at(*e, *f), 0], 3),

@@ -1,4 +1,4 @@
-use Rattle.std.proofs.Common.{sym, ap, ◌∙◌, ◌+◌, length, drop, arith, List, ℕ, Some}
+use Rattle.std.proofs.Common.{sym, ap, ◌∙◌, ◌+◌, arith, List, ℕ, Some}
 use Rattle.std.proofs.lemmas.List.{take_all, length-drop}
 use Rattle.sms_script.proofs.Pieces.{mark_found, no_mark_found}
 use Rattle.sms_script.proofs.cutting.cut.Goals as goal

@@ -1,4 +1,4 @@
-use Rattle.std.proofs.Common.{arith, add-one, get_or, length}
+use Rattle.std.proofs.Common.{arith, add-one, get_or}
 use Rattle.sms_script.proofs.Decimals.{number_steps, number_ends, digit_fits}
 use Rattle.sms_script.proofs.number.number_of.Goals as goal
 

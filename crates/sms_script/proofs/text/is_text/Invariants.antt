@@ -1,4 +1,4 @@
-use Rattle.std.proofs.Common.{◌≡◌, ℕ, ◌%◌, length}
+use Rattle.std.proofs.Common.{◌≡◌, ◌%◌, length}
 use Rattle.std.specs.Str.{is_utf8}
 use Rattle.sms_script.specs.Hexadecimal.{spelled}
 use Rattle.sms_script.proofs.text.is_text.Given as goal

@@ -1,4 +1,4 @@
-use Rattle.std.proofs.Common.{arith, sym, subst, ℕ, ◌<◌}
+use Rattle.std.proofs.Common.{subst, ◌<◌}
 use Rattle.sms_script.proofs.text.text_front.Goals as goal
 
 pub returns-in-Err-clause-longest : goal.returns-in-Err-clause-longest
