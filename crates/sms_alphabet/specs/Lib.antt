@@ -4,4 +4,5 @@ pub mod Spelling
 pub mod TextReading
 pub mod Ucs2
 pub mod Ucs2Reading
+pub mod UserDataLength
 pub mod FaultCodes

@@ -3,6 +3,7 @@ use Rattle.std.proofs.Common.{◌≡◌, ℕ, suc, ◌+◌, ◌-◌, ◌*◌, �
 use Rattle.std.proofs.lemmas.Bool.{le-ltb, lt-ltb, le-leb}
 use Rattle.std.proofs.lemmas.List.{drop_at, length-append}
 use Rattle.sms_base.specs.Reading.{◌>>=◌}
+use Rattle.sms_base.proofs.Steps.{bind_ok, ok_is}
 use Rattle.sms_alphabet.specs.Packing.{IsPacking, AreSeptets}
 use Rattle.sms_alphabet.proofs.RoundTrip.{packed_is_read}
 use Rattle.sms_alphabet.specs.DataCodingScheme.{coding_of}
@@ -148,3 +149,15 @@ part_again part user p u =
     ap (λ (n : ℕ). units_behind part.content.coding (length header) n (drop (length header) user.octets)) u.length_is
     ∙ ap (λ (xs : List ℕ). units_behind part.content.coding (length header) (data_length part.content.coding (length header) (length part.content.units)) xs) (ap (λ (xs : List ℕ). drop (length header) xs) octets ∙ behind) ∙ b.2 in
     part_made user.header_indicator part.content.dcs user.length user.octets (length header) part.content.coding part.content.units part.key size p.coding_is units key
+
+-- ---- what a part that is read says
+
+abbrev Says : Bool → ℕ → List ℕ → Part → Type 0
+Says indicator dcs octets part = (part.content.dcs ≡ dcs) × (part.content.coding ≡ coding_of dcs) × (part.key ≡ header_key indicator octets)
+
+pub read_says : (indicator : Bool) (dcs total : ℕ) (octets : List ℕ) (part : Part) → part_in indicator dcs total octets ≡ Ok part → Says indicator dcs octets part
+unfolding part_in
+read_says indicator dcs total octets part e =
+    let header = bind_ok (header_size indicator octets) _ part e in
+    let units = bind_ok (units_behind (coding_of dcs) header.0 total (drop header.0 octets)) _ part header.2 in
+    subst (λ (p : Part). Says indicator dcs octets p) (ok_is {E = UnpackError} (record { content = content_of dcs units.0; key = header_key indicator octets }) part units.2) (refl, refl, refl)

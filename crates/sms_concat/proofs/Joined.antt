@@ -1,5 +1,6 @@
 -- Joining: the steps of the code, and that the parts of a split join to the content.
-use Rattle.std.proofs.Common.{◌≡◌, ℕ, ◌+◌, ◌-◌, ◌<◌, ◌≤◌, Bool, true, false, cond, ◌&&◌, eqb, List, [], ◌∷◌, ◌++◌, length, drop, get_or, Some, None, refl, sym, ap, ◌∙◌, arith, append_assoc, eq-eqb, min, ◌^◌}
+use Rattle.std.proofs.Common.{◌≡◌, ℕ, ◌+◌, ◌-◌, ◌<◌, ◌≤◌, Bool, true, false, cond, ◌&&◌, eqb, List, [], ◌∷◌, ◌++◌, length, drop, get_or, Some, None, refl, sym, ap, ◌∙◌, arith, append_assoc, eq-eqb, min, ◌^◌, Result, Ok, Err}
+use Rattle.std.specs.Prelude.{OnErr}
 use Rattle.std.proofs.lemmas.List.{append-nil, at_drop_more, at_drop_all, length-append}
 use Rattle.sms_concat.specs.declared.concat_key.ConcatReference.{ConcatReference}
 use Rattle.sms_concat.specs.declared.concat_key.ConcatReference.TheVariants.{SixteenBit}
@@ -116,3 +117,15 @@ pub summing_end : (parts : List Part) (count index : ℕ) → length parts ≤ i
 summing_end parts count index le s =
     let none : length (units_of (drop index parts)) ≡ 0 = at_drop_all (λ (ps : List Part). length (units_of ps)) parts index le in
     omega (arith, none, s.sum, s.below)
+
+-- ---- want of memory
+
+pub whole_joins : (parts : List Part) (b : Bool) → b ≡ true → b ≡ is_whole parts → (content : Content) × (content_joined parts ≡ Some content)
+whole_joins [] b e is = absurd cc
+whole_joins (part ∷ parts) b e is =
+    let whole : is_whole (part ∷ parts) ≡ true = sym is ∙ e in
+    (record { coding = part.content.coding; dcs = part.content.dcs; units = units_of (part ∷ parts) }, rw whole refl)
+
+pub on_err : {X E : Type 0} (P : Type 0) (r : Result X E) → P → OnErr r P
+on_err P (Ok x) p = tt
+on_err P (Err e) p = p

@@ -4,5 +4,7 @@ pub mod FieldLaws
 pub mod Joined
 pub mod Numbering
 pub mod Uniqueness
+pub mod HeaderKeys
+pub mod Stepwise
 pub mod Room
 mod Rows

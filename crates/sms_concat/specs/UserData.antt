@@ -3,6 +3,7 @@ use Rattle.std.specs.Prelude.{◌≡◌, ℕ, ◌+◌, ◌-◌, ◌*◌, ◌/◌
 use Rattle.sms_base.specs.Reading.{◌>>=◌}
 use Rattle.sms_alphabet.specs.Packing.{IsPacking, AreSeptets, unpacked}
 use Rattle.sms_alphabet.specs.DataCodingScheme.{coding_of}
+pub use Rattle.sms_alphabet.specs.UserDataLength.{fill_bits, greatest_length as capacity, header_septets}
 use Rattle.sms_alphabet.specs.declared.scheme.Coding.{Coding}
 use Rattle.sms_alphabet.specs.declared.scheme.Coding.TheVariants.{Septets, Octets, Ucs2, Compressed}
 use Rattle.sms_alphabet.specs.declared.unpacking.UnpackError.{UnpackError}
@@ -20,27 +21,12 @@ use Rattle.sms_concat.specs.Concatenation.{key_of}
 
 -- ---- lengths
 
--- how many septets a header of so many octets takes, up to the next septet boundary
-abbrev pub header_septets : ℕ → ℕ
-header_septets octets = (8 * octets + 6) / 7
-
--- the fill bits between the header and that boundary
-abbrev pub fill_bits : ℕ → ℕ
-fill_bits octets = 7 * header_septets octets - 8 * octets
-
 -- what TP-UDL says of a header of so many octets and so many units behind it
 abbrev pub data_length : Coding → ℕ → ℕ → ℕ
 data_length Septets header units = header_septets header + units
 data_length Octets header units = header + units
 data_length Ucs2 header units = header + units
 data_length Compressed header units = header + units
-
--- the greatest TP-UDL: 160 septets or 140 octets
-abbrev pub capacity : Coding → ℕ
-capacity Septets = 160
-capacity Octets = 140
-capacity Ucs2 = 140
-capacity Compressed = 140
 
 -- ---- what is written
 

@@ -1,5 +1,6 @@
 //! The parts of a message joined.
-ghost use Rattle.std.specs.Prelude.{◌≡◌, ◌<◌, ◌-◌, ◌^◌, IfOk, length, min};
+ghost use Rattle.std.specs.Prelude.{◌≡◌, ◌<◌, ◌-◌, ◌^◌, IfOk, OnErr, Some, length, min};
+ghost use Rattle.sms_concat.specs.declared.content.Content.{Content as ContentOf};
 ghost use Rattle.sms_concat.specs.Joining.{key_or_alone, is_same_reference, bears, bear_from, is_whole, units_of, content_joined};
 
 use crate::concat_key::{ConcatKey, ConcatReference};
@@ -7,8 +8,8 @@ use crate::content::{Content, Part};
 use sms_base::Octets;
 use std::alloc::{AllocError, Global};
 
-// The key of a part; without one it counts as part 1 of 1.
-fn key_or_alone(key: Option<ConcatKey>) -> ConcatKey
+/// The key of a part; without one it counts as part 1 of 1.
+pub(crate) fn key_or_alone(key: Option<ConcatKey>) -> ConcatKey
     ensures { result ≡ key_or_alone key }
 {
     match key {
@@ -21,7 +22,8 @@ fn key_or_alone(key: Option<ConcatKey>) -> ConcatKey
     }
 }
 
-fn is_same_reference(one: ConcatReference, other: ConcatReference) -> bool
+/// Whether references are one: in width and in number.
+pub(crate) fn is_same_reference(one: ConcatReference, other: ConcatReference) -> bool
     ensures { result ≡ is_same_reference one other }
 {
     match (one, other) {
@@ -96,9 +98,10 @@ fn units_of(alloc: Global, parts: &[Part]) -> Result<Octets, AllocError>
 /// The content that the parts join to: none unless their numbers are 1 to the total, in order, under one
 /// key and one data coding scheme.
 ///
-/// A lone part without a key counts as part 1 of 1. Takes memory once.
+/// A lone part without a key counts as part 1 of 1. Takes memory once, and only where the parts join.
 pub fn join(alloc: Global, parts: &[Part]) -> Result<Option<Content>, AllocError>
-    ensures { IfOk result (λ content. content ≡ content_joined parts.now) }
+    ensures ok { IfOk result (λ content. content ≡ content_joined parts.now) }
+    ensures err { OnErr result ((content : ContentOf) × (content_joined parts.now ≡ Some content)) }
 {
     if !is_whole(parts) {
         return Ok(None);

@@ -1,38 +1,11 @@
 //! How much a short message has room for.
 ghost use Rattle.std.specs.Prelude.{◌≡◌, ◌↔◌, true, ◌≤◌, ◌<◌, length};
 ghost use Rattle.sms_alphabet.specs.Packing.{AreSeptets};
-ghost use Rattle.sms_concat.specs.UserData.{header_septets, fill_bits, data_length, capacity, header_of, AreUnits, Fits, HasRoom};
+ghost use Rattle.sms_concat.specs.UserData.{data_length, header_of, AreUnits, Fits, HasRoom};
 
 use crate::concat_key::{ConcatKey, ConcatReference};
 use crate::content::{Content, Part};
-use sms_alphabet::Coding;
-
-/// How many septets a header of so many octets takes (3GPP TS 23.040 9.2.3.24).
-pub fn header_septets(octets: usize) -> usize
-    requires { octets ≤ 256 }
-    ensures { result ≡ header_septets octets }
-{
-    (8 * octets + 6) / 7
-}
-
-/// How many fill bits stand between a header of so many octets and the first septet.
-pub fn fill_bits(octets: usize) -> u8
-    requires { octets ≤ 256 }
-    ensures is { result ≡ fill_bits octets }
-    ensures few { result < 7 }
-{
-    (7 * header_septets(octets) - 8 * octets) as u8
-}
-
-/// The greatest TP-UDL: 160 septets or 140 octets.
-pub(crate) fn capacity(coding: Coding) -> usize
-    ensures { result ≡ capacity coding }
-{
-    match coding {
-        Coding::Septets => 160,
-        _ => 140,
-    }
-}
+use sms_alphabet::{Coding, greatest_length, header_septets};
 
 // Whether each is a septet.
 fn are_septets(units: &[u8]) -> bool
@@ -73,7 +46,7 @@ pub fn fits_behind(header: usize, content: &Content) -> bool
     ensures { (result ≡ true) ↔ Fits header content.now }
 {
     let taken = taken(content.coding, header);
-    let capacity = capacity(content.coding);
+    let capacity = usize::from(greatest_length(content.coding));
     taken <= capacity
         && content.units.len() <= capacity - taken
         && are_units(content.coding, content.units.as_slice())

@@ -3,14 +3,17 @@
 //! A header is read as the list of its elements, and its concatenation key is that of the last valid
 //! concatenation element. A content that fits one short message is one part without a header; a longer
 //! one is cut between whole units into parts that are as full as that allows, and those parts joined are
-//! the content again. What is written of a part is read as that part.
+//! the content again: `join` takes them all at once, a `Joiner` one by one in whatever order they come. What is written
+//! of a part is read as that part.
 #![tactic(auto)]
 
+mod add_error;
 mod concat_key;
 mod content;
 mod element;
 mod header;
 mod header_error;
+mod joiner;
 mod joining;
 pub mod laws;
 mod lengths;
@@ -21,18 +24,18 @@ mod splitting;
 mod whole_unit;
 mod writing;
 
+pub use add_error::AddError;
 pub use concat_key::{ConcatKey, ConcatReference};
 pub use content::{Content, Part, UserData};
 pub use element::Element;
 pub use header::{Header, concat_info};
 pub use header_error::HeaderError;
+pub use joiner::Joiner;
 pub use joining::join;
-pub use lengths::{fill_bits, fits, fits_behind, header_septets};
+pub use lengths::{fits, fits_behind};
 pub use parts::Parts;
 pub use reading::{check_user_data, part_of};
+pub use sms_alphabet::{fill_bits, header_septets};
 pub use split_error::SplitError;
 pub use splitting::split;
 pub use writing::{user_data, user_data_behind};
-
-#[cfg(test)]
-mod tests;

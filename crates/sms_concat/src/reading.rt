@@ -5,8 +5,7 @@ ghost use Rattle.sms_concat.specs.UserData.{header_size, header_key, octets_behi
 use crate::concat_key::ConcatKey;
 use crate::content::{Content, Part, owned};
 use crate::header::{Header, concat_info};
-use crate::lengths::{fill_bits, header_septets};
-use sms_alphabet::{Coding, UnpackError, check, dcs, unpack};
+use sms_alphabet::{Coding, UnpackError, check, dcs, fill_bits, header_septets, unpack};
 use sms_base::Octets;
 use std::alloc::Global;
 

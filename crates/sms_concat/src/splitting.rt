@@ -8,11 +8,10 @@ ghost use Rattle.sms_concat.specs.declared.content.Part.{Part as PartOf};
 
 use crate::concat_key::{ConcatKey, ConcatReference};
 use crate::content::{Content, Part, owned};
-use crate::lengths::capacity;
 use crate::parts::Parts;
 use crate::split_error::SplitError;
 use crate::whole_unit::first_unit;
-use sms_alphabet::Coding;
+use sms_alphabet::{Coding, greatest_length};
 use std::alloc::{AllocError, Global};
 
 // How many parts a message has at most.
@@ -129,7 +128,8 @@ fn alone(alloc: Global, content: &Content) -> Result<Parts, AllocError>
 fn parts_of(alloc: Global, content: &Content, reference: u16) -> Result<Parts, SplitError>
     ensures { Splits result (split_of content.now reference) }
 {
-    if content.units.len() <= capacity(content.coding) {
+    let capacity = usize::from(greatest_length(content.coding));
+    if content.units.len() <= capacity {
         return Ok(alone(alloc, content)?);
     }
     if is_compressed(content.coding) {

@@ -5,8 +5,7 @@ ghost use Rattle.sms_concat.specs.UserData.{fill_bits, data_length, capacity, he
 
 use crate::concat_key::ConcatReference;
 use crate::content::{Content, Part, UserData};
-use crate::lengths::{fill_bits, header_septets};
-use sms_alphabet::{Coding, pack};
+use sms_alphabet::{Coding, fill_bits, header_septets, pack};
 use sms_base::Octets;
 use std::alloc::{AllocError, Global};
 

@@ -22,7 +22,7 @@ use Rattle.sms_tpdu.specs.declared.fault.TpduFault.TheVariants.{Truncated, BadAd
 use Rattle.sms_tpdu.specs.AddressGrammar.{octets_for, name_length}
 use Rattle.sms_tpdu.specs.AddressReading.{two_digits_in, last_digit_in, digits_in, name_in, characters_in, type_of_number_in, address_in}
 use Rattle.sms_tpdu.specs.TimeReading.{completed, time_in}
-use Rattle.sms_tpdu.specs.UserDataGrammar.{octets_of, header_septets, fill_bits}
+use Rattle.sms_tpdu.specs.UserDataGrammar.{octets_of, header_septets, fill_behind}
 use Rattle.sms_tpdu.specs.UserDataReading.{of_test, content_test, text_test, text_in, user_data_in}
 use Rattle.sms_tpdu.proofs.Times.{whole_completed}
 use Rattle.sms_tpdu.proofs.Addresses.{quotient_zero, zero_quotient}
@@ -245,7 +245,7 @@ front_tested_by o r fill count false t lt e =
 front_tested : (o r : List ℕ) (fill count : ℕ) → fill < 7 → tested (o ++ r) fill count ≡ Ok tt → TestedOrShort o fill count
 front_tested o r fill count lt e = front_tested_by o r fill count (ltb (length o) (packed_len fill count)) refl lt e
 
-fill_small : (header n : ℕ) → fill_bits header n < 7
+fill_small : (header n : ℕ) → fill_behind header n < 7
 fill_small header n = by (leb (header_septets header) n) where
   by : (b : Bool) → cond b (7 * header_septets header - 8 * header) 0 < 7
   by true = omega arith
@@ -266,7 +266,7 @@ passing_of o fill count h = elim h [
 content_passing : (coding : Coding) (header n : ℕ) (p q : List ℕ) (u : Unit {0}) → content_test coding header n (p ++ q) ≡ Ok u → Passing Truncated (content_test coding header n p)
 content_passing Septets header n p q u e =
     let d = drop_front header p q in
-    let fill = fill_bits header n in
+    let fill = fill_behind header n in
     let m = n - header_septets header in
     let whole : tested (drop header p ++ d.0) fill m ≡ Ok tt = ap (λ (l : List ℕ). tested l fill m) (sym d.1) ∙ test_is _ u e in
     passing_of (drop header p) fill m (front_tested (drop header p) d.0 fill m (fill_small header n) whole)
@@ -282,7 +282,7 @@ empty_by m false t =
 
 empty_content : (coding : Coding) (n : ℕ) → Passing Truncated (content_test coding 0 n [])
 empty_content Septets n =
-    let fill : fill_bits 0 n ≡ 0 = rw (le-leb 0 n (omega arith)) refl in
+    let fill : fill_behind 0 n ≡ 0 = rw (le-leb 0 n (omega arith)) refl in
     subst (λ (k : ℕ). Passing Truncated (of_test (tested [] k (n - 0)))) (sym fill) (passing_of [] 0 (n - 0) (empty_by (n - 0) (ltb 0 (packed_len 0 (n - 0))) refl))
 empty_content Octets n = inl refl
 empty_content Ucs2 n = inl refl

@@ -18,3 +18,8 @@ pub mod WrittenUnits
 pub mod CutUnits
 pub mod CutReports
 pub mod MoreBits
+pub mod FaultSteps
+pub mod FaultFields
+pub mod FaultReasons
+pub mod Completing
+pub mod CompletingUnits

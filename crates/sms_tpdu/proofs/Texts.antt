@@ -13,7 +13,7 @@ use Rattle.sms_alphabet.proofs.RoundTrip.{packed_is_read, read_was_packed}
 use Rattle.sms_tpdu.specs.declared.fault.TpduFault.{TpduFault}
 use Rattle.sms_tpdu.specs.declared.fault.TpduFault.TheVariants.{Truncated, UserDataTooLong, BadHeader}
 use Rattle.sms_tpdu.specs.declared.user_data.UserData.{UserData}
-use Rattle.sms_tpdu.specs.UserDataGrammar.{greatest_length, octets_of, header_octets, header_septets, fill_bits, IsContentBehind, HasHeader, IsUserData, user_data_field}
+use Rattle.sms_tpdu.specs.UserDataGrammar.{greatest_length, octets_of, header_octets, header_septets, fill_behind, IsContentBehind, HasHeader, IsUserData, user_data_field}
 use Rattle.sms_tpdu.specs.UserDataReading.{header_fits, of_test, content_test, text_test, text_in, user_data_in}
 use Rattle.sms_tpdu.proofs.Addresses.{suffix_fits}
 
@@ -28,7 +28,7 @@ test_is (Err NoMemory) x e = absurd cc
 content_takes : (coding : Coding) (header n : ℕ) (text : List ℕ) (x : Unit {0}) → content_test coding header n text ≡ Ok x → IsContentBehind coding header n text
 content_takes Septets header n text x e =
     let behind = drop header text in
-    let fill = fill_bits header n in
+    let fill = fill_behind header n in
     let m = n - header_septets header in
     let test : tested behind fill m ≡ Ok tt = test_is _ x e in
     let whole : unpacked behind fill m ≡ Ok (septets_in behind fill m) = rw test refl in
@@ -45,7 +45,7 @@ ok_tested (Err f) s t e = absurd cc
 content_again : (coding : Coding) (header n : ℕ) (text : List ℕ) → IsContentBehind coding header n text → content_test coding header n text ≡ Ok tt
 content_again Septets header n text (septets, small, len, packed) =
     let behind = drop header text in
-    let fill = fill_bits header n in
+    let fill = fill_behind header n in
     let test : tested behind fill (length septets) ≡ Ok tt = ok_tested (tested behind fill (length septets)) (septets_in behind fill (length septets)) septets (packed_is_read septets behind fill small packed) in
     let here : tested behind fill (n - header_septets header) ≡ Ok tt = ap (tested behind fill) (sym len) ∙ test in
     rw here refl

@@ -1,16 +1,11 @@
 -- User data and its length (3GPP TS 23.040 9.2.3.16, 9.2.3.24), in each coding, with and without a header.
-use Rattle.std.specs.Prelude.{◌≡◌, ℕ, ◌+◌, ◌-◌, ◌*◌, ◌/◌, ◌≤◌, List, [], ◌∷◌, length, drop, Bool, true, false, nat_le, if◌then◌else◌}
+use Rattle.std.specs.Prelude.{◌≡◌, ℕ, ◌+◌, ◌-◌, ◌≤◌, List, [], ◌∷◌, length, drop, Bool, true, false, nat_le, if◌then◌else◌}
 use Rattle.sms_alphabet.specs.Packing.{IsPacking, AreSeptets, packed_len}
+use Rattle.sms_alphabet.specs.UserDataLength.{fill_bits}
+pub use Rattle.sms_alphabet.specs.UserDataLength.{greatest_length, header_septets}
 use Rattle.sms_alphabet.specs.declared.scheme.Coding.{Coding}
 use Rattle.sms_alphabet.specs.declared.scheme.Coding.TheVariants.{Septets, Octets, Ucs2, Compressed}
 use Rattle.sms_tpdu.specs.declared.user_data.UserData.{UserData}
-
--- the greatest length: septets of the default alphabet, else octets
-abbrev pub greatest_length : Coding → ℕ
-greatest_length Septets = 160
-greatest_length Octets = 140
-greatest_length Ucs2 = 140
-greatest_length Compressed = 140
 
 -- how many octets user data of a length has
 abbrev pub octets_of : Coding → ℕ → ℕ
@@ -25,19 +20,15 @@ header_octets false octets = 0
 header_octets true [] = 0
 header_octets true (elements ∷ octets) = elements + 1
 
--- the septets that a header takes: septets begin at the next septet boundary behind it
-abbrev pub header_septets : ℕ → ℕ
-header_septets header = (8 * header + 6) / 7
-
--- the bits between the header and that boundary; where the header fills the user data there are none
-abbrev pub fill_bits : ℕ → ℕ → ℕ
-fill_bits header n = if nat_le (header_septets header) n then 7 * header_septets header - 8 * header else 0
+-- the fill bits behind a header; where the header fills the user data there are none
+abbrev pub fill_behind : ℕ → ℕ → ℕ
+fill_behind header n = if nat_le (header_septets header) n then fill_bits header else 0
 
 -- Septets stand packed behind the header, and every other bit there is zero.
 abbrev pub IsPackedBehind : ℕ → ℕ → List ℕ → Type 0
 IsPackedBehind header n octets =
     (septets : List ℕ) × AreSeptets septets × (length septets ≡ n - header_septets header)
-    × IsPacking septets (fill_bits header n) (drop header octets)
+    × IsPacking septets (fill_behind header n) (drop header octets)
 
 -- What stands behind a header of so many octets: septets of the default alphabet, else octets of any value.
 abbrev pub IsContentBehind : Coding → ℕ → ℕ → List ℕ → Type 0

@@ -6,7 +6,7 @@ use Rattle.sms_alphabet.specs.declared.scheme.Coding.{Coding}
 use Rattle.sms_alphabet.specs.declared.scheme.Coding.TheVariants.{Septets, Octets, Ucs2, Compressed}
 use Rattle.sms_alphabet.specs.declared.unpacking.UnpackError.{UnpackError}
 use Rattle.sms_alphabet.specs.declared.unpacking.UnpackError.TheVariants.{TooShort, SpareBits as BitsOutside, NoMemory}
-use Rattle.sms_tpdu.specs.UserDataGrammar.{greatest_length, octets_of, header_octets, header_septets, fill_bits}
+use Rattle.sms_tpdu.specs.UserDataGrammar.{greatest_length, octets_of, header_octets, header_septets, fill_behind}
 use Rattle.sms_tpdu.specs.declared.user_data.UserData.{UserData}
 use Rattle.sms_tpdu.specs.declared.fault.TpduFault.{TpduFault}
 use Rattle.sms_tpdu.specs.declared.fault.TpduFault.TheVariants.{Truncated, UserDataTooLong, SpareBits, BadHeader}
@@ -26,7 +26,7 @@ of_test (Err NoMemory) = Err Truncated
 
 -- the bits behind the header, as far as the octets are there
 abbrev pub content_test : Coding → ℕ → ℕ → List ℕ → Result (Unit {0}) TpduFault
-content_test Septets header n octets = of_test (tested (drop header octets) (fill_bits header n) (n - header_septets header))
+content_test Septets header n octets = of_test (tested (drop header octets) (fill_behind header n) (n - header_septets header))
 content_test Octets header n octets = Ok tt
 content_test Ucs2 header n octets = Ok tt
 content_test Compressed header n octets = Ok tt

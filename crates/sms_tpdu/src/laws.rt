@@ -1,5 +1,5 @@
 //! Laws of TPDUs, over their definitions alone.
-ghost use Rattle.std.specs.Prelude.{◌≡◌, ◌⊎◌, ◌↔◌, ◌/◌, ◌%◌, ℕ, Bool, true, false, not, List, [], ◌∷◌, ◌++◌, Ok, Err};
+ghost use Rattle.std.specs.Prelude.{◌≡◌, ◌≢◌, ◌⊎◌, ◌↔◌, ◌/◌, ◌%◌, ℕ, Bool, true, false, not, List, [], ◌∷◌, ◌++◌, Ok, Err};
 ghost use Rattle.sms_base.specs.Reading.{AreOctets};
 ghost use Rattle.sms_tpdu.specs.Bits.{bit};
 ghost use Rattle.sms_tpdu.specs.MoreMessages.{compared, octet_telling, read_told, same_message, telling};
@@ -14,7 +14,41 @@ ghost use Rattle.sms_tpdu.specs.declared.deliver_report.DeliverReport.{DeliverRe
 ghost use Rattle.sms_tpdu.specs.declared.status_report.StatusReport.{StatusReport};
 ghost use Rattle.sms_tpdu.specs.declared.down.Down.{Down};
 ghost use Rattle.sms_tpdu.specs.declared.up.Up.{Up};
-ghost use Rattle.sms_tpdu.specs.declared.fault.TpduFault.TheVariants.{Truncated};
+ghost use Rattle.sms_tpdu.specs.declared.fault.TpduFault.{TpduFault};
+ghost use Rattle.sms_tpdu.specs.declared.fault.TpduFault.TheVariants.{Truncated, TrailingOctets};
+
+/// Octets are read downwards as a TPDU exactly where the grammar has it.
+pub fn down_is_read_by_the_grammar()
+    ensures found { (carrier : Carrier) (octets : List ℕ) (tpdu : Down) → AreOctets octets → down_at carrier octets ≡ Ok tpdu → IsDown carrier octets tpdu }
+    ensures only { (carrier : Carrier) (octets : List ℕ) (tpdu : Down) → IsDown carrier octets tpdu → down_at carrier octets ≡ Ok tpdu }
+{}
+
+/// Octets are read upwards as a TPDU exactly where the grammar has it.
+pub fn up_is_read_by_the_grammar()
+    ensures found { (carrier : Carrier) (octets : List ℕ) (tpdu : Up) → AreOctets octets → up_at carrier octets ≡ Ok tpdu → IsUp carrier octets tpdu }
+    ensures only { (carrier : Carrier) (octets : List ℕ) (tpdu : Up) → IsUp carrier octets tpdu → up_at carrier octets ≡ Ok tpdu }
+{}
+
+/// A list is at most one TPDU of a direction and carrier.
+pub fn a_list_is_one_tpdu()
+    ensures down { (carrier : Carrier) (octets : List ℕ) (one other : Down) → IsDown carrier octets one → IsDown carrier octets other → one ≡ other }
+    ensures up { (carrier : Carrier) (octets : List ℕ) (one other : Up) → IsUp carrier octets one → IsUp carrier octets other → one ≡ other }
+{}
+
+/// Downwards octets are told to be missing only where some can be added so that a TPDU stands there, and to be left over
+/// only behind a TPDU; and octets that are refused for any other fault than missing octets are the front of none.
+pub fn a_fault_down_has_its_reason()
+    ensures truncated { (carrier : Carrier) (octets : List ℕ) → AreOctets octets → down_at carrier octets ≡ Err Truncated → (rest : List ℕ) × (tpdu : Down) × AreOctets rest × IsDown carrier (octets ++ rest) tpdu }
+    ensures trailing { (carrier : Carrier) (octets : List ℕ) → AreOctets octets → down_at carrier octets ≡ Err TrailingOctets → (front : List ℕ) × (octet : ℕ) × (rest : List ℕ) × (tpdu : Down) × (octets ≡ front ++ octet ∷ rest) × IsDown carrier front tpdu }
+    ensures other { (carrier : Carrier) (octets rest : List ℕ) (tpdu : Down) (fault : TpduFault) → down_at carrier octets ≡ Err fault → fault ≢ Truncated → IsDown carrier (octets ++ rest) tpdu → ⊥ }
+{}
+
+/// The same upwards.
+pub fn a_fault_up_has_its_reason()
+    ensures truncated { (carrier : Carrier) (octets : List ℕ) → AreOctets octets → up_at carrier octets ≡ Err Truncated → (rest : List ℕ) × (tpdu : Up) × AreOctets rest × IsUp carrier (octets ++ rest) tpdu }
+    ensures trailing { (carrier : Carrier) (octets : List ℕ) → AreOctets octets → up_at carrier octets ≡ Err TrailingOctets → (front : List ℕ) × (octet : ℕ) × (rest : List ℕ) × (tpdu : Up) × (octets ≡ front ++ octet ∷ rest) × IsUp carrier front tpdu }
+    ensures other { (carrier : Carrier) (octets rest : List ℕ) (tpdu : Up) (fault : TpduFault) → up_at carrier octets ≡ Err fault → fault ≢ Truncated → IsUp carrier (octets ++ rest) tpdu → ⊥ }
+{}
 
 /// What is written is in the grammar and is read as the same value: down.
 pub fn written_down_is_read()

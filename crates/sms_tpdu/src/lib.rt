@@ -24,8 +24,6 @@ mod slices;
 mod status_report;
 mod submit;
 mod submit_report;
-#[cfg(test)]
-mod tests;
 mod time_field;
 mod up;
 mod user_data;

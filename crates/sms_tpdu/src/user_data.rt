@@ -2,12 +2,12 @@
 ghost use Rattle.std.specs.Prelude.{◌≡◌, ◌≤◌, ◌<◌, ◌-◌, ◌++◌, ℕ, List, take, drop, OnOk};
 ghost use Rattle.sms_base.specs.Reading.{Takes};
 ghost use Rattle.sms_alphabet.specs.Packing.{tested};
-ghost use Rattle.sms_tpdu.specs.UserDataGrammar.{greatest_length, octets_of, header_octets, header_septets, fill_bits, user_data_field};
+ghost use Rattle.sms_tpdu.specs.UserDataGrammar.{octets_of, header_octets, header_septets, fill_behind, user_data_field};
 ghost use Rattle.sms_tpdu.specs.UserDataReading.{header_fits, content_test, text_test, text_in, user_data_in, of_test};
 
 use crate::fault::TpduFault;
 use crate::slices::{behind, front};
-use sms_alphabet::{Coding, UnpackError, check};
+use sms_alphabet::{Coding, UnpackError, check, fill_bits, greatest_length, header_septets};
 use sms_base::{Cursor, OctetView, Octets};
 use std::alloc::AllocError;
 
@@ -18,15 +18,6 @@ pub struct UserData<'a> {
     pub length: u8,
     /// The header, if there is one, and the content.
     pub octets: OctetView<'a>,
-}
-
-fn greatest_length(coding: Coding) -> u8
-    ensures { result ≡ greatest_length coding }
-{
-    match coding {
-        Coding::Septets => 160,
-        Coding::Octets | Coding::Ucs2 | Coding::Compressed => 140,
-    }
 }
 
 /// How many octets user data of that length has.
@@ -72,16 +63,15 @@ fn septets_test(octets: &[u8], fill: u8, count: u8) -> Result<(), TpduFault>
 }
 
 // The fill bits behind a header of so many octets, in user data of that length.
-fn fill_bits(header: usize, length: u8) -> u8
+fn fill_behind(header: usize, length: u8) -> u8
     requires { header ≤ 256 }
-    ensures value { result ≡ fill_bits header length }
+    ensures value { result ≡ fill_behind header length }
     ensures range { result < 7 }
 {
-    let septets = (8 * header + 6) / 7;
-    if septets > usize::from(length) {
+    if header_septets(header) > usize::from(length) {
         return 0;
     }
-    (7 * septets - 8 * header) as u8
+    fill_bits(header)
 }
 
 // How many septets stand behind a header of so many octets, in user data of that length.
@@ -89,7 +79,7 @@ fn septets_behind(header: usize, length: u8) -> u8
     requires { header ≤ 256 }
     ensures { result ≡ length - header_septets header }
 {
-    (usize::from(length)).saturating_sub((8 * header + 6) / 7) as u8
+    usize::from(length).saturating_sub(header_septets(header)) as u8
 }
 
 fn content_test(coding: Coding, header: usize, length: u8, octets: &[u8]) -> Result<(), TpduFault>
@@ -99,7 +89,7 @@ fn content_test(coding: Coding, header: usize, length: u8, octets: &[u8]) -> Res
     match coding {
         Coding::Septets => septets_test(
             behind(octets, header),
-            fill_bits(header, length),
+            fill_behind(header, length),
             septets_behind(header, length),
         ),
         Coding::Octets | Coding::Ucs2 | Coding::Compressed => Ok(()),
