@@ -1,4 +1,5 @@
--- The premise on originators: a source begins a new round of a key only when the handset has the whole of the round before.
+-- The premise on originators: a source begins a new round of a key only when the handset has accepted the whole of the round
+-- before (a concatenation reference is not reused while its message is under way, 3GPP TS 23.040 9.2.3.24.1).
 use Rattle.std.specs.Prelude.{◌≡◌, ℕ, suc, ◌<◌, ◌≤◌, List, [], ◌∷◌, true}
 use Rattle.sms_base.specs.Among.{Among}
 use Rattle.sms_world.specs.World.{Accepted, Giving, World, pair_given}

@@ -16,15 +16,17 @@ pub record Ticket : Type 0 where
 abbrev pub IsFree : World → List ℕ → ℕ → Type 0
 IsFree w handset reference = (g : Giving) → IsHeld w g → g.handset ≡ handset → g.reference ≡ reference → ⊥
 
--- it was given there only before that moment
+-- Every earlier giving of it there is of an earlier second, so that a reference and a time stamp name one giving.
 abbrev pub IsEarlier : List Giving → List ℕ → ℕ → ℕ → Type 0
 IsEarlier [] handset reference moment = Unit {0}
 IsEarlier (g ∷ older) handset reference moment =
     (g.handset ≡ handset → g.reference ≡ reference → g.moment < moment) × IsEarlier older handset reference moment
 
+-- the centre may give the reference at the handset
 abbrev pub CanGive : World → List ℕ → ℕ → ℕ → Type 0
 CanGive w handset reference moment = (reference < 256) × IsFree w handset reference × IsEarlier w.down handset reference moment
 
+-- what is given to a part, a report, an entry and an RP-SMMA
 abbrev pub part_giving : Submission → ℕ → ℕ → Ticket → Giving
 part_giving s moment n t = record { handset = s.handset; reference = t.reference; holder = Part s.id n; moment = moment; tpdu = t.tpdu }
 

@@ -1,4 +1,4 @@
--- What a stop leaves.
+-- What a stop in the middle of an event leaves: the world from before it, or that from after it without its frames.
 use Rattle.std.specs.Prelude.{◌≡◌, ◌⊎◌, List}
 use Rattle.sms_world.specs.ScriptRun.{Belongs, Happening, Whole, happened}
 use Rattle.sms_world.specs.Run.{Run, end}

@@ -1,4 +1,5 @@
--- The premise on frames: they come while the reference that they carry is still their holder's.
+-- The premise on frames: whenever one is handed over, the latest giving of its reference on its line is to the holder for which
+-- it was made. A frame whose reference was given to another holder since is not.
 use Rattle.std.specs.Prelude.{◌≡◌, List, [], ◌∷◌}
 use Rattle.sms_world.specs.WorldStep.{Acknowledged, Settle, Step, Take}
 use Rattle.sms_world.specs.World.{Down, Frame, Giving, IsLatest, Line, Up, World}

@@ -14,7 +14,7 @@ use Rattle.sms_tpdu.specs.declared.user_data.UserData.{UserData}
 use Rattle.sms_tpdu.specs.TpduReading.{down_at, up_at}
 use Rattle.sms_world.specs.Submission.{Submission}
 
--- A DELIVER of that part, with that time stamp. What else a DELIVER says (TP-MMS, TP-SRI) is the centre's own.
+-- A DELIVER (3GPP TS 23.040 9.2.2.1) of that part, with that time stamp. What else a DELIVER says (TP-MMS, TP-SRI) is the centre's own.
 pub record IsDeliverOf (s : Submission) (part : UserData) (moment : ℕ) (tpdu : List ℕ) : Type 0 where
   pub deliver : DeliverOf
   pub reads : down_at InData tpdu ≡ Ok (Deliver deliver)
@@ -33,14 +33,14 @@ status_of Expired = 70
 status_of Deleted = 72
 status_of Undeliverable = 64
 
--- a STATUS-REPORT of that state about a message to that handset
+-- a STATUS-REPORT (9.2.2.3) of that state about a message to that handset
 pub record IsReportOf (s : Submission) (f : FinalState) (tpdu : List ℕ) : Type 0 where
   pub report : StatusReportOf
   pub reads : down_at InData tpdu ≡ Ok (StatusReport report)
   pub status : report.status ≡ status_of f
   pub recipient : report.recipient_address.digits ≡ s.handset
 
--- a SUBMIT with this destination and user data
+-- a SUBMIT (9.2.2.2) with this destination and user data
 pub record IsSubmitTo (destination : Address) (user_data : UserData) (tpdu : List ℕ) : Type 0 where
   pub submit : SubmitOf
   pub reads : up_at InData tpdu ≡ Ok (Submit submit)
