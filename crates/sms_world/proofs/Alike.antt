@@ -1,6 +1,5 @@
 -- What is compared of a TPDU is read as the TPDU but for TP-MMS, and so has the same place and carries the same.
 use Rattle.std.proofs.Common.{◌≡◌, ℕ, List, false, refl, ap, ◌∙◌, Result, Ok, Err}
-use Rattle.sms_concat.specs.declared.content.Part.{Part as PartOf}
 use Rattle.sms_tpdu.specs.declared.carrier.Carrier.TheVariants.{InData}
 use Rattle.sms_tpdu.specs.declared.down.Down.{Down}
 use Rattle.sms_tpdu.specs.declared.down.Down.TheVariants.{Deliver, StatusReport, SubmitReport}
