@@ -7,3 +7,4 @@ pub mod WordLaws
 pub mod ActLaws
 pub mod LineLaws
 pub mod ScriptLaws
+pub mod Cuts

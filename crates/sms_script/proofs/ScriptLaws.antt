@@ -332,3 +332,6 @@ unfolding script_in
 script_only text script (Ok read) e h = let again = lines_again (lines_of text) script h.0 h.1 h.2 in cc
 script_only text script (Err (BadLine number)) e h = let again = lines_again (lines_of text) script h.0 h.1 h.2 in absurd (cc)
 script_only text script (Err NoMemory) e h = tt
+
+pub one_script : (text : List ℕ) (one other : Script) → IsScript text one → IsScript text other → one ≡ other
+one_script text one other h k = let a = lines_again (lines_of text) one h.0 h.1 h.2 in let b = lines_again (lines_of text) other k.0 k.1 k.2 in cc

@@ -1,5 +1,5 @@
 -- A text cut into lines, and a line cut into words. A text is the list of its octets; LF is 10, CR 13 and a space 32.
-use Rattle.std.specs.Prelude.{ℕ, ◌==◌, ◌&&◌, Bool, true, false, not, List, [], ◌∷◌, ◌++◌, Option, Some, None, if◌then◌else◌}
+use Rattle.std.specs.Prelude.{◌≡◌, ℕ, ◌==◌, ◌&&◌, Bool, true, false, not, List, [], ◌∷◌, ◌++◌, Option, Some, None, if◌then◌else◌}
 use Rattle.std.specs.List.{list_any}
 
 -- an octet before the first piece
@@ -22,6 +22,20 @@ abbrev pub spaced : List (List ℕ) → List ℕ
 spaced [] = []
 spaced (word ∷ []) = word
 spaced (word ∷ other ∷ words) = word ++ (32 ∷ spaced (other ∷ words))
+
+-- lines, each with its LF
+abbrev pub ended : List (List ℕ) → List ℕ
+ended [] = []
+ended (line ∷ lines) = line ++ (10 ∷ ended lines)
+
+-- the mark stands in none of them
+abbrev pub Without : ℕ → List ℕ → Type 0
+Without mark [] = Unit {0}
+Without mark (octet ∷ octets) = ((octet == mark) ≡ false) × Without mark octets
+
+abbrev pub AllWithout : ℕ → List (List ℕ) → Type 0
+AllWithout mark [] = Unit {0}
+AllWithout mark (piece ∷ pieces) = Without mark piece × AllWithout mark pieces
 
 abbrev pub is_empty : List ℕ → Bool
 is_empty [] = true

@@ -17,6 +17,7 @@ mod fault;
 mod fields;
 mod hexadecimal;
 mod keyword;
+pub mod laws;
 mod line;
 mod number;
 mod progress;

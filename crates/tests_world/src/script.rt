@@ -1,14 +1,16 @@
 //! Scripts that are read, and the numbers of bad lines.
 use sms_base::OctetView;
-use sms_script::{Act, Script, ScriptFault, Side, Stop, WorldEvent, read_script};
+use sms_script::{Act, Script, ScriptFault, Setup, Side, Stop, WorldEvent, read_script};
 use std::alloc::Global;
 use std::test::Fail;
 
-const ONE_MESSAGE: &str = "start 1709251198\ncentre 447700900000\naccount app1 secret 447700900001\n\
+const ONE_MESSAGE: &str =
+    "start 1709251198\ncentre 447700900000\naccount app1 secret 447700900001\n\
     handset 447700900456 3\nsubmit app1 447700900456 0 00 1 - 68656C6C6F\ndeliver 1\ndeliver 2\ndeliver 3\ndeliver 4\n";
 
 // Each kind of event, with leading zeros, digits of either case, and no LF at the end.
-const ALL_KINDS: &str = "start 0001\ncentre 1\nhandset 2 1\nurgent a 2 3 255 4f 007 000001000000000R -\nquery a 0000000001\n\
+const ALL_KINDS: &str =
+    "start 0001\ncentre 1\nhandset 2 1\nurgent a 2 3 255 4f 007 000001000000000R -\nquery a 0000000001\n\
     cancel a x\nwrite 2 3 1 c3A9\ndelete 2 00018446744073709551616\ndiscard 2 7\ntick centre 946684800\ntick 2 4102444799\n\
     restart centre\nrestart 2\nstopped before deliver 9\nstopped after submit a 3 0 00 0 - 00";
 
@@ -26,13 +28,54 @@ fn submitted(alloc: Global, event: &WorldEvent<'_>) -> Result<bool, Fail> {
     match event {
         WorldEvent::Whole(Act::Submit(s)) => {
             let message = s.message.octets(alloc)?;
-            Ok(is(&s.name, b"app1")
-                && is(&s.to, b"447700900456")
-                && is(&s.validity, b"")
-                && message.as_slice() == b"hello".as_slice()
-                && s.priority == 0
-                && s.registered_delivery == 1)
+            Ok(
+                is(&s.name, b"app1")
+                    && is(&s.to, b"447700900456")
+                    && is(&s.validity, b"")
+                    && message.as_slice() == b"hello".as_slice()
+                    && s.priority == 0
+                    && s.registered_delivery == 1,
+            )
         }
+        _ => Err(no_such()),
+    }
+}
+
+fn is_one_account(setup: &Setup<'_>) -> bool {
+    match setup.accounts.as_slice() {
+        [account] => {
+            is(&account.name, b"app1")
+                && is(&account.password, b"secret")
+                && is(&account.number, b"447700900001")
+        }
+        _ => false,
+    }
+}
+
+fn is_one_handset(setup: &Setup<'_>) -> bool {
+    match setup.handsets.as_slice() {
+        [handset] => is(&handset.number, b"447700900456") && handset.slots == 3,
+        _ => false,
+    }
+}
+
+fn is_deliver(event: &WorldEvent<'_>, frame: u64) -> bool {
+    match event {
+        WorldEvent::Whole(Act::Deliver(number)) => *number == frame,
+        _ => false,
+    }
+}
+
+// A submission and four deliveries.
+fn are_one_message(alloc: Global, events: &[WorldEvent<'_>]) -> Result<bool, Fail> {
+    match events {
+        [first, one, two, three, four] => Ok(
+            submitted(alloc, first)?
+                && is_deliver(one, 1)
+                && is_deliver(two, 2)
+                && is_deliver(three, 3)
+                && is_deliver(four, 4),
+        ),
         _ => Err(no_such()),
     }
 }
@@ -42,20 +85,10 @@ fn one_message_is_read(rt: HostRuntime) -> Result<(), Fail> {
     let script = read_script(rt.alloc(), ONE_MESSAGE.as_bytes())?;
     assert_eq!(rt; script.setup.start, 1_709_251_198);
     assert!(rt; is(&script.setup.centre, b"447700900000"));
-    let accounts = script.setup.accounts.as_slice();
-    assert_eq!(rt; accounts.len(), 1);
-    assert!(rt; is(&accounts[0].name, b"app1"));
-    assert!(rt; is(&accounts[0].password, b"secret"));
-    assert!(rt; is(&accounts[0].number, b"447700900001"));
-    let handsets = script.setup.handsets.as_slice();
-    assert_eq!(rt; handsets.len(), 1);
-    assert!(rt; is(&handsets[0].number, b"447700900456"));
-    assert_eq!(rt; handsets[0].slots, 3);
-    let events = script.events.as_slice();
-    assert_eq!(rt; events.len(), 5);
-    let first = submitted(rt.alloc(), &events[0])?;
-    assert!(rt; first);
-    assert!(rt; matches!(&events[4], WorldEvent::Whole(Act::Deliver(4))));
+    assert!(rt; is_one_account(&script.setup));
+    assert!(rt; is_one_handset(&script.setup));
+    let read = are_one_message(rt.alloc(), script.events.as_slice())?;
+    assert!(rt; read);
     Ok(())
 }
 
@@ -86,11 +119,78 @@ fn written(alloc: Global, event: &WorldEvent<'_>) -> Result<bool, Fail> {
 // The second of a tick of a handset; another event has none.
 fn handset_tick(event: &WorldEvent<'_>) -> Option<u64> {
     match event {
-        WorldEvent::Whole(Act::Tick {
-            side: Side::Handset(_),
-            now,
-        }) => Some(now.seconds()),
+        WorldEvent::Whole(
+            Act::Tick {
+                side: Side::Handset(_),
+                now,
+            },
+        ) => Some(now.seconds()),
         _ => None,
+    }
+}
+
+fn is_query(event: &WorldEvent<'_>) -> bool {
+    match event {
+        WorldEvent::Whole(Act::Query { name, id }) => is(name, b"a") && is(id, b"0000000001"),
+        _ => false,
+    }
+}
+
+fn is_cancel(event: &WorldEvent<'_>) -> bool {
+    match event {
+        WorldEvent::Whole(Act::Cancel { name, id }) => is(name, b"a") && is(id, b"x"),
+        _ => false,
+    }
+}
+
+// The entry that is deleted or discarded; another event has none.
+fn entry_of(event: &WorldEvent<'_>) -> Option<u64> {
+    match event {
+        WorldEvent::Whole(Act::Delete { entry, .. })
+        | WorldEvent::Whole(Act::Discard { entry, .. }) => Some(*entry),
+        _ => None,
+    }
+}
+
+fn is_restart(event: &WorldEvent<'_>, of_centre: bool) -> bool {
+    match event {
+        WorldEvent::Restart(Side::Centre) => of_centre,
+        WorldEvent::Restart(Side::Handset(number)) => !of_centre && is(number, b"2"),
+        _ => false,
+    }
+}
+
+fn is_stopped(event: &WorldEvent<'_>, place: Stop) -> bool {
+    match event {
+        WorldEvent::Stopped(stop, Act::Deliver(9)) => *stop == place,
+        WorldEvent::Stopped(stop, Act::Submit(_)) => *stop == place,
+        _ => false,
+    }
+}
+
+fn are_requests(events: &[WorldEvent<'_>]) -> bool {
+    match events {
+        [urgent, query, cancel, _, deleted, discarded, ..] => {
+            is_urgent(urgent)
+                && is_query(query)
+                && is_cancel(cancel)
+                && entry_of(deleted) == Some(u64::MAX)
+                && entry_of(discarded) == Some(7)
+        }
+        _ => false,
+    }
+}
+
+fn are_others(events: &[WorldEvent<'_>]) -> bool {
+    match events {
+        [_, _, _, _, _, _, _, tick, centre, handset, before, after] => {
+            handset_tick(tick) == Some(4_102_444_799)
+                && is_restart(centre, true)
+                && is_restart(handset, false)
+                && is_stopped(before, Stop::Before)
+                && is_stopped(after, Stop::After)
+        }
+        _ => false,
     }
 }
 
@@ -98,22 +198,12 @@ fn handset_tick(event: &WorldEvent<'_>) -> Option<u64> {
 fn each_kind_of_event_is_read(rt: HostRuntime) -> Result<(), Fail> {
     let script = read_script(rt.alloc(), ALL_KINDS.as_bytes())?;
     assert_eq!(rt; script.setup.start, 1);
-    assert_eq!(rt; script.setup.accounts.len(), 0);
     let events = script.events.as_slice();
-    assert_eq!(rt; events.len(), 12);
-    assert!(rt; is_urgent(&events[0]));
-    assert!(rt; matches!(&events[1], WorldEvent::Whole(Act::Query { .. })));
-    assert!(rt; matches!(&events[2], WorldEvent::Whole(Act::Cancel { .. })));
+    assert!(rt; are_requests(events));
+    assert!(rt; are_others(events));
+    assert!(rt; events.len() == 12);
     let text = written(rt.alloc(), &events[3])?;
     assert!(rt; text);
-    assert!(rt; matches!(&events[4], WorldEvent::Whole(Act::Delete { entry: u64::MAX, .. })));
-    assert!(rt; matches!(&events[5], WorldEvent::Whole(Act::Discard { entry: 7, .. })));
-    assert!(rt; matches!(&events[6], WorldEvent::Whole(Act::Tick { side: Side::Centre, .. })));
-    assert_eq!(rt; handset_tick(&events[7]), Some(4_102_444_799));
-    assert!(rt; matches!(&events[8], WorldEvent::Restart(Side::Centre)));
-    assert!(rt; matches!(&events[9], WorldEvent::Restart(Side::Handset(_))));
-    assert!(rt; matches!(&events[10], WorldEvent::Stopped(Stop::Before, Act::Deliver(9))));
-    assert!(rt; matches!(&events[11], WorldEvent::Stopped(Stop::After, Act::Submit(_))));
     Ok(())
 }
 
@@ -142,8 +232,14 @@ fn heads_stand_in_order(rt: HostRuntime) -> Result<(), Fail> {
     assert_eq!(rt; bad_line_of(alloc, ""), 1);
     assert_eq!(rt; bad_line_of(alloc, "start 1\n"), 2);
     assert_eq!(rt; bad_line_of(alloc, "centre 1\nstart 1\n"), 1);
-    assert_eq!(rt; bad_line_of(alloc, "start 1\ncentre 1\nhandset 2 1\naccount a b 1\n"), 4);
-    assert_eq!(rt; bad_line_of(alloc, "start 1\ncentre 1\ndeliver 1\nhandset 2 1\n"), 4);
+    assert_eq!(rt;
+        bad_line_of(alloc, "start 1\ncentre 1\nhandset 2 1\naccount a b 1\n"),
+        4
+    );
+    assert_eq!(rt;
+        bad_line_of(alloc, "start 1\ncentre 1\ndeliver 1\nhandset 2 1\n"),
+        4
+    );
     // No handset is a fault of the setup, not of a line.
     assert_eq!(rt; bad_line_of(alloc, "start 1\ncentre 1"), 0);
     Ok(())
@@ -208,10 +304,20 @@ fn limits_are_kept(rt: HostRuntime) -> Result<(), Fail> {
 fn long_lines_are_read(rt: HostRuntime) -> Result<(), Fail> {
     let alloc = rt.alloc();
     // A line of 16,384 octets: a text of 8,186 letters behind 12 octets.
-    let longest = many(alloc, "start 1\ncentre 1\nhandset 2 1\nwrite 2 3 0 ", "61", 8_186)?;
+    let longest = many(
+        alloc,
+        "start 1\ncentre 1\nhandset 2 1\nwrite 2 3 0 ",
+        "61",
+        8_186,
+    )?;
     let read = read_script(alloc, longest.as_bytes());
     assert_eq!(rt; bad_line(&read), 0);
-    let one_more = many(alloc, "start 1\ncentre 1\nhandset 2 1\nwrite 2 3 00 ", "61", 8_186)?;
+    let one_more = many(
+        alloc,
+        "start 1\ncentre 1\nhandset 2 1\nwrite 2 3 00 ",
+        "61",
+        8_186,
+    )?;
     assert_eq!(rt; bad_line_of(alloc, one_more.as_str()), 4);
     Ok(())
 }
