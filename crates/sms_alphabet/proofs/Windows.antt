@@ -1,7 +1,7 @@
 -- Eight septets in a window of eight octets.
-use Rattle.std.proofs.Common.{◌≡◌, ℕ, zero, suc, ◌+◌, ◌-◌, ◌*◌, ◌/◌, ◌%◌, ◌^◌, ◌<◌, ◌≤◌, List, [], ◌∷◌, ◌++◌, length, get_or, take, drop, bit_or, refl, sym, ap, ◌∙◌, arith}
+use Rattle.std.proofs.Common.{◌≡◌, ℕ, zero, suc, ◌+◌, ◌-◌, ◌*◌, ◌/◌, ◌%◌, ◌^◌, ◌<◌, ◌≤◌, List, [], ◌∷◌, ◌++◌, length, take, drop, bit_or, refl, sym, ap, ◌∙◌, arith}
 use Rattle.std.proofs.Math.Nat.{mul_assoc, mul_comm, mul-add, mul-le-mul_right, pow-succ', pow-zero, div-div-eq-div-mul, add-mul-mod_self_left, mod-eq_of_lt, pow-le-pow_right}
-use Rattle.std.proofs.lemmas.Nat.{pow-add, pow_pos, field_of, shr_below, or_shifted, or_comm, shl_whole}
+use Rattle.std.proofs.lemmas.Nat.{pow-add, field_of, shr_below, or_shifted, or_comm, shl_whole}
 use Rattle.std.proofs.lemmas.List.{length-append, length-drop}
 use Rattle.std.specs.Int.{w64, from_le_bytes, to_le_bytes}
 use Rattle.sms_alphabet.specs.Packing.{value_in, digits_in, septets_in}

@@ -1,7 +1,7 @@
 -- The elements of a header: what is read was spelled so, and what is spelled is read so.
 use Rattle.std.proofs.Common.{◌≡◌, ℕ, zero, suc, ◌<◌, ◌≤◌, Bool, true, false, cond, ltb, List, [], ◌∷◌, ◌++◌, length, take, drop, Result, Ok, Err, Option, Some, None, refl, sym, ap, subst, ◌∙◌, arith}
 use Rattle.std.specs.Option.{option_or}
-use Rattle.std.proofs.lemmas.Bool.{ltb-false, le-ltb}
+use Rattle.std.proofs.lemmas.Bool.{ltb-true, ltb-false, lt-ltb, le-ltb}
 use Rattle.std.proofs.lemmas.List.{take_at, take-append-drop, length-append, length-take-le}
 use Rattle.sms_base.specs.Reading.{◌>>=◌, octet_in, run_in}
 use Rattle.sms_base.proofs.Steps.{bind_ok, ok_is, octet_takes, run_takes, run_again}
@@ -9,7 +9,7 @@ use Rattle.sms_concat.specs.declared.element.Element.{Element}
 use Rattle.sms_concat.specs.declared.concat_key.ConcatKey.{ConcatKey}
 use Rattle.sms_concat.specs.declared.header_error.HeaderError.{HeaderError}
 use Rattle.sms_concat.specs.declared.header_error.HeaderError.TheVariants.{Truncated, BadLength}
-use Rattle.sms_concat.specs.HeaderGrammar.{spelled, written, BeginsWith, elements_behind, elements_in, header_at, element_in, elements_of, AreElements}
+use Rattle.sms_concat.specs.HeaderGrammar.{spelled, written, BeginsWith, HeaderIs, elements_behind, elements_in, header_at, element_in, elements_of, AreElements}
 use Rattle.sms_concat.specs.Concatenation.{key_of, element_key, later}
 
 -- ---- what is spelled is read
@@ -185,3 +185,50 @@ filled octets few t = record { few = few; filled = rw t.1 (read_was_spelled octe
 
 pub read_of : (octets : List ℕ) → (es : List Element) × (elements_in octets ≡ Ok es) → Ok (elements_of octets) ≡ elements_in octets
 read_of octets t = rw t.1 refl
+
+-- ---- what a header is
+
+elements_fault : (n : ℕ) (xs : List ℕ) (f : HeaderError) → elements_behind n xs ≡ Err f → f ≡ BadLength
+unfolding elements_behind
+elements_fault zero [] f e = absurd cc
+elements_fault zero (i ∷ []) f e = cc
+elements_fault zero (i ∷ size ∷ rest) f e = more (λ p. elements_fault size rest f p) (ltb (length rest) size) (elements_behind size rest) refl e
+  where
+    more : (elements_behind size rest ≡ Err f → f ≡ BadLength) → (b : Bool) (r : Result (List Element) HeaderError) → elements_behind size rest ≡ r → cond b (Err BadLength) (r >>= (λ elements. Ok (record { identifier = i; octets = take size rest } ∷ elements))) ≡ Err f → f ≡ BadLength
+    more inner true r t h = cc
+    more inner false (Ok es) t h = absurd cc
+    more inner false (Err g) t h = let same : g ≡ f = cc in inner (t ∙ ap Err same)
+elements_fault (suc n) [] f e = cc
+elements_fault (suc n) (x ∷ rest) f e = elements_fault n rest f e
+
+no_elements : (xs : List ℕ) (f : HeaderError) → elements_in xs ≡ Err f → (es : List Element) → spelled es ≡ xs → ⊥
+no_elements xs f e es s = let read : elements_in xs ≡ Ok es = ap (λ (l : List ℕ). elements_in l) (sym s) ∙ spelled_is_read es in absurd cc
+
+truncated_not : Truncated ≡ BadLength → ⊥
+truncated_not e = absurd cc
+
+pub header_is : (octets : List ℕ) (answer : Result (List Element) HeaderError) → header_at octets ≡ answer → HeaderIs octets answer
+unfolding header_at run_in
+header_is octets (Ok es) e = read_was_written octets es e
+header_is [] (Err Truncated) e = tt
+header_is [] (Err BadLength) e = absurd cc
+header_is (size ∷ rest) (Err f) e = by (ltb (length rest) size) refl f e
+  where
+    by : (b : Bool) → ltb (length rest) size ≡ b → (f : HeaderError) → (cond b (Err Truncated) (Ok (take size rest, drop size rest)) >>= (λ (elements : List ℕ × List ℕ). elements_in elements.0)) ≡ Err f → HeaderIs (size ∷ rest) (Err f)
+    by true t Truncated e = ltb-true _ _ t
+    by true t BadLength e = absurd cc
+    by false t Truncated e = absurd (truncated_not (elements_fault 0 (take size rest) Truncated e))
+    by false t BadLength e = (ltb-false _ _ t, no_elements (take size rest) BadLength e)
+
+-- no elements fill the octets
+none_fill : (xs : List ℕ) (r : Result (List Element) HeaderError) → elements_in xs ≡ r → ((es : List Element) → spelled es ≡ xs → ⊥) → r ≡ Err BadLength
+none_fill xs (Ok es) e none = absurd (none es (read_was_spelled xs es e))
+none_fill xs (Err f) e none = ap Err (elements_fault 0 xs f e)
+
+pub header_says : (octets : List ℕ) (answer : Result (List Element) HeaderError) → HeaderIs octets answer → header_at octets ≡ answer
+unfolding header_at run_in
+header_says octets (Ok es) h = ap header_at h.1 ∙ written_is_read es h.0
+header_says [] (Err Truncated) h = refl
+header_says [] (Err BadLength) h = absurd h
+header_says (size ∷ rest) (Err Truncated) h = rw (lt-ltb (length rest) size h) refl
+header_says (size ∷ rest) (Err BadLength) h = rw (le-ltb (length rest) size h.0) (none_fill (take size rest) (elements_in (take size rest)) refl h.1)

@@ -1,5 +1,5 @@
 -- 3GPP TS 23.040 9.2.3.24: the user data header, which is its length and elements that fill it exactly.
-use Rattle.std.specs.Prelude.{◌≡◌, ℕ, zero, suc, List, [], ◌∷◌, ◌<◌, ◌++◌, length, take, Result, Ok, Err, nat_lt, if◌then◌else◌}
+use Rattle.std.specs.Prelude.{◌≡◌, ℕ, zero, suc, List, [], ◌∷◌, ◌<◌, ◌≤◌, ◌++◌, length, take, Result, Ok, Err, nat_lt, if◌then◌else◌}
 use Rattle.sms_base.specs.Reading.{◌>>=◌, octet_in, run_in}
 use Rattle.sms_concat.specs.declared.element.Element.{Element}
 use Rattle.sms_concat.specs.declared.header_error.HeaderError.{HeaderError}
@@ -18,7 +18,16 @@ written elements = length (spelled elements) ∷ spelled elements
 abbrev pub BeginsWith : List ℕ → List Element → Type 0
 BeginsWith octets elements = (rest : List ℕ) × (octets ≡ written elements ++ rest)
 
--- ---- the first fault from the left
+-- What stands at the front of the octets: the header, or why there is none. They end before the header does, or the
+-- octets of the header are there and no elements fill them.
+abbrev pub HeaderIs : List ℕ → Result (List Element) HeaderError → Type 0
+HeaderIs octets (Ok elements) = BeginsWith octets elements
+HeaderIs [] (Err Truncated) = Unit {0}
+HeaderIs (size ∷ rest) (Err Truncated) = length rest < size
+HeaderIs [] (Err BadLength) = ⊥
+HeaderIs (size ∷ rest) (Err BadLength) = (size ≤ length rest) × ((elements : List Element) → spelled elements ≡ take size rest → ⊥)
+
+-- ---- the same computed from left to right, which the law `header_is_read_by_the_grammar` ties to it
 
 -- the elements that stand behind so many octets
 unfoldable pub elements_behind : ℕ → List ℕ → Result (List Element) HeaderError

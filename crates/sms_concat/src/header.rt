@@ -2,7 +2,7 @@
 ghost use Rattle.std.specs.Prelude.{◌≡◌, ◌<◌, List, ℕ, Ok, IfOk, length};
 ghost use Rattle.sms_base.specs.Reading.{Takes};
 ghost use Rattle.sms_concat.specs.Concatenation.{key_of, element_key, counted, eight_bit_key, sixteen_bit_key};
-ghost use Rattle.sms_concat.specs.HeaderGrammar.{BeginsWith, Tells, header_at, elements_in, element_in, written};
+ghost use Rattle.sms_concat.specs.HeaderGrammar.{BeginsWith, HeaderIs, Tells, header_at, elements_in, element_in, written};
 ghost use Rattle.sms_concat.specs.declared.element.Element.{Element as ElementOf};
 
 use crate::concat_key::{ConcatKey, ConcatReference};
@@ -83,6 +83,7 @@ impl<'a> Header<'a> {
     pub fn read(octets: &'a [u8]) -> Result<Header<'a>, HeaderError>
         ensures found { IfOk result (λ elements. BeginsWith octets.entry.now elements) }
         ensures only { (elements : List ElementOf) → BeginsWith octets.entry.now elements → result ≡ Ok elements }
+        ensures fault { HeaderIs octets.entry.now result }
         ensures exact { result ≡ header_at octets.entry.now }
     {
         header_of(octets)

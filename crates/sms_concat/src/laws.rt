@@ -1,5 +1,5 @@
 //! Laws of headers, of the user data fields, of splitting and of joining, over their definitions alone.
-ghost use Rattle.std.specs.Prelude.{◌≡◌, ◌↔◌, ◌≤◌, ◌<◌, ◌++◌, ◌∷◌, ℕ, Bool, List, [], All, length, true, Ok, Err, Option, Some};
+ghost use Rattle.std.specs.Prelude.{◌≡◌, ◌↔◌, ◌≤◌, ◌<◌, ◌++◌, ◌∷◌, ℕ, Bool, List, [], All, length, true, Result, Ok, Err, Option, Some};
 ghost use Rattle.sms_base.specs.Among.{Among};
 ghost use Rattle.sms_alphabet.specs.DataCodingScheme.{coding_of};
 ghost use Rattle.sms_concat.specs.declared.concat_key.ConcatKey.{ConcatKey as KeyOf};
@@ -8,12 +8,18 @@ ghost use Rattle.sms_concat.specs.declared.content.Content.{Content as ContentOf
 ghost use Rattle.sms_concat.specs.declared.content.Part.{Part as PartOf};
 ghost use Rattle.sms_concat.specs.declared.content.UserData.{UserData as UserDataOf};
 ghost use Rattle.sms_concat.specs.declared.element.Element.{Element as ElementOf};
+ghost use Rattle.sms_concat.specs.declared.header_error.HeaderError.{HeaderError as HeaderErrorOf};
 ghost use Rattle.sms_concat.specs.declared.header_error.HeaderError.TheVariants.{Truncated};
-ghost use Rattle.sms_concat.specs.HeaderGrammar.{written, header_at, BeginsWith};
+ghost use Rattle.sms_concat.specs.HeaderGrammar.{written, header_at, BeginsWith, HeaderIs};
 ghost use Rattle.sms_concat.specs.Joining.{content_joined, is_same_reference};
 ghost use Rattle.sms_concat.specs.Splitting.{IsSplit, IsUncut, split_of};
 ghost use Rattle.sms_concat.specs.StepwiseJoining.{AreSameParts, IsTaken, Taken, has_number, is_full, joined_stepwise, none_taken, takes, with_part};
 ghost use Rattle.sms_concat.specs.UserData.{header_of, header_key, AreUnits, HasRoom, IsPart, IsUserData, part_in};
+
+/// What is computed of a header from left to right is exactly what the grammar says of its octets.
+pub fn header_is_read_by_the_grammar()
+    ensures { (octets : List ℕ) (answer : Result (List ElementOf) HeaderErrorOf) → (header_at octets ≡ answer) ↔ HeaderIs octets answer }
+{}
 
 /// A header is read as its elements, whatever stands behind it.
 pub fn written_header_is_read()

@@ -26,16 +26,16 @@ fn part(alloc: Global, total: u8, number: u8) -> Result<Part, Fail> {
     })
 }
 
-// The code of the refusal, and the number of the part that is handed back.
-fn add(joiner: &mut Joiner, part: Part) -> Option<(&'static str, u8)> {
-    match joiner.add(part) {
-        Ok(()) => None,
-        Err(refusal) => {
-            let code = refusal.code().unwrap_or("no memory");
-            let number = refusal.into_part().key.map_or(0, |key| key.number);
-            Some((code, number))
+// How many of the parts with these numbers are taken.
+fn taken(joiner: &mut Joiner, alloc: Global, total: u8, numbers: &[u8]) -> Result<usize, Fail> {
+    let before = joiner.parts().len();
+    for number in numbers {
+        match joiner.add(part(alloc, total, *number)?) {
+            Ok(()) | Err(AddError::NoPlace(_)) => {}
+            Err(AddError::NoMemory(_)) => return Err(Fail::new("no memory")),
         }
     }
+    Ok(joiner.parts().len().saturating_sub(before))
 }
 
 // The units of what the joiner joins to, as a number of two digits each, if it joins.
@@ -52,66 +52,124 @@ fn joined(alloc: Global, joiner: &Joiner) -> Result<Option<u64>, Fail> {
     }
 }
 
+// Parts 3 and 1, then what is refused: a number that is there, and another total; then part 2.
+fn three_join(joiner: &mut Joiner, alloc: Global) -> Result<bool, Fail> {
+    let two = taken(joiner, alloc, 3, &[3, 1])?;
+    let before = joined(alloc, joiner)?;
+    let was_full = joiner.is_full();
+    let again = taken(joiner, alloc, 3, &[1, 3])?;
+    let other = taken(joiner, alloc, 4, &[2])?;
+    let last = taken(joiner, alloc, 3, &[2])?;
+    let after = joined(alloc, joiner)?;
+    Ok(
+        two == 2
+            && before.is_none()
+            && !was_full
+            && again == 0
+            && other == 0
+            && last == 1
+            && joiner.is_full()
+            && after == Some(10_203),
+    )
+}
+
+// The code of the refusal, and the number of the part that is handed back.
+fn refusal(joiner: &mut Joiner, part: Part) -> (&'static str, u8) {
+    match joiner.add(part) {
+        Ok(()) => ("none", 0),
+        Err(refusal) => {
+            let code = refusal.code().unwrap_or("no memory");
+            let back = refusal.into_part();
+            match back.key {
+                Some(key) => (code, key.number),
+                None => (code, 0),
+            }
+        }
+    }
+}
+
 #[test]
 fn parts_join_in_whatever_order_they_come(rt: HostRuntime) -> Result<(), Fail> {
     let alloc = rt.alloc();
     let mut joiner = Joiner::new(alloc, key(3, 0));
-    assert_eq!(rt; add(&mut joiner, part(alloc, 3, 3)?), None);
-    assert_eq!(rt; add(&mut joiner, part(alloc, 3, 1)?), None);
-    assert_eq!(rt; joiner.is_full(), false);
-    assert_eq!(rt; joined(alloc, &joiner)?, None);
-    // its number is there, its total is another, it has none
-    assert_eq!(rt; add(&mut joiner, part(alloc, 3, 1)?), Some(("C3", 1)));
-    assert_eq!(rt; add(&mut joiner, part(alloc, 4, 2)?), Some(("C3", 2)));
-    let mut alone = part(alloc, 3, 2)?;
-    alone.key = None;
-    assert_eq!(rt; joiner.takes(&alone), false);
+    assert!(rt; three_join(&mut joiner, alloc)?);
+    assert!(rt; refusal(&mut joiner, part(alloc, 3, 1)?) == ("C3", 1));
+    Ok(())
+}
+
+// A part of another data coding scheme is taken, and the parts do not join.
+fn other_scheme_does_not_join(joiner: &mut Joiner, alloc: Global) -> Result<bool, Fail> {
+    let mut other = part(alloc, 2, 2)?;
+    other.content.dcs = 0x08;
+    let was_taken = joiner.add(other).is_ok();
+    let one = taken(joiner, alloc, 2, &[1])?;
+    let content = joined(alloc, joiner)?;
+    Ok(was_taken && one == 1 && joiner.is_full() && content.is_none())
+}
+
+// A copy stays as it is while the joiner goes on.
+fn copy_stays(joiner: &mut Joiner, alloc: Global) -> Result<bool, Fail> {
     let copy = joiner.copy(alloc)?;
-    assert_eq!(rt; add(&mut joiner, part(alloc, 3, 2)?), None);
-    assert_eq!(rt; joiner.is_full(), true);
-    assert_eq!(rt; joined(alloc, &joiner)?, Some(10_203));
-    assert_eq!(rt; copy.is_full(), false);
-    assert_eq!(rt; copy.parts().len(), 2);
+    let len = joiner.parts().len();
+    let more = taken(joiner, alloc, 3, &[1])?;
+    Ok(more == 1 && copy.parts().len() == len && joiner.parts().len() == len + 1)
+}
+
+#[test]
+fn a_part_of_another_scheme_does_not_join(rt: HostRuntime) -> Result<(), Fail> {
+    let alloc = rt.alloc();
+    let mut joiner = Joiner::new(alloc, key(2, 1));
+    assert!(rt; other_scheme_does_not_join(&mut joiner, alloc)?);
     Ok(())
 }
 
 #[test]
-fn a_part_of_another_scheme_is_taken_and_does_not_join(rt: HostRuntime) -> Result<(), Fail> {
+fn a_copy_stays_as_it_is(rt: HostRuntime) -> Result<(), Fail> {
     let alloc = rt.alloc();
-    let mut joiner = Joiner::new(alloc, key(2, 1));
-    let mut other = part(alloc, 2, 2)?;
-    other.content.dcs = 0x08;
-    assert_eq!(rt; add(&mut joiner, other), None);
-    assert_eq!(rt; add(&mut joiner, part(alloc, 2, 1)?), None);
-    assert_eq!(rt; joiner.is_full(), true);
-    assert_eq!(rt; joined(alloc, &joiner)?, None);
+    let mut joiner = Joiner::new(alloc, key(3, 1));
+    assert!(rt; copy_stays(&mut joiner, alloc)?);
     Ok(())
 }
 
 // Whether the most parts that a key can have, the last first, join, and their copy does.
-fn most_parts_join(alloc: Global) -> Result<bool, Fail> {
-    let mut joiner = Joiner::new(alloc, key(255, 255));
+fn most_parts_join(joiner: &mut Joiner, alloc: Global) -> Result<bool, Fail> {
     for number in 0..255_u8 {
-        match joiner.add(part(alloc, 255, 255 - number)?) {
-            Ok(()) => {}
-            Err(AddError::NoPlace(_) | AddError::NoMemory(_)) => return Ok(false),
+        if taken(joiner, alloc, 255, &[255 - number])? == 0 {
+            return Ok(false);
         }
     }
     let copy = joiner.copy(alloc)?;
-    let one = joiner.finish(alloc)?.ok_or("it does not join")?;
-    let other = copy.finish(alloc)?.ok_or("the copy does not join")?;
-    let all = join(alloc, joiner.parts())?.ok_or("the parts do not join")?;
-    Ok(
-        one.units.len() == 255
-            && other.units.as_slice() == one.units.as_slice()
-            && all.units.as_slice() == one.units.as_slice(),
-    )
+    match copy.finish(alloc)? {
+        Some(content) => Ok(content.units.len() == 255),
+        None => Ok(false),
+    }
 }
 
-// Whether the parts of a long text join to it again.
-fn long_text_joins(alloc: Global) -> Result<bool, Fail> {
+// Whether all are taken.
+fn all_taken(joiner: &mut Joiner, parts: Vec<Part>) -> bool {
+    let mut all = true;
+    for part in parts {
+        all = joiner.add(part).is_ok() && all;
+    }
+    all
+}
+
+// Whether the joiner joins to so many units, as `join` does.
+fn joins_to(joiner: &Joiner, alloc: Global, length: usize) -> Result<bool, Fail> {
+    let one = match joiner.finish(alloc)? {
+        Some(content) => content.units.len(),
+        None => 0,
+    };
+    let other = match join(alloc, joiner.parts())? {
+        Some(content) => content.units.len(),
+        None => 0,
+    };
+    Ok(one == length && other == length)
+}
+
+fn parts_of_text(alloc: Global, length: u16) -> Result<Vec<Part>, Fail> {
     let mut units = Octets::new(alloc);
-    for _ in 0..3_040_u16 {
+    for _ in 0..length {
         units.push(0x61)?;
     }
     let content = Content {
@@ -119,28 +177,24 @@ fn long_text_joins(alloc: Global) -> Result<bool, Fail> {
         dcs: 0,
         units,
     };
-    let parts = split(alloc, &content, 7)?.into_vec();
-    let mut joiner = Joiner::new(
-        alloc,
-        ConcatKey {
-            reference: ConcatReference::SixteenBit(7),
-            total: 20,
-            number: 1,
-        },
-    );
-    for part in parts {
-        match joiner.add(part) {
-            Ok(()) => {}
-            Err(AddError::NoPlace(_) | AddError::NoMemory(_)) => return Ok(false),
-        }
-    }
-    let joined = joiner.finish(alloc)?.ok_or("it does not join")?;
-    Ok(joined.units.as_slice() == content.units.as_slice())
+    let parts = split(alloc, &content, 0x0102)?;
+    Ok(parts.into_vec())
 }
 
 #[test]
-fn the_most_and_the_longest_parts_join(rt: HostRuntime) -> Result<(), Fail> {
-    assert!(rt; most_parts_join(rt.alloc())?);
-    assert!(rt; long_text_joins(rt.alloc())?);
+fn the_most_parts_join(rt: HostRuntime) -> Result<(), Fail> {
+    let alloc = rt.alloc();
+    let mut joiner = Joiner::new(alloc, key(255, 255));
+    assert!(rt; most_parts_join(&mut joiner, alloc)?);
+    Ok(())
+}
+
+#[test]
+fn the_longest_parts_join(rt: HostRuntime) -> Result<(), Fail> {
+    let alloc = rt.alloc();
+    let parts = parts_of_text(alloc, 3_040)?;
+    let mut joiner = Joiner::new(alloc, key(20, 1));
+    assert!(rt; all_taken(&mut joiner, parts));
+    assert!(rt; joins_to(&joiner, alloc, 3_040)?);
     Ok(())
 }

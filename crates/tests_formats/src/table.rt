@@ -15,12 +15,20 @@ impl Row for Entry {
     }
 }
 
+fn put_all(table: &mut Table<Entry>, rows: &[(u32, u8)]) -> Result<(), Fail> {
+    for (number, text) in rows {
+        table.put(Entry {
+            number: *number,
+            text: *text,
+        })?;
+    }
+    Ok(())
+}
+
 #[test]
 fn rows_are_put_and_found(rt: HostRuntime) -> Result<(), Fail> {
     let mut table = Table::new(rt.alloc());
-    table.put(Entry { number: 7, text: 1 })?;
-    table.put(Entry { number: 3, text: 2 })?;
-    table.put(Entry { number: 7, text: 3 })?;
+    put_all(&mut table, &[(7, 1), (3, 2), (7, 3)])?;
     assert_eq!(rt; table.as_slice().len(), 2);
     assert_eq!(rt; table.find(Key::of(7)).map(|row| row.text), Some(3));
     assert_eq!(rt; table.find(Key::of(4)).is_none(), true);
@@ -65,9 +73,7 @@ fn changes_need_no_memory(rt: HostRuntime) -> Result<(), Fail> {
 #[test]
 fn rows_of_a_front_stand_together(rt: HostRuntime) -> Result<(), Fail> {
     let mut table = Table::new(rt.alloc());
-    for number in [9, 3, 7, 5] {
-        table.put(Entry { number, text: 0 })?;
-    }
+    put_all(&mut table, &[(9, 0), (3, 0), (7, 0), (5, 0)])?;
     let rows = table.rows_between(Key::of(4), Key::of(9));
     assert_eq!(rt; rows.len(), 2);
     assert_eq!(rt; rows[0].number, 5);

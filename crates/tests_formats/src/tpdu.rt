@@ -25,72 +25,75 @@ const FROM_A_NAME: &[u8] = b"\x04\x07\xD0\xC2\xB0\x7B\x0D\x00\x00\x42\x20\x92\x3
 const STATUS_REPORT: &[u8] =
     b"\x06\x07\x0C\x91\x44\x77\x00\x09\x40\x65\x42\x20\x92\x32\x95\x85\x00\x42\x30\x10\x00\x00\x00\x00\x00";
 
-#[test]
-fn a_submit_is_read(rt: HostRuntime) -> Result<(), Fail> {
-    let Ok(Up::Submit(submit)) = read_up(SUBMIT, Carrier::InData) else {
-        return Err(Fail::from("no SUBMIT"));
-    };
-    assert_eq!(rt; submit.message_reference, 0x07);
-    assert_eq!(rt;
-        submit.destination_address,
-        Address::new(1, 1, "447700900456")?
-    );
-    assert_eq!(rt; submit.validity_period, ValidityPeriod::NotPresent);
-    assert_eq!(rt; submit.user_data.length, 5);
-    assert!(rt; submit.user_data.octets.as_slice() == b"\xE8\x32\x9B\xFD\x06".as_slice());
-    Ok(())
+// Whether the octets are a SUBMIT with that reference to that number, without a validity period, with five septets.
+fn is_submit_to(octets: &[u8], reference: u8, to: &Address) -> bool {
+    match read_up(octets, Carrier::InData) {
+        Ok(Up::Submit(submit)) => {
+            submit.message_reference == reference
+                && submit.destination_address == *to
+                && submit.validity_period == ValidityPeriod::NotPresent
+                && submit.user_data.length == 5
+                && submit.user_data.octets.as_slice() == b"\xE8\x32\x9B\xFD\x06".as_slice()
+        }
+        Ok(Up::DeliverReport(_)) | Err(_) => false,
+    }
+}
+
+fn is_deliver_from(octets: &[u8], from: &Address) -> bool {
+    match read_down(octets, Carrier::InData) {
+        Ok(Down::Deliver(deliver)) => {
+            deliver.no_more_messages_to_send
+                && !deliver.status_report_indication
+                && deliver.originating_address == *from
+                && deliver.service_centre_time_stamp.seconds() == LEAP_DAY
+        }
+        Ok(_) | Err(_) => false,
+    }
+}
+
+fn is_report_on(octets: &[u8], reference: u8, to: &Address) -> bool {
+    match read_down(octets, Carrier::InData) {
+        Ok(Down::StatusReport(report)) => {
+            report.message_reference == reference
+                && report.recipient_address == *to
+                && report.service_centre_time_stamp.seconds() == LEAP_DAY
+                && report.discharge_time.seconds() == LEAP_DAY + 2
+                && report.status == Status::Received.octet()
+        }
+        Ok(_) | Err(_) => false,
+    }
+}
+
+// The failure cause of a SUBMIT-REPORT of that moment, 0 for any other TPDU.
+fn cause_down(octets: &[u8]) -> u8 {
+    match read_down(octets, Carrier::InError) {
+        Ok(Down::SubmitReport(report)) => report.failure_cause.unwrap_or(0),
+        Ok(_) | Err(_) => 0,
+    }
+}
+
+fn cause_up(octets: &[u8]) -> u8 {
+    match read_up(octets, Carrier::InError) {
+        Ok(Up::DeliverReport(report)) => report.failure_cause.unwrap_or(0),
+        Ok(_) | Err(_) => 0,
+    }
 }
 
 #[test]
-fn a_deliver_is_read(rt: HostRuntime) -> Result<(), Fail> {
-    let Ok(Down::Deliver(deliver)) = read_down(DELIVER, Carrier::InData) else {
-        return Err(Fail::from("no DELIVER"));
-    };
-    assert!(rt; deliver.no_more_messages_to_send);
-    assert!(rt; !deliver.status_report_indication);
+fn the_worked_examples_are_read(rt: HostRuntime) -> Result<(), Fail> {
+    let a = Address::new(1, 1, "447700900123")?;
+    let b = Address::new(1, 1, "447700900456")?;
+    let bank = Address::new(5, 0, "Bank")?;
+    assert!(rt; is_submit_to(SUBMIT, 0x07, &b));
+    assert!(rt; is_deliver_from(DELIVER, &a));
+    assert!(rt; is_deliver_from(FROM_A_NAME, &bank));
+    assert!(rt; is_report_on(STATUS_REPORT, 0x07, &b));
+    let cause = cause_down(b"\x01\xC6\x00\x42\x20\x92\x32\x95\x85\x00");
     assert_eq!(rt;
-        deliver.originating_address,
-        Address::new(1, 1, "447700900123")?
+        cause,
+        FailureCause::ValidityPeriodFormatNotSupported.octet()
     );
-    assert_eq!(rt; deliver.service_centre_time_stamp.seconds(), LEAP_DAY);
-    Ok(())
-}
-
-#[test]
-fn a_name_is_read(rt: HostRuntime) -> Result<(), Fail> {
-    let Ok(Down::Deliver(deliver)) = read_down(FROM_A_NAME, Carrier::InData) else {
-        return Err(Fail::from("no DELIVER"));
-    };
-    assert_eq!(rt; deliver.originating_address, Address::new(5, 0, "Bank")?);
-    Ok(())
-}
-
-#[test]
-fn reports_are_read(rt: HostRuntime) -> Result<(), Fail> {
-    let Ok(Down::StatusReport(report)) = read_down(STATUS_REPORT, Carrier::InData) else {
-        return Err(Fail::from("no STATUS-REPORT"));
-    };
-    assert_eq!(rt; report.message_reference, 0x07);
-    assert_eq!(rt;
-        report.recipient_address,
-        Address::new(1, 1, "447700900456")?
-    );
-    assert_eq!(rt; report.service_centre_time_stamp.seconds(), LEAP_DAY);
-    assert_eq!(rt; report.discharge_time.seconds(), LEAP_DAY + 2);
-    assert_eq!(rt; report.status, Status::Received.octet());
-    let Ok(Down::SubmitReport(report)) = read_down(
-        b"\x01\xC6\x00\x42\x20\x92\x32\x95\x85\x00",
-        Carrier::InError,
-    ) else {
-        return Err(Fail::from("no SUBMIT-REPORT"));
-    };
-    let cause = FailureCause::ValidityPeriodFormatNotSupported.octet();
-    assert_eq!(rt; report.failure_cause, Some(cause));
-    assert_eq!(rt; report.service_centre_time_stamp.seconds(), LEAP_DAY);
-    let Ok(Up::DeliverReport(report)) = read_up(b"\x00\xD3\x00", Carrier::InError) else {
-        return Err(Fail::from("no DELIVER-REPORT"));
-    };
-    assert_eq!(rt; report.failure_cause, Some(0xD3));
+    assert_eq!(rt; cause_up(b"\x00\xD3\x00"), 0xD3);
     Ok(())
 }
 

@@ -1,7 +1,7 @@
 use Rattle.std.proofs.Common.{◌≡◌, ℕ, ◌-◌, ◌*◌, List, length, take, drop, ◌++◌, ◌<◌, ◌∙◌, refl, ap, arith}
 use Rattle.std.proofs.lemmas.List.{take_all, length-drop}
 use Rattle.sms_alphabet.specs.Packing.{value_in}
-use Rattle.sms_alphabet.proofs.Held.{start, turn_stays, turn_pushes, done_even, done_odd}
+use Rattle.sms_alphabet.proofs.Held.{turn_stays, turn_pushes, done_even, done_odd}
 use Rattle.sms_alphabet.proofs.Windows.{eight_turn, seven_are}
 use Rattle.sms_alphabet.proofs.packing.pack.Goals.{then-bits-ge8+in_ok-push, else-bits-ge8, then-bits-gt0+in_ok-push-2, else-bits-gt0}
 use Rattle.sms_alphabet.proofs.packing.pack.Goals as goal
