@@ -1,0 +1,10 @@
+pub mod Pieces
+pub mod Spelled
+pub mod Texts
+pub mod Decimals
+pub mod Judged
+pub mod WordLaws
+pub mod ActLaws
+pub mod LineLaws
+pub mod ScriptLaws
+pub mod Cuts
