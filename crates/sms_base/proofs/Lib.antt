@@ -11,3 +11,4 @@ pub mod Steps
 pub mod SmppTimes
 pub mod Stamps
 pub mod WrittenStamps
+pub mod UtcClocks

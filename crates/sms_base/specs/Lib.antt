@@ -11,3 +11,4 @@ pub mod Reading
 pub mod SemiOctet
 pub mod SmppTime
 pub mod TimeStamp
+pub mod UtcClock
