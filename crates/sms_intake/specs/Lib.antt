@@ -1,0 +1,3 @@
+pub mod HandsetIntake
+pub mod Refusals
+pub mod SubmitReports
