@@ -1,1 +1,3 @@
+pub mod Entities
 pub mod ReportOctets
+pub mod SmppMoments

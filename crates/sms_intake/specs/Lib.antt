@@ -1,3 +1,4 @@
 pub mod HandsetIntake
 pub mod Refusals
+pub mod SmppIntake
 pub mod SubmitReports

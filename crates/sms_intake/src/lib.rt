@@ -9,15 +9,15 @@
 
 mod handset_intake;
 mod refusal;
-//mod smpp_address;
-//mod smpp_front;
-//mod smpp_times;
+mod smpp_address;
+mod smpp_front;
+mod smpp_times;
 mod submission;
 mod submit_report;
 
 pub use handset_intake::from_submit;
 pub use refusal::{SubmitError, SubmitRefusal};
-//pub use smpp_front::{Front, front_of};
-//pub use smpp_times::{due_of, limit_of, wish_of};
+pub use smpp_front::{Front, front_of};
+pub use smpp_times::{due_of, limit_of, wish_of};
 pub use submission::{GivenData, Submission, Text, Wish};
 pub use submit_report::{accepting_report, refusing_report};
