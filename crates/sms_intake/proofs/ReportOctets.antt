@@ -1,10 +1,10 @@
 -- The written list of a SUBMIT-REPORT.
-use Rattle.std.proofs.Common.{◌≡◌, ◌∙◌, ap, ℕ, List, Option, Result, Ok, Err}
+use Rattle.std.proofs.Common.{◌≡◌, ◌∙◌, ap, ℕ, List, Result, Ok, Err}
 use Rattle.std.specs.Prelude.{IfOk}
 use Rattle.sms_base.proofs.UtcClocks.{written_is_stamp}
 use Rattle.sms_tpdu.specs.TpduGrammar.{IsWrittenSubmitReport, submit_report_fields, indicator_of}
 use Rattle.sms_tpdu.specs.declared.submit_report.SubmitReport.{SubmitReport}
-use Rattle.sms_intake.specs.SubmitReports.{submit_report_of, submit_report_written}
+use Rattle.sms_intake.specs.SubmitReports.{submit_report_written}
 
 written_is : (r : SubmitReport) (octets : List ℕ) → IsWrittenSubmitReport octets r → octets ≡ submit_report_written r
 written_is r octets h =

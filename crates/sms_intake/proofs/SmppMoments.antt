@@ -1,5 +1,5 @@
 -- The moment of a time of SMPP.
-use Rattle.std.proofs.Common.{◌≡◌, ℕ, List, Option, Some, None, Result, Ok, Err, refl, sym}
+use Rattle.std.proofs.Common.{◌≡◌, ℕ, List, Option, Some, None, Result, Ok, Err, refl}
 use Rattle.sms_base.specs.SmppTime.{IsSmppTime, smpp_time_in}
 use Rattle.sms_base.proofs.SmppTimes.{time_is}
 

@@ -1,5 +1,5 @@
 -- A SUBMIT from a handset (3GPP TS 23.040 9.2.2.2): the checks that need no rows, in order, and the submission.
-use Rattle.std.specs.Prelude.{◌≡◌, ℕ, nat_le, not, List, Bool, true, false, Option, Some, None, Result, Ok, Err}
+use Rattle.std.specs.Prelude.{◌≡◌, ℕ, nat_le, not, List, Bool, true, false, Some, Result, Ok, Err}
 use Rattle.sms_base.specs.HandsetNumber.{names_handset, own_address}
 use Rattle.sms_base.specs.Reading.{◌>>=◌, only_if}
 use Rattle.sms_concat.specs.UserData.{header_key}

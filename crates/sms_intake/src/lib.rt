@@ -8,6 +8,7 @@
 #![tactic(auto)]
 
 mod handset_intake;
+pub mod laws;
 mod refusal;
 mod smpp_address;
 mod smpp_front;

@@ -1,4 +1,4 @@
-use Rattle.std.proofs.Common.{◌≡◌, ◌∙◌, ap, sym}
+use Rattle.std.proofs.Common.{◌∙◌, ap, sym}
 use Rattle.sms_intake.specs.SmppIntake.{is_ascii}
 use Rattle.sms_intake.proofs.Entities.{in_ascii, is_utf8}
 use Rattle.sms_intake.proofs.smpp_address.address_in.Goals as goal
