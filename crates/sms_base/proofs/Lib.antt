@@ -4,6 +4,7 @@ pub mod Century
 pub mod Cuts
 pub mod MessageIds
 pub mod CodeTables
+pub mod HandsetNumbers
 pub mod NameWalk
 pub mod NumberWalk
 pub mod Shown
@@ -11,3 +12,4 @@ pub mod Steps
 pub mod SmppTimes
 pub mod Stamps
 pub mod WrittenStamps
+pub mod UtcClocks

@@ -1,5 +1,5 @@
 -- Digits of an identity, read from the left.
-use Rattle.std.proofs.Common.{◌≡◌, ℕ, zero, suc, ◌+◌, ◌*◌, ◌^◌, ◌<◌, ◌≤◌, arith, List, [], ◌∷◌, length, take, get_or, refl, sym, ap, ◌∙◌}
+use Rattle.std.proofs.Common.{◌≡◌, ℕ, zero, suc, ◌+◌, ◌*◌, ◌/◌, ◌%◌, ◌^◌, ◌<◌, ◌≤◌, arith, List, [], ◌∷◌, length, take, get_or, refl, sym, ap, ◌∙◌}
 use Rattle.std.proofs.Math.Nat.{pow-le-pow_right}
 use Rattle.std.specs.Char.{digit_value}
 use Rattle.std.specs.Str.Parse.{AllDigits, digits_value, digits_value_after}
@@ -7,7 +7,7 @@ use Rattle.std.proofs.lemmas.Int.Digits.{digits_value-lt}
 use Rattle.std.proofs.lemmas.List.{length-take}
 use Rattle.std.proofs.lemmas.Str.{digit_value_digit}
 use Rattle.std.proofs.lemmas.Str.Parse.{digit_from_value}
-use Rattle.sms_base.specs.MessageId.{IsIdText}
+use Rattle.sms_base.specs.MessageId.{IsIdText, IsMessageId, id_text}
 
 pub digit_inside : (xs : List ℕ) (i d : ℕ) → i < length xs → AllDigits 10 xs → digit_value (get_or xs i d) < 10
 digit_inside [] i d l h = absurd (omega arith)
@@ -38,3 +38,39 @@ one_text_after a b (x ∷ xs) (y ∷ ys) l h k e =
 -- an identity has one text
 pub one_text : (text other : List ℕ) (n : ℕ) → IsIdText text n → IsIdText other n → text ≡ other
 one_text text other n h k = (one_text_after 0 0 text other (h.ten ∙ sym k.ten) h.digits k.digits (h.value ∙ sym k.value)).1
+
+value_of : (k : ℕ) → digit_value (48 + k % 10) ≡ k % 10
+value_of k = omega (arith, digit_value_digit (48 + k % 10) (omega arith, omega arith))
+
+is_digit : (k : ℕ) → digit_value (48 + k % 10) < 10
+is_digit k = omega (arith, value_of k)
+
+-- the text of an identity writes it
+pub text_writes : (n : ℕ) → IsMessageId n → IsIdText (id_text n) n
+text_writes n h =
+    let d = λ (k : ℕ). is_digit k in
+    let v0 = value_of n in
+    let v1 = value_of (n / 10) in
+    let v2 = value_of (n / 100) in
+    let v3 = value_of (n / 1000) in
+    let v4 = value_of (n / 10000) in
+    let v5 = value_of (n / 100000) in
+    let v6 = value_of (n / 1000000) in
+    let v7 = value_of (n / 10000000) in
+    let v8 = value_of (n / 100000000) in
+    let v9 = value_of (n / 1000000000) in
+    let e0 : n / 10 * 10 + n % 10 ≡ n = omega arith in
+    let e1 : n / 100 * 10 + n / 10 % 10 ≡ n / 10 = omega arith in
+    let e2 : n / 1000 * 10 + n / 100 % 10 ≡ n / 100 = omega arith in
+    let e3 : n / 10000 * 10 + n / 1000 % 10 ≡ n / 1000 = omega arith in
+    let e4 : n / 100000 * 10 + n / 10000 % 10 ≡ n / 10000 = omega arith in
+    let e5 : n / 1000000 * 10 + n / 100000 % 10 ≡ n / 100000 = omega arith in
+    let e6 : n / 10000000 * 10 + n / 1000000 % 10 ≡ n / 1000000 = omega arith in
+    let e7 : n / 100000000 * 10 + n / 10000000 % 10 ≡ n / 10000000 = omega arith in
+    let e8 : n / 1000000000 * 10 + n / 100000000 % 10 ≡ n / 100000000 = omega arith in
+    let top : 0 * 10 + n / 1000000000 % 10 ≡ n / 1000000000 = omega (arith, h.short) in
+    record {
+      ten = refl;
+      digits = (d (n / 1000000000), (d (n / 100000000), (d (n / 10000000), (d (n / 1000000), (d (n / 100000), (d (n / 10000), (d (n / 1000), (d (n / 100), (d (n / 10), (d n, tt))))))))));
+      value = rw (v9, v8, v7, v6, v5, v4, v3, v2, v1, v0) (rw (top, e8, e7, e6, e5, e4, e3, e2, e1, e0) refl);
+    }

@@ -16,18 +16,20 @@ pos_is a b e = cc
 same_nanos : (a b : DateTime) → civil_seconds a ≡ civil_seconds b → a.time.subsec_nanosecond ≡ 0 → b.time.subsec_nanosecond ≡ 0 → civil_nanos a ≡ civil_nanos b
 same_nanos a b e za zb = civil_nanos-civil_seconds a ∙ ap (λ (s : ℤ). s *ℤ pos 1_000_000_000 +ℤ pos a.time.subsec_nanosecond) e ∙ ap (λ (n : ℕ). civil_seconds b *ℤ pos 1_000_000_000 +ℤ pos n) (za ∙ sym zb) ∙ sym (civil_nanos-civil_seconds b)
 
-record SameNumbers (y m d h i s y' m' d' h' i' s' : ℕ) : Type 0 where
-  year : y ≡ y'
-  month : m ≡ m'
-  day : d ≡ d'
-  hour : h ≡ h'
-  minute : i ≡ i'
-  second : s ≡ s'
+-- the numbers of two clocks are the same
+pub record SameNumbers (y m d h i s y' m' d' h' i' s' : ℕ) : Type 0 where
+  pub year : y ≡ y'
+  pub month : m ≡ m'
+  pub day : d ≡ d'
+  pub hour : h ≡ h'
+  pub minute : i ≡ i'
+  pub second : s ≡ s'
 
 year_is : (a b : ℕ) → pos (2000 + a) ≡ pos (2000 + b) → a ≡ b
 year_is a b e = let g : 2000 + a ≡ 2000 + b = pos_is (2000 + a) (2000 + b) e in omega arith
 
-same_clock : (y m d h i s y' m' d' h' i' s' : ℕ) (a b : ℤ) → IsClock y m d h i s a → IsClock y' m' d' h' i' s' b → a ≡ b → SameNumbers y m d h i s y' m' d' h' i' s'
+-- clocks that show one second show the same numbers
+pub same_clock : (y m d h i s y' m' d' h' i' s' : ℕ) (a b : ℤ) → IsClock y m d h i s a → IsClock y' m' d' h' i' s' b → a ≡ b → SameNumbers y m d h i s y' m' d' h' i' s'
 same_clock y m d h i s y' m' d' h' i' s' a b p q e =
     let nanos = same_nanos p.0 q.0 (sym p.3 ∙ e ∙ q.3) p.2.whole q.2.whole in
     let both = civil_nanos_injective p.0 q.0 nanos in

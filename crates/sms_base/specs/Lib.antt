@@ -4,6 +4,7 @@ pub mod Among
 pub mod Alphabet
 pub mod Digits
 pub mod FaultCodes
+pub mod HandsetNumber
 pub mod Inside
 pub mod MessageId
 pub mod LatinCodes
@@ -11,3 +12,4 @@ pub mod Reading
 pub mod SemiOctet
 pub mod SmppTime
 pub mod TimeStamp
+pub mod UtcClock

@@ -1,6 +1,8 @@
 //! Addresses.
 ghost use Rattle.std.specs.Prelude.{◌≡◌, ℕ, IfOk, Ok};
+ghost use Rattle.std.specs.List.{list_all};
 ghost use Rattle.std.specs.Str.{chars};
+ghost use Rattle.sms_base.specs.HandsetNumber.{is_decimal};
 
 use crate::address_error::AddressError;
 use crate::address_text::text_of;
@@ -20,6 +22,7 @@ pub struct Address {
 
 impl Address {
     ghost use Rattle.sms_base.specs.Address.{IsAddressOf, address_of};
+    ghost use Rattle.sms_base.specs.HandsetNumber.{names_handset, own_address};
     ghost use Rattle.sms_base.specs.declared.address.Address.{Address as AddressOf};
 
     /// The address with that type of number, that numbering plan and that text.
@@ -49,4 +52,31 @@ impl Address {
         }
         Ok(Address { ton, npi, digits })
     }
+
+    /// The address of a handset: an international number of the telephone numbering plan.
+    pub fn of_handset(digits: Digits) -> Address
+        ensures { result ≡ own_address digits }
+    {
+        Address {
+            ton: TypeOfNumber::International,
+            npi: 1,
+            digits,
+        }
+    }
+
+    /// Whether the address names a handset: an unknown, international or national number of digits 0 to 9.
+    pub fn names_handset(&self) -> bool
+        ensures { result ≡ names_handset self.now }
+    {
+        self.ton.number() < 3 && are_decimal(self.digits.as_slice())
+    }
+}
+
+// Whether each character is one of 0 to 9.
+fn are_decimal(characters: &[char]) -> bool
+    ensures { result ≡ list_all is_decimal characters.now }
+{
+    characters
+        .iter()
+        .all(|character| character.is_ascii_digit())
 }

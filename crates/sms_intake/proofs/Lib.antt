@@ -1,0 +1,5 @@
+pub mod Bodies
+pub mod Entities
+pub mod FrontFirst
+pub mod ReportOctets
+pub mod SmppMoments

@@ -1,0 +1,68 @@
+-- A SUBMIT from a handset (3GPP TS 23.040 9.2.2.2): the checks that need no rows, in order, and the submission.
+use Rattle.std.specs.Prelude.{◌≡◌, ℕ, nat_le, not, List, Bool, true, false, Some, Result, Ok, Err}
+use Rattle.sms_base.specs.HandsetNumber.{names_handset, own_address}
+use Rattle.sms_base.specs.Reading.{◌>>=◌, only_if}
+use Rattle.sms_concat.specs.UserData.{header_key}
+use Rattle.sms_tpdu.specs.declared.fault.TpduFault.{TpduFault}
+use Rattle.sms_tpdu.specs.declared.submit.Submit.{Submit as SubmitOf}
+use Rattle.sms_tpdu.specs.declared.up.Up.{Up}
+use Rattle.sms_tpdu.specs.declared.up.Up.TheVariants.{Submit, DeliverReport}
+use Rattle.sms_tpdu.specs.declared.validity_period.ValidityPeriod.{ValidityPeriod}
+use Rattle.sms_tpdu.specs.declared.validity_period.ValidityPeriod.TheVariants.{NotPresent, Relative, Absolute}
+use Rattle.sms_tpdu.specs.ValidityTable.{kept_until}
+use Rattle.sms_intake.specs.declared.refusal.SubmitError.{SubmitError}
+use Rattle.sms_intake.specs.declared.refusal.SubmitError.TheVariants.{Refused, NoMemory}
+use Rattle.sms_intake.specs.declared.refusal.SubmitRefusal.{SubmitRefusal}
+use Rattle.sms_intake.specs.declared.refusal.SubmitRefusal.TheVariants.{WrongType, NoHandset, PastLimit}
+use Rattle.sms_intake.specs.declared.submission.Submission.{Submission}
+use Rattle.sms_intake.specs.declared.submission.Text.TheVariants.{Given}
+use Rattle.sms_intake.specs.declared.submission.Wish.{Wish}
+use Rattle.sms_intake.specs.declared.submission.Wish.TheVariants.{Nothing, Always}
+use Rattle.sms_intake.specs.Refusals.{unread}
+
+-- an absolute limit at or before the moment
+abbrev pub is_past : ℕ → ValidityPeriod → Bool
+is_past now NotPresent = false
+is_past now (Relative period) = false
+is_past now (Absolute limit) = nat_le limit now
+
+-- TP-SRR
+abbrev pub wish_of : Bool → Wish
+wish_of false = Nothing
+wish_of true = Always
+
+-- It comes from the handset itself and goes at once, without urgency, and its user data passes octet for octet.
+abbrev pub submission_of : List ℕ → ℕ → SubmitOf → Submission
+submission_of from now s = record {
+  message_reference = Some s.message_reference;
+  source = own_address from;
+  handset = s.destination_address.digits;
+  protocol_identifier = s.protocol_identifier;
+  reply_path = s.reply_path;
+  wish = wish_of s.status_report_request;
+  rejects_duplicates = s.reject_duplicates;
+  limit = kept_until s.validity_period now;
+  due = now;
+  priority = 0;
+  text = Given s.data_coding_scheme (record { header_indicator = s.user_data_header_indicator; length = s.user_data.length; octets = s.user_data.octets });
+  key = header_key s.user_data_header_indicator s.user_data.octets;
+}
+
+-- the destination is a handset, then the limit isn't past
+unfoldable pub from_submit : List ℕ → ℕ → SubmitOf → Result Submission SubmitRefusal
+from_submit from now s = do
+  handset ← only_if (names_handset s.destination_address) NoHandset
+  kept ← only_if (not (is_past now s.validity_period)) PastLimit
+  Ok (submission_of from now s)
+
+-- of what was read of RP-DATA, in which no DELIVER-REPORT comes
+abbrev pub from_read : List ℕ → ℕ → Result Up TpduFault → Result Submission SubmitRefusal
+from_read from now (Ok (Submit s)) = from_submit from now s
+from_read from now (Ok (DeliverReport r)) = Err WrongType
+from_read from now (Err fault) = Err (unread fault)
+
+-- The answer is the wanted one. Want of memory is told only of what is accepted.
+abbrev pub Answers : Result Submission SubmitError → Result Submission SubmitRefusal → Type 0
+Answers (Ok s) wanted = wanted ≡ Ok s
+Answers (Err (Refused refusal)) wanted = wanted ≡ Err refusal
+Answers (Err NoMemory) wanted = (s : Submission) × (wanted ≡ Ok s)

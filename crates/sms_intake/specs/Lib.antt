@@ -1,0 +1,5 @@
+pub mod HandsetIntake
+pub mod PartBodies
+pub mod Refusals
+pub mod SmppIntake
+pub mod SubmitReports

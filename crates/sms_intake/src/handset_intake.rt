@@ -1,0 +1,117 @@
+//! A SUBMIT from a handset.
+ghost use Rattle.std.specs.Prelude.{◌≡◌, IfOk, Err};
+ghost use Rattle.sms_concat.specs.UserData.{header_key};
+ghost use Rattle.sms_tpdu.specs.TpduReading.{up_at};
+ghost use Rattle.sms_tpdu.specs.declared.carrier.Carrier.TheVariants.{InData};
+ghost use Rattle.sms_intake.specs.HandsetIntake.{Answers, from_read, from_submit, is_past, submission_of, wish_of};
+
+use crate::refusal::{SubmitError, SubmitRefusal};
+use crate::submission::{GivenData, Submission, Text, Wish};
+use sms_base::{Address, Digits, Moment, Octets, Priority};
+use sms_concat::{ConcatKey, Header, concat_info};
+use sms_tpdu::{Carrier, Submit, Up, ValidityPeriod, read_up, validity};
+use std::alloc::{AllocError, Global};
+
+// Whether a limit is at or before the moment.
+fn is_past(now: Moment, period: ValidityPeriod) -> bool
+    ensures { result ≡ is_past now period }
+{
+    match period {
+        ValidityPeriod::NotPresent | ValidityPeriod::Relative(_) => false,
+        ValidityPeriod::Absolute(limit) => limit.seconds() <= now.seconds(),
+    }
+}
+
+fn wish_of(status_report_request: bool) -> Wish
+    ensures { result ≡ wish_of status_report_request }
+{
+    if status_report_request {
+        Wish::Always
+    } else {
+        Wish::Nothing
+    }
+}
+
+// The key of the header that user data begins with.
+fn header_key(indicator: bool, octets: &[u8]) -> Option<ConcatKey>
+    ensures { result ≡ header_key indicator octets.now }
+{
+    if !indicator {
+        return None;
+    }
+    match Header::read(octets) {
+        Ok(header) => concat_info(&header),
+        Err(_) => None,
+    }
+}
+
+// The submission that the SUBMIT is.
+fn submission_of(
+    alloc: Global,
+    from: Digits,
+    now: Moment,
+    submit: &Submit<'_>,
+) -> Result<Submission, AllocError>
+    ensures { IfOk result (λ s. s ≡ submission_of from now submit.now) }
+{
+    let octets = submit.user_data.octets.as_slice();
+    Ok(Submission {
+        message_reference: Some(submit.message_reference),
+        source: Address::of_handset(from),
+        handset: submit.destination_address.digits,
+        protocol_identifier: submit.protocol_identifier,
+        reply_path: submit.reply_path,
+        wish: wish_of(submit.status_report_request),
+        rejects_duplicates: submit.reject_duplicates,
+        limit: validity(submit.validity_period, now),
+        due: now,
+        priority: Priority::lowest(),
+        key: header_key(submit.user_data_header_indicator, octets),
+        text: Text::Given {
+            data_coding_scheme: submit.data_coding_scheme,
+            user_data: GivenData {
+                header_indicator: submit.user_data_header_indicator,
+                length: submit.user_data.length,
+                octets: Octets::copy_of(alloc, octets)?,
+            },
+        },
+    })
+}
+
+#[tactic(auto, unfolding(crate::specs::HandsetIntake::from_submit))]
+fn accepted(
+    alloc: Global,
+    from: Digits,
+    now: Moment,
+    submit: &Submit<'_>,
+) -> Result<Submission, SubmitError>
+    ensures { Answers result (from_submit from now submit.now) }
+{
+    if !submit.destination_address.names_handset() {
+        return Err(SubmitError::Refused(SubmitRefusal::NoHandset));
+    }
+    if is_past(now, submit.validity_period) {
+        return Err(SubmitError::Refused(SubmitRefusal::PastLimit));
+    }
+    let submission = submission_of(alloc, from, now, submit)?;
+    Ok(submission)
+}
+
+/// The submission of what a handset with these digits sent in RP-DATA, or the first refusal: a TPDU that can't be read
+/// or is no SUBMIT, a destination that is no handset, a limit that is past.
+///
+/// Takes memory once, for the user data of what is accepted.
+pub fn from_submit(
+    alloc: Global,
+    from: Digits,
+    now: Moment,
+    tpdu: &[u8],
+) -> Result<Submission, SubmitError>
+    ensures { Answers result (from_read from now (up_at InData tpdu.now)) }
+{
+    match read_up(tpdu, Carrier::InData) {
+        Ok(Up::Submit(submit)) => accepted(alloc, from, now, &submit),
+        Ok(Up::DeliverReport(_)) => Err(SubmitError::Refused(SubmitRefusal::WrongType)),
+        Err(fault) => Err(SubmitError::Refused(SubmitRefusal::of_fault(fault))),
+    }
+}

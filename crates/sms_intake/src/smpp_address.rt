@@ -1,0 +1,46 @@
+//! The addresses of a submit_sm.
+ghost use Rattle.std.specs.Prelude.{◌≡◌};
+ghost use Rattle.sms_intake.specs.SmppIntake.{address_in, handset_named, is_ascii, source_in};
+
+use smpp_pdu::{CommandStatus, SmeAddress};
+use sms_base::{Address, Digits};
+
+pub(crate) fn is_ascii(octets: &[u8]) -> bool
+    ensures { result ≡ is_ascii octets.now }
+{
+    octets.iter().all(|octet| *octet < 128)
+}
+
+// The address of an entity, if it is one in ASCII.
+fn address_in(entity: &SmeAddress<'_>) -> Option<Address>
+    ensures { result ≡ address_in entity.now }
+{
+    let octets = entity.addr.as_slice();
+    if !is_ascii(octets) {
+        return None;
+    }
+    match str::from_utf8(octets) {
+        Ok(text) => Address::new(entity.ton, entity.npi, text).ok(),
+        Err(_) => None,
+    }
+}
+
+// The source of a message; an empty one is the account's address.
+pub(crate) fn source_in(own: &Address, entity: &SmeAddress<'_>) -> Option<Address>
+    ensures { result ≡ source_in own.now entity.now }
+{
+    if entity.addr.as_slice().is_empty() {
+        return Some(*own);
+    }
+    address_in(entity)
+}
+
+// The digits of the handset that a destination names.
+pub(crate) fn handset_in(entity: &SmeAddress<'_>) -> Result<Digits, CommandStatus>
+    ensures { result ≡ handset_named (address_in entity.now) }
+{
+    match address_in(entity) {
+        Some(address) if address.names_handset() => Ok(address.digits),
+        _ => Err(CommandStatus::ESME_RINVDSTADR),
+    }
+}

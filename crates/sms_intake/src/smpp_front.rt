@@ -1,0 +1,72 @@
+//! What is judged of a submit_sm before its text.
+ghost use Rattle.std.specs.Prelude.{◌≡◌};
+ghost use Rattle.sms_intake.specs.SmppIntake.{front_in, has_length, has_sar, has_sar_lengths, has_too_much};
+
+use crate::smpp_address::{handset_in, source_in};
+use smpp_pdu::{CommandStatus, Message, Tlvs};
+use sms_base::{Address, Digits, OctetView};
+
+/// Whose a message is, and to which handset it goes.
+#[derive(Clone, Copy, Debug, PartialEq, Eq)]
+pub struct Front {
+    /// The source, the account's address where none is given.
+    pub source: Address,
+    /// The digits of the destination.
+    pub handset: Digits,
+}
+
+// Whether a value has that many octets, if it is there.
+fn has_length(length: usize, value: &Option<OctetView<'_>>) -> bool
+    ensures { result ≡ has_length length value.now }
+{
+    match value {
+        Some(value) => value.as_slice().len() == length,
+        None => true,
+    }
+}
+
+fn has_sar_lengths(tlvs: &Tlvs<'_>) -> bool
+    ensures { result ≡ has_sar_lengths tlvs.now }
+{
+    has_length(2, &tlvs.sar_msg_ref_num)
+        && has_length(1, &tlvs.sar_total_segments)
+        && has_length(1, &tlvs.sar_segment_seqnum)
+}
+
+fn has_sar(tlvs: &Tlvs<'_>) -> bool
+    ensures { result ≡ has_sar tlvs.now }
+{
+    tlvs.sar_msg_ref_num.is_some()
+        || tlvs.sar_total_segments.is_some()
+        || tlvs.sar_segment_seqnum.is_some()
+}
+
+// Whether a payload stands beside a short_message, or sar values beside a header.
+fn has_too_much(message: &Message<'_>) -> bool
+    ensures { result ≡ has_too_much message.now }
+{
+    let payload = message.tlvs.message_payload.is_some();
+    let header = message.esm_class / 0x40 % 2 == 1;
+    (payload && !message.short_message.as_slice().is_empty()) || (has_sar(&message.tlvs) && header)
+}
+
+/// Source and handset of a submit_sm from an account with that address, or the first refusal that comes before its
+/// text: esm_class with a message type, source, destination, lengths of the sar values, and a payload beside a
+/// short_message or sar values beside a header.
+#[tactic(auto, unfolding(crate::specs::SmppIntake::front_in))]
+pub fn front_of(own: &Address, message: &Message<'_>) -> Result<Front, CommandStatus>
+    ensures { result ≡ front_in own.now message.now }
+{
+    if message.esm_class / 4 % 16 != 0 {
+        return Err(CommandStatus::ESME_RINVESMCLASS);
+    }
+    let source = source_in(own, &message.source).ok_or(CommandStatus::ESME_RINVSRCADR)?;
+    let handset = handset_in(&message.destination)?;
+    if !has_sar_lengths(&message.tlvs) {
+        return Err(CommandStatus::ESME_RINVPARLEN);
+    }
+    if has_too_much(message) {
+        return Err(CommandStatus::ESME_ROPTPARNOTALLWD);
+    }
+    Ok(Front { source, handset })
+}

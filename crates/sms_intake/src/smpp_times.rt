@@ -1,0 +1,80 @@
+//! Times and wishes of a submit_sm.
+ghost use Rattle.std.specs.Prelude.{◌≡◌, min};
+ghost use Rattle.sms_base.specs.SmppTime.{smpp_time_in};
+ghost use Rattle.sms_intake.specs.SmppIntake.{due_in, limit_in, wish_in};
+
+use crate::submission::Wish;
+use smpp_pdu::CommandStatus;
+use sms_base::Moment;
+
+/// How long a message is kept that asks for nothing else: two days.
+const DEFAULT_SECONDS: u64 = 172_800;
+
+/// 63 weeks.
+const LONGEST_SECONDS: u64 = 38_102_400;
+
+// The moment of a time, if it is one.
+fn time_in(octets: &[u8], now: Moment) -> Option<Moment>
+    ensures { result ≡ smpp_time_in octets.now now }
+{
+    match Moment::from_smpp(octets, now) {
+        Ok(moment) => Some(moment),
+        Err(_) => None,
+    }
+}
+
+/// Until when a message is kept, by its validity_period: two days where it is empty, and no longer than 63 weeks; one
+/// that is no time, or not later than now, is refused.
+pub fn limit_of(validity_period: &[u8], now: Moment) -> Result<Moment, CommandStatus>
+    ensures { result ≡ limit_in now validity_period.now }
+{
+    if validity_period.is_empty() {
+        return Ok(now.plus(DEFAULT_SECONDS));
+    }
+    match time_in(validity_period, now) {
+        Some(limit) if now.seconds() < limit.seconds() => {
+            Ok(earlier(limit, now.plus(LONGEST_SECONDS)))
+        }
+        _ => Err(CommandStatus::ESME_RINVEXPIRY),
+    }
+}
+
+// The earlier of two moments.
+fn earlier(one: Moment, other: Moment) -> Moment
+    ensures { result ≡ min one other }
+{
+    if one.seconds() < other.seconds() {
+        one
+    } else {
+        other
+    }
+}
+
+/// From when on a message is offered, by its schedule_delivery_time: now where it is empty; one that is no time, or not
+/// before the limit, is refused, and one that is past is kept as it is.
+pub fn due_of(
+    schedule_delivery_time: &[u8],
+    now: Moment,
+    limit: Moment,
+) -> Result<Moment, CommandStatus>
+    ensures { result ≡ due_in now limit schedule_delivery_time.now }
+{
+    if schedule_delivery_time.is_empty() {
+        return Ok(now);
+    }
+    match time_in(schedule_delivery_time, now) {
+        Some(due) if due.seconds() < limit.seconds() => Ok(due),
+        _ => Err(CommandStatus::ESME_RINVSCHED),
+    }
+}
+
+/// Of which ends the originator is told, by bits 1 and 0 of registered_delivery: 0 none, 1 and 3 always, 2 on failure.
+pub fn wish_of(registered_delivery: u8) -> Wish
+    ensures { result ≡ wish_in registered_delivery }
+{
+    match registered_delivery % 4 {
+        0 => Wish::Nothing,
+        2 => Wish::OnFailure,
+        _ => Wish::Always,
+    }
+}

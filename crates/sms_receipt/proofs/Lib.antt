@@ -1,0 +1,4 @@
+mod Rows
+pub mod StatusOctets
+pub mod Texts
+pub mod Writables

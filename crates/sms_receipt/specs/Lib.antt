@@ -1,0 +1,3 @@
+pub mod ReceiptText
+pub mod Receipts
+pub mod StatusReports

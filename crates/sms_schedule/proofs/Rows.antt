@@ -1,0 +1,31 @@
+-- Worked examples: 1709251198 is 2024-02-29 23:59:58.
+use Rattle.std.proofs.Common.{◌≡◌, ℕ, List, [], ◌∷◌, Some, None, refl}
+use Rattle.sms_table.specs.Keys.{pair_key}
+use Rattle.sms_schedule.specs.declared.scheduled.Scheduled.{Scheduled}
+use Rattle.sms_schedule.specs.Precedence.{next}
+use Rattle.sms_schedule.specs.Retry.{retry_after}
+
+after_one_attempt : retry_after 1 1709251198 ≡ 1709251258
+after_one_attempt = refl
+
+after_five_attempts : retry_after 5 1709251198 ≡ 1709254798
+after_five_attempts = refl
+
+abbrev row : ℕ → ℕ → ℕ → Scheduled
+row id due priority = record { part = pair_key id 1; due = due; priority = priority }
+
+two_rows : List Scheduled
+two_rows = row 8 1709251198 0 ∷ row 7 1709251198 0 ∷ []
+
+-- of two that are due at once the lower number, and nothing a second before
+lower_first : next 1709251198 two_rows ≡ Some (row 7 1709251198 0)
+unfolding two_rows
+lower_first = refl
+
+none_before : next 1709251197 two_rows ≡ None
+unfolding two_rows
+none_before = refl
+
+-- the more urgent one goes before one that was due earlier
+urgent_first : next 1709251198 (row 7 1709251190 0 ∷ row 8 1709251198 3 ∷ []) ≡ Some (row 8 1709251198 3)
+urgent_first = refl

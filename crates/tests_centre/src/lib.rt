@@ -1,0 +1,9 @@
+//! Tests of the crates below the centre core, over their public calls.
+#![tactic(auto)]
+
+#[cfg(test)]
+mod intake;
+#[cfg(test)]
+mod receipts;
+#[cfg(test)]
+mod schedules;

@@ -1,0 +1,131 @@
+//! Schedules beside a plain search.
+use sms_base::{MessageId, Moment, Priority};
+use sms_schedule::{PartId, Schedule, Scheduled, retry_after};
+use std::alloc::Global;
+use std::test::Fail;
+
+// 2024-02-29 23:59:58.
+const START: u64 = 1_709_251_198;
+
+// The row of that number: due in turn, of every priority.
+fn row(number: u64) -> Result<Scheduled, Fail> {
+    let id = MessageId::new(number).ok_or("no identity")?;
+    let due = Moment::from_seconds(START + number % 1_000 * 37 % 1_000)?;
+    Ok(Scheduled {
+        part: PartId::new(id, (number % 3) as u8),
+        due,
+        priority: Priority::of_flag((number % 4) as u8),
+    })
+}
+
+// Whether one row goes before another.
+fn goes_before(one: &Scheduled, other: &Scheduled) -> bool {
+    if one.priority.level() != other.priority.level() {
+        return one.priority.level() > other.priority.level();
+    }
+    if one.due.seconds() != other.due.seconds() {
+        return one.due.seconds() < other.due.seconds();
+    }
+    one.part.key() < other.part.key()
+}
+
+// The first of the rows that are due, by going through all.
+fn plain_next(rows: &[Scheduled], now: Moment) -> Option<PartId> {
+    let mut best: Option<Scheduled> = None;
+    for row in rows {
+        if row.due.seconds() <= now.seconds() {
+            best = match best {
+                Some(before) if goes_before(&before, row) => Some(before),
+                _ => Some(*row),
+            };
+        }
+    }
+    match best {
+        Some(row) => Some(row.part),
+        None => None,
+    }
+}
+
+// A thousand rows.
+fn thousand(alloc: Global) -> Result<Vec<Scheduled>, Fail> {
+    let mut rows = Vec::new(alloc);
+    for number in 1..1_001 {
+        rows.push(row(number)?)?;
+    }
+    Ok(rows)
+}
+
+fn scheduled(alloc: Global, rows: &[Scheduled]) -> Result<Schedule, Fail> {
+    let mut schedule = Schedule::new(alloc);
+    for row in rows {
+        schedule.set(row.part, row.due, row.priority)?;
+    }
+    Ok(schedule)
+}
+
+// Takes every second row out of both.
+fn thin(
+    alloc: Global,
+    schedule: &mut Schedule,
+    rows: &[Scheduled],
+) -> Result<Vec<Scheduled>, Fail> {
+    let mut left = Vec::new(alloc);
+    for row in rows {
+        if row.part.key() / 256 % 2 == 0 {
+            schedule.remove(row.part);
+        } else {
+            left.push(*row)?;
+        }
+    }
+    Ok(left)
+}
+
+// At each second the schedule says what the plain search says.
+fn agrees(schedule: &Schedule, rows: &[Scheduled]) -> Result<(), Fail> {
+    for second in 0..1_001 {
+        let now = Moment::from_seconds(START + second)?;
+        let next = schedule.next(now);
+        if next != plain_next(rows, now) {
+            return Err(Fail::from("another one is next"));
+        }
+    }
+    Ok(())
+}
+
+#[test]
+fn thousand_rows_are_offered_in_turn(rt: HostRuntime) -> Result<(), Fail> {
+    let rows = thousand(rt.alloc())?;
+    let mut schedule = scheduled(rt.alloc(), rows.as_slice())?;
+    agrees(&schedule, rows.as_slice())?;
+    let left = thin(rt.alloc(), &mut schedule, rows.as_slice())?;
+    agrees(&schedule, left.as_slice())?;
+    let copy = schedule.copy()?;
+    agrees(&copy, left.as_slice())
+}
+
+#[test]
+fn another_one_waits_beside(rt: HostRuntime) -> Result<(), Fail> {
+    let now = Moment::from_seconds(START)?;
+    let id = MessageId::new(7).ok_or("no identity")?;
+    let mut schedule = Schedule::new(rt.alloc());
+    let first = PartId::new(id, 1);
+    let second = PartId::new(id, 2);
+    schedule.set(first, now, Priority::lowest())?;
+    assert!(rt; !schedule.waits_beside(now, first));
+    assert!(rt; schedule.waits_beside(now, second));
+    schedule.set(second, now, Priority::of_flag(9))?;
+    assert!(rt; schedule.waits_beside(now, first));
+    assert_eq!(rt; schedule.next(now), Some(second));
+    schedule.remove(second);
+    assert_eq!(rt; schedule.next(now), Some(first));
+    Ok(())
+}
+
+#[test]
+fn attempts_wait_longer(rt: HostRuntime) -> Result<(), Fail> {
+    let now = Moment::from_seconds(START)?;
+    for (attempts, seconds) in [(1, 60), (2, 300), (3, 900), (4, 3_600), (5, 3_600)] {
+        assert_eq!(rt; retry_after(attempts, now).seconds(), START + seconds);
+    }
+    Ok(())
+}
