@@ -67,41 +67,20 @@ fn fills_and_frees(
     smma: &[u8],
 ) -> Result<(), Fail> {
     let [head, reference] = stored;
-    let ack = [
-        head + 128,
-        0x01,
-        0x06,
-        0x02,
-        reference,
-        0x41,
-        0x02,
-        0x00,
-        0x00,
-    ];
+    let other = head.saturating_add(128);
+    let ack = [other, 1, 6, 2, reference, 0x41, 2, 0, 0];
     let mut frame = [head; 39];
     frame[1..].copy_from_slice(&HELLO[1..]);
     frame[4] = reference;
-    pair.takes(&frame, &[&[head + 128, 0x04], &ack])?;
-    pair.takes(&[head, 0x04], &[])?;
+    pair.takes(&frame, &[&[other, 4], &ack])?;
+    pair.takes(&[head, 4], &[])?;
     let [head, reference] = refused;
-    let full = [
-        head + 128,
-        0x01,
-        0x09,
-        0x04,
-        reference,
-        0x01,
-        0x16,
-        0x41,
-        0x03,
-        0x00,
-        0xD3,
-        0x00,
-    ];
+    let other = head.saturating_add(128);
+    let full = [other, 1, 9, 4, reference, 1, 0x16, 0x41, 3, 0, 0xD3, 0];
     frame[0] = head;
     frame[4] = reference;
-    pair.takes(&frame, &[&[head + 128, 0x04], &full])?;
-    pair.takes(&[head, 0x04], &[])?;
+    pair.takes(&frame, &[&[other, 4], &full])?;
+    pair.takes(&[head, 4], &[])?;
     pair.gives(&HandsetEvent::Delete { entry }, &[smma])
 }
 
