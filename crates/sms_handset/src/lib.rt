@@ -1,9 +1,9 @@
 //! The handset core (3GPP TS 23.040 9.2 and 10, 3GPP TS 24.011 6): what a handset does with a frame, with time and
 //! with what its owner wants.
 //!
-//! `Handset` is a machine over rows. `plan` takes an event and hands out, ready made, the changes of the rows, the
-//! frames to send and all that a restart forgets; nothing has changed yet. Its caller commits the changes, calls
-//! `adopt`, which can't fail, and only then lets the frames go.
+//! `Handset` is a machine over rows, which it judges when it starts. `plan` takes an event and hands out the changes of
+//! the rows; nothing has changed yet. Its caller commits them and calls `adopt`, which can't fail: only then do the
+//! frames come out. A handset that was sound is so after each event, and starts again from the rows that were committed.
 #![tactic(auto)]
 
 mod answers;
