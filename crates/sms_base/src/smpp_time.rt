@@ -180,39 +180,3 @@ fn decimal(octet: u8) -> Option<u8>
         _ => None,
     }
 }
-
-#[cfg(test)]
-mod tests {
-    use super::*;
-    use std::test::Fail;
-
-    // 2024-02-29 23:59:58.
-    const NOW: u64 = 1_709_251_198;
-
-    #[test]
-    fn reads_times(rt: HostRuntime) -> Result<(), Fail> {
-        let now = Moment::from_seconds(NOW)?;
-        for (text, seconds) in [
-            ("240229235958000+", NOW),
-            ("240301005958004+", NOW),
-            ("240229225958004-", NOW),
-            ("000001000000000R", NOW + 86_400),
-            ("990000000000000R", 4_102_444_799),
-        ] {
-            let moment = Moment::from_smpp(text.as_bytes(), now)?;
-            assert_eq!(rt; moment.seconds(), seconds, "at {text}");
-        }
-        for text in [
-            "240230235958000+",
-            "240229235958049+",
-            "",
-            "24022923595800R",
-        ] {
-            let Err(fault) = Moment::from_smpp(text.as_bytes(), now) else {
-                return Err("no such time")?;
-            };
-            assert_eq!(rt; fault.code(), "M2", "at {text}");
-        }
-        Ok(())
-    }
-}

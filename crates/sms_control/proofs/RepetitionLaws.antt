@@ -136,6 +136,7 @@ again_left now r e = more (ltb now r.due) (eqb r.repeats_left 0) refl e where
   some : (n : ℕ) → eqb n 0 ≡ false → 1 ≤ n
   some zero e = absurd cc
   some (suc n) e = omega arith
+
   more : (b z : Bool) → eqb r.repeats_left 0 ≡ z → cond b Idle (cond z Closes Again) ≡ Again → 1 ≤ r.repeats_left
   more true z t e = absurd cc
   more false true t e = absurd cc

@@ -171,12 +171,12 @@ module _ (Rest : Option Carried → LinkOf → Type 0) (go : (w : Option Carried
       let P : Turn → Type 0 = λ turn. TurnBegins carried turn.out.frames w (λ next. Rest next turn.link) in
       by_test P (is_busy l.links) (still l) (started carried (begin_step now unit l.links) l) (λ e. go w l h a)
       (λ e.
-        let step = begin_step now unit l.links in
-        let is = begin_is now unit l.links e in
-        let busy : is_busy step.state ≡ true = ap (λ (s : Step). is_busy s.state) is in
-        let none : w ≡ None = sym h ∙ none_is l.under_way (sym a ∙ e) in
-        let rest : Rest (Some carried) (started carried step l).link = go (Some carried) (started carried step l).link refl busy in
-        subst (λ (fs : List (List ℕ)). TurnBegins carried (carrying (Some carried) fs) w (λ next. Rest next (started carried step l).link)) (sym (ap (λ (s : Step). s.out.frames) is)) (none, rest))
+      let step = begin_step now unit l.links in
+      let is = begin_is now unit l.links e in
+      let busy : is_busy step.state ≡ true = ap (λ (s : Step). is_busy s.state) is in
+      let none : w ≡ None = sym h ∙ none_is l.under_way (sym a ∙ e) in
+      let rest : Rest (Some carried) (started carried step l).link = go (Some carried) (started carried step l).link refl busy in
+      subst (λ (fs : List (List ℕ)). TurnBegins carried (carrying (Some carried) fs) w (λ next. Rest next (started carried step l).link)) (sym (ap (λ (s : Step). s.out.frames) is)) (none, rest))
 
   replied_turns : (now : ℕ) (kind : Kind) (reference : ℕ) (tag : Holder) (unit : List ℕ) (w : Option Carried) (l : LinkOf) → l.under_way ≡ w → Agrees l → Rest w (replied now kind reference tag unit l).link
   replied_turns now kind reference tag unit w l h a =

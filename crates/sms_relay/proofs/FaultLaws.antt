@@ -105,11 +105,14 @@ module _ {X Y : Type 0} (r : Reads X) (k : X × List ℕ → Result (Y × List �
       let a = bind_ok (r xs) k z e in
       let f = h xs a.0 a.1 in
       let g = hk a.0.0 a.0.1 z a.2 in
-      let whole : xs ≡ (f.0 ++ g.0) ++ z.1 = f.1 ∙ ap (λ (l : List ℕ). f.0 ++ l) g.1 ∙ sym (append_assoc f.0 g.0 z.1) in
-      (f.0 ++ g.0, whole, λ rest.
-        ap (λ (l : List ℕ). r l >>= k) (append_assoc f.0 g.0 rest)
-        ∙ ap (λ (m : Result (X × List ℕ) RelayFault). m >>= k) (f.2 (g.0 ++ rest))
-        ∙ g.2 rest)
+      let whole : xs ≡ (f.0 ++ g.0) ++ z.1 = f.1 ∙ ap (λ (l : List ℕ). f.0 ++ l) g.1 ∙ sym (append_assoc f.0 g.0 z.1) in (
+        f.0 ++ g.0,
+        whole,
+        λ rest.
+            ap (λ (l : List ℕ). r l >>= k) (append_assoc f.0 g.0 rest)
+            ∙ ap (λ (m : Result (X × List ℕ) RelayFault). m >>= k) (f.2 (g.0 ++ rest))
+            ∙ g.2 rest,
+      )
 
   alone_bind : TakesFront r → ((x : X) → TakesAlone (Behind x)) → TakesAlone Then
   alone_bind h hk xs z e =
@@ -229,6 +232,7 @@ run_completes n xs octets e = more (ltb (length xs) n) refl e where
       let m = n - length xs in
       let len : length (xs ++ zeros m) ≡ n = omega (arith, length-append xs (zeros m), zeros_length m) in
       (zeros m, zeros_octets m, (xs ++ zeros m, ap (λ (l : List ℕ). run_in Truncated n l) (sym (append-nil (xs ++ zeros m))) ∙ run_again Truncated n (xs ++ zeros m) [] len))
+
   more : (b : Bool) → ltb (length xs) n ≡ b → cond {A = Result (List ℕ × List ℕ) RelayFault} b (Err Truncated) (Ok (take n xs, drop n xs)) ≡ Err Truncated → Goes (run_in Truncated n) xs
   more true t h = filled t
   more false t h = absurd cc
