@@ -4,7 +4,8 @@
 //! machine and asks it one job after another, and a tick where its clock shows a later moment. What it ran is one
 //! history: each item's outs are what the machine's definition gives after the items before it, each seat's jobs
 //! stand in it in order, each once, and what a seat took is the beginning of its outs there.
-//! No lock stands round the machine, and no seat waits for another. That a thread gets on is promised nowhere.
+//! No lock stands round the machine, and a put never waits: where the queue is full the job comes back. The keeper waits
+//! for a seat that takes no answers. That a thread gets on is promised nowhere.
 #![tactic(auto)]
 
 mod answers;
