@@ -1,5 +1,5 @@
 -- What is offered next of all that waits for a handset.
-use Rattle.std.specs.Prelude.{ℕ, ◌==◌, ◌&&◌, ◌||◌, not, nat_lt, nat_le, List, [], ◌∷◌, Bool, false, if◌then◌else◌, Option, Some, None}
+use Rattle.std.specs.Prelude.{ℕ, ◌==◌, ◌&&◌, ◌||◌, not, nat_lt, nat_le, map, List, [], ◌∷◌, Bool, false, if◌then◌else◌, Option, Some, None}
 use Rattle.sms_waiting.specs.declared.load.Load.{Load}
 
 abbrev pub is_due : ℕ → Load → Bool
@@ -18,10 +18,13 @@ preceding None b = b
 preceding (Some a) None = Some a
 preceding (Some a) (Some b) = Some (if precedes b a then b else a)
 
+abbrev pub if_due : ℕ → Load → Option Load
+if_due now l = if is_due now l then Some l else None
+
 -- of all that are due, the one that precedes the others
 abbrev pub next : ℕ → List Load → Option Load
 next now [] = None
-next now (l ∷ ls) = preceding (if is_due now l then Some l else None) (next now ls)
+next now (l ∷ ls) = preceding (if_due now l) (next now ls)
 
 abbrev pub is_same : Load → Load → Bool
 is_same a b = (a.id == b.id) && (a.number == b.number)
@@ -37,5 +40,4 @@ abbrev pub at_once : ℕ → Load → Load
 at_once now l = record l { due = now }
 
 abbrev pub all_at_once : ℕ → List Load → List Load
-all_at_once now [] = []
-all_at_once now (l ∷ ls) = at_once now l ∷ all_at_once now ls
+all_at_once now ls = map (at_once now) ls

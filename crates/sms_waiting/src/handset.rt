@@ -1,8 +1,10 @@
 //! The handsets that were given a reference.
 ghost use Rattle.std.specs.Prelude.{◌≡◌};
 ghost use Rattle.sms_waiting.specs.Keys.{handset_key};
+ghost use Rattle.sms_waiting.specs.References.{given_row, mentioned as mentioned_of};
 
-use sms_base::Digits;
+use crate::reference::ReferenceRow;
+use sms_base::{Digits, Moment};
 use sms_table::{Key, Row};
 
 /// A handset that was given a reference.
@@ -21,5 +23,28 @@ impl Row for HandsetRow {
 
     fn key(&self) -> Key {
         Key::of(u64::from(self.place))
+    }
+}
+
+impl HandsetRow {
+    /// The row once the reference was given.
+    pub fn mentioned(self, reference: u8) -> HandsetRow
+        ensures { result ≡ mentioned_of self reference }
+    {
+        HandsetRow {
+            last_reference: reference,
+            ..self
+        }
+    }
+
+    /// The row of the reference that is given at that moment.
+    pub fn given(&self, reference: u8, now: Moment) -> ReferenceRow
+        ensures { result ≡ given_row self.now reference now }
+    {
+        ReferenceRow {
+            place: self.place,
+            reference,
+            last: now,
+        }
     }
 }

@@ -1,18 +1,19 @@
 //! All that concerns one handset.
-ghost use Rattle.std.specs.Prelude.{◌≡◌, ◌<◌, ◌≤◌, ℕ, [], length, None, IfOk, OnOk, option_copied};
+ghost use Rattle.std.specs.Prelude.{◌≡◌, ◌<◌, ◌≤◌, [], length, Some, None, IfOk, OnOk};
 ghost use Rattle.sms_link.specs.LinkTurn.{begun, fired, replied, taken};
+ghost use Rattle.sms_table.specs.Keys.{pair_key};
 ghost use Rattle.sms_table.specs.Table.{row_at};
 ghost use Rattle.sms_waiting.specs.Keys.{load_key};
 ghost use Rattle.sms_waiting.specs.Lines.{emptied, filled, lowered, new_line, raised};
 ghost use Rattle.sms_waiting.specs.References.{following as following_of, is_free as is_free_of, is_held as is_held_of, next_reference as next_reference_of, or_new_handset};
 ghost use Rattle.sms_waiting.specs.Shelves.{shelf_at_once, shelf_given, shelf_on, shelf_turned, shelf_with, shelf_without};
-ghost use Rattle.sms_waiting.specs.Waiting.{next as next_of, waits_beside as waits_beside_of};
+ghost use Rattle.sms_waiting.specs.Waiting.{all_at_once, if_due, is_same as is_same_of, next as next_of, preceding, waits_beside as waits_beside_of};
 
 use crate::handset::HandsetRow;
 use crate::line::Line;
 use crate::load::Load;
 use crate::reference::ReferenceRow;
-use sms_base::{Digits, Holder, Kind, Listed, Moment};
+use sms_base::{Digits, Holder, Kind, Listed, MessageId, Moment};
 use sms_link::{Link, LinkOut, Outgoing, Side};
 use sms_table::{Key, Row, Table};
 use std::alloc::{AllocError, Global};
@@ -95,6 +96,182 @@ impl Shelf {
     }
 }
 
+impl Shelf {
+    /// The load of that message and number, if it waits here.
+    pub fn load(&self, id: MessageId, number: u8) -> Option<Load>
+        ensures { result ≡ row_at load_key (pair_key id number) self.now.waiting }
+    {
+        self.waiting
+            .find(Key::pair(id.number(), number))
+            .copied()
+    }
+
+    /// One more waits, or the one of that message and number waits otherwise.
+    pub fn put(&mut self, load: Load) -> Result<(), AllocError>
+        ensures { OnOk result (self.new ≡ shelf_with load self.old) }
+    {
+        self.waiting.put(load)?;
+        Ok(())
+    }
+
+    /// That one waits no more.
+    pub fn remove(&mut self, id: MessageId, number: u8)
+        ensures { self.new ≡ shelf_without (pair_key id number) self.old }
+    {
+        self.waiting.remove(Key::pair(id.number(), number));
+    }
+
+    /// All that waits is due at that moment.
+    #[tactic(auto, using(crate::proofs::Dues::rises_at_once))]
+    pub fn due_at(&mut self, now: Moment) -> Result<(), AllocError>
+        ensures { OnOk result (self.new ≡ shelf_at_once now self.old) }
+    {
+        let loads = loads_due_at(self.alloc, self.waiting.as_slice(), now)?;
+        self.waiting = Table::from_vec(loads);
+        Ok(())
+    }
+
+    /// Of all that is due, the one that goes first.
+    pub fn next(&self, now: Moment) -> Option<Load>
+        ensures { result ≡ next_of now self.now.waiting }
+    {
+        first_due(self.waiting.as_slice(), now)
+    }
+
+    /// Whether another one is due beside it.
+    pub fn waits_beside(&self, now: Moment, chosen: &Load) -> bool
+        ensures { result ≡ waits_beside_of now chosen.now self.now.waiting }
+    {
+        is_due_beside(self.waiting.as_slice(), now, chosen)
+    }
+}
+
+impl Shelf {
+    /// The next reference that may be given to the handset of that row, which is this shelf's or its first one.
+    #[tactic(auto, using(crate::proofs::Passing::passing_there, crate::proofs::Passing::passing_later, crate::proofs::Passing::passing_none))]
+    pub fn next_reference(&self, row: &HandsetRow, now: Moment) -> Option<u8>
+        ensures { result ≡ next_reference_of row.now self.now.waiting self.now.given now }
+    {
+        let mut reference = following(row.last_reference);
+        for turn in 0u16..256 {
+            if self.is_free(row, now, reference) {
+                return Some(reference);
+            }
+            reference = following(reference);
+        }
+        None
+    }
+
+    // Whether nothing that waits holds it, and it was not given last in this second.
+    fn is_free(&self, row: &HandsetRow, now: Moment, reference: u8) -> bool
+        ensures { result ≡ is_free_of row.now self.now.waiting self.now.given now reference }
+    {
+        if is_held(self.waiting.as_slice(), reference) {
+            return false;
+        }
+        match self.given.find(Key::pair(u64::from(row.place), reference)) {
+            Some(given) => given.last.seconds() < now.seconds(),
+            None => true,
+        }
+    }
+
+    /// The reference is given to the handset, whose row is that.
+    pub fn give(&mut self, row: HandsetRow, reference: u8, now: Moment) -> Result<(), AllocError>
+        ensures { OnOk result (self.new ≡ shelf_given row reference now self.old) }
+    {
+        self.given.put(row.given(reference, now))?;
+        self.row = Some(row.mentioned(reference));
+        Ok(())
+    }
+}
+
+impl Shelf {
+    /// The handset can be reached, and has memory.
+    pub fn raise(&mut self)
+        ensures { self.new ≡ shelf_on (raised self.old.line) self.old }
+    {
+        self.line.is_up = true;
+        self.line.is_awaited = false;
+        self.line.is_full = false;
+    }
+
+    /// The handset can't be reached, and its next connection is a new one.
+    pub fn lower(&mut self)
+        ensures { self.new ≡ shelf_on (lowered self.old.line) self.old }
+    {
+        self.line.is_up = false;
+        self.line.is_awaited = false;
+        self.line.link = Link::new(self.alloc, Side::Centre);
+    }
+
+    /// The handset has no memory.
+    pub fn fill(&mut self)
+        ensures { self.new ≡ shelf_on (filled self.old.line) self.old }
+    {
+        self.line.is_full = true;
+    }
+
+    /// The handset has memory again.
+    pub fn empty(&mut self)
+        ensures { self.new ≡ shelf_on (emptied self.old.line) self.old }
+    {
+        self.line.is_full = false;
+    }
+
+    /// A transaction to the handset, unless one is under way: a unit of 1 to 248 octets.
+    pub fn begin(
+        &mut self,
+        now: Moment,
+        reference: u8,
+        tag: Holder,
+        unit: &[u8],
+    ) -> Result<Listed<Outgoing>, AllocError>
+        requires some { 0 < length unit.now }
+        requires fits { length unit.now ≤ 248 }
+        ensures frames { IfOk result (λ frames. frames ≡ (begun now reference tag unit.now self.old.line.link).out.frames) }
+        ensures state { OnOk result (self.new ≡ shelf_turned (begun now reference tag unit.now self.old.line.link) self.old) }
+    {
+        let frames = self.line.link.begin(now, reference, tag, unit)?;
+        Ok(frames)
+    }
+
+    /// The answer in the transaction that the handset began, if one waits for it: a unit of 1 to 248 octets.
+    pub fn reply(
+        &mut self,
+        now: Moment,
+        kind: Kind,
+        reference: u8,
+        tag: Holder,
+        unit: &[u8],
+    ) -> Result<Listed<Outgoing>, AllocError>
+        requires some { 0 < length unit.now }
+        requires fits { length unit.now ≤ 248 }
+        ensures frames { IfOk result (λ frames. frames ≡ (replied now kind reference tag unit.now self.old.line.link).out.frames) }
+        ensures state { OnOk result (self.new ≡ shelf_turned (replied now kind reference tag unit.now self.old.line.link) self.old) }
+    {
+        let frames = self.line.link.reply(now, kind, reference, tag, unit)?;
+        Ok(frames)
+    }
+
+    /// Takes a frame of the handset, whatever its octets.
+    pub fn take(&mut self, frame: &[u8]) -> Result<LinkOut, AllocError>
+        ensures out { IfOk result (λ out. out ≡ (taken frame.now self.old.line.link).out) }
+        ensures state { OnOk result (self.new ≡ shelf_turned (taken frame.now self.old.line.link) self.old) }
+    {
+        let out = self.line.link.take(frame)?;
+        Ok(out)
+    }
+
+    /// Lets the timers of the line fire that are due.
+    pub fn fire(&mut self, now: Moment) -> Result<LinkOut, AllocError>
+        ensures out { IfOk result (λ out. out ≡ (fired now self.old.line.link).out) }
+        ensures state { OnOk result (self.new ≡ shelf_turned (fired now self.old.line.link) self.old) }
+    {
+        let out = self.line.link.fire(now)?;
+        Ok(out)
+    }
+}
+
 fn table_copy<T: Copy + Drop + Row>(
     alloc: Global,
     table: &Table<T>,
@@ -103,4 +280,72 @@ fn table_copy<T: Copy + Drop + Row>(
 {
     let rows = Vec::from_slice(alloc, table.as_slice())?;
     Ok(Table::from_vec(rows))
+}
+
+// The reference behind that one, 0 behind 255.
+fn following(reference: u8) -> u8
+    ensures { result ≡ following_of reference }
+{
+    reference.wrapping_add(1)
+}
+
+fn is_held(waiting: &[Load], reference: u8) -> bool
+    ensures { result ≡ is_held_of reference waiting.now }
+{
+    for load in waiting {
+        if load.reference == reference {
+            return true;
+        }
+    }
+    false
+}
+
+fn loads_due_at(alloc: Global, waiting: &[Load], now: Moment) -> Result<Vec<Load>, AllocError>
+    ensures { IfOk result (λ loads. loads.items ≡ all_at_once now waiting.now) }
+{
+    waiting
+        .iter()
+        .map(|load| Load { due: now, ..*load })
+        .collect(alloc)
+}
+
+// Looked through from the end, so that what is left is what the definition has behind it.
+fn first_due(waiting: &[Load], now: Moment) -> Option<Load>
+    ensures { result ≡ next_of now waiting.now }
+{
+    let mut first: Option<Load> = None;
+    for i in 0..waiting.len() {
+        first = first_of_both(waiting[waiting.len() - 1 - i], now, first);
+    }
+    first
+}
+
+// Of the load, if it is due, and the other the one that goes first; the load, where they are told apart by nothing.
+fn first_of_both(load: Load, now: Moment, other: Option<Load>) -> Option<Load>
+    ensures { result ≡ preceding (if_due now load) other }
+{
+    if !load.is_due(now) {
+        return other;
+    }
+    match other {
+        Some(other) if other.precedes(&load) => Some(other),
+        _ => Some(load),
+    }
+}
+
+fn is_due_beside(waiting: &[Load], now: Moment, chosen: &Load) -> bool
+    ensures { result ≡ waits_beside_of now chosen.now waiting.now }
+{
+    for load in waiting {
+        if load.is_due(now) && !is_same(load, chosen) {
+            return true;
+        }
+    }
+    false
+}
+
+fn is_same(load: &Load, other: &Load) -> bool
+    ensures { result ≡ is_same_of load.now other.now }
+{
+    load.id.number() == other.id.number() && load.number == other.number
 }
