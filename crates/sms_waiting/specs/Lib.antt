@@ -4,3 +4,4 @@ pub mod Waiting
 pub mod References
 pub mod Lines
 pub mod Shelves
+pub mod Trying

@@ -53,10 +53,11 @@ turned turn line = record line { link = turn.link }
 
 -- ---- frames
 
--- the lines, and what was sent on them so far
+-- the lines, what was sent on them so far, and whose TPDUs were read from the store for it, by their keys
 pub record Air : Type 0 where
   pub lines : List Line
   pub frames : List Sent
+  pub read : List ℕ
 
 abbrev pub to_handset : List ℕ → List Outgoing → List Sent
 to_handset handset [] = []
@@ -68,4 +69,8 @@ put_line line air = record air { lines = with_line line air.lines }
 
 -- the link of the line did a turn
 abbrev pub turn_line : Line → Turn → Air → Air
-turn_line line turn air = record { lines = with_line (turned turn line) air.lines; frames = air.frames ++ to_handset line.handset turn.out.frames }
+turn_line line turn air = record air { lines = with_line (turned turn line) air.lines; frames = air.frames ++ to_handset line.handset turn.out.frames }
+
+-- the TPDU of that key is read from the store
+abbrev pub read_for : ℕ → Air → Air
+read_for key air = record air { read = air.read ++ key ∷ [] }
