@@ -1,0 +1,17 @@
+pub mod Times
+pub mod MoreMessages
+pub mod Bodies
+pub mod Numbers
+pub mod SmppIntake
+pub mod HandsetIntake
+pub mod ReceiptTexts
+pub mod Draft
+pub mod Submitting
+pub mod Ends
+pub mod Transfers
+pub mod Offering
+pub mod Receiving
+pub mod Requests
+pub mod Sessions
+pub mod CentreEvent
+pub mod Planning
