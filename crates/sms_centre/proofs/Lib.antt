@@ -13,7 +13,9 @@ mod ReceiptWords
 mod ReferencesGiven
 mod RequestsAnswered
 mod Restarted
+pub mod Resting
 mod SplitsApart
+pub mod Stages
 mod StatusReported
 mod SubmitsJudged
 mod TriedAgain
