@@ -1,5 +1,5 @@
 -- The first of some references, around from 255 to 0, that passes.
-use Rattle.std.proofs.Common.{◌≡◌, ℕ, zero, suc, ◌-◌, ◌<◌, Bool, true, false, Option, Some, None, refl, arith}
+use Rattle.std.proofs.Common.{◌≡◌, ℕ, zero, suc, ◌-◌, ◌<◌, Bool, true, false, Some, None, refl, arith}
 use Rattle.sms_waiting.specs.References.{first_passing, following}
 
 pub passing_there : (passes : ℕ → Bool) (turns n : ℕ) → 0 < turns → passes n ≡ true → first_passing passes turns n ≡ Some n

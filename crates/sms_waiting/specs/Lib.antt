@@ -5,3 +5,5 @@ pub mod References
 pub mod Lines
 pub mod Shelves
 pub mod Trying
+pub mod SoundGivings
+pub mod Shelved

@@ -1,5 +1,5 @@
 -- A shelf: all that concerns one handset.
-use Rattle.std.specs.Prelude.{ℕ, List, Bool, Option, Some, None}
+use Rattle.std.specs.Prelude.{ℕ, List, Option, Some}
 use Rattle.sms_table.specs.Table.{put, without}
 use Rattle.sms_link.specs.LinkTurn.{Turn}
 use Rattle.sms_waiting.specs.declared.handset.HandsetRow.{HandsetRow}

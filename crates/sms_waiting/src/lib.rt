@@ -11,6 +11,7 @@
 #![tactic(auto)]
 
 mod handset;
+pub mod laws;
 mod line;
 mod load;
 mod progress;

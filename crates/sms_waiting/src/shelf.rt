@@ -101,9 +101,7 @@ impl Shelf {
     pub fn load(&self, id: MessageId, number: u8) -> Option<Load>
         ensures { result ≡ row_at load_key (pair_key id number) self.now.waiting }
     {
-        self.waiting
-            .find(Key::pair(id.number(), number))
-            .copied()
+        self.waiting.find(Key::pair(id.number(), number)).copied()
     }
 
     /// One more waits, or the one of that message and number waits otherwise.
@@ -272,10 +270,7 @@ impl Shelf {
     }
 }
 
-fn table_copy<T: Copy + Drop + Row>(
-    alloc: Global,
-    table: &Table<T>,
-) -> Result<Table<T>, AllocError>
+fn table_copy<T: Copy + Drop + Row>(alloc: Global, table: &Table<T>) -> Result<Table<T>, AllocError>
     ensures { IfOk result (λ copy. copy.rows ≡ table.now.rows) }
 {
     let rows = Vec::from_slice(alloc, table.as_slice())?;

@@ -1,5 +1,5 @@
-use Rattle.std.proofs.Common.{◌≡◌, ℕ, ◌+◌, ◌-◌, ◌%◌, Bool, false, sym, ◌∙◌, ap, arith}
-use Rattle.sms_waiting.specs.References.{first_passing, following, is_free}
+use Rattle.std.proofs.Common.{◌≡◌, ℕ, ◌+◌, ◌-◌, Bool, false, sym, ◌∙◌, ap, arith}
+use Rattle.sms_waiting.specs.References.{first_passing, is_free}
 use Rattle.sms_waiting.proofs.Passing.{passing_later}
 use Rattle.sms_waiting.proofs.shelf.Shelf.next_reference.Goals as goal
 
