@@ -15,3 +15,5 @@ pub mod Requests
 pub mod Sessions
 pub mod CentreEvent
 pub mod Planning
+pub mod SoundRows
+pub mod SoundCore

@@ -1,3 +1,4 @@
 pub mod Messages
 pub mod OpenParts
 pub mod SplitReferences
+pub mod SoundMessages
