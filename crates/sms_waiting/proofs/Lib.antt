@@ -1,3 +1,5 @@
+pub mod Alike
+pub mod Amending
 pub mod Dues
 pub mod GivingsSound
 pub mod LinesShown
