@@ -8,3 +8,4 @@ pub mod Passing
 pub mod ReferencesShown
 pub mod Revising
 pub mod Showing
+pub mod Withdrawing

@@ -9,7 +9,7 @@ use Rattle.sms_waiting.specs.declared.reference.ReferenceRow.{ReferenceRow}
 use Rattle.sms_waiting.specs.Keys.{load_key, reference_key}
 use Rattle.sms_waiting.specs.Lines.{turned}
 use Rattle.sms_waiting.specs.References.{given_row, mentioned}
-use Rattle.sms_waiting.specs.Waiting.{all_at_once}
+use Rattle.sms_waiting.specs.Waiting.{all_at_once, withdrawn}
 
 pub record ShelfOf : Type 0 where
   -- its row, if it was given a reference
@@ -34,6 +34,9 @@ shelf_with l s = record s { waiting = put load_key l s.waiting }
 -- it waits there no more
 abbrev pub shelf_without : ℕ → ShelfOf → ShelfOf
 shelf_without key s = record s { waiting = without load_key key s.waiting }
+
+abbrev pub shelf_withdrawn : ℕ → ShelfOf → ShelfOf
+shelf_withdrawn id s = record s { waiting = withdrawn id s.waiting }
 
 abbrev pub shelf_at_once : ℕ → ShelfOf → ShelfOf
 shelf_at_once now s = record s { waiting = all_at_once now s.waiting }

@@ -41,3 +41,12 @@ at_once now l = record l { due = now }
 
 abbrev pub all_at_once : ℕ → List Load → List Load
 all_at_once now ls = map (at_once now) ls
+
+-- ---- the parts of a message wait no more
+
+abbrev pub is_part_of : ℕ → Load → Bool
+is_part_of id l = (l.id == id) && not (l.number == 0)
+
+abbrev pub withdrawn : ℕ → List Load → List Load
+withdrawn id [] = []
+withdrawn id (l ∷ ls) = if is_part_of id l then withdrawn id ls else l ∷ withdrawn id ls

@@ -6,8 +6,8 @@ ghost use Rattle.sms_table.specs.Table.{row_at};
 ghost use Rattle.sms_waiting.specs.Keys.{load_key};
 ghost use Rattle.sms_waiting.specs.Lines.{emptied, filled, lowered, new_line, raised};
 ghost use Rattle.sms_waiting.specs.References.{following as following_of, is_free as is_free_of, is_held as is_held_of, next_reference as next_reference_of, or_new_handset};
-ghost use Rattle.sms_waiting.specs.Shelves.{shelf_at_once, shelf_given, shelf_on, shelf_turned, shelf_with, shelf_without};
-ghost use Rattle.sms_waiting.specs.Waiting.{all_at_once, if_due, is_same as is_same_of, next as next_of, preceding, waits_beside as waits_beside_of};
+ghost use Rattle.sms_waiting.specs.Shelves.{shelf_at_once, shelf_given, shelf_on, shelf_turned, shelf_with, shelf_withdrawn, shelf_without};
+ghost use Rattle.sms_waiting.specs.Waiting.{all_at_once, if_due, is_part_of as is_part_of_message, is_same as is_same_of, next as next_of, preceding, waits_beside as waits_beside_of, withdrawn};
 
 use crate::handset::HandsetRow;
 use crate::line::Line;
@@ -117,6 +117,16 @@ impl Shelf {
         ensures { self.new ≡ shelf_without (pair_key id number) self.old }
     {
         self.waiting.remove(Key::pair(id.number(), number));
+    }
+
+    /// No part of that message waits any more.
+    #[tactic(auto, using(crate::proofs::Withdrawing::rises_withdrawn))]
+    pub fn withdraw(&mut self, id: MessageId) -> Result<(), AllocError>
+        ensures { OnOk result (self.new ≡ shelf_withdrawn id self.old) }
+    {
+        let loads = loads_but(self.alloc, self.waiting.as_slice(), id)?;
+        self.waiting = Table::from_vec(loads);
+        Ok(())
     }
 
     /// All that waits is due at that moment.
@@ -302,6 +312,25 @@ fn loads_due_at(alloc: Global, waiting: &[Load], now: Moment) -> Result<Vec<Load
         .iter()
         .map(|load| Load { due: now, ..*load })
         .collect(alloc)
+}
+
+// All but the parts of that message.
+fn loads_but(alloc: Global, waiting: &[Load], id: MessageId) -> Result<Vec<Load>, AllocError>
+    ensures { IfOk result (λ loads. loads.items ≡ withdrawn id waiting.now) }
+{
+    let mut loads = Vec::with_capacity(alloc, waiting.len())?;
+    for load in waiting {
+        if !is_part_of(load, id) {
+            loads.push(*load)?;
+        }
+    }
+    Ok(loads)
+}
+
+fn is_part_of(load: &Load, id: MessageId) -> bool
+    ensures { result ≡ is_part_of_message id load.now }
+{
+    load.id.number() == id.number() && load.number != 0
 }
 
 // Looked through from the end, so that what is left is what the definition has behind it.
