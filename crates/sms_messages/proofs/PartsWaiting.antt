@@ -8,15 +8,10 @@ use Rattle.sms_messages.specs.declared.message.MessageRow.{MessageRow}
 use Rattle.sms_messages.specs.declared.part.PartRow.{PartRow}
 use Rattle.sms_messages.specs.declared.priority.PriorityRow.{PriorityRow}
 use Rattle.sms_messages.specs.Messages.{message_at, part_key}
-use Rattle.sms_messages.specs.OpenParts.{part_load, parts_waiting, waits_for}
+use Rattle.sms_messages.specs.OpenParts.{part_load, part_wait, parts_waiting, waits_for}
 use Rattle.sms_waiting.specs.declared.load.Load.{Load}
 use Rattle.sms_waiting.specs.Keys.{load_key}
 use Rattle.sms_waiting.proofs.Alike.{above_none}
-
--- what waits of a part, if it stands there
-abbrev pub part_wait : List ℕ → List MessageRow → List PriorityRow → Option PartRow → Option Load
-part_wait handset messages priorities None = None
-part_wait handset messages priorities (Some p) = if waits_for handset p (message_at p.id messages) then Some (part_load p priorities) else None
 
 module _ (h : List ℕ) (ms : List MessageRow) (qs : List PriorityRow) where
   -- the list where the first part waits, and where it doesn't

@@ -26,6 +26,11 @@ part_load p priorities = record {
   due = p.progress.due;
 }
 
+-- what waits of a part, if it stands there
+abbrev pub part_wait : List ℕ → List MessageRow → List PriorityRow → Option PartRow → Option Load
+part_wait handset messages priorities None = None
+part_wait handset messages priorities (Some p) = if waits_for handset p (message_at p.id messages) then Some (part_load p priorities) else None
+
 -- in the order of messages and numbers
 abbrev pub parts_waiting : List ℕ → List MessageRow → List PriorityRow → List PartRow → List Load
 parts_waiting handset messages priorities [] = []

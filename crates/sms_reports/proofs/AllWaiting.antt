@@ -11,26 +11,13 @@ use Rattle.sms_messages.specs.declared.message.MessageRow.{MessageRow}
 use Rattle.sms_messages.specs.declared.part.PartRow.{PartRow}
 use Rattle.sms_messages.specs.declared.priority.PriorityRow.{PriorityRow}
 use Rattle.sms_messages.specs.Messages.{message_at, part_at, part_key}
-use Rattle.sms_messages.specs.OpenParts.{parts_waiting}
-use Rattle.sms_messages.proofs.PartsWaiting.{part_wait, rises_waiting, waiting_at}
+use Rattle.sms_messages.specs.OpenParts.{part_wait, parts_waiting}
+use Rattle.sms_messages.proofs.PartsWaiting.{rises_waiting, waiting_at}
 use Rattle.sms_reports.specs.declared.report.ReportRow.{ReportRow}
 use Rattle.sms_reports.specs.Reports.{report_of}
-use Rattle.sms_reports.specs.Waiting.{report_load, reports_to, waiting_for, with_reports}
+use Rattle.sms_reports.specs.Waiting.{Alone, Numbered, report_load, report_wait, reports_to, waiting_for, with_reports}
 use Rattle.sms_waiting.specs.declared.load.Load.{Load}
 use Rattle.sms_waiting.specs.Keys.{load_key}
-
--- what waits of a status report, if it stands there
-abbrev pub report_wait : List ℕ → List MessageRow → Option ReportRow → Option Load
-report_wait handset messages None = None
-report_wait handset messages (Some r) = if reports_to handset r (message_at r.id messages) then Some (report_load r) else None
-
--- parts have numbers from 1 to 255, and stand in the order of their keys; no message has two reports
-pub record Numbered (ps : List PartRow) : Type 0 where
-  pub keys : Rises part_key ps
-  pub numbers : (p : PartRow) → Among p ps → (0 < p.number) × (p.number < 256)
-
-abbrev pub Alone : List ReportRow → Type 0
-Alone rs = (r s : ReportRow) → Among r rs → Among s rs → r.id ≡ s.id → r ≡ s
 
 -- ---- the report of a message
 

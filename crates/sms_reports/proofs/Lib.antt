@@ -1,1 +1,4 @@
 pub mod AllWaiting
+pub mod FewWaiting
+pub mod ReportRows
+pub mod WaitingChanges

@@ -1,6 +1,7 @@
 -- Rows in order are told by their look-ups.
-use Rattle.std.proofs.Common.{◌≡◌, ℕ, ◌<◌, ◌≤◌, List, [], ◌∷◌, Option, Some, None, refl, sym, ◌∙◌, ap, ⊎_elim, arith}
+use Rattle.std.proofs.Common.{◌≡◌, ℕ, ◌/◌, ◌%◌, ◌*◌, ◌+◌, ◌<◌, ◌≤◌, List, [], ◌∷◌, Option, Some, None, refl, sym, ◌∙◌, ap, ⊎_elim, arith}
 use Rattle.std.proofs.lemmas.Bool.{cases_eq, cases_lt}
+use Rattle.sms_table.specs.Keys.{pair_key}
 use Rattle.sms_table.specs.Table.{AllAbove, Rises, row_at}
 use Rattle.sms_table.proofs.Tables.{above_lower, row_behind, row_here}
 
@@ -35,3 +36,13 @@ rises_alike {A} key (x ∷ xs) (y ∷ ys) a b same = ⊎_elim
     let bad : None ≡ Some y = sym (above_none key (key y) (x ∷ xs) (m, above_lower key (key y) (key x) xs (omega arith) a.0)) ∙ same (key y) ∙ row_here key (key y) y ys refl in absurd cc)
     (cases_eq (key x) (key y)))
     (cases_lt (key x) (key y))
+
+-- so are rows with keys of two parts, the second below 256
+pub pairs_alike : {A : Type 0} (key : A → ℕ) (xs ys : List A) → Rises key xs → Rises key ys
+    → ((first second : ℕ) → second < 256 → row_at key (pair_key first second) xs ≡ row_at key (pair_key first second) ys) → xs ≡ ys
+pairs_alike {A} key xs ys a b same = rises_alike key xs ys a b (λ k.
+    let first : ℕ = k / 256 in
+    let second : ℕ = k % 256 in
+    let small : second < 256 = omega arith in
+    let whole : pair_key first second ≡ k = omega arith in
+    ap (λ (n : ℕ). row_at key n xs) (sym whole) ∙ same first second small ∙ ap (λ (n : ℕ). row_at key n ys) whole)
