@@ -1,1 +1,2 @@
+pub mod PartRows
 pub mod PartsWaiting

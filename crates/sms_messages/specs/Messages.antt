@@ -1,5 +1,5 @@
 -- Messages, their parts and their priorities, as they stand and in the middle of an event.
-use Rattle.std.specs.Prelude.{ℕ, ◌+◌, ◌==◌, ◌&&◌, not, is_none, List, [], ◌∷◌, Bool, true, false, if◌then◌else◌, Option, Some, None}
+use Rattle.std.specs.Prelude.{ℕ, ◌+◌, ◌==◌, ◌&&◌, not, is_none, List, [], ◌∷◌, Bool, true, Option, Some, None}
 use Rattle.sms_base.specs.declared.final_state.FinalState.{FinalState}
 use Rattle.sms_table.specs.Keys.{pair_key}
 use Rattle.sms_table.specs.Since.{Since, put_in as put_since, rows_of as rows_since}

@@ -1,10 +1,12 @@
 -- What messages are still to bring to a handset: the parts of pending messages that aren't done.
-use Rattle.std.specs.Prelude.{ℕ, ◌&&◌, not, List, [], ◌∷◌, Bool, false, if◌then◌else◌, Option, Some, None}
+use Rattle.std.specs.Prelude.{ℕ, ◌<◌, ◌&&◌, not, List, [], ◌∷◌, Bool, false, if◌then◌else◌, Option, Some, None}
 use Rattle.std.specs.Str.{bytes_eq}
+use Rattle.sms_base.specs.Among.{Among}
+use Rattle.sms_table.specs.Table.{Rises}
 use Rattle.sms_messages.specs.declared.message.MessageRow.{MessageRow}
 use Rattle.sms_messages.specs.declared.part.PartRow.{PartRow}
 use Rattle.sms_messages.specs.declared.priority.PriorityRow.{PriorityRow}
-use Rattle.sms_messages.specs.Messages.{is_pending, message_at, priority_of}
+use Rattle.sms_messages.specs.Messages.{is_pending, message_at, part_key, priority_of}
 use Rattle.sms_waiting.specs.declared.load.Load.{Load}
 
 -- it isn't done, and its message is pending
@@ -37,3 +39,8 @@ parts_waiting handset messages priorities [] = []
 parts_waiting handset messages priorities (p ∷ ps) =
     if waits_for handset p (message_at p.id messages) then part_load p priorities ∷ parts_waiting handset messages priorities ps
     else parts_waiting handset messages priorities ps
+
+-- parts have numbers from 1 to 255, and stand in the order of their keys
+pub record Numbered (parts : List PartRow) : Type 0 where
+  pub keys : Rises part_key parts
+  pub numbers : (p : PartRow) → Among p parts → (0 < p.number) × (p.number < 256)

@@ -1,7 +1,7 @@
 -- All that waits for a handset, looked up: a part's load is that of the part under its key, a status report's that of the report of
 -- its message.
-use Rattle.std.proofs.Common.{◌≡◌, ◌⊎◌, ℕ, ◌+◌, ◌*◌, ◌<◌, List, [], ◌∷◌, Option, Some, None, Bool, true, false, refl, sym, ◌∙◌, ap, subst, inl, inr, ⊎_elim, cond, eq-eqb, arith}
-use Rattle.std.specs.Prelude.{◌==◌, if◌then◌else◌}
+use Rattle.std.proofs.Common.{◌≡◌, ℕ, ◌<◌, List, [], ◌∷◌, Option, Some, None, true, false, refl, sym, ◌∙◌, ap, subst, inl, inr, ⊎_elim, eq-eqb, arith}
+use Rattle.std.specs.Prelude.{◌==◌}
 use Rattle.std.proofs.lemmas.Bool.{cases_Bool, cases_eq, cond-true, cond-false, ne_eqb}
 use Rattle.sms_base.specs.Among.{Among}
 use Rattle.sms_table.specs.Keys.{pair_key}
@@ -15,7 +15,8 @@ use Rattle.sms_messages.specs.OpenParts.{part_wait, parts_waiting}
 use Rattle.sms_messages.proofs.PartsWaiting.{rises_waiting, waiting_at}
 use Rattle.sms_reports.specs.declared.report.ReportRow.{ReportRow}
 use Rattle.sms_reports.specs.Reports.{report_of}
-use Rattle.sms_reports.specs.Waiting.{Alone, Numbered, report_load, report_wait, reports_to, waiting_for, with_reports}
+use Rattle.sms_messages.specs.OpenParts.{Numbered}
+use Rattle.sms_reports.specs.Waiting.{Alone, report_load, report_wait, reports_to, waiting_for, with_reports}
 use Rattle.sms_waiting.specs.declared.load.Load.{Load}
 use Rattle.sms_waiting.specs.Keys.{load_key}
 

@@ -1,5 +1,5 @@
 -- The numbers of what waits are below 256.
-use Rattle.std.proofs.Common.{◌≡◌, ◌⊎◌, ℕ, ◌<◌, List, [], ◌∷◌, Option, Bool, true, false, refl, sym, ap, subst, inl, inr, ⊎_elim, arith}
+use Rattle.std.proofs.Common.{◌≡◌, ℕ, ◌<◌, List, [], ◌∷◌, true, false, refl, sym, subst, inl, inr, ⊎_elim, arith}
 use Rattle.std.proofs.lemmas.Bool.{cases_Bool, cond-true, cond-false}
 use Rattle.sms_base.specs.Among.{Among}
 use Rattle.sms_table.specs.Table.{put}
@@ -10,7 +10,8 @@ use Rattle.sms_messages.specs.declared.priority.PriorityRow.{PriorityRow}
 use Rattle.sms_messages.specs.Messages.{message_at}
 use Rattle.sms_messages.specs.OpenParts.{part_load, parts_waiting, waits_for}
 use Rattle.sms_reports.specs.declared.report.ReportRow.{ReportRow}
-use Rattle.sms_reports.specs.Waiting.{Numbered, report_load, reports_to, waiting_for, with_reports}
+use Rattle.sms_messages.specs.OpenParts.{Numbered}
+use Rattle.sms_reports.specs.Waiting.{report_load, reports_to, waiting_for, with_reports}
 use Rattle.sms_waiting.specs.declared.load.Load.{Load}
 use Rattle.sms_waiting.specs.Keys.{load_key}
 use Rattle.sms_waiting.proofs.Withdrawing.{AreFew}

@@ -1,4 +1,5 @@
 pub mod AllWaiting
+pub mod EndsWaiting
 pub mod FewWaiting
 pub mod ReportRows
 pub mod WaitingChanges

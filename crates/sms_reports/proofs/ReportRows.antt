@@ -1,5 +1,5 @@
 -- The report of a message, where a report comes and where one is so far.
-use Rattle.std.proofs.Common.{◌≡◌, ◌⊎◌, ℕ, ◌<◌, ◌≤◌, List, [], ◌∷◌, Option, Some, None, Bool, true, false, refl, sym, ◌∙◌, ap, subst, inl, inr, ⊎_elim, eq-eqb, arith}
+use Rattle.std.proofs.Common.{◌≡◌, ℕ, ◌<◌, ◌≤◌, List, [], ◌∷◌, Option, Some, None, refl, sym, ◌∙◌, ap, inl, inr, ⊎_elim, eq-eqb}
 use Rattle.std.specs.Prelude.{◌==◌, if◌then◌else◌}
 use Rattle.std.proofs.lemmas.Bool.{cases_eq, cases_lt, cond-true, cond-false, ne_eqb}
 use Rattle.sms_base.specs.Among.{Among}
@@ -7,16 +7,12 @@ use Rattle.sms_table.specs.Table.{Rises, insert, put, row_at, without}
 use Rattle.sms_table.proofs.Tables.{among_found, among_put, insert_behind, insert_here, without_behind}
 use Rattle.sms_reports.specs.declared.report.ReportRow.{ReportRow}
 use Rattle.sms_reports.specs.Reports.{report_key, report_of, report_reaching}
-use Rattle.sms_reports.specs.Waiting.{Alone}
+use Rattle.sms_reports.specs.Waiting.{Alone, IsNew}
 use Rattle.sms_reports.proofs.AllWaiting.{report_behind, report_found, report_here}
 use Rattle.sms_waiting.specs.declared.progress.Progress.{Progress}
 use Rattle.sms_waiting.specs.Revisions.{amended}
 
--- ---- a report that is new: no other has its place, and no other is of its message
-
-pub record IsNew (rs : List ReportRow) (r : ReportRow) : Type 0 where
-  pub place : (s : ReportRow) → Among s rs → ¬ (s.place ≡ r.place)
-  pub message : (s : ReportRow) → Among s rs → ¬ (s.id ≡ r.id)
+-- ---- a report that is new
 
 without_none : (n : ℕ) (rs : List ReportRow) → ((s : ReportRow) → Among s rs → ¬ (s.place ≡ n)) → without report_key n rs ≡ rs
 without_none n [] f = refl
@@ -104,9 +100,9 @@ amended_other id r q rs rises e ne = by (report_of id rs) refl where
       let here = report_found id s rs f in
       let there = report_found r.id r rs e in
       let apart : ¬ (s.place ≡ r.place) = λ p.
-          let same : Some s ≡ Some r = sym (among_found report_key s rs rises here.0) ∙ ap (λ (k : ℕ). row_at report_key k rs) p ∙ among_found report_key r rs rises there.0 in
-          let is : s ≡ r = cc in
-          ne (ap (λ (x : ReportRow). x.id) (sym is) ∙ here.1) in
+      let same : Some s ≡ Some r = sym (among_found report_key s rs rises here.0) ∙ ap (λ (k : ℕ). row_at report_key k rs) p ∙ among_found report_key r rs rises there.0 in
+      let is : s ≡ r = cc in
+      ne (ap (λ (x : ReportRow). x.id) (sym is) ∙ here.1) in
       far_of id r.place q rs s f ∙ ap (λ (x : ReportRow). Some x) (cond-false (s.place == r.place) (report_reaching q s) s (ne_eqb s.place r.place apart))
 
 among_far : (n : ℕ) (q : Progress) (rs : List ReportRow) (s : ReportRow) → Among s (amended report_key report_reaching n q rs) → (r : ReportRow) × (Among r rs × (s ≡ so_far n q r))

@@ -1,11 +1,9 @@
 -- What becomes of all that waits for a handset when a part, a report or a message changes.
-use Rattle.std.proofs.Common.{◌≡◌, ◌⊎◌, ℕ, zero, suc, ◌+◌, ◌*◌, ◌<◌, List, [], ◌∷◌, Option, Some, None, Bool, true, false, refl, sym, ◌∙◌, ap, subst, inl, inr, ⊎_elim, cond, arith}
-use Rattle.std.specs.Prelude.{if◌then◌else◌}
+use Rattle.std.proofs.Common.{◌≡◌, ◌⊎◌, ℕ, zero, suc, ◌<◌, List, Option, Some, None, true, false, refl, sym, ◌∙◌, ap, subst, inl, inr, ⊎_elim, arith}
 use Rattle.std.proofs.lemmas.Bool.{cases_Bool, cases_eq, cond-true, cond-false}
-use Rattle.sms_base.specs.Among.{Among}
 use Rattle.sms_table.specs.Keys.{pair_key}
-use Rattle.sms_table.specs.Table.{Rises, put, row_at, without}
-use Rattle.sms_table.proofs.Tables.{found_among, found_key, rises_put, rises_without, row_at_put, row_at_put_other, row_at_without, row_at_without_other, among_found}
+use Rattle.sms_table.specs.Table.{Rises, put, row_at}
+use Rattle.sms_table.proofs.Tables.{found_among, rises_put, rises_without, row_at_put, row_at_put_other, row_at_without, row_at_without_other}
 use Rattle.sms_messages.specs.declared.message.MessageRow.{MessageRow}
 use Rattle.sms_messages.specs.declared.part.PartRow.{PartRow}
 use Rattle.sms_messages.specs.declared.priority.PriorityRow.{PriorityRow}
@@ -13,7 +11,8 @@ use Rattle.sms_messages.specs.Messages.{message_at, part_at, part_key}
 use Rattle.sms_messages.specs.OpenParts.{part_load, part_wait, waits_for}
 use Rattle.sms_reports.specs.declared.report.ReportRow.{ReportRow}
 use Rattle.sms_reports.specs.Reports.{report_of}
-use Rattle.sms_reports.specs.Waiting.{Alone, Numbered, report_load, report_wait, reports_to, waiting_as, waiting_for}
+use Rattle.sms_messages.specs.OpenParts.{Numbered}
+use Rattle.sms_reports.specs.Waiting.{Alone, report_load, report_wait, reports_to, waiting_as, waiting_for}
 use Rattle.sms_reports.proofs.AllWaiting.{part_waits_at, report_waits_at, rises_all}
 use Rattle.sms_waiting.specs.declared.load.Load.{Load}
 use Rattle.sms_waiting.specs.Keys.{load_key}
@@ -127,7 +126,7 @@ nothing_changes h ms others qs priorities ps rs numbered alone parts reports =
 
 pub message_ends : (h : List ℕ) (ms others : List MessageRow) (qs : List PriorityRow) (ps : List PartRow) (rs : List ReportRow) (id : ℕ) → Numbered ps → Alone rs
     → ((n : ℕ) → 0 < n → n < 256 → part_wait h others qs (part_at id n ps) ≡ None)
-    → ((i n : ℕ) → ¬ (i ≡ id) → part_wait h others qs (part_at i n ps) ≡ part_wait h ms qs (part_at i n ps))
+    → ((i n : ℕ) → n < 256 → ¬ (i ≡ id) → part_wait h others qs (part_at i n ps) ≡ part_wait h ms qs (part_at i n ps))
     → ((i : ℕ) → report_wait h others (report_of i rs) ≡ report_wait h ms (report_of i rs))
     → AreFew (waiting_for h ms qs ps rs)
     → waiting_for h others qs ps rs ≡ withdrawn id (waiting_for h ms qs ps rs)
@@ -142,5 +141,5 @@ message_ends h ms others qs ps rs id numbered alone own parts reports few =
     ap (λ (k : ℕ). part_wait h others qs (part_at k n ps)) e ∙ own n some small
     ∙ sym (ap (λ (k : ℕ). row_at load_key (pair_key k n) (withdrawn id w)) e ∙ withdrawn_part id n w few some small))
     (λ (e : i ≡ id → ⊥).
-    parts i n e ∙ sym (part_waits_at h ms qs ps rs i n numbered some small) ∙ sym (withdrawn_other id i n w few small (inl e)))
+    parts i n small e ∙ sym (part_waits_at h ms qs ps rs i n numbered some small) ∙ sym (withdrawn_other id i n w few small (inl e)))
     (cases_eq i id)))

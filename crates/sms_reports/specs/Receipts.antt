@@ -1,9 +1,9 @@
 -- Receipts to applications: the oldest first, in the lowest numbered session of the account that receives, at most ten that are
 -- unanswered in a session. One that was refused, or whose session ended, goes again at the next bind of its account or after a
 -- minute.
-use Rattle.std.specs.Prelude.{ℕ, ◌==◌, ◌&&◌, ◌||◌, not, nat_le, nat_lt, length, List, [], ◌∷◌, ◌++◌, Bool, true, false, if◌then◌else◌, Option, Some, None}
+use Rattle.std.specs.Prelude.{ℕ, ◌==◌, ◌&&◌, ◌||◌, not, nat_le, nat_lt, length, List, [], ◌∷◌, ◌++◌, Bool, false, if◌then◌else◌, Option, Some, None}
 use Rattle.std.specs.Str.{bytes_eq}
-use Rattle.sms_table.specs.Table.{row_at, put, without}
+use Rattle.sms_table.specs.Table.{put, without}
 use Rattle.sms_messages.specs.declared.message.MessageRow.{MessageRow}
 use Rattle.sms_messages.specs.declared.message.Originator.{Originator}
 use Rattle.sms_messages.specs.declared.message.Originator.TheVariants.{Application, Handset}

@@ -1,5 +1,5 @@
 -- Receipts and status reports that a centre can stand on.
-use Rattle.std.specs.Prelude.{◌≡◌, ℕ, ◌<◌, ◌≤◌, List, length, true, Option, Some, None, Ok}
+use Rattle.std.specs.Prelude.{◌≡◌, ℕ, ◌<◌, ◌≤◌, List, length, true, Some, Ok}
 use Rattle.sms_base.specs.Among.{Among}
 use Rattle.sms_base.specs.declared.final_state.FinalState.{FinalState}
 use Rattle.sms_table.specs.Table.{Rises}
@@ -14,7 +14,7 @@ use Rattle.sms_messages.specs.Messages.{message_at}
 use Rattle.sms_reports.specs.declared.report.ReportKind.{ReportKind}
 use Rattle.sms_reports.specs.declared.report.ReportKind.TheVariants.{Receipt, Status, Unsent}
 use Rattle.sms_reports.specs.declared.report.ReportRow.{ReportRow}
-use Rattle.sms_reports.specs.Reports.{report_key, report_of}
+use Rattle.sms_reports.specs.Reports.{report_key}
 
 -- Its octets are a STATUS-REPORT (3GPP TS 23.040 9.2.2.3) of its message, with TP-MMS 1; of 200 octets at most.
 pub record IsStatus (message_reference : ℕ) (m : MessageRow) (made : ℕ) (tpdu : List ℕ) (d : StatusReportOf) : Type 0 where

@@ -1,13 +1,13 @@
 -- All that waits for a handset: parts of pending messages that aren't done, and open status reports, in the order of messages and
 -- numbers.
-use Rattle.std.specs.Prelude.{◌≡◌, ℕ, ◌<◌, ◌&&◌, List, [], ◌∷◌, Bool, false, if◌then◌else◌, Option, Some, None}
+use Rattle.std.specs.Prelude.{◌≡◌, ℕ, ◌&&◌, List, [], ◌∷◌, Bool, false, if◌then◌else◌, Option, Some, None}
 use Rattle.sms_base.specs.Among.{Among}
 use Rattle.std.specs.Str.{bytes_eq}
-use Rattle.sms_table.specs.Table.{Rises, put, without}
+use Rattle.sms_table.specs.Table.{put, without}
 use Rattle.sms_messages.specs.declared.message.MessageRow.{MessageRow}
 use Rattle.sms_messages.specs.declared.part.PartRow.{PartRow}
 use Rattle.sms_messages.specs.declared.priority.PriorityRow.{PriorityRow}
-use Rattle.sms_messages.specs.Messages.{message_at, part_key}
+use Rattle.sms_messages.specs.Messages.{message_at}
 use Rattle.sms_messages.specs.OpenParts.{parts_waiting}
 use Rattle.sms_reports.specs.declared.report.ReportRow.{ReportRow}
 use Rattle.sms_reports.specs.Reports.{is_open_status, status_reference}
@@ -45,11 +45,11 @@ abbrev pub waiting_as : ℕ → Option Load → List Load → List Load
 waiting_as key None loads = without load_key key loads
 waiting_as key (Some l) loads = put load_key l loads
 
--- parts have numbers from 1 to 255, and stand in the order of their keys
-pub record Numbered (parts : List PartRow) : Type 0 where
-  pub keys : Rises part_key parts
-  pub numbers : (p : PartRow) → Among p parts → (0 < p.number) × (p.number < 256)
-
 -- no message has two reports
 abbrev pub Alone : List ReportRow → Type 0
 Alone reports = (r s : ReportRow) → Among r reports → Among s reports → r.id ≡ s.id → r ≡ s
+
+-- no other report has its place, and no other is of its message
+pub record IsNew (reports : List ReportRow) (r : ReportRow) : Type 0 where
+  pub place : (s : ReportRow) → Among s reports → ¬ (s.place ≡ r.place)
+  pub message : (s : ReportRow) → Among s reports → ¬ (s.id ≡ r.id)

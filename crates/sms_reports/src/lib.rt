@@ -6,6 +6,7 @@
 #![tactic(auto)]
 
 mod delivery;
+pub mod laws;
 mod report;
 
 pub use delivery::Delivery;

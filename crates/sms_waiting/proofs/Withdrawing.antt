@@ -1,6 +1,6 @@
 -- The parts of a message that wait no more: the others stay in order, and are found as before.
-use Rattle.std.proofs.Common.{◌≡◌, ◌⊎◌, ℕ, ◌+◌, ◌*◌, ◌<◌, List, [], ◌∷◌, Option, Some, None, Bool, true, false, refl, sym, ◌∙◌, ap, subst, inl, inr, ⊎_elim, cond, eq-eqb, eqb-true, arith}
-use Rattle.std.specs.Prelude.{◌==◌, ◌&&◌, not}
+use Rattle.std.proofs.Common.{◌≡◌, ◌⊎◌, ℕ, ◌<◌, List, [], ◌∷◌, None, Bool, true, false, refl, sym, ◌∙◌, ap, subst, inl, inr, ⊎_elim, eq-eqb, eqb-true, arith}
+use Rattle.std.specs.Prelude.{◌==◌, not}
 use Rattle.std.proofs.lemmas.Bool.{cases_Bool, cases_eq, cond-true, cond-false, ne_eqb, and_parts, and_from}
 use Rattle.sms_base.specs.Among.{Among}
 use Rattle.sms_table.specs.Keys.{pair_key}
@@ -43,11 +43,11 @@ withdrawn_part id n (l ∷ ls) few some small =
     (λ (t : is_part_of id l ≡ false).
     let low = few l (inl refl) in
     let ne : ¬ (load_key l ≡ pair_key id n) = λ e.
-        let same : l.id ≡ id = omega (arith, e, low, small) in
-        let number : l.number ≡ n = omega (arith, e, low, small) in
-        let nonzero : ¬ (l.number ≡ 0) = λ z. absurd (omega (arith, z, number, some)) in
-        let yes : is_part_of id l ≡ true = and_from (l.id == id) (not (l.number == 0)) (eq-eqb l.id id same) (ap (λ (b : Bool). not b) (ne_eqb l.number 0 nonzero)) in
-        absurd cc in
+    let same : l.id ≡ id = omega (arith, e, low, small) in
+    let number : l.number ≡ n = omega (arith, e, low, small) in
+    let nonzero : ¬ (l.number ≡ 0) = λ z. absurd (omega (arith, z, number, some)) in
+    let yes : is_part_of id l ≡ true = and_from (l.id == id) (not (l.number == 0)) (eq-eqb l.id id same) (ap (λ (b : Bool). not b) (ne_eqb l.number 0 nonzero)) in
+    absurd cc in
     ap (λ (r : List Load). row_at load_key (pair_key id n) r) (withdrawn_rest id l ls t) ∙ row_behind load_key (pair_key id n) l (withdrawn id ls) ne ∙ rest)
     (cases_Bool (is_part_of id l))
 
@@ -63,9 +63,9 @@ withdrawn_other id i n (l ∷ ls) few small other =
     let at : l.id ≡ id = eqb-true l.id id parts.0 in
     let nonzero : ¬ (l.number ≡ 0) = λ z. let y : (l.number == 0) ≡ true = eq-eqb l.number 0 z in let p = parts.1 in absurd cc in
     let ne : ¬ (load_key l ≡ pair_key i n) = λ e. ⊎_elim
-        (λ (d : ¬ (i ≡ id)). d (omega (arith, e, at, low, small)))
-        (λ (z : n ≡ 0). nonzero (omega (arith, e, z, low)))
-        other in
+    (λ (d : ¬ (i ≡ id)). d (omega (arith, e, at, low, small)))
+    (λ (z : n ≡ 0). nonzero (omega (arith, e, z, low)))
+    other in
     ap (λ (r : List Load). row_at load_key (pair_key i n) r) (withdrawn_first id l ls t) ∙ rest ∙ sym (row_behind load_key (pair_key i n) l ls ne))
     (λ (t : is_part_of id l ≡ false).
     ap (λ (r : List Load). row_at load_key (pair_key i n) r) (withdrawn_rest id l ls t) ∙ ⊎_elim
