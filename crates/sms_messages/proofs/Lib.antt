@@ -1,2 +1,3 @@
+pub mod DoneParts
 pub mod PartRows
 pub mod PartsWaiting

@@ -2,3 +2,4 @@ pub mod Messages
 pub mod OpenParts
 pub mod SplitReferences
 pub mod SoundMessages
+pub mod PartEntries

@@ -8,8 +8,10 @@
 
 mod message;
 mod part;
+mod parts;
 mod priority;
 
 pub use message::{MessageRow, Originator, Wish};
 pub use part::PartRow;
+pub use parts::{PartEntry, PendingParts, SettledParts};
 pub use priority::PriorityRow;
