@@ -6,6 +6,7 @@
 //! centre may split a message under (3GPP TS 23.040 9.2.3.24.8).
 #![tactic(auto)]
 
+pub mod laws;
 mod message;
 mod part;
 mod parts;
