@@ -1,36 +1,24 @@
 -- Rows that a centre can stand on.
-use Rattle.std.specs.Prelude.{◌≡◌, ℕ, List, [], ◌∷◌, false, Option, Some, None}
+use Rattle.std.specs.Prelude.{◌≡◌, ℕ, List, false, Option, Some}
 use Rattle.sms_base.specs.Address.{IsAddress}
 use Rattle.sms_base.specs.Among.{Among}
-use Rattle.sms_base.specs.declared.address.Address.{Address}
-use Rattle.sms_messages.specs.declared.part.PartRow.{PartRow}
-use Rattle.sms_messages.specs.Messages.{message_at}
+use Rattle.sms_messages.specs.declared.message.MessageRow.{MessageRow}
 use Rattle.sms_messages.specs.SoundMessages.{SoundMessages}
-use Rattle.sms_messages.specs.SplitReferences.{held_splits, is_among}
-use Rattle.sms_reports.specs.declared.report.ReportRow.{ReportRow}
-use Rattle.sms_reports.specs.Reports.{status_reference, is_status}
+use Rattle.sms_messages.specs.SplitReferences.{is_delivered}
 use Rattle.sms_reports.specs.SoundReports.{SoundReports}
 use Rattle.sms_reports.specs.Waiting.{waiting_for}
-use Rattle.sms_waiting.specs.declared.handset.HandsetRow.{HandsetRow}
 use Rattle.sms_waiting.specs.declared.load.Load.{Load}
-use Rattle.sms_waiting.specs.declared.reference.ReferenceRow.{ReferenceRow}
 use Rattle.sms_waiting.specs.References.{handset_at}
-use Rattle.sms_waiting.specs.SoundGivings.{SoundGivings, reference_at}
+use Rattle.sms_waiting.specs.SoundGivings.{SoundGivings}
+use Rattle.sms_waiting.specs.SoundWaiting.{SoundWaiting}
 use Rattle.sms_centre.specs.declared.rows.Rows.{Rows}
 
--- the reference was given at the handset
-abbrev pub WasGiven : List ℕ → ℕ → Rows → Type 0
-WasGiven number reference rows =
-    (h : HandsetRow) × ((r : ReferenceRow) × ((handset_at number rows.handsets ≡ Some h) × (reference_at h.place reference rows.references ≡ Some r)))
-
--- no number stands twice
-abbrev pub Differ : List ℕ → Type 0
-Differ [] = Unit {0}
-Differ (n ∷ ns) = (is_among n ns ≡ false) × Differ ns
-
-abbrev pub references_held : List Load → List ℕ
-references_held [] = []
-references_held (l ∷ ls) = l.reference ∷ references_held ls
+-- No two messages of a source to a handset that aren't wholly delivered were split under one reference: so what a handset joins is
+-- one of them.
+abbrev pub AreSplitApart : List MessageRow → Type 0
+AreSplitApart messages =
+    (m n : MessageRow) (reference : ℕ) → Among m messages → Among n messages → m.source ≡ n.source → m.handset ≡ n.handset
+    → m.split_reference ≡ Some reference → n.split_reference ≡ Some reference → is_delivered m.state ≡ false → is_delivered n.state ≡ false → m.id ≡ n.id
 
 -- all that waits for a handset
 abbrev pub all_for : List ℕ → Rows → List Load
@@ -41,8 +29,5 @@ pub record IsSound (rows : Rows) : Type 0 where
   pub messages : SoundMessages rows.messages rows.parts rows.priorities
   pub givings : SoundGivings rows.handsets rows.references
   pub reports : SoundReports rows.messages rows.reports
-  -- what waits for a handset holds references that were given there, and no two hold the same
-  pub given : (number : List ℕ) (l : Load) → Among l (all_for number rows) → WasGiven number l.reference rows
-  pub apart : (number : List ℕ) → Differ (references_held (all_for number rows))
-  -- no two messages of a source to a handset that aren't wholly delivered were split under one reference
-  pub splits : (source : Address) (number : List ℕ) → Differ (held_splits source number rows.messages)
+  pub waiting : (number : List ℕ) → SoundWaiting (handset_at number rows.handsets) rows.references (all_for number rows)
+  pub splits : AreSplitApart rows.messages

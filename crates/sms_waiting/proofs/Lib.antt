@@ -9,3 +9,4 @@ pub mod ReferencesShown
 pub mod Revising
 pub mod Showing
 pub mod Withdrawing
+pub mod WaitingSound

@@ -7,3 +7,4 @@ pub mod Shelves
 pub mod Trying
 pub mod SoundGivings
 pub mod Shelved
+pub mod SoundWaiting
