@@ -1,5 +1,5 @@
 -- Through every event the changes lead from the rows as they were to the rows as they stand.
-use Rattle.std.proofs.Common.{◌≡◌, ℕ, List, refl, sym, ◌∙◌, ap}
+use Rattle.std.proofs.Common.{◌≡◌, refl, sym, ◌∙◌, ap}
 use Rattle.sms_table.proofs.SinceLaws.{commits}
 use Rattle.sms_messages.specs.Messages.{message_key, part_key, part_reaching, priority_key}
 use Rattle.sms_reports.specs.Reports.{report_key, report_reaching}
@@ -7,7 +7,7 @@ use Rattle.sms_waiting.specs.Keys.{handset_key, reference_key}
 use Rattle.sms_waiting.proofs.Revising.{revisions_commit}
 use Rattle.sms_centre.specs.declared.event.CentreEvent.{CentreEvent}
 use Rattle.sms_centre.specs.declared.rows.Rows.{Rows}
-use Rattle.sms_centre.specs.Draft.{Core, Draft, Store, changes_in, core_of, draft_of, rows_after, rows_of}
+use Rattle.sms_centre.specs.Draft.{Core, Draft, Store, changes_in, core_of, rows_after, rows_of}
 use Rattle.sms_centre.specs.CentreEvent.{happened}
 use Rattle.sms_centre.specs.Planning.{adopted, outcome_of}
 use Rattle.sms_centre.proofs.Stages.{Closed, happened_keeps}

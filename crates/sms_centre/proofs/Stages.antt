@@ -56,12 +56,12 @@ use Rattle.sms_centre.specs.HandsetIntake.{from_tpdu}
 use Rattle.sms_centre.specs.Numbers.{id_in}
 use Rattle.sms_centre.specs.SmppIntake.{from_pdu, source_in, is_empty}
 use Rattle.sms_centre.specs.Submitting.{accept, accept_as, accept_split, accept_under, bodies_under, enter, give_part, give_parts, is_long, is_reference_taken, part_given, reference_for}
-use Rattle.sms_centre.specs.Ends.{end, is_wished, make_report, report, report_to, status_given}
+use Rattle.sms_centre.specs.Ends.{end, is_wished, report, report_to, status_given}
 use Rattle.sms_centre.specs.Transfers.{complete, conclude, holder_ended, part_ended, part_ended_at, part_ended_of, report_closed, report_ended, report_ended_at, verdict_on}
 use Rattle.sms_centre.specs.Receiving.{all_due, due_now, is_duplicate, load_due, part_due, refuse, report_due, submit_accepted, submit_came as submission_from, unit_came}
 use Rattle.sms_centre.specs.Requests.{account_at, accepted, cancel_by, cancelled, message_numbered, own_message, queried, query_by, submission_came, submit_by}
-use Rattle.sms_centre.specs.Sessions.{answered_by, bind, bound_as, due_for, receipt_answered, unbind, unbound_from}
-use Rattle.sms_centre.specs.CentreEvent.{aged, at_moment, drop_all, dropped, expire_all, expired, fire_at, fire_line, fire_mentioned, fire_others, fired, frame_taken, happened, is_mentioned, lost, lower, lower_line, raise, raise_all, raised, report_limit, timed_out, went_up}
+use Rattle.sms_centre.specs.Sessions.{answered_by, bind, bound_as, due_for, unbind, unbound_from}
+use Rattle.sms_centre.specs.CentreEvent.{aged, at_moment, drop_all, expire_all, expired, fire_at, fire_line, fire_mentioned, fire_others, fired, frame_taken, happened, is_mentioned, lost, lower, raise, raise_all, raised, report_limit, timed_out, went_up}
 use Rattle.sms_centre.specs.Draft.{Core, Draft, Store, draft_of, handsets_in, messages_in, on_air, parts_in, reports_in, waiting_in, with_given, with_message, with_part, with_part_at, with_priority, with_report_at, with_reports}
 
 -- the moves keep the fact

@@ -1,7 +1,6 @@
 -- A session has at most ten receipts that are unanswered; the eleventh goes once one was answered.
-use Rattle.std.proofs.Common.{◌≡◌, ℕ, zero, suc, ◌+◌, List, [], ◌∷◌, length, true, Some, refl}
+use Rattle.std.proofs.Common.{◌≡◌, ℕ, zero, suc, ◌+◌, [], ◌∷◌, length, true, refl}
 use Rattle.std.specs.Prelude.{codes}
-use Rattle.sms_reports.specs.declared.delivery.Delivery.{Delivery}
 use Rattle.sms_centre.specs.Draft.{Core, Draft, core_of}
 use Rattle.sms_centre.specs.CentreEvent.{submit_came, ticked, answered}
 use Rattle.sms_centre.proofs.Everything.{everything}

@@ -1,7 +1,7 @@
 -- A centre between two events, and in the middle of one. A draft has three parts, and most stages touch one of them alone: the
 -- rows with what came of them, the lines to handsets with what was sent on them, and the sessions of applications with the
 -- receipts that were sent in them.
-use Rattle.std.specs.Prelude.{ℕ, List, [], ◌∷◌, Bool, true, false, Option, Some, None}
+use Rattle.std.specs.Prelude.{ℕ, List, [], Option, Some, None}
 use Rattle.sms_table.specs.Since.{untouched, oldest_first as changes_of}
 use Rattle.sms_table.specs.Table.{all_applied}
 use Rattle.sms_centre.specs.declared.answer.CentreAnswer.{CentreAnswer}
@@ -14,7 +14,7 @@ use Rattle.sms_messages.specs.declared.priority.PriorityRow.{PriorityRow}
 use Rattle.sms_messages.specs.Messages.{Messages, messages_of, parts_of, priorities_of, put_message, put_part, amend_part, put_priority, message_key, part_key, priority_key, part_reaching}
 use Rattle.sms_reports.specs.declared.report.ReportRow.{ReportRow}
 use Rattle.sms_reports.specs.Receipts.{Desk, Session}
-use Rattle.sms_reports.specs.Reports.{reports_of, put_report, amend_report, report_key, report_reaching}
+use Rattle.sms_reports.specs.Reports.{reports_of, amend_report, report_key, report_reaching}
 use Rattle.sms_reports.specs.Waiting.{waiting_for}
 use Rattle.sms_waiting.specs.declared.handset.HandsetRow.{HandsetRow}
 use Rattle.sms_waiting.specs.declared.line.Line.{Line}

@@ -15,5 +15,6 @@ pub mod Requests
 pub mod Sessions
 pub mod CentreEvent
 pub mod Planning
+pub mod Held
 pub mod SoundRows
 pub mod SoundCore

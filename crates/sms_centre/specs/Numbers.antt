@@ -1,7 +1,6 @@
 -- The numbers by which handsets are known, and addresses.
 use Rattle.std.specs.Prelude.{ℕ, ◌==◌, ◌&&◌, ◌+◌, ◌*◌, ◌-◌, nat_lt, nat_le, List, [], ◌∷◌, length, Bool, if◌then◌else◌, Option, Some, None}
 use Rattle.std.specs.List.{list_all}
-use Rattle.std.specs.Str.{bytes_eq}
 use Rattle.sms_base.specs.declared.address.Address.{Address}
 use Rattle.sms_base.specs.declared.type_of_number.TypeOfNumber.TheVariants.{International}
 use Rattle.sms_base.specs.AddressKind.{type_number}

@@ -1,8 +1,8 @@
 -- The sessions of applications: they are bound, take receipts and answer them, and end.
-use Rattle.std.specs.Prelude.{ℕ, List, [], Bool, false, if◌then◌else◌, Option, Some, None}
+use Rattle.std.specs.Prelude.{ℕ, List, [], Bool, if◌then◌else◌, Option, Some, None}
 use Rattle.sms_table.specs.Table.{row_at}
 use Rattle.sms_messages.specs.SplitReferences.{is_among}
-use Rattle.sms_reports.specs.Receipts.{Desk, Session, all_tried, answered_in, put_session, receipt_ended, receipts_due, remove_session, send_all, session_key}
+use Rattle.sms_reports.specs.Receipts.{Session, all_tried, answered_in, put_session, receipt_ended, receipts_due, remove_session, send_all, session_key}
 use Rattle.sms_reports.specs.Reports.{report_of}
 use Rattle.sms_centre.specs.declared.setup.Account.{Account}
 use Rattle.sms_centre.specs.Draft.{Draft, Store, messages_in, reports_in, with_reports}

@@ -1,5 +1,5 @@
 -- Rows that a centre can stand on.
-use Rattle.std.specs.Prelude.{◌≡◌, ℕ, List, false, Option, Some}
+use Rattle.std.specs.Prelude.{◌≡◌, ℕ, List, false, Some}
 use Rattle.sms_base.specs.Address.{IsAddress}
 use Rattle.sms_base.specs.Among.{Among}
 use Rattle.sms_messages.specs.declared.message.MessageRow.{MessageRow}

@@ -1,11 +1,11 @@
 -- What waits stays sound where a reference is given for one more, where one is put off, and where some wait no more.
-use Rattle.std.proofs.Common.{◌≡◌, ◌⊎◌, ℕ, zero, suc, ◌+◌, ◌*◌, ◌%◌, ◌<◌, List, [], ◌∷◌, map, Bool, true, false, Option, Some, None, refl, sym, ◌∙◌, ap, subst, inl, inr, ⊎_elim, cond, eq-eqb, eqb-true, arith}
-use Rattle.std.specs.Prelude.{◌==◌, ◌&&◌, ◌||◌, not}
+use Rattle.std.proofs.Common.{◌≡◌, ℕ, zero, suc, ◌<◌, List, [], ◌∷◌, Bool, true, false, Option, Some, None, refl, sym, ◌∙◌, ap, subst, inl, inr, ⊎_elim, eq-eqb, arith}
+use Rattle.std.specs.Prelude.{◌==◌, ◌||◌, not}
 use Rattle.std.proofs.lemmas.Bool.{cases_Bool, cases_eq, cond-true, cond-false, and_parts}
 use Rattle.sms_base.specs.Among.{Among}
 use Rattle.sms_table.specs.Keys.{pair_key}
 use Rattle.sms_table.specs.Table.{put, row_at, without}
-use Rattle.sms_table.proofs.Tables.{among_found, among_put, among_without, rises_put, rises_without, row_at_put, row_at_put_other}
+use Rattle.sms_table.proofs.Tables.{among_put, among_without, rises_put, rises_without, row_at_put, row_at_put_other}
 use Rattle.sms_waiting.specs.declared.handset.HandsetRow.{HandsetRow}
 use Rattle.sms_waiting.specs.declared.load.Load.{Load}
 use Rattle.sms_waiting.specs.declared.reference.ReferenceRow.{ReferenceRow}
@@ -66,7 +66,7 @@ given_more None h rs k now r same given small few = absurd given
 given_more (Some g) h rs k now r same given small few = ⊎_elim
     (λ (e : k ≡ r).
     let there : reference_at h.place r (put reference_key (given_row h k now) rs) ≡ Some (given_row h k now) =
-        subst (λ (n : ℕ). reference_at h.place n (put reference_key (given_row h k now) rs) ≡ Some (given_row h k now)) e (row_at_put reference_key (given_row h k now) rs) in
+    subst (λ (n : ℕ). reference_at h.place n (put reference_key (given_row h k now) rs) ≡ Some (given_row h k now)) e (row_at_put reference_key (given_row h k now) rs) in
     let found : (x : ReferenceRow) × (reference_at h.place r (put reference_key (given_row h k now) rs) ≡ Some x) = (given_row h k now, there) in found)
     (λ (e : k ≡ r → ⊥).
     let apart : ¬ (pair_key h.place k ≡ pair_key h.place r) = λ q. e (omega (arith, q)) in
@@ -89,7 +89,7 @@ waits_under row h rs waiting l now sound same next =
       given = λ x m. ⊎_elim
           (λ (e : x ≡ l).
           let found : (r : ReferenceRow) × (reference_at h.place l.reference (put reference_key (given_row h l.reference now) rs) ≡ Some r) =
-              (given_row h l.reference now, row_at_put reference_key (given_row h l.reference now) rs) in
+          (given_row h l.reference now, row_at_put reference_key (given_row h l.reference now) rs) in
           subst (λ (y : Load). WasGiven (Some (mentioned h l.reference)) (put reference_key (given_row h l.reference now) rs) y.reference) (sym e) found)
           (λ (k : Among x waiting × ¬ (load_key x ≡ load_key l)).
           given_more row h rs l.reference now x.reference same (sound.given x k.0) (sound.small x k.0) free.1)
