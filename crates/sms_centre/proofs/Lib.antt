@@ -13,6 +13,7 @@ mod ReceiptWords
 mod ReferencesGiven
 mod RequestsAnswered
 mod Restarted
+pub mod HeldGivings
 pub mod HeldStages
 pub mod Resting
 mod SplitsApart
