@@ -7,14 +7,17 @@ use Rattle.std.specs.Str.{bytes_eq}
 use Rattle.sms_base.specs.Among.{Among}
 use Rattle.sms_table.specs.Keys.{pair_key}
 use Rattle.sms_table.specs.Table.{put, row_at}
-use Rattle.sms_table.proofs.Tables.{found_among, row_at_put, row_at_put_other}
+use Rattle.sms_table.proofs.Tables.{found_among, rises_put, row_at_put, row_at_put_other}
 use Rattle.sms_messages.specs.declared.message.MessageRow.{MessageRow}
 use Rattle.sms_messages.specs.declared.part.PartRow.{PartRow}
 use Rattle.sms_messages.specs.Messages.{is_pending, message_at, message_key, part_key}
 use Rattle.sms_messages.specs.OpenParts.{part_load, part_wait, waits_for}
 use Rattle.sms_messages.proofs.PartRows.{numbered_put}
-use Rattle.sms_reports.specs.Waiting.{waiting_as}
-use Rattle.sms_reports.proofs.WaitingChanges.{part_changes}
+use Rattle.sms_reports.specs.declared.report.ReportRow.{ReportRow}
+use Rattle.sms_reports.specs.Reports.{is_open_status, put_report, report_key, status_reference}
+use Rattle.sms_reports.specs.Waiting.{Alone, IsNew, report_load, report_wait, reports_to, waiting_as}
+use Rattle.sms_reports.proofs.ReportRows.{new_alone, new_report, new_report_other}
+use Rattle.sms_reports.proofs.WaitingChanges.{part_changes, report_changes}
 use Rattle.sms_waiting.specs.declared.handset.HandsetRow.{HandsetRow}
 use Rattle.sms_waiting.specs.declared.load.Load.{Load}
 use Rattle.sms_waiting.specs.declared.reference.ReferenceRow.{ReferenceRow}
@@ -25,7 +28,7 @@ use Rattle.sms_waiting.specs.SoundWaiting.{SoundWaiting, WasGiven}
 use Rattle.sms_waiting.proofs.GivingsSound.{give_sound}
 use Rattle.sms_waiting.proofs.Mentions.{cases_number, put_number, put_number_other, row_fits}
 use Rattle.sms_waiting.proofs.WaitingSound.{next_is_free, waits_under, without_sound}
-use Rattle.sms_centre.specs.Draft.{Store, handsets_in, messages_in, parts_in, priorities_in, references_in, reports_in, waiting_in, with_given, with_part}
+use Rattle.sms_centre.specs.Draft.{Store, handsets_in, messages_in, parts_in, priorities_in, references_in, reports_in, waiting_in, with_given, with_part, with_reports}
 use Rattle.sms_centre.specs.Held.{SoundHeld}
 use Rattle.sms_centre.specs.Submitting.{reference_for}
 
@@ -108,6 +111,64 @@ part_given_held s m p held there pending undone some small next =
           (waits_given s m.handset (part_load p (priorities_in s)) held next other o
           (λ e. cond-true (waits_for other p (message_at p.id (messages_in s))) (Some (part_load p (priorities_in s))) None (waits ∙ (bytes_eq-Decides m.handset other).1 e))
           (λ e. cond-false (waits_for other p (message_at p.id (messages_in s))) (Some (part_load p (priorities_in s))) None (waits ∙ differ m.handset other e)));
+    }
+  where
+    differ : (a b : List ℕ) → ¬ (a ≡ b) → bytes_eq a b ≡ false
+    differ a b ne = ⊎_elim
+        (λ (t : bytes_eq a b ≡ true). absurd (ne ((bytes_eq-Decides a b).0 t)))
+        (λ (t : bytes_eq a b ≡ false). t)
+        (cases_Bool (bytes_eq a b))
+
+-- ---- a report is made: it is new, and a status report waits under the reference that is given for it
+
+pub report_made_held : (s : Store) (r : ReportRow) → SoundHeld s → IsNew (reports_in s) r → is_open_status r ≡ false → SoundHeld (with_reports (put_report r s.reports) s)
+report_made_held s r held new quiet =
+    let alone : Alone (put report_key r (reports_in s)) = new_alone r (reports_in s) new held.alone in
+    record {
+      givings = held.givings;
+      parts = held.parts;
+      alone = alone;
+      report_keys = rises_put report_key r (reports_in s) held.report_keys;
+      numbers = held.numbers;
+      waiting = λ other.
+          let changes = report_changes other (messages_in s) (priorities_in s) (parts_in s) (reports_in s) (put report_key r (reports_in s)) r held.parts held.alone alone
+              (new_report r (reports_in s) new) (λ id ne. new_report_other id r (reports_in s) new ne) in
+          subst (λ (l : List Load). SoundWaiting (handset_at other (handsets_in s)) (references_in s) l) (sym changes)
+          (subst (λ (o : Option Load). SoundWaiting (handset_at other (handsets_in s)) (references_in s) (waiting_as (pair_key r.id 0) o (waiting_in other s)))
+          (sym (silent (message_at r.id (messages_in s)) other))
+          (without_sound (handset_at other (handsets_in s)) (references_in s) (waiting_in other s) (pair_key r.id 0) (held.waiting other)));
+    }
+  where
+    goes : (o : Option MessageRow) (other : List ℕ) → reports_to other r o ≡ false
+    goes None other = refl
+    goes (Some m) other = ap (λ (b : Bool). b && bytes_eq m.source.digits other) quiet
+    silent : (o : Option MessageRow) (other : List ℕ) → (if reports_to other r o then Some (report_load r) else None) ≡ None
+    silent o other = cond-false (reports_to other r o) (Some (report_load r)) None (goes o other)
+
+pub status_given_held : (s : Store) (m : MessageRow) (r : ReportRow) → SoundHeld s → IsNew (reports_in s) r → message_at r.id (messages_in s) ≡ Some m → IsNumber m.source.digits → is_open_status r ≡ true
+    → reference_for (handset_of m.source.digits (handsets_in s)) s ≡ Some (status_reference r.kind)
+    → SoundHeld (with_reports (put_report r s.reports) (with_given (handset_of m.source.digits (handsets_in s)) (status_reference r.kind) s))
+status_given_held s m r held new there is waiting next =
+    let number : List ℕ = m.source.digits in
+    let h : HandsetRow = handset_of number (handsets_in s) in
+    let free = next_is_free h (waiting_in h.number s) (references_in s) s.moment (status_reference r.kind) next in
+    let alone : Alone (put report_key r (reports_in s)) = new_alone r (reports_in s) new held.alone in
+    record {
+      givings = give_sound number (handsets_in s) (references_in s) (handset_at number (handsets_in s)) (status_reference r.kind) s.moment held.givings is refl free.1;
+      parts = held.parts;
+      alone = alone;
+      report_keys = rises_put report_key r (reports_in s) held.report_keys;
+      numbers = held.numbers;
+      waiting = λ other.
+          let changes = report_changes other (messages_in s) (priorities_in s) (parts_in s) (reports_in s) (put report_key r (reports_in s)) r held.parts held.alone alone
+              (new_report r (reports_in s) new) (λ id ne. new_report_other id r (reports_in s) new ne) in
+          let o : Option Load = report_wait other (messages_in s) (Some r) in
+          let waits : reports_to other r (message_at r.id (messages_in s)) ≡ bytes_eq number other =
+              ap (λ (x : Option MessageRow). reports_to other r x) there ∙ ap (λ (b : Bool). b && bytes_eq number other) waiting in
+          subst (λ (l : List Load). SoundWaiting (handset_at other (put handset_key (mentioned h (status_reference r.kind)) (handsets_in s))) (put reference_key (given_row h (status_reference r.kind) s.moment) (references_in s)) l) (sym changes)
+          (waits_given s number (report_load r) held next other o
+          (λ e. cond-true (reports_to other r (message_at r.id (messages_in s))) (Some (report_load r)) None (waits ∙ (bytes_eq-Decides number other).1 e))
+          (λ e. cond-false (reports_to other r (message_at r.id (messages_in s))) (Some (report_load r)) None (waits ∙ differ number other e)));
     }
   where
     differ : (a b : List ℕ) → ¬ (a ≡ b) → bytes_eq a b ≡ false
