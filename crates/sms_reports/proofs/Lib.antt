@@ -3,3 +3,4 @@ pub mod EndsWaiting
 pub mod FewWaiting
 pub mod ReportRows
 pub mod WaitingChanges
+pub mod Windows

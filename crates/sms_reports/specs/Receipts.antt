@@ -1,8 +1,9 @@
 -- Receipts to applications: the oldest first, in the lowest numbered session of the account that receives, at most ten that are
 -- unanswered in a session. One that was refused, or whose session ended, goes again at the next bind of its account or after a
 -- minute.
-use Rattle.std.specs.Prelude.{ℕ, ◌==◌, ◌&&◌, ◌||◌, not, nat_le, nat_lt, length, List, [], ◌∷◌, ◌++◌, Bool, false, if◌then◌else◌, Option, Some, None}
+use Rattle.std.specs.Prelude.{ℕ, ◌≤◌, ◌==◌, ◌&&◌, ◌||◌, not, nat_le, nat_lt, length, List, [], ◌∷◌, ◌++◌, Bool, false, if◌then◌else◌, Option, Some, None}
 use Rattle.std.specs.Str.{bytes_eq}
+use Rattle.sms_base.specs.Among.{Among}
 use Rattle.sms_table.specs.Table.{put, without}
 use Rattle.sms_messages.specs.declared.message.MessageRow.{MessageRow}
 use Rattle.sms_messages.specs.declared.message.Originator.{Originator}
@@ -80,6 +81,10 @@ send_to id (Some s) desk = if nat_lt (length s.unanswered) window then send_in i
 abbrev pub send : ℕ → List MessageRow → ReportRow → Desk → Desk
 send moment messages r desk =
     if waits moment r desk.sessions then send_to r.id (session_for (message_at r.id messages) desk.sessions) desk else desk
+
+-- no session has more unanswered than its window holds
+abbrev pub AreWindowed : Desk → Type 0
+AreWindowed desk = (s : Session) → Among s desk.sessions → length s.unanswered ≤ window
 
 -- in the order in which they were made
 abbrev pub send_all : ℕ → List MessageRow → List ReportRow → Desk → Desk

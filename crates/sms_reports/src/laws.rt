@@ -6,6 +6,7 @@ ghost use Rattle.sms_messages.specs.OpenParts.{Numbered, part_wait};
 ghost use Rattle.sms_messages.specs.declared.message.MessageRow.{MessageRow};
 ghost use Rattle.sms_messages.specs.declared.part.PartRow.{PartRow};
 ghost use Rattle.sms_messages.specs.declared.priority.PriorityRow.{PriorityRow};
+ghost use Rattle.sms_reports.specs.Receipts.{AreWindowed, Desk, send_all};
 ghost use Rattle.sms_reports.specs.Reports.{report_key, report_of, report_reaching};
 ghost use Rattle.sms_reports.specs.Waiting.{Alone, IsNew, report_wait, waiting_as, waiting_for};
 ghost use Rattle.sms_reports.specs.declared.report.ReportRow.{ReportRow};
@@ -50,4 +51,9 @@ pub fn a_new_message_leaves_what_waits()
     ensures { (handset : List ℕ) (messages : List MessageRow) (priorities : List PriorityRow) (parts : List PartRow) (reports : List ReportRow) (m : MessageRow) (q : PriorityRow)
         → Numbered parts → Alone reports → q.id ≡ m.id → ((n : ℕ) → part_at m.id n parts ≡ None) → report_of m.id reports ≡ None
         → waiting_for handset (put message_key m messages) (put priority_key q priorities) parts reports ≡ waiting_for handset messages priorities parts reports }
+{}
+
+/// Receipts that are sent never pass the window of a session.
+pub fn windows_are_never_passed()
+    ensures { (moment : ℕ) (messages : List MessageRow) (reports : List ReportRow) (desk : Desk) → AreWindowed desk → AreWindowed (send_all moment messages reports desk) }
 {}
