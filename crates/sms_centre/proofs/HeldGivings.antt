@@ -1,10 +1,9 @@
 -- What the references of handsets rest on is kept where a reference is given for a part or a status report, which waits from then on.
-use Rattle.std.proofs.Common.{◌≡◌, ◌⊎◌, ℕ, ◌+◌, ◌*◌, ◌<◌, List, [], ◌∷◌, Bool, true, false, Option, Some, None, refl, sym, ◌∙◌, ap, subst, inl, inr, ⊎_elim, cond, arith}
+use Rattle.std.proofs.Common.{◌≡◌, ℕ, ◌<◌, List, Bool, true, false, Option, Some, None, refl, sym, ◌∙◌, ap, subst, ⊎_elim}
 use Rattle.std.specs.Prelude.{◌&&◌, not, if◌then◌else◌}
 use Rattle.std.proofs.lemmas.Bool.{cases_Bool, cases_eq, cond-true, cond-false}
 use Rattle.std.proofs.lemmas.Slice.Eq.{bytes_eq-Decides}
 use Rattle.std.specs.Str.{bytes_eq}
-use Rattle.sms_base.specs.Among.{Among}
 use Rattle.sms_table.specs.Keys.{pair_key}
 use Rattle.sms_table.specs.Table.{put, row_at}
 use Rattle.sms_table.proofs.Tables.{found_among, rises_put, row_at_put, row_at_put_other}
@@ -67,8 +66,8 @@ waits_given s number l held next other o own none =
     ⊎_elim
     (λ (e : number ≡ other).
     let there : handset_at number (put handset_key (mentioned h l.reference) hs) ≡ Some (mentioned h l.reference) =
-        subst (λ (n : List ℕ). handset_at n (put handset_key (mentioned h l.reference) hs) ≡ Some (mentioned h l.reference)) fits.1
-        (put_number (mentioned h l.reference) hs (record { place = fits.0.place; number = fits.0.number })) in
+    subst (λ (n : List ℕ). handset_at n (put handset_key (mentioned h l.reference) hs) ≡ Some (mentioned h l.reference)) fits.1
+    (put_number (mentioned h l.reference) hs (record { place = fits.0.place; number = fits.0.number })) in
     let place : (g : HandsetRow) → handset_at number hs ≡ Some g → g.place ≡ h.place = λ g f. ap (λ (x : Option HandsetRow). (or_new_handset number (place_after 1 hs) x).place) (sym f) in
     let free : next_reference h (waiting_in number s) rs s.moment ≡ Some l.reference = ap (λ (n : List ℕ). next_reference h (waiting_in n s) rs s.moment) (sym fits.1) ∙ next in
     let sound = waits_under (handset_at number hs) h rs (waiting_in number s) l s.moment (held.waiting number) place free in
@@ -77,7 +76,7 @@ waits_given s number l held next other o own none =
     (subst (λ (x : Option HandsetRow). SoundWaiting x (put reference_key row rs) (put load_key l (waiting_in number s))) (sym there) sound)))
     (λ (e : number ≡ other → ⊥).
     let same : handset_at other (put handset_key (mentioned h l.reference) hs) ≡ handset_at other hs =
-        put_number_other other (mentioned h l.reference) hs (record { place = fits.0.place; number = fits.0.number }) (λ q. e (sym fits.1 ∙ q)) in
+    put_number_other other (mentioned h l.reference) hs (record { place = fits.0.place; number = fits.0.number }) (λ q. e (sym fits.1 ∙ q)) in
     subst (λ (x : Option Load). SoundWaiting (handset_at other (put handset_key (mentioned h l.reference) hs)) (put reference_key row rs) (waiting_as (load_key l) x (waiting_in other s))) (sym (none e))
     (subst (λ (x : Option HandsetRow). SoundWaiting x (put reference_key row rs) (waiting_as (load_key l) None (waiting_in other s))) (sym same)
     (given_more (handset_at other hs) rs (waiting_as (load_key l) None (waiting_in other s)) row (without_sound (handset_at other hs) rs (waiting_in other s) (load_key l) (held.waiting other)))))
@@ -101,12 +100,12 @@ part_given_held s m p held there pending undone some small next =
       numbers = held.numbers;
       waiting = λ other.
           let changes = part_changes other (messages_in s) (priorities_in s) (parts_in s) (put part_key p (parts_in s)) (reports_in s) p held.parts numbered held.alone
-              (row_at_put part_key p (parts_in s)) (λ k ne. row_at_put_other part_key k p (parts_in s) ne) in
+          (row_at_put part_key p (parts_in s)) (λ k ne. row_at_put_other part_key k p (parts_in s) ne) in
           let o : Option Load = part_wait other (messages_in s) (priorities_in s) (Some p) in
           let waits : waits_for other p (message_at p.id (messages_in s)) ≡ bytes_eq m.handset other =
-              ap (λ (x : Option MessageRow). waits_for other p x) there
-              ∙ ap (λ (b : Bool). not b && (is_pending m && bytes_eq m.handset other)) undone
-              ∙ ap (λ (b : Bool). b && bytes_eq m.handset other) pending in
+          ap (λ (x : Option MessageRow). waits_for other p x) there
+          ∙ ap (λ (b : Bool). not b && (is_pending m && bytes_eq m.handset other)) undone
+          ∙ ap (λ (b : Bool). b && bytes_eq m.handset other) pending in
           subst (λ (l : List Load). SoundWaiting (handset_at other (put handset_key (mentioned h p.reference) (handsets_in s))) (put reference_key (given_row h p.reference s.moment) (references_in s)) l) (sym changes)
           (waits_given s m.handset (part_load p (priorities_in s)) held next other o
           (λ e. cond-true (waits_for other p (message_at p.id (messages_in s))) (Some (part_load p (priorities_in s))) None (waits ∙ (bytes_eq-Decides m.handset other).1 e))
@@ -132,7 +131,7 @@ report_made_held s r held new quiet =
       numbers = held.numbers;
       waiting = λ other.
           let changes = report_changes other (messages_in s) (priorities_in s) (parts_in s) (reports_in s) (put report_key r (reports_in s)) r held.parts held.alone alone
-              (new_report r (reports_in s) new) (λ id ne. new_report_other id r (reports_in s) new ne) in
+          (new_report r (reports_in s) new) (λ id ne. new_report_other id r (reports_in s) new ne) in
           subst (λ (l : List Load). SoundWaiting (handset_at other (handsets_in s)) (references_in s) l) (sym changes)
           (subst (λ (o : Option Load). SoundWaiting (handset_at other (handsets_in s)) (references_in s) (waiting_as (pair_key r.id 0) o (waiting_in other s)))
           (sym (silent (message_at r.id (messages_in s)) other))
@@ -142,6 +141,7 @@ report_made_held s r held new quiet =
     goes : (o : Option MessageRow) (other : List ℕ) → reports_to other r o ≡ false
     goes None other = refl
     goes (Some m) other = ap (λ (b : Bool). b && bytes_eq m.source.digits other) quiet
+
     silent : (o : Option MessageRow) (other : List ℕ) → (if reports_to other r o then Some (report_load r) else None) ≡ None
     silent o other = cond-false (reports_to other r o) (Some (report_load r)) None (goes o other)
 
@@ -161,10 +161,10 @@ status_given_held s m r held new there is waiting next =
       numbers = held.numbers;
       waiting = λ other.
           let changes = report_changes other (messages_in s) (priorities_in s) (parts_in s) (reports_in s) (put report_key r (reports_in s)) r held.parts held.alone alone
-              (new_report r (reports_in s) new) (λ id ne. new_report_other id r (reports_in s) new ne) in
+          (new_report r (reports_in s) new) (λ id ne. new_report_other id r (reports_in s) new ne) in
           let o : Option Load = report_wait other (messages_in s) (Some r) in
           let waits : reports_to other r (message_at r.id (messages_in s)) ≡ bytes_eq number other =
-              ap (λ (x : Option MessageRow). reports_to other r x) there ∙ ap (λ (b : Bool). b && bytes_eq number other) waiting in
+          ap (λ (x : Option MessageRow). reports_to other r x) there ∙ ap (λ (b : Bool). b && bytes_eq number other) waiting in
           subst (λ (l : List Load). SoundWaiting (handset_at other (put handset_key (mentioned h (status_reference r.kind)) (handsets_in s))) (put reference_key (given_row h (status_reference r.kind) s.moment) (references_in s)) l) (sym changes)
           (waits_given s number (report_load r) held next other o
           (λ e. cond-true (reports_to other r (message_at r.id (messages_in s))) (Some (report_load r)) None (waits ∙ (bytes_eq-Decides number other).1 e))

@@ -10,14 +10,15 @@ use Rattle.sms_table.specs.Table.{row_at}
 use Rattle.sms_table.proofs.Tables.{among_put, found_among}
 use Rattle.sms_messages.specs.declared.message.MessageRow.{MessageRow}
 use Rattle.sms_messages.specs.declared.part.PartRow.{PartRow}
-use Rattle.sms_messages.specs.Messages.{ended, is_pending, message_at, message_key, part_key, part_reaching}
+use Rattle.sms_messages.specs.declared.priority.PriorityRow.{PriorityRow}
+use Rattle.sms_messages.specs.Messages.{ended, is_pending, message_at, message_key, part_at, part_key, part_reaching}
 use Rattle.sms_messages.specs.OpenParts.{Numbered, part_load, part_wait, waits_for}
 use Rattle.sms_messages.proofs.PartRows.{numbered_amended, part_amended, part_amended_other}
 use Rattle.sms_reports.specs.declared.report.ReportRow.{ReportRow}
 use Rattle.sms_reports.specs.Reports.{is_status, report_key, report_of, report_reaching}
 use Rattle.sms_reports.specs.Waiting.{Alone, report_load, report_wait, reports_to, waiting_as}
 use Rattle.sms_reports.proofs.AllWaiting.{part_waits_at, report_waits_at}
-use Rattle.sms_reports.proofs.EndsWaiting.{end_waits}
+use Rattle.sms_reports.proofs.EndsWaiting.{end_waits, new_waits}
 use Rattle.sms_reports.proofs.ReportRows.{amended_alone, amended_other, amended_own}
 use Rattle.sms_reports.proofs.WaitingChanges.{part_changes, report_changes}
 use Rattle.sms_waiting.specs.declared.handset.HandsetRow.{HandsetRow}
@@ -27,10 +28,11 @@ use Rattle.sms_waiting.specs.declared.reference.ReferenceRow.{ReferenceRow}
 use Rattle.sms_waiting.specs.Keys.{load_key}
 use Rattle.sms_waiting.specs.References.{handset_at}
 use Rattle.sms_waiting.specs.Revisions.{amended}
+use Rattle.sms_waiting.specs.SoundGivings.{IsNumber}
 use Rattle.sms_waiting.specs.SoundWaiting.{SoundWaiting}
 use Rattle.sms_waiting.proofs.Amending.{rises_amended}
 use Rattle.sms_waiting.proofs.WaitingSound.{put_off_sound, withdrawn_sound, without_sound}
-use Rattle.sms_centre.specs.Draft.{Store, handsets_in, messages_in, parts_in, priorities_in, references_in, reports_in, waiting_in, with_message, with_part_at, with_report_at}
+use Rattle.sms_centre.specs.Draft.{Store, handsets_in, messages_in, parts_in, priorities_in, references_in, reports_in, waiting_in, with_message, with_part_at, with_priority, with_report_at}
 use Rattle.sms_centre.specs.Held.{SoundHeld}
 
 -- What waits under a key waited under it before, with the same reference; or nothing waits there.
@@ -141,11 +143,29 @@ ended_held s m state moment held there = record {
   numbers = λ x among. ⊎_elim
       (λ (e : x ≡ ended state moment m).
       let is = held.numbers m (found_among message_key m.id m (messages_in s) there) in
-      subst (λ (y : MessageRow). Rattle.sms_waiting.specs.SoundGivings.IsNumber y.handset) (sym e) is)
+      subst (λ (y : MessageRow). IsNumber y.handset) (sym e) is)
       (λ (k : Among x (messages_in s) × ¬ (message_key x ≡ message_key (ended state moment m))). held.numbers x k.0)
       (among_put message_key x (ended state moment m) (messages_in s) among);
   waiting = λ number.
       subst (λ (l : List Load). SoundWaiting (handset_at number (handsets_in s)) (references_in s) l)
       (sym (end_waits number (messages_in s) (priorities_in s) (parts_in s) (reports_in s) m state moment held.parts held.alone there))
       (withdrawn_sound (handset_at number (handsets_in s)) (references_in s) (waiting_in number s) m.id (held.waiting number));
+}
+
+-- ---- a message is new, without parts
+
+pub entered_held : (s : Store) (m : MessageRow) (q : PriorityRow) → SoundHeld s → q.id ≡ m.id → ((n : ℕ) → part_at m.id n (parts_in s) ≡ None) → report_of m.id (reports_in s) ≡ None → IsNumber m.handset
+    → SoundHeld (with_priority q (with_message m s))
+entered_held s m q held own none free is = record {
+  givings = held.givings;
+  parts = held.parts;
+  alone = held.alone;
+  report_keys = held.report_keys;
+  numbers = λ x among. ⊎_elim
+      (λ (e : x ≡ m). subst (λ (y : MessageRow). IsNumber y.handset) (sym e) is)
+      (λ (k : Among x (messages_in s) × ¬ (message_key x ≡ message_key m)). held.numbers x k.0)
+      (among_put message_key x m (messages_in s) among);
+  waiting = λ number.
+      subst (λ (l : List Load). SoundWaiting (handset_at number (handsets_in s)) (references_in s) l)
+      (sym (new_waits number (messages_in s) (priorities_in s) (parts_in s) (reports_in s) m q held.parts held.alone own none free)) (held.waiting number);
 }
