@@ -26,6 +26,6 @@ next_one : (answered 1 3 true (core_of ended)).desk.deliveries ≡ record { sess
 unfolding everything
 next_one = refl
 
-refused_one : (answered 1 3 true (core_of (answered 1 2 true (core_of ended)))).desk.deliveries ≡ []
+none_left : (answered 1 3 true (core_of (answered 1 2 true (core_of ended)))).desk.deliveries ≡ []
 unfolding everything
-refused_one = refl
+none_left = refl
