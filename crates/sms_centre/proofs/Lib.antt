@@ -1,0 +1,26 @@
+mod BodiesRefused
+mod Calendars
+mod Everything
+mod ExpiredUnderWay
+mod LengthsThatFit
+mod LongDelivered
+mod LostAnswer
+mod MemoryWanting
+mod MoreWaiting
+mod NextOfTwo
+mod OneMessage
+mod ReceiptWords
+mod ReferencesGiven
+mod RequestsAnswered
+mod Restarted
+pub mod HeldGivings
+pub mod HeldStages
+pub mod Resting
+mod SplitsApart
+pub mod Stages
+mod StatusReported
+mod SubmitsJudged
+mod TriedAgain
+mod UrgentFirst
+mod WindowFull
+mod Worked

@@ -1,0 +1,244 @@
+-- A submit_sm (SMPP v3.4 4.4.1): the checks that need no rows, in order, and the submission.
+use Rattle.std.specs.Prelude.{ℕ, ◌+◌, ◌*◌, ◌/◌, ◌%◌, ◌==◌, ◌&&◌, ◌||◌, not, nat_lt, nat_le, min, List, [], ◌∷◌, length, take, drop, Bool, true, false, if◌then◌else◌, Option, Some, None, is_some, Result, Ok, Err}
+use Rattle.std.specs.List.{list_all}
+use Rattle.std.specs.Option.{ok_or}
+use Rattle.sms_base.specs.declared.address.Address.{Address}
+use Rattle.sms_base.specs.declared.address_error.AddressError.{AddressError}
+use Rattle.sms_base.specs.Address.{address_of}
+use Rattle.sms_base.specs.Reading.{◌>>=◌, only_if}
+use Rattle.sms_base.specs.SmppTime.{smpp_time_in}
+use Rattle.sms_alphabet.specs.declared.scheme.Coding.{Coding}
+use Rattle.sms_alphabet.specs.declared.scheme.Coding.TheVariants.{Septets, Octets, Ucs2, Compressed}
+use Rattle.sms_alphabet.specs.declared.spelling.SpellingError.{SpellingError}
+use Rattle.sms_alphabet.specs.DataCodingScheme.{coding_of}
+use Rattle.sms_alphabet.specs.Spelling.{spelled}
+use Rattle.sms_alphabet.specs.Ucs2.{ucs2_for}
+use Rattle.sms_concat.specs.declared.concat_key.ConcatKey.{ConcatKey}
+use Rattle.sms_concat.specs.declared.concat_key.ConcatReference.TheVariants.{SixteenBit}
+use Rattle.sms_concat.specs.declared.content.Content.{Content}
+use Rattle.sms_concat.specs.declared.content.Part.{Part}
+use Rattle.sms_concat.specs.declared.element.Element.{Element}
+use Rattle.sms_concat.specs.declared.header_error.HeaderError.{HeaderError}
+use Rattle.sms_concat.specs.declared.split_error.SplitError.{SplitError}
+use Rattle.sms_concat.specs.Concatenation.{counted, key_of}
+use Rattle.sms_concat.specs.HeaderGrammar.{header_at}
+use Rattle.sms_concat.specs.Splitting.{split_of}
+use Rattle.sms_concat.specs.UserData.{capacity, data_length, header_of}
+use Rattle.smpp_pdu.specs.declared.address.SmeAddress.{SmeAddress}
+use Rattle.smpp_pdu.specs.declared.message.Message.{Message}
+use Rattle.smpp_pdu.specs.declared.status.CommandStatus.{CommandStatus}
+use Rattle.smpp_pdu.specs.declared.status.CommandStatus.TheVariants.{ESME_RINVMSGLEN, ESME_RINVSRCADR, ESME_RINVDSTADR, ESME_RINVESMCLASS, ESME_RSUBMITFAIL, ESME_RINVSCHED, ESME_RINVEXPIRY, ESME_ROPTPARNOTALLWD, ESME_RINVPARLEN}
+use Rattle.smpp_pdu.specs.declared.tlv.Tlvs.{Tlvs}
+use Rattle.sms_tpdu.specs.Bits.{bit}
+use Rattle.sms_tpdu.specs.ValidityTable.{later}
+use Rattle.sms_messages.specs.declared.message.Originator.TheVariants.{Application}
+use Rattle.sms_messages.specs.declared.message.Wish.{Wish}
+use Rattle.sms_messages.specs.declared.message.Wish.TheVariants.{Nothing, Always, OnFailure}
+use Rattle.sms_centre.specs.declared.setup.Account.{Account}
+use Rattle.sms_centre.specs.declared.submission.Submission.{Submission}
+use Rattle.sms_centre.specs.declared.submission.Text.{Text}
+use Rattle.sms_centre.specs.declared.submission.Text.TheVariants.{Whole, Single}
+use Rattle.sms_centre.specs.Bodies.{body_behind}
+use Rattle.sms_centre.specs.Numbers.{names_handset}
+
+abbrev pub is_empty : List ℕ → Bool
+is_empty octets = length octets == 0
+
+-- ---- addresses
+
+abbrev pub address_or_none : Result Address AddressError → Option Address
+address_or_none (Ok address) = Some address
+address_or_none (Err fault) = None
+
+abbrev pub is_ascii : List ℕ → Bool
+is_ascii octets = list_all (λ c. nat_lt c 128) octets
+
+-- the address of an entity, in ASCII
+abbrev pub address_in : SmeAddress → Option Address
+address_in a = if is_ascii a.addr then address_or_none (address_of a.ton a.npi a.addr) else None
+
+-- an empty source is the account's address
+abbrev pub source_in : Address → SmeAddress → Option Address
+source_in own a = if is_empty a.addr then Some own else address_in a
+
+abbrev pub handset_named : Option Address → Result (List ℕ) CommandStatus
+handset_named None = Err ESME_RINVDSTADR
+handset_named (Some a) = if names_handset a then Ok a.digits else Err ESME_RINVDSTADR
+
+-- ---- sar values (SMPP v3.4 5.3.2.22 to 5.3.2.24)
+
+abbrev pub has_length : ℕ → Option (List ℕ) → Bool
+has_length n None = true
+has_length n (Some value) = length value == n
+
+abbrev pub has_sar_lengths : Tlvs → Bool
+has_sar_lengths t = has_length 2 t.sar_msg_ref_num && (has_length 1 t.sar_total_segments && has_length 1 t.sar_segment_seqnum)
+
+abbrev pub has_sar : Tlvs → Bool
+has_sar t = is_some t.sar_msg_ref_num || (is_some t.sar_total_segments || is_some t.sar_segment_seqnum)
+
+abbrev pub sar_of : List ℕ → List ℕ → List ℕ → Option ConcatKey
+sar_of (high ∷ low ∷ []) (total ∷ []) (number ∷ []) = counted (SixteenBit (256 * high + low)) total number
+sar_of reference total number = None
+
+-- all three, with a number from 1 to the total; others are ignored
+abbrev pub sar_key : Option (List ℕ) → Option (List ℕ) → Option (List ℕ) → Option ConcatKey
+sar_key (Some reference) (Some total) (Some number) = sar_of reference total number
+sar_key reference total number = None
+
+-- ---- what the message says
+
+-- esm_class bit 6
+abbrev pub has_header : Message → Bool
+has_header m = bit m.esm_class 64
+
+abbrev pub payload_or : List ℕ → Option (List ℕ) → List ℕ
+payload_or short None = short
+payload_or short (Some payload) = payload
+
+abbrev pub said : Message → List ℕ
+said m = if is_empty m.short_message then payload_or m.short_message m.tlvs.message_payload else m.short_message
+
+-- a payload beside a short_message, or sar values beside a header
+abbrev pub has_too_much : Message → Bool
+has_too_much m = (is_some m.tlvs.message_payload && not (is_empty m.short_message)) || (has_sar m.tlvs && has_header m)
+
+-- ---- its content, by data_coding
+
+abbrev pub septets_at : ℕ → List ℕ → Result Content CommandStatus
+septets_at dcs octets =
+    if is_ascii octets then Ok (record { coding = Septets; dcs = dcs; units = octets }) else Err ESME_RSUBMITFAIL
+
+abbrev pub octets_at : ℕ → List ℕ → Result Content CommandStatus
+octets_at dcs octets = Ok (record { coding = Octets; dcs = dcs; units = octets })
+
+abbrev pub ucs2_at : List ℕ → Result Content CommandStatus
+ucs2_at octets = Ok (record { coding = Ucs2; dcs = 8; units = octets })
+
+-- the default alphabet where each character has a code there, else UCS2
+abbrev pub content_spelled : List ℕ → Result (List ℕ) SpellingError → Content
+content_spelled text (Ok septets) = record { coding = Septets; dcs = 0; units = septets }
+content_spelled text (Err fault) = record { coding = Ucs2; dcs = 8; units = ucs2_for text }
+
+-- characters below a bound
+abbrev pub text_at : ℕ → List ℕ → Result Content CommandStatus
+text_at bound octets = if list_all (λ c. nat_lt c bound) octets then Ok (content_spelled octets (spelled octets)) else Err ESME_RSUBMITFAIL
+
+-- the data coding scheme itself: octets or septets
+abbrev pub class_at : ℕ → Coding → List ℕ → Result Content CommandStatus
+class_at dcs Septets octets = septets_at dcs octets
+class_at dcs Octets octets = octets_at dcs octets
+class_at dcs Ucs2 octets = Err ESME_RSUBMITFAIL
+class_at dcs Compressed octets = Err ESME_RSUBMITFAIL
+
+abbrev pub content_at : ℕ → List ℕ → Result Content CommandStatus
+content_at data_coding octets =
+    if data_coding == 0 then septets_at 0 octets
+    else (if data_coding == 1 then text_at 128 octets
+    else (if (data_coding == 2) || (data_coding == 4) then octets_at 4 octets
+    else (if data_coding == 3 then text_at 256 octets
+    else (if data_coding == 8 then ucs2_at octets
+    else (if nat_le 240 data_coding then class_at data_coding (coding_of data_coding) octets
+    else Err ESME_RSUBMITFAIL)))))
+
+-- ---- a header in front of it
+
+abbrev pub header_size : List ℕ → ℕ
+header_size [] = 0
+header_size (size ∷ rest) = size + 1
+
+abbrev pub header_read : Result (List Element) HeaderError → Result (Option ConcatKey) CommandStatus
+header_read (Ok elements) = Ok (key_of elements)
+header_read (Err fault) = Err ESME_RSUBMITFAIL
+
+-- ---- lengths
+
+-- UCS2 has two octets for each unit
+abbrev pub are_whole : Coding → List ℕ → Bool
+are_whole Septets units = true
+are_whole Octets units = true
+are_whole Ucs2 units = length units % 2 == 0
+are_whole Compressed units = true
+
+abbrev pub splits : Result (List Part) SplitError → Bool
+splits (Ok parts) = true
+splits (Err fault) = false
+
+-- one part behind a header, which it has to fit
+abbrev pub single_behind : List ℕ → Option ConcatKey → Content → Result Text CommandStatus
+single_behind header key content =
+    if nat_le (data_length content.coding (length header) (length content.units)) (capacity content.coding)
+    then Ok (Single (body_behind header key content)) else Err ESME_RINVMSGLEN
+
+abbrev pub whole_of : Content → Result Text CommandStatus
+whole_of content = if splits (split_of content 0) then Ok (Whole content) else Err ESME_RINVMSGLEN
+
+-- a header that came, one of sar values, or none
+abbrev pub text_of : Option ConcatKey → Content → Result Text CommandStatus
+text_of None content = whole_of content
+text_of (Some key) content = single_behind (header_of (Some key)) (Some key) content
+
+unfoldable pub headed_text : ℕ → List ℕ → Result Text CommandStatus
+headed_text data_coding octets = do
+  key ← header_read (header_at octets)
+  content ← content_at data_coding (drop (header_size octets) octets)
+  whole ← only_if (are_whole content.coding content.units) ESME_RINVMSGLEN
+  single_behind (take (header_size octets) octets) key content
+
+unfoldable pub plain_text : ℕ → Tlvs → List ℕ → Result Text CommandStatus
+plain_text data_coding t octets = do
+  content ← content_at data_coding octets
+  whole ← only_if (are_whole content.coding content.units) ESME_RINVMSGLEN
+  text_of (sar_key t.sar_msg_ref_num t.sar_total_segments t.sar_segment_seqnum) content
+
+abbrev pub text_in : Message → Result Text CommandStatus
+text_in m = if has_header m then headed_text m.data_coding (said m) else plain_text m.data_coding m.tlvs (said m)
+
+-- ---- times
+
+-- no longer than 63 weeks, and two days where nothing is said
+abbrev pub limited : ℕ → Option ℕ → Result ℕ CommandStatus
+limited now None = Err ESME_RINVEXPIRY
+limited now (Some limit) = if nat_lt now limit then Ok (min limit (later now 38102400)) else Err ESME_RINVEXPIRY
+
+abbrev pub limit_in : ℕ → List ℕ → Result ℕ CommandStatus
+limit_in now time = if is_empty time then Ok (later now 172800) else limited now (smpp_time_in time now)
+
+-- before the limit
+abbrev pub before : ℕ → Option ℕ → Result ℕ CommandStatus
+before limit None = Err ESME_RINVSCHED
+before limit (Some due) = if nat_lt due limit then Ok due else Err ESME_RINVSCHED
+
+abbrev pub due_in : ℕ → ℕ → List ℕ → Result ℕ CommandStatus
+due_in now limit time = if is_empty time then Ok now else before limit (smpp_time_in time now)
+
+-- ---- registered_delivery, bits 1 and 0
+
+abbrev pub wish_in : ℕ → Wish
+wish_in registered = if registered % 4 == 0 then Nothing else (if registered % 4 == 2 then OnFailure else Always)
+
+-- ---- the checks, in order
+
+unfoldable pub from_pdu : Account → ℕ → Message → Result Submission CommandStatus
+from_pdu account now m = do
+  kind ← only_if (m.esm_class / 4 % 16 == 0) ESME_RINVESMCLASS
+  source ← ok_or (source_in account.address m.source) ESME_RINVSRCADR
+  handset ← handset_named (address_in m.destination)
+  lengths ← only_if (has_sar_lengths m.tlvs) ESME_RINVPARLEN
+  alone ← only_if (not (has_too_much m)) ESME_ROPTPARNOTALLWD
+  text ← text_in m
+  limit ← limit_in now m.validity_period
+  due ← due_in now limit m.schedule_delivery_time
+  Ok (record {
+    originator = Application account.name;
+    source = source;
+    handset = handset;
+    protocol_identifier = m.protocol_id;
+    reply_path = bit m.esm_class 128;
+    wish = wish_in m.registered_delivery;
+    rejects_duplicates = false;
+    limit = limit;
+    due = due;
+    priority = min m.priority_flag 3;
+    text = text;
+  })

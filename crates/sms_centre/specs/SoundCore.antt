@@ -1,0 +1,59 @@
+-- A centre that stands on sound rows, between two events.
+use Rattle.std.specs.Prelude.{◌≡◌, ℕ, ◌≤◌, List, [], ◌∷◌, Option, Some, None}
+use Rattle.sms_base.specs.Among.{Among}
+use Rattle.sms_base.specs.declared.carried.Carried.{Carried}
+use Rattle.sms_base.specs.declared.carried.Kind.TheVariants.{Data}
+use Rattle.sms_base.specs.declared.holder.Holder.{Holder}
+use Rattle.sms_base.specs.declared.holder.Holder.TheVariants.{Part, Report, Entry, Memory}
+use Rattle.sms_table.specs.Table.{Rises}
+use Rattle.sms_link.specs.declared.ending.Side.TheVariants.{Centre}
+use Rattle.sms_messages.specs.declared.message.MessageRow.{MessageRow}
+use Rattle.sms_messages.specs.declared.part.PartRow.{PartRow}
+use Rattle.sms_messages.specs.Messages.{message_at, part_at}
+use Rattle.sms_reports.specs.declared.report.ReportKind.TheVariants.{Status}
+use Rattle.sms_reports.specs.declared.report.ReportRow.{ReportRow}
+use Rattle.sms_reports.specs.Receipts.{Session, session_key}
+use Rattle.sms_reports.specs.Reports.{report_of}
+use Rattle.sms_waiting.specs.declared.line.Line.{Line}
+use Rattle.sms_waiting.specs.Lines.{line_at}
+use Rattle.sms_waiting.specs.SoundGivings.{IsNumber}
+use Rattle.sms_centre.specs.declared.rows.Rows.{Rows}
+use Rattle.sms_centre.specs.CentreEvent.{moment_of}
+use Rattle.sms_centre.specs.Draft.{Core}
+use Rattle.sms_centre.specs.SoundRows.{IsSound}
+
+-- what is under way to a handset is a part of one of its messages under the part's reference, or its status report
+abbrev pub IsSentFor : List ℕ → ℕ → Holder → Rows → Type 0
+IsSentFor handset reference (Part id number) rows =
+    (p : PartRow) × ((m : MessageRow) × ((part_at id number rows.parts ≡ Some p) × (p.reference ≡ reference) × (message_at id rows.messages ≡ Some m) × (m.handset ≡ handset)))
+IsSentFor handset reference (Report id) rows =
+    (r : ReportRow) × ((m : MessageRow) × ((tpdu : List ℕ) × ((report_of id rows.reports ≡ Some r) × (r.kind ≡ Status reference tpdu) × (message_at id rows.messages ≡ Some m) × (m.source.digits ≡ handset))))
+IsSentFor handset reference (Entry n) rows = ⊥
+IsSentFor handset reference (Memory n) rows = ⊥
+
+abbrev pub IsUnderWay : List ℕ → Option Carried → Rows → Type 0
+IsUnderWay handset None rows = Unit {0}
+IsUnderWay handset (Some transfer) rows = (transfer.kind ≡ Data) × IsSentFor handset transfer.reference transfer.tag rows
+
+pub record IsLine (rows : Rows) (l : Line) : Type 0 where
+  pub handset : IsNumber l.handset
+  pub side : l.link.side ≡ Centre
+  pub under_way : IsUnderWay l.handset l.link.under_way rows
+
+-- no handset has two lines
+abbrev pub AreLines : List Line → Type 0
+AreLines [] = Unit {0}
+AreLines (l ∷ ls) = (line_at l.handset ls ≡ None) × AreLines ls
+
+-- each receipt that a session was sent stands in the rows
+pub record IsSession (rows : Rows) (s : Session) : Type 0 where
+  pub unanswered : (id : ℕ) → Among id s.unanswered → (r : ReportRow) × (report_of id rows.reports ≡ Some r)
+
+pub record IsSoundCore (c : Core) : Type 0 where
+  pub rows : IsSound c.rows
+  -- no reference was given later than now
+  pub moment : moment_of c.rows ≤ c.moment
+  pub each_line : (l : Line) → Among l c.lines → IsLine c.rows l
+  pub apart : AreLines c.lines
+  pub session_keys : Rises session_key c.sessions
+  pub each_session : (s : Session) → Among s c.sessions → IsSession c.rows s

@@ -1,0 +1,44 @@
+//! Laws of the centre, over its definitions alone.
+ghost use Rattle.std.specs.Prelude.{◌≡◌, ◌<◌, ℕ, true, false, None, Some};
+ghost use Rattle.sms_base.specs.declared.final_state.FinalState.{FinalState};
+ghost use Rattle.sms_messages.specs.Messages.{ended, is_pending, message_at, part_at, part_key};
+ghost use Rattle.sms_messages.specs.declared.message.MessageRow.{MessageRow};
+ghost use Rattle.sms_messages.specs.declared.part.PartRow.{PartRow};
+ghost use Rattle.sms_messages.specs.declared.priority.PriorityRow.{PriorityRow};
+ghost use Rattle.sms_reports.specs.Reports.{is_open_status, put_report, report_of, status_reference};
+ghost use Rattle.sms_reports.specs.Waiting.{IsNew};
+ghost use Rattle.sms_reports.specs.declared.report.ReportRow.{ReportRow};
+ghost use Rattle.sms_table.specs.Table.{row_at};
+ghost use Rattle.sms_waiting.specs.References.{handset_of};
+ghost use Rattle.sms_waiting.specs.SoundGivings.{IsNumber};
+ghost use Rattle.sms_waiting.specs.declared.progress.Progress.{Progress};
+ghost use Rattle.sms_centre.specs.declared.event.CentreEvent.{CentreEvent};
+ghost use Rattle.sms_centre.specs.CentreEvent.{happened};
+ghost use Rattle.sms_centre.specs.Draft.{Core, Store, core_of, handsets_in, messages_in, parts_in, reports_in, with_given, with_message, with_part, with_part_at, with_priority, with_report_at, with_reports};
+ghost use Rattle.sms_centre.specs.Held.{SoundHeld};
+ghost use Rattle.sms_centre.specs.Planning.{adopted, outcome_of};
+ghost use Rattle.sms_centre.specs.Submitting.{reference_for};
+
+/// A centre that adopts what an event leads to is the centre after that event: the changes say all that became of the rows.
+pub fn what_is_adopted_is_what_happened()
+    ensures { (event : CentreEvent) (c : Core) → adopted (outcome_of (happened event c)) c ≡ core_of (happened event c) }
+{}
+
+/// All that waits for a handset holds references that were given there, no two the same: also once a message was entered, the
+/// next reference was given for a part or a status report, a report was made that waits for no handset, a part or a report is so
+/// far, or a message has ended.
+pub fn references_stay_apart()
+    ensures entered { (s : Store) (m : MessageRow) (q : PriorityRow) → SoundHeld s → q.id ≡ m.id → ((n : ℕ) → part_at m.id n (parts_in s) ≡ None) → report_of m.id (reports_in s) ≡ None → IsNumber m.handset
+        → SoundHeld (with_priority q (with_message m s)) }
+    ensures part_given { (s : Store) (m : MessageRow) (p : PartRow) → SoundHeld s → message_at p.id (messages_in s) ≡ Some m → is_pending m ≡ true → p.progress.is_done ≡ false → 0 < p.number → p.number < 256
+        → reference_for (handset_of m.handset (handsets_in s)) s ≡ Some p.reference → SoundHeld (with_part p (with_given (handset_of m.handset (handsets_in s)) p.reference s)) }
+    ensures report_made { (s : Store) (r : ReportRow) → SoundHeld s → IsNew (reports_in s) r → is_open_status r ≡ false → SoundHeld (with_reports (put_report r s.reports) s) }
+    ensures status_given { (s : Store) (m : MessageRow) (r : ReportRow) → SoundHeld s → IsNew (reports_in s) r → message_at r.id (messages_in s) ≡ Some m → IsNumber m.source.digits → is_open_status r ≡ true
+        → reference_for (handset_of m.source.digits (handsets_in s)) s ≡ Some (status_reference r.kind)
+        → SoundHeld (with_reports (put_report r s.reports) (with_given (handset_of m.source.digits (handsets_in s)) (status_reference r.kind) s)) }
+    ensures part_far { (s : Store) (p : PartRow) (progress : Progress) → SoundHeld s → row_at part_key (part_key p) (parts_in s) ≡ Some p → (progress.is_done ≡ false → p.progress.is_done ≡ false)
+        → SoundHeld (with_part_at p progress s) }
+    ensures report_far { (s : Store) (r : ReportRow) (progress : Progress) → SoundHeld s → report_of r.id (reports_in s) ≡ Some r → (progress.is_done ≡ false → r.progress.is_done ≡ false)
+        → SoundHeld (with_report_at r progress s) }
+    ensures ended { (s : Store) (m : MessageRow) (state : FinalState) (moment : ℕ) → SoundHeld s → message_at m.id (messages_in s) ≡ Some m → SoundHeld (with_message (ended state moment m) s) }
+{}

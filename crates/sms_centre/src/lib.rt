@@ -1,0 +1,25 @@
+//! The centre core (3GPP TS 23.040 3.2 and 10, 3GPP TS 24.011 6, SMPP v3.4 4): what a service centre does with what
+//! applications want, with frames of handsets and with time.
+//!
+//! `specs/` has its definition: an event is a composition of small stages over a draft in three parts, the rows, the lines to
+//! handsets and the sessions of applications. This crate has no code yet but the types that the definition names.
+#![tactic(auto)]
+
+mod answer;
+mod event;
+pub mod laws;
+mod plan_error;
+mod refusal;
+mod rows;
+mod setup;
+mod submission;
+mod verdict;
+
+pub use answer::CentreAnswer;
+pub use event::CentreEvent;
+pub use plan_error::PlanError;
+pub use refusal::SubmitRefusal;
+pub use rows::{Changes, Rows};
+pub use setup::{Account, Setup};
+pub use submission::{SinglePart, Submission, Text};
+pub use verdict::Verdict;

@@ -1,0 +1,4 @@
+pub mod DoneParts
+pub mod Entries
+pub mod PartRows
+pub mod PartsWaiting

@@ -1,0 +1,5 @@
+pub mod Messages
+pub mod OpenParts
+pub mod SplitReferences
+pub mod SoundMessages
+pub mod PartEntries

@@ -1,0 +1,4 @@
+pub mod Reports
+pub mod Waiting
+pub mod Receipts
+pub mod SoundReports

@@ -1,0 +1,12 @@
+pub mod Alike
+pub mod Amending
+pub mod Dues
+pub mod GivingsSound
+pub mod LinesShown
+pub mod Mentions
+pub mod Passing
+pub mod ReferencesShown
+pub mod Revising
+pub mod Showing
+pub mod Withdrawing
+pub mod WaitingSound

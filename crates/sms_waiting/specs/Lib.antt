@@ -1,0 +1,10 @@
+pub mod Keys
+pub mod Revisions
+pub mod Waiting
+pub mod References
+pub mod Lines
+pub mod Shelves
+pub mod Trying
+pub mod SoundGivings
+pub mod Shelved
+pub mod SoundWaiting

@@ -1,0 +1,34 @@
+-- How far a transfer is once it was answered, failed, or is to be tried at once.
+use Rattle.std.specs.Prelude.{ℕ, ◌+◌, ◌==◌, nat_le, min, if◌then◌else◌, true}
+use Rattle.sms_waiting.specs.declared.progress.Progress.{Progress}
+
+-- so many seconds later, never past the last moment
+abbrev pub later : ℕ → ℕ → ℕ
+later moment seconds = min (moment + seconds) 4102444799
+
+-- seconds from the attempt of that number, counted from 1, to the next
+abbrev pub retry_delay : ℕ → ℕ
+retry_delay attempts =
+    if nat_le attempts 1 then 60
+    else (if attempts == 2 then 300
+    else (if attempts == 3 then 900
+    else 3600))
+
+abbrev pub retry_after : ℕ → ℕ → ℕ
+retry_after attempts now = later now (retry_delay attempts)
+
+-- attempts are counted to 255
+abbrev pub one_more : ℕ → ℕ
+one_more attempts = min (attempts + 1) 255
+
+-- answered for good
+abbrev pub finished : Progress → Progress
+finished p = record p { is_done = true }
+
+-- one more attempt failed
+abbrev pub tried : ℕ → Progress → Progress
+tried now p = record p { attempts = one_more p.attempts; due = retry_after (one_more p.attempts) now }
+
+-- it is tried at that moment
+abbrev pub due_at : ℕ → Progress → Progress
+due_at moment p = record p { due = moment }
