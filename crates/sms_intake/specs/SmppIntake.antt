@@ -1,5 +1,5 @@
 -- A submit_sm (SMPP v3.4 4.4.1): the checks that need no rows, in order, and the submission.
-use Rattle.std.specs.Prelude.{ℕ, ◌+◌, ◌*◌, ◌/◌, ◌%◌, ◌==◌, ◌&&◌, ◌||◌, not, nat_lt, nat_le, min, List, [], ◌∷◌, length, take, drop, Bool, true, false, if◌then◌else◌, Option, Some, None, is_some, Result, Ok, Err}
+use Rattle.std.specs.Prelude.{◌≡◌, ℕ, ◌+◌, ◌*◌, ◌/◌, ◌%◌, ◌==◌, ◌&&◌, ◌||◌, not, nat_lt, nat_le, min, List, [], ◌∷◌, length, take, drop, Bool, true, false, if◌then◌else◌, Option, Some, None, is_some, Result, Ok, Err}
 use Rattle.std.specs.List.{list_all}
 use Rattle.std.specs.Option.{ok_or}
 use Rattle.sms_base.specs.declared.address.Address.{Address}
@@ -32,6 +32,8 @@ use Rattle.smpp_pdu.specs.declared.status.CommandStatus.TheVariants.{ESME_RINVMS
 use Rattle.smpp_pdu.specs.declared.tlv.Tlvs.{Tlvs}
 use Rattle.sms_tpdu.specs.Bits.{bit}
 use Rattle.sms_tpdu.specs.ValidityTable.{later}
+use Rattle.sms_intake.specs.declared.refusal.SmppError.{SmppError}
+use Rattle.sms_intake.specs.declared.refusal.SmppError.TheVariants.{Refused, NoMemory}
 use Rattle.sms_intake.specs.declared.smpp_front.Front.{Front}
 use Rattle.sms_intake.specs.declared.submission.Submission.{Submission}
 use Rattle.sms_intake.specs.declared.submission.Text.{Text}
@@ -118,9 +120,12 @@ abbrev pub content_spelled : List ℕ → Result (List ℕ) SpellingError → Co
 content_spelled text (Ok septets) = record { coding = Septets; dcs = 0; units = septets }
 content_spelled text (Err fault) = record { coding = Ucs2; dcs = 8; units = ucs2_for text }
 
+abbrev pub are_below : ℕ → List ℕ → Bool
+are_below bound octets = list_all (λ c. nat_lt c bound) octets
+
 -- characters below a bound
 abbrev pub text_at : ℕ → List ℕ → Result Content CommandStatus
-text_at bound octets = if list_all (λ c. nat_lt c bound) octets then Ok (content_spelled octets (spelled octets)) else Err ESME_RSUBMITFAIL
+text_at bound octets = if are_below bound octets then Ok (content_spelled octets (spelled octets)) else Err ESME_RSUBMITFAIL
 
 -- the data coding scheme itself: octets or septets
 abbrev pub class_at : ℕ → Coding → List ℕ → Result Content CommandStatus
@@ -251,3 +256,11 @@ from_pdu own now m = do
     text = text.0;
     key = text.1;
   })
+
+-- ---- with memory
+
+-- The answer is the wanted one. Want of memory is told only where there is a value.
+abbrev pub Answered : {X : Type 0} → Result X SmppError → Result X CommandStatus → Type 0
+Answered {X} (Ok x) wanted = wanted ≡ Ok x
+Answered {X} (Err NoMemory) wanted = (x : X) × (wanted ≡ Ok x)
+Answered {X} (Err (Refused status)) wanted = wanted ≡ Err status

@@ -11,13 +11,15 @@ mod handset_intake;
 pub mod laws;
 mod refusal;
 mod smpp_address;
+mod smpp_content;
 mod smpp_front;
 mod smpp_times;
 mod submission;
 mod submit_report;
 
 pub use handset_intake::from_submit;
-pub use refusal::{SubmitError, SubmitRefusal};
+pub use refusal::{SmppError, SubmitError, SubmitRefusal};
+pub use smpp_content::content_of;
 pub use smpp_front::{Front, front_of};
 pub use smpp_times::{due_of, limit_of, wish_of};
 pub use submission::{GivenData, Submission, Text, Wish};

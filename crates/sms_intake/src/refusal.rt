@@ -1,8 +1,10 @@
 //! Why a SUBMIT is refused.
 ghost use Rattle.std.specs.Prelude.{◌≡◌};
 ghost use Rattle.sms_intake.specs.Refusals.{cause_of, failure_of, unread};
+ghost use Rattle.sms_intake.specs.declared.refusal.SmppError.TheVariants.{NoMemory as NoMemoryToo};
 ghost use Rattle.sms_intake.specs.declared.refusal.SubmitError.TheVariants.{NoMemory};
 
+use smpp_pdu::CommandStatus;
 use sms_relay::RpCause;
 use sms_tpdu::{FailureCause, TpduFault};
 use std::alloc::AllocError;
@@ -91,5 +93,24 @@ impl From<AllocError> for SubmitError {
 
     fn from(_error: AllocError) -> SubmitError {
         SubmitError::NoMemory
+    }
+}
+
+/// Why there is no submission of a submit_sm.
+#[derive(Clone, Copy, Debug, PartialEq, Eq, Error)]
+pub enum SmppError {
+    /// It is refused with this status, which is not ESME_ROK.
+    #[error("the submit_sm is refused")]
+    Refused(CommandStatus),
+    /// There was no memory.
+    #[error("out of memory")]
+    NoMemory,
+}
+
+impl From<AllocError> for SmppError {
+    ghost from_gives = { λ _ e. e ≡ NoMemoryToo };
+
+    fn from(_error: AllocError) -> SmppError {
+        SmppError::NoMemory
     }
 }

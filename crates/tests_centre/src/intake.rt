@@ -2,8 +2,8 @@
 use smpp_pdu::CommandStatus;
 use sms_base::{Address, Moment};
 use sms_intake::{
-    SubmitError, SubmitRefusal, Wish, accepting_report, due_of, from_submit, limit_of,
-    refusing_report, wish_of,
+    SmppError, SubmitError, SubmitRefusal, Wish, accepting_report, content_of, due_of, from_submit,
+    limit_of, refusing_report, wish_of,
 };
 use std::alloc::Global;
 use std::test::Fail;
@@ -101,5 +101,46 @@ fn times_are_judged(rt: HostRuntime) -> Result<(), Fail> {
     );
     assert_eq!(rt; wish_of(2), Wish::OnFailure);
     assert_eq!(rt; wish_of(3), Wish::Always);
+    Ok(())
+}
+
+// The units of a content and its data coding scheme.
+fn units_are(
+    alloc: Global,
+    data_coding: u8,
+    octets: &[u8],
+    dcs: u8,
+    units: &[u8],
+) -> Result<(), Fail> {
+    let content = content_of(alloc, data_coding, octets)?;
+    if content.dcs == dcs && content.units.as_slice() == units {
+        Ok(())
+    } else {
+        Err(Fail::from("another content"))
+    }
+}
+
+#[test]
+fn contents_follow_data_coding(rt: HostRuntime) -> Result<(), Fail> {
+    units_are(rt.alloc(), 0, b"hello", 0x00, b"hello")?;
+    units_are(rt.alloc(), 1, b"[a]", 0x00, &[0x1B, 0x3C, 0x61, 0x1B, 0x3E])?;
+    units_are(rt.alloc(), 3, &[0xE9, 0x61], 0x00, &[0x05, 0x61])?;
+    units_are(rt.alloc(), 3, &[0xEA], 0x08, &[0x00, 0xEA])?;
+    units_are(rt.alloc(), 4, &[0xFF, 0x00], 0x04, &[0xFF, 0x00])?;
+    units_are(rt.alloc(), 8, &[0x04, 0x36], 0x08, &[0x04, 0x36])?;
+    units_are(rt.alloc(), 0xF4, &[0x80], 0xF4, &[0x80])?;
+    let refused = SmppError::Refused(CommandStatus::ESME_RSUBMITFAIL);
+    let none = content_of(rt.alloc(), 5, b"a").err().ok_or("accepted")?;
+    assert_eq!(rt; none, refused);
+    let high = content_of(rt.alloc(), 0, &[0x80]).err().ok_or("accepted")?;
+    assert_eq!(rt; high, refused);
+    Ok(())
+}
+
+#[test]
+fn the_longest_content_is_made(rt: HostRuntime) -> Result<(), Fail> {
+    let octets = vec![in rt.alloc(); 0xEAu8; 65_000]?;
+    let content = content_of(rt.alloc(), 3, octets.as_slice())?;
+    assert_eq!(rt; content.units.len(), 130_000);
     Ok(())
 }
