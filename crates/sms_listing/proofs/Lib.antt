@@ -1,3 +1,4 @@
+pub mod Found
 pub mod Perms
 pub mod Trees
 pub mod Statements

@@ -8,6 +8,8 @@
 
 mod inside;
 mod list;
+mod loading;
 
 pub use inside::{change, put, remove, run, write};
 pub use list::StoredRow;
+pub use loading::load;
