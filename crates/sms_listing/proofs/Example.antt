@@ -1,5 +1,5 @@
 -- A list of two columns whose key is both: what a list owes, in a few lines. It also shows that `IsList` can be met.
-use Rattle.std.proofs.Common.{◌≡◌, ℕ, ℤ, pos, ◌<◌, ◌/◌, ◌%◌, true, false, ◌&&◌, ◌==◌, List, [], ◌∷◌, codes, refl, ap, ap₂, ◌∙◌}
+use Rattle.std.proofs.Common.{◌≡◌, ℕ, ℤ, pos, ◌<◌, ◌/◌, ◌%◌, true, false, ◌&&◌, ◌==◌, [], ◌∷◌, codes, refl, ap, ap₂, ◌∙◌}
 use Rattle.std.specs.List.{list_all}
 use Rattle.sqlite.specs.declared.types.Value.TheVariants.{Null, Int}
 use Rattle.sqlite.specs.Schema.{Schema}

@@ -1,6 +1,5 @@
 -- What each statement on a list does.
-use Rattle.std.proofs.Common.{◌≡◌, ◌≢◌, ◌⊎◌, inl, inr, ℕ, ℤ, pos, Bool, true, false, ◌++◌, ◌==◌, None, [], ◌∷◌, Ok, Err, Result, refl, sym, ap, subst, ◌∙◌, arith, append-nil, length, List}
-use Rattle.std.specs.List.{list_all, AllByRecursion}
+use Rattle.std.proofs.Common.{◌≡◌, ◌≢◌, ◌⊎◌, inl, inr, ℕ, ℤ, true, None, [], ◌∷◌, Ok, Err, Result, refl, sym, ap, subst, ◌∙◌, append-nil, length, List}
 use Rattle.sqlite.specs.declared.types.Value.TheVariants.{Null, Int}
 use Rattle.sqlite.specs.Order.{Row}
 use Rattle.sqlite.specs.Tree.{Trees}
@@ -20,7 +19,7 @@ use Rattle.sqlite_trees.specs.Tree.{put_row}
 use Rattle.sqlite.proofs.Callers.{runs_as, statement_of, one_step}
 use Rattle.sms_table.specs.Table.{Rises, without, insert, put}
 use Rattle.sms_table.proofs.Tables.{rises_put}
-use Rattle.sms_listing.specs.Listing.{ListOf, IsList, Holds, table_of, rowids_where, with_rowid}
+use Rattle.sms_listing.specs.Listing.{ListOf, IsList, Holds, table_of, rowids_where}
 use Rattle.sms_listing.specs.Inside.{Ran, Alters}
 use Rattle.sms_listing.proofs.Perms.{all_mapped}
 use Rattle.sms_listing.proofs.Trees.{passes, left_is, holds_left, holds_more}

@@ -1,11 +1,11 @@
 -- Steps inside a transaction, one after another.
-use Rattle.std.proofs.Common.{Result, Ok, Err, OnOk, IfOk, ℕ, ◌+◌, ◌<◌, List, [], ◌∷◌, ◌++◌, take, length, get_or, IsTrue, refl, sym, subst, ◌∙◌}
+use Rattle.std.proofs.Common.{Result, Ok, Err, OnOk, IfOk, ℕ, ◌+◌, ◌<◌, List, take, length, get_or, IsTrue, refl, ◌∙◌}
 use Rattle.std.proofs.lemmas.List.{take_more}
 use Rattle.sqlite.specs.State.{State, KeepsCommit}
 use Rattle.sms_table.specs.declared.change.Change.{Change}
 use Rattle.sms_table.specs.Table.{all_applied, applied}
 use Rattle.sms_table.proofs.Tables.{all_applied_push}
-use Rattle.sms_listing.specs.Listing.{ListOf, Holds}
+use Rattle.sms_listing.specs.Listing.{ListOf}
 use Rattle.sms_listing.specs.Inside.{Alters}
 
 pub alters_none : {X : Type 0} (l : ListOf X) (s : State) → IsTrue s.is_open → IsTrue s.in_transaction → Alters l (λ xs. xs) s s

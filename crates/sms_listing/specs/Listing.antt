@@ -1,5 +1,5 @@
 -- A list of rows as a table of a database: each row of the list is one row of the table, under a rowid of its own.
-use Rattle.std.specs.Prelude.{◌≡◌, ℕ, ◌==◌, ◌/◌, ℤ, pos, negsuc, true, false, List, [], ◌∷◌, map, length, slice_get, Some, None, codes, IsPermutation}
+use Rattle.std.specs.Prelude.{◌≡◌, ℕ, ◌==◌, ◌/◌, ℤ, pos, negsuc, true, false, List, [], ◌∷◌, map, length, slice_get, Some, None, IsPermutation}
 use Rattle.std.specs.List.{list_all, AllByRecursion}
 use Rattle.sqlite.specs.Collation.TheVariants.{Binary}
 use Rattle.sqlite.specs.declared.types.Value.TheVariants.{Null, Int}

@@ -27,7 +27,10 @@ pub fn run<S: Alter>(
 }
 
 /// Removes the row of the key, if there is one.
-pub fn remove<T: Drop + StoredRow, S: Alter>(tx: &mut Transaction<'_, S>, key: Key) -> Result<(), Error>
+pub fn remove<T: Drop + StoredRow, S: Alter>(
+    tx: &mut Transaction<'_, S>,
+    key: Key,
+) -> Result<(), Error>
     ensures same_reference { tx.new.conn.ghost_name ≡ tx.old.conn.ghost_name }
     ensures done { Goes S.Store tx.old.conn.now tx.new.conn.now (Alters T.list (without T.list.key key)) result }
     ensures kept { Keeps S.Store tx.old.conn.now tx.new.conn.now }
@@ -48,7 +51,10 @@ pub fn put<T: Drop + StoredRow, S: Alter>(tx: &mut Transaction<'_, S>, row: &T) 
 }
 
 /// Makes the change.
-pub fn change<T: Drop + StoredRow, S: Alter>(tx: &mut Transaction<'_, S>, change: &Change<T>) -> Result<(), Error>
+pub fn change<T: Drop + StoredRow, S: Alter>(
+    tx: &mut Transaction<'_, S>,
+    change: &Change<T>,
+) -> Result<(), Error>
     ensures same_reference { tx.new.conn.ghost_name ≡ tx.old.conn.ghost_name }
     ensures done { Goes S.Store tx.old.conn.now tx.new.conn.now (Alters T.list (applied T.list.key change.now)) result }
     ensures kept { Keeps S.Store tx.old.conn.now tx.new.conn.now }
@@ -61,7 +67,10 @@ pub fn change<T: Drop + StoredRow, S: Alter>(tx: &mut Transaction<'_, S>, change
 }
 
 /// Makes the changes in their order.
-pub fn write<T: Drop + StoredRow, S: Alter>(tx: &mut Transaction<'_, S>, changes: &[Change<T>]) -> Result<(), Error>
+pub fn write<T: Drop + StoredRow, S: Alter>(
+    tx: &mut Transaction<'_, S>,
+    changes: &[Change<T>],
+) -> Result<(), Error>
     ensures same_reference { tx.new.conn.ghost_name ≡ tx.old.conn.ghost_name }
     ensures done { Goes S.Store tx.old.conn.now tx.new.conn.now (Alters T.list (all_applied T.list.key changes.now)) result }
     ensures kept { Keeps S.Store tx.old.conn.now tx.new.conn.now }

@@ -1,4 +1,4 @@
-use Rattle.std.proofs.Common.{◌≡◌, inl, [], ap, sym, subst, subst₂, IsPermutation, ◌∙◌}
+use Rattle.std.proofs.Common.{inl, [], sym, subst, IsPermutation}
 use Rattle.std.proofs.lemmas.List.Sorted.{IsPermutation-sym}
 use Rattle.sqlite.proofs.Callers.{IsPlain}
 use Rattle.sqlite.specs.Listing.{understood}
