@@ -1,0 +1,83 @@
+//! Statements inside one transaction.
+ghost use Rattle.std.specs.Prelude.{◌≡◌, IfOk};
+ghost use Rattle.sqlite.specs.Held.{state};
+ghost use Rattle.sqlite.specs.Values.{bound};
+ghost use Rattle.sms_listing.specs.Inside.{Alters, Finds, Goes, Keeps, Ran, Spares, Stays};
+ghost use Rattle.sms_table.specs.Table.{all_applied, applied, put as put_row, without};
+
+use crate::list::StoredRow;
+use sms_table::{Change, Key};
+use sqlite::types::ValueRef;
+use sqlite::{Alter, Error, Transaction};
+use std::alloc::Global;
+
+/// Runs one statement inside the transaction.
+pub fn run<S: Alter>(
+    tx: &mut Transaction<'_, S>,
+    sql: &str,
+    params: &[ValueRef<'_>],
+) -> Result<(), Error>
+    ensures same_reference { tx.new.conn.ghost_name ≡ tx.old.conn.ghost_name }
+    ensures done { Goes S.Store tx.old.conn.now tx.new.conn.now (Ran sql.now (bound params.now)) result }
+    ensures kept { Keeps S.Store tx.old.conn.now tx.new.conn.now }
+    ensures survives { Spares S.Store tx.old.conn.now tx.new.conn.now }
+{
+    tx.execute(sql, params)?;
+    Ok(())
+}
+
+/// Removes the row of the key, if there is one.
+pub fn remove<T: Drop + StoredRow, S: Alter>(
+    tx: &mut Transaction<'_, S>,
+    key: Key,
+) -> Result<(), Error>
+    ensures same_reference { tx.new.conn.ghost_name ≡ tx.old.conn.ghost_name }
+    ensures done { Goes S.Store tx.old.conn.now tx.new.conn.now (Alters T.list (without T.list.key key)) result }
+    ensures kept { Keeps S.Store tx.old.conn.now tx.new.conn.now }
+    ensures survives { Spares S.Store tx.old.conn.now tx.new.conn.now }
+{
+    T::delete(tx, key)
+}
+
+/// Puts the row in the place of that of its key, or where its key belongs.
+pub fn put<T: Drop + StoredRow, S: Alter>(tx: &mut Transaction<'_, S>, row: &T) -> Result<(), Error>
+    ensures same_reference { tx.new.conn.ghost_name ≡ tx.old.conn.ghost_name }
+    ensures done { Goes S.Store tx.old.conn.now tx.new.conn.now (Alters T.list (put_row T.list.key row.now)) result }
+    ensures kept { Keeps S.Store tx.old.conn.now tx.new.conn.now }
+    ensures survives { Spares S.Store tx.old.conn.now tx.new.conn.now }
+{
+    remove::<T, S>(tx, row.key())?;
+    row.insert(tx)
+}
+
+/// Makes the change.
+pub fn change<T: Drop + StoredRow, S: Alter>(
+    tx: &mut Transaction<'_, S>,
+    change: &Change<T>,
+) -> Result<(), Error>
+    ensures same_reference { tx.new.conn.ghost_name ≡ tx.old.conn.ghost_name }
+    ensures done { Goes S.Store tx.old.conn.now tx.new.conn.now (Alters T.list (applied T.list.key change.now)) result }
+    ensures kept { Keeps S.Store tx.old.conn.now tx.new.conn.now }
+    ensures survives { Spares S.Store tx.old.conn.now tx.new.conn.now }
+{
+    match change {
+        Change::Put(row) => put(tx, row),
+        Change::Remove(key) => remove::<T, S>(tx, *key),
+    }
+}
+
+/// Makes the changes in their order.
+pub fn write<T: Drop + StoredRow, S: Alter>(
+    tx: &mut Transaction<'_, S>,
+    changes: &[Change<T>],
+) -> Result<(), Error>
+    ensures same_reference { tx.new.conn.ghost_name ≡ tx.old.conn.ghost_name }
+    ensures done { Goes S.Store tx.old.conn.now tx.new.conn.now (Alters T.list (all_applied T.list.key changes.now)) result }
+    ensures kept { Keeps S.Store tx.old.conn.now tx.new.conn.now }
+    ensures survives { Spares S.Store tx.old.conn.now tx.new.conn.now }
+{
+    for item in changes {
+        change(tx, item)?;
+    }
+    Ok(())
+}

@@ -1,0 +1,15 @@
+//! Lists of rows as tables of a database.
+//!
+//! A type of rows that says its table, its three texts and its columns (`StoredRow`) is stored by `put`, `remove`,
+//! `write` and `load`, which are proved here once for every list: inside one transaction the table holds the list
+//! with its changes, every other table stays, nothing is committed, and a stop leaves nothing new. `load` gives the
+//! rows in the order of their keys.
+#![tactic(auto)]
+
+mod inside;
+mod list;
+mod loading;
+
+pub use inside::{change, put, remove, run, write};
+pub use list::StoredRow;
+pub use loading::load;

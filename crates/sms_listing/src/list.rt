@@ -1,0 +1,44 @@
+//! What a list says of its table.
+ghost use Rattle.std.specs.Prelude.{◌≡◌, ℕ, IfOk};
+ghost use Rattle.sqlite.specs.Held.{state};
+ghost use Rattle.sms_listing.specs.Inside.{Goes, Keeps, Ran, Spares};
+ghost use Rattle.sms_listing.specs.Listing.{IsList, ListOf};
+
+use sms_table::{Key, Row};
+use sqlite::{Alter, Error, Transaction};
+use std::alloc::Global;
+
+/// A row of a list that has a table of its own.
+pub trait StoredRow: Row {
+    /// The list and its table.
+    ghost list: { ListOf Self };
+
+    /// Runs the text that removes the row of a key.
+    fn delete<S: Alter>(tx: &mut Transaction<'_, S>, key: Key) -> Result<(), Error>
+        ensures same_reference { tx.new.conn.ghost_name ≡ tx.old.conn.ghost_name }
+        ensures done { Goes S.Store tx.old.conn.now tx.new.conn.now (Ran list.table.delete (list.key_columns key)) result }
+        ensures kept { Keeps S.Store tx.old.conn.now tx.new.conn.now }
+        ensures survives { Spares S.Store tx.old.conn.now tx.new.conn.now };
+
+    /// Runs the text that adds the row.
+    fn insert<S: Alter>(&self, tx: &mut Transaction<'_, S>) -> Result<(), Error>
+        ensures same_reference { tx.new.conn.ghost_name ≡ tx.old.conn.ghost_name }
+        ensures done { Goes S.Store tx.old.conn.now tx.new.conn.now (Ran list.table.insert (list.columns self.now)) result }
+        ensures kept { Keeps S.Store tx.old.conn.now tx.new.conn.now }
+        ensures survives { Spares S.Store tx.old.conn.now tx.new.conn.now }
+        ensures fits { list.Fits self.now };
+
+    /// The text that reads all rows.
+    fn select() -> &'static str
+        ensures { result.now ≡ list.table.select };
+
+    /// Reads the columns of a row. An error tells a row that no row of the list has written, or want of memory.
+    fn read(alloc: Global, row: &sqlite::Row) -> Result<Self, Error>
+        ensures { IfOk result (λ x. (seen : Self) → list.Fits seen → row.now ≡ list.columns seen → x ≡ seen) };
+
+    /// The key is that of the list.
+    ghost one_key: { (x : Self) → list.key x ≡ Self.key x };
+
+    /// The texts are those of the list.
+    ghost is_list: { IsList list };
+}
