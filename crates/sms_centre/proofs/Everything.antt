@@ -17,17 +17,18 @@ unfolding
     Rattle.sms_base.specs.SmppTime.smpp_time_in Rattle.sms_base.specs.SmppTime.time_at
     Rattle.sms_base.specs.TimeStamp.clock_in Rattle.sms_base.specs.TimeStamp.moment_in
     Rattle.sms_base.specs.TimeStamp.scts_in Rattle.sms_base.specs.TimeStamp.zone_in
-    Rattle.sms_centre.specs.HandsetIntake.from_submit Rattle.sms_centre.specs.SmppIntake.from_pdu
-    Rattle.sms_centre.specs.SmppIntake.headed_text Rattle.sms_centre.specs.SmppIntake.plain_text
-    Rattle.sms_concat.specs.Concatenation.key_of Rattle.sms_concat.specs.HeaderGrammar.element_in
-    Rattle.sms_concat.specs.HeaderGrammar.elements_behind Rattle.sms_concat.specs.HeaderGrammar.header_at
-    Rattle.sms_concat.specs.Splitting.filled Rattle.sms_concat.specs.Splitting.split_of
-    Rattle.sms_concat.specs.UserData.part_in Rattle.sms_control.specs.ControlGrammar.cause_of
-    Rattle.sms_control.specs.ControlGrammar.type_of Rattle.sms_control.specs.ControlReading.cp_at
-    Rattle.sms_control.specs.ControlReading.head_in Rattle.sms_control.specs.ControlReading.type_in
-    Rattle.sms_control.specs.ControlReading.unit_in Rattle.sms_control.specs.LinkStep.begin_step
-    Rattle.sms_control.specs.LinkStep.fire_step Rattle.sms_control.specs.LinkStep.reply_step
-    Rattle.sms_control.specs.LinkStep.take_step Rattle.sms_messages.specs.SplitReferences.first_free_split
+    Rattle.sms_base.specs.UtcClock.clock_at Rattle.sms_centre.specs.HandsetIntake.from_submit
+    Rattle.sms_centre.specs.SmppIntake.from_pdu Rattle.sms_centre.specs.SmppIntake.headed_text
+    Rattle.sms_centre.specs.SmppIntake.plain_text Rattle.sms_concat.specs.Concatenation.key_of
+    Rattle.sms_concat.specs.HeaderGrammar.element_in Rattle.sms_concat.specs.HeaderGrammar.elements_behind
+    Rattle.sms_concat.specs.HeaderGrammar.header_at Rattle.sms_concat.specs.Splitting.filled
+    Rattle.sms_concat.specs.Splitting.split_of Rattle.sms_concat.specs.UserData.part_in
+    Rattle.sms_control.specs.ControlGrammar.cause_of Rattle.sms_control.specs.ControlGrammar.type_of
+    Rattle.sms_control.specs.ControlReading.cp_at Rattle.sms_control.specs.ControlReading.head_in
+    Rattle.sms_control.specs.ControlReading.type_in Rattle.sms_control.specs.ControlReading.unit_in
+    Rattle.sms_control.specs.LinkStep.begin_step Rattle.sms_control.specs.LinkStep.fire_step
+    Rattle.sms_control.specs.LinkStep.reply_step Rattle.sms_control.specs.LinkStep.take_step
+    Rattle.sms_messages.specs.PartEntries.done_to Rattle.sms_messages.specs.SplitReferences.first_free_split
     Rattle.sms_relay.specs.Cause.cause_of Rattle.sms_relay.specs.MessageType.type_of
     Rattle.sms_relay.specs.RelayReading.ack_in Rattle.sms_relay.specs.RelayReading.cause_in
     Rattle.sms_relay.specs.RelayReading.centre_in Rattle.sms_relay.specs.RelayReading.data_down_in
@@ -39,17 +40,18 @@ unfolding
     Rattle.sms_tpdu.specs.AddressReading.address_in Rattle.sms_tpdu.specs.AddressReading.characters_in
     Rattle.sms_tpdu.specs.AddressReading.digits_in Rattle.sms_tpdu.specs.AddressReading.last_digit_in
     Rattle.sms_tpdu.specs.AddressReading.name_in Rattle.sms_tpdu.specs.AddressReading.two_digits_in
-    Rattle.sms_tpdu.specs.AddressReading.type_of_number_in Rattle.sms_tpdu.specs.TimeReading.time_in
-    Rattle.sms_tpdu.specs.TpduReading.absolute_in Rattle.sms_tpdu.specs.TpduReading.data_down_at
-    Rattle.sms_tpdu.specs.TpduReading.data_up_at Rattle.sms_tpdu.specs.TpduReading.deliver_at
-    Rattle.sms_tpdu.specs.TpduReading.deliver_report_at Rattle.sms_tpdu.specs.TpduReading.down_at
-    Rattle.sms_tpdu.specs.TpduReading.follows_in Rattle.sms_tpdu.specs.TpduReading.optional_data_in
-    Rattle.sms_tpdu.specs.TpduReading.optional_octet_in Rattle.sms_tpdu.specs.TpduReading.parameters_in
-    Rattle.sms_tpdu.specs.TpduReading.relative_in Rattle.sms_tpdu.specs.TpduReading.report_down_at
-    Rattle.sms_tpdu.specs.TpduReading.report_up_at Rattle.sms_tpdu.specs.TpduReading.status_report_at
-    Rattle.sms_tpdu.specs.TpduReading.status_tail_in Rattle.sms_tpdu.specs.TpduReading.submit_at
-    Rattle.sms_tpdu.specs.TpduReading.submit_report_at Rattle.sms_tpdu.specs.TpduReading.submit_rest_in
-    Rattle.sms_tpdu.specs.TpduReading.up_at Rattle.sms_tpdu.specs.TpduReading.validity_in
-    Rattle.sms_tpdu.specs.UserDataReading.text_in Rattle.sms_tpdu.specs.UserDataReading.text_test
-    Rattle.sms_tpdu.specs.UserDataReading.user_data_in Rattle.sms_waiting.specs.References.first_passing
+    Rattle.sms_tpdu.specs.AddressReading.type_of_number_in Rattle.sms_tpdu.specs.MoreMessages.compared
+    Rattle.sms_tpdu.specs.TimeReading.time_in Rattle.sms_tpdu.specs.TpduReading.absolute_in
+    Rattle.sms_tpdu.specs.TpduReading.data_down_at Rattle.sms_tpdu.specs.TpduReading.data_up_at
+    Rattle.sms_tpdu.specs.TpduReading.deliver_at Rattle.sms_tpdu.specs.TpduReading.deliver_report_at
+    Rattle.sms_tpdu.specs.TpduReading.down_at Rattle.sms_tpdu.specs.TpduReading.follows_in
+    Rattle.sms_tpdu.specs.TpduReading.optional_data_in Rattle.sms_tpdu.specs.TpduReading.optional_octet_in
+    Rattle.sms_tpdu.specs.TpduReading.parameters_in Rattle.sms_tpdu.specs.TpduReading.relative_in
+    Rattle.sms_tpdu.specs.TpduReading.report_down_at Rattle.sms_tpdu.specs.TpduReading.report_up_at
+    Rattle.sms_tpdu.specs.TpduReading.status_report_at Rattle.sms_tpdu.specs.TpduReading.status_tail_in
+    Rattle.sms_tpdu.specs.TpduReading.submit_at Rattle.sms_tpdu.specs.TpduReading.submit_report_at
+    Rattle.sms_tpdu.specs.TpduReading.submit_rest_in Rattle.sms_tpdu.specs.TpduReading.up_at
+    Rattle.sms_tpdu.specs.TpduReading.validity_in Rattle.sms_tpdu.specs.UserDataReading.text_in
+    Rattle.sms_tpdu.specs.UserDataReading.text_test Rattle.sms_tpdu.specs.UserDataReading.user_data_in
+    Rattle.sms_waiting.specs.References.first_passing
 everything = tt
