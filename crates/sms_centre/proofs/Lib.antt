@@ -17,7 +17,12 @@ pub mod HeldGivings
 pub mod HeldStages
 pub mod Resting
 mod SplitsApart
+pub mod NextNumbers
 pub mod Stages
+pub mod StandsKept
+pub mod Steady
+pub mod SteadyTimes
+pub mod SteadyEvents
 mod StatusReported
 mod SubmitsJudged
 mod TriedAgain

@@ -1,0 +1,54 @@
+-- What each stage of an event may rest on, and leaves so: what waits holds references apart, and parts and reports are of messages
+-- that stand there. And what a submission that passed all checks is good for.
+use Rattle.std.specs.Prelude.{◌≡◌, ℕ, ◌<◌, ◌≤◌, List, length, Bool, true, false, Option, Some, None, Result, Ok}
+use Rattle.sms_base.specs.Address.{IsAddress}
+use Rattle.sms_base.specs.Among.{Among}
+use Rattle.sms_base.specs.declared.address.Address.{Address}
+use Rattle.sms_base.specs.TimeStamp.{IsMoment}
+use Rattle.sms_table.specs.Table.{Rises}
+use Rattle.sms_tpdu.specs.TpduGrammar.{IsDeliverData}
+use Rattle.sms_messages.specs.declared.message.MessageRow.{MessageRow}
+use Rattle.sms_messages.specs.declared.message.Originator.{Originator}
+use Rattle.sms_messages.specs.declared.message.Originator.TheVariants.{Application, Handset}
+use Rattle.sms_messages.specs.declared.part.PartRow.{PartRow}
+use Rattle.sms_messages.specs.Messages.{is_pending, message_at, message_key}
+use Rattle.sms_reports.specs.declared.report.ReportRow.{ReportRow}
+use Rattle.sms_waiting.specs.SoundGivings.{IsNumber}
+use Rattle.sms_centre.specs.declared.submission.SinglePart.{SinglePart}
+use Rattle.sms_centre.specs.declared.submission.Submission.{Submission}
+use Rattle.sms_centre.specs.Bodies.{deliver_of}
+use Rattle.sms_centre.specs.Draft.{Store, messages_in, parts_in, reports_in}
+use Rattle.sms_centre.specs.Held.{SoundHeld}
+use Rattle.sms_centre.specs.Submitting.{bodies_under, data_coding_of}
+
+-- ---- rows
+
+-- a handset's message can be told to it
+abbrev pub CanBeTold : Originator → Address → Type 0
+CanBeTold (Application account) source = Unit {0}
+CanBeTold (Handset message_reference) source = IsNumber source.digits
+
+pub record Stands (s : Store) : Type 0 where
+  pub held : SoundHeld s
+  pub message_keys : Rises message_key (messages_in s)
+  pub told : (m : MessageRow) → Among m (messages_in s) → CanBeTold m.originator m.source
+  pub parts : (p : PartRow) → Among p (parts_in s) → (m : MessageRow) × (message_at p.id (messages_in s) ≡ Some m)
+  -- a report's message has ended
+  pub reports : (r : ReportRow) → Among r (reports_in s) → (m : MessageRow) × ((message_at r.id (messages_in s) ≡ Some m) × (is_pending m ≡ false))
+
+-- ---- submissions
+
+-- user data of a DELIVER of the submission
+pub record IsBody (moment : ℕ) (u : Submission) (b : SinglePart) : Type 0 where
+  pub fields : IsDeliverData (deliver_of moment u b)
+  pub scheme : b.data_coding_scheme ≡ data_coding_of u.text
+
+pub record IsSubmission (moment : ℕ) (u : Submission) : Type 0 where
+  pub source : IsAddress u.source
+  pub handset : IsNumber u.handset
+  pub told : CanBeTold u.originator u.source
+  pub priority : u.priority ≤ 3
+  -- under each reference it is 1 to 20 parts
+  pub some : (reference : ℕ) → 0 < length (bodies_under reference u.text)
+  pub few : (reference : ℕ) → length (bodies_under reference u.text) ≤ 20
+  pub bodies : (reference : ℕ) (b : SinglePart) → Among b (bodies_under reference u.text) → IsBody moment u b
