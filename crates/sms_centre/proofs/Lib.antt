@@ -17,6 +17,9 @@ pub mod HeldGivings
 pub mod HeldStages
 pub mod Resting
 mod SplitsApart
+pub mod DoneMarks
+pub mod MessagesEntered
+pub mod MessagesKept
 pub mod NextNumbers
 pub mod Stages
 pub mod StandsKept
