@@ -21,6 +21,9 @@ pub mod DoneMarks
 pub mod MessagesEntered
 pub mod MessagesKept
 pub mod NextNumbers
+pub mod ReportsKept
+pub mod SplitsKept
+pub mod TpdusRead
 pub mod Stages
 pub mod StandsKept
 pub mod Steady
