@@ -23,8 +23,12 @@ pub mod MessagesKept
 pub mod NextNumbers
 pub mod ReportsKept
 pub mod SplitsKept
+pub mod SoundEnds
+pub mod SoundSteady
+pub mod SoundStores
 pub mod TpdusRead
 pub mod Stages
+pub mod StandsEntered
 pub mod StandsKept
 pub mod Steady
 pub mod SteadyTimes

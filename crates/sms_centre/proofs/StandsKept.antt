@@ -35,124 +35,23 @@ use Rattle.sms_centre.specs.Draft.{Store, handsets_in, messages_in, parts_in, re
 use Rattle.sms_centre.specs.Ends.{end, is_wished, make_report, report, report_to, status_given}
 use Rattle.sms_centre.specs.Held.{SoundHeld}
 use Rattle.sms_centre.specs.ReceiptTexts.{status_octets}
-use Rattle.sms_centre.specs.Standing.{CanBeTold, IsSubmission, Stands}
+use Rattle.sms_centre.specs.SoundRows.{CanBeTold}
+use Rattle.sms_centre.specs.Standing.{IsSubmission, Stands}
 use Rattle.sms_centre.specs.Submitting.{accept, accept_as, accept_split, accept_under, bodies_under, enter, give_part, give_parts, is_long, message_of, part_given, reference_for}
 use Rattle.sms_centre.specs.Transfers.{complete}
 use Rattle.sms_centre.proofs.HeldGivings.{part_given_held, report_made_held, status_given_held}
 use Rattle.sms_centre.proofs.HeldStages.{ended_held, entered_held, part_far_held, report_far_held}
 use Rattle.sms_centre.proofs.Stages.{IfThere}
 use Rattle.sms_centre.proofs.NextNumbers.{among_amended, below_next_id, below_next_place, no_part, no_report}
+use Rattle.sms_centre.proofs.StandsEntered.{accept_stands}
 use Rattle.sms_centre.proofs.Steady.{IsSteady, message_own}
-
--- ---- a message is entered
-
-enter_stands : (id : ℕ) (split : Option ℕ) (u : Submission) (s : Store) → Stands s → ((x : MessageRow) → Among x (messages_in s) → x.id < id) → IsNumber u.handset → CanBeTold u.originator u.source
-    → Stands (enter id split u s)
-enter_stands id split u s k below is told =
-    let m : MessageRow = message_of id s.moment split u in
-    let q : PriorityRow = record { id = id; priority = u.priority } in
-    let part_below : (p : PartRow) → Among p (parts_in s) → p.id < id = λ p among.
-    let of = k.parts p among in
-    let same : of.0.id ≡ p.id = found_key message_key p.id of.0 (messages_in s) of.1 in
-    let low = below of.0 (found_among message_key p.id of.0 (messages_in s) of.1) in omega (arith, same, low) in
-    let report_below : (r : ReportRow) → Among r (reports_in s) → r.id < id = λ r among.
-    let of = k.reports r among in
-    let same : of.0.id ≡ r.id = found_key message_key r.id of.0 (messages_in s) of.1.0 in
-    let low = below of.0 (found_among message_key r.id of.0 (messages_in s) of.1.0) in omega (arith, same, low) in
-    record {
-      held = entered_held s m q k.held refl (λ n. no_part id n (parts_in s) k.held.parts part_below)
-          (no_report id (reports_in s) (λ r among e. let low = report_below r among in omega (arith, low, e))) is;
-      message_keys = rises_put message_key m (messages_in s) k.message_keys;
-      told = λ x among. ⊎_elim
-          (λ (e : x ≡ m). subst (λ (y : MessageRow). CanBeTold y.originator y.source) (sym e) told)
-          (λ (a : Among x (messages_in s) × ¬ (x.id ≡ m.id)). k.told x a.0)
-          (among_put message_key x m (messages_in s) among);
-      parts = λ p among.
-          let of = k.parts p among in
-          let low = part_below p among in
-          (of.0, row_at_put_other message_key p.id m (messages_in s) (λ e. omega (arith, low, e)) ∙ of.1);
-      reports = λ r among.
-          let of = k.reports r among in
-          let low = report_below r among in
-          (of.0, (row_at_put_other message_key r.id m (messages_in s) (λ e. omega (arith, low, e)) ∙ of.1.0, of.1.1));
-    }
-
--- ---- its parts are given
-
--- if both there, one after the other
-pub then_there : (A B : Store → Type 0) (f : Store → Option Store) (o : Option Store) → IfThere A o → ((e : Store) → A e → IfThere B (f e)) → IfThere B (option_and_then f o)
-then_there A B f None there g = tt
-then_there A B f (Some e) there g = g e there
-
--- the message stands there
-abbrev pub Entered : MessageRow → Store → Type 0
-Entered m s = Stands s × (message_at m.id (messages_in s) ≡ Some m)
-
-part_stands : (m : MessageRow) (u : Submission) (n : ℕ) (b : SinglePart) (o : Option ℕ) (s : Store) → Entered m s → is_pending m ≡ true → 0 < n → n < 256
-    → reference_for (handset_of m.handset (handsets_in s)) s ≡ o → IfThere (Entered m) (part_given m.id u n b (handset_of m.handset (handsets_in s)) o s)
-part_stands m u n b None s k pending some small next = tt
-part_stands m u n b (Some r) s k pending some small next =
-    let h : HandsetRow = handset_of m.handset (handsets_in s) in
-    let p : PartRow = record {
-      id = m.id;
-      number = n;
-      reference = r;
-      tpdu = deliver_octets s.moment u b;
-      key = b.key;
-      progress = record { is_done = false; attempts = 0; due = u.due };
-    } in
-    (
-      record {
-        held = part_given_held s m p k.0.held k.1 pending refl some small next;
-        message_keys = k.0.message_keys;
-        told = k.0.told;
-        parts = λ x among. ⊎_elim
-            (λ (e : x ≡ p).
-            let there : message_at x.id (messages_in s) ≡ Some m = subst (λ (y : PartRow). message_at y.id (messages_in s) ≡ Some m) (sym e) k.1 in
-            let found : (y : MessageRow) × (message_at x.id (messages_in s) ≡ Some y) = (m, there) in found)
-            (λ (a : Among x (parts_in s) × ¬ (part_key x ≡ part_key p)). k.0.parts x a.0)
-            (among_put part_key x p (parts_in s) among);
-        reports = k.0.reports;
-      },
-      k.1,
-    )
-
-parts_stand : (id moment : ℕ) (split : Option ℕ) (u : Submission) (n : ℕ) (bs : List SinglePart) (s : Store) → Entered (message_of id moment split u) s → 0 < n → n + length bs ≤ 256
-    → IfThere Stands (give_parts id u n bs s)
-parts_stand id moment split u n [] s k some few = k.0
-parts_stand id moment split u n (b ∷ bs) s k some few =
-    let h : HandsetRow = handset_of u.handset (handsets_in s) in
-    then_there (Entered (message_of id moment split u)) Stands (λ (e : Store). give_parts id u (n + 1) bs e) (give_part id u n b h s)
-    (part_stands (message_of id moment split u) u n b (reference_for h s) s k refl some (omega (arith, few)) refl)
-    (λ e g. parts_stand id moment split u (n + 1) bs e g (omega arith) (omega (arith, few)))
-
-under_stands : (id : ℕ) (split : Option ℕ) (bs : List SinglePart) (u : Submission) (s : Store) → Stands s → ((x : MessageRow) → Among x (messages_in s) → x.id < id) → IsSubmission s.moment u → length bs ≤ 20
-    → IfThere Stands (accept_under id split bs u s)
-under_stands id split bs u s k below fit few =
-    let m : MessageRow = message_of id s.moment split u in
-    parts_stand id s.moment split u 1 bs (enter id split u s)
-    (enter_stands id split u s k below fit.handset fit.told, row_at_put message_key m (messages_in s)) (omega arith) (omega (arith, few))
-
-split_stands : (id : ℕ) (o : Option ℕ) (u : Submission) (s : Store) → Stands s → ((x : MessageRow) → Among x (messages_in s) → x.id < id) → IsSubmission s.moment u → IfThere Stands (accept_split id o u s)
-split_stands id None u s k below fit = tt
-split_stands id (Some r) u s k below fit = under_stands id (Some r) (bodies_under r u.text) u s k below fit (fit.few r)
-
-accept_stands : (u : Submission) (s : Store) → Stands s → IsSubmission s.moment u → IfThere Stands (accept u s)
-accept_stands u s k fit =
-    let id : ℕ = next_id (messages_in s) in
-    let below : (x : MessageRow) → Among x (messages_in s) → x.id < id = λ x among. below_next_id 1 x (messages_in s) k.message_keys among in
-    let split : Option ℕ = next_split u.source u.handset (messages_in s) (parts_in s) in
-    cond_both (nat_le id 9999999999) (accept_as id u s) None (λ o. IfThere Stands o)
-    (λ t. cond_both (is_long u.text) (accept_split id split u s) (accept_under id None (bodies_under 0 u.text) u s) (λ o. IfThere Stands o)
-    (λ e. split_stands id split u s k below fit) (λ e. under_stands id None (bodies_under 0 u.text) u s k below fit (fit.few 0)))
-    (λ t. tt)
 
 -- ---- a report is made of a message that has ended and has none
 
-record CanReport (f : FinalState) (n : ℕ) (m : MessageRow) (s : Store) : Type 0 where
-  stands : Stands s
-  there : message_at m.id (messages_in s) ≡ Some (ended f n m)
-  none : (r : ReportRow) → Among r (reports_in s) → ¬ (r.id ≡ m.id)
+pub record CanReport (f : FinalState) (n : ℕ) (m : MessageRow) (s : Store) : Type 0 where
+  pub stands : Stands s
+  pub there : message_at m.id (messages_in s) ≡ Some (ended f n m)
+  pub none : (r : ReportRow) → Among r (reports_in s) → ¬ (r.id ≡ m.id)
 
 pub next_is_new : (r : ReportRow) (rs : List ReportRow) → Rises report_key rs → ((x : ReportRow) → Among x rs → ¬ (x.id ≡ r.id)) → r.place ≡ next_place rs → IsNew rs r
 next_is_new r rs keys none next = record {
@@ -169,7 +68,7 @@ reported f n m r s k own x among = ⊎_elim
     (λ (a : Among x (reports_in s) × ¬ (x.place ≡ r.place)). k.stands.reports x a.0)
     (among_put report_key x r (reports_in s) among)
 
-quiet_stands : (f : FinalState) (n : ℕ) (m : MessageRow) (kind : ReportKind) (closed : Bool) (s : Store) → CanReport f n m s → is_status kind ≡ false → Stands (make_report m.id kind closed s)
+pub quiet_stands : (f : FinalState) (n : ℕ) (m : MessageRow) (kind : ReportKind) (closed : Bool) (s : Store) → CanReport f n m s → is_status kind ≡ false → Stands (make_report m.id kind closed s)
 quiet_stands f n m kind closed s k quiet =
     let r : ReportRow = record {
       place = next_place (reports_in s);
@@ -187,7 +86,7 @@ quiet_stands f n m kind closed s k quiet =
       reports = reported f n m r s k refl;
     }
 
-status_stands : (f : FinalState) (n : ℕ) (m : MessageRow) (o : Option ℕ) (s : Store) → CanReport f n m s → IsNumber m.source.digits
+pub status_stands : (f : FinalState) (n : ℕ) (m : MessageRow) (o : Option ℕ) (s : Store) → CanReport f n m s → IsNumber m.source.digits
     → reference_for (handset_of m.source.digits (handsets_in s)) s ≡ o → Stands (status_given f m (handset_of m.source.digits (handsets_in s)) o s)
 status_stands f n m None s k told next = quiet_stands f n m Unsent true s k refl
 status_stands f n m (Some reference) s k told next =
@@ -207,21 +106,21 @@ status_stands f n m (Some reference) s k told next =
       reports = reported f n m r s k refl;
     }
 
-report_to_stands : (o : Originator) (f : FinalState) (n : ℕ) (m : MessageRow) (s : Store) → CanReport f n m s → CanBeTold o m.source → Stands (report_to o f m s)
+pub report_to_stands : (o : Originator) (f : FinalState) (n : ℕ) (m : MessageRow) (s : Store) → CanReport f n m s → CanBeTold o m.source → Stands (report_to o f m s)
 report_to_stands (Application account) f n m s k told = quiet_stands f n m Receipt false s k refl
 report_to_stands (Handset r) f n m s k told = status_stands f n m (reference_for (handset_of m.source.digits (handsets_in s)) s) s k told refl
 
 -- ---- a message ends
 
-end_stands : (f : FinalState) (m : MessageRow) (s : Store) → Stands s → message_at m.id (messages_in s) ≡ Some m → is_pending m ≡ true → Stands (end f m s)
-end_stands f m s k there pending =
+-- its row tells it, and it can be reported
+pub can_report : (f : FinalState) (m : MessageRow) (s : Store) → Stands s → message_at m.id (messages_in s) ≡ Some m → is_pending m ≡ true → CanReport f s.moment m (with_message (ended f s.moment m) s)
+can_report f m s k there pending =
     let w : MessageRow = ended f s.moment m in
-    let e : Store = with_message w s in
     let after : List MessageRow = put message_key w (messages_in s) in
     let apart : (r : ReportRow) → Among r (reports_in s) → ¬ (r.id ≡ m.id) = λ r among q.
     let of = k.reports r among in
     over of.0 (sym there ∙ ap (λ (id : ℕ). message_at id (messages_in s)) (sym q) ∙ of.1.0) of.1.1 in
-    let stands : Stands e = record {
+    let stands : Stands (with_message w s) = record {
       held = ended_held s m f s.moment k.held there;
       message_keys = rises_put message_key w (messages_in s) k.message_keys;
       told = λ x among. ⊎_elim
@@ -238,16 +137,21 @@ end_stands f m s k there pending =
           let of = k.reports r among in
           (of.0, (row_at_put_other message_key r.id w (messages_in s) (λ q. apart r among (sym q)) ∙ of.1.0, of.1.1));
     } in
-    let can : CanReport f s.moment m e = record { stands = stands; there = row_at_put message_key w (messages_in s); none = apart } in
-    cond_both (is_wished m.wish f) (report_to m.originator f m e) e Stands
-    (λ t. report_to_stands m.originator f s.moment m e can (k.told m (found_among message_key m.id m (messages_in s) there))) (λ t. stands)
+    record { stands = stands; there = row_at_put message_key w (messages_in s); none = apart }
   where
     over : (x : MessageRow) → Some m ≡ Some x → is_pending x ≡ false → ⊥
     over x q past = let same : m ≡ x = cc in let bad : true ≡ false = sym pending ∙ ap (λ (y : MessageRow). is_pending y) same ∙ past in absurd cc
 
+end_stands : (f : FinalState) (m : MessageRow) (s : Store) → Stands s → message_at m.id (messages_in s) ≡ Some m → is_pending m ≡ true → Stands (end f m s)
+end_stands f m s k there pending =
+    let e : Store = with_message (ended f s.moment m) s in
+    let can = can_report f m s k there pending in
+    cond_both (is_wished m.wish f) (report_to m.originator f m e) e Stands
+    (λ t. report_to_stands m.originator f s.moment m e can (k.told m (found_among message_key m.id m (messages_in s) there))) (λ t. can.stands)
+
 -- ---- how far parts and reports are
 
-part_far_stands : (p : PartRow) (q : Progress) (s : Store) → Stands s → row_at part_key (part_key p) (parts_in s) ≡ Some p → (q.is_done ≡ false → p.progress.is_done ≡ false) → Stands (with_part_at p q s)
+pub part_far_stands : (p : PartRow) (q : Progress) (s : Store) → Stands s → row_at part_key (part_key p) (parts_in s) ≡ Some p → (q.is_done ≡ false → p.progress.is_done ≡ false) → Stands (with_part_at p q s)
 part_far_stands p q s k there done = record {
   held = part_far_held s p q k.held there done;
   message_keys = k.message_keys;
@@ -260,7 +164,7 @@ part_far_stands p q s k there done = record {
   reports = k.reports;
 }
 
-report_far_stands : (r : ReportRow) (q : Progress) (s : Store) → Stands s → report_of r.id (reports_in s) ≡ Some r → (q.is_done ≡ false → r.progress.is_done ≡ false) → Stands (with_report_at r q s)
+pub report_far_stands : (r : ReportRow) (q : Progress) (s : Store) → Stands s → report_of r.id (reports_in s) ≡ Some r → (q.is_done ≡ false → r.progress.is_done ≡ false) → Stands (with_report_at r q s)
 report_far_stands r q s k there done = record {
   held = report_far_held s r q k.held there done;
   message_keys = k.message_keys;
@@ -280,7 +184,7 @@ settled_stands p m s k there of pending =
     let stands : Stands e = part_far_stands p (finished p.progress) s k there (λ q. absurd cc) in
     cond_both (all_done m.id (parts_in e)) (end Delivered m e) e Stands (λ t. end_stands Delivered m e stands (message_own p.id m e of) pending) (λ t. stands)
 
-later_stands : (n : ℕ) (s : Store) → Stands s → Stands (record s { moment = n })
+pub later_stands : (n : ℕ) (s : Store) → Stands s → Stands (record s { moment = n })
 later_stands n s k = record {
   held = record {
     givings = k.held.givings;

@@ -16,6 +16,6 @@ pub mod Sessions
 pub mod CentreEvent
 pub mod Planning
 pub mod Held
-pub mod Standing
 pub mod SoundRows
+pub mod Standing
 pub mod SoundCore

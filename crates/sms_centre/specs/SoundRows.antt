@@ -2,16 +2,41 @@
 use Rattle.std.specs.Prelude.{◌≡◌, ℕ, List, false, Some}
 use Rattle.sms_base.specs.Address.{IsAddress}
 use Rattle.sms_base.specs.Among.{Among}
+use Rattle.sms_base.specs.declared.address.Address.{Address}
+use Rattle.sms_base.specs.TimeStamp.{IsMoment}
 use Rattle.sms_messages.specs.declared.message.MessageRow.{MessageRow}
+use Rattle.sms_messages.specs.declared.message.Originator.{Originator}
+use Rattle.sms_messages.specs.declared.message.Originator.TheVariants.{Application, Handset}
 use Rattle.sms_messages.specs.SoundMessages.{SoundMessages}
 use Rattle.sms_messages.specs.SplitReferences.{is_delivered}
+use Rattle.sms_reports.specs.declared.report.ReportRow.{ReportRow}
 use Rattle.sms_reports.specs.SoundReports.{SoundReports}
 use Rattle.sms_reports.specs.Waiting.{waiting_for}
 use Rattle.sms_waiting.specs.declared.load.Load.{Load}
+use Rattle.sms_waiting.specs.declared.reference.ReferenceRow.{ReferenceRow}
 use Rattle.sms_waiting.specs.References.{handset_at}
-use Rattle.sms_waiting.specs.SoundGivings.{SoundGivings}
+use Rattle.sms_waiting.specs.SoundGivings.{IsNumber, SoundGivings}
 use Rattle.sms_waiting.specs.SoundWaiting.{SoundWaiting}
 use Rattle.sms_centre.specs.declared.rows.Rows.{Rows}
+use Rattle.sms_centre.specs.declared.setup.Account.{Account}
+use Rattle.sms_centre.specs.declared.setup.Setup.{Setup}
+
+-- what a centre is told when it starts
+pub record IsSetup (setup : Setup) : Type 0 where
+  pub centre : IsAddress setup.centre
+  pub start : IsMoment setup.start
+  pub accounts : (a : Account) → Among a setup.accounts → IsAddress a.address
+
+-- the moments of rows are of the years that time stamps write
+pub record AreTimes (messages : List MessageRow) (references : List ReferenceRow) (reports : List ReportRow) : Type 0 where
+  pub submitted : (m : MessageRow) → Among m messages → IsMoment m.submitted
+  pub given : (r : ReferenceRow) → Among r references → IsMoment r.last
+  pub made : (r : ReportRow) → Among r reports → IsMoment r.made
+
+-- a handset's message comes from a number, to which its status report can go
+abbrev pub CanBeTold : Originator → Address → Type 0
+CanBeTold (Application account) source = Unit {0}
+CanBeTold (Handset message_reference) source = IsNumber source.digits
 
 -- No two messages of a source to a handset that aren't wholly delivered were split under one reference: so what a handset joins is
 -- one of them.
@@ -25,8 +50,10 @@ abbrev pub all_for : List ℕ → Rows → List Load
 all_for number rows = waiting_for number rows.messages rows.priorities rows.parts rows.reports
 
 pub record IsSound (rows : Rows) : Type 0 where
-  pub centre : IsAddress rows.setup.centre
+  pub setup : IsSetup rows.setup
+  pub times : AreTimes rows.messages rows.references rows.reports
   pub messages : SoundMessages rows.messages rows.parts rows.priorities
+  pub told : (m : MessageRow) → Among m rows.messages → CanBeTold m.originator m.source
   pub givings : SoundGivings rows.handsets rows.references
   pub reports : SoundReports rows.messages rows.reports
   pub waiting : (number : List ℕ) → SoundWaiting (handset_at number rows.handsets) rows.references (all_for number rows)

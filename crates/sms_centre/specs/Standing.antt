@@ -3,13 +3,9 @@
 use Rattle.std.specs.Prelude.{◌≡◌, ℕ, ◌<◌, ◌≤◌, List, length, Bool, true, false, Option, Some, None, Result, Ok}
 use Rattle.sms_base.specs.Address.{IsAddress}
 use Rattle.sms_base.specs.Among.{Among}
-use Rattle.sms_base.specs.declared.address.Address.{Address}
-use Rattle.sms_base.specs.TimeStamp.{IsMoment}
 use Rattle.sms_table.specs.Table.{Rises}
 use Rattle.sms_tpdu.specs.TpduGrammar.{IsDeliverData}
 use Rattle.sms_messages.specs.declared.message.MessageRow.{MessageRow}
-use Rattle.sms_messages.specs.declared.message.Originator.{Originator}
-use Rattle.sms_messages.specs.declared.message.Originator.TheVariants.{Application, Handset}
 use Rattle.sms_messages.specs.declared.part.PartRow.{PartRow}
 use Rattle.sms_messages.specs.Messages.{is_pending, message_at, message_key}
 use Rattle.sms_reports.specs.declared.report.ReportRow.{ReportRow}
@@ -19,14 +15,10 @@ use Rattle.sms_centre.specs.declared.submission.Submission.{Submission}
 use Rattle.sms_centre.specs.Bodies.{deliver_of}
 use Rattle.sms_centre.specs.Draft.{Store, messages_in, parts_in, reports_in}
 use Rattle.sms_centre.specs.Held.{SoundHeld}
+use Rattle.sms_centre.specs.SoundRows.{CanBeTold}
 use Rattle.sms_centre.specs.Submitting.{bodies_under, data_coding_of}
 
 -- ---- rows
-
--- a handset's message can be told to it
-abbrev pub CanBeTold : Originator → Address → Type 0
-CanBeTold (Application account) source = Unit {0}
-CanBeTold (Handset message_reference) source = IsNumber source.digits
 
 pub record Stands (s : Store) : Type 0 where
   pub held : SoundHeld s
