@@ -18,11 +18,14 @@ pub mod HeldStages
 pub mod Resting
 mod SplitsApart
 pub mod DoneMarks
+pub mod Keeping
+pub mod KeepingSteady
 pub mod MessagesEntered
 pub mod MessagesKept
 pub mod NextNumbers
 pub mod ReportsKept
 pub mod SplitsKept
+pub mod SoundAccepted
 pub mod SoundEnds
 pub mod SoundSteady
 pub mod SoundStores

@@ -58,7 +58,7 @@ rows_map D E s r f = record {
   each_priority = r.each_priority;
 }
 
-part_far_sound : (p : PartRow) (q : Progress) (s : Store) → SoundStore s → row_at part_key (part_key p) (parts_in s) ≡ Some p → q.is_done ≡ p.progress.is_done → SoundStore (with_part_at p q s)
+pub part_far_sound : (p : PartRow) (q : Progress) (s : Store) → SoundStore s → row_at part_key (part_key p) (parts_in s) ≡ Some p → q.is_done ≡ p.progress.is_done → SoundStore (with_part_at p q s)
 part_far_sound p q s k there same = record {
   stands = part_far_stands p q s k.stands there (λ e. sym same ∙ e);
   messages = rows_sound (messages_in s) (amended part_key part_reaching (part_key p) q (parts_in s)) (priorities_in s)
@@ -69,7 +69,7 @@ part_far_sound p q s k there same = record {
   times = record { now = k.times.now; start = k.times.start; submitted = k.times.submitted; given = k.times.given; made = k.times.made };
 }
 
-report_far_sound : (r : ReportRow) (q : Progress) (s : Store) → SoundStore s → report_of r.id (reports_in s) ≡ Some r → (q.is_done ≡ false → r.progress.is_done ≡ false) → SoundStore (with_report_at r q s)
+pub report_far_sound : (r : ReportRow) (q : Progress) (s : Store) → SoundStore s → report_of r.id (reports_in s) ≡ Some r → (q.is_done ≡ false → r.progress.is_done ≡ false) → SoundStore (with_report_at r q s)
 report_far_sound r q s k there stays = record {
   stands = report_far_stands r q s k.stands there stays;
   messages = k.messages;
@@ -89,7 +89,7 @@ report_far_sound r q s k there stays = record {
 }
 
 -- a part is acknowledged: its message is delivered, or has an undone part still
-settled_sound : (p : PartRow) (m : MessageRow) (s : Store) → SoundStore s → row_at part_key (part_key p) (parts_in s) ≡ Some p → message_at p.id (messages_in s) ≡ Some m → is_pending m ≡ true
+pub settled_sound : (p : PartRow) (m : MessageRow) (s : Store) → SoundStore s → row_at part_key (part_key p) (parts_in s) ≡ Some p → message_at p.id (messages_in s) ≡ Some m → is_pending m ≡ true
     → p.progress.is_done ≡ false → SoundStore (complete m (with_part_at p (finished p.progress) s))
 settled_sound p m s k there of pending undone =
     let q : Progress = finished p.progress in
@@ -130,7 +130,7 @@ settled_sound p m s k there of pending undone =
 
 -- ---- a message ends with a part undone
 
-part_end_sound : (f : FinalState) (m : MessageRow) (s : Store) → SoundStore s → message_at m.id (messages_in s) ≡ Some m → is_pending m ≡ true → is_delivered (Some f) ≡ false → SoundStore (end f m s)
+pub part_end_sound : (f : FinalState) (m : MessageRow) (s : Store) → SoundStore s → message_at m.id (messages_in s) ≡ Some m → is_pending m ≡ true → is_delivered (Some f) ≡ false → SoundStore (end f m s)
 part_end_sound f m s k there pending partly =
     let rows = rows_are (messages_in s) (parts_in s) (priorities_in s) k.messages in
     end_sound f m s (record {
@@ -145,7 +145,7 @@ part_end_sound f m s k there pending partly =
       pending = pending;
     })
 
-later_sound : (n : ℕ) (s : Store) → SoundStore s → s.moment ≤ n → IsMoment n → SoundStore (record s { moment = n })
+pub later_sound : (n : ℕ) (s : Store) → SoundStore s → s.moment ≤ n → IsMoment n → SoundStore (record s { moment = n })
 later_sound n s k past is = record {
   stands = later_stands n s k.stands;
   messages = k.messages;

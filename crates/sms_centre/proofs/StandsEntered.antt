@@ -127,18 +127,18 @@ parts_stand id moment split u n (b ∷ bs) s k some few =
     (part_stands (message_of id moment split u) u n b (reference_for h s) s k refl some (omega (arith, few)) refl)
     (λ e g. parts_stand id moment split u (n + 1) bs e g (omega arith) (omega (arith, few)))
 
-under_stands : (id : ℕ) (split : Option ℕ) (bs : List SinglePart) (u : Submission) (s : Store) → Stands s → ((x : MessageRow) → Among x (messages_in s) → x.id < id) → IsSubmission s.moment u → length bs ≤ 20
+under_stands : (id : ℕ) (split : Option ℕ) (bs : List SinglePart) (u : Submission) (s : Store) → Stands s → ((x : MessageRow) → Among x (messages_in s) → x.id < id) → IsSubmission u → length bs ≤ 20
     → IfThere Stands (accept_under id split bs u s)
 under_stands id split bs u s k below fit few =
     let m : MessageRow = message_of id s.moment split u in
     parts_stand id s.moment split u 1 bs (enter id split u s)
     (enter_stands id split u s k below fit.handset fit.told, row_at_put message_key m (messages_in s)) (omega arith) (omega (arith, few))
 
-split_stands : (id : ℕ) (o : Option ℕ) (u : Submission) (s : Store) → Stands s → ((x : MessageRow) → Among x (messages_in s) → x.id < id) → IsSubmission s.moment u → IfThere Stands (accept_split id o u s)
+split_stands : (id : ℕ) (o : Option ℕ) (u : Submission) (s : Store) → Stands s → ((x : MessageRow) → Among x (messages_in s) → x.id < id) → IsSubmission u → IfThere Stands (accept_split id o u s)
 split_stands id None u s k below fit = tt
 split_stands id (Some r) u s k below fit = under_stands id (Some r) (bodies_under r u.text) u s k below fit (fit.few r)
 
-pub accept_stands : (u : Submission) (s : Store) → Stands s → IsSubmission s.moment u → IfThere Stands (accept u s)
+pub accept_stands : (u : Submission) (s : Store) → Stands s → IsSubmission u → IfThere Stands (accept u s)
 accept_stands u s k fit =
     let id : ℕ = next_id (messages_in s) in
     let below : (x : MessageRow) → Among x (messages_in s) → x.id < id = λ x among. below_next_id 1 x (messages_in s) k.message_keys among in

@@ -58,7 +58,7 @@ use Rattle.sms_centre.proofs.SteadyTimes.{all_tried_steady, answered_steady, dro
 
 -- a submission that comes of the unit passed all checks
 abbrev pub UnitGives : List ℕ → ℕ → Result Rp RelayFault → Type 0
-UnitGives handset moment (Ok (DataUnit reference centre tpdu)) = (u : Submission) → from_tpdu handset moment (tpdu_up_at InData tpdu) ≡ Ok u → IsSubmission moment u
+UnitGives handset moment (Ok (DataUnit reference centre tpdu)) = (u : Submission) → from_tpdu handset moment (tpdu_up_at InData tpdu) ≡ Ok u → IsSubmission u
 UnitGives handset moment (Ok (AckUnit reference tpdu)) = Unit {0}
 UnitGives handset moment (Ok (ErrorUnit reference cause tpdu)) = Unit {0}
 UnitGives handset moment (Ok (Smma reference)) = Unit {0}
@@ -71,7 +71,7 @@ UpGives handset moment (Some (Ended transfer ending)) = Unit {0}
 
 abbrev pub AccountGives : Option Account → ℕ → Message → Type 0
 AccountGives None moment m = Unit {0}
-AccountGives (Some account) moment m = (u : Submission) → from_pdu account moment m ≡ Ok u → IsSubmission moment u
+AccountGives (Some account) moment m = (u : Submission) → from_pdu account moment m ≡ Ok u → IsSubmission u
 
 abbrev pub Gives : CentreEvent → Core → Type 0
 Gives (Submit account m) c = AccountGives (account_at account c.rows.setup.accounts) c.moment m
@@ -95,7 +95,7 @@ module _ (P : Store → Type 0) (c : IsSteady P) where
   submit_accepted_steady h n tag None d k l = k
   submit_accepted_steady h n tag (Some e) d k l = l
 
-  submission_from_steady : (h : List ℕ) (n : ℕ) (tag : Holder) (u : Result Submission SubmitRefusal) (d : Draft) → P d.store → ((x : Submission) → u ≡ Ok x → IsSubmission d.store.moment x)
+  submission_from_steady : (h : List ℕ) (n : ℕ) (tag : Holder) (u : Result Submission SubmitRefusal) (d : Draft) → P d.store → ((x : Submission) → u ≡ Ok x → IsSubmission x)
       → P (submission_from h n tag u d).store
   submission_from_steady h n tag (Err r) d k g = k
   submission_from_steady h n tag (Ok u) d k g =
@@ -210,7 +210,7 @@ module _ (P : Store → Type 0) (c : IsSteady P) where
   accepted_steady id None d k l = k
   accepted_steady id (Some s) d k l = l
 
-  submission_came_steady : (u : Result Submission CommandStatus) (d : Draft) → P d.store → ((x : Submission) → u ≡ Ok x → IsSubmission d.store.moment x) → P (submission_came u d).store
+  submission_came_steady : (u : Result Submission CommandStatus) (d : Draft) → P d.store → ((x : Submission) → u ≡ Ok x → IsSubmission x) → P (submission_came u d).store
   submission_came_steady (Err status) d k g = k
   submission_came_steady (Ok u) d k g =
       cond_both (is_reference_taken u d.store) _ (accepted (next_id (messages_in d.store)) (accept u d.store) d) (λ (e : Draft). P e.store)

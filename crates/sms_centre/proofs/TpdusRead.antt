@@ -45,9 +45,9 @@ few_octets Octets n h = h
 few_octets Ucs2 n h = h
 few_octets Compressed n h = h
 
-pub part_reads : (id moment : ℕ) (split : Option ℕ) (u : Submission) (b : SinglePart) (p : PartRow) → IsMoment moment → IsAddress u.source → IsBody moment u b → p.tpdu ≡ deliver_octets moment u b
-    → IsDeliver (message_of id moment split u) p (deliver_of moment u b)
-part_reads id moment split u b p now source body tpdu =
+pub part_reads : (id submitted moment : ℕ) (split : Option ℕ) (u : Submission) (b : SinglePart) (p : PartRow) → IsMoment moment → IsAddress u.source → IsBody u b → p.tpdu ≡ deliver_octets moment u b
+    → IsDeliver (message_of id submitted split u) p (deliver_of moment u b)
+part_reads id submitted moment split u b p now source body tpdu =
     let d : DeliverOf = deliver_of moment u b in
     let read = written_down_is_read InData (deliver_octets moment u b) (Deliver d) (stamp_of moment, source, stamp_written moment now, body.fields, refl) in
     let from : List ℕ = address_field u.source in

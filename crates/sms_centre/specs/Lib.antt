@@ -18,4 +18,5 @@ pub mod Planning
 pub mod Held
 pub mod SoundRows
 pub mod Standing
+pub mod Keeping
 pub mod SoundCore

@@ -1,10 +1,11 @@
 -- What each stage of an event may rest on, and leaves so: what waits holds references apart, and parts and reports are of messages
 -- that stand there. And what a submission that passed all checks is good for.
 use Rattle.std.specs.Prelude.{◌≡◌, ℕ, ◌<◌, ◌≤◌, List, length, Bool, true, false, Option, Some, None, Result, Ok}
+use Rattle.sms_alphabet.specs.DataCodingScheme.{coding_of}
 use Rattle.sms_base.specs.Address.{IsAddress}
 use Rattle.sms_base.specs.Among.{Among}
 use Rattle.sms_table.specs.Table.{Rises}
-use Rattle.sms_tpdu.specs.TpduGrammar.{IsDeliverData}
+use Rattle.sms_tpdu.specs.UserDataGrammar.{IsUserData}
 use Rattle.sms_messages.specs.declared.message.MessageRow.{MessageRow}
 use Rattle.sms_messages.specs.declared.part.PartRow.{PartRow}
 use Rattle.sms_messages.specs.Messages.{is_pending, message_at, message_key}
@@ -12,7 +13,6 @@ use Rattle.sms_reports.specs.declared.report.ReportRow.{ReportRow}
 use Rattle.sms_waiting.specs.SoundGivings.{IsNumber}
 use Rattle.sms_centre.specs.declared.submission.SinglePart.{SinglePart}
 use Rattle.sms_centre.specs.declared.submission.Submission.{Submission}
-use Rattle.sms_centre.specs.Bodies.{deliver_of}
 use Rattle.sms_centre.specs.Draft.{Store, messages_in, parts_in, reports_in}
 use Rattle.sms_centre.specs.Held.{SoundHeld}
 use Rattle.sms_centre.specs.SoundRows.{CanBeTold}
@@ -30,12 +30,12 @@ pub record Stands (s : Store) : Type 0 where
 
 -- ---- submissions
 
--- user data of a DELIVER of the submission
-pub record IsBody (moment : ℕ) (u : Submission) (b : SinglePart) : Type 0 where
-  pub fields : IsDeliverData (deliver_of moment u b)
+-- user data of its data coding scheme, which is that of the submission
+pub record IsBody (u : Submission) (b : SinglePart) : Type 0 where
+  pub fields : IsUserData (coding_of b.data_coding_scheme) b.header_indicator (record { length = b.length; octets = b.octets })
   pub scheme : b.data_coding_scheme ≡ data_coding_of u.text
 
-pub record IsSubmission (moment : ℕ) (u : Submission) : Type 0 where
+pub record IsSubmission (u : Submission) : Type 0 where
   pub source : IsAddress u.source
   pub handset : IsNumber u.handset
   pub told : CanBeTold u.originator u.source
@@ -43,4 +43,4 @@ pub record IsSubmission (moment : ℕ) (u : Submission) : Type 0 where
   -- under each reference it is 1 to 20 parts
   pub some : (reference : ℕ) → 0 < length (bodies_under reference u.text)
   pub few : (reference : ℕ) → length (bodies_under reference u.text) ≤ 20
-  pub bodies : (reference : ℕ) (b : SinglePart) → Among b (bodies_under reference u.text) → IsBody moment u b
+  pub bodies : (reference : ℕ) (b : SinglePart) → Among b (bodies_under reference u.text) → IsBody u b
