@@ -13,6 +13,7 @@ mod ReceiptWords
 mod ReferencesGiven
 mod RequestsAnswered
 mod Restarted
+pub mod EventLaws
 pub mod HeldGivings
 pub mod HeldStages
 pub mod Resting
@@ -23,13 +24,23 @@ pub mod KeepingSteady
 pub mod MessagesEntered
 pub mod MessagesKept
 pub mod NextNumbers
+pub mod PduFits
 pub mod ReportsKept
+pub mod SmppFits
 pub mod SplitsKept
 pub mod SoundAccepted
+pub mod SoundAir
+pub mod SoundBegins
 pub mod SoundEnds
+pub mod SoundEvents
+pub mod SoundOffers
+pub mod SoundSides
 pub mod SoundSteady
 pub mod SoundStores
+pub mod SubmitFits
+pub mod TextFields
 pub mod TpdusRead
+pub mod UnitOctets
 pub mod Stages
 pub mod StandsEntered
 pub mod StandsKept

@@ -50,40 +50,10 @@ use Rattle.sms_centre.specs.Sessions.{answered_by, bind, bound_as, due_for, unbi
 use Rattle.sms_centre.specs.CentreEvent.{aged, at_moment, expired, fire_at, fire_line, fire_mentioned, fire_others, fired, frame_taken, happened, is_mentioned, lost, lower, raise, raise_all, raised, timed_out, went_up}
 use Rattle.sms_centre.specs.Draft.{Core, Draft, Store, draft_of, handsets_in, messages_in, on_air}
 use Rattle.sms_centre.specs.Standing.{IsSubmission}
+use Rattle.sms_centre.specs.Submitted.{AccountGives, Gives, UnitGives, UpGives}
 use Rattle.sms_centre.proofs.Stages.{IfThere}
 use Rattle.sms_centre.proofs.Steady.{IsSteady, concluded_steady, due_now_steady, message_own}
 use Rattle.sms_centre.proofs.SteadyTimes.{all_tried_steady, answered_steady, dropped_steady, due_for_steady, expired_steady}
-
--- ---- what an event submits
-
--- a submission that comes of the unit passed all checks
-abbrev pub UnitGives : List ℕ → ℕ → Result Rp RelayFault → Type 0
-UnitGives handset moment (Ok (DataUnit reference centre tpdu)) = (u : Submission) → from_tpdu handset moment (tpdu_up_at InData tpdu) ≡ Ok u → IsSubmission u
-UnitGives handset moment (Ok (AckUnit reference tpdu)) = Unit {0}
-UnitGives handset moment (Ok (ErrorUnit reference cause tpdu)) = Unit {0}
-UnitGives handset moment (Ok (Smma reference)) = Unit {0}
-UnitGives handset moment (Err fault) = Unit {0}
-
-abbrev pub UpGives : List ℕ → ℕ → Option Upward → Type 0
-UpGives handset moment None = Unit {0}
-UpGives handset moment (Some (Opened unit)) = UnitGives handset moment (up_at unit)
-UpGives handset moment (Some (Ended transfer ending)) = Unit {0}
-
-abbrev pub AccountGives : Option Account → ℕ → Message → Type 0
-AccountGives None moment m = Unit {0}
-AccountGives (Some account) moment m = (u : Submission) → from_pdu account moment m ≡ Ok u → IsSubmission u
-
-abbrev pub Gives : CentreEvent → Core → Type 0
-Gives (Submit account m) c = AccountGives (account_at account c.rows.setup.accounts) c.moment m
-Gives (Query account q) c = Unit {0}
-Gives (Cancel account q) c = Unit {0}
-Gives (Bound session account receives) c = Unit {0}
-Gives (Unbound session) c = Unit {0}
-Gives (DeliverAnswered session id b) c = Unit {0}
-Gives (Frame handset octets tag) c = let l : Line = line_of handset c.lines in UpGives l.handset c.moment (taken octets l.link).out.up
-Gives (LinkUp handset) c = Unit {0}
-Gives (LinkDown handset) c = Unit {0}
-Gives (Tick now) c = IsMoment now
 
 module _ (P : Store → Type 0) (c : IsSteady P) where
   conclude_steady : (h : List ℕ) (t : Carried) (e : Ending) (d : Draft) → P d.store → P (conclude h t e d).store

@@ -19,4 +19,5 @@ pub mod Held
 pub mod SoundRows
 pub mod Standing
 pub mod Keeping
+pub mod Submitted
 pub mod SoundCore

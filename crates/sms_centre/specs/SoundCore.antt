@@ -1,10 +1,12 @@
 -- A centre that stands on sound rows, between two events.
-use Rattle.std.specs.Prelude.{◌≡◌, ℕ, ◌≤◌, List, [], ◌∷◌, Option, Some, None}
+use Rattle.std.specs.Prelude.{◌≡◌, ℕ, ◌≤◌, true, List, [], ◌∷◌, Option, Some, None}
 use Rattle.sms_base.specs.Among.{Among}
 use Rattle.sms_base.specs.declared.carried.Carried.{Carried}
 use Rattle.sms_base.specs.declared.carried.Kind.TheVariants.{Data}
 use Rattle.sms_base.specs.declared.holder.Holder.{Holder}
 use Rattle.sms_base.specs.declared.holder.Holder.TheVariants.{Part, Report, Entry, Memory}
+use Rattle.sms_base.specs.Reading.{AreOctets}
+use Rattle.sms_base.specs.TimeStamp.{IsMoment}
 use Rattle.sms_table.specs.Table.{Rises}
 use Rattle.sms_link.specs.declared.ending.Side.TheVariants.{Centre}
 use Rattle.sms_messages.specs.declared.message.MessageRow.{MessageRow}
@@ -13,10 +15,12 @@ use Rattle.sms_messages.specs.Messages.{message_at, part_at}
 use Rattle.sms_reports.specs.declared.report.ReportKind.TheVariants.{Status}
 use Rattle.sms_reports.specs.declared.report.ReportRow.{ReportRow}
 use Rattle.sms_reports.specs.Receipts.{Session, session_key}
-use Rattle.sms_reports.specs.Reports.{report_of}
+use Rattle.sms_reports.specs.Reports.{is_receipt, report_of}
 use Rattle.sms_waiting.specs.declared.line.Line.{Line}
 use Rattle.sms_waiting.specs.Lines.{line_at}
 use Rattle.sms_waiting.specs.SoundGivings.{IsNumber}
+use Rattle.sms_centre.specs.declared.event.CentreEvent.{CentreEvent}
+use Rattle.sms_centre.specs.declared.event.CentreEvent.TheVariants.{Submit, Query, Cancel, Bound, Unbound, DeliverAnswered, Frame, LinkUp, LinkDown, Tick}
 use Rattle.sms_centre.specs.declared.rows.Rows.{Rows}
 use Rattle.sms_centre.specs.CentreEvent.{moment_of}
 use Rattle.sms_centre.specs.Draft.{Core}
@@ -45,15 +49,53 @@ abbrev pub AreLines : List Line → Type 0
 AreLines [] = Unit {0}
 AreLines (l ∷ ls) = (line_at l.handset ls ≡ None) × AreLines ls
 
+-- the receipt of the message stands in the rows
+abbrev pub IsReceiptRow : Rows → ℕ → Type 0
+IsReceiptRow rows id = (r : ReportRow) × ((report_of id rows.reports ≡ Some r) × (is_receipt r.kind ≡ true))
+
 -- each receipt that a session was sent stands in the rows
 pub record IsSession (rows : Rows) (s : Session) : Type 0 where
-  pub unanswered : (id : ℕ) → Among id s.unanswered → (r : ReportRow) × (report_of id rows.reports ≡ Some r)
+  pub unanswered : (id : ℕ) → Among id s.unanswered → IsReceiptRow rows id
 
 pub record IsSoundCore (c : Core) : Type 0 where
   pub rows : IsSound c.rows
+  pub now : IsMoment c.moment
   -- no reference was given later than now
   pub moment : moment_of c.rows ≤ c.moment
   pub each_line : (l : Line) → Among l c.lines → IsLine c.rows l
   pub apart : AreLines c.lines
   pub session_keys : Rises session_key c.sessions
   pub each_session : (s : Session) → Among s c.sessions → IsSession c.rows s
+
+-- ---- what a centre is told
+
+-- a handset that is named has a number
+abbrev pub HasNumber : CentreEvent → Type 0
+HasNumber (Submit account message) = Unit {0}
+HasNumber (Query account wanted) = Unit {0}
+HasNumber (Cancel account wanted) = Unit {0}
+HasNumber (Bound session account receives) = Unit {0}
+HasNumber (Unbound session) = Unit {0}
+HasNumber (DeliverAnswered session id is_accepted) = Unit {0}
+HasNumber (Frame handset octets tag) = IsNumber handset
+HasNumber (LinkUp handset) = IsNumber handset
+HasNumber (LinkDown handset) = IsNumber handset
+HasNumber (Tick now) = Unit {0}
+
+-- so it has, octets are octets, and moments are of the years that time stamps write
+abbrev pub IsEvent : CentreEvent → Type 0
+IsEvent (Submit account message) = Unit {0}
+IsEvent (Query account wanted) = Unit {0}
+IsEvent (Cancel account wanted) = Unit {0}
+IsEvent (Bound session account receives) = Unit {0}
+IsEvent (Unbound session) = Unit {0}
+IsEvent (DeliverAnswered session id is_accepted) = Unit {0}
+IsEvent (Frame handset octets tag) = IsNumber handset × AreOctets octets
+IsEvent (LinkUp handset) = IsNumber handset
+IsEvent (LinkDown handset) = IsNumber handset
+IsEvent (Tick now) = IsMoment now
+
+-- no two are the same
+abbrev pub AreDifferent : List (List ℕ) → Type 0
+AreDifferent [] = Unit {0}
+AreDifferent (n ∷ ns) = ¬ Among n ns × AreDifferent ns

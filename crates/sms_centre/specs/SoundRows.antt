@@ -1,5 +1,5 @@
 -- Rows that a centre can stand on.
-use Rattle.std.specs.Prelude.{◌≡◌, ℕ, List, false, Some}
+use Rattle.std.specs.Prelude.{◌≡◌, ℕ, List, [], false, Some}
 use Rattle.sms_base.specs.Address.{IsAddress}
 use Rattle.sms_base.specs.Among.{Among}
 use Rattle.sms_base.specs.declared.address.Address.{Address}
@@ -58,3 +58,7 @@ pub record IsSound (rows : Rows) : Type 0 where
   pub reports : SoundReports rows.messages rows.reports
   pub waiting : (number : List ℕ) → SoundWaiting (handset_at number rows.handsets) rows.references (all_for number rows)
   pub splits : AreSplitApart rows.messages
+
+-- the rows of a new store
+abbrev pub first_rows : Setup → Rows
+first_rows setup = record { messages = []; parts = []; references = []; handsets = []; reports = []; priorities = []; setup = setup }

@@ -1,27 +1,61 @@
 //! Laws of the centre, over its definitions alone.
-ghost use Rattle.std.specs.Prelude.{◌≡◌, ◌<◌, ℕ, true, false, None, Some};
+ghost use Rattle.std.specs.Prelude.{◌≡◌, ◌<◌, ℕ, List, true, false, None, Some};
+ghost use Rattle.sms_base.specs.Among.{Among};
 ghost use Rattle.sms_base.specs.declared.final_state.FinalState.{FinalState};
 ghost use Rattle.sms_messages.specs.Messages.{ended, is_pending, message_at, part_at, part_key};
 ghost use Rattle.sms_messages.specs.declared.message.MessageRow.{MessageRow};
 ghost use Rattle.sms_messages.specs.declared.part.PartRow.{PartRow};
 ghost use Rattle.sms_messages.specs.declared.priority.PriorityRow.{PriorityRow};
+ghost use Rattle.sms_reports.specs.Receipts.{Session, session_key};
 ghost use Rattle.sms_reports.specs.Reports.{is_open_status, put_report, report_of, status_reference};
 ghost use Rattle.sms_reports.specs.Waiting.{IsNew};
+ghost use Rattle.sms_reports.specs.declared.delivery.Delivery.{Delivery};
 ghost use Rattle.sms_reports.specs.declared.report.ReportRow.{ReportRow};
-ghost use Rattle.sms_table.specs.Table.{row_at};
+ghost use Rattle.sms_table.specs.Table.{Rises, row_at};
 ghost use Rattle.sms_waiting.specs.References.{handset_of};
 ghost use Rattle.sms_waiting.specs.SoundGivings.{IsNumber};
 ghost use Rattle.sms_waiting.specs.declared.progress.Progress.{Progress};
 ghost use Rattle.sms_centre.specs.declared.event.CentreEvent.{CentreEvent};
-ghost use Rattle.sms_centre.specs.CentreEvent.{happened};
+ghost use Rattle.sms_centre.specs.declared.rows.Rows.{Rows};
+ghost use Rattle.sms_centre.specs.declared.setup.Setup.{Setup};
+ghost use Rattle.sms_centre.specs.CentreEvent.{happened, recovered, started};
 ghost use Rattle.sms_centre.specs.Draft.{Core, Store, core_of, handsets_in, messages_in, parts_in, reports_in, with_given, with_message, with_part, with_part_at, with_priority, with_report_at, with_reports};
 ghost use Rattle.sms_centre.specs.Held.{SoundHeld};
+ghost use Rattle.sms_centre.specs.Keeping.{Keeps};
 ghost use Rattle.sms_centre.specs.Planning.{adopted, outcome_of};
+ghost use Rattle.sms_centre.specs.SoundCore.{AreDifferent, IsEvent, IsReceiptRow, IsSession, IsSoundCore};
+ghost use Rattle.sms_centre.specs.SoundRows.{IsSetup, IsSound, first_rows};
 ghost use Rattle.sms_centre.specs.Submitting.{reference_for};
 
 /// A centre that adopts what an event leads to is the centre after that event: the changes say all that became of the rows.
 pub fn what_is_adopted_is_what_happened()
     ensures { (event : CentreEvent) (c : Core) → adopted (outcome_of (happened event c)) c ≡ core_of (happened event c) }
+{}
+
+/// A sound centre is sound after every event: its rows are, no reference was given later than now, and what is under way on
+/// each line is a part of a message to that handset or the status report of one of its own, under the reference that its row
+/// keeps. A handset that the event names has a number.
+pub fn a_sound_centre_stays_sound()
+    ensures { (event : CentreEvent) (c : Core) → IsSoundCore c → IsEvent event → IsSoundCore (core_of (happened event c)) }
+{}
+
+/// A centre that recovers or starts with sound rows is sound, and the first rows of a new store are.
+pub fn a_centre_begins_sound()
+    ensures recovered { (rows : Rows) (handsets : List (List ℕ)) (sessions : List Session) → IsSound rows → ((number : List ℕ) → Among number handsets → IsNumber number) → AreDifferent handsets
+        → Rises session_key sessions → ((session : Session) → Among session sessions → IsSession rows session) → IsSoundCore (recovered rows handsets sessions) }
+    ensures started { (rows : Rows) (handsets : List (List ℕ)) (sessions : List Session) → IsSound rows → ((number : List ℕ) → Among number handsets → IsNumber number) → AreDifferent handsets
+        → Rises session_key sessions → ((session : Session) → Among session sessions → IsSession rows session) → IsSoundCore (started rows handsets sessions) }
+    ensures first { (setup : Setup) → IsSetup setup → IsSound (first_rows setup) }
+{}
+
+/// After every event no message, part or report is lost, a message that had ended is as it was, and each part and report goes
+/// under its reference and with its octets; all that waits for a handset holds references apart; and each receipt that goes
+/// out is one of the rows.
+pub fn an_event_keeps_its_promises()
+    ensures kept { (event : CentreEvent) (c : Core) → IsSoundCore c → IsEvent event → Keeps c.rows (core_of (happened event c)).rows }
+    ensures apart { (event : CentreEvent) (c : Core) → IsSoundCore c → IsEvent event → SoundHeld (happened event c).store }
+    ensures receipts { (event : CentreEvent) (c : Core) → IsSoundCore c → IsEvent event
+        → (delivery : Delivery) → Among delivery (happened event c).desk.deliveries → IsReceiptRow (core_of (happened event c)).rows delivery.id }
 {}
 
 /// All that waits for a handset holds references that were given there, no two the same: also once a message was entered, the
