@@ -1,13 +1,13 @@
 -- What every event of a centre leaves of a sound centre, whatever it is told.
-use Rattle.std.proofs.Common.{◌≡◌}
 use Rattle.sms_base.specs.Among.{Among}
 use Rattle.sms_reports.specs.declared.delivery.Delivery.{Delivery}
+use Rattle.sms_waiting.specs.declared.line.Sent.{Sent}
 use Rattle.sms_centre.specs.declared.event.CentreEvent.{CentreEvent}
 use Rattle.sms_centre.specs.CentreEvent.{happened}
 use Rattle.sms_centre.specs.Draft.{Core, core_of}
 use Rattle.sms_centre.specs.Held.{SoundHeld}
 use Rattle.sms_centre.specs.Keeping.{Keeps}
-use Rattle.sms_centre.specs.SoundCore.{IsEvent, IsReceiptRow, IsSoundCore}
+use Rattle.sms_centre.specs.SoundCore.{Brings, IsEvent, IsReceiptRow, IsSoundCore}
 use Rattle.sms_centre.proofs.PduFits.{event_gives, has_number}
 use Rattle.sms_centre.proofs.SoundEvents.{IsAfter, core_after, event_after}
 
@@ -25,3 +25,6 @@ keeps_apart event c s is = (after event c s is).store.0.stands.held
 
 pub sends_receipts : (event : CentreEvent) (c : Core) → IsSoundCore c → IsEvent event → (x : Delivery) → Among x (happened event c).desk.deliveries → IsReceiptRow (core_of (happened event c)).rows x.id
 sends_receipts event c s is = (after event c s is).sides.1.sent
+
+pub sends_frames : (event : CentreEvent) (c : Core) → IsSoundCore c → IsEvent event → (f : Sent) → Among f (happened event c).air.frames → Brings f.handset f.frame.carried (core_of (happened event c)).rows
+sends_frames event c s is = (after event c s is).sides.0.sent

@@ -1,19 +1,18 @@
 -- Each stage of an event keeps what stood in the rows.
-use Rattle.std.proofs.Common.{◌≡◌, ℕ, ◌+◌, ◌*◌, ◌<◌, List, [], ◌∷◌, Bool, true, false, Option, Some, None, refl, sym, ◌∙◌, ap, subst, ⊎_elim, arith}
-use Rattle.std.specs.Prelude.{is_none, nat_le}
+use Rattle.std.proofs.Common.{◌≡◌, ℕ, List, Bool, true, false, Option, Some, None, refl, sym, ◌∙◌, ap, subst, ⊎_elim}
+use Rattle.std.specs.Prelude.{is_none}
 use Rattle.std.proofs.lemmas.Bool.{cases_Bool, cases_eq, cond_both}
 use Rattle.sms_base.specs.Among.{Among}
 use Rattle.sms_base.specs.declared.final_state.FinalState.{FinalState}
 use Rattle.sms_base.specs.declared.final_state.FinalState.TheVariants.{Delivered}
 use Rattle.sms_table.specs.Keys.{pair_key}
 use Rattle.sms_table.specs.Table.{put, row_at}
-use Rattle.sms_table.proofs.Tables.{among_put, found_among, found_key, row_at_put, row_at_put_other}
+use Rattle.sms_table.proofs.Tables.{row_at_put, row_at_put_other}
 use Rattle.sms_messages.specs.declared.message.MessageRow.{MessageRow}
 use Rattle.sms_messages.specs.declared.message.Originator.{Originator}
 use Rattle.sms_messages.specs.declared.message.Originator.TheVariants.{Application, Handset}
 use Rattle.sms_messages.specs.declared.part.PartRow.{PartRow}
-use Rattle.sms_messages.specs.Messages.{all_done, ended, is_pending, message_at, message_key, next_id, part_at, part_key, part_reaching}
-use Rattle.sms_messages.specs.SplitReferences.{next_split}
+use Rattle.sms_messages.specs.Messages.{all_done, ended, is_pending, message_at, message_key, part_at, part_key, part_reaching}
 use Rattle.sms_messages.proofs.PartRows.{part_amended, part_amended_other}
 use Rattle.sms_reports.specs.declared.report.ReportKind.{ReportKind}
 use Rattle.sms_reports.specs.declared.report.ReportKind.TheVariants.{Receipt, Status, Unsent}
@@ -26,23 +25,15 @@ use Rattle.sms_waiting.specs.declared.progress.Progress.{Progress}
 use Rattle.sms_waiting.specs.References.{handset_of}
 use Rattle.sms_waiting.specs.Trying.{finished}
 use Rattle.sms_centre.specs.declared.rows.Rows.{Rows}
-use Rattle.sms_centre.specs.declared.submission.SinglePart.{SinglePart}
-use Rattle.sms_centre.specs.declared.submission.Submission.{Submission}
-use Rattle.sms_centre.specs.Bodies.{deliver_octets}
-use Rattle.sms_centre.specs.Draft.{Store, handsets_in, messages_in, parts_in, reports_in, rows_of, with_given, with_message, with_part_at, with_report_at}
+use Rattle.sms_centre.specs.Draft.{Store, handsets_in, messages_in, parts_in, reports_in, rows_of, with_message, with_part_at, with_report_at}
 use Rattle.sms_centre.specs.Ends.{end, is_wished, make_report, report_to, status_given}
 use Rattle.sms_centre.specs.Keeping.{IsMessageStill, IsPartStill, IsReportStill, Keeps}
 use Rattle.sms_centre.specs.ReceiptTexts.{status_octets}
-use Rattle.sms_centre.specs.Standing.{IsSubmission, Stands}
-use Rattle.sms_centre.specs.Submitting.{accept, accept_as, accept_split, accept_under, bodies_under, enter, give_part, give_parts, is_long, message_of, part_given, reference_for}
+use Rattle.sms_centre.specs.Standing.{Stands}
+use Rattle.sms_centre.specs.Submitting.{reference_for}
 use Rattle.sms_centre.specs.Transfers.{complete}
-use Rattle.sms_centre.proofs.NextNumbers.{below_next_id}
-use Rattle.sms_centre.proofs.SoundAccepted.{sound_steady}
-use Rattle.sms_centre.proofs.SoundStores.{SoundStore}
-use Rattle.sms_centre.proofs.Stages.{IfThere}
-use Rattle.sms_centre.proofs.StandsEntered.{then_there}
 use Rattle.sms_centre.proofs.StandsKept.{CanReport, can_report, next_is_new}
-use Rattle.sms_centre.proofs.Steady.{IsSteady, message_own}
+use Rattle.sms_centre.proofs.Steady.{message_own}
 
 -- ---- rows are as they are, and change after change
 
@@ -66,16 +57,21 @@ pub keeps_then : (a b c : Rows) → Keeps a b → Keeps b c → Keeps a c
 keeps_then a b c f g = record {
   messages = λ id m e.
       let x = f.messages id m e in
-      let y = g.messages id x.0 x.1.0 in
-      (y.0, (y.1.0, record {
-        handset = y.1.1.handset ∙ x.1.1.handset;
-        source = y.1.1.source ∙ x.1.1.source;
-        originator = y.1.1.originator ∙ x.1.1.originator;
-        split = y.1.1.split ∙ x.1.1.split;
-        final = λ state q.
-            let same : x.0 ≡ m = x.1.1.final state q in
-            y.1.1.final state (ap (λ (z : MessageRow). z.state) same ∙ q) ∙ same;
-      }));
+      let y = g.messages id x.0 x.1.0 in (
+        y.0,
+        (
+          y.1.0,
+          record {
+            handset = y.1.1.handset ∙ x.1.1.handset;
+            source = y.1.1.source ∙ x.1.1.source;
+            originator = y.1.1.originator ∙ x.1.1.originator;
+            split = y.1.1.split ∙ x.1.1.split;
+            final = λ state q.
+                let same : x.0 ≡ m = x.1.1.final state q in
+                y.1.1.final state (ap (λ (z : MessageRow). z.state) same ∙ q) ∙ same;
+          },
+        ),
+      );
   parts = λ id n p e.
       let x = f.parts id n p e in
       let y = g.parts id n x.0 x.1.0 in

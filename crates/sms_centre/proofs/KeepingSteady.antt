@@ -1,29 +1,25 @@
 -- What stood in the rows is kept where a submission is accepted, and so through every stage of an event.
-use Rattle.std.proofs.Common.{◌≡◌, ℕ, ◌+◌, ◌*◌, ◌<◌, ◌≤◌, List, [], ◌∷◌, length, Bool, true, false, Option, Some, None, refl, sym, ◌∙◌, ap, subst, ⊎_elim, arith}
+use Rattle.std.proofs.Common.{◌≡◌, ℕ, ◌+◌, ◌<◌, List, [], ◌∷◌, false, Option, Some, None, ◌∙◌, ap, ⊎_elim, arith}
 use Rattle.std.specs.Prelude.{nat_le}
-use Rattle.std.specs.Option.{option_and_then}
 use Rattle.std.proofs.lemmas.Bool.{cond_both}
 use Rattle.sms_base.specs.Among.{Among}
-use Rattle.sms_base.specs.declared.final_state.FinalState.{FinalState}
 use Rattle.sms_table.specs.Keys.{pair_key}
-use Rattle.sms_table.specs.Table.{put, row_at}
+use Rattle.sms_table.specs.Table.{put}
 use Rattle.sms_table.proofs.Tables.{among_put, found_among, found_key, row_at_put_other}
 use Rattle.sms_messages.specs.declared.message.MessageRow.{MessageRow}
 use Rattle.sms_messages.specs.declared.part.PartRow.{PartRow}
-use Rattle.sms_messages.specs.Messages.{is_pending, message_at, message_key, next_id, part_at, part_key}
+use Rattle.sms_messages.specs.Messages.{message_key, next_id, part_key}
 use Rattle.sms_messages.specs.SplitReferences.{next_split}
-use Rattle.sms_reports.specs.declared.report.ReportRow.{ReportRow}
 use Rattle.sms_waiting.specs.declared.handset.HandsetRow.{HandsetRow}
-use Rattle.sms_waiting.specs.declared.progress.Progress.{Progress}
 use Rattle.sms_waiting.specs.References.{handset_of}
 use Rattle.sms_centre.specs.declared.rows.Rows.{Rows}
 use Rattle.sms_centre.specs.declared.submission.SinglePart.{SinglePart}
 use Rattle.sms_centre.specs.declared.submission.Submission.{Submission}
 use Rattle.sms_centre.specs.Bodies.{deliver_octets}
 use Rattle.sms_centre.specs.Draft.{Store, handsets_in, messages_in, parts_in, rows_of}
-use Rattle.sms_centre.specs.Keeping.{IsMessageStill, IsPartStill, IsReportStill, Keeps}
+use Rattle.sms_centre.specs.Keeping.{Keeps}
 use Rattle.sms_centre.specs.Submitting.{accept, accept_as, accept_split, accept_under, bodies_under, enter, give_part, give_parts, is_long, message_of, part_given, reference_for}
-use Rattle.sms_centre.proofs.Keeping.{end_keeps, keeps_then, part_far_keeps, report_far_keeps, same_message, same_part, same_report, settled_keeps}
+use Rattle.sms_centre.proofs.Keeping.{end_keeps, keeps_then, part_far_keeps, report_far_keeps, settled_keeps}
 use Rattle.sms_centre.proofs.NextNumbers.{below_next_id}
 use Rattle.sms_centre.proofs.SoundAccepted.{sound_steady}
 use Rattle.sms_centre.proofs.SoundStores.{SoundStore}
@@ -53,8 +49,7 @@ module _ (base : Rows) (id : ℕ) (u : Submission) where
         key = b.key;
         progress = record { is_done = false; attempts = 0; due = u.due };
       } in
-      let after : List PartRow = put part_key p (parts_in s) in
-      (
+      let after : List PartRow = put part_key p (parts_in s) in (
         record {
           messages = k.0.messages;
           parts = λ i j x e.
@@ -127,9 +122,10 @@ since_steady base = record {
   accepted = λ u s k fit. both_there SoundStore (λ (e : Store). Keeps base (rows_of e)) (accept u s) (sound_steady.accepted u s k.0 fit) (accept_keeps base u s k.0 k.1);
   ended = λ f m s k there pending partly.
       (sound_steady.ended f m s k.0 there pending partly, keeps_then base (rows_of s) _ k.1 (end_keeps f m s k.0.stands there pending));
-  settled = λ p m s k there of pending undone.
-      (sound_steady.settled p m s k.0 there of pending undone,
-      keeps_then base (rows_of s) _ k.1 (settled_keeps p m s (part_far_stands p (finished p.progress) s k.0.stands there (λ t. absurd cc)) there of pending));
+  settled = λ p m s k there of pending undone. (
+    sound_steady.settled p m s k.0 there of pending undone,
+    keeps_then base (rows_of s) _ k.1 (settled_keeps p m s (part_far_stands p (finished p.progress) s k.0.stands there (λ t. absurd cc)) there of pending),
+  );
   part_far = λ p q s k there same. (sound_steady.part_far p q s k.0 there same, keeps_then base (rows_of s) _ k.1 (part_far_keeps p q s there (λ t. same ∙ t)));
   report_far = λ r q s k there stays. (sound_steady.report_far r q s k.0 there stays, keeps_then base (rows_of s) _ k.1 (report_far_keeps r q s k.0.stands there stays));
   later = λ n s k past is. (sound_steady.later n s k.0 past is, k.1);

@@ -1,3 +1,4 @@
+pub mod Answered
 mod BodiesRefused
 mod Calendars
 mod Everything

@@ -1,6 +1,6 @@
 -- Messages, parts and priorities that a centre can stand on stay so where a message comes with its first part, and where one more
 -- of its parts comes.
-use Rattle.std.proofs.Common.{◌≡◌, ℕ, ◌+◌, ◌*◌, ◌<◌, ◌≤◌, List, Bool, true, false, Option, Some, None, refl, sym, ◌∙◌, ap, subst, inl, inr, ⊎_elim, arith}
+use Rattle.std.proofs.Common.{◌≡◌, ℕ, ◌<◌, ◌≤◌, List, true, false, Some, refl, sym, ◌∙◌, ap, subst, inl, ⊎_elim, arith}
 use Rattle.std.proofs.lemmas.Bool.{cases_eq}
 use Rattle.sms_base.specs.Address.{IsAddress}
 use Rattle.sms_base.specs.Among.{Among}

@@ -1,5 +1,5 @@
 -- Messages, parts and priorities that a centre can stand on stay so where a part comes, a part is so far and a message ends.
-use Rattle.std.proofs.Common.{◌≡◌, ℕ, ◌+◌, ◌*◌, ◌<◌, ◌≤◌, List, [], ◌∷◌, Bool, true, false, Option, Some, None, refl, sym, ◌∙◌, ap, subst, inl, inr, ⊎_elim, arith}
+use Rattle.std.proofs.Common.{◌≡◌, ℕ, ◌<◌, List, true, false, Option, Some, None, refl, sym, ◌∙◌, ap, subst, ⊎_elim, arith}
 use Rattle.std.specs.Prelude.{is_none}
 use Rattle.std.proofs.lemmas.Bool.{cases_eq}
 use Rattle.sms_base.specs.Address.{IsAddress}
@@ -8,20 +8,20 @@ use Rattle.sms_base.specs.declared.final_state.FinalState.{FinalState}
 use Rattle.sms_base.specs.MessageId.{IsMessageId}
 use Rattle.sms_table.specs.Keys.{pair_key}
 use Rattle.sms_table.specs.Table.{Rises, put, row_at}
-use Rattle.sms_table.proofs.Tables.{among_found, among_put, found_among, found_key, put_among, rises_put, row_at_put, row_at_put_other}
+use Rattle.sms_table.proofs.Tables.{among_found, among_put, found_among, found_key, rises_put, row_at_put, row_at_put_other}
 use Rattle.sms_tpdu.specs.declared.deliver.Deliver.{Deliver}
 use Rattle.sms_messages.specs.declared.message.MessageRow.{MessageRow}
 use Rattle.sms_messages.specs.declared.part.PartRow.{PartRow}
 use Rattle.sms_messages.specs.declared.priority.PriorityRow.{PriorityRow}
-use Rattle.sms_messages.specs.Messages.{all_done, ended, is_pending, message_at, message_key, part_at, part_key, part_reaching, priority_key}
-use Rattle.sms_messages.specs.SoundMessages.{EndsAt, IsDeliver, IsMessage, IsPart, IsPriority, SoundMessages}
+use Rattle.sms_messages.specs.Messages.{all_done, ended, message_at, message_key, part_at, part_key, part_reaching, priority_key}
+use Rattle.sms_messages.specs.SoundMessages.{EndsAt, IsDeliver, IsPart, IsPriority, SoundMessages}
 use Rattle.sms_messages.specs.SplitReferences.{is_delivered}
 use Rattle.sms_messages.proofs.PartRows.{part_amended, part_amended_other}
 use Rattle.sms_waiting.specs.declared.progress.Progress.{Progress}
 use Rattle.sms_waiting.specs.Revisions.{amended}
 use Rattle.sms_waiting.specs.SoundGivings.{IsNumber}
 use Rattle.sms_waiting.proofs.Amending.{rises_amended}
-use Rattle.sms_centre.proofs.DoneMarks.{all_done_amended, all_done_put, far_alike, far_apart, not_all_done}
+use Rattle.sms_centre.proofs.DoneMarks.{all_done_amended, far_alike, far_apart}
 use Rattle.sms_centre.proofs.NextNumbers.{among_amended}
 
 -- ---- rows in the middle of a stage: what a message's row says of its end is D of it

@@ -1,17 +1,17 @@
 -- Numbers and places that come next are new, and rows that are so far are those that stood there.
-use Rattle.std.proofs.Common.{◌≡◌, ℕ, ◌+◌, ◌*◌, ◌<◌, List, [], ◌∷◌, Option, Some, None, refl, sym, ◌∙◌, ap, subst, inl, inr, ⊎_elim, arith}
+use Rattle.std.proofs.Common.{◌≡◌, ℕ, ◌+◌, ◌<◌, List, [], ◌∷◌, Option, Some, None, refl, sym, subst, inl, inr, ⊎_elim, arith}
 use Rattle.std.specs.Prelude.{◌==◌, ◌⊎◌, if◌then◌else◌}
-use Rattle.std.proofs.lemmas.Bool.{cases_eq, cond_both, eqb-true}
+use Rattle.std.proofs.lemmas.Bool.{cond_both, eqb-true}
 use Rattle.sms_base.specs.Among.{Among}
 use Rattle.sms_table.specs.Keys.{pair_key}
-use Rattle.sms_table.specs.Table.{AllAbove, Rises, row_at}
-use Rattle.sms_table.proofs.Tables.{among_found, found_among, found_key}
+use Rattle.sms_table.specs.Table.{AllAbove, Rises}
+use Rattle.sms_table.proofs.Tables.{found_among, found_key}
 use Rattle.sms_messages.specs.declared.message.MessageRow.{MessageRow}
 use Rattle.sms_messages.specs.declared.part.PartRow.{PartRow}
-use Rattle.sms_messages.specs.Messages.{id_after, message_at, message_key, next_id, part_at, part_key}
+use Rattle.sms_messages.specs.Messages.{id_after, message_key, part_at, part_key}
 use Rattle.sms_messages.specs.OpenParts.{Numbered}
 use Rattle.sms_reports.specs.declared.report.ReportRow.{ReportRow}
-use Rattle.sms_reports.specs.Reports.{next_place, place_after, report_key, report_of}
+use Rattle.sms_reports.specs.Reports.{place_after, report_key, report_of}
 use Rattle.sms_reports.proofs.AllWaiting.{report_found}
 use Rattle.sms_waiting.specs.declared.progress.Progress.{Progress}
 use Rattle.sms_waiting.specs.Revisions.{amended}

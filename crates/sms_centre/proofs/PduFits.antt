@@ -1,7 +1,7 @@
 -- A submit_sm that passed all checks is a submission that does: what it says, with a header that came or without one, where it
 -- comes from and where it goes.
-use Rattle.std.proofs.Common.{◌≡◌, ℕ, zero, suc, ◌+◌, ◌*◌, ◌/◌, ◌%◌, ◌<◌, ◌≤◌, List, [], ◌∷◌, ◌++◌, length, take, drop, Bool, true, false, Option, Some, None, Result, Ok, Err, refl, sym, ◌∙◌, ap, subst, inl, inr, arith}
-use Rattle.std.specs.Prelude.{◌==◌, ◌&&◌, nat_le, nat_lt, not, min, if◌then◌else◌}
+use Rattle.std.proofs.Common.{◌≡◌, ℕ, zero, suc, ◌+◌, ◌/◌, ◌%◌, List, [], ◌∷◌, ◌++◌, length, take, drop, Option, Some, None, Result, Ok, Err, refl, sym, ◌∙◌, ap, subst, inl, inr, arith}
+use Rattle.std.specs.Prelude.{◌==◌, not}
 use Rattle.std.specs.Option.{ok_or}
 use Rattle.std.proofs.lemmas.Bool.{cond_both}
 use Rattle.std.proofs.lemmas.List.{take_at}
@@ -9,8 +9,7 @@ use Rattle.sms_base.specs.Address.{IsAddress, address_of}
 use Rattle.sms_base.specs.Among.{Among}
 use Rattle.sms_base.specs.declared.address.Address.{Address}
 use Rattle.sms_base.specs.declared.address_error.AddressError.{AddressError}
-use Rattle.sms_base.specs.Reading.{AreOctets, only_if}
-use Rattle.sms_base.specs.TimeStamp.{IsMoment}
+use Rattle.sms_base.specs.Reading.{only_if}
 use Rattle.sms_base.proofs.Addresses.{address_found}
 use Rattle.sms_base.proofs.Steps.{bind_ok, ok_is}
 use Rattle.sms_concat.specs.declared.concat_key.ConcatKey.{ConcatKey}
@@ -31,17 +30,15 @@ use Rattle.sms_waiting.specs.SoundGivings.{IsNumber}
 use Rattle.sms_centre.specs.declared.event.CentreEvent.{CentreEvent}
 use Rattle.sms_centre.specs.declared.event.CentreEvent.TheVariants.{Submit, Query, Cancel, Bound, Unbound, DeliverAnswered, Frame, LinkUp, LinkDown, Tick}
 use Rattle.sms_centre.specs.declared.setup.Account.{Account}
-use Rattle.sms_centre.specs.declared.submission.SinglePart.{SinglePart}
 use Rattle.sms_centre.specs.declared.submission.Submission.{Submission}
 use Rattle.sms_centre.specs.declared.submission.Text.{Text}
 use Rattle.sms_centre.specs.Draft.{Core}
 use Rattle.sms_centre.specs.Numbers.{names_handset}
 use Rattle.sms_centre.specs.Requests.{account_at}
-use Rattle.sms_centre.specs.SmppIntake.{address_in, address_or_none, are_whole, content_at, due_in, has_sar_lengths, has_too_much, limit_in, from_pdu, handset_named, has_header, header_read, header_size, headed_text, is_ascii, is_empty, plain_text, sar_key, single_behind, source_in, text_in, text_of, whole_of}
+use Rattle.sms_centre.specs.SmppIntake.{address_in, address_or_none, are_whole, content_at, due_in, has_sar_lengths, has_too_much, limit_in, from_pdu, handset_named, has_header, header_read, header_size, headed_text, is_ascii, is_empty, plain_text, sar_key, source_in, text_in, text_of}
 use Rattle.sms_centre.specs.SoundCore.{HasNumber, IsEvent, IsSoundCore}
-use Rattle.sms_centre.specs.Standing.{IsBody, IsSubmission}
+use Rattle.sms_centre.specs.Standing.{IsSubmission}
 use Rattle.sms_centre.specs.Submitted.{AccountGives, Gives}
-use Rattle.sms_centre.specs.Submitting.{bodies_under}
 use Rattle.sms_centre.proofs.SmppFits.{FitsText, content_fits, key_header, single_fits, whole_fits}
 use Rattle.sms_centre.proofs.SoundAir.{line_of_handset}
 use Rattle.sms_centre.proofs.SubmitFits.{frame_fits, named_number}

@@ -1,10 +1,8 @@
 -- A submit_sm that passed all checks is a submission that does.
-use Rattle.std.proofs.Common.{◌≡◌, ℕ, ◌+◌, ◌<◌, ◌≤◌, List, [], ◌∷◌, ◌++◌, length, take, drop, Bool, true, false, Option, Some, None, Result, Ok, Err, refl, sym, ◌∙◌, ap, subst, inl, inr, ⊎_elim, arith}
-use Rattle.std.specs.Prelude.{All, ◌==◌, ◌&&◌, ◌||◌, nat_le, nat_lt, not, min, if◌then◌else◌}
+use Rattle.std.proofs.Common.{◌≡◌, ℕ, ◌+◌, ◌<◌, ◌≤◌, List, [], ◌∷◌, length, true, false, Option, Some, None, Result, Ok, Err, refl, sym, ◌∙◌, ap, subst, inl, inr, ⊎_elim, arith}
+use Rattle.std.specs.Prelude.{All, ◌==◌, ◌||◌, nat_le, nat_lt}
 use Rattle.std.specs.List.{list_all}
-use Rattle.std.specs.Option.{ok_or}
 use Rattle.std.proofs.lemmas.Bool.{and_parts, cases_Bool, cases_lt, cond_both, leb-true, ltb-true}
-use Rattle.std.proofs.lemmas.List.{take_at}
 use Rattle.std.proofs.lemmas.List.Elements.{All-cons, All-head, All-nil, All-tail}
 use Rattle.sms_alphabet.specs.declared.scheme.Coding.{Coding}
 use Rattle.sms_alphabet.specs.declared.scheme.Coding.TheVariants.{Septets, Octets, Ucs2, Compressed}
@@ -13,49 +11,31 @@ use Rattle.sms_alphabet.specs.DataCodingScheme.{coding_of}
 use Rattle.sms_alphabet.specs.Packing.{AreSeptets}
 use Rattle.sms_alphabet.specs.Spelling.{spelled}
 use Rattle.sms_alphabet.proofs.Spellings.{below}
-use Rattle.sms_base.specs.Address.{IsAddress, address_of}
 use Rattle.sms_base.specs.Among.{Among}
-use Rattle.sms_base.specs.declared.address.Address.{Address}
-use Rattle.sms_base.specs.declared.address_error.AddressError.{AddressError}
-use Rattle.sms_base.specs.Reading.{only_if}
-use Rattle.sms_base.proofs.Addresses.{address_found}
-use Rattle.sms_base.proofs.Steps.{bind_ok, ok_is}
+use Rattle.sms_base.proofs.Steps.{ok_is}
 use Rattle.sms_concat.specs.declared.concat_key.ConcatKey.{ConcatKey}
-use Rattle.sms_concat.specs.declared.concat_key.ConcatReference.{ConcatReference}
-use Rattle.sms_concat.specs.declared.concat_key.ConcatReference.TheVariants.{EightBit, SixteenBit}
+use Rattle.sms_concat.specs.declared.concat_key.ConcatReference.TheVariants.{SixteenBit}
 use Rattle.sms_concat.specs.declared.content.Content.{Content}
 use Rattle.sms_concat.specs.declared.content.Part.{Part}
 use Rattle.sms_concat.specs.declared.element.Element.{Element}
-use Rattle.sms_concat.specs.declared.header_error.HeaderError.{HeaderError}
 use Rattle.sms_concat.specs.declared.split_error.SplitError.{SplitError}
-use Rattle.sms_concat.specs.Concatenation.{key_of}
-use Rattle.sms_concat.specs.HeaderGrammar.{header_at, spelled as elements_spelled, written}
+use Rattle.sms_concat.specs.HeaderGrammar.{written}
 use Rattle.sms_concat.specs.Joining.{content_joined}
-use Rattle.sms_concat.specs.Splitting.{IsSplit, alone, is_compressed, numbered, numbered_all, pieces_of, split_of}
+use Rattle.sms_concat.specs.Splitting.{IsSplit, alone, is_compressed, numbered, pieces_of, split_of}
 use Rattle.sms_concat.specs.UserData.{AreUnits, HasRoom, IsPart, capacity, data_length, header_of, key_element}
-use Rattle.sms_concat.proofs.Elements.{read_was_written}
 use Rattle.sms_concat.proofs.Joined.{split_joins}
 use Rattle.sms_concat.proofs.Numbering.{all_numbered, split_alone, split_cut, split_refused, too_many}
 use Rattle.sms_concat.proofs.Room.{split_read, split_room}
 use Rattle.sms_concat.proofs.Uniqueness.{split_is}
-use Rattle.smpp_pdu.specs.declared.address.SmeAddress.{SmeAddress}
-use Rattle.smpp_pdu.specs.declared.message.Message.{Message}
 use Rattle.smpp_pdu.specs.declared.status.CommandStatus.{CommandStatus}
-use Rattle.smpp_pdu.specs.declared.status.CommandStatus.TheVariants.{ESME_RINVDSTADR, ESME_RINVMSGLEN, ESME_RINVSRCADR, ESME_RSUBMITFAIL}
-use Rattle.smpp_pdu.specs.declared.tlv.Tlvs.{Tlvs}
+use Rattle.smpp_pdu.specs.declared.status.CommandStatus.TheVariants.{ESME_RINVMSGLEN, ESME_RSUBMITFAIL}
 use Rattle.sms_tpdu.specs.UserDataGrammar.{IsUserData}
-use Rattle.sms_waiting.specs.SoundGivings.{IsNumber}
-use Rattle.sms_centre.specs.declared.setup.Account.{Account}
 use Rattle.sms_centre.specs.declared.submission.SinglePart.{SinglePart}
-use Rattle.sms_centre.specs.declared.submission.Submission.{Submission}
 use Rattle.sms_centre.specs.declared.submission.Text.{Text}
 use Rattle.sms_centre.specs.declared.submission.Text.TheVariants.{Whole, Single}
-use Rattle.sms_centre.specs.Bodies.{bodies_of, body_behind, body_of, packed_behind}
-use Rattle.sms_centre.specs.Numbers.{names_handset}
-use Rattle.sms_centre.specs.SmppIntake.{address_in, address_or_none, class_at, content_at, content_spelled, from_pdu, handset_named, has_header, header_read, header_size, headed_text, is_ascii, is_empty, octets_at, plain_text, septets_at, single_behind, source_in, splits, text_at, text_in, text_of, ucs2_at, whole_of}
-use Rattle.sms_centre.specs.Standing.{IsBody, IsSubmission}
+use Rattle.sms_centre.specs.Bodies.{bodies_of, body_behind, body_of}
+use Rattle.sms_centre.specs.SmppIntake.{class_at, content_at, content_spelled, is_ascii, octets_at, septets_at, single_behind, splits, text_at, ucs2_at, whole_of}
 use Rattle.sms_centre.specs.Submitting.{bodies_under, data_coding_of, parts_or_none}
-use Rattle.sms_centre.proofs.SubmitFits.{named_number}
 use Rattle.sms_centre.proofs.TextFields.{IsHeader, fields_are}
 
 -- ---- contents: septets are below 128, and the data coding scheme names the coding

@@ -1,12 +1,11 @@
 -- A submission that is accepted leaves rows that a centre can stand on.
-use Rattle.std.proofs.Common.{◌≡◌, ℕ, ◌+◌, ◌<◌, ◌≤◌, List, [], ◌∷◌, length, Bool, true, false, Option, Some, None, refl, sym, ◌∙◌, ap, subst, inl, inr, ⊎_elim, arith}
+use Rattle.std.proofs.Common.{◌≡◌, ℕ, ◌+◌, ◌<◌, ◌≤◌, List, [], ◌∷◌, length, false, Option, Some, None, refl, sym, ◌∙◌, subst, inl, inr, ⊎_elim, arith}
 use Rattle.std.specs.Prelude.{nat_le}
 use Rattle.std.proofs.lemmas.Bool.{cond_both, leb-true}
 use Rattle.sms_base.specs.Among.{Among}
 use Rattle.sms_base.specs.MessageId.{IsMessageId}
 use Rattle.sms_table.specs.Table.{put}
 use Rattle.sms_table.proofs.Tables.{among_put, row_at_put}
-use Rattle.sms_tpdu.specs.declared.deliver.Deliver.{Deliver}
 use Rattle.sms_messages.specs.declared.message.MessageRow.{MessageRow}
 use Rattle.sms_messages.specs.declared.part.PartRow.{PartRow}
 use Rattle.sms_messages.specs.declared.priority.PriorityRow.{PriorityRow}
@@ -69,8 +68,7 @@ part_sound id submitted n split u b (Some r) s fit body k some few next =
     let p : PartRow = part_row id n r u b s in
     let stands : Entered m _ = part_stands m u n b (Some r) s (k.0.stands, k.1) refl some (omega (arith, few)) next in
     let small : r < 256 = (next_is_free h (waiting_in h.number s) (references_in s) s.moment r next).1 in
-    let is : IsPart (messages_in s) p = part_is id submitted n r split u b s (messages_in s) fit body k.0.times k.1 some few small in
-    (
+    let is : IsPart (messages_in s) p = part_is id submitted n r split u b s (messages_in s) fit body k.0.times k.1 some few small in (
       record {
         stands = stands.0;
         messages = rows_sound (messages_in s) (put part_key p (parts_in s)) (priorities_in s)
@@ -151,8 +149,7 @@ first_sound id split u b (Some r) s c body next =
       part = part_is id s.moment 1 r split u b s (put message_key m ms) c.fit body c.sound.times there (omega arith) (omega arith) small;
       priority_id = refl;
       priority_few = c.fit.priority;
-    } in
-    (
+    } in (
       record {
         stands = stands.0;
         messages = rows_sound (put message_key m ms) (put part_key p (parts_in s)) (put priority_key q (priorities_in s))

@@ -1,5 +1,5 @@
 -- A centre that starts or recovers with sound rows is sound, and the rows of a new store are.
-use Rattle.std.proofs.Common.{◌≡◌, ℕ, ◌≤◌, List, [], ◌∷◌, true, false, Option, Some, None, refl, sym, ◌∙◌, ap, subst, inl, inr, ⊎_elim, arith}
+use Rattle.std.proofs.Common.{◌≡◌, ℕ, List, [], ◌∷◌, true, false, refl, sym, ap, subst, inl, inr, ⊎_elim, arith}
 use Rattle.std.specs.Prelude.{max}
 use Rattle.sms_base.specs.Among.{Among}
 use Rattle.sms_base.specs.TimeStamp.{IsMoment}
@@ -11,12 +11,11 @@ use Rattle.sms_reports.specs.declared.report.ReportRow.{ReportRow}
 use Rattle.sms_reports.specs.Receipts.{Session, session_key}
 use Rattle.sms_waiting.specs.declared.line.Line.{Line}
 use Rattle.sms_waiting.specs.declared.reference.ReferenceRow.{ReferenceRow}
-use Rattle.sms_waiting.specs.Lines.{line_at}
 use Rattle.sms_waiting.specs.SoundGivings.{IsNumber}
 use Rattle.sms_centre.specs.declared.rows.Rows.{Rows}
 use Rattle.sms_centre.specs.declared.setup.Setup.{Setup}
 use Rattle.sms_centre.specs.CentreEvent.{after_messages, after_references, after_reports, lines_awaited, lines_up, moment_of, recovered, started}
-use Rattle.sms_centre.specs.SoundCore.{AreDifferent, AreLines, IsLine, IsSession, IsSoundCore, IsUnderWay}
+use Rattle.sms_centre.specs.SoundCore.{AreDifferent, AreLines, IsAnswer, IsLine, IsSession, IsSoundCore, IsUnderWay}
 use Rattle.sms_centre.specs.SoundRows.{IsSetup, IsSound, first_rows}
 use Rattle.sms_centre.proofs.SoundAir.{line_none}
 
@@ -72,6 +71,7 @@ new_lines rows ns ls new are l among =
       handset = are l.handset is.0;
       side = ap (λ (x : LinkOf). x.side) is.1;
       under_way = subst (λ (x : LinkOf). IsUnderWay l.handset x.under_way rows) (sym is.1) tt;
+      answered = subst (λ (x : LinkOf). IsAnswer x.answered) (sym is.1) tt;
     }
 
 awaited_apart : (rows : Rows) (ns : List (List ℕ)) → AreDifferent ns → AreLines (lines_awaited ns)

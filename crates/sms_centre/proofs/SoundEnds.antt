@@ -1,12 +1,10 @@
 -- Rows that a centre can stand on stay so where a message ends and is reported.
-use Rattle.std.proofs.Common.{◌≡◌, ℕ, ◌<◌, ◌≤◌, List, Bool, true, false, Option, Some, None, refl, sym, ◌∙◌, ap, subst, inl, inr, ⊎_elim, arith}
+use Rattle.std.proofs.Common.{◌≡◌, ℕ, ◌<◌, List, Bool, true, false, Option, Some, None, refl, sym, ◌∙◌, ap, subst, ⊎_elim, arith}
 use Rattle.std.proofs.lemmas.Bool.{cond_both}
 use Rattle.sms_base.specs.Among.{Among}
 use Rattle.sms_base.specs.declared.final_state.FinalState.{FinalState}
-use Rattle.sms_base.specs.TimeStamp.{IsMoment}
 use Rattle.sms_table.specs.Table.{put}
-use Rattle.sms_table.proofs.Tables.{among_put, found_among, row_at_put}
-use Rattle.sms_tpdu.specs.declared.status_report.StatusReport.{StatusReport}
+use Rattle.sms_table.proofs.Tables.{among_put, found_among}
 use Rattle.sms_messages.specs.declared.message.MessageRow.{MessageRow}
 use Rattle.sms_messages.specs.declared.message.Originator.{Originator}
 use Rattle.sms_messages.specs.declared.message.Originator.TheVariants.{Application, Handset}
@@ -22,7 +20,7 @@ use Rattle.sms_waiting.specs.declared.reference.ReferenceRow.{ReferenceRow}
 use Rattle.sms_waiting.specs.Keys.{reference_key}
 use Rattle.sms_waiting.specs.References.{given_row, handset_of}
 use Rattle.sms_waiting.proofs.WaitingSound.{next_is_free}
-use Rattle.sms_centre.specs.Draft.{Store, handsets_in, messages_in, parts_in, priorities_in, references_in, reports_in, waiting_in, with_given, with_message}
+use Rattle.sms_centre.specs.Draft.{Store, handsets_in, messages_in, parts_in, priorities_in, references_in, reports_in, waiting_in, with_message}
 use Rattle.sms_centre.specs.Ends.{end, is_wished, make_report, report_to, status_given}
 use Rattle.sms_centre.specs.ReceiptTexts.{status_octets, status_report_of}
 use Rattle.sms_centre.specs.SoundRows.{AreSplitApart, CanBeTold, IsSetup}

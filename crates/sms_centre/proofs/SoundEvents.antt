@@ -1,34 +1,31 @@
 -- Every event leaves a sound centre sound.
-use Rattle.std.proofs.Common.{◌≡◌, ℕ, ◌≤◌, List, [], ◌∷◌, Bool, true, false, Option, Some, None, refl, sym, ◌∙◌, ap, subst, inl, inr, ⊎_elim, arith}
-use Rattle.std.specs.Prelude.{max}
-use Rattle.sms_base.specs.Among.{Among}
+use Rattle.std.proofs.Common.{ℕ, List, Option, Some, None, refl, ◌∙◌, ap}
 use Rattle.sms_base.specs.declared.address.Address.{Address}
 use Rattle.sms_base.specs.declared.carried.Carried.{Carried}
+use Rattle.sms_base.specs.declared.carried.Kind.{Kind}
+use Rattle.sms_base.specs.declared.carried.Kind.TheVariants.{Ack, Data, Error}
 use Rattle.sms_base.specs.declared.holder.Holder.{Holder}
 use Rattle.sms_base.specs.declared.holder.Holder.TheVariants.{Part, Report, Entry, Memory}
-use Rattle.sms_base.specs.TimeStamp.{IsMoment}
 use Rattle.sms_table.specs.Table.{row_at}
-use Rattle.sms_messages.specs.declared.message.MessageRow.{MessageRow}
 use Rattle.sms_reports.specs.declared.report.ReportKind.{ReportKind}
-use Rattle.sms_reports.specs.declared.report.ReportRow.{ReportRow}
-use Rattle.sms_reports.specs.Receipts.{Desk, Session, session_key}
-use Rattle.sms_reports.specs.Reports.{is_receipt, report_of}
+use Rattle.sms_reports.specs.Receipts.{session_key}
+use Rattle.sms_reports.specs.Reports.{is_receipt}
 use Rattle.sms_waiting.specs.declared.line.Line.{Line}
-use Rattle.sms_waiting.specs.Lines.{Air, line_of}
+use Rattle.sms_waiting.specs.Lines.{line_of}
 use Rattle.sms_centre.specs.declared.event.CentreEvent.{CentreEvent}
 use Rattle.sms_centre.specs.declared.event.CentreEvent.TheVariants.{Submit, Query, Cancel, Bound, Unbound, DeliverAnswered, Frame, LinkUp, LinkDown, Tick}
 use Rattle.sms_centre.specs.declared.rows.Rows.{Rows}
 use Rattle.sms_centre.specs.CentreEvent.{aged, at_moment, fired, follow, frame_taken, happened, lower, raise, raised}
-use Rattle.sms_centre.specs.Draft.{Core, Draft, Store, core_of, draft_of, reports_in, rows_of}
+use Rattle.sms_centre.specs.Draft.{Core, Draft, core_of, draft_of, rows_of}
 use Rattle.sms_centre.specs.Keeping.{Keeps}
 use Rattle.sms_centre.specs.Requests.{account_at, cancel, query, submit}
 use Rattle.sms_centre.specs.Sessions.{bind, deliver_answered, unbind}
-use Rattle.sms_centre.specs.SoundCore.{HasNumber, IsLine, IsReceiptRow, IsSentFor, IsSession, IsSoundCore, IsUnderWay}
+use Rattle.sms_centre.specs.SoundCore.{Brings, BringsKind, HasNumber, IsReceiptRow, IsSentFor, IsSoundCore, IsUnderWay}
 use Rattle.sms_centre.specs.Submitted.{Gives}
 use Rattle.sms_centre.proofs.Keeping.{keeps_same}
 use Rattle.sms_centre.proofs.KeepingSteady.{SoundSince, since_steady}
 use Rattle.sms_centre.proofs.SoundAccepted.{sound_steady}
-use Rattle.sms_centre.proofs.SoundAir.{SoundAir, SoundDesk, line_sound}
+use Rattle.sms_centre.proofs.SoundAir.{line_sound}
 use Rattle.sms_centre.proofs.SoundOffers.{follow_sides}
 use Rattle.sms_centre.proofs.SoundSides.{Sides, answered_sides, bind_sides, cancel_sides, frame_sides, lower_sides, query_sides, raise_sides, submit_sides, ticked_sides, unbind_sides}
 use Rattle.sms_centre.proofs.SoundStores.{SoundStore, rows_are_past, rows_are_sound, store_sound}
@@ -54,6 +51,15 @@ module _ (before after : Rows) (k : Keeps before after) where
   under_way_still h None i = i
   under_way_still h (Some transfer) i = (i.0, sent_still h transfer.reference transfer.tag i.1)
 
+  kind_still : (k : Kind) (h : List ℕ) (t : Carried) → BringsKind k h t before → BringsKind k h t after
+  kind_still Data h t i = sent_still h t.reference t.tag i
+  kind_still Ack h t i = tt
+  kind_still Error h t i = tt
+
+  brings_still : (h : List ℕ) (o : Option Carried) → Brings h o before → Brings h o after
+  brings_still h None i = tt
+  brings_still h (Some t) i = kind_still t.kind h t i
+
   receipt_still : (id : ℕ) → IsReceiptRow before id → IsReceiptRow after id
   receipt_still id i =
       let x = k.reports id i.0 i.1.0 in
@@ -62,8 +68,9 @@ module _ (before after : Rows) (k : Keeps before after) where
   pub sides_still : (d : Draft) → Sides before d → Sides after d
   sides_still d s = (
     record {
-      each = λ l among. let i = s.0.each l among in record { handset = i.handset; side = i.side; under_way = under_way_still l.handset l.link.under_way i.under_way };
+      each = λ l among. let i = s.0.each l among in record { handset = i.handset; side = i.side; under_way = under_way_still l.handset l.link.under_way i.under_way; answered = i.answered };
       apart = s.0.apart;
+      sent = λ f among. brings_still f.handset f.frame.carried (s.0.sent f among);
     },
     record {
       keys = s.1.keys;
@@ -89,7 +96,7 @@ begins : (c : Core) → IsSoundCore c → SoundSince c.rows (draft_of c).store
 begins c s = (store_sound c.rows c.moment s.rows s.now s.moment, keeps_same c.rows)
 
 sides_begin : (c : Core) → IsSoundCore c → Sides c.rows (draft_of c)
-sides_begin c s = (record { each = s.each_line; apart = s.apart }, record { keys = s.session_keys; each = s.each_session; sent = λ x among. absurd among })
+sides_begin c s = (record { each = s.each_line; apart = s.apart; sent = λ f among. absurd among }, record { keys = s.session_keys; each = s.each_session; sent = λ x among. absurd among })
 
 -- ---- every event
 

@@ -1,12 +1,11 @@
 -- What follows every event, offers to handsets and receipts in sessions, leaves lines and sessions sound over the rows that stand:
 -- each offer goes for what waits there, under its reference, and each receipt is one of the rows.
-use Rattle.std.proofs.Common.{◌≡◌, ℕ, ◌<◌, List, [], ◌∷◌, ◌++◌, Bool, true, false, length, Option, Some, None, refl, sym, ◌∙◌, ap, subst, inl, inr, ⊎_elim, arith}
-use Rattle.std.specs.Prelude.{◌⊎◌, ◌==◌, ◌&&◌, not, nat_le, nat_lt, if◌then◌else◌}
+use Rattle.std.proofs.Common.{◌≡◌, ℕ, List, [], ◌∷◌, ◌++◌, true, false, length, Option, Some, None, refl, sym, ◌∙◌, ap, subst, inl, inr, ⊎_elim, arith}
+use Rattle.std.specs.Prelude.{◌⊎◌, ◌==◌, ◌&&◌, not, nat_le, nat_lt}
 use Rattle.std.specs.Str.{bytes_eq}
 use Rattle.std.proofs.lemmas.Bool.{and_parts, cond_both, eqb-false, eqb-true}
 use Rattle.std.proofs.lemmas.Slice.Eq.{bytes_eq-Decides}
 use Rattle.sms_base.specs.Among.{Among}
-use Rattle.sms_base.specs.declared.carried.Carried.{Carried}
 use Rattle.sms_base.specs.declared.carried.Kind.TheVariants.{Data}
 use Rattle.sms_base.specs.declared.holder.Holder.{Holder}
 use Rattle.sms_base.specs.declared.holder.Holder.TheVariants.{Part, Report}
@@ -16,7 +15,6 @@ use Rattle.sms_table.specs.Keys.{pair_key}
 use Rattle.sms_table.specs.Table.{row_at}
 use Rattle.sms_table.proofs.Tables.{among_found, found_key}
 use Rattle.sms_messages.specs.declared.message.MessageRow.{MessageRow}
-use Rattle.sms_messages.specs.declared.message.Originator.{Originator}
 use Rattle.sms_messages.specs.declared.part.PartRow.{PartRow}
 use Rattle.sms_messages.specs.Messages.{is_pending, message_at, part_at, part_key}
 use Rattle.sms_messages.specs.OpenParts.{part_load, part_wait, waits_for}
@@ -24,7 +22,7 @@ use Rattle.sms_reports.specs.declared.delivery.Delivery.{Delivery}
 use Rattle.sms_reports.specs.declared.report.ReportKind.{ReportKind}
 use Rattle.sms_reports.specs.declared.report.ReportKind.TheVariants.{Receipt, Status, Unsent}
 use Rattle.sms_reports.specs.declared.report.ReportRow.{ReportRow}
-use Rattle.sms_reports.specs.Receipts.{Desk, Session, is_account, is_unanswered, send as send_one, send_all, send_in, send_to, session_for, session_key, waits, window}
+use Rattle.sms_reports.specs.Receipts.{Desk, Session, is_account, is_unanswered, send as send_one, send_all, send_in, send_to, session_for, waits, window}
 use Rattle.sms_reports.specs.Reports.{is_open_receipt, is_open_status, is_receipt, is_status, report_of, status_reference}
 use Rattle.sms_reports.specs.Waiting.{report_load, report_wait, reports_to}
 use Rattle.sms_reports.proofs.AllWaiting.{part_waits_at, report_waits_at}
@@ -39,11 +37,10 @@ use Rattle.sms_waiting.specs.Waiting.{if_due, is_due, next, preceding, precedes,
 use Rattle.sms_centre.specs.declared.rows.Rows.{Rows}
 use Rattle.sms_centre.specs.Draft.{Draft, Store, handsets_in, messages_in, parts_in, priorities_in, reports_in, rows_of, waiting_in}
 use Rattle.sms_centre.specs.CentreEvent.{follow}
-use Rattle.sms_centre.specs.Offering.{holder_of, is_made, offer, offer_all, offer_among, offer_load, offer_on, offer_to, read_of, unit_of}
-use Rattle.sms_centre.specs.Sessions.{send}
+use Rattle.sms_centre.specs.Offering.{holder_of, is_made, offer_all, offer_among, offer_load, offer_on, offer_to, read_of, unit_of}
 use Rattle.sms_centre.specs.SoundCore.{IsLine, IsReceiptRow, IsSentFor}
 use Rattle.sms_centre.specs.Standing.{Stands}
-use Rattle.sms_centre.proofs.SoundAir.{SoundAir, SoundDesk, line_sound, session_put, turn_sound}
+use Rattle.sms_centre.proofs.SoundAir.{AllBring, SoundAir, SoundDesk, carrying_bring, line_sound, session_put, turn_sound}
 use Rattle.sms_centre.proofs.SoundSides.{Sides}
 
 -- ---- what is next waits there
@@ -141,19 +138,26 @@ offered_line : (s : Store) (line : Line) (l : Load) (unit : List ℕ) → IsLine
     → IsLine (rows_of s) (turned (begun s.moment l.reference (holder_of l) unit line.link) line)
 offered_line s line l unit is sent =
     cond_both (is_busy line.link.links) (still line.link) (started (of_kind Data l.reference (holder_of l)) (begin_step s.moment unit line.link.links) line.link) (λ (t : Turn). IsLine (rows_of s) (turned t line))
-    (λ t. record { handset = is.handset; side = is.side; under_way = is.under_way })
-    (λ t. record { handset = is.handset; side = is.side; under_way = (refl, sent) })
+    (λ t. record { handset = is.handset; side = is.side; under_way = is.under_way; answered = is.answered })
+    (λ t. record { handset = is.handset; side = is.side; under_way = (refl, sent); answered = is.answered })
+
+offered_brings : (s : Store) (line : Line) (l : Load) (unit : List ℕ) → IsSentFor line.handset l.reference (holder_of l) (rows_of s)
+    → AllBring (rows_of s) line.handset (begun s.moment l.reference (holder_of l) unit line.link).out.frames
+offered_brings s line l unit sent =
+    cond_both (is_busy line.link.links) (still line.link) (started (of_kind Data l.reference (holder_of l)) (begin_step s.moment unit line.link.links) line.link) (λ (t : Turn). AllBring (rows_of s) line.handset t.out.frames)
+    (λ t f among. absurd among)
+    (λ t. carrying_bring (rows_of s) line.handset (Some (of_kind Data l.reference (holder_of l))) (begin_step s.moment unit line.link.links).out.frames sent)
 
 read_sound : (s : Store) (l : Load) (air : Air) → SoundAir (rows_of s) air → SoundAir (rows_of s) (read_of l s air)
-read_sound s l air k = cond_both (is_made l s) air _ (λ (a : Air). SoundAir (rows_of s) a) (λ t. k) (λ t. record { each = k.each; apart = k.apart })
+read_sound s l air k = cond_both (is_made l s) air _ (λ (a : Air). SoundAir (rows_of s) a) (λ t. k) (λ t. record { each = k.each; apart = k.apart; sent = k.sent })
 
 load_offered : (s : Store) (line : Line) (o : Option Load) (air : Air) → Stands s → SoundAir (rows_of s) air → IsLine (rows_of s) line → next s.moment (waiting_in line.handset s) ≡ o
     → SoundAir (rows_of s) (offer_load line (waiting_in line.handset s) o s air)
 load_offered s line None air k a is e = a
 load_offered s line (Some l) air k a is e =
     let unit : List ℕ = unit_of l (waits_beside s.moment l (waiting_in line.handset s)) s in
-    turn_sound (rows_of s) line (begun s.moment l.reference (holder_of l) unit line.link) (read_of l s air) (read_sound s l air a)
-    (offered_line s line l unit is (load_sent line.handset l s k (next_waits s.moment l (waiting_in line.handset s) e)))
+    let sent : IsSentFor line.handset l.reference (holder_of l) (rows_of s) = load_sent line.handset l s k (next_waits s.moment l (waiting_in line.handset s) e) in
+    turn_sound (rows_of s) line (begun s.moment l.reference (holder_of l) unit line.link) (read_of l s air) (read_sound s l air a) (offered_line s line l unit is sent) (offered_brings s line l unit sent)
 
 line_offered : (s : Store) (line : Line) (air : Air) → Stands s → SoundAir (rows_of s) air → IsLine (rows_of s) line → SoundAir (rows_of s) (offer_on line s air)
 line_offered s line air k a is =
@@ -223,6 +227,7 @@ module _ (rows : Rows) (moment : ℕ) where
 -- ---- both
 
 pub follow_sides : (d : Draft) → Stands d.store → ((r : ReportRow) → Among r (reports_in d.store) → report_of r.id (reports_in d.store) ≡ Some r) → Sides (rows_of d.store) d → Sides (rows_of d.store) (follow d)
-follow_sides d k stand s =
-    (all_offered d.store (handsets_in d.store) d.air k (λ h among. (k.held.givings.mentioned h among).number) s.0,
-    all_sent (rows_of d.store) d.store.moment (reports_in d.store) d.desk s.1 stand)
+follow_sides d k stand s = (
+  all_offered d.store (handsets_in d.store) d.air k (λ h among. (k.held.givings.mentioned h among).number) s.0,
+  all_sent (rows_of d.store) d.store.moment (reports_in d.store) d.desk s.1 stand,
+)

@@ -1,7 +1,7 @@
 -- The stages of an event leave lines and sessions sound over the rows that it began with; only the offers and receipts that follow
 -- rest on the rows that it leaves.
-use Rattle.std.proofs.Common.{◌≡◌, ℕ, List, [], ◌∷◌, Bool, true, false, Option, Some, None, Result, Ok, Err, refl, sym, ◌∙◌, ap, subst, inl, inr, ⊎_elim}
-use Rattle.std.specs.Prelude.{◌&&◌, if◌then◌else◌}
+use Rattle.std.proofs.Common.{◌≡◌, ℕ, List, [], ◌∷◌, Bool, Option, Some, None, Result, Ok, Err, refl, inl, inr}
+use Rattle.std.specs.Prelude.{if◌then◌else◌}
 use Rattle.std.proofs.lemmas.Bool.{cond_both}
 use Rattle.sms_base.specs.Among.{Among}
 use Rattle.sms_base.specs.declared.carried.Carried.{Carried}
@@ -11,15 +11,13 @@ use Rattle.sms_base.specs.declared.holder.Holder.{Holder}
 use Rattle.sms_control.specs.LinkStep.{fire_step, take_step}
 use Rattle.sms_link.specs.declared.ending.Ending.{Ending}
 use Rattle.sms_link.specs.declared.ending.Ending.TheVariants.{Lost}
-use Rattle.sms_link.specs.declared.ending.Side.TheVariants.{Centre}
 use Rattle.sms_link.specs.declared.ending.Upward.{Upward}
 use Rattle.sms_link.specs.declared.ending.Upward.TheVariants.{Opened, Ended}
 use Rattle.sms_link.specs.LinkTurn.{fired as fired_link, replied, taken}
-use Rattle.sms_relay.specs.declared.cause.RpCause.{RpCause}
 use Rattle.sms_relay.specs.declared.fault.RelayFault.{RelayFault}
 use Rattle.sms_relay.specs.declared.frame.Rp.{Rp}
 use Rattle.sms_relay.specs.declared.frame.Rp.TheVariants.{DataUnit, AckUnit, ErrorUnit, Smma}
-use Rattle.sms_relay.specs.RelayGrammar.{ack_down, error_down}
+use Rattle.sms_relay.specs.RelayGrammar.{ack_down}
 use Rattle.sms_relay.specs.RelayReading.{up_at}
 use Rattle.sms_table.specs.Table.{row_at}
 use Rattle.sms_table.proofs.Tables.{found_among}
@@ -38,10 +36,8 @@ use Rattle.sms_waiting.specs.declared.line.Line.{Line}
 use Rattle.sms_waiting.specs.Lines.{Air, emptied, filled, line_at, line_of, lowered, put_line, raised as raised_line, turn_line}
 use Rattle.sms_waiting.specs.References.{handset_at}
 use Rattle.sms_waiting.specs.SoundGivings.{IsNumber}
-use Rattle.sms_centre.specs.declared.event.CentreEvent.{CentreEvent}
-use Rattle.sms_centre.specs.declared.event.CentreEvent.TheVariants.{Submit, Query, Cancel, Bound, Unbound, DeliverAnswered, Frame, LinkUp, LinkDown, Tick}
 use Rattle.sms_centre.specs.declared.refusal.SubmitRefusal.{SubmitRefusal}
-use Rattle.sms_centre.specs.declared.refusal.SubmitRefusal.TheVariants.{Congested, Duplicate, ReferenceTaken}
+use Rattle.sms_centre.specs.declared.refusal.SubmitRefusal.TheVariants.{Duplicate, ReferenceTaken}
 use Rattle.sms_centre.specs.declared.rows.Rows.{Rows}
 use Rattle.sms_centre.specs.declared.setup.Account.{Account}
 use Rattle.sms_centre.specs.declared.submission.Submission.{Submission}
@@ -52,13 +48,13 @@ use Rattle.sms_centre.specs.Numbers.{id_in}
 use Rattle.sms_centre.specs.SmppIntake.{from_pdu, source_in, is_empty}
 use Rattle.sms_centre.specs.Submitting.{accept, is_reference_taken}
 use Rattle.sms_centre.specs.Transfers.{conclude, line_ended, verdict_on}
-use Rattle.sms_centre.specs.Receiving.{fault_cause, is_duplicate, memory_came, refuse, reference_octet, reject, reply, submit_accepted, submit_came as submission_from, unit_came}
+use Rattle.sms_centre.specs.Receiving.{is_duplicate, memory_came, refuse, reference_octet, reply, submit_accepted, submit_came as submission_from, unit_came}
 use Rattle.sms_centre.specs.Requests.{account_at, accepted, cancel_by, cancelled, message_numbered, own_message, queried, query_by, submission_came, submit_by}
 use Rattle.sms_centre.specs.Sessions.{answered_by, bind, bound_as, session_of, unbind, unbound_from}
-use Rattle.sms_centre.specs.CentreEvent.{aged, at_moment, fire_at, fire_line, fire_mentioned, fire_others, fired, frame_taken, is_mentioned, lost, lower, raise, raise_all, raised, timed_out, went_up}
+use Rattle.sms_centre.specs.CentreEvent.{aged, at_moment, fire_at, fire_mentioned, fire_others, fired, frame_taken, is_mentioned, lost, lower, raise, raise_all, raised, timed_out, went_up}
 use Rattle.sms_centre.specs.Draft.{Draft, Store, handsets_in, messages_in, on_air}
-use Rattle.sms_centre.specs.SoundCore.{IsLine}
-use Rattle.sms_centre.proofs.SoundAir.{SoundAir, SoundDesk, heard_line, line_found, line_sound, put_sound, replied_line, session_answered, session_put, session_removed, turn_sound}
+use Rattle.sms_centre.specs.SoundCore.{IsAnswerKind, IsLine}
+use Rattle.sms_centre.proofs.SoundAir.{SoundAir, SoundDesk, heard_brings, heard_line, line_found, line_sound, put_sound, replied_brings, replied_line, session_answered, session_put, session_removed, turn_sound}
 
 -- lines and sessions are sound over the rows
 abbrev pub Sides : Rows → Draft → Type 0
@@ -70,7 +66,7 @@ module _ (rows : Rows) where
   line_ended_sides : (v : Verdict) (h : List ℕ) (air : Air) → SoundAir rows air → IsNumber h → SoundAir rows (line_ended v h air)
   line_ended_sides Settled h air s is = s
   line_ended_sides HandsetFull h air s is =
-      let l = line_sound rows h air s is in put_sound rows (filled (line_of h air.lines)) air s (record { handset = l.handset; side = l.side; under_way = l.under_way })
+      let l = line_sound rows h air s is in put_sound rows (filled (line_of h air.lines)) air s (record { handset = l.handset; side = l.side; under_way = l.under_way; answered = l.answered })
   line_ended_sides Again h air s is = s
   line_ended_sides Refused h air s is = s
   line_ended_sides Late h air s is = s
@@ -80,37 +76,40 @@ module _ (rows : Rows) where
 
   -- ---- units that open a transaction
 
-  reply_sides : (h : List ℕ) (kind : Kind) (n : ℕ) (tag : Holder) (unit : List ℕ) (d : Draft) → IsNumber h → Sides rows d → Sides rows (reply h kind n tag unit d)
-  reply_sides h kind n tag unit d is k =
-      let line : Line = line_of h d.air.lines in
-      (turn_sound rows line (replied d.store.moment kind n tag unit line.link) d.air k.0 (replied_line rows d.store.moment kind n tag unit line (line_sound rows h d.air k.0 is)), k.1)
+  reply_sides : (h : List ℕ) (kind : Kind) (n : ℕ) (tag : Holder) (unit : List ℕ) (d : Draft) → IsAnswerKind kind → IsNumber h → Sides rows d → Sides rows (reply h kind n tag unit d)
+  reply_sides h kind n tag unit d answer is k =
+      let line : Line = line_of h d.air.lines in (
+        turn_sound rows line (replied d.store.moment kind n tag unit line.link) d.air k.0 (replied_line rows d.store.moment kind n tag unit line answer (line_sound rows h d.air k.0 is))
+            (replied_brings rows d.store.moment kind n tag unit line answer),
+        k.1,
+      )
 
   accepted_sides : (h : List ℕ) (n : ℕ) (tag : Holder) (o : Option Store) (d : Draft) → IsNumber h → Sides rows d → Sides rows (submit_accepted h n tag o d)
-  accepted_sides h n tag None d is k = reply_sides h Error n tag _ d is k
-  accepted_sides h n tag (Some s) d is k = reply_sides h Ack n tag _ (record d { store = s }) is k
+  accepted_sides h n tag None d is k = reply_sides h Error n tag _ d tt is k
+  accepted_sides h n tag (Some s) d is k = reply_sides h Ack n tag _ (record d { store = s }) tt is k
 
   submission_sides : (h : List ℕ) (n : ℕ) (tag : Holder) (u : Result Submission SubmitRefusal) (d : Draft) → IsNumber h → Sides rows d → Sides rows (submission_from h n tag u d)
-  submission_sides h n tag (Err r) d is k = reply_sides h Error n tag _ d is k
+  submission_sides h n tag (Err r) d is k = reply_sides h Error n tag _ d tt is k
   submission_sides h n tag (Ok u) d is k =
       cond_both (is_duplicate u d.store) (refuse h n tag Duplicate d)
       (if is_reference_taken u d.store then refuse h n tag ReferenceTaken d else submit_accepted h n tag (accept u d.store) d) (λ (e : Draft). Sides rows e)
-      (λ t. reply_sides h Error n tag _ d is k)
+      (λ t. reply_sides h Error n tag _ d tt is k)
       (λ t. cond_both (is_reference_taken u d.store) (refuse h n tag ReferenceTaken d) (submit_accepted h n tag (accept u d.store) d) (λ (e : Draft). Sides rows e)
-      (λ t. reply_sides h Error n tag _ d is k) (λ t. accepted_sides h n tag (accept u d.store) d is k))
+      (λ t. reply_sides h Error n tag _ d tt is k) (λ t. accepted_sides h n tag (accept u d.store) d is k))
 
   memory_sides : (h : List ℕ) (n : ℕ) (tag : Holder) (d : Draft) → IsNumber h → Sides rows d → Sides rows (memory_came h n tag d)
   memory_sides h n tag d is k =
       let e : Draft = reply h Ack n tag (ack_down n None) d in
-      let s = reply_sides h Ack n tag (ack_down n None) d is k in
+      let s = reply_sides h Ack n tag (ack_down n None) d tt is k in
       let l = line_sound rows h e.air s.0 is in
-      (put_sound rows (emptied (line_of h e.air.lines)) e.air s.0 (record { handset = l.handset; side = l.side; under_way = l.under_way }), s.1)
+      (put_sound rows (emptied (line_of h e.air.lines)) e.air s.0 (record { handset = l.handset; side = l.side; under_way = l.under_way; answered = l.answered }), s.1)
 
   unit_sides : (h : List ℕ) (tag : Holder) (unit : List ℕ) (u : Result Rp RelayFault) (d : Draft) → IsNumber h → Sides rows d → Sides rows (unit_came h tag unit u d)
   unit_sides h tag unit (Ok (DataUnit r z t)) d is k = submission_sides h r tag (from_tpdu h d.store.moment (tpdu_up_at InData t)) d is k
   unit_sides h tag unit (Ok (AckUnit r t)) d is k = k
   unit_sides h tag unit (Ok (ErrorUnit r z t)) d is k = k
   unit_sides h tag unit (Ok (Smma r)) d is k = memory_sides h r tag d is k
-  unit_sides h tag unit (Err f) d is k = reply_sides h Error (reference_octet unit) tag _ d is k
+  unit_sides h tag unit (Err f) d is k = reply_sides h Error (reference_octet unit) tag _ d tt is k
 
   -- ---- links
 
@@ -122,12 +121,12 @@ module _ (rows : Rows) where
   pub frame_sides : (octets : List ℕ) (tag : Holder) (l : Line) (d : Draft) → IsLine rows l → Sides rows d → Sides rows (frame_taken octets tag l d)
   frame_sides octets tag l d is k =
       up_sides l.handset tag (taken octets l.link).out.up (on_air (turn_line l (taken octets l.link) d.air) d) is.handset
-      (turn_sound rows l (taken octets l.link) d.air k.0 (heard_line rows (take_step octets l.link.links) l is), k.1)
+      (turn_sound rows l (taken octets l.link) d.air k.0 (heard_line rows (take_step octets l.link.links) l is) (heard_brings rows (take_step octets l.link.links) l is), k.1)
 
   pub raise_sides : (h : List ℕ) (d : Draft) → IsNumber h → Sides rows d → Sides rows (raise h d)
   raise_sides h d is k =
       let l = line_sound rows h d.air k.0 is in
-      (put_sound rows (raised_line (line_of h d.air.lines)) d.air k.0 (record { handset = l.handset; side = l.side; under_way = l.under_way }), k.1)
+      (put_sound rows (raised_line (line_of h d.air.lines)) d.air k.0 (record { handset = l.handset; side = l.side; under_way = l.under_way; answered = l.answered }), k.1)
 
   lost_sides : (h : List ℕ) (o : Option Carried) (d : Draft) → IsNumber h → Sides rows d → Sides rows (lost h o d)
   lost_sides h None d is k = k
@@ -138,7 +137,7 @@ module _ (rows : Rows) where
       let l : Line = line_of h d.air.lines in
       let s = line_sound rows h d.air k.0 is in
       lost_sides l.handset l.link.under_way (on_air (put_line (lowered l) d.air) d) s.handset
-      (put_sound rows (lowered l) d.air k.0 (record { handset = s.handset; side = refl; under_way = tt }), k.1)
+      (put_sound rows (lowered l) d.air k.0 (record { handset = s.handset; side = refl; under_way = tt; answered = tt }), k.1)
 
   -- ---- a tick
 
@@ -152,7 +151,7 @@ module _ (rows : Rows) where
   fire_at_sides number (Some l) d e k =
       let is : IsLine rows l = k.0.each l (line_found number l d.air.lines e).0 in
       timed_out_sides l.handset (fired_link d.store.moment l.link).out.up (on_air (turn_line l (fired_link d.store.moment l.link) d.air) d) is.handset
-      (turn_sound rows l (fired_link d.store.moment l.link) d.air k.0 (heard_line rows (fire_step d.store.moment l.link.links) l is), k.1)
+      (turn_sound rows l (fired_link d.store.moment l.link) d.air k.0 (heard_line rows (fire_step d.store.moment l.link.links) l is) (heard_brings rows (fire_step d.store.moment l.link.links) l is), k.1)
 
   fire_mentioned_sides : (hs : List HandsetRow) (d : Draft) → Sides rows d → Sides rows (fire_mentioned hs d)
   fire_mentioned_sides [] d k = k

@@ -1,48 +1,32 @@
 -- Rows that a centre can stand on stay so through every stage of an event.
-use Rattle.std.proofs.Common.{◌≡◌, ℕ, ◌+◌, ◌<◌, ◌≤◌, List, [], ◌∷◌, length, Bool, true, false, Option, Some, None, refl, sym, ◌∙◌, ap, subst, inl, inr, ⊎_elim, arith}
-use Rattle.std.specs.Prelude.{nat_le}
+use Rattle.std.proofs.Common.{◌≡◌, ℕ, ◌≤◌, true, false, Some, sym, ◌∙◌, ap, subst, ⊎_elim, arith}
 use Rattle.std.proofs.lemmas.Bool.{cases_eq, cond_both}
 use Rattle.sms_base.specs.Among.{Among}
 use Rattle.sms_base.specs.declared.final_state.FinalState.{FinalState}
 use Rattle.sms_base.specs.declared.final_state.FinalState.TheVariants.{Delivered}
 use Rattle.sms_base.specs.TimeStamp.{IsMoment}
-use Rattle.sms_table.specs.Table.{put, row_at}
-use Rattle.sms_table.proofs.Tables.{among_put, found_among, found_key, row_at_put}
+use Rattle.sms_table.specs.Table.{row_at}
+use Rattle.sms_table.proofs.Tables.{found_among, found_key}
 use Rattle.sms_messages.specs.declared.message.MessageRow.{MessageRow}
 use Rattle.sms_messages.specs.declared.part.PartRow.{PartRow}
-use Rattle.sms_messages.specs.declared.priority.PriorityRow.{PriorityRow}
-use Rattle.sms_messages.specs.Messages.{all_done, is_pending, message_at, message_key, next_id, part_key, part_reaching}
-use Rattle.sms_messages.specs.SoundMessages.{IsPart}
-use Rattle.sms_messages.specs.SplitReferences.{is_delivered, next_split}
+use Rattle.sms_messages.specs.Messages.{all_done, is_pending, message_at, message_key, part_key, part_reaching}
+use Rattle.sms_messages.specs.SplitReferences.{is_delivered}
 use Rattle.sms_reports.specs.declared.report.ReportRow.{ReportRow}
 use Rattle.sms_reports.specs.Reports.{report_key, report_of, report_reaching}
-use Rattle.sms_waiting.specs.declared.handset.HandsetRow.{HandsetRow}
 use Rattle.sms_waiting.specs.declared.progress.Progress.{Progress}
-use Rattle.sms_waiting.specs.References.{given_row, handset_of}
 use Rattle.sms_waiting.specs.Revisions.{amended}
 use Rattle.sms_waiting.specs.Trying.{finished}
-use Rattle.sms_waiting.proofs.WaitingSound.{next_is_free}
-use Rattle.sms_centre.specs.declared.submission.SinglePart.{SinglePart}
-use Rattle.sms_centre.specs.declared.submission.Submission.{Submission}
-use Rattle.sms_centre.specs.Bodies.{deliver_octets, deliver_of}
-use Rattle.sms_centre.specs.Draft.{Store, handsets_in, messages_in, parts_in, priorities_in, references_in, reports_in, waiting_in, with_given, with_part, with_part_at, with_report_at}
+use Rattle.sms_centre.specs.Draft.{Store, messages_in, parts_in, priorities_in, reports_in, with_part_at, with_report_at}
 use Rattle.sms_centre.specs.Ends.{end}
-use Rattle.sms_centre.specs.Standing.{IsBody, IsSubmission, Stands}
-use Rattle.sms_centre.specs.Submitting.{accept, accept_as, accept_split, accept_under, bodies_under, enter, give_part, give_parts, is_long, message_of, part_given, reference_for}
+use Rattle.sms_centre.specs.Standing.{Stands}
 use Rattle.sms_centre.specs.Transfers.{complete}
-use Rattle.sms_centre.proofs.DoneMarks.{not_all_done}
-use Rattle.sms_centre.proofs.MessagesEntered.{IsFirst, first_rows, part_rows}
 use Rattle.sms_centre.proofs.MessagesKept.{AreRows, IsTold, finished_rows, found_message, pending_undelivered, put_off_rows, rows_are, rows_sound}
-use Rattle.sms_centre.proofs.NextNumbers.{among_amended, below_next_id, some_next_id}
-use Rattle.sms_centre.proofs.ReportsKept.{entered_reports, far_reports}
-use Rattle.sms_centre.proofs.SoundEnds.{CanEnd, end_sound, given_times}
+use Rattle.sms_centre.proofs.NextNumbers.{among_amended}
+use Rattle.sms_centre.proofs.ReportsKept.{far_reports}
+use Rattle.sms_centre.proofs.SoundEnds.{end_sound}
 use Rattle.sms_centre.proofs.SoundStores.{IsPast, SoundStore, Times}
-use Rattle.sms_centre.proofs.SplitsKept.{entered_apart, next_is_apart}
-use Rattle.sms_centre.proofs.Stages.{IfThere}
-use Rattle.sms_centre.proofs.StandsEntered.{Entered, enter_stands, part_stands, then_there}
 use Rattle.sms_centre.proofs.StandsKept.{later_stands, part_far_stands, report_far_stands}
-use Rattle.sms_centre.proofs.Steady.{IsSteady, message_own}
-use Rattle.sms_centre.proofs.TpdusRead.{part_reads}
+use Rattle.sms_centre.proofs.Steady.{message_own}
 
 -- ---- how far parts and reports are
 

@@ -1,45 +1,24 @@
 -- Rows that a centre can stand on, in the middle of an event: from sound rows, and to sound rows. And how a message ends there.
-use Rattle.std.proofs.Common.{◌≡◌, ℕ, ◌<◌, ◌≤◌, List, [], ◌∷◌, Bool, true, false, Option, Some, None, refl, sym, ◌∙◌, ap, subst, inl, inr, ⊎_elim, arith}
+use Rattle.std.proofs.Common.{◌≡◌, ℕ, ◌≤◌, List, [], ◌∷◌, Option, Some, refl, sym, ◌∙◌, ap, inl, inr, ⊎_elim, arith}
 use Rattle.std.specs.Prelude.{is_none, max}
-use Rattle.std.proofs.lemmas.Bool.{cond_both}
 use Rattle.sms_base.specs.Among.{Among}
 use Rattle.sms_base.specs.declared.final_state.FinalState.{FinalState}
 use Rattle.sms_base.specs.TimeStamp.{IsMoment}
-use Rattle.sms_table.specs.Table.{Rises, put, row_at}
-use Rattle.sms_table.proofs.Tables.{among_found, among_put, found_among, put_among}
+use Rattle.sms_table.specs.Table.{row_at}
+use Rattle.sms_table.proofs.Tables.{among_found}
 use Rattle.sms_messages.specs.declared.message.MessageRow.{MessageRow}
-use Rattle.sms_messages.specs.declared.message.Originator.{Originator}
-use Rattle.sms_messages.specs.declared.message.Originator.TheVariants.{Application, Handset}
-use Rattle.sms_messages.specs.declared.part.PartRow.{PartRow}
-use Rattle.sms_messages.specs.Messages.{all_done, ended, is_pending, message_at, message_key}
 use Rattle.sms_messages.specs.OpenParts.{Numbered}
 use Rattle.sms_messages.specs.SoundMessages.{SoundMessages}
-use Rattle.sms_messages.specs.SplitReferences.{is_delivered}
-use Rattle.sms_reports.specs.declared.report.ReportKind.{ReportKind}
-use Rattle.sms_reports.specs.declared.report.ReportKind.TheVariants.{Receipt, Status, Unsent}
 use Rattle.sms_reports.specs.declared.report.ReportRow.{ReportRow}
-use Rattle.sms_reports.specs.Reports.{is_status, next_place, report_key}
-use Rattle.sms_reports.specs.SoundReports.{FitsOriginator, SoundReports}
+use Rattle.sms_reports.specs.Reports.{report_key}
+use Rattle.sms_reports.specs.SoundReports.{SoundReports}
 use Rattle.sms_reports.specs.Waiting.{Alone}
-use Rattle.sms_waiting.specs.declared.handset.HandsetRow.{HandsetRow}
 use Rattle.sms_waiting.specs.declared.reference.ReferenceRow.{ReferenceRow}
-use Rattle.sms_waiting.specs.Keys.{reference_key}
-use Rattle.sms_waiting.specs.References.{given_row, handset_of}
-use Rattle.sms_waiting.proofs.WaitingSound.{next_is_free}
 use Rattle.sms_centre.specs.declared.rows.Rows.{Rows}
 use Rattle.sms_centre.specs.CentreEvent.{after_messages, after_references, after_reports, moment_of}
-use Rattle.sms_centre.specs.Draft.{Store, handsets_in, messages_in, parts_in, priorities_in, references_in, reports_in, rows_of, store_of, waiting_in, with_given, with_message}
-use Rattle.sms_centre.specs.Ends.{end, is_wished, make_report, report_to, status_given}
-use Rattle.sms_centre.specs.ReceiptTexts.{status_octets, status_report_of}
-use Rattle.sms_centre.specs.SoundRows.{AreSplitApart, CanBeTold, IsSetup, IsSound}
+use Rattle.sms_centre.specs.Draft.{Store, messages_in, parts_in, priorities_in, references_in, reports_in, rows_of, store_of}
+use Rattle.sms_centre.specs.SoundRows.{AreSplitApart, IsSetup, IsSound}
 use Rattle.sms_centre.specs.Standing.{Stands}
-use Rattle.sms_centre.specs.Submitting.{reference_for}
-use Rattle.sms_centre.proofs.MessagesKept.{AreRows, IsTold, ended_rows, rows_sound}
-use Rattle.sms_centre.proofs.NextNumbers.{some_next_place}
-use Rattle.sms_centre.proofs.ReportsKept.{end_reports, new_reports}
-use Rattle.sms_centre.proofs.SplitsKept.{end_apart}
-use Rattle.sms_centre.proofs.StandsKept.{CanReport, can_report, next_is_new, quiet_stands, status_stands}
-use Rattle.sms_centre.proofs.TpdusRead.{status_reads}
 
 -- ---- moments of rows are past, and of the years that time stamps write
 
@@ -67,31 +46,37 @@ upto_messages : (n moment : ℕ) (ms : List MessageRow) → after_messages n ms 
 upto_messages n moment [] h = (h, λ m among. absurd among)
 upto_messages n moment (x ∷ xs) h =
     let rest = upto_messages (max n x.submitted) moment xs h in
-    let front = rest.0 in
-    (omega (arith, front), λ m among. ⊎_elim
-    (λ (e : m ≡ x). let same : m.submitted ≡ x.submitted = ap (λ (y : MessageRow). y.submitted) e in omega (arith, front, same))
-    (λ (a : Among m xs). rest.1 m a)
-    among)
+    let front = rest.0 in (
+      omega (arith, front),
+      λ m among. ⊎_elim
+          (λ (e : m ≡ x). let same : m.submitted ≡ x.submitted = ap (λ (y : MessageRow). y.submitted) e in omega (arith, front, same))
+          (λ (a : Among m xs). rest.1 m a)
+          among,
+    )
 
 upto_references : (n moment : ℕ) (rs : List ReferenceRow) → after_references n rs ≤ moment → (n ≤ moment) × ((r : ReferenceRow) → Among r rs → r.last ≤ moment)
 upto_references n moment [] h = (h, λ r among. absurd among)
 upto_references n moment (x ∷ xs) h =
     let rest = upto_references (max n x.last) moment xs h in
-    let front = rest.0 in
-    (omega (arith, front), λ r among. ⊎_elim
-    (λ (e : r ≡ x). let same : r.last ≡ x.last = ap (λ (y : ReferenceRow). y.last) e in omega (arith, front, same))
-    (λ (a : Among r xs). rest.1 r a)
-    among)
+    let front = rest.0 in (
+      omega (arith, front),
+      λ r among. ⊎_elim
+          (λ (e : r ≡ x). let same : r.last ≡ x.last = ap (λ (y : ReferenceRow). y.last) e in omega (arith, front, same))
+          (λ (a : Among r xs). rest.1 r a)
+          among,
+    )
 
 upto_reports : (n moment : ℕ) (rs : List ReportRow) → after_reports n rs ≤ moment → (n ≤ moment) × ((r : ReportRow) → Among r rs → r.made ≤ moment)
 upto_reports n moment [] h = (h, λ r among. absurd among)
 upto_reports n moment (x ∷ xs) h =
     let rest = upto_reports (max n x.made) moment xs h in
-    let front = rest.0 in
-    (omega (arith, front), λ r among. ⊎_elim
-    (λ (e : r ≡ x). let same : r.made ≡ x.made = ap (λ (y : ReportRow). y.made) e in omega (arith, front, same))
-    (λ (a : Among r xs). rest.1 r a)
-    among)
+    let front = rest.0 in (
+      omega (arith, front),
+      λ r among. ⊎_elim
+          (λ (e : r ≡ x). let same : r.made ≡ x.made = ap (λ (y : ReportRow). y.made) e in omega (arith, front, same))
+          (λ (a : Among r xs). rest.1 r a)
+          among,
+    )
 
 -- no message has two reports, where each has its own place
 pub alone_from : (ms : List MessageRow) (rs : List ReportRow) → SoundReports ms rs → Alone rs

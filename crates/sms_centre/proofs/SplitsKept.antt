@@ -1,6 +1,6 @@
 -- Messages that were split apart stay so where one ends, and where one comes under the reference that comes next.
-use Rattle.std.proofs.Common.{◌≡◌, ℕ, zero, suc, ◌+◌, ◌%◌, ◌<◌, List, [], ◌∷◌, ◌++◌, Bool, true, false, Option, Some, None, refl, sym, ◌∙◌, ap, subst, ⊎_elim, eq-eqb}
-use Rattle.std.specs.Prelude.{not, ◌==◌, ◌&&◌, ◌||◌, if◌then◌else◌}
+use Rattle.std.proofs.Common.{◌≡◌, ℕ, zero, suc, ◌+◌, ◌%◌, List, [], ◌∷◌, ◌++◌, Bool, true, false, Option, Some, None, refl, sym, ◌∙◌, ap, subst, ⊎_elim, eq-eqb}
+use Rattle.std.specs.Prelude.{not, ◌==◌, ◌&&◌, ◌||◌}
 use Rattle.std.specs.Str.{bytes_eq}
 use Rattle.std.proofs.lemmas.Bool.{and_from, cases_Bool, cond-true, cond_both}
 use Rattle.std.proofs.lemmas.Slice.Eq.{bytes_eq-Decides}
@@ -13,7 +13,7 @@ use Rattle.sms_table.proofs.Tables.{among_put, found_among}
 use Rattle.sms_messages.specs.declared.message.MessageRow.{MessageRow}
 use Rattle.sms_messages.specs.declared.part.PartRow.{PartRow}
 use Rattle.sms_messages.specs.Messages.{ended, is_pending, message_at, message_key}
-use Rattle.sms_messages.specs.SplitReferences.{first_free_split, held_splits, is_among, is_between, is_delivered, is_same_address, last_split, next_among, next_split, optional, own_splits, start_after, turns_for}
+use Rattle.sms_messages.specs.SplitReferences.{first_free_split, held_splits, is_among, is_between, is_delivered, is_same_address, last_split, next_split, optional, own_splits, start_after, turns_for}
 use Rattle.sms_centre.specs.SoundRows.{AreSplitApart}
 use Rattle.sms_centre.proofs.MessagesKept.{pending_undelivered}
 

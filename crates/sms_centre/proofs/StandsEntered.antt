@@ -1,49 +1,30 @@
 -- What each stage rests on, an accepted submission leaves so.
-use Rattle.std.proofs.Common.{◌≡◌, ℕ, ◌+◌, ◌<◌, ◌≤◌, List, [], ◌∷◌, length, Bool, true, false, Option, Some, None, refl, sym, ◌∙◌, ap, subst, inl, inr, ⊎_elim, arith}
-use Rattle.std.proofs.lemmas.Bool.{cases_eq, cond_both}
-use Rattle.std.specs.Prelude.{nat_le, not, ◌&&◌}
+use Rattle.std.proofs.Common.{◌≡◌, ℕ, ◌+◌, ◌<◌, ◌≤◌, List, [], ◌∷◌, length, true, false, Option, Some, None, refl, sym, ◌∙◌, subst, ⊎_elim, arith}
+use Rattle.std.proofs.lemmas.Bool.{cond_both}
+use Rattle.std.specs.Prelude.{nat_le}
 use Rattle.std.specs.Option.{option_and_then}
 use Rattle.sms_base.specs.Among.{Among}
-use Rattle.sms_base.specs.declared.final_state.FinalState.{FinalState}
-use Rattle.sms_base.specs.declared.final_state.FinalState.TheVariants.{Delivered}
-use Rattle.sms_table.specs.Keys.{pair_key}
-use Rattle.sms_table.specs.Table.{Rises, put, row_at}
-use Rattle.sms_table.proofs.Tables.{among_found, among_put, found_among, found_key, rises_put, row_at_put, row_at_put_other}
+use Rattle.sms_table.proofs.Tables.{among_put, found_among, found_key, rises_put, row_at_put, row_at_put_other}
 use Rattle.sms_messages.specs.declared.message.MessageRow.{MessageRow}
-use Rattle.sms_messages.specs.declared.message.Originator.{Originator}
-use Rattle.sms_messages.specs.declared.message.Originator.TheVariants.{Application, Handset}
 use Rattle.sms_messages.specs.declared.part.PartRow.{PartRow}
 use Rattle.sms_messages.specs.declared.priority.PriorityRow.{PriorityRow}
-use Rattle.sms_messages.specs.Messages.{all_done, ended, id_after, is_pending, message_at, message_key, next_id, part_at, part_key, part_reaching}
+use Rattle.sms_messages.specs.Messages.{is_pending, message_at, message_key, next_id, part_key}
 use Rattle.sms_messages.specs.SplitReferences.{next_split}
-use Rattle.sms_reports.specs.declared.report.ReportKind.{ReportKind}
-use Rattle.sms_reports.specs.declared.report.ReportKind.TheVariants.{Receipt, Status, Unsent}
 use Rattle.sms_reports.specs.declared.report.ReportRow.{ReportRow}
-use Rattle.sms_reports.specs.Reports.{is_status, next_place, put_report, report_key, report_of, report_reaching}
-use Rattle.sms_reports.specs.Waiting.{IsNew}
-use Rattle.sms_reports.proofs.AllWaiting.{report_found}
 use Rattle.sms_waiting.specs.declared.handset.HandsetRow.{HandsetRow}
-use Rattle.sms_waiting.specs.declared.progress.Progress.{Progress}
 use Rattle.sms_waiting.specs.References.{handset_of}
-use Rattle.sms_waiting.specs.Revisions.{amended}
 use Rattle.sms_waiting.specs.SoundGivings.{IsNumber}
-use Rattle.sms_waiting.specs.Trying.{finished}
 use Rattle.sms_centre.specs.declared.submission.SinglePart.{SinglePart}
 use Rattle.sms_centre.specs.declared.submission.Submission.{Submission}
 use Rattle.sms_centre.specs.Bodies.{deliver_octets}
-use Rattle.sms_centre.specs.Draft.{Store, handsets_in, messages_in, parts_in, reports_in, with_given, with_message, with_part, with_part_at, with_priority, with_report_at, with_reports}
-use Rattle.sms_centre.specs.Ends.{end, is_wished, make_report, report, report_to, status_given}
-use Rattle.sms_centre.specs.Held.{SoundHeld}
-use Rattle.sms_centre.specs.ReceiptTexts.{status_octets}
+use Rattle.sms_centre.specs.Draft.{Store, handsets_in, messages_in, parts_in, reports_in}
 use Rattle.sms_centre.specs.SoundRows.{CanBeTold}
 use Rattle.sms_centre.specs.Standing.{IsSubmission, Stands}
 use Rattle.sms_centre.specs.Submitting.{accept, accept_as, accept_split, accept_under, bodies_under, enter, give_part, give_parts, is_long, message_of, part_given, reference_for}
-use Rattle.sms_centre.specs.Transfers.{complete}
-use Rattle.sms_centre.proofs.HeldGivings.{part_given_held, report_made_held, status_given_held}
-use Rattle.sms_centre.proofs.HeldStages.{ended_held, entered_held, part_far_held, report_far_held}
+use Rattle.sms_centre.proofs.HeldGivings.{part_given_held}
+use Rattle.sms_centre.proofs.HeldStages.{entered_held}
 use Rattle.sms_centre.proofs.Stages.{IfThere}
-use Rattle.sms_centre.proofs.NextNumbers.{among_amended, below_next_id, below_next_place, no_part, no_report}
-use Rattle.sms_centre.proofs.Steady.{IsSteady, message_own}
+use Rattle.sms_centre.proofs.NextNumbers.{below_next_id, no_part, no_report}
 
 -- ---- a message is entered
 
@@ -101,8 +82,7 @@ part_stands m u n b (Some r) s k pending some small next =
       tpdu = deliver_octets s.moment u b;
       key = b.key;
       progress = record { is_done = false; attempts = 0; due = u.due };
-    } in
-    (
+    } in (
       record {
         held = part_given_held s m p k.0.held k.1 pending refl some small next;
         message_keys = k.0.message_keys;

@@ -1,17 +1,16 @@
 -- What the stages of events keep of a store, where each stage may assume what it is reached with: a fact that is steady is kept
 -- by every event. Here are the stages of stores alone.
-use Rattle.std.proofs.Common.{◌≡◌, ℕ, ◌+◌, ◌<◌, ◌≤◌, List, [], ◌∷◌, Bool, true, false, Option, Some, None, refl, sym, ◌∙◌, ap, subst, inl, inr, ⊎_elim}
+use Rattle.std.proofs.Common.{◌≡◌, ℕ, ◌≤◌, List, [], ◌∷◌, Bool, true, false, Option, Some, None, refl, sym, subst}
 use Rattle.std.proofs.lemmas.Bool.{and_parts, cond_both}
-use Rattle.std.specs.Prelude.{nat_le, not, ◌==◌, ◌&&◌, if◌then◌else◌}
-use Rattle.sms_base.specs.Among.{Among}
+use Rattle.std.specs.Prelude.{not, ◌==◌}
 use Rattle.sms_base.specs.declared.final_state.FinalState.{FinalState}
-use Rattle.sms_base.specs.declared.final_state.FinalState.TheVariants.{Deleted, Expired, Undeliverable}
+use Rattle.sms_base.specs.declared.final_state.FinalState.TheVariants.{Undeliverable}
 use Rattle.sms_base.specs.declared.holder.Holder.{Holder}
 use Rattle.sms_base.specs.declared.holder.Holder.TheVariants.{Part, Report, Entry, Memory}
 use Rattle.sms_base.specs.TimeStamp.{IsMoment}
 use Rattle.sms_table.specs.Keys.{pair_key}
-use Rattle.sms_table.specs.Table.{AllAbove, Rises, row_at}
-use Rattle.sms_table.proofs.Tables.{among_found, found_key}
+use Rattle.sms_table.specs.Table.{row_at}
+use Rattle.sms_table.proofs.Tables.{found_key}
 use Rattle.sms_link.specs.declared.ending.Ending.{Ending}
 use Rattle.sms_messages.specs.declared.message.MessageRow.{MessageRow}
 use Rattle.sms_messages.specs.declared.part.PartRow.{PartRow}
@@ -32,7 +31,7 @@ use Rattle.sms_centre.specs.Ends.{end}
 use Rattle.sms_centre.specs.Receiving.{all_due, due_now, load_due, part_due, report_due}
 use Rattle.sms_centre.specs.Standing.{IsSubmission, Stands}
 use Rattle.sms_centre.specs.Submitting.{accept}
-use Rattle.sms_centre.specs.Transfers.{complete, holder_ended, is_open, is_open_part_at, is_open_status_at, part_ended, part_ended_at, part_ended_of, report_ended, report_ended_at, verdict_of, verdict_on}
+use Rattle.sms_centre.specs.Transfers.{complete, holder_ended, is_open, is_open_part_at, part_ended, part_ended_at, part_ended_of, report_ended, report_ended_at, verdict_of, verdict_on}
 use Rattle.sms_centre.proofs.Stages.{IfThere}
 
 -- a fact of stores that each stage keeps, with what the stage is reached with

@@ -1,9 +1,7 @@
 -- What is steady is kept by every event, where what it submits passed all checks.
-use Rattle.std.proofs.Common.{◌≡◌, ℕ, ◌≤◌, List, [], ◌∷◌, Bool, true, false, Option, Some, None, Result, Ok, Err, refl, sym, ◌∙◌, ap, subst, arith}
+use Rattle.std.proofs.Common.{◌≡◌, ℕ, List, [], ◌∷◌, Bool, Option, Some, None, Result, Ok, Err, refl, arith}
 use Rattle.std.proofs.lemmas.Bool.{cond_both}
 use Rattle.std.specs.Prelude.{max, ◌&&◌, if◌then◌else◌}
-use Rattle.std.specs.Str.{bytes_eq}
-use Rattle.std.proofs.lemmas.Slice.Eq.{bytes_eq-Decides}
 use Rattle.sms_base.specs.declared.carried.Carried.{Carried}
 use Rattle.sms_base.specs.declared.final_state.FinalState.TheVariants.{Deleted}
 use Rattle.sms_base.specs.declared.holder.Holder.{Holder}
@@ -31,7 +29,7 @@ use Rattle.sms_messages.specs.SplitReferences.{is_among}
 use Rattle.sms_reports.specs.Receipts.{Session, is_account, session_key}
 use Rattle.sms_waiting.specs.declared.handset.HandsetRow.{HandsetRow}
 use Rattle.sms_waiting.specs.declared.line.Line.{Line}
-use Rattle.sms_waiting.specs.Lines.{line_at, line_of, lowered, or_new_line, put_line, turn_line}
+use Rattle.sms_waiting.specs.Lines.{line_at, line_of, lowered, put_line, turn_line}
 use Rattle.sms_waiting.specs.References.{handset_at}
 use Rattle.sms_centre.specs.declared.event.CentreEvent.{CentreEvent}
 use Rattle.sms_centre.specs.declared.event.CentreEvent.TheVariants.{Submit, Query, Cancel, Bound, Unbound, DeliverAnswered, Frame, LinkUp, LinkDown, Tick}

@@ -1,12 +1,12 @@
 -- What is steady is kept where messages expire, old status reports are dropped and receipts are put off: each is looked at as it
 -- stood when the walk began, and no other stage of the walk has touched it.
-use Rattle.std.proofs.Common.{◌≡◌, ℕ, ◌<◌, List, [], ◌∷◌, Bool, true, false, Option, Some, None, refl, sym, ◌∙◌, ap, subst, inl, inr, ⊎_elim, arith}
+use Rattle.std.proofs.Common.{◌≡◌, ℕ, ◌<◌, List, [], ◌∷◌, Bool, false, Option, Some, None, refl, sym, ◌∙◌, ap, subst, inl, inr, ⊎_elim, arith}
 use Rattle.std.proofs.lemmas.Bool.{and_parts, cases_eq, cond_both}
 use Rattle.std.specs.Prelude.{nat_le, ◌&&◌, if◌then◌else◌}
 use Rattle.sms_base.specs.Among.{Among}
 use Rattle.sms_base.specs.declared.final_state.FinalState.{FinalState}
 use Rattle.sms_base.specs.declared.final_state.FinalState.TheVariants.{Expired}
-use Rattle.sms_table.specs.Table.{AllAbove, Rises, put, row_at}
+use Rattle.sms_table.specs.Table.{AllAbove, Rises, put}
 use Rattle.sms_table.proofs.Tables.{among_found, row_at_put_other}
 use Rattle.sms_messages.specs.declared.message.MessageRow.{MessageRow}
 use Rattle.sms_messages.specs.declared.message.Originator.{Originator}
@@ -24,8 +24,8 @@ use Rattle.sms_waiting.specs.References.{handset_of}
 use Rattle.sms_waiting.specs.Revisions.{Revised}
 use Rattle.sms_waiting.specs.Trying.{due_at, finished, later}
 use Rattle.sms_centre.specs.CentreEvent.{dropped, drop_all, expire_all, expired, report_limit}
-use Rattle.sms_centre.specs.Draft.{Store, handsets_in, messages_in, reports_in, with_given, with_message, with_report_at, with_reports}
-use Rattle.sms_centre.specs.Ends.{end, is_wished, report, report_to, status_given}
+use Rattle.sms_centre.specs.Draft.{Store, handsets_in, messages_in, reports_in, with_message, with_report_at, with_reports}
+use Rattle.sms_centre.specs.Ends.{end, is_wished, report_to, status_given}
 use Rattle.sms_centre.specs.Sessions.{due_for, receipt_answered}
 use Rattle.sms_centre.specs.Submitting.{reference_for}
 use Rattle.sms_centre.specs.Transfers.{report_closed}
@@ -99,8 +99,10 @@ module _ (P : Store → Type 0) (c : IsSteady P) where
   expire_all_steady (m ∷ ms) s k rises stand =
       let is_over : Bool = is_pending m && nat_le m.limit s.moment in
       let both = cond_both is_over (end Expired m s) s (λ (e : Store). P e × StandMessages ms e)
-      (λ t. (c.ended Expired m s k (stand m (inl refl)) (and_parts (is_pending m) (nat_le m.limit s.moment) t).0 refl,
-      λ x among. end_leaves Expired m x.id s (apart m x (above_among message_key m.id x ms rises.0 among)) ∙ stand x (inr among)))
+      (λ t. (
+        c.ended Expired m s k (stand m (inl refl)) (and_parts (is_pending m) (nat_le m.limit s.moment) t).0 refl,
+        λ x among. end_leaves Expired m x.id s (apart m x (above_among message_key m.id x ms rises.0 among)) ∙ stand x (inr among),
+      ))
       (λ t. (k, λ x among. stand x (inr among))) in
       expire_all_steady ms (if is_over then end Expired m s else s) both.0 rises.1 both.1
     where
@@ -119,8 +121,10 @@ module _ (P : Store → Type 0) (c : IsSteady P) where
   drop_all_steady (r ∷ rs) s k rises stand =
       let is_old : Bool = is_open_status r && nat_le (later r.made report_limit) s.moment in
       let both = cond_both is_old (report_closed r s) s (λ (e : Store). P e × StandReports rs e)
-      (λ t. (c.report_far r (finished r.progress) s k (stand r (inl refl)) (λ e. absurd cc),
-      far_leaves r (finished r.progress) rs s (c.stands s k).held.report_keys rises stand))
+      (λ t. (
+        c.report_far r (finished r.progress) s k (stand r (inl refl)) (λ e. absurd cc),
+        far_leaves r (finished r.progress) rs s (c.stands s k).held.report_keys rises stand,
+      ))
       (λ t. (k, λ x among. stand x (inr among))) in
       drop_all_steady rs (if is_old then report_closed r s else s) both.0 rises.1 both.1
 
@@ -158,8 +162,10 @@ module _ (P : Store → Type 0) (c : IsSteady P) where
   receipts_due_steady n a ms (r ∷ rs) t s k rises stand =
       let is_one : Bool = is_put_off n a r (message_at r.id ms) in
       let both = cond_both is_one (amend_report r (due_at n r.progress) t) t (λ (u : Revised ReportRow). P (with_reports u s) × StandReports rs (with_reports u s))
-      (λ e. (c.report_far r (due_at n r.progress) (with_reports t s) k (stand r (inl refl)) (λ e. e),
-      far_leaves r (due_at n r.progress) rs (with_reports t s) (c.stands (with_reports t s) k).held.report_keys rises stand))
+      (λ e. (
+        c.report_far r (due_at n r.progress) (with_reports t s) k (stand r (inl refl)) (λ e. e),
+        far_leaves r (due_at n r.progress) rs (with_reports t s) (c.stands (with_reports t s) k).held.report_keys rises stand,
+      ))
       (λ e. (k, λ x among. stand x (inr among))) in
       receipts_due_steady n a ms rs (if is_one then amend_report r (due_at n r.progress) t else t) s both.0 rises.1 both.1
 

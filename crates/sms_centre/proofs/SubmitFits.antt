@@ -1,11 +1,10 @@
 -- A SUBMIT that passed all checks is a submission that does: its user data is passed as it was read.
-use Rattle.std.proofs.Common.{◌≡◌, ℕ, ◌<◌, ◌≤◌, List, [], ◌∷◌, length, Bool, true, false, Option, Some, None, Result, Ok, Err, refl, sym, ◌∙◌, ap, subst, ⊎_elim, arith}
-use Rattle.std.specs.Prelude.{not, nat_lt, ◌&&◌}
+use Rattle.std.proofs.Common.{◌≡◌, ℕ, List, true, false, Option, Some, None, Result, Ok, Err, refl, sym, subst, ⊎_elim, arith}
+use Rattle.std.specs.Prelude.{not, nat_lt}
 use Rattle.std.specs.List.{list_all}
 use Rattle.std.proofs.lemmas.Bool.{and_parts}
 use Rattle.sms_base.specs.Address.{IsAddress}
 use Rattle.sms_base.specs.AddressKind.{is_name, type_number}
-use Rattle.sms_base.specs.Among.{Among}
 use Rattle.sms_base.specs.declared.address.Address.{Address}
 use Rattle.sms_base.specs.declared.type_of_number.TypeOfNumber.{TypeOfNumber}
 use Rattle.sms_base.specs.declared.type_of_number.TypeOfNumber.TheVariants.{Unknown, International, National, NetworkSpecific, Subscriber, Alphanumeric, Abbreviated}
@@ -36,7 +35,6 @@ use Rattle.sms_centre.specs.HandsetIntake.{from_submit, from_tpdu, is_past, subm
 use Rattle.sms_centre.specs.Numbers.{is_decimal, names_handset}
 use Rattle.sms_centre.specs.Standing.{IsBody, IsSubmission}
 use Rattle.sms_centre.specs.Submitted.{UnitGives, UpGives}
-use Rattle.sms_centre.specs.Submitting.{bodies_under}
 use Rattle.sms_centre.proofs.UnitOctets.{opened_octets, tpdu_octets}
 
 -- ---- the number of a handset that an address names

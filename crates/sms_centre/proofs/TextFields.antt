@@ -1,5 +1,5 @@
 -- A content that has room behind a header is user data of its data coding scheme.
-use Rattle.std.proofs.Common.{◌≡◌, ℕ, zero, suc, ◌+◌, ◌-◌, ◌*◌, ◌/◌, ◌^◌, ◌<◌, ◌≤◌, List, [], ◌∷◌, ◌++◌, length, length-append, drop, Bool, true, false, refl, sym, ◌∙◌, ap, subst, inl, inr, ⊎_elim, arith}
+use Rattle.std.proofs.Common.{◌≡◌, ℕ, zero, suc, ◌+◌, ◌-◌, ◌*◌, ◌/◌, ◌^◌, ◌<◌, ◌≤◌, List, [], ◌∷◌, ◌++◌, length, length-append, drop, true, refl, sym, ◌∙◌, ap, subst, ⊎_elim, arith}
 use Rattle.std.specs.Prelude.{◌⊎◌, nat_le}
 use Rattle.std.proofs.Math.Nat.{pow-succ', pow-zero, pow-le-pow_right, mul-le-mul_left, mul-add}
 use Rattle.std.proofs.lemmas.Nat.{pow-add}
@@ -11,7 +11,7 @@ use Rattle.sms_alphabet.proofs.Held.{octet_power, septet_power}
 use Rattle.sms_alphabet.proofs.RoundTrip.{length-digits, value-below}
 use Rattle.sms_concat.specs.declared.element.Element.{Element}
 use Rattle.sms_concat.specs.HeaderGrammar.{spelled, written}
-use Rattle.sms_concat.specs.UserData.{AreUnits, IsBody, capacity, data_length, fill_bits, header_septets, is_there}
+use Rattle.sms_concat.specs.UserData.{AreUnits, capacity, data_length, fill_bits, header_septets, is_there}
 use Rattle.sms_tpdu.specs.UserDataGrammar.{HasHeader, IsContentBehind, IsPackedBehind, IsUserData, fill_behind, greatest_length, header_octets, octets_of}
 use Rattle.sms_centre.specs.Bodies.{packed_behind}
 

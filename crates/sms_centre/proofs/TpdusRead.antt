@@ -1,5 +1,5 @@
 -- The TPDUs of parts and status reports are read as what they were made of, and are short.
-use Rattle.std.proofs.Common.{◌≡◌, ℕ, ◌+◌, ◌<◌, ◌≤◌, List, [], ◌∷◌, ◌++◌, length, length-append, Bool, true, false, Option, Some, None, Result, Ok, refl, sym, ◌∙◌, ap, subst, arith}
+use Rattle.std.proofs.Common.{◌≡◌, ℕ, ◌+◌, ◌≤◌, List, [], ◌∷◌, ◌++◌, length, length-append, Option, refl, sym, ◌∙◌, ap, subst, arith}
 use Rattle.sms_alphabet.specs.declared.scheme.Coding.{Coding}
 use Rattle.sms_alphabet.specs.declared.scheme.Coding.TheVariants.{Septets, Octets, Ucs2, Compressed}
 use Rattle.sms_alphabet.specs.DataCodingScheme.{coding_of}
@@ -28,7 +28,7 @@ use Rattle.sms_centre.specs.declared.submission.SinglePart.{SinglePart}
 use Rattle.sms_centre.specs.declared.submission.Submission.{Submission}
 use Rattle.sms_centre.specs.Bodies.{deliver_octets, deliver_of}
 use Rattle.sms_centre.specs.Numbers.{own_address}
-use Rattle.sms_centre.specs.ReceiptTexts.{status_octets, status_report_of, status_written, submit_reference}
+use Rattle.sms_centre.specs.ReceiptTexts.{status_octets, status_report_of, submit_reference}
 use Rattle.sms_centre.specs.Standing.{IsBody}
 use Rattle.sms_centre.specs.Submitting.{message_of}
 use Rattle.sms_centre.specs.Times.{stamp_of}

@@ -1,5 +1,5 @@
 -- What goes up from a link has the octets of a frame that came.
-use Rattle.std.proofs.Common.{◌≡◌, ℕ, List, [], ◌∷◌, ◌++◌, length, Bool, true, false, Option, Some, None, Result, Ok, Err, IfOk, refl, sym, ◌∙◌, ap, subst}
+use Rattle.std.proofs.Common.{◌≡◌, ℕ, List, ◌∷◌, length, Option, Some, None, Result, Ok, Err, IfOk, refl, ◌∙◌, ap, subst}
 use Rattle.std.specs.Prelude.{◌&&◌, is_some}
 use Rattle.std.specs.Option.{option_map}
 use Rattle.std.proofs.lemmas.Bool.{cond_both}
@@ -18,12 +18,9 @@ use Rattle.sms_control.specs.LinkStep.{Step, ack_taken, answer_of, answer_taken,
 use Rattle.sms_control.proofs.ControlFrames.{cp_found}
 use Rattle.sms_link.specs.declared.ending.Ending.{Ending}
 use Rattle.sms_link.specs.declared.ending.Ending.TheVariants.{Lost}
-use Rattle.sms_link.specs.declared.ending.Upward.{Upward}
 use Rattle.sms_link.specs.declared.ending.Upward.TheVariants.{Opened, Ended}
 use Rattle.sms_link.specs.Ending.{ended_by, unit_at}
 use Rattle.sms_link.specs.LinkTurn.{LinkOf, came_up, taken}
-use Rattle.sms_relay.specs.declared.fault.RelayFault.{RelayFault}
-use Rattle.sms_relay.specs.declared.frame.Rp.{Rp}
 use Rattle.sms_relay.specs.declared.frame.Rp.TheVariants.{DataUnit as RpData}
 use Rattle.sms_relay.specs.RelayReading.{up_at}
 use Rattle.sms_relay.proofs.FieldLaws.{IsBytes-octets}

@@ -1,6 +1,6 @@
 -- What rows keep through an event: no message, part or report is lost; a message that has ended stays as it is, and a part or a
 -- report goes under the reference and with the octets that it was made with.
-use Rattle.std.specs.Prelude.{◌≡◌, ℕ, true, Option, Some}
+use Rattle.std.specs.Prelude.{◌≡◌, ℕ, true, Some}
 use Rattle.sms_base.specs.declared.final_state.FinalState.{FinalState}
 use Rattle.sms_messages.specs.declared.message.MessageRow.{MessageRow}
 use Rattle.sms_messages.specs.declared.part.PartRow.{PartRow}

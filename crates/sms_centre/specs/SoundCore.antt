@@ -2,7 +2,8 @@
 use Rattle.std.specs.Prelude.{◌≡◌, ℕ, ◌≤◌, true, List, [], ◌∷◌, Option, Some, None}
 use Rattle.sms_base.specs.Among.{Among}
 use Rattle.sms_base.specs.declared.carried.Carried.{Carried}
-use Rattle.sms_base.specs.declared.carried.Kind.TheVariants.{Data}
+use Rattle.sms_base.specs.declared.carried.Kind.{Kind}
+use Rattle.sms_base.specs.declared.carried.Kind.TheVariants.{Ack, Data, Error}
 use Rattle.sms_base.specs.declared.holder.Holder.{Holder}
 use Rattle.sms_base.specs.declared.holder.Holder.TheVariants.{Part, Report, Entry, Memory}
 use Rattle.sms_base.specs.Reading.{AreOctets}
@@ -39,10 +40,32 @@ abbrev pub IsUnderWay : List ℕ → Option Carried → Rows → Type 0
 IsUnderWay handset None rows = Unit {0}
 IsUnderWay handset (Some transfer) rows = (transfer.kind ≡ Data) × IsSentFor handset transfer.reference transfer.tag rows
 
+-- an answer, or nothing
+abbrev pub IsAnswerKind : Kind → Type 0
+IsAnswerKind Data = ⊥
+IsAnswerKind Ack = Unit {0}
+IsAnswerKind Error = Unit {0}
+
+abbrev pub IsAnswer : Option Carried → Type 0
+IsAnswer None = Unit {0}
+IsAnswer (Some answer) = IsAnswerKind answer.kind
+
+-- A frame to a handset brings a part of one of its messages under the part's reference, or its status report, or an answer, or
+-- nothing.
+abbrev pub BringsKind : Kind → List ℕ → Carried → Rows → Type 0
+BringsKind Data handset transfer rows = IsSentFor handset transfer.reference transfer.tag rows
+BringsKind Ack handset transfer rows = Unit {0}
+BringsKind Error handset transfer rows = Unit {0}
+
+abbrev pub Brings : List ℕ → Option Carried → Rows → Type 0
+Brings handset None rows = Unit {0}
+Brings handset (Some transfer) rows = BringsKind transfer.kind handset transfer rows
+
 pub record IsLine (rows : Rows) (l : Line) : Type 0 where
   pub handset : IsNumber l.handset
   pub side : l.link.side ≡ Centre
   pub under_way : IsUnderWay l.handset l.link.under_way rows
+  pub answered : IsAnswer l.link.answered
 
 -- no handset has two lines
 abbrev pub AreLines : List Line → Type 0

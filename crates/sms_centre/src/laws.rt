@@ -14,8 +14,12 @@ ghost use Rattle.sms_reports.specs.declared.report.ReportRow.{ReportRow};
 ghost use Rattle.sms_table.specs.Table.{Rises, row_at};
 ghost use Rattle.sms_waiting.specs.References.{handset_of};
 ghost use Rattle.sms_waiting.specs.SoundGivings.{IsNumber};
+ghost use Rattle.sms_waiting.specs.declared.line.Sent.{Sent};
 ghost use Rattle.sms_waiting.specs.declared.progress.Progress.{Progress};
+ghost use Rattle.smpp_pdu.specs.declared.message.Message.{Message};
+ghost use Rattle.sms_centre.specs.declared.answer.CentreAnswer.TheVariants.{Submitted};
 ghost use Rattle.sms_centre.specs.declared.event.CentreEvent.{CentreEvent};
+ghost use Rattle.sms_centre.specs.declared.event.CentreEvent.TheVariants.{Submit};
 ghost use Rattle.sms_centre.specs.declared.rows.Rows.{Rows};
 ghost use Rattle.sms_centre.specs.declared.setup.Setup.{Setup};
 ghost use Rattle.sms_centre.specs.CentreEvent.{happened, recovered, started};
@@ -23,7 +27,7 @@ ghost use Rattle.sms_centre.specs.Draft.{Core, Store, core_of, handsets_in, mess
 ghost use Rattle.sms_centre.specs.Held.{SoundHeld};
 ghost use Rattle.sms_centre.specs.Keeping.{Keeps};
 ghost use Rattle.sms_centre.specs.Planning.{adopted, outcome_of};
-ghost use Rattle.sms_centre.specs.SoundCore.{AreDifferent, IsEvent, IsReceiptRow, IsSession, IsSoundCore};
+ghost use Rattle.sms_centre.specs.SoundCore.{AreDifferent, Brings, IsEvent, IsReceiptRow, IsSession, IsSoundCore};
 ghost use Rattle.sms_centre.specs.SoundRows.{IsSetup, IsSound, first_rows};
 ghost use Rattle.sms_centre.specs.Submitting.{reference_for};
 
@@ -49,13 +53,22 @@ pub fn a_centre_begins_sound()
 {}
 
 /// After every event no message, part or report is lost, a message that had ended is as it was, and each part and report goes
-/// under its reference and with its octets; all that waits for a handset holds references apart; and each receipt that goes
-/// out is one of the rows.
+/// under its reference and with its octets; all that waits for a handset holds references apart; each receipt that goes out is
+/// one of the rows; and each frame that goes out brings a part of one of the handset's messages under that part's reference, or
+/// the status report of one of its own, as the rows have it, or an answer, or nothing.
 pub fn an_event_keeps_its_promises()
     ensures kept { (event : CentreEvent) (c : Core) → IsSoundCore c → IsEvent event → Keeps c.rows (core_of (happened event c)).rows }
     ensures apart { (event : CentreEvent) (c : Core) → IsSoundCore c → IsEvent event → SoundHeld (happened event c).store }
     ensures receipts { (event : CentreEvent) (c : Core) → IsSoundCore c → IsEvent event
         → (delivery : Delivery) → Among delivery (happened event c).desk.deliveries → IsReceiptRow (core_of (happened event c)).rows delivery.id }
+    ensures frames { (event : CentreEvent) (c : Core) → IsSoundCore c → IsEvent event
+        → (sent : Sent) → Among sent (happened event c).air.frames → Brings sent.handset sent.frame.carried (core_of (happened event c)).rows }
+{}
+
+/// A submission that is answered with a number is the message of that number.
+pub fn an_answered_submission_stands()
+    ensures { (account : ℕ) (message : Message) (c : Core) (id : ℕ) → (happened (Submit account message) c).answer ≡ Some (Submitted id)
+        → (row : MessageRow) × (message_at id (core_of (happened (Submit account message) c)).rows.messages ≡ Some row) }
 {}
 
 /// All that waits for a handset holds references that were given there, no two the same: also once a message was entered, the
