@@ -53,9 +53,9 @@ pub fn a_centre_begins_sound()
 {}
 
 /// After every event no message, part or report is lost, a message that had ended is as it was, and each part and report goes
-/// under its reference and with its octets; all that waits for a handset holds references apart; each receipt that goes out is
-/// one of the rows; and each frame that goes out brings a part of one of the handset's messages under that part's reference, or
-/// the status report of one of its own, as the rows have it, or an answer, or nothing.
+/// under its reference and keeps its octets; all that waits for a handset holds references apart; each receipt that goes out is
+/// one of the rows; and each frame that goes out was made for a part of one of the handset's messages, or for the status report
+/// of one of its own, under the reference that its row has, or for an answer, or for nothing.
 pub fn an_event_keeps_its_promises()
     ensures kept { (event : CentreEvent) (c : Core) → IsSoundCore c → IsEvent event → Keeps c.rows (core_of (happened event c)).rows }
     ensures apart { (event : CentreEvent) (c : Core) → IsSoundCore c → IsEvent event → SoundHeld (happened event c).store }
@@ -65,7 +65,7 @@ pub fn an_event_keeps_its_promises()
         → (sent : Sent) → Among sent (happened event c).air.frames → Brings sent.handset sent.frame.carried (core_of (happened event c)).rows }
 {}
 
-/// A submission that is answered with a number is the message of that number.
+/// The number that a submission is answered with is that of a message that stands in the rows.
 pub fn an_answered_submission_stands()
     ensures { (account : ℕ) (message : Message) (c : Core) (id : ℕ) → (happened (Submit account message) c).answer ≡ Some (Submitted id)
         → (row : MessageRow) × (message_at id (core_of (happened (Submit account message) c)).rows.messages ≡ Some row) }
