@@ -61,7 +61,7 @@ use Rattle.sms_centre.specs.Transfers.{complete, conclude, holder_ended, part_en
 use Rattle.sms_centre.specs.Receiving.{all_due, due_now, is_duplicate, load_due, part_due, refuse, report_due, submit_accepted, submit_came as submission_from, unit_came}
 use Rattle.sms_centre.specs.Requests.{account_at, accepted, cancel_by, cancelled, message_numbered, own_message, queried, query_by, submission_came, submit_by}
 use Rattle.sms_centre.specs.Sessions.{answered_by, bind, bound_as, due_for, unbind, unbound_from}
-use Rattle.sms_centre.specs.CentreEvent.{aged, at_moment, drop_all, expire_all, expired, fire_at, fire_line, fire_mentioned, fire_others, fired, frame_taken, happened, is_mentioned, lost, lower, raise, raise_all, raised, report_limit, timed_out, went_up}
+use Rattle.sms_centre.specs.CentreEvent.{aged, at_moment, drop_all, expire_all, expired, fire_at, fire_line, fire_mentioned, fire_others, fired, frame_taken, happened, is_mentioned, lost, lower, raise, raise_all, raised, report_limit, tag_of, timed_out, went_up}
 use Rattle.sms_centre.specs.Draft.{Core, Draft, Store, draft_of, handsets_in, messages_in, on_air, parts_in, reports_in, waiting_in, with_given, with_message, with_part, with_part_at, with_priority, with_report_at, with_reports}
 
 -- the moves keep the fact
@@ -384,7 +384,7 @@ module _ (P : Store → Type 0) (c : Closed P) where
   happened_keeps (Bound session account receives) core k = bind_keeps session account receives (draft_of core) k
   happened_keeps (Unbound session) core k = unbind_keeps session (draft_of core) k
   happened_keeps (DeliverAnswered session id b) core k = answered_by_keeps id b (row_at session_key session core.sessions) (draft_of core) k
-  happened_keeps (Frame handset octets tag) core k = frame_taken_keeps octets tag (line_of handset core.lines) (draft_of core) k
+  happened_keeps (Frame handset octets tag) core k = frame_taken_keeps octets (tag_of tag) (line_of handset core.lines) (draft_of core) k
   happened_keeps (LinkUp handset) core k = raise_keeps handset (draft_of core) k
   happened_keeps (LinkDown handset) core k = lower_keeps handset (draft_of core) k
   happened_keeps (Tick now) core k = ticked_keeps now (draft_of core) k

@@ -1,0 +1,11 @@
+mod AnswerLost
+mod CentreRestarts
+mod Everything
+mod Expired
+mod Halted
+mod HandsetFull
+mod MoreToCome
+mod OneMessage
+mod Reused
+mod UrgentGoesFirst
+mod Worked
