@@ -10,12 +10,12 @@ use Rattle.sms_play.proofs.Worked.{told, Tells, Fails}
 before :
     told (codes "start 1709251198\ncentre 447700900000\naccount app1 secret 447700900001\nhandset 447700900456 3\nstopped before submit app1 447700900456 0 00 1 - 68656C6C6F\n")
     ≡ Tells (record {
-        answers = record { event = 1; answered = Stopped } ∷ [];
-        states = [];
-        accepted = [];
-        receipts = [];
-        frames = [];
-        broken = None;
+      answers = record { event = 1; answered = Stopped } ∷ [];
+      states = [];
+      accepted = [];
+      receipts = [];
+      frames = [];
+      broken = None;
     })
 unfolding everything
 before = refl
@@ -23,12 +23,12 @@ before = refl
 after :
     told (codes "start 1709251198\ncentre 447700900000\naccount app1 secret 447700900001\nhandset 447700900456 3\nstopped after submit app1 447700900456 0 00 1 - 68656C6C6F\n")
     ≡ Tells (record {
-        answers = record { event = 1; answered = Stopped } ∷ [];
-        states = Enroute ∷ [];
-        accepted = [];
-        receipts = [];
-        frames = [];
-        broken = None;
+      answers = record { event = 1; answered = Stopped } ∷ [];
+      states = Enroute ∷ [];
+      accepted = [];
+      receipts = [];
+      frames = [];
+      broken = None;
     })
 unfolding everything
 after = refl
