@@ -13,6 +13,7 @@ late_answer :
       answers = record { event = 1; answered = Accepted 1 } ∷ [];
       states = Final Expired ∷ [];
       accepted = all_hex (codes "240C9144770009001000004220923295850005E8329BFD06" ∷ []);
+      joined = [];
       receipts = record { id = 1; state = Expired } ∷ [];
       frames = all_hex (
           codes "090124010007914477000900000018240C9144770009001000004220923295850005E8329BFD06"

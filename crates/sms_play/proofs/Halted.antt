@@ -13,6 +13,7 @@ before :
       answers = record { event = 1; answered = Stopped } ∷ [];
       states = [];
       accepted = [];
+      joined = [];
       receipts = [];
       frames = [];
       broken = None;
@@ -26,6 +27,7 @@ after :
       answers = record { event = 1; answered = Stopped } ∷ [];
       states = Enroute ∷ [];
       accepted = [];
+      joined = [];
       receipts = [];
       frames = [];
       broken = None;

@@ -13,6 +13,7 @@ memory_comes :
       answers = record { event = 1; answered = Accepted 1 } ∷ record { event = 6; answered = Accepted 2 } ∷ record { event = 11; answered = Done } ∷ [];
       states = Final Delivered ∷ Final Delivered ∷ [];
       accepted = all_hex (codes "240C9144770009001000004220923295850005E8329BFD06" ∷ codes "240C9144770009001000004220923295850005E8329BFD06" ∷ []);
+      joined = [];
       receipts = record { id = 1; state = Delivered } ∷ record { id = 2; state = Delivered } ∷ [];
       frames = all_hex (
           codes "090124010007914477000900000018240C9144770009001000004220923295850005E8329BFD06"

@@ -6,6 +6,7 @@ mod Halted
 mod HandsetFull
 mod MoreToCome
 mod OneMessage
+mod PartsInDisorder
 mod Reused
 mod UrgentGoesFirst
 mod Worked

@@ -14,6 +14,7 @@ bit_tells :
       answers = record { event = 1; answered = Accepted 1 } ∷ record { event = 2; answered = Accepted 2 } ∷ record { event = 3; answered = Accepted 3 } ∷ record { event = 8; answered = Status ESME_ROK } ∷ [];
       states = Final Delivered ∷ Final Delivered ∷ Final Deleted ∷ [];
       accepted = all_hex (codes "240C9144770009001000004220923295850005E8329BFD06" ∷ codes "200C9144770009001000004220923295850005E8329BFD06" ∷ []);
+      joined = [];
       receipts = record { id = 1; state = Delivered } ∷ record { id = 3; state = Deleted } ∷ record { id = 2; state = Delivered } ∷ [];
       frames = all_hex (
           codes "090124010007914477000900000018240C9144770009001000004220923295850005E8329BFD06"

@@ -13,6 +13,7 @@ hello_is_delivered :
       answers = record { event = 1; answered = Accepted 1 } ∷ [];
       states = Final Delivered ∷ [];
       accepted = all_hex (codes "240C9144770009001000004220923295850005E8329BFD06" ∷ []);
+      joined = [];
       receipts = record { id = 1; state = Delivered } ∷ [];
       frames = all_hex (
           codes "090124010007914477000900000018240C9144770009001000004220923295850005E8329BFD06"

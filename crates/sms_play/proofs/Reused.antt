@@ -13,6 +13,7 @@ two_first_parts :
       answers = record { event = 1; answered = Accepted 1 } ∷ record { event = 2; answered = Accepted 2 } ∷ [];
       states = Enroute ∷ Enroute ∷ [];
       accepted = [];
+      joined = [];
       receipts = [];
       frames = all_hex (
           codes "09012601000791447700090000001A440C91447700090010000042209232958500080500032A0201C2"

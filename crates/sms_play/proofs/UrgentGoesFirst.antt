@@ -13,6 +13,7 @@ third_before_second :
       answers = record { event = 1; answered = Accepted 1 } ∷ record { event = 2; answered = Accepted 2 } ∷ record { event = 3; answered = Accepted 3 } ∷ [];
       states = Final Delivered ∷ Enroute ∷ Enroute ∷ [];
       accepted = all_hex (codes "240C9144770009001000004220923295850005E8329BFD06" ∷ []);
+      joined = [];
       receipts = record { id = 1; state = Delivered } ∷ [];
       frames = all_hex (
           codes "090124010007914477000900000018240C9144770009001000004220923295850005E8329BFD06"

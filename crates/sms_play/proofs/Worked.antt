@@ -6,6 +6,7 @@ use Rattle.sms_report.specs.declared.report.Broken.{Broken}
 use Rattle.sms_report.specs.declared.report.Report.{Report}
 use Rattle.sms_report.specs.declared.rows.AcceptedRow.{AcceptedRow}
 use Rattle.sms_report.specs.declared.rows.FrameRow.{FrameRow}
+use Rattle.sms_report.specs.declared.rows.JoinedRow.{JoinedRow}
 use Rattle.sms_report.specs.declared.rows.MessageRow.{MessageRow}
 use Rattle.sms_report.specs.declared.rows.ReceiptRow.{ReceiptRow}
 use Rattle.sms_script.specs.declared.script.Script.{Script}
@@ -34,6 +35,8 @@ pub record Told : Type 0 where
   pub states : List MessageState
   -- the TPDUs that handsets accepted
   pub accepted : List (List ℕ)
+  -- the units of what they joined
+  pub joined : List (List ℕ)
   pub receipts : List ReceiptRow
   -- the octets of the frames
   pub frames : List (List ℕ)
@@ -46,6 +49,10 @@ states_in (m ∷ ms) = m.state ∷ states_in ms
 abbrev pub tpdus_in : List AcceptedRow → List (List ℕ)
 tpdus_in [] = []
 tpdus_in (a ∷ rest) = a.tpdu ∷ tpdus_in rest
+
+abbrev pub units_in : List JoinedRow → List (List ℕ)
+units_in [] = []
+units_in (j ∷ rest) = j.units ∷ units_in rest
 
 abbrev pub octets_in : List FrameRow → List (List ℕ)
 octets_in [] = []
@@ -61,6 +68,7 @@ told_with r (Ok broken) = Tells (record {
   answers = r.answers;
   states = states_in r.table;
   accepted = tpdus_in r.accepted;
+  joined = units_in r.joined;
   receipts = r.receipts;
   frames = octets_in r.bag;
   broken = broken;
