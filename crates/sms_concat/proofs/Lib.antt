@@ -8,4 +8,5 @@ pub mod HeaderKeys
 pub mod Stepwise
 pub mod Room
 pub mod Tallies
+pub mod Bodies
 mod Rows

@@ -13,16 +13,17 @@ use Rattle.sms_base.proofs.Alphabets.{pair_of_code}
 use Rattle.sms_base.proofs.Steps.{both}
 use Rattle.sms_base.specs.Reading.{AreOctets}
 use Rattle.sms_alphabet.specs.declared.scheme.Coding.{Coding}
-use Rattle.sms_alphabet.specs.declared.scheme.Coding.TheVariants.{Septets, Ucs2}
+use Rattle.sms_alphabet.specs.declared.scheme.Coding.TheVariants.{Septets, Octets, Ucs2, Compressed}
 use Rattle.sms_alphabet.specs.Spelling.{septets_for, septets_of_code, lacks_code, is_uncoded, spelled}
 use Rattle.sms_alphabet.specs.Ucs2.{octets_for, ucs2_for}
+use Rattle.sms_concat.specs.declared.content.Content.{Content}
 use Rattle.sms_concat.specs.declared.split_error.SplitError.TheVariants.{TooManyParts}
 use Rattle.sms_concat.specs.declared.tally.Tally.{Tally}
 use Rattle.sms_concat.specs.declared.tally.TextTally.{TextTally}
-use Rattle.sms_concat.specs.Counting.{counted, content_with, tally_begun, with_unit, outcome, with_code, with_character, with_text, text_begun, either_outcome, text_outcome}
+use Rattle.sms_concat.specs.Counting.{counted, content_with, tally_begun, with_unit, outcome, with_code, with_character, with_text, text_begun, either_fits_behind, either_outcome, text_fits_behind, text_outcome, unit_tally_fits_behind}
 use Rattle.sms_concat.specs.Splitting.{room, is_compressed, joined, filled, divided, pieces_of, split_of}
 use Rattle.sms_concat.specs.TextContent.{content_of_text}
-use Rattle.sms_concat.specs.UserData.{capacity}
+use Rattle.sms_concat.specs.UserData.{capacity, data_length}
 use Rattle.sms_concat.specs.WholeUnits.{whole_units, septet_units, ucs2_units, is_high_surrogate, is_low_surrogate}
 use Rattle.sms_concat.proofs.Dividing.{AreSmall, small_units, room_above, joined_units}
 use Rattle.sms_concat.proofs.Numbering.{split_alone, split_cut, all_numbered, too_many, length_numbered, counted_to, some_way, none_way}
@@ -327,3 +328,42 @@ octets_scalar (octet ∷ octets) h = rw (octet_scalar octet h.0) (octets_scalar 
 pub text_ended : (t : TextTally) (rest : List ℕ) → length rest ≡ 0 → t ≡ with_text t (chars rest)
 text_ended t [] e = let none : chars [] ≡ [] = chars-nil in rw none refl
 text_ended t (x ∷ rest) e = absurd (omega arith)
+
+-- ---- behind a header
+
+more_units : (coding : Coding) (header n : ℕ) → data_length coding header n ≡ data_length coding header 0 + n
+more_units Septets header n = omega arith
+more_units Octets header n = omega arith
+more_units Ucs2 header n = omega arith
+more_units Compressed header n = omega arith
+
+alone_left : (coding : Coding) (xs : List ℕ) → (tallied (tally_begun coding) (whole_units coding xs)).alone ≡ (capacity coding + 1) - length xs
+alone_left coding xs =
+    let begun : IsAt (room coding) [] (tally_begun coding) = record { room_is = refl; piece_is = omega arith; within = omega arith } in
+    let l = left (room coding) [] (whole_units coding xs) (tally_begun coding) (room_above coding) (small_units coding xs) begun in
+    l.alone_is ∙ ap (λ (n : ℕ). (capacity coding + 1) - n) (ap length (joined_units coding xs))
+
+same_test : (taken whole alone size n : ℕ) → whole ≡ taken + n → alone ≡ (size + 1) - n → ltb taken alone ≡ leb whole size
+same_test taken whole alone size n w a = more (leb whole size) refl where
+  more : (b : Bool) → leb whole size ≡ b → ltb taken alone ≡ b
+  more true p = lt-ltb taken alone (omega (arith, leb-true _ _ p))
+  more false p = le-ltb taken alone (omega (arith, leb-false _ _ p))
+
+units_fit : (header : ℕ) (coding : Coding) (xs : List ℕ) → unit_tally_fits_behind header coding (tallied (tally_begun coding) (whole_units coding xs)) ≡ leb (data_length coding header (length xs)) (capacity coding)
+units_fit header coding xs =
+    same_test (data_length coding header 0) (data_length coding header (length xs)) (tallied (tally_begun coding) (whole_units coding xs)).alone (capacity coding) (length xs) (more_units coding header (length xs)) (alone_left coding xs)
+
+fits_content : ℕ → Content → Bool
+fits_content header content = leb (data_length content.coding header (length content.units)) (capacity content.coding)
+
+pub text_fits : (text : List ℕ) (header : ℕ) → scalars text ≡ true → text_fits_behind header (with_text text_begun text) ≡ leb (data_length (content_of_text text).coding header (length (content_of_text text).units)) (capacity (content_of_text text).coding)
+unfolding spelled first_lacking fits_content
+text_fits text header s = ap (text_fits_behind header) (halves text_begun text) ∙ more (ltb (first_lacking text) (length text)) refl where
+  more : (b : Bool) → ltb (first_lacking text) (length text) ≡ b → either_fits_behind header (coded (Some (tally_begun Septets)) text) (in_ucs2 (tally_begun Ucs2) text) ≡ fits_content header (content_of_text text)
+  more true p =
+      let none = one_lacking text (Some (tally_begun Septets)) (ltb-true _ _ p) in
+      let ucs2 = ucs2_all text (tally_begun Ucs2) s in
+      rw (none, p) (ap (unit_tally_fits_behind header Ucs2) ucs2 ∙ units_fit header Ucs2 (ucs2_for text))
+  more false p =
+      let all = coded_all text (tally_begun Septets) (none_lacking text (ltb-false _ _ p)) in
+      rw (all, p) (units_fit header Septets (flat_map septets_for text))

@@ -1,5 +1,5 @@
 -- How many parts a content takes, as its whole units go by: only their sizes count.
-use Rattle.std.specs.Prelude.{ℕ, ◌+◌, ◌-◌, List, [], ◌∷◌, length, Option, Some, None, Result, Ok, Err, nat_lt, nat_le, if◌then◌else◌}
+use Rattle.std.specs.Prelude.{ℕ, ◌+◌, ◌-◌, List, [], ◌∷◌, length, Bool, Option, Some, None, Result, Ok, Err, nat_lt, nat_le, if◌then◌else◌}
 use Rattle.sms_alphabet.specs.declared.scheme.Coding.{Coding}
 use Rattle.sms_alphabet.specs.declared.scheme.Coding.TheVariants.{Septets, Ucs2}
 use Rattle.sms_alphabet.specs.Ucs2.{octets_for}
@@ -12,7 +12,7 @@ use Rattle.sms_concat.specs.declared.split_error.SplitError.TheVariants.{TooMany
 use Rattle.sms_concat.specs.declared.tally.Tally.{Tally}
 use Rattle.sms_concat.specs.declared.tally.TextTally.{TextTally}
 use Rattle.sms_concat.specs.Splitting.{room}
-use Rattle.sms_concat.specs.UserData.{capacity}
+use Rattle.sms_concat.specs.UserData.{capacity, data_length}
 
 -- how many parts there are, or why there are none
 abbrev pub counted : Result (List Part) SplitError → Result ℕ SplitError
@@ -39,6 +39,10 @@ with_unit size t = record {
 -- all fit one part, or as many as were begun, the present one included
 abbrev pub outcome : Tally → Result ℕ SplitError
 outcome t = if nat_lt 0 t.alone then Ok 1 else (if nat_lt 0 t.parts then Ok (21 - t.parts) else Err TooManyParts)
+
+-- what a header takes leaves room for them in one part
+abbrev pub unit_tally_fits_behind : ℕ → Coding → Tally → Bool
+unit_tally_fits_behind header coding t = nat_lt (data_length coding header 0) t.alone
 
 -- ---- as the characters of a text go by
 
@@ -67,3 +71,10 @@ either_outcome None ucs2 = outcome ucs2
 
 abbrev pub text_outcome : TextTally → Result ℕ SplitError
 text_outcome t = either_outcome t.septets t.ucs2
+
+abbrev pub either_fits_behind : ℕ → Option Tally → Tally → Bool
+either_fits_behind header (Some septets) ucs2 = unit_tally_fits_behind header Septets septets
+either_fits_behind header None ucs2 = unit_tally_fits_behind header Ucs2 ucs2
+
+abbrev pub text_fits_behind : ℕ → TextTally → Bool
+text_fits_behind header t = either_fits_behind header t.septets t.ucs2

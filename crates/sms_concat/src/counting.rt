@@ -1,9 +1,10 @@
 //! How many parts a content takes, told before any memory is.
-ghost use Rattle.std.specs.Prelude.{◌≡◌, ℕ};
+ghost use Rattle.std.specs.Prelude.{◌≡◌, ◌≤◌, ℕ, length, nat_le};
 ghost use Rattle.std.specs.Str.{chars};
 ghost use Rattle.sms_concat.specs.Counting.{content_with, counted, text_begun, text_outcome, with_text};
 ghost use Rattle.sms_concat.specs.Splitting.{split_of};
 ghost use Rattle.sms_concat.specs.TextContent.{content_of_text};
+ghost use Rattle.sms_concat.specs.UserData.{capacity, data_length};
 
 use crate::split_error::SplitError;
 use crate::splitting::{count_pieces, is_compressed};
@@ -47,14 +48,14 @@ pub fn count_text_parts(text: &str) -> Result<u8, SplitError>
     tally_text(text)
 }
 
-fn tally_latin(octets: &[u8]) -> Result<u8, SplitError>
-    ensures { result ≡ text_outcome (with_text text_begun octets.now) }
+fn tally_latin(octets: &[u8]) -> TextTally
+    ensures { result ≡ with_text text_begun octets.now }
 {
     let mut tally = TextTally::new();
     for octet in octets {
         tally = tally.with(char::from(*octet));
     }
-    tally.parts()
+    tally
 }
 
 /// The same of a text whose characters have these codes, from 00 to FF.
@@ -63,5 +64,15 @@ fn tally_latin(octets: &[u8]) -> Result<u8, SplitError>
 pub fn count_latin_parts(octets: &[u8]) -> Result<u8, SplitError>
     ensures { (reference : ℕ) → result ≡ counted (split_of (content_of_text octets.now) reference) }
 {
-    tally_latin(octets)
+    tally_latin(octets).parts()
+}
+
+/// Whether that content fits one short message behind a header of so many octets.
+///
+/// Takes no memory. Linear in the octets.
+pub fn latin_fits_behind(header: usize, octets: &[u8]) -> bool
+    requires { header ≤ 256 }
+    ensures { let content = content_of_text octets.now in result ≡ nat_le (data_length content.coding header (length content.units)) (capacity content.coding) }
+{
+    tally_latin(octets).fits_behind(header)
 }

@@ -1,8 +1,9 @@
 //! Parts counted without memory, from the sizes of the whole units that go by.
-ghost use Rattle.std.specs.Prelude.{◌≡◌, length};
+ghost use Rattle.std.specs.Prelude.{◌≡◌, ◌≤◌, length};
 ghost use Rattle.sms_base.specs.Alphabet.{code_for, septets_in};
-ghost use Rattle.sms_concat.specs.Counting.{either_outcome, outcome, tally_begun, text_begun, text_outcome, with_character, with_code, with_unit};
+ghost use Rattle.sms_concat.specs.Counting.{either_outcome, outcome, tally_begun, text_begun, text_fits_behind, text_outcome, unit_tally_fits_behind, with_character, with_code, with_unit};
 
+use crate::lengths::taken;
 use crate::split_error::SplitError;
 use crate::splitting::{MOST_PARTS, room};
 use sms_alphabet::{Coding, greatest_length, ucs2_length};
@@ -57,6 +58,14 @@ impl Tally {
         }
     }
 
+    /// Whether the units fit one part behind a header of so many octets.
+    fn fits_behind(self, coding: Coding, header: usize) -> bool
+        requires { header ≤ 256 }
+        ensures { result ≡ unit_tally_fits_behind header coding self }
+    {
+        taken(coding, header) < self.alone
+    }
+
     pub(crate) fn parts(self) -> Result<u8, SplitError>
         ensures { result ≡ outcome self }
     {
@@ -104,6 +113,17 @@ impl TextTally {
         TextTally {
             septets: with_code(code_of(character), self.septets),
             ucs2: self.ucs2.with(ucs2_length(character)),
+        }
+    }
+
+    /// Whether the text fits one part behind a header of so many octets.
+    pub(crate) fn fits_behind(self, header: usize) -> bool
+        requires { header ≤ 256 }
+        ensures { result ≡ text_fits_behind header self }
+    {
+        match self.septets {
+            Some(septets) => septets.fits_behind(Coding::Septets, header),
+            None => self.ucs2.fits_behind(Coding::Ucs2, header),
         }
     }
 
