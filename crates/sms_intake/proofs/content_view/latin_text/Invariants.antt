@@ -1,7 +1,7 @@
 use Rattle.std.proofs.Common.{◌≡◌, take, true}
 use Rattle.std.specs.Str.{all_scalars, encode_utf8_all}
 use Rattle.std.specs.String.{string_bytes}
-use Rattle.sms_intake.proofs.smpp_content.latin_text.Given as goal
+use Rattle.sms_intake.proofs.content_view.latin_text.Given as goal
 
 -- the text is that of the octets so far, which are characters
 abbrev pub invariant-loop-octet : goal.invariant-loop-octet

@@ -1,7 +1,7 @@
 use Rattle.std.proofs.Common.{◌<◌, arith}
 use Rattle.std.specs.String.{string_bytes}
 use Rattle.sms_intake.proofs.LatinTexts.{step, whole}
-use Rattle.sms_intake.proofs.smpp_content.latin_text.Goals as goal
+use Rattle.sms_intake.proofs.content_view.latin_text.Goals as goal
 
 pub loop-octet-preserved : goal.loop-octet-preserved
 loop-octet-preserved c =
