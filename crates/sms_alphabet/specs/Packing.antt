@@ -30,6 +30,10 @@ abbrev pub digits_in : ℕ → ℕ → ℕ → List ℕ
 digits_in base zero v = []
 digits_in base (suc n) v = v % base ∷ digits_in base n (v / base)
 
+-- the one list of octets that they are packed into
+abbrev pub packed : ℕ → List ℕ → List ℕ
+packed fill septets = digits_in 256 (packed_len fill (length septets)) (2 ^ fill * value_in 128 septets)
+
 -- What the test of the bits outside the septets answers. From the left: fill bits that are not zero, octets
 -- that do not reach, and what stands behind the last septet.
 abbrev pub tested : List ℕ → ℕ → ℕ → Result (Unit {0}) UnpackError

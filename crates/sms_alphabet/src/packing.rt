@@ -1,6 +1,7 @@
 //! Septets into octets.
 ghost use Rattle.std.specs.Prelude.{◌≡◌, ◌<◌, ◌≤◌, ◌^◌, IfOk, length, take, drop, ◌+◌, ◌*◌};
-ghost use Rattle.sms_alphabet.specs.Packing.{IsPacking, AreSeptets, packed_len, value_in};
+ghost use Rattle.sms_base.specs.Reading.{AreOctets};
+ghost use Rattle.sms_alphabet.specs.Packing.{IsPacking, AreSeptets, packed, packed_len, value_in};
 
 use sms_base::Octets;
 use std::alloc::{AllocError, Global};
@@ -32,10 +33,8 @@ fn first_eight(septets: &[u8]) -> u64
     }
 }
 
-/// The septets packed into octets behind `fill` bits of zero (3GPP TS 23.038 6.1.2.1).
-///
-/// Takes memory once.
-pub fn pack(alloc: Global, septets: &[u8], fill: u8) -> Result<Octets, AllocError>
+// The octets, from left to right.
+fn pack_from_left(alloc: Global, septets: &[u8], fill: u8) -> Result<Octets, AllocError>
     requires fill_in_range { fill < 7 }
     requires septets { AreSeptets septets.now }
     ensures { IfOk result (λ octets. IsPacking septets.now fill octets) }
@@ -62,4 +61,23 @@ pub fn pack(alloc: Global, septets: &[u8], fill: u8) -> Result<Octets, AllocErro
         out.push(held as u8)?;
     }
     Ok(out)
+}
+
+// Octets are below 256.
+fn are_octets(octets: &[u8])
+    ensures { AreOctets octets.now }
+{}
+
+/// The septets packed into octets behind `fill` bits of zero (3GPP TS 23.038 6.1.2.1).
+///
+/// Takes memory once.
+pub fn pack(alloc: Global, septets: &[u8], fill: u8) -> Result<Octets, AllocError>
+    requires fill_in_range { fill < 7 }
+    requires septets { AreSeptets septets.now }
+    ensures packing { IfOk result (λ octets. IsPacking septets.now fill octets) }
+    ensures exact { IfOk result (λ octets. octets ≡ packed fill septets.now) }
+{
+    let octets = pack_from_left(alloc, septets, fill)?;
+    are_octets(octets.as_slice());
+    Ok(octets)
 }

@@ -6,7 +6,8 @@
 //! `Octets` and `OctetView` are octets as contracts see them, a list; `Cursor` reads them from left to right,
 //! with the words of `specs/Reading.antt`, which the readers of all formats share.
 //! The default alphabet's two tables (3GPP TS 23.038 6.2.1) stand here, since a name is measured in septets.
-//! `MessageId` and `Holder` name messages and those for whom a frame is made, `Carried` what a frame carries.
+//! `MessageId` and `Holder` name messages and those for whom a frame is made, `Carried` what a frame carries,
+//! `Originator` and `Wish` who submitted a message and of which ends he is told.
 #![tactic(auto)]
 
 mod address;
@@ -24,11 +25,13 @@ mod listed;
 mod message_id;
 mod moment;
 mod octets;
+mod originator;
 mod priority;
 mod reference;
 mod semi_octet;
 mod smpp_time;
 mod type_of_number;
+mod wish;
 
 pub use address::Address;
 pub use address_error::AddressError;
@@ -44,8 +47,10 @@ pub use listed::Listed;
 pub use message_id::MessageId;
 pub use moment::{Moment, MomentError};
 pub use octets::{OctetView, Octets};
+pub use originator::Originator;
 pub use priority::Priority;
 pub use reference::Reference;
 pub use semi_octet::{digit_of, semi_octet_of};
 pub use smpp_time::SmppTimeError;
 pub use type_of_number::TypeOfNumber;
+pub use wish::Wish;

@@ -4,7 +4,8 @@ use Rattle.std.specs.Prelude.{codes}
 use Rattle.sms_base.specs.declared.final_state.FinalState.TheVariants.{Expired}
 use Rattle.sms_centre.specs.Draft.{Draft, core_of}
 use Rattle.sms_centre.specs.CentreEvent.{submit_came, ticked}
-use Rattle.sms_centre.specs.ReceiptTexts.{receipt_text}
+use Rattle.sms_receipt.specs.ReceiptText.{receipt_text}
+use Rattle.sms_centre.specs.Finals.{final_of}
 use Rattle.sms_centre.proofs.Everything.{everything}
 use Rattle.sms_centre.proofs.Worked.{hex, t0, handset_b, begun, sm, comes, sent, states, told, row_of}
 
@@ -36,6 +37,6 @@ told_once : told four ≡ 1 ∷ []
 unfolding everything
 told_once = refl
 
-text : receipt_text Expired (t0 + 30) (row_of (core_of four).rows) ≡ codes "id:0000000001 sub:001 dlvrd:000 submit date:2402292359 done date:2403010000 stat:EXPIRED err:000 text:"
+text : receipt_text (final_of Expired (t0 + 30) (row_of (core_of four).rows)) ≡ codes "id:0000000001 sub:001 dlvrd:000 submit date:2402292359 done date:2403010000 stat:EXPIRED err:000 text:"
 unfolding everything
 text = refl

@@ -1,7 +1,7 @@
 -- When attempts are tried again, and which of two is next.
 use Rattle.std.proofs.Common.{◌≡◌, ℕ, ◌+◌, [], ◌∷◌, Some, None, refl}
 use Rattle.sms_waiting.specs.declared.load.Load.{Load}
-use Rattle.sms_waiting.specs.Trying.{retry_after}
+use Rattle.sms_schedule.specs.Retry.{retry_after}
 use Rattle.sms_waiting.specs.Waiting.{next}
 use Rattle.sms_centre.proofs.Everything.{everything}
 use Rattle.sms_centre.proofs.Worked.{t0}

@@ -8,7 +8,9 @@ use Rattle.smpp_pdu.specs.Writing.{written}
 use Rattle.sms_centre.specs.declared.answer.CentreAnswer.TheVariants.{Submitted, Refused}
 use Rattle.sms_centre.specs.Draft.{Draft, core_of}
 use Rattle.sms_centre.specs.CentreEvent.{submit_came}
-use Rattle.sms_centre.specs.ReceiptTexts.{receipt_text, receipt_of}
+use Rattle.sms_receipt.specs.ReceiptText.{receipt_text}
+use Rattle.sms_receipt.specs.Receipts.{receipt_of}
+use Rattle.sms_centre.specs.Finals.{final_of}
 use Rattle.sms_centre.proofs.Everything.{everything}
 use Rattle.sms_centre.proofs.Worked.{hex, t0, handset_b, begun, sm, hello_to, comes, sent, row_of}
 
@@ -18,15 +20,15 @@ one = submit_came 0 (hello_to handset_b) (begun (handset_b ∷ []))
 abbrev pub two : Draft
 two = comes handset_b (hex (codes "890106020041020000")) (core_of (comes handset_b (hex (codes "8904")) (core_of one)))
 
-text : receipt_text Delivered t0 (row_of (core_of two).rows) ≡ codes "id:0000000001 sub:001 dlvrd:001 submit date:2402292359 done date:2402292359 stat:DELIVRD err:000 text:"
+text : receipt_text (final_of Delivered t0 (row_of (core_of two).rows)) ≡ codes "id:0000000001 sub:001 dlvrd:001 submit date:2402292359 done date:2402292359 stat:DELIVRD err:000 text:"
 unfolding everything
 text = refl
 
-octets : length (receipt_text Delivered t0 (row_of (core_of two).rows)) ≡ 102
+octets : length (receipt_text (final_of Delivered t0 (row_of (core_of two).rows))) ≡ 102
 unfolding everything
 octets = refl
 
-whole : length (written (record { command_status = 0; sequence_number = 1; body = DeliverSm (receipt_of Delivered t0 (row_of (core_of two).rows)) })) ≡ 0xB3
+whole : length (written (record { command_status = 0; sequence_number = 1; body = DeliverSm (receipt_of (final_of Delivered t0 (row_of (core_of two).rows))) })) ≡ 0xB3
 unfolding everything
 whole = refl
 

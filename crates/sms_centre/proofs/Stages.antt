@@ -26,8 +26,8 @@ use Rattle.smpp_pdu.specs.declared.message.Message.{Message}
 use Rattle.smpp_pdu.specs.declared.query.QuerySm.{QuerySm}
 use Rattle.smpp_pdu.specs.declared.status.CommandStatus.{CommandStatus}
 use Rattle.sms_messages.specs.declared.message.MessageRow.{MessageRow}
-use Rattle.sms_messages.specs.declared.message.Originator.{Originator}
-use Rattle.sms_messages.specs.declared.message.Originator.TheVariants.{Application, Handset}
+use Rattle.sms_base.specs.declared.originator.Originator.{Originator}
+use Rattle.sms_base.specs.declared.originator.Originator.TheVariants.{Application, Handset}
 use Rattle.sms_messages.specs.declared.part.PartRow.{PartRow}
 use Rattle.sms_messages.specs.declared.priority.PriorityRow.{PriorityRow}
 use Rattle.sms_messages.specs.Messages.{all_done, ended, is_pending, message_at, next_id, part_at}
@@ -45,23 +45,24 @@ use Rattle.sms_waiting.specs.Revisions.{Revised}
 use Rattle.sms_waiting.specs.Trying.{due_at, later}
 use Rattle.sms_centre.specs.declared.event.CentreEvent.{CentreEvent}
 use Rattle.sms_centre.specs.declared.event.CentreEvent.TheVariants.{Submit, Query, Cancel, Bound, Unbound, DeliverAnswered, Frame, LinkUp, LinkDown, Tick}
-use Rattle.sms_centre.specs.declared.refusal.SubmitRefusal.{SubmitRefusal}
-use Rattle.sms_centre.specs.declared.refusal.SubmitRefusal.TheVariants.{Duplicate, ReferenceTaken}
-use Rattle.sms_centre.specs.declared.setup.Account.{Account}
-use Rattle.sms_centre.specs.declared.submission.SinglePart.{SinglePart}
-use Rattle.sms_centre.specs.declared.submission.Submission.{Submission}
+use Rattle.sms_intake.specs.declared.refusal.SubmitRefusal.{SubmitRefusal}
+use Rattle.sms_intake.specs.declared.refusal.SubmitRefusal.TheVariants.{Duplicate, ReferenceTaken}
+use Rattle.sms_intake.specs.declared.submission.Account.{Account}
+use Rattle.sms_intake.specs.declared.submission.SinglePart.{SinglePart}
+use Rattle.sms_intake.specs.declared.submission.Submission.{Submission}
 use Rattle.sms_centre.specs.declared.verdict.Verdict.{Verdict}
 use Rattle.sms_centre.specs.declared.verdict.Verdict.TheVariants.{Settled, HandsetFull, Again, Refused, Late}
-use Rattle.sms_centre.specs.HandsetIntake.{from_tpdu}
+use Rattle.sms_intake.specs.HandsetIntake.{from_read}
 use Rattle.sms_centre.specs.Numbers.{id_in}
-use Rattle.sms_centre.specs.SmppIntake.{from_pdu, source_in, is_empty}
-use Rattle.sms_centre.specs.Submitting.{accept, accept_as, accept_split, accept_under, bodies_under, enter, give_part, give_parts, is_long, is_reference_taken, part_given, reference_for}
+use Rattle.sms_intake.specs.PartBodies.{bodies_under, is_long}
+use Rattle.sms_intake.specs.SmppIntake.{from_pdu, source_in, is_empty}
+use Rattle.sms_centre.specs.Submitting.{accept, accept_as, accept_split, accept_under, enter, give_part, give_parts, is_reference_taken, part_given, reference_for}
 use Rattle.sms_centre.specs.Ends.{end, is_wished, report, report_to, status_given}
 use Rattle.sms_centre.specs.Transfers.{complete, conclude, holder_ended, part_ended, part_ended_at, part_ended_of, report_closed, report_ended, report_ended_at, verdict_on}
 use Rattle.sms_centre.specs.Receiving.{all_due, due_now, is_duplicate, load_due, part_due, refuse, report_due, submit_accepted, submit_came as submission_from, unit_came}
 use Rattle.sms_centre.specs.Requests.{account_at, accepted, cancel_by, cancelled, message_numbered, own_message, queried, query_by, submission_came, submit_by}
 use Rattle.sms_centre.specs.Sessions.{answered_by, bind, bound_as, due_for, unbind, unbound_from}
-use Rattle.sms_centre.specs.CentreEvent.{aged, at_moment, drop_all, expire_all, expired, fire_at, fire_line, fire_mentioned, fire_others, fired, frame_taken, happened, is_mentioned, lost, lower, raise, raise_all, raised, report_limit, timed_out, went_up}
+use Rattle.sms_centre.specs.CentreEvent.{aged, at_moment, drop_all, expire_all, expired, fire_at, fire_line, fire_mentioned, fire_others, fired, frame_taken, happened, is_mentioned, lost, lower, raise, raise_all, raised, report_limit, tag_of, timed_out, went_up}
 use Rattle.sms_centre.specs.Draft.{Core, Draft, Store, draft_of, handsets_in, messages_in, on_air, parts_in, reports_in, waiting_in, with_given, with_message, with_part, with_part_at, with_priority, with_report_at, with_reports}
 
 -- the moves keep the fact
@@ -211,7 +212,7 @@ module _ (P : Store → Type 0) (c : Closed P) where
       (λ t. k) (λ t. submit_accepted_keeps h n tag (accept u d.store) d k (accept_keeps u d.store k)))
 
   pub unit_came_keeps : (h : List ℕ) (tag : Holder) (unit : List ℕ) (u : Result Rp RelayFault) (d : Draft) → P d.store → P (unit_came h tag unit u d).store
-  unit_came_keeps h tag unit (Ok (DataUnit r z t)) d k = submission_from_keeps h r tag (from_tpdu h d.store.moment (tpdu_up_at InData t)) d k
+  unit_came_keeps h tag unit (Ok (DataUnit r z t)) d k = submission_from_keeps h r tag (from_read h d.store.moment (tpdu_up_at InData t)) d k
   unit_came_keeps h tag unit (Ok (AckUnit r t)) d k = k
   unit_came_keeps h tag unit (Ok (ErrorUnit r z t)) d k = k
   unit_came_keeps h tag unit (Ok (Smma r)) d k = due_now_keeps h d.store k
@@ -384,7 +385,7 @@ module _ (P : Store → Type 0) (c : Closed P) where
   happened_keeps (Bound session account receives) core k = bind_keeps session account receives (draft_of core) k
   happened_keeps (Unbound session) core k = unbind_keeps session (draft_of core) k
   happened_keeps (DeliverAnswered session id b) core k = answered_by_keeps id b (row_at session_key session core.sessions) (draft_of core) k
-  happened_keeps (Frame handset octets tag) core k = frame_taken_keeps octets tag (line_of handset core.lines) (draft_of core) k
+  happened_keeps (Frame handset octets tag) core k = frame_taken_keeps octets (tag_of tag) (line_of handset core.lines) (draft_of core) k
   happened_keeps (LinkUp handset) core k = raise_keeps handset (draft_of core) k
   happened_keeps (LinkDown handset) core k = lower_keeps handset (draft_of core) k
   happened_keeps (Tick now) core k = ticked_keeps now (draft_of core) k

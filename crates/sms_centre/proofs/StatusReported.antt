@@ -5,7 +5,8 @@ use Rattle.sms_base.specs.declared.final_state.FinalState.TheVariants.{Delivered
 use Rattle.sms_waiting.specs.declared.handset.HandsetRow.{HandsetRow}
 use Rattle.sms_centre.specs.Draft.{Core, Draft, core_of}
 use Rattle.sms_centre.specs.CentreEvent.{submit_came, ticked}
-use Rattle.sms_centre.specs.ReceiptTexts.{status_octets}
+use Rattle.sms_receipt.specs.StatusReports.{status_octets}
+use Rattle.sms_centre.specs.Finals.{final_of}
 use Rattle.sms_centre.proofs.Everything.{everything}
 use Rattle.sms_centre.proofs.Worked.{hex, t0, handset_a, handset_b, begun, hello_to, comes, sent, row_of, references_of}
 
@@ -26,7 +27,7 @@ told_a : sent three ≡ hex (codes "0904") ∷ hex (codes "090125010007914477000
 unfolding everything
 told_a = refl
 
-octets : status_octets Delivered (t0 + 2) (row_of (core_of three).rows) ≡ hex (codes "06070C91447700094065422092329585004230100000000000")
+octets : status_octets (final_of Delivered (t0 + 2) (row_of (core_of three).rows)) ≡ hex (codes "06070C91447700094065422092329585004230100000000000")
 unfolding everything
 octets = refl
 

@@ -4,7 +4,8 @@ use Rattle.std.specs.Prelude.{codes}
 use Rattle.sms_base.specs.declared.final_state.FinalState.TheVariants.{Undeliverable}
 use Rattle.sms_centre.specs.Draft.{Draft, core_of}
 use Rattle.sms_centre.specs.CentreEvent.{submit_came, ticked}
-use Rattle.sms_centre.specs.ReceiptTexts.{receipt_text}
+use Rattle.sms_receipt.specs.ReceiptText.{receipt_text}
+use Rattle.sms_centre.specs.Finals.{final_of}
 use Rattle.sms_centre.proofs.Everything.{everything}
 use Rattle.sms_centre.proofs.Worked.{hex, t0, handset_b, begun, hello_to, comes, sent, states, told, row_of, attempts_of}
 
@@ -43,7 +44,7 @@ told_once : told refused ≡ 1 ∷ []
 unfolding everything
 told_once = refl
 
-text : receipt_text Undeliverable t0 (row_of (core_of refused).rows) ≡ codes "id:0000000001 sub:001 dlvrd:000 submit date:2402292359 done date:2402292359 stat:UNDELIV err:000 text:"
+text : receipt_text (final_of Undeliverable t0 (row_of (core_of refused).rows)) ≡ codes "id:0000000001 sub:001 dlvrd:000 submit date:2402292359 done date:2402292359 stat:UNDELIV err:000 text:"
 unfolding everything
 text = refl
 

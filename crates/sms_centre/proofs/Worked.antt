@@ -8,14 +8,14 @@ use Rattle.smpp_pdu.specs.declared.message.Message.{Message}
 use Rattle.smpp_pdu.specs.declared.cancel.CancelSm.{CancelSm}
 use Rattle.smpp_pdu.specs.declared.query.QuerySm.{QuerySm}
 use Rattle.sms_messages.specs.declared.message.MessageRow.{MessageRow}
-use Rattle.sms_messages.specs.declared.message.Originator.TheVariants.{Handset}
-use Rattle.sms_messages.specs.declared.message.Wish.TheVariants.{Nothing}
+use Rattle.sms_base.specs.declared.originator.Originator.TheVariants.{Handset}
+use Rattle.sms_base.specs.declared.wish.Wish.TheVariants.{Nothing}
 use Rattle.sms_messages.specs.declared.part.PartRow.{PartRow}
 use Rattle.sms_waiting.specs.declared.line.Sent.{Sent}
 use Rattle.sms_reports.specs.declared.report.ReportRow.{ReportRow}
 use Rattle.sms_centre.specs.declared.rows.Rows.{Rows}
 use Rattle.sms_centre.specs.declared.setup.Setup.{Setup}
-use Rattle.sms_centre.specs.Numbers.{own_address}
+use Rattle.sms_base.specs.HandsetNumber.{own_address}
 use Rattle.sms_reports.specs.Receipts.{Session}
 use Rattle.sms_centre.specs.Draft.{Core, Draft, messages_in, reports_in}
 use Rattle.sms_centre.specs.CentreEvent.{started, frame_came}

@@ -1,8 +1,9 @@
 -- An event of a centre: what it does, then what follows every event, receipts and the next offers.
-use Rattle.std.specs.Prelude.{ℕ, ◌&&◌, nat_le, max, List, [], ◌∷◌, Bool, true, false, if◌then◌else◌, Option, Some, None}
+use Rattle.std.specs.Prelude.{ℕ, ◌&&◌, nat_le, max, List, [], ◌∷◌, Bool, true, false, if◌then◌else◌, Option, Some, None, unwrap_or}
 use Rattle.sms_base.specs.declared.carried.Carried.{Carried}
 use Rattle.sms_base.specs.declared.final_state.FinalState.TheVariants.{Expired}
 use Rattle.sms_base.specs.declared.holder.Holder.{Holder}
+use Rattle.sms_base.specs.declared.holder.Holder.TheVariants.{Entry}
 use Rattle.sms_link.specs.declared.ending.Ending.TheVariants.{Lost}
 use Rattle.sms_link.specs.declared.ending.Side.TheVariants.{Centre}
 use Rattle.sms_link.specs.declared.ending.Upward.{Upward}
@@ -54,6 +55,10 @@ frame_taken octets tag line d = frame_heard line tag (taken octets line.link) d
 
 abbrev pub frame_came : List ℕ → List ℕ → Holder → Core → Draft
 frame_came handset octets tag c = follow (frame_taken octets tag (line_of handset c.lines) (draft_of c))
+
+-- A frame that comes without a tag, from a socket, is taken as one of entry 0, which no entry is.
+abbrev pub tag_of : Option Holder → Holder
+tag_of tag = unwrap_or tag (Entry 0)
 
 -- ---- a link comes up: the handset has memory, and all that waits for it is due now
 
@@ -184,7 +189,7 @@ happened (Cancel account wanted) c = cancel_came account wanted c
 happened (Bound session account receives) c = bound session account receives c
 happened (Unbound session) c = unbound session c
 happened (DeliverAnswered session id is_accepted) c = answered session id is_accepted c
-happened (Frame handset octets tag) c = frame_came handset octets tag c
+happened (Frame handset octets tag) c = frame_came handset octets (tag_of tag) c
 happened (LinkUp handset) c = link_up handset c
 happened (LinkDown handset) c = link_down handset c
 happened (Tick now) c = ticked now c

@@ -3,18 +3,19 @@ use Rattle.std.specs.Prelude.{ℕ, Bool, true, false, if◌then◌else◌, Optio
 use Rattle.sms_base.specs.declared.final_state.FinalState.{FinalState}
 use Rattle.sms_base.specs.declared.final_state.FinalState.TheVariants.{Delivered, Expired, Deleted, Undeliverable}
 use Rattle.sms_messages.specs.declared.message.MessageRow.{MessageRow}
-use Rattle.sms_messages.specs.declared.message.Originator.{Originator}
-use Rattle.sms_messages.specs.declared.message.Originator.TheVariants.{Application, Handset}
-use Rattle.sms_messages.specs.declared.message.Wish.{Wish}
-use Rattle.sms_messages.specs.declared.message.Wish.TheVariants.{Nothing, Always, OnFailure}
+use Rattle.sms_base.specs.declared.originator.Originator.{Originator}
+use Rattle.sms_base.specs.declared.originator.Originator.TheVariants.{Application, Handset}
+use Rattle.sms_base.specs.declared.wish.Wish.{Wish}
+use Rattle.sms_base.specs.declared.wish.Wish.TheVariants.{Nothing, Always, OnFailure}
 use Rattle.sms_messages.specs.Messages.{ended}
+use Rattle.sms_receipt.specs.StatusReports.{status_octets}
 use Rattle.sms_reports.specs.declared.report.ReportKind.{ReportKind}
 use Rattle.sms_reports.specs.declared.report.ReportKind.TheVariants.{Receipt, Status, Unsent}
 use Rattle.sms_reports.specs.Reports.{report_made}
 use Rattle.sms_waiting.specs.declared.handset.HandsetRow.{HandsetRow}
 use Rattle.sms_waiting.specs.References.{handset_of}
 use Rattle.sms_centre.specs.Draft.{Store, handsets_in, with_given, with_message, with_reports}
-use Rattle.sms_centre.specs.ReceiptTexts.{status_octets}
+use Rattle.sms_centre.specs.Finals.{final_of}
 use Rattle.sms_centre.specs.Submitting.{reference_for}
 
 -- ---- whether it is told
@@ -40,7 +41,7 @@ make_report id kind is_closed s = with_reports (report_made id kind is_closed s.
 abbrev pub status_given : FinalState → MessageRow → HandsetRow → Option ℕ → Store → Store
 status_given state m h None s = make_report m.id Unsent true s
 status_given state m h (Some reference) s =
-    make_report m.id (Status reference (status_octets state s.moment m)) false (with_given h reference s)
+    make_report m.id (Status reference (status_octets (final_of state s.moment m))) false (with_given h reference s)
 
 abbrev pub make_status : FinalState → MessageRow → HandsetRow → Store → Store
 make_status state m h s = status_given state m h (reference_for h s) s

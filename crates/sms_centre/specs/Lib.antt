@@ -1,10 +1,5 @@
-pub mod Times
-pub mod MoreMessages
-pub mod Bodies
 pub mod Numbers
-pub mod SmppIntake
-pub mod HandsetIntake
-pub mod ReceiptTexts
+pub mod Finals
 pub mod Draft
 pub mod Submitting
 pub mod Ends

@@ -5,6 +5,7 @@ use Rattle.sms_base.specs.declared.holder.Holder.TheVariants.{Part, Report}
 use Rattle.sms_link.specs.LinkTurn.{begun}
 use Rattle.sms_relay.specs.RelayGrammar.{data_down}
 use Rattle.sms_tpdu.specs.AddressGrammar.{relay_address}
+use Rattle.sms_tpdu.specs.MoreMessages.{telling}
 use Rattle.sms_messages.specs.declared.part.PartRow.{PartRow}
 use Rattle.sms_messages.specs.Messages.{part_at, part_key}
 use Rattle.sms_reports.specs.declared.report.ReportRow.{ReportRow}
@@ -18,7 +19,6 @@ use Rattle.sms_waiting.specs.Keys.{load_key}
 use Rattle.sms_waiting.specs.Lines.{Air, is_ready, line_of, read_for, turn_line}
 use Rattle.sms_waiting.specs.Waiting.{next, waits_beside}
 use Rattle.sms_centre.specs.Draft.{Draft, Store, handsets_in, on_air, parts_in, reports_in, waiting_in}
-use Rattle.sms_centre.specs.MoreMessages.{telling}
 
 -- ---- the TPDU of what waits, as made when its reference was given
 

@@ -15,8 +15,8 @@ use Rattle.sms_relay.specs.RelayGrammar.{ack_down, error_down}
 use Rattle.sms_tpdu.specs.declared.carrier.Carrier.TheVariants.{InData}
 use Rattle.sms_tpdu.specs.TpduReading.{up_at as tpdu_up_at}
 use Rattle.sms_messages.specs.declared.message.MessageRow.{MessageRow}
-use Rattle.sms_messages.specs.declared.message.Originator.{Originator}
-use Rattle.sms_messages.specs.declared.message.Originator.TheVariants.{Application, Handset}
+use Rattle.sms_base.specs.declared.originator.Originator.{Originator}
+use Rattle.sms_base.specs.declared.originator.Originator.TheVariants.{Application, Handset}
 use Rattle.sms_messages.specs.declared.part.PartRow.{PartRow}
 use Rattle.sms_messages.specs.Messages.{is_pending, part_at}
 use Rattle.sms_reports.specs.declared.report.ReportRow.{ReportRow}
@@ -25,10 +25,12 @@ use Rattle.sms_waiting.specs.declared.line.Line.{Line}
 use Rattle.sms_waiting.specs.declared.load.Load.{Load}
 use Rattle.sms_waiting.specs.Lines.{Air, emptied, line_of, put_line, turn_line}
 use Rattle.sms_waiting.specs.Trying.{due_at}
-use Rattle.sms_centre.specs.declared.refusal.SubmitRefusal.{SubmitRefusal}
-use Rattle.sms_centre.specs.declared.refusal.SubmitRefusal.TheVariants.{Duplicate, ReferenceTaken, Congested}
-use Rattle.sms_centre.specs.declared.submission.Submission.{Submission}
-use Rattle.sms_centre.specs.HandsetIntake.{from_tpdu, cause_of, accepting_report, refusing_report}
+use Rattle.sms_intake.specs.declared.refusal.SubmitRefusal.{SubmitRefusal}
+use Rattle.sms_intake.specs.declared.refusal.SubmitRefusal.TheVariants.{Duplicate, ReferenceTaken, Congested}
+use Rattle.sms_intake.specs.declared.submission.Submission.{Submission}
+use Rattle.sms_intake.specs.HandsetIntake.{from_read}
+use Rattle.sms_intake.specs.Refusals.{cause_of}
+use Rattle.sms_intake.specs.SubmitReports.{accepting_report, refusing_report}
 use Rattle.sms_centre.specs.Submitting.{accept, is_reference_taken}
 use Rattle.sms_centre.specs.Draft.{Draft, Store, messages_in, on_air, parts_in, reports_in, waiting_in, with_part_at, with_report_at}
 
@@ -105,7 +107,7 @@ submit_came handset reference tag (Ok s) d =
 
 abbrev pub data_came : List ℕ → ℕ → Holder → List ℕ → Draft → Draft
 data_came handset reference tag tpdu d =
-    submit_came handset reference tag (from_tpdu handset d.store.moment (tpdu_up_at InData tpdu)) d
+    submit_came handset reference tag (from_read handset d.store.moment (tpdu_up_at InData tpdu)) d
 
 -- ---- RP-SMMA (3GPP TS 24.011 7.3.2): the handset has memory, and all that waits for it is due now
 

@@ -12,10 +12,10 @@ use Rattle.sms_messages.specs.Messages.{is_pending, message_at, next_id}
 use Rattle.sms_messages.specs.SplitReferences.{is_same_address}
 use Rattle.sms_reports.specs.Receipts.{is_account}
 use Rattle.sms_centre.specs.declared.answer.CentreAnswer.TheVariants.{Submitted, Queried, Cancelled, Refused}
-use Rattle.sms_centre.specs.declared.setup.Account.{Account}
-use Rattle.sms_centre.specs.declared.submission.Submission.{Submission}
+use Rattle.sms_intake.specs.declared.submission.Account.{Account}
+use Rattle.sms_intake.specs.declared.submission.Submission.{Submission}
 use Rattle.sms_centre.specs.Numbers.{id_in}
-use Rattle.sms_centre.specs.SmppIntake.{from_pdu, source_in, is_empty}
+use Rattle.sms_intake.specs.SmppIntake.{from_pdu, source_in, is_empty}
 use Rattle.sms_centre.specs.Submitting.{accept, is_reference_taken}
 use Rattle.sms_centre.specs.Ends.{end}
 use Rattle.sms_centre.specs.Draft.{Draft, Store, answer_with, in_store, messages_in}

@@ -4,7 +4,7 @@ use Rattle.sms_table.specs.Table.{row_at}
 use Rattle.sms_messages.specs.SplitReferences.{is_among}
 use Rattle.sms_reports.specs.Receipts.{Session, all_tried, answered_in, put_session, receipt_ended, receipts_due, remove_session, send_all, session_key}
 use Rattle.sms_reports.specs.Reports.{report_of}
-use Rattle.sms_centre.specs.declared.setup.Account.{Account}
+use Rattle.sms_intake.specs.declared.submission.Account.{Account}
 use Rattle.sms_centre.specs.Draft.{Draft, Store, messages_in, reports_in, with_reports}
 use Rattle.sms_centre.specs.Requests.{account_at}
 

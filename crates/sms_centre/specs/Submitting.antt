@@ -1,36 +1,17 @@
 -- A submission that passed all checks becomes a message: a number, a reference for each part, and the parts. All of it or none.
-use Rattle.std.specs.Prelude.{ℕ, ◌+◌, nat_lt, nat_le, List, [], ◌∷◌, length, Bool, false, if◌then◌else◌, Option, Some, None, Result, Ok, Err}
+use Rattle.std.specs.Prelude.{ℕ, ◌+◌, nat_le, List, [], ◌∷◌, Bool, false, if◌then◌else◌, Option, Some, None}
 use Rattle.std.specs.Option.{option_and_then}
-use Rattle.sms_concat.specs.declared.content.Part.{Part}
-use Rattle.sms_concat.specs.declared.split_error.SplitError.{SplitError}
-use Rattle.sms_concat.specs.Splitting.{split_of}
-use Rattle.sms_concat.specs.UserData.{capacity}
 use Rattle.sms_messages.specs.declared.message.MessageRow.{MessageRow}
 use Rattle.sms_messages.specs.Messages.{next_id}
 use Rattle.sms_messages.specs.SplitReferences.{next_split, held_splits, wide_in, is_taken}
 use Rattle.sms_waiting.specs.declared.handset.HandsetRow.{HandsetRow}
 use Rattle.sms_waiting.specs.References.{handset_of, next_reference}
-use Rattle.sms_centre.specs.declared.submission.SinglePart.{SinglePart}
-use Rattle.sms_centre.specs.declared.submission.Submission.{Submission}
-use Rattle.sms_centre.specs.declared.submission.Text.{Text}
-use Rattle.sms_centre.specs.declared.submission.Text.TheVariants.{Whole, Single}
-use Rattle.sms_centre.specs.Bodies.{bodies_of, deliver_octets}
+use Rattle.sms_intake.specs.declared.submission.SinglePart.{SinglePart}
+use Rattle.sms_intake.specs.declared.submission.Submission.{Submission}
+use Rattle.sms_intake.specs.declared.submission.Text.{Text}
+use Rattle.sms_intake.specs.declared.submission.Text.TheVariants.{Whole, Single}
+use Rattle.sms_intake.specs.PartBodies.{bodies_under, deliver_octets, is_long}
 use Rattle.sms_centre.specs.Draft.{Store, handsets_in, messages_in, parts_in, references_in, waiting_in, with_given, with_message, with_part, with_priority}
-
--- ---- the parts of a text
-
-abbrev pub parts_or_none : Result (List Part) SplitError → List Part
-parts_or_none (Ok parts) = parts
-parts_or_none (Err fault) = []
-
--- a content that doesn't fit one part is split under a reference
-abbrev pub is_long : Text → Bool
-is_long (Whole content) = nat_lt (capacity content.coding) (length content.units)
-is_long (Single part) = false
-
-abbrev pub bodies_under : ℕ → Text → List SinglePart
-bodies_under reference (Whole content) = bodies_of (parts_or_none (split_of content reference))
-bodies_under reference (Single part) = part ∷ []
 
 -- ---- its parts, each under the next reference
 

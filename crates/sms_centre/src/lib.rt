@@ -10,17 +10,13 @@ mod answer;
 mod event;
 pub mod laws;
 mod plan_error;
-mod refusal;
 mod rows;
 mod setup;
-mod submission;
 mod verdict;
 
 pub use answer::CentreAnswer;
 pub use event::CentreEvent;
 pub use plan_error::PlanError;
-pub use refusal::SubmitRefusal;
 pub use rows::{Changes, Rows};
-pub use setup::{Account, Setup};
-pub use submission::{SinglePart, Submission, Text};
+pub use setup::Setup;
 pub use verdict::Verdict;

@@ -7,4 +7,6 @@ pub mod Uniqueness
 pub mod HeaderKeys
 pub mod Stepwise
 pub mod Room
+pub mod Tallies
+pub mod Bodies
 mod Rows

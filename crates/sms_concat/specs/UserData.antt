@@ -1,7 +1,7 @@
 -- 3GPP TS 23.040 9.2.3.16 and 9.2.3.24: what TP-UDL counts, and what stands in TP-UD.
 use Rattle.std.specs.Prelude.{◌≡◌, ℕ, ◌+◌, ◌-◌, ◌/◌, ◌%◌, ◌<◌, ◌≤◌, List, [], ◌∷◌, ◌++◌, length, drop, Bool, true, false, Option, Some, None, Result, Ok, Err, nat_lt, if◌then◌else◌}
 use Rattle.sms_base.specs.Reading.{◌>>=◌}
-use Rattle.sms_alphabet.specs.Packing.{IsPacking, AreSeptets, unpacked}
+use Rattle.sms_alphabet.specs.Packing.{packed, IsPacking, AreSeptets, unpacked}
 use Rattle.sms_alphabet.specs.DataCodingScheme.{coding_of}
 pub use Rattle.sms_alphabet.specs.UserDataLength.{fill_bits, greatest_length as capacity, header_septets}
 use Rattle.sms_alphabet.specs.declared.scheme.Coding.{Coding}
@@ -56,6 +56,21 @@ pub record IsUserData (header : List ℕ) (content : Content) (user : UserData) 
   pub indicator_is : user.header_indicator ≡ is_there header
   pub length_is : user.length ≡ data_length content.coding (length header) (length content.units)
   pub body_is : IsBody content.coding header content.units user.octets
+
+-- the one list of those octets
+abbrev pub body_octets : List ℕ → Coding → List ℕ → List ℕ
+body_octets header Septets units = header ++ packed (fill_bits (length header)) units
+body_octets header Octets units = header ++ units
+body_octets header Ucs2 units = header ++ units
+body_octets header Compressed units = header ++ units
+
+-- and those fields
+abbrev pub user_data_behind : List ℕ → Content → UserData
+user_data_behind header content = record {
+  header_indicator = is_there header;
+  length = data_length content.coding (length header) (length content.units);
+  octets = body_octets header content.coding content.units;
+}
 
 -- septets are below 128
 abbrev pub AreUnits : Coding → List ℕ → Type 0

@@ -14,7 +14,7 @@ ghost use Rattle.sms_concat.specs.HeaderGrammar.{written, header_at, BeginsWith,
 ghost use Rattle.sms_concat.specs.Joining.{content_joined, is_same_reference};
 ghost use Rattle.sms_concat.specs.Splitting.{IsSplit, IsUncut, split_of};
 ghost use Rattle.sms_concat.specs.StepwiseJoining.{AreSameParts, IsTaken, Taken, has_number, is_full, joined_stepwise, none_taken, takes, with_part};
-ghost use Rattle.sms_concat.specs.UserData.{header_of, header_key, AreUnits, HasRoom, IsPart, IsUserData, part_in};
+ghost use Rattle.sms_concat.specs.UserData.{header_of, header_key, AreUnits, HasRoom, IsPart, IsUserData, part_in, user_data_behind};
 
 /// What is computed of a header from left to right is exactly what the grammar says of its octets.
 pub fn header_is_read_by_the_grammar()
@@ -102,4 +102,9 @@ pub fn same_references_are_equal()
 /// A part that is read has the data coding scheme of the fields, the coding that it names and the header's key.
 pub fn read_part_says_the_fields()
     ensures { (indicator : Bool) (dcs total : ℕ) (octets : List ℕ) (part : PartOf) → part_in indicator dcs total octets ≡ Ok part → (part.content.dcs ≡ dcs) × (part.content.coding ≡ coding_of dcs) × (part.key ≡ header_key indicator octets) }
+{}
+
+/// The user data of a content behind a header carries it.
+pub fn user_data_carries_its_content()
+    ensures { (header : List ℕ) (content : ContentOf) → AreUnits content.coding content.units → IsUserData header content (user_data_behind header content) }
 {}

@@ -1,7 +1,7 @@
 //! How much a short message has room for.
-ghost use Rattle.std.specs.Prelude.{◌≡◌, ◌↔◌, true, ◌≤◌, ◌<◌, length};
+ghost use Rattle.std.specs.Prelude.{◌≡◌, ◌↔◌, true, ◌≤◌, ◌<◌, length, nat_le};
 ghost use Rattle.sms_alphabet.specs.Packing.{AreSeptets};
-ghost use Rattle.sms_concat.specs.UserData.{data_length, header_of, AreUnits, Fits, HasRoom};
+ghost use Rattle.sms_concat.specs.UserData.{capacity, data_length, header_of, AreUnits, Fits, HasRoom};
 
 use crate::concat_key::{ConcatKey, ConcatReference};
 use crate::content::{Content, Part};
@@ -29,7 +29,7 @@ fn are_units(coding: Coding, units: &[u8]) -> bool
 }
 
 // How much of TP-UDL a header of so many octets takes.
-fn taken(coding: Coding, header: usize) -> usize
+pub(crate) fn taken(coding: Coding, header: usize) -> usize
     requires { header ≤ 256 }
     ensures { result ≡ data_length coding header 0 }
 {
@@ -39,21 +39,29 @@ fn taken(coding: Coding, header: usize) -> usize
     }
 }
 
+/// Whether so many units fit one short message behind a header of so many octets: at most 160 septets or 140 octets, the
+/// header included.
+pub fn units_fit_behind(coding: Coding, header: usize, units: usize) -> bool
+    requires { header ≤ 256 }
+    ensures { result ≡ nat_le (data_length coding header units) (capacity coding) }
+{
+    let taken = taken(coding, header);
+    let capacity = usize::from(greatest_length(coding));
+    taken <= capacity && units <= capacity - taken
+}
+
 /// Whether a content fits one short message behind a header of so many octets, 0 for none: at most 160 septets,
 /// each below 128, or 140 octets, the header included.
 pub fn fits_behind(header: usize, content: &Content) -> bool
     requires { header ≤ 256 }
     ensures { (result ≡ true) ↔ Fits header content.now }
 {
-    let taken = taken(content.coding, header);
-    let capacity = usize::from(greatest_length(content.coding));
-    taken <= capacity
-        && content.units.len() <= capacity - taken
+    units_fit_behind(content.coding, header, content.units.len())
         && are_units(content.coding, content.units.as_slice())
 }
 
-// How many octets the header of a key has.
-fn header_len(key: Option<ConcatKey>) -> usize
+/// How many octets the header of a key has, at most 7.
+pub fn header_length(key: Option<ConcatKey>) -> usize
     ensures is { result ≡ length (header_of key) }
     ensures short { result ≤ 256 }
 {
@@ -70,5 +78,5 @@ fn header_len(key: Option<ConcatKey>) -> usize
 pub fn fits(part: &Part) -> bool
     ensures { (result ≡ true) ↔ HasRoom part.now }
 {
-    fits_behind(header_len(part.key), &part.content)
+    fits_behind(header_length(part.key), &part.content)
 }

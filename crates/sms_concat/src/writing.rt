@@ -1,7 +1,7 @@
 //! The user data of a part, written.
-ghost use Rattle.std.specs.Prelude.{◌≡◌, ℕ, ◌/◌, ◌≤◌, ◌++◌, List, length, IfOk};
-ghost use Rattle.sms_alphabet.specs.Packing.{IsPacking, AreSeptets};
-ghost use Rattle.sms_concat.specs.UserData.{fill_bits, data_length, capacity, header_of, IsBody, IsUserData, Fits, HasRoom};
+ghost use Rattle.std.specs.Prelude.{◌≡◌, ◌/◌, ◌≤◌, ◌++◌, length, IfOk};
+ghost use Rattle.sms_alphabet.specs.Packing.{AreSeptets, packed};
+ghost use Rattle.sms_concat.specs.UserData.{fill_bits, data_length, capacity, header_of, body_octets, user_data_behind, IsUserData, Fits, HasRoom};
 
 use crate::concat_key::ConcatReference;
 use crate::content::{Content, Part, UserData};
@@ -23,7 +23,7 @@ fn joined(alloc: Global, front: &[u8], behind: &[u8]) -> Result<Octets, AllocErr
 fn packed_behind(alloc: Global, header: &[u8], septets: &[u8]) -> Result<Octets, AllocError>
     requires short { length header.now ≤ 256 }
     requires septets { AreSeptets septets.now }
-    ensures { IfOk result (λ octets. (packed : List ℕ) × IsPacking septets.now (fill_bits (length header.now)) packed × (octets ≡ header.now ++ packed)) }
+    ensures { IfOk result (λ octets. octets ≡ header.now ++ packed (fill_bits (length header.now)) septets.now) }
 {
     let packed = pack(alloc, septets, fill_bits(header.len()))?;
     if header.is_empty() {
@@ -46,7 +46,7 @@ fn data_length(coding: Coding, header: usize, units: usize) -> u8
 // The octets of the header and the units.
 fn body_of(alloc: Global, header: &[u8], content: &Content) -> Result<Octets, AllocError>
     requires { Fits (length header.now) content.now }
-    ensures { IfOk result (λ octets. IsBody content.now.coding header.now content.now.units octets) }
+    ensures { IfOk result (λ octets. octets ≡ body_octets header.now content.now.coding content.now.units) }
 {
     match content.coding {
         Coding::Septets => packed_behind(alloc, header, content.units.as_slice()),
@@ -61,7 +61,8 @@ pub fn user_data_behind(
     content: &Content,
 ) -> Result<UserData, AllocError>
     requires { Fits (length header.now) content.now }
-    ensures { IfOk result (λ user. IsUserData header.now content.now user) }
+    ensures carries { IfOk result (λ user. IsUserData header.now content.now user) }
+    ensures exact { IfOk result (λ user. user ≡ user_data_behind header.now content.now) }
 {
     let octets = body_of(alloc, header, content)?;
     Ok(UserData {
@@ -81,7 +82,8 @@ fn high_octet(number: u16) -> u8
 /// The user data of a part, which begins with the header of its key.
 pub fn user_data(alloc: Global, part: &Part) -> Result<UserData, AllocError>
     requires { HasRoom part.now }
-    ensures { IfOk result (λ user. IsUserData (header_of part.now.key) part.now.content user) }
+    ensures carries { IfOk result (λ user. IsUserData (header_of part.now.key) part.now.content user) }
+    ensures exact { IfOk result (λ user. user ≡ user_data_behind (header_of part.now.key) part.now.content) }
 {
     match part.key {
         None => user_data_behind(alloc, &[], &part.content),

@@ -1,7 +1,10 @@
 -- A SUBMIT from a handset (3GPP TS 23.040 9.2.2.2): the checks that need no rows, in order, and the submission.
-use Rattle.std.specs.Prelude.{◌≡◌, ℕ, nat_le, not, List, Bool, true, false, Some, Result, Ok, Err}
+use Rattle.std.specs.Prelude.{◌≡◌, ℕ, nat_le, not, List, Bool, true, false, Result, Ok, Err}
 use Rattle.sms_base.specs.HandsetNumber.{names_handset, own_address}
 use Rattle.sms_base.specs.Reading.{◌>>=◌, only_if}
+use Rattle.sms_base.specs.declared.originator.Originator.TheVariants.{Handset}
+use Rattle.sms_base.specs.declared.wish.Wish.{Wish}
+use Rattle.sms_base.specs.declared.wish.Wish.TheVariants.{Nothing, Always}
 use Rattle.sms_concat.specs.UserData.{header_key}
 use Rattle.sms_tpdu.specs.declared.fault.TpduFault.{TpduFault}
 use Rattle.sms_tpdu.specs.declared.submit.Submit.{Submit as SubmitOf}
@@ -15,9 +18,7 @@ use Rattle.sms_intake.specs.declared.refusal.SubmitError.TheVariants.{Refused, N
 use Rattle.sms_intake.specs.declared.refusal.SubmitRefusal.{SubmitRefusal}
 use Rattle.sms_intake.specs.declared.refusal.SubmitRefusal.TheVariants.{WrongType, NoHandset, PastLimit}
 use Rattle.sms_intake.specs.declared.submission.Submission.{Submission}
-use Rattle.sms_intake.specs.declared.submission.Text.TheVariants.{Given}
-use Rattle.sms_intake.specs.declared.submission.Wish.{Wish}
-use Rattle.sms_intake.specs.declared.submission.Wish.TheVariants.{Nothing, Always}
+use Rattle.sms_intake.specs.declared.submission.Text.TheVariants.{Single}
 use Rattle.sms_intake.specs.Refusals.{unread}
 
 -- an absolute limit at or before the moment
@@ -34,7 +35,7 @@ wish_of true = Always
 -- It comes from the handset itself and goes at once, without urgency, and its user data passes octet for octet.
 abbrev pub submission_of : List ℕ → ℕ → SubmitOf → Submission
 submission_of from now s = record {
-  message_reference = Some s.message_reference;
+  originator = Handset s.message_reference;
   source = own_address from;
   handset = s.destination_address.digits;
   protocol_identifier = s.protocol_identifier;
@@ -44,8 +45,13 @@ submission_of from now s = record {
   limit = kept_until s.validity_period now;
   due = now;
   priority = 0;
-  text = Given s.data_coding_scheme (record { header_indicator = s.user_data_header_indicator; length = s.user_data.length; octets = s.user_data.octets });
-  key = header_key s.user_data_header_indicator s.user_data.octets;
+  text = Single (record {
+    header_indicator = s.user_data_header_indicator;
+    data_coding_scheme = s.data_coding_scheme;
+    length = s.user_data.length;
+    octets = s.user_data.octets;
+    key = header_key s.user_data_header_indicator s.user_data.octets;
+  });
 }
 
 -- the destination is a handset, then the limit isn't past

@@ -1,3 +1,4 @@
+pub mod Forms
 pub mod HandsetIntake
 pub mod PartBodies
 pub mod Refusals

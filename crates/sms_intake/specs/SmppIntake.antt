@@ -7,13 +7,13 @@ use Rattle.sms_base.specs.declared.address_error.AddressError.{AddressError}
 use Rattle.sms_base.specs.Address.{address_of}
 use Rattle.sms_base.specs.HandsetNumber.{names_handset}
 use Rattle.sms_base.specs.Reading.{◌>>=◌, only_if}
+use Rattle.sms_base.specs.declared.originator.Originator.TheVariants.{Application}
+use Rattle.sms_base.specs.declared.wish.Wish.{Wish}
+use Rattle.sms_base.specs.declared.wish.Wish.TheVariants.{Nothing, Always, OnFailure}
 use Rattle.sms_base.specs.SmppTime.{smpp_time_in}
 use Rattle.sms_alphabet.specs.declared.scheme.Coding.{Coding}
 use Rattle.sms_alphabet.specs.declared.scheme.Coding.TheVariants.{Septets, Octets, Ucs2, Compressed}
-use Rattle.sms_alphabet.specs.declared.spelling.SpellingError.{SpellingError}
 use Rattle.sms_alphabet.specs.DataCodingScheme.{coding_of}
-use Rattle.sms_alphabet.specs.Spelling.{spelled}
-use Rattle.sms_alphabet.specs.Ucs2.{ucs2_for}
 use Rattle.sms_concat.specs.declared.concat_key.ConcatKey.{ConcatKey}
 use Rattle.sms_concat.specs.declared.concat_key.ConcatReference.TheVariants.{SixteenBit}
 use Rattle.sms_concat.specs.declared.content.Content.{Content}
@@ -24,6 +24,7 @@ use Rattle.sms_concat.specs.declared.split_error.SplitError.{SplitError}
 use Rattle.sms_concat.specs.Concatenation.{counted, key_of}
 use Rattle.sms_concat.specs.HeaderGrammar.{header_at}
 use Rattle.sms_concat.specs.Splitting.{split_of}
+use Rattle.sms_concat.specs.TextContent.{content_of_text}
 use Rattle.sms_concat.specs.UserData.{capacity, data_length, header_of}
 use Rattle.smpp_pdu.specs.declared.address.SmeAddress.{SmeAddress}
 use Rattle.smpp_pdu.specs.declared.message.Message.{Message}
@@ -35,11 +36,12 @@ use Rattle.sms_tpdu.specs.ValidityTable.{later}
 use Rattle.sms_intake.specs.declared.refusal.SmppError.{SmppError}
 use Rattle.sms_intake.specs.declared.refusal.SmppError.TheVariants.{Refused, NoMemory}
 use Rattle.sms_intake.specs.declared.smpp_front.Front.{Front}
+use Rattle.sms_intake.specs.declared.smpp_intake.Judged.{Judged}
+use Rattle.sms_intake.specs.declared.submission.Account.{Account}
 use Rattle.sms_intake.specs.declared.submission.Submission.{Submission}
 use Rattle.sms_intake.specs.declared.submission.Text.{Text}
-use Rattle.sms_intake.specs.declared.submission.Text.TheVariants.{Whole, Headed}
-use Rattle.sms_intake.specs.declared.submission.Wish.{Wish}
-use Rattle.sms_intake.specs.declared.submission.Wish.TheVariants.{Nothing, Always, OnFailure}
+use Rattle.sms_intake.specs.declared.submission.Text.TheVariants.{Whole, Single}
+use Rattle.sms_intake.specs.PartBodies.{body_behind}
 
 abbrev pub is_empty : List ℕ → Bool
 is_empty octets = length octets == 0
@@ -115,17 +117,12 @@ octets_at dcs octets = Ok (record { coding = Octets; dcs = dcs; units = octets }
 abbrev pub ucs2_at : List ℕ → Result Content CommandStatus
 ucs2_at octets = Ok (record { coding = Ucs2; dcs = 8; units = octets })
 
--- the default alphabet where each character has a code there, else UCS2
-abbrev pub content_spelled : List ℕ → Result (List ℕ) SpellingError → Content
-content_spelled text (Ok septets) = record { coding = Septets; dcs = 0; units = septets }
-content_spelled text (Err fault) = record { coding = Ucs2; dcs = 8; units = ucs2_for text }
-
 abbrev pub are_below : ℕ → List ℕ → Bool
 are_below bound octets = list_all (λ c. nat_lt c bound) octets
 
 -- characters below a bound
 abbrev pub text_at : ℕ → List ℕ → Result Content CommandStatus
-text_at bound octets = if are_below bound octets then Ok (content_spelled octets (spelled octets)) else Err ESME_RSUBMITFAIL
+text_at bound octets = if are_below bound octets then Ok (content_of_text octets) else Err ESME_RSUBMITFAIL
 
 -- the data coding scheme itself: octets or septets
 abbrev pub class_at : ℕ → Coding → List ℕ → Result Content CommandStatus
@@ -167,38 +164,35 @@ abbrev pub splits : Result (List Part) SplitError → Bool
 splits (Ok parts) = true
 splits (Err fault) = false
 
--- a text and the key of its own header
-abbrev pub Keyed : Type 0
-Keyed = Text × Option ConcatKey
-
 -- one part behind a header, which it has to fit
-abbrev pub headed : List ℕ → Option ConcatKey → Content → Result Keyed CommandStatus
-headed header key content =
+abbrev pub single_behind : List ℕ → Option ConcatKey → Content → Result Text CommandStatus
+single_behind header key content =
     if nat_le (data_length content.coding (length header) (length content.units)) (capacity content.coding)
-    then Ok (Headed header content, key) else Err ESME_RINVMSGLEN
+    then Ok (Single (body_behind header key content)) else Err ESME_RINVMSGLEN
 
-abbrev pub whole_of : Content → Result Keyed CommandStatus
-whole_of content = if splits (split_of content 0) then Ok (Whole content, None) else Err ESME_RINVMSGLEN
+-- as many parts as it takes
+abbrev pub whole_of : Content → Result Text CommandStatus
+whole_of content = if splits (split_of content 0) then Ok (Whole content) else Err ESME_RINVMSGLEN
 
--- behind a header of sar values, or without one
-abbrev pub keyed_text : Option ConcatKey → Content → Result Keyed CommandStatus
-keyed_text None content = whole_of content
-keyed_text (Some key) content = headed (header_of (Some key)) (Some key) content
+-- one part behind a header of sar values, or as many as it takes
+abbrev pub text_of : Option ConcatKey → Content → Result Text CommandStatus
+text_of None content = whole_of content
+text_of (Some key) content = single_behind (header_of (Some key)) (Some key) content
 
-unfoldable pub headed_text : ℕ → List ℕ → Result Keyed CommandStatus
+unfoldable pub headed_text : ℕ → List ℕ → Result Text CommandStatus
 headed_text data_coding octets = do
   key ← header_read (header_at octets)
   content ← content_at data_coding (drop (header_size octets) octets)
   whole ← only_if (are_whole content.coding content.units) ESME_RINVMSGLEN
-  headed (take (header_size octets) octets) key content
+  single_behind (take (header_size octets) octets) key content
 
-unfoldable pub plain_text : ℕ → Tlvs → List ℕ → Result Keyed CommandStatus
+unfoldable pub plain_text : ℕ → Tlvs → List ℕ → Result Text CommandStatus
 plain_text data_coding t octets = do
   content ← content_at data_coding octets
   whole ← only_if (are_whole content.coding content.units) ESME_RINVMSGLEN
-  keyed_text (sar_key t.sar_msg_ref_num t.sar_total_segments t.sar_segment_seqnum) content
+  text_of (sar_key t.sar_msg_ref_num t.sar_total_segments t.sar_segment_seqnum) content
 
-abbrev pub text_in : Message → Result Keyed CommandStatus
+abbrev pub text_in : Message → Result Text CommandStatus
 text_in m = if has_header m then headed_text m.data_coding (said m) else plain_text m.data_coding m.tlvs (said m)
 
 -- ---- times
@@ -236,26 +230,34 @@ front_in own m = do
   alone ← only_if (not (has_too_much m)) ESME_ROPTPARNOTALLWD
   Ok (record { source = source; handset = handset })
 
-unfoldable pub from_pdu : Address → ℕ → Message → Result Submission CommandStatus
-from_pdu own now m = do
+-- then what it says, and its times
+unfoldable pub judged_in : Address → ℕ → Message → Result Judged CommandStatus
+judged_in own now m = do
   front ← front_in own m
   text ← text_in m
   limit ← limit_in now m.validity_period
   due ← due_in now limit m.schedule_delivery_time
-  Ok (record {
-    message_reference = None;
-    source = front.source;
-    handset = front.handset;
-    protocol_identifier = m.protocol_id;
-    reply_path = bit m.esm_class 128;
-    wish = wish_in m.registered_delivery;
-    rejects_duplicates = false;
-    limit = limit;
-    due = due;
-    priority = min m.priority_flag 3;
-    text = text.0;
-    key = text.1;
-  })
+  Ok (record { front = front; text = text; limit = limit; due = due })
+
+abbrev pub submission_for : Account → Message → Judged → Submission
+submission_for account m j = record {
+  originator = Application account.name;
+  source = j.front.source;
+  handset = j.front.handset;
+  protocol_identifier = m.protocol_id;
+  reply_path = bit m.esm_class 128;
+  wish = wish_in m.registered_delivery;
+  rejects_duplicates = false;
+  limit = j.limit;
+  due = j.due;
+  priority = min m.priority_flag 3;
+  text = j.text;
+}
+
+unfoldable pub from_pdu : Account → ℕ → Message → Result Submission CommandStatus
+from_pdu account now m = do
+  judged ← judged_in account.address now m
+  Ok (submission_for account m judged)
 
 -- ---- with memory
 

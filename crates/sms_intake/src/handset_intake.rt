@@ -6,8 +6,8 @@ ghost use Rattle.sms_tpdu.specs.declared.carrier.Carrier.TheVariants.{InData};
 ghost use Rattle.sms_intake.specs.HandsetIntake.{Answers, from_read, from_submit, is_past, submission_of, wish_of};
 
 use crate::refusal::{SubmitError, SubmitRefusal};
-use crate::submission::{GivenData, Submission, Text, Wish};
-use sms_base::{Address, Digits, Moment, Octets, Priority};
+use crate::submission::{SinglePart, Submission, Text};
+use sms_base::{Address, Digits, Moment, Octets, Originator, Priority, Wish};
 use sms_concat::{ConcatKey, Header, concat_info};
 use sms_tpdu::{Carrier, Submit, Up, ValidityPeriod, read_up, validity};
 use std::alloc::{AllocError, Global};
@@ -56,7 +56,9 @@ fn submission_of(
 {
     let octets = submit.user_data.octets.as_slice();
     Ok(Submission {
-        message_reference: Some(submit.message_reference),
+        originator: Originator::Handset {
+            message_reference: submit.message_reference,
+        },
         source: Address::of_handset(from),
         handset: submit.destination_address.digits,
         protocol_identifier: submit.protocol_identifier,
@@ -66,15 +68,13 @@ fn submission_of(
         limit: validity(submit.validity_period, now),
         due: now,
         priority: Priority::lowest(),
-        key: header_key(submit.user_data_header_indicator, octets),
-        text: Text::Given {
+        text: Text::Single(SinglePart {
+            header_indicator: submit.user_data_header_indicator,
             data_coding_scheme: submit.data_coding_scheme,
-            user_data: GivenData {
-                header_indicator: submit.user_data_header_indicator,
-                length: submit.user_data.length,
-                octets: Octets::copy_of(alloc, octets)?,
-            },
-        },
+            length: submit.user_data.length,
+            octets: Octets::copy_of(alloc, octets)?,
+            key: header_key(submit.user_data_header_indicator, octets),
+        }),
     })
 }
 

@@ -1,7 +1,7 @@
 //! Why a SUBMIT is refused.
 ghost use Rattle.std.specs.Prelude.{◌≡◌};
 ghost use Rattle.sms_intake.specs.Refusals.{cause_of, failure_of, unread};
-ghost use Rattle.sms_intake.specs.declared.refusal.SmppError.TheVariants.{NoMemory as NoMemoryToo};
+ghost use Rattle.sms_intake.specs.declared.refusal.SmppError.TheVariants.{NoMemory as NoMemoryToo, Refused};
 ghost use Rattle.sms_intake.specs.declared.refusal.SubmitError.TheVariants.{NoMemory};
 
 use smpp_pdu::CommandStatus;
@@ -105,6 +105,14 @@ pub enum SmppError {
     /// There was no memory.
     #[error("out of memory")]
     NoMemory,
+}
+
+impl From<CommandStatus> for SmppError {
+    ghost from_gives = { λ status e. e ≡ Refused status };
+
+    fn from(status: CommandStatus) -> SmppError {
+        SmppError::Refused(status)
+    }
 }
 
 impl From<AllocError> for SmppError {

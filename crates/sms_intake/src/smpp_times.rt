@@ -3,9 +3,8 @@ ghost use Rattle.std.specs.Prelude.{◌≡◌, min};
 ghost use Rattle.sms_base.specs.SmppTime.{smpp_time_in};
 ghost use Rattle.sms_intake.specs.SmppIntake.{due_in, limit_in, wish_in};
 
-use crate::submission::Wish;
 use smpp_pdu::CommandStatus;
-use sms_base::Moment;
+use sms_base::{Moment, Wish};
 
 /// How long a message is kept that asks for nothing else: two days.
 const DEFAULT_SECONDS: u64 = 172_800;

@@ -1,48 +1,44 @@
 //! What is submitted.
-use sms_base::{Address, Digits, Moment, Octets, Priority};
+use sms_base::{Address, Digits, Moment, Octets, Originator, Priority, Wish};
 use sms_concat::{ConcatKey, Content};
 
-/// Of which ends the originator is told.
-#[derive(Clone, Copy, Debug, PartialEq, Eq)]
-pub enum Wish {
-    Nothing,
-    Always,
-    OnFailure,
+/// An application's account.
+#[derive(Debug, Drop)]
+pub struct Account {
+    /// Its name, the system_id of its sessions.
+    pub name: Octets,
+    /// The source of messages that name none.
+    pub address: Address,
 }
 
-/// User data as it was submitted, which passes octet for octet.
+/// What one part carries.
 #[derive(Debug, Drop)]
-pub struct GivenData {
+pub struct SinglePart {
     /// TP-UDHI.
     pub header_indicator: bool,
+    /// TP-DCS.
+    pub data_coding_scheme: u8,
     /// TP-UDL.
     pub length: u8,
     /// TP-UD.
     pub octets: Octets,
+    /// The key of its header, if it has one.
+    pub key: Option<ConcatKey>,
 }
 
 /// What a message is to say.
 #[derive(Debug, Drop)]
 pub enum Text {
-    /// A content in one part without a header, or split by the centre where it doesn't fit.
+    /// A content, in one part without a header, or split by the centre where it doesn't fit.
     Whole(Content),
-    /// A content in one part behind a header, whose octets begin with their number.
-    Headed {
-        header: Octets,
-        content: Content,
-    },
-    /// One part with this data coding scheme and this user data.
-    Given {
-        data_coding_scheme: u8,
-        user_data: GivenData,
-    },
+    /// One part.
+    Single(SinglePart),
 }
 
 /// A message that passed all checks that need no rows.
 #[derive(Debug, Drop)]
 pub struct Submission {
-    /// TP-MR of a handset's SUBMIT; none of an application's message.
-    pub message_reference: Option<u8>,
+    pub originator: Originator,
     /// TP-OA of its parts.
     pub source: Address,
     /// The digits 0 to 9 of the handset to which it goes.
@@ -52,7 +48,7 @@ pub struct Submission {
     /// TP-RP.
     pub reply_path: bool,
     pub wish: Wish,
-    /// TP-RD: it is refused where it is pending already under its TP-MR.
+    /// TP-RD: it is refused where a message is pending already under its TP-MR.
     pub rejects_duplicates: bool,
     /// From when on it is not delivered any more.
     pub limit: Moment,
@@ -60,6 +56,4 @@ pub struct Submission {
     pub due: Moment,
     pub priority: Priority,
     pub text: Text,
-    /// The key of its header, where it has one of its own.
-    pub key: Option<ConcatKey>,
 }

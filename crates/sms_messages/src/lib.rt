@@ -12,7 +12,7 @@ mod part;
 mod parts;
 mod priority;
 
-pub use message::{MessageRow, Originator, Wish};
+pub use message::MessageRow;
 pub use part::PartRow;
 pub use parts::{PartEntry, PendingParts, SettledParts};
 pub use priority::PriorityRow;

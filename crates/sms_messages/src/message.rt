@@ -2,25 +2,8 @@
 ghost use Rattle.std.specs.Prelude.{◌≡◌};
 ghost use Rattle.sms_messages.specs.Messages.{message_key};
 
-use sms_base::{Address, Digits, FinalState, MessageId, Moment, Octets};
+use sms_base::{Address, Digits, FinalState, MessageId, Moment, Originator, Wish};
 use sms_table::{Key, Row};
-
-/// Who submitted a message.
-#[derive(Debug, Drop)]
-pub enum Originator {
-    /// An application, by the name of its account.
-    Application { account: Octets },
-    /// The handset of the source, with its TP-MR.
-    Handset { message_reference: u8 },
-}
-
-/// Of which ends the originator is told.
-#[derive(Clone, Copy, Debug, PartialEq, Eq)]
-pub enum Wish {
-    Nothing,
-    Always,
-    OnFailure,
-}
 
 /// A message that was accepted.
 #[derive(Debug, Drop)]

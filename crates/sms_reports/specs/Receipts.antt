@@ -6,8 +6,8 @@ use Rattle.std.specs.Str.{bytes_eq}
 use Rattle.sms_base.specs.Among.{Among}
 use Rattle.sms_table.specs.Table.{put, without}
 use Rattle.sms_messages.specs.declared.message.MessageRow.{MessageRow}
-use Rattle.sms_messages.specs.declared.message.Originator.{Originator}
-use Rattle.sms_messages.specs.declared.message.Originator.TheVariants.{Application, Handset}
+use Rattle.sms_base.specs.declared.originator.Originator.{Originator}
+use Rattle.sms_base.specs.declared.originator.Originator.TheVariants.{Application, Handset}
 use Rattle.sms_messages.specs.Messages.{message_at}
 use Rattle.sms_messages.specs.SplitReferences.{is_among}
 use Rattle.sms_reports.specs.declared.delivery.Delivery.{Delivery}

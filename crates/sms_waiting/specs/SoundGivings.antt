@@ -2,16 +2,16 @@
 use Rattle.std.specs.Prelude.{◌≡◌, ℕ, ◌<◌, List, Option, Some}
 use Rattle.sms_base.specs.Address.{IsAddress}
 use Rattle.sms_base.specs.Among.{Among}
-use Rattle.sms_base.specs.declared.type_of_number.TypeOfNumber.TheVariants.{International}
+use Rattle.sms_base.specs.HandsetNumber.{own_address}
 use Rattle.sms_table.specs.Keys.{pair_key}
 use Rattle.sms_table.specs.Table.{Rises, row_at}
 use Rattle.sms_waiting.specs.declared.handset.HandsetRow.{HandsetRow}
 use Rattle.sms_waiting.specs.declared.reference.ReferenceRow.{ReferenceRow}
 use Rattle.sms_waiting.specs.Keys.{handset_key, reference_key}
 
--- it can be written as an international number of the telephone numbering plan
+-- it can be written as the address of a handset
 abbrev pub IsNumber : List ℕ → Type 0
-IsNumber number = IsAddress (record { ton = International; npi = 1; digits = number })
+IsNumber number = IsAddress (own_address number)
 
 -- the row of a reference at a handset
 abbrev pub reference_at : ℕ → ℕ → List ReferenceRow → Option ReferenceRow

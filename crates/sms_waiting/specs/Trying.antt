@@ -1,21 +1,11 @@
 -- How far a transfer is once it was answered, failed, or is to be tried at once.
-use Rattle.std.specs.Prelude.{ℕ, ◌+◌, ◌==◌, nat_le, min, if◌then◌else◌, true}
+use Rattle.std.specs.Prelude.{ℕ, ◌+◌, min, true}
+use Rattle.sms_schedule.specs.Retry.{retry_after}
 use Rattle.sms_waiting.specs.declared.progress.Progress.{Progress}
 
 -- so many seconds later, never past the last moment
 abbrev pub later : ℕ → ℕ → ℕ
 later moment seconds = min (moment + seconds) 4102444799
-
--- seconds from the attempt of that number, counted from 1, to the next
-abbrev pub retry_delay : ℕ → ℕ
-retry_delay attempts =
-    if nat_le attempts 1 then 60
-    else (if attempts == 2 then 300
-    else (if attempts == 3 then 900
-    else 3600))
-
-abbrev pub retry_after : ℕ → ℕ → ℕ
-retry_after attempts now = later now (retry_delay attempts)
 
 -- attempts are counted to 255
 abbrev pub one_more : ℕ → ℕ

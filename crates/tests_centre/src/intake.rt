@@ -1,8 +1,8 @@
 //! Submissions and refusals.
 use smpp_pdu::CommandStatus;
-use sms_base::{Address, Moment};
+use sms_base::{Address, Moment, Originator, Wish};
 use sms_intake::{
-    SmppError, SubmitError, SubmitRefusal, Wish, accepting_report, content_of, due_of, from_submit,
+    SmppError, SubmitError, SubmitRefusal, accepting_report, content_of, due_of, from_submit,
     limit_of, refusing_report, wish_of,
 };
 use std::alloc::Global;
@@ -34,7 +34,10 @@ fn a_submit_is_accepted(rt: HostRuntime) -> Result<(), Fail> {
     let submission = from_submit(rt.alloc(), from.digits, now()?, &HELLO)?;
     assert_eq!(rt; submission.handset, to.digits);
     assert_eq!(rt; submission.source, from);
-    assert_eq!(rt; submission.message_reference, Some(0));
+    match submission.originator {
+        Originator::Handset { message_reference } => assert_eq!(rt; message_reference, 0),
+        Originator::Application { .. } => return Err(Fail::from("an application")),
+    }
     assert_eq!(rt; submission.limit.seconds(), 1_709_251_198 + 172_800);
     assert_eq!(rt; submission.wish, Wish::Nothing);
     Ok(())

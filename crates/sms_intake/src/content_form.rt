@@ -1,0 +1,11 @@
+//! How a content stands in its octets.
+use sms_alphabet::Coding;
+
+/// What the octets of a content are.
+#[derive(Clone, Copy, Debug, PartialEq, Eq)]
+pub(crate) enum ContentForm {
+    /// Its units, in this coding and under this data coding scheme.
+    Units { coding: Coding, scheme: u8 },
+    /// The codes of its characters, which are coded as they allow.
+    Characters,
+}

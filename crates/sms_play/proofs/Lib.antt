@@ -1,0 +1,12 @@
+mod AnswerLost
+mod CentreRestarts
+mod Everything
+mod Expired
+mod Halted
+mod HandsetFull
+mod MoreToCome
+mod OneMessage
+mod PartsInDisorder
+mod Reused
+mod UrgentGoesFirst
+mod Worked

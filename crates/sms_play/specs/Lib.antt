@@ -1,0 +1,9 @@
+pub mod Course
+pub mod CentreSide
+pub mod HandsetSide
+pub mod Meeting
+pub mod PlayedEvent
+pub mod Setups
+pub mod Premises
+pub mod Playing
+pub mod Running
