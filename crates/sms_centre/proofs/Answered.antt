@@ -13,14 +13,15 @@ use Rattle.sms_waiting.specs.declared.handset.HandsetRow.{HandsetRow}
 use Rattle.sms_waiting.specs.References.{handset_of}
 use Rattle.sms_centre.specs.declared.answer.CentreAnswer.TheVariants.{Submitted}
 use Rattle.sms_centre.specs.declared.event.CentreEvent.TheVariants.{Submit}
-use Rattle.sms_centre.specs.declared.setup.Account.{Account}
-use Rattle.sms_centre.specs.declared.submission.SinglePart.{SinglePart}
-use Rattle.sms_centre.specs.declared.submission.Submission.{Submission}
+use Rattle.sms_intake.specs.declared.submission.Account.{Account}
+use Rattle.sms_intake.specs.declared.submission.SinglePart.{SinglePart}
+use Rattle.sms_intake.specs.declared.submission.Submission.{Submission}
 use Rattle.sms_centre.specs.CentreEvent.{happened}
 use Rattle.sms_centre.specs.Draft.{Core, Draft, Store, core_of, draft_of, handsets_in, messages_in, parts_in}
 use Rattle.sms_centre.specs.Requests.{account_at, accepted, refused, submission_came, submit_by}
-use Rattle.sms_centre.specs.SmppIntake.{from_pdu}
-use Rattle.sms_centre.specs.Submitting.{accept, accept_as, accept_split, accept_under, bodies_under, enter, give_part, give_parts, is_long, is_reference_taken, message_of, part_given, reference_for}
+use Rattle.sms_intake.specs.SmppIntake.{from_pdu}
+use Rattle.sms_centre.specs.Submitting.{accept, accept_as, accept_split, accept_under, enter, give_part, give_parts, is_reference_taken, message_of, part_given, reference_for}
+use Rattle.sms_intake.specs.PartBodies.{bodies_under, is_long}
 use Rattle.sms_centre.proofs.Stages.{IfThere}
 use Rattle.sms_centre.proofs.StandsEntered.{then_there}
 

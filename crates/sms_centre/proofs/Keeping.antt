@@ -9,8 +9,8 @@ use Rattle.sms_table.specs.Keys.{pair_key}
 use Rattle.sms_table.specs.Table.{put, row_at}
 use Rattle.sms_table.proofs.Tables.{row_at_put, row_at_put_other}
 use Rattle.sms_messages.specs.declared.message.MessageRow.{MessageRow}
-use Rattle.sms_messages.specs.declared.message.Originator.{Originator}
-use Rattle.sms_messages.specs.declared.message.Originator.TheVariants.{Application, Handset}
+use Rattle.sms_base.specs.declared.originator.Originator.{Originator}
+use Rattle.sms_base.specs.declared.originator.Originator.TheVariants.{Application, Handset}
 use Rattle.sms_messages.specs.declared.part.PartRow.{PartRow}
 use Rattle.sms_messages.specs.Messages.{all_done, ended, is_pending, message_at, message_key, part_at, part_key, part_reaching}
 use Rattle.sms_messages.proofs.PartRows.{part_amended, part_amended_other}
@@ -28,7 +28,7 @@ use Rattle.sms_centre.specs.declared.rows.Rows.{Rows}
 use Rattle.sms_centre.specs.Draft.{Store, handsets_in, messages_in, parts_in, reports_in, rows_of, with_message, with_part_at, with_report_at}
 use Rattle.sms_centre.specs.Ends.{end, is_wished, make_report, report_to, status_given}
 use Rattle.sms_centre.specs.Keeping.{IsMessageStill, IsPartStill, IsReportStill, Keeps}
-use Rattle.sms_centre.specs.ReceiptTexts.{status_octets}
+use Rattle.sms_receipt.specs.StatusReports.{status_octets}
 use Rattle.sms_centre.specs.Standing.{Stands}
 use Rattle.sms_centre.specs.Submitting.{reference_for}
 use Rattle.sms_centre.specs.Transfers.{complete}

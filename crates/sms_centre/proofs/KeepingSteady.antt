@@ -13,12 +13,13 @@ use Rattle.sms_messages.specs.SplitReferences.{next_split}
 use Rattle.sms_waiting.specs.declared.handset.HandsetRow.{HandsetRow}
 use Rattle.sms_waiting.specs.References.{handset_of}
 use Rattle.sms_centre.specs.declared.rows.Rows.{Rows}
-use Rattle.sms_centre.specs.declared.submission.SinglePart.{SinglePart}
-use Rattle.sms_centre.specs.declared.submission.Submission.{Submission}
-use Rattle.sms_centre.specs.Bodies.{deliver_octets}
+use Rattle.sms_intake.specs.declared.submission.SinglePart.{SinglePart}
+use Rattle.sms_intake.specs.declared.submission.Submission.{Submission}
+use Rattle.sms_intake.specs.PartBodies.{deliver_octets}
 use Rattle.sms_centre.specs.Draft.{Store, handsets_in, messages_in, parts_in, rows_of}
 use Rattle.sms_centre.specs.Keeping.{Keeps}
-use Rattle.sms_centre.specs.Submitting.{accept, accept_as, accept_split, accept_under, bodies_under, enter, give_part, give_parts, is_long, message_of, part_given, reference_for}
+use Rattle.sms_centre.specs.Submitting.{accept, accept_as, accept_split, accept_under, enter, give_part, give_parts, message_of, part_given, reference_for}
+use Rattle.sms_intake.specs.PartBodies.{bodies_under, is_long}
 use Rattle.sms_centre.proofs.Keeping.{end_keeps, keeps_then, part_far_keeps, report_far_keeps, settled_keeps}
 use Rattle.sms_centre.proofs.NextNumbers.{below_next_id}
 use Rattle.sms_centre.proofs.SoundAccepted.{sound_steady}

@@ -29,13 +29,15 @@ use Rattle.sms_waiting.specs.Lines.{line_of}
 use Rattle.sms_waiting.specs.SoundGivings.{IsNumber}
 use Rattle.sms_centre.specs.declared.event.CentreEvent.{CentreEvent}
 use Rattle.sms_centre.specs.declared.event.CentreEvent.TheVariants.{Submit, Query, Cancel, Bound, Unbound, DeliverAnswered, Frame, LinkUp, LinkDown, Tick}
-use Rattle.sms_centre.specs.declared.setup.Account.{Account}
-use Rattle.sms_centre.specs.declared.submission.Submission.{Submission}
-use Rattle.sms_centre.specs.declared.submission.Text.{Text}
+use Rattle.sms_intake.specs.declared.smpp_front.Front.{Front}
+use Rattle.sms_intake.specs.declared.smpp_intake.Judged.{Judged}
+use Rattle.sms_intake.specs.declared.submission.Account.{Account}
+use Rattle.sms_intake.specs.declared.submission.Submission.{Submission}
+use Rattle.sms_intake.specs.declared.submission.Text.{Text}
 use Rattle.sms_centre.specs.Draft.{Core}
-use Rattle.sms_centre.specs.Numbers.{names_handset}
+use Rattle.sms_base.specs.HandsetNumber.{names_handset}
 use Rattle.sms_centre.specs.Requests.{account_at}
-use Rattle.sms_centre.specs.SmppIntake.{address_in, address_or_none, are_whole, content_at, due_in, has_sar_lengths, has_too_much, limit_in, from_pdu, handset_named, has_header, header_read, header_size, headed_text, is_ascii, is_empty, plain_text, sar_key, source_in, text_in, text_of}
+use Rattle.sms_intake.specs.SmppIntake.{front_in, judged_in, submission_for, address_in, address_or_none, are_whole, content_at, due_in, has_sar_lengths, has_too_much, limit_in, from_pdu, handset_named, has_header, header_read, header_size, headed_text, is_ascii, is_empty, plain_text, sar_key, source_in, text_in, text_of}
 use Rattle.sms_centre.specs.SoundCore.{HasNumber, IsEvent, IsSoundCore}
 use Rattle.sms_centre.specs.Standing.{IsSubmission}
 use Rattle.sms_centre.specs.Submitted.{AccountGives, Gives}
@@ -108,30 +110,35 @@ named_handset (Some a) h are e =
 -- ---- the submission
 
 pdu_fits : (account : Account) (now : ℕ) (m : Message) (u : Submission) → IsAddress account.address → from_pdu account now m ≡ Ok u → IsSubmission u
-unfolding from_pdu
+unfolding from_pdu judged_in front_in
 pdu_fits account now m u is e =
-    let a = bind_ok (only_if (m.esm_class / 4 % 16 == 0) ESME_RINVESMCLASS) _ u e in
-    let source = bind_ok (ok_or (source_in account.address m.source) ESME_RINVSRCADR) _ u a.2 in
-    let handset = bind_ok (handset_named (address_in m.destination)) _ u source.2 in
-    let lengths = bind_ok (only_if (has_sar_lengths m.tlvs) ESME_RINVPARLEN) _ u handset.2 in
-    let alone = bind_ok (only_if (not (has_too_much m)) ESME_ROPTPARNOTALLWD) _ u lengths.2 in
-    let text = bind_ok (text_in m) _ u alone.2 in
-    let limit = bind_ok (limit_in now m.validity_period) _ u text.2 in
-    let due = bind_ok (due_in now limit.0 m.schedule_delivery_time) _ u limit.2 in
+    let judged = bind_ok (judged_in account.address now m) _ u e in
+    let j : Judged = judged.0 in
+    let front = bind_ok (front_in account.address m) _ j judged.1 in
+    let a = bind_ok (only_if (m.esm_class / 4 % 16 == 0) ESME_RINVESMCLASS) _ front.0 front.1 in
+    let source = bind_ok (ok_or (source_in account.address m.source) ESME_RINVSRCADR) _ front.0 a.2 in
+    let handset = bind_ok (handset_named (address_in m.destination)) _ front.0 source.2 in
+    let lengths = bind_ok (only_if (has_sar_lengths m.tlvs) ESME_RINVPARLEN) _ front.0 handset.2 in
+    let alone = bind_ok (only_if (not (has_too_much m)) ESME_ROPTPARNOTALLWD) _ front.0 lengths.2 in
+    let same_front : record { source = source.0; handset = handset.0 } ≡ front.0 = ok_is {E = CommandStatus} (record { source = source.0; handset = handset.0 }) front.0 alone.2 in
+    let text = bind_ok (text_in m) _ j front.2 in
+    let limit = bind_ok (limit_in now m.validity_period) _ j text.2 in
+    let due = bind_ok (due_in now limit.0 m.schedule_delivery_time) _ j limit.2 in
     let fits : FitsText text.0 = text_in_fits m text.0 text.1 in
     let from : IsAddress source.0 = source_address account.address m.source source.0 is (some_of (source_in account.address m.source) source.0 source.1) in
     let to : IsNumber handset.0 = named_handset (address_in m.destination) handset.0 (λ x f. entity_address m.destination x f) handset.1 in
-    let same = ok_is {E = CommandStatus} _ u due.2 in
-    subst (λ (x : Submission). IsSubmission x) same
-    (record {
-      source = from;
-      handset = to;
+    let made : Judged = record { front = front.0; text = text.0; limit = limit.0; due = due.0 } in
+    let same : made ≡ j = ok_is {E = CommandStatus} made j due.2 in
+    let submission : IsSubmission (submission_for account m made) = record {
+      source = subst (λ (f : Front). IsAddress f.source) same_front from;
+      handset = subst (λ (f : Front). IsNumber f.handset) same_front to;
       told = tt;
       priority = omega arith;
       some = fits.some;
       few = fits.few;
       bodies = λ reference b among. let body = fits.bodies reference b among in record { fields = body.fields; scheme = body.scheme };
-    })
+    } in
+    subst (λ (x : Submission). IsSubmission x) (ap (λ (x : Judged). submission_for account m x) same ∙ ok_is {E = CommandStatus} (submission_for account m j) u judged.2) submission
 
 -- ---- events
 

@@ -30,12 +30,14 @@ use Rattle.sms_concat.proofs.Uniqueness.{split_is}
 use Rattle.smpp_pdu.specs.declared.status.CommandStatus.{CommandStatus}
 use Rattle.smpp_pdu.specs.declared.status.CommandStatus.TheVariants.{ESME_RINVMSGLEN, ESME_RSUBMITFAIL}
 use Rattle.sms_tpdu.specs.UserDataGrammar.{IsUserData}
-use Rattle.sms_centre.specs.declared.submission.SinglePart.{SinglePart}
-use Rattle.sms_centre.specs.declared.submission.Text.{Text}
-use Rattle.sms_centre.specs.declared.submission.Text.TheVariants.{Whole, Single}
-use Rattle.sms_centre.specs.Bodies.{bodies_of, body_behind, body_of}
-use Rattle.sms_centre.specs.SmppIntake.{class_at, content_at, content_spelled, is_ascii, octets_at, septets_at, single_behind, splits, text_at, ucs2_at, whole_of}
-use Rattle.sms_centre.specs.Submitting.{bodies_under, data_coding_of, parts_or_none}
+use Rattle.sms_intake.specs.declared.submission.SinglePart.{SinglePart}
+use Rattle.sms_intake.specs.declared.submission.Text.{Text}
+use Rattle.sms_intake.specs.declared.submission.Text.TheVariants.{Whole, Single}
+use Rattle.sms_intake.specs.PartBodies.{bodies_of, body_behind, body_of}
+use Rattle.sms_intake.specs.SmppIntake.{class_at, content_at, is_ascii, octets_at, septets_at, single_behind, splits, text_at, ucs2_at, whole_of}
+use Rattle.sms_handset.specs.OwnersActs.{content_spelled}
+use Rattle.sms_centre.specs.Submitting.{data_coding_of}
+use Rattle.sms_intake.specs.PartBodies.{bodies_under, parts_or_none}
 use Rattle.sms_centre.proofs.TextFields.{IsHeader, fields_are}
 
 -- ---- contents: septets are below 128, and the data coding scheme names the coding

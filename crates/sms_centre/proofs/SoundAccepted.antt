@@ -15,12 +15,13 @@ use Rattle.sms_messages.specs.SplitReferences.{is_delivered, next_split}
 use Rattle.sms_waiting.specs.declared.handset.HandsetRow.{HandsetRow}
 use Rattle.sms_waiting.specs.References.{given_row, handset_of}
 use Rattle.sms_waiting.proofs.WaitingSound.{next_is_free}
-use Rattle.sms_centre.specs.declared.submission.SinglePart.{SinglePart}
-use Rattle.sms_centre.specs.declared.submission.Submission.{Submission}
-use Rattle.sms_centre.specs.Bodies.{deliver_octets, deliver_of}
+use Rattle.sms_intake.specs.declared.submission.SinglePart.{SinglePart}
+use Rattle.sms_intake.specs.declared.submission.Submission.{Submission}
+use Rattle.sms_intake.specs.PartBodies.{deliver_octets, deliver_of}
 use Rattle.sms_centre.specs.Draft.{Store, handsets_in, messages_in, parts_in, priorities_in, references_in, reports_in, waiting_in}
 use Rattle.sms_centre.specs.Standing.{IsBody, IsSubmission, Stands}
-use Rattle.sms_centre.specs.Submitting.{accept, accept_as, accept_split, accept_under, bodies_under, enter, give_part, give_parts, is_long, message_of, part_given, reference_for}
+use Rattle.sms_centre.specs.Submitting.{accept, accept_as, accept_split, accept_under, enter, give_part, give_parts, message_of, part_given, reference_for}
+use Rattle.sms_intake.specs.PartBodies.{bodies_under, is_long}
 use Rattle.sms_centre.proofs.MessagesEntered.{IsFirst, first_rows, part_rows}
 use Rattle.sms_centre.proofs.MessagesKept.{rows_are, rows_sound}
 use Rattle.sms_centre.proofs.NextNumbers.{below_next_id, some_next_id}

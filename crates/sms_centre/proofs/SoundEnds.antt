@@ -6,8 +6,8 @@ use Rattle.sms_base.specs.declared.final_state.FinalState.{FinalState}
 use Rattle.sms_table.specs.Table.{put}
 use Rattle.sms_table.proofs.Tables.{among_put, found_among}
 use Rattle.sms_messages.specs.declared.message.MessageRow.{MessageRow}
-use Rattle.sms_messages.specs.declared.message.Originator.{Originator}
-use Rattle.sms_messages.specs.declared.message.Originator.TheVariants.{Application, Handset}
+use Rattle.sms_base.specs.declared.originator.Originator.{Originator}
+use Rattle.sms_base.specs.declared.originator.Originator.TheVariants.{Application, Handset}
 use Rattle.sms_messages.specs.Messages.{all_done, ended, is_pending, message_at, message_key}
 use Rattle.sms_messages.specs.SplitReferences.{is_delivered}
 use Rattle.sms_reports.specs.declared.report.ReportKind.{ReportKind}
@@ -22,7 +22,7 @@ use Rattle.sms_waiting.specs.References.{given_row, handset_of}
 use Rattle.sms_waiting.proofs.WaitingSound.{next_is_free}
 use Rattle.sms_centre.specs.Draft.{Store, handsets_in, messages_in, parts_in, priorities_in, references_in, reports_in, waiting_in, with_message}
 use Rattle.sms_centre.specs.Ends.{end, is_wished, make_report, report_to, status_given}
-use Rattle.sms_centre.specs.ReceiptTexts.{status_octets, status_report_of}
+use Rattle.sms_receipt.specs.StatusReports.{status_octets, status_report_of}
 use Rattle.sms_centre.specs.SoundRows.{AreSplitApart, CanBeTold, IsSetup}
 use Rattle.sms_centre.specs.Standing.{Stands}
 use Rattle.sms_centre.specs.Submitting.{reference_for}

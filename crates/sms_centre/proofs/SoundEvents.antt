@@ -15,7 +15,7 @@ use Rattle.sms_waiting.specs.Lines.{line_of}
 use Rattle.sms_centre.specs.declared.event.CentreEvent.{CentreEvent}
 use Rattle.sms_centre.specs.declared.event.CentreEvent.TheVariants.{Submit, Query, Cancel, Bound, Unbound, DeliverAnswered, Frame, LinkUp, LinkDown, Tick}
 use Rattle.sms_centre.specs.declared.rows.Rows.{Rows}
-use Rattle.sms_centre.specs.CentreEvent.{aged, at_moment, fired, follow, frame_taken, happened, lower, raise, raised}
+use Rattle.sms_centre.specs.CentreEvent.{tag_of, aged, at_moment, fired, follow, frame_taken, happened, lower, raise, raised}
 use Rattle.sms_centre.specs.Draft.{Core, Draft, core_of, draft_of, rows_of}
 use Rattle.sms_centre.specs.Keeping.{Keeps}
 use Rattle.sms_centre.specs.Requests.{account_at, cancel, query, submit}
@@ -121,8 +121,8 @@ event_after (DeliverAnswered session id b) c s is g =
     (answered_sides c.rows session id b (row_at session_key session c.sessions) (draft_of c) refl (sides_begin c s))
 event_after (Frame handset octets tag) c s is g =
     let line : Line = line_of handset c.lines in
-    followed c (frame_taken octets tag line (draft_of c)) (steady_event (SoundSince c.rows) (since_steady c.rows) (Frame handset octets tag) c (begins c s) s.now g)
-    (frame_sides c.rows octets tag line (draft_of c) (line_sound c.rows handset (draft_of c).air (sides_begin c s).0 is) (sides_begin c s))
+    followed c (frame_taken octets (tag_of tag) line (draft_of c)) (steady_event (SoundSince c.rows) (since_steady c.rows) (Frame handset octets tag) c (begins c s) s.now g)
+    (frame_sides c.rows octets (tag_of tag) line (draft_of c) (line_sound c.rows handset (draft_of c).air (sides_begin c s).0 is) (sides_begin c s))
 event_after (LinkUp handset) c s is g =
     followed c (raise handset (draft_of c)) (steady_event (SoundSince c.rows) (since_steady c.rows) (LinkUp handset) c (begins c s) s.now g)
     (raise_sides c.rows handset (draft_of c) is (sides_begin c s))

@@ -36,16 +36,15 @@ use Rattle.sms_waiting.specs.declared.line.Line.{Line}
 use Rattle.sms_waiting.specs.Lines.{Air, emptied, filled, line_at, line_of, lowered, put_line, raised as raised_line, turn_line}
 use Rattle.sms_waiting.specs.References.{handset_at}
 use Rattle.sms_waiting.specs.SoundGivings.{IsNumber}
-use Rattle.sms_centre.specs.declared.refusal.SubmitRefusal.{SubmitRefusal}
-use Rattle.sms_centre.specs.declared.refusal.SubmitRefusal.TheVariants.{Duplicate, ReferenceTaken}
+use Rattle.sms_intake.specs.declared.refusal.SubmitRefusal.{SubmitRefusal}
+use Rattle.sms_intake.specs.declared.refusal.SubmitRefusal.TheVariants.{Duplicate, ReferenceTaken}
 use Rattle.sms_centre.specs.declared.rows.Rows.{Rows}
-use Rattle.sms_centre.specs.declared.setup.Account.{Account}
-use Rattle.sms_centre.specs.declared.submission.Submission.{Submission}
+use Rattle.sms_intake.specs.declared.submission.Account.{Account}
+use Rattle.sms_intake.specs.declared.submission.Submission.{Submission}
 use Rattle.sms_centre.specs.declared.verdict.Verdict.{Verdict}
 use Rattle.sms_centre.specs.declared.verdict.Verdict.TheVariants.{Settled, HandsetFull, Again, Refused, Late}
-use Rattle.sms_centre.specs.HandsetIntake.{from_tpdu}
 use Rattle.sms_centre.specs.Numbers.{id_in}
-use Rattle.sms_centre.specs.SmppIntake.{from_pdu, source_in, is_empty}
+use Rattle.sms_intake.specs.SmppIntake.{from_pdu, source_in, is_empty}
 use Rattle.sms_centre.specs.Submitting.{accept, is_reference_taken}
 use Rattle.sms_centre.specs.Transfers.{conclude, line_ended, verdict_on}
 use Rattle.sms_centre.specs.Receiving.{is_duplicate, memory_came, refuse, reference_octet, reply, submit_accepted, submit_came as submission_from, unit_came}
@@ -105,7 +104,7 @@ module _ (rows : Rows) where
       (put_sound rows (emptied (line_of h e.air.lines)) e.air s.0 (record { handset = l.handset; side = l.side; under_way = l.under_way; answered = l.answered }), s.1)
 
   unit_sides : (h : List ℕ) (tag : Holder) (unit : List ℕ) (u : Result Rp RelayFault) (d : Draft) → IsNumber h → Sides rows d → Sides rows (unit_came h tag unit u d)
-  unit_sides h tag unit (Ok (DataUnit r z t)) d is k = submission_sides h r tag (from_tpdu h d.store.moment (tpdu_up_at InData t)) d is k
+  unit_sides h tag unit (Ok (DataUnit r z t)) d is k = submission_sides h r tag (from_read h d.store.moment (tpdu_up_at InData t)) d is k
   unit_sides h tag unit (Ok (AckUnit r t)) d is k = k
   unit_sides h tag unit (Ok (ErrorUnit r z t)) d is k = k
   unit_sides h tag unit (Ok (Smma r)) d is k = memory_sides h r tag d is k

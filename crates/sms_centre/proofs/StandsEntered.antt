@@ -14,13 +14,14 @@ use Rattle.sms_reports.specs.declared.report.ReportRow.{ReportRow}
 use Rattle.sms_waiting.specs.declared.handset.HandsetRow.{HandsetRow}
 use Rattle.sms_waiting.specs.References.{handset_of}
 use Rattle.sms_waiting.specs.SoundGivings.{IsNumber}
-use Rattle.sms_centre.specs.declared.submission.SinglePart.{SinglePart}
-use Rattle.sms_centre.specs.declared.submission.Submission.{Submission}
-use Rattle.sms_centre.specs.Bodies.{deliver_octets}
+use Rattle.sms_intake.specs.declared.submission.SinglePart.{SinglePart}
+use Rattle.sms_intake.specs.declared.submission.Submission.{Submission}
+use Rattle.sms_intake.specs.PartBodies.{deliver_octets}
 use Rattle.sms_centre.specs.Draft.{Store, handsets_in, messages_in, parts_in, reports_in}
 use Rattle.sms_centre.specs.SoundRows.{CanBeTold}
 use Rattle.sms_centre.specs.Standing.{IsSubmission, Stands}
-use Rattle.sms_centre.specs.Submitting.{accept, accept_as, accept_split, accept_under, bodies_under, enter, give_part, give_parts, is_long, message_of, part_given, reference_for}
+use Rattle.sms_centre.specs.Submitting.{accept, accept_as, accept_split, accept_under, enter, give_part, give_parts, message_of, part_given, reference_for}
+use Rattle.sms_intake.specs.PartBodies.{bodies_under, is_long}
 use Rattle.sms_centre.proofs.HeldGivings.{part_given_held}
 use Rattle.sms_centre.proofs.HeldStages.{entered_held}
 use Rattle.sms_centre.proofs.Stages.{IfThere}

@@ -8,8 +8,8 @@ use Rattle.sms_base.specs.declared.final_state.FinalState.TheVariants.{Delivered
 use Rattle.sms_table.specs.Table.{Rises, put, row_at}
 use Rattle.sms_table.proofs.Tables.{among_put, found_among, rises_put, row_at_put, row_at_put_other}
 use Rattle.sms_messages.specs.declared.message.MessageRow.{MessageRow}
-use Rattle.sms_messages.specs.declared.message.Originator.{Originator}
-use Rattle.sms_messages.specs.declared.message.Originator.TheVariants.{Application, Handset}
+use Rattle.sms_base.specs.declared.originator.Originator.{Originator}
+use Rattle.sms_base.specs.declared.originator.Originator.TheVariants.{Application, Handset}
 use Rattle.sms_messages.specs.declared.part.PartRow.{PartRow}
 use Rattle.sms_messages.specs.Messages.{all_done, ended, is_pending, message_at, message_key, part_key, part_reaching}
 use Rattle.sms_reports.specs.declared.report.ReportKind.{ReportKind}
@@ -23,7 +23,7 @@ use Rattle.sms_waiting.specs.SoundGivings.{IsNumber}
 use Rattle.sms_waiting.specs.Trying.{finished}
 use Rattle.sms_centre.specs.Draft.{Store, handsets_in, messages_in, parts_in, reports_in, with_message, with_part_at, with_report_at}
 use Rattle.sms_centre.specs.Ends.{end, is_wished, make_report, report_to, status_given}
-use Rattle.sms_centre.specs.ReceiptTexts.{status_octets}
+use Rattle.sms_receipt.specs.StatusReports.{status_octets}
 use Rattle.sms_centre.specs.SoundRows.{CanBeTold}
 use Rattle.sms_centre.specs.Standing.{Stands}
 use Rattle.sms_centre.specs.Submitting.{reference_for}

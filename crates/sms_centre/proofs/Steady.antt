@@ -23,7 +23,7 @@ use Rattle.sms_reports.proofs.AllWaiting.{report_found}
 use Rattle.sms_waiting.specs.declared.load.Load.{Load}
 use Rattle.sms_waiting.specs.declared.progress.Progress.{Progress}
 use Rattle.sms_waiting.specs.Trying.{due_at, finished, tried}
-use Rattle.sms_centre.specs.declared.submission.Submission.{Submission}
+use Rattle.sms_intake.specs.declared.submission.Submission.{Submission}
 use Rattle.sms_centre.specs.declared.verdict.Verdict.{Verdict}
 use Rattle.sms_centre.specs.declared.verdict.Verdict.TheVariants.{Settled, HandsetFull, Again, Refused, Late}
 use Rattle.sms_centre.specs.Draft.{Store, messages_in, parts_in, reports_in, waiting_in, with_part_at, with_report_at}

@@ -33,19 +33,18 @@ use Rattle.sms_waiting.specs.Lines.{line_at, line_of, lowered, put_line, turn_li
 use Rattle.sms_waiting.specs.References.{handset_at}
 use Rattle.sms_centre.specs.declared.event.CentreEvent.{CentreEvent}
 use Rattle.sms_centre.specs.declared.event.CentreEvent.TheVariants.{Submit, Query, Cancel, Bound, Unbound, DeliverAnswered, Frame, LinkUp, LinkDown, Tick}
-use Rattle.sms_centre.specs.declared.refusal.SubmitRefusal.{SubmitRefusal}
-use Rattle.sms_centre.specs.declared.refusal.SubmitRefusal.TheVariants.{Duplicate, ReferenceTaken}
-use Rattle.sms_centre.specs.declared.setup.Account.{Account}
-use Rattle.sms_centre.specs.declared.submission.Submission.{Submission}
-use Rattle.sms_centre.specs.HandsetIntake.{from_tpdu}
+use Rattle.sms_intake.specs.declared.refusal.SubmitRefusal.{SubmitRefusal}
+use Rattle.sms_intake.specs.declared.refusal.SubmitRefusal.TheVariants.{Duplicate, ReferenceTaken}
+use Rattle.sms_intake.specs.declared.submission.Account.{Account}
+use Rattle.sms_intake.specs.declared.submission.Submission.{Submission}
 use Rattle.sms_centre.specs.Numbers.{id_in}
-use Rattle.sms_centre.specs.SmppIntake.{from_pdu, source_in, is_empty}
+use Rattle.sms_intake.specs.SmppIntake.{from_pdu, source_in, is_empty}
 use Rattle.sms_centre.specs.Submitting.{accept, is_reference_taken}
 use Rattle.sms_centre.specs.Transfers.{conclude}
 use Rattle.sms_centre.specs.Receiving.{is_duplicate, refuse, submit_accepted, submit_came as submission_from, unit_came}
 use Rattle.sms_centre.specs.Requests.{account_at, accepted, cancel_by, cancelled, is_from, message_numbered, own_message, queried, query_by, submission_came, submit_by}
 use Rattle.sms_centre.specs.Sessions.{answered_by, bind, bound_as, due_for, unbind, unbound_from}
-use Rattle.sms_centre.specs.CentreEvent.{aged, at_moment, expired, fire_at, fire_line, fire_mentioned, fire_others, fired, frame_taken, happened, is_mentioned, lost, lower, raise, raise_all, raised, timed_out, went_up}
+use Rattle.sms_centre.specs.CentreEvent.{tag_of, aged, at_moment, expired, fire_at, fire_line, fire_mentioned, fire_others, fired, frame_taken, happened, is_mentioned, lost, lower, raise, raise_all, raised, timed_out, went_up}
 use Rattle.sms_centre.specs.Draft.{Core, Draft, Store, draft_of, handsets_in, messages_in, on_air}
 use Rattle.sms_centre.specs.Standing.{IsSubmission}
 use Rattle.sms_centre.specs.Submitted.{AccountGives, Gives, UnitGives, UpGives}
@@ -74,7 +73,7 @@ module _ (P : Store → Type 0) (c : IsSteady P) where
       (λ t. k) (λ t. submit_accepted_steady h n tag (accept u d.store) d k (c.accepted u d.store k (g u refl))))
 
   unit_came_steady : (h : List ℕ) (tag : Holder) (unit : List ℕ) (u : Result Rp RelayFault) (d : Draft) → P d.store → UnitGives h d.store.moment u → P (unit_came h tag unit u d).store
-  unit_came_steady h tag unit (Ok (DataUnit r z t)) d k g = submission_from_steady h r tag (from_tpdu h d.store.moment (tpdu_up_at InData t)) d k g
+  unit_came_steady h tag unit (Ok (DataUnit r z t)) d k g = submission_from_steady h r tag (from_read h d.store.moment (tpdu_up_at InData t)) d k g
   unit_came_steady h tag unit (Ok (AckUnit r t)) d k g = k
   unit_came_steady h tag unit (Ok (ErrorUnit r z t)) d k g = k
   unit_came_steady h tag unit (Ok (Smma r)) d k g = due_now_steady P c h d.store k
@@ -228,7 +227,7 @@ module _ (P : Store → Type 0) (c : IsSteady P) where
   steady_event (Bound session account receives) core k now g = bind_steady session account receives (draft_of core) k
   steady_event (Unbound session) core k now g = unbind_steady session (draft_of core) k
   steady_event (DeliverAnswered session id b) core k now g = answered_by_steady id b (row_at session_key session core.sessions) (draft_of core) k
-  steady_event (Frame handset octets tag) core k now g = frame_taken_steady octets tag (line_of handset core.lines) (draft_of core) k g
+  steady_event (Frame handset octets tag) core k now g = frame_taken_steady octets (tag_of tag) (line_of handset core.lines) (draft_of core) k g
   steady_event (LinkUp handset) core k now g = raise_steady handset (draft_of core) k
   steady_event (LinkDown handset) core k now g = lower_steady handset (draft_of core) k
   steady_event (Tick now) core k was g = ticked_steady now (draft_of core) k was g

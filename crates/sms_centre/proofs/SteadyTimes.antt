@@ -9,8 +9,8 @@ use Rattle.sms_base.specs.declared.final_state.FinalState.TheVariants.{Expired}
 use Rattle.sms_table.specs.Table.{AllAbove, Rises, put}
 use Rattle.sms_table.proofs.Tables.{among_found, row_at_put_other}
 use Rattle.sms_messages.specs.declared.message.MessageRow.{MessageRow}
-use Rattle.sms_messages.specs.declared.message.Originator.{Originator}
-use Rattle.sms_messages.specs.declared.message.Originator.TheVariants.{Application, Handset}
+use Rattle.sms_base.specs.declared.originator.Originator.{Originator}
+use Rattle.sms_base.specs.declared.originator.Originator.TheVariants.{Application, Handset}
 use Rattle.sms_messages.specs.Messages.{ended, is_pending, message_at, message_key}
 use Rattle.sms_reports.specs.declared.report.ReportRow.{ReportRow}
 use Rattle.sms_reports.specs.Receipts.{all_tried, is_put_off, receipt_ended, receipt_tried, receipts_due}

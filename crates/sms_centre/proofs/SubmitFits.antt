@@ -27,12 +27,12 @@ use Rattle.sms_tpdu.specs.TpduReading.{up_at as tpdu_up_at}
 use Rattle.sms_tpdu.proofs.Carriers.{up_takes}
 use Rattle.sms_waiting.specs.declared.line.Line.{Line}
 use Rattle.sms_waiting.specs.SoundGivings.{IsNumber}
-use Rattle.sms_centre.specs.declared.refusal.SubmitRefusal.{SubmitRefusal}
-use Rattle.sms_centre.specs.declared.refusal.SubmitRefusal.TheVariants.{NoHandset, PastLimit}
-use Rattle.sms_centre.specs.declared.submission.SinglePart.{SinglePart}
-use Rattle.sms_centre.specs.declared.submission.Submission.{Submission}
-use Rattle.sms_centre.specs.HandsetIntake.{from_submit, from_tpdu, is_past, submission_of}
-use Rattle.sms_centre.specs.Numbers.{is_decimal, names_handset}
+use Rattle.sms_intake.specs.declared.refusal.SubmitRefusal.{SubmitRefusal}
+use Rattle.sms_intake.specs.declared.refusal.SubmitRefusal.TheVariants.{NoHandset, PastLimit}
+use Rattle.sms_intake.specs.declared.submission.SinglePart.{SinglePart}
+use Rattle.sms_intake.specs.declared.submission.Submission.{Submission}
+use Rattle.sms_intake.specs.HandsetIntake.{from_submit, is_past, submission_of}
+use Rattle.sms_base.specs.HandsetNumber.{is_decimal, names_handset}
 use Rattle.sms_centre.specs.Standing.{IsBody, IsSubmission}
 use Rattle.sms_centre.specs.Submitted.{UnitGives, UpGives}
 use Rattle.sms_centre.proofs.UnitOctets.{opened_octets, tpdu_octets}
@@ -79,7 +79,7 @@ submit_fits from now s octets u is submit e =
     } in
     subst (λ (x : Submission). IsSubmission x) same fits
 
-tpdu_fits : (from : List ℕ) (now : ℕ) (tpdu : List ℕ) (r : Result Up TpduFault) (u : Submission) → IsNumber from → AreOctets tpdu → tpdu_up_at InData tpdu ≡ r → from_tpdu from now r ≡ Ok u → IsSubmission u
+tpdu_fits : (from : List ℕ) (now : ℕ) (tpdu : List ℕ) (r : Result Up TpduFault) (u : Submission) → IsNumber from → AreOctets tpdu → tpdu_up_at InData tpdu ≡ r → from_read from now r ≡ Ok u → IsSubmission u
 tpdu_fits from now tpdu (Ok (Submit s)) u is are e f = submit_fits from now s tpdu u is (up_takes InData tpdu (Submit s) are e) f
 tpdu_fits from now tpdu (Ok (DeliverReport r)) u is are e f = absurd cc
 tpdu_fits from now tpdu (Err fault) u is are e f = absurd cc

@@ -11,9 +11,8 @@ use Rattle.sms_alphabet.proofs.Held.{octet_power, septet_power}
 use Rattle.sms_alphabet.proofs.RoundTrip.{length-digits, value-below}
 use Rattle.sms_concat.specs.declared.element.Element.{Element}
 use Rattle.sms_concat.specs.HeaderGrammar.{spelled, written}
-use Rattle.sms_concat.specs.UserData.{AreUnits, capacity, data_length, fill_bits, header_septets, is_there}
+use Rattle.sms_concat.specs.UserData.{AreUnits, body_octets, capacity, data_length, fill_bits, header_septets, is_there}
 use Rattle.sms_tpdu.specs.UserDataGrammar.{HasHeader, IsContentBehind, IsPackedBehind, IsUserData, fill_behind, greatest_length, header_octets, octets_of}
-use Rattle.sms_centre.specs.Bodies.{packed_behind}
 
 -- ---- septets packed behind fill bits
 
@@ -51,7 +50,7 @@ rest_of header Octets units = units
 rest_of header Ucs2 units = units
 rest_of header Compressed units = units
 
-begins : (header : List ℕ) (coding : Coding) (units : List ℕ) → packed_behind header coding units ≡ header ++ rest_of header coding units
+begins : (header : List ℕ) (coding : Coding) (units : List ℕ) → body_octets header coding units ≡ header ++ rest_of header coding units
 unfolding rest_of
 begins header Septets units = refl
 begins header Octets units = refl
@@ -87,7 +86,7 @@ drop_behind (x ∷ xs) ys = drop_behind xs ys
 
 -- ---- the fields
 
-whole : (header : List ℕ) (coding : Coding) (units : List ℕ) → length (packed_behind header coding units) ≡ octets_of coding (data_length coding (length header) (length units))
+whole : (header : List ℕ) (coding : Coding) (units : List ℕ) → length (body_octets header coding units) ≡ octets_of coding (data_length coding (length header) (length units))
 whole header Septets units =
     let fill = fill_bits (length header) in
     let body : List ℕ = digits_in 256 (packed_len fill (length units)) (2 ^ fill * value_in 128 units) in
@@ -104,7 +103,7 @@ within Octets n h = h
 within Ucs2 n h = h
 within Compressed n h = h
 
-packed_so : (header units octets : List ℕ) → octets ≡ packed_behind header Septets units → AreSeptets units → IsPackedBehind (length header) (header_septets (length header) + length units) octets
+packed_so : (header units octets : List ℕ) → octets ≡ body_octets header Septets units → AreSeptets units → IsPackedBehind (length header) (header_septets (length header) + length units) octets
 packed_so header units octets o small =
     let n = header_septets (length header) + length units in
     let bits = fill_bits (length header) in
@@ -116,16 +115,16 @@ packed_so header units octets o small =
     let packing : IsPacking units bits body = record { length_is = length-digits 256 (packed_len bits (length units)) (2 ^ bits * value_in 128 units); value_is = value_in-digits (packed_len bits (length units)) (2 ^ bits * value_in 128 units) (packed_value bits units small) } in
     (units, small, count, subst (λ (f : ℕ). IsPacking units f (drop (length header) octets)) (sym fill) (subst (λ (xs : List ℕ). IsPacking units bits xs) (sym rest) packing))
 
-behind : (header : List ℕ) (coding : Coding) (units octets : List ℕ) → octets ≡ packed_behind header coding units → AreUnits coding units → IsContentBehind coding (length header) (data_length coding (length header) (length units)) octets
+behind : (header : List ℕ) (coding : Coding) (units octets : List ℕ) → octets ≡ body_octets header coding units → AreUnits coding units → IsContentBehind coding (length header) (data_length coding (length header) (length units)) octets
 behind header Septets units octets e small = packed_so header units octets e small
 behind header Octets units octets e small = tt
 behind header Ucs2 units octets e small = tt
 behind header Compressed units octets e small = tt
 
 pub fields_are : (header : List ℕ) (coding : Coding) (units : List ℕ) → IsHeader header → AreUnits coding units → data_length coding (length header) (length units) ≤ capacity coding
-    → IsUserData coding (is_there header) (record { length = data_length coding (length header) (length units); octets = packed_behind header coding units })
+    → IsUserData coding (is_there header) (record { length = data_length coding (length header) (length units); octets = body_octets header coding units })
 fields_are header coding units is small room =
-    let octets : List ℕ = packed_behind header coding units in
+    let octets : List ℕ = body_octets header coding units in
     let rest : List ℕ = rest_of header coding units in
     let front : octets ≡ header ++ rest = begins header coding units in
     let size : header_octets (is_there header) octets ≡ length header = ap (λ (xs : List ℕ). header_octets (is_there header) xs) front ∙ header_long header rest is in

@@ -18,23 +18,23 @@ use Rattle.sms_tpdu.specs.UserDataGrammar.{greatest_length, octets_of}
 use Rattle.sms_tpdu.proofs.NameValues.{field_short}
 use Rattle.sms_tpdu.proofs.WrittenUnits.{written_down_is_read}
 use Rattle.sms_messages.specs.declared.message.MessageRow.{MessageRow}
-use Rattle.sms_messages.specs.declared.message.Originator.{Originator}
-use Rattle.sms_messages.specs.declared.message.Originator.TheVariants.{Handset}
+use Rattle.sms_base.specs.declared.originator.Originator.{Originator}
+use Rattle.sms_base.specs.declared.originator.Originator.TheVariants.{Handset}
 use Rattle.sms_messages.specs.declared.part.PartRow.{PartRow}
 use Rattle.sms_messages.specs.SoundMessages.{IsDeliver}
 use Rattle.sms_reports.specs.SoundReports.{IsStatus}
 use Rattle.sms_waiting.specs.SoundGivings.{IsNumber}
-use Rattle.sms_centre.specs.declared.submission.SinglePart.{SinglePart}
-use Rattle.sms_centre.specs.declared.submission.Submission.{Submission}
-use Rattle.sms_centre.specs.Bodies.{deliver_octets, deliver_of}
-use Rattle.sms_centre.specs.Numbers.{own_address}
-use Rattle.sms_centre.specs.ReceiptTexts.{status_octets, status_report_of, submit_reference}
+use Rattle.sms_intake.specs.declared.submission.SinglePart.{SinglePart}
+use Rattle.sms_intake.specs.declared.submission.Submission.{Submission}
+use Rattle.sms_intake.specs.PartBodies.{deliver_octets, deliver_of}
+use Rattle.sms_base.specs.HandsetNumber.{own_address}
+use Rattle.sms_receipt.specs.StatusReports.{status_octets, status_report_of}
+use Rattle.sms_centre.specs.Finals.{submit_reference}
 use Rattle.sms_centre.specs.Standing.{IsBody}
 use Rattle.sms_centre.specs.Submitting.{message_of}
-use Rattle.sms_centre.specs.Times.{stamp_of}
+use Rattle.sms_base.specs.UtcClock.{stamp_of}
 
 stamp_written : (moment : ℕ) → IsMoment moment → IsWrittenScts (stamp_of moment) moment
-unfolding clock_at
 stamp_written moment is = stamp_is_written moment is
 
 -- ---- DELIVER

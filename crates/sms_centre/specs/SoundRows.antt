@@ -5,8 +5,8 @@ use Rattle.sms_base.specs.Among.{Among}
 use Rattle.sms_base.specs.declared.address.Address.{Address}
 use Rattle.sms_base.specs.TimeStamp.{IsMoment}
 use Rattle.sms_messages.specs.declared.message.MessageRow.{MessageRow}
-use Rattle.sms_messages.specs.declared.message.Originator.{Originator}
-use Rattle.sms_messages.specs.declared.message.Originator.TheVariants.{Application, Handset}
+use Rattle.sms_base.specs.declared.originator.Originator.{Originator}
+use Rattle.sms_base.specs.declared.originator.Originator.TheVariants.{Application, Handset}
 use Rattle.sms_messages.specs.SoundMessages.{SoundMessages}
 use Rattle.sms_messages.specs.SplitReferences.{is_delivered}
 use Rattle.sms_reports.specs.declared.report.ReportRow.{ReportRow}
@@ -18,7 +18,7 @@ use Rattle.sms_waiting.specs.References.{handset_at}
 use Rattle.sms_waiting.specs.SoundGivings.{IsNumber, SoundGivings}
 use Rattle.sms_waiting.specs.SoundWaiting.{SoundWaiting}
 use Rattle.sms_centre.specs.declared.rows.Rows.{Rows}
-use Rattle.sms_centre.specs.declared.setup.Account.{Account}
+use Rattle.sms_intake.specs.declared.submission.Account.{Account}
 use Rattle.sms_centre.specs.declared.setup.Setup.{Setup}
 
 -- what a centre is told when it starts

@@ -11,12 +11,13 @@ use Rattle.sms_messages.specs.declared.part.PartRow.{PartRow}
 use Rattle.sms_messages.specs.Messages.{is_pending, message_at, message_key}
 use Rattle.sms_reports.specs.declared.report.ReportRow.{ReportRow}
 use Rattle.sms_waiting.specs.SoundGivings.{IsNumber}
-use Rattle.sms_centre.specs.declared.submission.SinglePart.{SinglePart}
-use Rattle.sms_centre.specs.declared.submission.Submission.{Submission}
+use Rattle.sms_intake.specs.declared.submission.SinglePart.{SinglePart}
+use Rattle.sms_intake.specs.declared.submission.Submission.{Submission}
 use Rattle.sms_centre.specs.Draft.{Store, messages_in, parts_in, reports_in}
 use Rattle.sms_centre.specs.Held.{SoundHeld}
 use Rattle.sms_centre.specs.SoundRows.{CanBeTold}
-use Rattle.sms_centre.specs.Submitting.{bodies_under, data_coding_of}
+use Rattle.sms_centre.specs.Submitting.{data_coding_of}
+use Rattle.sms_intake.specs.PartBodies.{bodies_under}
 
 -- ---- rows
 

@@ -15,17 +15,16 @@ use Rattle.sms_waiting.specs.declared.line.Line.{Line}
 use Rattle.sms_waiting.specs.Lines.{line_of}
 use Rattle.sms_centre.specs.declared.event.CentreEvent.{CentreEvent}
 use Rattle.sms_centre.specs.declared.event.CentreEvent.TheVariants.{Submit, Query, Cancel, Bound, Unbound, DeliverAnswered, Frame, LinkUp, LinkDown, Tick}
-use Rattle.sms_centre.specs.declared.setup.Account.{Account}
-use Rattle.sms_centre.specs.declared.submission.Submission.{Submission}
+use Rattle.sms_intake.specs.declared.submission.Account.{Account}
+use Rattle.sms_intake.specs.declared.submission.Submission.{Submission}
 use Rattle.sms_centre.specs.Draft.{Core}
-use Rattle.sms_centre.specs.HandsetIntake.{from_tpdu}
 use Rattle.sms_centre.specs.Requests.{account_at}
-use Rattle.sms_centre.specs.SmppIntake.{from_pdu}
+use Rattle.sms_intake.specs.SmppIntake.{from_pdu}
 use Rattle.sms_centre.specs.Standing.{IsSubmission}
 
 -- what a unit submits
 abbrev pub UnitGives : List ℕ → ℕ → Result Rp RelayFault → Type 0
-UnitGives handset moment (Ok (DataUnit reference centre tpdu)) = (u : Submission) → from_tpdu handset moment (tpdu_up_at InData tpdu) ≡ Ok u → IsSubmission u
+UnitGives handset moment (Ok (DataUnit reference centre tpdu)) = (u : Submission) → from_read handset moment (tpdu_up_at InData tpdu) ≡ Ok u → IsSubmission u
 UnitGives handset moment (Ok (AckUnit reference tpdu)) = Unit {0}
 UnitGives handset moment (Ok (ErrorUnit reference cause tpdu)) = Unit {0}
 UnitGives handset moment (Ok (Smma reference)) = Unit {0}
