@@ -24,6 +24,7 @@ use Rattle.sms_waiting.specs.declared.handset.HandsetRow.{HandsetRow}
 use Rattle.sms_waiting.specs.declared.progress.Progress.{Progress}
 use Rattle.sms_waiting.specs.References.{handset_of}
 use Rattle.sms_waiting.specs.Trying.{finished}
+use Rattle.sms_centre.specs.Finals.{final_of}
 use Rattle.sms_centre.specs.declared.rows.Rows.{Rows}
 use Rattle.sms_centre.specs.Draft.{Store, handsets_in, messages_in, parts_in, reports_in, rows_of, with_message, with_part_at, with_report_at}
 use Rattle.sms_centre.specs.Ends.{end, is_wished, make_report, report_to, status_given}
@@ -136,7 +137,7 @@ status_keeps f n m h None s can = made_keeps f n m Unsent true s can
 status_keeps f n m h (Some reference) s can = record {
   messages = λ id x e. (x, (e, same_message x));
   parts = λ id k p e. (p, (e, same_part p));
-  reports = report_row_keeps (report_of_end m.id (Status reference (status_octets f s.moment m)) false s) s can.stands can.none refl;
+  reports = report_row_keeps (report_of_end m.id (Status reference (status_octets (final_of f s.moment m))) false s) s can.stands can.none refl;
 }
 
 report_keeps : (o : Originator) (f : FinalState) (n : ℕ) (m : MessageRow) (s : Store) → CanReport f n m s → Keeps (rows_of s) (rows_of (report_to o f m s))

@@ -1,7 +1,7 @@
 -- A submit_sm that passed all checks is a submission that does: what it says, with a header that came or without one, where it
 -- comes from and where it goes.
-use Rattle.std.proofs.Common.{◌≡◌, ℕ, zero, suc, ◌+◌, ◌/◌, ◌%◌, List, [], ◌∷◌, ◌++◌, length, take, drop, Option, Some, None, Result, Ok, Err, refl, sym, ◌∙◌, ap, subst, inl, inr, arith}
-use Rattle.std.specs.Prelude.{◌==◌, not}
+use Rattle.std.proofs.Common.{◌≡◌, ℕ, zero, suc, ◌+◌, ◌*◌, ◌/◌, ◌%◌, ◌<◌, ◌≤◌, List, [], ◌∷◌, ◌++◌, length, take, drop, Bool, true, false, Option, Some, None, Result, Ok, Err, refl, sym, ◌∙◌, ap, subst, inl, inr, arith}
+use Rattle.std.specs.Prelude.{◌==◌, ◌&&◌, nat_le, nat_lt, not, min, if◌then◌else◌}
 use Rattle.std.specs.Option.{ok_or}
 use Rattle.std.proofs.lemmas.Bool.{cond_both}
 use Rattle.std.proofs.lemmas.List.{take_at}
@@ -9,7 +9,8 @@ use Rattle.sms_base.specs.Address.{IsAddress, address_of}
 use Rattle.sms_base.specs.Among.{Among}
 use Rattle.sms_base.specs.declared.address.Address.{Address}
 use Rattle.sms_base.specs.declared.address_error.AddressError.{AddressError}
-use Rattle.sms_base.specs.Reading.{only_if}
+use Rattle.sms_base.specs.Reading.{AreOctets, only_if}
+use Rattle.sms_base.specs.TimeStamp.{IsMoment}
 use Rattle.sms_base.proofs.Addresses.{address_found}
 use Rattle.sms_base.proofs.Steps.{bind_ok, ok_is}
 use Rattle.sms_concat.specs.declared.concat_key.ConcatKey.{ConcatKey}
@@ -29,22 +30,23 @@ use Rattle.sms_waiting.specs.Lines.{line_of}
 use Rattle.sms_waiting.specs.SoundGivings.{IsNumber}
 use Rattle.sms_centre.specs.declared.event.CentreEvent.{CentreEvent}
 use Rattle.sms_centre.specs.declared.event.CentreEvent.TheVariants.{Submit, Query, Cancel, Bound, Unbound, DeliverAnswered, Frame, LinkUp, LinkDown, Tick}
-use Rattle.sms_intake.specs.declared.smpp_front.Front.{Front}
-use Rattle.sms_intake.specs.declared.smpp_intake.Judged.{Judged}
 use Rattle.sms_intake.specs.declared.submission.Account.{Account}
+use Rattle.sms_intake.specs.declared.submission.SinglePart.{SinglePart}
 use Rattle.sms_intake.specs.declared.submission.Submission.{Submission}
 use Rattle.sms_intake.specs.declared.submission.Text.{Text}
 use Rattle.sms_centre.specs.Draft.{Core}
-use Rattle.sms_base.specs.HandsetNumber.{names_handset}
 use Rattle.sms_centre.specs.Requests.{account_at}
-use Rattle.sms_intake.specs.SmppIntake.{front_in, judged_in, submission_for, address_in, address_or_none, are_whole, content_at, due_in, has_sar_lengths, has_too_much, limit_in, from_pdu, handset_named, has_header, header_read, header_size, headed_text, is_ascii, is_empty, plain_text, sar_key, source_in, text_in, text_of}
 use Rattle.sms_centre.specs.SoundCore.{HasNumber, IsEvent, IsSoundCore}
-use Rattle.sms_centre.specs.Standing.{IsSubmission}
+use Rattle.sms_centre.specs.Standing.{IsBody, IsSubmission}
 use Rattle.sms_centre.specs.Submitted.{AccountGives, Gives}
 use Rattle.sms_centre.proofs.SmppFits.{FitsText, content_fits, key_header, single_fits, whole_fits}
 use Rattle.sms_centre.proofs.SoundAir.{line_of_handset}
 use Rattle.sms_centre.proofs.SubmitFits.{frame_fits, named_number}
 use Rattle.sms_centre.proofs.TextFields.{IsHeader}
+use Rattle.sms_base.specs.HandsetNumber.{names_handset}
+use Rattle.sms_intake.specs.declared.smpp_front.Front.{Front}
+use Rattle.sms_intake.specs.SmppIntake.{address_in, address_or_none, are_whole, content_at, due_in, has_sar_lengths, has_too_much, limit_in, from_pdu, handset_named, has_header, header_read, header_size, headed_text, is_ascii, is_empty, plain_text, sar_key, single_behind, source_in, text_in, text_of, whole_of, front_in, judged_in, submission_for}
+use Rattle.sms_intake.specs.PartBodies.{bodies_under}
 
 -- ---- what it says
 
@@ -109,36 +111,40 @@ named_handset (Some a) h are e =
 
 -- ---- the submission
 
+front_fits : (own : Address) (m : Message) (f : Front) → IsAddress own → front_in own m ≡ Ok f → IsAddress f.source × IsNumber f.handset
+unfolding front_in
+front_fits own m f is e =
+    let a = bind_ok (only_if (m.esm_class / 4 % 16 == 0) ESME_RINVESMCLASS) _ f e in
+    let source = bind_ok (ok_or (source_in own m.source) ESME_RINVSRCADR) _ f a.2 in
+    let handset = bind_ok (handset_named (address_in m.destination)) _ f source.2 in
+    let lengths = bind_ok (only_if (has_sar_lengths m.tlvs) ESME_RINVPARLEN) _ f handset.2 in
+    let alone = bind_ok (only_if (not (has_too_much m)) ESME_ROPTPARNOTALLWD) _ f lengths.2 in
+    let from : IsAddress source.0 = source_address own m.source source.0 is (some_of (source_in own m.source) source.0 source.1) in
+    let to : IsNumber handset.0 = named_handset (address_in m.destination) handset.0 (λ x g. entity_address m.destination x g) handset.1 in
+    let same = ok_is {E = CommandStatus} _ f alone.2 in
+    subst (λ (x : Front). IsAddress x.source × IsNumber x.handset) same (from, to)
+
 pdu_fits : (account : Account) (now : ℕ) (m : Message) (u : Submission) → IsAddress account.address → from_pdu account now m ≡ Ok u → IsSubmission u
-unfolding from_pdu judged_in front_in
+unfolding from_pdu judged_in
 pdu_fits account now m u is e =
     let judged = bind_ok (judged_in account.address now m) _ u e in
-    let j : Judged = judged.0 in
-    let front = bind_ok (front_in account.address m) _ j judged.1 in
-    let a = bind_ok (only_if (m.esm_class / 4 % 16 == 0) ESME_RINVESMCLASS) _ front.0 front.1 in
-    let source = bind_ok (ok_or (source_in account.address m.source) ESME_RINVSRCADR) _ front.0 a.2 in
-    let handset = bind_ok (handset_named (address_in m.destination)) _ front.0 source.2 in
-    let lengths = bind_ok (only_if (has_sar_lengths m.tlvs) ESME_RINVPARLEN) _ front.0 handset.2 in
-    let alone = bind_ok (only_if (not (has_too_much m)) ESME_ROPTPARNOTALLWD) _ front.0 lengths.2 in
-    let same_front : record { source = source.0; handset = handset.0 } ≡ front.0 = ok_is {E = CommandStatus} (record { source = source.0; handset = handset.0 }) front.0 alone.2 in
-    let text = bind_ok (text_in m) _ j front.2 in
-    let limit = bind_ok (limit_in now m.validity_period) _ j text.2 in
-    let due = bind_ok (due_in now limit.0 m.schedule_delivery_time) _ j limit.2 in
+    let front = bind_ok (front_in account.address m) _ judged.0 judged.1 in
+    let text = bind_ok (text_in m) _ judged.0 front.2 in
+    let limit = bind_ok (limit_in now m.validity_period) _ judged.0 text.2 in
+    let due = bind_ok (due_in now limit.0 m.schedule_delivery_time) _ judged.0 limit.2 in
+    let entities = front_fits account.address m front.0 is front.1 in
     let fits : FitsText text.0 = text_in_fits m text.0 text.1 in
-    let from : IsAddress source.0 = source_address account.address m.source source.0 is (some_of (source_in account.address m.source) source.0 source.1) in
-    let to : IsNumber handset.0 = named_handset (address_in m.destination) handset.0 (λ x f. entity_address m.destination x f) handset.1 in
-    let made : Judged = record { front = front.0; text = text.0; limit = limit.0; due = due.0 } in
-    let same : made ≡ j = ok_is {E = CommandStatus} made j due.2 in
-    let submission : IsSubmission (submission_for account m made) = record {
-      source = subst (λ (f : Front). IsAddress f.source) same_front from;
-      handset = subst (λ (f : Front). IsNumber f.handset) same_front to;
+    let same = ap (λ j. submission_for account m j) (ok_is {E = CommandStatus} _ judged.0 due.2) ∙ ok_is {E = CommandStatus} _ u judged.2 in
+    subst (λ (x : Submission). IsSubmission x) same
+    (record {
+      source = entities.0;
+      handset = entities.1;
       told = tt;
       priority = omega arith;
       some = fits.some;
       few = fits.few;
       bodies = λ reference b among. let body = fits.bodies reference b among in record { fields = body.fields; scheme = body.scheme };
-    } in
-    subst (λ (x : Submission). IsSubmission x) (ap (λ (x : Judged). submission_for account m x) same ∙ ok_is {E = CommandStatus} (submission_for account m j) u judged.2) submission
+    })
 
 -- ---- events
 

@@ -35,7 +35,7 @@ use Rattle.sms_intake.specs.declared.submission.Text.{Text}
 use Rattle.sms_intake.specs.declared.submission.Text.TheVariants.{Whole, Single}
 use Rattle.sms_intake.specs.PartBodies.{bodies_of, body_behind, body_of}
 use Rattle.sms_intake.specs.SmppIntake.{class_at, content_at, is_ascii, octets_at, septets_at, single_behind, splits, text_at, ucs2_at, whole_of}
-use Rattle.sms_handset.specs.OwnersActs.{content_spelled}
+use Rattle.sms_concat.specs.TextContent.{content_spelled}
 use Rattle.sms_centre.specs.Submitting.{data_coding_of}
 use Rattle.sms_intake.specs.PartBodies.{bodies_under, parts_or_none}
 use Rattle.sms_centre.proofs.TextFields.{IsHeader, fields_are}

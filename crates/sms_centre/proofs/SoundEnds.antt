@@ -20,6 +20,7 @@ use Rattle.sms_waiting.specs.declared.reference.ReferenceRow.{ReferenceRow}
 use Rattle.sms_waiting.specs.Keys.{reference_key}
 use Rattle.sms_waiting.specs.References.{given_row, handset_of}
 use Rattle.sms_waiting.proofs.WaitingSound.{next_is_free}
+use Rattle.sms_centre.specs.Finals.{final_of}
 use Rattle.sms_centre.specs.Draft.{Store, handsets_in, messages_in, parts_in, priorities_in, references_in, reports_in, waiting_in, with_message}
 use Rattle.sms_centre.specs.Ends.{end, is_wished, make_report, report_to, status_given}
 use Rattle.sms_receipt.specs.StatusReports.{status_octets, status_report_of}
@@ -91,14 +92,14 @@ status_sound f n mr m None s k can told from next =
 status_sound f n mr m (Some reference) s k can told from next =
     let h : HandsetRow = handset_of m.source.digits (handsets_in s) in
     let w : MessageRow = ended f n m in
-    let tpdu : List ℕ = status_octets f s.moment m in
+    let tpdu : List ℕ = status_octets (final_of f s.moment m) in
     let kind : ReportKind = Status reference tpdu in
     let r : ReportRow = report_row m.id kind false s in
     let among : Among w (messages_in s) = found_among message_key m.id w (messages_in s) can.there in
     let small : reference < 256 = (next_is_free h (waiting_in h.number s) (references_in s) s.moment reference next).1 in
-    let reads : IsStatus mr w s.moment tpdu (status_report_of f s.moment m) =
+    let reads : IsStatus mr w s.moment tpdu (status_report_of (final_of f s.moment m)) =
     status_reads f s.moment mr m w k.times.now (k.times.submitted w among).0 (k.messages.each_message w among).handset from refl refl in
-    let fits : FitsOriginator kind (Handset mr) w r = (small, (status_report_of f s.moment m, reads)) in
+    let fits : FitsOriginator kind (Handset mr) w r = (small, (status_report_of (final_of f s.moment m), reads)) in
     record {
       stands = status_stands f n m (Some reference) s can told next;
       messages = k.messages;

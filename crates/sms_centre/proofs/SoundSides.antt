@@ -38,6 +38,7 @@ use Rattle.sms_waiting.specs.References.{handset_at}
 use Rattle.sms_waiting.specs.SoundGivings.{IsNumber}
 use Rattle.sms_intake.specs.declared.refusal.SubmitRefusal.{SubmitRefusal}
 use Rattle.sms_intake.specs.declared.refusal.SubmitRefusal.TheVariants.{Duplicate, ReferenceTaken}
+use Rattle.sms_intake.specs.HandsetIntake.{from_read}
 use Rattle.sms_centre.specs.declared.rows.Rows.{Rows}
 use Rattle.sms_intake.specs.declared.submission.Account.{Account}
 use Rattle.sms_intake.specs.declared.submission.Submission.{Submission}

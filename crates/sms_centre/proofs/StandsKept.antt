@@ -21,6 +21,7 @@ use Rattle.sms_waiting.specs.declared.progress.Progress.{Progress}
 use Rattle.sms_waiting.specs.References.{handset_of}
 use Rattle.sms_waiting.specs.SoundGivings.{IsNumber}
 use Rattle.sms_waiting.specs.Trying.{finished}
+use Rattle.sms_centre.specs.Finals.{final_of}
 use Rattle.sms_centre.specs.Draft.{Store, handsets_in, messages_in, parts_in, reports_in, with_message, with_part_at, with_report_at}
 use Rattle.sms_centre.specs.Ends.{end, is_wished, make_report, report_to, status_given}
 use Rattle.sms_receipt.specs.StatusReports.{status_octets}
@@ -81,7 +82,7 @@ status_stands f n m (Some reference) s k told next =
     let r : ReportRow = record {
       place = next_place (reports_in s);
       id = m.id;
-      kind = Status reference (status_octets f s.moment m);
+      kind = Status reference (status_octets (final_of f s.moment m));
       made = s.moment;
       progress = record { is_done = false; attempts = 0; due = s.moment };
     } in

@@ -31,7 +31,7 @@ use Rattle.sms_intake.specs.declared.refusal.SubmitRefusal.{SubmitRefusal}
 use Rattle.sms_intake.specs.declared.refusal.SubmitRefusal.TheVariants.{NoHandset, PastLimit}
 use Rattle.sms_intake.specs.declared.submission.SinglePart.{SinglePart}
 use Rattle.sms_intake.specs.declared.submission.Submission.{Submission}
-use Rattle.sms_intake.specs.HandsetIntake.{from_submit, is_past, submission_of}
+use Rattle.sms_intake.specs.HandsetIntake.{from_read, from_submit, is_past, submission_of}
 use Rattle.sms_base.specs.HandsetNumber.{is_decimal, names_handset}
 use Rattle.sms_centre.specs.Standing.{IsBody, IsSubmission}
 use Rattle.sms_centre.specs.Submitted.{UnitGives, UpGives}

@@ -29,7 +29,7 @@ use Rattle.sms_intake.specs.declared.submission.Submission.{Submission}
 use Rattle.sms_intake.specs.PartBodies.{deliver_octets, deliver_of}
 use Rattle.sms_base.specs.HandsetNumber.{own_address}
 use Rattle.sms_receipt.specs.StatusReports.{status_octets, status_report_of}
-use Rattle.sms_centre.specs.Finals.{submit_reference}
+use Rattle.sms_centre.specs.Finals.{final_of, submit_reference}
 use Rattle.sms_centre.specs.Standing.{IsBody}
 use Rattle.sms_centre.specs.Submitting.{message_of}
 use Rattle.sms_base.specs.UtcClock.{stamp_of}
@@ -73,10 +73,10 @@ append_none [] = refl
 append_none (x ∷ xs) = ap (λ (ys : List ℕ). x ∷ ys) (append_none xs)
 
 pub status_reads : (f : FinalState) (moment n : ℕ) (m w : MessageRow) → IsMoment moment → IsMoment m.submitted → IsNumber m.handset → m.originator ≡ Handset n → w.handset ≡ m.handset → w.submitted ≡ m.submitted
-    → IsStatus n w moment (status_octets f moment m) (status_report_of f moment m)
+    → IsStatus n w moment (status_octets (final_of f moment m)) (status_report_of (final_of f moment m))
 status_reads f moment n m w now then number from handset submitted =
-    let r : StatusReportOf = status_report_of f moment m in
-    let octets : List ℕ = status_octets f moment m in
+    let r : StatusReportOf = status_report_of (final_of f moment m) in
+    let octets : List ℕ = status_octets (final_of f moment m) in
     let read = written_down_is_read InData octets (StatusReport r)
     (stamp_of m.submitted, stamp_of moment, number, stamp_written m.submitted then, stamp_written moment now, tt, sym (append_none octets)) in
     let to : List ℕ = address_field (own_address m.handset) in

@@ -13,6 +13,7 @@ use Rattle.sms_tpdu.specs.TpduReading.{up_at as tpdu_up_at}
 use Rattle.smpp_pdu.specs.declared.message.Message.{Message}
 use Rattle.sms_waiting.specs.declared.line.Line.{Line}
 use Rattle.sms_waiting.specs.Lines.{line_of}
+use Rattle.sms_intake.specs.HandsetIntake.{from_read}
 use Rattle.sms_centre.specs.declared.event.CentreEvent.{CentreEvent}
 use Rattle.sms_centre.specs.declared.event.CentreEvent.TheVariants.{Submit, Query, Cancel, Bound, Unbound, DeliverAnswered, Frame, LinkUp, LinkDown, Tick}
 use Rattle.sms_intake.specs.declared.submission.Account.{Account}

@@ -2,7 +2,7 @@
 use Rattle.std.specs.Prelude.{ℕ, ◌+◌, List, [], ◌∷◌, Bool, true, if◌then◌else◌, Option, Some, None, Result, Ok, Err}
 use Rattle.sms_base.specs.Reading.{◌>>=◌}
 use Rattle.sms_centre.specs.declared.event.CentreEvent.{CentreEvent}
-use Rattle.sms_centre.specs.declared.setup.Account.{Account}
+use Rattle.sms_intake.specs.declared.submission.Account.{Account}
 use Rattle.sms_handset.specs.declared.event.HandsetEvent.{HandsetEvent}
 use Rattle.sms_handset.specs.declared.refusal.Refusal.{Refusal}
 use Rattle.sms_report.specs.declared.answers.Answered.TheVariants.{Stopped as AnsweredStopped}

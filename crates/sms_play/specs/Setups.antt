@@ -3,7 +3,7 @@ use Rattle.std.specs.Prelude.{ℕ, ◌&&◌, ◌||◌, not, nat_le, nat_lt, List
 use Rattle.std.specs.List.{list_all}
 use Rattle.std.specs.Str.{bytes_eq}
 use Rattle.sms_base.specs.HandsetNumber.{is_decimal, own_address}
-use Rattle.sms_centre.specs.declared.setup.Account.{Account as CentreAccount}
+use Rattle.sms_intake.specs.declared.submission.Account.{Account as CentreAccount}
 use Rattle.sms_centre.specs.declared.setup.Setup.{Setup as CentreSetup}
 use Rattle.sms_centre.specs.declared.rows.Rows.{Rows as CentreRows}
 use Rattle.sms_handset.specs.declared.setup.Setup.{Setup as OwnSetup}
