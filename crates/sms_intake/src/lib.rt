@@ -8,6 +8,7 @@
 
 mod content_form;
 mod content_view;
+mod deliver;
 mod handset_intake;
 mod header_form;
 pub mod laws;
@@ -22,6 +23,7 @@ mod submit_report;
 mod text_view;
 
 pub use content_view::content_of;
+pub use deliver::deliver_octets;
 pub use handset_intake::from_submit;
 pub use part_bodies::bodies_under;
 pub use refusal::{SmppError, SubmitError, SubmitRefusal};

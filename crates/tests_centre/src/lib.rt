@@ -7,3 +7,5 @@ mod intake;
 mod receipts;
 #[cfg(test)]
 mod schedules;
+#[cfg(test)]
+mod submissions;
