@@ -1,19 +1,17 @@
 -- What a plan accepts is stored, whatever the event.
-use Rattle.std.proofs.Common.{◌≡◌, ℕ, List, Bool, Result, Ok, Err, sym, ◌∙◌, ap, subst, IfOk}
-use Rattle.sms_base.specs.declared.holder.Holder.{Holder}
-use Rattle.sms_handset.specs.declared.event.HandsetEvent.{HandsetEvent}
-use Rattle.sms_handset.specs.declared.event.HandsetEvent.TheVariants.{Frame, Tick, Write, Delete, Discard}
-use Rattle.sms_handset.specs.declared.discarded_group.DiscardedGroup.{DiscardedGroup}
-use Rattle.sms_handset.specs.declared.refusal.PlanError.{PlanError}
-use Rattle.sms_handset.specs.declared.refusal.PlanError.TheVariants.{Refused, NoMemory}
-use Rattle.sms_handset.specs.declared.refusal.Refusal.{Refusal}
+use Rattle.std.proofs.Common.{◌≡◌, sym, ap, subst, List, Result, Ok, Err, IfOk}
+use Rattle.sms_inbox.specs.declared.discarded_group.DiscardedGroup.{DiscardedGroup}
 use Rattle.sms_handset.specs.declared.rows.Rows.{Rows}
 use Rattle.sms_handset.specs.Accepted.{StoresAccepted}
-use Rattle.sms_handset.specs.Draft.{Changes, Core, Draft, HandsetOf, rows_after}
-use Rattle.sms_handset.specs.HandsetEvent.{deleted, discarded, frame_came, tag_of, ticked, wrote}
-use Rattle.sms_handset.specs.Planning.{IsPlanOf, OfDelete, OfDiscard, OfFrame, OfTick, OfWrite, Outcome, Plan, Plans, Rests, RestsIfDone, Stores}
-use Rattle.sms_handset.specs.Trying.{TriesPlan}
+use Rattle.sms_handset.specs.Draft.{Changes, Draft, HandsetOf, rows_after}
+use Rattle.sms_handset.specs.Planning.{IsPlanOf, Outcome, Plan, Rests, Stores, RestsIfDone, Plans, OfDelete, OfDiscard, OfFrame, OfTick, OfWrite}
+use Rattle.sms_handset.specs.declared.refusal.Refusal.{Refusal}
 use Rattle.sms_handset.proofs.Accepting.{LawIfDone, frame_stores, tick_stores, write_stores, delete_stores, discard_stores}
+use Rattle.sms_handset.specs.declared.refusal.PlanError.{PlanError}
+use Rattle.sms_handset.specs.Trying.{TriesPlan}
+use Rattle.sms_handset.specs.declared.event.HandsetEvent.{HandsetEvent}
+use Rattle.sms_handset.specs.declared.event.HandsetEvent.TheVariants.{Frame, Tick, Write, Delete, Discard}
+use Rattle.sms_handset.specs.HandsetEvent.{deleted, discarded, frame_came, tag_of, ticked, wrote}
 use Rattle.sms_handset.proofs.Resting.{frame_rests, tick_rests, write_rests, delete_rests, discard_rests}
 
 stores_of : (s : HandsetOf) (d : Draft) (p : Plan) → IsPlanOf d s p → Rests s.core.rows d → StoresAccepted s.core.rows.marks d.changes d.rows → Stores s p

@@ -1,33 +1,32 @@
 -- Each event leaves a sound handset sound, and what is planned of it too.
-use Rattle.std.proofs.Common.{◌≡◌, ℕ, List, Bool, Option, Some, None, Result, Ok, Err, refl, sym, ◌∙◌, subst, IfOk}
-use Rattle.std.specs.Prelude.{max}
-use Rattle.sms_base.specs.declared.holder.Holder.{Holder}
+use Rattle.std.proofs.Common.{◌≡◌, Option, sym, ◌∙◌, subst, None, refl, Some, ℕ, List, Result, Ok, Err, Bool, IfOk}
 use Rattle.sms_base.specs.declared.carried.Carried.{Carried}
+use Rattle.sms_base.specs.declared.holder.Holder.{Holder}
 use Rattle.sms_control.specs.declared.out.Up.{Up}
 use Rattle.sms_control.specs.declared.out.Up.TheVariants.{Unit as UnitUp, Failed as FailedUp}
 use Rattle.sms_control.specs.declared.transaction.TransactionFlag.TheVariants.{FromOriginator, ToOriginator}
-use Rattle.sms_control.specs.LinkStep.{Step, fire_step, take_step}
+use Rattle.sms_control.specs.LinkStep.{Step, take_step, fire_step}
+use Rattle.sms_relay.specs.RelayReading.{down_at as unit_at}
 use Rattle.sms_link.specs.declared.ending.Side.TheVariants.{Handset as HandsetSide}
 use Rattle.sms_link.specs.declared.ending.Ending.TheVariants.{Lost as LostEnd}
 use Rattle.sms_link.specs.Ending.{ended_by, unit_at as unit_for}
-use Rattle.sms_link.specs.LinkTurn.{Turn, came_up, fired, still_under_way, taken}
-use Rattle.sms_relay.specs.RelayReading.{down_at as unit_at}
+use Rattle.sms_link.specs.LinkTurn.{came_up, still_under_way, Turn, taken, fired}
+use Rattle.sms_handset.specs.Draft.{Draft, Core, draft_of, link_of, with_turn, HandsetOf, core_of}
+use Rattle.sms_handset.proofs.SoundDrafts.{Sound, SoundAt, outbox_moves, sound_from, sound_core}
+use Rattle.sms_handset.specs.HandsetEvent.{went_up, timed_out, frame_came, frame_heard, at_moment, ticked, timers_fired, acted, wrote, deleted, discarded, tag_of}
+use Rattle.sms_handset.proofs.SoundReceiving.{unit_sound}
+use Rattle.sms_handset.proofs.SoundTransfers.{transfer_sound, follow_sound}
+use Rattle.sms_handset.specs.SoundCore.{IsSoundCore}
+use Rattle.sms_handset.specs.declared.refusal.Refusal.{Refusal}
+use Rattle.sms_handset.proofs.SoundActs.{SoundIfDone, write_sound, delete_sound, discard_sound}
+use Rattle.sms_handset.specs.OwnersActs.{write, delete, discard}
+use Rattle.sms_handset.specs.declared.rows.Rows.{Rows}
+use Rattle.sms_handset.specs.Planning.{IsPlanOf, Outcome, Plan, Rests, adopted, RestsIfDone, Plans, OfDelete, OfDiscard, OfFrame, OfTick, OfWrite}
+use Rattle.sms_handset.specs.declared.refusal.PlanError.{PlanError}
+use Rattle.sms_handset.specs.Trying.{TriesPlan}
 use Rattle.sms_handset.specs.declared.event.HandsetEvent.{HandsetEvent}
 use Rattle.sms_handset.specs.declared.event.HandsetEvent.TheVariants.{Frame, Tick, Write, Delete, Discard}
-use Rattle.sms_handset.specs.declared.refusal.PlanError.{PlanError}
-use Rattle.sms_handset.specs.declared.refusal.Refusal.{Refusal}
-use Rattle.sms_handset.specs.declared.rows.Rows.{Rows}
-use Rattle.sms_handset.specs.Draft.{Core, Draft, HandsetOf, core_of, draft_of, link_of, with_turn}
-use Rattle.sms_handset.specs.HandsetEvent.{acted, at_moment, deleted, discarded, frame_came, frame_heard, tag_of, ticked, timed_out, timers_fired, went_up, wrote}
-use Rattle.sms_handset.specs.OwnersActs.{delete, discard, write}
-use Rattle.sms_handset.specs.Planning.{IsPlanOf, OfDelete, OfDiscard, OfFrame, OfTick, OfWrite, Outcome, Plan, Plans, Rests, RestsIfDone, adopted}
-use Rattle.sms_handset.specs.SoundCore.{IsSoundCore}
-use Rattle.sms_handset.specs.Trying.{TriesPlan}
 use Rattle.sms_handset.proofs.Resting.{delete_rests, discard_rests, frame_rests, tick_rests, write_rests}
-use Rattle.sms_handset.proofs.SoundActs.{SoundIfDone, delete_sound, discard_sound, write_sound}
-use Rattle.sms_handset.proofs.SoundDrafts.{Sound, SoundAt, outbox_moves, sound_core, sound_from}
-use Rattle.sms_handset.proofs.SoundReceiving.{unit_sound}
-use Rattle.sms_handset.proofs.SoundTransfers.{follow_sound, transfer_sound}
 
 -- ---- what goes up from the link
 

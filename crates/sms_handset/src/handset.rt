@@ -7,35 +7,28 @@ ghost use Rattle.sms_handset.specs.Planning.{adopted, changes_in, Fits, HaveRoom
 ghost use Rattle.sms_handset.specs.Trying.{TriesPlan as Tries};
 ghost use Rattle.sms_base.specs.Address.{IsAddress};
 ghost use Rattle.sms_table.specs.Table.{Rises, row_at};
-ghost use Rattle.sms_handset.specs.OpenGroups.{Numbered, Regroups};
-ghost use Rattle.sms_handset.specs.OpenIndex.{opening};
-ghost use Rattle.sms_handset.specs.Keys.{entry_key, last_key, mark_key, out_key};
+ghost use Rattle.sms_handset.specs.Regrouping.{Numbered, Regroups};
+ghost use Rattle.sms_inbox.specs.OpenIndex.{opening};
+ghost use Rattle.sms_inbox.specs.Keys.{entry_key, last_key, mark_key};
+ghost use Rattle.sms_outbox.specs.Keys.{out_key};
 ghost use Rattle.sms_handset.specs.OwnersActs.{delete as delete_of, delete_out, discard as discard_of};
 ghost use Rattle.sms_handset.specs.SoundCore.{IsSoundCore};
 ghost use Rattle.sms_handset.specs.SoundRows.{IsSetup, IsSound, RefusesRows};
 
 use crate::counters::Counters;
-use crate::deleting::is_open_part;
-use crate::discarded_group::DiscardedGroup;
 use crate::draft::Draft;
-use crate::entry::Entry;
 use crate::event::HandsetEvent;
-use crate::last_accepted::LastAccepted;
 use crate::no_memory::NoMemory;
-use crate::notice::Notice;
-use crate::open_group::Regrouping;
-use crate::open_groups::{OpenGroups, SpareGroups};
-use crate::out_entry::OutEntry;
 use crate::planned::Planned;
 use crate::recover_error::RecoverError;
-use crate::references::is_unfinished;
 use crate::refusal::{PlanError, Refusal};
 use crate::rows::{Changes, Rows};
 use crate::sound_rows::are_sound;
 use crate::stored::Stored;
-use crate::storing::slots_in;
 use sms_base::{Holder, Listed, Moment};
+use sms_inbox::{DiscardedGroup, Entry, LastAccepted, OpenGroups, Regrouping, SpareGroups, slots_in};
 use sms_link::{Link, Outgoing, Side};
+use sms_outbox::{Notice, OutEntry};
 use sms_table::{Key, Pending, Table, adopt};
 use std::alloc::Global;
 use std::marker::Model;
@@ -352,7 +345,7 @@ impl Handset {
         let Some(entry) = self.stored.entries.find(Key::of(u64::from(number))) else {
             return self.refuses_delete_out(number);
         };
-        if is_open_part(&entry.message) {
+        if entry.message.is_open_part() {
             return Some(Refusal::StillOpen);
         }
         None
@@ -364,7 +357,7 @@ impl Handset {
         let Some(entry) = self.stored.outbox.find(Key::of(u64::from(number))) else {
             return Some(Refusal::NoEntry);
         };
-        if is_unfinished(entry.state) {
+        if entry.state.is_unfinished() {
             return Some(Refusal::StillOpen);
         }
         None

@@ -1,115 +1,20 @@
 //! Writing: a text becomes SUBMITs in the outbox.
 ghost use Rattle.std.specs.Prelude.{◌≡◌, ◌+◌, ◌<◌, ◌≤◌, length, All, IfOk, OnOk};
 ghost use Rattle.sms_base.specs.Address.{address_of};
-ghost use Rattle.sms_concat.specs.Splitting.{split_of};
-ghost use Rattle.sms_handset.specs.References.{held_message_references as held_message_references_of, next_free as next_free_of};
+ghost use Rattle.sms_outbox.specs.References.{held_message_references as held_message_references_of, next_free as next_free_of};
 ghost use Rattle.sms_handset.specs.Trying.{Tries};
 ghost use Rattle.std.specs.Str.{chars};
 ghost use Rattle.sms_base.specs.Address.{IsAddress};
-ghost use Rattle.sms_alphabet.specs.DataCodingScheme.{coding_of};
-ghost use Rattle.sms_concat.specs.UserData.{AreUnits, HasRoom, IsPart, IsUserData, header_of};
-ghost use Rattle.sms_handset.specs.OwnersActs.{content_of_text, count_split as count_split_of, fits_outbox as fits_outbox_of, submit_for, submit_octets as octets_of_submit, write as write_of, write_part as write_part_of, write_parts as write_parts_of, write_split as write_split_of, write_to as write_to_of, written as written_of};
+ghost use Rattle.sms_concat.specs.UserData.{HasRoom, IsPart};
+ghost use Rattle.sms_handset.specs.OwnersActs.{count_split as count_split_of, fits_outbox as fits_outbox_of, write as write_of, write_part as write_part_of, write_parts as write_parts_of, write_to as write_to_of, written as written_of};
 
 use crate::counters::Counters;
 use crate::draft::Draft;
 use crate::no_memory::NoMemory;
-use crate::out_entry::{EntryState, OutEntry};
-use crate::references::{following, held_message_references, next_free};
 use crate::refusal::{PlanError, Refusal};
-use crate::submit_tpdu::SubmitTpdu;
-use sms_alphabet::{Coding, SpellingError, septets_of, ucs2_of};
-use sms_base::{Address, OctetView};
-use sms_concat::{Content, Part, SplitError, UserData as PartData, split, user_data};
-use sms_tpdu::{Submit, UserData, ValidityPeriod, write_submit};
-use std::alloc::{AllocError, Global};
-
-// The text in the default alphabet where each character has a code there, else in UCS2.
-fn content_of(alloc: Global, text: &str) -> Result<Content, NoMemory>
-    ensures value { IfOk result (λ content. content ≡ content_of_text (chars text.now)) }
-    ensures units { IfOk result (λ content. AreUnits content.coding content.units) }
-    ensures coding { IfOk result (λ content. content.coding ≡ coding_of content.dcs) }
-{
-    match septets_of(alloc, text) {
-        Ok(units) => Ok(Content {
-            coding: Coding::Septets,
-            dcs: 0,
-            units,
-        }),
-        Err(SpellingError::NoCode(_)) => {
-            let units = ucs2_of(alloc, text)?;
-            Ok(Content {
-                coding: Coding::Ucs2,
-                dcs: 8,
-                units,
-            })
-        }
-        Err(SpellingError::NoMemory) => Err(NoMemory),
-    }
-}
-
-// The SUBMIT with the user data of a part.
-fn submit_with(
-    alloc: Global,
-    message_reference: u8,
-    destination: &Address,
-    report: bool,
-    part: &Part,
-    fields: &PartData,
-    octets: &[u8],
-) -> Result<SubmitTpdu, AllocError>
-    requires address { IsAddress destination.now }
-    requires part { IsPart part.now }
-    requires room { HasRoom part.now }
-    requires fields { IsUserData (header_of part.now.key) part.now.content fields.now }
-    requires octets { octets.now ≡ fields.now.octets }
-    ensures { IfOk result (λ tpdu. tpdu ≡ octets_of_submit (submit_for message_reference destination.now report part.now)) }
-{
-    let tpdu = write_submit(
-        alloc,
-        &Submit {
-            reject_duplicates: false,
-            status_report_request: report,
-            user_data_header_indicator: fields.header_indicator,
-            reply_path: false,
-            message_reference,
-            destination_address: *destination,
-            protocol_identifier: 0,
-            data_coding_scheme: part.content.dcs,
-            validity_period: ValidityPeriod::NotPresent,
-            user_data: UserData {
-                length: fields.length,
-                octets: OctetView::of(octets),
-            },
-        },
-    )?;
-    Ok(SubmitTpdu::of(tpdu))
-}
-
-// The SUBMIT of a part.
-fn submit_tpdu(
-    alloc: Global,
-    message_reference: u8,
-    destination: &Address,
-    report: bool,
-    part: &Part,
-) -> Result<SubmitTpdu, AllocError>
-    requires address { IsAddress destination.now }
-    requires part { IsPart part.now }
-    requires room { HasRoom part.now }
-    ensures { IfOk result (λ tpdu. tpdu ≡ octets_of_submit (submit_for message_reference destination.now report part.now)) }
-{
-    let fields = user_data(alloc, part)?;
-    let tpdu = submit_with(
-        alloc,
-        message_reference,
-        destination,
-        report,
-        part,
-        &fields,
-        fields.octets.as_slice(),
-    )?;
-    Ok(tpdu)
-}
+use sms_base::Address;
+use sms_concat::{Part, SplitError, split};
+use sms_outbox::{EntryState, OutEntry, content_of, following, held_message_references, next_free, submit_of_part};
 
 impl<'a> Draft<'a> {
     // The next TP-MR that no unfinished entry holds.
@@ -137,7 +42,7 @@ impl<'a> Draft<'a> {
     {
         let message_reference = self.free_message_reference()?;
         let reference = self.free_reference()?;
-        let tpdu = submit_tpdu(self.alloc, message_reference, destination, report, part)?;
+        let tpdu = submit_of_part(self.alloc, message_reference, destination, report, part)?;
         let counters = self.counters();
         self.put_counters(Counters {
             entry: counters.entry + 1,
