@@ -26,7 +26,9 @@ use crate::rows::{Changes, Rows};
 use crate::sound_rows::are_sound;
 use crate::stored::Stored;
 use sms_base::{Holder, Listed, Moment};
-use sms_inbox::{DiscardedGroup, Entry, LastAccepted, OpenGroups, Regrouping, SpareGroups, slots_in};
+use sms_inbox::{
+    DiscardedGroup, Entry, LastAccepted, OpenGroups, Regrouping, SpareGroups, slots_in,
+};
 use sms_link::{Link, Outgoing, Side};
 use sms_outbox::{Notice, OutEntry};
 use sms_table::{Key, Pending, Table, adopt};

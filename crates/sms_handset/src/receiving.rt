@@ -13,7 +13,10 @@ ghost use Rattle.sms_outbox.specs.Reports.{reported as reported_of};
 use crate::draft::Draft;
 use crate::no_memory::NoMemory;
 use sms_base::{Holder, Kind, OctetView, Octets};
-use sms_inbox::{DiscardedGroup, Group, LastAccepted, Members, Regrouping, find_mark, is_among, is_double, key_of};
+use sms_inbox::{
+    DiscardedGroup, Group, LastAccepted, Members, Regrouping, find_mark, is_among, is_double,
+    key_of,
+};
 use sms_outbox::{OutEntry, reported};
 use sms_relay::{RelayFault, Rp, RpCause, read_down as read_unit, write_up};
 use sms_tpdu::{Carrier, Deliver, Down, StatusReport, read_down};

@@ -10,8 +10,11 @@ use crate::draft::Draft;
 use crate::no_memory::NoMemory;
 use sms_base::{Carried, Holder};
 use sms_link::Ending;
-use sms_outbox::{EntryState, OutEntry, OutView, copies_of, data_unit, first_due, first_fired, held_references, lost, next_free, outbox_after, sent_once_more, settled, verdict_of};
-use sms_table::Key;
+use sms_outbox::{
+    EntryState, OutEntry, OutView, copies_of, data_unit, first_due, first_fired, held_references,
+    lost, next_free, outbox_after, sent_once_more, settled, verdict_of,
+};
+use sms_table::{Key, Table};
 
 /// How many RP-SMMA may have been sent and not have ended.
 const MOST_NOTICES: usize = 200;

@@ -11,7 +11,10 @@ use crate::draft::Draft;
 use crate::no_memory::NoMemory;
 use sms_base::Octets;
 use sms_concat::Content;
-use sms_inbox::{DiscardedGroup, Entry, Group, Members, Message, OpenGroup, Regrouping, StoredPart, has_every, is_full, joined_content, with_part};
+use sms_inbox::{
+    DiscardedGroup, Entry, Group, Members, Message, OpenGroup, Regrouping, StoredPart, has_every,
+    is_full, joined_content, with_part,
+};
 use std::alloc::Global;
 
 impl<'a> Draft<'a> {
@@ -201,5 +204,5 @@ fn opened(
         entry: part.number,
         number: part.message.part_number(),
     };
-    with_part(alloc, group, members.parts(), part)
+    Ok(with_part(alloc, group, members.parts(), part)?)
 }

@@ -14,7 +14,9 @@ use crate::no_memory::NoMemory;
 use crate::refusal::{PlanError, Refusal};
 use sms_base::Address;
 use sms_concat::{Part, SplitError, split};
-use sms_outbox::{EntryState, OutEntry, content_of, following, held_message_references, next_free, submit_of_part};
+use sms_outbox::{
+    EntryState, OutEntry, content_of, following, held_message_references, next_free, submit_of_part,
+};
 
 impl<'a> Draft<'a> {
     // The next TP-MR that no unfinished entry holds.

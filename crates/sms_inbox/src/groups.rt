@@ -51,10 +51,7 @@ pub fn is_among(number: u8, numbers: &[u8]) -> bool
 }
 
 /// The discarded group that is this group.
-pub fn find_mark<'a>(
-    group: &Group,
-    marks: &'a [DiscardedGroup],
-) -> Option<&'a DiscardedGroup>
+pub fn find_mark<'a>(group: &Group, marks: &'a [DiscardedGroup]) -> Option<&'a DiscardedGroup>
     ensures { option_copied result ≡ mark_of group.now marks.now }
 {
     for mark in marks {

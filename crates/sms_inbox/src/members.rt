@@ -35,11 +35,7 @@ impl<'a> Model for Members<'a> {
 
 impl<'a> Members<'a> {
     /// Those of the group, by the index of the entries.
-    pub fn of(
-        groups: &'a OpenGroups,
-        entries: &'a Table<Entry>,
-        group: &Group,
-    ) -> Members<'a>
+    pub fn of(groups: &'a OpenGroups, entries: &'a Table<Entry>, group: &Group) -> Members<'a>
         requires { Indexes groups.now entries.now.rows }
         ensures { result ≡ members_of group.now entries.entry.now.rows }
     {

@@ -122,11 +122,7 @@ impl OpenGroups {
     }
 
     /// Memory for the change where the index has too little, else none.
-    pub fn make_spare(
-        &self,
-        alloc: Global,
-        change: &Regrouping,
-    ) -> Result<SpareGroups, AllocError>
+    pub fn make_spare(&self, alloc: Global, change: &Regrouping) -> Result<SpareGroups, AllocError>
         ensures { IfOk result (λ spare. length self.now.groups + opening change.now ≤ max self.now.capacity spare) }
     {
         let len = self.by_first_part.len();

@@ -91,7 +91,10 @@ fn change_all<'a>(
     Ok(())
 }
 
-fn apply<'a>(outbox: &mut Table<OutView<'a>>, change: &'a Change<OutEntry>) -> Result<(), AllocError>
+fn apply<'a>(
+    outbox: &mut Table<OutView<'a>>,
+    change: &'a Change<OutEntry>,
+) -> Result<(), AllocError>
     ensures { OnOk result (outbox.new.rows ≡ applied out_key change.now outbox.old.rows) }
 {
     match change {

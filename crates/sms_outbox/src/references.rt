@@ -31,10 +31,7 @@ pub fn next_free(reference: u8, held: &[u8]) -> u8
 }
 
 /// The TP-MRs that the unfinished entries hold.
-pub fn held_message_references(
-    alloc: Global,
-    outbox: &[OutView<'_>],
-) -> Result<Octets, AllocError>
+pub fn held_message_references(alloc: Global, outbox: &[OutView<'_>]) -> Result<Octets, AllocError>
     ensures { IfOk result (λ held. held ≡ held_message_references_of outbox.now) }
 {
     let mut held = Octets::with_capacity(alloc, outbox.len())?;
