@@ -19,5 +19,5 @@ pub use packing::pack;
 pub use reading::{ReadingError, text_of};
 pub use scheme::{Coding, dcs};
 pub use spelling::{SpellingError, septets_of};
-pub use ucs2::{Ucs2Error, ucs2_of, ucs2_text};
+pub use ucs2::{Ucs2Error, ucs2_length, ucs2_of, ucs2_text};
 pub use unpacking::{UnpackError, check, unpack};

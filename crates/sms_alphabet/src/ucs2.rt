@@ -51,9 +51,9 @@ impl From<AllocError> for Ucs2Error {
     }
 }
 
-// How many octets a character takes.
+/// How many octets a character takes in UCS2: 2, or 4 above FFFF.
 #[tactic(auto, unfolding(crate::specs::Ucs2::octets_for))]
-fn octets_wanted(character: char) -> usize
+pub fn ucs2_length(character: char) -> usize
     ensures { result ≡ length (octets_for character) }
 {
     if (character as u32) < 0x1_0000 { 2 } else { 4 }
@@ -64,7 +64,7 @@ fn count_octets(text: &str) -> usize
 {
     let mut count: usize = 0;
     for character in text.chars() {
-        count += octets_wanted(character);
+        count += ucs2_length(character);
     }
     count
 }

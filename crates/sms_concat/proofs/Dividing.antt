@@ -45,7 +45,7 @@ joined_units Ucs2 xs = joined_ucs2 xs
 joined_units Compressed xs = joined_octets xs
 
 -- each unit has at most four octets
-pub AreSmall : List (List ℕ) → Type 0
+unfoldable pub AreSmall : List (List ℕ) → Type 0
 AreSmall [] = Unit {0}
 AreSmall (unit ∷ units) = (length unit ≤ 4) × AreSmall units
 

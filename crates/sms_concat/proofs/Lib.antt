@@ -7,4 +7,5 @@ pub mod Uniqueness
 pub mod HeaderKeys
 pub mod Stepwise
 pub mod Room
+pub mod Tallies
 mod Rows

@@ -1,8 +1,10 @@
 pub mod Concatenation
+pub mod Counting
+pub mod FaultCodes
 pub mod HeaderGrammar
 pub mod Joining
 pub mod Splitting
 pub mod StepwiseJoining
+pub mod TextContent
 pub mod UserData
 pub mod WholeUnits
-pub mod FaultCodes

@@ -3,13 +3,14 @@
 //! A header is read as the list of its elements, and its concatenation key is that of the last valid
 //! concatenation element. A content that fits one short message is one part without a header; a longer
 //! one is cut between whole units into parts that are as full as that allows, and those parts joined are
-//! the content again: `join` takes them all at once, a `Joiner` one by one in whatever order they come. What is written
-//! of a part is read as that part.
+//! the content again: `join` takes them all at once, a `Joiner` one by one in whatever order they come. How many
+//! parts a content takes is told without memory. What is written of a part is read as that part.
 #![tactic(auto)]
 
 mod add_error;
 mod concat_key;
 mod content;
+mod counting;
 mod element;
 mod header;
 mod header_error;
@@ -21,12 +22,15 @@ mod parts;
 mod reading;
 mod split_error;
 mod splitting;
+mod tally;
+mod text_content;
 mod whole_unit;
 mod writing;
 
 pub use add_error::AddError;
 pub use concat_key::{ConcatKey, ConcatReference};
 pub use content::{Content, Part, UserData};
+pub use counting::{count_latin_parts, count_parts, count_text_parts};
 pub use element::Element;
 pub use header::{Header, concat_info};
 pub use header_error::HeaderError;
@@ -38,4 +42,5 @@ pub use reading::{check_user_data, part_of};
 pub use sms_alphabet::{fill_bits, header_septets};
 pub use split_error::SplitError;
 pub use splitting::split;
+pub use text_content::content_of_text;
 pub use writing::{user_data, user_data_behind};

@@ -15,16 +15,16 @@ use sms_alphabet::{Coding, greatest_length};
 use std::alloc::{AllocError, Global};
 
 // How many parts a message has at most.
-const MOST_PARTS: u8 = 20;
+pub(crate) const MOST_PARTS: u8 = 20;
 
-fn is_compressed(coding: Coding) -> bool
+pub(crate) fn is_compressed(coding: Coding) -> bool
     ensures { result ≡ is_compressed coding }
 {
     matches!(coding, Coding::Compressed)
 }
 
 // The room behind the header of a 16-bit reference.
-fn room(coding: Coding) -> usize
+pub(crate) fn room(coding: Coding) -> usize
     ensures { result ≡ room coding }
 {
     match coding {
@@ -54,7 +54,7 @@ fn first_piece(coding: Coding, units: &[u8]) -> usize
 }
 
 // How many pieces there are, if at most 20.
-fn count_pieces(coding: Coding, units: &[u8]) -> Option<u8>
+pub(crate) fn count_pieces(coding: Coding, units: &[u8]) -> Option<u8>
     ensures { result ≡ (if nat_lt 20 (length (pieces_of coding units.now)) then None else Some (length (pieces_of coding units.now))) }
 {
     let mut rest = units;
