@@ -60,7 +60,7 @@ use Rattle.sms_outbox.specs.Offers.{first_due, first_fired}
 use Rattle.sms_outbox.specs.References.{held_references, next_free, is_unfinished}
 use Rattle.sms_outbox.specs.declared.notice.Notice.{Notice}
 use Rattle.sms_outbox.specs.Keys.{notice_key, out_key}
-use Rattle.sms_outbox.specs.Submits.{content_of_text}
+use Rattle.sms_concat.specs.TextContent.{content_of_text}
 use Rattle.sms_handset.specs.Accepted.{Holds, IsPut, StoresAccepted, IsOfDiscarded}
 use Rattle.sms_handset.specs.Draft.{Draft, put_entry, remove_entry, put_mark, remove_mark, put_out, Core, draft_of, link_of, with_turn, remove_out, put_counters}
 use Rattle.sms_handset.specs.Storing.{free_all, drop_all, ended, count_entry, keep, store_part, store_single, completed, marked}

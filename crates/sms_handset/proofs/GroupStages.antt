@@ -52,7 +52,7 @@ use Rattle.sms_outbox.specs.Reports.{reported}
 use Rattle.sms_outbox.specs.declared.notice.Notice.{Notice}
 use Rattle.sms_outbox.specs.Keys.{notice_key, out_key}
 use Rattle.sms_outbox.specs.References.{is_unfinished}
-use Rattle.sms_outbox.specs.Submits.{content_of_text}
+use Rattle.sms_concat.specs.TextContent.{content_of_text}
 use Rattle.sms_handset.specs.declared.rows.Rows.{Rows}
 use Rattle.sms_handset.specs.Regrouping.{Numbered, Regroups, IsRegrouped}
 use Rattle.sms_handset.specs.SoundRows.{IsSound}

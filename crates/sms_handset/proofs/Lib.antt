@@ -3,6 +3,7 @@ pub mod IndexStages
 pub mod GroupStages
 pub mod HandsetLink
 pub mod Judging
+pub mod JudgedTexts
 pub mod PartMoves
 pub mod PlansStore
 pub mod Resting

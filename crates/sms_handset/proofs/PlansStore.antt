@@ -8,7 +8,6 @@ use Rattle.sms_handset.specs.Planning.{IsPlanOf, Outcome, Plan, Rests, Stores, R
 use Rattle.sms_handset.specs.declared.refusal.Refusal.{Refusal}
 use Rattle.sms_handset.proofs.Accepting.{LawIfDone, frame_stores, tick_stores, write_stores, delete_stores, discard_stores}
 use Rattle.sms_handset.specs.declared.refusal.PlanError.{PlanError}
-use Rattle.sms_handset.specs.Trying.{TriesPlan}
 use Rattle.sms_handset.specs.declared.event.HandsetEvent.{HandsetEvent}
 use Rattle.sms_handset.specs.declared.event.HandsetEvent.TheVariants.{Frame, Tick, Write, Delete, Discard}
 use Rattle.sms_handset.specs.HandsetEvent.{deleted, discarded, frame_came, tag_of, ticked, wrote}
@@ -32,20 +31,15 @@ plans_store (Ok p) s w rests stores h =
     stores_of s h.0 p h.1.1 (rests_of s.core.rows w h.0 h.1.0 rests) (law_of s.core.rows.marks w h.0 h.1.0 stores)
 plans_store (Err e) s w rests stores h = tt
 
-tries_store : (r : Result Plan PlanError) (s : HandsetOf) (w : Result Draft Refusal) → RestsIfDone s.core.rows w → LawIfDone s.core.rows.marks w → TriesPlan r s w → IfOk r (Stores s)
-tries_store (Ok p) s w rests stores h =
-    stores_of s h.0 p h.1.1 (rests_of s.core.rows w h.0 h.1.0 rests) (law_of s.core.rows.marks w h.0 h.1.0 stores)
-tries_store (Err e) s w rests stores h = tt
-
 pub event_stores : (event : HandsetEvent) (r : Result Plan PlanError) (s : HandsetOf)
     → OfFrame event (λ octets tag. Plans r s (Ok (frame_came octets (tag_of tag) s.core)))
     → OfTick event (λ now. Plans r s (Ok (ticked now s.core)))
-    → OfWrite event (λ text to report. TriesPlan r s (wrote text to report s.core))
+    → OfWrite event (λ text to report. Plans r s (wrote text to report s.core))
     → OfDelete event (λ entry. Plans r s (deleted entry s.core))
     → OfDiscard event (λ entry. Plans r s (discarded entry s.core))
     → IfOk r (Stores s)
 event_stores (Frame octets tag) r s a b c d e = plans_store r s (Ok (frame_came octets (tag_of tag) s.core)) (frame_rests octets (tag_of tag) s.core) (frame_stores octets (tag_of tag) s.core) a
 event_stores (Tick now) r s a b c d e = plans_store r s (Ok (ticked now s.core)) (tick_rests now s.core) (tick_stores now s.core) b
-event_stores (Write text to report) r s a b c d e = tries_store r s (wrote text to report s.core) (write_rests text to report s.core) (write_stores text to report s.core) c
+event_stores (Write text to report) r s a b c d e = plans_store r s (wrote text to report s.core) (write_rests text to report s.core) (write_stores text to report s.core) c
 event_stores (Delete entry) r s a b c d e = plans_store r s (deleted entry s.core) (delete_rests entry s.core) (delete_stores entry s.core) d
 event_stores (Discard entry) r s a b c d e = plans_store r s (discarded entry s.core) (discard_rests entry s.core) (discard_stores entry s.core) e

@@ -48,7 +48,7 @@ use Rattle.sms_outbox.specs.Answers.{verdict_of}
 use Rattle.sms_outbox.specs.Settling.{settled, is_sending, lost}
 use Rattle.sms_outbox.specs.Offers.{first_due, first_fired}
 use Rattle.sms_outbox.specs.References.{held_references, next_free, is_unfinished}
-use Rattle.sms_outbox.specs.Submits.{content_of_text}
+use Rattle.sms_concat.specs.TextContent.{content_of_text}
 use Rattle.sms_handset.specs.declared.rows.Rows.{Rows}
 use Rattle.sms_handset.specs.Draft.{Draft, rows_after, put_entry, remove_entry, put_last, put_out, remove_out, put_mark, remove_mark, put_counters, Core, draft_of, link_of, with_turn}
 use Rattle.sms_handset.specs.Planning.{Rests, RestsIfDone}

@@ -31,7 +31,8 @@ use Rattle.sms_outbox.specs.References.{held_message_references, held_by_entries
 use Rattle.sms_outbox.proofs.SoundOutbox.{held_few, held_messages, held_entries, IsSoundOut, added, deleted_out}
 use Rattle.sms_outbox.specs.declared.notice.Notice.{Notice}
 use Rattle.sms_outbox.specs.Keys.{out_key}
-use Rattle.sms_outbox.specs.Submits.{written_entry, content_of_text}
+use Rattle.sms_concat.specs.TextContent.{content_of_text}
+use Rattle.sms_outbox.specs.Submits.{written_entry}
 use Rattle.sms_outbox.proofs.SoundReferences.{next_is_free}
 use Rattle.sms_outbox.proofs.SoundWriting.{IsWritable, written_is_submitted, split_is_writable}
 use Rattle.sms_handset.specs.declared.refusal.Refusal.{Refusal}

@@ -23,7 +23,6 @@ use Rattle.sms_handset.specs.OwnersActs.{write, delete, discard}
 use Rattle.sms_handset.specs.declared.rows.Rows.{Rows}
 use Rattle.sms_handset.specs.Planning.{IsPlanOf, Outcome, Plan, Rests, adopted, RestsIfDone, Plans, OfDelete, OfDiscard, OfFrame, OfTick, OfWrite}
 use Rattle.sms_handset.specs.declared.refusal.PlanError.{PlanError}
-use Rattle.sms_handset.specs.Trying.{TriesPlan}
 use Rattle.sms_handset.specs.declared.event.HandsetEvent.{HandsetEvent}
 use Rattle.sms_handset.specs.declared.event.HandsetEvent.TheVariants.{Frame, Tick, Write, Delete, Discard}
 use Rattle.sms_handset.proofs.Resting.{delete_rests, discard_rests, frame_rests, tick_rests, write_rests}
@@ -106,19 +105,15 @@ pub plans_sound : (r : Result Plan PlanError) (s : HandsetOf) (w : Result Draft 
 plans_sound (Ok p) s w rests sound h = sound_of s h.0 p h.1.1 (rests_done s.core.rows w h.0 h.1.0 rests) (sound_done w h.0 h.1.0 sound)
 plans_sound (Err e) s w rests sound h = tt
 
-pub tries_sound : (r : Result Plan PlanError) (s : HandsetOf) (w : Result Draft Refusal) → RestsIfDone s.core.rows w → SoundIfDone w → TriesPlan r s w → IfOk r (AdoptsSound s)
-tries_sound (Ok p) s w rests sound h = sound_of s h.0 p h.1.1 (rests_done s.core.rows w h.0 h.1.0 rests) (sound_done w h.0 h.1.0 sound)
-tries_sound (Err e) s w rests sound h = tt
-
 pub event_sound : (event : HandsetEvent) (r : Result Plan PlanError) (s : HandsetOf)
     → OfFrame event (λ octets tag. Plans r s (Ok (frame_came octets (tag_of tag) s.core)))
     → OfTick event (λ now. Plans r s (Ok (ticked now s.core)))
-    → OfWrite event (λ text to report. TriesPlan r s (wrote text to report s.core))
+    → OfWrite event (λ text to report. Plans r s (wrote text to report s.core))
     → OfDelete event (λ entry. Plans r s (deleted entry s.core))
     → OfDiscard event (λ entry. Plans r s (discarded entry s.core))
     → IsSoundCore s.core → IfOk r (AdoptsSound s)
 event_sound (Frame octets tag) r s a b c d e h = plans_sound r s (Ok (frame_came octets (tag_of tag) s.core)) (frame_rests octets (tag_of tag) s.core) (frame_sound octets (tag_of tag) s.core h) a
 event_sound (Tick now) r s a b c d e h = plans_sound r s (Ok (ticked now s.core)) (tick_rests now s.core) (tick_sound now s.core h) b
-event_sound (Write text to report) r s a b c d e h = tries_sound r s (wrote text to report s.core) (write_rests text to report s.core) (wrote_sound text to report s.core h) c
+event_sound (Write text to report) r s a b c d e h = plans_sound r s (wrote text to report s.core) (write_rests text to report s.core) (wrote_sound text to report s.core h) c
 event_sound (Delete entry) r s a b c d e h = plans_sound r s (deleted entry s.core) (delete_rests entry s.core) (deleted_sound entry s.core h) d
 event_sound (Discard entry) r s a b c d e h = plans_sound r s (discarded entry s.core) (discard_rests entry s.core) (discarded_sound entry s.core h) e

@@ -13,5 +13,4 @@ pub mod Planning
 pub mod SoundRows
 pub mod SoundnessTest
 pub mod SoundCore
-pub mod Trying
 pub mod FaultCodes

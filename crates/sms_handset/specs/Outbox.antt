@@ -19,6 +19,8 @@ use Rattle.sms_outbox.specs.declared.notice.Notice.{Notice}
 use Rattle.sms_handset.specs.Draft.{Draft, put_out, begin}
 use Rattle.sms_handset.specs.MemoryAvailable.{notice_concluded, most_notices, first_notice, send_notice}
 
+-- ---- how a transfer ends
+
 abbrev pub entry_concluded : Ending → Option OutEntry → Draft → Draft
 entry_concluded ending None d = d
 entry_concluded ending (Some o) d = put_out (settled d.moment (verdict_of ending) o) d
@@ -34,12 +36,16 @@ holder_concluded ending (Memory n) d = notice_concluded ending (row_at notice_ke
 abbrev pub transfer_ended : Carried → Ending → Draft → Draft
 transfer_ended transfer ending d = holder_concluded ending transfer.tag d
 
+-- ---- after a restart: what was under way is lost
+
 abbrev pub lapse_rows : List OutEntry → Draft → Draft
 lapse_rows [] d = d
 lapse_rows (o ∷ os) d = lapse_rows os (if is_sending o.state then put_out (lost o) d else d)
 
 abbrev pub lapse : Draft → Draft
 lapse d = if d.is_recovered then lapse_rows d.rows.outbox (record d { is_recovered = false }) else d
+
+-- ---- sending
 
 abbrev pub offer_entry : Option OutEntry → Draft → Draft
 offer_entry None d = d

@@ -1,8 +1,8 @@
 -- What the owner of the handset does: writing, deleting, discarding; and why it is refused.
-use Rattle.std.specs.Prelude.{ℕ, ◌+◌, ◌%◌, Bool, List, [], ◌∷◌, true, false, nat_lt, length, nat_le, if◌then◌else◌, Result, Ok, Err, Option, Some, None, ◌==◌}
+use Rattle.std.specs.Prelude.{◌≤◌, ◌≡◌, ℕ, ◌+◌, ◌%◌, Bool, List, [], ◌∷◌, true, false, nat_lt, length, nat_le, if◌then◌else◌, Result, Ok, Err, Option, Some, None, ◌==◌}
 use Rattle.sms_base.specs.declared.address.Address.{Address}
 use Rattle.sms_base.specs.declared.address_error.AddressError.{AddressError}
-use Rattle.sms_base.specs.Address.{address_of}
+use Rattle.sms_base.specs.Address.{IsAddress, address_of}
 use Rattle.sms_table.specs.Table.{row_at}
 use Rattle.sms_concat.specs.declared.content.Part.{Part as PartOf}
 use Rattle.sms_concat.specs.declared.split_error.SplitError.{SplitError}
@@ -13,7 +13,8 @@ use Rattle.sms_inbox.specs.Keys.{entry_key}
 use Rattle.sms_inbox.specs.declared.entry.Group.{Group}
 use Rattle.sms_inbox.specs.declared.entry.Message.{Message}
 use Rattle.sms_inbox.specs.declared.entry.Message.TheVariants.{Single, Part, Joined}
-use Rattle.sms_outbox.specs.Submits.{written_entry, content_of_text}
+use Rattle.sms_concat.specs.TextContent.{content_of_text}
+use Rattle.sms_outbox.specs.Submits.{written_entry}
 use Rattle.sms_outbox.specs.References.{held_message_references, held_references, next_free, is_unfinished}
 use Rattle.sms_outbox.specs.declared.out_entry.OutEntry.{OutEntry}
 use Rattle.sms_outbox.specs.Keys.{out_key}
@@ -22,6 +23,8 @@ use Rattle.sms_handset.specs.declared.refusal.Refusal.{Refusal}
 use Rattle.sms_handset.specs.declared.refusal.Refusal.TheVariants.{OutboxFull, Destination, TooManyParts, NoEntry, StillOpen, TooManyDiscarded}
 use Rattle.sms_handset.specs.MemoryAvailable.{freed}
 use Rattle.sms_handset.specs.Storing.{drop_all}
+
+-- ---- writing
 
 -- an entry under the next number, the next free TP-MR and the next free RP reference
 abbrev pub write_with : ℕ → ℕ → Address → Bool → Bool → PartOf → Draft → Draft
@@ -70,6 +73,18 @@ write_split to report (Ok parts) d = write_to report parts (address_of 1 1 to) d
 -- the text and the number are lists of characters; the number is an international one of the telephone numbering plan
 abbrev pub write : List ℕ → List ℕ → Bool → Draft → Result Draft Refusal
 write text to report d = write_split to report (split_of (content_of_text text) d.rows.counters.concat_reference) d
+
+-- What is known of a text before memory is asked for: why it is refused, or its destination, and that its parts are written.
+abbrev pub JudgesText : Result Address Refusal → List ℕ → List ℕ → Draft → Type 0
+JudgesText (Err refusal) text to d = (report : Bool) → write text to report d ≡ Err refusal
+JudgesText (Ok destination) text to d =
+    IsAddress destination
+    × ((parts : List PartOf)
+    × ((split_of (content_of_text text) d.rows.counters.concat_reference ≡ Ok parts)
+    × ((d.rows.counters.entry + length parts ≤ 4294967295)
+    × ((report : Bool) → write text to report d ≡ Ok (written destination report parts d)))))
+
+-- ---- deleting
 
 abbrev pub delete_out : ℕ → Option OutEntry → Draft → Result Draft Refusal
 delete_out n None d = Err NoEntry

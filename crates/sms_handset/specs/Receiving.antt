@@ -80,6 +80,8 @@ deliver_came reference tag tpdu m (Some key) d =
     let g : Group = group_of m.originating_address key in
     part_came reference tag tpdu g key.number (mark_of g d.rows.marks) d
 
+-- ---- STATUS-REPORT
+
 abbrev pub note : ℕ → Option OutEntry → Draft → Draft
 note status None d = d
 note status (Some o) d = put_out (record o { status = Some status }) d

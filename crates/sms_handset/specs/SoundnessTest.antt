@@ -11,8 +11,6 @@ use Rattle.sms_outbox.specs.declared.out_entry.OutEntry.{OutEntry}
 use Rattle.sms_outbox.specs.References.{held_by_entries, held_message_references}
 use Rattle.sms_handset.specs.declared.rows.Rows.{Rows}
 
--- ---- all rows
-
 -- the keys of each list rise
 pub record KeysRise (rows : Rows) : Type 0 where
   pub entries : Rises entry_key rows.entries

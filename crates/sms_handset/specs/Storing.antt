@@ -10,14 +10,19 @@ use Rattle.sms_inbox.specs.declared.open_group.StoredPart.{StoredPart}
 use Rattle.sms_inbox.specs.Keys.{entry_key}
 use Rattle.sms_handset.specs.Draft.{Draft, remove_entry, put_entry, put_counters, put_mark, remove_mark}
 
--- the entries leave
+-- ---- the entries of a group
+
+-- they leave
 abbrev pub drop_all : List Entry → Draft → Draft
 drop_all [] d = d
 drop_all (e ∷ es) d = drop_all es (remove_entry e.number d)
 
+-- each becomes an entry of its own
 abbrev pub free_all : List Entry → Draft → Draft
 free_all [] d = d
 free_all (e ∷ es) d = free_all es (put_entry (alone e) d)
+
+-- ---- a full group
 
 -- A full group becomes one entry of as many slots, under the number of its first stored part; where its parts don't join
 -- they become single entries.

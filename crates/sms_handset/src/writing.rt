@@ -1,21 +1,21 @@
 //! Writing: a text becomes SUBMITs in the outbox.
-ghost use Rattle.std.specs.Prelude.{◌≡◌, ◌+◌, ◌<◌, ◌≤◌, length, All, IfOk, OnOk};
-ghost use Rattle.sms_base.specs.Address.{address_of};
+ghost use Rattle.std.specs.Prelude.{◌≡◌, ◌+◌, ◌<◌, ◌≤◌, List, Ok, length, All, IfOk, OnOk};
 ghost use Rattle.sms_outbox.specs.References.{held_message_references as held_message_references_of, next_free as next_free_of};
-ghost use Rattle.sms_handset.specs.Trying.{Tries};
 ghost use Rattle.std.specs.Str.{chars};
 ghost use Rattle.sms_base.specs.Address.{IsAddress};
+ghost use Rattle.sms_concat.specs.declared.content.Part.{Part as PartOf};
+ghost use Rattle.sms_concat.specs.Splitting.{split_of};
+ghost use Rattle.sms_concat.specs.TextContent.{content_of_text};
 ghost use Rattle.sms_concat.specs.UserData.{HasRoom, IsPart};
-ghost use Rattle.sms_handset.specs.OwnersActs.{count_split as count_split_of, fits_outbox as fits_outbox_of, write as write_of, write_part as write_part_of, write_parts as write_parts_of, write_to as write_to_of, written as written_of};
+ghost use Rattle.sms_handset.specs.OwnersActs.{count_split as count_split_of, write_part as write_part_of, write_parts as write_parts_of, written as written_of};
 
 use crate::counters::Counters;
 use crate::draft::Draft;
 use crate::no_memory::NoMemory;
-use crate::refusal::{PlanError, Refusal};
 use sms_base::Address;
-use sms_concat::{Part, SplitError, split};
+use sms_concat::{Part, content_of_text, split};
 use sms_outbox::{
-    EntryState, OutEntry, content_of, following, held_message_references, next_free, submit_of_part,
+    EntryState, OutEntry, following, held_message_references, next_free, submit_of_part,
 };
 
 impl<'a> Draft<'a> {
@@ -117,47 +117,21 @@ impl<'a> Draft<'a> {
         self.write_parts(destination, report, is_long, parts)
     }
 
-    // Whether the outbox has room for so many parts, and numbers are left.
-    fn fits_outbox(&self, parts: usize) -> Result<bool, NoMemory>
-        requires { parts ≤ 20 }
-        ensures { IfOk result (λ fits. fits ≡ fits_outbox_of parts self.now) }
+    /// The owner writes a text, which was judged: it takes at most 20 parts, and numbers are left for them.
+    pub(crate) fn write(
+        &mut self,
+        text: &str,
+        destination: &Address,
+        report: bool,
+    ) -> Result<(), NoMemory>
+        requires address { IsAddress destination.now }
+        requires numbers { (parts : List PartOf) → split_of (content_of_text (chars text.now)) self.old.rows.counters.concat_reference ≡ Ok parts → self.old.rows.counters.entry + length parts ≤ 4294967295 }
+        ensures { (parts : List PartOf) → split_of (content_of_text (chars text.now)) self.old.rows.counters.concat_reference ≡ Ok parts → OnOk result (self.new ≡ written_of destination.now report parts self.old) }
     {
-        let outbox = self.outbox_now()?;
-        if outbox.as_slice().len() + parts <= 20 {
-            Ok(u64::from(self.counters().entry) + parts as u64 <= 4294967295)
-        } else {
-            Ok(false)
-        }
-    }
-
-    // Parts of a text to a number.
-    fn write_to(&mut self, parts: &[Part], to: &str, report: bool) -> Result<(), PlanError>
-        requires parts { All IsPart parts.now }
-        requires room { All HasRoom parts.now }
-        requires few { length parts.now ≤ 20 }
-        ensures { Tries result self.new (write_to_of report parts.now (address_of 1 1 (chars to.now)) self.old) }
-    {
-        let destination = match Address::new(1, 1, to) {
-            Ok(destination) => destination,
-            Err(fault) => return Err(PlanError::Refused(Refusal::Destination(fault))),
-        };
-        if !self.fits_outbox(parts.len())? {
-            return Err(PlanError::Refused(Refusal::OutboxFull));
-        }
-        self.write_all(&destination, report, parts)?;
-        Ok(())
-    }
-
-    /// The owner writes a text to a number, the international one of the telephone numbering plan. A text that takes
-    /// more than 20 parts is told first, then a faulty number, then a full outbox.
-    pub(crate) fn write(&mut self, text: &str, to: &str, report: bool) -> Result<(), PlanError>
-        ensures { Tries result self.new (write_of (chars text.now) (chars to.now) report self.old) }
-    {
-        let content = content_of(self.alloc, text)?;
+        let content = content_of_text(self.alloc, text)?;
         match split(self.alloc, &content, self.counters().concat_reference) {
-            Ok(parts) => self.write_to(parts.as_slice(), to, report),
-            Err(SplitError::NoMemory) => Err(PlanError::NoMemory),
-            Err(_) => Err(PlanError::Refused(Refusal::TooManyParts)),
+            Ok(parts) => self.write_all(destination, report, parts.as_slice()),
+            Err(_) => Err(NoMemory),
         }
     }
 }

@@ -141,8 +141,6 @@ abbrev pub mark_of : Group → List DiscardedGroup → Option DiscardedGroup
 mark_of g [] = None
 mark_of g (m ∷ ms) = if is_same_group m.group g then Some m else mark_of g ms
 
--- ---- deleting
-
 abbrev pub is_open_part : Message → Bool
 is_open_part (Single tpdu) = false
 is_open_part (Part group number tpdu) = true

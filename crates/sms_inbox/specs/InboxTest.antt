@@ -78,7 +78,7 @@ reads_last (Err fault) = false
 abbrev pub is_last : LastAccepted → Bool
 is_last l = reads_last (down_at InData l.tpdu)
 
--- ---- the outbox
+-- ---- numbers that inbox and outbox share
 
 abbrev pub is_apart : ℕ → List Entry → Bool
 is_apart n entries = is_none (row_at entry_key n entries)

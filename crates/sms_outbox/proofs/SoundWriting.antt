@@ -29,7 +29,8 @@ use Rattle.sms_tpdu.specs.declared.up.Up.TheVariants.{Submit}
 use Rattle.sms_tpdu.specs.TpduReading.{submit_at}
 use Rattle.sms_tpdu.proofs.Submits.{submit_again}
 use Rattle.sms_tpdu.proofs.WrittenUnits.{written_up}
-use Rattle.sms_outbox.specs.Submits.{packed_behind, submit_for, submit_octets, written_entry, content_spelled, content_of_text}
+use Rattle.sms_concat.specs.TextContent.{content_of_text, content_spelled}
+use Rattle.sms_outbox.specs.Submits.{packed_behind, submit_for, submit_octets, written_entry}
 use Rattle.sms_outbox.proofs.PartFields.{carries, submit_short}
 use Rattle.sms_outbox.specs.SoundOutbox.{IsSubmitted}
 

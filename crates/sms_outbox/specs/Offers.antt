@@ -5,8 +5,6 @@ use Rattle.sms_outbox.specs.declared.out_entry.EntryState.{EntryState}
 use Rattle.sms_outbox.specs.declared.out_entry.EntryState.TheVariants.{Queued, Sending, Sent, Failed, Unsure}
 use Rattle.sms_outbox.specs.declared.notice.Notice.{Notice}
 
--- ---- sending
-
 -- bit 2 of the first octet is TP-RD (3GPP TS 23.040 9.2.3.25)
 abbrev pub rejecting_duplicates : List ℕ → List ℕ
 rejecting_duplicates [] = []

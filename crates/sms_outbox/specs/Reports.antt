@@ -5,8 +5,6 @@ use Rattle.sms_table.specs.Table.{latest}
 use Rattle.sms_tpdu.specs.declared.status_report.StatusReport.{StatusReport as StatusReportOf}
 use Rattle.sms_outbox.specs.declared.out_entry.OutEntry.{OutEntry}
 
--- ---- STATUS-REPORT
-
 -- numbers are compared by their digits
 abbrev pub is_reported : StatusReportOf → OutEntry → Bool
 is_reported r o = (o.message_reference == r.message_reference) && bytes_eq o.destination.digits r.recipient_address.digits

@@ -10,8 +10,6 @@ use Rattle.sms_outbox.specs.Settling.{most_tries}
 use Rattle.sms_outbox.specs.declared.out_entry.EntryState.{EntryState}
 use Rattle.sms_outbox.specs.declared.out_entry.EntryState.TheVariants.{Queued, Sending, Sent, Failed, Unsure}
 
--- ---- the outbox
-
 -- the octets are the SUBMIT of the entry, as it is sent first, and fit the unit that carries it
 abbrev pub IsSubmitted : OutEntry → Type 0
 IsSubmitted o =

@@ -2,12 +2,8 @@
 use Rattle.std.specs.Prelude.{ℕ, List, Result, Ok, Err, ◌+◌, ◌*◌, ◌^◌, ◌++◌, length, Bool, false, [], None}
 use Rattle.sms_base.specs.declared.address.Address.{Address}
 use Rattle.sms_alphabet.specs.declared.scheme.Coding.TheVariants.{Septets, Ucs2, Octets, Compressed}
-use Rattle.sms_alphabet.specs.declared.spelling.SpellingError.{SpellingError}
-use Rattle.sms_alphabet.specs.Ucs2.{ucs2_for}
-use Rattle.sms_alphabet.specs.Spelling.{spelled}
 use Rattle.sms_alphabet.specs.declared.scheme.Coding.{Coding}
 use Rattle.sms_alphabet.specs.Packing.{value_in, packed_len, digits_in}
-use Rattle.sms_concat.specs.declared.content.Content.{Content}
 use Rattle.sms_concat.specs.UserData.{fill_bits, header_of, data_length, is_there}
 use Rattle.sms_concat.specs.declared.content.Part.{Part as PartOf}
 use Rattle.sms_tpdu.specs.declared.submit.Submit.{Submit}
@@ -16,16 +12,6 @@ use Rattle.sms_tpdu.specs.AddressGrammar.{address_field}
 use Rattle.sms_tpdu.specs.TpduGrammar.{submit_head, submit_fields}
 use Rattle.sms_outbox.specs.declared.out_entry.EntryState.TheVariants.{Queued}
 use Rattle.sms_outbox.specs.declared.out_entry.OutEntry.{OutEntry}
-
--- ---- writing
-
--- the default alphabet where each character has a code there, else UCS2
-abbrev pub content_spelled : List ℕ → Result (List ℕ) SpellingError → Content
-content_spelled text (Ok septets) = record { coding = Septets; dcs = 0; units = septets }
-content_spelled text (Err fault) = record { coding = Ucs2; dcs = 8; units = ucs2_for text }
-
-abbrev pub content_of_text : List ℕ → Content
-content_of_text text = content_spelled text (spelled text)
 
 -- the octets of units behind a header: septets packed behind fill bits, other units as they are
 abbrev pub packed_behind : List ℕ → Coding → List ℕ → List ℕ

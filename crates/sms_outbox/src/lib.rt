@@ -28,4 +28,4 @@ pub use reports::reported;
 pub use settling::{MOST_TRIES, RETRY_DELAY, lost, settled};
 pub use sound_outbox::{are_out_entries, message_references_differ, references_differ};
 pub use submit_tpdu::SubmitTpdu;
-pub use submits::{content_of, submit_of_part};
+pub use submits::submit_of_part;

@@ -1,41 +1,14 @@
 //! The SUBMIT of a part that the owner wrote.
 ghost use Rattle.std.specs.Prelude.{◌≡◌, IfOk};
-ghost use Rattle.std.specs.Str.{chars};
 ghost use Rattle.sms_base.specs.Address.{IsAddress};
-ghost use Rattle.sms_alphabet.specs.DataCodingScheme.{coding_of};
-ghost use Rattle.sms_concat.specs.UserData.{AreUnits, HasRoom, IsPart, IsUserData, header_of};
-ghost use Rattle.sms_outbox.specs.Submits.{content_of_text, submit_for, submit_octets as octets_of_submit};
+ghost use Rattle.sms_concat.specs.UserData.{HasRoom, IsPart, IsUserData, header_of};
+ghost use Rattle.sms_outbox.specs.Submits.{submit_for, submit_octets as octets_of_submit};
 
 use crate::submit_tpdu::SubmitTpdu;
-use sms_alphabet::{Coding, SpellingError, septets_of, ucs2_of};
 use sms_base::{Address, OctetView};
-use sms_concat::{Content, Part, UserData as PartData, user_data};
+use sms_concat::{Part, UserData as PartData, user_data};
 use sms_tpdu::{Submit, UserData, ValidityPeriod, write_submit};
 use std::alloc::{AllocError, Global};
-
-/// The text in the default alphabet where each character has a code there, else in UCS2.
-pub fn content_of(alloc: Global, text: &str) -> Result<Content, AllocError>
-    ensures value { IfOk result (λ content. content ≡ content_of_text (chars text.now)) }
-    ensures units { IfOk result (λ content. AreUnits content.coding content.units) }
-    ensures coding { IfOk result (λ content. content.coding ≡ coding_of content.dcs) }
-{
-    match septets_of(alloc, text) {
-        Ok(units) => Ok(Content {
-            coding: Coding::Septets,
-            dcs: 0,
-            units,
-        }),
-        Err(SpellingError::NoCode(_)) => {
-            let units = ucs2_of(alloc, text)?;
-            Ok(Content {
-                coding: Coding::Ucs2,
-                dcs: 8,
-                units,
-            })
-        }
-        Err(SpellingError::NoMemory) => Err(AllocError),
-    }
-}
 
 // The SUBMIT with the user data of a part.
 fn submit_with(
