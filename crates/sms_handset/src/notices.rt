@@ -1,5 +1,5 @@
 //! Memory available: RP-SMMA once a slot has become free (3GPP TS 23.040 10.3, 3GPP TS 24.011 6.3.3).
-ghost use Rattle.std.specs.Prelude.{◌≡◌, ◌<◌, ◌≤◌, length, IfOk, OnOk};
+ghost use Rattle.std.specs.Prelude.{◌≡◌, ◌<◌, OnOk};
 ghost use Rattle.sms_table.specs.Table.{row_at};
 ghost use Rattle.sms_outbox.specs.Keys.{notice_key};
 ghost use Rattle.sms_handset.specs.MemoryAvailable.{first_notice as first_notice_of, notice_concluded as notice_concluded_of, notice_failed as notice_failed_of, put_notice as put_notice_of, remove_notice as remove_notice_of, send_notice as send_notice_of};

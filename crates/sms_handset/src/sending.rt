@@ -1,5 +1,5 @@
 //! Sending: one message is under way at a time; how it ends, and what a restart leaves.
-ghost use Rattle.std.specs.Prelude.{◌≡◌, ◌+◌, ◌<◌, ◌≤◌, min, length, true, Some, None, IfOk, OnOk, option_copied};
+ghost use Rattle.std.specs.Prelude.{◌≡◌, ◌<◌, true, Some, IfOk, OnOk};
 ghost use Rattle.sms_table.specs.Table.{row_at};
 ghost use Rattle.sms_outbox.specs.Keys.{out_key};
 ghost use Rattle.sms_outbox.specs.References.{held_references as held_references_of, next_free as next_free_of};

@@ -30,7 +30,7 @@ fn is_same_reference(one: ConcatReference, other: ConcatReference) -> bool
 }
 
 /// Whether groups are one.
-pub fn is_same_group(one: &Group, other: &Group) -> bool
+pub(crate) fn is_same_group(one: &Group, other: &Group) -> bool
     ensures { result ≡ is_same_group_of one.now other.now }
 {
     is_same_address(&one.source, &other.source)

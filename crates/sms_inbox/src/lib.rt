@@ -19,13 +19,11 @@ mod sound_inbox;
 
 pub use discarded_group::DiscardedGroup;
 pub use entry::{Entry, Group, Message};
-pub use groups::{find_mark, has_every, is_among, is_full, is_same_address, is_same_group, key_of};
+pub use groups::{find_mark, has_every, is_among, is_full, is_same_address, key_of};
 pub use joining::joined_content;
 pub use last_accepted::{LastAccepted, is_double};
 pub use members::Members;
 pub use open_group::{OpenGroup, Regrouping, StoredPart};
-pub use open_groups::{OpenGroups, SpareGroups, first_entry, with_part};
+pub use open_groups::{OpenGroups, SpareGroups, with_part};
 pub use slots::slots_in;
-pub use sound_inbox::{
-    are_entries, are_last, are_marks, are_of_open_groups, differ, is_apart, is_given,
-};
+pub use sound_inbox::{are_entries, are_last, are_marks, are_of_open_groups, is_apart, is_given};

@@ -187,7 +187,7 @@ pub fn with_part(
 }
 
 /// The entry of the first part, or that number.
-pub fn first_entry(parts: &[StoredPart], number: u32) -> u32
+pub(crate) fn first_entry(parts: &[StoredPart], number: u32) -> u32
     ensures { result ≡ first_entry_of parts.now number }
 {
     match parts.first() {

@@ -21,8 +21,8 @@ pub fn is_given(next: u32, number: u32) -> bool
     0 < number && number < next
 }
 
-/// Whether no number stands twice.
-pub fn differ(numbers: &[u8]) -> bool
+// Whether no number stands twice.
+fn differ(numbers: &[u8]) -> bool
     ensures { result ≡ differ_of numbers.now }
 {
     match numbers {

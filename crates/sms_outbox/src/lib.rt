@@ -25,7 +25,7 @@ pub use out_entry::{EntryState, OutEntry};
 pub use out_view::{OutView, copies_of, outbox_after};
 pub use references::{following, held_message_references, held_references, next_free};
 pub use reports::reported;
-pub use settling::{MOST_TRIES, RETRY_DELAY, lost, settled};
+pub use settling::{lost, settled};
 pub use sound_outbox::{are_out_entries, message_references_differ, references_differ};
 pub use submit_tpdu::SubmitTpdu;
 pub use submits::submit_of_part;

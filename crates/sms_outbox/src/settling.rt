@@ -7,10 +7,10 @@ use crate::out_entry::{EntryState, OutEntry};
 use sms_base::Moment;
 
 /// How often an entry is sent.
-pub const MOST_TRIES: u8 = 3;
+pub(crate) const MOST_TRIES: u8 = 3;
 
 /// Seconds until an entry that a temporary cause put back is due.
-pub const RETRY_DELAY: u64 = 60;
+const RETRY_DELAY: u64 = 60;
 
 /// The entry, where it is not known whether the centre took it.
 pub fn lost(entry: OutEntry) -> OutEntry
