@@ -16,10 +16,6 @@ use Rattle.sms_handset.specs.Draft.{Core, Draft, draft_of}
 use Rattle.sms_handset.specs.HandsetEvent.{acted, wrote}
 use Rattle.sms_handset.specs.Outbox.{follow}
 use Rattle.sms_handset.specs.OwnersActs.{JudgesText, fits_outbox, write, write_split, write_to, written}
-use Rattle.sms_handset.specs.Planning.{Rests}
-use Rattle.sms_handset.specs.Regrouping.{Regroups}
-use Rattle.sms_inbox.specs.declared.open_group.Regrouping.TheVariants.{Unchanged}
-use Rattle.sms_handset.proofs.GroupStages.{Leads, write_then}
 
 -- ---- how many parts
 

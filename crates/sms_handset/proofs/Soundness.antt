@@ -1,18 +1,12 @@
 -- The test tells exactly whether rows are sound.
-use Rattle.std.proofs.Common.{◌≡◌, List, true, sym, ◌∙◌, ap, subst, eq-eqb, true≢false, ◌≤◌, length, ◌<◌, Bool, false}
-use Rattle.std.specs.Prelude.{◌==◌, ◌&&◌, nat_le, nat_lt, ◌↔◌}
-use Rattle.std.proofs.lemmas.Bool.{cond-true, and_from, and_parts}
+use Rattle.std.proofs.Common.{◌≡◌, true, sym, ◌∙◌, true≢false, ◌≤◌, length, ◌<◌, Bool, false}
+use Rattle.std.specs.Prelude.{◌&&◌, nat_le, nat_lt, ◌↔◌}
+use Rattle.std.proofs.lemmas.Bool.{and_from, and_parts}
 use Rattle.std.specs.List.{AllByRecursion}
-use Rattle.sms_inbox.proofs.InboxTold.{open_tells, Tells, both, at_most, less, entries_tell, groups_tell, last_tells, differ_tells, marks_tell}
+use Rattle.sms_inbox.proofs.InboxTold.{Tells, both, at_most, less, entries_tell, groups_tell, last_tells, differ_tells, marks_tell}
 use Rattle.sms_inbox.specs.declared.entry.Entry.{Entry}
-use Rattle.sms_inbox.specs.declared.entry.Group.{Group}
-use Rattle.sms_inbox.specs.declared.entry.Message.{Message}
-use Rattle.sms_inbox.specs.declared.entry.Message.TheVariants.{Single, Part, Joined}
-use Rattle.sms_inbox.specs.declared.discarded_group.DiscardedGroup.{DiscardedGroup}
-use Rattle.sms_inbox.specs.Groups.{first_number, is_part_of, members}
-use Rattle.sms_inbox.specs.SoundInbox.{IsOpenGroup, AreEntries, AreOpenGroups, IsLast, AreMarks, Differ}
-use Rattle.sms_inbox.specs.InboxTest.{is_of_open_group, is_open_group, each_passes, is_entry, is_last, are_marks, differ}
-use Rattle.sms_inbox.proofs.GroupMembers.{same_group}
+use Rattle.sms_inbox.specs.SoundInbox.{AreEntries, AreOpenGroups, IsLast, AreMarks, Differ}
+use Rattle.sms_inbox.specs.InboxTest.{is_of_open_group, each_passes, is_entry, is_last, are_marks, differ}
 use Rattle.sms_inbox.specs.declared.last_accepted.LastAccepted.{LastAccepted}
 use Rattle.sms_outbox.specs.References.{held_by_entries, held_message_references}
 use Rattle.sms_outbox.specs.SoundOutbox.{AreOutEntries}

@@ -1,5 +1,5 @@
 -- Open groups by their first stored parts, as entries come and go.
-use Rattle.std.proofs.Common.{◌≡◌, List, ◌∷◌, true, Some, None, refl, ◌∙◌, ap, eq-eqb, Option, sym, subst, inl, ℕ, ◌⊎◌, [], ⊎_elim}
+use Rattle.std.proofs.Common.{◌≡◌, List, ◌∷◌, true, Some, None, refl, ◌∙◌, ap, eq-eqb, Option, sym, subst, inl, ℕ, [], ⊎_elim}
 use Rattle.std.specs.Prelude.{◌==◌, if◌then◌else◌}
 use Rattle.std.proofs.lemmas.Bool.{cond-true, cases_eq, cond-false, ne_eqb}
 use Rattle.sms_base.specs.Among.{Among}

@@ -1,5 +1,5 @@
 -- Parts of long messages (3GPP TS 23.040 9.2.3.24.1): groups, those that are full, those that the owner discarded.
-use Rattle.std.specs.Prelude.{ℕ, ◌==◌, ◌||◌, List, [], ◌∷◌, Bool, false, zero, suc, ◌&&◌, true, Option, if◌then◌else◌, Some, None, Result, Ok, Err, length, ◌+◌, ◌++◌}
+use Rattle.std.specs.Prelude.{ℕ, ◌==◌, ◌||◌, List, [], ◌∷◌, Bool, false, zero, suc, ◌&&◌, true, Option, if◌then◌else◌, Some, None, Result, Ok, Err, ◌++◌}
 use Rattle.std.specs.Str.{bytes_eq}
 use Rattle.sms_base.specs.declared.address.Address.{Address}
 use Rattle.sms_base.specs.AddressKind.{type_number}

@@ -1,5 +1,5 @@
 -- The index of open groups: each under the number of its first stored part.
-use Rattle.std.specs.Prelude.{ℕ, nat_eq, Option, ◌≡◌, List, [], ◌∷◌, if◌then◌else◌, Some, None, ◌+◌, ◌++◌}
+use Rattle.std.specs.Prelude.{ℕ, nat_eq, Option, ◌≡◌, List, [], ◌∷◌, if◌then◌else◌, Some, None, ◌++◌}
 use Rattle.std.specs.Map.{lookup}
 use Rattle.sms_inbox.specs.declared.open_group.OpenGroup.{OpenGroup}
 use Rattle.sms_inbox.specs.declared.entry.Entry.{Entry}

@@ -1,5 +1,5 @@
 -- The SUBMIT of a part that the owner wrote, and its entry.
-use Rattle.std.specs.Prelude.{ℕ, List, Result, Ok, Err, ◌+◌, ◌*◌, ◌^◌, ◌++◌, length, Bool, false, [], None}
+use Rattle.std.specs.Prelude.{ℕ, List, ◌*◌, ◌^◌, ◌++◌, length, Bool, false, [], None}
 use Rattle.sms_base.specs.declared.address.Address.{Address}
 use Rattle.sms_alphabet.specs.declared.scheme.Coding.TheVariants.{Septets, Ucs2, Octets, Compressed}
 use Rattle.sms_alphabet.specs.declared.scheme.Coding.{Coding}

@@ -1,4 +1,4 @@
-use Rattle.std.proofs.Common.{◌≡◌, ◌≤◌, arith, Bool, true, false, refl, sym, ap, ◌∙◌}
+use Rattle.std.proofs.Common.{◌≡◌, ◌≤◌, arith, Bool, true, false, refl, ap, ◌∙◌}
 use Rattle.std.specs.Prelude.{◌&&◌, nat_lt, length}
 use Rattle.std.proofs.lemmas.Bool.{cond-false, le-ltb}
 use Rattle.sms_handset.specs.Draft.{Draft}

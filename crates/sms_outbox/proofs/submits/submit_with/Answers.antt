@@ -1,4 +1,4 @@
-use Rattle.std.proofs.Common.{◌≡◌, ◌∙◌, refl, sym, subst, arith}
+use Rattle.std.proofs.Common.{◌∙◌, sym, subst, arith}
 use Rattle.sms_base.specs.Reading.{AreOctets}
 use Rattle.sms_alphabet.proofs.Ucs2Laws.{all_octets}
 use Rattle.sms_outbox.proofs.PartFields.{carries_lent, lent_is, submit_short}

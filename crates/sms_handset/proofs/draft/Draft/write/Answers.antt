@@ -1,4 +1,4 @@
-use Rattle.std.proofs.Common.{◌≡◌, List, All, sym, subst}
+use Rattle.std.proofs.Common.{List, All, sym, subst}
 use Rattle.sms_concat.specs.declared.content.Part.{Part}
 use Rattle.sms_concat.specs.UserData.{IsPart}
 use Rattle.sms_concat.proofs.Room.{split_read}

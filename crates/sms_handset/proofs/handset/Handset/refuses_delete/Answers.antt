@@ -1,4 +1,4 @@
-use Rattle.std.proofs.Common.{◌≡◌, ℕ, sym, ◌∙◌, ap, Option, option_copied, Bor}
+use Rattle.std.proofs.Common.{ℕ, sym, ◌∙◌, ap, Option, option_copied, Bor}
 use Rattle.sms_table.specs.Table.{row_at}
 use Rattle.sms_inbox.specs.declared.entry.Entry.{Entry}
 use Rattle.sms_inbox.specs.Keys.{entry_key}

@@ -1,4 +1,4 @@
-use Rattle.std.proofs.Common.{◌≡◌, ℕ, sym, ◌∙◌, ap, Option, option_copied, Bor}
+use Rattle.std.proofs.Common.{ℕ, sym, ◌∙◌, ap, Option, option_copied, Bor}
 use Rattle.sms_table.specs.Table.{row_at}
 use Rattle.sms_outbox.specs.declared.out_entry.OutEntry.{OutEntry}
 use Rattle.sms_outbox.specs.Keys.{out_key}
