@@ -1,70 +1,76 @@
 -- What is accepted is stored.
-use Rattle.std.proofs.Common.{◌≡◌, ◌⊎◌, ℕ, zero, suc, ◌<◌, ◌≤◌, arith, List, [], ◌∷◌, ◌++◌, Bool, true, false, Option, Some, None, Result, Ok, Err, refl, sym, ◌∙◌, ap, subst, inl, inr, ⊎_elim, cond, eq-eqb}
-use Rattle.std.specs.Prelude.{max, ◌+◌, ◌*◌, ◌==◌, ◌&&◌, nat_lt, nat_le, length}
+use Rattle.std.proofs.Common.{List, [], ◌∷◌, ◌++◌, refl, inl, inr, ◌≡◌, ◌⊎◌, ⊎_elim, Option, Some, None, ℕ, zero, suc, ◌<◌, ◌≤◌, arith, sym, ◌∙◌, ap, subst, false, eq-eqb, Ok, Result, cond, Err, Bool, true}
+use Rattle.std.specs.Prelude.{◌+◌, ◌==◌, ◌&&◌, nat_lt, nat_le, ◌*◌, length}
 use Rattle.std.proofs.Math.Nat.{eq-or-lt_of_le}
-use Rattle.std.proofs.lemmas.Bool.{cond_both, cond-false, cond-true, or_parts, and_parts, leb-true, ltb-true}
+use Rattle.std.proofs.lemmas.Bool.{cond-false, cond-true, or_parts, cond_both, and_parts, leb-true, ltb-true}
 use Rattle.sms_base.specs.Among.{Among}
-use Rattle.sms_table.proofs.Tables.{put_among}
-use Rattle.sms_table.specs.Table.{row_at}
-use Rattle.sms_table.specs.declared.change.Change.{Change}
-use Rattle.sms_table.specs.declared.change.Change.TheVariants.{Put}
 use Rattle.sms_base.specs.declared.holder.Holder.{Holder}
-use Rattle.sms_concat.specs.declared.concat_key.ConcatKey.{ConcatKey}
-use Rattle.sms_concat.specs.declared.content.Content.{Content}
-use Rattle.sms_concat.specs.declared.content.Part.{Part as PartOf}
-use Rattle.sms_concat.specs.Joining.{content_joined}
-use Rattle.sms_tpdu.specs.declared.carrier.Carrier.TheVariants.{InData}
-use Rattle.sms_tpdu.specs.declared.deliver.Deliver.{Deliver as DeliverOf}
-use Rattle.sms_tpdu.specs.declared.down.Down.{Down}
-use Rattle.sms_tpdu.specs.declared.down.Down.TheVariants.{Deliver, StatusReport, SubmitReport}
-use Rattle.sms_tpdu.specs.declared.fault.TpduFault.{TpduFault}
-use Rattle.sms_tpdu.specs.TpduReading.{down_at}
-use Rattle.sms_handset.specs.declared.entry.Entry.{Entry}
-use Rattle.sms_handset.specs.declared.entry.Group.{Group}
-use Rattle.sms_handset.specs.declared.entry.Message.{Message}
-use Rattle.sms_handset.specs.declared.entry.Message.TheVariants.{Single, Part, Joined}
-use Rattle.sms_handset.specs.declared.last_accepted.LastAccepted.{LastAccepted}
-use Rattle.sms_handset.specs.declared.discarded_group.DiscardedGroup.{DiscardedGroup}
-use Rattle.sms_handset.specs.declared.out_entry.OutEntry.{OutEntry}
+use Rattle.sms_base.specs.declared.holder.Holder.TheVariants.{Part as PartHolder, Report, Entry as EntryHolder, Memory}
 use Rattle.sms_base.specs.declared.address.Address.{Address}
 use Rattle.sms_base.specs.declared.address_error.AddressError.{AddressError}
 use Rattle.sms_base.specs.Address.{address_of}
-use Rattle.sms_concat.specs.declared.split_error.SplitError.{SplitError}
-use Rattle.sms_concat.specs.Splitting.{split_of}
-use Rattle.sms_handset.specs.declared.refusal.Refusal.{Refusal}
-use Rattle.sms_handset.specs.declared.refusal.Refusal.TheVariants.{NoEntry, StillOpen, OutboxFull, TooManyDiscarded}
-use Rattle.sms_handset.specs.Accepted.{Holds, IsOfDiscarded, IsPut, StoresAccepted}
-use Rattle.sms_handset.specs.Draft.{Core, Draft, draft_of, link_of, put_entry, remove_entry, put_counters, put_out, put_mark, remove_mark, remove_out, with_turn}
-use Rattle.sms_handset.specs.Groups.{all_numbers, alone, completed, count_entry, drop_all, ended, entry_part, first_number, free_all, group_of, is_among, joined_content, joined_entry, joined_parts, keep, key_of, mark_of, marked, members, part_entry, part_number, part_numbers, part_with, parts_to, single_entry, store_part, store_single, with_part}
-use Rattle.sms_handset.specs.Keys.{entry_key, last_key, notice_key, out_key}
-use Rattle.sms_base.specs.declared.holder.Holder.TheVariants.{Part as PartHolder, Report, Entry as EntryHolder, Memory}
+use Rattle.sms_table.proofs.Tables.{put_among}
+use Rattle.sms_table.specs.declared.change.Change.TheVariants.{Put}
+use Rattle.sms_table.specs.declared.change.Change.{Change}
+use Rattle.sms_table.specs.Table.{row_at}
+use Rattle.sms_concat.specs.declared.content.Part.{Part as PartOf}
+use Rattle.sms_concat.specs.declared.content.Content.{Content}
+use Rattle.sms_concat.specs.Joining.{content_joined}
+use Rattle.sms_concat.specs.declared.concat_key.ConcatKey.{ConcatKey}
 use Rattle.sms_concat.specs.declared.concat_key.ConcatReference.{ConcatReference}
+use Rattle.sms_concat.specs.Concatenation.{counted, eight_bit_key, sixteen_bit_key, element_key, later, key_of as key_of_elements}
 use Rattle.sms_concat.specs.declared.concat_key.ConcatReference.TheVariants.{EightBit, SixteenBit}
 use Rattle.sms_concat.specs.declared.element.Element.{Element}
 use Rattle.sms_concat.specs.declared.header_error.HeaderError.{HeaderError}
-use Rattle.sms_concat.specs.Concatenation.{counted, eight_bit_key, sixteen_bit_key, element_key, later, key_of as key_of_elements}
+use Rattle.sms_concat.specs.UserData.{key_found, header_key}
 use Rattle.sms_concat.specs.HeaderGrammar.{header_at}
-use Rattle.sms_concat.specs.UserData.{header_key, key_found}
-use Rattle.sms_link.specs.Timers.{tram}
-use Rattle.sms_link.specs.declared.ending.Ending.{Ending}
-use Rattle.sms_link.specs.declared.ending.Ending.TheVariants.{Acknowledged as AcknowledgedEnd, Refused as RefusedEnd, Wrong as WrongEnd, Lost as LostEnd}
-use Rattle.sms_link.specs.declared.ending.Upward.{Upward}
-use Rattle.sms_link.specs.declared.ending.Upward.TheVariants.{Opened, Ended}
-use Rattle.sms_link.specs.LinkTurn.{Turn, fired, taken}
+use Rattle.sms_concat.specs.declared.split_error.SplitError.{SplitError}
+use Rattle.sms_concat.specs.Splitting.{split_of}
 use Rattle.sms_control.specs.LinkStep.{is_busy}
 use Rattle.sms_control.specs.Timers.{later as later_moment}
 use Rattle.sms_relay.specs.declared.fault.RelayFault.{RelayFault}
 use Rattle.sms_relay.specs.declared.frame.Rp.{Rp}
 use Rattle.sms_relay.specs.declared.frame.Rp.TheVariants.{DataUnit, AckUnit, ErrorUnit, Smma}
 use Rattle.sms_relay.specs.RelayReading.{down_at as unit_at}
-use Rattle.sms_handset.specs.declared.notice.Notice.{Notice}
-use Rattle.sms_base.specs.declared.carried.Carried.{Carried}
-use Rattle.sms_handset.specs.HandsetEvent.{acted, at_moment, deleted, discarded, frame_came, frame_heard, ticked, timed_out, timers_fired, went_up, wrote}
-use Rattle.sms_handset.specs.OwnersActs.{content_of_text, count_split, delete, delete_in, delete_out, discard, discard_at, discard_group, discard_in, discard_members, fits_outbox, is_open_part, write, write_part, write_parts, write_split, write_to, written}
-use Rattle.sms_handset.specs.MemoryAvailable.{first_notice, freed, has_room, notice_concluded, notice_ended, notice_failed, put_notice, remove_notice, send_notice, want_notice}
-use Rattle.sms_handset.specs.Outbox.{entry_concluded, first_due, first_fired, follow, holder_concluded, is_notice_next, is_sending, lapse, lapse_rows, lost, offer, offer_after, offer_entry, offer_message, offer_wanted, transfer_ended}
-use Rattle.sms_handset.specs.Receiving.{accept, acknowledge, data_came, deliver_came, is_double, member_came, new_part_came, no_room, note, part_came, reported, single_came, tpdu_came, unit_came}
-use Rattle.sms_handset.specs.References.{held_references, is_unfinished, next_free}
+use Rattle.sms_link.specs.Timers.{tram}
+use Rattle.sms_link.specs.declared.ending.Ending.{Ending}
+use Rattle.sms_link.specs.declared.ending.Ending.TheVariants.{Acknowledged as AcknowledgedEnd, Refused as RefusedEnd, Wrong as WrongEnd, Lost as LostEnd}
+use Rattle.sms_link.specs.declared.ending.Upward.{Upward}
+use Rattle.sms_link.specs.declared.ending.Upward.TheVariants.{Opened, Ended}
+use Rattle.sms_link.specs.LinkTurn.{Turn, taken, fired}
+use Rattle.sms_tpdu.specs.declared.deliver.Deliver.{Deliver as DeliverOf}
+use Rattle.sms_tpdu.specs.declared.carrier.Carrier.TheVariants.{InData}
+use Rattle.sms_tpdu.specs.declared.down.Down.TheVariants.{Deliver, StatusReport, SubmitReport}
+use Rattle.sms_tpdu.specs.TpduReading.{down_at}
+use Rattle.sms_tpdu.specs.declared.down.Down.{Down}
+use Rattle.sms_tpdu.specs.declared.fault.TpduFault.{TpduFault}
+use Rattle.sms_inbox.specs.Groups.{with_part, entry_part, part_with, parts_to, is_among, part_number, part_numbers, joined_parts, alone, joined_content, joined_entry, part_entry, all_numbers, single_entry, group_of, key_of, mark_of, members, is_open_part, first_number}
+use Rattle.sms_inbox.specs.declared.entry.Entry.{Entry}
+use Rattle.sms_inbox.specs.Keys.{entry_key, last_key}
+use Rattle.sms_inbox.specs.declared.entry.Group.{Group}
+use Rattle.sms_inbox.specs.declared.discarded_group.DiscardedGroup.{DiscardedGroup}
+use Rattle.sms_inbox.specs.declared.last_accepted.LastAccepted.{LastAccepted}
+use Rattle.sms_inbox.specs.Doubles.{is_double}
+use Rattle.sms_inbox.specs.declared.entry.Message.{Message}
+use Rattle.sms_inbox.specs.declared.entry.Message.TheVariants.{Single, Part, Joined}
+use Rattle.sms_outbox.specs.declared.out_entry.OutEntry.{OutEntry}
+use Rattle.sms_outbox.specs.Reports.{reported}
+use Rattle.sms_outbox.specs.Settling.{is_sending, lost}
+use Rattle.sms_outbox.specs.Offers.{first_due, first_fired}
+use Rattle.sms_outbox.specs.References.{held_references, next_free, is_unfinished}
+use Rattle.sms_outbox.specs.declared.notice.Notice.{Notice}
+use Rattle.sms_outbox.specs.Keys.{notice_key, out_key}
+use Rattle.sms_concat.specs.TextContent.{content_of_text}
+use Rattle.sms_handset.specs.Accepted.{Holds, IsPut, StoresAccepted, IsOfDiscarded}
+use Rattle.sms_handset.specs.Draft.{Draft, put_entry, remove_entry, put_mark, remove_mark, put_out, Core, draft_of, link_of, with_turn, remove_out, put_counters}
+use Rattle.sms_handset.specs.Storing.{free_all, drop_all, ended, count_entry, keep, store_part, store_single, completed, marked}
+use Rattle.sms_handset.specs.Receiving.{accept, no_room, single_came, new_part_came, member_came, part_came, deliver_came, note, tpdu_came, acknowledge, data_came, unit_came}
+use Rattle.sms_handset.specs.MemoryAvailable.{has_room, first_notice, notice_failed, put_notice, remove_notice, notice_ended, notice_concluded, freed, want_notice}
+use Rattle.sms_handset.specs.Outbox.{lapse_rows, lapse, offer_entry, is_notice_next, offer_message, offer_wanted, offer_after, follow, offer, entry_concluded, holder_concluded, transfer_ended}
+use Rattle.sms_handset.specs.HandsetEvent.{went_up, frame_came, frame_heard, timed_out, at_moment, ticked, timers_fired, acted, wrote, deleted, discarded}
+use Rattle.sms_handset.specs.declared.refusal.Refusal.{Refusal}
+use Rattle.sms_handset.specs.OwnersActs.{write_part, write_parts, count_split, fits_outbox, write_to, written, write_split, delete_out, delete_in, discard_group, discard_members, discard_in, discard_at, write, delete, discard}
+use Rattle.sms_handset.specs.declared.refusal.Refusal.TheVariants.{OutboxFull, StillOpen, NoEntry, TooManyDiscarded}
 
 -- ---- lists
 

@@ -1,68 +1,74 @@
 -- Through all stages the open groups change as is told, and each entry has a number that was given.
-use Rattle.std.proofs.Common.{◌≡◌, ℕ, ◌+◌, ◌<◌, ◌≤◌, arith, List, [], ◌∷◌, ◌++◌, append-nil, Bool, true, false, cond, Option, Some, None, Result, Ok, Err, refl, sym, ◌∙◌, ap, subst, inl, inr, ⊎_elim, eqb-true, true≢false, le_of_eq}
-use Rattle.std.specs.Prelude.{◌==◌, max, nat_lt, length}
+use Rattle.std.proofs.Common.{ℕ, ◌<◌, List, ◌≤◌, arith, [], ◌∷◌, ◌≡◌, sym, subst, ⊎_elim, ◌+◌, ◌++◌, refl, ◌∙◌, ap, false, inl, inr, Option, Some, None, append-nil, Bool, true, cond, le_of_eq, Result, Ok, Err, true≢false, eqb-true}
 use Rattle.std.specs.List.{AllByRecursion}
-use Rattle.std.proofs.lemmas.Bool.{cond_both, cond-true, cond-false}
+use Rattle.std.specs.Prelude.{◌==◌, nat_lt, length}
+use Rattle.std.proofs.lemmas.Bool.{cond_both, cond-false, cond-true}
 use Rattle.sms_base.specs.Among.{Among}
-use Rattle.sms_table.specs.Table.{Rises, insert, put, row_at, without}
-use Rattle.sms_base.specs.declared.address.Address.{Address}
-use Rattle.sms_base.specs.declared.address_error.AddressError.{AddressError}
 use Rattle.sms_base.specs.declared.holder.Holder.{Holder}
 use Rattle.sms_base.specs.declared.holder.Holder.TheVariants.{Part as PartHolder, Report, Entry as EntryHolder, Memory}
+use Rattle.sms_base.specs.declared.address.Address.{Address}
+use Rattle.sms_base.specs.declared.address_error.AddressError.{AddressError}
 use Rattle.sms_base.specs.Address.{address_of}
-use Rattle.sms_table.proofs.Tables.{found_among, found_key, insert_behind, rises_put, rises_without, without_behind}
-use Rattle.sms_concat.specs.declared.concat_key.ConcatKey.{ConcatKey}
+use Rattle.sms_table.specs.Table.{without, insert, put, Rises, row_at}
+use Rattle.sms_table.proofs.Tables.{insert_behind, without_behind, rises_without, rises_put, found_among, found_key}
 use Rattle.sms_concat.specs.declared.content.Content.{Content}
+use Rattle.sms_concat.specs.declared.concat_key.ConcatKey.{ConcatKey}
 use Rattle.sms_concat.specs.declared.content.Part.{Part as PartOf}
 use Rattle.sms_concat.specs.declared.split_error.SplitError.{SplitError}
 use Rattle.sms_concat.specs.Splitting.{split_of}
-use Rattle.sms_link.specs.Timers.{tram}
-use Rattle.sms_link.specs.declared.ending.Ending.{Ending}
-use Rattle.sms_link.specs.declared.ending.Ending.TheVariants.{Acknowledged as AcknowledgedEnd, Refused as RefusedEnd, Wrong as WrongEnd, Lost as LostEnd}
-use Rattle.sms_link.specs.declared.ending.Upward.{Upward}
-use Rattle.sms_link.specs.declared.ending.Upward.TheVariants.{Opened, Ended}
-use Rattle.sms_link.specs.LinkTurn.{Turn, fired, taken}
 use Rattle.sms_control.specs.Timers.{later as later_moment}
 use Rattle.sms_relay.specs.declared.fault.RelayFault.{RelayFault}
 use Rattle.sms_relay.specs.declared.frame.Rp.{Rp}
 use Rattle.sms_relay.specs.declared.frame.Rp.TheVariants.{DataUnit, AckUnit, ErrorUnit, Smma}
 use Rattle.sms_relay.specs.RelayReading.{down_at as unit_at}
-use Rattle.sms_tpdu.specs.declared.carrier.Carrier.TheVariants.{InData}
+use Rattle.sms_link.specs.declared.ending.Upward.TheVariants.{Opened, Ended}
+use Rattle.sms_link.specs.Timers.{tram}
+use Rattle.sms_link.specs.declared.ending.Ending.{Ending}
+use Rattle.sms_link.specs.declared.ending.Ending.TheVariants.{Acknowledged as AcknowledgedEnd, Refused as RefusedEnd, Wrong as WrongEnd, Lost as LostEnd}
+use Rattle.sms_link.specs.declared.ending.Upward.{Upward}
+use Rattle.sms_link.specs.LinkTurn.{Turn, taken, fired}
 use Rattle.sms_tpdu.specs.declared.deliver.Deliver.{Deliver as DeliverOf}
 use Rattle.sms_tpdu.specs.declared.down.Down.{Down}
 use Rattle.sms_tpdu.specs.declared.down.Down.TheVariants.{Deliver, StatusReport, SubmitReport}
 use Rattle.sms_tpdu.specs.declared.fault.TpduFault.{TpduFault}
+use Rattle.sms_tpdu.specs.declared.carrier.Carrier.TheVariants.{InData}
 use Rattle.sms_tpdu.specs.TpduReading.{down_at}
-use Rattle.sms_handset.specs.declared.entry.Entry.{Entry}
-use Rattle.sms_handset.specs.declared.entry.Group.{Group}
-use Rattle.sms_handset.specs.declared.entry.Message.{Message}
-use Rattle.sms_handset.specs.declared.entry.Message.TheVariants.{Single, Part, Joined}
-use Rattle.sms_handset.specs.declared.discarded_group.DiscardedGroup.{DiscardedGroup}
-use Rattle.sms_handset.specs.declared.notice.Notice.{Notice}
-use Rattle.sms_handset.specs.declared.open_group.Regrouping.{Regrouping}
-use Rattle.sms_handset.specs.declared.open_group.Regrouping.TheVariants.{Unchanged, Opened, Closed}
-use Rattle.sms_handset.specs.declared.out_entry.OutEntry.{OutEntry}
-use Rattle.sms_base.specs.declared.carried.Carried.{Carried}
-use Rattle.sms_handset.specs.declared.refusal.Refusal.{Refusal}
-use Rattle.sms_handset.specs.declared.refusal.Refusal.TheVariants.{NoEntry, StillOpen, OutboxFull, TooManyDiscarded}
+use Rattle.sms_inbox.specs.declared.entry.Entry.{Entry}
+use Rattle.sms_inbox.specs.Keys.{entry_key, last_key}
+use Rattle.sms_inbox.specs.SoundInbox.{AreEntries}
+use Rattle.sms_inbox.proofs.GroupMembers.{all_without, members_put, all_without_self, others_stay, members_all_without, apart_groups, without_apart, members_append, one_group, other_group, members_among, members_without, same_entry, among_members}
+use Rattle.sms_inbox.specs.declared.entry.Group.{Group}
+use Rattle.sms_inbox.specs.Groups.{alone, members, is_part_of, first_number, joined_entry, single_entry, all_numbers, is_same_group, joined_content, part_entry, part_numbers, is_among, group_of, mark_of, key_of, is_open_part}
+use Rattle.sms_inbox.specs.declared.open_group.Regrouping.TheVariants.{Unchanged, Opened, Closed}
+use Rattle.sms_inbox.proofs.Indexing.{all_stay, one_opens, one_closes}
+use Rattle.sms_inbox.specs.declared.open_group.Regrouping.{Regrouping}
+use Rattle.sms_inbox.specs.OpenGroups.{open_group, open_at}
+use Rattle.sms_inbox.specs.declared.discarded_group.DiscardedGroup.{DiscardedGroup}
+use Rattle.sms_inbox.specs.Doubles.{is_double}
+use Rattle.sms_inbox.specs.declared.entry.Message.{Message}
+use Rattle.sms_inbox.specs.declared.entry.Message.TheVariants.{Single, Part, Joined}
+use Rattle.sms_outbox.specs.declared.out_entry.OutEntry.{OutEntry}
+use Rattle.sms_outbox.specs.Reports.{reported}
+use Rattle.sms_outbox.specs.declared.notice.Notice.{Notice}
+use Rattle.sms_outbox.specs.Keys.{notice_key, out_key}
+use Rattle.sms_outbox.specs.References.{is_unfinished}
+use Rattle.sms_concat.specs.TextContent.{content_of_text}
 use Rattle.sms_handset.specs.declared.rows.Rows.{Rows}
-use Rattle.sms_handset.specs.Draft.{Core, Draft, draft_of, link_of, put_entry, remove_entry, put_counters, put_mark, remove_mark, remove_out, with_turn}
-use Rattle.sms_handset.specs.GroupChanges.{data_groups, deliver_groups, frame_groups, member_groups, new_part_groups, part_groups, stored_groups, tpdu_groups, unit_groups, up_groups}
-use Rattle.sms_handset.specs.Groups.{all_numbers, alone, drop_all, ended, first_number, free_all, group_of, is_among, is_part_of, is_same_group, joined_content, joined_entry, keep, key_of, mark_of, marked, members, part_entry, part_numbers, single_entry, store_part, store_single}
-use Rattle.sms_handset.specs.HandsetEvent.{acted, at_moment, deleted, discarded, frame_came, frame_heard, ticked, timed_out, timers_fired, went_up, wrote}
-use Rattle.sms_handset.specs.Keys.{entry_key, last_key, notice_key, out_key}
-use Rattle.sms_handset.specs.MemoryAvailable.{flag, freed, has_room, notice_concluded, notice_ended, notice_failed, put_notice, remove_notice, want_notice}
-use Rattle.sms_handset.specs.OpenGroups.{IsRegrouped, Numbered, Regroups, open_at, open_group}
-use Rattle.sms_handset.specs.Outbox.{entry_concluded, follow, holder_concluded}
-use Rattle.sms_handset.specs.OwnersActs.{content_of_text, count_split, delete, delete_in, delete_out, discard, discard_at, discard_group, discard_in, discard_members, fits_outbox, is_open_part, write, write_part, write_parts, write_split, write_to, written}
-use Rattle.sms_handset.specs.Planning.{Rests, RestsIfDone}
-use Rattle.sms_handset.specs.Receiving.{accept, acknowledge, data_came, deliver_came, is_double, member_came, new_part_came, no_room, note, part_came, reported, single_came, tpdu_came, unit_came}
-use Rattle.sms_handset.specs.SoundRows.{AreEntries, IsSound}
-use Rattle.sms_handset.specs.References.{is_unfinished}
+use Rattle.sms_handset.specs.Regrouping.{Numbered, Regroups, IsRegrouped}
+use Rattle.sms_handset.specs.SoundRows.{IsSound}
+use Rattle.sms_handset.specs.Draft.{Draft, remove_entry, put_entry, put_mark, remove_mark, Core, draft_of, link_of, with_turn, remove_out, put_counters}
+use Rattle.sms_handset.specs.Storing.{drop_all, free_all, ended, keep, store_single, store_part, marked}
+use Rattle.sms_handset.specs.GroupChanges.{stored_groups, new_part_groups, member_groups, part_groups, deliver_groups, tpdu_groups, data_groups, unit_groups, up_groups, frame_groups}
 use Rattle.sms_handset.proofs.Accepting.{Kept, follow_kept}
+use Rattle.sms_handset.specs.Outbox.{follow, entry_concluded, holder_concluded}
+use Rattle.sms_handset.specs.MemoryAvailable.{has_room, notice_failed, put_notice, remove_notice, notice_ended, notice_concluded, freed, want_notice}
+use Rattle.sms_handset.specs.Receiving.{accept, no_room, single_came, new_part_came, member_came, part_came, deliver_came, note, tpdu_came, acknowledge, data_came, unit_came}
+use Rattle.sms_handset.specs.HandsetEvent.{went_up, timed_out, frame_came, frame_heard, at_moment, ticked, timers_fired, acted, wrote, deleted, discarded}
+use Rattle.sms_handset.specs.declared.refusal.Refusal.{Refusal}
+use Rattle.sms_handset.specs.OwnersActs.{write_part, write_parts, count_split, fits_outbox, write_to, written, write_split, delete_out, delete_in, discard_group, discard_members, discard_in, discard_at, write, delete, discard}
+use Rattle.sms_handset.specs.declared.refusal.Refusal.TheVariants.{OutboxFull, StillOpen, NoEntry, TooManyDiscarded}
+use Rattle.sms_handset.specs.Planning.{Rests, RestsIfDone}
 use Rattle.sms_handset.proofs.Resting.{write_rests, delete_rests, discard_rests}
-use Rattle.sms_handset.proofs.GroupMembers.{all_without, all_without_self, among_members, apart_groups, members_all_without, members_among, members_append, members_put, members_without, one_group, other_group, others_stay, same_entry, without_apart}
-use Rattle.sms_handset.proofs.Indexing.{all_stay, one_closes, one_opens}
 
 -- ---- numbers that were given
 

@@ -1,23 +1,23 @@
 -- Acts of the owner that are not refused.
-use Rattle.std.proofs.Common.{◌≡◌, ℕ, ◌<◌, ◌≤◌, true, false, true≢false, is_some, option_copied, Bor, ⊎_elim, List, Option, Some, None, Result, Ok, Err, length, refl, sym, ◌∙◌, ap, cond, eq-eqb}
-use Rattle.std.specs.Prelude.{nat_lt, ◌==◌}
-use Rattle.std.proofs.lemmas.Bool.{cases_eq, cond-true, cond-false, le-ltb, lt-ltb, ne_eqb}
-use Rattle.sms_handset.specs.declared.entry.Entry.{Entry}
-use Rattle.sms_handset.specs.declared.entry.Group.{Group}
-use Rattle.sms_handset.specs.declared.entry.Message.{Message}
-use Rattle.sms_handset.specs.declared.entry.Message.TheVariants.{Single, Part, Joined}
-use Rattle.sms_handset.specs.declared.open_group.OpenGroup.{OpenGroup}
-use Rattle.sms_handset.specs.declared.out_entry.OutEntry.{OutEntry}
-use Rattle.sms_handset.specs.declared.refusal.Refusal.{Refusal}
-use Rattle.sms_handset.specs.declared.refusal.Refusal.TheVariants.{NoEntry, StillOpen, TooManyDiscarded}
-use Rattle.sms_handset.specs.Draft.{Draft, remove_entry, remove_out}
-use Rattle.sms_handset.specs.Groups.{first_number, members}
-use Rattle.sms_handset.specs.Keys.{entry_key}
-use Rattle.sms_handset.specs.OpenGroups.{open_at, open_first, open_group, open_of, open_under}
+use Rattle.std.proofs.Common.{◌≡◌, ℕ, false, Option, Some, Result, Ok, Err, ◌∙◌, ap, ⊎_elim, List, None, sym, eq-eqb, length, cond, refl, ◌<◌, ◌≤◌, true, true≢false, is_some, option_copied, Bor}
+use Rattle.std.proofs.lemmas.Bool.{cond-false, cases_eq, cond-true, ne_eqb, lt-ltb, le-ltb}
+use Rattle.std.specs.Prelude.{◌==◌, nat_lt}
 use Rattle.sms_table.specs.Table.{row_at}
+use Rattle.sms_inbox.specs.declared.entry.Entry.{Entry}
+use Rattle.sms_inbox.specs.Groups.{is_open_part, first_number, members}
+use Rattle.sms_inbox.specs.declared.entry.Group.{Group}
+use Rattle.sms_inbox.specs.declared.open_group.OpenGroup.{OpenGroup}
+use Rattle.sms_inbox.specs.OpenGroups.{open_first, open_group, open_under, open_of, open_at}
+use Rattle.sms_inbox.specs.declared.entry.Message.{Message}
+use Rattle.sms_inbox.specs.declared.entry.Message.TheVariants.{Single, Part, Joined}
+use Rattle.sms_inbox.specs.Keys.{entry_key}
+use Rattle.sms_outbox.specs.declared.out_entry.OutEntry.{OutEntry}
+use Rattle.sms_outbox.specs.References.{is_unfinished}
+use Rattle.sms_handset.specs.declared.refusal.Refusal.{Refusal}
+use Rattle.sms_handset.specs.declared.refusal.Refusal.TheVariants.{StillOpen, TooManyDiscarded, NoEntry}
+use Rattle.sms_handset.specs.Draft.{Draft, remove_out, remove_entry}
+use Rattle.sms_handset.specs.OwnersActs.{delete_out, delete_in, discard_group, discard_in, discard_at, discard}
 use Rattle.sms_handset.specs.MemoryAvailable.{freed}
-use Rattle.sms_handset.specs.OwnersActs.{delete_in, delete_out, discard, discard_at, discard_group, discard_in, is_open_part}
-use Rattle.sms_handset.specs.References.{is_unfinished}
 
 pub deletes_out : (n : ℕ) (found : Option OutEntry) (o : OutEntry) (d : Draft) → found ≡ Some o → is_unfinished o.state ≡ false → (e : Draft) × (delete_out n found d ≡ Ok e)
 deletes_out n found o d e f =

@@ -1,19 +1,16 @@
 -- What a plan accepts is stored, whatever the event.
-use Rattle.std.proofs.Common.{◌≡◌, ℕ, List, Bool, Result, Ok, Err, sym, ◌∙◌, ap, subst, IfOk}
-use Rattle.sms_base.specs.declared.holder.Holder.{Holder}
-use Rattle.sms_handset.specs.declared.event.HandsetEvent.{HandsetEvent}
-use Rattle.sms_handset.specs.declared.event.HandsetEvent.TheVariants.{Frame, Tick, Write, Delete, Discard}
-use Rattle.sms_handset.specs.declared.discarded_group.DiscardedGroup.{DiscardedGroup}
-use Rattle.sms_handset.specs.declared.refusal.PlanError.{PlanError}
-use Rattle.sms_handset.specs.declared.refusal.PlanError.TheVariants.{Refused, NoMemory}
-use Rattle.sms_handset.specs.declared.refusal.Refusal.{Refusal}
+use Rattle.std.proofs.Common.{◌≡◌, sym, ap, subst, List, Result, Ok, Err, IfOk}
+use Rattle.sms_inbox.specs.declared.discarded_group.DiscardedGroup.{DiscardedGroup}
 use Rattle.sms_handset.specs.declared.rows.Rows.{Rows}
 use Rattle.sms_handset.specs.Accepted.{StoresAccepted}
-use Rattle.sms_handset.specs.Draft.{Changes, Core, Draft, HandsetOf, rows_after}
-use Rattle.sms_handset.specs.HandsetEvent.{deleted, discarded, frame_came, tag_of, ticked, wrote}
-use Rattle.sms_handset.specs.Planning.{IsPlanOf, OfDelete, OfDiscard, OfFrame, OfTick, OfWrite, Outcome, Plan, Plans, Rests, RestsIfDone, Stores}
-use Rattle.sms_handset.specs.Trying.{TriesPlan}
+use Rattle.sms_handset.specs.Draft.{Changes, Draft, HandsetOf, rows_after}
+use Rattle.sms_handset.specs.Planning.{IsPlanOf, Outcome, Plan, Rests, Stores, RestsIfDone, Plans, OfDelete, OfDiscard, OfFrame, OfTick, OfWrite}
+use Rattle.sms_handset.specs.declared.refusal.Refusal.{Refusal}
 use Rattle.sms_handset.proofs.Accepting.{LawIfDone, frame_stores, tick_stores, write_stores, delete_stores, discard_stores}
+use Rattle.sms_handset.specs.declared.refusal.PlanError.{PlanError}
+use Rattle.sms_handset.specs.declared.event.HandsetEvent.{HandsetEvent}
+use Rattle.sms_handset.specs.declared.event.HandsetEvent.TheVariants.{Frame, Tick, Write, Delete, Discard}
+use Rattle.sms_handset.specs.HandsetEvent.{deleted, discarded, frame_came, tag_of, ticked, wrote}
 use Rattle.sms_handset.proofs.Resting.{frame_rests, tick_rests, write_rests, delete_rests, discard_rests}
 
 stores_of : (s : HandsetOf) (d : Draft) (p : Plan) → IsPlanOf d s p → Rests s.core.rows d → StoresAccepted s.core.rows.marks d.changes d.rows → Stores s p
@@ -34,20 +31,15 @@ plans_store (Ok p) s w rests stores h =
     stores_of s h.0 p h.1.1 (rests_of s.core.rows w h.0 h.1.0 rests) (law_of s.core.rows.marks w h.0 h.1.0 stores)
 plans_store (Err e) s w rests stores h = tt
 
-tries_store : (r : Result Plan PlanError) (s : HandsetOf) (w : Result Draft Refusal) → RestsIfDone s.core.rows w → LawIfDone s.core.rows.marks w → TriesPlan r s w → IfOk r (Stores s)
-tries_store (Ok p) s w rests stores h =
-    stores_of s h.0 p h.1.1 (rests_of s.core.rows w h.0 h.1.0 rests) (law_of s.core.rows.marks w h.0 h.1.0 stores)
-tries_store (Err e) s w rests stores h = tt
-
 pub event_stores : (event : HandsetEvent) (r : Result Plan PlanError) (s : HandsetOf)
     → OfFrame event (λ octets tag. Plans r s (Ok (frame_came octets (tag_of tag) s.core)))
     → OfTick event (λ now. Plans r s (Ok (ticked now s.core)))
-    → OfWrite event (λ text to report. TriesPlan r s (wrote text to report s.core))
+    → OfWrite event (λ text to report. Plans r s (wrote text to report s.core))
     → OfDelete event (λ entry. Plans r s (deleted entry s.core))
     → OfDiscard event (λ entry. Plans r s (discarded entry s.core))
     → IfOk r (Stores s)
 event_stores (Frame octets tag) r s a b c d e = plans_store r s (Ok (frame_came octets (tag_of tag) s.core)) (frame_rests octets (tag_of tag) s.core) (frame_stores octets (tag_of tag) s.core) a
 event_stores (Tick now) r s a b c d e = plans_store r s (Ok (ticked now s.core)) (tick_rests now s.core) (tick_stores now s.core) b
-event_stores (Write text to report) r s a b c d e = tries_store r s (wrote text to report s.core) (write_rests text to report s.core) (write_stores text to report s.core) c
+event_stores (Write text to report) r s a b c d e = plans_store r s (wrote text to report s.core) (write_rests text to report s.core) (write_stores text to report s.core) c
 event_stores (Delete entry) r s a b c d e = plans_store r s (deleted entry s.core) (delete_rests entry s.core) (delete_stores entry s.core) d
 event_stores (Discard entry) r s a b c d e = plans_store r s (discarded entry s.core) (discard_rests entry s.core) (discard_stores entry s.core) e

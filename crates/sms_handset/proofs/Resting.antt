@@ -1,64 +1,66 @@
 -- Through all stages the draft's rows are the rows with its changes.
-use Rattle.std.proofs.Common.{◌≡◌, ℕ, List, [], ◌∷◌, ◌++◌, Bool, true, false, Option, Some, None, Result, Ok, Err, refl, sym, ◌∙◌, ap}
+use Rattle.std.proofs.Common.{List, sym, ◌∙◌, ap, ℕ, [], ◌∷◌, Option, Some, None, ◌++◌, true, Result, Ok, Err, false, Bool, refl}
 use Rattle.std.proofs.lemmas.Bool.{cond_both}
-use Rattle.std.specs.Prelude.{max, nat_lt, nat_le, length, ◌==◌, ◌&&◌, ◌+◌, ◌%◌}
-use Rattle.sms_table.proofs.Tables.{all_applied_push}
-use Rattle.sms_table.specs.Table.{all_applied, put, without, row_at}
-use Rattle.sms_table.specs.declared.change.Change.{Change}
-use Rattle.sms_table.specs.declared.change.Change.TheVariants.{Put, Remove}
-use Rattle.sms_base.specs.declared.address.Address.{Address}
-use Rattle.sms_base.specs.declared.address_error.AddressError.{AddressError}
+use Rattle.std.specs.Prelude.{◌+◌, ◌%◌, nat_lt, length, ◌==◌}
 use Rattle.sms_base.specs.declared.holder.Holder.{Holder}
 use Rattle.sms_base.specs.declared.holder.Holder.TheVariants.{Part as PartHolder, Report, Entry as EntryHolder, Memory}
+use Rattle.sms_base.specs.declared.address.Address.{Address}
+use Rattle.sms_base.specs.declared.address_error.AddressError.{AddressError}
 use Rattle.sms_base.specs.Address.{address_of}
-use Rattle.sms_concat.specs.declared.concat_key.ConcatKey.{ConcatKey}
+use Rattle.sms_table.proofs.Tables.{all_applied_push}
+use Rattle.sms_table.specs.Table.{put, without, row_at}
+use Rattle.sms_table.specs.declared.change.Change.TheVariants.{Put, Remove}
 use Rattle.sms_concat.specs.declared.content.Content.{Content}
+use Rattle.sms_concat.specs.declared.concat_key.ConcatKey.{ConcatKey}
 use Rattle.sms_concat.specs.declared.content.Part.{Part as PartOf}
 use Rattle.sms_concat.specs.declared.split_error.SplitError.{SplitError}
 use Rattle.sms_concat.specs.Splitting.{split_of}
-use Rattle.sms_link.specs.Timers.{tram}
-use Rattle.sms_link.specs.declared.ending.Ending.{Ending}
-use Rattle.sms_link.specs.declared.ending.Ending.TheVariants.{Acknowledged as AcknowledgedEnd, Refused as RefusedEnd, Wrong as WrongEnd, Lost as LostEnd}
-use Rattle.sms_link.specs.declared.ending.Upward.{Upward}
-use Rattle.sms_link.specs.declared.ending.Upward.TheVariants.{Opened, Ended}
-use Rattle.sms_link.specs.LinkTurn.{Turn, fired, taken}
 use Rattle.sms_control.specs.LinkStep.{is_busy}
-use Rattle.sms_relay.specs.declared.cause.RpCause.{RpCause}
-use Rattle.sms_relay.specs.declared.cause.RpCause.TheVariants.{InvalidMandatoryInformation}
 use Rattle.sms_relay.specs.declared.fault.RelayFault.{RelayFault}
 use Rattle.sms_relay.specs.declared.frame.Rp.{Rp}
 use Rattle.sms_relay.specs.declared.frame.Rp.TheVariants.{DataUnit, AckUnit, ErrorUnit, Smma}
 use Rattle.sms_relay.specs.RelayReading.{down_at as unit_at}
-use Rattle.sms_tpdu.specs.declared.carrier.Carrier.TheVariants.{InData}
+use Rattle.sms_link.specs.declared.ending.Ending.{Ending}
+use Rattle.sms_link.specs.declared.ending.Ending.TheVariants.{Acknowledged as AcknowledgedEnd, Refused as RefusedEnd, Wrong as WrongEnd, Lost as LostEnd}
+use Rattle.sms_link.specs.declared.ending.Upward.{Upward}
+use Rattle.sms_link.specs.declared.ending.Upward.TheVariants.{Opened, Ended}
+use Rattle.sms_link.specs.LinkTurn.{Turn, taken, fired}
 use Rattle.sms_tpdu.specs.declared.deliver.Deliver.{Deliver as DeliverOf}
 use Rattle.sms_tpdu.specs.declared.down.Down.{Down}
 use Rattle.sms_tpdu.specs.declared.down.Down.TheVariants.{Deliver, StatusReport, SubmitReport}
 use Rattle.sms_tpdu.specs.declared.fault.TpduFault.{TpduFault}
+use Rattle.sms_tpdu.specs.declared.carrier.Carrier.TheVariants.{InData}
 use Rattle.sms_tpdu.specs.TpduReading.{down_at}
-use Rattle.sms_handset.specs.declared.counters.Counters.{Counters}
-use Rattle.sms_handset.specs.declared.entry.Entry.{Entry}
-use Rattle.sms_handset.specs.declared.entry.Group.{Group}
-use Rattle.sms_handset.specs.declared.entry.Message.{Message}
-use Rattle.sms_handset.specs.declared.entry.Message.TheVariants.{Single, Part, Joined}
-use Rattle.sms_handset.specs.declared.last_accepted.LastAccepted.{LastAccepted}
-use Rattle.sms_handset.specs.declared.discarded_group.DiscardedGroup.{DiscardedGroup}
-use Rattle.sms_handset.specs.declared.notice.Notice.{Notice}
-use Rattle.sms_handset.specs.declared.out_entry.OutEntry.{OutEntry}
-use Rattle.sms_base.specs.declared.carried.Carried.{Carried}
-use Rattle.sms_handset.specs.declared.refusal.Refusal.{Refusal}
-use Rattle.sms_handset.specs.declared.refusal.Refusal.TheVariants.{NoEntry, StillOpen, OutboxFull, TooManyDiscarded, TooManyParts, Destination}
+use Rattle.sms_inbox.specs.declared.entry.Entry.{Entry}
+use Rattle.sms_inbox.specs.Keys.{entry_key, last_key, mark_key}
+use Rattle.sms_inbox.specs.declared.last_accepted.LastAccepted.{LastAccepted}
+use Rattle.sms_inbox.specs.declared.discarded_group.DiscardedGroup.{DiscardedGroup}
+use Rattle.sms_inbox.specs.Groups.{alone, joined_entry, all_numbers, joined_content, part_numbers, single_entry, part_entry, is_among, members, group_of, mark_of, key_of, is_open_part, first_number}
+use Rattle.sms_inbox.specs.declared.entry.Group.{Group}
+use Rattle.sms_inbox.specs.Doubles.{is_double}
+use Rattle.sms_inbox.specs.declared.entry.Message.{Message}
+use Rattle.sms_inbox.specs.declared.entry.Message.TheVariants.{Single, Part, Joined}
+use Rattle.sms_outbox.specs.declared.out_entry.OutEntry.{OutEntry}
+use Rattle.sms_outbox.specs.Keys.{out_key, notice_key}
+use Rattle.sms_outbox.specs.Reports.{reported}
+use Rattle.sms_outbox.specs.declared.notice.Notice.{Notice}
+use Rattle.sms_outbox.specs.Answers.{verdict_of}
+use Rattle.sms_outbox.specs.Settling.{settled, is_sending, lost}
+use Rattle.sms_outbox.specs.Offers.{first_due, first_fired}
+use Rattle.sms_outbox.specs.References.{held_references, next_free, is_unfinished}
+use Rattle.sms_concat.specs.TextContent.{content_of_text}
 use Rattle.sms_handset.specs.declared.rows.Rows.{Rows}
-use Rattle.sms_handset.specs.Answers.{verdict_of}
-use Rattle.sms_handset.specs.Draft.{Core, Draft, draft_of, rows_after, put_entry, remove_entry, put_last, put_out, remove_out, put_mark, remove_mark, put_counters, link_of, with_turn}
-use Rattle.sms_handset.specs.Groups.{all_numbers, alone, completed, drop_all, ended, free_all, group_of, is_among, joined_content, joined_entry, key_of, mark_of, marked, members, part_entry, part_numbers, single_entry, store_part, store_single, first_number}
-use Rattle.sms_handset.specs.HandsetEvent.{acted, at_moment, deleted, discarded, frame_came, frame_heard, ticked, timed_out, timers_fired, went_up, wrote}
-use Rattle.sms_handset.specs.Keys.{entry_key, last_key, out_key, mark_key, notice_key}
-use Rattle.sms_handset.specs.MemoryAvailable.{first_notice, flag, freed, has_room, notice_concluded, notice_ended, notice_failed, send_notice, want_notice}
-use Rattle.sms_handset.specs.Outbox.{entry_concluded, first_due, first_fired, follow, holder_concluded, is_notice_next, is_sending, lapse, lapse_rows, lost, offer, offer_after, offer_entry, offer_message, offer_wanted, settled, transfer_ended}
-use Rattle.sms_handset.specs.OwnersActs.{content_of_text, count_split, delete, delete_in, delete_out, discard, discard_at, discard_group, discard_in, discard_members, fits_outbox, is_open_part, write, write_part, write_parts, write_split, write_to, write_with, written, written_entry}
+use Rattle.sms_handset.specs.Draft.{Draft, rows_after, put_entry, remove_entry, put_last, put_out, remove_out, put_mark, remove_mark, put_counters, Core, draft_of, link_of, with_turn}
 use Rattle.sms_handset.specs.Planning.{Rests, RestsIfDone}
-use Rattle.sms_handset.specs.Receiving.{accept, acknowledge, data_came, deliver_came, is_double, member_came, new_part_came, no_room, note, part_came, refuse, reported, single_came, tpdu_came, unit_came}
-use Rattle.sms_handset.specs.References.{held_message_references, held_references, is_unfinished, next_free}
+use Rattle.sms_handset.specs.declared.counters.Counters.{Counters}
+use Rattle.sms_handset.specs.Storing.{drop_all, free_all, ended, completed, store_single, store_part, marked}
+use Rattle.sms_handset.specs.Receiving.{accept, no_room, single_came, new_part_came, member_came, part_came, deliver_came, note, tpdu_came, acknowledge, data_came, unit_came}
+use Rattle.sms_handset.specs.MemoryAvailable.{has_room, notice_failed, notice_ended, notice_concluded, first_notice, freed, want_notice}
+use Rattle.sms_handset.specs.Outbox.{entry_concluded, holder_concluded, lapse_rows, lapse, offer_entry, offer_message, is_notice_next, offer_wanted, offer_after, offer, follow}
+use Rattle.sms_handset.specs.OwnersActs.{write_part, write_parts, count_split, fits_outbox, write_to, written, write_split, delete_out, delete_in, discard_group, discard_members, discard_in, discard_at, write, delete, discard}
+use Rattle.sms_handset.specs.declared.refusal.Refusal.{Refusal}
+use Rattle.sms_handset.specs.HandsetEvent.{acted, went_up, timed_out, frame_came, frame_heard, at_moment, ticked, timers_fired, wrote, deleted, discarded}
+use Rattle.sms_handset.specs.declared.refusal.Refusal.TheVariants.{OutboxFull, StillOpen, NoEntry, TooManyDiscarded}
 
 -- ---- moves
 

@@ -1,47 +1,52 @@
 -- What the owner does leaves a sound handset sound.
-use Rattle.std.proofs.Common.{◌≡◌, ℕ, suc, ◌+◌, ◌%◌, ◌<◌, ◌≤◌, arith, List, [], ◌∷◌, length, Bool, true, false, cond, Option, Some, None, Result, Ok, Err, refl, sym, ◌∙◌, ap, subst}
+use Rattle.std.proofs.Common.{Result, Ok, Err, ℕ, ◌≤◌, List, length, sym, subst, ◌≡◌, ◌+◌, arith, [], ◌∷◌, false, ◌<◌, ◌%◌, Bool, refl, true, cond, Option, Some, None, ap, ◌∙◌}
 use Rattle.std.specs.Prelude.{◌==◌, nat_le, nat_lt}
+use Rattle.std.proofs.lemmas.Bool.{or_parts, cond_both, leb-true, ltb-true}
 use Rattle.std.specs.List.{AllByRecursion}
-use Rattle.std.proofs.lemmas.Bool.{cond_both, leb-true, ltb-true, or_parts}
 use Rattle.sms_base.specs.Among.{Among}
 use Rattle.sms_base.specs.Address.{IsAddress, address_of}
-use Rattle.sms_table.specs.Table.{put, row_at, without}
-use Rattle.sms_base.proofs.Addresses.{address_found}
-use Rattle.sms_table.proofs.Tables.{found_among, found_key, length_put, length_without}
 use Rattle.sms_base.specs.declared.address.Address.{Address}
+use Rattle.sms_base.proofs.Addresses.{address_found}
 use Rattle.sms_base.specs.declared.address_error.AddressError.{AddressError}
+use Rattle.sms_table.specs.Table.{put, row_at, without}
+use Rattle.sms_table.proofs.Tables.{found_among, found_key, length_put, length_without}
 use Rattle.sms_concat.specs.declared.content.Part.{Part as PartOf}
 use Rattle.sms_concat.specs.declared.split_error.SplitError.{SplitError}
 use Rattle.sms_concat.specs.Splitting.{split_of}
-use Rattle.sms_handset.specs.declared.counters.Counters.{Counters}
-use Rattle.sms_handset.specs.declared.entry.Entry.{Entry}
-use Rattle.sms_handset.specs.declared.entry.Group.{Group}
-use Rattle.sms_handset.specs.declared.entry.Message.{Message}
-use Rattle.sms_handset.specs.declared.entry.Message.TheVariants.{Single, Part, Joined}
-use Rattle.sms_handset.specs.declared.discarded_group.DiscardedGroup.{DiscardedGroup}
-use Rattle.sms_handset.specs.declared.notice.Notice.{Notice}
-use Rattle.sms_handset.specs.declared.out_entry.OutEntry.{OutEntry}
+use Rattle.sms_inbox.specs.Groups.{is_among, is_open_part, members, part_numbers, first_number, is_part_of}
+use Rattle.sms_inbox.specs.SoundInbox.{IsGiven}
+use Rattle.sms_inbox.proofs.SoundEntries.{is_apart, new_apart, removed, without_free}
+use Rattle.sms_inbox.specs.declared.entry.Entry.{Entry}
+use Rattle.sms_inbox.specs.Keys.{entry_key, mark_key}
+use Rattle.sms_inbox.specs.declared.entry.Group.{Group}
+use Rattle.sms_inbox.specs.declared.discarded_group.DiscardedGroup.{DiscardedGroup}
+use Rattle.sms_inbox.proofs.GroupMembers.{all_without, among_members, one_group}
+use Rattle.sms_inbox.proofs.SoundGroups.{group_leaves, left_free, number_free}
+use Rattle.sms_inbox.proofs.SoundMarks.{IsKept, mark_new, new_none}
+use Rattle.sms_inbox.proofs.SoundRoom.{length_left}
+use Rattle.sms_inbox.specs.declared.entry.Message.{Message}
+use Rattle.sms_inbox.specs.declared.entry.Message.TheVariants.{Single, Part, Joined}
+use Rattle.sms_outbox.specs.declared.out_entry.OutEntry.{OutEntry}
+use Rattle.sms_outbox.specs.References.{held_message_references, held_by_entries, held_references, next_free, is_unfinished}
+use Rattle.sms_outbox.proofs.SoundOutbox.{held_few, held_messages, held_entries, IsSoundOut, added, deleted_out}
+use Rattle.sms_outbox.specs.declared.notice.Notice.{Notice}
+use Rattle.sms_outbox.specs.Keys.{out_key}
+use Rattle.sms_concat.specs.TextContent.{content_of_text}
+use Rattle.sms_outbox.specs.Submits.{written_entry}
+use Rattle.sms_outbox.proofs.SoundReferences.{next_is_free}
+use Rattle.sms_outbox.proofs.SoundWriting.{IsWritable, written_is_submitted, split_is_writable}
 use Rattle.sms_handset.specs.declared.refusal.Refusal.{Refusal}
-use Rattle.sms_handset.specs.declared.refusal.Refusal.TheVariants.{NoEntry, StillOpen, OutboxFull, TooManyDiscarded}
-use Rattle.sms_handset.specs.declared.rows.Rows.{Rows}
-use Rattle.sms_handset.specs.Draft.{Draft, put_counters, put_mark, remove_entry, remove_out}
-use Rattle.sms_handset.specs.Groups.{drop_all, first_number, is_among, is_part_of, members, part_numbers}
-use Rattle.sms_handset.specs.Keys.{entry_key, mark_key, out_key}
-use Rattle.sms_handset.specs.MemoryAvailable.{freed, want_notice}
-use Rattle.sms_handset.specs.OwnersActs.{content_of_text, count_split, delete, delete_in, delete_out, discard, discard_at, discard_group, discard_in, discard_members, fits_outbox, is_open_part, write, write_part, write_parts, write_split, write_to, written, written_entry}
-use Rattle.sms_handset.specs.References.{held_by_entries, held_message_references, held_references, is_unfinished, next_free}
+use Rattle.sms_handset.specs.Draft.{Draft, put_counters, remove_out, remove_entry, put_mark}
+use Rattle.sms_handset.proofs.SoundDrafts.{SoundAt, counters_move, outbox_moves, entries_move, group_moves, sound_as}
 use Rattle.sms_handset.specs.SoundCore.{IsSendingEntry}
-use Rattle.sms_handset.specs.SoundRows.{IsGiven}
-use Rattle.sms_handset.proofs.GroupMembers.{all_without, among_members, one_group}
-use Rattle.sms_handset.proofs.SoundDrafts.{SoundAt, counters_move, entries_move, group_moves, outbox_moves, sound_as}
-use Rattle.sms_handset.proofs.SoundEntries.{is_apart, new_apart, removed, without_free}
-use Rattle.sms_handset.proofs.SoundGroups.{group_leaves, left_free, number_free}
-use Rattle.sms_handset.proofs.SoundMarks.{IsKept, mark_new, new_none}
-use Rattle.sms_handset.proofs.SoundOutbox.{IsSoundOut, added, deleted_out, held_entries, held_few, held_messages, sending_put, sending_stays}
-use Rattle.sms_handset.proofs.SoundReceiving.{dropped_only, same_under_way}
-use Rattle.sms_handset.proofs.SoundReferences.{next_is_free}
-use Rattle.sms_handset.proofs.SoundRoom.{length_left}
-use Rattle.sms_handset.proofs.SoundWriting.{IsWritable, split_is_writable, written_is_submitted}
+use Rattle.sms_handset.proofs.SoundSending.{sending_put, sending_stays}
+use Rattle.sms_handset.specs.declared.counters.Counters.{Counters}
+use Rattle.sms_handset.specs.OwnersActs.{write_part, write_parts, count_split, fits_outbox, write_to, written, write_split, write, delete_out, delete_in, delete, discard_group, discard_members, discard_in, discard_at, discard}
+use Rattle.sms_handset.proofs.SoundReceiving.{same_under_way, dropped_only}
+use Rattle.sms_handset.specs.declared.refusal.Refusal.TheVariants.{OutboxFull, StillOpen, NoEntry, TooManyDiscarded}
+use Rattle.sms_handset.specs.MemoryAvailable.{freed, want_notice}
+use Rattle.sms_handset.specs.declared.rows.Rows.{Rows}
+use Rattle.sms_handset.specs.Storing.{drop_all}
 
 abbrev pub SoundIfDone : Result Draft Refusal → Type 0
 SoundIfDone (Ok d) = SoundAt d

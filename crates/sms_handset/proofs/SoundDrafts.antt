@@ -1,24 +1,25 @@
 -- A sound handset in the middle of an event, and the moves that keep it so.
-use Rattle.std.proofs.Common.{◌≡◌, ◌<◌, ◌≤◌, arith, List, length, Bool, true, Option, Some, None, sym, subst, ⊎_elim}
+use Rattle.std.proofs.Common.{◌≡◌, ◌<◌, ◌≤◌, List, length, Bool, true, Option, None, sym, subst, Some, arith, ⊎_elim}
 use Rattle.sms_base.specs.Among.{Among}
+use Rattle.sms_base.specs.declared.carried.Carried.{Carried}
 use Rattle.sms_table.specs.Table.{Rises, put}
 use Rattle.sms_table.proofs.Tables.{among_put, rises_put}
-use Rattle.sms_handset.specs.declared.counters.Counters.{Counters}
-use Rattle.sms_handset.specs.declared.entry.Entry.{Entry}
-use Rattle.sms_handset.specs.declared.last_accepted.LastAccepted.{LastAccepted}
-use Rattle.sms_handset.specs.declared.discarded_group.DiscardedGroup.{DiscardedGroup}
-use Rattle.sms_handset.specs.declared.notice.Notice.{Notice}
-use Rattle.sms_handset.specs.declared.out_entry.OutEntry.{OutEntry}
-use Rattle.sms_base.specs.declared.carried.Carried.{Carried}
+use Rattle.sms_inbox.specs.declared.last_accepted.LastAccepted.{LastAccepted}
+use Rattle.sms_inbox.specs.Keys.{last_key}
+use Rattle.sms_inbox.specs.SoundInbox.{IsLast}
+use Rattle.sms_inbox.proofs.SoundEntries.{Inbox, all_at, inbox_from, all_from, entries_are, groups_are, StaysFree, inbox_more}
+use Rattle.sms_inbox.proofs.SoundMarks.{Discarded, discarded_from, marks_are, discarded_entries}
+use Rattle.sms_inbox.specs.declared.entry.Entry.{Entry}
+use Rattle.sms_inbox.specs.declared.discarded_group.DiscardedGroup.{DiscardedGroup}
+use Rattle.sms_outbox.specs.declared.notice.Notice.{Notice}
+use Rattle.sms_outbox.proofs.SoundOutbox.{Outbox, outbox_from, message_references_differ, out_entries_are, references_differ, outbox_entries}
+use Rattle.sms_outbox.specs.declared.out_entry.OutEntry.{OutEntry}
 use Rattle.sms_handset.specs.declared.rows.Rows.{Rows}
-use Rattle.sms_handset.specs.Draft.{Core, Draft, core_of}
-use Rattle.sms_handset.specs.Keys.{last_key}
 use Rattle.sms_handset.specs.MemoryAvailable.{most_notices}
-use Rattle.sms_handset.specs.SoundCore.{IsSoundCore, IsUnderWay}
-use Rattle.sms_handset.specs.SoundRows.{IsLast, IsSetup, IsSound}
-use Rattle.sms_handset.proofs.SoundEntries.{Inbox, StaysFree, all_at, all_from, entries_are, groups_are, inbox_from, inbox_more}
-use Rattle.sms_handset.proofs.SoundMarks.{Discarded, discarded_entries, discarded_from, marks_are}
-use Rattle.sms_handset.proofs.SoundOutbox.{Outbox, message_references_differ, outbox_entries, outbox_from, out_entries_are, references_differ}
+use Rattle.sms_handset.specs.SoundCore.{IsUnderWay, IsSoundCore}
+use Rattle.sms_handset.specs.SoundRows.{IsSetup, IsSound}
+use Rattle.sms_handset.specs.Draft.{Draft, Core, core_of}
+use Rattle.sms_handset.specs.declared.counters.Counters.{Counters}
 
 pub record Sound (r : Rows) (w : Option Carried) (b : Bool) (n : List Notice) : Type 0 where
   pub setup : IsSetup r.setup

@@ -1,33 +1,31 @@
 -- Each event leaves a sound handset sound, and what is planned of it too.
-use Rattle.std.proofs.Common.{◌≡◌, ℕ, List, Bool, Option, Some, None, Result, Ok, Err, refl, sym, ◌∙◌, subst, IfOk}
-use Rattle.std.specs.Prelude.{max}
-use Rattle.sms_base.specs.declared.holder.Holder.{Holder}
+use Rattle.std.proofs.Common.{◌≡◌, Option, sym, ◌∙◌, subst, None, refl, Some, ℕ, List, Result, Ok, Err, Bool, IfOk}
 use Rattle.sms_base.specs.declared.carried.Carried.{Carried}
+use Rattle.sms_base.specs.declared.holder.Holder.{Holder}
 use Rattle.sms_control.specs.declared.out.Up.{Up}
 use Rattle.sms_control.specs.declared.out.Up.TheVariants.{Unit as UnitUp, Failed as FailedUp}
 use Rattle.sms_control.specs.declared.transaction.TransactionFlag.TheVariants.{FromOriginator, ToOriginator}
-use Rattle.sms_control.specs.LinkStep.{Step, fire_step, take_step}
+use Rattle.sms_control.specs.LinkStep.{Step, take_step, fire_step}
+use Rattle.sms_relay.specs.RelayReading.{down_at as unit_at}
 use Rattle.sms_link.specs.declared.ending.Side.TheVariants.{Handset as HandsetSide}
 use Rattle.sms_link.specs.declared.ending.Ending.TheVariants.{Lost as LostEnd}
 use Rattle.sms_link.specs.Ending.{ended_by, unit_at as unit_for}
-use Rattle.sms_link.specs.LinkTurn.{Turn, came_up, fired, still_under_way, taken}
-use Rattle.sms_relay.specs.RelayReading.{down_at as unit_at}
+use Rattle.sms_link.specs.LinkTurn.{came_up, still_under_way, Turn, taken, fired}
+use Rattle.sms_handset.specs.Draft.{Draft, Core, draft_of, link_of, with_turn, HandsetOf, core_of}
+use Rattle.sms_handset.proofs.SoundDrafts.{Sound, SoundAt, outbox_moves, sound_from, sound_core}
+use Rattle.sms_handset.specs.HandsetEvent.{went_up, timed_out, frame_came, frame_heard, at_moment, ticked, timers_fired, acted, wrote, deleted, discarded, tag_of}
+use Rattle.sms_handset.proofs.SoundReceiving.{unit_sound}
+use Rattle.sms_handset.proofs.SoundTransfers.{transfer_sound, follow_sound}
+use Rattle.sms_handset.specs.SoundCore.{IsSoundCore}
+use Rattle.sms_handset.specs.declared.refusal.Refusal.{Refusal}
+use Rattle.sms_handset.proofs.SoundActs.{SoundIfDone, write_sound, delete_sound, discard_sound}
+use Rattle.sms_handset.specs.OwnersActs.{write, delete, discard}
+use Rattle.sms_handset.specs.declared.rows.Rows.{Rows}
+use Rattle.sms_handset.specs.Planning.{IsPlanOf, Outcome, Plan, Rests, adopted, RestsIfDone, Plans, OfDelete, OfDiscard, OfFrame, OfTick, OfWrite}
+use Rattle.sms_handset.specs.declared.refusal.PlanError.{PlanError}
 use Rattle.sms_handset.specs.declared.event.HandsetEvent.{HandsetEvent}
 use Rattle.sms_handset.specs.declared.event.HandsetEvent.TheVariants.{Frame, Tick, Write, Delete, Discard}
-use Rattle.sms_handset.specs.declared.refusal.PlanError.{PlanError}
-use Rattle.sms_handset.specs.declared.refusal.Refusal.{Refusal}
-use Rattle.sms_handset.specs.declared.rows.Rows.{Rows}
-use Rattle.sms_handset.specs.Draft.{Core, Draft, HandsetOf, core_of, draft_of, link_of, with_turn}
-use Rattle.sms_handset.specs.HandsetEvent.{acted, at_moment, deleted, discarded, frame_came, frame_heard, tag_of, ticked, timed_out, timers_fired, went_up, wrote}
-use Rattle.sms_handset.specs.OwnersActs.{delete, discard, write}
-use Rattle.sms_handset.specs.Planning.{IsPlanOf, OfDelete, OfDiscard, OfFrame, OfTick, OfWrite, Outcome, Plan, Plans, Rests, RestsIfDone, adopted}
-use Rattle.sms_handset.specs.SoundCore.{IsSoundCore}
-use Rattle.sms_handset.specs.Trying.{TriesPlan}
 use Rattle.sms_handset.proofs.Resting.{delete_rests, discard_rests, frame_rests, tick_rests, write_rests}
-use Rattle.sms_handset.proofs.SoundActs.{SoundIfDone, delete_sound, discard_sound, write_sound}
-use Rattle.sms_handset.proofs.SoundDrafts.{Sound, SoundAt, outbox_moves, sound_core, sound_from}
-use Rattle.sms_handset.proofs.SoundReceiving.{unit_sound}
-use Rattle.sms_handset.proofs.SoundTransfers.{follow_sound, transfer_sound}
 
 -- ---- what goes up from the link
 
@@ -107,19 +105,15 @@ pub plans_sound : (r : Result Plan PlanError) (s : HandsetOf) (w : Result Draft 
 plans_sound (Ok p) s w rests sound h = sound_of s h.0 p h.1.1 (rests_done s.core.rows w h.0 h.1.0 rests) (sound_done w h.0 h.1.0 sound)
 plans_sound (Err e) s w rests sound h = tt
 
-pub tries_sound : (r : Result Plan PlanError) (s : HandsetOf) (w : Result Draft Refusal) → RestsIfDone s.core.rows w → SoundIfDone w → TriesPlan r s w → IfOk r (AdoptsSound s)
-tries_sound (Ok p) s w rests sound h = sound_of s h.0 p h.1.1 (rests_done s.core.rows w h.0 h.1.0 rests) (sound_done w h.0 h.1.0 sound)
-tries_sound (Err e) s w rests sound h = tt
-
 pub event_sound : (event : HandsetEvent) (r : Result Plan PlanError) (s : HandsetOf)
     → OfFrame event (λ octets tag. Plans r s (Ok (frame_came octets (tag_of tag) s.core)))
     → OfTick event (λ now. Plans r s (Ok (ticked now s.core)))
-    → OfWrite event (λ text to report. TriesPlan r s (wrote text to report s.core))
+    → OfWrite event (λ text to report. Plans r s (wrote text to report s.core))
     → OfDelete event (λ entry. Plans r s (deleted entry s.core))
     → OfDiscard event (λ entry. Plans r s (discarded entry s.core))
     → IsSoundCore s.core → IfOk r (AdoptsSound s)
 event_sound (Frame octets tag) r s a b c d e h = plans_sound r s (Ok (frame_came octets (tag_of tag) s.core)) (frame_rests octets (tag_of tag) s.core) (frame_sound octets (tag_of tag) s.core h) a
 event_sound (Tick now) r s a b c d e h = plans_sound r s (Ok (ticked now s.core)) (tick_rests now s.core) (tick_sound now s.core h) b
-event_sound (Write text to report) r s a b c d e h = tries_sound r s (wrote text to report s.core) (write_rests text to report s.core) (wrote_sound text to report s.core h) c
+event_sound (Write text to report) r s a b c d e h = plans_sound r s (wrote text to report s.core) (write_rests text to report s.core) (wrote_sound text to report s.core h) c
 event_sound (Delete entry) r s a b c d e h = plans_sound r s (deleted entry s.core) (delete_rests entry s.core) (deleted_sound entry s.core h) d
 event_sound (Discard entry) r s a b c d e h = plans_sound r s (discarded entry s.core) (discard_rests entry s.core) (discarded_sound entry s.core h) e

@@ -1,52 +1,58 @@
 -- What comes from the centre leaves a sound handset sound.
-use Rattle.std.proofs.Common.{◌≡◌, ◌⊎◌, ℕ, ◌+◌, ◌<◌, ◌≤◌, arith, List, [], ◌∷◌, ◌++◌, length, true, false, cond, Option, Some, None, Result, Ok, Err, refl, sym, ap, inl, inr, ⊎_elim}
-use Rattle.std.proofs.lemmas.Bool.{cases_cond, cond_both}
-use Rattle.sms_base.specs.Among.{Among}
-use Rattle.sms_table.specs.Table.{latest, put, row_at}
-use Rattle.sms_table.proofs.Tables.{length_put}
+use Rattle.std.proofs.Common.{◌≡◌, List, [], ◌∷◌, refl, Option, Some, None, ap, ◌+◌, ℕ, ◌≤◌, arith, true, ◌<◌, false, ◌++◌, length, inl, Ok, ◌⊎◌, inr, cond, sym, ⊎_elim, Result, Err}
+use Rattle.std.proofs.lemmas.Bool.{cond_both, cases_cond}
 use Rattle.sms_base.specs.declared.holder.Holder.{Holder}
-use Rattle.sms_concat.specs.declared.concat_key.ConcatKey.{ConcatKey}
+use Rattle.sms_base.specs.declared.carried.Kind.{Kind}
+use Rattle.sms_base.specs.declared.carried.Kind.TheVariants.{Ack, Error}
+use Rattle.sms_base.specs.Among.{Among}
+use Rattle.sms_base.specs.declared.carried.Carried.{Carried}
+use Rattle.sms_base.specs.declared.holder.Holder.TheVariants.{Part as PartHolder, Report, Entry as EntryHolder, Memory}
+use Rattle.sms_table.specs.Table.{put, latest, row_at}
+use Rattle.sms_table.proofs.Tables.{length_put}
 use Rattle.sms_concat.specs.declared.content.Content.{Content}
+use Rattle.sms_concat.specs.declared.concat_key.ConcatKey.{ConcatKey}
+use Rattle.sms_control.specs.LinkStep.{awaits_reply, reply_step}
+use Rattle.sms_relay.specs.RelayGrammar.{ack_up, error_up}
+use Rattle.sms_relay.specs.declared.cause.RpCause.{RpCause}
+use Rattle.sms_relay.specs.declared.cause.RpCause.TheVariants.{MemoryCapacityExceeded, InvalidMandatoryInformation}
 use Rattle.sms_relay.specs.declared.fault.RelayFault.{RelayFault}
 use Rattle.sms_relay.specs.declared.frame.Rp.{Rp}
 use Rattle.sms_relay.specs.declared.frame.Rp.TheVariants.{DataUnit, AckUnit, ErrorUnit, Smma}
+use Rattle.sms_link.specs.LinkTurn.{Turn, answering, of_kind, still}
 use Rattle.sms_tpdu.specs.declared.carrier.Carrier.TheVariants.{InData}
 use Rattle.sms_tpdu.specs.declared.deliver.Deliver.{Deliver as DeliverOf}
-use Rattle.sms_tpdu.specs.declared.down.Down.{Down}
 use Rattle.sms_tpdu.specs.declared.down.Down.TheVariants.{Deliver, StatusReport, SubmitReport}
-use Rattle.sms_tpdu.specs.declared.fault.TpduFault.{TpduFault}
-use Rattle.sms_tpdu.specs.declared.status_report.StatusReport.{StatusReport as StatusReportOf}
 use Rattle.sms_tpdu.specs.TpduReading.{down_at}
-use Rattle.sms_handset.specs.declared.counters.Counters.{Counters}
-use Rattle.sms_handset.specs.declared.entry.Entry.{Entry}
-use Rattle.sms_handset.specs.declared.entry.Group.{Group}
-use Rattle.sms_handset.specs.declared.discarded_group.DiscardedGroup.{DiscardedGroup}
-use Rattle.sms_handset.specs.declared.out_entry.OutEntry.{OutEntry}
-use Rattle.sms_base.specs.declared.carried.Carried.{Carried}
+use Rattle.sms_tpdu.specs.declared.status_report.StatusReport.{StatusReport as StatusReportOf}
+use Rattle.sms_tpdu.specs.declared.down.Down.{Down}
+use Rattle.sms_tpdu.specs.declared.fault.TpduFault.{TpduFault}
+use Rattle.sms_inbox.specs.declared.entry.Entry.{Entry}
+use Rattle.sms_inbox.proofs.GroupMembers.{all_without}
+use Rattle.sms_inbox.specs.Groups.{alone, joined_entry, single_entry, is_among, mark_of, members, part_numbers, all_numbers, joined_content, part_entry, group_of, key_of}
+use Rattle.sms_inbox.proofs.SoundGroups.{all_freed, ended_entries, arrives, closed_free, part_closes, part_opens}
+use Rattle.sms_inbox.specs.declared.entry.Group.{Group}
+use Rattle.sms_inbox.specs.Keys.{entry_key, last_key}
+use Rattle.sms_inbox.specs.SoundInbox.{IsDelivered, IsPartOf, IsLast}
+use Rattle.sms_inbox.proofs.SoundEntries.{put_free, single_put, inbox_marks}
+use Rattle.sms_inbox.proofs.SoundRoom.{closed_few}
+use Rattle.sms_inbox.specs.declared.discarded_group.DiscardedGroup.{DiscardedGroup}
+use Rattle.sms_inbox.proofs.SoundMarks.{gone_none, mark_found, mark_gone, mark_more, more_none, seen_too}
+use Rattle.sms_inbox.specs.Doubles.{is_double}
+use Rattle.sms_outbox.specs.declared.out_entry.OutEntry.{OutEntry}
+use Rattle.sms_outbox.specs.Reports.{is_reported, reported}
+use Rattle.sms_outbox.specs.Keys.{out_key}
+use Rattle.sms_outbox.proofs.SoundOutbox.{replaced}
+use Rattle.sms_handset.specs.Draft.{Draft, remove_entry, put_entry, put_mark, remove_mark, link_of, reply, with_turn, put_last}
+use Rattle.sms_handset.proofs.SoundDrafts.{Sound, SoundAt, sound_as, entries_move, marks_move, counters_move, last_moves, outbox_moves}
+use Rattle.sms_handset.specs.Storing.{drop_all, free_all, ended, store_single, keep, store_part, marked}
 use Rattle.sms_handset.specs.declared.rows.Rows.{Rows}
-use Rattle.sms_base.specs.declared.carried.Kind.{Kind}
-use Rattle.sms_base.specs.declared.carried.Kind.TheVariants.{Ack, Error}
-use Rattle.sms_control.specs.LinkStep.{awaits_reply, reply_step}
-use Rattle.sms_link.specs.LinkTurn.{Turn, answering, of_kind, still}
-use Rattle.sms_relay.specs.declared.cause.RpCause.{RpCause}
-use Rattle.sms_relay.specs.declared.cause.RpCause.TheVariants.{InvalidMandatoryInformation, MemoryCapacityExceeded}
-use Rattle.sms_relay.specs.RelayGrammar.{ack_up, error_up}
-use Rattle.sms_handset.specs.Draft.{Draft, link_of, put_entry, put_last, put_mark, remove_entry, remove_mark, reply, with_turn}
-use Rattle.sms_handset.specs.Groups.{all_numbers, alone, drop_all, ended, free_all, group_of, is_among, joined_content, joined_entry, keep, key_of, mark_of, marked, members, part_entry, part_numbers, single_entry, store_part, store_single}
-use Rattle.sms_handset.specs.Keys.{entry_key, last_key, out_key}
-use Rattle.sms_handset.specs.MemoryAvailable.{flag, has_room}
-use Rattle.sms_handset.specs.Receiving.{accept, acknowledge, data_came, deliver_came, fault_cause, is_double, is_reported, member_came, new_part_came, no_room, note, part_came, reference_octet, refuse, reported, single_came, tpdu_came, unit_came}
-use Rattle.sms_base.specs.declared.holder.Holder.TheVariants.{Part as PartHolder, Report, Entry as EntryHolder, Memory}
-use Rattle.sms_handset.specs.SoundCore.{IsSendingEntry, IsSentFor, IsUnderWay}
-use Rattle.sms_handset.specs.SoundRows.{IsDelivered, IsLast, IsPartOf}
+use Rattle.sms_handset.specs.declared.counters.Counters.{Counters}
+use Rattle.sms_handset.specs.MemoryAvailable.{has_room, flag}
+use Rattle.sms_handset.proofs.RoomLeft.{room_left}
+use Rattle.sms_handset.specs.Receiving.{acknowledge, refuse, no_room, accept, single_came, new_part_came, member_came, part_came, deliver_came, note, tpdu_came, data_came, fault_cause, reference_octet, unit_came}
 use Rattle.sms_handset.proofs.Accepting.{IsCounted, header_counts}
-use Rattle.sms_handset.proofs.GroupMembers.{all_without}
-use Rattle.sms_handset.proofs.SoundDrafts.{Sound, SoundAt, counters_move, entries_move, last_moves, marks_move, outbox_moves, sound_as}
-use Rattle.sms_handset.proofs.SoundEntries.{inbox_marks, put_free, single_put}
-use Rattle.sms_handset.proofs.SoundRoom.{closed_few, room_left}
-use Rattle.sms_handset.proofs.SoundGroups.{all_freed, arrives, closed_free, ended_entries, part_closes, part_opens}
-use Rattle.sms_handset.proofs.SoundMarks.{gone_none, mark_found, mark_gone, mark_more, more_none, seen_too}
-use Rattle.sms_handset.proofs.SoundOutbox.{replaced, sending_same}
+use Rattle.sms_handset.specs.SoundCore.{IsSendingEntry, IsSentFor, IsUnderWay}
+use Rattle.sms_handset.proofs.SoundSending.{sending_same}
 
 -- ---- drafts that differ in their entries alone
 

@@ -1,41 +1,43 @@
 -- How transfers end, lapse and begin leaves a sound handset sound.
-use Rattle.std.proofs.Common.{◌≡◌, ℕ, ◌+◌, ◌-◌, ◌%◌, ◌<◌, ◌≤◌, arith, List, [], ◌∷◌, length, Bool, true, false, cond, Option, Some, None, refl, sym, ◌∙◌, ap, subst, inl, inr, ⊎_elim}
-use Rattle.std.specs.Prelude.{◌&&◌, ◌||◌, nat_le, nat_lt, min}
-use Rattle.std.proofs.lemmas.Bool.{and_parts, cases_Bool, cond-true, cond-false, cond_both, leb-false, ltb-true}
+use Rattle.std.proofs.Common.{ℕ, List, ◌≡◌, Bool, true, Option, refl, subst, ap, ◌-◌, false, cond, None, Some, sym, ◌∙◌, arith, ◌∷◌, inl, inr, [], ⊎_elim, ◌+◌, ◌<◌, ◌≤◌, length, ◌%◌}
+use Rattle.std.specs.Prelude.{◌||◌, nat_le, min, ◌&&◌, nat_lt}
+use Rattle.std.proofs.lemmas.Bool.{cond_both, leb-false, and_parts, cases_Bool, cond-true, cond-false, ltb-true}
 use Rattle.sms_base.specs.Among.{Among}
-use Rattle.sms_table.specs.Table.{Rises, put, row_at}
-use Rattle.sms_table.proofs.Tables.{found_among, found_key, length_put, length_without, put_among, row_at_put}
 use Rattle.sms_base.specs.declared.holder.Holder.{Holder}
 use Rattle.sms_base.specs.declared.holder.Holder.TheVariants.{Part as PartHolder, Report, Entry as EntryHolder, Memory}
-use Rattle.sms_control.specs.LinkStep.{begin_step, is_busy}
-use Rattle.sms_control.specs.Timers.{later}
-use Rattle.sms_link.specs.Timers.{tram}
-use Rattle.sms_link.specs.declared.ending.Ending.{Ending}
-use Rattle.sms_link.specs.declared.ending.Ending.TheVariants.{Acknowledged as AcknowledgedEnd, Refused as RefusedEnd, Wrong as WrongEnd, Lost as LostEnd}
-use Rattle.sms_link.specs.LinkTurn.{LinkOf, Turn, of_kind, started, still}
-use Rattle.sms_relay.specs.RelayGrammar.{data_up, smma_up}
-use Rattle.sms_tpdu.specs.AddressGrammar.{relay_address}
-use Rattle.sms_base.specs.declared.carried.Kind.TheVariants.{Data}
-use Rattle.sms_handset.specs.declared.answers.Verdict.{Verdict}
-use Rattle.sms_handset.specs.declared.answers.Verdict.TheVariants.{Acknowledged, Temporary, Duplicate, Refused, Lost}
-use Rattle.sms_handset.specs.declared.counters.Counters.{Counters}
-use Rattle.sms_handset.specs.declared.entry.Entry.{Entry}
-use Rattle.sms_handset.specs.declared.notice.Notice.{Notice}
-use Rattle.sms_handset.specs.declared.out_entry.EntryState.{EntryState}
-use Rattle.sms_handset.specs.declared.out_entry.EntryState.TheVariants.{Queued, Sending, Sent, Failed, Unsure}
-use Rattle.sms_handset.specs.declared.out_entry.OutEntry.{OutEntry}
 use Rattle.sms_base.specs.declared.carried.Carried.{Carried}
-use Rattle.sms_handset.specs.Answers.{verdict_of}
-use Rattle.sms_handset.specs.Draft.{Draft, begin, link_of, put_out, with_turn}
-use Rattle.sms_handset.specs.Keys.{notice_key, out_key}
-use Rattle.sms_handset.specs.MemoryAvailable.{first_notice, most_notices, notice_concluded, notice_ended, notice_failed, put_notice, remove_notice, send_notice}
-use Rattle.sms_handset.specs.Outbox.{entry_concluded, first_due, first_fired, follow, holder_concluded, is_due, is_fired, is_notice_next, is_past, is_queued, is_sending, lapse, lapse_rows, lost, most_tries, offer, offer_after, offer_entry, offer_message, offer_wanted, retry_delay, settled, submit_of, transfer_ended}
-use Rattle.sms_handset.specs.References.{held_references, is_unfinished, next_free}
+use Rattle.sms_base.specs.declared.carried.Kind.TheVariants.{Data}
+use Rattle.sms_table.specs.Table.{put, row_at, Rises}
+use Rattle.sms_table.proofs.Tables.{length_without, found_among, put_among, row_at_put, length_put}
+use Rattle.sms_control.specs.Timers.{later}
+use Rattle.sms_control.specs.LinkStep.{begin_step, is_busy}
+use Rattle.sms_relay.specs.RelayGrammar.{data_up, smma_up}
+use Rattle.sms_link.specs.declared.ending.Ending.{Ending}
+use Rattle.sms_link.specs.Timers.{tram}
+use Rattle.sms_link.specs.declared.ending.Ending.TheVariants.{Acknowledged as AcknowledgedEnd, Refused as RefusedEnd, Wrong as WrongEnd, Lost as LostEnd}
+use Rattle.sms_link.specs.LinkTurn.{Turn, of_kind, started, still}
+use Rattle.sms_tpdu.specs.AddressGrammar.{relay_address}
+use Rattle.sms_inbox.specs.declared.entry.Entry.{Entry}
+use Rattle.sms_inbox.proofs.SoundMarks.{length_replaced, above_at}
+use Rattle.sms_outbox.specs.declared.out_entry.OutEntry.{OutEntry}
+use Rattle.sms_outbox.proofs.SoundOutbox.{IsSoundOut, Replaces, replaced}
+use Rattle.sms_outbox.specs.declared.out_entry.EntryState.{EntryState}
+use Rattle.sms_outbox.specs.References.{is_unfinished, held_references, next_free}
+use Rattle.sms_outbox.specs.SoundOutbox.{AreTries, WasSent}
+use Rattle.sms_outbox.specs.declared.out_entry.EntryState.TheVariants.{Sending, Queued, Unsure, Sent, Failed}
+use Rattle.sms_outbox.specs.Settling.{lost, most_tries, retry_delay, settled, is_sending}
+use Rattle.sms_outbox.specs.declared.answers.Verdict.{Verdict}
+use Rattle.sms_outbox.specs.declared.answers.Verdict.TheVariants.{Acknowledged, Temporary, Duplicate, Refused, Lost}
+use Rattle.sms_outbox.specs.Keys.{out_key, notice_key}
+use Rattle.sms_outbox.specs.Answers.{verdict_of}
+use Rattle.sms_outbox.specs.declared.notice.Notice.{Notice}
+use Rattle.sms_outbox.specs.Offers.{is_queued, first_due, is_due, is_past, submit_of, first_fired, is_fired}
+use Rattle.sms_handset.specs.Draft.{Draft, put_out, begin, link_of, with_turn}
+use Rattle.sms_handset.proofs.SoundDrafts.{SoundAt, none_under_way, outbox_moves, notices_move, Sound, counters_move}
+use Rattle.sms_handset.specs.Outbox.{entry_concluded, holder_concluded, transfer_ended, lapse_rows, lapse, offer_entry, offer_message, is_notice_next, offer_wanted, offer_after, offer, follow}
+use Rattle.sms_handset.specs.MemoryAvailable.{put_notice, remove_notice, notice_failed, notice_ended, notice_concluded, most_notices, send_notice, first_notice}
 use Rattle.sms_handset.specs.SoundCore.{IsSentFor, IsUnderWay}
-use Rattle.sms_handset.specs.SoundRows.{AreTries, WasSent}
-use Rattle.sms_handset.proofs.SoundDrafts.{Sound, SoundAt, counters_move, none_under_way, notices_move, outbox_moves}
-use Rattle.sms_handset.proofs.SoundMarks.{above_at, length_replaced}
-use Rattle.sms_handset.proofs.SoundOutbox.{IsSoundOut, Replaces, replaced}
+use Rattle.sms_handset.specs.declared.counters.Counters.{Counters}
 
 -- ---- an entry that is Sending becomes another
 

@@ -1,11 +1,11 @@
 -- What holds of the rows of a handset between its events.
 use Rattle.std.specs.Prelude.{◌≡◌}
 use Rattle.sms_base.specs.Address.{IsAddress}
+use Rattle.sms_inbox.specs.Slots.{slots_taken}
+use Rattle.sms_inbox.specs.OpenIndex.{Indexes}
 use Rattle.sms_handset.specs.declared.stored.Stored.{Stored}
 use Rattle.sms_handset.specs.Draft.{rows_of}
-use Rattle.sms_handset.specs.MemoryAvailable.{slots_taken}
-use Rattle.sms_handset.specs.OpenGroups.{Numbered}
-use Rattle.sms_handset.specs.OpenIndex.{Indexes}
+use Rattle.sms_handset.specs.Regrouping.{Numbered}
 
 pub record IsConsistent (s : Stored) : Type 0 where
   pub centre : IsAddress s.setup.centre

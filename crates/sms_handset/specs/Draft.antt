@@ -1,27 +1,27 @@
 -- A handset, and a handset in the middle of an event: its rows, all that a restart forgets, and what has come of the
 -- event so far. All that a stage of an event does, it does by the moves below.
-use Rattle.std.specs.Prelude.{ℕ, ◌+◌, List, [], ◌∷◌, ◌++◌, Bool, true, false, Option, Some, None, unwrap_or, max}
-use Rattle.indexmap.specs.IndexMap.{index_map_len, spare}
+use Rattle.std.specs.Prelude.{length, ℕ, List, Bool, Option, [], true, None, unwrap_or, ◌∷◌, ◌++◌, Some}
+use Rattle.sms_base.specs.declared.carried.Carried.{Carried}
+use Rattle.sms_base.specs.declared.holder.Holder.{Holder}
+use Rattle.sms_base.specs.declared.carried.Kind.{Kind}
+use Rattle.sms_table.specs.declared.change.Change.{Change}
+use Rattle.sms_table.specs.Table.{all_applied, put, without}
+use Rattle.sms_table.specs.declared.change.Change.TheVariants.{Put, Remove}
 use Rattle.sms_control.specs.declared.link_state.LinkState.{LinkState}
 use Rattle.sms_control.specs.LinkStep.{fresh}
-use Rattle.sms_link.specs.declared.ending.Side.TheVariants.{Handset as HandsetSide}
 use Rattle.sms_link.specs.declared.outgoing.Outgoing.{Outgoing}
-use Rattle.sms_link.specs.LinkTurn.{LinkOf, Turn, begun, replied}
-use Rattle.sms_table.specs.declared.change.Change.{Change}
-use Rattle.sms_table.specs.declared.change.Change.TheVariants.{Put, Remove}
-use Rattle.sms_handset.specs.declared.counters.Counters.{Counters}
-use Rattle.sms_handset.specs.declared.entry.Entry.{Entry}
-use Rattle.sms_base.specs.declared.holder.Holder.{Holder}
-use Rattle.sms_handset.specs.declared.last_accepted.LastAccepted.{LastAccepted}
-use Rattle.sms_handset.specs.declared.discarded_group.DiscardedGroup.{DiscardedGroup}
-use Rattle.sms_handset.specs.declared.notice.Notice.{Notice}
-use Rattle.sms_handset.specs.declared.out_entry.OutEntry.{OutEntry}
-use Rattle.sms_base.specs.declared.carried.Kind.{Kind}
-use Rattle.sms_base.specs.declared.carried.Carried.{Carried}
+use Rattle.sms_link.specs.declared.ending.Side.TheVariants.{Handset as HandsetSide}
+use Rattle.sms_link.specs.LinkTurn.{LinkOf, Turn, replied, begun}
+use Rattle.sms_inbox.specs.declared.entry.Entry.{Entry}
+use Rattle.sms_inbox.specs.declared.last_accepted.LastAccepted.{LastAccepted}
+use Rattle.sms_inbox.specs.declared.discarded_group.DiscardedGroup.{DiscardedGroup}
+use Rattle.sms_inbox.specs.Keys.{entry_key, last_key, mark_key}
+use Rattle.sms_outbox.specs.declared.notice.Notice.{Notice}
+use Rattle.sms_outbox.specs.declared.out_entry.OutEntry.{OutEntry}
+use Rattle.sms_outbox.specs.Keys.{out_key}
 use Rattle.sms_handset.specs.declared.rows.Rows.{Rows}
 use Rattle.sms_handset.specs.declared.stored.Stored.{Stored}
-use Rattle.sms_handset.specs.Keys.{entry_key, last_key, out_key, mark_key}
-use Rattle.sms_table.specs.Table.{put, without, all_applied}
+use Rattle.sms_handset.specs.declared.counters.Counters.{Counters}
 
 -- ---- a handset between two events
 
@@ -85,8 +85,8 @@ room_of s = record { entries = s.entries.capacity; last = s.last.capacity; outbo
 
 abbrev pub group_room_of : Stored → GroupRoom
 group_room_of s = record {
-  taken = index_map_len s.groups.by_first_part;
-  capacity = index_map_len s.groups.by_first_part + spare s.groups.by_first_part;
+  taken = length s.groups.groups;
+  capacity = s.groups.capacity;
 }
 
 -- ---- changes

@@ -1,32 +1,32 @@
 -- What an event changes in the open groups, told by the cases of the event: a part that comes opens its group or joins
 -- it, the last part ends it, and nothing else that comes touches a group.
 use Rattle.std.specs.Prelude.{ℕ, List, [], ◌∷◌, ◌++◌, if◌then◌else◌, Option, Some, None, Result, Ok, Err}
+use Rattle.sms_table.specs.Table.{row_at}
 use Rattle.sms_concat.specs.declared.concat_key.ConcatKey.{ConcatKey}
-use Rattle.sms_link.specs.declared.ending.Upward.{Upward}
-use Rattle.sms_link.specs.declared.ending.Upward.TheVariants.{Opened, Ended}
-use Rattle.sms_link.specs.LinkTurn.{Turn}
 use Rattle.sms_relay.specs.declared.fault.RelayFault.{RelayFault}
 use Rattle.sms_relay.specs.declared.frame.Rp.{Rp}
 use Rattle.sms_relay.specs.declared.frame.Rp.TheVariants.{DataUnit, AckUnit, ErrorUnit, Smma}
 use Rattle.sms_relay.specs.RelayReading.{down_at as unit_at}
-use Rattle.sms_tpdu.specs.declared.carrier.Carrier.TheVariants.{InData}
+use Rattle.sms_link.specs.declared.ending.Upward.{Upward}
+use Rattle.sms_link.specs.declared.ending.Upward.TheVariants.{Opened, Ended}
+use Rattle.sms_link.specs.LinkTurn.{Turn}
 use Rattle.sms_tpdu.specs.declared.deliver.Deliver.{Deliver as DeliverOf}
 use Rattle.sms_tpdu.specs.declared.down.Down.{Down}
 use Rattle.sms_tpdu.specs.declared.down.Down.TheVariants.{Deliver, StatusReport, SubmitReport}
 use Rattle.sms_tpdu.specs.declared.fault.TpduFault.{TpduFault}
+use Rattle.sms_tpdu.specs.declared.carrier.Carrier.TheVariants.{InData}
 use Rattle.sms_tpdu.specs.TpduReading.{down_at}
-use Rattle.sms_table.specs.Table.{row_at}
-use Rattle.sms_handset.specs.declared.entry.Entry.{Entry}
-use Rattle.sms_handset.specs.declared.entry.Group.{Group}
-use Rattle.sms_handset.specs.declared.discarded_group.DiscardedGroup.{DiscardedGroup}
-use Rattle.sms_handset.specs.declared.open_group.Regrouping.{Regrouping}
-use Rattle.sms_handset.specs.declared.open_group.Regrouping.TheVariants.{Unchanged}
+use Rattle.sms_inbox.specs.declared.entry.Entry.{Entry}
+use Rattle.sms_inbox.specs.declared.entry.Group.{Group}
+use Rattle.sms_inbox.specs.declared.open_group.Regrouping.{Regrouping}
+use Rattle.sms_inbox.specs.Groups.{part_entry, is_among, part_numbers, members, group_of, mark_of, key_of}
+use Rattle.sms_inbox.specs.OpenGroups.{grouped}
+use Rattle.sms_inbox.specs.declared.open_group.Regrouping.TheVariants.{Unchanged}
+use Rattle.sms_inbox.specs.declared.discarded_group.DiscardedGroup.{DiscardedGroup}
+use Rattle.sms_inbox.specs.Keys.{last_key}
+use Rattle.sms_inbox.specs.Doubles.{is_double}
 use Rattle.sms_handset.specs.Draft.{Draft, with_turn}
-use Rattle.sms_handset.specs.Groups.{group_of, is_among, key_of, mark_of, members, part_entry, part_numbers}
-use Rattle.sms_handset.specs.Keys.{last_key}
 use Rattle.sms_handset.specs.MemoryAvailable.{has_room}
-use Rattle.sms_handset.specs.OpenGroups.{grouped}
-use Rattle.sms_handset.specs.Receiving.{is_double}
 
 abbrev pub stored_groups : Group → ℕ → List ℕ → List Entry → Draft → Regrouping
 stored_groups g n tpdu es d = grouped g (es ++ part_entry d.rows.counters.entry g n tpdu ∷ [])

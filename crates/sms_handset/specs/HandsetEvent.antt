@@ -1,16 +1,16 @@
 -- An event of a handset: what it does, then what follows every event, lapsed transfers and the next offer.
-use Rattle.std.specs.Prelude.{ℕ, max, List, Bool, Option, Some, None, Result, Ok, Err, unwrap_or}
+use Rattle.std.specs.Prelude.{Option, Some, None, ℕ, List, unwrap_or, max, Result, Ok, Err, Bool}
+use Rattle.sms_base.specs.declared.holder.Holder.{Holder}
+use Rattle.sms_base.specs.declared.holder.Holder.TheVariants.{Entry as EntryHolder}
+use Rattle.sms_relay.specs.RelayReading.{down_at}
 use Rattle.sms_link.specs.declared.ending.Upward.{Upward}
 use Rattle.sms_link.specs.declared.ending.Upward.TheVariants.{Opened, Ended}
 use Rattle.sms_link.specs.LinkTurn.{Turn, taken, fired}
-use Rattle.sms_relay.specs.RelayReading.{down_at}
-use Rattle.sms_base.specs.declared.holder.Holder.{Holder}
-use Rattle.sms_base.specs.declared.holder.Holder.TheVariants.{Entry as EntryHolder}
-use Rattle.sms_handset.specs.declared.refusal.Refusal.{Refusal}
-use Rattle.sms_handset.specs.Draft.{Core, Draft, draft_of, link_of, with_turn}
-use Rattle.sms_handset.specs.Outbox.{follow, transfer_ended}
-use Rattle.sms_handset.specs.OwnersActs.{write, delete, discard}
+use Rattle.sms_handset.specs.Draft.{Draft, with_turn, Core, draft_of, link_of}
+use Rattle.sms_handset.specs.Outbox.{transfer_ended, follow}
 use Rattle.sms_handset.specs.Receiving.{unit_came}
+use Rattle.sms_handset.specs.declared.refusal.Refusal.{Refusal}
+use Rattle.sms_handset.specs.OwnersActs.{write, delete, discard}
 
 -- ---- a frame
 

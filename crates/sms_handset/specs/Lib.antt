@@ -1,13 +1,8 @@
-pub mod Keys
 pub mod Draft
-pub mod Groups
-pub mod OpenGroups
-pub mod StoredParts
-pub mod OpenIndex
+pub mod Storing
+pub mod Regrouping
 pub mod Consistent
 pub mod GroupChanges
-pub mod References
-pub mod Answers
 pub mod MemoryAvailable
 pub mod Outbox
 pub mod Receiving
@@ -18,5 +13,4 @@ pub mod Planning
 pub mod SoundRows
 pub mod SoundnessTest
 pub mod SoundCore
-pub mod Trying
 pub mod FaultCodes

@@ -1,27 +1,17 @@
 -- Memory available (3GPP TS 23.040 10.3, 3GPP TS 24.011 6.3.3): a handset that refused a message for want of a slot says
 -- so by RP-SMMA once a slot has become free.
-use Rattle.std.specs.Prelude.{ℕ, ◌+◌, ◌-◌, ◌%◌, min, nat_lt, Bool, true, false, if◌then◌else◌, Option, Some, None, Result, List, [], ◌∷◌}
+use Rattle.std.specs.Prelude.{nat_lt, Bool, false, if◌then◌else◌, true, ◌+◌, min, ℕ, None, ◌-◌, ◌%◌, Some, Option}
+use Rattle.sms_base.specs.declared.holder.Holder.TheVariants.{Memory}
+use Rattle.sms_table.specs.Table.{put, without}
 use Rattle.sms_control.specs.Timers.{later}
+use Rattle.sms_relay.specs.RelayGrammar.{smma_up}
+use Rattle.sms_link.specs.Timers.{tram}
 use Rattle.sms_link.specs.declared.ending.Ending.{Ending}
 use Rattle.sms_link.specs.declared.ending.Ending.TheVariants.{Acknowledged, Refused, Wrong, Lost}
-use Rattle.sms_link.specs.Timers.{tram}
-use Rattle.sms_relay.specs.RelayGrammar.{smma_up}
-use Rattle.sms_table.specs.Table.{put, without}
-use Rattle.sms_handset.specs.declared.counters.Counters.{Counters}
-use Rattle.sms_base.specs.declared.holder.Holder.TheVariants.{Memory}
-use Rattle.sms_handset.specs.declared.notice.Notice.{Notice}
-use Rattle.sms_handset.specs.declared.entry.Entry.{Entry}
-use Rattle.sms_handset.specs.Keys.{notice_key}
+use Rattle.sms_inbox.specs.Slots.{slots_taken}
+use Rattle.sms_outbox.specs.declared.notice.Notice.{Notice}
+use Rattle.sms_outbox.specs.Keys.{notice_key}
 use Rattle.sms_handset.specs.Draft.{Draft, put_counters, begin}
-
-abbrev pub slots_taken : List Entry → ℕ
-slots_taken [] = 0
-slots_taken (e ∷ es) = e.slots + slots_taken es
-
--- how many slots the entry of that number takes, if there is one
-abbrev pub slots_of : Option Entry → ℕ
-slots_of None = 0
-slots_of (Some e) = e.slots
 
 -- a slot is free, and an entry number is left
 abbrev pub has_room : Draft → Bool

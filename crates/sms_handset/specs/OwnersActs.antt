@@ -1,93 +1,30 @@
 -- What the owner of the handset does: writing, deleting, discarding; and why it is refused.
-use Rattle.std.specs.Prelude.{ℕ, ◌+◌, ◌*◌, ◌^◌, ◌%◌, ◌==◌, nat_le, nat_lt, List, [], ◌∷◌, ◌++◌, length, Bool, true, false, if◌then◌else◌, Option, Some, None, Result, Ok, Err}
+use Rattle.std.specs.Prelude.{◌≤◌, ◌≡◌, ℕ, ◌+◌, ◌%◌, Bool, List, [], ◌∷◌, true, false, nat_lt, length, nat_le, if◌then◌else◌, Result, Ok, Err, Option, Some, None, ◌==◌}
 use Rattle.sms_base.specs.declared.address.Address.{Address}
 use Rattle.sms_base.specs.declared.address_error.AddressError.{AddressError}
-use Rattle.sms_base.specs.Address.{address_of}
-use Rattle.sms_alphabet.specs.declared.scheme.Coding.{Coding}
-use Rattle.sms_alphabet.specs.declared.scheme.Coding.TheVariants.{Septets, Octets, Ucs2, Compressed}
-use Rattle.sms_alphabet.specs.declared.spelling.SpellingError.{SpellingError}
-use Rattle.sms_alphabet.specs.Packing.{value_in, packed_len, digits_in}
-use Rattle.sms_alphabet.specs.Spelling.{spelled}
-use Rattle.sms_alphabet.specs.Ucs2.{ucs2_for}
-use Rattle.sms_concat.specs.declared.content.Content.{Content}
+use Rattle.sms_base.specs.Address.{IsAddress, address_of}
+use Rattle.sms_table.specs.Table.{row_at}
 use Rattle.sms_concat.specs.declared.content.Part.{Part as PartOf}
 use Rattle.sms_concat.specs.declared.split_error.SplitError.{SplitError}
 use Rattle.sms_concat.specs.Splitting.{split_of}
-use Rattle.sms_concat.specs.UserData.{header_of, data_length, fill_bits, is_there}
-use Rattle.sms_tpdu.specs.declared.submit.Submit.{Submit}
-use Rattle.sms_tpdu.specs.declared.validity_period.ValidityPeriod.TheVariants.{NotPresent}
-use Rattle.sms_tpdu.specs.AddressGrammar.{address_field}
-use Rattle.sms_tpdu.specs.TpduGrammar.{submit_head, submit_fields}
-use Rattle.sms_handset.specs.declared.counters.Counters.{Counters}
-use Rattle.sms_handset.specs.declared.entry.Group.{Group}
-use Rattle.sms_handset.specs.declared.entry.Message.{Message}
-use Rattle.sms_handset.specs.declared.entry.Message.TheVariants.{Single, Part, Joined}
-use Rattle.sms_handset.specs.declared.entry.Entry.{Entry}
-use Rattle.sms_handset.specs.declared.out_entry.EntryState.{EntryState}
-use Rattle.sms_handset.specs.declared.out_entry.EntryState.TheVariants.{Queued}
-use Rattle.sms_handset.specs.declared.out_entry.OutEntry.{OutEntry}
+use Rattle.sms_inbox.specs.Groups.{is_open_part, part_numbers, first_number, members}
+use Rattle.sms_inbox.specs.declared.entry.Entry.{Entry}
+use Rattle.sms_inbox.specs.Keys.{entry_key}
+use Rattle.sms_inbox.specs.declared.entry.Group.{Group}
+use Rattle.sms_inbox.specs.declared.entry.Message.{Message}
+use Rattle.sms_inbox.specs.declared.entry.Message.TheVariants.{Single, Part, Joined}
+use Rattle.sms_concat.specs.TextContent.{content_of_text}
+use Rattle.sms_outbox.specs.Submits.{written_entry}
+use Rattle.sms_outbox.specs.References.{held_message_references, held_references, next_free, is_unfinished}
+use Rattle.sms_outbox.specs.declared.out_entry.OutEntry.{OutEntry}
+use Rattle.sms_outbox.specs.Keys.{out_key}
+use Rattle.sms_handset.specs.Draft.{Draft, put_out, put_counters, remove_out, remove_entry, put_mark}
 use Rattle.sms_handset.specs.declared.refusal.Refusal.{Refusal}
-use Rattle.sms_handset.specs.declared.refusal.Refusal.TheVariants.{NoEntry, StillOpen, OutboxFull, TooManyDiscarded, TooManyParts, Destination}
-use Rattle.sms_table.specs.Table.{row_at}
-use Rattle.sms_handset.specs.Groups.{members, part_numbers, first_number, drop_all}
+use Rattle.sms_handset.specs.declared.refusal.Refusal.TheVariants.{OutboxFull, Destination, TooManyParts, NoEntry, StillOpen, TooManyDiscarded}
 use Rattle.sms_handset.specs.MemoryAvailable.{freed}
-use Rattle.sms_handset.specs.References.{is_unfinished, held_message_references, held_references, next_free}
-use Rattle.sms_handset.specs.Keys.{entry_key, out_key}
-use Rattle.sms_handset.specs.Draft.{Draft, remove_entry, put_out, remove_out, put_mark, put_counters}
+use Rattle.sms_handset.specs.Storing.{drop_all}
 
 -- ---- writing
-
--- the default alphabet where each character has a code there, else UCS2
-abbrev pub content_spelled : List ℕ → Result (List ℕ) SpellingError → Content
-content_spelled text (Ok septets) = record { coding = Septets; dcs = 0; units = septets }
-content_spelled text (Err fault) = record { coding = Ucs2; dcs = 8; units = ucs2_for text }
-
-abbrev pub content_of_text : List ℕ → Content
-content_of_text text = content_spelled text (spelled text)
-
--- the octets of units behind a header: septets packed behind fill bits, other units as they are
-abbrev pub packed_behind : List ℕ → Coding → List ℕ → List ℕ
-packed_behind header Septets units =
-    header ++ digits_in 256 (packed_len (fill_bits (length header)) (length units)) (2 ^ fill_bits (length header) * value_in 128 units)
-packed_behind header Octets units = header ++ units
-packed_behind header Ucs2 units = header ++ units
-packed_behind header Compressed units = header ++ units
-
--- the SUBMIT of a part: TP-PID 0, no validity period, no reply path
-abbrev pub submit_for : ℕ → Address → Bool → PartOf → Submit
-submit_for message_reference destination report part = record {
-  reject_duplicates = false;
-  status_report_request = report;
-  user_data_header_indicator = is_there (header_of part.key);
-  reply_path = false;
-  message_reference = message_reference;
-  destination_address = destination;
-  protocol_identifier = 0;
-  data_coding_scheme = part.content.dcs;
-  validity_period = NotPresent;
-  user_data = record {
-    length = data_length part.content.coding (length (header_of part.key)) (length part.content.units);
-    octets = packed_behind (header_of part.key) part.content.coding part.content.units;
-  };
-}
-
-abbrev pub submit_octets : Submit → List ℕ
-submit_octets s = submit_fields (submit_head s) (address_field s.destination_address) [] s
-
-abbrev pub written_entry : ℕ → ℕ → ℕ → Address → Bool → Bool → PartOf → OutEntry
-written_entry number message_reference reference destination report is_long part = record {
-  number = number;
-  message_reference = message_reference;
-  reference = reference;
-  destination = destination;
-  tpdu = submit_octets (submit_for message_reference destination report part);
-  is_long = is_long;
-  state = Queued;
-  tries = 0;
-  rejects_duplicates = false;
-  due = None;
-  status = None;
-}
 
 -- an entry under the next number, the next free TP-MR and the next free RP reference
 abbrev pub write_with : ℕ → ℕ → Address → Bool → Bool → PartOf → Draft → Draft
@@ -137,12 +74,17 @@ write_split to report (Ok parts) d = write_to report parts (address_of 1 1 to) d
 abbrev pub write : List ℕ → List ℕ → Bool → Draft → Result Draft Refusal
 write text to report d = write_split to report (split_of (content_of_text text) d.rows.counters.concat_reference) d
 
--- ---- deleting
+-- What is known of a text before memory is asked for: why it is refused, or its destination, and that its parts are written.
+abbrev pub JudgesText : Result Address Refusal → List ℕ → List ℕ → Draft → Type 0
+JudgesText (Err refusal) text to d = (report : Bool) → write text to report d ≡ Err refusal
+JudgesText (Ok destination) text to d =
+    IsAddress destination
+    × ((parts : List PartOf)
+    × ((split_of (content_of_text text) d.rows.counters.concat_reference ≡ Ok parts)
+    × ((d.rows.counters.entry + length parts ≤ 4294967295)
+    × ((report : Bool) → write text to report d ≡ Ok (written destination report parts d)))))
 
-abbrev pub is_open_part : Message → Bool
-is_open_part (Single tpdu) = false
-is_open_part (Part group number tpdu) = true
-is_open_part (Joined source content) = false
+-- ---- deleting
 
 abbrev pub delete_out : ℕ → Option OutEntry → Draft → Result Draft Refusal
 delete_out n None d = Err NoEntry

@@ -1,24 +1,24 @@
 -- A plan: what an event changes and sends, and all that a restart forgets as it will be. Adopting it puts it in.
-use Rattle.std.specs.Prelude.{◌≡◌, ℕ, ◌+◌, ◌≤◌, max, List, length, Bool, Option, Some, None, Result, Ok, Err}
-use Rattle.sms_base.specs.declared.holder.Holder.{Holder}
-use Rattle.sms_control.specs.declared.link_state.LinkState.{LinkState}
-use Rattle.sms_handset.specs.declared.event.HandsetEvent.{HandsetEvent}
-use Rattle.sms_handset.specs.declared.event.HandsetEvent.TheVariants.{Frame, Tick, Write, Delete, Discard}
-use Rattle.sms_handset.specs.declared.notice.Notice.{Notice}
-use Rattle.sms_handset.specs.declared.open_group.Regrouping.{Regrouping}
+use Rattle.std.specs.Prelude.{ℕ, List, Bool, Option, ◌≡◌, ◌+◌, ◌≤◌, max, length, Result, Ok, Err, Some, None}
 use Rattle.sms_base.specs.declared.carried.Carried.{Carried}
+use Rattle.sms_base.specs.declared.holder.Holder.{Holder}
+use Rattle.sms_table.specs.Pending.{FitsIn}
+use Rattle.sms_control.specs.declared.link_state.LinkState.{LinkState}
 use Rattle.sms_link.specs.declared.outgoing.Outgoing.{Outgoing}
+use Rattle.sms_inbox.specs.declared.open_group.Regrouping.{Regrouping}
+use Rattle.sms_inbox.specs.Slots.{slots_taken}
+use Rattle.sms_inbox.specs.OpenIndex.{opening}
+use Rattle.sms_outbox.specs.declared.notice.Notice.{Notice}
+use Rattle.sms_handset.specs.declared.rows.Changes.{Changes as SettledChanges}
+use Rattle.sms_handset.specs.Draft.{Changes, Room, Draft, Core, rows_after, HandsetOf}
+use Rattle.sms_handset.specs.Regrouping.{IsRegrouped}
 use Rattle.sms_handset.specs.declared.refusal.PlanError.{PlanError}
 use Rattle.sms_handset.specs.declared.refusal.PlanError.TheVariants.{Refused, NoMemory}
 use Rattle.sms_handset.specs.declared.refusal.Refusal.{Refusal}
-use Rattle.sms_handset.specs.declared.rows.Changes.{Changes as SettledChanges}
-use Rattle.sms_table.specs.Pending.{FitsIn}
-use Rattle.sms_handset.specs.declared.rows.Rows.{Rows}
 use Rattle.sms_handset.specs.Accepted.{StoresAccepted}
-use Rattle.sms_handset.specs.MemoryAvailable.{slots_taken}
-use Rattle.sms_handset.specs.OpenGroups.{IsRegrouped}
-use Rattle.sms_handset.specs.OpenIndex.{opening}
-use Rattle.sms_handset.specs.Draft.{Changes, Core, Draft, Room, HandsetOf, rows_after}
+use Rattle.sms_handset.specs.declared.event.HandsetEvent.{HandsetEvent}
+use Rattle.sms_handset.specs.declared.event.HandsetEvent.TheVariants.{Frame, Tick, Write, Delete, Discard}
+use Rattle.sms_handset.specs.declared.rows.Rows.{Rows}
 
 -- the changes of the rows, without the memory that comes with them
 abbrev pub changes_in : SettledChanges → Changes

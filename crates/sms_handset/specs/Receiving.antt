@@ -1,34 +1,33 @@
 -- Receiving a message (3GPP TS 23.040 10.1): it is stored before it is acknowledged, and a double is acknowledged alone.
-use Rattle.std.specs.Prelude.{ℕ, ◌==◌, ◌&&◌, List, [], ◌∷◌, Bool, true, false, if◌then◌else◌, Option, Some, None, Result, Ok, Err}
-use Rattle.std.specs.Str.{bytes_eq}
+use Rattle.std.specs.Prelude.{ℕ, [], ◌∷◌, Some, None, List, if◌then◌else◌, Option, Result, Ok, Err}
+use Rattle.sms_base.specs.declared.holder.Holder.{Holder}
+use Rattle.sms_base.specs.declared.carried.Kind.TheVariants.{Ack, Error}
+use Rattle.sms_table.specs.Table.{row_at}
 use Rattle.sms_concat.specs.declared.concat_key.ConcatKey.{ConcatKey}
+use Rattle.sms_relay.specs.RelayGrammar.{ack_up, error_up}
 use Rattle.sms_relay.specs.declared.cause.RpCause.{RpCause}
 use Rattle.sms_relay.specs.declared.cause.RpCause.TheVariants.{MemoryCapacityExceeded, InvalidMandatoryInformation, MessageTypeNonExistent}
 use Rattle.sms_relay.specs.declared.fault.RelayFault.{RelayFault}
 use Rattle.sms_relay.specs.declared.fault.RelayFault.TheVariants.{Truncated, Trailing, Unknown, BadLength}
 use Rattle.sms_relay.specs.declared.frame.Rp.{Rp}
 use Rattle.sms_relay.specs.declared.frame.Rp.TheVariants.{DataUnit, AckUnit, ErrorUnit, Smma}
-use Rattle.sms_relay.specs.RelayGrammar.{ack_up, error_up}
-use Rattle.sms_tpdu.specs.declared.carrier.Carrier.TheVariants.{InData}
 use Rattle.sms_tpdu.specs.declared.deliver.Deliver.{Deliver as DeliverOf}
 use Rattle.sms_tpdu.specs.declared.down.Down.{Down}
 use Rattle.sms_tpdu.specs.declared.down.Down.TheVariants.{Deliver, StatusReport, SubmitReport}
 use Rattle.sms_tpdu.specs.declared.fault.TpduFault.{TpduFault}
-use Rattle.sms_tpdu.specs.declared.status_report.StatusReport.{StatusReport as StatusReportOf}
-use Rattle.sms_tpdu.specs.MoreMessages.{same_message}
+use Rattle.sms_tpdu.specs.declared.carrier.Carrier.TheVariants.{InData}
 use Rattle.sms_tpdu.specs.TpduReading.{down_at}
-use Rattle.sms_handset.specs.declared.entry.Entry.{Entry}
-use Rattle.sms_handset.specs.declared.entry.Group.{Group}
-use Rattle.sms_base.specs.declared.holder.Holder.{Holder}
-use Rattle.sms_handset.specs.declared.last_accepted.LastAccepted.{LastAccepted}
-use Rattle.sms_handset.specs.declared.discarded_group.DiscardedGroup.{DiscardedGroup}
-use Rattle.sms_handset.specs.declared.out_entry.OutEntry.{OutEntry}
-use Rattle.sms_base.specs.declared.carried.Kind.TheVariants.{Ack, Error}
-use Rattle.sms_table.specs.Table.{row_at, latest}
-use Rattle.sms_handset.specs.Groups.{is_among, group_of, key_of, members, part_numbers, mark_of, marked, store_single, store_part}
-use Rattle.sms_handset.specs.MemoryAvailable.{has_room, flag}
-use Rattle.sms_handset.specs.Keys.{last_key}
-use Rattle.sms_handset.specs.Draft.{Draft, put_last, put_out, reply}
+use Rattle.sms_inbox.specs.declared.entry.Entry.{Entry}
+use Rattle.sms_inbox.specs.declared.entry.Group.{Group}
+use Rattle.sms_inbox.specs.Groups.{is_among, part_numbers, members, group_of, mark_of, key_of}
+use Rattle.sms_inbox.specs.declared.discarded_group.DiscardedGroup.{DiscardedGroup}
+use Rattle.sms_inbox.specs.Doubles.{is_double}
+use Rattle.sms_inbox.specs.Keys.{last_key}
+use Rattle.sms_outbox.specs.declared.out_entry.OutEntry.{OutEntry}
+use Rattle.sms_outbox.specs.Reports.{reported}
+use Rattle.sms_handset.specs.Draft.{Draft, reply, put_last, put_out}
+use Rattle.sms_handset.specs.MemoryAvailable.{flag, has_room}
+use Rattle.sms_handset.specs.Storing.{store_single, store_part, marked}
 
 -- ---- answers
 
@@ -51,13 +50,6 @@ accept reference tag tpdu d = acknowledge reference tag (put_last (record { refe
 -- TP-FCS D3, memory capacity exceeded (3GPP TS 23.040 9.2.3.22)
 abbrev pub no_room : ℕ → Holder → Draft → Draft
 no_room reference tag d = refuse reference tag MemoryCapacityExceeded 211 (flag d)
-
--- ---- doubles
-
--- the TPDU is the one that was accepted last under its reference, which may tell otherwise now whether more messages wait
-abbrev pub is_double : List ℕ → Option LastAccepted → Bool
-is_double tpdu None = false
-is_double tpdu (Some l) = same_message tpdu l.tpdu
 
 -- ---- DELIVER
 
@@ -89,15 +81,6 @@ deliver_came reference tag tpdu m (Some key) d =
     part_came reference tag tpdu g key.number (mark_of g d.rows.marks) d
 
 -- ---- STATUS-REPORT
-
--- numbers are compared by their digits
-abbrev pub is_reported : StatusReportOf → OutEntry → Bool
-is_reported r o = (o.message_reference == r.message_reference) && bytes_eq o.destination.digits r.recipient_address.digits
-
--- the newest entry that the report is about
-abbrev pub reported : StatusReportOf → List OutEntry → Option OutEntry
-reported r [] = None
-reported r (o ∷ os) = latest (if is_reported r o then Some o else None) (reported r os)
 
 abbrev pub note : ℕ → Option OutEntry → Draft → Draft
 note status None d = d

@@ -1,13 +1,13 @@
 -- A handset that stands on sound rows, between two events.
-use Rattle.std.specs.Prelude.{◌≡◌, ℕ, ◌≤◌, List, length, true, Option, Some, None}
-use Rattle.sms_table.specs.Table.{row_at}
+use Rattle.std.specs.Prelude.{◌≡◌, ℕ, List, Some, Option, None, ◌≤◌, length, true}
 use Rattle.sms_base.specs.declared.holder.Holder.{Holder}
 use Rattle.sms_base.specs.declared.holder.Holder.TheVariants.{Part, Report, Entry, Memory}
-use Rattle.sms_handset.specs.declared.out_entry.EntryState.TheVariants.{Sending}
-use Rattle.sms_handset.specs.declared.out_entry.OutEntry.{OutEntry}
 use Rattle.sms_base.specs.declared.carried.Carried.{Carried}
+use Rattle.sms_table.specs.Table.{row_at}
+use Rattle.sms_outbox.specs.declared.out_entry.EntryState.TheVariants.{Sending}
+use Rattle.sms_outbox.specs.declared.out_entry.OutEntry.{OutEntry}
+use Rattle.sms_outbox.specs.Keys.{out_key}
 use Rattle.sms_handset.specs.Draft.{Core}
-use Rattle.sms_handset.specs.Keys.{out_key}
 use Rattle.sms_handset.specs.MemoryAvailable.{most_notices}
 use Rattle.sms_handset.specs.SoundRows.{IsSound}
 

@@ -2,16 +2,15 @@
 ghost use Rattle.std.specs.Prelude.{◌≡◌, option_copied};
 ghost use Rattle.sms_table.specs.Table.{row_at};
 ghost use Rattle.sms_handset.specs.Draft.{no_changes};
-ghost use Rattle.sms_handset.specs.Keys.{entry_key, out_key};
-ghost use Rattle.sms_handset.specs.OwnersActs.{delete as delete_of, delete_out as delete_out_of, discard as discard_of, is_open_part as is_open_part_of};
+ghost use Rattle.sms_inbox.specs.Keys.{entry_key};
+ghost use Rattle.sms_outbox.specs.Keys.{out_key};
+ghost use Rattle.sms_handset.specs.OwnersActs.{delete as delete_of, delete_out as delete_out_of, discard as discard_of};
 ghost use Rattle.sms_handset.specs.Planning.{Acts};
 
-use crate::discarded_group::DiscardedGroup;
 use crate::draft::Draft;
-use crate::entry::{Entry, Message};
-use crate::out_entry::OutEntry;
-use crate::references::is_unfinished;
 use crate::refusal::{PlanError, Refusal};
+use sms_inbox::{DiscardedGroup, Entry};
+use sms_outbox::OutEntry;
 use sms_table::Key;
 
 impl<'a> Draft<'a> {
@@ -38,7 +37,7 @@ impl<'a> Draft<'a> {
         let Some(entry) = self.out_entry(number) else {
             return Err(PlanError::Refused(Refusal::NoEntry));
         };
-        if is_unfinished(entry.state) {
+        if entry.state.is_unfinished() {
             return Err(PlanError::Refused(Refusal::StillOpen));
         }
         self.remove_out(number)?;
@@ -53,7 +52,7 @@ impl<'a> Draft<'a> {
         let Some(entry) = self.entry(number) else {
             return self.delete_out(number);
         };
-        if is_open_part(&entry.message) {
+        if entry.message.is_open_part() {
             return Err(PlanError::Refused(Refusal::StillOpen));
         }
         self.remove_entry(number)?;
@@ -83,11 +82,4 @@ impl<'a> Draft<'a> {
         self.free_slot();
         Ok(())
     }
-}
-
-/// Whether it is a part of an open group.
-pub(crate) fn is_open_part(message: &Message) -> bool
-    ensures { result ≡ is_open_part_of message.now }
-{
-    matches!(message, Message::Part { .. })
 }

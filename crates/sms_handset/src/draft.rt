@@ -1,27 +1,22 @@
 //! A handset in the middle of an event: the moves of which its stages are made.
 ghost use Rattle.std.specs.Prelude.{◌≡◌, ◌++◌, ◌<◌, ◌≤◌, ◌+◌, [], length, OnOk, option_copied, IfOk};
 ghost use Rattle.sms_base.specs.Address.{IsAddress};
-ghost use Rattle.sms_link.specs.LinkTurn.{begun, fired, replied, taken};
+ghost use Rattle.sms_link.specs.LinkTurn.{fired, taken};
 ghost use Rattle.sms_table.specs.Pending.{rows_in};
 ghost use Rattle.sms_table.specs.Table.{row_at};
-ghost use Rattle.sms_handset.specs.Keys.{entry_key, last_key};
+ghost use Rattle.sms_inbox.specs.Keys.{entry_key, last_key};
 ghost use Rattle.sms_handset.specs.Draft.{begin as begin_of, link_of, no_changes, put_counters as put_counters_of, put_entry as put_entry_of, put_last as put_last_of, put_mark as put_mark_of, put_out as put_out_of, remove_entry as remove_entry_of, remove_mark as remove_mark_of, remove_out as remove_out_of, reply as reply_of, with_turn};
-ghost use Rattle.sms_handset.specs.Groups.{members as members_of};
-ghost use Rattle.sms_handset.specs.MemoryAvailable.{slots_of};
-ghost use Rattle.sms_handset.specs.OpenGroups.{open_at as open_at_of, stored_parts};
+ghost use Rattle.sms_inbox.specs.Groups.{members as members_of};
+ghost use Rattle.sms_inbox.specs.Slots.{slots_of};
+ghost use Rattle.sms_inbox.specs.OpenGroups.{open_at as open_at_of, stored_parts};
 
 use crate::counters::Counters;
-use crate::discarded_group::DiscardedGroup;
-use crate::entry::{Entry, Group};
-use crate::last_accepted::LastAccepted;
-use crate::members::Members;
 use crate::no_memory::NoMemory;
-use crate::notice::Notice;
-use crate::open_group::OpenGroup;
-use crate::out_entry::OutEntry;
 use crate::stored::Stored;
 use sms_base::{Address, Holder, Kind, Listed, Moment};
+use sms_inbox::{DiscardedGroup, Entry, Group, LastAccepted, Members, OpenGroup};
 use sms_link::{Link, Outgoing, Upward};
+use sms_outbox::{Notice, OutEntry};
 use sms_table::{Key, Pending, Table};
 use std::alloc::Global;
 use std::marker::Model;
@@ -48,8 +43,8 @@ pub(crate) struct Draft<'a> {
 
 impl<'a> Model for Draft<'a> {
     ghost use Rattle.sms_handset.specs.Draft.{Draft as DraftOf, rows_after, rows_of};
-    ghost use Rattle.sms_handset.specs.Keys.{entry_key};
-    ghost use Rattle.sms_handset.specs.MemoryAvailable.{slots_taken};
+    ghost use Rattle.sms_inbox.specs.Keys.{entry_key};
+    ghost use Rattle.sms_inbox.specs.Slots.{slots_taken};
     ghost use Rattle.sms_handset.specs.Consistent.{IsConsistent};
     ghost use Rattle.sms_link.specs.declared.ending.Side.TheVariants.{Handset as HandsetSide};
     ghost use Rattle.sms_table.specs.Table.{all_applied};

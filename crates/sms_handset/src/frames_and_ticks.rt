@@ -7,8 +7,8 @@ ghost use Rattle.sms_handset.specs.HandsetEvent.{at_moment, frame_heard, timed_o
 
 use crate::draft::Draft;
 use crate::no_memory::NoMemory;
-use crate::open_group::Regrouping;
 use sms_base::{Holder, Moment};
+use sms_inbox::Regrouping;
 use sms_link::Upward;
 
 impl<'a> Draft<'a> {

@@ -4,38 +4,33 @@ ghost use Rattle.std.specs.Str.{chars};
 ghost use Rattle.sms_handset.specs.Draft.{draft_of, recovered};
 ghost use Rattle.sms_handset.specs.HandsetEvent.{deleted, discarded, frame_came as frame_came_of, tag_of, ticked as ticked_of, wrote};
 ghost use Rattle.sms_handset.specs.Planning.{adopted, changes_in, Fits, HaveRoom, IsPlanOf, Judges, OfDelete, OfDiscard, OfFrame, OfTick, OfWrite, Plans, Rests, Stores};
-ghost use Rattle.sms_handset.specs.Trying.{TriesPlan as Tries};
 ghost use Rattle.sms_base.specs.Address.{IsAddress};
 ghost use Rattle.sms_table.specs.Table.{Rises, row_at};
-ghost use Rattle.sms_handset.specs.OpenGroups.{Numbered, Regroups};
-ghost use Rattle.sms_handset.specs.OpenIndex.{opening};
-ghost use Rattle.sms_handset.specs.Keys.{entry_key, last_key, mark_key, out_key};
-ghost use Rattle.sms_handset.specs.OwnersActs.{delete as delete_of, delete_out, discard as discard_of};
+ghost use Rattle.sms_handset.specs.Regrouping.{Numbered, Regroups};
+ghost use Rattle.sms_inbox.specs.OpenIndex.{opening};
+ghost use Rattle.sms_inbox.specs.Keys.{entry_key, last_key, mark_key};
+ghost use Rattle.sms_outbox.specs.Keys.{out_key};
+ghost use Rattle.sms_handset.specs.OwnersActs.{JudgesText, delete as delete_of, delete_out, discard as discard_of, fits_outbox as fits_outbox_of};
 ghost use Rattle.sms_handset.specs.SoundCore.{IsSoundCore};
 ghost use Rattle.sms_handset.specs.SoundRows.{IsSetup, IsSound, RefusesRows};
 
 use crate::counters::Counters;
-use crate::deleting::is_open_part;
-use crate::discarded_group::DiscardedGroup;
 use crate::draft::Draft;
-use crate::entry::Entry;
 use crate::event::HandsetEvent;
-use crate::last_accepted::LastAccepted;
 use crate::no_memory::NoMemory;
-use crate::notice::Notice;
-use crate::open_group::Regrouping;
-use crate::open_groups::{OpenGroups, SpareGroups};
-use crate::out_entry::OutEntry;
 use crate::planned::Planned;
 use crate::recover_error::RecoverError;
-use crate::references::is_unfinished;
 use crate::refusal::{PlanError, Refusal};
 use crate::rows::{Changes, Rows};
 use crate::sound_rows::are_sound;
 use crate::stored::Stored;
-use crate::storing::slots_in;
-use sms_base::{Holder, Listed, Moment};
+use sms_base::{Address, Holder, Listed, Moment};
+use sms_concat::count_text_parts;
+use sms_inbox::{
+    DiscardedGroup, Entry, LastAccepted, OpenGroups, Regrouping, SpareGroups, slots_in,
+};
 use sms_link::{Link, Outgoing, Side};
+use sms_outbox::{Notice, OutEntry};
 use sms_table::{Key, Pending, Table, adopt};
 use std::alloc::Global;
 use std::marker::Model;
@@ -160,8 +155,7 @@ impl Handset {
     pub fn plan(&self, event: &HandsetEvent<'_>) -> Result<Planned, PlanError>
         ensures frame { OfFrame event.now (λ octets tag. Plans result self.now (Ok (frame_came_of octets (tag_of tag) self.now.core))) }
         ensures tick { OfTick event.now (λ now. Plans result self.now (Ok (ticked_of now self.now.core))) }
-        // Only of a text may want of memory be told before a refusal.
-        ensures write { OfWrite event.now (λ text to report. Tries result self.now (wrote text to report self.now.core)) }
+        ensures write { OfWrite event.now (λ text to report. Plans result self.now (wrote text to report self.now.core)) }
         ensures delete { OfDelete event.now (λ entry. Plans result self.now (deleted entry self.now.core)) }
         ensures discard { OfDiscard event.now (λ entry. Plans result self.now (discarded entry self.now.core)) }
 
@@ -234,8 +228,7 @@ impl Handset {
     fn plan_of(&self, event: &HandsetEvent<'_>) -> Result<Planned, PlanError>
         ensures frame { OfFrame event.now (λ octets tag. Plans result self.now (Ok (frame_came_of octets (tag_of tag) self.now.core))) }
         ensures tick { OfTick event.now (λ now. Plans result self.now (Ok (ticked_of now self.now.core))) }
-        // Only of a text may want of memory be told before a refusal.
-        ensures write { OfWrite event.now (λ text to report. Tries result self.now (wrote text to report self.now.core)) }
+        ensures write { OfWrite event.now (λ text to report. Plans result self.now (wrote text to report self.now.core)) }
         ensures delete { OfDelete event.now (λ entry. Plans result self.now (deleted entry self.now.core)) }
         ensures discard { OfDiscard event.now (λ entry. Plans result self.now (discarded entry self.now.core)) }
 
@@ -335,12 +328,46 @@ impl Handset {
         Ok(self.planned(draft, Regrouping::Unchanged)?)
     }
 
+    // Whether the outbox has room for so many parts, and numbers are left.
+    fn fits_outbox(&self, parts: u8) -> bool
+        ensures { result ≡ fits_outbox_of parts (draft_of self.now.core) }
+    {
+        if self.stored.outbox.as_slice().len() + usize::from(parts) <= 20 {
+            u64::from(self.stored.counters.entry) + u64::from(parts) <= 4294967295
+        } else {
+            false
+        }
+    }
+
+    // The destination of the owner's text, an international number of the telephone numbering plan, or why the text is
+    // refused, before memory is asked for: one of more than 20 parts first, then a faulty number, then a full outbox.
+    fn judge_text(&self, text: &str, to: &str) -> Result<Address, Refusal>
+        ensures { JudgesText result (chars text.now) (chars to.now) (draft_of self.now.core) }
+    {
+        let Ok(parts) = count_text_parts(text) else {
+            return Err(Refusal::TooManyParts);
+        };
+        let destination = match Address::new(1, 1, to) {
+            Ok(destination) => destination,
+            Err(fault) => return Err(Refusal::Destination(fault)),
+        };
+        if self.fits_outbox(parts) {
+            Ok(destination)
+        } else {
+            Err(Refusal::OutboxFull)
+        }
+    }
+
     fn plan_write(&self, text: &str, to: &str, report: bool) -> Result<Planned, PlanError>
-        ensures plan { Tries result self.now (wrote (chars text.now) (chars to.now) report self.now.core) }
+        ensures plan { Plans result self.now (wrote (chars text.now) (chars to.now) report self.now.core) }
         ensures fits { IfOk result (λ planned. Fits planned self.now) }
     {
+        let destination = match self.judge_text(text, to) {
+            Ok(destination) => destination,
+            Err(refusal) => return Err(PlanError::Refused(refusal)),
+        };
         let mut draft = self.draft()?;
-        draft.write(text, to, report)?;
+        draft.write(text, &destination, report)?;
         draft.follow()?;
         Ok(self.planned(draft, Regrouping::Unchanged)?)
     }
@@ -352,7 +379,7 @@ impl Handset {
         let Some(entry) = self.stored.entries.find(Key::of(u64::from(number))) else {
             return self.refuses_delete_out(number);
         };
-        if is_open_part(&entry.message) {
+        if entry.message.is_open_part() {
             return Some(Refusal::StillOpen);
         }
         None
@@ -364,7 +391,7 @@ impl Handset {
         let Some(entry) = self.stored.outbox.find(Key::of(u64::from(number))) else {
             return Some(Refusal::NoEntry);
         };
-        if is_unfinished(entry.state) {
+        if entry.state.is_unfinished() {
             return Some(Refusal::StillOpen);
         }
         None

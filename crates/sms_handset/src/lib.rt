@@ -4,33 +4,22 @@
 //! `Handset` is a machine over rows, which it judges when it starts. `plan` takes an event and hands out the changes of
 //! the rows; nothing has changed yet. Its caller commits them and calls `adopt`, which can't fail: only then do the
 //! frames come out. A handset that was sound is so after each event, and starts again from the rows that were committed.
+//! What its rows are of is `sms_inbox`'s and `sms_outbox`'s.
 #![tactic(auto)]
 
-mod answers;
 mod counters;
 mod deleting;
-mod discarded_group;
 mod draft;
-mod entry;
 mod event;
 mod frames_and_ticks;
-mod groups;
+mod group_moves;
 mod handset;
-mod joining;
-mod last_accepted;
 pub mod laws;
-mod members;
 mod no_memory;
-mod notice;
 mod notices;
-mod open_group;
-mod open_groups;
-mod out_entry;
-mod out_view;
 mod planned;
 mod receiving;
 mod recover_error;
-mod references;
 mod refusal;
 mod rows;
 mod sending;
@@ -38,24 +27,18 @@ mod setup;
 mod sound_rows;
 mod stored;
 mod storing;
-mod submit_tpdu;
 mod text_view;
 mod writing;
 
-pub use answers::Verdict;
 pub use counters::Counters;
-pub use discarded_group::DiscardedGroup;
-pub use entry::{Entry, Group, Message};
 pub use event::HandsetEvent;
 pub use handset::Handset;
-pub use last_accepted::LastAccepted;
 pub use no_memory::NoMemory;
-pub use notice::Notice;
-pub use out_entry::{EntryState, OutEntry};
 pub use planned::Planned;
 pub use recover_error::RecoverError;
 pub use refusal::{PlanError, Refusal};
 pub use rows::{Changes, Rows};
 pub use setup::Setup;
-pub use submit_tpdu::SubmitTpdu;
+pub use sms_inbox::{DiscardedGroup, Entry, Group, LastAccepted, Message};
+pub use sms_outbox::{EntryState, Notice, OutEntry, SubmitTpdu, Verdict};
 pub use text_view::TextView;

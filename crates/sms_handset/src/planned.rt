@@ -2,12 +2,11 @@
 ghost use Rattle.std.specs.Prelude.{◌≡◌};
 ghost use Rattle.sms_handset.specs.Planning.{changes_in};
 
-use crate::notice::Notice;
-use crate::open_group::Regrouping;
-use crate::open_groups::SpareGroups;
 use crate::rows::Changes;
 use sms_base::{Listed, Moment};
+use sms_inbox::{Regrouping, SpareGroups};
 use sms_link::{Link, Outgoing};
+use sms_outbox::Notice;
 use sms_table::Table;
 use std::marker::Model;
 

@@ -6,21 +6,20 @@ ghost use Rattle.sms_tpdu.specs.TpduReading.{down_at};
 ghost use Rattle.sms_tpdu.specs.declared.carrier.Carrier.TheVariants.{InData as Data};
 ghost use Rattle.sms_handset.specs.Draft.{no_changes};
 ghost use Rattle.sms_handset.specs.GroupChanges.{data_groups, deliver_groups, member_groups, new_part_groups, part_groups, tpdu_groups, unit_groups};
-ghost use Rattle.sms_handset.specs.Groups.{key_of as key_of_deliver, mark_of, members as members_of};
-ghost use Rattle.sms_handset.specs.Receiving.{accept as accept_of, acknowledge as acknowledge_of, data_came as data_came_of, deliver_came as deliver_came_of, fault_cause as fault_cause_of, is_double as is_double_of, is_reported as is_reported_of, member_came as member_came_of, new_part_came as new_part_came_of, no_room as no_room_of, note as note_of, part_came as part_came_of, reference_octet as reference_octet_of, refuse as refuse_of, reject as reject_of, reported as reported_of, single_came as single_came_of, tpdu_came as tpdu_came_of, unit_came as unit_came_of};
+ghost use Rattle.sms_inbox.specs.Groups.{key_of as key_of_deliver, mark_of, members as members_of};
+ghost use Rattle.sms_handset.specs.Receiving.{accept as accept_of, acknowledge as acknowledge_of, data_came as data_came_of, deliver_came as deliver_came_of, fault_cause as fault_cause_of, member_came as member_came_of, new_part_came as new_part_came_of, no_room as no_room_of, note as note_of, part_came as part_came_of, reference_octet as reference_octet_of, refuse as refuse_of, reject as reject_of, single_came as single_came_of, tpdu_came as tpdu_came_of, unit_came as unit_came_of};
+ghost use Rattle.sms_outbox.specs.Reports.{reported as reported_of};
 
-use crate::discarded_group::DiscardedGroup;
 use crate::draft::Draft;
-use crate::entry::Group;
-use crate::groups::{find_mark, is_among, key_of};
-use crate::last_accepted::LastAccepted;
-use crate::members::Members;
 use crate::no_memory::NoMemory;
-use crate::open_group::Regrouping;
-use crate::out_entry::OutEntry;
 use sms_base::{Holder, Kind, OctetView, Octets};
+use sms_inbox::{
+    DiscardedGroup, Group, LastAccepted, Members, Regrouping, find_mark, is_among, is_double,
+    key_of,
+};
+use sms_outbox::{OutEntry, reported};
 use sms_relay::{RelayFault, Rp, RpCause, read_down as read_unit, write_up};
-use sms_tpdu::{Carrier, Deliver, Down, StatusReport, read_down, same_message};
+use sms_tpdu::{Carrier, Deliver, Down, StatusReport, read_down};
 
 /// TP-FCS: memory capacity exceeded (3GPP TS 23.040 9.2.3.22).
 const MEMORY_CAPACITY_EXCEEDED: u8 = 0xD3;
@@ -311,36 +310,6 @@ impl<'a> Draft<'a> {
             }
         }
     }
-}
-
-// Whether the TPDU is the one that was accepted last under its reference.
-fn is_double(tpdu: &[u8], last: Option<&LastAccepted>) -> bool
-    ensures { result ≡ is_double_of tpdu.now (option_copied last.entry) }
-{
-    match last {
-        Some(last) => same_message(tpdu, last.tpdu.as_slice()),
-        None => false,
-    }
-}
-
-fn is_reported(report: &StatusReport<'_>, entry: &OutEntry) -> bool
-    ensures { result ≡ is_reported_of report.now entry.now }
-{
-    entry.message_reference == report.message_reference
-        && entry.destination.digits.as_slice() == report.recipient_address.digits.as_slice()
-}
-
-// The newest entry that the report is about.
-fn reported<'e>(report: &StatusReport<'_>, outbox: &'e [OutEntry]) -> Option<&'e OutEntry>
-    ensures { option_copied result ≡ reported_of report.now outbox.now }
-{
-    let mut newest = None;
-    for entry in outbox {
-        if is_reported(report, entry) {
-            newest = Some(entry);
-        }
-    }
-    newest
 }
 
 // A unit of an unknown type, else one that can't be read.

@@ -1,5 +1,5 @@
 //! Why rows are no handset.
-ghost use Rattle.std.specs.Prelude.{◌≡◌};
+ghost use Rattle.std.specs.Prelude.{◌≡◌, option_copied};
 ghost use Rattle.sms_handset.specs.declared.recover_error.RecoverError.TheVariants.{NoMemory as NoMemoryOf};
 
 use crate::no_memory::NoMemory;
@@ -14,6 +14,20 @@ pub enum RecoverError {
     /// A growth was refused.
     #[error("out of memory")]
     NoMemory,
+}
+
+impl RecoverError {
+    ghost use Rattle.sms_handset.specs.FaultCodes.{recover_code};
+
+    /// The code of the fault in reports, H1; want of memory has none.
+    pub fn code(self) -> Option<&'static str>
+        ensures { option_copied result ≡ recover_code self }
+    {
+        match self {
+            RecoverError::BadRows => Some("H1"),
+            RecoverError::NoMemory => None,
+        }
+    }
 }
 
 impl From<NoMemory> for RecoverError {

@@ -3,12 +3,10 @@ ghost use Rattle.std.specs.Prelude.{◌≡◌};
 ghost use Rattle.sms_handset.specs.SoundRows.{first_rows};
 
 use crate::counters::Counters;
-use crate::discarded_group::DiscardedGroup;
-use crate::entry::Entry;
-use crate::last_accepted::LastAccepted;
-use crate::out_entry::OutEntry;
 use crate::setup::Setup;
 use sms_base::Listed;
+use sms_inbox::{DiscardedGroup, Entry, LastAccepted};
+use sms_outbox::OutEntry;
 use sms_table::Settled;
 use std::alloc::Global;
 

@@ -1,38 +1,21 @@
 //! Storing messages and parts, and what becomes of a group.
 ghost use Rattle.std.specs.Prelude.{◌≡◌, ◌++◌, ◌+◌, ◌∷◌, ◌<◌, [], true, IfOk, OnOk, Some, None};
 ghost use Rattle.sms_handset.specs.Draft.{put_entry as put_entry_of};
-ghost use Rattle.sms_handset.specs.Groups.{alone, completed, count_entry as count_entry_of, ended, free_all, marked as marked_of, part_entry, store_part as store_part_of, store_single as store_single_of};
+ghost use Rattle.sms_inbox.specs.Groups.{alone, part_entry};
+ghost use Rattle.sms_handset.specs.Storing.{completed, count_entry as count_entry_of, ended, free_all, marked as marked_of, store_part as store_part_of, store_single as store_single_of};
 ghost use Rattle.sms_handset.specs.GroupChanges.{stored_groups};
-ghost use Rattle.sms_handset.specs.OpenGroups.{grouped, open_group};
-ghost use Rattle.sms_handset.specs.MemoryAvailable.{flag as flag_of, freed as freed_of, has_room as has_room_of, slots_taken};
+ghost use Rattle.sms_inbox.specs.OpenGroups.{grouped, open_group};
+ghost use Rattle.sms_handset.specs.MemoryAvailable.{flag as flag_of, freed as freed_of, has_room as has_room_of};
 
-use crate::discarded_group::DiscardedGroup;
 use crate::draft::Draft;
-use crate::entry::{Entry, Group, Message};
-use crate::groups::{has_every, is_full, number_of};
-use crate::joining::{joined_content, tpdu_of};
-use crate::members::Members;
 use crate::no_memory::NoMemory;
-use crate::open_group::{OpenGroup, Regrouping, StoredPart};
-use crate::open_groups::with_part;
 use sms_base::Octets;
 use sms_concat::Content;
+use sms_inbox::{
+    DiscardedGroup, Entry, Group, Members, Message, OpenGroup, Regrouping, StoredPart, has_every,
+    is_full, joined_content, with_part,
+};
 use std::alloc::Global;
-
-/// How many slots the entries take. A count that is too large for its type, which takes more entries than there are
-/// numbers, is told as want of memory.
-pub(crate) fn slots_in(entries: &[Entry]) -> Result<u64, NoMemory>
-    ensures { IfOk result (λ taken. taken ≡ slots_taken entries.now) }
-{
-    let mut taken: u64 = 0;
-    for entry in entries {
-        let Some(more) = taken.checked_add(u64::from(entry.slots)) else {
-            return Err(NoMemory);
-        };
-        taken = more;
-    }
-    Ok(taken)
-}
 
 impl<'a> Draft<'a> {
     /// Whether a slot is free and an entry number is left.
@@ -155,7 +138,7 @@ impl<'a> Draft<'a> {
     pub(crate) fn free(&mut self, entry: &Entry) -> Result<(), NoMemory>
         ensures { OnOk result (self.new ≡ put_entry_of (alone entry.now) self.old) }
     {
-        let tpdu = Octets::copy_of(self.alloc, tpdu_of(&entry.message))?;
+        let tpdu = Octets::copy_of(self.alloc, entry.message.tpdu())?;
         self.put_entry(Entry {
             number: entry.number,
             slots: entry.slots,
@@ -208,7 +191,7 @@ fn part_of(entry: u32, group: &Group, number: u8, tpdu: Octets) -> Entry
 }
 
 // A group that is not full, with one more part.
-#[tactic(auto, using(crate::proofs::PartsFound::stored_more))]
+#[tactic(auto, using(sms_inbox::proofs::PartsFound::stored_more))]
 fn opened(
     alloc: Global,
     group: &Group,
@@ -219,7 +202,7 @@ fn opened(
 {
     let part = StoredPart {
         entry: part.number,
-        number: number_of(&part.message),
+        number: part.message.part_number(),
     };
-    with_part(alloc, group, members.parts(), part)
+    Ok(with_part(alloc, group, members.parts(), part)?)
 }

@@ -1,115 +1,22 @@
 //! Writing: a text becomes SUBMITs in the outbox.
-ghost use Rattle.std.specs.Prelude.{◌≡◌, ◌+◌, ◌<◌, ◌≤◌, length, All, IfOk, OnOk};
-ghost use Rattle.sms_base.specs.Address.{address_of};
-ghost use Rattle.sms_concat.specs.Splitting.{split_of};
-ghost use Rattle.sms_handset.specs.References.{held_message_references as held_message_references_of, next_free as next_free_of};
-ghost use Rattle.sms_handset.specs.Trying.{Tries};
+ghost use Rattle.std.specs.Prelude.{◌≡◌, ◌+◌, ◌<◌, ◌≤◌, List, Ok, length, All, IfOk, OnOk};
+ghost use Rattle.sms_outbox.specs.References.{held_message_references as held_message_references_of, next_free as next_free_of};
 ghost use Rattle.std.specs.Str.{chars};
 ghost use Rattle.sms_base.specs.Address.{IsAddress};
-ghost use Rattle.sms_alphabet.specs.DataCodingScheme.{coding_of};
-ghost use Rattle.sms_concat.specs.UserData.{AreUnits, HasRoom, IsPart, IsUserData, header_of};
-ghost use Rattle.sms_handset.specs.OwnersActs.{content_of_text, count_split as count_split_of, fits_outbox as fits_outbox_of, submit_for, submit_octets as octets_of_submit, write as write_of, write_part as write_part_of, write_parts as write_parts_of, write_split as write_split_of, write_to as write_to_of, written as written_of};
+ghost use Rattle.sms_concat.specs.declared.content.Part.{Part as PartOf};
+ghost use Rattle.sms_concat.specs.Splitting.{split_of};
+ghost use Rattle.sms_concat.specs.TextContent.{content_of_text};
+ghost use Rattle.sms_concat.specs.UserData.{HasRoom, IsPart};
+ghost use Rattle.sms_handset.specs.OwnersActs.{count_split as count_split_of, write_part as write_part_of, write_parts as write_parts_of, written as written_of};
 
 use crate::counters::Counters;
 use crate::draft::Draft;
 use crate::no_memory::NoMemory;
-use crate::out_entry::{EntryState, OutEntry};
-use crate::references::{following, held_message_references, next_free};
-use crate::refusal::{PlanError, Refusal};
-use crate::submit_tpdu::SubmitTpdu;
-use sms_alphabet::{Coding, SpellingError, septets_of, ucs2_of};
-use sms_base::{Address, OctetView};
-use sms_concat::{Content, Part, SplitError, UserData as PartData, split, user_data};
-use sms_tpdu::{Submit, UserData, ValidityPeriod, write_submit};
-use std::alloc::{AllocError, Global};
-
-// The text in the default alphabet where each character has a code there, else in UCS2.
-fn content_of(alloc: Global, text: &str) -> Result<Content, NoMemory>
-    ensures value { IfOk result (λ content. content ≡ content_of_text (chars text.now)) }
-    ensures units { IfOk result (λ content. AreUnits content.coding content.units) }
-    ensures coding { IfOk result (λ content. content.coding ≡ coding_of content.dcs) }
-{
-    match septets_of(alloc, text) {
-        Ok(units) => Ok(Content {
-            coding: Coding::Septets,
-            dcs: 0,
-            units,
-        }),
-        Err(SpellingError::NoCode(_)) => {
-            let units = ucs2_of(alloc, text)?;
-            Ok(Content {
-                coding: Coding::Ucs2,
-                dcs: 8,
-                units,
-            })
-        }
-        Err(SpellingError::NoMemory) => Err(NoMemory),
-    }
-}
-
-// The SUBMIT with the user data of a part.
-fn submit_with(
-    alloc: Global,
-    message_reference: u8,
-    destination: &Address,
-    report: bool,
-    part: &Part,
-    fields: &PartData,
-    octets: &[u8],
-) -> Result<SubmitTpdu, AllocError>
-    requires address { IsAddress destination.now }
-    requires part { IsPart part.now }
-    requires room { HasRoom part.now }
-    requires fields { IsUserData (header_of part.now.key) part.now.content fields.now }
-    requires octets { octets.now ≡ fields.now.octets }
-    ensures { IfOk result (λ tpdu. tpdu ≡ octets_of_submit (submit_for message_reference destination.now report part.now)) }
-{
-    let tpdu = write_submit(
-        alloc,
-        &Submit {
-            reject_duplicates: false,
-            status_report_request: report,
-            user_data_header_indicator: fields.header_indicator,
-            reply_path: false,
-            message_reference,
-            destination_address: *destination,
-            protocol_identifier: 0,
-            data_coding_scheme: part.content.dcs,
-            validity_period: ValidityPeriod::NotPresent,
-            user_data: UserData {
-                length: fields.length,
-                octets: OctetView::of(octets),
-            },
-        },
-    )?;
-    Ok(SubmitTpdu::of(tpdu))
-}
-
-// The SUBMIT of a part.
-fn submit_tpdu(
-    alloc: Global,
-    message_reference: u8,
-    destination: &Address,
-    report: bool,
-    part: &Part,
-) -> Result<SubmitTpdu, AllocError>
-    requires address { IsAddress destination.now }
-    requires part { IsPart part.now }
-    requires room { HasRoom part.now }
-    ensures { IfOk result (λ tpdu. tpdu ≡ octets_of_submit (submit_for message_reference destination.now report part.now)) }
-{
-    let fields = user_data(alloc, part)?;
-    let tpdu = submit_with(
-        alloc,
-        message_reference,
-        destination,
-        report,
-        part,
-        &fields,
-        fields.octets.as_slice(),
-    )?;
-    Ok(tpdu)
-}
+use sms_base::Address;
+use sms_concat::{Part, content_of_text, split};
+use sms_outbox::{
+    EntryState, OutEntry, following, held_message_references, next_free, submit_of_part,
+};
 
 impl<'a> Draft<'a> {
     // The next TP-MR that no unfinished entry holds.
@@ -137,7 +44,7 @@ impl<'a> Draft<'a> {
     {
         let message_reference = self.free_message_reference()?;
         let reference = self.free_reference()?;
-        let tpdu = submit_tpdu(self.alloc, message_reference, destination, report, part)?;
+        let tpdu = submit_of_part(self.alloc, message_reference, destination, report, part)?;
         let counters = self.counters();
         self.put_counters(Counters {
             entry: counters.entry + 1,
@@ -210,47 +117,21 @@ impl<'a> Draft<'a> {
         self.write_parts(destination, report, is_long, parts)
     }
 
-    // Whether the outbox has room for so many parts, and numbers are left.
-    fn fits_outbox(&self, parts: usize) -> Result<bool, NoMemory>
-        requires { parts ≤ 20 }
-        ensures { IfOk result (λ fits. fits ≡ fits_outbox_of parts self.now) }
+    /// The owner writes a text, which was judged: it takes at most 20 parts, and numbers are left for them.
+    pub(crate) fn write(
+        &mut self,
+        text: &str,
+        destination: &Address,
+        report: bool,
+    ) -> Result<(), NoMemory>
+        requires address { IsAddress destination.now }
+        requires numbers { (parts : List PartOf) → split_of (content_of_text (chars text.now)) self.old.rows.counters.concat_reference ≡ Ok parts → self.old.rows.counters.entry + length parts ≤ 4294967295 }
+        ensures { (parts : List PartOf) → split_of (content_of_text (chars text.now)) self.old.rows.counters.concat_reference ≡ Ok parts → OnOk result (self.new ≡ written_of destination.now report parts self.old) }
     {
-        let outbox = self.outbox_now()?;
-        if outbox.as_slice().len() + parts <= 20 {
-            Ok(u64::from(self.counters().entry) + parts as u64 <= 4294967295)
-        } else {
-            Ok(false)
-        }
-    }
-
-    // Parts of a text to a number.
-    fn write_to(&mut self, parts: &[Part], to: &str, report: bool) -> Result<(), PlanError>
-        requires parts { All IsPart parts.now }
-        requires room { All HasRoom parts.now }
-        requires few { length parts.now ≤ 20 }
-        ensures { Tries result self.new (write_to_of report parts.now (address_of 1 1 (chars to.now)) self.old) }
-    {
-        let destination = match Address::new(1, 1, to) {
-            Ok(destination) => destination,
-            Err(fault) => return Err(PlanError::Refused(Refusal::Destination(fault))),
-        };
-        if !self.fits_outbox(parts.len())? {
-            return Err(PlanError::Refused(Refusal::OutboxFull));
-        }
-        self.write_all(&destination, report, parts)?;
-        Ok(())
-    }
-
-    /// The owner writes a text to a number, the international one of the telephone numbering plan. A text that takes
-    /// more than 20 parts is told first, then a faulty number, then a full outbox.
-    pub(crate) fn write(&mut self, text: &str, to: &str, report: bool) -> Result<(), PlanError>
-        ensures { Tries result self.new (write_of (chars text.now) (chars to.now) report self.old) }
-    {
-        let content = content_of(self.alloc, text)?;
+        let content = content_of_text(self.alloc, text)?;
         match split(self.alloc, &content, self.counters().concat_reference) {
-            Ok(parts) => self.write_to(parts.as_slice(), to, report),
-            Err(SplitError::NoMemory) => Err(PlanError::NoMemory),
-            Err(_) => Err(PlanError::Refused(Refusal::TooManyParts)),
+            Ok(parts) => self.write_all(destination, report, parts.as_slice()),
+            Err(_) => Err(NoMemory),
         }
     }
 }

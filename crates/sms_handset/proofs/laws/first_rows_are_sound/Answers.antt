@@ -1,4 +1,4 @@
-use Rattle.std.proofs.Common.{arith, refl}
+use Rattle.std.proofs.Common.{arith}
 use Rattle.sms_handset.specs.declared.setup.Setup.{Setup}
 use Rattle.sms_handset.specs.SoundRows.{IsSetup, IsSound, first_rows}
 use Rattle.sms_handset.proofs.laws.first_rows_are_sound.Goals as goal

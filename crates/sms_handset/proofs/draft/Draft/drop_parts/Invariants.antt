@@ -1,5 +1,5 @@
 use Rattle.std.proofs.Common.{◌≡◌, drop}
-use Rattle.sms_handset.specs.StoredParts.{drop_parts}
+use Rattle.sms_handset.specs.Storing.{drop_parts}
 use Rattle.sms_handset.proofs.draft.Draft.drop_parts.Given as goal
 
 abbrev pub invariant-loop-part : goal.invariant-loop-part

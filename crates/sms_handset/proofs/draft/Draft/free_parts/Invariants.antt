@@ -1,5 +1,5 @@
 use Rattle.std.proofs.Common.{◌≡◌, drop}
-use Rattle.sms_handset.specs.StoredParts.{free_parts}
+use Rattle.sms_handset.specs.Storing.{free_parts}
 use Rattle.sms_handset.proofs.draft.Draft.free_parts.Given as goal
 
 abbrev pub invariant-loop-part : goal.invariant-loop-part

@@ -2,10 +2,10 @@ use Rattle.std.proofs.Common.{◌≡◌, ℕ, [], ◌∷◌, ◌++◌, sym, subs
 use Rattle.sms_table.specs.Pending.{PendingOf}
 use Rattle.sms_table.specs.Table.{Kept, all_applied, row_at}
 use Rattle.sms_table.specs.declared.change.Change.TheVariants.{Remove}
-use Rattle.sms_handset.specs.declared.entry.Entry.{Entry}
-use Rattle.sms_handset.specs.Keys.{entry_key}
-use Rattle.sms_handset.specs.MemoryAvailable.{slots_of, slots_taken}
-use Rattle.sms_handset.proofs.CountedSlots.{no_more, one_removed}
+use Rattle.sms_inbox.specs.declared.entry.Entry.{Entry}
+use Rattle.sms_inbox.specs.Keys.{entry_key}
+use Rattle.sms_inbox.specs.Slots.{slots_of, slots_taken}
+use Rattle.sms_inbox.proofs.CountedSlots.{no_more, one_removed}
 use Rattle.sms_handset.proofs.draft.Draft.remove_entry.Goals as goal
 
 -- what the entry takes that stands there

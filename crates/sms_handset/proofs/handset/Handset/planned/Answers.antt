@@ -2,9 +2,9 @@ use Rattle.std.proofs.Common.{◌≡◌, sym, ◌∙◌, ap, subst}
 use Rattle.sms_table.specs.Table.{Rises}
 use Rattle.sms_handset.specs.declared.rows.Rows.{Rows}
 use Rattle.sms_handset.specs.Draft.{Changes, Draft, HandsetOf, rows_after}
-use Rattle.sms_handset.specs.Keys.{entry_key}
-use Rattle.sms_handset.specs.MemoryAvailable.{slots_taken}
-use Rattle.sms_handset.specs.OpenGroups.{IsRegrouped, Numbered}
+use Rattle.sms_inbox.specs.Keys.{entry_key}
+use Rattle.sms_inbox.specs.Slots.{slots_taken}
+use Rattle.sms_handset.specs.Regrouping.{IsRegrouped, Numbered}
 use Rattle.sms_handset.specs.Planning.{outcome_of}
 use Rattle.sms_handset.proofs.handset.Handset.planned.Goals as goal
 

@@ -1,0 +1,12 @@
+pub mod CountedSlots
+pub mod FewNumbers
+pub mod FindingGroups
+pub mod GroupMembers
+pub mod Indexing
+pub mod Numbers
+pub mod PartsFound
+pub mod SoundEntries
+pub mod SoundGroups
+pub mod SoundMarks
+pub mod SoundRoom
+pub mod InboxTold

@@ -1,0 +1,10 @@
+use Rattle.std.proofs.Common.{List, ◌++◌, ◌∷◌, [], ◌∙◌, ap}
+use Rattle.sms_inbox.specs.declared.entry.Entry.{Entry}
+use Rattle.sms_inbox.specs.Groups.{first_number}
+use Rattle.sms_inbox.proofs.PartsFound.{first_is}
+use Rattle.sms_inbox.proofs.members.Members.first_number.Goals as goal
+
+pub returns : goal.returns
+returns c e q =
+    c.first_entry.ensures ∙ first_is c.self.inside.parts.now c.self.inside.entries.now.rows c.args.number e c.self.invariant q
+    ∙ ap (λ (es : List Entry). first_number (es ++ e ∷ [])) c.self.view_is

@@ -1,0 +1,10 @@
+use Rattle.std.proofs.Common.{ℕ, List, ◌∙◌, ap}
+use Rattle.sms_inbox.specs.declared.entry.Entry.{Entry}
+use Rattle.sms_inbox.specs.Groups.{is_among, part_numbers}
+use Rattle.sms_inbox.proofs.PartsFound.{numbers_are}
+use Rattle.sms_inbox.proofs.members.Members.has.Goals as goal
+
+pub returns : goal.returns
+returns c =
+    c.has_number.ensures ∙ ap (λ (ns : List ℕ). is_among c.args.number ns) (numbers_are c.self.inside.parts.now c.self.inside.entries.now.rows c.self.invariant)
+    ∙ ap (λ (es : List Entry). is_among c.args.number (part_numbers es)) c.self.view_is

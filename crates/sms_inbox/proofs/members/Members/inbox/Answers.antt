@@ -1,0 +1,13 @@
+use Rattle.std.proofs.Common.{List, sym, ◌∙◌, ap}
+use Rattle.sms_inbox.specs.declared.entry.Entry.{Entry}
+use Rattle.sms_inbox.specs.declared.open_group.StoredPart.{StoredPart}
+use Rattle.sms_inbox.specs.OpenGroups.{entries_of, stored_parts}
+use Rattle.sms_inbox.proofs.PartsFound.{stored_again}
+use Rattle.sms_inbox.proofs.members.Members.inbox.Goals as goal
+
+pub returns : goal.returns
+returns c =
+    let rows = c.self.inside.entries.now.rows in
+    ap (λ (es : List Entry). entries_of (stored_parts es) rows) (sym c.self.view_is)
+    ∙ ap (λ (ps : List StoredPart). entries_of ps rows) (stored_again c.self.inside.parts.now rows c.self.invariant)
+    ∙ c.self.view_is

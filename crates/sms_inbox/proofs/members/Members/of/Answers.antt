@@ -1,0 +1,20 @@
+use Rattle.std.proofs.Common.{List, sym, ◌∙◌, ap, subst}
+use Rattle.sms_inbox.specs.declared.open_group.StoredPart.{StoredPart}
+use Rattle.sms_inbox.specs.OpenGroups.{AreFound, entries_of}
+use Rattle.sms_inbox.proofs.FindingGroups.{parts_are}
+use Rattle.sms_inbox.proofs.PartsFound.{members_again, members_found}
+use Rattle.sms_inbox.proofs.members.Members.of.Goals as goal
+
+pub invariant_of-result : goal.invariant_of-result
+invariant_of-result c =
+    let rows = c.args.entries.now.rows in
+    subst (λ (ps : List StoredPart). AreFound ps rows)
+    (sym (c.parts.ensures.parts ∙ parts_are c.args.group.now c.args.groups.now rows c.as_slice-in_order.ensures.order c.requires c.parts.ensures.unique))
+    (members_found c.args.group.now rows c.as_slice-in_order.ensures.order)
+
+pub returns : goal.returns
+returns c =
+    let rows = c.args.entries.now.rows in
+    ap (λ (ps : List StoredPart). entries_of ps rows)
+    (c.parts.ensures.parts ∙ parts_are c.args.group.now c.args.groups.now rows c.as_slice-in_order.ensures.order c.requires c.parts.ensures.unique)
+    ∙ members_again c.args.group.now rows c.as_slice-in_order.ensures.order

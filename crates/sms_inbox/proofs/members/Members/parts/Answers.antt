@@ -1,0 +1,10 @@
+use Rattle.std.proofs.Common.{List, sym, ◌∙◌, ap}
+use Rattle.sms_inbox.specs.declared.entry.Entry.{Entry}
+use Rattle.sms_inbox.specs.OpenGroups.{stored_parts}
+use Rattle.sms_inbox.proofs.PartsFound.{stored_again}
+use Rattle.sms_inbox.proofs.members.Members.parts.Goals as goal
+
+pub returns : goal.returns
+returns c =
+    sym (stored_again c.self.inside.parts.now c.self.inside.entries.now.rows c.self.invariant)
+    ∙ ap (λ (es : List Entry). stored_parts es) c.self.view_is

@@ -1,0 +1,9 @@
+pub mod Keys
+pub mod Groups
+pub mod Slots
+pub mod OpenGroups
+pub mod StoredParts
+pub mod OpenIndex
+pub mod Doubles
+pub mod SoundInbox
+pub mod InboxTest

@@ -1,0 +1,74 @@
+-- Open groups by their first stored parts, and what becomes of them.
+use Rattle.std.specs.Prelude.{List, [], ◌∷◌, ℕ, ◌==◌, if◌then◌else◌, Option, Some, None, ◌≡◌}
+use Rattle.std.specs.List.{AllByRecursion}
+use Rattle.sms_table.specs.Table.{row_at}
+use Rattle.sms_inbox.specs.declared.entry.Entry.{Entry}
+use Rattle.sms_inbox.specs.declared.open_group.StoredPart.{StoredPart}
+use Rattle.sms_inbox.specs.Groups.{part_number, first_number, members, all_numbers, part_numbers}
+use Rattle.sms_inbox.specs.declared.entry.Group.{Group}
+use Rattle.sms_inbox.specs.declared.open_group.OpenGroup.{OpenGroup}
+use Rattle.sms_inbox.specs.declared.entry.Message.{Message}
+use Rattle.sms_inbox.specs.declared.entry.Message.TheVariants.{Single, Part, Joined}
+use Rattle.sms_inbox.specs.Keys.{entry_key}
+use Rattle.sms_inbox.specs.declared.open_group.Regrouping.{Regrouping}
+use Rattle.sms_inbox.specs.declared.open_group.Regrouping.TheVariants.{Unchanged, Opened, Closed}
+
+-- ---- what stands under the number of a first stored part
+
+-- the number of a part's entry, and which part it is
+abbrev pub stored_part : Entry → StoredPart
+stored_part e = record { entry = e.number; number = part_number e.message }
+
+abbrev pub stored_parts : List Entry → List StoredPart
+stored_parts [] = []
+stored_parts (e ∷ es) = stored_part e ∷ stored_parts es
+
+abbrev pub open_group : Group → List Entry → OpenGroup
+open_group g es = record { group = g; parts = stored_parts es }
+
+abbrev pub open_first : ℕ → Group → List Entry → Option OpenGroup
+open_first n g es = if first_number es == n then Some (open_group g es) else None
+
+abbrev pub open_under : ℕ → Message → List Entry → Option OpenGroup
+open_under n (Single tpdu) entries = None
+open_under n (Part group number tpdu) entries = open_first n group (members group entries)
+open_under n (Joined source content) entries = None
+
+abbrev pub open_of : ℕ → Option Entry → List Entry → Option OpenGroup
+open_of n None entries = None
+open_of n (Some e) entries = open_under n e.message entries
+
+-- the open group whose first stored part is the entry of that number, if there is one
+abbrev pub open_at : ℕ → List Entry → Option OpenGroup
+open_at n entries = open_of n (row_at entry_key n entries) entries
+
+-- ---- what an event changes of it
+
+abbrev pub regrouped : Regrouping → ℕ → Option OpenGroup → Option OpenGroup
+regrouped Unchanged n there = there
+regrouped (Opened first group) n there = if first == n then Some group else there
+regrouped (Closed first) n there = if first == n then None else there
+
+-- What becomes of a group that has these parts now: it ends once it is full.
+abbrev pub grouped : Group → List Entry → Regrouping
+grouped g es =
+    if all_numbers g.total (part_numbers es) then Closed (first_number es) else Opened (first_number es) (open_group g es)
+
+-- ---- parts by their entries
+
+abbrev pub found_then : Option Entry → List Entry → List Entry
+found_then None es = es
+found_then (Some e) es = e ∷ es
+
+-- the entries of the parts
+abbrev pub entries_of : List StoredPart → List Entry → List Entry
+entries_of [] entries = []
+entries_of (p ∷ ps) entries = found_then (row_at entry_key p.entry entries) (entries_of ps entries)
+
+abbrev pub IsFoundAs : StoredPart → Option Entry → Type 0
+IsFoundAs p None = ⊥
+IsFoundAs p (Some e) = stored_part e ≡ p
+
+-- each part is the entry of its number
+abbrev pub AreFound : List StoredPart → List Entry → Type 0
+AreFound parts entries = AllByRecursion (λ (p : StoredPart). IsFoundAs p (row_at entry_key p.entry entries)) parts

@@ -1,0 +1,147 @@
+//! The stored parts of a group.
+ghost use Rattle.std.specs.Prelude.{◌≡◌, ◌++◌, ◌∷◌, [], length, IfOk, option_copied};
+ghost use Rattle.sms_inbox.specs.declared.entry.Entry.{Entry as EntryOf};
+ghost use Rattle.sms_inbox.specs.Groups.{first_number as first_number_of, is_among as is_among_of, members as members_of, part_numbers, part_with as part_with_of};
+ghost use Rattle.sms_inbox.specs.OpenGroups.{entries_of, stored_parts};
+ghost use Rattle.sms_inbox.specs.OpenIndex.{Indexes};
+ghost use Rattle.sms_inbox.specs.StoredParts.{entry_with as entry_with_of, numbers_of as numbers_of_parts};
+
+use crate::entry::{Entry, Group};
+use crate::open_group::{OpenGroup, StoredPart};
+use crate::open_groups::{OpenGroups, first_entry};
+use sms_base::Octets;
+use sms_table::{Key, Table};
+use std::alloc::{AllocError, Global};
+use std::marker::Model;
+
+/// The stored parts of a group, seen by contracts as their entries.
+#[derive(Drop)]
+pub struct Members<'a> {
+    entries: &'a Table<Entry>,
+    parts: &'a [StoredPart],
+}
+
+impl<'a> Model for Members<'a> {
+    ghost use Rattle.std.specs.Prelude.{List};
+    ghost use Rattle.sms_inbox.specs.declared.entry.Entry.{Entry as EntryOf};
+    ghost use Rattle.sms_inbox.specs.OpenGroups.{AreFound, entries_of};
+
+    ghost Value = { List EntryOf };
+
+    ghost view = { λ m. entries_of m.parts.now m.entries.now.rows };
+
+    ghost invariant = { λ m. AreFound m.parts.now m.entries.now.rows };
+}
+
+impl<'a> Members<'a> {
+    /// Those of the group, by the index of the entries.
+    pub fn of(groups: &'a OpenGroups, entries: &'a Table<Entry>, group: &Group) -> Members<'a>
+        requires { Indexes groups.now entries.now.rows }
+        ensures { result ≡ members_of group.now entries.entry.now.rows }
+    {
+        // The call tells that the entries stand in order.
+        let _in_order = entries.as_slice();
+        Members {
+            entries,
+            parts: groups.parts(group),
+        }
+    }
+
+    /// Those of an open group that has them.
+    pub fn in_group(entries: &'a Table<Entry>, there: &'a OpenGroup) -> Members<'a>
+        requires { there.now.parts ≡ stored_parts (members_of there.now.group entries.now.rows) }
+        ensures { result ≡ members_of there.entry.now.group entries.entry.now.rows }
+    {
+        // The call tells that the entries stand in order.
+        let _in_order = entries.as_slice();
+        Members {
+            entries,
+            parts: there.parts.as_slice(),
+        }
+    }
+
+    /// How many they are.
+    pub fn len(&self) -> usize
+        ensures { result ≡ length self.now }
+    {
+        self.parts.len()
+    }
+
+    /// The parts, as the index has them.
+    pub fn parts(&self) -> &'a [StoredPart]
+        ensures { result.now ≡ stored_parts self.now }
+    {
+        self.parts
+    }
+
+    /// The inbox of which they are entries.
+    pub fn inbox(&self) -> &'a Table<Entry>
+        ensures { entries_of (stored_parts self.now) result.now.rows ≡ self.now }
+    {
+        self.entries
+    }
+
+    /// Whether the part of that number is there.
+    pub fn has(&self, number: u8) -> bool
+        ensures { result ≡ is_among_of number (part_numbers self.now) }
+    {
+        has_number(self.parts, number)
+    }
+
+    /// The entry that holds the part of that number.
+    pub fn part_with(&self, number: u8) -> Option<&'a Entry>
+        ensures { option_copied result ≡ part_with_of number self.now }
+    {
+        match entry_with(self.parts, number) {
+            Some(entry) => self.entries.find(Key::of(u64::from(entry))),
+            None => None,
+        }
+    }
+
+    /// The number of the first entry, or that number where there is none.
+    pub fn first_number(&self, number: u32) -> u32
+        ensures { (e : EntryOf) → e.number ≡ number → result ≡ first_number_of (self.now ++ e ∷ []) }
+    {
+        first_entry(self.parts, number)
+    }
+
+    /// The numbers of the parts.
+    pub fn numbers(&self, alloc: Global) -> Result<Octets, AllocError>
+        ensures { IfOk result (λ numbers. numbers ≡ part_numbers self.now) }
+    {
+        numbers_of(alloc, self.parts)
+    }
+}
+
+fn has_number(parts: &[StoredPart], number: u8) -> bool
+    ensures { result ≡ is_among_of number (numbers_of_parts parts.now) }
+{
+    for part in parts {
+        if part.number == number {
+            return true;
+        }
+    }
+    false
+}
+
+// The entry of the part of that number.
+fn entry_with(parts: &[StoredPart], number: u8) -> Option<u32>
+    ensures { result ≡ entry_with_of number parts.now }
+{
+    for part in parts {
+        if part.number == number {
+            return Some(part.entry);
+        }
+    }
+    None
+}
+
+fn numbers_of(alloc: Global, parts: &[StoredPart]) -> Result<Octets, AllocError>
+    ensures { IfOk result (λ numbers. numbers ≡ numbers_of_parts parts.now) }
+{
+    let mut numbers = Octets::new(alloc);
+    for part in parts {
+        numbers.push(part.number)?;
+    }
+    Ok(numbers)
+}

@@ -1,0 +1,7 @@
+pub mod CentreAddresses
+pub mod FreeReferences
+pub mod PartFields
+pub mod SoundOutbox
+pub mod SoundReferences
+pub mod SoundWriting
+pub mod OutboxTold

@@ -1,0 +1,9 @@
+pub mod Keys
+pub mod References
+pub mod Answers
+pub mod Settling
+pub mod Offers
+pub mod Submits
+pub mod Reports
+pub mod SoundOutbox
+pub mod OutboxTest
