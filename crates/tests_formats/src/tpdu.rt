@@ -403,16 +403,18 @@ const PERIODS: &[(u8, u64)] = &[
     (255, 38_102_400),
 ];
 
-// For how many seconds after a moment a message is valid.
-fn valid_for(period: ValidityPeriod, now: u64) -> Result<u64, Fail> {
+// Until when a message is valid that came at a moment.
+fn limit_of(period: ValidityPeriod, now: u64) -> Result<u64, Fail> {
     let limit = validity(period, Moment::from_seconds(now)?);
-    Ok(limit.seconds().saturating_sub(now))
+    Ok(limit.seconds())
 }
 
-// The moment until which a message is valid on leap day that is to be delivered before that one.
-fn valid_until(limit: u64) -> Result<u64, Fail> {
-    let absolute = ValidityPeriod::Absolute(Moment::from_seconds(limit)?);
-    Ok(validity(absolute, Moment::from_seconds(LEAP_DAY)?).seconds())
+// Until when it is valid that came on leap day with an absolute limit.
+fn limit_of_absolute(limit: u64) -> Result<u64, Fail> {
+    limit_of(
+        ValidityPeriod::Absolute(Moment::from_seconds(limit)?),
+        LEAP_DAY,
+    )
 }
 
 // The last moment that there is.
@@ -421,21 +423,25 @@ const LAST: u64 = 4_102_444_799;
 #[test]
 fn validity_is_its_table() -> Result<(), Fail> {
     for (period, seconds) in PERIODS {
-        let limit = valid_for(ValidityPeriod::Relative(*period), LEAP_DAY)?;
-        holds(limit == *seconds, "a relative period")?;
+        let limit = limit_of(ValidityPeriod::Relative(*period), LEAP_DAY)?;
+        holds(
+            LEAP_DAY.checked_add(*seconds) == Some(limit),
+            "a relative period",
+        )?;
     }
-    holds(
-        valid_for(ValidityPeriod::Relative(255), LAST)? == 0,
-        "at the end",
-    )?;
-    holds(
-        valid_for(ValidityPeriod::NotPresent, LEAP_DAY)? == 172_800,
-        "no period",
-    )
+    let limit = limit_of(ValidityPeriod::NotPresent, LEAP_DAY)?;
+    holds(limit == LEAP_DAY + 172_800, "no period")
 }
 
 #[test]
-fn absolute_validity_has_an_end() -> Result<(), Fail> {
-    holds(valid_until(LEAP_DAY - 1)? == LEAP_DAY - 1, "the past")?;
-    holds(valid_until(LAST)? == LEAP_DAY + 38_102_400, "too late")
+fn validity_has_an_end() -> Result<(), Fail> {
+    holds(limit_of_absolute(LEAP_DAY - 1)? == LEAP_DAY - 1, "the past")?;
+    holds(
+        limit_of_absolute(LAST)? == LEAP_DAY + 38_102_400,
+        "too late",
+    )?;
+    holds(
+        limit_of(ValidityPeriod::Relative(255), LAST)? == LAST,
+        "the last moment",
+    )
 }
