@@ -1,3 +1,5 @@
+//! Parts that are joined one after the other.
+use crate::rows::{are, holds, is_code};
 use sms_alphabet::Coding;
 use sms_base::Octets;
 use sms_concat::{AddError, ConcatKey, ConcatReference, Content, Joiner, Part, join, split};
@@ -38,133 +40,130 @@ fn taken(joiner: &mut Joiner, alloc: Global, total: u8, numbers: &[u8]) -> Resul
     Ok(joiner.parts().len().saturating_sub(before))
 }
 
-// The units of what the joiner joins to, as a number of two digits each, if it joins.
-fn joined(alloc: Global, joiner: &Joiner) -> Result<Option<u64>, Fail> {
+// How many units the joiner joins to, if it joins.
+fn joined_len(alloc: Global, joiner: &Joiner) -> Result<Option<usize>, Fail> {
     match joiner.finish(alloc)? {
-        Some(content) => {
-            let mut digits: u64 = 0;
-            for unit in content.units.as_slice() {
-                digits = digits.saturating_mul(100).saturating_add(u64::from(*unit));
-            }
-            Ok(Some(digits))
-        }
+        Some(content) => Ok(Some(content.units.len())),
         None => Ok(None),
     }
 }
 
-// Parts 3 and 1, then what is refused: a number that is there, and another total; then part 2.
-fn three_join(joiner: &mut Joiner, alloc: Global) -> Result<bool, Fail> {
-    let two = taken(joiner, alloc, 3, &[3, 1])?;
-    let before = joined(alloc, joiner)?;
-    let was_full = joiner.is_full();
-    let again = taken(joiner, alloc, 3, &[1, 3])?;
-    let other = taken(joiner, alloc, 4, &[2])?;
-    let last = taken(joiner, alloc, 3, &[2])?;
-    let after = joined(alloc, joiner)?;
-    Ok(
-        two == 2
-            && before.is_none()
-            && !was_full
-            && again == 0
-            && other == 0
-            && last == 1
-            && joiner.is_full()
-            && after == Some(10_203),
-    )
+fn joins_to(alloc: Global, joiner: &Joiner, units: &[u8]) -> Result<bool, Fail> {
+    match joiner.finish(alloc)? {
+        Some(content) => Ok(are(content.units.as_slice(), units)),
+        None => Ok(false),
+    }
 }
 
-// The code of the refusal, and the number of the part that is handed back.
-fn refusal(joiner: &mut Joiner, part: Part) -> (&'static str, u8) {
+// Parts 3 and 1 are taken, and do not join yet.
+fn two_wait(joiner: &mut Joiner, alloc: Global) -> Result<bool, Fail> {
+    let two = taken(joiner, alloc, 3, &[3, 1])?;
+    Ok(two == 2 && joined_len(alloc, joiner)?.is_none() && !joiner.is_full())
+}
+
+// A number that is there is refused, and so is another total.
+fn others_are_refused(joiner: &mut Joiner, alloc: Global) -> Result<bool, Fail> {
+    let again = taken(joiner, alloc, 3, &[1, 3])?;
+    let other = taken(joiner, alloc, 4, &[2])?;
+    Ok(again == 0 && other == 0)
+}
+
+// Part 2 is taken, and the parts join.
+fn three_join(joiner: &mut Joiner, alloc: Global) -> Result<bool, Fail> {
+    let last = taken(joiner, alloc, 3, &[2])?;
+    Ok(last == 1 && joiner.is_full() && joins_to(alloc, joiner, &[1, 2, 3])?)
+}
+
+// Whether the joiner refuses the part with that code, and hands back the part of that number.
+fn refuses(joiner: &mut Joiner, part: Part, code: &str, number: u8) -> bool {
     match joiner.add(part) {
-        Ok(()) => ("none", 0),
-        Err(refusal) => {
-            let code = refusal.code().unwrap_or("no memory");
-            let back = refusal.into_part();
-            match back.key {
-                Some(key) => (code, key.number),
-                None => (code, 0),
-            }
-        }
+        Ok(()) => false,
+        Err(refusal) => is_code(refusal.code(), code) && is_numbered(&refusal.into_part(), number),
+    }
+}
+
+fn is_numbered(part: &Part, number: u8) -> bool {
+    match part.key {
+        Some(key) => key.number == number,
+        None => false,
     }
 }
 
 #[test]
 fn parts_join_in_whatever_order_they_come(rt: HostRuntime) -> Result<(), Fail> {
-    let alloc = rt.alloc();
-    let mut joiner = Joiner::new(alloc, key(3, 0));
-    assert!(rt; three_join(&mut joiner, alloc)?);
-    assert!(rt; refusal(&mut joiner, part(alloc, 3, 1)?) == ("C3", 1));
-    Ok(())
+    let mut joiner = Joiner::new(rt.alloc(), key(3, 0));
+    holds(two_wait(&mut joiner, rt.alloc())?, "two parts")?;
+    holds(others_are_refused(&mut joiner, rt.alloc())?, "other parts")?;
+    holds(three_join(&mut joiner, rt.alloc())?, "three parts")?;
+    let again = part(rt.alloc(), 3, 1)?;
+    holds(
+        refuses(&mut joiner, again, "C3", 1),
+        "a part that is handed back",
+    )
 }
 
-// A part of another data coding scheme is taken, and the parts do not join.
-fn other_scheme_does_not_join(joiner: &mut Joiner, alloc: Global) -> Result<bool, Fail> {
+fn part_of_another_scheme(alloc: Global) -> Result<Part, Fail> {
     let mut other = part(alloc, 2, 2)?;
     other.content.dcs = 0x08;
-    let was_taken = joiner.add(other).is_ok();
-    let one = taken(joiner, alloc, 2, &[1])?;
-    let content = joined(alloc, joiner)?;
-    Ok(was_taken && one == 1 && joiner.is_full() && content.is_none())
-}
-
-// A copy stays as it is while the joiner goes on.
-fn copy_stays(joiner: &mut Joiner, alloc: Global) -> Result<bool, Fail> {
-    let copy = joiner.copy(alloc)?;
-    let len = joiner.parts().len();
-    let more = taken(joiner, alloc, 3, &[1])?;
-    Ok(more == 1 && copy.parts().len() == len && joiner.parts().len() == len + 1)
+    Ok(other)
 }
 
 #[test]
 fn a_part_of_another_scheme_does_not_join(rt: HostRuntime) -> Result<(), Fail> {
-    let alloc = rt.alloc();
-    let mut joiner = Joiner::new(alloc, key(2, 1));
-    assert!(rt; other_scheme_does_not_join(&mut joiner, alloc)?);
+    let other = part_of_another_scheme(rt.alloc())?;
+    let mut joiner = Joiner::new(rt.alloc(), key(2, 1));
+    holds(joiner.add(other).is_ok(), "the other part")?;
+    holds(
+        taken(&mut joiner, rt.alloc(), 2, &[1])? == 1,
+        "the first part",
+    )?;
+    holds(
+        joiner.is_full() && joined_len(rt.alloc(), &joiner)?.is_none(),
+        "parts that do not join",
+    )
+}
+
+// A copy stays as it is while the joiner goes on.
+#[test]
+fn a_copy_stays_as_it_is(rt: HostRuntime) -> Result<(), Fail> {
+    let mut joiner = Joiner::new(rt.alloc(), key(3, 1));
+    let copy = joiner.copy(rt.alloc())?;
+    holds(taken(&mut joiner, rt.alloc(), 3, &[1])? == 1, "a part")?;
+    holds(
+        copy.parts().is_empty() && joiner.parts().len() == 1,
+        "a copy",
+    )
+}
+
+// The most parts that a key can have, the last first.
+fn takes_most(joiner: &mut Joiner, alloc: Global) -> Result<(), Fail> {
+    for number in 0..255_u8 {
+        holds(taken(joiner, alloc, 255, &[255 - number])? == 1, "a part")?;
+    }
     Ok(())
 }
 
 #[test]
-fn a_copy_stays_as_it_is(rt: HostRuntime) -> Result<(), Fail> {
-    let alloc = rt.alloc();
-    let mut joiner = Joiner::new(alloc, key(3, 1));
-    assert!(rt; copy_stays(&mut joiner, alloc)?);
+fn the_most_parts_join(rt: HostRuntime) -> Result<(), Fail> {
+    let mut joiner = Joiner::new(rt.alloc(), key(255, 255));
+    takes_most(&mut joiner, rt.alloc())?;
+    let copy = joiner.copy(rt.alloc())?;
+    holds(joined_len(rt.alloc(), &copy)? == Some(255), "255 parts")
+}
+
+fn take_all(joiner: &mut Joiner, parts: Vec<Part>) -> Result<(), Fail> {
+    for part in parts {
+        holds(joiner.add(part).is_ok(), "a part")?;
+    }
     Ok(())
 }
 
-// Whether the most parts that a key can have, the last first, join, and their copy does.
-fn most_parts_join(joiner: &mut Joiner, alloc: Global) -> Result<bool, Fail> {
-    for number in 0..255_u8 {
-        if taken(joiner, alloc, 255, &[255 - number])? == 0 {
-            return Ok(false);
-        }
+// How many units the joiner's parts join to by `join`.
+fn len_by_join(alloc: Global, joiner: &Joiner) -> Result<usize, Fail> {
+    match join(alloc, joiner.parts())? {
+        Some(content) => Ok(content.units.len()),
+        None => Ok(0),
     }
-    let copy = joiner.copy(alloc)?;
-    match copy.finish(alloc)? {
-        Some(content) => Ok(content.units.len() == 255),
-        None => Ok(false),
-    }
-}
-
-// Whether all are taken.
-fn all_taken(joiner: &mut Joiner, parts: Vec<Part>) -> bool {
-    let mut all = true;
-    for part in parts {
-        all = joiner.add(part).is_ok() && all;
-    }
-    all
-}
-
-// Whether the joiner joins to so many units, as `join` does.
-fn joins_to(joiner: &Joiner, alloc: Global, length: usize) -> Result<bool, Fail> {
-    let one = match joiner.finish(alloc)? {
-        Some(content) => content.units.len(),
-        None => 0,
-    };
-    let other = match join(alloc, joiner.parts())? {
-        Some(content) => content.units.len(),
-        None => 0,
-    };
-    Ok(one == length && other == length)
 }
 
 fn parts_of_text(alloc: Global, length: u16) -> Result<Vec<Part>, Fail> {
@@ -182,19 +181,13 @@ fn parts_of_text(alloc: Global, length: u16) -> Result<Vec<Part>, Fail> {
 }
 
 #[test]
-fn the_most_parts_join(rt: HostRuntime) -> Result<(), Fail> {
-    let alloc = rt.alloc();
-    let mut joiner = Joiner::new(alloc, key(255, 255));
-    assert!(rt; most_parts_join(&mut joiner, alloc)?);
-    Ok(())
-}
-
-#[test]
 fn the_longest_parts_join(rt: HostRuntime) -> Result<(), Fail> {
-    let alloc = rt.alloc();
-    let parts = parts_of_text(alloc, 3_040)?;
-    let mut joiner = Joiner::new(alloc, key(20, 1));
-    assert!(rt; all_taken(&mut joiner, parts));
-    assert!(rt; joins_to(&joiner, alloc, 3_040)?);
-    Ok(())
+    let parts = parts_of_text(rt.alloc(), 3_040)?;
+    let mut joiner = Joiner::new(rt.alloc(), key(20, 1));
+    take_all(&mut joiner, parts)?;
+    holds(joined_len(rt.alloc(), &joiner)? == Some(3_040), "a message")?;
+    holds(
+        len_by_join(rt.alloc(), &joiner)? == 3_040,
+        "the same at once",
+    )
 }

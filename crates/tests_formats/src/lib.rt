@@ -13,6 +13,8 @@ mod joiner;
 #[cfg(test)]
 mod other_implementations;
 #[cfg(test)]
+mod rows;
+#[cfg(test)]
 mod table;
 #[cfg(test)]
 mod tpdu;

@@ -18,3 +18,5 @@ mod receiving_tests;
 mod recovery_tests;
 #[cfg(test)]
 mod reference_tests;
+#[cfg(test)]
+mod rows;

@@ -1,5 +1,6 @@
 //! What the owner writes, over frames that were written down elsewhere.
 use crate::pair::Pair;
+use crate::rows::{are, changed, holds};
 use sms_base::AddressError;
 use sms_handset::{EntryState, HandsetEvent, Refusal, TextView};
 use std::test::Fail;
@@ -29,16 +30,16 @@ fn ticks(pair: &mut Pair, seconds: u64, frames: &[&[u8]]) -> Result<(), Fail> {
 // The entry at a place of the outbox is in that state.
 fn is_in(pair: &Pair, place: usize, state: EntryState) -> Result<(), Fail> {
     match pair.handset.outbox().get(place) {
-        Some(entry) if entry.state == state => Ok(()),
-        _ => Err(Fail::new("another state")),
+        Some(entry) => holds(entry.state == state, "a state"),
+        None => Err(Fail::new("no entry")),
     }
 }
 
 // The entry at a place of the outbox has that SUBMIT.
 fn has_tpdu(pair: &Pair, place: usize, tpdu: &[u8]) -> Result<(), Fail> {
     match pair.handset.outbox().get(place) {
-        Some(entry) if entry.tpdu.as_slice() == tpdu => Ok(()),
-        _ => Err(Fail::new("another SUBMIT")),
+        Some(entry) => holds(are(entry.tpdu.as_slice(), tpdu), "a SUBMIT"),
+        None => Err(Fail::new("no entry")),
     }
 }
 
@@ -62,10 +63,8 @@ fn duplicate(pair: &mut Pair) -> Result<(), Fail> {
     pair.gives(&to_a("hello"), &[SUBMIT])?;
     pair.takes(b"\x89\x04", &[])?;
     ticks(pair, 39, &[])?;
-    let mut again = [0x19; 33];
-    again[1..].copy_from_slice(&SUBMIT[1..]);
-    again[15] = 0x05;
-    ticks(pair, 40, &[&again])?;
+    let again = changed(pair.alloc, SUBMIT, &[(0, 0x19), (15, 0x05)])?;
+    ticks(pair, 40, &[again.as_slice()])?;
     let duplicate: &[u8] =
         b"\x99\x01\x10\x05\x00\x01\x15\x41\x0A\x01\xC5\x00\x42\x20\x92\x32\x95\x85\x00";
     pair.takes(duplicate, &[b"\x19\x04"])?;
@@ -79,20 +78,33 @@ fn a_duplicate_of_a_lost_text_is_unsure(rt: HostRuntime) -> Result<(), Fail> {
     duplicate(&mut pair)
 }
 
+// After so many seconds the SUBMIT goes with that octet in front, and is refused by a frame with a cause that passes.
+fn is_tried(
+    pair: &mut Pair,
+    seconds: u64,
+    head: u8,
+    refusal: &[u8],
+    ack: &[u8],
+) -> Result<(), Fail> {
+    let again = changed(pair.alloc, SUBMIT, &[(0, head)])?;
+    ticks(pair, seconds, &[again.as_slice()])?;
+    pair.takes(refusal, &[ack])
+}
+
 fn passing_cause(pair: &mut Pair) -> Result<(), Fail> {
     pair.gives(&to_a("hello"), &[SUBMIT])?;
     pair.takes(b"\x89\x01\x04\x05\x00\x01\x29", &[b"\x09\x04"])?;
     is_in(pair, 0, EntryState::Queued)?;
     ticks(pair, 59, &[])?;
-    let mut again = [0x19; 33];
-    again[1..].copy_from_slice(&SUBMIT[1..]);
-    ticks(pair, 60, &[&again])?;
-    pair.takes(b"\x99\x01\x04\x05\x00\x01\x29", &[b"\x19\x04"])?;
-    again[0] = 0x29;
-    ticks(pair, 120, &[&again])?;
-    pair.takes(b"\xA9\x01\x04\x05\x00\x01\x29", &[b"\x29\x04"])?;
-    is_in(pair, 0, EntryState::Failed)?;
-    Ok(())
+    is_tried(pair, 60, 0x19, b"\x99\x01\x04\x05\x00\x01\x29", b"\x19\x04")?;
+    is_tried(
+        pair,
+        120,
+        0x29,
+        b"\xA9\x01\x04\x05\x00\x01\x29",
+        b"\x29\x04",
+    )?;
+    is_in(pair, 0, EntryState::Failed)
 }
 
 #[test]
@@ -118,6 +130,13 @@ fn a_long_text_is_split(rt: HostRuntime) -> Result<(), Fail> {
     long_text(&mut pair)
 }
 
+fn fills_outbox(pair: &mut Pair) -> Result<(), Fail> {
+    for _ in 0u8..20 {
+        pair.done(&to_a("hello"))?;
+    }
+    Ok(())
+}
+
 fn full_outbox(pair: &mut Pair) -> Result<(), Fail> {
     let nowhere = HandsetEvent::Write {
         text: TextView::of("hello"),
@@ -125,15 +144,9 @@ fn full_outbox(pair: &mut Pair) -> Result<(), Fail> {
         report: false,
     };
     pair.refuses(&nowhere, Refusal::Destination(AddressError::Empty))?;
-    for _ in 0u8..20 {
-        pair.done(&to_a("hello"))?;
-    }
+    fills_outbox(pair)?;
     pair.refuses(&to_a("hello"), Refusal::OutboxFull)?;
-    if pair.handset.outbox().len() == 20 {
-        Ok(())
-    } else {
-        Err(Fail::new("not 20 entries"))
-    }
+    holds(pair.handset.outbox().len() == 20, "20 entries")
 }
 
 #[test]
@@ -146,11 +159,7 @@ fn longest_text(pair: &mut Pair, text: &str) -> Result<(), Fail> {
     if let Some(refusal) = pair.write(text, "447700900123", false)? {
         return Err(Fail::new(refusal));
     }
-    if pair.handset.outbox().len() == 20 {
-        Ok(())
-    } else {
-        Err(Fail::new("not 20 parts"))
-    }
+    holds(pair.handset.outbox().len() == 20, "20 parts")
 }
 
 #[test]

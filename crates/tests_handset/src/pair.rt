@@ -1,12 +1,12 @@
 //! A handset and the plain one beside it: each event happens to both, and they must do and hold the same.
-ghost use Rattle.std.specs.Prelude.{◌<◌};
-
 use crate::kept::Kept;
 use crate::plain::{Plain, Text};
-use sms_base::{Address, Holder, Moment, OctetView, Octets};
+use crate::rows::are;
+use sms_base::{Address, Holder, Listed, Moment, OctetView, Octets};
+use sms_concat::Content;
 use sms_handset::{
-    Entry, Handset, HandsetEvent, Message, OutEntry, PlanError, RecoverError, Refusal, Rows, Setup,
-    TextView,
+    Entry, Group, Handset, HandsetEvent, Message, OutEntry, PlanError, RecoverError, Refusal, Rows,
+    Setup, TextView,
 };
 use sms_link::Outgoing;
 use std::alloc::Global;
@@ -33,9 +33,10 @@ pub(crate) fn started(
     alloc: Global,
     rows: Rows,
     slots: u8,
-) -> Result<Result<Handset, RecoverError>, Fail>
-    requires { 0 < slots }
-{
+) -> Result<Result<Handset, RecoverError>, Fail> {
+    if slots == 0 {
+        return Err(Fail::new("no slots"));
+    }
     let mut rows = rows;
     rows.setup = Setup {
         number: Address::new(1, 1, "447700900456")?,
@@ -47,12 +48,35 @@ pub(crate) fn started(
 }
 
 // The handset that starts with the rows.
-fn recovered(alloc: Global, rows: Rows, slots: u8) -> Result<Handset, Fail>
-    requires { 0 < slots }
-{
+fn recovered(alloc: Global, rows: Rows, slots: u8) -> Result<Handset, Fail> {
     match started(alloc, rows, slots)? {
         Ok(handset) => Ok(handset),
         Err(error) => Err(Fail::new(error)),
+    }
+}
+
+fn first_handset(alloc: Global, slots: u8) -> Result<Handset, Fail> {
+    recovered(alloc, Rows::first(alloc, setup(slots)?), slots)
+}
+
+fn first_plain(alloc: Global, slots: u8) -> Result<Plain, Fail> {
+    let centre = Octets::copy_of(alloc, &CENTRE)?;
+    Ok(Plain::new(alloc, slots, centre, Moment::from_seconds(T0)?))
+}
+
+// The frames that the handset sends, once what it planned is in its store, or why it refuses.
+fn happens(
+    handset: &mut Handset,
+    kept: &mut Kept,
+    event: &HandsetEvent<'_>,
+) -> Result<Result<Listed<Outgoing>, Refusal>, Fail> {
+    match handset.plan(event) {
+        Ok(planned) => {
+            kept.commit(planned.changes())?;
+            Ok(Ok(handset.adopt(planned)))
+        }
+        Err(PlanError::NoMemory) => Err(Fail::new("out of memory")),
+        Err(PlanError::Refused(refusal)) => Ok(Err(refusal)),
     }
 }
 
@@ -61,23 +85,21 @@ fn recovered(alloc: Global, rows: Rows, slots: u8) -> Result<Handset, Fail>
 pub(crate) struct Pair {
     pub(crate) handset: Handset,
     pub(crate) plain: Plain,
+    pub(crate) alloc: Global,
     kept: Kept,
-    alloc: Global,
     events: u32,
 }
 
 impl Pair {
     /// Both are new and have so many slots.
-    pub(crate) fn new(alloc: Global, slots: u8) -> Result<Pair, Fail>
-        requires { 0 < slots }
-    {
-        let mut centre = Octets::new(alloc);
-        centre.append(&CENTRE)?;
+    pub(crate) fn new(alloc: Global, slots: u8) -> Result<Pair, Fail> {
+        let handset = first_handset(alloc, slots)?;
+        let plain = first_plain(alloc, slots)?;
         Ok(Pair {
-            handset: recovered(alloc, Rows::first(alloc, setup(slots)?), slots)?,
-            plain: Plain::new(alloc, slots, centre, Moment::from_seconds(T0)?),
-            kept: Kept::new(alloc),
+            handset,
+            plain,
             alloc,
+            kept: Kept::new(alloc),
             events: 0,
         })
     }
@@ -85,9 +107,6 @@ impl Pair {
     /// Both are switched off and on; the handset begins with the rows that the changes left.
     pub(crate) fn restart(&mut self) -> Result<(), Fail> {
         let slots = self.plain.slots;
-        if slots == 0 {
-            return Err(Fail::new("no slots"));
-        }
         let rows = self.kept.rows(setup(slots)?)?;
         self.handset = recovered(self.alloc, rows, slots)?;
         self.plain.restart();
@@ -98,75 +117,47 @@ impl Pair {
     pub(crate) fn event(&mut self, event: &HandsetEvent<'_>) -> Result<Option<Refusal>, Fail> {
         self.events = self.events.wrapping_add(1);
         let refusal = self.plain.event(event)?;
-        match self.handset.plan(event) {
-            Ok(planned) => {
-                if refusal.is_some() {
-                    return Err(Fail::new(format_args!("event {}: not refused", self.events)));
-                }
-                self.kept.commit(planned.changes())?;
-                let sent = self.handset.adopt(planned);
+        match happens(&mut self.handset, &mut self.kept, event)? {
+            Ok(sent) => {
+                self.agrees(refusal.is_none(), "not refused")?;
                 self.compare_frames(sent.as_slice())?;
             }
-            Err(PlanError::NoMemory) => return Err(Fail::new("out of memory")),
-            Err(PlanError::Refused(refused)) => {
-                if refusal != Some(refused) {
-                    return Err(Fail::new(format_args!("event {}: refused {refused}", self.events)));
-                }
-            }
+            Err(refused) => self.agrees(refusal == Some(refused), "refused in another way")?,
         }
         self.compare_rows()?;
         Ok(refusal)
     }
 
+    // Ends the test where a row does not hold, with the number of the event.
+    fn agrees(&self, row: bool, name: &str) -> Result<(), Fail> {
+        if row {
+            Ok(())
+        } else {
+            Err(Fail::new(format_args!("event {}: {name}", self.events)))
+        }
+    }
+
     fn compare_frames(&self, sent: &[Outgoing]) -> Result<(), Fail> {
         let wanted = self.plain.sent.as_slice();
-        if sent.len() != wanted.len() {
-            return Err(Fail::new(format_args!(
-                "event {}: {} frames, and {} plainly",
-                self.events,
-                sent.len(),
-                wanted.len(),
-            )));
-        }
+        self.agrees(sent.len() == wanted.len(), "another number of frames")?;
         for (one, other) in sent.iter().zip(wanted) {
-            if one.octets.as_slice() != other.octets.as_slice() {
-                return Err(Fail::new(format_args!(
-                    "event {}: the frame {:?}, and {:?} plainly",
-                    self.events,
-                    one.octets.as_slice(),
-                    other.octets.as_slice(),
-                )));
-            }
-            if one.carried != other.carried {
-                return Err(Fail::new(format_args!(
-                    "event {}: the frame carries {:?}, and {:?} plainly",
-                    self.events, one.carried, other.carried,
-                )));
-            }
+            self.agrees(is_same_frame(one, other), "another frame")?;
         }
         Ok(())
     }
 
     fn compare_rows(&self) -> Result<(), Fail> {
-        if !is_same_inbox(self.handset.inbox(), self.plain.entries.as_slice()) {
-            return Err(Fail::new(format_args!(
-                "event {}: the inbox {:?}, and {:?} plainly",
-                self.events,
-                self.handset.inbox(),
-                self.plain.entries.as_slice(),
-            )));
-        }
-        if !self.kept.is_as(&self.plain) {
-            return Err(Fail::new(format_args!("event {}: the store differs", self.events,)));
-        }
-        if !is_same_outbox(self.handset.outbox(), self.plain.outbox.as_slice()) {
-            return Err(Fail::new(format_args!(
-                "event {}: the outboxes differ: {:?}",
-                self.events,
-                self.handset.outbox(),
-            )));
-        }
-        Ok(())
+        let entries = self.plain.entries.as_slice();
+        self.agrees(
+            is_same_inbox(self.handset.inbox(), entries),
+            "another inbox",
+        )?;
+        self.agrees(self.kept.is_as(&self.plain), "another store")?;
+        let texts = self.plain.outbox.as_slice();
+        self.agrees(
+            is_same_outbox(self.handset.outbox(), texts),
+            "another outbox",
+        )
     }
 
     /// A frame comes, made for the holder of that number.
@@ -239,43 +230,39 @@ impl Pair {
         event: &HandsetEvent<'_>,
         refusal: Refusal,
     ) -> Result<(), Fail> {
-        if self.event(event)? == Some(refusal) {
-            Ok(())
-        } else {
-            Err(Fail::new(format_args!("event {}: not refused as {refusal}", self.events)))
-        }
+        let told = self.event(event)?;
+        self.agrees(told == Some(refusal), "not refused so")
     }
 
     /// The inbox has so many entries.
     pub(crate) fn has_stored(&self, entries: usize) -> Result<(), Fail> {
-        if self.handset.inbox().len() == entries {
-            Ok(())
-        } else {
-            Err(Fail::new(format_args!("event {}: not {entries} entries", self.events)))
-        }
+        self.agrees(self.handset.inbox().len() == entries, "not so many entries")
     }
 
     /// The last event sent these frames and no others.
     pub(crate) fn has_sent(&self, frames: &[&[u8]]) -> Result<(), Fail> {
-        if self.sent(frames) {
-            Ok(())
-        } else {
-            Err(Fail::new(format_args!("event {}: other frames", self.events)))
-        }
+        self.agrees(
+            are_frames(self.plain.sent.as_slice(), frames),
+            "other frames",
+        )
     }
+}
 
-    // Whether the last event sent these frames and no others.
-    fn sent(&self, frames: &[&[u8]]) -> bool {
-        if self.plain.sent.len() != frames.len() {
+fn are_frames(sent: &[Outgoing], frames: &[&[u8]]) -> bool {
+    if sent.len() != frames.len() {
+        return false;
+    }
+    for (one, frame) in sent.iter().zip(frames) {
+        if !are(one.octets.as_slice(), frame) {
             return false;
         }
-        for (sent, frame) in self.plain.sent.iter().zip(frames) {
-            if sent.octets.as_slice() != *frame {
-                return false;
-            }
-        }
-        true
     }
+    true
+}
+
+// Whether frames are one, and carry the same.
+fn is_same_frame(one: &Outgoing, other: &Outgoing) -> bool {
+    are(one.octets.as_slice(), other.octets.as_slice()) && one.carried == other.carried
 }
 
 fn is_same_inbox(entries: &[Entry], others: &[Entry]) -> bool {
@@ -293,36 +280,54 @@ fn is_same_inbox(entries: &[Entry], others: &[Entry]) -> bool {
     true
 }
 
-fn is_same_message(message: &Message, other: &Message) -> bool {
-    match (message, other) {
-        (Message::Single { tpdu: one }, Message::Single { tpdu: other }) => {
-            one.as_slice() == other.as_slice()
-        }
-        (
-            Message::Part {
-                group,
-                number,
-                tpdu,
-            },
-            Message::Part {
-                group: other_group,
-                number: other_number,
-                tpdu: other,
-            },
-        ) => group == other_group && number == other_number && tpdu.as_slice() == other.as_slice(),
-        (
-            Message::Joined { source, content },
-            Message::Joined {
-                source: other_source,
-                content: other,
-            },
-        ) => {
-            source == other_source
-                && content.dcs == other.dcs
-                && content.coding == other.coding
-                && content.units.as_slice() == other.units.as_slice()
+// A part of a group, with its number.
+fn is_same_part(group: &Group, number: u8, tpdu: &Octets, other: &Message) -> bool {
+    match other {
+        Message::Part {
+            group: other_group,
+            number: other_number,
+            tpdu: other,
+        } => {
+            group == other_group
+                && number == *other_number
+                && are(tpdu.as_slice(), other.as_slice())
         }
         _ => false,
+    }
+}
+
+fn is_same_single(tpdu: &Octets, other: &Message) -> bool {
+    match other {
+        Message::Single { tpdu: other } => are(tpdu.as_slice(), other.as_slice()),
+        _ => false,
+    }
+}
+
+fn is_same_content(content: &Content, other: &Content) -> bool {
+    content.dcs == other.dcs
+        && content.coding == other.coding
+        && are(content.units.as_slice(), other.units.as_slice())
+}
+
+fn is_same_joined(source: &Address, content: &Content, other: &Message) -> bool {
+    match other {
+        Message::Joined {
+            source: other_source,
+            content: other,
+        } => source == other_source && is_same_content(content, other),
+        _ => false,
+    }
+}
+
+fn is_same_message(message: &Message, other: &Message) -> bool {
+    match message {
+        Message::Single { tpdu } => is_same_single(tpdu, other),
+        Message::Part {
+            group,
+            number,
+            tpdu,
+        } => is_same_part(group, *number, tpdu, other),
+        Message::Joined { source, content } => is_same_joined(source, content, other),
     }
 }
 
@@ -343,7 +348,7 @@ fn is_same_submission(entry: &OutEntry, text: &Text) -> bool {
         && entry.message_reference == text.message_reference
         && entry.reference == text.reference
         && entry.destination == text.to
-        && entry.tpdu.as_slice() == text.submit.as_slice()
+        && are(entry.tpdu.as_slice(), text.submit.as_slice())
         && entry.is_long == text.is_long
 }
 

@@ -1,6 +1,4 @@
 //! Long lists of events from a fixed generator, which happen to the handset and to the plain one.
-ghost use Rattle.std.specs.Prelude.{◌<◌};
-
 use crate::pair::Pair;
 use sms_base::Octets;
 use sms_link::Outgoing;
@@ -24,18 +22,15 @@ struct Dice {
 
 impl Dice {
     // A number from 0 on, below the sides.
-    fn roll(&mut self, sides: u8) -> u8
-        requires { 0 < sides }
-    {
+    fn roll(&mut self, sides: u8) -> u8 {
         self.state = self
             .state
             .wrapping_mul(6_364_136_223_846_793_005)
             .wrapping_add(1_442_695_040_888_963_407);
-        let number = (self.state >> 33) % u64::from(sides);
-        match u8::try_from(number) {
-            Ok(number) => number,
-            Err(_) => 0,
-        }
+        let number = (self.state >> 33)
+            .checked_rem(u64::from(sides))
+            .unwrap_or(0);
+        u8::try_from(number).unwrap_or(0)
     }
 }
 
@@ -392,12 +387,9 @@ impl Others {
     }
 }
 
-// So many events from the seed.
-fn run(alloc: Global, seed: u64, slots: u8, events: u32) -> Result<(), Fail>
-    requires { 0 < slots }
-{
-    let mut pair = Pair::new(alloc, slots)?;
-    let mut others = Others {
+// A centre and an owner that remember nothing yet.
+fn meeting(alloc: Global, seed: u64) -> Others {
+    Others {
         alloc,
         dice: Dice { state: seed },
         begun: 0,
@@ -406,7 +398,13 @@ fn run(alloc: Global, seed: u64, slots: u8, events: u32) -> Result<(), Fail>
         opened: 0,
         frames: Vec::new(alloc),
         seconds: 0,
-    };
+    }
+}
+
+// So many events from the seed.
+fn run(alloc: Global, seed: u64, slots: u8, events: u32) -> Result<(), Fail> {
+    let mut pair = Pair::new(alloc, slots)?;
+    let mut others = meeting(alloc, seed);
     for _ in 0..events {
         others.act(&mut pair)?;
     }

@@ -1,7 +1,9 @@
 //! A handset, and the plain one beside it, over frames that were written down elsewhere.
 use crate::pair::Pair;
-use sms_base::AddressError;
+use crate::rows::{are, changed, holds};
+use sms_base::{AddressError, Octets};
 use sms_handset::{Entry, HandsetEvent, Message, Refusal, TextView};
+use std::alloc::Global;
 use std::test::Fail;
 
 // CP-DATA with an RP-DATA of reference 0: `hello` from 447700900001.
@@ -12,23 +14,23 @@ const HELLO: &[u8] =
 const SECOND: &[u8] =
     b"\x19\x01\x24\x01\x01\x07\x91\x44\x77\x00\x09\x00\x00\x00\x18\x24\x0C\x91\x44\x77\x00\x09\x10\x00\x00\x00\x42\x20\x92\x32\x95\x85\x00\x05\xE8\x32\x9B\xFD\x06";
 
+// RP-ACK of the reference 0, in a transaction.
+const ACK: &[u8] = b"\x89\x01\x06\x02\x00\x41\x02\x00\x00";
+
+// The message comes with other octets, and is acknowledged; the octet is that of the transaction.
+fn is_acknowledged(pair: &mut Pair, head: u8, changes: &[(usize, u8)]) -> Result<(), Fail> {
+    let again = changed(pair.alloc, HELLO, changes)?;
+    let ack = changed(pair.alloc, ACK, &[(0, head)])?;
+    pair.takes(again.as_slice(), &[&[head, 0x04], ack.as_slice()])?;
+    pair.has_stored(1)
+}
+
 fn double(pair: &mut Pair) -> Result<(), Fail> {
-    let ack: &[u8] = b"\x89\x01\x06\x02\x00\x41\x02\x00\x00";
-    pair.takes(HELLO, &[b"\x89\x04", ack])?;
-    pair.has_stored(1)?;
-    let mut again = [0x19; 39];
-    again[1..].copy_from_slice(&HELLO[1..]);
-    let ack: &[u8] = b"\x99\x01\x06\x02\x00\x41\x02\x00\x00";
-    pair.takes(&again, &[b"\x99\x04", ack])?;
-    pair.has_stored(1)?;
+    is_acknowledged(pair, 0x89, &[])?;
+    is_acknowledged(pair, 0x99, &[(0, 0x19)])?;
     // the same, which tells now that more messages wait
-    again[0] = 0x29;
-    again[15] = 0x20;
-    let ack: &[u8] = b"\xA9\x01\x06\x02\x00\x41\x02\x00\x00";
-    pair.takes(&again, &[b"\xA9\x04", ack])?;
-    pair.has_stored(1)?;
-    pair.refuses(&HandsetEvent::Delete { entry: 2 }, Refusal::NoEntry)?;
-    Ok(())
+    is_acknowledged(pair, 0xA9, &[(0, 0x29), (15, 0x20)])?;
+    pair.refuses(&HandsetEvent::Delete { entry: 2 }, Refusal::NoEntry)
 }
 
 #[test]
@@ -58,39 +60,38 @@ fn a_full_handset_says_when_it_has_memory_again(rt: HostRuntime) -> Result<(), F
     memory_available(&mut pair)
 }
 
+// A message comes in that transaction under the reference, and is answered so; the answer is acknowledged.
+fn is_answered(pair: &mut Pair, head: u8, reference: u8, answer: &[u8]) -> Result<(), Fail> {
+    let other = head.saturating_add(128);
+    let frame = changed(pair.alloc, HELLO, &[(0, head), (4, reference)])?;
+    let unit = changed(pair.alloc, answer, &[(0, other), (4, reference)])?;
+    pair.takes(frame.as_slice(), &[&[other, 4], unit.as_slice()])?;
+    pair.takes(&[head, 4], &[])
+}
+
+// RP-ERROR of a handset whose memory is full.
+const FULL: &[u8] = b"\x99\x01\x09\x04\x01\x01\x16\x41\x03\x00\xD3\x00";
+
 // The slot is taken, the next message is refused, and the slot becomes free.
 fn fills_and_frees(
     pair: &mut Pair,
     entry: u32,
-    stored: [u8; 2],
-    refused: [u8; 2],
+    stored: (u8, u8),
+    refused: (u8, u8),
     smma: &[u8],
 ) -> Result<(), Fail> {
-    let [head, reference] = stored;
-    let other = head.saturating_add(128);
-    let ack = [other, 1, 6, 2, reference, 0x41, 2, 0, 0];
-    let mut frame = [head; 39];
-    frame[1..].copy_from_slice(&HELLO[1..]);
-    frame[4] = reference;
-    pair.takes(&frame, &[&[other, 4], &ack])?;
-    pair.takes(&[head, 4], &[])?;
-    let [head, reference] = refused;
-    let other = head.saturating_add(128);
-    let full = [other, 1, 9, 4, reference, 1, 0x16, 0x41, 3, 0, 0xD3, 0];
-    frame[0] = head;
-    frame[4] = reference;
-    pair.takes(&frame, &[&[other, 4], &full])?;
-    pair.takes(&[head, 4], &[])?;
+    is_answered(pair, stored.0, stored.1, ACK)?;
+    is_answered(pair, refused.0, refused.1, FULL)?;
     pair.gives(&HandsetEvent::Delete { entry }, &[smma])
 }
 
 fn two_notices(pair: &mut Pair) -> Result<(), Fail> {
     let first: &[u8] = b"\x09\x01\x02\x06\x00";
-    fills_and_frees(pair, 1, [0x09, 0], [0x19, 1], first)?;
+    fills_and_frees(pair, 1, (0x09, 0), (0x19, 1), first)?;
     // RP-ERROR 38: it waits for TRAM
     pair.takes(b"\x89\x01\x04\x05\x00\x01\x26", &[b"\x09\x04"])?;
     let second: &[u8] = b"\x19\x01\x02\x06\x01";
-    fills_and_frees(pair, 2, [0x29, 2], [0x39, 3], second)?;
+    fills_and_frees(pair, 2, (0x29, 2), (0x39, 3), second)?;
     pair.takes(b"\x99\x01\x02\x03\x01", &[b"\x19\x04"])?;
     pair.tick(29)?;
     pair.has_sent(&[])?;
@@ -104,30 +105,40 @@ fn a_notice_that_waits_holds_up_no_other(rt: HostRuntime) -> Result<(), Fail> {
     two_notices(&mut pair)
 }
 
-// CP-DATA with a part: the octet of its transaction, its RP reference, the concatenation reference, total and number,
-// and one septet, moved left by one fill bit.
-fn part(head: u8, reference: u8, key: [u8; 3], septet: u8) -> [u8; 41] {
+// CP-DATA with part 1 of 3 under the reference 7, and one septet, moved left by one fill bit.
+const PART: &[u8] =
+    b"\x09\x01\x26\x01\x00\x07\x91\x44\x77\x00\x09\x00\x00\x00\x1A\x44\x0C\x91\x44\x77\x00\x09\x10\x00\x00\x00\x42\x20\x92\x32\x95\x85\x00\x08\x05\x00\x03\x07\x03\x01\xC2";
+
+// The same in that transaction, under another RP reference, concatenation reference, total and number.
+fn part(alloc: Global, head: u8, reference: u8, key: [u8; 3], septet: u8) -> Result<Octets, Fail> {
     let [concat, total, number] = key;
-    [
-        head, 0x01, 0x26, 0x01, reference, 0x07, 0x91, 0x44, 0x77, 0x00, 0x09, 0x00, 0x00, 0x00,
-        0x1A, 0x44, 0x0C, 0x91, 0x44, 0x77, 0x00, 0x09, 0x10, 0x00, 0x00, 0x00, 0x42, 0x20, 0x92,
-        0x32, 0x95, 0x85, 0x00, 0x08, 0x05, 0x00, 0x03, concat, total, number, septet,
-    ]
+    let front = changed(alloc, PART, &[(0, head), (4, reference)])?;
+    changed(
+        alloc,
+        front.as_slice(),
+        &[(37, concat), (38, total), (39, number), (40, septet)],
+    )
+}
+
+// The octet of a transaction that the centre begins.
+fn head_of(ti: u8) -> u8 {
+    (ti % 7).saturating_mul(16).saturating_add(9)
 }
 
 // A part comes, is acknowledged, and its acknowledgement is.
 fn takes_part(pair: &mut Pair, ti: u8, key: [u8; 3], septet: u8) -> Result<(), Fail> {
-    let head = ti % 7 * 16 + 9;
-    let ack = [head + 128, 0x01, 0x06, 0x02, ti, 0x41, 0x02, 0x00, 0x00];
-    let frame = part(head, ti, key, septet);
-    pair.takes(&frame, &[&[head + 128, 0x04], &ack])?;
+    let head = head_of(ti);
+    let other = head.saturating_add(128);
+    let frame = part(pair.alloc, head, ti, key, septet)?;
+    let ack = changed(pair.alloc, ACK, &[(0, other), (4, ti)])?;
+    pair.takes(frame.as_slice(), &[&[other, 0x04], ack.as_slice()])?;
     pair.takes(&[head, 0x04], &[])
 }
 
 // Whether the entry is a joined message of these septets.
 fn is_joined(entry: &Entry, septets: &[u8]) -> bool {
     match &entry.message {
-        Message::Joined { content, .. } => content.units.as_slice() == septets,
+        Message::Joined { content, .. } => are(content.units.as_slice(), septets),
         _ => false,
     }
 }
@@ -135,20 +146,25 @@ fn is_joined(entry: &Entry, septets: &[u8]) -> bool {
 // The inbox has one entry, a message of these septets that was joined of so many parts.
 fn has_joined(pair: &Pair, number: u32, parts: u8, septets: &[u8]) -> Result<(), Fail> {
     match pair.handset.inbox() {
-        [entry] if entry.number == number && entry.slots == parts && is_joined(entry, septets) => {
-            Ok(())
-        }
-        _ => Err(Fail::new("not joined")),
+        [entry] => holds(
+            entry.number == number && entry.slots == parts && is_joined(entry, septets),
+            "a joined message",
+        ),
+        _ => Err(Fail::new("not one entry")),
     }
+}
+
+fn part_again(pair: &mut Pair) -> Result<(), Fail> {
+    let again = part(pair.alloc, 0x29, 1, [7, 3, 1], 0xC2)?;
+    let ack: &[u8] = b"\xA9\x01\x06\x02\x01\x41\x02\x00\x00";
+    pair.takes(again.as_slice(), &[b"\xA9\x04", ack])?;
+    pair.has_stored(2)
 }
 
 fn three_parts(pair: &mut Pair) -> Result<(), Fail> {
     takes_part(pair, 0, [7, 3, 3], 0xC6)?;
     takes_part(pair, 1, [7, 3, 1], 0xC2)?;
-    let again = part(0x29, 1, [7, 3, 1], 0xC2);
-    let ack: &[u8] = b"\xA9\x01\x06\x02\x01\x41\x02\x00\x00";
-    pair.takes(&again, &[b"\xA9\x04", ack])?;
-    pair.has_stored(2)?;
+    part_again(pair)?;
     takes_part(pair, 3, [7, 3, 2], 0xC4)?;
     has_joined(pair, 1, 3, b"abc")
 }
@@ -159,12 +175,17 @@ fn parts_are_joined_in_order(rt: HostRuntime) -> Result<(), Fail> {
     three_parts(&mut pair)
 }
 
-fn discarded_group(pair: &mut Pair) -> Result<(), Fail> {
+// The first part of two is discarded.
+fn discards_part(pair: &mut Pair) -> Result<(), Fail> {
     takes_part(pair, 0, [9, 2, 1], 0xC2)?;
     pair.refuses(&HandsetEvent::Delete { entry: 1 }, Refusal::StillOpen)?;
     pair.gives(&HandsetEvent::Discard { entry: 1 }, &[])?;
     pair.has_stored(0)?;
-    pair.refuses(&HandsetEvent::Discard { entry: 1 }, Refusal::NoEntry)?;
+    pair.refuses(&HandsetEvent::Discard { entry: 1 }, Refusal::NoEntry)
+}
+
+fn discarded_group(pair: &mut Pair) -> Result<(), Fail> {
+    discards_part(pair)?;
     takes_part(pair, 1, [9, 2, 2], 0xC4)?;
     pair.has_stored(0)?;
     takes_part(pair, 2, [9, 2, 1], 0xF0)?;
@@ -178,22 +199,22 @@ fn a_discarded_group_is_forgotten_with_its_last_part(rt: HostRuntime) -> Result<
     discarded_group(&mut pair)
 }
 
+// A group of its own reference opens, and is discarded.
+fn discards_group(pair: &mut Pair, n: u8) -> Result<(), Fail> {
+    takes_part(pair, n, [n, 2, 1], 0xC2)?;
+    let entry = u32::from(n).saturating_add(1);
+    pair.gives(&HandsetEvent::Discard { entry }, &[])
+}
+
 fn discarded_groups(pair: &mut Pair) -> Result<(), Fail> {
     for n in 0u8..64 {
-        takes_part(pair, n, [n, 2, 1], 0xC2)?;
-        pair.gives(
-            &HandsetEvent::Discard {
-                entry: u32::from(n) + 1,
-            },
-            &[],
-        )?;
+        discards_group(pair, n)?;
     }
     takes_part(pair, 64, [64, 2, 1], 0xC2)?;
     pair.refuses(
         &HandsetEvent::Discard { entry: 65 },
         Refusal::TooManyDiscarded,
-    )?;
-    Ok(())
+    )
 }
 
 #[test]

@@ -1,5 +1,6 @@
 //! Rows that no handset committed.
 use crate::pair::{setup, started};
+use crate::rows::holds;
 use sms_base::Octets;
 use sms_handset::{Entry, Message, RecoverError, Rows};
 use std::alloc::Global;
@@ -19,29 +20,33 @@ fn single(alloc: Global, number: u32) -> Result<Entry, Fail> {
     })
 }
 
-// Why a handset can't start with two messages of these numbers, 3 being the next to give.
-fn refusal(alloc: Global, numbers: [u32; 2]) -> Result<Option<RecoverError>, Fail> {
+// A handset's first rows, and two messages of these numbers, 3 being the next to give.
+fn rows_of(alloc: Global, one: u32, other: u32) -> Result<Rows, Fail> {
     let mut rows = Rows::first(alloc, setup(1)?);
     rows.counters.entry = 3;
-    for number in numbers {
-        rows.entries.push(single(alloc, number)?)?;
+    rows.entries.push(single(alloc, one)?)?;
+    rows.entries.push(single(alloc, other)?)?;
+    Ok(rows)
+}
+
+// Whether no handset starts with them.
+fn are_bad(alloc: Global, one: u32, other: u32) -> Result<bool, Fail> {
+    match started(alloc, rows_of(alloc, one, other)?, 1)? {
+        Ok(_) => Ok(false),
+        Err(error) => Ok(error == RecoverError::BadRows),
     }
-    match started(alloc, rows, 1)? {
-        Ok(_) => Ok(None),
-        Err(error) => Ok(Some(error)),
-    }
+}
+
+fn is_started(alloc: Global, one: u32, other: u32) -> Result<bool, Fail> {
+    Ok(started(alloc, rows_of(alloc, one, other)?, 1)?.is_ok())
 }
 
 #[test]
 fn rows_with_two_entries_of_one_number_are_refused(rt: HostRuntime) -> Result<(), Fail> {
-    if refusal(rt.alloc(), [1, 2])? != None {
-        return Err(Fail::new("sound rows are refused"));
-    }
-    if refusal(rt.alloc(), [1, 1])? != Some(RecoverError::BadRows) {
-        return Err(Fail::new("two entries of one number"));
-    }
-    if refusal(rt.alloc(), [1, 3])? != Some(RecoverError::BadRows) {
-        return Err(Fail::new("an entry of a number that was not given"));
-    }
-    Ok(())
+    holds(is_started(rt.alloc(), 1, 2)?, "sound rows")?;
+    holds(are_bad(rt.alloc(), 1, 1)?, "two entries of one number")?;
+    holds(
+        are_bad(rt.alloc(), 1, 3)?,
+        "an entry of a number that was not given",
+    )
 }

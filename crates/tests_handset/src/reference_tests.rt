@@ -1,5 +1,6 @@
 //! References go around, past those that are held.
 use crate::pair::Pair;
+use crate::rows::holds;
 use sms_handset::HandsetEvent;
 use std::test::Fail;
 
@@ -16,14 +17,19 @@ const SECOND: [u8; 34] = [
     0x00, 0x00,
 ];
 
+// The transaction that RP-SMMA or RP-DATA begins, and its reference.
+fn begun_by(frame: &[u8]) -> Result<(u8, u8), Fail> {
+    match frame {
+        [head, 1, _, 6, reference] if *head < 128 => Ok((*head, *reference)),
+        [head, 1, _, 0, reference, ..] if *head < 128 => Ok((*head, *reference)),
+        _ => Err(Fail::new("nothing was begun")),
+    }
+}
+
 // The transaction that the last event began, and the reference of its unit.
 fn begun(pair: &Pair) -> Result<(u8, u8), Fail> {
     match pair.plain.sent.as_slice() {
-        [frame] => match frame.octets.as_slice() {
-            [head, 1, _, 6, reference] if *head < 128 => Ok((*head, *reference)),
-            [head, 1, _, 0, reference, ..] if *head < 128 => Ok((*head, *reference)),
-            _ => Err(Fail::new("nothing was begun")),
-        },
+        [frame] => begun_by(frame.octets.as_slice()),
         _ => Err(Fail::new("nothing was begun")),
     }
 }
@@ -68,20 +74,25 @@ fn text_goes(pair: &mut Pair, number: u32) -> Result<(), Fail> {
 // The newest text has that TP-MR and that reference.
 fn newest_has(pair: &Pair, message_reference: u8, reference: u8) -> Result<(), Fail> {
     match pair.handset.outbox() {
-        [.., newest]
-            if newest.message_reference == message_reference && newest.reference == reference => {
-            Ok(())
-        }
-        _ => Err(Fail::new("other references")),
+        [.., newest] => holds(
+            newest.message_reference == message_reference && newest.reference == reference,
+            "references",
+        ),
+        [] => Err(Fail::new("no text")),
     }
+}
+
+fn texts_go(pair: &mut Pair) -> Result<(), Fail> {
+    for number in 3u32..257 {
+        text_goes(pair, number)?;
+    }
+    Ok(())
 }
 
 fn references(pair: &mut Pair) -> Result<(), Fail> {
     holding(pair)?;
     newest_has(pair, 0, 1)?;
-    for number in 3u32..257 {
-        text_goes(pair, number)?;
-    }
+    texts_go(pair)?;
     write(pair)?;
     newest_has(pair, 255, 2)?;
     write(pair)?;

@@ -1,10 +1,11 @@
 //! Frames of the control layer: worked, with a fault, and at their greatest size.
-use crate::octets::are;
-use sms_base::OctetView;
+use crate::rows::{are, holds, is};
+use sms_base::{OctetView, Octets};
 use sms_control::{
     Cp, CpCause, CpFault, LinkError, MessageType, Transaction, TransactionFlag,
     TransactionIdentifier,
 };
+use std::alloc::Global;
 use std::test::Fail;
 
 // A unit for a handset, as a frame of the first transaction.
@@ -14,54 +15,67 @@ const FRAME: [u8; 39] = [
     0x00, 0x05, 0xE8, 0x32, 0x9B, 0xFD, 0x06,
 ];
 
-fn fault(octets: &[u8]) -> Option<CpFault> {
+fn is_truncated(octets: &[u8]) -> bool {
     match Cp::read(octets) {
-        Ok(_) => None,
-        Err(fault) => Some(fault),
+        Err(CpFault::Truncated) => true,
+        _ => false,
     }
 }
 
 #[test]
-fn fronts_are_truncated(rt: HostRuntime) {
+fn fronts_are_truncated() -> Result<(), Fail> {
     for len in 0..39 {
-        assert_eq!(rt; fault(&FRAME[..len]), Some(CpFault::Truncated), "at {len}");
+        holds(is_truncated(&FRAME[..len]), "a front")?;
     }
-    assert_eq!(rt; fault(&FRAME), None);
+    Ok(())
 }
 
-#[test]
-fn faults_are_named(rt: HostRuntime) {
-    for (octets, code) in [
-        ([0x09, 0x01, 0x00, 0x00].as_slice(), "P4"),
-        ([0x09, 0x01, 0xF9].as_slice(), "P4"),
-        ([0x08].as_slice(), "P3"),
-        ([0x79].as_slice(), "P3"),
-        ([0xF9, 0x04].as_slice(), "P3"),
-        ([0x09, 0x02].as_slice(), "P3"),
-        ([0x09, 0x04, 0x00].as_slice(), "P2"),
-        ([0x09, 0x01, 0x01, 0x05, 0x05].as_slice(), "P2"),
-        ([0x89, 0x10, 0x51, 0x00].as_slice(), "P2"),
-        ([0x89, 0x10].as_slice(), "P1"),
-    ] {
-        let told = match fault(octets) {
-            Some(fault) => fault.code(),
-            None => "none",
-        };
-        assert_eq!(rt; told, code, "at {octets:?}");
+fn code(octets: &[u8]) -> &'static str {
+    match Cp::read(octets) {
+        Ok(_) => "none",
+        Err(fault) => fault.code(),
     }
 }
+
+const CODES: &[(&[u8], &str)] = &[
+    (&FRAME, "none"),
+    (&[0x09, 0x01, 0x00, 0x00], "P4"),
+    (&[0x09, 0x01, 0xF9], "P4"),
+    (&[0x08], "P3"),
+    (&[0x79], "P3"),
+    (&[0xF9, 0x04], "P3"),
+    (&[0x09, 0x02], "P3"),
+    (&[0x09, 0x04, 0x00], "P2"),
+    (&[0x09, 0x01, 0x01, 0x05, 0x05], "P2"),
+    (&[0x89, 0x10, 0x51, 0x00], "P2"),
+    (&[0x89, 0x10], "P1"),
+];
+
+#[test]
+fn faults_are_named() -> Result<(), Fail> {
+    for (octets, wanted) in CODES {
+        holds(code(octets) == *wanted, wanted)?;
+    }
+    Ok(())
+}
+
+fn is_written_alike(alloc: Global, octets: &[u8]) -> Result<bool, Fail> {
+    let cp = Cp::read(octets)?;
+    let written = cp.write(alloc)?;
+    Ok(is(written.as_slice(), octets))
+}
+
+const FRAMES: &[&[u8]] = &[
+    &FRAME,
+    &[0x89, 0x04],
+    &[0x69, 0x10, 0x51],
+    &[0xE9, 0x10, 0x7F],
+];
 
 #[test]
 fn frames_are_written(rt: HostRuntime) -> Result<(), Fail> {
-    for octets in [
-        FRAME.as_slice(),
-        [0x89, 0x04].as_slice(),
-        [0x69, 0x10, 0x51].as_slice(),
-        [0xE9, 0x10, 0x7F].as_slice(),
-    ] {
-        let cp = Cp::read(octets)?;
-        let written = cp.write(rt.alloc())?;
-        assert_eq!(rt; written.as_slice(), octets);
+    for octets in FRAMES {
+        holds(is_written_alike(rt.alloc(), octets)?, "a frame")?;
     }
     Ok(())
 }
@@ -69,37 +83,77 @@ fn frames_are_written(rt: HostRuntime) -> Result<(), Fail> {
 // The longest unit that a frame carries.
 const LONGEST: [u8; 248] = [0x5A; 248];
 
-#[test]
-fn the_greatest_frame_is_written(rt: HostRuntime) -> Result<(), Fail> {
+// CP-DATA of the longest unit, in the last transaction of the other side's.
+fn longest(alloc: Global) -> Result<Octets, Fail> {
     let Some(last) = TransactionIdentifier::new(6) else {
-        return Err(Fail::from("no identifier 6"));
-    };
-    let transaction = Transaction {
-        flag: TransactionFlag::ToOriginator,
-        identifier: last,
+        return Err(Fail::new("no identifier 6"));
     };
     let data = Cp::DataUnit {
-        transaction,
+        transaction: Transaction {
+            flag: TransactionFlag::ToOriginator,
+            identifier: last,
+        },
         unit: OctetView::of(&LONGEST),
     };
-    let written = data.write(rt.alloc())?;
-    assert_eq!(rt; written.len(), 251);
-    assert!(rt; are(written.as_slice(), &[&[0xE9, 0x01, 0xF8], &LONGEST]));
-    assert!(rt; matches!(Cp::read(written.as_slice()), Ok(Cp::DataUnit { .. })));
-    Ok(())
+    Ok(data.write(alloc)?)
+}
+
+fn is_data(octets: &[u8]) -> bool {
+    match Cp::read(octets) {
+        Ok(Cp::DataUnit { .. }) => true,
+        _ => false,
+    }
 }
 
 #[test]
-fn words_have_their_octets(rt: HostRuntime) {
-    assert_eq!(rt; CpCause::of(81), CpCause::InvalidTransactionIdentifier);
-    assert_eq!(rt; CpCause::of(18), CpCause::Other(18));
-    assert_eq!(rt; CpCause::ProtocolErrorUnspecified.octet(), 111);
-    assert_eq!(rt; MessageType::of(0x10), Some(MessageType::Error));
-    assert_eq!(rt; MessageType::of(0x02), None);
-    assert_eq!(rt; MessageType::Ack.octet(), 0x04);
-    assert_eq!(rt; LinkError::Busy.code(), Some("L1"));
-    assert_eq!(rt; LinkError::NothingToAnswer.code(), Some("L2"));
-    assert_eq!(rt; LinkError::NoMemory.code(), None);
+fn the_greatest_frame_is_written(rt: HostRuntime) -> Result<(), Fail> {
+    let written = longest(rt.alloc())?;
+    holds(
+        are(written.as_slice(), &[&[0xE9, 0x01, 0xF8], &LONGEST]),
+        "a frame",
+    )?;
+    holds(
+        written.len() == 251 && is_data(written.as_slice()),
+        "CP-DATA",
+    )
+}
+
+#[test]
+fn causes_have_their_octets() -> Result<(), Fail> {
+    holds(
+        CpCause::of(81) == CpCause::InvalidTransactionIdentifier,
+        "81",
+    )?;
+    holds(CpCause::of(18) == CpCause::Other(18), "18")?;
+    holds(CpCause::ProtocolErrorUnspecified.octet() == 111, "111")
+}
+
+#[test]
+fn message_types_have_their_octets() -> Result<(), Fail> {
+    holds(
+        MessageType::of(0x10) == Some(MessageType::Error),
+        "CP-ERROR",
+    )?;
+    holds(MessageType::of(0x02).is_none(), "no type")?;
+    holds(MessageType::Ack.octet() == 0x04, "CP-ACK")
+}
+
+// Whether the code, if there is one, is that.
+fn has_code(error: LinkError, wanted: &str) -> bool {
+    match error.code() {
+        Some(code) => code == wanted,
+        None => false,
+    }
+}
+
+#[test]
+fn refusals_have_codes() -> Result<(), Fail> {
+    holds(has_code(LinkError::Busy, "L1"), "busy")?;
+    holds(
+        has_code(LinkError::NothingToAnswer, "L2"),
+        "nothing to answer",
+    )?;
+    holds(LinkError::NoMemory.code().is_none(), "no memory")
 }
 
 // The number of the identifier after that one.
@@ -118,17 +172,25 @@ fn octet_back(octet: u8) -> Option<u8> {
     }
 }
 
+const NEXT: &[(u8, Option<u8>)] = &[(0, Some(1)), (6, Some(0)), (7, None)];
+
+const BACK: &[(u8, Option<u8>)] = &[(0x09, Some(0x89)), (0xE9, Some(0x69)), (0xF9, None)];
+
 #[test]
-fn identifiers_go_around(rt: HostRuntime) {
-    assert_eq!(rt; TransactionIdentifier::first().number(), 0);
-    assert_eq!(rt; number_after(0), Some(1));
-    assert_eq!(rt; number_after(6), Some(0));
-    assert_eq!(rt; number_after(7), None);
-    assert_eq!(rt; octet_back(0x09), Some(0x89));
-    assert_eq!(rt; octet_back(0xE9), Some(0x69));
-    assert_eq!(rt; octet_back(0xF9), None);
-    assert_eq!(rt;
-        TransactionFlag::ToOriginator.turned(),
-        TransactionFlag::FromOriginator
-    );
+fn identifiers_go_around() -> Result<(), Fail> {
+    for (number, next) in NEXT {
+        holds(number_after(*number) == *next, "an identifier")?;
+    }
+    holds(TransactionIdentifier::first().number() == 0, "the first")
+}
+
+#[test]
+fn flags_are_turned() -> Result<(), Fail> {
+    for (octet, back) in BACK {
+        holds(octet_back(*octet) == *back, "a transaction")?;
+    }
+    holds(
+        TransactionFlag::ToOriginator.turned() == TransactionFlag::FromOriginator,
+        "a flag",
+    )
 }

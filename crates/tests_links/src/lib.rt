@@ -7,8 +7,8 @@ mod control;
 #[cfg(test)]
 mod link;
 #[cfg(test)]
-mod octets;
-#[cfg(test)]
 mod relay;
+#[cfg(test)]
+mod rows;
 #[cfg(test)]
 mod transactions;

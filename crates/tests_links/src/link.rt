@@ -1,9 +1,10 @@
 //! Both ends of a link, over frames from outside: rows of calls, with the frames that each sends, what each carries and
 //! whether it is a copy, and what goes up.
-use crate::octets::are;
-use sms_base::{Carried, Holder, Kind, Moment};
+use crate::rows::{are, holds, is};
+use sms_base::{Carried, Holder, Kind, Moment, Octets};
 use sms_link::{Ending, Link, LinkOut, Outgoing, Side, Upward};
 use sms_relay::RpCause;
+use std::alloc::Global;
 use std::test::Fail;
 
 // 2024-02-29 23:59:58.
@@ -63,18 +64,38 @@ fn at(seconds: u64) -> Result<Moment, Fail> {
     Ok(Moment::from_seconds(T0)?.plus(seconds))
 }
 
+// A message of the first transfer.
+fn begun(link: &mut Link, seconds: u64, unit: &[u8]) -> Result<LinkOut, Fail> {
+    if unit.is_empty() || unit.len() > 248 {
+        return Err(Fail::new("no unit"));
+    }
+    let frames = link.begin(at(seconds)?, 3, TAG, unit)?;
+    Ok(LinkOut { frames, up: None })
+}
+
+// Its acknowledgement.
+fn replied(link: &mut Link, seconds: u64, unit: &[u8]) -> Result<LinkOut, Fail> {
+    if unit.is_empty() || unit.len() > 248 {
+        return Err(Fail::new("no unit"));
+    }
+    let frames = link.reply(at(seconds)?, Kind::Ack, 3, TAG, unit)?;
+    Ok(LinkOut { frames, up: None })
+}
+
+fn taken(link: &mut Link, frame: &[u8]) -> Result<LinkOut, Fail> {
+    Ok(link.take(frame)?)
+}
+
+fn fired(link: &mut Link, seconds: u64) -> Result<LinkOut, Fail> {
+    Ok(link.fire(at(seconds)?)?)
+}
+
 fn called(link: &mut Link, call: &Call) -> Result<LinkOut, Fail> {
     match call {
-        Call::Begin(seconds) => Ok(LinkOut {
-            frames: link.begin(at(*seconds)?, 3, TAG, DATA_UP)?,
-            up: None,
-        }),
-        Call::Reply(seconds) => Ok(LinkOut {
-            frames: link.reply(at(*seconds)?, Kind::Ack, 3, TAG, ACK_DOWN)?,
-            up: None,
-        }),
-        Call::Take(frame) => Ok(link.take(frame)?),
-        Call::Fire(seconds) => Ok(link.fire(at(*seconds)?)?),
+        Call::Begin(seconds) => begun(link, *seconds, DATA_UP),
+        Call::Reply(seconds) => replied(link, *seconds, ACK_DOWN),
+        Call::Take(frame) => taken(link, frame),
+        Call::Fire(seconds) => fired(link, *seconds),
     }
 }
 
@@ -86,16 +107,19 @@ fn carried_by(frame: &[u8]) -> Option<Carried> {
     }
 }
 
+fn is_data(frame: &Outgoing, expected: &[u8]) -> bool {
+    is(frame.octets.as_slice(), expected) && frame.carried == carried_by(expected)
+}
+
+fn is_bare(frame: &Outgoing, expected: &[u8]) -> bool {
+    is(frame.octets.as_slice(), expected) && frame.carried.is_none() && !frame.is_copy
+}
+
 fn is_sent(frame: &Outgoing, sent: &Sent) -> bool {
-    let octets = frame.octets.as_slice();
     match sent {
-        Sent::New(expected) => {
-            octets == *expected && frame.carried == carried_by(expected) && !frame.is_copy
-        }
-        Sent::Copy(expected) => {
-            octets == *expected && frame.carried == carried_by(expected) && frame.is_copy
-        }
-        Sent::Bare(expected) => octets == *expected && frame.carried.is_none() && !frame.is_copy,
+        Sent::New(expected) => is_data(frame, expected) && !frame.is_copy,
+        Sent::Copy(expected) => is_data(frame, expected) && frame.is_copy,
+        Sent::Bare(expected) => is_bare(frame, expected),
     }
 }
 
@@ -120,39 +144,45 @@ fn ending_word(ending: &Ending) -> &'static str {
     }
 }
 
+fn unit_word(unit: &[u8]) -> &'static str {
+    if is(unit, DATA_UP) {
+        "opened"
+    } else {
+        "another unit"
+    }
+}
+
 fn word(up: &Option<Upward>) -> &'static str {
     match up {
-        Some(Upward::Opened(unit)) => {
-            if unit.as_slice() == DATA_UP {
-                "opened"
-            } else {
-                "another unit"
-            }
-        }
-        Some(Upward::Ended { transfer, ending }) => {
-            if *transfer == SENT {
-                ending_word(ending)
-            } else {
-                "another transfer"
-            }
-        }
+        Some(Upward::Opened(unit)) => unit_word(unit.as_slice()),
+        Some(Upward::Ended { transfer, ending }) if *transfer == SENT => ending_word(ending),
+        Some(Upward::Ended { .. }) => "another transfer",
         None => "",
     }
 }
 
-// The first row that differs.
-fn differing(link: &mut Link, rows: &[Row]) -> Result<Option<usize>, Fail> {
-    for (index, (call, sent, told)) in rows.iter().enumerate() {
-        let out = called(link, call)?;
-        if !are_sent(out.frames.as_slice(), sent) || word(&out.up) != *told {
-            return Ok(Some(index));
+fn gives(out: &LinkOut, sent: &[Sent], told: &str) -> bool {
+    are_sent(out.frames.as_slice(), sent) && word(&out.up) == told
+}
+
+fn goes(link: &mut Link, row: &Row) -> Result<bool, Fail> {
+    let (call, sent, told) = row;
+    let out = called(link, call)?;
+    Ok(gives(&out, sent, told))
+}
+
+// Each row goes so, after those before it.
+fn all_go(link: &mut Link, rows: &[Row]) -> Result<(), Fail> {
+    for (index, row) in rows.iter().enumerate() {
+        if !goes(link, row)? {
+            return Err(Fail::new(index));
         }
     }
-    Ok(None)
+    Ok(())
 }
 
 // A handset's message is lost, sent again and acknowledged; the answer comes twice.
-const AT_THE_HANDSET: [Row; 6] = [
+const AT_THE_HANDSET: &[Row] = &[
     (Call::Begin(0), &[Sent::New(DATA_FRAME)], ""),
     (Call::Begin(0), &[], ""),
     (Call::Fire(10), &[Sent::Copy(DATA_FRAME)], ""),
@@ -168,13 +198,15 @@ const AT_THE_HANDSET: [Row; 6] = [
 #[test]
 fn a_handset_sends_a_message(rt: HostRuntime) -> Result<(), Fail> {
     let mut link = Link::new(rt.alloc(), Side::Handset);
-    assert_eq!(rt; differing(&mut link, &AT_THE_HANDSET)?, None);
-    assert!(rt; !link.is_busy() && link.under_way().is_none());
-    Ok(())
+    all_go(&mut link, AT_THE_HANDSET)?;
+    holds(
+        !link.is_busy() && link.under_way().is_none(),
+        "nothing under way",
+    )
 }
 
 // The centre takes it and answers; the message comes again, and the answer isn't acknowledged in time.
-const AT_THE_CENTRE: [Row; 5] = [
+const AT_THE_CENTRE: &[Row] = &[
     (Call::Reply(0), &[], ""),
     (Call::Take(DATA_FRAME), &[Sent::Bare(b"\x89\x04")], "opened"),
     (Call::Reply(0), &[Sent::New(ACK_FRAME)], ""),
@@ -186,23 +218,23 @@ const AT_THE_CENTRE: [Row; 5] = [
     (Call::Fire(10), &[Sent::Copy(ACK_FRAME)], ""),
 ];
 
-const ACKNOWLEDGED: [Row; 2] = [
+const ACKNOWLEDGED: &[Row] = &[
     (Call::Take(b"\x09\x04"), &[], ""),
     (Call::Take(DATA_FRAME), &[Sent::Bare(b"\x89\x04")], ""),
 ];
 
+// A copy goes on where the link stands, which still has its answer to send.
 #[test]
 fn a_centre_answers_a_message(rt: HostRuntime) -> Result<(), Fail> {
     let mut link = Link::new(rt.alloc(), Side::Centre);
-    assert_eq!(rt; differing(&mut link, &AT_THE_CENTRE)?, None);
+    all_go(&mut link, AT_THE_CENTRE)?;
     let mut copy = link.copy()?;
-    assert_eq!(rt; differing(&mut copy, &ACKNOWLEDGED)?, None);
-    assert!(rt; !link.awaits_reply());
-    Ok(())
+    all_go(&mut copy, ACKNOWLEDGED)?;
+    holds(!link.awaits_reply(), "no reply to give")
 }
 
 // Answers that are none, and none at all.
-const UNANSWERED: [Row; 10] = [
+const UNANSWERED: &[Row] = &[
     (Call::Begin(0), &[Sent::New(DATA_FRAME)], ""),
     (
         Call::Take(b"\x89\x01\x02\x03\x04"),
@@ -252,22 +284,23 @@ const UNANSWERED: [Row; 10] = [
 #[test]
 fn a_message_may_stay_unanswered(rt: HostRuntime) -> Result<(), Fail> {
     let mut link = Link::new(rt.alloc(), Side::Handset);
-    assert_eq!(rt; differing(&mut link, &UNANSWERED)?, None);
-    Ok(())
+    all_go(&mut link, UNANSWERED)
+}
+
+fn is_refusal(ending: &Ending, refusal: &[u8]) -> bool {
+    match ending {
+        Ending::Refused {
+            cause: RpCause::ShortMessageTransferRejected,
+            tpdu: Some(tpdu),
+        } => is(tpdu.as_slice(), refusal),
+        _ => false,
+    }
 }
 
 // What refuses the handset's message: the cause, and the TPDU where there is one.
 fn is_refused(out: &LinkOut, refusal: &[u8]) -> bool {
     match &out.up {
-        Some(
-            Upward::Ended {
-                ending: Ending::Refused {
-                    cause,
-                    tpdu: Some(tpdu),
-                },
-                ..
-            },
-        ) => { *cause == RpCause::ShortMessageTransferRejected && tpdu.as_slice() == refusal }
+        Some(Upward::Ended { ending, .. }) => is_refusal(ending, refusal),
         _ => false,
     }
 }
@@ -275,10 +308,13 @@ fn is_refused(out: &LinkOut, refusal: &[u8]) -> bool {
 #[test]
 fn a_refusal_comes_up_with_its_tpdu(rt: HostRuntime) -> Result<(), Fail> {
     let mut link = Link::new(rt.alloc(), Side::Handset);
-    link.begin(at(0)?, 3, TAG, DATA_UP)?;
-    assert!(rt; link.is_busy() && link.under_way() == Some(SENT));
-    assert!(rt; is_refused(&link.take(ERROR_FRAME)?, REFUSAL));
-    Ok(())
+    begun(&mut link, 0, DATA_UP)?;
+    holds(
+        link.is_busy() && link.under_way() == Some(SENT),
+        "a message",
+    )?;
+    let out = taken(&mut link, ERROR_FRAME)?;
+    holds(is_refused(&out, REFUSAL), "a refusal")
 }
 
 // Units of 248 octets, and RP-ERROR with a TPDU of 242 octets.
@@ -299,46 +335,63 @@ fn sends_longest(frames: &[Outgoing], first: &[u8], carried: Carried) -> bool {
     }
 }
 
+fn is_longest(up: &Option<Upward>) -> bool {
+    match up {
+        Some(Upward::Opened(unit)) => is(unit.as_slice(), &LONGEST),
+        _ => false,
+    }
+}
+
 // The other end takes the frame that was sent.
 fn passed(frames: &[Outgoing], link: &mut Link) -> Result<bool, Fail> {
     match frames {
-        [frame] => match &link.take(frame.octets.as_slice())?.up {
-            Some(Upward::Opened(unit)) => Ok(unit.as_slice() == LONGEST.as_slice()),
-            _ => Ok(false),
-        },
+        [frame] => Ok(is_longest(&taken(link, frame.octets.as_slice())?.up)),
         _ => Ok(false),
     }
 }
 
+fn goes_longest(out: &LinkOut) -> bool {
+    sends_longest(out.frames.as_slice(), &[0x09, 0x01], SENT)
+}
+
 // The longest unit is sent, lost, and sent again; the centre takes it.
-fn goes_over(handset: &mut Link, centre: &mut Link) -> Result<bool, Fail> {
-    let sent = handset.begin(at(0)?, 3, TAG, &LONGEST)?;
-    let again = handset.fire(at(10)?)?;
-    Ok(
-        sends_longest(sent.as_slice(), &[0x09, 0x01], SENT)
-            && sends_longest(again.frames.as_slice(), &[0x09, 0x01], SENT)
-            && passed(again.frames.as_slice(), centre)?,
+fn goes_over(handset: &mut Link, centre: &mut Link) -> Result<(), Fail> {
+    let sent = begun(handset, 0, &LONGEST)?;
+    holds(goes_longest(&sent), "a unit")?;
+    let again = fired(handset, 10)?;
+    holds(goes_longest(&again), "the unit again")?;
+    holds(
+        passed(again.frames.as_slice(), centre)?,
+        "the unit at the centre",
     )
 }
 
+fn comes_longest(out: &LinkOut) -> bool {
+    sends_longest(out.frames.as_slice(), &[0x89, 0x01], ANSWERED)
+}
+
 // So is the longest answer, by a copy of the link that gave it.
-fn is_answered(centre: &mut Link) -> Result<bool, Fail> {
-    let sent = centre.reply(at(10)?, Kind::Ack, 3, TAG, &LONGEST)?;
-    let again = centre.copy()?.fire(at(20)?)?;
-    Ok(
-        sends_longest(sent.as_slice(), &[0x89, 0x01], ANSWERED)
-            && sends_longest(again.frames.as_slice(), &[0x89, 0x01], ANSWERED),
-    )
+fn is_answered(centre: &mut Link) -> Result<(), Fail> {
+    let sent = replied(centre, 10, &LONGEST)?;
+    holds(comes_longest(&sent), "an answer")?;
+    let mut copy = centre.copy()?;
+    let again = fired(&mut copy, 20)?;
+    holds(comes_longest(&again), "the answer again")
+}
+
+// The handset takes the longest refusal.
+fn is_refused_at_length(handset: &mut Link, alloc: Global) -> Result<(), Fail> {
+    let mut error = Octets::copy_of(alloc, REFUSING)?;
+    error.append(&LONG_TPDU)?;
+    let out = taken(handset, error.as_slice())?;
+    holds(is_refused(&out, &LONG_TPDU), "a refusal")
 }
 
 #[test]
 fn the_longest_units_are_carried(rt: HostRuntime) -> Result<(), Fail> {
     let mut handset = Link::new(rt.alloc(), Side::Handset);
     let mut centre = Link::new(rt.alloc(), Side::Centre);
-    assert!(rt; goes_over(&mut handset, &mut centre)?);
-    assert!(rt; is_answered(&mut centre)?);
-    let mut error = Vec::from_slice(rt.alloc(), REFUSING)?;
-    error.extend_from_slice(&LONG_TPDU)?;
-    assert!(rt; is_refused(&handset.take(error.as_slice())?, &LONG_TPDU));
-    Ok(())
+    goes_over(&mut handset, &mut centre)?;
+    is_answered(&mut centre)?;
+    is_refused_at_length(&mut handset, rt.alloc())
 }

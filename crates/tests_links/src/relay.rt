@@ -1,7 +1,8 @@
 //! Whole units in the octets of a network trace, and at their greatest size.
-use crate::octets::are;
-use sms_base::OctetView;
+use crate::rows::{are, holds, is};
+use sms_base::{OctetView, Octets};
 use sms_relay::{RelayFault, Rp, RpCause, read_down, read_up, write_down, write_up};
+use std::alloc::Global;
 use std::test::Fail;
 
 const SMMA: &[u8] = b"\x06\x05";
@@ -27,105 +28,163 @@ const ACK_DOWN: &[u8] = b"\x03\x03\x41\x09\x01\x00\x42\x20\x92\x32\x95\x85\x00";
 
 const ERROR_DOWN: &[u8] = b"\x05\x03\x01\x15\x41\x0A\x01\xC6\x00\x42\x20\x92\x32\x95\x85\x00";
 
-#[test]
-fn reads_what_a_handset_sends(rt: HostRuntime) -> Result<(), Fail> {
-    let Ok(
-        Rp::DataUnit {
-            reference,
-            centre,
-            unit,
-        },
-    ) = read_up(DATA_UP)
-    else {
-        return Err(Fail::from("no RP-DATA"));
-    };
-    assert_eq!(rt; reference, 3);
-    assert!(rt; centre.as_slice() == CENTRE);
-    assert!(rt; unit.as_slice() == SUBMIT);
+const ERROR_UP: &[u8] = b"\x04\x01\x01\x16\x41\x03\x00\xD3\x00";
 
-    let Ok(Rp::ErrorUnit { cause, .. }) = read_up(b"\x04\x01\x01\x16\x41\x03\x00\xD3\x00") else {
-        return Err(Fail::from("no RP-ERROR"));
-    };
-    assert_eq!(rt; cause, RpCause::MemoryCapacityExceeded);
+fn is_submit(octets: &[u8]) -> bool {
+    match read_up(octets) {
+        Ok(
+            Rp::DataUnit {
+                reference: 3,
+                centre,
+                unit,
+            },
+        ) => is(centre.as_slice(), CENTRE) && is(unit.as_slice(), SUBMIT),
+        _ => false,
+    }
+}
 
-    assert!(rt;
-        matches!(
-            read_up(b"\x02\x00\x41\x02\x00\x00"),
-            Ok(Rp::AckUnit { unit: Some(_), .. })
-        )
-    );
-    assert!(rt; matches!(read_up(SMMA), Ok(Rp::Smma { reference: 5 })));
-    assert!(rt;
-        matches!(
-            read_down(b"\x03\x05"),
-            Ok(Rp::AckUnit {
+fn is_memory_exceeded(octets: &[u8]) -> bool {
+    match read_up(octets) {
+        Ok(
+            Rp::ErrorUnit {
+                cause: RpCause::MemoryCapacityExceeded,
+                ..
+            },
+        ) => true,
+        _ => false,
+    }
+}
+
+fn is_ack_with_a_unit(octets: &[u8]) -> bool {
+    match read_up(octets) {
+        Ok(Rp::AckUnit { unit: Some(_), .. }) => true,
+        _ => false,
+    }
+}
+
+fn is_memory_available(octets: &[u8]) -> bool {
+    match read_up(octets) {
+        Ok(Rp::Smma { reference: 5 }) => true,
+        _ => false,
+    }
+}
+
+fn is_bare_ack(octets: &[u8]) -> bool {
+    match read_down(octets) {
+        Ok(
+            Rp::AckUnit {
                 reference: 5,
-                unit: None
-            })
-        )
-    );
+                unit: None,
+            },
+        ) => true,
+        _ => false,
+    }
+}
+
+#[test]
+fn units_are_read() -> Result<(), Fail> {
+    holds(is_submit(DATA_UP), "RP-DATA")?;
+    holds(is_memory_exceeded(ERROR_UP), "RP-ERROR")?;
+    holds(is_ack_with_a_unit(b"\x02\x00\x41\x02\x00\x00"), "RP-ACK")?;
+    holds(is_memory_available(SMMA), "RP-SMMA")?;
+    holds(is_bare_ack(b"\x03\x05"), "RP-ACK of a centre")
+}
+
+fn is_truncated(octets: &[u8]) -> bool {
+    match read_up(octets) {
+        Err(RelayFault::Truncated) => true,
+        _ => false,
+    }
+}
+
+#[test]
+fn fronts_are_truncated() -> Result<(), Fail> {
+    for length in 0..DATA_UP.len() {
+        holds(is_truncated(&DATA_UP[..length]), "a front")?;
+    }
     Ok(())
 }
 
-#[test]
-fn tells_the_first_fault(rt: HostRuntime) {
-    for length in 0..DATA_UP.len() {
-        assert!(rt;
-            matches!(read_up(&DATA_UP[..length]), Err(RelayFault::Truncated)),
-            "at {length}"
-        );
-    }
-    let cases: [(&[u8], &str); 9] = [
-        (b"\x00", "J1"),
-        (b"\x02\x03\x41", "J1"),
-        (b"\x06\x05\x00", "J2"),
-        (b"\x02\x03\x40", "J2"),
-        (b"\x07", "J3"),
-        (b"\x00\x03\x01", "J4"),
-        (b"\x00\x03\x00\x01", "J4"),
-        (b"\x04\x01\x03", "J4"),
-        (b"\x04\x01\x01\x80", "J4"),
-    ];
-    for (octets, code) in cases {
-        let Err(fault) = read_up(octets) else {
-            panic!(rt; "{code}");
-        };
-        assert_eq!(rt; fault.code(), code);
+fn code(octets: &[u8]) -> &'static str {
+    match read_up(octets) {
+        Ok(_) => "none",
+        Err(fault) => fault.code(),
     }
 }
 
+const CODES: &[(&[u8], &str)] = &[
+    (b"\x00", "J1"),
+    (b"\x02\x03\x41", "J1"),
+    (b"\x06\x05\x00", "J2"),
+    (b"\x02\x03\x40", "J2"),
+    (b"\x07", "J3"),
+    (b"\x00\x03\x01", "J4"),
+    (b"\x00\x03\x00\x01", "J4"),
+    (b"\x04\x01\x03", "J4"),
+    (b"\x04\x01\x01\x80", "J4"),
+];
+
 #[test]
-fn writes_what_a_centre_sends(rt: HostRuntime) -> Result<(), Fail> {
+fn faults_are_named() -> Result<(), Fail> {
+    for (octets, wanted) in CODES {
+        holds(code(octets) == *wanted, wanted)?;
+    }
+    Ok(())
+}
+
+fn data_down(alloc: Global) -> Result<Octets, Fail> {
     let data = Rp::DataUnit {
         reference: 0,
         centre: OctetView::of(CENTRE),
         unit: OctetView::of(DELIVER),
     };
-    assert!(rt; write_down(rt.alloc(), &data)?.as_slice() == DATA_DOWN);
+    Ok(write_down(alloc, &data)?)
+}
+
+fn ack_down(alloc: Global) -> Result<Octets, Fail> {
     let ack = Rp::AckUnit {
         reference: 3,
         unit: Some(OctetView::of(REPORT)),
     };
-    assert!(rt; write_down(rt.alloc(), &ack)?.as_slice() == ACK_DOWN);
+    Ok(write_down(alloc, &ack)?)
+}
+
+fn error_down(alloc: Global) -> Result<Octets, Fail> {
     let error = Rp::ErrorUnit {
         reference: 3,
         cause: RpCause::ShortMessageTransferRejected,
         unit: Some(OctetView::of(REFUSAL)),
     };
-    assert!(rt; write_down(rt.alloc(), &error)?.as_slice() == ERROR_DOWN);
-    Ok(())
+    Ok(write_down(alloc, &error)?)
 }
 
 #[test]
-fn writes_what_a_handset_sends(rt: HostRuntime) -> Result<(), Fail> {
-    assert!(rt; write_up(rt.alloc(), &Rp::Smma { reference: 5 })?.as_slice() == SMMA);
+fn writes_what_a_centre_sends(rt: HostRuntime) -> Result<(), Fail> {
+    holds(is(data_down(rt.alloc())?.as_slice(), DATA_DOWN), "RP-DATA")?;
+    holds(is(ack_down(rt.alloc())?.as_slice(), ACK_DOWN), "RP-ACK")?;
+    holds(
+        is(error_down(rt.alloc())?.as_slice(), ERROR_DOWN),
+        "RP-ERROR",
+    )
+}
+
+fn smma_up(alloc: Global) -> Result<Octets, Fail> {
+    Ok(write_up(alloc, &Rp::Smma { reference: 5 })?)
+}
+
+fn data_up(alloc: Global) -> Result<Octets, Fail> {
     let data = Rp::DataUnit {
         reference: 3,
         centre: OctetView::of(CENTRE),
         unit: OctetView::of(SUBMIT),
     };
-    assert!(rt; write_up(rt.alloc(), &data)?.as_slice() == DATA_UP);
-    Ok(())
+    Ok(write_up(alloc, &data)?)
+}
+
+#[test]
+fn writes_what_a_handset_sends(rt: HostRuntime) -> Result<(), Fail> {
+    holds(is(smma_up(rt.alloc())?.as_slice(), SMMA), "RP-SMMA")?;
+    holds(is(data_up(rt.alloc())?.as_slice(), DATA_UP), "RP-DATA")
 }
 
 // The longest address of a centre: a type octet and 20 digits.
@@ -136,57 +195,89 @@ const LONGEST_CENTRE: [u8; 11] = [
 // The longest TPDU that a unit has room for.
 const LONGEST: [u8; 255] = [0x5A; 255];
 
-#[test]
-fn the_greatest_units_are_written(rt: HostRuntime) -> Result<(), Fail> {
+fn longest_data_up(alloc: Global) -> Result<Octets, Fail> {
     let data = Rp::DataUnit {
         reference: 255,
         centre: OctetView::of(&LONGEST_CENTRE),
         unit: OctetView::of(&LONGEST),
     };
-    let up = write_up(rt.alloc(), &data)?;
-    let head: &[u8] = &[0x00, 0xFF, 0x00, 0x0B];
-    assert!(rt; are(up.as_slice(), &[head, &LONGEST_CENTRE, &[0xFF], &LONGEST]));
-    let down = write_down(rt.alloc(), &data)?;
-    let head: &[u8] = &[0x01, 0xFF, 0x0B];
-    assert!(rt;
-        are(
-            down.as_slice(),
-            &[head, &LONGEST_CENTRE, &[0x00, 0xFF], &LONGEST]
-        )
-    );
+    Ok(write_up(alloc, &data)?)
+}
+
+fn longest_data_down(alloc: Global) -> Result<Octets, Fail> {
+    let data = Rp::DataUnit {
+        reference: 255,
+        centre: OctetView::of(&LONGEST_CENTRE),
+        unit: OctetView::of(&LONGEST),
+    };
+    Ok(write_down(alloc, &data)?)
+}
+
+fn longest_ack_up(alloc: Global) -> Result<Octets, Fail> {
     let ack = Rp::AckUnit {
         reference: 255,
         unit: Some(OctetView::of(&LONGEST)),
     };
-    let ack = write_up(rt.alloc(), &ack)?;
-    assert!(rt; are(ack.as_slice(), &[&[0x02, 0xFF, 0x41, 0xFF], &LONGEST]));
+    Ok(write_up(alloc, &ack)?)
+}
+
+fn longest_error_down(alloc: Global) -> Result<Octets, Fail> {
     let error = Rp::ErrorUnit {
         reference: 255,
         cause: RpCause::Interworking,
         unit: Some(OctetView::of(&LONGEST)),
     };
-    let error = write_down(rt.alloc(), &error)?;
-    assert!(rt;
-        are(
-            error.as_slice(),
-            &[&[0x05, 0xFF, 0x01, 0x7F, 0x41, 0xFF], &LONGEST]
-        )
-    );
-    assert!(rt;
-        matches!(
-            read_down(error.as_slice()),
-            Ok(Rp::ErrorUnit {
-                cause: RpCause::Interworking,
-                ..
-            })
-        )
-    );
-    Ok(())
+    Ok(write_down(alloc, &error)?)
 }
 
 #[test]
-fn knows_each_cause_by_its_number(rt: HostRuntime) {
-    assert_eq!(rt; RpCause::of(97), RpCause::MessageTypeNonExistent);
-    assert_eq!(rt; RpCause::of(11), RpCause::Reserved(11));
-    assert_eq!(rt; RpCause::Congestion.number(), 42);
+fn the_greatest_data_is_written(rt: HostRuntime) -> Result<(), Fail> {
+    let up = longest_data_up(rt.alloc())?;
+    let parts: &[&[u8]] = &[
+        &[0x00, 0xFF, 0x00, 0x0B],
+        &LONGEST_CENTRE,
+        &[0xFF],
+        &LONGEST,
+    ];
+    holds(are(up.as_slice(), parts), "RP-DATA of a handset")?;
+    let down = longest_data_down(rt.alloc())?;
+    let parts: &[&[u8]] = &[
+        &[0x01, 0xFF, 0x0B],
+        &LONGEST_CENTRE,
+        &[0x00, 0xFF],
+        &LONGEST,
+    ];
+    holds(are(down.as_slice(), parts), "RP-DATA of a centre")
+}
+
+fn is_interworking(octets: &[u8]) -> bool {
+    match read_down(octets) {
+        Ok(
+            Rp::ErrorUnit {
+                cause: RpCause::Interworking,
+                ..
+            },
+        ) => true,
+        _ => false,
+    }
+}
+
+#[test]
+fn the_greatest_answers_are_written(rt: HostRuntime) -> Result<(), Fail> {
+    let ack = longest_ack_up(rt.alloc())?;
+    holds(
+        are(ack.as_slice(), &[&[0x02, 0xFF, 0x41, 0xFF], &LONGEST]),
+        "RP-ACK",
+    )?;
+    let error = longest_error_down(rt.alloc())?;
+    let parts: &[&[u8]] = &[&[0x05, 0xFF, 0x01, 0x7F, 0x41, 0xFF], &LONGEST];
+    holds(are(error.as_slice(), parts), "RP-ERROR")?;
+    holds(is_interworking(error.as_slice()), "RP-ERROR that is read")
+}
+
+#[test]
+fn knows_each_cause_by_its_number() -> Result<(), Fail> {
+    holds(RpCause::of(97) == RpCause::MessageTypeNonExistent, "97")?;
+    holds(RpCause::of(11) == RpCause::Reserved(11), "11")?;
+    holds(RpCause::Congestion.number() == 42, "42")
 }

@@ -1,6 +1,6 @@
 //! Transactions of one end of a link, over frames from outside: rows of calls, with the frames that each sends and what
 //! goes up.
-use crate::octets::are;
+use crate::rows::{are, holds, is};
 use sms_base::Moment;
 use sms_control::{LinkError, Links, Out, Up};
 use std::test::Fail;
@@ -32,24 +32,32 @@ fn at(seconds: u64) -> Result<Moment, Fail> {
 
 fn begun(links: &mut Links, seconds: u64, unit: &[u8]) -> Result<Out, Fail> {
     if unit.is_empty() || unit.len() > 248 {
-        return Err(Fail::from("no unit"));
+        return Err(Fail::new("no unit"));
     }
     Ok(links.begin(at(seconds)?, unit)?)
 }
 
 fn replied(links: &mut Links, seconds: u64, unit: &[u8]) -> Result<Out, Fail> {
     if unit.is_empty() || unit.len() > 248 {
-        return Err(Fail::from("no unit"));
+        return Err(Fail::new("no unit"));
     }
     Ok(links.reply(at(seconds)?, unit)?)
+}
+
+fn taken(links: &mut Links, frame: &[u8]) -> Result<Out, Fail> {
+    Ok(links.take(frame)?)
+}
+
+fn fired(links: &mut Links, seconds: u64) -> Result<Out, Fail> {
+    Ok(links.fire(at(seconds)?)?)
 }
 
 fn called(links: &mut Links, call: &Call) -> Result<Out, Fail> {
     match call {
         Call::Begin(seconds, unit) => begun(links, *seconds, unit),
         Call::Reply(seconds, unit) => replied(links, *seconds, unit),
-        Call::Take(frame) => Ok(links.take(frame)?),
-        Call::Fire(seconds) => Ok(links.fire(at(*seconds)?)?),
+        Call::Take(frame) => taken(links, frame),
+        Call::Fire(seconds) => fired(links, *seconds),
     }
 }
 
@@ -68,25 +76,30 @@ fn sends(out: &Out, frames: &[&[u8]]) -> bool {
         return false;
     }
     for (sent, frame) in out.frames.as_slice().iter().zip(frames) {
-        if sent.as_slice() != *frame {
+        if !is(sent.as_slice(), frame) {
             return false;
         }
     }
     true
 }
 
-// The first row that differs.
-fn differing(links: &mut Links, rows: &[Row]) -> Result<Option<usize>, Fail> {
-    for (index, (call, frames, told)) in rows.iter().enumerate() {
-        let out = called(links, call)?;
-        if !sends(&out, frames) || up(&out) != *told {
-            return Ok(Some(index));
-        }
-    }
-    Ok(None)
+fn goes(links: &mut Links, row: &Row) -> Result<bool, Fail> {
+    let (call, frames, told) = row;
+    let out = called(links, call)?;
+    Ok(sends(&out, frames) && is(up(&out), told))
 }
 
-const REPEATED: [Row; 6] = [
+// Each row goes so, after those before it.
+fn all_go(links: &mut Links, rows: &[Row]) -> Result<(), Fail> {
+    for (index, row) in rows.iter().enumerate() {
+        if !goes(links, row)? {
+            return Err(Fail::new(index));
+        }
+    }
+    Ok(())
+}
+
+const REPEATED: &[Row] = &[
     (Call::Begin(0, SMMA), &[b"\x09\x01\x02\x06\x05"], NOTHING),
     (Call::Fire(9), &[], NOTHING),
     (Call::Fire(10), &[b"\x09\x01\x02\x06\x05"], NOTHING),
@@ -95,17 +108,23 @@ const REPEATED: [Row; 6] = [
     (Call::Begin(30, SMMA), &[b"\x19\x01\x02\x06\x05"], NOTHING),
 ];
 
+fn is_refused_as_busy(links: &mut Links) -> Result<bool, Fail> {
+    match links.begin(at(30)?, SMMA) {
+        Err(LinkError::Busy) => Ok(true),
+        _ => Ok(false),
+    }
+}
+
 #[test]
 fn a_begun_transaction_is_repeated_and_fails(rt: HostRuntime) -> Result<(), Fail> {
     let mut links = Links::new(rt.alloc());
-    assert_eq!(rt; differing(&mut links, &REPEATED)?, None);
-    assert!(rt; matches!(links.begin(at(30)?, SMMA), Err(LinkError::Busy)));
-    assert!(rt; links.is_busy());
-    Ok(())
+    all_go(&mut links, REPEATED)?;
+    holds(is_refused_as_busy(&mut links)?, "a second transaction")?;
+    holds(links.is_busy(), "the first one")
 }
 
 // After a jump of the clock nothing is repeated.
-const JUMPED: [Row; 2] = [
+const JUMPED: &[Row] = &[
     (Call::Begin(0, SMMA), &[b"\x09\x01\x02\x06\x05"], NOTHING),
     (Call::Fire(40), &[], FAILED),
 ];
@@ -113,12 +132,11 @@ const JUMPED: [Row; 2] = [
 #[test]
 fn a_jump_of_the_clock_repeats_nothing(rt: HostRuntime) -> Result<(), Fail> {
     let mut links = Links::new(rt.alloc());
-    assert_eq!(rt; differing(&mut links, &JUMPED)?, None);
-    Ok(())
+    all_go(&mut links, JUMPED)
 }
 
 // An answer is taken once, remembered while the next one is awaited, and none of another identifier is taken.
-const ANSWERED: [Row; 8] = [
+const ANSWERED: &[Row] = &[
     (Call::Begin(0, SMMA), &[b"\x09\x01\x02\x06\x05"], NOTHING),
     (Call::Take(b"\x89\x04"), &[], NOTHING),
     (Call::Take(b"\x89\x01\x02\x03\x05"), &[b"\x09\x04"], ACK),
@@ -136,12 +154,11 @@ const ANSWERED: [Row; 8] = [
 #[test]
 fn an_answer_is_taken_once(rt: HostRuntime) -> Result<(), Fail> {
     let mut links = Links::new(rt.alloc());
-    assert_eq!(rt; differing(&mut links, &ANSWERED)?, None);
-    assert!(rt; !links.is_busy());
-    Ok(())
+    all_go(&mut links, ANSWERED)?;
+    holds(!links.is_busy(), "nothing under way")
 }
 
-const OPENED: [Row; 5] = [
+const OPENED: &[Row] = &[
     (Call::Take(b"\x09\x01\x02\x06\x05"), &[b"\x89\x04"], SMMA),
     (Call::Reply(0, ACK), &[b"\x89\x01\x02\x03\x05"], NOTHING),
     (
@@ -153,13 +170,19 @@ const OPENED: [Row; 5] = [
     (Call::Take(b"\x09\x01\x02\x06\x05"), &[b"\x89\x04"], NOTHING),
 ];
 
+fn has_nothing_to_answer(links: &mut Links) -> Result<bool, Fail> {
+    match links.reply(at(0)?, ACK) {
+        Err(LinkError::NothingToAnswer) => Ok(true),
+        _ => Ok(false),
+    }
+}
+
 #[test]
 fn an_opening_is_taken_once(rt: HostRuntime) -> Result<(), Fail> {
     let mut links = Links::new(rt.alloc());
-    assert_eq!(rt; differing(&mut links, &OPENED)?, None);
-    assert!(rt; matches!(links.reply(at(0)?, ACK), Err(LinkError::NothingToAnswer)));
-    assert!(rt; !links.awaits_reply());
-    Ok(())
+    all_go(&mut links, OPENED)?;
+    holds(has_nothing_to_answer(&mut links)?, "a second answer")?;
+    holds(!links.awaits_reply(), "no reply to give")
 }
 
 // The longest unit.
@@ -176,41 +199,36 @@ fn sends_longest(out: &Out, first: &[u8]) -> bool {
 // The other end takes the frame that was sent.
 fn passed(out: &Out, links: &mut Links) -> Result<Out, Fail> {
     match out.frames.as_slice() {
-        [frame] => Ok(links.take(frame.as_slice())?),
-        _ => Err(Fail::from("not one frame")),
+        [frame] => taken(links, frame.as_slice()),
+        _ => Err(Fail::new("not one frame")),
     }
 }
 
 // The longest unit is sent, lost, and sent again; the other end takes it.
-fn goes_over(near: &mut Links, far: &mut Links) -> Result<bool, Fail> {
-    let sent = near.begin(at(0)?, &LONGEST)?;
-    let again = near.fire(at(10)?)?;
-    let taken = passed(&again, far)?;
-    Ok(
-        sends_longest(&sent, &[0x09, 0x01])
-            && sends_longest(&again, &[0x09, 0x01])
-            && up(&taken) == LONGEST.as_slice(),
-    )
+fn goes_over(near: &mut Links, far: &mut Links) -> Result<(), Fail> {
+    let sent = begun(near, 0, &LONGEST)?;
+    holds(sends_longest(&sent, &[0x09, 0x01]), "a unit")?;
+    let again = fired(near, 10)?;
+    holds(sends_longest(&again, &[0x09, 0x01]), "the unit again")?;
+    let out = passed(&again, far)?;
+    holds(is(up(&out), &LONGEST), "the unit at the other end")
 }
 
 // So is the longest answer, by a copy of the link that gave it.
-fn comes_back(near: &mut Links, far: &mut Links) -> Result<bool, Fail> {
-    let sent = far.reply(at(10)?, &LONGEST)?;
+fn comes_back(near: &mut Links, far: &mut Links) -> Result<(), Fail> {
+    let sent = replied(far, 10, &LONGEST)?;
+    holds(sends_longest(&sent, &[0x89, 0x01]), "an answer")?;
     let mut copy = far.copy()?;
-    let again = copy.fire(at(20)?)?;
-    let taken = passed(&again, near)?;
-    Ok(
-        sends_longest(&sent, &[0x89, 0x01])
-            && sends_longest(&again, &[0x89, 0x01])
-            && up(&taken) == LONGEST.as_slice(),
-    )
+    let again = fired(&mut copy, 20)?;
+    holds(sends_longest(&again, &[0x89, 0x01]), "the answer again")?;
+    let out = passed(&again, near)?;
+    holds(is(up(&out), &LONGEST), "the answer at this end")
 }
 
 #[test]
 fn the_longest_unit_goes_both_ways(rt: HostRuntime) -> Result<(), Fail> {
     let mut near = Links::new(rt.alloc());
     let mut far = Links::new(rt.alloc());
-    assert!(rt; goes_over(&mut near, &mut far)?);
-    assert!(rt; comes_back(&mut near, &mut far)?);
-    Ok(())
+    goes_over(&mut near, &mut far)?;
+    comes_back(&mut near, &mut far)
 }

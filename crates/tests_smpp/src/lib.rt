@@ -10,6 +10,8 @@ mod limits;
 #[cfg(test)]
 mod pdus;
 #[cfg(test)]
+mod rows;
+#[cfg(test)]
 mod secrets;
 #[cfg(test)]
 mod sessions;

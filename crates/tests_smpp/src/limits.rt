@@ -4,9 +4,10 @@ ghost use Rattle.smpp_pdu.specs.Writing.{IsWritable};
 ghost use Rattle.smpp_session.specs.Sessions.{IsDeliverable};
 
 use crate::exchanges::{BIND, BIND_ANSWER, SUBMIT_HEADER};
+use crate::rows::holds;
 use crate::sessions::{bound, session, silent};
 use smpp_pdu::{Body, Message, Pdu, SmeAddress, Tlvs};
-use smpp_session::{Action, Fed};
+use smpp_session::{Action, Actions, Session};
 use sms_base::{OctetView, Octets};
 use std::alloc::Global;
 use std::test::Fail;
@@ -99,63 +100,94 @@ fn longest(octets: &Octets) -> &[u8]
     }
 }
 
-// The octets of the payload that a whole submit_sm reads with.
-fn payload_len(octets: &[u8]) -> Option<usize> {
+fn payload_of(message: &Message<'_>) -> usize {
+    match &message.tlvs.message_payload {
+        Some(payload) => payload.as_slice().len(),
+        None => 0,
+    }
+}
+
+// How many octets of payload a submit_sm is read with.
+fn payload_len(octets: &[u8]) -> usize {
     match Pdu::read(octets) {
         Ok(
             Pdu {
                 body: Body::SubmitSm(message),
                 ..
             },
-        ) => message
-            .tlvs
-            .message_payload
-            .map(|payload| payload.as_slice().len()),
-        _ => None,
+        ) => payload_of(&message),
+        _ => 0,
     }
+}
+
+// The longest submit_sm.
+fn longest_submit(alloc: Global) -> Result<Octets, Fail> {
+    let payload = octets_of(alloc, GREATEST_PAYLOAD)?;
+    Ok(submit(longest(&payload)).write(alloc)?)
 }
 
 #[test]
 fn longest_pdu_is_written_and_read(rt: HostRuntime) -> Result<(), Fail> {
-    let payload = octets_of(rt.alloc(), GREATEST_PAYLOAD)?;
-    let written = submit(longest(&payload)).write(rt.alloc())?;
-    assert_eq!(rt; written.len(), 65_536);
-    assert_eq!(rt; payload_len(written.as_slice()), Some(GREATEST_PAYLOAD));
+    let written = longest_submit(rt.alloc())?;
+    holds(written.len() == 65_536, "a submit_sm")?;
+    holds(
+        payload_len(written.as_slice()) == GREATEST_PAYLOAD,
+        "its payload",
+    )
+}
+
+// Whether the octets are those of a submit_sm that is passed up.
+fn is_passed_up(actions: &Actions, length: usize) -> bool {
+    match actions.as_slice() {
+        [Action::Submit(request, 0)] => request.len() == length,
+        _ => false,
+    }
+}
+
+fn are_silent(session: &mut Session, octets: &[u8]) -> Result<(), Fail> {
+    for octet in octets {
+        silent(session, &[*octet])?;
+    }
     Ok(())
 }
 
-// The octets of a submit_sm that is passed up.
-fn passed_up(given: &Fed) -> Option<usize> {
-    match given.actions.as_slice() {
-        [Action::Submit(request, 0)] => Some(request.len()),
-        _ => None,
-    }
+// The octets come one by one, and with the last of them all are passed up.
+fn passed_up(session: &mut Session, octets: &[u8]) -> Result<bool, Fail> {
+    let (front, last) = octets.split_at(octets.len().saturating_sub(1));
+    are_silent(session, front)?;
+    let given = session.feed(last)?;
+    Ok(is_passed_up(&given.actions, octets.len()))
 }
 
 #[test]
 fn longest_pdu_is_passed_up_octet_by_octet(rt: HostRuntime) -> Result<(), Fail> {
-    let payload = octets_of(rt.alloc(), GREATEST_PAYLOAD)?;
-    let written = submit(longest(&payload)).write(rt.alloc())?;
+    let written = longest_submit(rt.alloc())?;
     let mut session = session(rt.alloc())?;
     bound(&mut session, &BIND, &BIND_ANSWER)?;
-    let (front, last) = written.as_slice().split_at(written.len().saturating_sub(1));
-    for octet in front {
-        silent(&mut session, &[*octet])?;
+    holds(passed_up(&mut session, written.as_slice())?, "a submit_sm")
+}
+
+// So many PDUs in a piece.
+fn many(alloc: Global, count: usize) -> Result<Octets, Fail> {
+    let mut stream = Octets::new(alloc);
+    for _ in 0..count {
+        stream.append(&SUBMIT_HEADER)?;
     }
-    assert_eq!(rt; passed_up(&session.feed(last)?), Some(65_536));
-    Ok(())
+    Ok(stream)
 }
 
 #[test]
 fn many_pdus_come_in_one_piece(rt: HostRuntime) -> Result<(), Fail> {
     let mut session = session(rt.alloc())?;
-    let mut stream = Octets::new(rt.alloc());
-    for _ in 0..5_000 {
-        stream.append(&SUBMIT_HEADER)?;
-    }
+    let stream = many(rt.alloc(), 5_000)?;
     let given = session.feed(stream.as_slice())?;
-    assert_eq!(rt; given.actions.as_slice().len(), 5_000);
-    Ok(())
+    holds(given.actions.as_slice().len() == 5_000, "their answers")
+}
+
+// The octets of the longest message that is delivered.
+fn delivered_len(session: &mut Session, payload: &Octets) -> Result<usize, Fail> {
+    let sent = session.deliver(message(longest(payload)))?;
+    Ok(sent.octets.len())
 }
 
 #[test]
@@ -163,7 +195,8 @@ fn longest_message_is_delivered(rt: HostRuntime) -> Result<(), Fail> {
     let payload = octets_of(rt.alloc(), GREATEST_PAYLOAD)?;
     let mut session = session(rt.alloc())?;
     bound(&mut session, &BIND, &BIND_ANSWER)?;
-    let sent = session.deliver(message(longest(&payload)))?;
-    assert_eq!(rt; sent.octets.len(), 65_536);
-    Ok(())
+    holds(
+        delivered_len(&mut session, &payload)? == 65_536,
+        "a deliver_sm",
+    )
 }

@@ -10,10 +10,11 @@ use crate::exchanges::{
     NET_SMPP, SHORT_LENGTH, SUBMIT, SUBMIT_ANSWER, SUBMIT_CUT_SHORT, SUBMIT_HEADER,
     SUBMIT_NOT_BOUND,
 };
+use crate::rows::{are, holds};
 use crate::vectors::QUERY_SM_RESP;
 use smpp_pdu::{CommandStatus, MessageResp, QuerySmResp};
 use smpp_session::{
-    Account, Accounts, Action, Actions, Answer, Call, Fed, Request, Session, SessionState, run,
+    Account, Accounts, Action, Actions, Answer, Call, Request, Session, SessionState, run,
 };
 use sms_base::{OctetView, Octets};
 use std::alloc::Global;
@@ -38,7 +39,7 @@ pub(crate) fn session(alloc: Global) -> Result<Session, Fail> {
 // Actions that are one answer.
 fn is_answer(actions: &Actions, wanted: &[u8]) -> bool {
     match actions.as_slice() {
-        [Action::Send(sent)] => sent.as_slice() == wanted,
+        [Action::Send(sent)] => are(sent.as_slice(), wanted),
         _ => false,
     }
 }
@@ -46,7 +47,7 @@ fn is_answer(actions: &Actions, wanted: &[u8]) -> bool {
 // Actions that are a bind and its answer.
 fn is_bind(actions: &Actions, wanted: &[u8]) -> bool {
     match actions.as_slice() {
-        [Action::Send(sent), Action::Bound(0, _)] => sent.as_slice() == wanted,
+        [Action::Send(sent), Action::Bound(0, _)] => are(sent.as_slice(), wanted),
         _ => false,
     }
 }
@@ -54,52 +55,47 @@ fn is_bind(actions: &Actions, wanted: &[u8]) -> bool {
 // Octets that give nothing.
 pub(crate) fn silent(session: &mut Session, octets: &[u8]) -> Result<(), Fail> {
     let given = session.feed(octets)?;
-    if given.actions.as_slice().is_empty() {
-        Ok(())
-    } else {
-        Err("an action")?
-    }
+    holds(given.actions.as_slice().is_empty(), "no action")
 }
 
 // Octets that are answered so, and give nothing else.
 pub(crate) fn answered(session: &mut Session, octets: &[u8], wanted: &[u8]) -> Result<(), Fail> {
     let given = session.feed(octets)?;
-    if is_answer(&given.actions, wanted) {
-        Ok(())
-    } else {
-        Err("another answer")?
-    }
+    holds(is_answer(&given.actions, wanted), "an answer")
 }
 
 // A bind that is answered so.
 pub(crate) fn bound(session: &mut Session, octets: &[u8], wanted: &[u8]) -> Result<(), Fail> {
     let given = session.feed(octets)?;
-    if is_bind(&given.actions, wanted) {
-        Ok(())
-    } else {
-        Err("not bound")?
-    }
+    holds(is_bind(&given.actions, wanted), "a bind")
+}
+
+// An enquire_link in two pieces is answered with the second.
+fn is_answered_in_pieces(alloc: Global, front: &[u8], rest: &[u8]) -> Result<(), Fail> {
+    let mut session = session(alloc)?;
+    silent(&mut session, front)?;
+    answered(&mut session, rest, &ENQUIRE_ANSWER)
 }
 
 #[test]
 fn enquire_cut_after_each_octet(rt: HostRuntime) -> Result<(), Fail> {
     for cut in 0..16 {
-        let mut session = session(rt.alloc())?;
-        let (front, rest) = ENQUIRE.as_slice().split_at(cut);
-        silent(&mut session, front)?;
-        answered(&mut session, rest, &ENQUIRE_ANSWER)?;
+        is_answered_in_pieces(rt.alloc(), &ENQUIRE[..cut], &ENQUIRE[cut..])?;
     }
     Ok(())
 }
 
+// A length is refused, and an enquire_link behind it is not answered.
+fn is_closed_by(alloc: Global, octets: &[u8]) -> Result<(), Fail> {
+    let mut session = session(alloc)?;
+    answered(&mut session, octets, &LENGTH_REFUSED)?;
+    silent(&mut session, &ENQUIRE)
+}
+
 #[test]
 fn bad_length_closes(rt: HostRuntime) -> Result<(), Fail> {
-    let mut short = session(rt.alloc())?;
-    answered(&mut short, &SHORT_LENGTH, &LENGTH_REFUSED)?;
-    silent(&mut short, &ENQUIRE)?;
-    let mut long = session(rt.alloc())?;
-    answered(&mut long, &LONG_LENGTH, &LENGTH_REFUSED)?;
-    silent(&mut long, &ENQUIRE)
+    is_closed_by(rt.alloc(), &SHORT_LENGTH)?;
+    is_closed_by(rt.alloc(), &LONG_LENGTH)
 }
 
 // A bind_transceiver without a body is cut short (2), and the session is still open.
@@ -125,20 +121,29 @@ const UNKNOWN_COMMAND: [u8; 16] = [
     0x00, 0x00, 0x00, 0x10, 0x80, 0x00, 0x00, 0x00, 0x00, 0x00, 0x00, 0x03, 0x00, 0x00, 0x00, 0x05,
 ];
 
+// The submit_sm, whose sm_length stands before the five octets of the message.
+fn submit_too_long() -> [u8; 50] {
+    let mut submit = SUBMIT;
+    submit[44] = 0xFF;
+    submit
+}
+
+// The response of that command.
+fn data_sm_resp() -> [u8; 16] {
+    let mut response = DATA_SM;
+    response[4] = 0x80;
+    response
+}
+
 #[test]
 fn faults_are_answered(rt: HostRuntime) -> Result<(), Fail> {
     let mut session = session(rt.alloc())?;
     answered(&mut session, &BIND_HEADER, &BIND_CUT_SHORT)?;
     answered(&mut session, &DATA_SM, &UNKNOWN_COMMAND)?;
     bound(&mut session, &BIND, &BIND_ANSWER)?;
-    let mut too_long = SUBMIT;
-    // sm_length stands before the five octets of the message.
-    too_long[44] = 0xFF;
-    answered(&mut session, &too_long, &MESSAGE_TOO_LONG)?;
+    answered(&mut session, &submit_too_long(), &MESSAGE_TOO_LONG)?;
     // The response of a command that is unknown is ignored.
-    let mut response = DATA_SM;
-    response[4] = 0x80;
-    silent(&mut session, &response)
+    silent(&mut session, &data_sm_resp())
 }
 
 // A bind and a bad length in one piece.
@@ -149,49 +154,41 @@ const BIND_AND_SHORT_LENGTH: [u8; 49] = [
     0x02,
 ];
 
-// Whether octets behind others lose a bind, if they close the session.
-fn closes(alloc: Global, before: &[u8], octets: &[u8]) -> Result<Option<bool>, Fail> {
+// Whether octets behind others close the session, and it tells so of a lost bind.
+fn closes(alloc: Global, before: &[u8], octets: &[u8], bind_lost: bool) -> Result<bool, Fail> {
     let mut session = session(alloc)?;
     let _ = session.feed(before)?;
-    let bind_lost = session.feed(octets)?.bind_lost;
-    if session.state() == SessionState::Closed {
-        Ok(Some(bind_lost))
-    } else {
-        Ok(None)
-    }
+    let given = session.feed(octets)?;
+    Ok(session.state() == SessionState::Closed && given.bind_lost == bind_lost)
 }
+
+const CLOSINGS: &[(&[u8], &[u8], bool)] = &[
+    (b"", &SHORT_LENGTH, false),
+    (b"", &BIND_AND_SHORT_LENGTH, true),
+    (&BIND, &LONG_LENGTH, true),
+    (b"", &NET_SMPP, false),
+    (&BIND_AND_SHORT_LENGTH, &SHORT_LENGTH, false),
+];
 
 #[test]
 fn tells_lost_binds(rt: HostRuntime) -> Result<(), Fail> {
-    for (before, octets, bind_lost) in [
-        (b"".as_slice(), SHORT_LENGTH.as_slice(), false),
-        (b"".as_slice(), BIND_AND_SHORT_LENGTH.as_slice(), true),
-        (BIND.as_slice(), LONG_LENGTH.as_slice(), true),
-        (b"".as_slice(), NET_SMPP.as_slice(), false),
-        (
-            BIND_AND_SHORT_LENGTH.as_slice(),
-            SHORT_LENGTH.as_slice(),
-            false,
-        ),
-    ] {
-        assert_eq!(rt; closes(rt.alloc(), before, octets)?, Some(bind_lost));
+    for (before, octets, bind_lost) in CLOSINGS {
+        holds(closes(rt.alloc(), before, octets, *bind_lost)?, "a closing")?;
     }
     Ok(())
 }
 
-// What the closing of a session tells, twice.
-fn closed_twice(alloc: Global, before: &[u8]) -> Result<(bool, bool), Fail> {
+// Whether the closing of a session tells so of a lost bind, and a second closing of none.
+fn closes_once(alloc: Global, before: &[u8], bind_lost: bool) -> Result<bool, Fail> {
     let mut session = session(alloc)?;
     let _ = session.feed(before)?;
-    let first = session.close();
-    Ok((first, session.close()))
+    Ok(session.close() == bind_lost && !session.close())
 }
 
 #[test]
 fn tells_binds_that_are_cut_off(rt: HostRuntime) -> Result<(), Fail> {
-    assert_eq!(rt; closed_twice(rt.alloc(), &BIND)?, (true, false));
-    assert_eq!(rt; closed_twice(rt.alloc(), &ENQUIRE)?, (false, false));
-    Ok(())
+    holds(closes_once(rt.alloc(), &BIND, true)?, "a bind")?;
+    holds(closes_once(rt.alloc(), &ENQUIRE, false)?, "no bind")
 }
 
 #[test]
@@ -199,30 +196,43 @@ fn binds_once(rt: HostRuntime) -> Result<(), Fail> {
     let mut session = session(rt.alloc())?;
     answered(&mut session, &SUBMIT_HEADER, &SUBMIT_NOT_BOUND)?;
     bound(&mut session, &BIND, &BIND_ANSWER)?;
-    assert!(rt; session.state().is_bound());
+    holds(session.state().is_bound(), "a bind")?;
     answered(&mut session, &BIND, &ALREADY_BOUND)?;
     answered(&mut session, &SUBMIT_HEADER, &SUBMIT_CUT_SHORT)
 }
 
-// The priority of a submit_sm that is passed up as it came.
-fn passed_up(given: &Fed, octets: &[u8]) -> Option<u8> {
-    match given.actions.as_slice() {
-        [Action::Submit(request, priority)] if request.as_slice() == octets => Some(*priority),
-        _ => None,
+// Whether the octets are passed up as they came, with that priority.
+fn is_passed_up(actions: &Actions, octets: &[u8], priority: u8) -> bool {
+    match actions.as_slice() {
+        [Action::Submit(request, other)] => {
+            are(request.as_slice(), octets) && *other == priority
+        }
+        _ => false,
     }
 }
+
+// The submit_sm with that priority_flag, which stands behind the header, an empty service_type, an empty source, a
+// destination of 12 digits, esm_class and protocol_id.
+fn submit_of_priority(flag: u8) -> [u8; 50] {
+    let mut submit = SUBMIT;
+    submit[37] = flag;
+    submit
+}
+
+fn passes_up(session: &mut Session, flag: u8, priority: u8) -> Result<bool, Fail> {
+    let submit = submit_of_priority(flag);
+    let given = session.feed(&submit)?;
+    Ok(is_passed_up(&given.actions, &submit, priority))
+}
+
+const PRIORITIES: &[(u8, u8)] = &[(0, 0), (1, 1), (2, 2), (3, 3), (4, 3), (255, 3)];
 
 #[test]
 fn passes_priorities_up(rt: HostRuntime) -> Result<(), Fail> {
     let mut session = session(rt.alloc())?;
     bound(&mut session, &BIND, &BIND_ANSWER)?;
-    for (flag, priority) in [(0, 0), (1, 1), (2, 2), (3, 3), (4, 3), (255, 3)] {
-        let mut submit = SUBMIT;
-        // Behind the header, an empty service_type, an empty source, a destination of 12 digits, esm_class and
-        // protocol_id.
-        submit[37] = flag;
-        let given = session.feed(&submit)?;
-        assert_eq!(rt; passed_up(&given, &submit), Some(priority));
+    for (flag, priority) in PRIORITIES {
+        holds(passes_up(&mut session, *flag, *priority)?, "a priority")?;
     }
     Ok(())
 }
@@ -249,23 +259,34 @@ fn state_of_message() -> QuerySmResp<'static>
 // An answer of these octets.
 fn is(answer: Option<Octets>, wanted: &[u8]) -> bool {
     match answer {
-        Some(octets) => octets.as_slice() == wanted,
+        Some(octets) => are(octets.as_slice(), wanted),
         None => false,
     }
+}
+
+fn submitted(session: &Session) -> Result<bool, Fail> {
+    let answer = session.answer(2, Answer::Submitted(message_id()))?;
+    Ok(is(answer, &SUBMIT_ANSWER))
+}
+
+fn queried(session: &Session) -> Result<bool, Fail> {
+    let answer = session.answer(8, Answer::Queried(state_of_message()))?;
+    Ok(is(answer, &QUERY_SM_RESP))
+}
+
+fn refused(session: &Session) -> Result<bool, Fail> {
+    let not_bound = Answer::Refused(Request::Submit, CommandStatus::ESME_RINVBNDSTS);
+    Ok(is(session.answer(7, not_bound)?, &SUBMIT_NOT_BOUND))
 }
 
 #[test]
 fn answers(rt: HostRuntime) -> Result<(), Fail> {
     let mut session = session(rt.alloc())?;
-    let submitted = session.answer(2, Answer::Submitted(message_id()))?;
-    assert!(rt; is(submitted, &SUBMIT_ANSWER));
-    let queried = session.answer(8, Answer::Queried(state_of_message()))?;
-    assert!(rt; is(queried, &QUERY_SM_RESP));
-    let not_bound = Answer::Refused(Request::Submit, CommandStatus::ESME_RINVBNDSTS);
-    assert!(rt; is(session.answer(7, not_bound)?, &SUBMIT_NOT_BOUND));
+    holds(submitted(&session)?, "a submit_sm_resp")?;
+    holds(queried(&session)?, "a query_sm_resp")?;
+    holds(refused(&session)?, "a refusal")?;
     session.close();
-    assert!(rt; session.answer(2, Answer::Cancelled)?.is_none());
-    Ok(())
+    holds(session.answer(2, Answer::Cancelled)?.is_none(), "no answer")
 }
 
 // A letter for the kind of an action.
@@ -294,16 +315,19 @@ fn letters_in_pieces(alloc: Global, octets: &[u8], piece: usize) -> Result<Octet
     let mut session = session(alloc)?;
     let mut letters = Octets::new(alloc);
     for front in octets.chunks(piece.max(1)) {
-        tell(&mut letters, &session.feed(front)?.actions)?;
+        let given = session.feed(front)?;
+        tell(&mut letters, &given.actions)?;
     }
     Ok(letters)
 }
 
+const PIECES: &[usize] = &[1, 2, 3, 7, 16, 33, 34, 100, 243];
+
 #[test]
 fn reads_net_smpp_in_pieces(rt: HostRuntime) -> Result<(), Fail> {
-    for piece in [1, 2, 3, 7, 16, 33, 34, 100, 243] {
-        let letters = letters_in_pieces(rt.alloc(), &NET_SMPP, piece)?;
-        assert_eq!(rt; letters.as_slice(), b"sBSQCssU".as_slice());
+    for piece in PIECES {
+        let letters = letters_in_pieces(rt.alloc(), &NET_SMPP, *piece)?;
+        holds(are(letters.as_slice(), b"sBSQCssU"), "pieces")?;
     }
     Ok(())
 }
@@ -322,9 +346,8 @@ fn calls(alloc: Global) -> Result<Vec<Call<'static>>, Fail>
 #[test]
 fn runs_calls(rt: HostRuntime) -> Result<(), Fail> {
     let actions = run(rt.alloc(), accounts(rt.alloc())?, calls(rt.alloc())?)?;
-    assert!(rt; is_bind(&actions, &BIND_ANSWER));
-    assert_eq!(rt; actions.into_vec().len(), 2);
-    Ok(())
+    holds(is_bind(&actions, &BIND_ANSWER), "a bind")?;
+    holds(actions.into_vec().len() == 2, "two actions")
 }
 
 // Whether a session of these accounts binds.
@@ -342,10 +365,9 @@ fn sessions_on_threads_share_accounts(rt: HostRuntime) -> Result<(), Fail> {
     let here = accounts(alloc)?;
     let there = Arc::try_clone(&here)?;
     let Ok(thread) = thread::spawn(&rt, move || binds(alloc, there)) else {
-        return Err("no thread")?;
+        return Err(Fail::new("no thread"));
     };
     let bound_here = binds(alloc, here);
-    assert!(rt; thread.join(&rt));
-    assert!(rt; bound_here);
-    Ok(())
+    let bound_there = thread.join(&rt);
+    holds(bound_here && bound_there, "binds on two threads")
 }
