@@ -119,8 +119,8 @@ no_later heap place k d h u within = subst (λ (p : ℕ). (get_or heap p d).0.li
       (λ (z : steps_above n k ≡ 0 → ⊥).
       let q = below_place n k in
       let s : (get_or heap (above (steps_above n k)) d).0.limit ≤ (get_or heap (steps_above n k) d).0.limit =
-        no_earlier (get_or heap (above (steps_above n k)) d) (get_or heap (steps_above n k) d)
-        (h (above (steps_above n k)) (steps_above n k) d (omega arith) (omega (arith, z)) (omega (arith, z)) (omega (arith, q, within))) in
+      no_earlier (get_or heap (above (steps_above n k)) d) (get_or heap (steps_above n k) d)
+      (h (above (steps_above n k)) (steps_above n k) d (omega arith) (omega (arith, z)) (omega (arith, z)) (omega (arith, q, within))) in
       let t = by n in omega (arith, s, t))
       (cases_eq (steps_above n k) 0)
 
@@ -134,6 +134,7 @@ all_collected now rs ids sorted found p d m come =
         (λ (q : e ≡ x.0). (0, (omega arith, ap (λ (y : Deadline). let r : Reverse Deadline = record { 0 = y } in r) (sym q))))
         (λ (q : Among e (map inside xs)). let f = found_at xs e q in (suc f.0, (let l = f.1.0 in omega (arith, l), f.1.1)))
         k
+
     by : (k : ℕ) × ((k < length rs) × (get_or rs k (record { 0 = d }) ≡ record { 0 = d })) → Among d.id ids
     by f =
         subst (λ (r : Reverse Deadline). Among r.0.id ids) f.1.1
