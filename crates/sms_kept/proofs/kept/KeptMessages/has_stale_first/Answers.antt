@@ -1,4 +1,4 @@
-use Rattle.std.proofs.Common.{◌≡◌, true, false, true≢false, Some, sym, ◌∙◌, ap, subst}
+use Rattle.std.proofs.Common.{◌≡◌, true, true≢false, Some, sym, ◌∙◌, ap, subst}
 use Rattle.sms_expiry.specs.declared.deadline.Deadline.{Deadline}
 use Rattle.sms_expiry.specs.Deadlines.{first_of}
 use Rattle.sms_messages.specs.Messages.{message_at}

@@ -1,4 +1,4 @@
-use Rattle.std.proofs.Common.{◌-◌, ap}
+use Rattle.std.proofs.Common.{ap}
 use Rattle.sms_table.specs.Table.{Kept}
 use Rattle.sms_kept.specs.declared.message_entry.MessageEntry.{MessageEntry}
 use Rattle.sms_messages.specs.declared.parts.PartEntry.{PartEntry}

@@ -1,4 +1,4 @@
-use Rattle.std.proofs.Common.{ℕ, ◌-◌, Option, sym, ◌∙◌, ap, subst}
+use Rattle.std.proofs.Common.{ℕ, Option, sym, ◌∙◌, ap, subst}
 use Rattle.sms_messages.specs.declared.message.MessageRow.{MessageRow}
 use Rattle.sms_table.specs.Table.{row_at}
 use Rattle.sms_kept.specs.Entries.{message_entry_key}
