@@ -1,0 +1,14 @@
+use Rattle.std.proofs.Common.{List, subst}
+use Rattle.sms_messages.specs.declared.message.MessageRow.{MessageRow}
+use Rattle.sms_messages.specs.Messages.{message_key}
+use Rattle.sms_table.specs.declared.change.Change.{Change}
+use Rattle.sms_table.specs.Table.{all_applied}
+use Rattle.sms_kept.specs.Kept.{Holds}
+use Rattle.sms_kept.proofs.Holding.{holds_taken}
+use Rattle.sms_kept.proofs.kept.KeptMessages.adopt.Goals as goal
+
+pub returns : goal.returns
+returns c = λ ms ps others h matches.
+    c.drop_stale.ensures (all_applied message_key c.args.messages ms) others
+    (subst (λ (cs : List (Change MessageRow)). Holds c.apply_all.new.self (all_applied message_key cs ms) others) c.into_vec.ensures
+    (c.apply_all.ensures ms others (holds_taken c.args.spare c.args.self.now c.take_in.new.self ms ps others c.take_in.ensures h matches)))

@@ -1,0 +1,11 @@
+use Rattle.std.proofs.Common.{List, sym, ◌∙◌, ap, subst}
+use Rattle.sms_messages.specs.declared.parts.PartEntry.{PartEntry}
+use Rattle.sms_messages.specs.Messages.{parts_of}
+use Rattle.sms_messages.specs.PartEntries.{done_to}
+use Rattle.sms_kept.specs.Kept.{PendingOf, Shows}
+use Rattle.sms_messages.proofs.Entries.{done_alike}
+use Rattle.sms_kept.proofs.pending.PendingMessages.all_done.Goals as goal
+
+pub returns : goal.returns
+returns c = λ m s few.
+    c.all_done.ensures ∙ ap (λ (es : List PartEntry). done_to c.args.id 20 es) (subst (λ (p : PendingOf). Shows p m) (sym c.self.view_is) s).parts.entries ∙ done_alike c.args.id (parts_of m) few

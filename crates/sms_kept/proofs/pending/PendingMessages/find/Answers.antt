@@ -1,0 +1,24 @@
+use Rattle.std.proofs.Common.{◌≡◌, ℕ, Option, IfOk, sym, ◌∙◌, ap, subst}
+use Rattle.sms_messages.specs.declared.message.MessageRow.{MessageRow}
+use Rattle.sms_messages.specs.Messages.{message_at, message_key}
+use Rattle.sms_table.specs.declared.change.Change.{Change}
+use Rattle.sms_table.specs.Table.{left_by, newest_of}
+use Rattle.sms_kept.specs.Kept.{PendingOf, Shows}
+use Rattle.sms_kept.proofs.Showing.{found_shown}
+use Rattle.sms_kept.proofs.pending.PendingMessages.find.Goals as goal
+
+pub returns-in-Some : goal.returns-in-Some
+returns-in-Some c = λ m s.
+    subst (λ (o : Option MessageRow). IfOk c.copy_left_by.result (λ (r : Option MessageRow). r ≡ o))
+    (sym (found_shown c.args.self.now m c.args.id s
+    ∙ ap (λ (k : ℕ). left_by (newest_of message_key k c.args.self.now.messages) (message_at c.args.id m.messages.base)) (sym (c.of.ensures ∙ c.number.ensures.value))
+    ∙ ap (λ (o : Option (Change MessageRow)). left_by o (message_at c.args.id m.messages.base)) (sym c.in-Some.ensures)))
+    c.copy_left_by.ensures
+
+pub returns-in-None : goal.returns-in-None
+returns-in-None c = λ m s.
+    subst (λ (o : Option MessageRow). IfOk c.find.result (λ (r : Option MessageRow). r ≡ o))
+    (sym (found_shown c.args.self.now m c.args.id s
+    ∙ ap (λ (k : ℕ). left_by (newest_of message_key k c.args.self.now.messages) (message_at c.args.id m.messages.base)) (sym (c.of.ensures ∙ c.number.ensures.value))
+    ∙ ap (λ (o : Option (Change MessageRow)). left_by o (message_at c.args.id m.messages.base)) (sym c.in-None.ensures)))
+    (c.find.ensures m.messages.base m.parts.base (subst (λ (p : PendingOf). Shows p m) (sym c.self.view_is) s).kept)

@@ -1,0 +1,22 @@
+use Rattle.std.proofs.Common.{◌≡◌, ℕ, ◌-◌, suc, List, length, drop, get_or, Some, None, sym, ◌∙◌, ap, subst, arith}
+use Rattle.sms_messages.specs.declared.message.MessageRow.{MessageRow}
+use Rattle.sms_messages.specs.Messages.{message_key}
+use Rattle.sms_table.specs.declared.change.Change.{Change}
+use Rattle.sms_table.specs.Table.{change_key, newest_of}
+use Rattle.sms_kept.specs.Kept.{PendingOf}
+use Rattle.sms_table.proofs.Tables.{newest_at}
+use Rattle.sms_kept.proofs.pending.PendingMessages.newest.Goals as goal
+
+pub returns-then-number : goal.returns-then-number
+returns-then-number c =
+    let changes = c.as_slice-changes.result.now in
+    let place = length changes - 1 - c.loop-i.i in
+    let change = c.index-changes-changes.result in
+    let q : length changes - c.loop-i.i ≡ suc place = omega arith in
+    let later = subst (λ (n : ℕ). newest_of message_key c.args.key (drop n changes) ≡ None) q c.loop-i.invariant in
+    let k = ap (λ (x : Change MessageRow). change_key message_key x) c.index-changes-changes.is in
+    let same : change_key message_key (get_or changes place change) ≡ c.args.key = omega (arith, k, c.key.ensures, c.number.ensures, c.number-in-loop-i.ensures, c.if-number.true) in
+    let newest = newest_at message_key c.args.key place changes change (omega arith) later same in
+    ap (λ (x : Change MessageRow). Some x) c.index-changes-changes.is
+    ∙ sym newest
+    ∙ ap (λ (cs : List (Change MessageRow)). newest_of message_key c.args.key cs) (c.as_slice-changes.ensures.value ∙ ap (λ (p : PendingOf). p.messages) c.self.view_is)

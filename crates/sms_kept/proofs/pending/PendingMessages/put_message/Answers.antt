@@ -1,0 +1,12 @@
+use Rattle.std.proofs.Common.{List, sym, subst}
+use Rattle.sms_messages.specs.declared.message.MessageRow.{MessageRow}
+use Rattle.sms_messages.specs.Messages.{put_message}
+use Rattle.sms_table.specs.declared.change.Change.{Change}
+use Rattle.sms_kept.specs.Kept.{PendingOf, Shows}
+use Rattle.sms_kept.proofs.Showing.{shows_message}
+use Rattle.sms_kept.proofs.pending.PendingMessages.put_message.Goals as goal
+
+pub returns : goal.returns
+returns c = λ m s.
+    subst (λ (cs : List (Change MessageRow)). Shows (record { kept = c.self.inside.kept.now; messages = cs; parts = c.self.inside.parts; priorities = c.self.inside.priorities.items }) (put_message c.args.row m)) (sym c.in_ok-push.ensures.items)
+    (shows_message c.args.row (record { kept = c.self.inside.kept.now; messages = c.self.inside.messages.items; parts = c.self.inside.parts; priorities = c.self.inside.priorities.items }) m (subst (λ (p : PendingOf). Shows p m) (sym c.self.view_is) s))

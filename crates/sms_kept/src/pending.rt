@@ -1,0 +1,154 @@
+//! Messages, parts and priorities in the middle of an event.
+ghost use Rattle.std.specs.Prelude.{◌≡◌, [], ℕ, List, Some, OnOk, IfOk, length, option_copied};
+ghost use Rattle.sms_kept.specs.Kept.{Fits, Holds, Shows, found_part, opened};
+ghost use Rattle.sms_kept.specs.Settling.{IsSettled};
+ghost use Rattle.sms_messages.specs.Messages.{Messages, all_done, amend_part, message_at, message_key, messages_of, part_at, parts_of, put_message, put_part, put_priority};
+ghost use Rattle.sms_messages.specs.PartEntries.{Few, part_entry};
+ghost use Rattle.sms_messages.specs.declared.message.MessageRow.{MessageRow as MessageRowOf};
+ghost use Rattle.sms_messages.specs.declared.part.PartRow.{PartRow as PartRowOf};
+ghost use Rattle.sms_messages.specs.declared.priority.PriorityRow.{PriorityRow as PriorityRowOf};
+ghost use Rattle.sms_table.specs.Table.{newest_of};
+
+use crate::copying::copy_left_by;
+use crate::kept::{KeptMessages, SpareMessages};
+use sms_base::{Listed, MessageId};
+use sms_messages::{MessageRow, PartEntry, PartRow, PendingParts, PriorityRow};
+use sms_table::{Change, Key};
+use sms_waiting::{Progress, Revision};
+use std::alloc::{AllocError, Global};
+use std::marker::Model;
+
+/// Messages, parts and priorities in the middle of an event: what stood there, and what came since.
+#[derive(Drop)]
+pub struct PendingMessages<'a> {
+    alloc: Global,
+    kept: &'a KeptMessages,
+    messages: Vec<Change<MessageRow>>,
+    parts: PendingParts<'a>,
+    priorities: Vec<Change<PriorityRow>>,
+}
+
+impl<'a> Model for PendingMessages<'a> {
+    ghost use Rattle.sms_kept.specs.Kept.{PendingOf};
+
+    ghost Value = { PendingOf };
+
+    ghost view = { λ p. record { kept = p.kept.now; messages = p.messages.items; parts = p.parts; priorities = p.priorities.items } };
+}
+
+/// What an event changed, of each list in order, and the memory that it takes.
+#[derive(Drop)]
+pub struct SettledMessages {
+    pub messages: Listed<Change<MessageRow>>,
+    pub parts: Listed<Revision<PartRow>>,
+    pub priorities: Listed<Change<PriorityRow>>,
+    pub spare: SpareMessages,
+}
+
+impl<'a> PendingMessages<'a> {
+    /// The messages as an event begins.
+    pub fn of(alloc: Global, kept: &'a KeptMessages) -> PendingMessages<'a>
+        ensures { (ms : List MessageRowOf) (ps : List PartRowOf) (qs : List PriorityRowOf) → Holds kept.entry.now ms ps → Shows result (opened ms ps qs) }
+    {
+        let messages = Vec::new(alloc);
+        let parts = PendingParts::of(alloc, &kept.parts);
+        let priorities = Vec::new(alloc);
+        PendingMessages {
+            alloc,
+            kept,
+            messages,
+            parts,
+            priorities,
+        }
+    }
+
+    // The newest change of the message of that key.
+    fn newest(&self, key: Key) -> Option<&Change<MessageRow>>
+        ensures { option_copied result ≡ newest_of message_key key self.now.messages }
+    {
+        let changes = self.messages.as_slice();
+        for i in 0..changes.len() {
+            let change = &changes[changes.len() - 1 - i];
+            if change.key().number() == key.number() {
+                return Some(change);
+            }
+        }
+        None
+    }
+
+    /// The message of that number as it stands, in memory of its own.
+    pub fn find(&self, id: MessageId) -> Result<Option<MessageRow>, AllocError>
+        ensures { (m : Messages) → Shows self.now m → IfOk result (λ row. row ≡ message_at id (messages_of m)) }
+    {
+        match self.newest(Key::of(id.number())) {
+            Some(change) => copy_left_by(self.alloc, change),
+            None => self.kept.find(self.alloc, id),
+        }
+    }
+
+    /// The part of that message and number, without its TPDU.
+    pub fn find_part(&self, id: MessageId, number: u8) -> Option<PartEntry>
+        ensures { (m : Messages) → Shows self.now m → result ≡ found_part (part_at id number (parts_of m)) }
+    {
+        self.parts.find(id, number)
+    }
+
+    /// Whether all parts of the message are done; a message has 1 to 20 parts.
+    pub fn all_done(&self, id: MessageId) -> bool
+        ensures { (m : Messages) → Shows self.now m → Few (parts_of m) → result ≡ all_done id (parts_of m) }
+    {
+        self.parts.all_done(id)
+    }
+
+    /// A message comes, or takes the place of that of its number, as one that ends.
+    pub fn put_message(&mut self, row: MessageRow) -> Result<(), AllocError>
+        ensures { (m : Messages) → Shows self.old m → OnOk result (Shows self.new (put_message row m)) }
+    {
+        self.messages.push(Change::Put(row))?;
+        Ok(())
+    }
+
+    /// A priority comes.
+    pub fn put_priority(&mut self, row: PriorityRow) -> Result<(), AllocError>
+        ensures { (m : Messages) → Shows self.old m → OnOk result (Shows self.new (put_priority row m)) }
+    {
+        self.priorities.push(Change::Put(row))?;
+        Ok(())
+    }
+
+    /// A part comes whole.
+    pub fn put_part(&mut self, row: PartRow) -> Result<(), AllocError>
+        ensures { (m : Messages) → Shows self.old m → OnOk result (Shows self.new (put_part row m)) }
+    {
+        self.parts.put(row)?;
+        Ok(())
+    }
+
+    /// The part, which stands there, is so far.
+    pub fn amend_part(&mut self, entry: &PartEntry, progress: &Progress) -> Result<(), AllocError>
+        ensures { (m : Messages) (row : PartRowOf) → Shows self.old m → part_at row.id row.number (parts_of m) ≡ Some row → part_entry row ≡ entry.now
+            → OnOk result (Shows self.new (amend_part row progress.now m)) }
+    {
+        self.parts.amend(entry, progress)?;
+        Ok(())
+    }
+
+    /// The changes, with memory for what they bring.
+    pub fn settle(self) -> Result<SettledMessages, AllocError>
+        ensures settled { (m : Messages) → Shows self.entry m → IfOk result (IsSettled m) }
+        ensures fits { (m : Messages) → Shows self.entry m → IfOk result (λ s. Fits s.spare (length s.messages) self.entry.kept) }
+    {
+        let count = self.messages.len();
+        let parts = self.parts.settle(self.alloc)?;
+        let spare = self.kept.make_spare(self.alloc, count, parts.entries)?;
+        let messages = Listed::from_vec(self.messages);
+        let changes = Listed::from_vec(parts.changes);
+        let priorities = Listed::from_vec(self.priorities);
+        Ok(SettledMessages {
+            messages,
+            parts: changes,
+            priorities,
+            spare,
+        })
+    }
+}
