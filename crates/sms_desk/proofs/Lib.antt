@@ -1,0 +1,5 @@
+mod Becoming
+mod Keeping
+mod Moves
+mod Serving
+mod Walking
