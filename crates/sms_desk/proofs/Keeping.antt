@@ -32,7 +32,7 @@ kept_where true x b e = (refl, one x b e) where
   one x b e = cc
 kept_where false x b e = absurd cc
 
-status_place : (r : ReportRow) (e : StatusEntry) → status_entry r ≡ Some e → status_key e ≡ report_key r
+pub status_place : (r : ReportRow) (e : StatusEntry) → status_entry r ≡ Some e → status_key e ≡ report_key r
 status_place r e f = ap (λ (x : StatusEntry). x.place) (sym (kept_where (is_open_status r) (record { place = r.place; id = r.id; until = later r.made status_limit }) e f).1)
 
 pub receipt_place : (name : List ℕ) (ms : List MessageRow) (r : ReportRow) (e : ReceiptEntry) → receipt_entry name ms r ≡ Some e → receipt_key e ≡ report_key r
@@ -78,6 +78,7 @@ names_apart (x ∷ xs) (y ∷ ys) = ⊎_elim
   where
     heads : (x y : ℕ) (xs ys : List ℕ) → x ∷ xs ≡ y ∷ ys → x ≡ y
     heads x y xs ys g = cc
+
     tails : (x y : ℕ) (xs ys : List ℕ) → x ∷ xs ≡ y ∷ ys → xs ≡ ys
     tails x y xs ys g = cc
 
@@ -125,10 +126,12 @@ module _ (rows after : List ReportRow) (r : ReportRow) (keys : Rises report_key 
     and_false : (b : Bool) → (b && false) ≡ false
     and_false true = refl
     and_false false = refl
+
     not_of : (other : List ℕ) → ¬ (other ≡ name) → (b : ReportRow) → b.id ≡ r.id → receipt_entry other ms b ≡ None
     not_of other ne b e =
         cond-false (is_open_receipt b && is_named other (account_in (message_at b.id ms))) (Some (record { place = b.place; id = b.id; due = b.progress.due })) None
         (ap (λ (t : Bool). is_open_receipt b && t) (ap (λ (n : ℕ). is_named other (account_in (message_at n ms))) e ∙ foreign other ne) ∙ and_false (is_open_receipt b))
+
     by_name : (other : List ℕ) → (other ≡ name) ⊎ (other ≡ name → ⊥) → receipts_at other accounts ≡ picked (receipt_entry other ms) after
     by_name other (inl e) = subst (λ (n : List ℕ). receipts_at n accounts ≡ picked (receipt_entry n ms) after) (sym e)
         (with.own ∙ ap (λ (es : List ReceiptEntry). set_at receipt_key r.place (receipt_entry name ms r) es) (shows.receipts name)

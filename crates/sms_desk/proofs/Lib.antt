@@ -1,4 +1,5 @@
 mod Becoming
+mod Dropping
 mod Keeping
 mod Moves
 mod Serving

@@ -89,8 +89,8 @@ receipt_is : (name : List ℕ) (ms : List MessageRow) (r : ReportRow) → is_rec
 receipt_is name ms r one named =
     let kept : ReceiptEntry = record { place = r.place; id = r.id; due = r.progress.due } in
     let test : (done : Bool) → r.progress.is_done ≡ done → (is_open_receipt r && is_named name (account_in (message_at r.id ms))) ≡ (not done && true) =
-        λ done d. ap (λ (x : Bool). (x && not r.progress.is_done) && is_named name (account_in (message_at r.id ms))) one
-        ∙ ap (λ (x : Bool). not x && is_named name (account_in (message_at r.id ms))) d ∙ ap (λ (x : Bool). not done && x) named in
+    λ done d. ap (λ (x : Bool). (x && not r.progress.is_done) && is_named name (account_in (message_at r.id ms))) one
+    ∙ ap (λ (x : Bool). not x && is_named name (account_in (message_at r.id ms))) d ∙ ap (λ (x : Bool). not done && x) named in
     ⊎_elim
     (λ (d : r.progress.is_done ≡ true). cond-false (is_open_receipt r && is_named name (account_in (message_at r.id ms))) (Some kept) None (test true d) ∙ sym (cond-true r.progress.is_done None (Some kept) d))
     (λ (d : r.progress.is_done ≡ false). cond-true (is_open_receipt r && is_named name (account_in (message_at r.id ms))) (Some kept) None (test false d) ∙ sym (cond-false r.progress.is_done None (Some kept) d))
@@ -216,7 +216,7 @@ shows_added ms kept rows r name shows lower none account =
     let became = became_added r rows shows.keys shows.alone lower none in
     let next : r.place + 1 ≡ next_place after = sym (next_added r rows) in
     let closed : is_open_receipt r ≡ false → is_open_status r ≡ false → Shows ms (record kept { next = r.place + 1 }) after =
-        λ one two. kept_closed rows after r shows.keys became ms kept (r.place + 1) shows one two none (λ b e. nothing_there r b rows lower e) next in
+    λ one two. kept_closed rows after r shows.keys became ms kept (r.place + 1) shows one two none (λ b e. nothing_there r b rows lower e) next in
     ⊎_elim
     (λ (d : r.progress.is_done ≡ true).
     subst (λ (k : Kept). Shows ms (record k { next = r.place + 1 }) after) (sym (cond-true r.progress.is_done kept (keeping_of r.kind name r kept) d))
@@ -229,6 +229,7 @@ shows_added ms kept rows r name shows lower none account =
     and_false : (b : Bool) → (b && false) ≡ false
     and_false true = refl
     and_false false = refl
+
     by : (k : ReportKind) → r.kind ≡ k → (is_open_receipt r ≡ false → is_open_status r ≡ false → Shows ms (record kept { next = r.place + 1 }) (rows ++ r ∷ []))
         → Shows ms (record (keeping_of k name r kept) { next = r.place + 1 }) (rows ++ r ∷ [])
     by Receipt e closed =

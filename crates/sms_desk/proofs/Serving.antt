@@ -41,10 +41,16 @@ module _ (test : ReceiptEntry → Bool) where
   first_reaches : (e : ReceiptEntry) (es : List ReceiptEntry) → Rises receipt_key es → Among e es → test e ≡ true → (f : ReceiptEntry) × ((first_such test es ≡ Some f) × (f.place ≤ e.place))
   first_reaches e [] h m t = elim m [ ]
   first_reaches e (x ∷ es) h m t = ⊎_elim
-      (λ (p : test x ≡ true). (x, (cond-true (test x) (Some x) (first_such test es) p, ⊎_elim
-      (λ (q : e ≡ x). subst (λ (y : ReceiptEntry). x.place ≤ y.place) (sym q) (omega arith))
-      (λ (k : Among e es). let l = above_member x.place e es h.0 k in omega (arith, l))
-      m)))
+      (λ (p : test x ≡ true). (
+        x,
+        (
+          cond-true (test x) (Some x) (first_such test es) p,
+          ⊎_elim
+              (λ (q : e ≡ x). subst (λ (y : ReceiptEntry). x.place ≤ y.place) (sym q) (omega arith))
+              (λ (k : Among e es). let l = above_member x.place e es h.0 k in omega (arith, l))
+              m,
+        ),
+      ))
       (λ (p : test x ≡ false). ⊎_elim
       (λ (q : e ≡ x). let bad : true ≡ false = sym t ∙ ap test q ∙ p in absurd cc)
       (λ (k : Among e es). let f = first_reaches e es h.1 k t in (f.0, (cond-false (test x) (Some x) (first_such test es) p ∙ f.1.0, f.1.1)))
@@ -59,7 +65,7 @@ module _ (test : ReceiptEntry → Bool) where
       (cases_Bool (test x))
 
 module _ {B : Type 0} (pick : ReportRow → Option B) where
-  kept_among : (r : ReportRow) (e : B) (rows : List ReportRow) → Among r rows → pick r ≡ Some e → Among e (picked pick rows)
+  pub kept_among : (r : ReportRow) (e : B) (rows : List ReportRow) → Among r rows → pick r ≡ Some e → Among e (picked pick rows)
   kept_among r e [] m p = elim m [ ]
   kept_among r e (x ∷ rows) m p = ⊎_elim
       (λ (q : r ≡ x). here (pick x) (sym (ap pick q) ∙ p))
@@ -69,6 +75,7 @@ module _ {B : Type 0} (pick : ReportRow → Option B) where
       here : (o : Option B) → o ≡ Some e → Among e (before_all o (picked pick rows))
       here None f = absurd cc
       here (Some b) f = inl (sym (one_of b e f))
+
       behind : (o : Option B) → Among e (picked pick rows) → Among e (before_all o (picked pick rows))
       behind None k = k
       behind (Some b) k = inr k
@@ -81,7 +88,7 @@ module _ {B : Type 0} (pick : ReportRow → Option B) where
       (λ (n : Among e (picked pick rows)). let f = rest n in (f.0, (inr f.1.0, f.1.1)))
       k
 
-  among_kept : (e : B) (rows : List ReportRow) → Among e (picked pick rows) → (r : ReportRow) × (Among r rows × (pick r ≡ Some e))
+  pub among_kept : (e : B) (rows : List ReportRow) → Among e (picked pick rows) → (r : ReportRow) × (Among r rows × (pick r ≡ Some e))
   among_kept e [] m = elim m [ ]
   among_kept e (x ∷ rows) m = among_first e x rows (pick x) refl (λ k. among_kept e rows k) m
 
@@ -162,8 +169,8 @@ goes_so moment ms ss r s e = ⊎_elim
 so_goes : (moment : ℕ) (ms : List MessageRow) (ss : List Session) (r : ReportRow) (s : Session) → Goes moment ms ss r s → goes_in moment ms ss r ≡ Some s
 so_goes moment ms ss r s goes =
     let waiting : waits moment r ss ≡ true =
-        and_from (is_open_receipt r) (nat_le r.progress.due moment && not (is_unanswered r.id ss)) goes.opened
-        (and_from (nat_le r.progress.due moment) (not (is_unanswered r.id ss)) (le-leb r.progress.due moment goes.due) (true_not (is_unanswered r.id ss) goes.unsent)) in
+    and_from (is_open_receipt r) (nat_le r.progress.due moment && not (is_unanswered r.id ss)) goes.opened
+    (and_from (nat_le r.progress.due moment) (not (is_unanswered r.id ss)) (le-leb r.progress.due moment goes.due) (true_not (is_unanswered r.id ss) goes.unsent)) in
     cond-true (waits moment r ss) (with_room (session_for (message_at r.id ms) ss)) None waiting
     ∙ ap (λ (o : Option Session). with_room o) goes.session ∙ cond-true (nat_lt (length s.unanswered) window) (Some s) None goes.room
 
@@ -200,16 +207,20 @@ module _ (first moment : ℕ) (ms : List MessageRow) (kept : Kept) (rows : List 
       let mine : account_in (message_at x.id ms) ≡ Some s.account = account.1 ∙ ap (λ (n : List ℕ). Some n) found.1 in
       let named : is_named s.account (account_in (message_at x.id ms)) ≡ true = ap (λ (o : Option (List ℕ)). is_named s.account o) mine ∙ (bytes_eq-Decides s.account s.account).1 refl in
       let entry : receipt_entry s.account ms x ≡ Some (kept_of x) =
-          cond-true (is_open_receipt x && is_named s.account (account_in (message_at x.id ms))) (Some (kept_of x)) None (and_from (is_open_receipt x) (is_named s.account (account_in (message_at x.id ms))) goes.opened named) in
+      cond-true (is_open_receipt x && is_named s.account (account_in (message_at x.id ms))) (Some (kept_of x)) None (and_from (is_open_receipt x) (is_named s.account (account_in (message_at x.id ms))) goes.opened named) in
       let there : Among (kept_of x) (receipts_at s.account kept.accounts) =
-          subst (λ (es : List ReceiptEntry). Among (kept_of x) es) (sym (shows.receipts s.account)) (kept_among (receipt_entry s.account ms) x (kept_of x) rows m entry) in
+      subst (λ (es : List ReceiptEntry). Among (kept_of x) es) (sym (shows.receipts s.account)) (kept_among (receipt_entry s.account ms) x (kept_of x) rows m entry) in
       let ready : is_ready first moment ss (kept_of x) ≡ true =
-          and_from (is_past_from receipt_key receipt_due first moment (kept_of x)) (not (is_unanswered x.id ss)) (so_past first moment (kept_of x) l goes.due) (true_not (is_unanswered x.id ss) goes.unsent) in
+      and_from (is_past_from receipt_key receipt_due first moment (kept_of x)) (not (is_unanswered x.id ss)) (so_past first moment (kept_of x) l goes.due) (true_not (is_unanswered x.id ss) goes.unsent) in
       let reached = first_reaches (is_ready first moment ss) (kept_of x) (receipts_at s.account kept.accounts) (receipts_rise s.account) there ready in
       let is_own : is_session s (serving s.account ss) ≡ true = ap (λ (o : Option Session). is_session s o) own ∙ eq-eqb s.number s.number refl in
-      let test : (is_session s (serving s.account ss) && nat_lt (length s.unanswered) window) ≡ true = and_from (is_session s (serving s.account ss)) (nat_lt (length s.unanswered) window) is_own goes.room in
-      (found.0, (reached.0,
-      (cond-true (is_session s (serving s.account ss) && nat_lt (length s.unanswered) window) (first_such (is_ready first moment ss) (receipts_at s.account kept.accounts)) None test ∙ reached.1.0, reached.1.1)))
+      let test : (is_session s (serving s.account ss) && nat_lt (length s.unanswered) window) ≡ true = and_from (is_session s (serving s.account ss)) (nat_lt (length s.unanswered) window) is_own goes.room in (
+        found.0,
+        (
+          reached.0,
+          (cond-true (is_session s (serving s.account ss) && nat_lt (length s.unanswered) window) (first_such (is_ready first moment ss) (receipts_at s.account kept.accounts)) None test ∙ reached.1.0, reached.1.1),
+        ),
+      )
 
   is_it : (s : Session) (o : Option Session) → is_session s o ≡ true → (t : Session) × ((o ≡ Some t) × (t.number ≡ s.number))
   is_it s None e = absurd cc
@@ -222,7 +233,7 @@ module _ (first moment : ℕ) (ms : List MessageRow) (kept : Kept) (rows : List 
       (λ (t : (is_session s (serving s.account ss) && nat_lt (length s.unanswered) window) ≡ true).
       let parts = and_parts (is_session s (serving s.account ss)) (nat_lt (length s.unanswered) window) t in
       let f = first_found (is_ready first moment ss) e (receipts_at s.account kept.accounts)
-          (sym (cond-true (is_session s (serving s.account ss) && nat_lt (length s.unanswered) window) (first_such (is_ready first moment ss) (receipts_at s.account kept.accounts)) None t) ∙ q) in
+      (sym (cond-true (is_session s (serving s.account ss) && nat_lt (length s.unanswered) window) (first_such (is_ready first moment ss) (receipts_at s.account kept.accounts)) None t) ∙ q) in
       let row = among_kept (receipt_entry s.account ms) e rows (subst (λ (es : List ReceiptEntry). Among e es) (shows.receipts s.account) f.0) in
       let r : ReportRow = row.0 in
       let kept_so = kept_where (is_open_receipt r && is_named s.account (account_in (message_at r.id ms))) (kept_of r) e row.1.1 in
@@ -233,14 +244,22 @@ module _ (first moment : ℕ) (ms : List MessageRow) (kept : Kept) (rows : List 
       let among = serving_found s.account it.0 ss it.1.0 in
       let same : it.0 ≡ s = one_of it.0 s (sym (among_found session_key it.0 ss rises among.0) ∙ ap (λ (n : ℕ). row_at session_key n ss) it.1.1 ∙ among_found session_key s ss rises m) in
       let place : r.place ≡ e.place = ap (λ (x : ReceiptEntry). x.place) kept_so.1 in
-      let due : r.progress.due ≡ e.due = ap (λ (x : ReceiptEntry). x.due) kept_so.1 in
-      (r, ((row.1.0, kept_so.1), (subst (λ (n : ℕ). first ≤ n) (sym place) past.0, record {
-        opened = shut.0;
-        due = subst (λ (n : ℕ). n ≤ moment) (sym due) past.1;
-        unsent = ap (λ (x : ReceiptEntry). is_unanswered x.id ss) kept_so.1 ∙ not_true (is_unanswered e.id ss) ready.1;
-        session = session_named r shut.1 ∙ it.1.0 ∙ ap (λ (x : Session). Some x) same;
-        room = parts.1;
-      }))))
+      let due : r.progress.due ≡ e.due = ap (λ (x : ReceiptEntry). x.due) kept_so.1 in (
+        r,
+        (
+          (row.1.0, kept_so.1),
+          (
+            subst (λ (n : ℕ). first ≤ n) (sym place) past.0,
+            record {
+              opened = shut.0;
+              due = subst (λ (n : ℕ). n ≤ moment) (sym due) past.1;
+              unsent = ap (λ (x : ReceiptEntry). is_unanswered x.id ss) kept_so.1 ∙ not_true (is_unanswered e.id ss) ready.1;
+              session = session_named r shut.1 ∙ it.1.0 ∙ ap (λ (x : Session). Some x) same;
+              room = parts.1;
+            },
+          ),
+        ),
+      ))
       (λ (t : (is_session s (serving s.account ss) && nat_lt (length s.unanswered) window) ≡ false).
       let bad : None ≡ Some e = sym (cond-false (is_session s (serving s.account ss) && nat_lt (length s.unanswered) window) (first_such (is_ready first moment ss) (receipts_at s.account kept.accounts)) None t) ∙ q in absurd cc)
       (cases_Bool (is_session s (serving s.account ss) && nat_lt (length s.unanswered) window))
@@ -279,7 +298,7 @@ module _ (first moment : ℕ) (ms : List MessageRow) (kept : Kept) (rows : List 
   least s e (x ∷ xs) m q = ⊎_elim
       (λ (p : s ≡ x).
       let here : next_from x (next_in first moment ss kept.accounts x) ≡ Some (record { session = x; receipt = e }) =
-          ap (λ (o : Option ReceiptEntry). next_from x o) (ap (λ (y : Session). next_in first moment ss kept.accounts y) (sym p) ∙ q) in
+      ap (λ (o : Option ReceiptEntry). next_from x o) (ap (λ (y : Session). next_in first moment ss kept.accounts y) (sym p) ∙ q) in
       let n = earlier_left (record { session = x; receipt = e }) (next_among first moment ss kept.accounts xs) in
       (n.0, (ap (λ (o : Option Next). earlier o (next_among first moment ss kept.accounts xs)) here ∙ n.1.0, n.1.1)))
       (λ (k : Among s xs).

@@ -13,17 +13,17 @@ use Rattle.sms_desk.specs.Going.{goes_in, with_room}
 
 -- ---- rows from a place on
 
-from_here : (n : ℕ) (r : ReportRow) (rs : List ReportRow) → n ≤ r.place → rows_from report_key n (r ∷ rs) ≡ r ∷ rs
+pub from_here : (n : ℕ) (r : ReportRow) (rs : List ReportRow) → n ≤ r.place → rows_from report_key n (r ∷ rs) ≡ r ∷ rs
 from_here n r rs l = cond-false (nat_lt r.place n) (rows_from report_key n rs) (r ∷ rs) (le-ltb r.place n l)
 
-from_behind : (n : ℕ) (r : ReportRow) (rs : List ReportRow) → r.place < n → rows_from report_key n (r ∷ rs) ≡ rows_from report_key n rs
+pub from_behind : (n : ℕ) (r : ReportRow) (rs : List ReportRow) → r.place < n → rows_from report_key n (r ∷ rs) ≡ rows_from report_key n rs
 from_behind n r rs l = cond-true (nat_lt r.place n) (rows_from report_key n rs) (r ∷ rs) (lt-ltb r.place n l)
 
-from_all : (n m : ℕ) (rs : List ReportRow) → AllAbove report_key m rs → n ≤ m + 1 → rows_from report_key n rs ≡ rs
+pub from_all : (n m : ℕ) (rs : List ReportRow) → AllAbove report_key m rs → n ≤ m + 1 → rows_from report_key n rs ≡ rs
 from_all n m [] h l = refl
 from_all n m (r ∷ rs) h l = from_here n r rs (omega (arith, h.0, l))
 
-above_one : (n : ℕ) (s : ReportRow) (rs : List ReportRow) → AllAbove report_key n rs → Among s rs → n < s.place
+pub above_one : (n : ℕ) (s : ReportRow) (rs : List ReportRow) → AllAbove report_key n rs → Among s rs → n < s.place
 above_one n s [] h m = elim m [ ]
 above_one n s (r ∷ rs) h m = ⊎_elim
     (λ (e : s ≡ r). subst (λ (x : ReportRow). n < x.place) (sym e) h.0)

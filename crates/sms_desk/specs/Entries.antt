@@ -42,6 +42,9 @@ status_limit = 172800
 abbrev pub status_key : StatusEntry → ℕ
 status_key e = e.place
 
+abbrev pub status_until : StatusEntry → ℕ
+status_until e = e.until
+
 abbrev pub status_entry : ReportRow → Option StatusEntry
 status_entry r = if is_open_status r then Some (record { place = r.place; id = r.id; until = later r.made status_limit }) else None
 

@@ -1,5 +1,6 @@
 pub mod AccountList
 pub mod Became
+pub mod Dropping
 pub mod Entries
 pub mod Going
 pub mod Kept

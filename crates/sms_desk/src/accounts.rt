@@ -124,11 +124,7 @@ impl Accounts {
 }
 
 // The account with that receipt alone, or no account.
-fn alone(
-    alloc: Global,
-    name: &[u8],
-    entry: Option<ReceiptEntry>,
-) -> Result<Accounts, AllocError>
+fn alone(alloc: Global, name: &[u8], entry: Option<ReceiptEntry>) -> Result<Accounts, AllocError>
     ensures { IfOk result (λ accounts. accounts ≡ with_receipt name.now 0 entry []) }
 {
     let Some(entry) = entry else {

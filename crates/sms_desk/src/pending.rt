@@ -183,13 +183,7 @@ impl PendingReports {
 }
 
 // A report that is made.
-fn made_row(
-    place: u64,
-    id: MessageId,
-    kind: ReportKind,
-    is_closed: bool,
-    made: Moment,
-) -> ReportRow
+fn made_row(place: u64, id: MessageId, kind: ReportKind, is_closed: bool, made: Moment) -> ReportRow
     ensures { result ≡ made_row_of place id kind is_closed made }
 {
     let progress = Progress {

@@ -1,9 +1,10 @@
 //! The open reports, as they stand between events.
 ghost use Rattle.std.specs.Prelude.{◌≡◌, ◌+◌, ◌<◌, ◌++◌, ◌∷◌, [], List, OnOk, IfOk, None, Some, true};
+ghost use Rattle.sms_index.specs.First.{first_such, is_ahead_from, is_past_from};
 ghost use Rattle.sms_index.specs.Picked.{pick_of};
 ghost use Rattle.sms_base.specs.Among.{Among};
-ghost use Rattle.sms_desk.specs.Entries.{account_in, entry_key, open_entry, report_entry};
-ghost use Rattle.sms_desk.specs.Kept.{Shows};
+ghost use Rattle.sms_desk.specs.Entries.{account_in, entry_key, open_entry, receipt_due, receipt_key, report_entry, status_key, status_until};
+ghost use Rattle.sms_desk.specs.Kept.{Shows, receipts_at};
 ghost use Rattle.sms_desk.specs.Updates.{keeping, keeping_receipt, keeping_status, receipt_of, status_of, unless_done};
 ghost use Rattle.sms_messages.specs.declared.message.MessageRow.{MessageRow as MessageRowOf};
 ghost use Rattle.sms_messages.specs.Messages.{message_at};
@@ -13,7 +14,7 @@ ghost use Rattle.sms_table.specs.Table.{row_at};
 
 use crate::accounts::Accounts;
 use crate::entry::{ReceiptEntry, ReportEntry, StatusEntry};
-use sms_base::MessageId;
+use sms_base::{MessageId, Moment};
 use sms_index::Index;
 use sms_reports::{ReportKind, ReportRow};
 use sms_table::Key;
@@ -71,8 +72,8 @@ pub struct Reports {
     alloc: Global,
     open_reports: Index<ReportEntry>,
     statuses: Index<StatusEntry>,
-    pub(crate) accounts: Accounts,
-    pub(crate) next: u64,
+    accounts: Accounts,
+    next: u64,
 }
 
 impl Model for Reports {
@@ -119,6 +120,27 @@ impl Reports {
         ensures found { (messages : List MessageRowOf) (rows : List ReportRowOf) → Shows messages self.now rows → result ≡ pick_of open_entry (report_of id rows) }
     {
         self.open_reports.find(Key::of(id.number()))
+    }
+
+    /// The first receipt of the account from that place on that is due.
+    pub fn first_due(&self, account: &[u8], first: u64, now: Moment) -> Option<ReceiptEntry>
+        ensures { result ≡ first_such (is_past_from receipt_key receipt_due first now) (receipts_at account.now self.now.accounts) }
+    {
+        self.accounts.first_past(account, Key::of(first), now)
+    }
+
+    /// The first receipt of the account from that place on that isn't due yet.
+    pub fn first_put_off(&self, account: &[u8], first: u64, now: Moment) -> Option<ReceiptEntry>
+        ensures { result ≡ first_such (is_ahead_from receipt_key receipt_due first now) (receipts_at account.now self.now.accounts) }
+    {
+        self.accounts.first_ahead(account, Key::of(first), now)
+    }
+
+    /// The first open status report from that place on that is dropped at that moment.
+    pub fn first_old(&self, first: u64, now: Moment) -> Option<StatusEntry>
+        ensures { result ≡ first_such (is_past_from status_key status_until first now) self.now.statuses }
+    {
+        self.statuses.first_past(Key::of(first), now)
     }
 
     // The place of the next report, which is given away. More than 2^64 - 1 reports have no memory.

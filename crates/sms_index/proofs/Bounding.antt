@@ -29,6 +29,6 @@ module _ {A : Type 0} (moment : A → ℕ) where
       → AreBetween moment f.earliest f.latest (f.left.rows ++ f.row ∷ f.right.rows)
   fork_bounds left row right height earliest latest f is low high h k =
       let all : AreBetween moment earliest latest (left.rows ++ row ∷ right.rows) =
-          subst (λ (n : ℕ). AreBetween moment earliest n (left.rows ++ row ∷ right.rows)) (sym high)
-          (subst (λ (n : ℕ). AreBetween moment n (max (moment row) (max left.latest right.latest)) (left.rows ++ row ∷ right.rows)) (sym low) (bounded_fork left row right h k)) in
+      subst (λ (n : ℕ). AreBetween moment earliest n (left.rows ++ row ∷ right.rows)) (sym high)
+      (subst (λ (n : ℕ). AreBetween moment n (max (moment row) (max left.latest right.latest)) (left.rows ++ row ∷ right.rows)) (sym low) (bounded_fork left row right h k)) in
       subst (λ (g : Fork A). AreBetween moment g.earliest g.latest (g.left.rows ++ g.row ∷ g.right.rows)) (sym is) all
