@@ -1,9 +1,8 @@
 -- What is kept of rows follows them: where one row changes, what is kept of it does.
 use Rattle.std.proofs.Common.{◌≡◌, ℕ, ◌<◌, List, [], ◌∷◌, Option, Some, None, refl, sym, ◌∙◌, ap, subst, arith, ⊎_elim}
 use Rattle.std.proofs.lemmas.Bool.{cases_eq}
-use Rattle.sms_base.specs.Among.{Among}
-use Rattle.sms_table.specs.Table.{AllAbove, Rises, put, row_at, without}
-use Rattle.sms_table.proofs.Tables.{among_found, rises_put, rises_without, row_at_put, row_at_put_other, row_at_without, row_at_without_other, row_behind, row_here}
+use Rattle.sms_table.specs.Table.{AllAbove, Rises, put, row_at}
+use Rattle.sms_table.proofs.Tables.{rises_put, rises_without, row_at_put, row_at_put_other, row_at_without, row_at_without_other, row_behind, row_here}
 use Rattle.sms_index.specs.Picked.{before_all, pick_of, picked, set_at}
 
 -- ---- rows in order are told by what stands under each key

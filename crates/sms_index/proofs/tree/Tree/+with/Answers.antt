@@ -1,5 +1,5 @@
-use Rattle.std.proofs.Common.{◌≡◌, ◌∷◌, ◌++◌, sym, ◌∙◌, ap, List, arith}
-use Rattle.sms_table.specs.Table.{Rises, put, without}
+use Rattle.std.proofs.Common.{◌≡◌, ◌∷◌, ◌++◌, ◌∙◌, ap, arith}
+use Rattle.sms_table.specs.Table.{Rises, put}
 use Rattle.sms_index.specs.Shapes.{TreeOf}
 use Rattle.sms_index.specs.Trees.{forked}
 use Rattle.sms_index.proofs.Sides.{of_ok, rooted, with_left, with_right, with_root}

@@ -1,5 +1,5 @@
-use Rattle.std.proofs.Common.{◌≡◌, ◌∷◌, ◌++◌, sym, ◌∙◌, ap, List, arith}
-use Rattle.sms_table.specs.Table.{Rises, put, without}
+use Rattle.std.proofs.Common.{◌≡◌, ◌∷◌, ◌++◌, ◌∙◌, ap, arith}
+use Rattle.sms_table.specs.Table.{Rises, without}
 use Rattle.sms_index.specs.Shapes.{TreeOf}
 use Rattle.sms_index.proofs.Sides.{of_ok, out_left, out_right, out_root, rooted}
 use Rattle.sms_index.proofs.tree.Tree.+without.Goals as goal
