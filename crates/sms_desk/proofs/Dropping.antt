@@ -1,10 +1,9 @@
 -- Status reports are dropped as what is kept tells them.
-use Rattle.std.proofs.Common.{◌≡◌, ◌⊎◌, ℕ, ◌+◌, ◌<◌, ◌≤◌, List, [], ◌∷◌, Bool, true, false, Option, Some, None, refl, sym, ◌∙◌, ap, subst, inl, inr, ⊎_elim, arith}
-use Rattle.std.specs.Prelude.{◌&&◌, nat_le, if◌then◌else◌}
+use Rattle.std.proofs.Common.{◌≡◌, ℕ, ◌+◌, ◌<◌, ◌≤◌, List, [], ◌∷◌, Bool, true, false, Option, Some, None, refl, sym, ◌∙◌, ap, subst, inl, inr, ⊎_elim, arith}
+use Rattle.std.specs.Prelude.{nat_le, if◌then◌else◌}
 use Rattle.std.proofs.lemmas.Bool.{and_from, and_parts, cases_Bool, cases_lt, cond-true, cond-false, le-leb, leb-true}
 use Rattle.sms_base.specs.Among.{Among}
 use Rattle.sms_index.specs.First.{first_such, is_past_from}
-use Rattle.sms_index.specs.Picked.{picked}
 use Rattle.sms_index.proofs.Picking.{picked_rises}
 use Rattle.sms_table.specs.Table.{AllAbove, Rises, rows_from}
 use Rattle.sms_messages.specs.declared.message.MessageRow.{MessageRow}

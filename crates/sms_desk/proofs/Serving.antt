@@ -1,8 +1,8 @@
 -- The next receipt that what is kept tells is the first that goes.
 use Rattle.std.proofs.Common.{◌≡◌, ◌⊎◌, ℕ, ◌+◌, ◌≤◌, ◌<◌, List, [], ◌∷◌, Bool, true, false, Option, Some, None, refl, sym, ◌∙◌, ap, subst, inl, inr, ⊎_elim, length, eq-eqb, arith}
-use Rattle.std.specs.Prelude.{◌==◌, ◌&&◌, nat_le, nat_lt, not, if◌then◌else◌}
+use Rattle.std.specs.Prelude.{◌&&◌, nat_le, nat_lt, not, if◌then◌else◌}
 use Rattle.std.specs.Str.{bytes_eq}
-use Rattle.std.proofs.lemmas.Bool.{and_from, and_parts, cases_Bool, cases_lt, cond-true, cond-false, eqb-true, le-leb, leb-true, lt-leb}
+use Rattle.std.proofs.lemmas.Bool.{and_from, and_parts, cases_Bool, cases_lt, cond-true, cond-false, eqb-true, le-leb, leb-true}
 use Rattle.std.proofs.lemmas.Slice.Eq.{bytes_eq-Decides}
 use Rattle.sms_base.specs.Among.{Among}
 use Rattle.sms_index.specs.First.{first_such, is_past_from}
@@ -19,7 +19,7 @@ use Rattle.sms_reports.specs.Receipts.{Desk, Session, is_account, is_unanswered,
 use Rattle.sms_reports.specs.Reports.{is_open_receipt, report_key}
 use Rattle.sms_desk.specs.declared.entry.ReceiptEntry.{ReceiptEntry}
 use Rattle.sms_desk.specs.Entries.{account_in, account_of, is_named, receipt_due, receipt_entry, receipt_key}
-use Rattle.sms_desk.specs.Kept.{AccountOf, Kept, Shows, receipts_at}
+use Rattle.sms_desk.specs.Kept.{Kept, Shows, receipts_at}
 use Rattle.sms_desk.specs.Serving.{Next, earlier, is_ready, is_session, next_among, next_from, next_in, serving}
 use Rattle.sms_desk.specs.Going.{goes_in, with_room}
 use Rattle.sms_desk.proofs.Keeping.{kept_where, receipt_place}

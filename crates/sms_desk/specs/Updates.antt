@@ -1,8 +1,7 @@
 -- What becomes of what is kept, with a report that comes or is so far.
-use Rattle.std.specs.Prelude.{ℕ, ◌+◌, List, [], ◌∷◌, ◌++◌, Bool, if◌then◌else◌, Option, Some, None}
+use Rattle.std.specs.Prelude.{ℕ, List, [], ◌∷◌, if◌then◌else◌, Option, Some, None}
 use Rattle.std.specs.Str.{bytes_eq}
 use Rattle.sms_index.specs.Picked.{set_at}
-use Rattle.sms_table.specs.Table.{put}
 use Rattle.sms_reports.specs.declared.report.ReportKind.{ReportKind}
 use Rattle.sms_reports.specs.declared.report.ReportKind.TheVariants.{Receipt, Status, Unsent}
 use Rattle.sms_reports.specs.declared.report.ReportRow.{ReportRow}
