@@ -1,9 +1,12 @@
 //! The sessions in the middle of an event.
-ghost use Rattle.std.specs.Prelude.{◌≡◌, [], OnOk, IfOk, option_copied};
-ghost use Rattle.sms_reports.specs.Receipts.{put_session, remove_session, session_key};
+ghost use Rattle.std.specs.Prelude.{◌≡◌, [], OnOk, IfOk, option_copied, option_map};
+ghost use Rattle.sms_desk.specs.Serving.{serving};
+ghost use Rattle.sms_reports.specs.Receipts.{is_unanswered, put_session, remove_session, session_key};
 ghost use Rattle.sms_table.specs.Table.{row_at};
 
+use crate::serving::{is_unanswered, serving};
 use crate::session::Seat;
+use sms_base::MessageId;
 use sms_reports::Delivery;
 use sms_table::{Key, Table};
 use std::alloc::{AllocError, Global};
@@ -41,6 +44,20 @@ impl PendingDesk {
         ensures { option_copied result ≡ row_at session_key number self.now.sessions }
     {
         self.sessions.find(Key::of(u64::from(number)))
+    }
+
+    /// The number of the first session that receives for the account.
+    pub fn serving(&self, account: &[u8]) -> Option<u32>
+        ensures { result ≡ option_map (λ s. s.number) (serving account.now self.now.sessions) }
+    {
+        serving(self.sessions.as_slice(), account)
+    }
+
+    /// Whether the message's receipt was sent in a session and not answered yet.
+    pub fn is_unanswered(&self, id: MessageId) -> bool
+        ensures { result ≡ is_unanswered id self.now.sessions }
+    {
+        is_unanswered(self.sessions.as_slice(), id)
     }
 
     /// The session is bound, or as it is now.

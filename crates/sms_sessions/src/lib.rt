@@ -5,6 +5,7 @@
 #![tactic(auto)]
 
 mod desk;
+mod serving;
 mod session;
 
 pub use desk::PendingDesk;
