@@ -1,5 +1,4 @@
 -- A session as it is kept.
-use Rattle.std.specs.Prelude.{List}
 use Rattle.sms_reports.specs.Receipts.{Session}
 use Rattle.sms_sessions.specs.declared.session.Seated.{Seated}
 
