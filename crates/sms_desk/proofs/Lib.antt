@@ -1,0 +1,6 @@
+mod Becoming
+mod Dropping
+mod Keeping
+mod Moves
+mod Serving
+mod Walking

@@ -1,0 +1,10 @@
+-- Accounts as they stand one behind another.
+use Rattle.std.specs.Prelude.{List, [], ◌∷◌, Option, Some, None}
+use Rattle.std.specs.declared.alloc.Global.{Global}
+use Rattle.std.specs.declared.sync.Arc.{Arc}
+use Rattle.sms_desk.specs.declared.accounts.Account.{Account}
+use Rattle.sms_desk.specs.Kept.{AccountOf}
+
+abbrev pub accounts_of : Option (Arc Account Global) → List AccountOf
+accounts_of None = []
+accounts_of (Some a) = record { name = a.value.name.value; receipts = a.value.receipts } ∷ a.value.next

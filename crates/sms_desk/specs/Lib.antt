@@ -1,0 +1,9 @@
+pub mod AccountList
+pub mod Became
+pub mod Dropping
+pub mod Entries
+pub mod Going
+pub mod Kept
+pub mod Pending
+pub mod Serving
+pub mod Updates

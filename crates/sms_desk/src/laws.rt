@@ -1,0 +1,43 @@
+//! Laws of what is kept of reports, over its definition alone.
+ghost use Rattle.std.specs.Prelude.{◌≡◌, ◌+◌, ℕ, List, None, Some};
+ghost use Rattle.sms_base.specs.Among.{Among};
+ghost use Rattle.sms_desk.specs.Dropping.{drop_old};
+ghost use Rattle.sms_desk.specs.Entries.{account_in, status_entry, status_key, status_until};
+ghost use Rattle.sms_desk.specs.Kept.{Kept, Shows};
+ghost use Rattle.sms_desk.specs.Serving.{Next, next_among};
+ghost use Rattle.sms_desk.specs.declared.entry.StatusEntry.{StatusEntry};
+ghost use Rattle.sms_index.specs.First.{first_such, is_past_from};
+ghost use Rattle.sms_messages.specs.Messages.{message_at};
+ghost use Rattle.sms_messages.specs.declared.message.MessageRow.{MessageRow};
+ghost use Rattle.sms_reports.specs.Receipts.{Desk, send_all, send_in, session_key};
+ghost use Rattle.sms_reports.specs.Reports.{amend_report, report_key, report_of};
+ghost use Rattle.sms_reports.specs.declared.report.ReportRow.{ReportRow};
+ghost use Rattle.sms_table.specs.Table.{Rises, rows_from};
+ghost use Rattle.sms_waiting.specs.Revisions.{Revised};
+ghost use Rattle.sms_waiting.specs.Trying.{finished};
+
+/// Messages may change in all but who submitted those that have a report.
+pub fn messages_may_change()
+    ensures { (messages others : List MessageRow) (kept : Kept) (rows : List ReportRow) → Shows messages kept rows
+        → ((r : ReportRow) → report_of r.id rows ≡ Some r → account_in (message_at r.id others) ≡ account_in (message_at r.id messages)) → Shows others kept rows }
+{}
+
+/// The receipts that go from a place on: first the one that what is kept tells, in its session; then those behind it. Where it
+/// tells none, none goes any more.
+pub fn receipts_go_by_what_is_kept()
+    ensures next { (first moment : ℕ) (messages : List MessageRow) (kept : Kept) (rows : List ReportRow) (desk : Desk) (n : Next) → Shows messages kept rows → Rises session_key desk.sessions
+        → next_among first moment desk.sessions kept.accounts desk.sessions ≡ Some n
+        → send_all moment messages (rows_from report_key first rows) desk ≡ send_all moment messages (rows_from report_key (n.receipt.place + 1) rows) (send_in n.receipt.id n.session desk) }
+    ensures none { (first moment : ℕ) (messages : List MessageRow) (kept : Kept) (rows : List ReportRow) (desk : Desk) → Shows messages kept rows
+        → next_among first moment desk.sessions kept.accounts desk.sessions ≡ None → send_all moment messages (rows_from report_key first rows) desk ≡ desk }
+{}
+
+/// The status reports that are dropped from a place on: first the one that what is kept tells; then those behind it. Where it
+/// tells none, none is dropped any more.
+pub fn old_reports_are_dropped_by_what_is_kept()
+    ensures next { (first moment : ℕ) (messages : List MessageRow) (kept : Kept) (rows : List ReportRow) (t : Revised ReportRow) (e : StatusEntry) → Shows messages kept rows
+        → first_such (is_past_from status_key status_until first moment) kept.statuses ≡ Some e
+        → (r : ReportRow) × ((Among r rows × (status_entry r ≡ Some e)) × (drop_old moment (rows_from report_key first rows) t ≡ drop_old moment (rows_from report_key (e.place + 1) rows) (amend_report r (finished r.progress) t))) }
+    ensures none { (first moment : ℕ) (messages : List MessageRow) (kept : Kept) (rows : List ReportRow) (t : Revised ReportRow) → Shows messages kept rows
+        → first_such (is_past_from status_key status_until first moment) kept.statuses ≡ None → drop_old moment (rows_from report_key first rows) t ≡ t }
+{}

@@ -1,0 +1,3 @@
+mod Bounding
+pub mod Picking
+mod Sides

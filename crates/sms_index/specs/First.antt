@@ -1,0 +1,21 @@
+-- The first row of a list that a test picks.
+use Rattle.std.specs.Prelude.{ℕ, nat_le, nat_lt, List, [], ◌∷◌, Bool, false, if◌then◌else◌, Option, Some, None}
+
+abbrev pub first_such : {A : Type 0} → (A → Bool) → List A → Option A
+first_such test [] = None
+first_such test (row ∷ rows) = if test row then Some row else first_such test rows
+
+-- the row's moment is come at now
+abbrev pub is_past : {A : Type 0} → (A → ℕ) → ℕ → A → Bool
+is_past moment now row = nat_le (moment row) now
+
+-- the row's moment is still to come
+abbrev pub is_ahead : {A : Type 0} → (A → ℕ) → ℕ → A → Bool
+is_ahead moment now row = nat_lt now (moment row)
+
+-- the row has at least that key, and its moment is come
+abbrev pub is_past_from : {A : Type 0} → (A → ℕ) → (A → ℕ) → ℕ → ℕ → A → Bool
+is_past_from key moment first now row = if nat_le first (key row) then is_past moment now row else false
+
+abbrev pub is_ahead_from : {A : Type 0} → (A → ℕ) → (A → ℕ) → ℕ → ℕ → A → Bool
+is_ahead_from key moment first now row = if nat_le first (key row) then is_ahead moment now row else false

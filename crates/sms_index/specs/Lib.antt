@@ -1,0 +1,5 @@
+pub mod Bounds
+pub mod First
+pub mod Picked
+pub mod Shapes
+pub mod Trees

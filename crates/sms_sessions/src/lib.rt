@@ -1,0 +1,12 @@
+//! The sessions of applications in the middle of an event, and the receipts that were sent in them (SMPP v3.4 2.9 and 4.6).
+//!
+//! A session's state is shared by its copies: an event copies the table of sessions and makes anew those that it changes. Contracts
+//! see both as the definition's session and desk, so each move is an equation.
+#![tactic(auto)]
+
+mod desk;
+mod serving;
+mod session;
+
+pub use desk::PendingDesk;
+pub use session::Seat;
