@@ -11,8 +11,8 @@ use Rattle.sms_index.proofs.Picking.{picked_rises}
 use Rattle.sms_table.specs.Table.{AllAbove, Rises, row_at, rows_from}
 use Rattle.sms_table.proofs.Tables.{among_found}
 use Rattle.sms_messages.specs.declared.message.MessageRow.{MessageRow}
-use Rattle.sms_messages.specs.declared.message.Originator.{Originator}
-use Rattle.sms_messages.specs.declared.message.Originator.TheVariants.{Application, Handset}
+use Rattle.sms_base.specs.declared.originator.Originator.{Originator}
+use Rattle.sms_base.specs.declared.originator.Originator.TheVariants.{Application, Handset}
 use Rattle.sms_messages.specs.Messages.{message_at}
 use Rattle.sms_reports.specs.declared.report.ReportRow.{ReportRow}
 use Rattle.sms_reports.specs.Receipts.{Desk, Session, is_account, is_unanswered, send_all, send_in, session_for, session_key, waits, window}

@@ -6,8 +6,8 @@ use Rattle.sms_table.specs.Table.{insert, put, row_at, without}
 use Rattle.sms_table.proofs.Tables.{row_behind, row_here}
 use Rattle.sms_interning.specs.Interning.{Keeps}
 use Rattle.sms_messages.specs.declared.message.MessageRow.{MessageRow}
-use Rattle.sms_messages.specs.declared.message.Originator.{Originator}
-use Rattle.sms_messages.specs.declared.message.Originator.TheVariants.{Application as ByApplication, Handset as ByHandset}
+use Rattle.sms_base.specs.declared.originator.Originator.{Originator}
+use Rattle.sms_base.specs.declared.originator.Originator.TheVariants.{Application as ByApplication, Handset as ByHandset}
 use Rattle.sms_messages.specs.Messages.{message_key}
 use Rattle.sms_kept.specs.declared.message_entry.MessageEntry.{MessageEntry}
 use Rattle.sms_kept.specs.declared.message_entry.OriginatorEntry.{OriginatorEntry}

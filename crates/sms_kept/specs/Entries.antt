@@ -2,8 +2,8 @@
 use Rattle.std.specs.Prelude.{◌≡◌, ℕ, ◌+◌, ◌≤◌, List, [], ◌∷◌, Option, Some, None}
 use Rattle.sms_interning.specs.Interning.{InternedOf, IsAt, Keeps}
 use Rattle.sms_messages.specs.declared.message.MessageRow.{MessageRow}
-use Rattle.sms_messages.specs.declared.message.Originator.{Originator}
-use Rattle.sms_messages.specs.declared.message.Originator.TheVariants.{Application as ByApplication, Handset as ByHandset}
+use Rattle.sms_base.specs.declared.originator.Originator.{Originator}
+use Rattle.sms_base.specs.declared.originator.Originator.TheVariants.{Application as ByApplication, Handset as ByHandset}
 use Rattle.sms_kept.specs.declared.message_entry.MessageEntry.{MessageEntry}
 use Rattle.sms_kept.specs.declared.message_entry.OriginatorEntry.{OriginatorEntry}
 use Rattle.sms_kept.specs.declared.message_entry.OriginatorEntry.TheVariants.{Application, Handset}

@@ -2,8 +2,8 @@
 ghost use Rattle.std.specs.Prelude.{◌≡◌, IfOk};
 ghost use Rattle.sms_table.specs.Table.{change_row};
 
-use sms_base::Octets;
-use sms_messages::{MessageRow, Originator};
+use sms_base::{Octets, Originator};
+use sms_messages::MessageRow;
 use sms_table::Change;
 use std::alloc::{AllocError, Global};
 

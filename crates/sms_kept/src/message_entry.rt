@@ -5,8 +5,7 @@
 ghost use Rattle.std.specs.Prelude.{◌≡◌};
 ghost use Rattle.sms_kept.specs.Entries.{message_entry_key};
 
-use sms_base::{FinalState, MessageId, Moment, TypeOfNumber};
-use sms_messages::Wish;
+use sms_base::{FinalState, MessageId, Moment, TypeOfNumber, Wish};
 use sms_table::{Key, Row};
 
 /// Who submitted a message.

@@ -3,12 +3,12 @@ ghost use Rattle.std.specs.Prelude.{◌≡◌, ◌+◌, ◌<◌, ◌≤◌, Some
 ghost use Rattle.sms_interning.specs.Interning.{Keeps, Makes};
 ghost use Rattle.sms_kept.specs.Entries.{IsEntry, IsOriginator, NamesKept, UsesNames};
 ghost use Rattle.sms_messages.specs.declared.message.MessageRow.{MessageRow as MessageRowOf};
-ghost use Rattle.sms_messages.specs.declared.message.Originator.{Originator as OriginatorOf};
+ghost use Rattle.sms_base.specs.declared.originator.Originator.{Originator as OriginatorOf};
 
 use crate::message_entry::{MessageEntry, OriginatorEntry};
-use sms_base::{Address, Octets};
+use sms_base::{Address, Octets, Originator};
 use sms_interning::{Accounts, Numbers, SpareAccounts, SpareNumbers};
-use sms_messages::{MessageRow, Originator};
+use sms_messages::MessageRow;
 use std::alloc::{AllocError, Global};
 use std::marker::Model;
 

@@ -33,10 +33,6 @@ unfolding
     Rattle.sms_base.specs.TimeStamp.scts_in
     Rattle.sms_base.specs.TimeStamp.zone_in
     Rattle.sms_base.specs.UtcClock.clock_at
-    Rattle.sms_centre.specs.HandsetIntake.from_submit
-    Rattle.sms_centre.specs.SmppIntake.from_pdu
-    Rattle.sms_centre.specs.SmppIntake.headed_text
-    Rattle.sms_centre.specs.SmppIntake.plain_text
     Rattle.sms_concat.specs.Concatenation.key_of
     Rattle.sms_concat.specs.HeaderGrammar.element_in
     Rattle.sms_concat.specs.HeaderGrammar.elements_behind
@@ -54,9 +50,15 @@ unfolding
     Rattle.sms_control.specs.LinkStep.fire_step
     Rattle.sms_control.specs.LinkStep.reply_step
     Rattle.sms_control.specs.LinkStep.take_step
-    Rattle.sms_handset.specs.References.free_from
+    Rattle.sms_intake.specs.HandsetIntake.from_submit
+    Rattle.sms_intake.specs.SmppIntake.from_pdu
+    Rattle.sms_intake.specs.SmppIntake.front_in
+    Rattle.sms_intake.specs.SmppIntake.headed_text
+    Rattle.sms_intake.specs.SmppIntake.judged_in
+    Rattle.sms_intake.specs.SmppIntake.plain_text
     Rattle.sms_messages.specs.PartEntries.done_to
     Rattle.sms_messages.specs.SplitReferences.first_free_split
+    Rattle.sms_outbox.specs.References.free_from
     Rattle.sms_relay.specs.Cause.cause_of
     Rattle.sms_relay.specs.MessageType.type_of
     Rattle.sms_relay.specs.RelayReading.ack_in

@@ -2,9 +2,9 @@
 use Rattle.std.specs.Prelude.{ℕ, ◌+◌, List, [], ◌∷◌, ◌++◌, if◌then◌else◌, Option, Some, None, Result, Ok, Err}
 use Rattle.sms_base.specs.Reading.{◌>>=◌}
 use Rattle.sms_base.specs.declared.final_state.FinalState.{FinalState}
-use Rattle.sms_handset.specs.declared.out_entry.EntryState.{EntryState as OwnState}
-use Rattle.sms_handset.specs.declared.out_entry.EntryState.TheVariants.{Queued as OwnQueued, Sending as OwnSending, Sent as OwnSent, Failed as OwnFailed, Unsure as OwnUnsure}
-use Rattle.sms_handset.specs.declared.out_entry.OutEntry.{OutEntry}
+use Rattle.sms_outbox.specs.declared.out_entry.EntryState.{EntryState as OwnState}
+use Rattle.sms_outbox.specs.declared.out_entry.EntryState.TheVariants.{Queued as OwnQueued, Sending as OwnSending, Sent as OwnSent, Failed as OwnFailed, Unsure as OwnUnsure}
+use Rattle.sms_outbox.specs.declared.out_entry.OutEntry.{OutEntry}
 use Rattle.sms_messages.specs.declared.message.MessageRow.{MessageRow}
 use Rattle.sms_messages.specs.Messages.{message_at}
 use Rattle.sms_reports.specs.declared.report.ReportRow.{ReportRow}
