@@ -51,6 +51,21 @@ impl Shelf {
         }
     }
 
+    /// The shelf of the handset of that row, with the references that were given there. Nothing waits, and its line is new.
+    pub fn of_row(alloc: Global, row: HandsetRow, given: Table<ReferenceRow>) -> Shelf
+        ensures { result ≡ record { row = Some row; given = given.rows; waiting = []; line = new_line row.number } }
+    {
+        let waiting = Table::new(alloc);
+        let line = Line::new(alloc, row.number);
+        Shelf {
+            alloc,
+            row: Some(row),
+            given,
+            waiting,
+            line,
+        }
+    }
+
     /// The same, in memory of its own.
     pub fn copy(&self) -> Result<Shelf, AllocError>
         ensures { IfOk result (λ shelf. shelf ≡ self.now) }
@@ -72,6 +87,13 @@ impl Shelf {
         ensures { result.now ≡ self.now.line }
     {
         &self.line
+    }
+
+    /// The row of the handset, if it was given a reference.
+    pub fn row(&self) -> Option<HandsetRow>
+        ensures { result ≡ self.now.row }
+    {
+        self.row
     }
 
     /// What waits, in the order of messages and numbers.

@@ -1,0 +1,3 @@
+pub mod LinesCome
+pub mod MovedMaps
+pub mod Becoming

@@ -1,0 +1,6 @@
+pub mod Keys
+pub mod LineOrder
+pub mod Placing
+pub mod Stops
+pub mod Shown
+pub mod Adopting

@@ -1,0 +1,12 @@
+//! The shelves of all handsets.
+#![tactic(auto)]
+
+mod pending;
+mod placed;
+mod shelves;
+mod spare;
+mod stop;
+
+pub use pending::PendingShelves;
+pub use shelves::Shelves;
+pub use stop::{Stop, Wanted};
