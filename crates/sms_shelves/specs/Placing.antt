@@ -1,15 +1,17 @@
 -- The shelves of all handsets between two events, and in the middle of one: each stands under the key of its handset's digits, with
 -- its place in the order in which lines came.
-use Rattle.std.specs.Prelude.{◌≡◌, ℕ, ◌+◌, ◌==◌, nat_eq, Bool, if◌then◌else◌, List, [], Option, Some, None, is_some}
+use Rattle.std.specs.Prelude.{◌≡◌, ℕ, ◌+◌, ◌==◌, nat_eq, Bool, if◌then◌else◌, List, [], ◌∷◌, ◌++◌, Option, Some, None, is_some}
 use Rattle.std.specs.Option.{option_or}
 use Rattle.std.specs.Map.{lookup}
 use Rattle.sms_table.specs.Keys.{digits_key}
 use Rattle.sms_table.specs.declared.change.Change.{Change}
+use Rattle.sms_table.specs.declared.change.Change.TheVariants.{Put}
 use Rattle.sms_waiting.specs.declared.handset.HandsetRow.{HandsetRow}
 use Rattle.sms_waiting.specs.declared.line.Line.{Line}
 use Rattle.sms_waiting.specs.declared.line.Sent.{Sent}
 use Rattle.sms_waiting.specs.declared.reference.ReferenceRow.{ReferenceRow}
 use Rattle.sms_waiting.specs.Lines.{new_line}
+use Rattle.sms_waiting.specs.References.{given_row, mentioned}
 use Rattle.sms_waiting.specs.Shelves.{ShelfOf}
 use Rattle.sms_shelves.specs.declared.placed.Placed.{Placed}
 
@@ -104,3 +106,17 @@ counted lines frames p = record p { lines = lines; frames = frames }
 
 abbrev pub on_line : Line → ℕ → Placed → Placed
 on_line line came placed = record { shelf = record placed.shelf { line = line }; came = came }
+
+-- ---- giving a reference
+
+-- a handset that was given none takes the next place
+abbrev pub places_now : Option HandsetRow → ℕ → ℕ
+places_now None next_place = next_place + 1
+places_now (Some h) next_place = next_place
+
+abbrev pub given_to : HandsetRow → Option HandsetRow → ℕ → ℕ → PendingOf → PendingOf
+given_to row was reference moment p = record p {
+  handsets = p.handsets ++ Put (mentioned row reference) ∷ [];
+  references = p.references ++ Put (given_row row reference moment) ∷ [];
+  next_place = places_now was p.next_place;
+}

@@ -50,6 +50,10 @@ pub record Shows (g : Givings) (air : Air) (waiting : List ℕ → List Load) (p
   pub apart : AreLines air.lines
   pub indexed : Indexed p.base
 
+-- what waits for one handset becomes that, and what waits for others stays
+abbrev pub Waits : List ℕ → (List Load → List Load) → (List ℕ → List Load) → (List ℕ → List Load) → Type 0
+Waits number becomes before after = (after number ≡ becomes (before number)) × ((other : List ℕ) → ¬ (number ≡ other) → after other ≡ before other)
+
 -- ---- between two events
 
 -- an event that begins shows these rows, with no changes, and these lines

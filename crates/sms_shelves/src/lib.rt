@@ -1,8 +1,10 @@
 //! The shelves of all handsets.
 #![tactic(auto)]
 
+mod moves;
 mod pending;
 mod placed;
+mod questions;
 mod shelves;
 mod spare;
 mod stop;
