@@ -39,7 +39,14 @@ pub record Also (base : PendingOf) (g : Givings) (air : Air) : Type 0 where
 
 pub also_shown : (g : Givings) (air : Air) (w : List ℕ → List Load) (p : PendingOf) → Shows g air w p → Also p g air
 also_shown g air w p s = record {
-  sound = s.sound; next_place = s.next_place; handsets = s.handsets; references = s.references; frames = s.frames; lines = s.lines; digits = s.digits; apart = s.apart;
+  sound = s.sound;
+  next_place = s.next_place;
+  handsets = s.handsets;
+  references = s.references;
+  frames = s.frames;
+  lines = s.lines;
+  digits = s.digits;
+  apart = s.apart;
 }
 
 pub shows_next : (number : List ℕ) (placed : Placed) (p base new : PendingOf) (g g2 : Givings) (air air2 : Air) (w w2 : List ℕ → List Load)
@@ -80,4 +87,3 @@ shows_next number placed p base new g g2 air air2 w w2 digits becomes same stand
   apart = also.apart;
   indexed = subst Indexed (sym (ap (λ (x : PendingOf). x.base) becomes.rest ∙ stands)) shows.indexed;
 }
-

@@ -6,3 +6,13 @@ pub mod Places
 pub mod Giving
 pub mod MovesShown
 pub mod Asking
+pub mod Scanning
+pub mod StopOrder
+pub mod Finding
+pub mod Relisting
+pub mod Standing
+pub mod Between
+pub mod Restoring
+pub mod Walking
+pub mod StopsApart
+pub mod Listing

@@ -10,7 +10,7 @@ use Rattle.sms_waiting.specs.References.{handset_at, mentioned, or_new_handset, 
 use Rattle.sms_waiting.proofs.Mentions.{below_next_place, number_found}
 use Rattle.sms_shelves.specs.Placing.{places_now}
 
-above_among : (place : ℕ) (g : HandsetRow) (hs : List HandsetRow) → AllAbove handset_key place hs → Among g hs → place < g.place
+pub above_among : (place : ℕ) (g : HandsetRow) (hs : List HandsetRow) → AllAbove handset_key place hs → Among g hs → place < g.place
 above_among place g [] above m = elim m [ ]
 above_among place g (h ∷ hs) above m = ⊎_elim
     (λ (e : g ≡ h). subst (λ (x : HandsetRow). place < x.place) (sym e) above.0)

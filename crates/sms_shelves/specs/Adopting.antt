@@ -1,11 +1,10 @@
 -- What an event leaves of the shelves, ready made, and putting it in.
-use Rattle.std.specs.Prelude.{◌≡◌, ℕ, ◌+◌, ◌≤◌, List, length, max, Bool, Option, Some, None}
+use Rattle.std.specs.Prelude.{◌≡◌, ℕ, ◌+◌, ◌≤◌, List, [], ◌∷◌, nat_eq, if◌then◌else◌, length, max, Bool, Option, Some, None}
 use Rattle.std.specs.Option.{option_or}
 use Rattle.sms_shelves.specs.declared.placed.Placed.{Placed}
 use Rattle.sms_shelves.specs.declared.stop.Wanted.TheVariants.{Offer}
-use Rattle.sms_shelves.specs.Placing.{PendingOf, ShelvesOf, at, is_listed, under}
-use Rattle.sms_shelves.specs.Stops.{is_active, stop_at}
-use Rattle.sms_shelves.specs.Shown.{Indexed}
+use Rattle.sms_shelves.specs.Placing.{PendingOf, ShelvesOf, is_listed, under}
+use Rattle.sms_shelves.specs.Stops.{is_active, scanned}
 
 pub record SettledOf : Type 0 where
   -- the shelves that the event touched, as they are
@@ -28,7 +27,7 @@ pub record IsSettled (p : PendingOf) (settled : SettledOf) : Type 0 where
   pub next_place : settled.next_place ≡ p.next_place
   pub lines : settled.lines ≡ p.lines
   -- nothing was left to offer at that moment
-  pub rested : Indexed p.base → (moment key : ℕ) (placed : Placed) → settled.rested ≡ Some moment → at key p ≡ Some placed → stop_at (Offer moment) placed ≡ None
+  pub rested : (moment : ℕ) → settled.rested ≡ Some moment → scanned (Offer moment) p ≡ []
 
 -- a shelf that was touched stands in the index where it belongs there
 abbrev pub relisted : Option Placed → Bool → Bool
@@ -41,3 +40,8 @@ pub record IsAdopted (settled : SettledOf) (old new : ShelvesOf) : Type 0 where
   pub next_place : new.next_place ≡ settled.next_place
   pub lines : new.lines ≡ settled.lines
   pub rested : new.rested ≡ settled.rested
+
+-- the same, one after the other
+abbrev pub relisted_all : ℕ → List (ℕ × Placed) → Bool → Bool
+relisted_all key [] is_listed = is_listed
+relisted_all key (e ∷ es) is_listed = relisted_all key es (if nat_eq key e.0 then is_active e.1.shelf.line else is_listed)

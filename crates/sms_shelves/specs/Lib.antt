@@ -4,3 +4,5 @@ pub mod Placing
 pub mod Stops
 pub mod Shown
 pub mod Adopting
+pub mod Recovering
+pub mod Walks

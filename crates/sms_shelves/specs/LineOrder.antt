@@ -1,5 +1,5 @@
 -- The order in which lines came.
-use Rattle.std.specs.Prelude.{◌≡◌, ℕ, ◌+◌, List, [], ◌∷◌, if◌then◌else◌, None}
+use Rattle.std.specs.Prelude.{◌≡◌, ℕ, ◌+◌, List, [], ◌∷◌, if◌then◌else◌, true, None}
 use Rattle.std.specs.Str.{bytes_eq}
 use Rattle.sms_waiting.specs.declared.line.Line.{Line}
 use Rattle.sms_waiting.specs.Lines.{line_at}
@@ -17,3 +17,7 @@ came_in number lines = came_from 1 number lines
 abbrev pub AreLines : List Line → Type 0
 AreLines [] = Unit {0}
 AreLines (l ∷ ls) = (line_at l.handset ls ≡ None) × AreLines ls
+
+-- it was up before a recovery, and comes up at the next tick
+abbrev pub expected : Line → Line
+expected line = record line { is_awaited = true }

@@ -11,7 +11,7 @@ use Rattle.sms_waiting.specs.declared.line.Line.{Line}
 use Rattle.sms_waiting.specs.declared.line.Sent.{Sent}
 use Rattle.sms_waiting.specs.declared.reference.ReferenceRow.{ReferenceRow}
 use Rattle.sms_waiting.specs.Lines.{new_line}
-use Rattle.sms_waiting.specs.References.{given_row, mentioned}
+use Rattle.sms_waiting.specs.References.{given_row, mentioned, next_reference, or_new_handset}
 use Rattle.sms_waiting.specs.Shelves.{ShelfOf}
 use Rattle.sms_shelves.specs.declared.placed.Placed.{Placed}
 
@@ -120,3 +120,8 @@ given_to row was reference moment p = record p {
   references = p.references ++ Put (given_row row reference moment) ∷ [];
   next_place = places_now was p.next_place;
 }
+
+-- the next reference at that shelf
+abbrev pub reference_of : Placed → ℕ → ℕ → Option ℕ
+reference_of placed next_place now =
+    next_reference (or_new_handset placed.shelf.line.handset next_place placed.shelf.row) placed.shelf.waiting placed.shelf.given now

@@ -9,6 +9,7 @@ ghost use Rattle.sms_waiting.specs.References.{Givings, give as give_in, handset
 ghost use Rattle.sms_waiting.specs.SoundGivings.{IsNumber};
 ghost use Rattle.sms_waiting.specs.Waiting.{all_at_once, withdrawn};
 ghost use Rattle.sms_waiting.specs.declared.load.Load.{Load as LoadOf};
+ghost use Rattle.sms_shelves.specs.LineOrder.{expected};
 ghost use Rattle.sms_shelves.specs.Placing.{given_to};
 ghost use Rattle.sms_shelves.specs.Shown.{Shows, Waits};
 
@@ -75,6 +76,18 @@ impl<'a> PendingShelves<'a> {
     {
         let mut placed = self.take_out(number)?;
         placed.shelf.raise();
+        let none = Listed::new(self.alloc);
+        self.put_line(number, placed, none)
+    }
+
+    /// The handset's line was up before a recovery, and comes up at the next tick.
+    pub fn expect(&mut self, number: Digits) -> Result<(), AllocError>
+        requires digits { AllDigits number }
+        ensures { OnOk result ((g : Givings) (air : Air) (waiting : List ℕ → List LoadOf) → Shows g air waiting self.old
+            → Shows g (put_line_in (expected (line_of number air.lines)) air) waiting self.new) }
+    {
+        let mut placed = self.take_out(number)?;
+        placed.shelf.expect();
         let none = Listed::new(self.alloc);
         self.put_line(number, placed, none)
     }
@@ -227,7 +240,8 @@ impl<'a> PendingShelves<'a> {
         ensures { OnOk result (self.new ≡ given_to row.now was reference now self.old) }
     {
         self.handsets.push(Change::Put(row.mentioned(reference)))?;
-        self.references.push(Change::Put(row.given(reference, now)))?;
+        self.references
+            .push(Change::Put(row.given(reference, now)))?;
         if was.is_none() {
             let Some(next_place) = self.next_place.checked_add(1) else {
                 return Err(AllocError);

@@ -35,13 +35,13 @@ impl<'a> Model for PendingShelves<'a> {
     ghost Value = { PendingOf };
 
     ghost view = { λ p. record {
-        base = p.base.now;
-        touched = p.touched.entries;
-        handsets = p.handsets;
-        references = p.references;
-        frames = p.frames;
-        next_place = p.next_place;
-        lines = p.lines;
+      base = p.base.now;
+      touched = p.touched.entries;
+      handsets = p.handsets;
+      references = p.references;
+      frames = p.frames;
+      next_place = p.next_place;
+      lines = p.lines;
     } };
 }
 

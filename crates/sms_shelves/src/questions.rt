@@ -4,9 +4,10 @@ ghost use Rattle.sms_table.specs.Keys.{AllDigits, pair_key};
 ghost use Rattle.sms_table.specs.Table.{row_at};
 ghost use Rattle.sms_waiting.specs.Keys.{load_key};
 ghost use Rattle.sms_waiting.specs.Lines.{Air, is_ready as is_ready_of, line_of};
-ghost use Rattle.sms_waiting.specs.References.{Givings, handset_of, handsets_of, next_reference as next_reference_of, or_new_handset, references_of};
+ghost use Rattle.sms_waiting.specs.References.{Givings, handset_of, handsets_of, next_reference as next_reference_of, references_of};
 ghost use Rattle.sms_waiting.specs.Waiting.{next as next_of, waits_beside as waits_beside_of};
 ghost use Rattle.sms_waiting.specs.declared.load.Load.{Load as LoadOf};
+ghost use Rattle.sms_shelves.specs.Placing.{placed_of, reference_of};
 ghost use Rattle.sms_shelves.specs.Shown.{Shows};
 ghost use Rattle.sms_shelves.specs.Stops.{found};
 
@@ -96,6 +97,13 @@ impl<'a> PendingShelves<'a> {
         ensures { IfOk result (λ reference. (g : Givings) (air : Air) (waiting : List ℕ → List LoadOf) → Shows g air waiting self.now
             → reference ≡ next_reference_of (handset_of number (handsets_of g)) (waiting number) (references_of g) now) }
     {
+        let reference = self.shelf_reference(number, now)?;
+        Ok(reference)
+    }
+
+    fn shelf_reference(&self, number: Digits, now: Moment) -> Result<Option<u8>, AllocError>
+        ensures { IfOk result (λ reference. reference ≡ reference_of (placed_of number self.now) self.now.next_place now) }
+    {
         match self.placed(Key::digits(&number).number()) {
             Some(placed) => self.reference_at(placed, now),
             None => {
@@ -106,8 +114,7 @@ impl<'a> PendingShelves<'a> {
     }
 
     fn reference_at(&self, placed: &Placed, now: Moment) -> Result<Option<u8>, AllocError>
-        ensures { IfOk result (λ reference. reference
-            ≡ next_reference_of (or_new_handset placed.now.shelf.line.handset self.now.next_place placed.now.shelf.row) placed.now.shelf.waiting placed.now.shelf.given now) }
+        ensures { IfOk result (λ reference. reference ≡ reference_of placed.now self.now.next_place now) }
     {
         match self.row_for(placed) {
             Some(row) => Ok(placed.shelf.next_reference(&row, now)),
@@ -121,6 +128,7 @@ impl<'a> PendingShelves<'a> {
         ensures { IfOk result (λ stops. (g : Givings) (air : Air) (waiting : List ℕ → List LoadOf) → Shows g air waiting self.now
             → stops.items ≡ found wanted.now (handsets_of g) air.lines waiting) }
     {
-        self.scan(wanted)
+        let stops = self.scan(wanted)?;
+        Ok(stops)
     }
 }

@@ -32,13 +32,13 @@ impl Model for Shelves {
     ghost Value = { ShelvesOf };
 
     ghost view = { λ s. record {
-        shelves = s.shelves.entries;
-        capacity = index_map_len s.shelves + spare s.shelves;
-        index = s.index.entries;
-        index_capacity = index_map_len s.index + spare s.index;
-        next_place = s.next_place;
-        lines = s.lines;
-        rested = s.rested;
+      shelves = s.shelves.entries;
+      capacity = index_map_len s.shelves + spare s.shelves;
+      index = s.index.entries;
+      index_capacity = index_map_len s.index + spare s.index;
+      next_place = s.next_place;
+      lines = s.lines;
+      rested = s.rested;
     } };
 }
 

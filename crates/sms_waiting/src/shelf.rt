@@ -1,5 +1,5 @@
 //! All that concerns one handset.
-ghost use Rattle.std.specs.Prelude.{◌≡◌, ◌<◌, ◌≤◌, [], length, Some, None, IfOk, OnOk};
+ghost use Rattle.std.specs.Prelude.{◌≡◌, ◌<◌, ◌≤◌, [], length, true, Some, None, IfOk, OnOk};
 ghost use Rattle.sms_link.specs.LinkTurn.{begun, fired, replied, taken};
 ghost use Rattle.sms_table.specs.Keys.{pair_key};
 ghost use Rattle.sms_table.specs.Table.{row_at};
@@ -223,6 +223,13 @@ impl Shelf {
         self.line.is_up = true;
         self.line.is_awaited = false;
         self.line.is_full = false;
+    }
+
+    /// The line was up before a recovery, and comes up at the next tick.
+    pub fn expect(&mut self)
+        ensures { self.new ≡ shelf_on (record self.old.line { is_awaited = true }) self.old }
+    {
+        self.line.is_awaited = true;
     }
 
     /// The handset can't be reached, and its next connection is a new one.
