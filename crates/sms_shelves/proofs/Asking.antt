@@ -1,14 +1,14 @@
 -- The shelf that is found under the key of a handset's digits is that handset's; and where none is found, nothing was heard of it.
-use Rattle.std.proofs.Common.{◌≡◌, ℕ, List, Option, Some, None, refl, sym, ◌∙◌, ap, subst}
+use Rattle.std.proofs.Common.{◌≡◌, ℕ, List, Option, sym, ◌∙◌, ap, subst}
 use Rattle.sms_table.specs.Keys.{AllDigits, digits_key}
 use Rattle.sms_waiting.specs.declared.handset.HandsetRow.{HandsetRow}
 use Rattle.sms_waiting.specs.declared.line.Line.{Line}
 use Rattle.sms_waiting.specs.declared.load.Load.{Load}
-use Rattle.sms_waiting.specs.Lines.{Air, line_of, new_line}
+use Rattle.sms_waiting.specs.Lines.{Air, line_of}
 use Rattle.sms_waiting.specs.References.{Givings, handset_of, handsets_of, next_reference, or_new_handset, place_after, references_of}
 use Rattle.sms_waiting.proofs.ReferencesShown.{next_shown}
 use Rattle.sms_shelves.specs.declared.placed.Placed.{Placed}
-use Rattle.sms_shelves.specs.Placing.{PendingOf, at, new_placed, or_new, placed_of}
+use Rattle.sms_shelves.specs.Placing.{PendingOf, at, or_new}
 use Rattle.sms_shelves.specs.Shown.{Shows, ShowsPlaced}
 use Rattle.sms_shelves.proofs.LinesCome.{line_handset}
 

@@ -1,6 +1,5 @@
 -- One shelf is touched: what is shown then.
-use Rattle.std.proofs.Common.{◌≡◌, ℕ, List, length, nat_eq, Option, Some, None, refl, sym, ◌∙◌, ap, subst, ⊎_elim}
-use Rattle.std.specs.Map.{lookup}
+use Rattle.std.proofs.Common.{◌≡◌, ℕ, List, length, Option, Some, sym, ◌∙◌, ap, subst, ⊎_elim}
 use Rattle.std.specs.Option.{option_or}
 use Rattle.std.proofs.lemmas.Bool.{cases_eq}
 use Rattle.sms_base.specs.Among.{Among}
@@ -15,7 +14,7 @@ use Rattle.sms_waiting.specs.SoundGivings.{SoundGivings}
 use Rattle.sms_waiting.proofs.Mentions.{cases_number}
 use Rattle.sms_shelves.specs.declared.placed.Placed.{Placed}
 use Rattle.sms_shelves.specs.LineOrder.{AreLines}
-use Rattle.sms_shelves.specs.Placing.{Becomes, PendingOf, ShelvesOf, at, or_new, placed_of, under}
+use Rattle.sms_shelves.specs.Placing.{Becomes, PendingOf, at, or_new, placed_of, under}
 use Rattle.sms_shelves.specs.Shown.{Indexed, IsNamed, Shows, ShowsPlaced}
 
 pub at_own : (key : ℕ) (placed : Placed) (old new : PendingOf) → Becomes key placed old new → at key new ≡ Some placed

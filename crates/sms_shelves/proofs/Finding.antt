@@ -1,5 +1,5 @@
 -- Looking at the shelves that were touched and at those of the index finds all handsets that an event concerns.
-use Rattle.std.proofs.Common.{◌≡◌, ◌⊎◌, ℕ, ◌≤◌, ◌<◌, List, [], ◌∷◌, Bool, true, false, nat_eq, Option, Some, None, refl, sym, ◌∙◌, ap, subst, inl, inr, ⊎_elim, cond, is_some, is_none, eq-eqb, arith}
+use Rattle.std.proofs.Common.{◌≡◌, ℕ, ◌≤◌, ◌<◌, List, [], ◌∷◌, Bool, true, false, nat_eq, Option, Some, None, refl, sym, ◌∙◌, ap, subst, ⊎_elim, cond, is_some, is_none, eq-eqb, arith}
 use Rattle.std.specs.Map.{lookup}
 use Rattle.std.specs.Option.{option_or}
 use Rattle.std.specs.Prelude.{not, ◌==◌, ◌&&◌, ◌||◌, nat_le, if◌then◌else◌}
@@ -18,7 +18,6 @@ use Rattle.sms_waiting.specs.declared.reference.ReferenceRow.{ReferenceRow}
 use Rattle.sms_waiting.specs.Keys.{handset_key}
 use Rattle.sms_waiting.specs.Lines.{Air, is_ready, line_of}
 use Rattle.sms_waiting.specs.References.{Givings, handset_at, handsets_of, references_of}
-use Rattle.sms_waiting.specs.SoundGivings.{SoundGivings}
 use Rattle.sms_waiting.specs.Waiting.{if_due, next, preceding}
 use Rattle.sms_waiting.proofs.Mentions.{number_found, number_none}
 use Rattle.sms_shelves.specs.declared.placed.Placed.{Placed}
@@ -28,12 +27,12 @@ use Rattle.sms_shelves.specs.declared.stop.Wanted.TheVariants.{Offer, Fire, Fire
 use Rattle.sms_shelves.specs.Keys.{stop_key}
 use Rattle.sms_shelves.specs.LineOrder.{came_in}
 use Rattle.sms_shelves.specs.Placing.{PendingOf, at, is_listed, new_placed, or_new, placed_of, under}
-use Rattle.sms_shelves.specs.Shown.{Indexed, IsNamed, Shows, ShowsPlaced}
-use Rattle.sms_shelves.specs.Stops.{all_noted, found, is_active, is_offered, is_stop, is_wanted, line_place, line_stops, mention_stops, order_of, place_of, rests_for, scanned, stop_at, stop_if, stop_in, stops_of}
+use Rattle.sms_shelves.specs.Shown.{Indexed, Shows, ShowsPlaced}
+use Rattle.sms_shelves.specs.Stops.{all_noted, found, is_active, is_stop, is_wanted, line_place, line_stops, mention_stops, order_of, place_of, rests_for, scanned, stop_at, stop_if, stop_in, stops_of}
 use Rattle.sms_shelves.proofs.Giving.{number_digits}
 use Rattle.sms_shelves.proofs.LinesCome.{line_handset}
 use Rattle.sms_shelves.proofs.Scanning.{empty_before, empty_there, among_filter, filter_among, kept_noted, noted_there, rises_filter, rises_noted, same_rows, seen_noted}
-use Rattle.sms_shelves.proofs.StopOrder.{among_line_stop, among_mention, line_stop_among, lines_rise, mention_among, mention_stop, mentions_rise}
+use Rattle.sms_shelves.proofs.StopOrder.{among_line_stop, among_mention, line_stop_among, lines_rise, mention_among, mentions_rise}
 
 -- ---- the stop at one shelf
 

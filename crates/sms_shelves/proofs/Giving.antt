@@ -18,7 +18,7 @@ use Rattle.sms_waiting.proofs.GivingsSound.{give_sound}
 use Rattle.sms_waiting.proofs.Showing.{give_other, give_own}
 use Rattle.sms_shelves.specs.declared.placed.Placed.{Placed}
 use Rattle.sms_shelves.specs.Placing.{Becomes, IsTaken, PendingOf, given_to, places_now, with_shelf}
-use Rattle.sms_shelves.specs.Shown.{Shows, ShowsPlaced}
+use Rattle.sms_shelves.specs.Shown.{Shows}
 use Rattle.sms_shelves.proofs.Becoming.{shows_next}
 use Rattle.sms_shelves.proofs.Moving.{taken_handset, taken_shown}
 use Rattle.sms_shelves.proofs.Places.{place_given}

@@ -1,5 +1,5 @@
 -- A line that is put keeps its place in the order in which lines came, or comes behind all others; no other changes its place.
-use Rattle.std.proofs.Common.{◌≡◌, ℕ, ◌+◌, ◌<◌, List, [], ◌∷◌, length, true, false, Option, Some, None, refl, sym, ◌∙◌, ap, subst, inl, inr, ⊎_elim, cond, eq-eqb, arith, bytes_eq}
+use Rattle.std.proofs.Common.{◌≡◌, ℕ, ◌+◌, ◌<◌, List, [], ◌∷◌, length, true, false, Option, None, refl, sym, ◌∙◌, ap, subst, inl, inr, ⊎_elim, cond, arith, bytes_eq}
 use Rattle.std.specs.Prelude.{◌==◌}
 use Rattle.std.proofs.lemmas.Bool.{cases_Bool, cond-true, cond-false, ne_eqb}
 use Rattle.std.proofs.lemmas.Slice.Eq.{bytes_eq-Decides}
@@ -10,7 +10,7 @@ use Rattle.sms_waiting.specs.Lines.{line_at, line_of, or_new_line, with_line}
 use Rattle.sms_waiting.proofs.LinesShown.{line_behind, line_here, put_at_other}
 use Rattle.sms_waiting.proofs.Mentions.{cases_number}
 use Rattle.sms_shelves.specs.LineOrder.{AreLines, came_from}
-use Rattle.sms_shelves.specs.Placing.{came_now, lines_now}
+use Rattle.sms_shelves.specs.Placing.{lines_now}
 
 -- ---- one line
 

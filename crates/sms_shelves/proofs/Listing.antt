@@ -1,8 +1,7 @@
 -- One key comes into the index or goes, and one shelf comes under its key.
-use Rattle.std.proofs.Common.{◌≡◌, ℕ, List, [], ◌∷◌, length, Bool, true, false, nat_eq, Option, Some, None, refl, sym, ◌∙◌, ap, subst, ⊎_elim, cond, is_some, eqb-true, eq-eqb, arith}
+use Rattle.std.proofs.Common.{◌≡◌, ℕ, List, [], ◌∷◌, length, Bool, true, false, nat_eq, Option, Some, refl, sym, ◌∙◌, ap, subst, ⊎_elim, cond, is_some, eq-eqb, arith}
 use Rattle.std.specs.Map.{lookup}
-use Rattle.std.specs.Option.{option_or}
-use Rattle.std.proofs.lemmas.Bool.{cases_Bool, cases_eq, cond-true, cond-false, ne_eqb}
+use Rattle.std.proofs.lemmas.Bool.{cases_eq, ne_eqb}
 use Rattle.sms_shelves.specs.declared.placed.Placed.{Placed}
 use Rattle.sms_shelves.specs.declared.stop.Stop.{Stop}
 use Rattle.sms_shelves.specs.declared.stop.Wanted.TheVariants.{Offer}

@@ -12,7 +12,7 @@ use Rattle.sms_waiting.specs.References.{Givings, give, handset_of, handsets_of,
 use Rattle.sms_waiting.specs.Shelves.{ShelfOf, shelf_given, shelf_on, shelf_turned}
 use Rattle.sms_waiting.specs.SoundGivings.{IsNumber}
 use Rattle.sms_shelves.specs.declared.placed.Placed.{Placed}
-use Rattle.sms_shelves.specs.Placing.{Becomes, IsTaken, PendingOf, came_now, counted, given_to, lines_now, on_line, with_shelf}
+use Rattle.sms_shelves.specs.Placing.{Becomes, IsTaken, PendingOf, came_now, counted, given_to, lines_now, with_shelf}
 use Rattle.sms_shelves.specs.Shown.{Shows, Waits}
 use Rattle.sms_shelves.proofs.Giving.{given_next}
 use Rattle.sms_shelves.proofs.LinesCome.{line_handset}

@@ -1,6 +1,5 @@
 -- What is shown after each kind of move: what waits changes, a line changes.
-use Rattle.std.proofs.Common.{◌≡◌, ℕ, ◌+◌, ◌++◌, List, length, Option, refl, sym, ◌∙◌, ap, subst, arith}
-use Rattle.sms_base.specs.Among.{Among}
+use Rattle.std.proofs.Common.{◌≡◌, ℕ, ◌++◌, List, length, refl, sym, ◌∙◌, ap, subst, arith}
 use Rattle.sms_table.specs.Keys.{AllDigits, digits_key}
 use Rattle.sms_link.specs.declared.outgoing.Outgoing.{Outgoing}
 use Rattle.sms_waiting.specs.declared.line.Line.{Line}
@@ -11,7 +10,7 @@ use Rattle.sms_waiting.specs.References.{Givings, handsets_of, references_of}
 use Rattle.sms_waiting.proofs.LinesShown.{line_put, line_put_other}
 use Rattle.sms_shelves.specs.declared.placed.Placed.{Placed}
 use Rattle.sms_shelves.specs.LineOrder.{came_in}
-use Rattle.sms_shelves.specs.Placing.{Becomes, IsTaken, PendingOf, at, came_now, counted, lines_now, on_line, placed_of, with_shelf}
+use Rattle.sms_shelves.specs.Placing.{Becomes, IsTaken, PendingOf, came_now, counted, lines_now, on_line, with_shelf}
 use Rattle.sms_shelves.specs.Shown.{Shows, ShowsPlaced, Waits}
 use Rattle.sms_shelves.proofs.Becoming.{also_shown, shows_next}
 use Rattle.sms_shelves.proofs.LinesCome.{apart_put, came_other, came_own, digits_put, line_count, line_handset}

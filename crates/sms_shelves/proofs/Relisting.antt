@@ -1,7 +1,7 @@
 -- Keys that are put into the index one after the other.
-use Rattle.std.proofs.Common.{◌≡◌, ℕ, List, [], ◌∷◌, Bool, true, false, nat_eq, Option, Some, None, refl, sym, ◌∙◌, ap, subst, ⊎_elim, cond, eqb-true, eq-eqb}
+use Rattle.std.proofs.Common.{◌≡◌, ℕ, List, [], ◌∷◌, Bool, true, false, nat_eq, Option, Some, refl, sym, ◌∙◌, ap, subst, ⊎_elim, eqb-true}
 use Rattle.std.specs.List.{AllByRecursion, IsDistinct}
-use Rattle.std.specs.Map.{keys_of, lookup}
+use Rattle.std.specs.Map.{keys_of}
 use Rattle.std.proofs.lemmas.Bool.{cases_Bool, cond-true, cond-false}
 use Rattle.sms_shelves.specs.declared.placed.Placed.{Placed}
 use Rattle.sms_shelves.specs.Adopting.{relisted, relisted_all}

@@ -1,10 +1,10 @@
 -- Shelves that were made of rows show these rows.
-use Rattle.std.proofs.Common.{◌≡◌, ◌⊎◌, ℕ, ◌+◌, ◌<◌, List, [], ◌∷◌, Bool, true, false, nat_eq, Option, Some, None, refl, sym, ◌∙◌, ap, subst, inl, inr, ⊎_elim, eqb-true, eq-eqb, arith}
+use Rattle.std.proofs.Common.{◌≡◌, ◌⊎◌, ℕ, ◌+◌, List, [], ◌∷◌, true, false, nat_eq, Option, Some, None, refl, sym, ◌∙◌, ap, subst, inl, inr, ⊎_elim, eqb-true, eq-eqb, arith}
 use Rattle.std.specs.Prelude.{if◌then◌else◌}
 use Rattle.std.proofs.lemmas.Bool.{cases_Bool, cond-true, cond-false}
 use Rattle.sms_base.specs.Among.{Among}
 use Rattle.sms_table.specs.Keys.{AllDigits, digits_key, pair_key}
-use Rattle.sms_table.specs.Table.{Rises, row_at}
+use Rattle.sms_table.specs.Table.{row_at}
 use Rattle.sms_table.proofs.KeyLaws.{digits_equal}
 use Rattle.sms_table.proofs.Tables.{among_found}
 use Rattle.sms_waiting.specs.declared.handset.HandsetRow.{HandsetRow}
@@ -14,7 +14,7 @@ use Rattle.sms_waiting.specs.References.{handset_at, place_after}
 use Rattle.sms_waiting.specs.SoundGivings.{SoundGivings}
 use Rattle.sms_waiting.proofs.Mentions.{number_found, number_none}
 use Rattle.sms_shelves.specs.declared.placed.Placed.{Placed}
-use Rattle.sms_shelves.specs.Placing.{ShelvesOf, new_placed, or_new, under}
+use Rattle.sms_shelves.specs.Placing.{ShelvesOf, or_new, under}
 use Rattle.sms_shelves.specs.Recovering.{restored, restored_all}
 use Rattle.sms_shelves.specs.Shown.{IsNamed, ShowsPlaced, Stands}
 use Rattle.sms_shelves.specs.Stops.{is_active}

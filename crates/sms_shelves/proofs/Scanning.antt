@@ -1,13 +1,12 @@
 -- What is noted on a way over shelves.
-use Rattle.std.proofs.Common.{◌≡◌, ◌⊎◌, ℕ, ◌≤◌, List, [], ◌∷◌, Bool, true, false, nat_eq, Option, Some, None, refl, sym, ◌∙◌, ap, subst, inl, inr, ⊎_elim, eqb-true, cond, is_some, arith}
+use Rattle.std.proofs.Common.{◌≡◌, ◌⊎◌, ℕ, List, [], ◌∷◌, Bool, true, false, nat_eq, Option, Some, None, refl, sym, ◌∙◌, ap, subst, inl, inr, ⊎_elim, eqb-true}
 use Rattle.std.specs.Map.{lookup}
-use Rattle.std.specs.Prelude.{◌==◌, ◌&&◌, ◌||◌, filter, nat_le}
-use Rattle.std.proofs.lemmas.Bool.{and_from, and_parts, cases_Bool, cases_eq, cond-true, cond-false, ne_eqb}
+use Rattle.std.specs.Prelude.{filter}
+use Rattle.std.proofs.lemmas.Bool.{cases_Bool, cases_eq, cond-true, cond-false}
 use Rattle.sms_base.specs.Among.{Among}
 use Rattle.sms_table.specs.Table.{AllAbove, Rises, put, row_at}
 use Rattle.sms_table.proofs.Tables.{among_found, among_put, found_among, found_key, put_among, rises_put}
 use Rattle.sms_waiting.proofs.Alike.{rises_alike}
-use Rattle.sms_shelves.specs.declared.placed.Placed.{Placed}
 use Rattle.sms_shelves.specs.declared.stop.Stop.{Stop}
 use Rattle.sms_shelves.specs.declared.stop.Wanted.{Wanted}
 use Rattle.sms_shelves.specs.Keys.{stop_key}

@@ -1,5 +1,5 @@
 -- An event begins; and what an event left stands once it was put in.
-use Rattle.std.proofs.Common.{◌≡◌, ℕ, List, [], Bool, true, false, Option, Some, None, refl, sym, ◌∙◌, ap, subst}
+use Rattle.std.proofs.Common.{◌≡◌, ℕ, List, true, Option, Some, None, refl, sym, ◌∙◌, ap, subst}
 use Rattle.std.specs.Option.{option_or}
 use Rattle.sms_table.specs.Keys.{digits_key}
 use Rattle.sms_waiting.specs.declared.load.Load.{Load}
@@ -8,9 +8,9 @@ use Rattle.sms_waiting.specs.References.{Givings, handsets_of, references_of}
 use Rattle.sms_shelves.specs.declared.placed.Placed.{Placed}
 use Rattle.sms_shelves.specs.declared.stop.Wanted.TheVariants.{Offer}
 use Rattle.sms_shelves.specs.Adopting.{IsAdopted, IsSettled, SettledOf, relisted}
-use Rattle.sms_shelves.specs.Placing.{PendingOf, ShelvesOf, at, is_listed, or_new, pending_of, placed_of, under}
+use Rattle.sms_shelves.specs.Placing.{PendingOf, ShelvesOf, at, is_listed, or_new, under}
 use Rattle.sms_shelves.specs.Shown.{Indexed, Shows, ShowsPlaced, Stands}
-use Rattle.sms_shelves.specs.Stops.{is_active, stop_at, stop_if}
+use Rattle.sms_shelves.specs.Stops.{is_active, stop_if}
 use Rattle.sms_shelves.proofs.Finding.{nothing_left}
 
 -- each shelf stands as the event left it

@@ -1,9 +1,7 @@
 -- Stops in their order, and where each handset has its own.
-use Rattle.std.proofs.Common.{◌≡◌, ℕ, ◌+◌, ◌<◌, List, [], ◌∷◌, Option, Some, None, refl, sym, ◌∙◌, ap, subst, inl, inr, ⊎_elim, arith}
-use Rattle.std.proofs.lemmas.Bool.{cases_eq}
+use Rattle.std.proofs.Common.{◌≡◌, ℕ, ◌+◌, ◌<◌, List, [], ◌∷◌, Some, None, refl, sym, ◌∙◌, ap, inl, inr, ⊎_elim, arith}
 use Rattle.sms_base.specs.Among.{Among}
 use Rattle.sms_table.specs.Table.{AllAbove, Rises}
-use Rattle.sms_table.proofs.Tables.{above_lower}
 use Rattle.sms_waiting.specs.declared.handset.HandsetRow.{HandsetRow}
 use Rattle.sms_waiting.specs.declared.line.Line.{Line}
 use Rattle.sms_waiting.specs.Keys.{handset_key}

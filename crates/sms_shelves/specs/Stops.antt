@@ -1,7 +1,6 @@
 -- What an event that isn't a handset's own does with handsets, one after the other: it stops at those that it concerns. Those that
 -- were given a reference come in the order of first mention, lines in the order in which they came.
 use Rattle.std.specs.Prelude.{ℕ, ◌+◌, ◌==◌, ◌&&◌, filter, List, [], ◌∷◌, Bool, false, true, if◌then◌else◌, Option, Some, None, is_none, is_some, nat_le}
-use Rattle.std.specs.Option.{option_map}
 use Rattle.sms_control.specs.DueTimers.{is_due, is_timed}
 use Rattle.sms_table.specs.Table.{put}
 use Rattle.sms_waiting.specs.declared.handset.HandsetRow.{HandsetRow}

@@ -1,4 +1,4 @@
-use Rattle.std.proofs.Common.{◌≡◌, ◌∙◌, [], sym, ap}
+use Rattle.std.proofs.Common.{◌∙◌, sym, ap}
 use Rattle.sms_shelves.specs.Adopting.{relisted_all}
 use Rattle.sms_shelves.specs.Placing.{is_listed}
 use Rattle.sms_shelves.proofs.Relisting.{relisted_once}
@@ -6,6 +6,5 @@ use Rattle.sms_shelves.proofs.settled.relist.Goals as goal
 
 pub returns : goal.returns
 returns c key =
-    let none : c.loop-key.key-iterator ≡ [] = cc in
-    sym (ap (λ es. relisted_all key es (is_listed key c.loop-key.index.entries)) none) ∙ c.loop-key.invariant.0 key
+    sym (ap (λ es. relisted_all key es (is_listed key c.loop-key.index.entries)) c.in-None.ensures.steps.0) ∙ c.loop-key.invariant.0 key
     ∙ relisted_once key c.args.touched.now.entries (is_listed key c.args.index.now.entries) c.len-len.ensures.unique

@@ -1,4 +1,4 @@
-use Rattle.std.proofs.Common.{ℕ, List, nat_eq, length, ap, arith}
+use Rattle.std.proofs.Common.{nat_eq, length, ap, arith}
 use Rattle.std.specs.Map.{lookup}
 use Rattle.sms_shelves.proofs.MovedMaps.{moved_all}
 use Rattle.sms_shelves.proofs.spare.use_spare.Goals as goal
