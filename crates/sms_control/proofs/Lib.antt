@@ -7,3 +7,4 @@ pub mod TurnLaws
 pub mod AnswerLaws
 pub mod RepetitionLaws
 pub mod FiringCases
+pub mod QuietTimers

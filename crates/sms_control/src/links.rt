@@ -1,4 +1,5 @@
 ghost use Rattle.std.specs.Prelude.{◌≡◌, ◌≢◌, ◌↔◌, ◌<◌, ◌≤◌, ◌++◌, [], true, false, IfOk, OnOk, OnErr, Err, None, length};
+ghost use Rattle.sms_control.specs.DueTimers.{is_due, is_timed};
 ghost use Rattle.sms_control.specs.LinkStep.{ack_taken, answer_frames, answer_taken, awaits_reply, begin_step, begun_frames, error_taken, fire_step, fresh, if_again, is_busy, opening_taken, reply_step, take_step};
 
 use crate::link_error::LinkError;
@@ -6,7 +7,7 @@ use crate::link_state::{LinkState, has_begun, has_opened, is_same, opens};
 use crate::message::Cp;
 use crate::out::{Frames, Out, Up};
 use crate::sending::{acknowledged, data_frame, frames_with, push_answer, push_begun, rejected};
-use crate::timers::{Firing, begun_firing, failed_by, opened_firing};
+use crate::timers::{Firing, begun_firing, failed_by, is_firing, opened_firing};
 use crate::transaction::{Transaction, TransactionFlag, TransactionIdentifier};
 use sms_base::{Moment, Octets};
 use std::alloc::{AllocError, Global};
@@ -70,6 +71,27 @@ impl Links {
     {
         match &self.state.opened {
             Some(opened) => opened.answer.is_none(),
+            None => false,
+        }
+    }
+
+    /// Whether `fire` has something to do at that moment: where it has not, it changes nothing and sends nothing.
+    pub fn is_due(&self, now: Moment) -> bool
+        ensures { result ≡ is_due now self.now }
+    {
+        is_firing(begun_firing(&self.state.begun, now))
+            || is_firing(opened_firing(&self.state.opened, now))
+    }
+
+    /// Whether a timer runs: `fire` has nothing to do where none does.
+    pub fn is_timed(&self) -> bool
+        ensures { result ≡ is_timed self.now }
+    {
+        if self.state.begun.is_some() {
+            return true;
+        }
+        match &self.state.opened {
+            Some(opened) => opened.answer.is_some(),
             None => false,
         }
     }

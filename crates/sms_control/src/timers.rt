@@ -1,5 +1,6 @@
 ghost use Rattle.std.specs.Prelude.{◌≡◌};
 ghost use Rattle.sms_control.specs.Timers.{begun_firing as begun_firing_of, opened_firing as opened_firing_of, first_sending, sent_again, tc1_firing};
+ghost use Rattle.sms_control.specs.DueTimers.{is_firing as is_firing_of};
 ghost use Rattle.sms_control.specs.LinkStep.{failed_by as failed_by_of};
 
 use crate::link_state::{Begun, Opened, Repetition};
@@ -92,6 +93,16 @@ pub(crate) fn opened_firing(opened: &Option<Opened>, now: Moment) -> Firing
             None => Firing::Idle,
         },
         None => Firing::Idle,
+    }
+}
+
+// Whether it does anything.
+pub(crate) fn is_firing(firing: Firing) -> bool
+    ensures { result ≡ is_firing_of firing }
+{
+    match firing {
+        Firing::Idle => false,
+        Firing::Again | Firing::Closes => true,
     }
 }
 

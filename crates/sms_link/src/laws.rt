@@ -1,9 +1,10 @@
 //! Laws of one end of a link, over its definitions alone.
 ghost use Rattle.std.specs.Prelude.{◌≡◌, ℕ, List, [], Some, None, true, false, is_some};
 ghost use Rattle.sms_base.specs.declared.holder.Holder.{Holder};
+ghost use Rattle.sms_control.specs.DueTimers.{is_due, is_timed};
 ghost use Rattle.sms_control.specs.LinkStep.{awaits_reply, begin_step, is_busy, reply_step};
 ghost use Rattle.sms_link.specs.LinkCalls.{AllSend, AreCalls, LinkCall, TakesTurns, run};
-ghost use Rattle.sms_link.specs.LinkTurn.{LinkOf, answering, begun, fired, new_link, of_kind, replied, started, taken};
+ghost use Rattle.sms_link.specs.LinkTurn.{LinkOf, answering, begun, fired, new_link, of_kind, replied, started, still, taken};
 ghost use Rattle.sms_base.specs.declared.carried.Carried.{Carried};
 ghost use Rattle.sms_base.specs.declared.carried.Kind.{Kind};
 ghost use Rattle.sms_base.specs.declared.carried.Kind.TheVariants.{Data};
@@ -57,4 +58,10 @@ pub fn an_ended_transfer_was_under_way()
 pub fn a_fired_transfer_was_under_way()
     ensures { (now : ℕ) (transfer : Carried) (ending : Ending) (link : LinkOf) → (fired now link).out.up ≡ Some (Ended transfer ending)
         → (link.under_way ≡ Some transfer) × (is_busy (fired now link).link.links ≡ false) }
+{}
+
+/// Where no timer fires, firing them leaves the link as it is, and sends nothing; and none fires where none runs.
+pub fn a_link_rests_until_a_timer_fires()
+    ensures rests { (now : ℕ) (link : LinkOf) → is_due now link.links ≡ false → fired now link ≡ still link }
+    ensures runs { (now : ℕ) (link : LinkOf) → is_due now link.links ≡ true → is_timed link.links ≡ true }
 {}

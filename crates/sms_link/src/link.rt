@@ -1,6 +1,7 @@
 //! One end of a link.
 ghost use Rattle.std.specs.Prelude.{◌≡◌, ◌<◌, ◌≤◌, ◌++◌, [], length, IfOk, OnOk};
 ghost use Rattle.sms_control.specs.ControlReading.{cp_at};
+ghost use Rattle.sms_control.specs.DueTimers.{is_due, is_timed};
 ghost use Rattle.sms_control.specs.LinkStep.{awaits_reply, is_busy};
 ghost use Rattle.sms_link.specs.LinkTurn.{begun, came_up as came_up_of, carried_in as carried_in_of, carrying as carrying_of, fired, from_links as from_links_of, new_link, replied, still_under_way as still_under_way_of, taken};
 
@@ -75,6 +76,20 @@ impl Link {
         ensures { result ≡ awaits_reply self.now.links }
     {
         self.links.awaits_reply()
+    }
+
+    /// Whether `fire` has something to do at that moment: where it has not, it changes nothing and sends nothing.
+    pub fn is_due(&self, now: Moment) -> bool
+        ensures { result ≡ is_due now self.now.links }
+    {
+        self.links.is_due(now)
+    }
+
+    /// Whether a timer runs: `fire` has nothing to do where none does.
+    pub fn is_timed(&self) -> bool
+        ensures { result ≡ is_timed self.now.links }
+    {
+        self.links.is_timed()
     }
 
     /// What the transaction under way carries.

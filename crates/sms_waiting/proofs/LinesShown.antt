@@ -6,7 +6,7 @@ use Rattle.sms_waiting.specs.declared.line.Line.{Line}
 use Rattle.sms_waiting.specs.Lines.{line_at, line_of, or_new_line, with_line}
 use Rattle.sms_waiting.proofs.Mentions.{cases_number}
 
-line_here : (number : List ℕ) (l : Line) (ls : List Line) → l.handset ≡ number → line_at number (l ∷ ls) ≡ Some l
+pub line_here : (number : List ℕ) (l : Line) (ls : List Line) → l.handset ≡ number → line_at number (l ∷ ls) ≡ Some l
 line_here number l ls e = cond-true (bytes_eq l.handset number) (Some l) (line_at number ls) ((bytes_eq-Decides l.handset number).1 e)
 
 differ : (a b : List ℕ) → ¬ (a ≡ b) → bytes_eq a b ≡ false
@@ -15,10 +15,10 @@ differ a b ne = ⊎_elim
     (λ (t : bytes_eq a b ≡ false). t)
     (cases_Bool (bytes_eq a b))
 
-line_behind : (number : List ℕ) (l : Line) (ls : List Line) → ¬ (l.handset ≡ number) → line_at number (l ∷ ls) ≡ line_at number ls
+pub line_behind : (number : List ℕ) (l : Line) (ls : List Line) → ¬ (l.handset ≡ number) → line_at number (l ∷ ls) ≡ line_at number ls
 line_behind number l ls ne = cond-false (bytes_eq l.handset number) (Some l) (line_at number ls) (differ l.handset number ne)
 
-put_at : (line : Line) (ls : List Line) → line_at line.handset (with_line line ls) ≡ Some line
+pub put_at : (line : Line) (ls : List Line) → line_at line.handset (with_line line ls) ≡ Some line
 put_at line [] = line_here line.handset line [] refl
 put_at line (l ∷ ls) = ⊎_elim
     (λ (e : l.handset ≡ line.handset).
@@ -29,7 +29,7 @@ put_at line (l ∷ ls) = ⊎_elim
     ∙ line_behind line.handset l (with_line line ls) e ∙ put_at line ls)
     (cases_number l.handset line.handset)
 
-put_at_other : (number : List ℕ) (line : Line) (ls : List Line) → ¬ (line.handset ≡ number) → line_at number (with_line line ls) ≡ line_at number ls
+pub put_at_other : (number : List ℕ) (line : Line) (ls : List Line) → ¬ (line.handset ≡ number) → line_at number (with_line line ls) ≡ line_at number ls
 put_at_other number line [] ne = line_behind number line [] ne
 put_at_other number line (l ∷ ls) ne = ⊎_elim
     (λ (e : l.handset ≡ line.handset).

@@ -1,5 +1,5 @@
 //! All that concerns one handset.
-ghost use Rattle.std.specs.Prelude.{◌≡◌, ◌<◌, ◌≤◌, [], length, Some, None, IfOk, OnOk};
+ghost use Rattle.std.specs.Prelude.{◌≡◌, ◌<◌, ◌≤◌, [], length, true, Some, None, IfOk, OnOk};
 ghost use Rattle.sms_link.specs.LinkTurn.{begun, fired, replied, taken};
 ghost use Rattle.sms_table.specs.Keys.{pair_key};
 ghost use Rattle.sms_table.specs.Table.{row_at};
@@ -51,6 +51,21 @@ impl Shelf {
         }
     }
 
+    /// The shelf of the handset of that row, with the references that were given there. Nothing waits, and its line is new.
+    pub fn of_row(alloc: Global, row: HandsetRow, given: Table<ReferenceRow>) -> Shelf
+        ensures { result ≡ record { row = Some row; given = given.rows; waiting = []; line = new_line row.number } }
+    {
+        let waiting = Table::new(alloc);
+        let line = Line::new(alloc, row.number);
+        Shelf {
+            alloc,
+            row: Some(row),
+            given,
+            waiting,
+            line,
+        }
+    }
+
     /// The same, in memory of its own.
     pub fn copy(&self) -> Result<Shelf, AllocError>
         ensures { IfOk result (λ shelf. shelf ≡ self.now) }
@@ -72,6 +87,13 @@ impl Shelf {
         ensures { result.now ≡ self.now.line }
     {
         &self.line
+    }
+
+    /// The row of the handset, if it was given a reference.
+    pub fn row(&self) -> Option<HandsetRow>
+        ensures { result ≡ self.now.row }
+    {
+        self.row
     }
 
     /// What waits, in the order of messages and numbers.
@@ -201,6 +223,13 @@ impl Shelf {
         self.line.is_up = true;
         self.line.is_awaited = false;
         self.line.is_full = false;
+    }
+
+    /// The line was up before a recovery, and comes up at the next tick.
+    pub fn expect(&mut self)
+        ensures { self.new ≡ shelf_on (record self.old.line { is_awaited = true }) self.old }
+    {
+        self.line.is_awaited = true;
     }
 
     /// The handset can't be reached, and its next connection is a new one.

@@ -1,0 +1,21 @@
+-- The shelves of handsets that were given references, as rows tell of them: nothing waits yet, and there are no lines.
+use Rattle.std.specs.Prelude.{ℕ, ◌+◌, nat_eq, List, [], ◌∷◌, if◌then◌else◌, Option, Some}
+use Rattle.sms_table.specs.Keys.{digits_key, pair_key}
+use Rattle.sms_table.specs.Table.{rows_between}
+use Rattle.sms_waiting.specs.declared.handset.HandsetRow.{HandsetRow}
+use Rattle.sms_waiting.specs.declared.reference.ReferenceRow.{ReferenceRow}
+use Rattle.sms_waiting.specs.Keys.{reference_key}
+use Rattle.sms_waiting.specs.Lines.{new_line}
+use Rattle.sms_shelves.specs.declared.placed.Placed.{Placed}
+
+-- the references that were given there
+abbrev pub given_at : HandsetRow → List ReferenceRow → List ReferenceRow
+given_at h references = rows_between reference_key (pair_key h.place 0) (pair_key (h.place + 1) 0) references
+
+abbrev pub restored : HandsetRow → List ReferenceRow → Placed
+restored h references = record { shelf = record { row = Some h; given = given_at h references; waiting = []; line = new_line h.number }; came = 0 }
+
+-- the shelf under a key, once those of the handsets were put there one after the other
+abbrev pub restored_all : ℕ → List HandsetRow → List ReferenceRow → Option Placed → Option Placed
+restored_all key [] references placed = placed
+restored_all key (h ∷ hs) references placed = restored_all key hs references (if nat_eq key (digits_key h.number) then Some (restored h references) else placed)

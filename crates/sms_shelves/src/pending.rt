@@ -1,0 +1,190 @@
+//! The shelves of all handsets, in the middle of an event.
+ghost use Rattle.std.specs.Prelude.{◌≡◌, ◌++◌, ℕ, [], IfOk, OnOk, option_copied};
+ghost use Rattle.sms_table.specs.Keys.{digits_key};
+ghost use Rattle.sms_waiting.specs.Lines.{to_handset};
+ghost use Rattle.sms_shelves.specs.Placing.{Becomes, IsTaken, at, came_now, counted, lines_now, pending_of, under};
+ghost use Rattle.sms_shelves.specs.Stops.{all_noted, noted, scanned, stop_if};
+
+use crate::placed::Placed;
+use crate::shelves::Shelves;
+use crate::stop::{Stop, Wanted};
+use indexmap::IndexMap;
+use sms_base::{Digits, Listed};
+use sms_link::Outgoing;
+use sms_table::{Change, Key, Table};
+use sms_waiting::{HandsetRow, ReferenceRow, Sent};
+use std::alloc::{AllocError, Global};
+use std::marker::Model;
+
+/// The shelves of all handsets, in the middle of an event: those that it touched are copies.
+#[derive(Drop)]
+pub struct PendingShelves<'a> {
+    pub(crate) alloc: Global,
+    pub(crate) base: &'a Shelves,
+    pub(crate) touched: IndexMap<u128, Placed>,
+    pub(crate) handsets: Listed<Change<HandsetRow>>,
+    pub(crate) references: Listed<Change<ReferenceRow>>,
+    pub(crate) frames: Listed<Sent>,
+    pub(crate) next_place: u64,
+    pub(crate) lines: u64,
+}
+
+impl<'a> Model for PendingShelves<'a> {
+    ghost use Rattle.sms_shelves.specs.Placing.{PendingOf};
+
+    ghost Value = { PendingOf };
+
+    ghost view = { λ p. record {
+      base = p.base.now;
+      touched = p.touched.entries;
+      handsets = p.handsets;
+      references = p.references;
+      frames = p.frames;
+      next_place = p.next_place;
+      lines = p.lines;
+    } };
+}
+
+impl<'a> PendingShelves<'a> {
+    /// The shelves as an event begins.
+    pub fn of(alloc: Global, base: &'a Shelves) -> PendingShelves<'a>
+        ensures { result ≡ pending_of base.entry.now }
+    {
+        PendingShelves {
+            alloc,
+            base,
+            touched: IndexMap::new(alloc),
+            handsets: Listed::new(alloc),
+            references: Listed::new(alloc),
+            frames: Listed::new(alloc),
+            next_place: base.next_place,
+            lines: base.lines,
+        }
+    }
+
+    /// The shelf under that key as it is, if there is one.
+    pub(crate) fn placed(&self, key: u128) -> Option<&Placed>
+        ensures { option_copied result ≡ at key self.now }
+    {
+        match self.touched.get(&key) {
+            Some(placed) => Some(placed),
+            None => self.base.placed(key),
+        }
+    }
+
+    /// Takes the shelf of the handset out, to be put back.
+    pub(crate) fn take_out(&mut self, number: Digits) -> Result<Placed, AllocError>
+        ensures { IfOk result (λ placed. IsTaken number placed self.old self.new) }
+    {
+        let key = Key::digits(&number).number();
+        if let Some(placed) = self.touched.swap_remove(&key) {
+            return Ok(placed);
+        }
+        match self.base.placed(key) {
+            Some(placed) => placed.copy(),
+            None => Ok(Placed::new(self.alloc, number)),
+        }
+    }
+
+    /// Puts the shelf of the handset back.
+    pub(crate) fn put_back(&mut self, number: Digits, placed: Placed) -> Result<(), AllocError>
+        ensures { OnOk result (Becomes (digits_key number) placed self.old self.new) }
+    {
+        match self.touched.insert(Key::digits(&number).number(), placed) {
+            Ok(_) => Ok(()),
+            Err(_) => Err(AllocError),
+        }
+    }
+
+    /// A line that has no place yet comes behind all others.
+    pub(crate) fn come(&mut self, placed: &mut Placed) -> Result<(), AllocError>
+        ensures placed { OnOk result (placed.new ≡ record placed.old { came = came_now placed.old.came self.old.lines }) }
+        ensures lines { OnOk result (self.new ≡ record self.old { lines = lines_now placed.old.came self.old.lines }) }
+    {
+        if placed.came != 0 {
+            return Ok(());
+        }
+        let Some(lines) = self.lines.checked_add(1) else {
+            return Err(AllocError);
+        };
+        self.lines = lines;
+        placed.came = lines;
+        Ok(())
+    }
+
+    /// Puts the shelf of the handset back, whose line came now or changed, and sends frames on it.
+    pub(crate) fn put_line(
+        &mut self,
+        number: Digits,
+        placed: Placed,
+        frames: Listed<Outgoing>,
+    ) -> Result<(), AllocError>
+        ensures { OnOk result (Becomes (digits_key number) (record placed { came = came_now placed.came self.old.lines })
+            (counted (lines_now placed.came self.old.lines) (self.old.frames ++ to_handset number frames) self.old) self.new) }
+    {
+        let mut placed = placed;
+        self.come(&mut placed)?;
+        push_sent(&mut self.frames, number, frames)?;
+        self.put_back(number, placed)
+    }
+
+    // The stop at the shelf under that key is one of them, if it is a stop.
+    fn note(&self, wanted: &Wanted, key: u128, found: &mut Table<Stop>) -> Result<(), AllocError>
+        ensures { OnOk result (found.new.rows ≡ noted (stop_if wanted.now (at key self.now)) found.old.rows) }
+    {
+        if let Some(placed) = self.placed(key) {
+            if let Some(stop) = placed.stop(wanted) {
+                found.put(stop)?;
+            }
+        }
+        Ok(())
+    }
+
+    fn note_touched(&self, wanted: &Wanted, found: &mut Table<Stop>) -> Result<(), AllocError>
+        ensures { OnOk result (found.new.rows ≡ all_noted wanted.now self.now self.now.touched found.old.rows) }
+    {
+        for (key, _) in self.touched.iter() {
+            self.note(wanted, *key, found)?;
+        }
+        Ok(())
+    }
+
+    fn note_index(&self, wanted: &Wanted, found: &mut Table<Stop>) -> Result<(), AllocError>
+        ensures { OnOk result (found.new.rows ≡ all_noted wanted.now self.now self.now.base.index found.old.rows) }
+    {
+        let base: &Shelves = self.base;
+        for (key, _) in base.index.iter() {
+            self.note(wanted, *key, found)?;
+        }
+        Ok(())
+    }
+
+    /// The stops among the shelves that the event touched and those of the index.
+    pub(crate) fn scan(&self, wanted: &Wanted) -> Result<Vec<Stop>, AllocError>
+        ensures { IfOk result (λ stops. stops.items ≡ scanned wanted.now self.now) }
+    {
+        let mut found = Table::new(self.alloc);
+        self.note_touched(wanted, &mut found)?;
+        if !self.base.rests(wanted) {
+            self.note_index(wanted, &mut found)?;
+        }
+        Ok(found.into_vec())
+    }
+}
+
+// Frames to a handset.
+fn push_sent(
+    out: &mut Listed<Sent>,
+    number: Digits,
+    frames: Listed<Outgoing>,
+) -> Result<(), AllocError>
+    ensures { OnOk result (out.new ≡ out.old ++ to_handset number frames) }
+{
+    for frame in frames.into_vec() {
+        out.push(Sent {
+            handset: number,
+            frame,
+        })?;
+    }
+    Ok(())
+}

@@ -1,0 +1,97 @@
+//! A shelf among the others.
+ghost use Rattle.std.specs.Prelude.{◌≡◌, IfOk, Some, None};
+ghost use Rattle.sms_shelves.specs.Placing.{new_placed};
+ghost use Rattle.sms_shelves.specs.Stops.{is_active, is_wanted as is_wanted_of, order_of, stop_at};
+
+use crate::stop::{Stop, Wanted};
+use sms_base::Digits;
+use sms_waiting::Shelf;
+use std::alloc::{AllocError, Global};
+
+/// A shelf, and its place among the others.
+#[derive(Drop)]
+pub struct Placed {
+    pub(crate) shelf: Shelf,
+    /// The place of its line in the order in which lines came, from 1, or 0 while it has none.
+    pub(crate) came: u64,
+}
+
+impl Placed {
+    /// The shelf of a handset of which nothing was heard.
+    pub(crate) fn new(alloc: Global, number: Digits) -> Placed
+        ensures { result ≡ new_placed number }
+    {
+        Placed {
+            shelf: Shelf::new(alloc, number),
+            came: 0,
+        }
+    }
+
+    /// The same, in memory of its own.
+    pub(crate) fn copy(&self) -> Result<Placed, AllocError>
+        ensures { IfOk result (λ placed. placed ≡ self.now) }
+    {
+        Ok(Placed {
+            shelf: self.shelf.copy()?,
+            came: self.came,
+        })
+    }
+
+    /// Whether an event that isn't the handset's own can concern it.
+    pub(crate) fn is_active(&self) -> bool
+        ensures { result ≡ is_active self.now.shelf.line }
+    {
+        let line = self.shelf.line();
+        if line.is_up {
+            return true;
+        }
+        if line.is_awaited {
+            return true;
+        }
+        line.link.is_timed()
+    }
+
+    fn is_wanted(&self, wanted: &Wanted) -> bool
+        ensures { result ≡ is_wanted_of wanted.now self.now.shelf.row self.now.shelf.line self.now.shelf.waiting }
+    {
+        let line = self.shelf.line();
+        match wanted {
+            Wanted::Offer(now) => line.is_ready() && self.shelf.next(*now).is_some(),
+            Wanted::Fire(now) => line.link.is_due(*now),
+            Wanted::FireUnmentioned(now) => self.shelf.row().is_none() && line.link.is_due(*now),
+            Wanted::Awaited => line.is_awaited,
+        }
+    }
+
+    // Its place in the order in which such an event goes over handsets.
+    fn order(&self, wanted: &Wanted) -> Option<u64>
+        ensures { result ≡ order_of wanted.now self.now }
+    {
+        match wanted {
+            Wanted::Offer(_) | Wanted::Fire(_) => match self.shelf.row() {
+                Some(row) => Some(u64::from(row.place)),
+                None => None,
+            },
+            Wanted::FireUnmentioned(_) | Wanted::Awaited => match self.came {
+                0 => None,
+                came => Some(came),
+            },
+        }
+    }
+
+    /// The stop at this shelf, if it is one.
+    pub(crate) fn stop(&self, wanted: &Wanted) -> Option<Stop>
+        ensures { result ≡ stop_at wanted.now self.now }
+    {
+        if !self.is_wanted(wanted) {
+            return None;
+        }
+        match self.order(wanted) {
+            Some(order) => Some(Stop {
+                order,
+                number: self.shelf.line().handset,
+            }),
+            None => None,
+        }
+    }
+}

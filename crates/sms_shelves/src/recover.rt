@@ -1,0 +1,102 @@
+//! The shelves as rows tell of them.
+ghost use Rattle.std.specs.Prelude.{◌≡◌, ℕ, [], None, Some, nat_eq, if◌then◌else◌, IfOk, OnOk};
+ghost use Rattle.sms_table.specs.Keys.{digits_key};
+ghost use Rattle.sms_waiting.specs.References.{place_after};
+ghost use Rattle.sms_waiting.specs.SoundGivings.{SoundGivings};
+ghost use Rattle.sms_shelves.specs.Placing.{under};
+ghost use Rattle.sms_shelves.specs.Recovering.{given_at, restored, restored_all};
+ghost use Rattle.sms_shelves.specs.Shown.{Stands};
+
+use crate::placed::Placed;
+use crate::shelves::Shelves;
+use indexmap::IndexMap;
+use sms_table::{Key, Table};
+use sms_waiting::{HandsetRow, ReferenceRow, Shelf};
+use std::alloc::{AllocError, Global};
+
+impl Shelves {
+    /// The shelves of the handsets of the rows, with the references that were given there. Nothing waits for them yet, and
+    /// they have no lines: these come, as in an event, by `PendingShelves`.
+    pub fn recover(
+        alloc: Global,
+        handsets: &[HandsetRow],
+        references: &Table<ReferenceRow>,
+    ) -> Result<Shelves, AllocError>
+        requires sound { SoundGivings handsets.now references.now.rows }
+        ensures { IfOk result (λ shelves. Stands handsets.now references.now.rows [] (λ number. []) shelves) }
+    {
+        let next_place = place_behind(handsets);
+        let shelves = shelves_of(alloc, handsets, references)?;
+        let index = IndexMap::new(alloc);
+        Ok(Shelves {
+            alloc,
+            shelves,
+            index,
+            next_place,
+            lines: 0,
+            rested: None,
+        })
+    }
+}
+
+// The place behind the last one.
+fn place_behind(handsets: &[HandsetRow]) -> u64
+    ensures { result ≡ place_after 1 handsets.now }
+{
+    let mut place: u64 = 1;
+    for handset in handsets {
+        place = u64::from(handset.place) + 1;
+    }
+    place
+}
+
+fn shelves_of(
+    alloc: Global,
+    handsets: &[HandsetRow],
+    references: &Table<ReferenceRow>,
+) -> Result<IndexMap<u128, Placed>, AllocError>
+    ensures { IfOk result (λ shelves. (key : ℕ) → under key shelves.entries ≡ restored_all key handsets.now references.now.rows None) }
+{
+    let mut shelves = IndexMap::with_capacity(alloc, handsets.len())?;
+    for handset in handsets {
+        restore(alloc, &mut shelves, handset, references)?;
+    }
+    Ok(shelves)
+}
+
+#[tactic(auto, using(crate::proofs::Listing::placed_as))]
+fn restore(
+    alloc: Global,
+    shelves: &mut IndexMap<u128, Placed>,
+    handset: &HandsetRow,
+    references: &Table<ReferenceRow>,
+) -> Result<(), AllocError>
+    ensures { OnOk result ((key : ℕ) → under key shelves.new.entries
+        ≡ (if nat_eq key (digits_key handset.now.number) then Some (restored handset.now references.now.rows) else under key shelves.old.entries)) }
+{
+    let given = given_there(alloc, handset, references)?;
+    let placed = Placed {
+        shelf: Shelf::of_row(alloc, *handset, given),
+        came: 0,
+    };
+    match shelves.insert(Key::digits(&handset.number).number(), placed) {
+        Ok(_) => Ok(()),
+        Err(_) => Err(AllocError),
+    }
+}
+
+// The references that were given at the handset.
+fn given_there(
+    alloc: Global,
+    handset: &HandsetRow,
+    references: &Table<ReferenceRow>,
+) -> Result<Table<ReferenceRow>, AllocError>
+    ensures { IfOk result (λ given. given.rows ≡ given_at handset.now references.now.rows) }
+{
+    // The call tells that the rows stand in order.
+    let _all = references.as_slice();
+    let place = u64::from(handset.place);
+    let rows = references.rows_between(Key::pair(place, 0), Key::pair(place + 1, 0));
+    let rows = Vec::from_slice(alloc, rows)?;
+    Ok(Table::from_vec(rows))
+}
