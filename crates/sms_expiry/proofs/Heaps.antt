@@ -1,7 +1,7 @@
 -- Deadlines in a heap: none is lost, and below one that is to come there is none that has come.
-use Rattle.std.proofs.Common.{◌≡◌, ◌⊎◌, ℕ, zero, suc, ◌+◌, ◌-◌, ◌*◌, ◌/◌, ◌<◌, ◌≤◌, List, [], ◌∷◌, ◌++◌, length, get_or, map, true, false, Option, Some, None, is_some, IfSome, ◌↔◌, refl, sym, ◌∙◌, ap, subst, inl, inr, ⊎_elim, arith}
-use Rattle.std.specs.BinaryHeap.{IsHeap, lt_by_cmp}
-use Rattle.std.specs.List.{All, AllByRecursion}
+use Rattle.std.proofs.Common.{◌≡◌, ◌⊎◌, ℕ, zero, suc, ◌+◌, ◌-◌, ◌*◌, ◌<◌, ◌≤◌, List, [], ◌∷◌, ◌++◌, length, get_or, map, true, false, Option, Some, None, is_some, IfSome, ◌↔◌, refl, sym, ◌∙◌, ap, subst, inl, inr, ⊎_elim, arith}
+use Rattle.std.specs.BinaryHeap.{IsHeap}
+use Rattle.std.specs.List.{AllByRecursion}
 use Rattle.std.specs.List.Sorted.{IsPermutation}
 use Rattle.std.specs.Ordering.{is_lt}
 use Rattle.std.specs.declared.cmp.Reverse.{Reverse}
@@ -11,7 +11,7 @@ use Rattle.std.proofs.lemmas.List.Elements.{All-from_recursion, recursion_from_A
 use Rattle.std.proofs.lemmas.List.Sorted.{All-permutation, IsPermutation-sym}
 use Rattle.sms_base.specs.Among.{Among}
 use Rattle.sms_expiry.specs.declared.deadline.Deadline.{Deadline}
-use Rattle.sms_expiry.specs.Deadlines.{HasPast, IsCollected, IsUnder, above, deadline_cmp, first_of, heap_cmp, inside, steps_above}
+use Rattle.sms_expiry.specs.Deadlines.{HasPast, IsCollected, IsUnder, above, first_of, heap_cmp, inside, steps_above}
 
 -- ---- none is lost
 

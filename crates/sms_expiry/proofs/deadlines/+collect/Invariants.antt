@@ -1,4 +1,4 @@
-use Rattle.std.proofs.Common.{ℕ, ◌-◌, length}
+use Rattle.std.proofs.Common.{◌-◌, length}
 use Rattle.sms_expiry.proofs.deadlines.+collect.Given as goal
 
 abbrev pub decreases-collect : goal.decreases-collect

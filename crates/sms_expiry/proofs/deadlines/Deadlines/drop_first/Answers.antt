@@ -1,7 +1,6 @@
 use Rattle.std.proofs.Common.{◌≡◌, ◌⊎◌, Some, map, subst}
 use Rattle.std.specs.BinaryHeap.{heap_items, heap_len}
 use Rattle.sms_base.specs.Among.{Among}
-use Rattle.sms_expiry.specs.declared.deadline.Deadline.{Deadline}
 use Rattle.sms_expiry.specs.Deadlines.{DeadlinesOf, first_of, inside}
 use Rattle.sms_expiry.proofs.Heaps.{popped}
 use Rattle.sms_expiry.proofs.deadlines.Deadlines.drop_first.Goals as goal
