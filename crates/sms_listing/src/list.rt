@@ -9,7 +9,7 @@ use sqlite::{Alter, Error, Transaction};
 use std::alloc::Global;
 
 /// A row of a list that has a table of its own.
-pub trait StoredRow: Row {
+pub trait StoredRow<K>: Row {
     /// The list and its table.
     ghost list: { ListOf Self };
 
