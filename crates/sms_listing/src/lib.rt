@@ -9,7 +9,9 @@
 mod inside;
 mod list;
 mod loading;
+mod transaction;
 
 pub use inside::{change, put, remove, run, write};
 pub use list::StoredRow;
 pub use loading::load;
+pub use transaction::{Lookup, Work, look, transact};
