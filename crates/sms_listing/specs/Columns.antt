@@ -1,5 +1,5 @@
 -- What the columns of a row tell. What no row of a list writes there tells nothing that matters.
-use Rattle.std.specs.Prelude.{◌≡◌, ℕ, ℤ, pos, Bool, true, false, not, nat_eq, if◌then◌else◌, List, [], map, Option, Some, None, chars}
+use Rattle.std.specs.Prelude.{ℕ, ℤ, pos, Bool, not, nat_eq, if◌then◌else◌, List, [], Option, Some, None, chars}
 use Rattle.sqlite.specs.declared.types.Value.{Value}
 use Rattle.sqlite.specs.declared.types.Value.TheVariants.{Null, Int, Text, Blob}
 

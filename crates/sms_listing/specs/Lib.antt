@@ -1,4 +1,5 @@
 pub mod Columns
 pub mod Inside
 pub mod Listing
+pub mod Making
 pub mod Transaction

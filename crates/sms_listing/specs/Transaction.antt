@@ -1,7 +1,6 @@
 -- Whole transactions: what they make of a database, what they find in it, and what a stop inside one leaves.
 use Rattle.std.specs.Prelude.{◌≡◌, false, true, IsTrue}
 use Rattle.sqlite.specs.Tree.{Trees}
-use Rattle.sqlite.specs.Schema.{Schema}
 use Rattle.sqlite.specs.Effect.{Database}
 use Rattle.sqlite.specs.State.{State, Shows}
 

@@ -6,11 +6,16 @@
 //! rows in the order of their keys.
 #![tactic(auto)]
 
+
 mod inside;
 mod list;
 mod loading;
+mod reading;
 mod transaction;
 
+pub use reading::{
+    digits_at, flag_at, moment_at, number_at, octet_at, octets_at, short_at, text_at, text_of, word_at,
+};
 pub use inside::{change, put, remove, run, write};
 pub use list::StoredRow;
 pub use loading::load;
