@@ -1,3 +1,4 @@
+pub mod Causes
 pub mod Columns
 pub mod Inside
 pub mod Listing

@@ -40,7 +40,11 @@ pub fn remove<K, T: Drop + StoredRow<K>, S: Alter>(
 }
 
 /// Puts the row in the place of that of its key, or where its key belongs.
-pub fn put<K, T: Drop + StoredRow<K>, S: Alter>(tx: &mut Transaction<'_, S>, row: &T) -> Result<(), Error>
+pub fn put<K, T: Drop + StoredRow<K>, S: Alter>(
+    alloc: Global,
+    tx: &mut Transaction<'_, S>,
+    row: &T,
+) -> Result<(), Error>
     ensures same_reference { tx.new.conn.ghost_name ≡ tx.old.conn.ghost_name }
     ensures done { Goes S.Store tx.old.conn.now tx.new.conn.now (Alters T.list (put_row T.list.key row.now)) result }
     ensures kept { Keeps S.Store tx.old.conn.now tx.new.conn.now }
@@ -48,11 +52,12 @@ pub fn put<K, T: Drop + StoredRow<K>, S: Alter>(tx: &mut Transaction<'_, S>, row
 {
     let key = row.key();
     remove::<K, T, S>(tx, key)?;
-    row.insert(tx)
+    row.insert(alloc, tx)
 }
 
 /// Makes the change.
 pub fn change<K, T: Drop + StoredRow<K>, S: Alter>(
+    alloc: Global,
     tx: &mut Transaction<'_, S>,
     change: &Change<T>,
 ) -> Result<(), Error>
@@ -62,13 +67,14 @@ pub fn change<K, T: Drop + StoredRow<K>, S: Alter>(
     ensures survives { Spares S.Store tx.old.conn.now tx.new.conn.now }
 {
     match change {
-        Change::Put(row) => put::<K, T, S>(tx, row),
+        Change::Put(row) => put::<K, T, S>(alloc, tx, row),
         Change::Remove(key) => remove::<K, T, S>(tx, *key),
     }
 }
 
 /// Makes the changes in their order.
 pub fn write<K, T: Drop + StoredRow<K>, S: Alter>(
+    alloc: Global,
     tx: &mut Transaction<'_, S>,
     changes: &[Change<T>],
 ) -> Result<(), Error>
@@ -78,7 +84,7 @@ pub fn write<K, T: Drop + StoredRow<K>, S: Alter>(
     ensures survives { Spares S.Store tx.old.conn.now tx.new.conn.now }
 {
     for item in changes {
-        change::<K, T, S>(tx, item)?;
+        change::<K, T, S>(alloc, tx, item)?;
     }
     Ok(())
 }

@@ -6,13 +6,14 @@
 //! rows in the order of their keys.
 #![tactic(auto)]
 
-
+mod cause;
 mod inside;
 mod list;
 mod loading;
 mod reading;
 mod transaction;
 
+pub use cause::{load_cause_of, write_cause_of};
 pub use reading::{
     digits_at, flag_at, moment_at, number_at, octet_at, octets_at, short_at, text_at, text_of, word_at,
 };

@@ -21,7 +21,7 @@ pub trait StoredRow<K>: Row {
         ensures survives { Spares S.Store tx.old.conn.now tx.new.conn.now };
 
     /// Runs the text that adds the row.
-    fn insert<S: Alter>(&self, tx: &mut Transaction<'_, S>) -> Result<(), Error>
+    fn insert<S: Alter>(&self, alloc: Global, tx: &mut Transaction<'_, S>) -> Result<(), Error>
         ensures same_reference { tx.new.conn.ghost_name ≡ tx.old.conn.ghost_name }
         ensures done { Goes S.Store tx.old.conn.now tx.new.conn.now (Ran list.table.insert (list.columns self.now)) result }
         ensures kept { Keeps S.Store tx.old.conn.now tx.new.conn.now }

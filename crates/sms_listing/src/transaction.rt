@@ -16,7 +16,7 @@ pub trait Work {
     ghost changes: { Self → Database → Database → Type 0 };
 
     /// Makes the change, in as many statements as it takes.
-    fn run<S: Alter>(&self, tx: &mut Transaction<'_, S>) -> Result<(), Error>
+    fn run<S: Alter>(&self, alloc: Global, tx: &mut Transaction<'_, S>) -> Result<(), Error>
         ensures same_reference { tx.new.conn.ghost_name ≡ tx.old.conn.ghost_name }
         ensures done { Goes S.Store tx.old.conn.now tx.new.conn.now (Leads (changes self.now)) result }
         ensures kept { Keeps S.Store tx.old.conn.now tx.new.conn.now }
@@ -49,7 +49,11 @@ pub trait Lookup {
 
 /// Makes the change in one transaction: all of it or nothing. A stop inside the call leaves the database as it was,
 /// or as the change makes it.
-pub fn transact<W: Work, S: Alter>(conn: &mut Connection<S>, work: &W) -> Result<(), Error>
+pub fn transact<W: Work, S: Alter>(
+    alloc: Global,
+    conn: &mut Connection<S>,
+    work: &W,
+) -> Result<(), Error>
     ensures mode { conn.old.in_transaction ≡ false → conn.new.in_transaction ≡ false }
     ensures ok { HasCleanDisk (state S.Store conn.new) → OnOk result (Committed (W.changes work.now) (state S.Store conn.old) (state S.Store conn.new)) }
     ensures err { HasCleanDisk (state S.Store conn.new) → IsTrue (state S.Store conn.new).is_open
@@ -60,7 +64,7 @@ pub fn transact<W: Work, S: Alter>(conn: &mut Connection<S>, work: &W) -> Result
         return Err(Error::SqliteFailure(ErrorCode::TransactionState));
     }
     let mut tx = conn.transaction();
-    work.run(&mut tx)?;
+    work.run(alloc, &mut tx)?;
     tx.commit()
 }
 
