@@ -1,5 +1,6 @@
 -- What the columns of a row tell. What no row of a list writes there tells nothing that matters.
-use Rattle.std.specs.Prelude.{ℕ, ℤ, pos, Bool, not, nat_eq, if◌then◌else◌, List, [], Option, Some, None, chars}
+use Rattle.std.specs.Prelude.{ℕ, ℤ, pos, Bool, not, nat_eq, if◌then◌else◌, List, [], Option, Some, None, chars, bytes_eq}
+use Rattle.sqlite_sql.specs.Ops.{is_null}
 use Rattle.sqlite.specs.declared.types.Value.{Value}
 use Rattle.sqlite.specs.declared.types.Value.TheVariants.{Null, Int, Text, Blob}
 
@@ -28,8 +29,7 @@ characters_in value = chars (text_in value)
 
 -- what there is, or nothing where the column is NULL
 abbrev pub if_given : {A : Type 0} → (Value → A) → Value → Option A
-if_given read Null = None
-if_given read value = Some (read value)
+if_given read value = if is_null value then None else Some (read value)
 
 -- 1 for what is so, 0 for what is not
 abbrev pub flag_in : Value → Bool
@@ -44,3 +44,7 @@ or_none write (Some x) = write x
 
 abbrev pub number : ℕ → Value
 number n = Int (pos n)
+
+-- a word of a few: the first that the text is
+abbrev pub is_word : List ℕ → List ℕ → Bool
+is_word word text = bytes_eq text word

@@ -1,3 +1,4 @@
+pub mod Addresses
 pub mod Causes
 pub mod Columns
 pub mod Inside

@@ -15,7 +15,8 @@ mod transaction;
 
 pub use cause::{load_cause_of, write_cause_of};
 pub use reading::{
-    digits_at, flag_at, moment_at, number_at, octet_at, octets_at, short_at, text_at, text_of, word_at,
+    address_at, digits_at, flag_at, is_null_at, moment_at, number_at, octet_at, octets_at,
+    optional_moment_at, optional_octet_at, optional_short_at, short_at, text_at, text_of, word_at,
 };
 pub use inside::{change, put, remove, run, write};
 pub use list::StoredRow;
