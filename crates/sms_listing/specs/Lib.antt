@@ -4,4 +4,5 @@ pub mod Columns
 pub mod Inside
 pub mod Listing
 pub mod Making
+pub mod Meta
 pub mod Transaction

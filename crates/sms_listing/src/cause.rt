@@ -17,12 +17,13 @@ pub fn write_cause_of(error: Error) -> KeepError
     }
 }
 
-/// What the error of one that reads is to a keep: columns that no row has tell that this is no such store.
+/// What the error of one that reads is to a keep: columns that no row has, or a missing row, tell that this is no such store.
 pub fn load_cause_of(error: Error) -> KeepError
     ensures { result ≡ load_cause error }
 {
     match error {
-        Error::InvalidColumnIndex(_)
+        Error::QueryReturnedNoRows
+        | Error::InvalidColumnIndex(_)
         | Error::InvalidColumnType(_, _)
         | Error::IntegralValueOutOfRange(_)
         | Error::Utf8Error(_) => KeepError::NotThisStore,
