@@ -2,9 +2,10 @@
 use Rattle.std.proofs.Common.{◌≡◌, ℕ, ℤ, pos, ◌<◌, ◌/◌, ◌%◌, true, false, ◌&&◌, ◌==◌, [], ◌∷◌, codes, refl, ap, ap₂, ◌∙◌}
 use Rattle.std.specs.List.{list_all}
 use Rattle.sqlite.specs.declared.types.Value.TheVariants.{Null, Int}
+use Rattle.sqlite_value.specs.Order.{column}
 use Rattle.sqlite.specs.Schema.{Schema}
 use Rattle.sqlite.specs.Kind.TheVariants.{Integer}
-use Rattle.sqlite.specs.Term.{holds, lit, col}
+use Rattle.sqlite.specs.Term.{holds}
 use Rattle.sqlite.specs.Source.TheVariants.{Values}
 use Rattle.sqlite.specs.Command.TheVariants.{Insert, Delete, Select}
 use Rattle.sqlite.specs.Listing.{understood, reads_listing}
@@ -13,7 +14,8 @@ use Rattle.sqlite_catalog.specs.Listing.{automatic}
 use Rattle.sqlite_rules.specs.Cast.{cast_row}
 use Rattle.sqlite_tied.specs.Compute.{everything}
 use Rattle.sms_table.specs.Keys.{pair_key}
-use Rattle.sms_listing.specs.Listing.{given, keyed_table, TableOf, ListOf, IsList, table_of, rowids_where, whole_table, equals}
+use Rattle.sms_listing.specs.Columns.{number_in}
+use Rattle.sms_listing.specs.Listing.{given, keyed_table, TableOf, ListOf, IsList, table_of, rowids_where, whole_table, row_of, columns_of, equals}
 use Rattle.sms_listing.proofs.Columns.{same_number, cast_null, cast_int, and_true, pair_found}
 
 record Part : Type 0 where
@@ -36,9 +38,9 @@ part_table = record {
   delete = codes "DELETE FROM part WHERE message = ?1 AND number = ?2";
   tests = equals 1 0 ∷ equals 2 1 ∷ [];
   insert = codes "INSERT INTO part (message, number) VALUES (?1, ?2)";
-  values = lit Null ∷ col 0 0 ∷ col 0 1 ∷ [];
+  values = row_of 2;
   select = codes "SELECT message, number FROM part";
-  shown = col 1 1 ∷ col 1 2 ∷ [];
+  shown = columns_of 2;
   names = codes "message" ∷ codes "number" ∷ [];
 }
 
@@ -47,6 +49,7 @@ parts = record {
   table = part_table;
   key = λ p. pair_key p.message p.number;
   columns = λ p. Int (pos p.message) ∷ Int (pos p.number) ∷ [];
+  reads = λ row. record { message = number_in (column row 0); number = number_in (column row 1) };
   key_columns = λ n. Int (pos (n / 256)) ∷ Int (pos (n % 256)) ∷ [];
   Fits = λ p. p.number < 256;
 }
@@ -63,12 +66,6 @@ selects : (command_of (understood part_schema part_table.select) ≡ Select (rec
     × (reads_listing part_schema part_table.select ≡ false)
 unfolding understood everything
 selects = (refl, (refl, refl), refl)
-
-told : (x y : Part) → parts.columns x ≡ parts.columns y → x ≡ y
-told x y e =
-    let p : x.message ≡ y.message = cc in
-    let q : x.number ≡ y.number = cc in
-    λ i. record { message = p i; number = q i }
 
 stays : (x : Part) → cast_row (table_of part_table) (Null ∷ parts.columns x) ≡ Null ∷ parts.columns x
 stays x = rw (cast_null, cast_int (pos x.message), cast_int (pos x.number)) refl
@@ -93,5 +90,5 @@ parts_are_listed = record {
   read = λ id x. refl;
   stays = stays;
   finds = finds;
-  told = λ x y fits also e. told x y e;
+  told = λ x fits. refl;
 }

@@ -1,7 +1,11 @@
-pub mod Found
-pub mod Perms
-pub mod Trees
-pub mod Statements
+pub mod Characters
 pub mod Columns
 pub mod Example
+pub mod Found
+pub mod Keeping
+pub mod Making
+pub mod Once
+pub mod Perms
+pub mod Statements
 pub mod Steps
+pub mod Trees

@@ -43,6 +43,10 @@ pub ok_then : {E A B : Type 0} (r : Result (Unit {0}) E) → (A → B) → OnOk 
 ok_then (Ok x) f h = f h
 ok_then (Err e) f h = tt
 
+pub ok_both : {E A B C : Type 0} (r : Result (Unit {0}) E) → (A → B → C) → OnOk r A → OnOk r B → OnOk r C
+ok_both (Ok x) f h k = f h k
+ok_both (Err e) f h k = tt
+
 pub if_ok : {X E : Type 0} {P Q : X → Type 0} (r : Result X E) → ((x : X) → P x → Q x) → IfOk r P → IfOk r Q
 if_ok (Ok x) f h = f x h
 if_ok (Err e) f h = tt

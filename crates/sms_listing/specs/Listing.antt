@@ -1,5 +1,5 @@
 -- A list of rows as a table of a database: each row of the list is one row of the table, under a rowid of its own.
-use Rattle.std.specs.Prelude.{◌≡◌, ℕ, ◌==◌, ◌/◌, ℤ, pos, negsuc, true, false, List, [], ◌∷◌, map, length, slice_get, Some, None, IsPermutation}
+use Rattle.std.specs.Prelude.{◌≡◌, ℕ, zero, suc, ◌+◌, ◌==◌, ◌/◌, ℤ, pos, negsuc, true, false, List, [], ◌∷◌, map, length, slice_get, Some, None, IsPermutation}
 use Rattle.std.specs.List.{list_all, AllByRecursion}
 use Rattle.sqlite.specs.Collation.TheVariants.{Binary}
 use Rattle.sqlite.specs.declared.types.Value.TheVariants.{Null, Int}
@@ -102,11 +102,13 @@ pub record TableOf : Type 0 where
 abbrev pub table_of : TableOf → Table
 table_of t = keyed_table t.name t.tree t.columns t.key
 
--- A list of rows: its table, the key of a row, its columns, the columns that find a key, and which rows there are.
+-- A list of rows: its table, the key of a row, its columns, the row that columns tell, the columns that find a key, and
+-- which rows there are.
 pub record ListOf (X : Type 0) : Type 1 where
   pub table : TableOf
   pub key : X → ℕ
   pub columns : X → Row
+  pub reads : Row → X
   pub key_columns : ℕ → Row
   pub Fits : X → Type 0
 
@@ -143,4 +145,24 @@ pub record IsList {X : Type 0} (l : ListOf X) : Type 0 where
   -- the columns of a key find the row of that key, and no other
   pub finds : (n : ℕ) (id : ℤ) (x : X) → l.Fits x → list_all (holds (l.key_columns n ∷ (Int id ∷ l.columns x) ∷ [])) l.table.tests ≡ (l.key x == n)
   -- a row is told by its columns
-  pub told : (x y : X) → l.Fits x → l.Fits y → l.columns x ≡ l.columns y → x ≡ y
+  pub told : (x : X) → l.Fits x → l.reads (l.columns x) ≡ x
+
+-- the values of an INSERT: no rowid, and that many of the parameters
+abbrev pub given_from : ℕ → ℕ → List Term
+given_from at zero = []
+given_from at (suc more) = col 0 at ∷ given_from (at + 1) more
+
+abbrev pub row_of : ℕ → List Term
+row_of width = lit Null ∷ given_from 0 width
+
+-- that many columns of a row, which stand behind its rowid
+abbrev pub columns_from : ℕ → ℕ → List Term
+columns_from at zero = []
+columns_from at (suc more) = col 1 at ∷ columns_from (at + 1) more
+
+abbrev pub columns_of : ℕ → List Term
+columns_of width = columns_from 1 width
+
+-- a column that may hold NULL
+abbrev pub optional : List ℕ → Kind → Column
+optional name kind = record { name = name; kind = kind; is_strict = true; not_null = false; default = Null; collation = Binary }

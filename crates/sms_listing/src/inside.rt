@@ -27,7 +27,7 @@ pub fn run<S: Alter>(
 }
 
 /// Removes the row of the key, if there is one.
-pub fn remove<T: Drop + StoredRow, S: Alter>(
+pub fn remove<K, T: Drop + StoredRow<K>, S: Alter>(
     tx: &mut Transaction<'_, S>,
     key: Key,
 ) -> Result<(), Error>
@@ -40,18 +40,24 @@ pub fn remove<T: Drop + StoredRow, S: Alter>(
 }
 
 /// Puts the row in the place of that of its key, or where its key belongs.
-pub fn put<T: Drop + StoredRow, S: Alter>(tx: &mut Transaction<'_, S>, row: &T) -> Result<(), Error>
+pub fn put<K, T: Drop + StoredRow<K>, S: Alter>(
+    alloc: Global,
+    tx: &mut Transaction<'_, S>,
+    row: &T,
+) -> Result<(), Error>
     ensures same_reference { tx.new.conn.ghost_name ≡ tx.old.conn.ghost_name }
     ensures done { Goes S.Store tx.old.conn.now tx.new.conn.now (Alters T.list (put_row T.list.key row.now)) result }
     ensures kept { Keeps S.Store tx.old.conn.now tx.new.conn.now }
     ensures survives { Spares S.Store tx.old.conn.now tx.new.conn.now }
 {
-    remove::<T, S>(tx, row.key())?;
-    row.insert(tx)
+    let key = row.key();
+    remove::<K, T, S>(tx, key)?;
+    row.insert(alloc, tx)
 }
 
 /// Makes the change.
-pub fn change<T: Drop + StoredRow, S: Alter>(
+pub fn change<K, T: Drop + StoredRow<K>, S: Alter>(
+    alloc: Global,
     tx: &mut Transaction<'_, S>,
     change: &Change<T>,
 ) -> Result<(), Error>
@@ -61,13 +67,14 @@ pub fn change<T: Drop + StoredRow, S: Alter>(
     ensures survives { Spares S.Store tx.old.conn.now tx.new.conn.now }
 {
     match change {
-        Change::Put(row) => put(tx, row),
-        Change::Remove(key) => remove::<T, S>(tx, *key),
+        Change::Put(row) => put::<K, T, S>(alloc, tx, row),
+        Change::Remove(key) => remove::<K, T, S>(tx, *key),
     }
 }
 
 /// Makes the changes in their order.
-pub fn write<T: Drop + StoredRow, S: Alter>(
+pub fn write<K, T: Drop + StoredRow<K>, S: Alter>(
+    alloc: Global,
     tx: &mut Transaction<'_, S>,
     changes: &[Change<T>],
 ) -> Result<(), Error>
@@ -77,7 +84,7 @@ pub fn write<T: Drop + StoredRow, S: Alter>(
     ensures survives { Spares S.Store tx.old.conn.now tx.new.conn.now }
 {
     for item in changes {
-        change(tx, item)?;
+        change::<K, T, S>(alloc, tx, item)?;
     }
     Ok(())
 }

@@ -1,5 +1,5 @@
 //! What a list says of its table.
-ghost use Rattle.std.specs.Prelude.{◌≡◌, ℕ, IfOk};
+ghost use Rattle.std.specs.Prelude.{◌≡◌, ℕ, IfOk, OnOk};
 ghost use Rattle.sqlite.specs.Held.{state};
 ghost use Rattle.sms_listing.specs.Inside.{Goes, Keeps, Ran, Spares};
 ghost use Rattle.sms_listing.specs.Listing.{IsList, ListOf};
@@ -9,7 +9,7 @@ use sqlite::{Alter, Error, Transaction};
 use std::alloc::Global;
 
 /// A row of a list that has a table of its own.
-pub trait StoredRow: Row {
+pub trait StoredRow<K>: Row {
     /// The list and its table.
     ghost list: { ListOf Self };
 
@@ -21,20 +21,20 @@ pub trait StoredRow: Row {
         ensures survives { Spares S.Store tx.old.conn.now tx.new.conn.now };
 
     /// Runs the text that adds the row.
-    fn insert<S: Alter>(&self, tx: &mut Transaction<'_, S>) -> Result<(), Error>
+    fn insert<S: Alter>(&self, alloc: Global, tx: &mut Transaction<'_, S>) -> Result<(), Error>
         ensures same_reference { tx.new.conn.ghost_name ≡ tx.old.conn.ghost_name }
         ensures done { Goes S.Store tx.old.conn.now tx.new.conn.now (Ran list.table.insert (list.columns self.now)) result }
         ensures kept { Keeps S.Store tx.old.conn.now tx.new.conn.now }
         ensures survives { Spares S.Store tx.old.conn.now tx.new.conn.now }
-        ensures fits { list.Fits self.now };
+        ensures fits { OnOk result (list.Fits self.now) };
 
     /// The text that reads all rows.
     fn select() -> &'static str
         ensures { result.now ≡ list.table.select };
 
-    /// Reads the columns of a row. An error tells a row that no row of the list has written, or want of memory.
+    /// Reads the columns of a row. An error tells columns that no row of the list has, or want of memory.
     fn read(alloc: Global, row: &sqlite::Row) -> Result<Self, Error>
-        ensures { IfOk result (λ x. (seen : Self) → list.Fits seen → row.now ≡ list.columns seen → x ≡ seen) };
+        ensures { IfOk result (λ found. found ≡ list.reads row.now) };
 
     /// The key is that of the list.
     ghost one_key: { (x : Self) → list.key x ≡ Self.key x };

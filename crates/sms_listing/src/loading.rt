@@ -6,10 +6,11 @@ ghost use Rattle.sms_listing.specs.Inside.{Finds, Spares, Stays};
 ghost use Rattle.sms_table.specs.Table.{Rises};
 
 use crate::list::StoredRow;
-use sqlite::{Alter, Error, Row, Transaction};
+use sms_table::Row;
+use sqlite::{Alter, Error, Row as Found, Transaction};
 use std::alloc::Global;
 
-fn rows_of<T: Drop + StoredRow>(alloc: Global, rows: &[Row]) -> Result<Vec<T>, Error>
+fn rows_of<K, T: Drop + StoredRow<K>>(alloc: Global, rows: &[Found]) -> Result<Vec<T>, Error>
     ensures { IfOk result (λ found. (seen : List T) → AllByRecursion T.list.Fits seen → rows.now ≡ map T.list.columns seen → found.items ≡ seen) }
 {
     let mut found = Vec::new(alloc);
@@ -19,7 +20,7 @@ fn rows_of<T: Drop + StoredRow>(alloc: Global, rows: &[Row]) -> Result<Vec<T>, E
     Ok(found)
 }
 
-fn in_order<T: Drop + StoredRow>(rows: Vec<T>) -> Result<Vec<T>, Error>
+fn in_order<T: Drop + Row>(rows: Vec<T>) -> Result<Vec<T>, Error>
     ensures { IfOk result (λ sorted. (xs : List T) → IsPermutation rows.items xs → Rises T.key xs → sorted.items ≡ xs) }
 {
     let mut sorted = rows;
@@ -32,7 +33,7 @@ fn in_order<T: Drop + StoredRow>(rows: Vec<T>) -> Result<Vec<T>, Error>
 }
 
 /// The rows of the list in the order of their keys.
-pub fn load<T: Drop + StoredRow, S: Alter>(
+pub fn load<K, T: Drop + StoredRow<K>, S: Alter>(
     alloc: Global,
     tx: &mut Transaction<'_, S>,
 ) -> Result<Vec<T>, Error>
@@ -42,5 +43,5 @@ pub fn load<T: Drop + StoredRow, S: Alter>(
     ensures survives { Spares S.Store tx.old.conn.now tx.new.conn.now }
 {
     let rows = tx.query_all(T::select(), &[])?;
-    in_order(rows_of(alloc, &rows)?)
+    in_order(rows_of::<K, T>(alloc, &rows)?)
 }
