@@ -4,10 +4,10 @@ use Rattle.std.specs.Prelude.{ℕ, List, [], ◌∷◌, ◌++◌, length, zero, 
 use Rattle.sms_base.specs.declared.final_state.FinalState.{FinalState}
 use Rattle.sms_base.specs.declared.holder.Holder.TheVariants.{Part, Report}
 use Rattle.smpp_pdu.specs.declared.status.CommandStatus.TheVariants.{ESME_ROK}
-use Rattle.sms_centre.specs.declared.answer.CentreAnswer.{CentreAnswer}
-use Rattle.sms_centre.specs.declared.answer.CentreAnswer.TheVariants.{Submitted, Queried, Cancelled, Refused}
-use Rattle.sms_centre.specs.declared.event.CentreEvent.{CentreEvent}
-use Rattle.sms_centre.specs.declared.event.CentreEvent.TheVariants.{DeliverAnswered}
+use Rattle.sms_centre_rules.specs.declared.answer.CentreAnswer.{CentreAnswer}
+use Rattle.sms_centre_rules.specs.declared.answer.CentreAnswer.TheVariants.{Submitted, Queried, Cancelled, Refused}
+use Rattle.sms_centre_rules.specs.declared.event.CentreEvent.{CentreEvent}
+use Rattle.sms_centre_rules.specs.declared.event.CentreEvent.TheVariants.{DeliverAnswered}
 use Rattle.sms_messages.specs.declared.message.MessageRow.{MessageRow}
 use Rattle.sms_messages.specs.declared.part.PartRow.{PartRow}
 use Rattle.sms_messages.specs.Messages.{message_at}
@@ -25,8 +25,8 @@ use Rattle.sms_report.specs.declared.answers.MessageState.TheVariants.{Enroute, 
 use Rattle.sms_report.specs.declared.rows.Direction.TheVariants.{Down}
 use Rattle.sms_report.specs.declared.rows.FrameRow.{FrameRow}
 use Rattle.sms_report.specs.declared.rows.GivenRow.{GivenRow}
-use Rattle.sms_centre.specs.CentreEvent.{happened}
-use Rattle.sms_centre.specs.Draft.{Draft, core_of, changes_in, messages_in}
+use Rattle.sms_centre_rules.specs.CentreEvent.{happened}
+use Rattle.sms_centre_rules.specs.Draft.{Draft, core_of, changes_in, messages_in}
 use Rattle.sms_play.specs.Course.{Course, sent, answer}
 
 -- ---- the references that the changes give: a part's and a status report's row is put once, at its giving

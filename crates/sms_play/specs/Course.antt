@@ -9,7 +9,7 @@ use Rattle.sms_report.specs.declared.rows.Direction.{Direction}
 use Rattle.sms_report.specs.declared.rows.FrameRow.{FrameRow}
 use Rattle.sms_report.specs.declared.rows.GivenRow.{GivenRow}
 use Rattle.sms_report.specs.declared.rows.JoinedRow.{JoinedRow}
-use Rattle.sms_centre.specs.Draft.{Core as CentreCore}
+use Rattle.sms_centre_rules.specs.Draft.{Core as CentreCore}
 use Rattle.sms_handset.specs.Draft.{Core as HandsetCore}
 
 -- a handset of the script

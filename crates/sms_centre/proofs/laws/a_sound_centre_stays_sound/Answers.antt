@@ -1,5 +1,0 @@
-use Rattle.sms_centre.proofs.EventLaws.{stays_sound}
-use Rattle.sms_centre.proofs.laws.a_sound_centre_stays_sound.Goals as goal
-
-pub returns : goal.returns
-returns c = stays_sound
