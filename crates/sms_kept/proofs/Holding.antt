@@ -20,22 +20,29 @@ use Rattle.sms_kept.specs.Entries.{AreEntries, FoundAs, IsEntry, NamesKept, Name
 use Rattle.sms_kept.specs.Kept.{Applies, Fits, HasRoomFor, Holds, IsStaleFirst, KeptOf, Matches, Notes, PutsIn, SpareOf, Takes, deadline_of, is_ended, past_entry_id, past_id}
 use Rattle.sms_kept.proofs.Entries.{found_as, kept_entries, put_entries, same_key, without_entries}
 
--- a message comes: its deadline was noted, its names are kept, and its entry put
+-- a message comes: its deadline was noted, its names are kept, and its entry stands there
+pub holds_put : (row : MessageRow) (e : MessageEntry) (names : NamesOf) (messages : Kept MessageEntry) (old noted : KeptOf) → Notes row old noted → NamesKept noted.names names → IsEntry names e row
+    → messages.rows ≡ put message_entry_key e noted.messages.rows → (ms : List MessageRow) (ps : List PartRow) → Holds old ms ps
+    → Holds (record { names = names; messages = messages; parts = noted.parts; deadlines = noted.deadlines }) (put message_key row ms) ps
+holds_put row e names messages old noted notes keeps is there ms ps h = record {
+  messages = subst (λ (es : List MessageEntry). AreEntries names es (put message_key row ms)) (sym there)
+      (put_entries names e row noted.messages.rows ms is
+      (kept_entries noted.names names keeps noted.messages.rows ms
+      (subst (λ (t : Kept MessageEntry). AreEntries noted.names t.rows ms) (sym notes.messages) (subst (λ (n : NamesOf). AreEntries n old.messages.rows ms) (sym notes.names) h.messages))));
+  parts = ap (λ (t : Kept PartEntry). t.rows) notes.parts ∙ h.parts;
+  deadlines = λ m a p. ⊎_elim
+      (λ (q : m ≡ row). subst (λ (r : MessageRow). Among (deadline_of r) noted.deadlines.items) (sym q) (notes.own (ap (λ (r : MessageRow). is_pending r) (sym q) ∙ p)))
+      (λ (k : Among m ms × ¬ (message_key m ≡ message_key row)). notes.others (deadline_of m) (h.deadlines m k.0 p))
+      (among_put message_key m row ms a);
+  message_keys = rises_put message_key row ms h.message_keys;
+  part_keys = h.part_keys;
+}
+
+-- and in memory that was there
 pub puts_in : (row : MessageRow) (e : MessageEntry) (names : NamesOf) (old noted : KeptOf) → Notes row old noted → NamesKept noted.names names → UsesNames noted.names names → IsEntry names e row
     → PutsIn row old (record { names = names; messages = record noted.messages { rows = put message_entry_key e noted.messages.rows }; parts = noted.parts; deadlines = noted.deadlines })
 puts_in row e names old noted notes keeps uses is = record {
-  holds = λ ms ps h. record {
-    messages = put_entries names e row noted.messages.rows ms is
-        (kept_entries noted.names names keeps noted.messages.rows ms
-        (subst (λ (t : Kept MessageEntry). AreEntries noted.names t.rows ms) (sym notes.messages) (subst (λ (n : NamesOf). AreEntries n old.messages.rows ms) (sym notes.names) h.messages)));
-    parts = ap (λ (t : Kept PartEntry). t.rows) notes.parts ∙ h.parts;
-    deadlines = λ m a p. ⊎_elim
-        (λ (q : m ≡ row). subst (λ (r : MessageRow). Among (deadline_of r) noted.deadlines.items) (sym q) (notes.own (ap (λ (r : MessageRow). is_pending r) (sym q) ∙ p)))
-        (λ (k : Among m ms × ¬ (message_key m ≡ message_key row)). notes.others (deadline_of m) (h.deadlines m k.0 p))
-        (among_put message_key m row ms a);
-    message_keys = rises_put message_key row ms h.message_keys;
-    part_keys = h.part_keys;
-  };
+  holds = holds_put row e names (record noted.messages { rows = put message_entry_key e noted.messages.rows }) old noted notes keeps is refl;
   room = λ n room.
       let l = length_applied message_entry_key (Put e) noted.messages.rows in
       let r = room.messages in

@@ -1,4 +1,5 @@
 pub mod Entries
 pub mod Holding
+pub mod Recovering
 pub mod Settles
 pub mod Showing

@@ -23,7 +23,7 @@ fn copy_of_originator(alloc: Global, originator: &Originator) -> Result<Originat
 }
 
 // The row, in memory of its own.
-fn copy_of(alloc: Global, row: &MessageRow) -> Result<MessageRow, AllocError>
+pub(crate) fn copy_of(alloc: Global, row: &MessageRow) -> Result<MessageRow, AllocError>
     ensures { IfOk result (λ copy. copy ≡ row.now) }
 {
     let originator = copy_of_originator(alloc, &row.originator)?;

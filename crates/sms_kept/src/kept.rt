@@ -21,10 +21,10 @@ use std::marker::Model;
 /// The messages, their parts without TPDUs, and the deadlines of those that are pending.
 #[derive(Drop)]
 pub struct KeptMessages {
-    names: Names,
-    messages: Table<MessageEntry>,
+    pub(crate) names: Names,
+    pub(crate) messages: Table<MessageEntry>,
     pub(crate) parts: Table<PartEntry>,
-    deadlines: Deadlines,
+    pub(crate) deadlines: Deadlines,
 }
 
 impl Model for KeptMessages {

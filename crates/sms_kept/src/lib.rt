@@ -12,6 +12,7 @@ mod kept;
 mod message_entry;
 mod names;
 mod pending;
+mod recover;
 
 pub use kept::{KeptMessages, SpareMessages};
 pub use message_entry::{MessageEntry, OriginatorEntry};
