@@ -149,6 +149,35 @@ found_none k ms ps n h at = by (message_at n ms) refl (subst (λ (o : Option Mes
   by None q f = q
   by (Some m) q f = elim f [ ]
 
+-- ---- messages one by one
+
+pub as_many : (names : NamesOf) (es : List MessageEntry) (ms : List MessageRow) → AreEntries names es ms → length es ≡ length ms
+as_many names [] [] are = refl
+as_many names [] (m ∷ ms) are = elim are [ ]
+as_many names (e ∷ es) [] are = elim are [ ]
+as_many names (e ∷ es) (m ∷ ms) are = let l = as_many names es ms are.1 in omega (arith, l)
+
+at_place : (names : NamesOf) (place : ℕ) (es : List MessageEntry) (ms : List MessageRow) → AreEntries names es ms → FoundAs names (slice_get es place) (slice_get ms place)
+at_place names place [] [] are = tt
+at_place names place [] (m ∷ ms) are = elim are [ ]
+at_place names place (e ∷ es) [] are = elim are [ ]
+at_place names zero (e ∷ es) (m ∷ ms) are = are.0
+at_place names (suc place) (e ∷ es) (m ∷ ms) are = at_place names place es ms are.1
+
+pub placed_row : (names : NamesOf) (place : ℕ) (es : List MessageEntry) (ms : List MessageRow) (e : MessageEntry) → AreEntries names es ms → slice_get es place ≡ Some e → (m : MessageRow) × ((slice_get ms place ≡ Some m) × IsEntry names e m)
+placed_row names place es ms e are at = by (slice_get ms place) refl (subst (λ (o : Option MessageEntry). FoundAs names o (slice_get ms place)) at (at_place names place es ms are)) where
+  by : (o : Option MessageRow) → slice_get ms place ≡ o → FoundAs names (Some e) o → (m : MessageRow) × ((slice_get ms place ≡ Some m) × IsEntry names e m)
+  by None q f = elim f [ ]
+  by (Some m) q f = (m, (q, f))
+
+pub no_row : (names : NamesOf) (place : ℕ) (es : List MessageEntry) (ms : List MessageRow) → AreEntries names es ms → slice_get es place ≡ None → slice_get ms place ≡ None
+no_row names place es ms are at = by (slice_get ms place) refl (subst (λ (o : Option MessageEntry). FoundAs names o (slice_get ms place)) at (at_place names place es ms are)) where
+  by : (o : Option MessageRow) → slice_get ms place ≡ o → FoundAs names None o → slice_get ms place ≡ None
+  by None q f = q
+  by (Some m) q f = elim f [ ]
+
+-- ---- which are past
+
 pub past_some : (k : KeptOf) (ms : List MessageRow) (ps : List PartRow) (n now : ℕ) (e : MessageEntry) → Holds k ms ps → row_at message_entry_key n k.messages.rows ≡ Some e → past_id now (message_at n ms) ≡ past_entry_id now e
 past_some k ms ps n now e h at =
     let f = found_row k ms ps n e h at in

@@ -1,3 +1,6 @@
 pub mod Entries
+pub mod Expiring
 pub mod Kept
+pub mod Newest
 pub mod Settling
+pub mod Summaries

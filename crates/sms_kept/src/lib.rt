@@ -7,13 +7,18 @@
 //! Contracts say what is shown of the rows: whatever rows a centre shows before a change, it shows the changed rows after it.
 #![tactic(auto)]
 
+mod changes;
 mod copying;
+mod expiring;
 mod kept;
+pub mod laws;
 mod message_entry;
 mod names;
 mod pending;
 mod recover;
+mod summary;
 
 pub use kept::{KeptMessages, SpareMessages};
 pub use message_entry::{MessageEntry, OriginatorEntry};
 pub use pending::{PendingMessages, SettledMessages};
+pub use summary::MessageSummary;

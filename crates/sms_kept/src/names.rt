@@ -2,10 +2,12 @@
 ghost use Rattle.std.specs.Prelude.{◌≡◌, ◌+◌, ◌<◌, ◌≤◌, Some, IfOk, IsOk, OnOk};
 ghost use Rattle.sms_interning.specs.Interning.{Keeps, Makes};
 ghost use Rattle.sms_kept.specs.Entries.{IsEntry, IsOriginator, NamesKept, UsesNames};
+ghost use Rattle.sms_kept.specs.Summaries.{summary_of};
 ghost use Rattle.sms_messages.specs.declared.message.MessageRow.{MessageRow as MessageRowOf};
 ghost use Rattle.sms_base.specs.declared.originator.Originator.{Originator as OriginatorOf};
 
 use crate::message_entry::{MessageEntry, OriginatorEntry};
+use crate::summary::MessageSummary;
 use sms_base::{Address, Octets, Originator};
 use sms_interning::{Accounts, Numbers, SpareAccounts, SpareNumbers};
 use sms_messages::MessageRow;
@@ -92,6 +94,24 @@ impl Names {
             state: entry.state,
             done: entry.done,
         }))
+    }
+
+    // What is told of the entry's message; None where a place names nothing.
+    pub(crate) fn summary(&self, entry: &MessageEntry) -> Option<MessageSummary>
+        ensures { (m : MessageRowOf) → IsEntry self.now entry.now m → result ≡ Some (summary_of m) }
+    {
+        let source = self.numbers.at(entry.source_digits)?;
+        let handset = self.numbers.at(entry.handset)?;
+        Some(MessageSummary {
+            id: entry.id,
+            source: Address {
+                ton: entry.source_type,
+                npi: entry.source_plan,
+                digits: source,
+            },
+            handset,
+            state: entry.state,
+        })
     }
 
     // The entry of the originator, whose account's name is kept.

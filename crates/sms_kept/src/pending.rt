@@ -1,14 +1,14 @@
 //! Messages, parts and priorities in the middle of an event.
-ghost use Rattle.std.specs.Prelude.{◌≡◌, [], ℕ, List, Some, OnOk, IfOk, length, option_copied};
+ghost use Rattle.std.specs.Prelude.{◌≡◌, [], ℕ, List, Some, OnOk, IfOk, length};
 ghost use Rattle.sms_kept.specs.Kept.{Fits, Holds, Shows, found_part, opened};
 ghost use Rattle.sms_kept.specs.Settling.{IsSettled};
-ghost use Rattle.sms_messages.specs.Messages.{Messages, all_done, amend_part, message_at, message_key, messages_of, part_at, parts_of, put_message, put_part, put_priority};
+ghost use Rattle.sms_messages.specs.Messages.{Messages, all_done, amend_part, message_at, messages_of, part_at, parts_of, put_message, put_part, put_priority};
 ghost use Rattle.sms_messages.specs.PartEntries.{Few, part_entry};
 ghost use Rattle.sms_messages.specs.declared.message.MessageRow.{MessageRow as MessageRowOf};
 ghost use Rattle.sms_messages.specs.declared.part.PartRow.{PartRow as PartRowOf};
 ghost use Rattle.sms_messages.specs.declared.priority.PriorityRow.{PriorityRow as PriorityRowOf};
-ghost use Rattle.sms_table.specs.Table.{newest_of};
 
+use crate::changes::NewestChanges;
 use crate::copying::copy_left_by;
 use crate::kept::{KeptMessages, SpareMessages};
 use sms_base::{Listed, MessageId};
@@ -23,7 +23,7 @@ use std::marker::Model;
 pub struct PendingMessages<'a> {
     alloc: Global,
     kept: &'a KeptMessages,
-    messages: Vec<Change<MessageRow>>,
+    messages: NewestChanges<MessageRow>,
     parts: PendingParts<'a>,
     priorities: Vec<Change<PriorityRow>>,
 }
@@ -33,7 +33,7 @@ impl<'a> Model for PendingMessages<'a> {
 
     ghost Value = { PendingOf };
 
-    ghost view = { λ p. record { kept = p.kept.now; messages = p.messages.items; parts = p.parts; priorities = p.priorities.items } };
+    ghost view = { λ p. record { kept = p.kept.now; messages = p.messages; parts = p.parts; priorities = p.priorities.items } };
 }
 
 /// What an event changed, of each list in order, and the memory that it takes.
@@ -50,7 +50,7 @@ impl<'a> PendingMessages<'a> {
     pub fn of(alloc: Global, kept: &'a KeptMessages) -> PendingMessages<'a>
         ensures { (ms : List MessageRowOf) (ps : List PartRowOf) (qs : List PriorityRowOf) → Holds kept.entry.now ms ps → Shows result (opened ms ps qs) }
     {
-        let messages = Vec::new(alloc);
+        let messages = NewestChanges::new(alloc);
         let parts = PendingParts::of(alloc, &kept.parts);
         let priorities = Vec::new(alloc);
         PendingMessages {
@@ -62,25 +62,11 @@ impl<'a> PendingMessages<'a> {
         }
     }
 
-    // The newest change of the message of that key.
-    fn newest(&self, key: Key) -> Option<&Change<MessageRow>>
-        ensures { option_copied result ≡ newest_of message_key key self.now.messages }
-    {
-        let changes = self.messages.as_slice();
-        for i in 0..changes.len() {
-            let change = &changes[changes.len() - 1 - i];
-            if change.key().number() == key.number() {
-                return Some(change);
-            }
-        }
-        None
-    }
-
     /// The message of that number as it stands, in memory of its own.
     pub fn find(&self, id: MessageId) -> Result<Option<MessageRow>, AllocError>
         ensures { (m : Messages) → Shows self.now m → IfOk result (λ row. row ≡ message_at id (messages_of m)) }
     {
-        match self.newest(Key::of(id.number())) {
+        match self.messages.newest(Key::of(id.number())) {
             Some(change) => copy_left_by(self.alloc, change),
             None => self.kept.find(self.alloc, id),
         }
@@ -141,7 +127,7 @@ impl<'a> PendingMessages<'a> {
         let count = self.messages.len();
         let parts = self.parts.settle(self.alloc)?;
         let spare = self.kept.make_spare(self.alloc, count, parts.entries)?;
-        let messages = Listed::from_vec(self.messages);
+        let messages = Listed::from_vec(self.messages.into_vec());
         let changes = Listed::from_vec(parts.changes);
         let priorities = Listed::from_vec(self.priorities);
         Ok(SettledMessages {

@@ -8,5 +8,5 @@ use Rattle.sms_kept.proofs.pending.PendingMessages.put_message.Goals as goal
 
 pub returns : goal.returns
 returns c = λ m s.
-    subst (λ (cs : List (Change MessageRow)). Shows (record { kept = c.self.inside.kept.now; messages = cs; parts = c.self.inside.parts; priorities = c.self.inside.priorities.items }) (put_message c.args.row m)) (sym c.in_ok-push.ensures.items)
-    (shows_message c.args.row (record { kept = c.self.inside.kept.now; messages = c.self.inside.messages.items; parts = c.self.inside.parts; priorities = c.self.inside.priorities.items }) m (subst (λ (p : PendingOf). Shows p m) (sym c.self.view_is) s))
+    subst (λ (cs : List (Change MessageRow)). Shows (record { kept = c.self.inside.kept.now; messages = cs; parts = c.self.inside.parts; priorities = c.self.inside.priorities.items }) (put_message c.args.row m)) (sym c.in_ok-push.ensures.ok)
+    (shows_message c.args.row (record { kept = c.self.inside.kept.now; messages = c.self.inside.messages; parts = c.self.inside.parts; priorities = c.self.inside.priorities.items }) m (subst (λ (p : PendingOf). Shows p m) (sym c.self.view_is) s))

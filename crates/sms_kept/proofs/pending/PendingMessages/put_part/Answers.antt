@@ -7,5 +7,5 @@ use Rattle.sms_kept.proofs.pending.PendingMessages.put_part.Goals as goal
 
 pub returns : goal.returns
 returns c = λ m s.
-    subst (λ (ps : PartsOf). Shows (record { kept = c.self.inside.kept.now; messages = c.self.inside.messages.items; parts = ps; priorities = c.self.inside.priorities.items }) (put_part c.args.row m)) (sym c.in_ok-put.ensures)
-    (shows_part c.args.row (record { kept = c.self.inside.kept.now; messages = c.self.inside.messages.items; parts = c.self.inside.parts; priorities = c.self.inside.priorities.items }) m (subst (λ (p : PendingOf). Shows p m) (sym c.self.view_is) s))
+    subst (λ (ps : PartsOf). Shows (record { kept = c.self.inside.kept.now; messages = c.self.inside.messages; parts = ps; priorities = c.self.inside.priorities.items }) (put_part c.args.row m)) (sym c.in_ok-put.ensures)
+    (shows_part c.args.row (record { kept = c.self.inside.kept.now; messages = c.self.inside.messages; parts = c.self.inside.parts; priorities = c.self.inside.priorities.items }) m (subst (λ (p : PendingOf). Shows p m) (sym c.self.view_is) s))

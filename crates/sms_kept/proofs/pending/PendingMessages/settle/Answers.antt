@@ -10,13 +10,13 @@ use Rattle.sms_kept.proofs.pending.PendingMessages.settle.Goals as goal
 
 pub returns-clause-settled : goal.returns-clause-settled
 returns-clause-settled c = λ m s.
-    settled (record { kept = c.self.inside.kept.now; messages = c.self.inside.messages.items; parts = c.self.inside.parts; priorities = c.self.inside.priorities.items }) m (record { messages = c.from_vec-messages.result; parts = c.from_vec-changes.result; priorities = c.from_vec-priorities.result; spare = c.in_ok-spare.spare }) (subst (λ (p : PendingOf). Shows p m) (sym c.self.view_is) s)
-    c.from_vec-messages.ensures (c.from_vec-changes.ensures ∙ c.in_ok-parts.ensures.changes.1) c.from_vec-priorities.ensures
+    settled (record { kept = c.self.inside.kept.now; messages = c.self.inside.messages; parts = c.self.inside.parts; priorities = c.self.inside.priorities.items }) m (record { messages = c.from_vec-messages.result; parts = c.from_vec-changes.result; priorities = c.from_vec-priorities.result; spare = c.in_ok-spare.spare }) (subst (λ (p : PendingOf). Shows p m) (sym c.self.view_is) s)
+    (c.from_vec-messages.ensures ∙ c.into_vec.ensures) (c.from_vec-changes.ensures ∙ c.in_ok-parts.ensures.changes.1) c.from_vec-priorities.ensures
     (ap (λ (t : SettledOf PartEntry). t.changes) c.in_ok-spare.ensures.parts ∙ c.in_ok-parts.ensures.changes.0)
 
 pub returns-clause-fits : goal.returns-clause-fits
 returns-clause-fits c = λ m s.
     subst (λ (p : PendingOf). Fits c.in_ok-spare.spare (length c.from_vec-messages.result) p.kept) c.self.view_is
     (subst (λ (n : ℕ). Fits c.in_ok-spare.spare n c.self.inside.kept.now)
-    (c.len-count.ensures ∙ c.self.inside.messages.ok.0 ∙ ap (λ (l : List (Change MessageRow)). length l) (sym c.from_vec-messages.ensures))
+    (c.len-count.ensures ∙ ap (λ (l : List (Change MessageRow)). length l) (sym (c.from_vec-messages.ensures ∙ c.into_vec.ensures)))
     (c.in_ok-spare.ensures.fits (subst (λ (t : Kept PartEntry). FitsIn c.in_ok-parts.parts.entries t) (subst (λ (p : PendingOf). Shows p m) (sym c.self.view_is) s).parts_base c.in_ok-parts.ensures.fits)))
