@@ -91,10 +91,10 @@ next_made r rs h e =
 
 -- ---- a report that is so far
 
-abbrev far : ℕ → Progress → ReportRow → ReportRow
+abbrev pub far : ℕ → Progress → ReportRow → ReportRow
 far n q r = if report_key r == n then report_reaching q r else r
 
-far_place : (n : ℕ) (q : Progress) (r : ReportRow) → (far n q r).place ≡ r.place
+pub far_place : (n : ℕ) (q : Progress) (r : ReportRow) → (far n q r).place ≡ r.place
 far_place n q r = ⊎_elim
     (λ (e : r.place ≡ n). ap (λ (x : ReportRow). x.place) (cond-true (r.place == n) (report_reaching q r) r (eq-eqb r.place n e)))
     (λ (e : r.place ≡ n → ⊥). ap (λ (x : ReportRow). x.place) (cond-false (r.place == n) (report_reaching q r) r (ne_eqb r.place n e)))

@@ -1,6 +1,10 @@
+mod Amended
 mod Becoming
 mod Dropping
 mod Keeping
 mod Moves
+mod Noting
+mod PutOff
+mod ReceiptsMoved
 mod Serving
 mod Walking

@@ -18,9 +18,10 @@ use Rattle.sms_desk.specs.declared.entry.ReportEntry.{ReportEntry}
 use Rattle.sms_desk.specs.declared.entry.StatusEntry.{StatusEntry}
 use Rattle.sms_desk.specs.Entries.{account_in, entry_key, is_named, is_open, open_entry, receipt_entry, receipt_key, report_entry, status_entry, status_key, status_limit}
 use Rattle.sms_desk.specs.Kept.{AccountOf, IsWithReceipt, Kept, Shows, receipts_at}
-use Rattle.sms_desk.specs.Pending.{PendingOf, Tells, amending, made_row, putting}
+use Rattle.sms_desk.specs.Pending.{PendingOf, Tells, amending, made_row, noting, putting}
 use Rattle.sms_desk.specs.Updates.{entry_reaching, keeping, keeping_of, keeping_receipt, keeping_status, receipt_of, status_of, unless_done, with_receipt}
 use Rattle.sms_desk.proofs.Becoming.{became_added, became_far, became_made, below_next, next_added, next_far, next_made, nothing_there}
+use Rattle.sms_desk.proofs.Noting.{noted_far, noted_put, stay_far, stay_put}
 use Rattle.sms_desk.proofs.Keeping.{kept_receipt, kept_closed, kept_status, no_receipt, no_status}
 use Rattle.sms_waiting.specs.declared.progress.Progress.{Progress}
 use Rattle.sms_waiting.specs.declared.revision.Revision.{Revision}
@@ -146,6 +147,8 @@ tells_receipt ms p t id made name tells none account =
           (kept_receipt rows (put report_key r rows) r shows.keys became ms name p.kept (with_receipt name r.place (receipt_entry name ms r) p.kept.accounts) (p.kept.next + 1) shows refl
           (λ other ne. named_not name other (account_in (message_at id ms)) account ne) (is_with name r.place (receipt_entry name ms r) p.kept.accounts) next);
       changes = ap (λ (cs : List (Revision ReportRow)). cs ++ Put r ∷ []) tells.changes;
+      noted = noted_put p.made p.changes t.news r tells.noted;
+      stay = stay_put t.news rows (put report_key r rows) r became tells.stay;
     })
 
 pub tells_status : (ms : List MessageRow) (p : PendingOf) (t : Revised ReportRow) (id made reference : ℕ) (tpdu : List ℕ) → Tells ms p t → report_of id (reports_of t) ≡ None
@@ -160,6 +163,8 @@ tells_status ms p t id made reference tpdu tells none =
     (record {
       kept = shows_status ms r p.kept (p.kept.next + 1) (put report_key r rows) refl (kept_status rows (put report_key r rows) r shows.keys became ms p.kept (p.kept.next + 1) shows refl next);
       changes = ap (λ (cs : List (Revision ReportRow)). cs ++ Put r ∷ []) tells.changes;
+      noted = noted_put p.made p.changes t.news r tells.noted;
+      stay = stay_put t.news rows (put report_key r rows) r became tells.stay;
     })
 
 pub tells_unsent : (ms : List MessageRow) (p : PendingOf) (t : Revised ReportRow) (id made : ℕ) → Tells ms p t → report_of id (reports_of t) ≡ None
@@ -175,6 +180,8 @@ tells_unsent ms p t id made tells none =
       kept = kept_closed rows (put report_key r rows) r shows.keys became ms p.kept (p.kept.next + 1) shows refl refl none
           (λ b e. nothing_there r b rows (λ s m. below_next 1 s rows shows.keys m) e) next;
       changes = ap (λ (cs : List (Revision ReportRow)). cs ++ Put r ∷ []) tells.changes;
+      noted = noted_put p.made p.changes t.news r tells.noted;
+      stay = stay_put t.news rows (put report_key r rows) r became tells.stay;
     })
 
 pub far_receipt : (ms : List MessageRow) (p : PendingOf) (t : Revised ReportRow) (r : ReportRow) (q : Progress) (name : List ℕ) → Tells ms p t → report_of r.id (reports_of t) ≡ Some r → is_receipt r.kind ≡ true
@@ -191,6 +198,8 @@ far_receipt ms p t r q name tells there one account =
           (kept_receipt rows after s shows.keys became ms name p.kept (with_receipt name r.place (receipt_entry name ms s) p.kept.accounts) p.kept.next shows one
           (λ other ne. named_not name other (account_in (message_at r.id ms)) account ne) (is_with name r.place (receipt_entry name ms s) p.kept.accounts) next);
       changes = ap (λ (cs : List (Revision ReportRow)). cs ++ Amend r.place q ∷ []) tells.changes;
+      noted = noted_far p.made p.changes t.news r.place q tells.noted;
+      stay = stay_far t.news rows r q shows.keys shows.alone there tells.stay;
     }
 
 pub far_status : (ms : List MessageRow) (p : PendingOf) (t : Revised ReportRow) (r : ReportRow) (q : Progress) → Tells ms p t → report_of r.id (reports_of t) ≡ Some r → is_status r.kind ≡ true
@@ -205,6 +214,8 @@ far_status ms p t r q tells there one =
     record {
       kept = shows_status ms s p.kept p.kept.next after one (kept_status rows after s shows.keys became ms p.kept p.kept.next shows one next);
       changes = ap (λ (cs : List (Revision ReportRow)). cs ++ Amend r.place q ∷ []) tells.changes;
+      noted = noted_far p.made p.changes t.news r.place q tells.noted;
+      stay = stay_far t.news rows r q shows.keys shows.alone there tells.stay;
     }
 
 -- ---- rows that are read
@@ -244,57 +255,59 @@ shows_added ms kept rows r name shows lower none account =
 
 -- ---- the same of values that are told apart
 
-both : (ms : List MessageRow) (t : Revised ReportRow) (p : PendingOf) (kept : Kept) (changes : List (Revision ReportRow)) → kept ≡ p.kept → changes ≡ p.changes → Tells ms p t → Tells ms (record { kept = kept; changes = changes }) t
-both ms t p kept changes e f tells =
-    subst (λ (k : Kept). Tells ms (record { kept = k; changes = changes }) t) (sym e) (subst (λ (cs : List (Revision ReportRow)). Tells ms (record { kept = p.kept; changes = cs }) t) (sym f) tells)
+both : (ms : List MessageRow) (t : Revised ReportRow) (p q : PendingOf) → q ≡ p → Tells ms p t → Tells ms q t
+both ms t p q e tells = subst (λ (x : PendingOf). Tells ms x t) (sym e) tells
 
-pub receipt_made : (ms : List MessageRow) (p : PendingOf) (t : Revised ReportRow) (id made : ℕ) (name : List ℕ) (n : ℕ) (row : ReportRow) (entry : ReportEntry) (before kept : Kept) (changes : List (Revision ReportRow))
+pub receipt_made : (ms : List MessageRow) (p q : PendingOf) (t : Revised ReportRow) (id made : ℕ) (name : List ℕ) (n : ℕ) (row : ReportRow) (entry : ReportEntry) (before kept : Kept)
     → n ≡ p.kept.next → row ≡ made_row n id Receipt false made → entry ≡ record (report_entry row) { reference = None } → before ≡ record p.kept { next = p.kept.next + 1 } → kept ≡ keeping_receipt name entry before
-    → changes ≡ p.changes ++ Put row ∷ [] → Tells ms p t → report_of id (reports_of t) ≡ None → account_in (message_at id ms) ≡ Some name → Tells ms (record { kept = kept; changes = changes }) (report_made id Receipt false made t)
-receipt_made ms p t id made name n row entry before kept changes place is short later so news tells none account =
+    → q ≡ record (noting row p) { kept = kept } → Tells ms p t → report_of id (reports_of t) ≡ None → account_in (message_at id ms) ≡ Some name → Tells ms q (report_made id Receipt false made t)
+receipt_made ms p q t id made name n row entry before kept place is short later so news tells none account =
     let whole : row ≡ made_row p.kept.next id Receipt false made = is ∙ ap (λ (k : ℕ). made_row k id Receipt false made) place in
     let same : entry ≡ report_entry (made_row p.kept.next id Receipt false made) = short ∙ ap (λ (r : ReportRow). record (report_entry r) { reference = None }) whole in
-    both ms (report_made id Receipt false made t) (putting (made_row p.kept.next id Receipt false made) (keeping_receipt name (report_entry (made_row p.kept.next id Receipt false made)) p.kept) p) kept changes
-    (so ∙ ap (λ (k : Kept). keeping_receipt name entry k) later ∙ ap (λ (e : ReportEntry). keeping_receipt name e (record p.kept { next = p.kept.next + 1 })) same)
-    (news ∙ ap (λ (r : ReportRow). p.changes ++ Put r ∷ []) whole)
+    let all : kept ≡ record (keeping_receipt name (report_entry (made_row p.kept.next id Receipt false made)) p.kept) { next = p.kept.next + 1 } =
+    so ∙ ap (λ (k : Kept). keeping_receipt name entry k) later ∙ ap (λ (e : ReportEntry). keeping_receipt name e (record p.kept { next = p.kept.next + 1 })) same in
+    both ms (report_made id Receipt false made t) (putting (made_row p.kept.next id Receipt false made) (keeping_receipt name (report_entry (made_row p.kept.next id Receipt false made)) p.kept) p) q
+    (news ∙ ap (λ (r : ReportRow). record (noting r p) { kept = kept }) whole ∙ ap (λ (k : Kept). record (noting (made_row p.kept.next id Receipt false made) p) { kept = k }) all)
     (tells_receipt ms p t id made name tells none account)
 
-pub status_made : (ms : List MessageRow) (p : PendingOf) (t : Revised ReportRow) (id made reference : ℕ) (tpdu : List ℕ) (n : ℕ) (row : ReportRow) (entry : ReportEntry) (before kept : Kept) (changes : List (Revision ReportRow))
+pub status_made : (ms : List MessageRow) (p q : PendingOf) (t : Revised ReportRow) (id made reference : ℕ) (tpdu : List ℕ) (n : ℕ) (row : ReportRow) (entry : ReportEntry) (before kept : Kept)
     → n ≡ p.kept.next → row ≡ made_row n id (Status reference tpdu) false made → entry ≡ record (report_entry row) { reference = Some reference } → before ≡ record p.kept { next = p.kept.next + 1 } → kept ≡ keeping_status entry before
-    → changes ≡ p.changes ++ Put row ∷ [] → Tells ms p t → report_of id (reports_of t) ≡ None → Tells ms (record { kept = kept; changes = changes }) (report_made id (Status reference tpdu) false made t)
-status_made ms p t id made reference tpdu n row entry before kept changes place is short later so news tells none =
+    → q ≡ record (noting row p) { kept = kept } → Tells ms p t → report_of id (reports_of t) ≡ None → Tells ms q (report_made id (Status reference tpdu) false made t)
+status_made ms p q t id made reference tpdu n row entry before kept place is short later so news tells none =
     let whole : row ≡ made_row p.kept.next id (Status reference tpdu) false made = is ∙ ap (λ (k : ℕ). made_row k id (Status reference tpdu) false made) place in
     let same : entry ≡ report_entry (made_row p.kept.next id (Status reference tpdu) false made) = short ∙ ap (λ (r : ReportRow). record (report_entry r) { reference = Some reference }) whole in
-    both ms (report_made id (Status reference tpdu) false made t) (putting (made_row p.kept.next id (Status reference tpdu) false made) (keeping_status (report_entry (made_row p.kept.next id (Status reference tpdu) false made)) p.kept) p) kept changes
-    (so ∙ ap (λ (k : Kept). keeping_status entry k) later ∙ ap (λ (e : ReportEntry). keeping_status e (record p.kept { next = p.kept.next + 1 })) same)
-    (news ∙ ap (λ (r : ReportRow). p.changes ++ Put r ∷ []) whole)
+    let all : kept ≡ record (keeping_status (report_entry (made_row p.kept.next id (Status reference tpdu) false made)) p.kept) { next = p.kept.next + 1 } =
+    so ∙ ap (λ (k : Kept). keeping_status entry k) later ∙ ap (λ (e : ReportEntry). keeping_status e (record p.kept { next = p.kept.next + 1 })) same in
+    both ms (report_made id (Status reference tpdu) false made t) (putting (made_row p.kept.next id (Status reference tpdu) false made) (keeping_status (report_entry (made_row p.kept.next id (Status reference tpdu) false made)) p.kept) p) q
+    (news ∙ ap (λ (r : ReportRow). record (noting r p) { kept = kept }) whole ∙ ap (λ (k : Kept). record (noting (made_row p.kept.next id (Status reference tpdu) false made) p) { kept = k }) all)
     (tells_status ms p t id made reference tpdu tells none)
 
-pub unsent_made : (ms : List MessageRow) (p : PendingOf) (t : Revised ReportRow) (id made : ℕ) (n : ℕ) (row : ReportRow) (kept : Kept) (changes : List (Revision ReportRow))
+pub unsent_made : (ms : List MessageRow) (p q : PendingOf) (t : Revised ReportRow) (id made : ℕ) (n : ℕ) (row : ReportRow) (kept : Kept)
     → n ≡ p.kept.next → row ≡ made_row n id Unsent true made → kept ≡ record p.kept { next = p.kept.next + 1 }
-    → changes ≡ p.changes ++ Put row ∷ [] → Tells ms p t → report_of id (reports_of t) ≡ None → Tells ms (record { kept = kept; changes = changes }) (report_made id Unsent true made t)
-unsent_made ms p t id made n row kept changes place is so news tells none =
+    → q ≡ record (noting row p) { kept = kept } → Tells ms p t → report_of id (reports_of t) ≡ None → Tells ms q (report_made id Unsent true made t)
+unsent_made ms p q t id made n row kept place is so news tells none =
     let whole : row ≡ made_row p.kept.next id Unsent true made = is ∙ ap (λ (k : ℕ). made_row k id Unsent true made) place in
-    both ms (report_made id Unsent true made t) (putting (made_row p.kept.next id Unsent true made) p.kept p) kept changes so (news ∙ ap (λ (r : ReportRow). p.changes ++ Put r ∷ []) whole)
+    both ms (report_made id Unsent true made t) (putting (made_row p.kept.next id Unsent true made) p.kept p) q
+    (news ∙ ap (λ (r : ReportRow). record (noting r p) { kept = kept }) whole ∙ ap (λ (k : Kept). record (noting (made_row p.kept.next id Unsent true made) p) { kept = k }) so)
     (tells_unsent ms p t id made tells none)
 
-pub receipt_far : (ms : List MessageRow) (p : PendingOf) (t : Revised ReportRow) (r : ReportRow) (q : Progress) (name : List ℕ) (entry reached : ReportEntry) (n : ℕ) (kept : Kept) (changes : List (Revision ReportRow))
-    → entry ≡ report_entry r → reached ≡ entry_reaching q entry → n ≡ entry.place → kept ≡ keeping_receipt name reached p.kept → changes ≡ p.changes ++ Amend n q ∷ []
-    → Tells ms p t → report_of r.id (reports_of t) ≡ Some r → is_receipt r.kind ≡ true → account_in (message_at r.id ms) ≡ Some name → Tells ms (record { kept = kept; changes = changes }) (amend_report r q t)
-receipt_far ms p t r q name entry reached n kept changes is far place so news tells there one account =
-    both ms (amend_report r q t) (amending r.place q (keeping_receipt name (report_entry (report_reaching q r)) p.kept) p) kept changes
-    (so ∙ ap (λ (e : ReportEntry). keeping_receipt name e p.kept) (far ∙ ap (λ (e : ReportEntry). entry_reaching q e) is))
-    (news ∙ ap (λ (k : ℕ). p.changes ++ Amend k q ∷ []) (place ∙ ap (λ (e : ReportEntry). e.place) is))
-    (far_receipt ms p t r q name tells there one account)
+pub receipt_far : (ms : List MessageRow) (p q : PendingOf) (t : Revised ReportRow) (r : ReportRow) (far : Progress) (name : List ℕ) (entry reached : ReportEntry) (n : ℕ) (kept : Kept)
+    → entry ≡ report_entry r → reached ≡ entry_reaching far entry → n ≡ entry.place → kept ≡ keeping_receipt name reached p.kept → q ≡ amending n far kept p
+    → Tells ms p t → report_of r.id (reports_of t) ≡ Some r → is_receipt r.kind ≡ true → account_in (message_at r.id ms) ≡ Some name → Tells ms q (amend_report r far t)
+receipt_far ms p q t r far name entry reached n kept is reaches place so news tells there one account =
+    both ms (amend_report r far t) (amending r.place far (keeping_receipt name (report_entry (report_reaching far r)) p.kept) p) q
+    (news ∙ ap (λ (k : ℕ). amending k far kept p) (place ∙ ap (λ (e : ReportEntry). e.place) is)
+    ∙ ap (λ (k : Kept). amending r.place far k p) (so ∙ ap (λ (e : ReportEntry). keeping_receipt name e p.kept) (reaches ∙ ap (λ (e : ReportEntry). entry_reaching far e) is)))
+    (far_receipt ms p t r far name tells there one account)
 
-pub status_far : (ms : List MessageRow) (p : PendingOf) (t : Revised ReportRow) (r : ReportRow) (q : Progress) (entry reached : ReportEntry) (n : ℕ) (kept : Kept) (changes : List (Revision ReportRow))
-    → entry ≡ report_entry r → reached ≡ entry_reaching q entry → n ≡ entry.place → kept ≡ keeping_status reached p.kept → changes ≡ p.changes ++ Amend n q ∷ []
-    → Tells ms p t → report_of r.id (reports_of t) ≡ Some r → is_status r.kind ≡ true → Tells ms (record { kept = kept; changes = changes }) (amend_report r q t)
-status_far ms p t r q entry reached n kept changes is far place so news tells there one =
-    both ms (amend_report r q t) (amending r.place q (keeping_status (report_entry (report_reaching q r)) p.kept) p) kept changes
-    (so ∙ ap (λ (e : ReportEntry). keeping_status e p.kept) (far ∙ ap (λ (e : ReportEntry). entry_reaching q e) is))
-    (news ∙ ap (λ (k : ℕ). p.changes ++ Amend k q ∷ []) (place ∙ ap (λ (e : ReportEntry). e.place) is))
-    (far_status ms p t r q tells there one)
+pub status_far : (ms : List MessageRow) (p q : PendingOf) (t : Revised ReportRow) (r : ReportRow) (far : Progress) (entry reached : ReportEntry) (n : ℕ) (kept : Kept)
+    → entry ≡ report_entry r → reached ≡ entry_reaching far entry → n ≡ entry.place → kept ≡ keeping_status reached p.kept → q ≡ amending n far kept p
+    → Tells ms p t → report_of r.id (reports_of t) ≡ Some r → is_status r.kind ≡ true → Tells ms q (amend_report r far t)
+status_far ms p q t r far entry reached n kept is reaches place so news tells there one =
+    both ms (amend_report r far t) (amending r.place far (keeping_status (report_entry (report_reaching far r)) p.kept) p) q
+    (news ∙ ap (λ (k : ℕ). amending k far kept p) (place ∙ ap (λ (e : ReportEntry). e.place) is)
+    ∙ ap (λ (k : Kept). amending r.place far k p) (so ∙ ap (λ (e : ReportEntry). keeping_status e p.kept) (reaches ∙ ap (λ (e : ReportEntry). entry_reaching far e) is)))
+    (far_status ms p t r far tells there one)
 
 pub row_added : (ms : List MessageRow) (kept one two : Kept) (rows : List ReportRow) (r : ReportRow) (name : List ℕ) → one ≡ keeping name r kept → two ≡ record one { next = r.place + 1 } → Shows ms kept rows
     → ((s : ReportRow) → Among s rows → s.place < r.place) → report_of r.id rows ≡ None → (is_receipt r.kind ≡ true → account_in (message_at r.id ms) ≡ Some name) → Shows ms two (rows ++ r ∷ [])

@@ -38,7 +38,7 @@ above_member n e (x ∷ es) h m = ⊎_elim
     m
 
 module _ (test : ReceiptEntry → Bool) where
-  first_reaches : (e : ReceiptEntry) (es : List ReceiptEntry) → Rises receipt_key es → Among e es → test e ≡ true → (f : ReceiptEntry) × ((first_such test es ≡ Some f) × (f.place ≤ e.place))
+  pub first_reaches : (e : ReceiptEntry) (es : List ReceiptEntry) → Rises receipt_key es → Among e es → test e ≡ true → (f : ReceiptEntry) × ((first_such test es ≡ Some f) × (f.place ≤ e.place))
   first_reaches e [] h m t = elim m [ ]
   first_reaches e (x ∷ es) h m t = ⊎_elim
       (λ (p : test x ≡ true). (
@@ -57,12 +57,95 @@ module _ (test : ReceiptEntry → Bool) where
       m)
       (cases_Bool (test x))
 
-  first_found : (e : ReceiptEntry) (es : List ReceiptEntry) → first_such test es ≡ Some e → Among e es × (test e ≡ true)
+  pub first_found : (e : ReceiptEntry) (es : List ReceiptEntry) → first_such test es ≡ Some e → Among e es × (test e ≡ true)
   first_found e [] q = absurd cc
   first_found e (x ∷ es) q = ⊎_elim
       (λ (p : test x ≡ true). let same : x ≡ e = one_of x e (sym (cond-true (test x) (Some x) (first_such test es) p) ∙ q) in (inl (sym same), subst (λ (y : ReceiptEntry). test y ≡ true) same p))
       (λ (p : test x ≡ false). let f = first_found e es (sym (cond-false (test x) (Some x) (first_such test es) p) ∙ q) in (inr f.0, f.1))
       (cases_Bool (test x))
+
+-- ---- receipts that are due, but were sent already, are passed over
+
+past_so : (first moment : ℕ) (e : ReceiptEntry) → is_past_from receipt_key receipt_due first moment e ≡ true → (first ≤ e.place) × (e.due ≤ moment)
+past_so first moment e t = ⊎_elim
+    (λ (l : nat_le first e.place ≡ true). (leb-true first e.place l, leb-true e.due moment (sym (cond-true (nat_le first e.place) (nat_le e.due moment) false l) ∙ t)))
+    (λ (l : nat_le first e.place ≡ false). let bad : false ≡ true = sym (cond-false (nat_le first e.place) (nat_le e.due moment) false l) ∙ t in absurd cc)
+    (cases_Bool (nat_le first e.place))
+
+and_false : (b : Bool) → (b && false) ≡ false
+and_false true = refl
+and_false false = refl
+
+not_leb : (x y : ℕ) → y < x → nat_le x y ≡ false
+not_leb x y l = ⊎_elim
+    (λ (t : nat_le x y ≡ true). let k = leb-true x y t in absurd (omega (arith, k, l)))
+    (λ (t : nat_le x y ≡ false). t)
+    (cases_Bool (nat_le x y))
+
+pub none_ready : (first moment : ℕ) (ss : List Session) (es : List ReceiptEntry) → first_such (is_past_from receipt_key receipt_due first moment) es ≡ None → first_such (is_ready first moment ss) es ≡ None
+none_ready first moment ss [] e = refl
+none_ready first moment ss (x ∷ es) e = ⊎_elim
+    (λ (t : is_past_from receipt_key receipt_due first moment x ≡ true).
+    let bad : Some x ≡ None = sym (cond-true (is_past_from receipt_key receipt_due first moment x) (Some x) (first_such (is_past_from receipt_key receipt_due first moment) es) t) ∙ e in absurd cc)
+    (λ (t : is_past_from receipt_key receipt_due first moment x ≡ false).
+    cond-false (is_ready first moment ss x) (Some x) (first_such (is_ready first moment ss) es) (ap (λ (b : Bool). b && not (is_unanswered x.id ss)) t)
+    ∙ none_ready first moment ss es (sym (cond-false (is_past_from receipt_key receipt_due first moment x) (Some x) (first_such (is_past_from receipt_key receipt_due first moment) es) t) ∙ e))
+    (cases_Bool (is_past_from receipt_key receipt_due first moment x))
+
+pub one_ready : (first moment : ℕ) (ss : List Session) (e : ReceiptEntry) (es : List ReceiptEntry) → first_such (is_past_from receipt_key receipt_due first moment) es ≡ Some e → is_unanswered e.id ss ≡ false
+    → first_such (is_ready first moment ss) es ≡ Some e
+one_ready first moment ss e [] q u = absurd cc
+one_ready first moment ss e (x ∷ es) q u = ⊎_elim
+    (λ (t : is_past_from receipt_key receipt_due first moment x ≡ true).
+    let same : x ≡ e = one_of x e (sym (cond-true (is_past_from receipt_key receipt_due first moment x) (Some x) (first_such (is_past_from receipt_key receipt_due first moment) es) t) ∙ q) in
+    let unsent : is_unanswered x.id ss ≡ false = ap (λ (y : ReceiptEntry). is_unanswered y.id ss) same ∙ u in
+    cond-true (is_ready first moment ss x) (Some x) (first_such (is_ready first moment ss) es)
+    (ap (λ (b : Bool). b && not (is_unanswered x.id ss)) t ∙ ap (λ (b : Bool). not b) unsent)
+    ∙ ap (λ (y : ReceiptEntry). Some y) same)
+    (λ (t : is_past_from receipt_key receipt_due first moment x ≡ false).
+    cond-false (is_ready first moment ss x) (Some x) (first_such (is_ready first moment ss) es) (ap (λ (b : Bool). b && not (is_unanswered x.id ss)) t)
+    ∙ one_ready first moment ss e es (sym (cond-false (is_past_from receipt_key receipt_due first moment x) (Some x) (first_such (is_past_from receipt_key receipt_due first moment) es) t) ∙ q) u)
+    (cases_Bool (is_past_from receipt_key receipt_due first moment x))
+
+-- those behind a place
+ready_later : (first next moment : ℕ) (ss : List Session) (es : List ReceiptEntry) → first ≤ next → ((x : ReceiptEntry) → Among x es → next ≤ x.place)
+    → first_such (is_ready first moment ss) es ≡ first_such (is_ready next moment ss) es
+ready_later first next moment ss [] l f = refl
+ready_later first next moment ss (x ∷ es) l f =
+    let there : next ≤ x.place = f x (inl refl) in
+    let one : nat_le first x.place ≡ true = le-leb first x.place (omega (arith, l, there)) in
+    let two : nat_le next x.place ≡ true = le-leb next x.place there in
+    ap (λ (o : Option ReceiptEntry). if is_ready first moment ss x then Some x else o) (ready_later first next moment ss es l (λ y m. f y (inr m)))
+    ∙ ap (λ (b : Bool). if (if b then nat_le x.due moment else false) && not (is_unanswered x.id ss) then Some x else first_such (is_ready next moment ss) es) (one ∙ sym two)
+
+pub passed_over : (first moment : ℕ) (ss : List Session) (e : ReceiptEntry) (es : List ReceiptEntry) → Rises receipt_key es → first_such (is_past_from receipt_key receipt_due first moment) es ≡ Some e → is_unanswered e.id ss ≡ true
+    → first_such (is_ready first moment ss) es ≡ first_such (is_ready (e.place + 1) moment ss) es
+passed_over first moment ss e [] h q u = refl
+passed_over first moment ss e (x ∷ es) h q u = ⊎_elim
+    (λ (t : is_past_from receipt_key receipt_due first moment x ≡ true).
+    let same : x ≡ e = one_of x e (sym (cond-true (is_past_from receipt_key receipt_due first moment x) (Some x) (first_such (is_past_from receipt_key receipt_due first moment) es) t) ∙ q) in
+    let place : x.place ≡ e.place = ap (λ (y : ReceiptEntry). y.place) same in
+    let sent : is_unanswered x.id ss ≡ true = ap (λ (y : ReceiptEntry). is_unanswered y.id ss) same ∙ u in
+    let past = past_so first moment x t in
+    let lower : nat_le (e.place + 1) x.place ≡ false = not_leb (e.place + 1) x.place (omega (arith, place)) in
+    cond-false (is_ready first moment ss x) (Some x) (first_such (is_ready first moment ss) es) (ap (λ (b : Bool). is_past_from receipt_key receipt_due first moment x && not b) sent ∙ and_false (is_past_from receipt_key receipt_due first moment x))
+    ∙ ready_later first (e.place + 1) moment ss es (let l = past.0 in omega (arith, l, place)) (λ y m. let l = above_member x.place y es h.0 m in omega (arith, l, place))
+    ∙ sym (cond-false (is_ready (e.place + 1) moment ss x) (Some x) (first_such (is_ready (e.place + 1) moment ss) es)
+    (ap (λ (b : Bool). (if b then nat_le x.due moment else false) && not (is_unanswered x.id ss)) lower)))
+    (λ (t : is_past_from receipt_key receipt_due first moment x ≡ false).
+    let rest : first_such (is_past_from receipt_key receipt_due first moment) es ≡ Some e = sym (cond-false (is_past_from receipt_key receipt_due first moment x) (Some x) (first_such (is_past_from receipt_key receipt_due first moment) es) t) ∙ q in
+    let there = first_found (is_past_from receipt_key receipt_due first moment) e es rest in
+    let above = above_member x.place e es h.0 there.0 in
+    let lower : nat_le (e.place + 1) x.place ≡ false = not_leb (e.place + 1) x.place (omega (arith, above)) in
+    cond-false (is_ready first moment ss x) (Some x) (first_such (is_ready first moment ss) es) (ap (λ (b : Bool). b && not (is_unanswered x.id ss)) t)
+    ∙ passed_over first moment ss e es h.1 rest u
+    ∙ sym (cond-false (is_ready (e.place + 1) moment ss x) (Some x) (first_such (is_ready (e.place + 1) moment ss) es)
+    (ap (λ (b : Bool). (if b then nat_le x.due moment else false) && not (is_unanswered x.id ss)) lower)))
+    (cases_Bool (is_past_from receipt_key receipt_due first moment x))
+
+-- the first that is due stands no earlier than the place
+pub due_behind : (first moment : ℕ) (e : ReceiptEntry) (es : List ReceiptEntry) → first_such (is_past_from receipt_key receipt_due first moment) es ≡ Some e → first ≤ e.place
+due_behind first moment e es q = (past_so first moment e (first_found (is_past_from receipt_key receipt_due first moment) e es q).1).0
 
 module _ {B : Type 0} (pick : ReportRow → Option B) where
   pub kept_among : (r : ReportRow) (e : B) (rows : List ReportRow) → Among r rows → pick r ≡ Some e → Among e (picked pick rows)
@@ -108,10 +191,6 @@ session_serving (Some m) name [] e = refl
 session_serving (Some m) name (s ∷ ss) e =
     ap (λ (t : Bool). if s.receives && t then Some s else session_for (Some m) ss) (same_account m.originator name s.account e)
     ∙ ap (λ (o : Option Session). if s.receives && bytes_eq name s.account then Some s else o) (session_serving (Some m) name ss e)
-
-and_false : (b : Bool) → (b && false) ≡ false
-and_false true = refl
-and_false false = refl
 
 session_none : (o : Option MessageRow) (ss : List Session) → account_in o ≡ None → session_for o ss ≡ None
 session_none None ss e = refl
@@ -176,20 +255,14 @@ so_goes moment ms ss r s goes =
 
 -- ---- from the rows to what is kept, and back
 
-past_so : (first moment : ℕ) (e : ReceiptEntry) → is_past_from receipt_key receipt_due first moment e ≡ true → (first ≤ e.place) × (e.due ≤ moment)
-past_so first moment e t = ⊎_elim
-    (λ (l : nat_le first e.place ≡ true). (leb-true first e.place l, leb-true e.due moment (sym (cond-true (nat_le first e.place) (nat_le e.due moment) false l) ∙ t)))
-    (λ (l : nat_le first e.place ≡ false). let bad : false ≡ true = sym (cond-false (nat_le first e.place) (nat_le e.due moment) false l) ∙ t in absurd cc)
-    (cases_Bool (nat_le first e.place))
-
 so_past : (first moment : ℕ) (e : ReceiptEntry) → first ≤ e.place → e.due ≤ moment → is_past_from receipt_key receipt_due first moment e ≡ true
 so_past first moment e l d = cond-true (nat_le first e.place) (nat_le e.due moment) false (le-leb first e.place l) ∙ le-leb e.due moment d
 
-abbrev kept_of : ReportRow → ReceiptEntry
+abbrev pub kept_of : ReportRow → ReceiptEntry
 kept_of r = record { place = r.place; id = r.id; due = r.progress.due }
 
 module _ (first moment : ℕ) (ms : List MessageRow) (kept : Kept) (rows : List ReportRow) (shows : Shows ms kept rows) (ss : List Session) where
-  receipts_rise : (name : List ℕ) → Rises receipt_key (receipts_at name kept.accounts)
+  pub receipts_rise : (name : List ℕ) → Rises receipt_key (receipts_at name kept.accounts)
   receipts_rise name = subst (λ (es : List ReceiptEntry). Rises receipt_key es) (sym (shows.receipts name)) (picked_rises report_key receipt_key (receipt_entry name ms) (receipt_place name ms) rows shows.keys)
 
   account_case : (x : ReportRow) (s : Session) → session_for (message_at x.id ms) ss ≡ Some s → (name : List ℕ) × (account_in (message_at x.id ms) ≡ Some name)
@@ -320,7 +393,7 @@ module _ (first moment : ℕ) (ms : List MessageRow) (kept : Kept) (rows : List 
   from_one s (Some r) n e = let same : record { session = s; receipt = r } ≡ n = one_of (record { session = s; receipt = r }) n e in
       (ap (λ (x : Next). x.session) (sym same), ap (λ (x : Next). Some x.receipt) same)
 
-  next_is : (n : Next) (sessions : List Session) → next_among first moment ss kept.accounts sessions ≡ Some n → Among n.session sessions × (next_in first moment ss kept.accounts n.session ≡ Some n.receipt)
+  pub next_is : (n : Next) (sessions : List Session) → next_among first moment ss kept.accounts sessions ≡ Some n → Among n.session sessions × (next_in first moment ss kept.accounts n.session ≡ Some n.receipt)
   next_is n [] e = absurd cc
   next_is n (x ∷ xs) e = ⊎_elim
       (λ (f : next_from x (next_in first moment ss kept.accounts x) ≡ Some n).
@@ -339,6 +412,20 @@ module _ (first moment : ℕ) (ms : List MessageRow) (kept : Kept) (rows : List 
         let n = least s c.1.0 ss c.0 c.1.1.0 in
         let lower = before n.0 (sym e ∙ n.1.0) in
         absurd (omega (arith, lower, n.1.1, c.1.1.1))
+
+  -- it stands no earlier than the place
+  pub next_behind : (n : Next) (sessions : List Session) → next_among first moment ss kept.accounts sessions ≡ Some n → first ≤ n.receipt.place
+  next_behind n sessions e =
+      let s : Session = n.session in
+      let here : next_in first moment ss kept.accounts s ≡ Some n.receipt = (next_is n sessions e).1 in
+      ⊎_elim
+      (λ (t : (is_session s (serving s.account ss) && nat_lt (length s.unanswered) window) ≡ true).
+      let f = first_found (is_ready first moment ss) n.receipt (receipts_at s.account kept.accounts)
+      (sym (cond-true (is_session s (serving s.account ss) && nat_lt (length s.unanswered) window) (first_such (is_ready first moment ss) (receipts_at s.account kept.accounts)) None t) ∙ here) in
+      (past_so first moment n.receipt (and_parts (is_past_from receipt_key receipt_due first moment n.receipt) (not (is_unanswered n.receipt.id ss)) f.1).0).0)
+      (λ (t : (is_session s (serving s.account ss) && nat_lt (length s.unanswered) window) ≡ false).
+      let bad : None ≡ Some n.receipt = sym (cond-false (is_session s (serving s.account ss) && nat_lt (length s.unanswered) window) (first_such (is_ready first moment ss) (receipts_at s.account kept.accounts)) None t) ∙ here in absurd cc)
+      (cases_Bool (is_session s (serving s.account ss) && nat_lt (length s.unanswered) window))
 
   pub sends_end : (desk : Desk) → desk.sessions ≡ ss → next_among first moment ss kept.accounts ss ≡ None → send_all moment ms (rows_from report_key first rows) desk ≡ desk
   sends_end desk same e = walk_ends moment ms first rows desk shows.keys (λ r m l.

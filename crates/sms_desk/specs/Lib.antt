@@ -1,9 +1,11 @@
 pub mod AccountList
+pub mod Awaited
 pub mod Became
 pub mod Dropping
 pub mod Entries
 pub mod Going
 pub mod Kept
 pub mod Pending
+pub mod ReceiptMoves
 pub mod Serving
 pub mod Updates

@@ -1,10 +1,11 @@
 //! Open reports without their TPDUs.
-ghost use Rattle.std.specs.Prelude.{◌≡◌};
+ghost use Rattle.std.specs.Prelude.{◌≡◌, ◌+◌, IfOk};
 
 use sms_base::{MessageId, Moment};
 use sms_index::Dated;
 use sms_table::{Key, Row};
 use sms_waiting::Progress;
+use std::alloc::AllocError;
 
 /// A report that was neither answered nor dropped, without its TPDU, which stays in the store.
 #[derive(Clone, Copy, Debug, PartialEq, Eq)]
@@ -73,6 +74,36 @@ impl Row for ReceiptEntry {
 
     fn key(&self) -> Key {
         Key::of(self.place)
+    }
+}
+
+impl ReceiptEntry {
+    /// The place behind its own.
+    pub fn place_behind(&self) -> Result<u64, AllocError>
+        ensures { IfOk result (λ behind. behind ≡ self.now.place + 1) }
+    {
+        let behind = place_behind(self.place)?;
+        Ok(behind)
+    }
+}
+
+impl StatusEntry {
+    /// The place behind its own.
+    pub fn place_behind(&self) -> Result<u64, AllocError>
+        ensures { IfOk result (λ behind. behind ≡ self.now.place + 1) }
+    {
+        let behind = place_behind(self.place)?;
+        Ok(behind)
+    }
+}
+
+// The place behind that. More than 2^64 - 1 reports have no memory.
+fn place_behind(place: u64) -> Result<u64, AllocError>
+    ensures { IfOk result (λ behind. behind ≡ place + 1) }
+{
+    match place.checked_add(1) {
+        Some(behind) => Ok(behind),
+        None => Err(AllocError),
     }
 }
 

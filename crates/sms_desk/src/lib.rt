@@ -9,7 +9,10 @@
 mod accounts;
 mod entry;
 pub mod laws;
+mod made;
 mod pending;
+mod receipt_move;
+mod receipts;
 mod reports;
 
 pub use entry::{ReceiptEntry, ReportEntry, StatusEntry};

@@ -1,22 +1,24 @@
 //! The reports in the middle of an event.
-ghost use Rattle.std.specs.Prelude.{◌≡◌, List, None, OnOk, IfOk, Some, true, false};
+ghost use Rattle.std.specs.Prelude.{◌≡◌, List, None, OnOk, IfOk, Some, true, false, option_copied};
 ghost use Rattle.sms_index.specs.Picked.{pick_of};
-ghost use Rattle.sms_desk.specs.Entries.{account_in, open_entry, report_entry};
-ghost use Rattle.sms_desk.specs.Kept.{Shows};
-ghost use Rattle.sms_desk.specs.Pending.{Tells, made_row as made_row_of};
+ghost use Rattle.sms_desk.specs.Entries.{account_in, open_entry, receipt_due, receipt_key, report_entry, status_key, status_until};
+ghost use Rattle.sms_desk.specs.Kept.{Shows, receipts_at};
+ghost use Rattle.sms_desk.specs.Pending.{Tells, made_row as made_row_of, noting, put_at, tpdu_made};
+ghost use Rattle.sms_index.specs.First.{first_such, is_ahead_from, is_past_from};
 ghost use Rattle.sms_desk.specs.Updates.{entry_reaching};
 ghost use Rattle.sms_messages.specs.Messages.{message_at};
 ghost use Rattle.sms_messages.specs.declared.message.MessageRow.{MessageRow as MessageRowOf};
-ghost use Rattle.sms_reports.specs.Reports.{amend_report, is_receipt, is_status, report_made, report_of, reports_of};
+ghost use Rattle.sms_reports.specs.Reports.{amend_report, is_receipt, is_status, report_made, report_of, reports_of, status_tpdu};
 ghost use Rattle.sms_reports.specs.declared.report.ReportKind.TheVariants.{Receipt, Status, Unsent};
 ghost use Rattle.sms_reports.specs.declared.report.ReportRow.{ReportRow as ReportRowOf};
 ghost use Rattle.sms_waiting.specs.Revisions.{Revised, unrevised};
 
-use crate::entry::ReportEntry;
+use crate::entry::{ReceiptEntry, ReportEntry, StatusEntry};
+use crate::made::MadeEntry;
 use crate::reports::{Reports, entry_of};
 use sms_base::{MessageId, Moment, Octets};
 use sms_reports::{ReportKind, ReportRow};
-use sms_table::Key;
+use sms_table::{Key, Table};
 use sms_waiting::{Progress, Revision};
 use std::alloc::{AllocError, Global};
 use std::marker::Model;
@@ -41,6 +43,7 @@ impl ReportEntry {
 pub struct PendingReports {
     reports: Reports,
     changes: Vec<Revision<ReportRow>>,
+    made: Table<MadeEntry>,
 }
 
 impl Model for PendingReports {
@@ -48,7 +51,7 @@ impl Model for PendingReports {
 
     ghost Value = { PendingOf };
 
-    ghost view = { λ p. record { kept = p.reports; changes = p.changes.items } };
+    ghost view = { λ p. record { kept = p.reports; changes = p.changes.items; made = p.made.rows } };
 }
 
 /// What an event leaves of the reports.
@@ -67,6 +70,7 @@ impl PendingReports {
         Ok(PendingReports {
             reports,
             changes: Vec::new(alloc),
+            made: Table::new(alloc),
         })
     }
 
@@ -75,6 +79,50 @@ impl PendingReports {
         ensures { (messages : List MessageRowOf) (t : Revised ReportRowOf) → Tells messages self.now t → result ≡ pick_of open_entry (report_of id (reports_of t)) }
     {
         self.reports.find(id)
+    }
+
+    /// The first receipt of the account from that place on that is due.
+    pub fn first_due(&self, account: &[u8], first: u64, now: Moment) -> Option<ReceiptEntry>
+        ensures { result ≡ first_such (is_past_from receipt_key receipt_due first now) (receipts_at account.now self.now.kept.accounts) }
+    {
+        self.reports.first_due(account, first, now)
+    }
+
+    /// The first receipt of the account from that place on that isn't due yet.
+    pub fn first_put_off(&self, account: &[u8], first: u64, now: Moment) -> Option<ReceiptEntry>
+        ensures { result ≡ first_such (is_ahead_from receipt_key receipt_due first now) (receipts_at account.now self.now.kept.accounts) }
+    {
+        self.reports.first_put_off(account, first, now)
+    }
+
+    /// The first open status report from that place on that is dropped at that moment.
+    pub fn first_old(&self, first: u64, now: Moment) -> Option<StatusEntry>
+        ensures { result ≡ first_such (is_past_from status_key status_until first now) self.now.kept.statuses }
+    {
+        self.reports.first_old(first, now)
+    }
+
+    /// The STATUS-REPORT of the message, if the event made it: else it stands in the store. A receipt has no octets.
+    pub fn tpdu_made(&self, id: MessageId) -> Option<&[u8]>
+        ensures { (messages : List MessageRowOf) (t : Revised ReportRowOf) → Tells messages self.now t → option_copied result ≡ tpdu_made id t }
+    {
+        let Some(made) = self.made.find(Key::of(id.number())) else {
+            return None;
+        };
+        let Some(row) = put_at(self.changes.as_slice(), made.at) else {
+            return None;
+        };
+        Some(tpdu_of(&row.kind))
+    }
+
+    // The report comes among the changes.
+    fn note(&mut self, row: ReportRow) -> Result<(), AllocError>
+        ensures { OnOk result (self.new ≡ noting row self.old) }
+    {
+        let at = self.changes.len();
+        self.made.put(MadeEntry { id: row.id, at })?;
+        self.changes.push(Revision::Put(row))?;
+        Ok(())
     }
 
     /// A receipt is made of an application's message that has no report yet.
@@ -91,7 +139,7 @@ impl PendingReports {
         let row = made_row(place, id, ReportKind::Receipt, false, made);
         let entry = entry_of(&row, None);
         self.reports.keep_receipt(account, &entry)?;
-        self.changes.push(Revision::Put(row))?;
+        self.note(row)?;
         Ok(())
     }
 
@@ -116,7 +164,7 @@ impl PendingReports {
         );
         let entry = entry_of(&row, Some(reference));
         self.reports.keep_status(&entry)?;
-        self.changes.push(Revision::Put(row))?;
+        self.note(row)?;
         Ok(())
     }
 
@@ -127,7 +175,7 @@ impl PendingReports {
     {
         let place = self.reports.give_place()?;
         let row = made_row(place, id, ReportKind::Unsent, true, made);
-        self.changes.push(Revision::Put(row))?;
+        self.note(row)?;
         Ok(())
     }
 
@@ -197,5 +245,29 @@ fn made_row(place: u64, id: MessageId, kind: ReportKind, is_closed: bool, made: 
         kind,
         made,
         progress,
+    }
+}
+
+// The row that the change at a place puts.
+fn put_at(changes: &[Revision<ReportRow>], place: usize) -> Option<&ReportRow>
+    ensures { option_copied result ≡ put_at place changes.now }
+{
+    if place >= changes.len() {
+        return None;
+    }
+    match &changes[place] {
+        Revision::Put(row) => Some(row),
+        Revision::Amend { .. } => None,
+        Revision::Remove(_) => None,
+    }
+}
+
+// The octets of a status report.
+fn tpdu_of(kind: &ReportKind) -> &[u8]
+    ensures { result.now ≡ status_tpdu kind.now }
+{
+    match kind {
+        ReportKind::Status { tpdu, .. } => tpdu.as_slice(),
+        ReportKind::Receipt | ReportKind::Unsent => &[],
     }
 }
