@@ -1,0 +1,44 @@
+//! Laws of the centre's walks, over its definition alone.
+ghost use Rattle.std.specs.Prelude.{◌≡◌, ◌++◌, ◌∷◌, [], ℕ, List};
+ghost use Rattle.std.specs.List.Sorted.{IsNonDecreasing};
+ghost use Rattle.sms_messages.specs.Messages.{message_key};
+ghost use Rattle.sms_table.specs.Table.{Rises};
+ghost use Rattle.sms_waiting.specs.SoundGivings.{SoundGivings};
+ghost use Rattle.sms_shelves.specs.LineOrder.{AreLines};
+ghost use Rattle.sms_shelves.specs.Walks.{walk};
+ghost use Rattle.sms_shelves.specs.declared.stop.Stop.{Stop};
+ghost use Rattle.sms_shelves.specs.declared.stop.Wanted.TheVariants.{Awaited, Fire, FireUnmentioned, Offer};
+ghost use Rattle.sms_centre_rules.specs.CentreEvent.{expired, fired, raise, raised};
+ghost use Rattle.sms_centre_rules.specs.Draft.{Draft, Store, handsets_in, messages_in, references_in};
+ghost use Rattle.sms_centre_rules.specs.Offering.{offer};
+ghost use Rattle.sms_walks.specs.Expiring.{CoversOver, expire_numbers};
+ghost use Rattle.sms_walks.specs.Stepping.{fire_on, offer_at, stops_in};
+
+/// A walk goes on with one more step.
+pub fn a_walk_goes_on<D: Drop>()
+    ensures { (step : List ℕ → D → D) (stops : List Stop) (stop : Stop) (d : D) → walk step (stops ++ stop ∷ []) d ≡ step stop.number (walk step stops d) }
+{}
+
+/// Offers go to those handsets alone whose line is ready and for which something is due as the offers begin.
+pub fn offers_go_to_those_found()
+    ensures { (d : Draft) → SoundGivings (handsets_in d.store) (references_in d.store) → offer d ≡ walk offer_at (stops_in (Offer d.store.moment) d) d }
+{}
+
+/// Timers fire at those lines alone at which one is due as the walk begins: first at those of the handsets that had been given a
+/// reference, then at the others. Both are found before the first timer fires; what comes of one that fires (a message that ends,
+/// a status report for another handset, which then has been given a reference) makes no other timer due, and moves no handset.
+pub fn timers_fire_at_those_found()
+    ensures { (d : Draft) → SoundGivings (handsets_in d.store) (references_in d.store) → AreLines d.air.lines
+        → fired d ≡ walk fire_on (stops_in (FireUnmentioned d.store.moment) d) (walk fire_on (stops_in (Fire d.store.moment) d) d) }
+{}
+
+/// The lines that were up before a recovery come up: those that are found as the walk begins.
+pub fn lines_come_up_where_found()
+    ensures { (d : Draft) → AreLines d.air.lines → raised d ≡ walk raise (stops_in Awaited d) d }
+{}
+
+/// Messages expire by their numbers: any numbers in order serve among which are those of all messages whose time is over. A number
+/// may stand there twice, and that of a message that has ended.
+pub fn messages_expire_by_numbers()
+    ensures { (s : Store) (ids : List ℕ) → Rises message_key (messages_in s) → IsNonDecreasing ids → CoversOver ids s → expired s ≡ expire_numbers ids s }
+{}
