@@ -81,7 +81,7 @@ fn frames_are_written(rt: HostRuntime) -> Result<(), Fail> {
 }
 
 // The longest unit that a frame carries.
-const LONGEST: [u8; 248] = [0x5A; 248];
+const LONGEST: &[u8] = &[0x5A; 248];
 
 // CP-DATA of the longest unit, in the last transaction of the other side's.
 fn longest(alloc: Global) -> Result<Octets, Fail> {
@@ -93,7 +93,7 @@ fn longest(alloc: Global) -> Result<Octets, Fail> {
             flag: TransactionFlag::ToOriginator,
             identifier: last,
         },
-        unit: OctetView::of(&LONGEST),
+        unit: OctetView::of(LONGEST),
     };
     Ok(data.write(alloc)?)
 }
@@ -109,7 +109,7 @@ fn is_data(octets: &[u8]) -> bool {
 fn the_greatest_frame_is_written(rt: HostRuntime) -> Result<(), Fail> {
     let written = longest(rt.alloc())?;
     holds(
-        are(written.as_slice(), &[&[0xE9, 0x01, 0xF8], &LONGEST]),
+        are(written.as_slice(), &[&[0xE9, 0x01, 0xF8], LONGEST]),
         "a frame",
     )?;
     holds(

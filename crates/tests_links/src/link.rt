@@ -195,14 +195,18 @@ const AT_THE_HANDSET: &[Row] = &[
     (Call::Take(ACK_FRAME), &[Sent::Bare(b"\x09\x04")], ""),
 ];
 
-#[test]
-fn a_handset_sends_a_message(rt: HostRuntime) -> Result<(), Fail> {
-    let mut link = Link::new(rt.alloc(), Side::Handset);
-    all_go(&mut link, AT_THE_HANDSET)?;
+fn sends_a_message(link: &mut Link) -> Result<(), Fail> {
+    all_go(link, AT_THE_HANDSET)?;
     holds(
         !link.is_busy() && link.under_way().is_none(),
         "nothing under way",
     )
+}
+
+#[test]
+fn a_handset_sends_a_message(rt: HostRuntime) -> Result<(), Fail> {
+    let mut link = Link::new(rt.alloc(), Side::Handset);
+    sends_a_message(&mut link)
 }
 
 // The centre takes it and answers; the message comes again, and the answer isn't acknowledged in time.
@@ -223,14 +227,23 @@ const ACKNOWLEDGED: &[Row] = &[
     (Call::Take(DATA_FRAME), &[Sent::Bare(b"\x89\x04")], ""),
 ];
 
-// A copy goes on where the link stands, which still has its answer to send.
+// A copy goes on where the link stands.
+fn copy_goes(link: &Link, rows: &[Row]) -> Result<(), Fail> {
+    let mut copy = link.copy()?;
+    all_go(&mut copy, rows)
+}
+
+// The copy's answer is acknowledged; the link has no reply to give, as before.
+fn answers_a_message(link: &mut Link) -> Result<(), Fail> {
+    all_go(link, AT_THE_CENTRE)?;
+    copy_goes(link, ACKNOWLEDGED)?;
+    holds(!link.awaits_reply(), "no reply to give")
+}
+
 #[test]
 fn a_centre_answers_a_message(rt: HostRuntime) -> Result<(), Fail> {
     let mut link = Link::new(rt.alloc(), Side::Centre);
-    all_go(&mut link, AT_THE_CENTRE)?;
-    let mut copy = link.copy()?;
-    all_go(&mut copy, ACKNOWLEDGED)?;
-    holds(!link.awaits_reply(), "no reply to give")
+    answers_a_message(&mut link)
 }
 
 // Answers that are none, and none at all.
@@ -305,22 +318,31 @@ fn is_refused(out: &LinkOut, refusal: &[u8]) -> bool {
     }
 }
 
-#[test]
-fn a_refusal_comes_up_with_its_tpdu(rt: HostRuntime) -> Result<(), Fail> {
-    let mut link = Link::new(rt.alloc(), Side::Handset);
-    begun(&mut link, 0, DATA_UP)?;
+// The message is refused by a frame that has the TPDU.
+fn refuses(link: &mut Link, frame: &[u8], refusal: &[u8]) -> Result<bool, Fail> {
+    let out = taken(link, frame)?;
+    Ok(is_refused(&out, refusal))
+}
+
+fn message_is_refused(link: &mut Link) -> Result<(), Fail> {
+    begun(link, 0, DATA_UP)?;
     holds(
         link.is_busy() && link.under_way() == Some(SENT),
         "a message",
     )?;
-    let out = taken(&mut link, ERROR_FRAME)?;
-    holds(is_refused(&out, REFUSAL), "a refusal")
+    holds(refuses(link, ERROR_FRAME, REFUSAL)?, "a refusal")
+}
+
+#[test]
+fn a_refusal_comes_up_with_its_tpdu(rt: HostRuntime) -> Result<(), Fail> {
+    let mut link = Link::new(rt.alloc(), Side::Handset);
+    message_is_refused(&mut link)
 }
 
 // Units of 248 octets, and RP-ERROR with a TPDU of 242 octets.
-const LONGEST: [u8; 248] = [0x5A; 248];
+const LONGEST: &[u8] = &[0x5A; 248];
 
-const LONG_TPDU: [u8; 242] = [0x5A; 242];
+const LONG_TPDU: &[u8] = &[0x5A; 242];
 
 const REFUSING: &[u8] = b"\x89\x01\xF8\x05\x03\x01\x15\x41\xF2";
 
@@ -328,7 +350,7 @@ const REFUSING: &[u8] = b"\x89\x01\xF8\x05\x03\x01\x15\x41\xF2";
 fn sends_longest(frames: &[Outgoing], first: &[u8], carried: Carried) -> bool {
     match frames {
         [frame] => {
-            are(frame.octets.as_slice(), &[first, &[0xF8], &LONGEST])
+            are(frame.octets.as_slice(), &[first, &[0xF8], LONGEST])
                 && frame.carried == Some(carried)
         }
         _ => false,
@@ -337,15 +359,20 @@ fn sends_longest(frames: &[Outgoing], first: &[u8], carried: Carried) -> bool {
 
 fn is_longest(up: &Option<Upward>) -> bool {
     match up {
-        Some(Upward::Opened(unit)) => is(unit.as_slice(), &LONGEST),
+        Some(Upward::Opened(unit)) => is(unit.as_slice(), LONGEST),
         _ => false,
     }
+}
+
+fn opens_longest(link: &mut Link, frame: &[u8]) -> Result<bool, Fail> {
+    let out = taken(link, frame)?;
+    Ok(is_longest(&out.up))
 }
 
 // The other end takes the frame that was sent.
 fn passed(frames: &[Outgoing], link: &mut Link) -> Result<bool, Fail> {
     match frames {
-        [frame] => Ok(is_longest(&taken(link, frame.octets.as_slice())?.up)),
+        [frame] => opens_longest(link, frame.octets.as_slice()),
         _ => Ok(false),
     }
 }
@@ -354,44 +381,67 @@ fn goes_longest(out: &LinkOut) -> bool {
     sends_longest(out.frames.as_slice(), &[0x09, 0x01], SENT)
 }
 
-// The longest unit is sent, lost, and sent again; the centre takes it.
-fn goes_over(handset: &mut Link, centre: &mut Link) -> Result<(), Fail> {
-    let sent = begun(handset, 0, &LONGEST)?;
-    holds(goes_longest(&sent), "a unit")?;
+fn begins_longest(handset: &mut Link) -> Result<bool, Fail> {
+    let sent = begun(handset, 0, LONGEST)?;
+    Ok(goes_longest(&sent))
+}
+
+fn repeats_longest(handset: &mut Link, centre: &mut Link) -> Result<bool, Fail> {
     let again = fired(handset, 10)?;
-    holds(goes_longest(&again), "the unit again")?;
-    holds(
-        passed(again.frames.as_slice(), centre)?,
-        "the unit at the centre",
-    )
+    Ok(goes_longest(&again) && passed(again.frames.as_slice(), centre)?)
 }
 
 fn comes_longest(out: &LinkOut) -> bool {
     sends_longest(out.frames.as_slice(), &[0x89, 0x01], ANSWERED)
 }
 
-// So is the longest answer, by a copy of the link that gave it.
-fn is_answered(centre: &mut Link) -> Result<(), Fail> {
-    let sent = replied(centre, 10, &LONGEST)?;
-    holds(comes_longest(&sent), "an answer")?;
-    let mut copy = centre.copy()?;
-    let again = fired(&mut copy, 20)?;
-    holds(comes_longest(&again), "the answer again")
+fn answers_longest(centre: &mut Link) -> Result<bool, Fail> {
+    let sent = replied(centre, 10, LONGEST)?;
+    Ok(comes_longest(&sent))
+}
+
+fn answers_again(link: &mut Link) -> Result<bool, Fail> {
+    let again = fired(link, 20)?;
+    Ok(comes_longest(&again))
+}
+
+// A copy of the link gives the answer again.
+fn copy_answers_again(link: &Link) -> Result<bool, Fail> {
+    let mut copy = link.copy()?;
+    answers_again(&mut copy)
 }
 
 // The handset takes the longest refusal.
-fn is_refused_at_length(handset: &mut Link, alloc: Global) -> Result<(), Fail> {
+fn is_refused_at_length(handset: &mut Link, alloc: Global) -> Result<bool, Fail> {
     let mut error = Octets::copy_of(alloc, REFUSING)?;
-    error.append(&LONG_TPDU)?;
-    let out = taken(handset, error.as_slice())?;
-    holds(is_refused(&out, &LONG_TPDU), "a refusal")
+    error.append(LONG_TPDU)?;
+    refuses(handset, error.as_slice(), LONG_TPDU)
+}
+
+// A handset and the centre.
+#[derive(Drop)]
+struct Ends {
+    handset: Link,
+    centre: Link,
+}
+
+// The longest unit is sent, lost, and sent again; the centre takes it, and gives the longest answer, twice.
+fn carries_longest(ends: &mut Ends, alloc: Global) -> Result<(), Fail> {
+    holds(begins_longest(&mut ends.handset)?, "a unit")?;
+    holds(
+        repeats_longest(&mut ends.handset, &mut ends.centre)?,
+        "the unit again",
+    )?;
+    holds(answers_longest(&mut ends.centre)?, "an answer")?;
+    holds(copy_answers_again(&ends.centre)?, "the answer again")?;
+    holds(is_refused_at_length(&mut ends.handset, alloc)?, "a refusal")
 }
 
 #[test]
 fn the_longest_units_are_carried(rt: HostRuntime) -> Result<(), Fail> {
-    let mut handset = Link::new(rt.alloc(), Side::Handset);
-    let mut centre = Link::new(rt.alloc(), Side::Centre);
-    goes_over(&mut handset, &mut centre)?;
-    is_answered(&mut centre)?;
-    is_refused_at_length(&mut handset, rt.alloc())
+    let mut ends = Ends {
+        handset: Link::new(rt.alloc(), Side::Handset),
+        centre: Link::new(rt.alloc(), Side::Centre),
+    };
+    carries_longest(&mut ends, rt.alloc())
 }

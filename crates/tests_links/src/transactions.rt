@@ -115,12 +115,16 @@ fn is_refused_as_busy(links: &mut Links) -> Result<bool, Fail> {
     }
 }
 
+fn repeats_and_fails(links: &mut Links) -> Result<(), Fail> {
+    all_go(links, REPEATED)?;
+    holds(is_refused_as_busy(links)?, "a second transaction")?;
+    holds(links.is_busy(), "the first one")
+}
+
 #[test]
 fn a_begun_transaction_is_repeated_and_fails(rt: HostRuntime) -> Result<(), Fail> {
     let mut links = Links::new(rt.alloc());
-    all_go(&mut links, REPEATED)?;
-    holds(is_refused_as_busy(&mut links)?, "a second transaction")?;
-    holds(links.is_busy(), "the first one")
+    repeats_and_fails(&mut links)
 }
 
 // After a jump of the clock nothing is repeated.
@@ -151,11 +155,15 @@ const ANSWERED: &[Row] = &[
     (Call::Take(b"\x99\x10\x51"), &[], FAILED),
 ];
 
+fn takes_an_answer_once(links: &mut Links) -> Result<(), Fail> {
+    all_go(links, ANSWERED)?;
+    holds(!links.is_busy(), "nothing under way")
+}
+
 #[test]
 fn an_answer_is_taken_once(rt: HostRuntime) -> Result<(), Fail> {
     let mut links = Links::new(rt.alloc());
-    all_go(&mut links, ANSWERED)?;
-    holds(!links.is_busy(), "nothing under way")
+    takes_an_answer_once(&mut links)
 }
 
 const OPENED: &[Row] = &[
@@ -177,58 +185,94 @@ fn has_nothing_to_answer(links: &mut Links) -> Result<bool, Fail> {
     }
 }
 
-#[test]
-fn an_opening_is_taken_once(rt: HostRuntime) -> Result<(), Fail> {
-    let mut links = Links::new(rt.alloc());
-    all_go(&mut links, OPENED)?;
-    holds(has_nothing_to_answer(&mut links)?, "a second answer")?;
+fn takes_an_opening_once(links: &mut Links) -> Result<(), Fail> {
+    all_go(links, OPENED)?;
+    holds(has_nothing_to_answer(links)?, "a second answer")?;
     holds(!links.awaits_reply(), "no reply to give")
 }
 
+#[test]
+fn an_opening_is_taken_once(rt: HostRuntime) -> Result<(), Fail> {
+    let mut links = Links::new(rt.alloc());
+    takes_an_opening_once(&mut links)
+}
+
 // The longest unit.
-const LONGEST: [u8; 248] = [0x5A; 248];
+const LONGEST: &[u8] = &[0x5A; 248];
 
 // Whether one frame is sent: the octets, the length 248 and the longest unit.
 fn sends_longest(out: &Out, first: &[u8]) -> bool {
     match out.frames.as_slice() {
-        [frame] => are(frame.as_slice(), &[first, &[0xF8], &LONGEST]),
+        [frame] => are(frame.as_slice(), &[first, &[0xF8], LONGEST]),
         _ => false,
     }
 }
 
-// The other end takes the frame that was sent.
-fn passed(out: &Out, links: &mut Links) -> Result<Out, Fail> {
+fn tells_longest(links: &mut Links, frame: &[u8]) -> Result<bool, Fail> {
+    let out = taken(links, frame)?;
+    Ok(is(up(&out), LONGEST))
+}
+
+// The other end takes the frame that was sent, and the longest unit goes up.
+fn passed(out: &Out, links: &mut Links) -> Result<bool, Fail> {
     match out.frames.as_slice() {
-        [frame] => taken(links, frame.as_slice()),
-        _ => Err(Fail::new("not one frame")),
+        [frame] => tells_longest(links, frame.as_slice()),
+        _ => Ok(false),
     }
 }
 
-// The longest unit is sent, lost, and sent again; the other end takes it.
-fn goes_over(near: &mut Links, far: &mut Links) -> Result<(), Fail> {
-    let sent = begun(near, 0, &LONGEST)?;
-    holds(sends_longest(&sent, &[0x09, 0x01]), "a unit")?;
-    let again = fired(near, 10)?;
-    holds(sends_longest(&again, &[0x09, 0x01]), "the unit again")?;
-    let out = passed(&again, far)?;
-    holds(is(up(&out), &LONGEST), "the unit at the other end")
+fn begins_longest(links: &mut Links) -> Result<bool, Fail> {
+    let sent = begun(links, 0, LONGEST)?;
+    Ok(sends_longest(&sent, &[0x09, 0x01]))
 }
 
-// So is the longest answer, by a copy of the link that gave it.
-fn comes_back(near: &mut Links, far: &mut Links) -> Result<(), Fail> {
-    let sent = replied(far, 10, &LONGEST)?;
-    holds(sends_longest(&sent, &[0x89, 0x01]), "an answer")?;
-    let mut copy = far.copy()?;
-    let again = fired(&mut copy, 20)?;
-    holds(sends_longest(&again, &[0x89, 0x01]), "the answer again")?;
-    let out = passed(&again, near)?;
-    holds(is(up(&out), &LONGEST), "the answer at this end")
+fn answers_longest(links: &mut Links) -> Result<bool, Fail> {
+    let sent = replied(links, 10, LONGEST)?;
+    Ok(sends_longest(&sent, &[0x89, 0x01]))
+}
+
+// At that time it is sent again, and comes to the other end.
+fn comes_again(
+    links: &mut Links,
+    seconds: u64,
+    first: &[u8],
+    other: &mut Links,
+) -> Result<bool, Fail> {
+    let again = fired(links, seconds)?;
+    Ok(sends_longest(&again, first) && passed(&again, other)?)
+}
+
+fn copy_comes_again(links: &Links, other: &mut Links) -> Result<bool, Fail> {
+    let mut copy = links.copy()?;
+    comes_again(&mut copy, 20, &[0x89, 0x01], other)
+}
+
+// Two ends of a link.
+#[derive(Drop)]
+struct Ends {
+    near: Links,
+    far: Links,
+}
+
+// The longest unit is sent, lost, and sent again; so is the longest answer, by a copy of the end that gave it.
+fn goes_both_ways(ends: &mut Ends) -> Result<(), Fail> {
+    holds(begins_longest(&mut ends.near)?, "a unit")?;
+    holds(
+        comes_again(&mut ends.near, 10, &[0x09, 0x01], &mut ends.far)?,
+        "the unit again",
+    )?;
+    holds(answers_longest(&mut ends.far)?, "an answer")?;
+    holds(
+        copy_comes_again(&ends.far, &mut ends.near)?,
+        "the answer again",
+    )
 }
 
 #[test]
 fn the_longest_unit_goes_both_ways(rt: HostRuntime) -> Result<(), Fail> {
-    let mut near = Links::new(rt.alloc());
-    let mut far = Links::new(rt.alloc());
-    goes_over(&mut near, &mut far)?;
-    comes_back(&mut near, &mut far)
+    let mut ends = Ends {
+        near: Links::new(rt.alloc()),
+        far: Links::new(rt.alloc()),
+    };
+    goes_both_ways(&mut ends)
 }
