@@ -29,7 +29,7 @@ use Rattle.sms_listing.specs.Listing.{ListOf, IsList, Holds, with_rowid, whole_t
 -- ---- lists
 
 -- a permutation of the images is the images of a permutation
-mapped_back : {A B : Type 0} (f : A → B) (bs cs : List B) → IsPermutation bs cs → (xs : List A) → bs ≡ map f xs → (ds : List A) × (cs ≡ map f ds) × IsPermutation xs ds
+pub mapped_back : {A B : Type 0} (f : A → B) (bs cs : List B) → IsPermutation bs cs → (xs : List A) → bs ≡ map f xs → (ds : List A) × (cs ≡ map f ds) × IsPermutation xs ds
 mapped_back {A} {B} f = along_permutation (λ bs cs. (xs : List A) → bs ≡ map f xs → (ds : List A) × (cs ≡ map f ds) × IsPermutation xs ds) same skip turn chain
   where
     same : (bs : List B) (xs : List A) → bs ≡ map f xs → (ds : List A) × (bs ≡ map f ds) × IsPermutation xs ds
@@ -55,7 +55,7 @@ mapped_back {A} {B} f = along_permutation (λ bs cs. (xs : List A) → bs ≡ ma
     chain bs cs es p q xs e = let r = p xs e in let s = q r.0 r.1 in (s.0, s.1, IsPermutation-trans _ _ _ r.2 s.2)
 
 -- what holds of each of some rows holds of them in any order
-all_permuted : {X : Type 0} (P : X → Type 0) (xs ys : List X) → IsPermutation xs ys → AllByRecursion P xs → AllByRecursion P ys
+pub all_permuted : {X : Type 0} (P : X → Type 0) (xs ys : List X) → IsPermutation xs ys → AllByRecursion P xs → AllByRecursion P ys
 all_permuted P = along_permutation (λ xs ys. AllByRecursion P xs → AllByRecursion P ys) (λ xs h. h) (λ x xs ys p h. (h.0, p h.1)) (λ x y xs h. (h.1.0, (h.0, h.1.1))) (λ xs ys zs p q h. q (p h))
 
 -- what a loop that reads the rows one after another has so far

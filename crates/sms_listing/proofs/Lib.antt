@@ -5,6 +5,7 @@ pub mod Found
 pub mod Keeping
 pub mod Making
 pub mod Once
+pub mod OneRow
 pub mod Perms
 pub mod Statements
 pub mod Steps

@@ -1,6 +1,7 @@
 pub mod Addresses
 pub mod Causes
 pub mod Columns
+pub mod Finding
 pub mod Inside
 pub mod Listing
 pub mod Making

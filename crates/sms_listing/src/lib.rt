@@ -3,11 +3,12 @@
 //! A type of rows that says its table in a kind of store, its three texts and its columns (`StoredRow`) is stored by
 //! `put`, `remove`, `write` and `load`, which are proved here once for every list: inside one transaction the table
 //! holds the list with its changes, every other table stays, nothing is committed, and a stop leaves nothing new.
-//! `load` gives the rows in the order of their keys. What a whole transaction changes is a `Work`, what it reads a
+//! `load` gives the rows in the order of their keys, `find` the row of one key (`FoundRow`). What a whole transaction changes is a `Work`, what it reads a
 //! `Lookup`: `transact` and `look` commit all of it or nothing, and a stop inside leaves the database before or after.
 #![tactic(auto)]
 
 mod cause;
+mod finding;
 mod inside;
 mod list;
 mod loading;
@@ -16,6 +17,7 @@ mod reading;
 mod transaction;
 
 pub use cause::{load_cause_of, write_cause_of};
+pub use finding::{FoundRow, find};
 pub use inside::{change, put, remove, run, write};
 pub use list::StoredRow;
 pub use loading::load;
