@@ -1,10 +1,10 @@
-mod Amended
+pub mod Amended
 mod Becoming
 mod Dropping
-mod Keeping
+pub mod Keeping
 mod Moves
 mod Noting
 mod PutOff
-mod ReceiptsMoved
-mod Serving
-mod Walking
+pub mod ReceiptsMoved
+pub mod Serving
+pub mod Walking

@@ -1,0 +1,3 @@
+mod AllSent
+mod Earliest
+mod Ending

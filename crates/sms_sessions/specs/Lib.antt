@@ -1,1 +1,4 @@
+pub mod Answering
+pub mod Awaited
+pub mod Going
 pub mod Seats

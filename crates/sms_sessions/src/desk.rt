@@ -15,8 +15,9 @@ use std::marker::Model;
 /// The sessions in the middle of an event, and the receipts that it sent in them.
 #[derive(Drop)]
 pub struct PendingDesk {
-    sessions: Table<Seat>,
-    deliveries: Vec<Delivery>,
+    pub(crate) alloc: Global,
+    pub(crate) sessions: Table<Seat>,
+    pub(crate) deliveries: Vec<Delivery>,
 }
 
 impl Model for PendingDesk {
@@ -27,6 +28,13 @@ impl Model for PendingDesk {
     ghost view = { λ d. record { sessions = d.sessions.rows; deliveries = d.deliveries.items } };
 }
 
+/// What an event leaves of the sessions, and the receipts that it sent in them, in order.
+#[derive(Drop)]
+pub struct SettledDesk {
+    pub sessions: Table<Seat>,
+    pub deliveries: Vec<Delivery>,
+}
+
 impl PendingDesk {
     /// The sessions as an event begins.
     pub fn of(alloc: Global, sessions: &Table<Seat>) -> Result<PendingDesk, AllocError>
@@ -34,6 +42,7 @@ impl PendingDesk {
     {
         let seats = shared(alloc, sessions.as_slice())?;
         Ok(PendingDesk {
+            alloc,
             sessions: Table::from_vec(seats),
             deliveries: Vec::new(alloc),
         })
@@ -72,6 +81,17 @@ impl PendingDesk {
         ensures { self.new ≡ remove_session number self.old }
     {
         self.sessions.remove(Key::of(u64::from(number)));
+    }
+
+    /// What the event leaves. Adopting it is to put its sessions in the place of those that the event began with.
+    pub fn settle(self) -> SettledDesk
+        ensures sessions { result.sessions.rows ≡ self.sessions }
+        ensures deliveries { result.deliveries.items ≡ self.deliveries }
+    {
+        SettledDesk {
+            sessions: self.sessions,
+            deliveries: self.deliveries,
+        }
     }
 }
 

@@ -4,9 +4,11 @@
 //! see both as the definition's session and desk, so each move is an equation.
 #![tactic(auto)]
 
+mod answering;
 mod desk;
+mod sending;
 mod serving;
 mod session;
 
-pub use desk::PendingDesk;
+pub use desk::{PendingDesk, SettledDesk};
 pub use session::Seat;
