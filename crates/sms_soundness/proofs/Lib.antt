@@ -1,0 +1,4 @@
+mod Passing
+mod AddressTested
+mod DoneTogether
+mod MessagesTested

@@ -1,0 +1,2 @@
+pub mod AddressTest
+pub mod MessageTest
