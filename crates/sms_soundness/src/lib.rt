@@ -7,8 +7,13 @@
 #![tactic(auto)]
 
 mod addresses;
+mod differ;
+mod giving_rows;
 pub mod laws;
 mod message_rows;
+mod report_rows;
 
 pub use addresses::is_address;
-pub use message_rows::{are_messages, are_parts, are_priorities};
+pub use giving_rows::{are_given, are_mentioned, have_numbers_apart};
+pub use message_rows::{are_messages, are_parts, are_priorities, is_handset};
+pub use report_rows::{are_once, are_reports};

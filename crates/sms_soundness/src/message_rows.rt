@@ -118,7 +118,7 @@ fn carries(part: &PartRow, message: &MessageRow) -> bool
 }
 
 // A number of eight bits is below 256, as the definition has it of a number.
-fn is_octet(number: u8) -> bool
+pub(crate) fn is_octet(number: u8) -> bool
     ensures { result ≡ nat_lt number 256 }
 {
     u16::from(number) < 256
