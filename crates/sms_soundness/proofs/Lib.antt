@@ -2,3 +2,6 @@ mod Passing
 mod AddressTested
 mod DoneTogether
 mod MessagesTested
+mod DifferTested
+mod GivingsTested
+mod ReportsTested
