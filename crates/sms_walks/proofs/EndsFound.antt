@@ -1,6 +1,5 @@
 -- Messages expire by the numbers that are found: a message that ends leaves the others as they are.
-use Rattle.std.proofs.Common.{◌≡◌, ℕ, ◌<◌, ◌≤◌, List, [], ◌∷◌, Bool, true, false, Option, Some, None, refl, sym, ◌∙◌, ap, subst, inl, inr, ⊎_elim, map, arith}
-use Rattle.std.specs.Prelude.{◌&&◌, nat_le}
+use Rattle.std.proofs.Common.{◌≡◌, ℕ, List, [], ◌∷◌, Bool, true, false, Option, Some, None, refl, sym, ◌∙◌, ap, subst, inl, inr, ⊎_elim, map, arith}
 use Rattle.std.specs.List.Sorted.{IsNonDecreasing}
 use Rattle.std.proofs.lemmas.Bool.{cond-true, cond-false, cond_both}
 use Rattle.sms_base.specs.Among.{Among}
@@ -8,7 +7,7 @@ use Rattle.sms_base.specs.declared.final_state.FinalState.TheVariants.{Expired}
 use Rattle.sms_table.specs.Table.{Rises, put}
 use Rattle.sms_table.proofs.Tables.{among_found, found_among, found_key, row_at_put}
 use Rattle.sms_messages.specs.declared.message.MessageRow.{MessageRow}
-use Rattle.sms_messages.specs.Messages.{ended, is_pending, message_at, message_key}
+use Rattle.sms_messages.specs.Messages.{ended, message_at, message_key}
 use Rattle.sms_centre_rules.specs.CentreEvent.{expire_all, expired}
 use Rattle.sms_centre_rules.specs.Draft.{Store, messages_in}
 use Rattle.sms_centre_rules.specs.Ends.{end}

@@ -1,13 +1,9 @@
 -- Timers fire at the lines that are found as the walk begins, whatever comes of those that fired before.
-use Rattle.std.proofs.Common.{◌≡◌, ℕ, ◌+◌, ◌<◌, List, [], ◌∷◌, ◌++◌, Bool, true, false, Option, Some, None, refl, sym, ◌∙◌, ap, inl, inr, ⊎_elim, is_none, append-nil, arith}
+use Rattle.std.proofs.Common.{◌≡◌, ℕ, ◌+◌, List, [], ◌∷◌, ◌++◌, Bool, true, false, Option, Some, None, refl, sym, ◌∙◌, ap, ⊎_elim, is_none, append-nil, arith}
 use Rattle.std.specs.Prelude.{◌&&◌, filter, if◌then◌else◌}
-use Rattle.std.proofs.lemmas.Bool.{cases_Bool, cond-true, cond-false, cond_both}
-use Rattle.sms_base.specs.Among.{Among}
-use Rattle.sms_base.specs.declared.carried.Carried.{Carried}
 use Rattle.sms_control.specs.DueTimers.{is_due}
-use Rattle.sms_control.specs.LinkStep.{Step, fire_step, quiet}
+use Rattle.sms_control.specs.LinkStep.{Step, quiet}
 use Rattle.sms_control.proofs.QuietTimers.{quiet_timers}
-use Rattle.sms_link.specs.declared.ending.Ending.{Ending}
 use Rattle.sms_link.specs.declared.ending.Upward.{Upward}
 use Rattle.sms_link.specs.declared.ending.Upward.TheVariants.{Opened, Ended}
 use Rattle.sms_link.specs.LinkTurn.{Turn, fired as fired_link, heard}
@@ -28,9 +24,9 @@ use Rattle.sms_shelves.proofs.LinesCome.{line_handset}
 use Rattle.sms_shelves.proofs.StopsApart.{lines_apart, mentions_apart}
 use Rattle.sms_centre_rules.specs.declared.verdict.Verdict.{Verdict}
 use Rattle.sms_centre_rules.specs.declared.verdict.Verdict.TheVariants.{Settled, HandsetFull, Again, Refused, Late}
-use Rattle.sms_centre_rules.specs.CentreEvent.{fire_all, fire_at, fire_line, fire_mentioned, fire_others, fired, is_mentioned, line_fired, timed_out}
+use Rattle.sms_centre_rules.specs.CentreEvent.{fire_at, fire_line, fire_mentioned, fire_others, fired, is_mentioned, line_fired, timed_out}
 use Rattle.sms_centre_rules.specs.Draft.{Draft, handsets_in, on_air, references_in, waiting_in}
-use Rattle.sms_centre_rules.specs.Transfers.{conclude, line_ended, verdict_on}
+use Rattle.sms_centre_rules.specs.Transfers.{line_ended, verdict_on}
 use Rattle.sms_centre_rules.proofs.SoundAir.{line_found}
 use Rattle.sms_walks.specs.Stepping.{fire_on, stops_in}
 use Rattle.sms_walks.proofs.Acting.{walk_acting}

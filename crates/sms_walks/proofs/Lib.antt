@@ -6,3 +6,4 @@ pub mod FiresFound
 pub mod RaisesFound
 pub mod NumbersWalked
 pub mod EndsFound
+pub mod DropsFound

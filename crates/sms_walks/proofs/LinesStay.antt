@@ -1,5 +1,5 @@
 -- A line that is put as it stands changes nothing, and each line stands as that of its handset.
-use Rattle.std.proofs.Common.{◌≡◌, ℕ, List, [], ◌∷◌, Option, Some, None, refl, sym, ◌∙◌, ap, ⊎_elim}
+use Rattle.std.proofs.Common.{◌≡◌, ℕ, List, [], ◌∷◌, Option, Some, sym, ◌∙◌, ap, ⊎_elim}
 use Rattle.sms_base.specs.Among.{Among}
 use Rattle.sms_waiting.specs.declared.line.Line.{Line}
 use Rattle.sms_waiting.specs.Lines.{line_at, line_of, or_new_line, with_line}

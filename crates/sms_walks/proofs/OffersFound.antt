@@ -1,7 +1,7 @@
 -- Offers go to the handsets that are found: to all others nothing is offered.
-use Rattle.std.proofs.Common.{◌≡◌, ℕ, List, [], ◌∷◌, Bool, true, false, Option, Some, None, refl, sym, ◌∙◌, ap, ⊎_elim, is_some}
+use Rattle.std.proofs.Common.{◌≡◌, ℕ, List, [], ◌∷◌, Bool, false, Option, Some, None, refl, sym, ◌∙◌, ap, is_some}
 use Rattle.std.specs.Prelude.{◌&&◌}
-use Rattle.std.proofs.lemmas.Bool.{cases_Bool, cond-true, cond-false, cond_both}
+use Rattle.std.proofs.lemmas.Bool.{cond_both}
 use Rattle.sms_link.specs.LinkTurn.{begun}
 use Rattle.sms_waiting.specs.declared.handset.HandsetRow.{HandsetRow}
 use Rattle.sms_waiting.specs.declared.line.Line.{Line}
@@ -17,7 +17,7 @@ use Rattle.sms_shelves.specs.Walks.{walk}
 use Rattle.sms_shelves.proofs.LinesCome.{line_handset}
 use Rattle.sms_shelves.proofs.StopsApart.{mentions_apart}
 use Rattle.sms_centre_rules.specs.Draft.{Draft, Store, handsets_in, on_air, references_in, waiting_in}
-use Rattle.sms_centre_rules.specs.Offering.{holder_of, is_made, offer, offer_all, offer_among, offer_load, offer_on, offer_to, read_of, unit_of}
+use Rattle.sms_centre_rules.specs.Offering.{holder_of, is_made, offer, offer_all, offer_among, offer_load, offer_on, read_of, unit_of}
 use Rattle.sms_walks.specs.Stepping.{offer_at, stops_in}
 use Rattle.sms_walks.proofs.Acting.{walk_acting}
 

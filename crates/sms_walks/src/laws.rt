@@ -1,18 +1,28 @@
 //! Laws of the centre's walks, over its definition alone.
-ghost use Rattle.std.specs.Prelude.{◌≡◌, ◌++◌, ◌∷◌, [], ℕ, List};
+ghost use Rattle.std.specs.Prelude.{◌≡◌, ◌+◌, ◌++◌, ◌∷◌, [], ℕ, List, None, Some, true};
 ghost use Rattle.std.specs.List.Sorted.{IsNonDecreasing};
+ghost use Rattle.sms_desk.specs.Entries.{status_key, status_until};
+ghost use Rattle.sms_desk.specs.Kept.{Kept, Shows};
+ghost use Rattle.sms_desk.specs.declared.entry.StatusEntry.{StatusEntry};
+ghost use Rattle.sms_index.specs.First.{first_such, is_past_from};
 ghost use Rattle.sms_messages.specs.Messages.{message_key};
+ghost use Rattle.sms_reports.specs.Reports.{is_open_status, report_of};
+ghost use Rattle.sms_reports.specs.declared.report.ReportRow.{ReportRow};
 ghost use Rattle.sms_table.specs.Table.{Rises};
 ghost use Rattle.sms_waiting.specs.SoundGivings.{SoundGivings};
 ghost use Rattle.sms_shelves.specs.LineOrder.{AreLines};
 ghost use Rattle.sms_shelves.specs.Walks.{walk};
 ghost use Rattle.sms_shelves.specs.declared.stop.Stop.{Stop};
 ghost use Rattle.sms_shelves.specs.declared.stop.Wanted.TheVariants.{Awaited, Fire, FireUnmentioned, Offer};
-ghost use Rattle.sms_centre_rules.specs.CentreEvent.{expired, fired, raise, raised};
-ghost use Rattle.sms_centre_rules.specs.Draft.{Draft, Store, handsets_in, messages_in, references_in};
+ghost use Rattle.sms_centre_rules.specs.CentreEvent.{dropped, expired, fired, raise, raised};
+ghost use Rattle.sms_centre_rules.specs.Draft.{Draft, Store, handsets_in, messages_in, references_in, reports_in};
 ghost use Rattle.sms_centre_rules.specs.Offering.{offer};
+ghost use Rattle.sms_centre_rules.specs.Transfers.{report_closed};
 ghost use Rattle.sms_walks.specs.Expiring.{CoversOver, expire_numbers};
+ghost use Rattle.sms_walks.specs.OldReports.{drop_from};
 ghost use Rattle.sms_walks.specs.Stepping.{fire_on, offer_at, stops_in};
+
+use sms_desk::laws::old_reports_are_dropped_by_what_is_kept;
 
 /// A walk goes on with one more step.
 pub fn a_walk_goes_on<D: Drop>()
@@ -42,3 +52,14 @@ pub fn lines_come_up_where_found()
 pub fn messages_expire_by_numbers()
     ensures { (s : Store) (ids : List ℕ) → Rises message_key (messages_in s) → IsNonDecreasing ids → CoversOver ids s → expired s ≡ expire_numbers ids s }
 {}
+
+/// Old status reports are dropped from place 0 on. From a place on, the first that what is kept tells goes, and then those behind
+/// it; where it tells none, none is dropped any more.
+pub fn old_reports_are_dropped_where_found()
+    ensures begins { (s : Store) → dropped s ≡ drop_from 0 s }
+    ensures next { (s : Store) (kept : Kept) (first : ℕ) (e : StatusEntry) → Shows (messages_in s) kept (reports_in s) → first_such (is_past_from status_key status_until first s.moment) kept.statuses ≡ Some e
+        → (r : ReportRow) × ((report_of e.id (reports_in s) ≡ Some r) × (is_open_status r ≡ true) × (drop_from first s ≡ drop_from (e.place + 1) (report_closed r s))) }
+    ensures none { (s : Store) (kept : Kept) (first : ℕ) → Shows (messages_in s) kept (reports_in s) → first_such (is_past_from status_key status_until first s.moment) kept.statuses ≡ None → drop_from first s ≡ s }
+{
+    old_reports_are_dropped_by_what_is_kept();
+}

@@ -1,0 +1,7 @@
+mod Passing
+mod AddressTested
+mod DoneTogether
+mod MessagesTested
+mod DifferTested
+mod GivingsTested
+mod ReportsTested

@@ -1,0 +1,5 @@
+pub mod AddressTest
+pub mod MessageTest
+pub mod Differing
+pub mod GivingTest
+pub mod ReportTest

@@ -1,0 +1,42 @@
+//! Laws of the tests of rows: each holds exactly where the definition's condition does.
+ghost use Rattle.std.specs.Prelude.{◌≡◌, ◌↔◌, List, true};
+ghost use Rattle.sms_base.specs.Address.{IsAddress};
+ghost use Rattle.sms_base.specs.declared.address.Address.{Address};
+ghost use Rattle.sms_messages.specs.Messages.{message_key, part_key, priority_key};
+ghost use Rattle.sms_messages.specs.SoundMessages.{SoundMessages};
+ghost use Rattle.sms_messages.specs.declared.message.MessageRow.{MessageRow};
+ghost use Rattle.sms_messages.specs.declared.part.PartRow.{PartRow};
+ghost use Rattle.sms_messages.specs.declared.priority.PriorityRow.{PriorityRow};
+ghost use Rattle.sms_reports.specs.Reports.{report_key};
+ghost use Rattle.sms_reports.specs.SoundReports.{SoundReports};
+ghost use Rattle.sms_reports.specs.declared.report.ReportRow.{ReportRow};
+ghost use Rattle.sms_table.specs.Table.{Rises};
+ghost use Rattle.sms_waiting.specs.Keys.{handset_key, reference_key};
+ghost use Rattle.sms_waiting.specs.SoundGivings.{SoundGivings};
+ghost use Rattle.sms_waiting.specs.declared.handset.HandsetRow.{HandsetRow};
+ghost use Rattle.sms_waiting.specs.declared.reference.ReferenceRow.{ReferenceRow};
+ghost use Rattle.sms_soundness.specs.AddressTest.{is_address};
+ghost use Rattle.sms_soundness.specs.GivingTest.{GivingsPass};
+ghost use Rattle.sms_soundness.specs.MessageTest.{MessagesPass};
+ghost use Rattle.sms_soundness.specs.ReportTest.{ReportsPass};
+
+/// An address passes exactly where it can stand in a unit.
+pub fn addresses_are_tested()
+    ensures { (address : Address) → (is_address address ≡ true) ↔ IsAddress address }
+{}
+
+/// Where keys rise, messages, parts and priorities pass exactly where a centre can stand on them.
+pub fn messages_are_tested()
+    ensures { (messages : List MessageRow) (parts : List PartRow) (priorities : List PriorityRow) → Rises message_key messages → Rises part_key parts → Rises priority_key priorities
+        → MessagesPass messages parts priorities ↔ SoundMessages messages parts priorities }
+{}
+
+/// Where keys rise, handsets and references pass exactly where a centre can stand on them.
+pub fn givings_are_tested()
+    ensures { (handsets : List HandsetRow) (references : List ReferenceRow) → Rises handset_key handsets → Rises reference_key references → GivingsPass handsets references ↔ SoundGivings handsets references }
+{}
+
+/// Where keys rise, reports pass exactly where a centre can stand on them.
+pub fn reports_are_tested()
+    ensures { (messages : List MessageRow) (reports : List ReportRow) → Rises report_key reports → ReportsPass messages reports ↔ SoundReports messages reports }
+{}

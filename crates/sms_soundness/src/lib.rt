@@ -1,0 +1,19 @@
+//! Whether a centre can stand on rows: each condition of `sms_centre_rules/specs/SoundRows.antt` by a test of its own.
+//!
+//! A test goes over one list and looks up in the others, so that all of it takes time linear in the rows up to a logarithm; where
+//! the definition compares each row with each other one (numbers of handsets, reports of a message, references that wait, split
+//! references), their keys are put into a set. Each test's contract is a test over plain lists, and `laws` says that it holds
+//! exactly where the definition's condition does.
+#![tactic(auto)]
+
+mod addresses;
+mod differ;
+mod giving_rows;
+pub mod laws;
+mod message_rows;
+mod report_rows;
+
+pub use addresses::is_address;
+pub use giving_rows::{are_given, are_mentioned, have_numbers_apart};
+pub use message_rows::{are_messages, are_parts, are_priorities, is_handset};
+pub use report_rows::{are_once, are_reports};
