@@ -1,0 +1,9 @@
+pub mod DiscardedGroupList
+pub mod EntryList
+pub mod Groups
+pub mod HandsetSchema
+pub mod LastAcceptedList
+pub mod MetaList
+pub mod OutEntryList
+pub mod Types
+pub mod Words

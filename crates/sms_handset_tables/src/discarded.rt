@@ -1,0 +1,63 @@
+//! The groups that the owner discarded.
+ghost use Rattle.std.specs.Prelude.{refl};
+ghost use Rattle.sms_handset_tables.specs.DiscardedGroupList.{mark_is_list, mark_list};
+
+use crate::group::{bits_of, group_at, number_of};
+use crate::key::integer_of;
+use crate::kind::HandsetStore;
+use sms_inbox::DiscardedGroup;
+use sms_listing::{StoredRow, octets_at, run, text_of, word_at};
+use sms_table::Key;
+use sqlite::{Alter, Error, Row, Transaction, params};
+use std::alloc::Global;
+
+impl StoredRow<HandsetStore> for DiscardedGroup {
+    ghost list = { mark_list };
+
+    fn delete<S: Alter>(tx: &mut Transaction<'_, S>, key: Key) -> Result<(), Error> {
+        let number = integer_of(key)?;
+        run(
+            tx,
+            "DELETE FROM discarded_group WHERE number = ?1",
+            params![&number],
+        )
+    }
+
+    fn insert<S: Alter>(&self, alloc: Global, tx: &mut Transaction<'_, S>) -> Result<(), Error> {
+        let group = &self.group;
+        let source = text_of(alloc, group.source.digits.as_slice())?;
+        run(
+            tx,
+            "INSERT INTO discarded_group (number, source_ton, source_npi, source, reference_bits, reference, total, seen) VALUES (?1, ?2, ?3, ?4, ?5, ?6, ?7, ?8)",
+            params![
+                self.number,
+                u32::from(group.source.ton.number()),
+                u32::from(group.source.npi),
+                &source,
+                bits_of(group.reference),
+                number_of(group.reference),
+                u32::from(group.total),
+                self.seen.as_slice()
+            ],
+        )
+    }
+
+    fn select() -> &'static str {
+        "SELECT number, source_ton, source_npi, source, reference_bits, reference, total, seen FROM discarded_group"
+    }
+
+    fn read(_alloc: Global, row: &Row) -> Result<DiscardedGroup, Error> {
+        let number = word_at(row, 0)?;
+        let group = group_at(row, 1)?;
+        let seen = octets_at(row, 7)?;
+        Ok(DiscardedGroup {
+            number,
+            group,
+            seen,
+        })
+    }
+
+    ghost one_key = { λ x. refl };
+
+    ghost is_list = { mark_is_list };
+}

@@ -1,0 +1,46 @@
+//! What was accepted last.
+ghost use Rattle.std.specs.Prelude.{refl};
+ghost use Rattle.sms_handset_tables.specs.LastAcceptedList.{last_is_list, last_list};
+
+use crate::key::integer_of;
+use crate::kind::HandsetStore;
+use sms_inbox::LastAccepted;
+use sms_listing::{StoredRow, octet_at, octets_at, run};
+use sms_table::Key;
+use sqlite::{Alter, Error, Row, Transaction, params};
+use std::alloc::Global;
+
+impl StoredRow<HandsetStore> for LastAccepted {
+    ghost list = { last_list };
+
+    fn delete<S: Alter>(tx: &mut Transaction<'_, S>, key: Key) -> Result<(), Error> {
+        let reference = integer_of(key)?;
+        run(
+            tx,
+            "DELETE FROM last_accepted WHERE reference = ?1",
+            params![&reference],
+        )
+    }
+
+    fn insert<S: Alter>(&self, _alloc: Global, tx: &mut Transaction<'_, S>) -> Result<(), Error> {
+        run(
+            tx,
+            "INSERT INTO last_accepted (reference, tpdu) VALUES (?1, ?2)",
+            params![u32::from(self.reference), self.tpdu.as_slice()],
+        )
+    }
+
+    fn select() -> &'static str {
+        "SELECT reference, tpdu FROM last_accepted"
+    }
+
+    fn read(_alloc: Global, row: &Row) -> Result<LastAccepted, Error> {
+        let reference = octet_at(row, 0)?;
+        let tpdu = octets_at(row, 1)?;
+        Ok(LastAccepted { reference, tpdu })
+    }
+
+    ghost one_key = { λ x. refl };
+
+    ghost is_list = { last_is_list };
+}
