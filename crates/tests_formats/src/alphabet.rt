@@ -87,24 +87,31 @@ fn text_in(alloc: Global, line: &str, place: usize) -> Result<String, Fail> {
     Ok(ucs2_text(alloc, octets.as_slice())?)
 }
 
-fn line_agrees(alloc: Global, line: &str) -> Result<bool, Fail> {
-    let text = text_in(alloc, line, 0)?;
+// Whether the fields of a line behind its text agree with the text.
+fn text_agrees(alloc: Global, text: &str, line: &str) -> Result<bool, Fail> {
     let septets = octets_in(alloc, line, 1)?;
+    septets_agree(alloc, text, septets.as_slice(), line)
+}
+
+fn septets_agree(alloc: Global, text: &str, septets: &[u8], line: &str) -> Result<bool, Fail> {
     let fill = field(line, 2)?.parse::<u8>()?;
     let octets = octets_in(alloc, line, 3)?;
-    is_packed(
-        alloc,
-        text.as_str(),
-        septets.as_slice(),
-        fill,
-        octets.as_slice(),
-    )
+    is_packed(alloc, text, septets, fill, octets.as_slice())
+}
+
+fn line_agrees(alloc: Global, line: &str) -> Result<bool, Fail> {
+    let text = text_in(alloc, line, 0)?;
+    text_agrees(alloc, text.as_str(), line)
+}
+
+fn ucs2_agrees(alloc: Global, text: &[u8], line: &str) -> Result<bool, Fail> {
+    let octets = octets_in(alloc, line, 1)?;
+    is_ucs2(alloc, str::from_utf8(text)?, octets.as_slice())
 }
 
 fn ucs2_line_agrees(alloc: Global, line: &str) -> Result<bool, Fail> {
     let text = octets_in(alloc, line, 0)?;
-    let octets = octets_in(alloc, line, 1)?;
-    is_ucs2(alloc, str::from_utf8(text.as_slice())?, octets.as_slice())
+    ucs2_agrees(alloc, text.as_slice(), line)
 }
 
 #[test]
@@ -112,6 +119,11 @@ fn agrees_with_other_implementations(rt: HostRuntime) -> Result<(), Fail> {
     for line in SEPTETS.lines() {
         holds(line_agrees(rt.alloc(), line)?, line)?;
     }
+    Ok(())
+}
+
+#[test]
+fn agrees_with_other_implementations_of_ucs2(rt: HostRuntime) -> Result<(), Fail> {
     for line in UCS2.lines() {
         holds(ucs2_line_agrees(rt.alloc(), line)?, line)?;
     }
@@ -131,6 +143,11 @@ fn packs_the_worked_examples(rt: HostRuntime) -> Result<(), Fail> {
     for (text, septets, octets) in PACKED {
         holds(is_packed(rt.alloc(), text, septets, 0, octets)?, text)?;
     }
+    Ok(())
+}
+
+#[test]
+fn writes_ucs2(rt: HostRuntime) -> Result<(), Fail> {
     holds(
         is_ucs2(rt.alloc(), "ж😀", b"\x04\x36\xD8\x3D\xDE\x00")?,
         "UCS2",
@@ -155,30 +172,34 @@ fn goes_through_ucs2(alloc: Global, text: &str) -> Result<bool, Fail> {
     Ok(again.as_str() == text)
 }
 
+fn goes_through_both(alloc: Global, length: usize) -> Result<bool, Fail> {
+    let text = long_text(alloc, length)?;
+    Ok(goes_through(alloc, text.as_str())? && goes_through_ucs2(alloc, text.as_str())?)
+}
+
 // The longest text of 20 parts, and one far longer.
 const LENGTHS: &[usize] = &[1_520, 16_384];
 
 #[test]
 fn long_texts_go_through(rt: HostRuntime) -> Result<(), Fail> {
     for length in LENGTHS {
-        let text = long_text(rt.alloc(), *length)?;
-        holds(goes_through(rt.alloc(), text.as_str())?, "septets")?;
-        holds(goes_through_ucs2(rt.alloc(), text.as_str())?, "UCS2")?;
+        holds(goes_through_both(rt.alloc(), *length)?, "a long text")?;
     }
     Ok(())
 }
 
 // As many septets as one octet can count.
-const MOST_SEPTETS: [u8; 255] = [0x61; 255];
+const MOST_SEPTETS: &[u8] = &[0x61; 255];
+
+fn most_are_unpacked(alloc: Global, text: &str) -> Result<bool, Fail> {
+    let octets = packed(alloc, text, 6)?;
+    unpacks(alloc, octets.as_slice(), 6, MOST_SEPTETS)
+}
 
 #[test]
 fn most_septets_are_unpacked(rt: HostRuntime) -> Result<(), Fail> {
     let text = "a".repeat(rt.alloc(), 255)?;
-    let octets = packed(rt.alloc(), text.as_str(), 6)?;
-    holds(
-        unpacks(rt.alloc(), octets.as_slice(), 6, &MOST_SEPTETS)?,
-        "255 septets",
-    )
+    holds(most_are_unpacked(rt.alloc(), text.as_str())?, "255 septets")
 }
 
 // What no one writes.

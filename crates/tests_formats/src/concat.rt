@@ -86,6 +86,11 @@ fn a_header_has_the_key_of_its_last_valid_element() -> Result<(), Fail> {
     for (octets, number) in NUMBERS {
         holds(number_of(octets)? == *number, "a number")?;
     }
+    Ok(())
+}
+
+#[test]
+fn a_faulty_header_is_refused() -> Result<(), Fail> {
     for (octets, code) in HEADER_FAULTS {
         holds(header_code(octets) == *code, code)?;
     }
@@ -152,13 +157,17 @@ fn reading_code(alloc: Global, octets: &[u8]) -> Option<&'static str> {
 // A header of an 8-bit reference, a fill bit and a septet.
 const SHORT_PART: &[u8] = &[5, 0, 3, 0x2a, 2, 1, 0xc2];
 
-#[test]
-fn a_septet_stands_behind_an_8_bit_header(rt: HostRuntime) -> Result<(), Fail> {
+fn short_part_is_written(alloc: Global) -> Result<bool, Fail> {
     let part = Part {
-        content: text(rt.alloc(), Coding::Septets, 0, 1)?,
+        content: text(alloc, Coding::Septets, 0, 1)?,
         key: Some(KEY),
     };
-    holds(is_written_as(rt.alloc(), &part, 8, SHORT_PART)?, "a part")?;
+    is_written_as(alloc, &part, 8, SHORT_PART)
+}
+
+#[test]
+fn a_septet_stands_behind_an_8_bit_header(rt: HostRuntime) -> Result<(), Fail> {
+    holds(short_part_is_written(rt.alloc())?, "a part")?;
     holds(
         check_user_data(true, 0, 8, SHORT_PART).is_ok(),
         "its user data",
@@ -180,14 +189,15 @@ const SECOND_PART: &[u8] = &[
     6, 8, 4, 0, 0, 2, 2, 0xe1, 0x70, 0x38, 0x1c, 0x0e, 0x87, 0xc3, 0x61,
 ];
 
+fn splits_in_two(alloc: Global, content: &Content) -> Result<bool, Fail> {
+    let parts = split(alloc, content, 0)?;
+    second_is(alloc, &parts, 0x11, SECOND_PART)
+}
+
 #[test]
 fn the_second_part_is_written(rt: HostRuntime) -> Result<(), Fail> {
     let content = text(rt.alloc(), Coding::Septets, 0, 161)?;
-    let parts = split(rt.alloc(), &content, 0)?;
-    holds(
-        second_is(rt.alloc(), &parts, 0x11, SECOND_PART)?,
-        "the second part",
-    )
+    holds(splits_in_two(rt.alloc(), &content)?, "the second part")
 }
 
 // Whether all parts are read as they were written.
@@ -214,13 +224,27 @@ fn ends(parts: &[Part], first: usize, last: usize) -> bool {
     }
 }
 
+// Whether the parts have these ends, are read as written and join to the units.
+fn goes_round(
+    alloc: Global,
+    parts: &[Part],
+    units: &[u8],
+    first: usize,
+    last: usize,
+) -> Result<bool, Fail> {
+    are_written(alloc, parts)?;
+    Ok(join_to(alloc, parts, units)? && ends(parts, first, last))
+}
+
 // Whether the content is split into parts with these ends, which are read as written and join to it again.
 fn splits(alloc: Global, content: &Content, first: usize, last: usize) -> Result<bool, Fail> {
     let parts = split(alloc, content, 0xffff)?;
-    are_written(alloc, parts.as_slice())?;
-    Ok(
-        join_to(alloc, parts.as_slice(), content.units.as_slice())?
-            && ends(parts.as_slice(), first, last),
+    goes_round(
+        alloc,
+        parts.as_slice(),
+        content.units.as_slice(),
+        first,
+        last,
     )
 }
 
@@ -268,25 +292,25 @@ fn parts_are_as_full_as_whole_units_allow(rt: HostRuntime) -> Result<(), Fail> {
     Ok(())
 }
 
-fn split_code(alloc: Global, content: &Content) -> Option<&'static str> {
-    match split(alloc, content, 0) {
-        Ok(_) => None,
-        Err(fault) => fault.code(),
+fn split_code(
+    alloc: Global,
+    coding: Coding,
+    dcs: u8,
+    length: usize,
+) -> Result<Option<&'static str>, Fail> {
+    let content = text(alloc, coding, dcs, length)?;
+    match split(alloc, &content, 0) {
+        Ok(_) => Ok(None),
+        Err(fault) => Ok(fault.code()),
     }
 }
 
 #[test]
 fn each_refusal_of_a_split_has_its_code(rt: HostRuntime) -> Result<(), Fail> {
-    let long = text(rt.alloc(), Coding::Septets, 0, 3041)?;
-    holds(
-        is_code(split_code(rt.alloc(), &long), "C1"),
-        "too many parts",
-    )?;
-    let compressed = text(rt.alloc(), Coding::Compressed, 0x20, 141)?;
-    holds(
-        is_code(split_code(rt.alloc(), &compressed), "C2"),
-        "compressed",
-    )?;
+    let long = split_code(rt.alloc(), Coding::Septets, 0, 3041)?;
+    holds(is_code(long, "C1"), "too many parts")?;
+    let compressed = split_code(rt.alloc(), Coding::Compressed, 0x20, 141)?;
+    holds(is_code(compressed, "C2"), "compressed")?;
     holds(SplitError::NoMemory.code().is_none(), "no memory")
 }
 
@@ -299,17 +323,24 @@ fn length_behind(alloc: Global, header: &[u8], content: &Content) -> Result<u8, 
     Ok(user.length)
 }
 
-#[test]
-fn a_content_stands_behind_any_header_that_leaves_room(rt: HostRuntime) -> Result<(), Fail> {
-    let header = units(rt.alloc(), 0, &[138, 0x61, 136], 136)?;
-    let septet = text(rt.alloc(), Coding::Septets, 0, 1)?;
-    let octet = text(rt.alloc(), Coding::Octets, 4, 1)?;
+fn length_of_one(alloc: Global, header: &[u8], coding: Coding, dcs: u8) -> Result<u8, Fail> {
+    let content = text(alloc, coding, dcs, 1)?;
+    length_behind(alloc, header, &content)
+}
+
+fn stand_behind(alloc: Global, header: &[u8]) -> Result<(), Fail> {
     holds(
-        length_behind(rt.alloc(), header.as_slice(), &septet)? == 160,
+        length_of_one(alloc, header, Coding::Septets, 0)? == 160,
         "a septet",
     )?;
     holds(
-        length_behind(rt.alloc(), header.as_slice(), &octet)? == 140,
+        length_of_one(alloc, header, Coding::Octets, 4)? == 140,
         "an octet",
     )
+}
+
+#[test]
+fn a_content_stands_behind_any_header_that_leaves_room(rt: HostRuntime) -> Result<(), Fail> {
+    let header = units(rt.alloc(), 0, &[138, 0x61, 136], 136)?;
+    stand_behind(rt.alloc(), header.as_slice())
 }

@@ -89,17 +89,22 @@ fn is_numbered(part: &Part, number: u8) -> bool {
     }
 }
 
+fn refuses_again(joiner: &mut Joiner, alloc: Global) -> Result<bool, Fail> {
+    let again = part(alloc, 3, 1)?;
+    Ok(refuses(joiner, again, "C3", 1))
+}
+
+fn parts_join(joiner: &mut Joiner, alloc: Global) -> Result<(), Fail> {
+    holds(two_wait(joiner, alloc)?, "two parts")?;
+    holds(others_are_refused(joiner, alloc)?, "other parts")?;
+    holds(three_join(joiner, alloc)?, "three parts")?;
+    holds(refuses_again(joiner, alloc)?, "a part that is handed back")
+}
+
 #[test]
 fn parts_join_in_whatever_order_they_come(rt: HostRuntime) -> Result<(), Fail> {
     let mut joiner = Joiner::new(rt.alloc(), key(3, 0));
-    holds(two_wait(&mut joiner, rt.alloc())?, "two parts")?;
-    holds(others_are_refused(&mut joiner, rt.alloc())?, "other parts")?;
-    holds(three_join(&mut joiner, rt.alloc())?, "three parts")?;
-    let again = part(rt.alloc(), 3, 1)?;
-    holds(
-        refuses(&mut joiner, again, "C3", 1),
-        "a part that is handed back",
-    )
+    parts_join(&mut joiner, rt.alloc())
 }
 
 fn part_of_another_scheme(alloc: Global) -> Result<Part, Fail> {
@@ -108,31 +113,36 @@ fn part_of_another_scheme(alloc: Global) -> Result<Part, Fail> {
     Ok(other)
 }
 
-#[test]
-fn a_part_of_another_scheme_does_not_join(rt: HostRuntime) -> Result<(), Fail> {
-    let other = part_of_another_scheme(rt.alloc())?;
-    let mut joiner = Joiner::new(rt.alloc(), key(2, 1));
-    holds(joiner.add(other).is_ok(), "the other part")?;
+fn takes_another_scheme(joiner: &mut Joiner, alloc: Global) -> Result<bool, Fail> {
+    let other = part_of_another_scheme(alloc)?;
+    Ok(joiner.add(other).is_ok())
+}
+
+fn does_not_join(joiner: &mut Joiner, alloc: Global) -> Result<(), Fail> {
+    holds(takes_another_scheme(joiner, alloc)?, "the other part")?;
+    holds(taken(joiner, alloc, 2, &[1])? == 1, "the first part")?;
     holds(
-        taken(&mut joiner, rt.alloc(), 2, &[1])? == 1,
-        "the first part",
-    )?;
-    holds(
-        joiner.is_full() && joined_len(rt.alloc(), &joiner)?.is_none(),
+        joiner.is_full() && joined_len(alloc, joiner)?.is_none(),
         "parts that do not join",
     )
 }
 
-// A copy stays as it is while the joiner goes on.
+#[test]
+fn a_part_of_another_scheme_does_not_join(rt: HostRuntime) -> Result<(), Fail> {
+    let mut joiner = Joiner::new(rt.alloc(), key(2, 1));
+    does_not_join(&mut joiner, rt.alloc())
+}
+
+// Whether a copy stays as it is while the joiner takes a part.
+fn copy_stays(joiner: &mut Joiner, alloc: Global) -> Result<bool, Fail> {
+    let copy = joiner.copy(alloc)?;
+    Ok(taken(joiner, alloc, 3, &[1])? == 1 && copy.parts().is_empty())
+}
+
 #[test]
 fn a_copy_stays_as_it_is(rt: HostRuntime) -> Result<(), Fail> {
     let mut joiner = Joiner::new(rt.alloc(), key(3, 1));
-    let copy = joiner.copy(rt.alloc())?;
-    holds(taken(&mut joiner, rt.alloc(), 3, &[1])? == 1, "a part")?;
-    holds(
-        copy.parts().is_empty() && joiner.parts().len() == 1,
-        "a copy",
-    )
+    holds(copy_stays(&mut joiner, rt.alloc())?, "a copy")
 }
 
 // The most parts that a key can have, the last first.
@@ -143,12 +153,20 @@ fn takes_most(joiner: &mut Joiner, alloc: Global) -> Result<(), Fail> {
     Ok(())
 }
 
+fn copy_joins(joiner: &Joiner, alloc: Global, len: usize) -> Result<bool, Fail> {
+    let copy = joiner.copy(alloc)?;
+    Ok(joined_len(alloc, &copy)? == Some(len))
+}
+
+fn most_parts_join(joiner: &mut Joiner, alloc: Global) -> Result<(), Fail> {
+    takes_most(joiner, alloc)?;
+    holds(copy_joins(joiner, alloc, 255)?, "255 parts")
+}
+
 #[test]
 fn the_most_parts_join(rt: HostRuntime) -> Result<(), Fail> {
     let mut joiner = Joiner::new(rt.alloc(), key(255, 255));
-    takes_most(&mut joiner, rt.alloc())?;
-    let copy = joiner.copy(rt.alloc())?;
-    holds(joined_len(rt.alloc(), &copy)? == Some(255), "255 parts")
+    most_parts_join(&mut joiner, rt.alloc())
 }
 
 fn take_all(joiner: &mut Joiner, parts: Vec<Part>) -> Result<(), Fail> {
@@ -180,14 +198,14 @@ fn parts_of_text(alloc: Global, length: u16) -> Result<Vec<Part>, Fail> {
     Ok(parts.into_vec())
 }
 
+fn longest_parts_join(joiner: &mut Joiner, alloc: Global) -> Result<(), Fail> {
+    take_all(joiner, parts_of_text(alloc, 3_040)?)?;
+    holds(joined_len(alloc, joiner)? == Some(3_040), "a message")?;
+    holds(len_by_join(alloc, joiner)? == 3_040, "the same at once")
+}
+
 #[test]
 fn the_longest_parts_join(rt: HostRuntime) -> Result<(), Fail> {
-    let parts = parts_of_text(rt.alloc(), 3_040)?;
     let mut joiner = Joiner::new(rt.alloc(), key(20, 1));
-    take_all(&mut joiner, parts)?;
-    holds(joined_len(rt.alloc(), &joiner)? == Some(3_040), "a message")?;
-    holds(
-        len_by_join(rt.alloc(), &joiner)? == 3_040,
-        "the same at once",
-    )
+    longest_parts_join(&mut joiner, rt.alloc())
 }

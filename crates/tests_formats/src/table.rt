@@ -90,6 +90,14 @@ fn apply(table: &mut Table<Entry>, alloc: Global, changes: Vec<Change<Entry>>) -
     Ok(())
 }
 
+// Whether the row is found while the changes wait, which are carried out then.
+fn changes(table: &mut Table<Entry>, alloc: Global) -> Result<bool, Fail> {
+    let changes = some_changes(alloc)?;
+    let is_found = text_after(table, changes.as_slice(), 9) == Some(1);
+    apply(table, alloc, changes)?;
+    Ok(is_found)
+}
+
 fn removed(table: &mut Table<Entry>, number: u64) -> Option<u8> {
     match table.remove(Key::of(number)) {
         Some(row) => Some(row.text),
@@ -99,13 +107,8 @@ fn removed(table: &mut Table<Entry>, number: u64) -> Option<u8> {
 
 #[test]
 fn changes_need_no_memory(rt: HostRuntime) -> Result<(), Fail> {
-    let changes = some_changes(rt.alloc())?;
     let mut table = Table::new(rt.alloc());
-    holds(
-        text_after(&table, changes.as_slice(), 9) == Some(1),
-        "a row that is to be put",
-    )?;
-    apply(&mut table, rt.alloc(), changes)?;
+    holds(changes(&mut table, rt.alloc())?, "a row that is to be put")?;
     holds(removed(&mut table, 9) == Some(1), "a row that was put")
 }
 
@@ -123,26 +126,30 @@ fn rows_of_a_front_stand_together(rt: HostRuntime) -> Result<(), Fail> {
     holds(are_numbered(rows, 5, 7), "rows between")
 }
 
+fn is_seen(pending: &Pending<'_, Entry>) -> bool {
+    text_of(pending.find(Key::of(3))) == None && text_of(pending.find(Key::of(4))) == Some(2)
+}
+
 // Row 4 is put and row 3 removed, in the middle of an event; the changes are adopted.
 fn settle_and_adopt(table: &mut Table<Entry>, alloc: Global) -> Result<bool, Fail> {
     let mut pending = Pending::of(alloc, table);
     pending.put(Entry { number: 4, text: 2 })?;
     pending.remove(Key::of(3))?;
-    let is_seen = text_of(pending.find(Key::of(3))) == None
-        && text_of(pending.find(Key::of(4))) == Some(2);
+    let is_seen = is_seen(&pending);
     let settled = pending.settle(alloc)?;
     let are_two = settled.changes().len() == 2;
     adopt(table, settled);
     Ok(is_seen && are_two)
 }
 
+fn waits(table: &mut Table<Entry>, alloc: Global) -> Result<(), Fail> {
+    holds(settle_and_adopt(table, alloc)?, "rows as they are to be")?;
+    holds(table.as_slice().len() == 1, "one row")?;
+    holds(text_at(table, 4) == Some(2), "the row that was put")
+}
+
 #[test]
 fn changes_wait_until_they_are_adopted(rt: HostRuntime) -> Result<(), Fail> {
     let mut table = table_of(rt.alloc(), &[(3, 1)])?;
-    holds(
-        settle_and_adopt(&mut table, rt.alloc())?,
-        "rows as they are to be",
-    )?;
-    holds(table.as_slice().len() == 1, "one row")?;
-    holds(text_at(&table, 4) == Some(2), "the row that was put")
+    waits(&mut table, rt.alloc())
 }
