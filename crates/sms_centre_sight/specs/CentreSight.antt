@@ -1,0 +1,30 @@
+-- What the centre in the middle of an event says of the world. Each field looks rows up in the world, or the world's lists in rows.
+use Rattle.std.specs.Prelude.{◌≡◌, ℕ, Option}
+use Rattle.sms_centre_rules.specs.Draft.{Draft, handsets_in, messages_in, parts_in, references_in, reports_in}
+use Rattle.sms_messages.specs.declared.message.MessageRow.{MessageRow}
+use Rattle.sms_world.specs.KeptGivings.{Kept, SeesGivings}
+use Rattle.sms_world.specs.World.{World}
+use Rattle.sms_centre_sight.specs.FramesOut.{AreWholeDown, stacked_down}
+use Rattle.sms_centre_sight.specs.SeesGiven.{SeesHolders, seconds_by}
+use Rattle.sms_centre_sight.specs.SeesLines.{SeesLines}
+use Rattle.sms_centre_sight.specs.SeesMessages.{PartSeen, SeesTable, messages_by, parts_by}
+use Rattle.sms_centre_sight.specs.SeesReports.{ReportSeen, SeesReports, reports_by}
+
+-- rows, by what the world knows of them
+pub record SeesRows (ms : ℕ → Option MessageRow) (ps : ℕ → ℕ → Option PartSeen) (rs : ℕ → Option ReportSeen) (kept : Kept) (now : ℕ) (w : World) : Type 0 where
+  pub table : SeesTable ms ps w.table
+  pub reports : SeesReports rs w.receipts w.reports
+  pub holders : SeesHolders ms ps rs w.down
+  pub seconds : SeesGivings kept w.down now
+
+abbrev pub RowsSee : Draft → World → Type 0
+RowsSee d w =
+    SeesRows (messages_by (messages_in d.store)) (parts_by (parts_in d.store)) (reports_by (reports_in d.store))
+    (seconds_by (handsets_in d.store) (references_in d.store)) d.store.moment w
+
+-- The draft shows the world, which its event began with `before`: its frames are sent on top of the bag.
+pub record CentreSees (before : World) (d : Draft) (w : World) : Type 0 where
+  pub frames : w.bag ≡ stacked_down d.air.frames before.bag
+  pub whole : AreWholeDown d.air.frames
+  pub lines : SeesLines w.bag d.air.lines
+  pub rows : RowsSee d w

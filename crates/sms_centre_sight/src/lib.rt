@@ -1,0 +1,9 @@
+//! What the centre sees of the world.
+//!
+//! `sms_world` proves the headline's claims over lists of steps. The centre **sees** the world (`specs/CentreSight`) where each of
+//! its rows, and what its ends of the links may send again, can be looked up in the world and back. Here is what that is; that a
+//! new centre sees the empty world; that one which comes back from its rows sees what they show; and that what handsets do leaves
+//! it. That each event of the centre is steps of the world is not shown here.
+#![tactic(auto)]
+
+pub mod laws;

@@ -1,0 +1,3 @@
+pub mod FramesUp
+pub mod FramesDown
+pub mod Between

@@ -1,0 +1,11 @@
+pub mod SeesLink
+pub mod SeesOutbox
+pub mod SeesInbox
+pub mod PutInOrder
+pub mod Sight
+pub mod Stages
+pub mod EventLaws
+pub mod StopLaws
+pub mod PlanLaws
+pub mod OthersLaws
+pub mod Course
