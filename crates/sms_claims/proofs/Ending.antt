@@ -20,7 +20,7 @@ use Rattle.sms_claims.specs.declared.between.Between.{Between}
 use Rattle.sms_claims.specs.Claims.{AreFew, BarsLess, BringsBar, BringsOwn, Brought, ClaimsOf, Ended, Holds, HoldsLess, PendsLess, still, came_with, came_with_any, holds, holds_any, last_code, is_from_handset, is_of, is_reference, repeats, total, wide_of}
 use Rattle.sms_claims.specs.Counts.{CountsOf, IsAdded, IsTaken, counted, one_if}
 use Rattle.sms_claims.specs.Keys.{is_same, is_same_sender, key_of, pair_of}
-use Rattle.sms_claims.proofs.Entering.{at_most_one, total_few, total_same, turned_back}
+use Rattle.sms_claims.proofs.Entering.{at_most_one, none_any, none_first, plus_none, same_both, total_few, total_same, turned_back}
 
 -- ---- totals where a row takes the place of another
 
@@ -232,15 +232,6 @@ holds_brought m p old new ms ps brought h rises there absent few = record {
 minus_none : (n k : ℕ) → 0 ≡ k → n ≡ n - k
 minus_none n k e = omega (arith, e)
 
-same_both : (s h n : Bool) → one_if (s && (h && n)) ≡ one_if ((s && h) && (true && n))
-same_both true h n = refl
-same_both false h n = refl
-
-none_any : (b c : Bool) → 0 ≡ one_if (b && (c && false))
-none_any true true = refl
-none_any true false = refl
-none_any false c = refl
-
 chosen : (d : Bool) (n : ℕ) → d ≡ true → n ≡ (if d then n else 0)
 chosen d n e = sym (ap (λ (b : Bool). if b then n else 0) e)
 
@@ -294,19 +285,12 @@ pub pends_taken : (m : MessageRow) (reference : ℕ) (old new : CountsOf) → m.
 pends_taken m reference old new from open' taken = λ source handset n.
     taken (pair_of source handset n) ∙ ap (λ (k : ℕ). counted (pair_of source handset n) old - k) (turned_back m reference source handset n from open')
 
-none_first : (b : Bool) → 0 ≡ one_if (b && false)
-none_first true = refl
-none_first false = refl
-
 pub pends_same : (m : MessageRow) (account : List ℕ) (old : CountsOf) → m.originator ≡ Application account → PendsLess m old old
 pends_same m account old from = λ source handset n.
     minus_none (counted (pair_of source handset n) old) (one_if (repeats source handset n m))
     (none_first (is_pending m) ∙ ap (λ (o : Originator). one_if (is_pending m && (is_from_handset n o && (bytes_eq source m.source.digits && bytes_eq handset m.handset)))) (sym from))
 
 -- ---- of a part
-
-plus_none : (n k : ℕ) → 0 ≡ k → n ≡ n + k
-plus_none n k e = omega (arith, e)
 
 came_same : (s h : Bool) (reference n : ℕ) → one_if (s && (h && nat_eq reference n)) ≡ one_if (is_reference n (if s && h then Some reference else None))
 came_same true true reference n = refl

@@ -9,8 +9,8 @@ use Rattle.sms_base.specs.Among.{Among}
 use Rattle.sms_base.specs.declared.address.Address.{Address}
 use Rattle.sms_base.specs.declared.originator.Originator.{Originator}
 use Rattle.sms_base.specs.declared.originator.Originator.TheVariants.{Application, Handset}
-use Rattle.sms_table.specs.Table.{insert, put, without}
-use Rattle.sms_table.proofs.Tables.{insert_behind, row_at_put_other, without_behind}
+use Rattle.sms_table.specs.Table.{put}
+use Rattle.sms_table.proofs.Tables.{row_at_put_other}
 use Rattle.sms_messages.specs.declared.message.MessageRow.{MessageRow}
 use Rattle.sms_messages.specs.declared.part.PartRow.{PartRow}
 use Rattle.sms_messages.specs.Messages.{is_pending, message_at, message_key}
@@ -19,6 +19,7 @@ use Rattle.sms_claims.specs.declared.between.Between.{Between}
 use Rattle.sms_claims.specs.Claims.{AreFew, BarsMore, ClaimsOf, ComesBehind, Entered, GivesLast, Holds, HoldsMore, PendsMore, came_with, came_with_any, code_or, holds, holds_any, is_from_handset, is_of, is_reference, last_code, repeats, total, wide_of}
 use Rattle.sms_claims.specs.Counts.{CountsOf, IsAdded, IsSet, counted, one_if}
 use Rattle.sms_claims.specs.Keys.{is_same, is_same_sender, key_of, pair_of}
+use Rattle.sms_claims.proofs.Behind.{put_last}
 
 -- ---- totals
 
@@ -42,17 +43,7 @@ at_most_one false = omega arith
 -- ---- behind all others
 
 pub put_behind : (m : MessageRow) (ms : List MessageRow) → ((other : MessageRow) → Among other ms → other.id < m.id) → put message_key m ms ≡ ms ++ m ∷ []
-put_behind m ms last = ap (λ (l : List MessageRow). insert message_key m l) (stay ms last) ∙ behind ms last where
-  stay : (xs : List MessageRow) → ((other : MessageRow) → Among other xs → other.id < m.id) → without message_key m.id xs ≡ xs
-  stay [] f = refl
-  stay (x ∷ xs) f =
-      without_behind message_key m.id x xs (λ (e : x.id ≡ m.id). let l = f x (inl refl) in absurd (omega (arith, e, l)))
-      ∙ ap (λ (l : List MessageRow). x ∷ l) (stay xs (λ y a. f y (inr a)))
-
-  behind : (xs : List MessageRow) → ((other : MessageRow) → Among other xs → other.id < m.id) → insert message_key m xs ≡ xs ++ m ∷ []
-  behind [] f = refl
-  behind (x ∷ xs) f =
-      insert_behind message_key m x xs (let l = f x (inl refl) in omega (arith, l)) ∙ ap (λ (l : List MessageRow). x ∷ l) (behind xs (λ y a. f y (inr a)))
+put_behind m ms last = put_last message_key m ms last
 
 pub total_behind : (f : MessageRow → ℕ) (m : MessageRow) (ms : List MessageRow) → ((other : MessageRow) → Among other ms → other.id < m.id) → total f (put message_key m ms) ≡ total f ms + f m
 total_behind f m ms last = ap (λ (l : List MessageRow). total f l) (put_behind m ms last) ∙ total_append f ms m
@@ -109,7 +100,7 @@ holds_entered m old new ms ps entered h behind few = record {
 -- ---- what its counts become
 
 -- as a key's source and handset are told from those of the message
-same_both : (s h n : Bool) → one_if (s && (h && n)) ≡ one_if ((s && h) && (true && n))
+pub same_both : (s h n : Bool) → one_if (s && (h && n)) ≡ one_if ((s && h) && (true && n))
 same_both true h n = refl
 same_both false h n = refl
 
@@ -117,7 +108,7 @@ none_both : (b n : Bool) → 0 ≡ one_if (b && (false && n))
 none_both true n = refl
 none_both false n = refl
 
-none_any : (b c : Bool) → 0 ≡ one_if (b && (c && false))
+pub none_any : (b c : Bool) → 0 ≡ one_if (b && (c && false))
 none_any true true = refl
 none_any true false = refl
 none_any false c = refl
@@ -138,7 +129,7 @@ bars_added m reference old new split open' added = λ source handset small.
     ∙ ap (λ (d : Bool). one_if (is_of (key_of source handset 0) m && (not d && true))) (sym open')
     ∙ ap (λ (o : Option ℕ). one_if (is_of (key_of source handset 0) m && (not (is_delivered m.state) && is_some o))) (sym split))
 
-plus_none : (n k : ℕ) → 0 ≡ k → n ≡ n + k
+pub plus_none : (n k : ℕ) → 0 ≡ k → n ≡ n + k
 plus_none n k e = omega (arith, e)
 
 pub holds_none : (m : MessageRow) (old : CountsOf) → m.split_reference ≡ None → HoldsMore m old old
@@ -219,7 +210,7 @@ pub pends_added : (m : MessageRow) (reference : ℕ) (old new : CountsOf) → m.
 pends_added m reference old new from open' added = λ source handset n small.
     added (pair_of source handset n) small ∙ ap (λ (k : ℕ). counted (pair_of source handset n) old + k) (turned_back m reference source handset n from open')
 
-none_first : (b : Bool) → 0 ≡ one_if (b && false)
+pub none_first : (b : Bool) → 0 ≡ one_if (b && false)
 none_first true = refl
 none_first false = refl
 

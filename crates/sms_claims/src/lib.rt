@@ -13,6 +13,7 @@ mod claims;
 mod counts;
 mod ends;
 mod moves;
+mod recover;
 mod spare;
 
 pub use between::{Between, Sender};
