@@ -10,4 +10,5 @@ mod number;
 mod numbers;
 
 pub use accounts::{Accounts, SpareAccounts};
+pub use number::Number;
 pub use numbers::{Numbers, SpareNumbers};

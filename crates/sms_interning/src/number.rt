@@ -7,10 +7,11 @@ ghost use Rattle.std.proofs.Common.{rules};
 use sms_base::Digits;
 use std::hash::{Hash, Hasher};
 
-// A number or a name, told from others by its characters.
+/// A number or a name as a key, told from others by its characters.
 #[derive(Clone, Copy, Debug, Drop)]
-pub(crate) struct Number {
-    pub(crate) digits: Digits,
+pub struct Number {
+    /// Its characters.
+    pub digits: Digits,
 }
 
 impl PartialEq for Number {
