@@ -5,6 +5,7 @@ pub mod Keeping
 mod Moves
 mod Noting
 mod PutOff
+mod Rebuilding
 pub mod ReceiptsMoved
 pub mod Serving
 pub mod Walking
