@@ -1,7 +1,7 @@
 -- What is kept is built of sound rows, one after the other.
 use Rattle.std.proofs.Common.{◌≡◌, ℕ, ◌<◌, List, [], ◌∷◌, ◌++◌, Option, Some, None, true, refl, sym, ◌∙◌, ap, subst, inl, inr, ⊎_elim, arith}
 use Rattle.sms_base.specs.Among.{Among}
-use Rattle.sms_table.specs.Table.{AllAbove, Rises}
+use Rattle.sms_table.specs.Table.{Rises}
 use Rattle.sms_messages.specs.declared.message.MessageRow.{MessageRow}
 use Rattle.sms_base.specs.declared.originator.Originator.{Originator}
 use Rattle.sms_base.specs.declared.originator.Originator.TheVariants.{Application, Handset}

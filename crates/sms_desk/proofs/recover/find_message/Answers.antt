@@ -1,4 +1,4 @@
-use Rattle.std.proofs.Common.{rules, arith, ◌≡◌, ◌≤◌, ◌<◌, Some, sym, ◌∙◌, ap, length, get_or}
+use Rattle.std.proofs.Common.{rules, arith, ◌≤◌, ◌<◌, Some, sym, ◌∙◌, ap, length, get_or}
 use Rattle.std.specs.Prelude.{nat_lt}
 use Rattle.std.proofs.lemmas.List.Sorted.{IsPartitionPoint-from_clause, IsPartitionedBy-ltb}
 use Rattle.sms_messages.specs.declared.message.MessageRow.{MessageRow}
