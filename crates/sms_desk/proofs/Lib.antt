@@ -1,5 +1,5 @@
 pub mod Amended
-mod Becoming
+pub mod Becoming
 mod Dropping
 pub mod Keeping
 mod Moves
