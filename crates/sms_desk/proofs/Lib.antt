@@ -1,10 +1,11 @@
 pub mod Amended
-mod Becoming
+pub mod Becoming
 mod Dropping
 pub mod Keeping
 mod Moves
 mod Noting
 mod PutOff
+mod Rebuilding
 pub mod ReceiptsMoved
 pub mod Serving
 pub mod Walking

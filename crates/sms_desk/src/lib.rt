@@ -13,6 +13,7 @@ mod made;
 mod pending;
 mod receipt_move;
 mod receipts;
+mod recover;
 mod reports;
 
 pub use entry::{ReceiptEntry, ReportEntry, StatusEntry};

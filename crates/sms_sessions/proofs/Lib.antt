@@ -1,3 +1,3 @@
 mod AllSent
 mod Earliest
-mod Ending
+pub mod Ending
