@@ -1,0 +1,5 @@
+pub mod Working
+pub mod Telling
+pub mod Submitting
+pub mod Transfers
+pub mod DueNow
