@@ -5,3 +5,4 @@ pub mod GivingTest
 pub mod ReportTest
 pub mod RowsTest
 pub mod WaitingTest
+pub mod SplitTest
