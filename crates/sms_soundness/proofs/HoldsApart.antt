@@ -32,42 +32,42 @@ distinct_both (x ∷ xs) ys d e f = (
 
 -- ---- rows that have keys
 
-module _ {A : Type 0} (f : A → Option ℕ) where
-  among_cons : (k : ℕ) (o : Option ℕ) (ks : List ℕ) → Among k ks → Among k (cons_option o ks)
+module _ {A K : Type 0} (f : A → Option K) where
+  among_cons : (k : K) (o : Option K) (ks : List K) → Among k ks → Among k (cons_option o ks)
   among_cons k None ks a = a
   among_cons k (Some n) ks a = inr a
 
-  own_cons : (k : ℕ) (o : Option ℕ) (ks : List ℕ) → o ≡ Some k → Among k (cons_option o ks)
+  own_cons : (k : K) (o : Option K) (ks : List K) → o ≡ Some k → Among k (cons_option o ks)
   own_cons k None ks e = absurd cc
   own_cons k (Some n) ks e = let same : k ≡ n = cc in inl same
 
-  pub kept_among : (x : A) (k : ℕ) (xs : List A) → Among x xs → f x ≡ Some k → Among k (filter_map f xs)
+  pub kept_among : (x : A) (k : K) (xs : List A) → Among x xs → f x ≡ Some k → Among k (filter_map f xs)
   kept_among x k [] a e = a
   kept_among x k (y ∷ ys) a e = ⊎_elim
       (λ (q : x ≡ y). own_cons k (f y) (filter_map f ys) (sym (ap f q) ∙ e))
       (λ (r : Among x ys). among_cons k (f y) (filter_map f ys) (kept_among x k ys r e))
       a
 
-  cons_among : (k : ℕ) (o : Option ℕ) (ks : List ℕ) → Among k (cons_option o ks) → (o ≡ Some k) ⊎ Among k ks
+  cons_among : (k : K) (o : Option K) (ks : List K) → Among k (cons_option o ks) → (o ≡ Some k) ⊎ Among k ks
   cons_among k None ks a = inr a
-  cons_among k (Some n) ks a = ⊎_elim (λ (e : k ≡ n). inl (ap (λ (i : ℕ). Some i) (sym e))) (λ (r : Among k ks). inr r) a
+  cons_among k (Some n) ks a = ⊎_elim (λ (e : k ≡ n). inl (ap (λ (i : K). Some i) (sym e))) (λ (r : Among k ks). inr r) a
 
-  pub among_kept : (k : ℕ) (xs : List A) → Among k (filter_map f xs) → (x : A) × (Among x xs × (f x ≡ Some k))
+  pub among_kept : (k : K) (xs : List A) → Among k (filter_map f xs) → (x : A) × (Among x xs × (f x ≡ Some k))
   among_kept k [] a = elim a [ ]
   among_kept k (y ∷ ys) a = ⊎_elim
       (λ (e : f y ≡ Some k). (y, (inl refl, e)))
       (λ (r : Among k (filter_map f ys)). let x = among_kept k ys r in (x.0, (inr x.1.0, x.1.1)))
       (cons_among k (f y) (filter_map f ys) a)
 
-  distinct_rest : (o : Option ℕ) (ks : List ℕ) → AreDistinct (cons_option o ks) → AreDistinct ks
+  distinct_rest : (o : Option K) (ks : List K) → AreDistinct (cons_option o ks) → AreDistinct ks
   distinct_rest None ks d = d
   distinct_rest (Some n) ks d = d.1
 
-  not_again : (k : ℕ) (o : Option ℕ) (ks : List ℕ) → AreDistinct (cons_option o ks) → o ≡ Some k → Among k ks → ⊥
+  not_again : (k : K) (o : Option K) (ks : List K) → AreDistinct (cons_option o ks) → o ≡ Some k → Among k ks → ⊥
   not_again k None ks d e a = absurd cc
-  not_again k (Some n) ks d e a = let same : k ≡ n = cc in d.0 (subst (λ (i : ℕ). Among i ks) same a)
+  not_again k (Some n) ks d e a = let same : k ≡ n = cc in d.0 (subst (λ (i : K). Among i ks) same a)
 
-  pub one_kept : (x y : A) (k : ℕ) (xs : List A) → AreDistinct (filter_map f xs) → Among x xs → Among y xs → f x ≡ Some k → f y ≡ Some k → x ≡ y
+  pub one_kept : (x y : A) (k : K) (xs : List A) → AreDistinct (filter_map f xs) → Among x xs → Among y xs → f x ≡ Some k → f y ≡ Some k → x ≡ y
   one_kept x y k [] d a b e g = elim a [ ]
   one_kept x y k (z ∷ zs) d a b e g = ⊎_elim
       (λ (p : x ≡ z). ⊎_elim
@@ -80,11 +80,11 @@ module _ {A : Type 0} (f : A → Option ℕ) where
       b)
       a
 
-  cons_distinct : (o : Option ℕ) (ks : List ℕ) → AreDistinct ks → ((k : ℕ) → o ≡ Some k → Among k ks → ⊥) → AreDistinct (cons_option o ks)
+  cons_distinct : (o : Option K) (ks : List K) → AreDistinct ks → ((k : K) → o ≡ Some k → Among k ks → ⊥) → AreDistinct (cons_option o ks)
   cons_distinct None ks d g = d
   cons_distinct (Some n) ks d g = (λ a. g n refl a, d)
 
-  pub kept_differ : (rank : A → ℕ) (xs : List A) → Rises rank xs → ((x y : A) (k : ℕ) → Among x xs → Among y xs → f x ≡ Some k → f y ≡ Some k → rank x ≡ rank y) → AreDistinct (filter_map f xs)
+  pub kept_differ : (rank : A → ℕ) (xs : List A) → Rises rank xs → ((x y : A) (k : K) → Among x xs → Among y xs → f x ≡ Some k → f y ≡ Some k → rank x ≡ rank y) → AreDistinct (filter_map f xs)
   kept_differ rank [] rises same = tt
   kept_differ rank (y ∷ ys) rises same =
       cons_distinct (f y) (filter_map f ys) (kept_differ rank ys rises.1 (λ x z k a b e g. same x z k (inr a) (inr b) e g))

@@ -9,3 +9,5 @@ mod ReportsTested
 mod HoldsApart
 mod PlacesFound
 mod WaitingTested
+mod SplitsTested
+mod RowsTested

@@ -1,12 +1,12 @@
 -- Whether messages that aren't wholly delivered were split under references that differ, for each source and handset.
-use Rattle.std.specs.Prelude.{ℕ, ◌==◌, ◌&&◌, ◌++◌, List, [], ◌∷◌, Bool, true, false, if◌then◌else◌, Option, Some, None}
-use Rattle.std.specs.List.{list_any}
+use Rattle.std.specs.Prelude.{ℕ, ◌==◌, ◌&&◌, List, [], Bool, if◌then◌else◌, Option, None}
 use Rattle.std.specs.Option.{option_map}
 use Rattle.std.specs.Str.{bytes_eq}
 use Rattle.sms_base.specs.AddressKind.{type_number}
 use Rattle.sms_messages.specs.declared.message.MessageRow.{MessageRow}
 use Rattle.sms_messages.specs.SplitReferences.{is_delivered}
 use Rattle.sms_soundness.specs.declared.splits.Split.{Split}
+use Rattle.sms_soundness.specs.Differing.{differ_by}
 
 abbrev pub split_under : MessageRow → ℕ → Split
 split_under m reference = record {
@@ -25,10 +25,6 @@ abbrev pub is_same_split : Split → Split → Bool
 is_same_split a b =
     (a.ton == b.ton) && ((a.npi == b.npi) && (bytes_eq a.source.digits b.source.digits && (bytes_eq a.handset.digits b.handset.digits && (a.reference == b.reference))))
 
--- none stands twice, nor is it one of those that were seen
-abbrev pub splits_differ_from : List Split → List Split → Bool
-splits_differ_from seen [] = true
-splits_differ_from seen (s ∷ ss) = if list_any (is_same_split s) seen then false else splits_differ_from (seen ++ s ∷ []) ss
-
+-- none stands twice
 abbrev pub splits_differ : List Split → Bool
-splits_differ ss = splits_differ_from [] ss
+splits_differ ss = differ_by is_same_split [] ss
