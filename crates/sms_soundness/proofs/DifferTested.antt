@@ -6,32 +6,12 @@ use Rattle.std.proofs.lemmas.Bool.{cases_Bool, cases_eq, cond-true, cond-false, 
 use Rattle.sms_base.specs.Among.{Among}
 use Rattle.sms_table.specs.Table.{Rises}
 use Rattle.sms_centre_rules.proofs.SteadyTimes.{above_among}
-use Rattle.sms_soundness.specs.Differing.{differ, differ_from}
+use Rattle.sms_soundness.specs.Differing.{differ, differ_by}
 
 -- none stands twice
-abbrev pub AreDistinct : List ℕ → Type 0
+abbrev pub AreDistinct : {K : Type 0} → List K → Type 0
 AreDistinct [] = Unit {0}
-AreDistinct (n ∷ ns) = (¬ Among n ns) × AreDistinct ns
-
--- ---- the test
-
-any_from : (n : ℕ) (ns : List ℕ) → list_any (nat_eq n) ns ≡ true → Among n ns
-any_from n [] e = absurd cc
-any_from n (m ∷ ms) e = ⊎_elim
-    (λ (t : nat_eq n m ≡ true). inl (eqb-true n m t))
-    (λ (t : nat_eq n m ≡ false). inr (any_from n ms (sym (ap (λ (b : Bool). b || list_any (nat_eq n) ms) t) ∙ e)))
-    (cases_Bool (nat_eq n m))
-
-or_true : (b : Bool) → (b || true) ≡ true
-or_true true = refl
-or_true false = refl
-
-any_to : (n : ℕ) (ns : List ℕ) → Among n ns → list_any (nat_eq n) ns ≡ true
-any_to n [] a = elim a [ ]
-any_to n (m ∷ ms) a = ⊎_elim
-    (λ (e : n ≡ m). ap (λ (b : Bool). b || list_any (nat_eq n) ms) (eq-eqb n m e))
-    (λ (r : Among n ms). ap (λ (b : Bool). nat_eq n m || b) (any_to n ms r) ∙ or_true (nat_eq n m))
-    a
+AreDistinct (k ∷ ks) = (¬ Among k ks) × AreDistinct ks
 
 pub among_front : {A : Type 0} (x : A) (xs ys : List A) → Among x xs → Among x (xs ++ ys)
 among_front x [] ys a = elim a [ ]
@@ -51,44 +31,71 @@ among_either {A} x (z ∷ zs) ys a = ⊎_elim
     (among_either x zs ys r))
     a
 
--- none of them was seen
-abbrev Unseen : List ℕ → List ℕ → Type 0
-Unseen seen ns = (n : ℕ) → Among n ns → ¬ Among n seen
+or_true : (b : Bool) → (b || true) ≡ true
+or_true true = refl
+or_true false = refl
 
-from_seen : (seen ns : List ℕ) → differ_from seen ns ≡ true → Unseen seen ns × AreDistinct ns
-from_seen seen [] e = (λ n a. elim a [ ], tt)
-from_seen seen (n ∷ ns) e = ⊎_elim
-    (λ (t : list_any (nat_eq n) seen ≡ true).
-    let bad : false ≡ true = sym (cond-true (list_any (nat_eq n) seen) false (differ_from (seen ++ n ∷ []) ns) t) ∙ e in absurd cc)
-    (λ (t : list_any (nat_eq n) seen ≡ false).
-    let rest = from_seen (seen ++ n ∷ []) ns (sym (cond-false (list_any (nat_eq n) seen) false (differ_from (seen ++ n ∷ []) ns) t) ∙ e) in (
-      λ k a s. ⊎_elim
-          (λ (q : k ≡ n). let yes : list_any (nat_eq n) seen ≡ true = any_to n seen (subst (λ (i : ℕ). Among i seen) q s) in let bad : true ≡ false = sym yes ∙ t in absurd cc)
-          (λ (r : Among k ns). rest.0 k r (among_front k seen (n ∷ []) s))
-          a,
-      (λ a. rest.0 n a (among_back n seen (n ∷ []) (inl refl)), rest.1),
-    ))
-    (cases_Bool (list_any (nat_eq n) seen))
+-- ---- the test, by one that tells what is the same
 
-to_seen : (seen ns : List ℕ) → Unseen seen ns → AreDistinct ns → differ_from seen ns ≡ true
-to_seen seen [] unseen distinct = refl
-to_seen seen (n ∷ ns) unseen distinct = ⊎_elim
-    (λ (t : list_any (nat_eq n) seen ≡ true). absurd (unseen n (inl refl) (any_from n seen t)))
-    (λ (t : list_any (nat_eq n) seen ≡ false).
-    cond-false (list_any (nat_eq n) seen) false (differ_from (seen ++ n ∷ []) ns) t
-    ∙ to_seen (seen ++ n ∷ []) ns
-    (λ k a s. ⊎_elim
-    (λ (f : Among k seen). unseen k (inr a) f)
-    (λ (b : Among k (n ∷ [])). ⊎_elim (λ (q : k ≡ n). distinct.0 (subst (λ (i : ℕ). Among i ns) q a)) (λ (z : ⊥). z) b)
-    (among_either k seen (n ∷ []) s))
-    distinct.1)
-    (cases_Bool (list_any (nat_eq n) seen))
+module _ {K : Type 0} (same : K → K → Bool) (one : (a b : K) → same a b ≡ true → a ≡ b) (own : (a b : K) → a ≡ b → same a b ≡ true) where
+  any_from : (k : K) (ks : List K) → list_any (same k) ks ≡ true → Among k ks
+  any_from k [] e = absurd cc
+  any_from k (m ∷ ms) e = ⊎_elim
+      (λ (t : same k m ≡ true). inl (one k m t))
+      (λ (t : same k m ≡ false). inr (any_from k ms (sym (ap (λ (b : Bool). b || list_any (same k) ms) t) ∙ e)))
+      (cases_Bool (same k m))
+
+  any_to : (k : K) (ks : List K) → Among k ks → list_any (same k) ks ≡ true
+  any_to k [] a = elim a [ ]
+  any_to k (m ∷ ms) a = ⊎_elim
+      (λ (e : k ≡ m). ap (λ (b : Bool). b || list_any (same k) ms) (own k m e))
+      (λ (r : Among k ms). ap (λ (b : Bool). same k m || b) (any_to k ms r) ∙ or_true (same k m))
+      a
+
+  -- none of them was seen
+  abbrev Unseen : List K → List K → Type 0
+  Unseen seen ks = (k : K) → Among k ks → ¬ Among k seen
+
+  from_seen : (seen ks : List K) → differ_by same seen ks ≡ true → Unseen seen ks × AreDistinct ks
+  from_seen seen [] e = (λ k a. elim a [ ], tt)
+  from_seen seen (n ∷ ns) e = ⊎_elim
+      (λ (t : list_any (same n) seen ≡ true).
+      let bad : false ≡ true = sym (cond-true (list_any (same n) seen) false (differ_by same (seen ++ n ∷ []) ns) t) ∙ e in absurd cc)
+      (λ (t : list_any (same n) seen ≡ false).
+      let rest = from_seen (seen ++ n ∷ []) ns (sym (cond-false (list_any (same n) seen) false (differ_by same (seen ++ n ∷ []) ns) t) ∙ e) in (
+        λ k a s. ⊎_elim
+            (λ (q : k ≡ n). let yes : list_any (same n) seen ≡ true = any_to n seen (subst (λ (i : K). Among i seen) q s) in let bad : true ≡ false = sym yes ∙ t in absurd cc)
+            (λ (r : Among k ns). rest.0 k r (among_front k seen (n ∷ []) s))
+            a,
+        (λ a. rest.0 n a (among_back n seen (n ∷ []) (inl refl)), rest.1),
+      ))
+      (cases_Bool (list_any (same n) seen))
+
+  to_seen : (seen ks : List K) → Unseen seen ks → AreDistinct ks → differ_by same seen ks ≡ true
+  to_seen seen [] unseen distinct = refl
+  to_seen seen (n ∷ ns) unseen distinct = ⊎_elim
+      (λ (t : list_any (same n) seen ≡ true). absurd (unseen n (inl refl) (any_from n seen t)))
+      (λ (t : list_any (same n) seen ≡ false).
+      cond-false (list_any (same n) seen) false (differ_by same (seen ++ n ∷ []) ns) t
+      ∙ to_seen (seen ++ n ∷ []) ns
+      (λ k a s. ⊎_elim
+      (λ (f : Among k seen). unseen k (inr a) f)
+      (λ (b : Among k (n ∷ [])). ⊎_elim (λ (q : k ≡ n). distinct.0 (subst (λ (i : K). Among i ns) q a)) (λ (z : ⊥). z) b)
+      (among_either k seen (n ∷ []) s))
+      distinct.1)
+      (cases_Bool (list_any (same n) seen))
+
+  pub by_from : (ks : List K) → differ_by same [] ks ≡ true → AreDistinct ks
+  by_from ks e = (from_seen [] ks e).1
+
+  pub by_to : (ks : List K) → AreDistinct ks → differ_by same [] ks ≡ true
+  by_to ks d = to_seen [] ks (λ k a s. elim s [ ]) d
 
 pub distinct_from : (ns : List ℕ) → differ ns ≡ true → AreDistinct ns
-distinct_from ns e = (from_seen [] ns e).1
+distinct_from ns e = by_from nat_eq (λ a b t. eqb-true a b t) (λ a b t. eq-eqb a b t) ns e
 
 pub distinct_to : (ns : List ℕ) → AreDistinct ns → differ ns ≡ true
-distinct_to ns d = to_seen [] ns (λ n a s. elim s [ ]) d
+distinct_to ns d = by_to nat_eq (λ a b t. eqb-true a b t) (λ a b t. eq-eqb a b t) ns d
 
 -- ---- keys of rows
 

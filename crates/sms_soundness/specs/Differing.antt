@@ -1,11 +1,11 @@
--- Numbers of which none stands twice, gone through from the front.
+-- Items of which none stands twice, gone through from the front.
 use Rattle.std.specs.Prelude.{ℕ, ◌++◌, nat_eq, List, [], ◌∷◌, Bool, true, false, if◌then◌else◌}
 use Rattle.std.specs.List.{list_any}
 
--- none stands twice, nor is it one of those that were seen
-abbrev pub differ_from : List ℕ → List ℕ → Bool
-differ_from seen [] = true
-differ_from seen (n ∷ ns) = if list_any (nat_eq n) seen then false else differ_from (seen ++ n ∷ []) ns
+-- none is the same as another, nor as one of those that were seen
+abbrev pub differ_by : {K : Type 0} → (K → K → Bool) → List K → List K → Bool
+differ_by same seen [] = true
+differ_by same seen (k ∷ ks) = if list_any (same k) seen then false else differ_by same (seen ++ k ∷ []) ks
 
 abbrev pub differ : List ℕ → Bool
-differ ns = differ_from [] ns
+differ ns = differ_by nat_eq [] ns

@@ -3,3 +3,6 @@ pub mod MessageTest
 pub mod Differing
 pub mod GivingTest
 pub mod ReportTest
+pub mod RowsTest
+pub mod WaitingTest
+pub mod SplitTest
