@@ -1,0 +1,29 @@
+-- What there may be, as a parameter.
+use Rattle.std.proofs.Common.{◌≡◌, Option, Some, None, refl}
+use Rattle.sqlite.specs.Values.{bound_value}
+use Rattle.sqlite.specs.declared.types.Value.{Value}
+use Rattle.sms_listing.specs.Columns.{or_none}
+use Rattle.sms_centre_tables.specs.Pieces.{account_of, mark_of, kind_reference, kind_tpdu}
+use Rattle.sms_centre_tables.specs.Types.{Originator, Application, Handset, ReportKind, Receipt, Status, Unsent}
+
+pub bound_optional : {A : Type 0} (write : A → Value) (o : Option A) → ((x : A) → bound_value (write x) ≡ write x) → bound_value (or_none write o) ≡ or_none write o
+bound_optional write None same = refl
+bound_optional write (Some x) same = same x
+
+pub bound_account : (o : Originator) → bound_value (account_of o) ≡ account_of o
+bound_account (Application account) = refl
+bound_account (Handset reference) = refl
+
+pub bound_mark : (o : Originator) → bound_value (mark_of o) ≡ mark_of o
+bound_mark (Application account) = refl
+bound_mark (Handset reference) = refl
+
+pub bound_reference : (k : ReportKind) → bound_value (kind_reference k) ≡ kind_reference k
+bound_reference Receipt = refl
+bound_reference (Status reference tpdu) = refl
+bound_reference Unsent = refl
+
+pub bound_tpdu : (k : ReportKind) → bound_value (kind_tpdu k) ≡ kind_tpdu k
+bound_tpdu Receipt = refl
+bound_tpdu (Status reference tpdu) = refl
+bound_tpdu Unsent = refl

@@ -1,0 +1,11 @@
+pub mod CentreSchema
+pub mod FirstMetaList
+pub mod HandsetList
+pub mod MessageList
+pub mod MetaList
+pub mod PartList
+pub mod Pieces
+pub mod PriorityList
+pub mod ReferenceList
+pub mod ReportList
+pub mod Types

@@ -1,0 +1,93 @@
+-- What kind of store it is, and of which version.
+use Rattle.std.specs.Prelude.{◌≡◌, ℕ, ◌<◌, ◌+◌, ◌/◌, ◌%◌, ◌==◌, ◌&&◌, ℤ, pos, Bool, true, false, ⊤, Option, Some, None, List, [], ◌∷◌, length, codes, encode_utf8_all, refl}
+use Rattle.std.proofs.Common.{ap, ap₂, ◌∙◌, sym}
+use Rattle.std.specs.List.{list_all}
+use Rattle.std.specs.Str.{all_scalars}
+use Rattle.sqlite.specs.declared.types.Value.TheVariants.{Null, Int, Text, Blob}
+use Rattle.sqlite.specs.Order.{Row}
+use Rattle.sqlite_value.specs.Order.{column}
+use Rattle.sqlite.specs.Term.{holds}
+use Rattle.sqlite.specs.Source.TheVariants.{Values}
+use Rattle.sqlite.specs.Command.TheVariants.{Insert, Delete, Select}
+use Rattle.sqlite.specs.Listing.{understood, reads_listing}
+use Rattle.sqlite.proofs.Callers.{IsPlain, command_of}
+use Rattle.sqlite_rules.specs.Cast.{cast_row}
+use Rattle.sqlite_tied.specs.Compute.{everything}
+use Rattle.sms_listing.specs.Columns.{number, number_in, octets_in, text_in, characters_in, if_given, flag, flag_in, or_none}
+use Rattle.sms_listing.specs.Listing.{TableOf, ListOf, IsList, table_of, rowids_where, whole_table, row_of, columns_of, equals}
+use Rattle.sms_listing.proofs.Columns.{same_number, one_found, pair_found, and_true, cast_null, cast_int, cast_row_same, cast_flag, cast_optional, flag_back, characters_back, given_back}
+use Rattle.sms_centre_tables.specs.CentreSchema.{centre_schema, meta_columns}
+use Rattle.sms_centre_tables.specs.Types.{Meta, StoreKind}
+use Rattle.sms_listing.specs.Meta.{kind_word, kind_in, kind_back}
+
+abbrev pub meta_table : TableOf
+meta_table = record {
+  schema = centre_schema;
+  place = 0;
+  tree = 0;
+  name = codes "meta";
+  columns = meta_columns;
+  key = 1 ∷ [];
+  delete = codes "DELETE FROM meta WHERE version = ?1";
+  tests = equals 1 0 ∷ [];
+  insert = codes "INSERT INTO meta (version, kind) VALUES (?1, ?2)";
+  values = row_of 2;
+  select = codes "SELECT version, kind FROM meta";
+  shown = columns_of 2;
+  names = codes "version" ∷ codes "kind" ∷ [];
+}
+
+abbrev pub meta_list : ListOf Meta
+meta_list = record {
+  table = meta_table;
+  key = λ x. x.version;
+  columns = λ m. number m.version ∷ Text (kind_word m.kind) ∷ [];
+  reads = λ row. record { version = number_in (column row 0); kind = kind_in (text_in (column row 1)) };
+  key_columns = λ n. number n ∷ [];
+  Fits = λ m. ⊤;
+}
+
+-- ---- what the texts are, by computation
+
+deletes : (command_of (understood centre_schema meta_table.delete) ≡ Delete 0 (record { lets = []; body = rowids_where 0 meta_table.tests })) × IsPlain (understood centre_schema meta_table.delete)
+unfolding understood everything
+deletes = (refl, (refl, refl))
+
+inserts : (command_of (understood centre_schema meta_table.insert) ≡ Insert 0 (Values meta_table.values 3)) × IsPlain (understood centre_schema meta_table.insert)
+unfolding understood everything
+inserts = (refl, (refl, refl))
+
+selects : (command_of (understood centre_schema meta_table.select) ≡ Select (record { lets = []; body = whole_table 0 meta_table.shown }) meta_table.names) × IsPlain (understood centre_schema meta_table.select)
+    × (reads_listing centre_schema meta_table.select ≡ false)
+unfolding understood everything
+selects = (refl, (refl, refl), refl)
+
+-- ---- what the rows are
+
+stays : (x : Meta) → cast_row (table_of meta_table) (Null ∷ meta_list.columns x) ≡ Null ∷ meta_list.columns x
+stays x = cast_row_same (table_of meta_table) _ (cast_int _, (refl, tt))
+
+finds : (n : ℕ) (id : ℤ) (x : Meta) → meta_list.Fits x → list_all (holds (meta_list.key_columns n ∷ (Int id ∷ meta_list.columns x) ∷ [])) meta_table.tests ≡ (meta_list.key x == n)
+finds n id x fits = one_found x.version n
+
+told : (x : Meta) → meta_list.Fits x → meta_list.reads (meta_list.columns x) ≡ x
+told x fits = let k = kind_back x.kind in λ i. record { version = x.version; kind = k i }
+
+pub meta_is_list : IsList meta_list
+meta_is_list = record {
+  there = refl;
+  deletes = deletes.0;
+  deletes_alone = deletes.1;
+  inserts = inserts.0;
+  inserts_alone = inserts.1;
+  selects = selects.0;
+  selects_alone = selects.1;
+  is_no_listing = selects.2;
+  own_tree = λ db. refl;
+  free = λ keys olds news. refl;
+  written = λ x. refl;
+  read = λ id x. refl;
+  stays = stays;
+  finds = finds;
+  told = told;
+}

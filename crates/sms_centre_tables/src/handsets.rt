@@ -1,0 +1,48 @@
+//! The handsets that were given a reference.
+ghost use Rattle.std.specs.Prelude.{refl};
+ghost use Rattle.sms_centre_tables.specs.HandsetList.{handset_is_list, handset_list};
+
+use crate::key::integer_of;
+use crate::kind::CentreStore;
+use sms_listing::{StoredRow, digits_at, octet_at, run, text_of, word_at};
+use sms_table::Key;
+use sms_waiting::HandsetRow;
+use sqlite::{Alter, Error, Row, Transaction, params};
+use std::alloc::Global;
+
+impl StoredRow<CentreStore> for HandsetRow {
+    ghost list = { handset_list };
+
+    fn delete<S: Alter>(tx: &mut Transaction<'_, S>, key: Key) -> Result<(), Error> {
+        let place = integer_of(key)?;
+        run(tx, "DELETE FROM handset WHERE place = ?1", params![&place])
+    }
+
+    fn insert<S: Alter>(&self, alloc: Global, tx: &mut Transaction<'_, S>) -> Result<(), Error> {
+        let number = text_of(alloc, self.number.as_slice())?;
+        run(
+            tx,
+            "INSERT INTO handset (place, number, last_reference) VALUES (?1, ?2, ?3)",
+            params![self.place, &number, u32::from(self.last_reference)],
+        )
+    }
+
+    fn select() -> &'static str {
+        "SELECT place, number, last_reference FROM handset"
+    }
+
+    fn read(_alloc: Global, row: &Row) -> Result<HandsetRow, Error> {
+        let place = word_at(row, 0)?;
+        let number = digits_at(row, 1)?;
+        let last_reference = octet_at(row, 2)?;
+        Ok(HandsetRow {
+            place,
+            number,
+            last_reference,
+        })
+    }
+
+    ghost one_key = { λ x. refl };
+
+    ghost is_list = { handset_is_list };
+}

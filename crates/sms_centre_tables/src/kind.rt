@@ -1,0 +1,78 @@
+//! The kinds of store, and what they say of themselves.
+ghost use Rattle.std.specs.Prelude.{refl};
+ghost use Rattle.sms_centre_tables.specs.FirstMetaList.{meta_is_list as first_is_list, meta_list as first_list};
+ghost use Rattle.sms_centre_tables.specs.MetaList.{meta_is_list, meta_list};
+
+use crate::key::integer_of;
+use sms_listing::{Meta, StoredRow, kind_at, run, word_at};
+use sms_table::Key;
+use sqlite::{Alter, Error, Row, Transaction, params};
+use std::alloc::Global;
+
+/// The store of a centre, version 2. No value of it is made.
+pub struct CentreStore;
+
+/// The store of a centre, version 1. No value of it is made.
+pub struct FirstCentreStore;
+
+impl StoredRow<CentreStore> for Meta {
+    ghost list = { meta_list };
+
+    fn delete<S: Alter>(tx: &mut Transaction<'_, S>, key: Key) -> Result<(), Error> {
+        let version = integer_of(key)?;
+        run(tx, "DELETE FROM meta WHERE version = ?1", params![&version])
+    }
+
+    fn insert<S: Alter>(&self, _alloc: Global, tx: &mut Transaction<'_, S>) -> Result<(), Error> {
+        run(
+            tx,
+            "INSERT INTO meta (version, kind) VALUES (?1, ?2)",
+            params![self.version, self.kind.word()],
+        )
+    }
+
+    fn select() -> &'static str {
+        "SELECT version, kind FROM meta"
+    }
+
+    fn read(_alloc: Global, row: &Row) -> Result<Meta, Error> {
+        let version = word_at(row, 0)?;
+        let kind = kind_at(row, 1)?;
+        Ok(Meta { version, kind })
+    }
+
+    ghost one_key = { λ x. refl };
+
+    ghost is_list = { meta_is_list };
+}
+
+impl StoredRow<FirstCentreStore> for Meta {
+    ghost list = { first_list };
+
+    fn delete<S: Alter>(tx: &mut Transaction<'_, S>, key: Key) -> Result<(), Error> {
+        let version = integer_of(key)?;
+        run(tx, "DELETE FROM meta WHERE version = ?1", params![&version])
+    }
+
+    fn insert<S: Alter>(&self, _alloc: Global, tx: &mut Transaction<'_, S>) -> Result<(), Error> {
+        run(
+            tx,
+            "INSERT INTO meta (version, kind) VALUES (?1, ?2)",
+            params![self.version, self.kind.word()],
+        )
+    }
+
+    fn select() -> &'static str {
+        "SELECT version, kind FROM meta"
+    }
+
+    fn read(_alloc: Global, row: &Row) -> Result<Meta, Error> {
+        let version = word_at(row, 0)?;
+        let kind = kind_at(row, 1)?;
+        Ok(Meta { version, kind })
+    }
+
+    ghost one_key = { λ x. refl };
+
+    ghost is_list = { first_is_list };
+}

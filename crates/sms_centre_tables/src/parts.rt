@@ -1,0 +1,88 @@
+//! The parts of messages.
+ghost use Rattle.std.specs.Prelude.{refl};
+ghost use Rattle.sms_centre_tables.specs.PartList.{find_part, part_is_found, part_is_list, part_list};
+
+use crate::key::{id_value, integers_of, moment_value};
+use crate::kind::CentreStore;
+use crate::pieces::{
+    bits_of, concat_number_of, concat_total_of, id_at, key_at, number_of, progress_at,
+};
+use sms_listing::{FoundRow, StoredRow, octet_at, octets_at, run};
+use sms_messages::PartRow;
+use sms_table::Key;
+use sqlite::{Alter, Error, Row, Transaction, params};
+use std::alloc::Global;
+
+impl StoredRow<CentreStore> for PartRow {
+    ghost list = { part_list };
+
+    fn delete<S: Alter>(tx: &mut Transaction<'_, S>, key: Key) -> Result<(), Error> {
+        let pair = integers_of(key)?;
+        run(
+            tx,
+            "DELETE FROM part WHERE message = ?1 AND number = ?2",
+            params![&pair.0, &pair.1],
+        )
+    }
+
+    fn insert<S: Alter>(&self, _alloc: Global, tx: &mut Transaction<'_, S>) -> Result<(), Error> {
+        let id = id_value(self.id)?;
+        let due = moment_value(self.progress.due)?;
+        run(
+            tx,
+            "INSERT INTO part (message, number, reference, tpdu, concat_bits, concat_reference, concat_total, concat_number, is_done, attempts, due) VALUES (?1, ?2, ?3, ?4, ?5, ?6, ?7, ?8, ?9, ?10, ?11)",
+            params![
+                &id,
+                u32::from(self.number),
+                u32::from(self.reference),
+                self.tpdu.as_slice(),
+                bits_of(self.key),
+                number_of(self.key),
+                concat_total_of(self.key),
+                concat_number_of(self.key),
+                self.progress.is_done,
+                u32::from(self.progress.attempts),
+                &due
+            ],
+        )
+    }
+
+    fn select() -> &'static str {
+        "SELECT message, number, reference, tpdu, concat_bits, concat_reference, concat_total, concat_number, is_done, attempts, due FROM part"
+    }
+
+    fn read(_alloc: Global, row: &Row) -> Result<PartRow, Error> {
+        let id = id_at(row, 0)?;
+        let number = octet_at(row, 1)?;
+        let reference = octet_at(row, 2)?;
+        let tpdu = octets_at(row, 3)?;
+        let key = key_at(row, 4)?;
+        let progress = progress_at(row, 8)?;
+        Ok(PartRow {
+            id,
+            number,
+            reference,
+            tpdu,
+            key,
+            progress,
+        })
+    }
+
+    ghost one_key = { λ x. refl };
+
+    ghost is_list = { part_is_list };
+}
+
+impl FoundRow<CentreStore> for PartRow {
+    ghost find = { find_part };
+
+    fn query<S: Alter>(tx: &mut Transaction<'_, S>, key: Key) -> Result<Vec<Row>, Error> {
+        let pair = integers_of(key)?;
+        tx.query_all(
+            "SELECT message, number, reference, tpdu, concat_bits, concat_reference, concat_total, concat_number, is_done, attempts, due FROM part WHERE message = ?1 AND number = ?2",
+            params![&pair.0, &pair.1],
+        )
+    }
+
+    ghost is_found = { part_is_found };
+}

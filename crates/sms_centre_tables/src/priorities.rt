@@ -1,0 +1,48 @@
+//! The priorities of messages.
+ghost use Rattle.std.specs.Prelude.{refl};
+ghost use Rattle.sms_centre_tables.specs.PriorityList.{priority_is_list, priority_list};
+
+use crate::key::{id_value, integer_of};
+use crate::kind::CentreStore;
+use crate::pieces::id_at;
+use sms_listing::{StoredRow, octet_at, run};
+use sms_messages::PriorityRow;
+use sms_table::Key;
+use sqlite::{Alter, Error, Row, Transaction, params};
+use std::alloc::Global;
+
+impl StoredRow<CentreStore> for PriorityRow {
+    ghost list = { priority_list };
+
+    fn delete<S: Alter>(tx: &mut Transaction<'_, S>, key: Key) -> Result<(), Error> {
+        let message = integer_of(key)?;
+        run(
+            tx,
+            "DELETE FROM priority WHERE message = ?1",
+            params![&message],
+        )
+    }
+
+    fn insert<S: Alter>(&self, _alloc: Global, tx: &mut Transaction<'_, S>) -> Result<(), Error> {
+        let id = id_value(self.id)?;
+        run(
+            tx,
+            "INSERT INTO priority (message, priority) VALUES (?1, ?2)",
+            params![&id, u32::from(self.priority)],
+        )
+    }
+
+    fn select() -> &'static str {
+        "SELECT message, priority FROM priority"
+    }
+
+    fn read(_alloc: Global, row: &Row) -> Result<PriorityRow, Error> {
+        let id = id_at(row, 0)?;
+        let priority = octet_at(row, 1)?;
+        Ok(PriorityRow { id, priority })
+    }
+
+    ghost one_key = { λ x. refl };
+
+    ghost is_list = { priority_is_list };
+}

@@ -1,0 +1,52 @@
+//! The references that were given.
+ghost use Rattle.std.specs.Prelude.{refl};
+ghost use Rattle.sms_centre_tables.specs.ReferenceList.{reference_is_list, reference_list};
+
+use crate::key::{integers_of, moment_value};
+use crate::kind::CentreStore;
+use sms_listing::{StoredRow, moment_at, octet_at, run, word_at};
+use sms_table::Key;
+use sms_waiting::ReferenceRow;
+use sqlite::{Alter, Error, Row, Transaction, params};
+use std::alloc::Global;
+
+impl StoredRow<CentreStore> for ReferenceRow {
+    ghost list = { reference_list };
+
+    fn delete<S: Alter>(tx: &mut Transaction<'_, S>, key: Key) -> Result<(), Error> {
+        let pair = integers_of(key)?;
+        run(
+            tx,
+            "DELETE FROM given_reference WHERE place = ?1 AND reference = ?2",
+            params![&pair.0, &pair.1],
+        )
+    }
+
+    fn insert<S: Alter>(&self, _alloc: Global, tx: &mut Transaction<'_, S>) -> Result<(), Error> {
+        let last = moment_value(self.last)?;
+        run(
+            tx,
+            "INSERT INTO given_reference (place, reference, last_given) VALUES (?1, ?2, ?3)",
+            params![self.place, u32::from(self.reference), &last],
+        )
+    }
+
+    fn select() -> &'static str {
+        "SELECT place, reference, last_given FROM given_reference"
+    }
+
+    fn read(_alloc: Global, row: &Row) -> Result<ReferenceRow, Error> {
+        let place = word_at(row, 0)?;
+        let reference = octet_at(row, 1)?;
+        let last = moment_at(row, 2)?;
+        Ok(ReferenceRow {
+            place,
+            reference,
+            last,
+        })
+    }
+
+    ghost one_key = { λ x. refl };
+
+    ghost is_list = { reference_is_list };
+}

@@ -1,0 +1,4 @@
+pub mod Loading
+pub mod Openings
+pub mod Tables
+pub mod Turning

@@ -1,0 +1,6 @@
+pub mod CountersKey
+pub mod CountersList
+pub mod Founding
+pub mod HandsetRows
+pub mod Opened
+pub mod Types
