@@ -1,149 +1,234 @@
 //! Submissions and refusals.
+use crate::rows::{are, holds};
 use smpp_pdu::CommandStatus;
 use sms_base::{Address, Moment, Originator, Wish};
 use sms_intake::{
-    SmppError, SubmitError, SubmitRefusal, accepting_report, content_of, due_of, from_submit,
-    limit_of, refusing_report, wish_of,
+    SmppError, Submission, SubmitError, SubmitRefusal, accepting_report, content_of, due_of,
+    from_submit, limit_of, refusing_report, wish_of,
 };
 use std::alloc::Global;
 use std::test::Fail;
 
-// `hello` to 447700900456, the validity period format not present.
-const HELLO: [u8; 18] = [
-    0x01, 0x00, 0x0C, 0x91, 0x44, 0x77, 0x00, 0x09, 0x40, 0x65, 0x00, 0x00, 0x05, 0xE8, 0x32, 0x9B,
-    0xFD, 0x06,
-];
+// 2024-02-29 23:59:58.
+const NOW: u64 = 1_709_251_198;
 
-fn now() -> Result<Moment, Fail> {
-    Ok(Moment::from_seconds(1_709_251_198)?)
+// `hello` to 447700900456, the validity period format not present.
+const HELLO: &[u8] = b"\x01\x00\x0C\x91\x44\x77\x00\x09\x40\x65\x00\x00\x05\xE8\x32\x9B\xFD\x06";
+
+// The front of a SUBMIT of 160 septets.
+const LONG_FRONT: &[u8] = b"\x01\x00\x0C\x91\x44\x77\x00\x09\x40\x65\x00\x00\xA0";
+
+// What a handset sent.
+fn submitted(alloc: Global, tpdu: &[u8]) -> Result<Result<Submission, SubmitError>, Fail> {
+    let from = Address::new(1, 1, "447700900123")?.digits;
+    let now = Moment::from_seconds(NOW)?;
+    Ok(from_submit(alloc, from, now, tpdu))
 }
 
-// Why what a handset sent is refused.
-fn refusal_of(alloc: Global, tpdu: &[u8]) -> Result<SubmitError, Fail> {
-    let from = Address::new(1, 1, "447700900123")?.digits;
-    match from_submit(alloc, from, now()?, tpdu) {
-        Ok(_) => Err(Fail::from("accepted")),
-        Err(fault) => Ok(fault),
+// Why it is refused.
+fn refusal_of(alloc: Global, tpdu: &[u8]) -> Result<Option<SubmitRefusal>, Fail> {
+    match submitted(alloc, tpdu)? {
+        Ok(_) => Ok(None),
+        Err(SubmitError::Refused(refusal)) => Ok(Some(refusal)),
+        Err(SubmitError::NoMemory) => Err(Fail::new("out of memory")),
+    }
+}
+
+fn is_of_a_handset(submission: &Submission) -> bool {
+    match submission.originator {
+        Originator::Handset { message_reference } => message_reference == 0,
+        Originator::Application { .. } => false,
+    }
+}
+
+fn is_between(submission: &Submission, from: &Address, to: &Address) -> bool {
+    submission.source == *from && submission.handset == to.digits
+}
+
+fn is_hello(submission: &Submission) -> Result<bool, Fail> {
+    let from = Address::new(1, 1, "447700900123")?;
+    let to = Address::new(1, 1, "447700900456")?;
+    Ok(
+        is_between(submission, &from, &to)
+            && is_of_a_handset(submission)
+            && submission.limit.seconds() == NOW + 172_800
+            && submission.wish == Wish::Nothing,
+    )
+}
+
+fn accepts_hello(alloc: Global) -> Result<bool, Fail> {
+    match submitted(alloc, HELLO)? {
+        Ok(submission) => is_hello(&submission),
+        Err(_) => Ok(false),
     }
 }
 
 #[test]
 fn a_submit_is_accepted(rt: HostRuntime) -> Result<(), Fail> {
-    let from = Address::new(1, 1, "447700900123")?;
-    let to = Address::new(1, 1, "447700900456")?;
-    let submission = from_submit(rt.alloc(), from.digits, now()?, &HELLO)?;
-    assert_eq!(rt; submission.handset, to.digits);
-    assert_eq!(rt; submission.source, from);
-    match submission.originator {
-        Originator::Handset { message_reference } => assert_eq!(rt; message_reference, 0),
-        Originator::Application { .. } => return Err(Fail::from("an application")),
+    holds(accepts_hello(rt.alloc())?, "hello")
+}
+
+// A SUBMIT of 160 septets.
+fn longest_submit(alloc: Global) -> Result<Vec<u8>, Fail> {
+    let mut tpdu = Vec::from_slice(alloc, LONG_FRONT)?;
+    for _ in 0..140_u8 {
+        tpdu.push(0)?;
     }
-    assert_eq!(rt; submission.limit.seconds(), 1_709_251_198 + 172_800);
-    assert_eq!(rt; submission.wish, Wish::Nothing);
-    Ok(())
+    Ok(tpdu)
 }
 
 #[test]
 fn the_longest_submit_is_accepted(rt: HostRuntime) -> Result<(), Fail> {
-    let from = Address::new(1, 1, "447700900123")?;
-    let mut tpdu = Vec::new(rt.alloc());
-    tpdu.extend_from_slice(&HELLO[..12])?;
-    tpdu.push(160)?;
-    tpdu.extend_from_slice(&[0u8; 140])?;
-    let submission = from_submit(rt.alloc(), from.digits, now()?, tpdu.as_slice())?;
-    assert_eq!(rt; submission.protocol_identifier, 0);
-    Ok(())
+    let tpdu = longest_submit(rt.alloc())?;
+    holds(
+        refusal_of(rt.alloc(), tpdu.as_slice())?.is_none(),
+        "160 septets",
+    )
 }
+
+// A validity period format that does not fit, another type, a front, and a destination of the type of a subscriber number.
+const REFUSED: &[(&[u8], SubmitRefusal)] = &[
+    (
+        b"\x09\x00\x0C\x91\x44\x77\x00\x09\x40\x65\x00\x00\x05\xE8\x32\x9B\xFD\x06",
+        SubmitRefusal::WrongValidityFormat,
+    ),
+    (
+        b"\x02\x00\x0C\x91\x44\x77\x00\x09\x40\x65\x00\x00\x05\xE8\x32\x9B\xFD\x06",
+        SubmitRefusal::WrongType,
+    ),
+    (
+        b"\x01\x00\x0C\x91\x44\x77\x00\x09\x40",
+        SubmitRefusal::Unreadable,
+    ),
+    (
+        b"\x01\x00\x0C\xB1\x44\x77\x00\x09\x40\x65\x00\x00\x05\xE8\x32\x9B\xFD\x06",
+        SubmitRefusal::NoHandset,
+    ),
+];
 
 #[test]
 fn faults_are_refused_in_order(rt: HostRuntime) -> Result<(), Fail> {
-    let mut tpdu = HELLO;
-    tpdu[0] = 0x09;
-    let format = refusal_of(rt.alloc(), &tpdu)?;
-    assert_eq!(rt;
-        format,
-        SubmitError::Refused(SubmitRefusal::WrongValidityFormat)
-    );
-    tpdu[0] = 0x02;
-    let kind = refusal_of(rt.alloc(), &tpdu)?;
-    assert_eq!(rt; kind, SubmitError::Refused(SubmitRefusal::WrongType));
-    let cut = refusal_of(rt.alloc(), &HELLO[..9])?;
-    assert_eq!(rt; cut, SubmitError::Refused(SubmitRefusal::Unreadable));
-    tpdu[0] = 0x01;
-    tpdu[3] = 0xB1;
-    let handset = refusal_of(rt.alloc(), &tpdu)?;
-    assert_eq!(rt; handset, SubmitError::Refused(SubmitRefusal::NoHandset));
+    for (tpdu, refusal) in REFUSED {
+        holds(refusal_of(rt.alloc(), tpdu)? == Some(*refusal), "a refusal")?;
+    }
     Ok(())
+}
+
+const ACCEPTING: &[u8] = b"\x01\x00\x42\x20\x92\x32\x95\x85\x00";
+
+const REFUSING: &[u8] = b"\x01\xC6\x00\x42\x20\x92\x32\x95\x85\x00";
+
+fn accepts_so(alloc: Global) -> Result<bool, Fail> {
+    let report = accepting_report(alloc, Moment::from_seconds(NOW)?)?;
+    Ok(are(report.as_slice(), ACCEPTING))
+}
+
+fn refuses_so(alloc: Global) -> Result<bool, Fail> {
+    let now = Moment::from_seconds(NOW)?;
+    let report = refusing_report(alloc, SubmitRefusal::WrongValidityFormat, now)?;
+    Ok(are(report.as_slice(), REFUSING))
 }
 
 #[test]
 fn reports_have_their_octets(rt: HostRuntime) -> Result<(), Fail> {
-    let accepted = accepting_report(rt.alloc(), now()?)?;
-    let wanted: [u8; 9] = [0x01, 0x00, 0x42, 0x20, 0x92, 0x32, 0x95, 0x85, 0x00];
-    assert_eq!(rt; accepted.as_slice(), wanted.as_slice());
-    let refused = refusing_report(rt.alloc(), SubmitRefusal::WrongValidityFormat, now()?)?;
-    let wanted: [u8; 10] = [0x01, 0xC6, 0x00, 0x42, 0x20, 0x92, 0x32, 0x95, 0x85, 0x00];
-    assert_eq!(rt; refused.as_slice(), wanted.as_slice());
-    Ok(())
+    holds(accepts_so(rt.alloc())?, "a report that accepts")?;
+    holds(refuses_so(rt.alloc())?, "a report that refuses")
+}
+
+// The limit of a validity period, in seconds from now on; none where it is refused for it.
+fn limit_in(validity: &[u8]) -> Result<Option<u64>, Fail> {
+    match limit_of(validity, Moment::from_seconds(NOW)?) {
+        Ok(limit) => Ok(Some(limit.seconds().saturating_sub(NOW))),
+        Err(CommandStatus::ESME_RINVEXPIRY) => Ok(None),
+        Err(_) => Err(Fail::new("another status")),
+    }
+}
+
+// When a message is due that is valid for two days, likewise.
+fn due_in(schedule: &[u8]) -> Result<Option<u64>, Fail> {
+    let now = Moment::from_seconds(NOW)?;
+    match due_of(schedule, now, now.plus(172_800)) {
+        Ok(due) => Ok(Some(due.seconds().saturating_sub(NOW))),
+        Err(CommandStatus::ESME_RINVSCHED) => Ok(None),
+        Err(_) => Err(Fail::new("another status")),
+    }
 }
 
 #[test]
-fn times_are_judged(rt: HostRuntime) -> Result<(), Fail> {
-    let now = now()?;
-    let limit = limit_of(b"000001000000000R", now);
-    assert_eq!(rt; limit, Ok(Moment::from_seconds(1_709_251_198 + 86_400)?));
-    assert_eq!(rt;
-        limit_of(b"240229235958000+", now),
-        Err(CommandStatus::ESME_RINVEXPIRY)
-    );
-    let limit = limit_of(b"", now).ok().ok_or("refused")?;
-    assert_eq!(rt; due_of(b"", now, limit), Ok(now));
-    assert_eq!(rt;
-        due_of(b"000002000000000R", now, limit),
-        Err(CommandStatus::ESME_RINVSCHED)
-    );
-    assert_eq!(rt; wish_of(2), Wish::OnFailure);
-    assert_eq!(rt; wish_of(3), Wish::Always);
-    Ok(())
+fn limits_are_judged() -> Result<(), Fail> {
+    holds(limit_in(b"000001000000000R")? == Some(86_400), "a day")?;
+    holds(limit_in(b"240229235958000+")?.is_none(), "now")?;
+    holds(limit_in(b"")? == Some(172_800), "two days")
 }
 
-// The units of a content and its data coding scheme.
-fn units_are(
+#[test]
+fn schedules_are_judged() -> Result<(), Fail> {
+    holds(due_in(b"")? == Some(0), "now")?;
+    holds(due_in(b"000002000000000R")?.is_none(), "at the limit")
+}
+
+#[test]
+fn wishes_are_read() -> Result<(), Fail> {
+    holds(wish_of(2) == Wish::OnFailure, "2")?;
+    holds(wish_of(3) == Wish::Always, "3")
+}
+
+// A data_coding and its octets, and the data coding scheme and the units of the content.
+const CONTENTS: &[(u8, &[u8], u8, &[u8])] = &[
+    (0, b"hello", 0x00, b"hello"),
+    (1, b"[a]", 0x00, &[0x1B, 0x3C, 0x61, 0x1B, 0x3E]),
+    (3, &[0xE9, 0x61], 0x00, &[0x05, 0x61]),
+    (3, &[0xEA], 0x08, &[0x00, 0xEA]),
+    (4, &[0xFF, 0x00], 0x04, &[0xFF, 0x00]),
+    (8, &[0x04, 0x36], 0x08, &[0x04, 0x36]),
+    (0xF4, &[0x80], 0xF4, &[0x80]),
+];
+
+fn is_content(
     alloc: Global,
     data_coding: u8,
     octets: &[u8],
     dcs: u8,
     units: &[u8],
-) -> Result<(), Fail> {
+) -> Result<bool, Fail> {
     let content = content_of(alloc, data_coding, octets)?;
-    if content.dcs == dcs && content.units.as_slice() == units {
-        Ok(())
-    } else {
-        Err(Fail::from("another content"))
-    }
+    Ok(content.dcs == dcs && are(content.units.as_slice(), units))
 }
 
 #[test]
 fn contents_follow_data_coding(rt: HostRuntime) -> Result<(), Fail> {
-    units_are(rt.alloc(), 0, b"hello", 0x00, b"hello")?;
-    units_are(rt.alloc(), 1, b"[a]", 0x00, &[0x1B, 0x3C, 0x61, 0x1B, 0x3E])?;
-    units_are(rt.alloc(), 3, &[0xE9, 0x61], 0x00, &[0x05, 0x61])?;
-    units_are(rt.alloc(), 3, &[0xEA], 0x08, &[0x00, 0xEA])?;
-    units_are(rt.alloc(), 4, &[0xFF, 0x00], 0x04, &[0xFF, 0x00])?;
-    units_are(rt.alloc(), 8, &[0x04, 0x36], 0x08, &[0x04, 0x36])?;
-    units_are(rt.alloc(), 0xF4, &[0x80], 0xF4, &[0x80])?;
-    let refused = SmppError::Refused(CommandStatus::ESME_RSUBMITFAIL);
-    let none = content_of(rt.alloc(), 5, b"a").err().ok_or("accepted")?;
-    assert_eq!(rt; none, refused);
-    let high = content_of(rt.alloc(), 0, &[0x80]).err().ok_or("accepted")?;
-    assert_eq!(rt; high, refused);
+    for (data_coding, octets, dcs, units) in CONTENTS {
+        holds(
+            is_content(rt.alloc(), *data_coding, octets, *dcs, units)?,
+            "a content",
+        )?;
+    }
     Ok(())
+}
+
+fn is_no_content(alloc: Global, data_coding: u8, octets: &[u8]) -> bool {
+    match content_of(alloc, data_coding, octets) {
+        Err(SmppError::Refused(CommandStatus::ESME_RSUBMITFAIL)) => true,
+        _ => false,
+    }
+}
+
+#[test]
+fn others_have_no_content(rt: HostRuntime) -> Result<(), Fail> {
+    holds(is_no_content(rt.alloc(), 5, b"a"), "a reserved data_coding")?;
+    holds(is_no_content(rt.alloc(), 0, &[0x80]), "no septet")
+}
+
+fn units_of_latin(alloc: Global, octets: &[u8]) -> Result<usize, Fail> {
+    let content = content_of(alloc, 3, octets)?;
+    Ok(content.units.len())
 }
 
 #[test]
 fn the_longest_content_is_made(rt: HostRuntime) -> Result<(), Fail> {
     let octets = vec![in rt.alloc(); 0xEAu8; 65_000]?;
-    let content = content_of(rt.alloc(), 3, octets.as_slice())?;
-    assert_eq!(rt; content.units.len(), 130_000);
-    Ok(())
+    holds(
+        units_of_latin(rt.alloc(), octets.as_slice())? == 130_000,
+        "65,000 characters",
+    )
 }

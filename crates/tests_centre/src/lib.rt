@@ -6,6 +6,8 @@ mod intake;
 #[cfg(test)]
 mod receipts;
 #[cfg(test)]
+mod rows;
+#[cfg(test)]
 mod schedules;
 #[cfg(test)]
 mod submissions;

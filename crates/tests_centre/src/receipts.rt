@@ -1,8 +1,9 @@
 //! Receipts and status reports.
 ghost use Rattle.std.specs.Prelude.{◌≡◌, IfOk};
 
+use crate::rows::{are, holds};
 use sms_base::{Address, Digits, FinalState, MessageId, Moment};
-use sms_receipt::{Final, receipt_of, receipt_text, status_report_octets};
+use sms_receipt::{Final, Receipt, receipt_of, receipt_text, status_report_octets};
 use std::test::Fail;
 
 // A message from an application to a handset, delivered at once at 2024-02-29 23:59:58.
@@ -31,40 +32,35 @@ fn reported(handset: Digits) -> Result<Final, Fail>
     })
 }
 
+const TEXT: &[u8] =
+    b"id:0000000001 sub:001 dlvrd:001 submit date:2402292359 done date:2402292359 stat:DELIVRD err:000 text:";
+
 #[test]
 fn a_receipt_has_its_text(rt: HostRuntime) -> Result<(), Fail> {
-    let end = delivered()?;
-    let text = receipt_text(rt.alloc(), &end)?;
-    let wanted =
-        "id:0000000001 sub:001 dlvrd:001 submit date:2402292359 done date:2402292359 stat:DELIVRD err:000 text:";
-    assert_eq!(rt; text.as_slice(), wanted.as_bytes());
-    assert_eq!(rt; text.len(), 102);
-    Ok(())
+    let text = receipt_text(rt.alloc(), &delivered()?)?;
+    holds(are(text.as_slice(), TEXT), "a text")
+}
+
+fn is_receipt(receipt: &Receipt) -> bool {
+    let message = receipt.message();
+    message.esm_class == 4
+        && are(message.source.addr.as_slice(), b"447700900456")
+        && are(message.destination.addr.as_slice(), b"447700900001")
 }
 
 #[test]
 fn a_receipt_is_a_deliver_sm(rt: HostRuntime) -> Result<(), Fail> {
-    let end = delivered()?;
-    let receipt = receipt_of(rt.alloc(), &end)?;
-    let message = receipt.message();
-    assert_eq!(rt; message.esm_class, 4);
-    assert_eq!(rt; message.source.addr.as_slice(), b"447700900456".as_slice());
-    assert_eq!(rt;
-        message.destination.addr.as_slice(),
-        b"447700900001".as_slice()
-    );
-    Ok(())
+    let receipt = receipt_of(rt.alloc(), &delivered()?)?;
+    holds(is_receipt(&receipt), "a deliver_sm")
 }
+
+const REPORT: &[u8] =
+    b"\x06\x07\x0C\x91\x44\x77\x00\x09\x40\x65\x42\x20\x92\x32\x95\x85\x00\x42\x30\x10\x00\x00\x00\x00\x00";
 
 #[test]
 fn a_status_report_has_its_octets(rt: HostRuntime) -> Result<(), Fail> {
     let to = Address::new(1, 1, "447700900456")?;
     let end = reported(to.digits)?;
     let octets = status_report_octets(rt.alloc(), &end)?;
-    let wanted: [u8; 25] = [
-        0x06, 0x07, 0x0C, 0x91, 0x44, 0x77, 0x00, 0x09, 0x40, 0x65, 0x42, 0x20, 0x92, 0x32, 0x95,
-        0x85, 0x00, 0x42, 0x30, 0x10, 0x00, 0x00, 0x00, 0x00, 0x00,
-    ];
-    assert_eq!(rt; octets.as_slice(), wanted.as_slice());
-    Ok(())
+    holds(are(octets.as_slice(), REPORT), "a status report")
 }

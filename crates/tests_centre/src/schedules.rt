@@ -1,4 +1,5 @@
 //! Schedules beside a plain search.
+use crate::rows::holds;
 use sms_base::{MessageId, Moment, Priority};
 use sms_schedule::{PartId, Schedule, Scheduled, retry_after};
 use std::alloc::Global;
@@ -92,40 +93,64 @@ fn agrees(schedule: &Schedule, rows: &[Scheduled]) -> Result<(), Fail> {
     Ok(())
 }
 
+fn copy_agrees(schedule: &Schedule, rows: &[Scheduled]) -> Result<(), Fail> {
+    let copy = schedule.copy()?;
+    agrees(&copy, rows)
+}
+
+// Every second row is taken out, and what is left is offered in turn, by a copy as well.
+fn the_rest_agrees(alloc: Global, schedule: &mut Schedule, rows: &[Scheduled]) -> Result<(), Fail> {
+    let left = thin(alloc, schedule, rows)?;
+    agrees(schedule, left.as_slice())?;
+    copy_agrees(schedule, left.as_slice())
+}
+
+fn all_agree(alloc: Global, rows: &[Scheduled]) -> Result<(), Fail> {
+    let mut schedule = scheduled(alloc, rows)?;
+    agrees(&schedule, rows)?;
+    the_rest_agrees(alloc, &mut schedule, rows)
+}
+
 #[test]
 fn thousand_rows_are_offered_in_turn(rt: HostRuntime) -> Result<(), Fail> {
     let rows = thousand(rt.alloc())?;
-    let mut schedule = scheduled(rt.alloc(), rows.as_slice())?;
-    agrees(&schedule, rows.as_slice())?;
-    let left = thin(rt.alloc(), &mut schedule, rows.as_slice())?;
-    agrees(&schedule, left.as_slice())?;
-    let copy = schedule.copy()?;
-    agrees(&copy, left.as_slice())
+    all_agree(rt.alloc(), rows.as_slice())
+}
+
+// The first part of a message waits alone, then with the second, which has the highest priority, then alone again.
+fn wait_beside(schedule: &mut Schedule, id: MessageId) -> Result<(), Fail> {
+    let now = Moment::from_seconds(START)?;
+    let first = PartId::new(id, 1);
+    let second = PartId::new(id, 2);
+    schedule.set(first, now, Priority::lowest())?;
+    holds(
+        !schedule.waits_beside(now, first) && schedule.waits_beside(now, second),
+        "the first part",
+    )?;
+    schedule.set(second, now, Priority::of_flag(9))?;
+    holds(
+        schedule.waits_beside(now, first) && schedule.next(now) == Some(second),
+        "both parts",
+    )?;
+    schedule.remove(second);
+    holds(schedule.next(now) == Some(first), "the first part again")
 }
 
 #[test]
 fn another_one_waits_beside(rt: HostRuntime) -> Result<(), Fail> {
-    let now = Moment::from_seconds(START)?;
     let id = MessageId::new(7).ok_or("no identity")?;
     let mut schedule = Schedule::new(rt.alloc());
-    let first = PartId::new(id, 1);
-    let second = PartId::new(id, 2);
-    schedule.set(first, now, Priority::lowest())?;
-    assert!(rt; !schedule.waits_beside(now, first));
-    assert!(rt; schedule.waits_beside(now, second));
-    schedule.set(second, now, Priority::of_flag(9))?;
-    assert!(rt; schedule.waits_beside(now, first));
-    assert_eq!(rt; schedule.next(now), Some(second));
-    schedule.remove(second);
-    assert_eq!(rt; schedule.next(now), Some(first));
-    Ok(())
+    wait_beside(&mut schedule, id)
 }
 
+const WAITS: &[(u8, u64)] = &[(1, 60), (2, 300), (3, 900), (4, 3_600), (5, 3_600)];
+
 #[test]
-fn attempts_wait_longer(rt: HostRuntime) -> Result<(), Fail> {
+fn attempts_wait_longer() -> Result<(), Fail> {
     let now = Moment::from_seconds(START)?;
-    for (attempts, seconds) in [(1, 60), (2, 300), (3, 900), (4, 3_600), (5, 3_600)] {
-        assert_eq!(rt; retry_after(attempts, now).seconds(), START + seconds);
+    for (attempts, seconds) in WAITS {
+        let again = retry_after(*attempts, now).seconds();
+        holds(again == START + seconds, "a time")?;
     }
     Ok(())
 }

@@ -1,9 +1,13 @@
 //! Submissions of applications: the refusals in order, and what is accepted.
+use crate::rows::{are, holds};
 use smpp_pdu::{CommandStatus, Message, SmeAddress, Tlvs};
 use sms_base::{Address, Moment, OctetView, Octets};
 use sms_intake::{Account, SmppError, Submission, Text, from_pdu};
 use std::alloc::Global;
 use std::test::Fail;
+
+// 2024-02-29 23:59:58.
+const NOW: u64 = 1_709_251_198;
 
 // The fields of a submit_sm that are judged.
 #[derive(Clone, Copy, Drop)]
@@ -81,40 +85,39 @@ fn message_of<'a>(fields: &Fields<'a>) -> Message<'a> {
 
 // What becomes of it at 2024-02-29 23:59:58, from the account 447700900001.
 fn submitted(alloc: Global, fields: &Fields<'_>) -> Result<Result<Submission, SmppError>, Fail> {
+    let address = Address::new(1, 1, "447700900001")?;
+    let now = Moment::from_seconds(NOW)?;
     let account = Account {
         name: Octets::copy_of(alloc, b"app1")?,
-        address: Address::new(1, 1, "447700900001")?,
+        address,
     };
-    let message = message_of(fields);
-    let now = Moment::from_seconds(1_709_251_198)?;
-    Ok(from_pdu(alloc, &account, now, &message))
+    Ok(from_pdu(alloc, &account, now, &message_of(fields)))
+}
+
+// The status with which it is refused, where it is.
+fn refusal_of(alloc: Global, fields: &Fields<'_>) -> Result<Option<CommandStatus>, Fail> {
+    match submitted(alloc, fields)? {
+        Err(SmppError::Refused(status)) => Ok(Some(status)),
+        Err(SmppError::NoMemory) => Err(Fail::new("out of memory")),
+        Ok(_) => Ok(None),
+    }
 }
 
 fn is_refused(alloc: Global, fields: &Fields<'_>, status: CommandStatus) -> Result<(), Fail> {
-    match submitted(alloc, fields)? {
-        Err(SmppError::Refused(other)) => {
-            if other == status {
-                Ok(())
-            } else {
-                Err(Fail::from("another refusal"))
-            }
-        }
-        Err(SmppError::NoMemory) => Err(Fail::from("out of memory")),
-        Ok(_) => Err(Fail::from("accepted")),
-    }
+    holds(refusal_of(alloc, fields)? == Some(status), "a refusal")
 }
 
 fn accepted(alloc: Global, fields: &Fields<'_>) -> Result<Submission, Fail> {
     match submitted(alloc, fields)? {
         Ok(submission) => Ok(submission),
-        Err(_) => Err(Fail::from("refused")),
+        Err(_) => Err(Fail::new("refused")),
     }
 }
 
 // Whether it says these units, in as many parts as they take.
 fn says(submission: &Submission, units: &[u8]) -> bool {
     match &submission.text {
-        Text::Whole(content) => content.units.as_slice() == units,
+        Text::Whole(content) => are(content.units.as_slice(), units),
         Text::Single(_) => false,
     }
 }
@@ -123,24 +126,30 @@ fn says(submission: &Submission, units: &[u8]) -> bool {
 fn carries(submission: &Submission, octets: &[u8], length: u8) -> bool {
     match &submission.text {
         Text::Whole(_) => false,
-        Text::Single(part) => part.octets.as_slice() == octets && part.length == length,
+        Text::Single(part) => are(part.octets.as_slice(), octets) && part.length == length,
     }
+}
+
+// Whether it comes from its account, is due now and valid for two days.
+fn is_plain(submission: &Submission, source: &Address) -> bool {
+    submission.source == *source
+        && submission.limit.seconds() == NOW + 172_800
+        && submission.due.seconds() == NOW
 }
 
 #[test]
 fn a_message_from_its_account_is_accepted(rt: HostRuntime) -> Result<(), Fail> {
+    let source = Address::new(1, 1, "447700900001")?;
     let submission = accepted(rt.alloc(), &hello())?;
-    assert_eq!(rt; submission.source, Address::new(1, 1, "447700900001")?);
-    assert_eq!(rt; submission.limit.seconds(), 1_709_251_198 + 172_800);
-    assert_eq!(rt; submission.due.seconds(), 1_709_251_198);
-    assert_eq!(rt; says(&submission, b"hello"), true);
-    Ok(())
+    holds(
+        is_plain(&submission, &source) && says(&submission, b"hello"),
+        "hello",
+    )
 }
 
-// All is wrong, and one field after the other is mended: each time the next one is told.
-#[test]
-fn refusals_come_in_order(rt: HostRuntime) -> Result<(), Fail> {
-    let mut fields = Fields {
+// All is wrong.
+fn all_wrong() -> Fields<'static> {
+    Fields {
         esm_class: 0x44,
         source: &[0x80],
         destination: b"44A",
@@ -151,55 +160,106 @@ fn refusals_come_in_order(rt: HostRuntime) -> Result<(), Fail> {
         validity: b"now",
         schedule: b"000001000000000R",
         ..hello()
-    };
-    is_refused(rt.alloc(), &fields, CommandStatus::ESME_RINVESMCLASS)?;
+    }
+}
+
+// One field after the other is mended: each time the next one is told. First the addresses,
+fn addresses_are_judged(alloc: Global, fields: &mut Fields<'static>) -> Result<(), Fail> {
+    is_refused(alloc, fields, CommandStatus::ESME_RINVESMCLASS)?;
     fields.esm_class = 0x40;
-    is_refused(rt.alloc(), &fields, CommandStatus::ESME_RINVSRCADR)?;
+    is_refused(alloc, fields, CommandStatus::ESME_RINVSRCADR)?;
     fields.source = b"447700900002";
-    is_refused(rt.alloc(), &fields, CommandStatus::ESME_RINVDSTADR)?;
+    is_refused(alloc, fields, CommandStatus::ESME_RINVDSTADR)?;
     fields.destination = b"447700900456";
-    is_refused(rt.alloc(), &fields, CommandStatus::ESME_RINVPARLEN)?;
-    fields.reference = Some(&[0, 1]);
-    is_refused(rt.alloc(), &fields, CommandStatus::ESME_ROPTPARNOTALLWD)?;
-    fields.reference = None;
-    is_refused(rt.alloc(), &fields, CommandStatus::ESME_ROPTPARNOTALLWD)?;
-    fields.payload = None;
-    is_refused(rt.alloc(), &fields, CommandStatus::ESME_RSUBMITFAIL)?;
-    fields.data_coding = 8;
-    is_refused(rt.alloc(), &fields, CommandStatus::ESME_RSUBMITFAIL)?;
-    fields.text = &[5, 0, 3, 1, 1, 1, 4];
-    is_refused(rt.alloc(), &fields, CommandStatus::ESME_RINVMSGLEN)?;
-    fields.text = &[5, 0, 3, 1, 1, 1, 4, 0x36];
-    is_refused(rt.alloc(), &fields, CommandStatus::ESME_RINVEXPIRY)?;
-    fields.validity = b"000000000030000R";
-    is_refused(rt.alloc(), &fields, CommandStatus::ESME_RINVSCHED)?;
-    fields.schedule = b"";
-    let submission = accepted(rt.alloc(), &fields)?;
-    assert_eq!(rt; submission.limit.seconds(), 1_709_251_198 + 30);
     Ok(())
 }
 
-// 3GPP TS 23.040 9.2.3.24: 20 parts of 152 septets, and one septet more.
+// then the parameters,
+fn parameters_are_judged(alloc: Global, fields: &mut Fields<'static>) -> Result<(), Fail> {
+    is_refused(alloc, fields, CommandStatus::ESME_RINVPARLEN)?;
+    fields.reference = Some(&[0, 1]);
+    is_refused(alloc, fields, CommandStatus::ESME_ROPTPARNOTALLWD)?;
+    fields.reference = None;
+    is_refused(alloc, fields, CommandStatus::ESME_ROPTPARNOTALLWD)?;
+    fields.payload = None;
+    Ok(())
+}
+
+// then the text,
+fn text_is_judged(alloc: Global, fields: &mut Fields<'static>) -> Result<(), Fail> {
+    is_refused(alloc, fields, CommandStatus::ESME_RSUBMITFAIL)?;
+    fields.data_coding = 8;
+    is_refused(alloc, fields, CommandStatus::ESME_RSUBMITFAIL)?;
+    fields.text = &[5, 0, 3, 1, 1, 1, 4];
+    is_refused(alloc, fields, CommandStatus::ESME_RINVMSGLEN)?;
+    fields.text = &[5, 0, 3, 1, 1, 1, 4, 0x36];
+    Ok(())
+}
+
+// then the times.
+fn times_are_judged(alloc: Global, fields: &mut Fields<'static>) -> Result<(), Fail> {
+    is_refused(alloc, fields, CommandStatus::ESME_RINVEXPIRY)?;
+    fields.validity = b"000000000030000R";
+    is_refused(alloc, fields, CommandStatus::ESME_RINVSCHED)?;
+    fields.schedule = b"";
+    Ok(())
+}
+
+fn is_valid_for(alloc: Global, fields: &Fields<'_>, seconds: u64) -> Result<bool, Fail> {
+    let submission = accepted(alloc, fields)?;
+    Ok(submission.limit.seconds().saturating_sub(NOW) == seconds)
+}
+
+#[test]
+fn refusals_come_in_order(rt: HostRuntime) -> Result<(), Fail> {
+    let mut fields = all_wrong();
+    addresses_are_judged(rt.alloc(), &mut fields)?;
+    parameters_are_judged(rt.alloc(), &mut fields)?;
+    text_is_judged(rt.alloc(), &mut fields)?;
+    times_are_judged(rt.alloc(), &mut fields)?;
+    holds(is_valid_for(rt.alloc(), &fields, 30)?, "30 seconds")
+}
+
+// A payload of a data_coding.
+fn payload<'a>(data_coding: u8, octets: &'a [u8]) -> Fields<'a> {
+    Fields {
+        data_coding,
+        text: b"",
+        payload: Some(octets),
+        ..hello()
+    }
+}
+
+fn are_too_many(alloc: Global, data_coding: u8, octets: &[u8]) -> Result<(), Fail> {
+    is_refused(
+        alloc,
+        &payload(data_coding, octets),
+        CommandStatus::ESME_RINVMSGLEN,
+    )
+}
+
+fn are_the_most(alloc: Global, octets: &[u8]) -> Result<bool, Fail> {
+    let submission = accepted(alloc, &payload(0, octets))?;
+    Ok(!submission.rejects_duplicates)
+}
+
+// 3GPP TS 23.040 9.2.3.24: 20 parts of 152 septets.
+#[test]
+fn twenty_parts_are_accepted(rt: HostRuntime) -> Result<(), Fail> {
+    let septets = vec![in rt.alloc(); 0x61u8; 3040]?;
+    holds(are_the_most(rt.alloc(), septets.as_slice())?, "20 parts")
+}
+
+// One septet more, which Latin 1 writes as well.
+fn more_are_refused(alloc: Global, octets: &[u8]) -> Result<(), Fail> {
+    are_too_many(alloc, 0, octets)?;
+    are_too_many(alloc, 3, octets)
+}
+
 #[test]
 fn twenty_parts_are_the_most(rt: HostRuntime) -> Result<(), Fail> {
     let septets = vec![in rt.alloc(); 0x61u8; 3041]?;
-    let most = Fields {
-        text: b"",
-        payload: Some(&septets.as_slice()[..3040]),
-        ..hello()
-    };
-    let submission = accepted(rt.alloc(), &most)?;
-    assert_eq!(rt; submission.rejects_duplicates, false);
-    let over = Fields {
-        payload: Some(septets.as_slice()),
-        ..most
-    };
-    is_refused(rt.alloc(), &over, CommandStatus::ESME_RINVMSGLEN)?;
-    let latin = Fields {
-        data_coding: 3,
-        ..over
-    };
-    is_refused(rt.alloc(), &latin, CommandStatus::ESME_RINVMSGLEN)
+    more_are_refused(rt.alloc(), septets.as_slice())
 }
 
 #[test]
@@ -210,29 +270,34 @@ fn a_header_that_came_stays(rt: HostRuntime) -> Result<(), Fail> {
         ..hello()
     };
     let submission = accepted(rt.alloc(), &fields)?;
-    let wanted: [u8; 7] = [0x05, 0x00, 0x03, 0x2A, 0x02, 0x01, 0xC2];
-    assert_eq!(rt; carries(&submission, &wanted, 8), true);
-    Ok(())
+    holds(
+        carries(&submission, b"\x05\x00\x03\x2A\x02\x01\xC2", 8),
+        "a header",
+    )
 }
 
-// sar values are a header of a 16-bit reference; those of part 3 of 2 are ignored.
-#[test]
-fn sar_values_are_a_header(rt: HostRuntime) -> Result<(), Fail> {
-    let fields = Fields {
+// The text a, part of two by sar values.
+fn sar(number: &'static [u8]) -> Fields<'static> {
+    Fields {
         text: b"a",
         reference: Some(&[0, 0x2A]),
         total: Some(&[2]),
-        number: Some(&[1]),
+        number: Some(number),
         ..hello()
-    };
-    let submission = accepted(rt.alloc(), &fields)?;
-    let wanted: [u8; 8] = [0x06, 0x08, 0x04, 0x00, 0x2A, 0x02, 0x01, 0x61];
-    assert_eq!(rt; carries(&submission, &wanted, 9), true);
-    let ignored = Fields {
-        number: Some(&[3]),
-        ..fields
-    };
-    let whole = accepted(rt.alloc(), &ignored)?;
-    assert_eq!(rt; says(&whole, b"a"), true);
-    Ok(())
+    }
+}
+
+#[test]
+fn sar_values_are_a_header(rt: HostRuntime) -> Result<(), Fail> {
+    let submission = accepted(rt.alloc(), &sar(&[1]))?;
+    holds(
+        carries(&submission, b"\x06\x08\x04\x00\x2A\x02\x01\x61", 9),
+        "a header of a 16-bit reference",
+    )
+}
+
+#[test]
+fn sar_values_of_part_3_of_2_are_ignored(rt: HostRuntime) -> Result<(), Fail> {
+    let submission = accepted(rt.alloc(), &sar(&[3]))?;
+    holds(says(&submission, b"a"), "a text")
 }

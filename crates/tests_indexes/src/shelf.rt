@@ -1,0 +1,134 @@
+//! What waits for a handset, and its line.
+use crate::rows::{at, digits, holds, message};
+use sms_base::{Holder, Kind};
+use sms_waiting::{Load, Shelf};
+use std::test::Fail;
+
+fn load(id: u32, number: u8, priority: u8, seconds: u32) -> Result<Load, Fail> {
+    Ok(Load {
+        id: message(id)?,
+        number,
+        reference: number,
+        priority,
+        due: at(seconds)?,
+    })
+}
+
+// The message that goes first at that time, and the number of its part.
+fn next(shelf: &Shelf, seconds: u32) -> Result<(u64, u8), Fail> {
+    match shelf.next(at(seconds)?) {
+        Some(load) => Ok((load.id.number(), load.number)),
+        None => Ok((0, 0)),
+    }
+}
+
+fn goes_next(shelf: &Shelf, seconds: u32, id: u64, number: u8) -> Result<bool, Fail> {
+    Ok(next(shelf, seconds)? == (id, number))
+}
+
+// Message 1 in two parts, the second due in an hour, and message 2 of a higher priority, due in a minute.
+fn put_three(shelf: &mut Shelf) -> Result<(), Fail> {
+    shelf.put(load(1, 1, 0, 0)?)?;
+    shelf.put(load(1, 2, 0, 3_600)?)?;
+    shelf.put(load(2, 1, 1, 60)?)?;
+    Ok(())
+}
+
+fn waits_in_order(shelf: &mut Shelf) -> Result<(), Fail> {
+    put_three(shelf)?;
+    holds(goes_next(shelf, 0, 1, 1)?, "what is due")?;
+    holds(goes_next(shelf, 60, 2, 1)?, "what has the higher priority")?;
+    let first = load(1, 1, 0, 0)?;
+    holds(
+        !shelf.waits_beside(at(0)?, &first) && shelf.waits_beside(at(60)?, &first),
+        "another one beside",
+    )
+}
+
+fn goes_on(shelf: &mut Shelf) -> Result<(), Fail> {
+    shelf.remove(message(2)?, 1);
+    shelf.due_at(at(90)?)?;
+    holds(goes_next(shelf, 90, 1, 1)?, "all is due")?;
+    holds(shelf.load(message(1)?, 2).is_some(), "the second part")?;
+    shelf.withdraw(message(1)?)?;
+    holds(shelf.waiting().is_empty(), "nothing")
+}
+
+#[test]
+fn what_waits_goes_in_order(rt: HostRuntime) -> Result<(), Fail> {
+    let number = digits("447700900456")?;
+    let mut shelf = Shelf::new(rt.alloc(), number);
+    waits_in_order(&mut shelf)?;
+    goes_on(&mut shelf)
+}
+
+// The reference that comes next at that time.
+fn next_reference(shelf: &Shelf, seconds: u32) -> Result<Option<u8>, Fail> {
+    Ok(shelf.next_reference(&shelf.row_or_new(1), at(seconds)?))
+}
+
+fn gives(shelf: &mut Shelf) -> Result<(), Fail> {
+    holds(next_reference(shelf, 0)? == Some(0), "the first")?;
+    shelf.give(shelf.row_or_new(1), 0, at(0)?)?;
+    holds(next_reference(shelf, 0)? == Some(1), "the second")?;
+    holds(shelf.row().is_some(), "the handset's row")
+}
+
+#[test]
+fn references_are_given_in_turn(rt: HostRuntime) -> Result<(), Fail> {
+    let number = digits("447700900456")?;
+    let mut shelf = Shelf::new(rt.alloc(), number);
+    gives(&mut shelf)
+}
+
+// How many frames go out as a transaction begins.
+fn begins(shelf: &mut Shelf) -> Result<usize, Fail> {
+    let frames = shelf.begin(at(0)?, 0, Holder::Entry(1), &[1, 0])?;
+    Ok(frames.len())
+}
+
+// How many go out at that time.
+fn fires(shelf: &mut Shelf, seconds: u32) -> Result<usize, Fail> {
+    let out = shelf.fire(at(seconds)?)?;
+    Ok(out.frames.len())
+}
+
+// How many go out for a frame.
+fn takes(shelf: &mut Shelf, frame: &[u8]) -> Result<usize, Fail> {
+    let out = shelf.take(frame)?;
+    Ok(out.frames.len())
+}
+
+fn replies(shelf: &mut Shelf) -> Result<usize, Fail> {
+    let frames = shelf.reply(at(20)?, Kind::Ack, 5, Holder::Entry(1), &[3, 5])?;
+    Ok(frames.len())
+}
+
+// A transaction begins and is repeated by its timer; the handset's RP-SMMA is acknowledged and answered.
+fn goes_both_ways(shelf: &mut Shelf) -> Result<(), Fail> {
+    shelf.raise();
+    holds(shelf.line().is_ready(), "a line that is up")?;
+    holds(begins(shelf)? == 1, "CP-DATA")?;
+    holds(fires(shelf, 10)? == 1, "CP-DATA again")?;
+    holds(takes(shelf, b"\x09\x01\x02\x06\x05")? == 1, "CP-ACK")?;
+    holds(replies(shelf)? == 1, "an answer")
+}
+
+fn copy_fires(shelf: &Shelf) -> Result<usize, Fail> {
+    let mut copy = shelf.copy()?;
+    fires(&mut copy, 20)
+}
+
+fn goes_in_a_copy(shelf: &mut Shelf) -> Result<(), Fail> {
+    goes_both_ways(shelf)?;
+    holds(copy_fires(shelf)? == 1, "a copy")?;
+    shelf.lower();
+    holds(!shelf.line().is_ready(), "a line that is down")
+}
+
+#[test]
+fn a_line_carries_both_ways(rt: HostRuntime) -> Result<(), Fail> {
+    let number = digits("447700900456")?;
+    let mut shelf = Shelf::new(rt.alloc(), number);
+    goes_in_a_copy(&mut shelf)
+}
