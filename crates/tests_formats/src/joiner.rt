@@ -2,7 +2,8 @@
 use crate::rows::{are, holds, is_code};
 use sms_alphabet::Coding;
 use sms_base::Octets;
-use sms_concat::{AddError, ConcatKey, ConcatReference, Content, Joiner, Part, join, split};
+use sms_concat::{ConcatKey, ConcatReference, Content, Part, join, split};
+use sms_joiner::{AddError, Joiner};
 use std::alloc::Global;
 use std::test::Fail;
 
@@ -34,7 +35,6 @@ fn taken(joiner: &mut Joiner, alloc: Global, total: u8, numbers: &[u8]) -> Resul
     for number in numbers {
         match joiner.add(part(alloc, total, *number)?) {
             Ok(()) | Err(AddError::NoPlace(_)) => {}
-            Err(AddError::NoMemory(_)) => return Err(Fail::new("no memory")),
         }
     }
     Ok(joiner.parts().len().saturating_sub(before))
@@ -78,7 +78,8 @@ fn three_join(joiner: &mut Joiner, alloc: Global) -> Result<bool, Fail> {
 fn refuses(joiner: &mut Joiner, part: Part, code: &str, number: u8) -> bool {
     match joiner.add(part) {
         Ok(()) => false,
-        Err(refusal) => is_code(refusal.code(), code) && is_numbered(&refusal.into_part(), number),
+        Err(refusal) => is_code(Some(refusal.code()), code)
+            && is_numbered(&refusal.into_part(), number),
     }
 }
 
@@ -91,7 +92,7 @@ fn is_numbered(part: &Part, number: u8) -> bool {
 
 #[test]
 fn parts_join_in_whatever_order_they_come(rt: HostRuntime) -> Result<(), Fail> {
-    let mut joiner = Joiner::new(rt.alloc(), key(3, 0));
+    let mut joiner = Joiner::new(rt.alloc(), key(3, 0))?;
     holds(two_wait(&mut joiner, rt.alloc())?, "two parts")?;
     holds(others_are_refused(&mut joiner, rt.alloc())?, "other parts")?;
     holds(three_join(&mut joiner, rt.alloc())?, "three parts")?;
@@ -111,7 +112,7 @@ fn part_of_another_scheme(alloc: Global) -> Result<Part, Fail> {
 #[test]
 fn a_part_of_another_scheme_does_not_join(rt: HostRuntime) -> Result<(), Fail> {
     let other = part_of_another_scheme(rt.alloc())?;
-    let mut joiner = Joiner::new(rt.alloc(), key(2, 1));
+    let mut joiner = Joiner::new(rt.alloc(), key(2, 1))?;
     holds(joiner.add(other).is_ok(), "the other part")?;
     holds(
         taken(&mut joiner, rt.alloc(), 2, &[1])? == 1,
@@ -126,7 +127,7 @@ fn a_part_of_another_scheme_does_not_join(rt: HostRuntime) -> Result<(), Fail> {
 // A copy stays as it is while the joiner goes on.
 #[test]
 fn a_copy_stays_as_it_is(rt: HostRuntime) -> Result<(), Fail> {
-    let mut joiner = Joiner::new(rt.alloc(), key(3, 1));
+    let mut joiner = Joiner::new(rt.alloc(), key(3, 1))?;
     let copy = joiner.copy(rt.alloc())?;
     holds(taken(&mut joiner, rt.alloc(), 3, &[1])? == 1, "a part")?;
     holds(
@@ -145,7 +146,7 @@ fn takes_most(joiner: &mut Joiner, alloc: Global) -> Result<(), Fail> {
 
 #[test]
 fn the_most_parts_join(rt: HostRuntime) -> Result<(), Fail> {
-    let mut joiner = Joiner::new(rt.alloc(), key(255, 255));
+    let mut joiner = Joiner::new(rt.alloc(), key(255, 255))?;
     takes_most(&mut joiner, rt.alloc())?;
     let copy = joiner.copy(rt.alloc())?;
     holds(joined_len(rt.alloc(), &copy)? == Some(255), "255 parts")
@@ -183,7 +184,7 @@ fn parts_of_text(alloc: Global, length: u16) -> Result<Vec<Part>, Fail> {
 #[test]
 fn the_longest_parts_join(rt: HostRuntime) -> Result<(), Fail> {
     let parts = parts_of_text(rt.alloc(), 3_040)?;
-    let mut joiner = Joiner::new(rt.alloc(), key(20, 1));
+    let mut joiner = Joiner::new(rt.alloc(), key(20, 1))?;
     take_all(&mut joiner, parts)?;
     holds(joined_len(rt.alloc(), &joiner)? == Some(3_040), "a message")?;
     holds(

@@ -1,7 +1,7 @@
 use Rattle.sms_concat.proofs.Joined.{split_joins}
-use Rattle.sms_concat.proofs.Stepwise.{stepwise_is_join}
+use Rattle.sms_joiner.proofs.Stepwise.{stepwise_is_join}
 use Rattle.sms_concat.proofs.Uniqueness.{split_is}
-use Rattle.sms_concat.proofs.laws.steps_join_alike.Goals as goal
+use Rattle.sms_joiner.proofs.laws.steps_join_alike.Goals as goal
 
 pub returns-clause-whole : goal.returns-clause-whole
 returns-clause-whole c = stepwise_is_join

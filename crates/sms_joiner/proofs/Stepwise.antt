@@ -1,5 +1,5 @@
 -- Parts taken one by one: they stand in order, and in whatever order they came they join to what they join to in order.
-use Rattle.std.proofs.Common.{◌≡◌, ℕ, zero, suc, ◌+◌, ◌<◌, ◌≤◌, Bool, true, false, cond, not, ◌&&◌, ◌||◌, eqb, ltb, leb, List, [], ◌∷◌, length, Some, None, refl, sym, ap, subst, ◌∙◌, arith, inl, inr}
+use Rattle.std.proofs.Common.{◌≡◌, ℕ, zero, suc, ◌+◌, ◌<◌, ◌≤◌, Bool, true, false, cond, not, ◌&&◌, ◌||◌, eqb, ltb, leb, List, [], ◌∷◌, ◌++◌, take, drop, length, Some, None, refl, sym, ap, subst, ◌∙◌, arith, inl, inr}
 use Rattle.std.specs.Prelude.{◌⊎◌, ◌↔◌}
 use Rattle.std.specs.List.{insert, position, position_or_len, prefix_len}
 use Rattle.std.specs.Option.{unwrap_or}
@@ -10,7 +10,7 @@ use Rattle.sms_concat.specs.declared.concat_key.ConcatReference.{ConcatReference
 use Rattle.sms_concat.specs.declared.content.Content.{Content}
 use Rattle.sms_concat.specs.declared.content.Part.{Part}
 use Rattle.sms_concat.specs.Joining.{key_or_alone, is_same_reference, bears, bear_from, is_whole, units_of, content_joined}
-use Rattle.sms_concat.specs.StepwiseJoining.{Taken, none_taken, number_of, belongs, has_number, takes, inserted, with_part, is_full, AllBelong, RiseFrom, IsTaken, all_taken, joined_stepwise, AreSameParts}
+use Rattle.sms_joiner.specs.StepwiseJoining.{Taken, none_taken, number_of, belongs, has_number, takes, inserted, with_part, is_full, AllBelong, RiseFrom, IsTaken, all_taken, joined_stepwise, AreSameParts}
 use Rattle.sms_concat.proofs.HeaderKeys.{same_reference, one_reference}
 
 -- ---- the place of a part
@@ -114,7 +114,7 @@ in_by false q p x xs rest h = elim h [
   | inr k ↦ elim (rest k) [ inl e ↦ inl e | inr m ↦ inr (inr m) ]
 ]
 
-in_inserted : (q p : Part) (xs : List Part) → Among q (inserted p xs) → (q ≡ p) ⊎ Among q xs
+pub in_inserted : (q p : Part) (xs : List Part) → Among q (inserted p xs) → (q ≡ p) ⊎ Among q xs
 in_inserted q p [] h = h
 in_inserted q p (x ∷ xs) h = in_by (ltb (number_of p) (number_of x)) q p x xs (in_inserted q p xs) h
 
@@ -122,7 +122,7 @@ here_by : (b : Bool) (p x : Part) (xs : List Part) → Among p (inserted p xs) �
 here_by true p x xs h = inl refl
 here_by false p x xs h = inr h
 
-here_inserted : (p : Part) (xs : List Part) → Among p (inserted p xs)
+pub here_inserted : (p : Part) (xs : List Part) → Among p (inserted p xs)
 here_inserted p [] = inl refl
 here_inserted p (x ∷ xs) = here_by (ltb (number_of p) (number_of x)) p x xs (here_inserted p xs)
 
@@ -130,11 +130,11 @@ there_by : (b : Bool) (q p x : Part) (xs : List Part) → (Among q xs → Among 
 there_by true q p x xs rest h = inr h
 there_by false q p x xs rest h = elim h [ inl e ↦ inl e | inr k ↦ inr (rest k) ]
 
-there_inserted : (q p : Part) (xs : List Part) → Among q xs → Among q (inserted p xs)
+pub there_inserted : (q p : Part) (xs : List Part) → Among q xs → Among q (inserted p xs)
 there_inserted q p [] h = absurd h
 there_inserted q p (x ∷ xs) h = there_by (ltb (number_of p) (number_of x)) q p x xs (there_inserted q p xs) h
 
-above : (low : ℕ) (q : Part) (xs : List Part) → RiseFrom low xs → Among q xs → low < number_of q
+pub above : (low : ℕ) (q : Part) (xs : List Part) → RiseFrom low xs → Among q xs → low < number_of q
 above low q [] h k = absurd k
 above low q (x ∷ xs) h k = elim k [
   | inl e ↦ subst (λ (y : Part). low < number_of y) (sym e) h.0
@@ -363,7 +363,7 @@ many_there (suc j) low (x ∷ xs) h all =
     let rest = many_there j (number_of x) xs h.1 (rest_there j low x xs next all) in
     omega (arith, rest)
 
-all_within : (r : ConcatReference) (t : ℕ) (xs : List Part) → AllBelong r t xs → Within t xs
+pub all_within : (r : ConcatReference) (t : ℕ) (xs : List Part) → AllBelong r t xs → Within t xs
 all_within r t [] h p m = absurd m
 all_within r t (x ∷ xs) h p m = elim m [
   | inl e ↦ subst (λ (y : Part). number_of y ≤ t) (sym e) (belongs_parts r t x h.0).high
@@ -443,8 +443,35 @@ pub inserted_at : (p : Part) (xs ys : List Part) (n number : ℕ) → number ≡
 inserted_at p xs ys n number is same e =
     (found_place p xs n (e ∙ ap (λ (k : ℕ). unwrap_or (position (λ x. ltb k (number_of x)) ys) (length ys)) is ∙ ap (λ (l : List Part). unwrap_or (position (λ x. ltb (number_of p) (number_of x)) l) (length l)) same)).0
 
-pub refused_stays : (r : ConcatReference) (total : ℕ) (old new : List Part) → IsTaken (record { reference = r; total = total; parts = old }) → new ≡ old → IsTaken (record { reference = r; total = total; parts = new })
-refused_stays r total old new h same = subst (λ (l : List Part). IsTaken (record { reference = r; total = total; parts = l })) (sym same) h
+-- what stands before the place of a part, the part, and what stands behind it
+pub inserted_between : (p : Part) (xs ys front back : List Part) (n number : ℕ) → number ≡ number_of p → ys ≡ xs → n ≡ unwrap_or (position (λ x. ltb number (number_of x)) ys) (length ys)
+    → front ≡ take n ys → back ≡ drop n ys → front ++ p ∷ back ≡ inserted p xs
+inserted_between p xs ys front back n number is same e f b =
+    ap (λ (l : List Part). l ++ p ∷ back) f ∙ ap (λ (l : List Part). take n ys ++ p ∷ l) b ∙ ap (λ (l : List Part). insert l n p) same
+    ∙ inserted_at p xs ys n number is same e
+
+-- there is room for a part that is taken
+length_more : (p : Part) (xs : List Part) → length (inserted p xs) ≡ length xs + 1
+length_more p [] = refl
+length_more p (x ∷ xs) = by (ltb (number_of p) (number_of x)) (length_more p xs)
+  where
+    by : (b : Bool) → length (inserted p xs) ≡ length xs + 1 → length (cond b (p ∷ x ∷ xs) (x ∷ inserted p xs)) ≡ length (x ∷ xs) + 1
+    by true e = omega arith
+    by false e = omega (arith, e)
+
+pub full_with : (t : Taken) (p : Part) (n : ℕ) → n ≡ length t.parts → eqb (n + 1) t.total ≡ is_full (with_part t p)
+full_with t p n e =
+    let more : n + 1 ≡ length (inserted p t.parts) = e2 (length_more p t.parts) in
+    ap (λ (k : ℕ). eqb k t.total) more
+  where
+    e2 : length (inserted p t.parts) ≡ length t.parts + 1 → n + 1 ≡ length (inserted p t.parts)
+    e2 h = omega (arith, e, h)
+
+pub room_left : (t : Taken) (p : Part) (capacity : ℕ) → IsTaken t → t.total ≤ capacity → takes t p ≡ true → length t.parts < capacity
+room_left t p capacity h le e =
+    let more = taken_more t p h e in
+    let few = few_rise 0 t.total (inserted p t.parts) (omega arith) more.in_order (all_within t.reference t.total (inserted p t.parts) more.of_message) in
+    omega (arith, few, length_more p t.parts, le)
 
 pub test_is_all : (t : Taken) (n total : ℕ) → IsTaken t → n ≡ length t.parts → total ≡ t.total → (eqb n total ≡ true) ↔ ((number : ℕ) → 0 < number → number ≤ t.total → has_number number t.parts ≡ true)
 test_is_all t n total h e f =

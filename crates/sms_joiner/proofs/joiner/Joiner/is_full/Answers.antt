@@ -1,7 +1,7 @@
 use Rattle.std.proofs.Common.{length, ap, ◌∙◌}
-use Rattle.sms_concat.specs.StepwiseJoining.{Taken}
-use Rattle.sms_concat.proofs.Stepwise.{test_is_all}
-use Rattle.sms_concat.proofs.joiner.Joiner.is_full.Goals as goal
+use Rattle.sms_joiner.specs.StepwiseJoining.{Taken}
+use Rattle.sms_joiner.proofs.Stepwise.{test_is_all}
+use Rattle.sms_joiner.proofs.joiner.Joiner.is_full.Goals as goal
 
 pub returns-clause-each : goal.returns-clause-each
 returns-clause-each c =

@@ -1,5 +1,5 @@
-use Rattle.sms_concat.proofs.Stepwise.{full_is_all, full_joins, joined_is_full}
-use Rattle.sms_concat.proofs.laws.full_is_each_number.Goals as goal
+use Rattle.sms_joiner.proofs.Stepwise.{full_is_all, full_joins, joined_is_full}
+use Rattle.sms_joiner.proofs.laws.full_is_each_number.Goals as goal
 
 pub returns-clause-each : goal.returns-clause-each
 returns-clause-each c = full_is_all

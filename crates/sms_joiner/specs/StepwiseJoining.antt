@@ -6,8 +6,8 @@ use Rattle.sms_concat.specs.declared.concat_key.ConcatKey.{ConcatKey}
 use Rattle.sms_concat.specs.declared.concat_key.ConcatReference.{ConcatReference}
 use Rattle.sms_concat.specs.declared.content.Content.{Content}
 use Rattle.sms_concat.specs.declared.content.Part.{Part}
-use Rattle.sms_concat.specs.declared.add_error.AddError.{AddError}
-use Rattle.sms_concat.specs.declared.add_error.AddError.TheVariants.{NoPlace, NoMemory}
+use Rattle.sms_joiner.specs.declared.add_error.AddError.{AddError}
+use Rattle.sms_joiner.specs.declared.add_error.AddError.TheVariants.{NoPlace}
 use Rattle.sms_concat.specs.Joining.{key_or_alone, is_same_reference, content_joined}
 
 -- the message, by the reference and the total of its key, and the parts of it that were taken, in the order of their numbers
@@ -70,7 +70,6 @@ pub record IsTaken (taken : Taken) : Type 0 where
 abbrev pub Adds : Result (Unit {0}) AddError → Taken → Taken → Part → Type 0
 Adds (Ok done) old new part = (takes old part ≡ true) × (new ≡ with_part old part)
 Adds (Err (NoPlace back)) old new part = (takes old part ≡ false) × (back ≡ part) × (new ≡ old)
-Adds (Err (NoMemory back)) old new part = (takes old part ≡ true) × (back ≡ part) × (new ≡ old)
 
 -- ---- all that come
 
