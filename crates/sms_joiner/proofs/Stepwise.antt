@@ -181,7 +181,7 @@ one_order low other (x ∷ xs) (y ∷ ys) h k there back =
     let rest = one_order (number_of x) (number_of y) xs ys h.1 k.1 (λ p m. later_part x y p xs ys e h.1 m (there p (inr m))) (λ p m. later_part y x p ys xs (sym e) k.1 m (back p (inr m))) in
     ap (λ (z : Part). z ∷ xs) e ∙ ap (λ (l : List Part). y ∷ l) rest
 
-found_number : (n : ℕ) (xs : List Part) → has_number n xs ≡ true → (q : Part) × (Among q xs × (number_of q ≡ n))
+pub found_number : (n : ℕ) (xs : List Part) → has_number n xs ≡ true → (q : Part) × (Among q xs × (number_of q ≡ n))
 found_number n [] e = absurd cc
 found_number n (x ∷ xs) e = elim (or_cases (eqb (number_of x) n) (has_number n xs) e) [
   | inl a ↦ (x, (inl refl, eqb-true (number_of x) n a))
