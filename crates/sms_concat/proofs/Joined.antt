@@ -13,49 +13,49 @@ use Rattle.sms_concat.proofs.Numbering.{way, lone, uncut, cut, length_numbered}
 
 -- ---- the walk over the numbers
 
-pub record Bearing (reference : ConcatReference) (total dcs : ℕ) (parts : List Part) (number index : ℕ) : Type 0 where
-  pub at : number ≡ index
-  pub same : bear_from reference total dcs 1 parts ≡ bear_from reference total dcs (number + 1) (drop index parts)
+pub record Bearing (reference : ConcatReference) (total dcs below : ℕ) (parts : List Part) (number index : ℕ) : Type 0 where
+  pub at : number ≡ below + index
+  pub same : bear_from reference total dcs (below + 1) parts ≡ bear_from reference total dcs (number + 1) (drop index parts)
 
-pub bearing_none : (reference : ConcatReference) (total dcs : ℕ) (parts : List Part) → Bearing reference total dcs parts 0 0
-bearing_none reference total dcs parts = record { at = refl; same = ap (λ (n : ℕ). bear_from reference total dcs n parts) (let e : 1 ≡ 0 + 1 = omega arith in e) }
+pub bearing_none : (reference : ConcatReference) (total dcs below : ℕ) (parts : List Part) → Bearing reference total dcs below parts below 0
+bearing_none reference total dcs below parts = record { at = omega arith; same = refl }
 
-pub bearing_one : (reference : ConcatReference) (total dcs : ℕ) (parts : List Part) (number index : ℕ) (part : Part) → index < length parts → part ≡ get_or parts index part → Bearing reference total dcs parts number index
-    → bear_from reference total dcs 1 parts ≡ bears reference total dcs (number + 1) part && bear_from reference total dcs (number + 1 + 1) (drop (index + 1) parts)
-bearing_one reference total dcs parts number index part lt is b =
+pub bearing_one : (reference : ConcatReference) (total dcs below : ℕ) (parts : List Part) (number index : ℕ) (part : Part) → index < length parts → part ≡ get_or parts index part → Bearing reference total dcs below parts number index
+    → bear_from reference total dcs (below + 1) parts ≡ bears reference total dcs (number + 1) part && bear_from reference total dcs (number + 1 + 1) (drop (index + 1) parts)
+bearing_one reference total dcs below parts number index part lt is b =
     b.same ∙ at_drop_more (λ (ps : List Part). bear_from reference total dcs (number + 1) ps) parts index part lt
     ∙ ap (λ (p : Part). bears reference total dcs (number + 1) p && bear_from reference total dcs (number + 1 + 1) (drop (index + 1) parts)) (sym is)
 
-pub bearing_more : (reference : ConcatReference) (total dcs : ℕ) (parts : List Part) (number index : ℕ) (part : Part) (test : Bool) → index < length parts → part ≡ get_or parts index part → test ≡ bears reference total dcs (number + 1) part → test ≡ true → Bearing reference total dcs parts number index → Bearing reference total dcs parts (number + 1) (index + 1)
-bearing_more reference total dcs parts number index part test lt is t holds b = record {
-  at = ap (λ (n : ℕ). n + 1) b.at;
-  same = bearing_one reference total dcs parts number index part lt is b ∙ ap (λ (x : Bool). x && bear_from reference total dcs (number + 1 + 1) (drop (index + 1) parts)) (sym t ∙ holds);
+pub bearing_more : (reference : ConcatReference) (total dcs below : ℕ) (parts : List Part) (number index : ℕ) (part : Part) (test : Bool) → index < length parts → part ≡ get_or parts index part → test ≡ bears reference total dcs (number + 1) part → test ≡ true → Bearing reference total dcs below parts number index → Bearing reference total dcs below parts (number + 1) (index + 1)
+bearing_more reference total dcs below parts number index part test lt is t holds b = record {
+  at = omega (arith, b.at);
+  same = bearing_one reference total dcs below parts number index part lt is b ∙ ap (λ (x : Bool). x && bear_from reference total dcs (number + 1 + 1) (drop (index + 1) parts)) (sym t ∙ holds);
 }
 
-pub bearing_not : (reference : ConcatReference) (total dcs : ℕ) (parts : List Part) (number index : ℕ) (part : Part) (test : Bool) → index < length parts → part ≡ get_or parts index part → test ≡ bears reference total dcs (number + 1) part → test ≡ false → Bearing reference total dcs parts number index → false ≡ bear_from reference total dcs 1 parts
-bearing_not reference total dcs parts number index part test lt is t fails b =
-    sym (bearing_one reference total dcs parts number index part lt is b ∙ ap (λ (x : Bool). x && bear_from reference total dcs (number + 1 + 1) (drop (index + 1) parts)) (sym t ∙ fails))
+pub bearing_not : (reference : ConcatReference) (total dcs below : ℕ) (parts : List Part) (number index : ℕ) (part : Part) (test : Bool) → index < length parts → part ≡ get_or parts index part → test ≡ bears reference total dcs (number + 1) part → test ≡ false → Bearing reference total dcs below parts number index → false ≡ bear_from reference total dcs (below + 1) parts
+bearing_not reference total dcs below parts number index part test lt is t fails b =
+    sym (bearing_one reference total dcs below parts number index part lt is b ∙ ap (λ (x : Bool). x && bear_from reference total dcs (number + 1 + 1) (drop (index + 1) parts)) (sym t ∙ fails))
 
-pub bearing_end : (reference : ConcatReference) (total dcs : ℕ) (parts : List Part) (number index : ℕ) → length parts ≤ index → Bearing reference total dcs parts number index → true ≡ bear_from reference total dcs 1 parts
-bearing_end reference total dcs parts number index le b =
+pub bearing_end : (reference : ConcatReference) (total dcs below : ℕ) (parts : List Part) (number index : ℕ) → length parts ≤ index → Bearing reference total dcs below parts number index → true ≡ bear_from reference total dcs (below + 1) parts
+bearing_end reference total dcs below parts number index le b =
     sym (b.same ∙ at_drop_all (λ (ps : List Part). bear_from reference total dcs (number + 1) ps) parts index le)
 
 -- ---- the walk over the units
 
-pub record Gathering (parts : List Part) (units : List ℕ) (index : ℕ) : Type 0 where
-  pub same : units ++ units_of (drop index parts) ≡ units_of parts
+pub record Gathering (before : List ℕ) (parts : List Part) (units : List ℕ) (index : ℕ) : Type 0 where
+  pub same : units ++ units_of (drop index parts) ≡ before ++ units_of parts
 
-pub gathering_none : (parts : List Part) (units : List ℕ) → units ≡ [] → Gathering parts units 0
-gathering_none parts units none = record { same = ap (λ (us : List ℕ). us ++ units_of parts) none }
+pub gathering_none : (before : List ℕ) (parts : List Part) → Gathering before parts before 0
+gathering_none before parts = record { same = refl }
 
-pub gathering_more : (parts : List Part) (units units' : List ℕ) (index : ℕ) (part : Part) → index < length parts → part ≡ get_or parts index part → units' ≡ units ++ part.content.units → Gathering parts units index → Gathering parts units' (index + 1)
-gathering_more parts units units' index part lt is grown g =
+pub gathering_more : (before : List ℕ) (parts : List Part) (units units' : List ℕ) (index : ℕ) (part : Part) → index < length parts → part ≡ get_or parts index part → units' ≡ units ++ part.content.units → Gathering before parts units index → Gathering before parts units' (index + 1)
+gathering_more before parts units units' index part lt is grown g =
     let one : units_of (drop index parts) ≡ part.content.units ++ units_of (drop (index + 1) parts) =
     at_drop_more (λ (ps : List Part). units_of ps) parts index part lt ∙ ap (λ (p : Part). p.content.units ++ units_of (drop (index + 1) parts)) (sym is) in
     record { same = ap (λ (us : List ℕ). us ++ units_of (drop (index + 1) parts)) grown ∙ append_assoc units part.content.units (units_of (drop (index + 1) parts)) ∙ ap (λ (us : List ℕ). units ++ us) (sym one) ∙ g.same }
 
-pub gathering_end : (parts : List Part) (units : List ℕ) (index : ℕ) → length parts ≤ index → Gathering parts units index → units ≡ units_of parts
-gathering_end parts units index le g =
+pub gathering_end : (before : List ℕ) (parts : List Part) (units : List ℕ) (index : ℕ) → length parts ≤ index → Gathering before parts units index → units ≡ before ++ units_of parts
+gathering_end before parts units index le g =
     sym (append-nil units) ∙ ap (λ (us : List ℕ). units ++ us) (sym (at_drop_all (λ (ps : List Part). units_of ps) parts index le)) ∙ g.same
 
 -- ---- the parts of a split join

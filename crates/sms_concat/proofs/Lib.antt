@@ -5,7 +5,6 @@ pub mod Joined
 pub mod Numbering
 pub mod Uniqueness
 pub mod HeaderKeys
-pub mod Stepwise
 pub mod Room
 pub mod Tallies
 pub mod Bodies

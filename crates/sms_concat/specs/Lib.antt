@@ -4,7 +4,6 @@ pub mod FaultCodes
 pub mod HeaderGrammar
 pub mod Joining
 pub mod Splitting
-pub mod StepwiseJoining
 pub mod TextContent
 pub mod UserData
 pub mod WholeUnits

@@ -1,5 +1,5 @@
 //! The parts of a message joined.
-ghost use Rattle.std.specs.Prelude.{◌≡◌, ◌<◌, ◌-◌, ◌^◌, IfOk, OnErr, Some, length, min};
+ghost use Rattle.std.specs.Prelude.{◌≡◌, ◌+◌, ◌++◌, ◌<◌, ◌-◌, ◌^◌, IfOk, OnErr, OnOk, Some, length, min};
 ghost use Rattle.sms_concat.specs.declared.content.Content.{Content as ContentOf};
 ghost use Rattle.sms_concat.specs.Joining.{key_or_alone, is_same_reference, bears, bear_from, is_whole, units_of, content_joined};
 
@@ -9,7 +9,7 @@ use sms_base::Octets;
 use std::alloc::{AllocError, Global};
 
 /// The key of a part; without one it counts as part 1 of 1.
-pub(crate) fn key_or_alone(key: Option<ConcatKey>) -> ConcatKey
+pub fn key_or_alone(key: Option<ConcatKey>) -> ConcatKey
     ensures { result ≡ key_or_alone key }
 {
     match key {
@@ -23,7 +23,7 @@ pub(crate) fn key_or_alone(key: Option<ConcatKey>) -> ConcatKey
 }
 
 /// Whether references are one: in width and in number.
-pub(crate) fn is_same_reference(one: ConcatReference, other: ConcatReference) -> bool
+pub fn is_same_reference(one: ConcatReference, other: ConcatReference) -> bool
     ensures { result ≡ is_same_reference one other }
 {
     match (one, other) {
@@ -33,23 +33,29 @@ pub(crate) fn is_same_reference(one: ConcatReference, other: ConcatReference) ->
     }
 }
 
-// Whether the part bears the number under the reference and the total, in the data coding scheme.
-fn bears(reference: ConcatReference, total: u8, dcs: u8, number: u8, part: &Part) -> bool
+/// Whether the part bears the number under the reference and the total, in the data coding scheme.
+pub fn bears(reference: ConcatReference, total: u8, dcs: u8, number: usize, part: &Part) -> bool
     ensures { result ≡ bears reference total dcs number part.now }
 {
     let key = key_or_alone(part.key);
     is_same_reference(key.reference, reference)
         && key.total == total
-        && key.number == number
+        && usize::from(key.number) == number
         && part.content.dcs == dcs
 }
 
-// Whether the parts bear the numbers from 1 on.
-fn bear_all(reference: ConcatReference, total: u8, dcs: u8, parts: &[Part]) -> bool
-    requires { length parts.now < 256 }
-    ensures { result ≡ bear_from reference total dcs 1 parts.now }
+/// Whether the parts bear the numbers above that one, in order.
+pub fn bear_all(
+    reference: ConcatReference,
+    total: u8,
+    dcs: u8,
+    below: usize,
+    parts: &[Part],
+) -> bool
+    requires { below + length parts.now < 2 ^ 64 }
+    ensures { result ≡ bear_from reference total dcs (below + 1) parts.now }
 {
-    let mut number: u8 = 0;
+    let mut number = below;
     for part in parts {
         number += 1;
         if !bears(reference, total, dcs, number, part) {
@@ -68,13 +74,13 @@ fn is_whole(parts: &[Part]) -> bool
         [first, ..] => {
             let key = key_or_alone(first.key);
             usize::from(key.total) == parts.len()
-                && bear_all(key.reference, key.total, first.content.dcs, parts)
+                && bear_all(key.reference, key.total, first.content.dcs, 0, parts)
         }
     }
 }
 
-// How many units the parts have; past all memory, the greatest number.
-fn count_units(parts: &[Part]) -> usize
+/// How many units the parts have; past all memory, the greatest number.
+pub fn count_units(parts: &[Part]) -> usize
     ensures { result ≡ min (2 ^ 64 - 1) (length (units_of parts.now)) }
 {
     let mut count: usize = 0;
@@ -84,14 +90,22 @@ fn count_units(parts: &[Part]) -> usize
     count
 }
 
+/// Puts the units of the parts, in order, behind others.
+pub fn add_units(units: &mut Octets, parts: &[Part]) -> Result<(), AllocError>
+    ensures { OnOk result (units.new ≡ units.old ++ units_of parts.now) }
+{
+    for part in parts {
+        units.append(part.content.units.as_slice())?;
+    }
+    Ok(())
+}
+
 // The units of the parts, in order.
 fn units_of(alloc: Global, parts: &[Part]) -> Result<Octets, AllocError>
     ensures { IfOk result (λ units. units ≡ units_of parts.now) }
 {
     let mut units = Octets::with_capacity(alloc, count_units(parts))?;
-    for part in parts {
-        units.append(part.content.units.as_slice())?;
-    }
+    add_units(&mut units, parts)?;
     Ok(units)
 }
 

@@ -1,6 +1,5 @@
 //! Laws of headers, of the user data fields, of splitting and of joining, over their definitions alone.
 ghost use Rattle.std.specs.Prelude.{◌≡◌, ◌↔◌, ◌≤◌, ◌<◌, ◌++◌, ◌∷◌, ℕ, Bool, List, [], All, length, true, Result, Ok, Err, Option, Some};
-ghost use Rattle.sms_base.specs.Among.{Among};
 ghost use Rattle.sms_alphabet.specs.DataCodingScheme.{coding_of};
 ghost use Rattle.sms_concat.specs.declared.concat_key.ConcatKey.{ConcatKey as KeyOf};
 ghost use Rattle.sms_concat.specs.declared.concat_key.ConcatReference.{ConcatReference as ReferenceOf};
@@ -13,7 +12,6 @@ ghost use Rattle.sms_concat.specs.declared.header_error.HeaderError.TheVariants.
 ghost use Rattle.sms_concat.specs.HeaderGrammar.{written, header_at, BeginsWith, HeaderIs};
 ghost use Rattle.sms_concat.specs.Joining.{content_joined, is_same_reference};
 ghost use Rattle.sms_concat.specs.Splitting.{IsSplit, IsUncut, split_of};
-ghost use Rattle.sms_concat.specs.StepwiseJoining.{AreSameParts, IsTaken, Taken, has_number, is_full, joined_stepwise, none_taken, takes, with_part};
 ghost use Rattle.sms_concat.specs.UserData.{header_of, header_key, AreUnits, HasRoom, IsPart, IsUserData, part_in, user_data_behind};
 
 /// What is computed of a header from left to right is exactly what the grammar says of its octets.
@@ -66,27 +64,6 @@ pub fn split_parts_are_read()
 /// The parts of a split join to the content.
 pub fn split_parts_join()
     ensures { (content : ContentOf) (reference : ℕ) (parts : List PartOf) → split_of content reference ≡ Ok parts → content_joined parts ≡ Some content }
-{}
-
-/// The parts of a message that joins join to the same content step by step, in whatever order they come, and come some of
-/// them more than once; so do the parts of a split.
-pub fn steps_join_alike()
-    ensures whole { (parts came : List PartOf) (content : ContentOf) → content_joined parts ≡ Some content → AreSameParts came parts → joined_stepwise came ≡ Some content }
-    ensures split { (content : ContentOf) (reference : ℕ) (parts came : List PartOf) → split_of content reference ≡ Ok parts → AreSameParts came parts → joined_stepwise came ≡ Some content }
-{}
-
-/// What a joiner holds stays in order as parts are taken.
-pub fn taken_parts_are_in_order()
-    ensures none { (key : KeyOf) → IsTaken (none_taken key) }
-    ensures more { (taken : Taken) (part : PartOf) → IsTaken taken → takes taken part ≡ true → IsTaken (with_part taken part) }
-{}
-
-/// A joiner is full exactly where each number from 1 to the total is there. What joins is full; and a full joiner whose parts
-/// have one data coding scheme joins.
-pub fn full_is_each_number()
-    ensures each { (taken : Taken) → IsTaken taken → (is_full taken ≡ true) ↔ ((number : ℕ) → 0 < number → number ≤ taken.total → has_number number taken.parts ≡ true) }
-    ensures joined { (taken : Taken) (content : ContentOf) → IsTaken taken → content_joined taken.parts ≡ Some content → is_full taken ≡ true }
-    ensures joins { (taken : Taken) (dcs : ℕ) → IsTaken taken → 0 < taken.total → is_full taken ≡ true → ((part : PartOf) → Among part taken.parts → part.content.dcs ≡ dcs) → (content : ContentOf) × (content_joined taken.parts ≡ Some content) }
 {}
 
 /// The number of a header's key is one from 1 to its total.

@@ -62,12 +62,13 @@ use Rattle.sms_outbox.specs.declared.notice.Notice.{Notice}
 use Rattle.sms_outbox.specs.Keys.{notice_key, out_key}
 use Rattle.sms_concat.specs.TextContent.{content_of_text}
 use Rattle.sms_handset.specs.Accepted.{Holds, IsPut, StoresAccepted, IsOfDiscarded}
-use Rattle.sms_handset.specs.Draft.{Draft, put_entry, remove_entry, put_mark, remove_mark, put_out, Core, draft_of, link_of, with_turn, remove_out, put_counters}
-use Rattle.sms_handset.specs.Storing.{free_all, drop_all, ended, count_entry, keep, store_part, store_single, completed, marked}
-use Rattle.sms_handset.specs.Receiving.{accept, no_room, single_came, new_part_came, member_came, part_came, deliver_came, note, tpdu_came, acknowledge, data_came, unit_came}
-use Rattle.sms_handset.specs.MemoryAvailable.{has_room, first_notice, notice_failed, put_notice, remove_notice, notice_ended, notice_concluded, freed, want_notice}
-use Rattle.sms_handset.specs.Outbox.{lapse_rows, lapse, offer_entry, is_notice_next, offer_message, offer_wanted, offer_after, follow, offer, entry_concluded, holder_concluded, transfer_ended}
-use Rattle.sms_handset.specs.HandsetEvent.{went_up, frame_came, frame_heard, timed_out, at_moment, ticked, timers_fired, acted, wrote, deleted, discarded}
+use Rattle.sms_handset_draft.specs.Draft.{Draft, put_entry, remove_entry, put_mark, remove_mark, put_out, Core, draft_of, link_of, with_turn, remove_out, put_counters}
+use Rattle.sms_handset_draft.specs.Storing.{free_all, drop_all, ended, count_entry, keep, store_part, store_single, completed, marked}
+use Rattle.sms_handset_draft.specs.Receiving.{accept, no_room, single_came, new_part_came, member_came, part_came, deliver_came, note, tpdu_came, acknowledge, data_came, unit_came}
+use Rattle.sms_handset_draft.specs.MemoryAvailable.{has_room, first_notice, notice_failed, put_notice, remove_notice, notice_ended, notice_concluded, freed, want_notice}
+use Rattle.sms_handset_draft.specs.Outbox.{lapse_rows, lapse, offer_entry, is_notice_next, offer_message, offer_wanted, offer_after, follow, offer, entry_concluded, holder_concluded, transfer_ended}
+use Rattle.sms_handset_draft.specs.FramesAndTicks.{went_up, frame_heard, timed_out, at_moment, timers_fired}
+use Rattle.sms_handset.specs.HandsetEvent.{frame_came, ticked, acted, wrote, deleted, discarded}
 use Rattle.sms_handset.specs.declared.refusal.Refusal.{Refusal}
 use Rattle.sms_handset.specs.OwnersActs.{write_part, write_parts, count_split, fits_outbox, write_to, written, write_split, delete_out, delete_in, discard_group, discard_members, discard_in, discard_at, write, delete, discard}
 use Rattle.sms_handset.specs.declared.refusal.Refusal.TheVariants.{OutboxFull, StillOpen, NoEntry, TooManyDiscarded}

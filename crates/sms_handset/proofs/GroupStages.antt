@@ -39,10 +39,10 @@ use Rattle.sms_inbox.specs.SoundInbox.{AreEntries}
 use Rattle.sms_inbox.proofs.GroupMembers.{all_without, members_put, all_without_self, others_stay, members_all_without, apart_groups, without_apart, members_append, one_group, other_group, members_among, members_without, same_entry, among_members}
 use Rattle.sms_inbox.specs.declared.entry.Group.{Group}
 use Rattle.sms_inbox.specs.Groups.{alone, members, is_part_of, first_number, joined_entry, single_entry, all_numbers, is_same_group, joined_content, part_entry, part_numbers, is_among, group_of, mark_of, key_of, is_open_part}
-use Rattle.sms_inbox.specs.declared.open_group.Regrouping.TheVariants.{Unchanged, Opened, Closed}
-use Rattle.sms_inbox.proofs.Indexing.{all_stay, one_opens, one_closes}
+use Rattle.sms_inbox.specs.declared.open_group.Regrouping.TheVariants.{Unchanged, Closed}
+use Rattle.sms_inbox.proofs.Indexing.{all_stay, one_grows, one_closes}
 use Rattle.sms_inbox.specs.declared.open_group.Regrouping.{Regrouping}
-use Rattle.sms_inbox.specs.OpenGroups.{open_group, open_at}
+use Rattle.sms_inbox.specs.OpenGroups.{one_more, open_at}
 use Rattle.sms_inbox.specs.declared.discarded_group.DiscardedGroup.{DiscardedGroup}
 use Rattle.sms_inbox.specs.Doubles.{is_double}
 use Rattle.sms_inbox.specs.declared.entry.Message.{Message}
@@ -53,17 +53,18 @@ use Rattle.sms_outbox.specs.declared.notice.Notice.{Notice}
 use Rattle.sms_outbox.specs.Keys.{notice_key, out_key}
 use Rattle.sms_outbox.specs.References.{is_unfinished}
 use Rattle.sms_concat.specs.TextContent.{content_of_text}
-use Rattle.sms_handset.specs.declared.rows.Rows.{Rows}
-use Rattle.sms_handset.specs.Regrouping.{Numbered, Regroups, IsRegrouped}
+use Rattle.sms_handset_draft.specs.declared.rows.Rows.{Rows}
+use Rattle.sms_handset_draft.specs.Regrouping.{Numbered, Regroups, IsRegrouped}
 use Rattle.sms_handset.specs.SoundRows.{IsSound}
-use Rattle.sms_handset.specs.Draft.{Draft, remove_entry, put_entry, put_mark, remove_mark, Core, draft_of, link_of, with_turn, remove_out, put_counters}
-use Rattle.sms_handset.specs.Storing.{drop_all, free_all, ended, keep, store_single, store_part, marked}
-use Rattle.sms_handset.specs.GroupChanges.{stored_groups, new_part_groups, member_groups, part_groups, deliver_groups, tpdu_groups, data_groups, unit_groups, up_groups, frame_groups}
+use Rattle.sms_handset_draft.specs.Draft.{Draft, remove_entry, put_entry, put_mark, remove_mark, Core, draft_of, link_of, with_turn, remove_out, put_counters}
+use Rattle.sms_handset_draft.specs.Storing.{drop_all, free_all, ended, keep, store_single, store_part, marked}
+use Rattle.sms_handset_draft.specs.GroupChanges.{stored_groups, new_part_groups, member_groups, part_groups, deliver_groups, tpdu_groups, data_groups, unit_groups, up_groups, frame_groups}
 use Rattle.sms_handset.proofs.Accepting.{Kept, follow_kept}
-use Rattle.sms_handset.specs.Outbox.{follow, entry_concluded, holder_concluded}
-use Rattle.sms_handset.specs.MemoryAvailable.{has_room, notice_failed, put_notice, remove_notice, notice_ended, notice_concluded, freed, want_notice}
-use Rattle.sms_handset.specs.Receiving.{accept, no_room, single_came, new_part_came, member_came, part_came, deliver_came, note, tpdu_came, acknowledge, data_came, unit_came}
-use Rattle.sms_handset.specs.HandsetEvent.{went_up, timed_out, frame_came, frame_heard, at_moment, ticked, timers_fired, acted, wrote, deleted, discarded}
+use Rattle.sms_handset_draft.specs.Outbox.{follow, entry_concluded, holder_concluded}
+use Rattle.sms_handset_draft.specs.MemoryAvailable.{has_room, notice_failed, put_notice, remove_notice, notice_ended, notice_concluded, freed, want_notice}
+use Rattle.sms_handset_draft.specs.Receiving.{accept, no_room, single_came, new_part_came, member_came, part_came, deliver_came, note, tpdu_came, acknowledge, data_came, unit_came}
+use Rattle.sms_handset_draft.specs.FramesAndTicks.{went_up, timed_out, frame_heard, at_moment, timers_fired}
+use Rattle.sms_handset.specs.HandsetEvent.{frame_came, ticked, acted, wrote, deleted, discarded}
 use Rattle.sms_handset.specs.declared.refusal.Refusal.{Refusal}
 use Rattle.sms_handset.specs.OwnersActs.{write_part, write_parts, count_split, fits_outbox, write_to, written, write_split, delete_out, delete_in, discard_group, discard_members, discard_in, discard_at, write, delete, discard}
 use Rattle.sms_handset.specs.declared.refusal.Refusal.TheVariants.{OutboxFull, StillOpen, NoEntry, TooManyDiscarded}
@@ -271,11 +272,8 @@ has_first (m ∷ ms) e = record { x = m; xs = ms ++ e ∷ []; all_is = refl; sta
 
 part_opens : (g : Group) (e : Entry) (d : Draft) → Rises entry_key d.rows.entries → Numbered d.rows → Stands (d.rows.counters.entry + 1) (keep e d)
     → members g (keep e d).rows.entries ≡ members g d.rows.entries ++ e ∷ [] → ((h : Group) → ¬ (g ≡ h) → members h (keep e d).rows.entries ≡ members h d.rows.entries)
-    → IsRegrouped (Opened (first_number (members g d.rows.entries ++ e ∷ [])) (open_group g (members g d.rows.entries ++ e ∷ []))) d.rows (keep e d).rows
-part_opens g e d order numbered s own others =
-    let f = has_first (members g d.rows.entries) e in
-    subst (λ (l : List Entry). IsRegrouped (Opened (first_number l) (open_group g l)) d.rows (keep e d).rows) (sym f.all_is)
-    (one_opens g f.x f.xs d.rows.entries (keep e d).rows.entries order s.order others (own ∙ f.all_is) f.stays, s.below)
+    → IsRegrouped (one_more g (members g d.rows.entries) e) d.rows (keep e d).rows
+part_opens g e d order numbered s own others = (one_grows g e (members g d.rows.entries) d.rows.entries (keep e d).rows.entries order s.order others refl own, s.below)
 
 part_closes : (g : Group) (e : Entry) (c : Option Content) (d : Draft) → Rises entry_key d.rows.entries → Numbered d.rows → Stands (d.rows.counters.entry + 1) (keep e d)
     → members g (keep e d).rows.entries ≡ members g d.rows.entries ++ e ∷ [] → ((h : Group) → ¬ (g ≡ h) → members h (keep e d).rows.entries ≡ members h d.rows.entries)
@@ -306,7 +304,7 @@ part_regroups g n tpdu d order numbered =
     let others : (h : Group) → ¬ (g ≡ h) → members h (keep e d).rows.entries ≡ members h d.rows.entries =
     λ h ne. other_members h e d numbered refl (other_group g h ne) in
     both_cond (all_numbers g.total (part_numbers all)) (λ (r : Regrouping) (z : Draft). IsRegrouped r d.rows z.rows)
-    (Closed (first_number all)) (Opened (first_number all) (open_group g all)) (ended g all (joined_content g all) (keep e d)) (keep e d)
+    (Closed (first_number all)) (one_more g (members g d.rows.entries) e) (ended g all (joined_content g all) (keep e d)) (keep e d)
     (λ t. part_closes g e (joined_content g all) d order numbered s own others)
     (λ t. part_opens g e d order numbered s own others)
 

@@ -5,8 +5,8 @@ use Rattle.sms_inbox.specs.declared.open_group.Regrouping.{Regrouping}
 use Rattle.sms_inbox.specs.declared.open_groups.OpenGroups.{OpenGroups}
 use Rattle.sms_inbox.specs.OpenGroups.{regrouped}
 use Rattle.sms_inbox.specs.OpenIndex.{Indexes, under}
-use Rattle.sms_handset.specs.declared.rows.Rows.{Rows}
-use Rattle.sms_handset.specs.Regrouping.{IsRegrouped}
+use Rattle.sms_handset_draft.specs.declared.rows.Rows.{Rows}
+use Rattle.sms_handset_draft.specs.Regrouping.{IsRegrouped}
 
 -- ---- changes
 

@@ -12,9 +12,9 @@ use Rattle.sms_concat.specs.Splitting.{split_of}
 use Rattle.sms_concat.specs.TextContent.{content_of_text}
 use Rattle.sms_handset.specs.declared.refusal.Refusal.{Refusal}
 use Rattle.sms_handset.specs.declared.refusal.Refusal.TheVariants.{Destination, OutboxFull, TooManyParts}
-use Rattle.sms_handset.specs.Draft.{Core, Draft, draft_of}
+use Rattle.sms_handset_draft.specs.Draft.{Core, Draft, draft_of}
 use Rattle.sms_handset.specs.HandsetEvent.{acted, wrote}
-use Rattle.sms_handset.specs.Outbox.{follow}
+use Rattle.sms_handset_draft.specs.Outbox.{follow}
 use Rattle.sms_handset.specs.OwnersActs.{JudgesText, fits_outbox, write, write_split, write_to, written}
 
 -- ---- how many parts

@@ -15,9 +15,9 @@ use Rattle.sms_outbox.specs.declared.out_entry.OutEntry.{OutEntry}
 use Rattle.sms_outbox.specs.References.{is_unfinished}
 use Rattle.sms_handset.specs.declared.refusal.Refusal.{Refusal}
 use Rattle.sms_handset.specs.declared.refusal.Refusal.TheVariants.{StillOpen, TooManyDiscarded, NoEntry}
-use Rattle.sms_handset.specs.Draft.{Draft, remove_out, remove_entry}
+use Rattle.sms_handset_draft.specs.Draft.{Draft, remove_out, remove_entry}
 use Rattle.sms_handset.specs.OwnersActs.{delete_out, delete_in, discard_group, discard_in, discard_at, discard}
-use Rattle.sms_handset.specs.MemoryAvailable.{freed}
+use Rattle.sms_handset_draft.specs.MemoryAvailable.{freed}
 
 pub deletes_out : (n : ℕ) (found : Option OutEntry) (o : OutEntry) (d : Draft) → found ≡ Some o → is_unfinished o.state ≡ false → (e : Draft) × (delete_out n found d ≡ Ok e)
 deletes_out n found o d e f =

@@ -1,10 +1,8 @@
 pub mod Accepting
 pub mod IndexStages
 pub mod GroupStages
-pub mod HandsetLink
 pub mod Judging
 pub mod JudgedTexts
-pub mod PartMoves
 pub mod PlansStore
 pub mod Resting
 pub mod SoundActs

@@ -1,10 +1,11 @@
 -- What a plan accepts is stored, whatever the event.
 use Rattle.std.proofs.Common.{◌≡◌, sym, ap, subst, List, Result, Ok, Err, IfOk}
 use Rattle.sms_inbox.specs.declared.discarded_group.DiscardedGroup.{DiscardedGroup}
-use Rattle.sms_handset.specs.declared.rows.Rows.{Rows}
+use Rattle.sms_handset_draft.specs.declared.rows.Rows.{Rows}
 use Rattle.sms_handset.specs.Accepted.{StoresAccepted}
-use Rattle.sms_handset.specs.Draft.{Changes, Draft, HandsetOf, rows_after}
-use Rattle.sms_handset.specs.Planning.{IsPlanOf, Outcome, Plan, Rests, Stores, RestsIfDone, Plans, OfDelete, OfDiscard, OfFrame, OfTick, OfWrite}
+use Rattle.sms_handset_draft.specs.Draft.{Changes, Draft, HandsetOf, rows_after}
+use Rattle.sms_handset_draft.specs.Outcome.{Outcome}
+use Rattle.sms_handset.specs.Planning.{IsPlanOf, Plan, Rests, Stores, RestsIfDone, Plans, OfDelete, OfDiscard, OfFrame, OfTick, OfWrite}
 use Rattle.sms_handset.specs.declared.refusal.Refusal.{Refusal}
 use Rattle.sms_handset.proofs.Accepting.{LawIfDone, frame_stores, tick_stores, write_stores, delete_stores, discard_stores}
 use Rattle.sms_handset.specs.declared.refusal.PlanError.{PlanError}

@@ -49,17 +49,18 @@ use Rattle.sms_outbox.specs.Settling.{settled, is_sending, lost}
 use Rattle.sms_outbox.specs.Offers.{first_due, first_fired}
 use Rattle.sms_outbox.specs.References.{held_references, next_free, is_unfinished}
 use Rattle.sms_concat.specs.TextContent.{content_of_text}
-use Rattle.sms_handset.specs.declared.rows.Rows.{Rows}
-use Rattle.sms_handset.specs.Draft.{Draft, rows_after, put_entry, remove_entry, put_last, put_out, remove_out, put_mark, remove_mark, put_counters, Core, draft_of, link_of, with_turn}
+use Rattle.sms_handset_draft.specs.declared.rows.Rows.{Rows}
+use Rattle.sms_handset_draft.specs.Draft.{Draft, rows_after, put_entry, remove_entry, put_last, put_out, remove_out, put_mark, remove_mark, put_counters, Core, draft_of, link_of, with_turn}
 use Rattle.sms_handset.specs.Planning.{Rests, RestsIfDone}
-use Rattle.sms_handset.specs.declared.counters.Counters.{Counters}
-use Rattle.sms_handset.specs.Storing.{drop_all, free_all, ended, completed, store_single, store_part, marked}
-use Rattle.sms_handset.specs.Receiving.{accept, no_room, single_came, new_part_came, member_came, part_came, deliver_came, note, tpdu_came, acknowledge, data_came, unit_came}
-use Rattle.sms_handset.specs.MemoryAvailable.{has_room, notice_failed, notice_ended, notice_concluded, first_notice, freed, want_notice}
-use Rattle.sms_handset.specs.Outbox.{entry_concluded, holder_concluded, lapse_rows, lapse, offer_entry, offer_message, is_notice_next, offer_wanted, offer_after, offer, follow}
+use Rattle.sms_handset_draft.specs.declared.counters.Counters.{Counters}
+use Rattle.sms_handset_draft.specs.Storing.{drop_all, free_all, ended, completed, store_single, store_part, marked}
+use Rattle.sms_handset_draft.specs.Receiving.{accept, no_room, single_came, new_part_came, member_came, part_came, deliver_came, note, tpdu_came, acknowledge, data_came, unit_came}
+use Rattle.sms_handset_draft.specs.MemoryAvailable.{has_room, notice_failed, notice_ended, notice_concluded, first_notice, freed, want_notice}
+use Rattle.sms_handset_draft.specs.Outbox.{entry_concluded, holder_concluded, lapse_rows, lapse, offer_entry, offer_message, is_notice_next, offer_wanted, offer_after, offer, follow}
 use Rattle.sms_handset.specs.OwnersActs.{write_part, write_parts, count_split, fits_outbox, write_to, written, write_split, delete_out, delete_in, discard_group, discard_members, discard_in, discard_at, write, delete, discard}
 use Rattle.sms_handset.specs.declared.refusal.Refusal.{Refusal}
-use Rattle.sms_handset.specs.HandsetEvent.{acted, went_up, timed_out, frame_came, frame_heard, at_moment, ticked, timers_fired, wrote, deleted, discarded}
+use Rattle.sms_handset_draft.specs.FramesAndTicks.{went_up, timed_out, frame_heard, at_moment, timers_fired}
+use Rattle.sms_handset.specs.HandsetEvent.{acted, frame_came, ticked, wrote, deleted, discarded}
 use Rattle.sms_handset.specs.declared.refusal.Refusal.TheVariants.{OutboxFull, StillOpen, NoEntry, TooManyDiscarded}
 
 -- ---- moves

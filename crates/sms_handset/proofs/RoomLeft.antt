@@ -4,8 +4,8 @@ use Rattle.std.specs.Prelude.{nat_lt}
 use Rattle.std.proofs.lemmas.Bool.{ltb-true}
 use Rattle.sms_inbox.proofs.SoundRoom.{slot, no_fewer_slots, tested}
 use Rattle.sms_inbox.specs.Slots.{slots_taken}
-use Rattle.sms_handset.specs.Draft.{Draft}
-use Rattle.sms_handset.specs.MemoryAvailable.{has_room}
+use Rattle.sms_handset_draft.specs.Draft.{Draft}
+use Rattle.sms_handset_draft.specs.MemoryAvailable.{has_room}
 use Rattle.sms_handset.proofs.SoundDrafts.{SoundAt}
 
 pub room_left : (d : Draft) → has_room d ≡ true → SoundAt d → length d.rows.entries < 255

@@ -36,17 +36,17 @@ use Rattle.sms_outbox.specs.Submits.{written_entry}
 use Rattle.sms_outbox.proofs.SoundReferences.{next_is_free}
 use Rattle.sms_outbox.proofs.SoundWriting.{IsWritable, written_is_submitted, split_is_writable}
 use Rattle.sms_handset.specs.declared.refusal.Refusal.{Refusal}
-use Rattle.sms_handset.specs.Draft.{Draft, put_counters, remove_out, remove_entry, put_mark}
+use Rattle.sms_handset_draft.specs.Draft.{Draft, put_counters, remove_out, remove_entry, put_mark}
 use Rattle.sms_handset.proofs.SoundDrafts.{SoundAt, counters_move, outbox_moves, entries_move, group_moves, sound_as}
 use Rattle.sms_handset.specs.SoundCore.{IsSendingEntry}
 use Rattle.sms_handset.proofs.SoundSending.{sending_put, sending_stays}
-use Rattle.sms_handset.specs.declared.counters.Counters.{Counters}
+use Rattle.sms_handset_draft.specs.declared.counters.Counters.{Counters}
 use Rattle.sms_handset.specs.OwnersActs.{write_part, write_parts, count_split, fits_outbox, write_to, written, write_split, write, delete_out, delete_in, delete, discard_group, discard_members, discard_in, discard_at, discard}
 use Rattle.sms_handset.proofs.SoundReceiving.{same_under_way, dropped_only}
 use Rattle.sms_handset.specs.declared.refusal.Refusal.TheVariants.{OutboxFull, StillOpen, NoEntry, TooManyDiscarded}
-use Rattle.sms_handset.specs.MemoryAvailable.{freed, want_notice}
-use Rattle.sms_handset.specs.declared.rows.Rows.{Rows}
-use Rattle.sms_handset.specs.Storing.{drop_all}
+use Rattle.sms_handset_draft.specs.MemoryAvailable.{freed, want_notice}
+use Rattle.sms_handset_draft.specs.declared.rows.Rows.{Rows}
+use Rattle.sms_handset_draft.specs.Storing.{drop_all}
 
 abbrev pub SoundIfDone : Result Draft Refusal → Type 0
 SoundIfDone (Ok d) = SoundAt d

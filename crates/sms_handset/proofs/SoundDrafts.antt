@@ -14,12 +14,12 @@ use Rattle.sms_inbox.specs.declared.discarded_group.DiscardedGroup.{DiscardedGro
 use Rattle.sms_outbox.specs.declared.notice.Notice.{Notice}
 use Rattle.sms_outbox.proofs.SoundOutbox.{Outbox, outbox_from, message_references_differ, out_entries_are, references_differ, outbox_entries}
 use Rattle.sms_outbox.specs.declared.out_entry.OutEntry.{OutEntry}
-use Rattle.sms_handset.specs.declared.rows.Rows.{Rows}
-use Rattle.sms_handset.specs.MemoryAvailable.{most_notices}
+use Rattle.sms_handset_draft.specs.declared.rows.Rows.{Rows}
+use Rattle.sms_handset_draft.specs.MemoryAvailable.{most_notices}
 use Rattle.sms_handset.specs.SoundCore.{IsUnderWay, IsSoundCore}
 use Rattle.sms_handset.specs.SoundRows.{IsSetup, IsSound}
-use Rattle.sms_handset.specs.Draft.{Draft, Core, core_of}
-use Rattle.sms_handset.specs.declared.counters.Counters.{Counters}
+use Rattle.sms_handset_draft.specs.Draft.{Draft, Core, core_of}
+use Rattle.sms_handset_draft.specs.declared.counters.Counters.{Counters}
 
 pub record Sound (r : Rows) (w : Option Carried) (b : Bool) (n : List Notice) : Type 0 where
   pub setup : IsSetup r.setup

@@ -11,17 +11,19 @@ use Rattle.sms_link.specs.declared.ending.Side.TheVariants.{Handset as HandsetSi
 use Rattle.sms_link.specs.declared.ending.Ending.TheVariants.{Lost as LostEnd}
 use Rattle.sms_link.specs.Ending.{ended_by, unit_at as unit_for}
 use Rattle.sms_link.specs.LinkTurn.{came_up, still_under_way, Turn, taken, fired}
-use Rattle.sms_handset.specs.Draft.{Draft, Core, draft_of, link_of, with_turn, HandsetOf, core_of}
+use Rattle.sms_handset_draft.specs.Draft.{Draft, Core, draft_of, link_of, with_turn, HandsetOf, core_of}
 use Rattle.sms_handset.proofs.SoundDrafts.{Sound, SoundAt, outbox_moves, sound_from, sound_core}
-use Rattle.sms_handset.specs.HandsetEvent.{went_up, timed_out, frame_came, frame_heard, at_moment, ticked, timers_fired, acted, wrote, deleted, discarded, tag_of}
+use Rattle.sms_handset_draft.specs.FramesAndTicks.{went_up, timed_out, frame_heard, at_moment, timers_fired}
+use Rattle.sms_handset.specs.HandsetEvent.{frame_came, ticked, acted, wrote, deleted, discarded, tag_of}
 use Rattle.sms_handset.proofs.SoundReceiving.{unit_sound}
 use Rattle.sms_handset.proofs.SoundTransfers.{transfer_sound, follow_sound}
 use Rattle.sms_handset.specs.SoundCore.{IsSoundCore}
 use Rattle.sms_handset.specs.declared.refusal.Refusal.{Refusal}
 use Rattle.sms_handset.proofs.SoundActs.{SoundIfDone, write_sound, delete_sound, discard_sound}
 use Rattle.sms_handset.specs.OwnersActs.{write, delete, discard}
-use Rattle.sms_handset.specs.declared.rows.Rows.{Rows}
-use Rattle.sms_handset.specs.Planning.{IsPlanOf, Outcome, Plan, Rests, adopted, RestsIfDone, Plans, OfDelete, OfDiscard, OfFrame, OfTick, OfWrite}
+use Rattle.sms_handset_draft.specs.declared.rows.Rows.{Rows}
+use Rattle.sms_handset_draft.specs.Outcome.{Outcome}
+use Rattle.sms_handset.specs.Planning.{IsPlanOf, Plan, Rests, adopted, RestsIfDone, Plans, OfDelete, OfDiscard, OfFrame, OfTick, OfWrite}
 use Rattle.sms_handset.specs.declared.refusal.PlanError.{PlanError}
 use Rattle.sms_handset.specs.declared.event.HandsetEvent.{HandsetEvent}
 use Rattle.sms_handset.specs.declared.event.HandsetEvent.TheVariants.{Frame, Tick, Write, Delete, Discard}

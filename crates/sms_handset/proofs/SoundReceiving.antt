@@ -42,14 +42,14 @@ use Rattle.sms_outbox.specs.declared.out_entry.OutEntry.{OutEntry}
 use Rattle.sms_outbox.specs.Reports.{is_reported, reported}
 use Rattle.sms_outbox.specs.Keys.{out_key}
 use Rattle.sms_outbox.proofs.SoundOutbox.{replaced}
-use Rattle.sms_handset.specs.Draft.{Draft, remove_entry, put_entry, put_mark, remove_mark, link_of, reply, with_turn, put_last}
+use Rattle.sms_handset_draft.specs.Draft.{Draft, remove_entry, put_entry, put_mark, remove_mark, link_of, reply, with_turn, put_last}
 use Rattle.sms_handset.proofs.SoundDrafts.{Sound, SoundAt, sound_as, entries_move, marks_move, counters_move, last_moves, outbox_moves}
-use Rattle.sms_handset.specs.Storing.{drop_all, free_all, ended, store_single, keep, store_part, marked}
-use Rattle.sms_handset.specs.declared.rows.Rows.{Rows}
-use Rattle.sms_handset.specs.declared.counters.Counters.{Counters}
-use Rattle.sms_handset.specs.MemoryAvailable.{has_room, flag}
+use Rattle.sms_handset_draft.specs.Storing.{drop_all, free_all, ended, store_single, keep, store_part, marked}
+use Rattle.sms_handset_draft.specs.declared.rows.Rows.{Rows}
+use Rattle.sms_handset_draft.specs.declared.counters.Counters.{Counters}
+use Rattle.sms_handset_draft.specs.MemoryAvailable.{has_room, flag}
 use Rattle.sms_handset.proofs.RoomLeft.{room_left}
-use Rattle.sms_handset.specs.Receiving.{acknowledge, refuse, no_room, accept, single_came, new_part_came, member_came, part_came, deliver_came, note, tpdu_came, data_came, fault_cause, reference_octet, unit_came}
+use Rattle.sms_handset_draft.specs.Receiving.{acknowledge, refuse, no_room, accept, single_came, new_part_came, member_came, part_came, deliver_came, note, tpdu_came, data_came, fault_cause, reference_octet, unit_came}
 use Rattle.sms_handset.proofs.Accepting.{IsCounted, header_counts}
 use Rattle.sms_handset.specs.SoundCore.{IsSendingEntry, IsSentFor, IsUnderWay}
 use Rattle.sms_handset.proofs.SoundSending.{sending_same}

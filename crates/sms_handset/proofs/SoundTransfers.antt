@@ -32,12 +32,12 @@ use Rattle.sms_outbox.specs.Keys.{out_key, notice_key}
 use Rattle.sms_outbox.specs.Answers.{verdict_of}
 use Rattle.sms_outbox.specs.declared.notice.Notice.{Notice}
 use Rattle.sms_outbox.specs.Offers.{is_queued, first_due, is_due, is_past, submit_of, first_fired, is_fired}
-use Rattle.sms_handset.specs.Draft.{Draft, put_out, begin, link_of, with_turn}
+use Rattle.sms_handset_draft.specs.Draft.{Draft, put_out, begin, link_of, with_turn}
 use Rattle.sms_handset.proofs.SoundDrafts.{SoundAt, none_under_way, outbox_moves, notices_move, Sound, counters_move}
-use Rattle.sms_handset.specs.Outbox.{entry_concluded, holder_concluded, transfer_ended, lapse_rows, lapse, offer_entry, offer_message, is_notice_next, offer_wanted, offer_after, offer, follow}
-use Rattle.sms_handset.specs.MemoryAvailable.{put_notice, remove_notice, notice_failed, notice_ended, notice_concluded, most_notices, send_notice, first_notice}
+use Rattle.sms_handset_draft.specs.Outbox.{entry_concluded, holder_concluded, transfer_ended, lapse_rows, lapse, offer_entry, offer_message, is_notice_next, offer_wanted, offer_after, offer, follow}
+use Rattle.sms_handset_draft.specs.MemoryAvailable.{put_notice, remove_notice, notice_failed, notice_ended, notice_concluded, most_notices, send_notice, first_notice}
 use Rattle.sms_handset.specs.SoundCore.{IsSentFor, IsUnderWay}
-use Rattle.sms_handset.specs.declared.counters.Counters.{Counters}
+use Rattle.sms_handset_draft.specs.declared.counters.Counters.{Counters}
 
 -- ---- an entry that is Sending becomes another
 

@@ -13,7 +13,7 @@ use Rattle.sms_outbox.specs.SoundOutbox.{AreOutEntries}
 use Rattle.sms_outbox.proofs.OutboxTold.{outbox_tells}
 use Rattle.sms_outbox.specs.declared.out_entry.OutEntry.{OutEntry}
 use Rattle.sms_outbox.specs.OutboxTest.{is_out_entry}
-use Rattle.sms_handset.specs.declared.rows.Rows.{Rows}
+use Rattle.sms_handset_draft.specs.declared.rows.Rows.{Rows}
 use Rattle.sms_handset.specs.SoundRows.{IsSound, IsSetup}
 use Rattle.sms_handset.specs.SoundnessTest.{KeysRise, are_few, inbox_passes, outbox_passes}
 

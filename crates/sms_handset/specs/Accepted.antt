@@ -15,8 +15,8 @@ use Rattle.sms_inbox.specs.Groups.{carried_part, group_of, key_of, mark_of}
 use Rattle.sms_inbox.specs.declared.discarded_group.DiscardedGroup.{DiscardedGroup}
 use Rattle.sms_inbox.specs.declared.entry.Entry.{Entry}
 use Rattle.sms_inbox.specs.declared.last_accepted.LastAccepted.{LastAccepted}
-use Rattle.sms_handset.specs.declared.rows.Rows.{Rows}
-use Rattle.sms_handset.specs.Draft.{Changes}
+use Rattle.sms_handset_draft.specs.declared.rows.Rows.{Rows}
+use Rattle.sms_handset_draft.specs.Draft.{Changes}
 
 -- The message has the DELIVER's source and user data: it is that DELIVER, or was joined from parts of which it is one.
 abbrev pub Holds : List ℕ → DeliverOf → Message → Type 0

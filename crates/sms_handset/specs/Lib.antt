@@ -1,11 +1,3 @@
-pub mod Draft
-pub mod Storing
-pub mod Regrouping
-pub mod Consistent
-pub mod GroupChanges
-pub mod MemoryAvailable
-pub mod Outbox
-pub mod Receiving
 pub mod Accepted
 pub mod OwnersActs
 pub mod HandsetEvent

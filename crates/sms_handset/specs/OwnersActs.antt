@@ -18,11 +18,11 @@ use Rattle.sms_outbox.specs.Submits.{written_entry}
 use Rattle.sms_outbox.specs.References.{held_message_references, held_references, next_free, is_unfinished}
 use Rattle.sms_outbox.specs.declared.out_entry.OutEntry.{OutEntry}
 use Rattle.sms_outbox.specs.Keys.{out_key}
-use Rattle.sms_handset.specs.Draft.{Draft, put_out, put_counters, remove_out, remove_entry, put_mark}
+use Rattle.sms_handset_draft.specs.Draft.{Draft, put_out, put_counters, remove_out, remove_entry, put_mark}
 use Rattle.sms_handset.specs.declared.refusal.Refusal.{Refusal}
 use Rattle.sms_handset.specs.declared.refusal.Refusal.TheVariants.{OutboxFull, Destination, TooManyParts, NoEntry, StillOpen, TooManyDiscarded}
-use Rattle.sms_handset.specs.MemoryAvailable.{freed}
-use Rattle.sms_handset.specs.Storing.{drop_all}
+use Rattle.sms_handset_draft.specs.MemoryAvailable.{freed}
+use Rattle.sms_handset_draft.specs.Storing.{drop_all}
 
 -- ---- writing
 

@@ -1,63 +1,19 @@
 -- A plan: what an event changes and sends, and all that a restart forgets as it will be. Adopting it puts it in.
 use Rattle.std.specs.Prelude.{ℕ, List, Bool, Option, ◌≡◌, ◌+◌, ◌≤◌, max, length, Result, Ok, Err, Some, None}
-use Rattle.sms_base.specs.declared.carried.Carried.{Carried}
 use Rattle.sms_base.specs.declared.holder.Holder.{Holder}
-use Rattle.sms_table.specs.Pending.{FitsIn}
-use Rattle.sms_control.specs.declared.link_state.LinkState.{LinkState}
-use Rattle.sms_link.specs.declared.outgoing.Outgoing.{Outgoing}
 use Rattle.sms_inbox.specs.declared.open_group.Regrouping.{Regrouping}
 use Rattle.sms_inbox.specs.Slots.{slots_taken}
 use Rattle.sms_inbox.specs.OpenIndex.{opening}
-use Rattle.sms_outbox.specs.declared.notice.Notice.{Notice}
-use Rattle.sms_handset.specs.declared.rows.Changes.{Changes as SettledChanges}
-use Rattle.sms_handset.specs.Draft.{Changes, Room, Draft, Core, rows_after, HandsetOf}
-use Rattle.sms_handset.specs.Regrouping.{IsRegrouped}
+use Rattle.sms_handset_draft.specs.Draft.{Room, Draft, Core, rows_after, HandsetOf}
+use Rattle.sms_handset_draft.specs.Outcome.{Outcome, outcome_of}
+use Rattle.sms_handset_draft.specs.Regrouping.{IsRegrouped}
 use Rattle.sms_handset.specs.declared.refusal.PlanError.{PlanError}
 use Rattle.sms_handset.specs.declared.refusal.PlanError.TheVariants.{Refused, NoMemory}
 use Rattle.sms_handset.specs.declared.refusal.Refusal.{Refusal}
 use Rattle.sms_handset.specs.Accepted.{StoresAccepted}
 use Rattle.sms_handset.specs.declared.event.HandsetEvent.{HandsetEvent}
 use Rattle.sms_handset.specs.declared.event.HandsetEvent.TheVariants.{Frame, Tick, Write, Delete, Discard}
-use Rattle.sms_handset.specs.declared.rows.Rows.{Rows}
-
--- the changes of the rows, without the memory that comes with them
-abbrev pub changes_in : SettledChanges → Changes
-changes_in c = record {
-  entries = c.entries.changes;
-  last = c.last.changes;
-  outbox = c.outbox.changes;
-  marks = c.marks.changes;
-  counters = c.counters;
-}
-
--- how many rows that memory holds
-abbrev pub spare_in : SettledChanges → Room
-spare_in c = record { entries = c.entries.spare; last = c.last.spare; outbox = c.outbox.spare; marks = c.marks.spare }
-
--- what came of an event
-pub record Outcome : Type 0 where
-  pub changes : Changes
-  pub frames : List Outgoing
-  pub moment : ℕ
-  pub links : LinkState
-  pub under_way : Option Carried
-  pub answered : Option Carried
-  pub notices_wanted : ℕ
-  pub notices : List Notice
-  pub is_recovered : Bool
-
-abbrev pub outcome_of : Draft → Outcome
-outcome_of d = record {
-  changes = d.changes;
-  frames = d.frames;
-  moment = d.moment;
-  links = d.links;
-  under_way = d.under_way;
-  answered = d.answered;
-  notices_wanted = d.notices_wanted;
-  notices = d.notices;
-  is_recovered = d.is_recovered;
-}
+use Rattle.sms_handset_draft.specs.declared.rows.Rows.{Rows}
 
 -- the handset with the outcome put in
 abbrev pub adopted : Outcome → Core → Core
@@ -91,13 +47,6 @@ pub record Fits (plan : Plan) (s : HandsetOf) : Type 0 where
   pub groups : s.groups.taken + opening plan.regrouping ≤ max s.groups.capacity plan.spare_groups
   pub index : IsRegrouped plan.regrouping s.core.rows (rows_after plan.outcome.changes s.core.rows)
   pub slots : plan.taken ≡ slots_taken (rows_after plan.outcome.changes s.core.rows).entries
-
--- The changes fit the memory of the lists, with that which they bring.
-pub record HaveRoom (changes : SettledChanges) (s : HandsetOf) : Type 0 where
-  pub entries : FitsIn changes.entries (record { rows = s.core.rows.entries; capacity = s.room.entries })
-  pub last : FitsIn changes.last (record { rows = s.core.rows.last; capacity = s.room.last })
-  pub outbox : FitsIn changes.outbox (record { rows = s.core.rows.outbox; capacity = s.room.outbox })
-  pub marks : FitsIn changes.marks (record { rows = s.core.rows.marks; capacity = s.room.marks })
 
 -- The plan has the outcome of the event that leads to the draft, and fits the handset.
 pub record IsPlanOf (d : Draft) (s : HandsetOf) (plan : Plan) : Type 0 where

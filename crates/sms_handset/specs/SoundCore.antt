@@ -7,8 +7,8 @@ use Rattle.sms_table.specs.Table.{row_at}
 use Rattle.sms_outbox.specs.declared.out_entry.EntryState.TheVariants.{Sending}
 use Rattle.sms_outbox.specs.declared.out_entry.OutEntry.{OutEntry}
 use Rattle.sms_outbox.specs.Keys.{out_key}
-use Rattle.sms_handset.specs.Draft.{Core}
-use Rattle.sms_handset.specs.MemoryAvailable.{most_notices}
+use Rattle.sms_handset_draft.specs.Draft.{Core}
+use Rattle.sms_handset_draft.specs.MemoryAvailable.{most_notices}
 use Rattle.sms_handset.specs.SoundRows.{IsSound}
 
 -- the entry of the outbox with that number is Sending, under that reference

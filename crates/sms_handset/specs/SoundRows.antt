@@ -1,5 +1,5 @@
 -- Rows that a handset can stand on.
-use Rattle.std.specs.Prelude.{◌<◌, ◌≤◌, length, [], false}
+use Rattle.std.specs.Prelude.{◌<◌, ◌≤◌, length}
 use Rattle.std.specs.List.{AllByRecursion}
 use Rattle.sms_base.specs.Address.{IsAddress}
 use Rattle.sms_table.specs.Table.{Rises}
@@ -8,8 +8,8 @@ use Rattle.sms_inbox.specs.Keys.{entry_key, last_key, mark_key}
 use Rattle.sms_outbox.specs.SoundOutbox.{AreOutEntries}
 use Rattle.sms_outbox.specs.References.{held_message_references, held_by_entries}
 use Rattle.sms_outbox.specs.Keys.{out_key}
-use Rattle.sms_handset.specs.declared.setup.Setup.{Setup}
-use Rattle.sms_handset.specs.declared.rows.Rows.{Rows}
+use Rattle.sms_handset_draft.specs.declared.setup.Setup.{Setup}
+use Rattle.sms_handset_draft.specs.declared.rows.Rows.{Rows}
 use Rattle.sms_handset.specs.declared.recover_error.RecoverError.{RecoverError}
 use Rattle.sms_handset.specs.declared.recover_error.RecoverError.TheVariants.{BadRows, NoMemory}
 
@@ -40,18 +40,6 @@ pub record IsSound (rows : Rows) : Type 0 where
   pub references : Differ (held_by_entries rows.outbox)
   pub marks : AreMarks rows.counters.entry rows.entries rows.marks
   pub few_marks : length rows.marks ≤ 64
-
--- ---- the first rows of a new store
-
-abbrev pub first_rows : Setup → Rows
-first_rows setup = record {
-  entries = [];
-  last = [];
-  outbox = [];
-  marks = [];
-  counters = record { entry = 1; message_reference = 0; reference = 0; concat_reference = 0; notice = 0; is_memory_full = false };
-  setup = setup;
-}
 
 -- ---- why there is no handset: the rows are not sound; memory is asked for only where they are
 

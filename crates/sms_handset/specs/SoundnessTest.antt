@@ -9,7 +9,7 @@ use Rattle.sms_outbox.specs.Keys.{out_key}
 use Rattle.sms_outbox.specs.OutboxTest.{is_out_entry}
 use Rattle.sms_outbox.specs.declared.out_entry.OutEntry.{OutEntry}
 use Rattle.sms_outbox.specs.References.{held_by_entries, held_message_references}
-use Rattle.sms_handset.specs.declared.rows.Rows.{Rows}
+use Rattle.sms_handset_draft.specs.declared.rows.Rows.{Rows}
 
 -- the keys of each list rise
 pub record KeysRise (rows : Rows) : Type 0 where

@@ -1,12 +1,12 @@
 //! The handset.
 ghost use Rattle.std.specs.Prelude.{◌≡◌, ◌+◌, ◌≤◌, max, Ok, IfErr, IfOk};
 ghost use Rattle.std.specs.Str.{chars};
-ghost use Rattle.sms_handset.specs.Draft.{draft_of, recovered};
+ghost use Rattle.sms_handset_draft.specs.Draft.{draft_of, recovered};
 ghost use Rattle.sms_handset.specs.HandsetEvent.{deleted, discarded, frame_came as frame_came_of, tag_of, ticked as ticked_of, wrote};
-ghost use Rattle.sms_handset.specs.Planning.{adopted, changes_in, Fits, HaveRoom, IsPlanOf, Judges, OfDelete, OfDiscard, OfFrame, OfTick, OfWrite, Plans, Rests, Stores};
+ghost use Rattle.sms_handset.specs.Planning.{adopted, Fits, IsPlanOf, Judges, OfDelete, OfDiscard, OfFrame, OfTick, OfWrite, Plans, Rests, Stores};
 ghost use Rattle.sms_base.specs.Address.{IsAddress};
 ghost use Rattle.sms_table.specs.Table.{Rises, row_at};
-ghost use Rattle.sms_handset.specs.Regrouping.{Numbered, Regroups};
+ghost use Rattle.sms_handset_draft.specs.Regrouping.{Numbered, Regroups};
 ghost use Rattle.sms_inbox.specs.OpenIndex.{opening};
 ghost use Rattle.sms_inbox.specs.Keys.{entry_key, last_key, mark_key};
 ghost use Rattle.sms_outbox.specs.Keys.{out_key};
@@ -14,24 +14,20 @@ ghost use Rattle.sms_handset.specs.OwnersActs.{JudgesText, delete as delete_of, 
 ghost use Rattle.sms_handset.specs.SoundCore.{IsSoundCore};
 ghost use Rattle.sms_handset.specs.SoundRows.{IsSetup, IsSound, RefusesRows};
 
-use crate::counters::Counters;
-use crate::draft::Draft;
+use crate::deleting::{delete, discard};
 use crate::event::HandsetEvent;
-use crate::no_memory::NoMemory;
 use crate::planned::Planned;
 use crate::recover_error::RecoverError;
 use crate::refusal::{PlanError, Refusal};
-use crate::rows::{Changes, Rows};
 use crate::sound_rows::are_sound;
-use crate::stored::Stored;
+use crate::writing::write;
 use sms_base::{Address, Holder, Listed, Moment};
 use sms_concat::count_text_parts;
-use sms_inbox::{
-    DiscardedGroup, Entry, LastAccepted, OpenGroups, Regrouping, SpareGroups, slots_in,
-};
+use sms_handset_draft::{Draft, Finished, NoMemory, Rows, Stored};
+use sms_inbox::{Entry, OpenGroups, Regrouping, SpareGroups, slots_in};
 use sms_link::{Link, Outgoing, Side};
 use sms_outbox::{Notice, OutEntry};
-use sms_table::{Key, Pending, Table, adopt};
+use sms_table::{Key, Table, adopt};
 use std::alloc::Global;
 use std::marker::Model;
 
@@ -48,8 +44,8 @@ pub struct Handset {
 }
 
 impl Model for Handset {
-    ghost use Rattle.sms_handset.specs.Draft.{HandsetOf, group_room_of, room_of, rows_of};
-    ghost use Rattle.sms_handset.specs.Consistent.{IsConsistent};
+    ghost use Rattle.sms_handset_draft.specs.Draft.{HandsetOf, group_room_of, room_of, rows_of};
+    ghost use Rattle.sms_handset_draft.specs.Consistent.{IsConsistent};
     ghost use Rattle.sms_link.specs.declared.ending.Side.TheVariants.{Handset as HandsetSide};
     ghost use Rattle.std.specs.Prelude.{◌≡◌};
 
@@ -176,27 +172,30 @@ impl Handset {
         ensures state { self.new.core ≡ adopted planned.outcome self.old.core }
         ensures frames { result ≡ planned.outcome.frames }
     {
-        let Changes {
-            entries,
-            last,
-            outbox,
-            marks,
-            counters,
-        } = planned.changes;
+        let Finished {
+            changes,
+            frames,
+            moment,
+            link,
+            notices_wanted,
+            notices,
+            is_recovered,
+            taken,
+        } = planned.finished;
         self.stored.groups.use_spare(planned.spare_groups);
         self.stored.groups.apply(planned.regrouping);
-        self.stored.taken = planned.taken;
-        adopt(&mut self.stored.entries, entries);
-        adopt(&mut self.stored.last, last);
-        adopt(&mut self.stored.outbox, outbox);
-        adopt(&mut self.stored.marks, marks);
-        self.stored.counters = counters.unwrap_or(self.stored.counters);
-        self.moment = planned.moment;
-        self.link = planned.link;
-        self.notices_wanted = planned.notices_wanted;
-        self.notices = planned.notices;
-        self.is_recovered = planned.is_recovered;
-        planned.frames
+        self.stored.taken = taken;
+        adopt(&mut self.stored.entries, changes.entries);
+        adopt(&mut self.stored.last, changes.last);
+        adopt(&mut self.stored.outbox, changes.outbox);
+        adopt(&mut self.stored.marks, changes.marks);
+        self.stored.counters = changes.counters.unwrap_or(self.stored.counters);
+        self.moment = moment;
+        self.link = link;
+        self.notices_wanted = notices_wanted;
+        self.notices = notices;
+        self.is_recovered = is_recovered;
+        frames
     }
 }
 
@@ -206,22 +205,15 @@ impl Handset {
         ensures { IfOk result (λ draft. draft ≡ draft_of self.now.core) }
     {
         let notices = Vec::from_slice(self.alloc, self.notices.as_slice())?;
-        Ok(Draft {
-            alloc: self.alloc,
-            base: &self.stored,
-            moment: self.moment,
-            link: self.link.copy()?,
-            notices_wanted: self.notices_wanted,
-            notices: Table::from_vec(notices),
-            is_recovered: self.is_recovered,
-            entries: Pending::of(self.alloc, &self.stored.entries),
-            last: Pending::of(self.alloc, &self.stored.last),
-            outbox: Pending::of(self.alloc, &self.stored.outbox),
-            marks: Pending::of(self.alloc, &self.stored.marks),
-            counters: None,
-            taken: self.stored.taken,
-            frames: Listed::new(self.alloc),
-        })
+        Ok(Draft::of(
+            self.alloc,
+            &self.stored,
+            self.moment,
+            self.link.copy()?,
+            self.notices_wanted,
+            Table::from_vec(notices),
+            self.is_recovered,
+        ))
     }
 
     // The plan of an event, by its kind.
@@ -255,23 +247,10 @@ impl Handset {
         // The call tells that the entries stand in order.
         let _in_order = self.stored.entries.as_slice();
         let spare_groups = self.spare_groups(&regrouping)?;
-        let changes = self.settled(
-            draft.entries,
-            draft.last,
-            draft.outbox,
-            draft.marks,
-            draft.counters,
-        )?;
+        let finished = draft.finish(&self.stored)?;
         Ok(Planned {
-            changes,
-            frames: draft.frames,
-            moment: draft.moment,
-            link: draft.link,
-            notices_wanted: draft.notices_wanted,
-            notices: draft.notices,
-            is_recovered: draft.is_recovered,
+            finished,
             regrouping,
-            taken: draft.taken,
             spare_groups,
         })
     }
@@ -281,28 +260,6 @@ impl Handset {
         ensures { IfOk result (λ spare. self.now.groups.taken + opening regrouping.now ≤ max self.now.groups.capacity spare) }
     {
         Ok(self.stored.groups.make_spare(self.alloc, regrouping)?)
-    }
-
-    // The changes, with memory for the rows that they bring.
-    fn settled(
-        &self,
-        entries: Pending<'_, Entry>,
-        last: Pending<'_, LastAccepted>,
-        outbox: Pending<'_, OutEntry>,
-        marks: Pending<'_, DiscardedGroup>,
-        counters: Option<Counters>,
-    ) -> Result<Changes, NoMemory>
-        ensures same { IfOk result (λ c. changes_in c ≡ record { entries = entries.entry.changes; last = last.entry.changes; outbox = outbox.entry.changes; marks = marks.entry.changes; counters = counters }) }
-        ensures fits { IfOk result (λ c. HaveRoom c self.now) }
-    {
-        let stored = &self.stored;
-        Ok(Changes {
-            entries: entries.settle_for(self.alloc, &stored.entries)?,
-            last: last.settle_for(self.alloc, &stored.last)?,
-            outbox: outbox.settle_for(self.alloc, &stored.outbox)?,
-            marks: marks.settle_for(self.alloc, &stored.marks)?,
-            counters,
-        })
     }
 
     #[tactic(auto, using(crate::proofs::GroupStages::frame_regroups, crate::proofs::Resting::frame_rests))]
@@ -367,7 +324,7 @@ impl Handset {
             Err(refusal) => return Err(PlanError::Refused(refusal)),
         };
         let mut draft = self.draft()?;
-        draft.write(text, &destination, report)?;
+        write(&mut draft, text, &destination, report)?;
         draft.follow()?;
         Ok(self.planned(draft, Regrouping::Unchanged)?)
     }
@@ -417,7 +374,7 @@ impl Handset {
             return Err(PlanError::Refused(refusal));
         }
         let mut draft = self.draft()?;
-        draft.delete(entry)?;
+        delete(&mut draft, entry)?;
         draft.follow()?;
         Ok(self.planned(draft, Regrouping::Unchanged)?)
     }
@@ -430,7 +387,7 @@ impl Handset {
             return Err(PlanError::Refused(refusal));
         }
         let mut draft = self.draft()?;
-        draft.discard(entry)?;
+        discard(&mut draft, entry)?;
         draft.follow()?;
         Ok(self.planned(draft, Regrouping::Closed { first: entry })?)
     }

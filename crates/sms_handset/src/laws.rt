@@ -1,14 +1,15 @@
 //! Laws of a handset's events, over their definitions alone.
 ghost use Rattle.std.specs.Prelude.{◌≡◌, ℕ, Bool, List};
 ghost use Rattle.sms_base.specs.declared.holder.Holder.{Holder};
-ghost use Rattle.sms_handset.specs.declared.rows.Rows.{Rows};
-ghost use Rattle.sms_handset.specs.declared.setup.Setup.{Setup};
+ghost use Rattle.sms_handset_draft.specs.declared.rows.Rows.{Rows};
+ghost use Rattle.sms_handset_draft.specs.declared.setup.Setup.{Setup};
 ghost use Rattle.sms_handset.specs.Accepted.{StoresAccepted};
-ghost use Rattle.sms_handset.specs.Draft.{Core, Draft};
+ghost use Rattle.sms_handset_draft.specs.Draft.{Core, Draft};
 ghost use Rattle.sms_handset.specs.HandsetEvent.{deleted, discarded, frame_came, ticked, wrote};
-ghost use Rattle.sms_handset.specs.Outbox.{offer_message, offer_wanted};
+ghost use Rattle.sms_handset_draft.specs.Outbox.{offer_message, offer_wanted};
 ghost use Rattle.sms_handset.specs.Planning.{Rests, RestsIfDone};
-ghost use Rattle.sms_handset.specs.SoundRows.{IsSetup, IsSound, first_rows};
+ghost use Rattle.sms_handset_draft.specs.FirstRows.{first_rows};
+ghost use Rattle.sms_handset.specs.SoundRows.{IsSetup, IsSound};
 
 /// The rows that an event leads to are the rows with its changes.
 pub fn rows_are_the_changes()

@@ -4,41 +4,26 @@
 //! `Handset` is a machine over rows, which it judges when it starts. `plan` takes an event and hands out the changes of
 //! the rows; nothing has changed yet. Its caller commits them and calls `adopt`, which can't fail: only then do the
 //! frames come out. A handset that was sound is so after each event, and starts again from the rows that were committed.
-//! What its rows are of is `sms_inbox`'s and `sms_outbox`'s.
+//! What its rows are of is `sms_inbox`'s and `sms_outbox`'s, the stages of its events are `sms_handset_draft`'s.
 #![tactic(auto)]
 
-mod counters;
 mod deleting;
-mod draft;
 mod event;
-mod frames_and_ticks;
-mod group_moves;
 mod handset;
 pub mod laws;
-mod no_memory;
-mod notices;
 mod planned;
-mod receiving;
 mod recover_error;
 mod refusal;
-mod rows;
-mod sending;
-mod setup;
 mod sound_rows;
-mod stored;
-mod storing;
 mod text_view;
 mod writing;
 
-pub use counters::Counters;
 pub use event::HandsetEvent;
 pub use handset::Handset;
-pub use no_memory::NoMemory;
 pub use planned::Planned;
 pub use recover_error::RecoverError;
 pub use refusal::{PlanError, Refusal};
-pub use rows::{Changes, Rows};
-pub use setup::Setup;
+pub use sms_handset_draft::{Changes, Counters, NoMemory, Rows, Setup};
 pub use sms_inbox::{DiscardedGroup, Entry, Group, LastAccepted, Message};
 pub use sms_outbox::{EntryState, Notice, OutEntry, SubmitTpdu, Verdict};
 pub use text_view::TextView;

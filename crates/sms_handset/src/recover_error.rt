@@ -2,7 +2,7 @@
 ghost use Rattle.std.specs.Prelude.{◌≡◌, option_copied};
 ghost use Rattle.sms_handset.specs.declared.recover_error.RecoverError.TheVariants.{NoMemory as NoMemoryOf};
 
-use crate::no_memory::NoMemory;
+use sms_handset_draft::NoMemory;
 use thiserror::Error;
 
 /// Why rows are no handset.

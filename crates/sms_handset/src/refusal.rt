@@ -2,8 +2,8 @@
 ghost use Rattle.std.specs.Prelude.{◌≡◌};
 ghost use Rattle.sms_handset.specs.declared.refusal.PlanError.TheVariants.{NoMemory as NoMemoryOf};
 
-use crate::no_memory::NoMemory;
 use sms_base::AddressError;
+use sms_handset_draft::NoMemory;
 use std::alloc::AllocError;
 use thiserror::Error;
 

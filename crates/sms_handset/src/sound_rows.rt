@@ -3,7 +3,7 @@ ghost use Rattle.std.specs.Prelude.{◌≡◌, ◌↔◌, ◌&&◌, true};
 ghost use Rattle.sms_handset.specs.SoundRows.{IsSetup, IsSound};
 ghost use Rattle.sms_handset.specs.SoundnessTest.{KeysRise, are_few as are_few_of, inbox_passes as inbox_passes_of, outbox_passes as outbox_passes_of};
 
-use crate::rows::Rows;
+use sms_handset_draft::Rows;
 use sms_inbox::{are_entries, are_last, are_marks, are_of_open_groups};
 use sms_outbox::{are_out_entries, message_references_differ, references_differ};
 use sms_table::rises;

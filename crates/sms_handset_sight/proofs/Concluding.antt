@@ -19,15 +19,15 @@ use Rattle.sms_outbox.specs.declared.out_entry.OutEntry.{OutEntry as OutRow}
 use Rattle.sms_base.specs.declared.carried.Carried.{Carried as Carries}
 use Rattle.sms_base.specs.declared.carried.Kind.TheVariants.{Ack, Error}
 use Rattle.sms_outbox.specs.Answers.{verdict_of, error_verdict, is_temporary, is_duplicate}
-use Rattle.sms_handset.specs.Draft.{Draft, put_out}
+use Rattle.sms_handset_draft.specs.Draft.{Draft, put_out}
 use Rattle.sms_outbox.specs.Keys.{notice_key, out_key}
 use Rattle.sms_outbox.specs.Settling.{lost, most_tries, retry_delay, settled}
 use Rattle.sms_link.specs.Timers.{tram}
 use Rattle.sms_link.specs.Ending.{ended_by}
 use Rattle.sms_link.specs.declared.ending.Ending.{Ending}
 use Rattle.sms_link.specs.declared.ending.Ending.TheVariants.{Acknowledged as AcknowledgedEnd, Refused as RefusedEnd, Wrong as WrongEnd, Lost as LostEnd}
-use Rattle.sms_handset.specs.MemoryAvailable.{notice_concluded, notice_ended, notice_failed, put_notice, remove_notice}
-use Rattle.sms_handset.specs.Outbox.{entry_concluded, holder_concluded, transfer_ended}
+use Rattle.sms_handset_draft.specs.MemoryAvailable.{notice_concluded, notice_ended, notice_failed, put_notice, remove_notice}
+use Rattle.sms_handset_draft.specs.Outbox.{entry_concluded, holder_concluded, transfer_ended}
 use Rattle.sms_handset.specs.SoundCore.{IsSentFor, IsUnderWay}
 use Rattle.sms_world.specs.World.{World, Up, Frame, Carried, Giving, EntryState, Queued as To_queued, Sent_up, Failed as To_failed, Unsure as To_unsure, IsUnfinished}
 use Rattle.sms_world.specs.WorldStep.{Lapse, Acknowledged, Refused, replaced}

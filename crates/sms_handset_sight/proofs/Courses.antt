@@ -1,12 +1,14 @@
 -- A handset's course is steps of the world, episode by episode.
 use Rattle.std.proofs.Common.{◌≡◌, ℕ, ◌≤◌, ◌<◌, arith, List, [], ◌∷◌, Bool, true, false, refl, sym, ◌∙◌, ap, subst, ⊎_elim, Ok}
 use Rattle.sms_handset.specs.declared.event.HandsetEvent.{HandsetEvent}
-use Rattle.sms_handset.specs.declared.rows.Rows.{Rows}
-use Rattle.sms_handset.specs.declared.setup.Setup.{Setup}
-use Rattle.sms_handset.specs.Draft.{Changes, Core, Draft, HandsetOf, draft_of, recovered, rows_after}
-use Rattle.sms_handset.specs.Planning.{Outcome, Plan, adopted}
+use Rattle.sms_handset_draft.specs.declared.rows.Rows.{Rows}
+use Rattle.sms_handset_draft.specs.declared.setup.Setup.{Setup}
+use Rattle.sms_handset_draft.specs.Draft.{Changes, Core, Draft, HandsetOf, draft_of, recovered, rows_after}
+use Rattle.sms_handset.specs.Planning.{Plan, adopted}
+use Rattle.sms_handset_draft.specs.Outcome.{Outcome}
 use Rattle.sms_handset.specs.SoundCore.{IsSoundCore}
-use Rattle.sms_handset.specs.SoundRows.{IsSetup, IsSound, first_rows}
+use Rattle.sms_handset.specs.SoundRows.{IsSetup, IsSound}
+use Rattle.sms_handset_draft.specs.FirstRows.{first_rows}
 use Rattle.sms_handset.proofs.SoundEvents.{event_sound}
 use Rattle.sms_world.specs.Run.{end}
 use Rattle.sms_world.specs.ScriptRun.{items}

@@ -17,11 +17,11 @@ use Rattle.sms_tpdu.specs.TpduReading.{down_at}
 use Rattle.sms_inbox.specs.declared.entry.Group.{Group}
 use Rattle.sms_inbox.specs.declared.discarded_group.DiscardedGroup.{DiscardedGroup}
 use Rattle.sms_outbox.specs.declared.out_entry.OutEntry.{OutEntry as OutRow}
-use Rattle.sms_handset.specs.Draft.{Draft, put_out}
+use Rattle.sms_handset_draft.specs.Draft.{Draft, put_out}
 use Rattle.sms_inbox.specs.Groups.{group_of, key_of, mark_of}
 use Rattle.sms_inbox.specs.Keys.{last_key}
 use Rattle.sms_outbox.specs.Keys.{out_key}
-use Rattle.sms_handset.specs.Receiving.{accept, acknowledge, data_came, deliver_came, note, part_came, tpdu_came}
+use Rattle.sms_handset_draft.specs.Receiving.{accept, acknowledge, data_came, deliver_came, note, part_came, tpdu_came}
 use Rattle.sms_inbox.specs.Doubles.{is_double}
 use Rattle.sms_outbox.specs.Reports.{is_reported, reported}
 use Rattle.sms_inbox.specs.SoundInbox.{IsPartOf}

@@ -9,11 +9,11 @@ use Rattle.sms_base.specs.declared.holder.Holder.{Holder}
 use Rattle.sms_inbox.specs.declared.entry.Entry.{Entry}
 use Rattle.sms_inbox.specs.declared.entry.Group.{Group}
 use Rattle.sms_inbox.specs.declared.discarded_group.DiscardedGroup.{DiscardedGroup}
-use Rattle.sms_handset.specs.Draft.{Changes, Draft, put_mark, remove_mark}
+use Rattle.sms_handset_draft.specs.Draft.{Changes, Draft, put_mark, remove_mark}
 use Rattle.sms_inbox.specs.Groups.{all_numbers, is_among, mark_of, members}
-use Rattle.sms_handset.specs.Storing.{marked}
+use Rattle.sms_handset_draft.specs.Storing.{marked}
 use Rattle.sms_inbox.specs.Keys.{mark_key}
-use Rattle.sms_handset.specs.Receiving.{accept, single_came, part_came}
+use Rattle.sms_handset_draft.specs.Receiving.{accept, single_came, part_came}
 use Rattle.sms_handset.proofs.SoundDrafts.{SoundAt}
 use Rattle.sms_inbox.proofs.SoundMarks.{Discarded, mark_found, mark_gone, mark_more, mark_none, no_mark}
 use Rattle.sms_tpdu.specs.MoreMessages.{compared}

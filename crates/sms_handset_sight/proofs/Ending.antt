@@ -8,9 +8,9 @@ use Rattle.sms_concat.specs.declared.content.Content.{Content}
 use Rattle.sms_inbox.specs.declared.entry.Entry.{Entry}
 use Rattle.sms_inbox.specs.declared.entry.Group.{Group}
 use Rattle.sms_inbox.specs.declared.discarded_group.DiscardedGroup.{DiscardedGroup}
-use Rattle.sms_handset.specs.Draft.{Draft}
+use Rattle.sms_handset_draft.specs.Draft.{Draft}
 use Rattle.sms_inbox.specs.Groups.{alone, first_number, is_part_of, joined_entry, mark_of, members}
-use Rattle.sms_handset.specs.Storing.{drop_all, ended, free_all}
+use Rattle.sms_handset_draft.specs.Storing.{drop_all, ended, free_all}
 use Rattle.sms_inbox.specs.Keys.{entry_key}
 use Rattle.sms_inbox.proofs.GroupMembers.{all_without, all_without_self, apart_groups, members_all_without, members_among, members_put, others_stay, without_apart}
 use Rattle.sms_inbox.proofs.SoundEntries.{Inbox, all_from, new_apart}

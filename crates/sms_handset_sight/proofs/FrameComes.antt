@@ -23,16 +23,16 @@ use Rattle.sms_relay.specs.declared.frame.Rp.{Rp}
 use Rattle.sms_relay.specs.declared.frame.Rp.TheVariants.{DataUnit, AckUnit, ErrorUnit}
 use Rattle.sms_relay.specs.RelayReading.{down_at}
 use Rattle.sms_base.specs.declared.carried.Carried.{Carried as Carries}
-use Rattle.sms_handset.specs.Draft.{Draft, link_of}
+use Rattle.sms_handset_draft.specs.Draft.{Draft, link_of}
 use Rattle.sms_link.specs.LinkTurn.{heard, unit_ended}
-use Rattle.sms_handset.specs.HandsetEvent.{frame_heard, went_up}
-use Rattle.sms_handset.specs.Outbox.{transfer_ended}
+use Rattle.sms_handset_draft.specs.FramesAndTicks.{frame_heard, went_up}
+use Rattle.sms_handset_draft.specs.Outbox.{transfer_ended}
 use Rattle.sms_handset.specs.SoundCore.{IsUnderWay}
 use Rattle.sms_link.specs.Ending.{ended_by}
 use Rattle.sms_link.specs.declared.ending.Side.TheVariants.{Handset as HandsetSide}
 use Rattle.sms_link.specs.declared.ending.Ending.TheVariants.{Lost as LostEnd}
 use Rattle.sms_link.specs.declared.ending.Upward.TheVariants.{Ended}
-use Rattle.sms_handset.specs.Receiving.{data_came, unit_came}
+use Rattle.sms_handset_draft.specs.Receiving.{data_came, unit_came}
 use Rattle.sms_handset.proofs.SoundDrafts.{SoundAt}
 use Rattle.sms_base.specs.declared.carried.Kind.{Kind}
 use Rattle.sms_base.specs.declared.carried.Kind.TheVariants.{Data, Ack, Error}

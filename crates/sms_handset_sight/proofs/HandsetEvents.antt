@@ -2,11 +2,13 @@
 use Rattle.std.proofs.Common.{◌≡◌, ℕ, List, refl, sym, ◌∙◌, ap, subst}
 use Rattle.sms_base.specs.declared.holder.Holder.{Holder}
 use Rattle.sms_control.specs.LinkStep.{Step, take_step}
-use Rattle.sms_handset.specs.declared.rows.Rows.{Rows}
-use Rattle.sms_handset.specs.Draft.{Core, Draft, core_of, draft_of, link_of, with_turn}
+use Rattle.sms_handset_draft.specs.declared.rows.Rows.{Rows}
+use Rattle.sms_handset_draft.specs.Draft.{Core, Draft, core_of, draft_of, link_of, with_turn}
 use Rattle.sms_link.specs.LinkTurn.{Turn, taken}
-use Rattle.sms_handset.specs.HandsetEvent.{frame_came, frame_heard}
-use Rattle.sms_handset.specs.Planning.{Outcome, Rests, adopted, outcome_of}
+use Rattle.sms_handset.specs.HandsetEvent.{frame_came}
+use Rattle.sms_handset_draft.specs.FramesAndTicks.{frame_heard}
+use Rattle.sms_handset.specs.Planning.{Rests, adopted}
+use Rattle.sms_handset_draft.specs.Outcome.{Outcome, outcome_of}
 use Rattle.sms_handset.specs.SoundCore.{IsSoundCore}
 use Rattle.sms_handset.proofs.SoundDrafts.{SoundAt, sound_from}
 use Rattle.sms_handset.proofs.SoundEvents.{went_up_sound}

@@ -12,7 +12,7 @@ use Rattle.sms_control.specs.LinkStep.{Step}
 use Rattle.sms_control.proofs.ControlFrames.{cp_again}
 use Rattle.sms_base.specs.declared.carried.Carried.{Carried as Carries}
 use Rattle.sms_link.specs.declared.outgoing.Outgoing.{Outgoing}
-use Rattle.sms_handset.specs.Draft.{Draft, link_of, with_turn}
+use Rattle.sms_handset_draft.specs.Draft.{Draft, link_of, with_turn}
 use Rattle.sms_link.specs.LinkTurn.{carried_by, carried_in, from_links, heard, of_links, still_under_way}
 use Rattle.sms_world.specs.World.{World, Sent, Bare, Carried as Carried_frame, Frame}
 use Rattle.sms_world.specs.WorldStep.{Control, Again}

@@ -8,7 +8,7 @@ use Rattle.sms_control.specs.declared.transaction.TransactionFlag.{TransactionFl
 use Rattle.sms_control.specs.declared.transaction.TransactionFlag.TheVariants.{FromOriginator, ToOriginator}
 use Rattle.sms_base.specs.declared.carried.Carried.{Carried as Carries}
 use Rattle.sms_link.specs.declared.outgoing.Outgoing.{Outgoing}
-use Rattle.sms_handset.specs.Draft.{Draft}
+use Rattle.sms_handset_draft.specs.Draft.{Draft}
 use Rattle.sms_world.specs.World.{World, Sent}
 use Rattle.sms_world.specs.WorldStep.{Step}
 use Rattle.sms_world.specs.Run.{Run, end, after_item}

@@ -28,13 +28,13 @@ use Rattle.sms_outbox.specs.declared.out_entry.OutEntry.{OutEntry as OutRow}
 use Rattle.sms_base.specs.declared.carried.Carried.{Carried as Carries}
 use Rattle.sms_base.specs.declared.carried.Kind.TheVariants.{Data}
 use Rattle.sms_link.specs.declared.outgoing.Outgoing.{Outgoing}
-use Rattle.sms_handset.specs.Draft.{Draft, begin, link_of, put_counters, put_out, with_turn}
+use Rattle.sms_handset_draft.specs.Draft.{Draft, begin, link_of, put_counters, put_out, with_turn}
 use Rattle.sms_link.specs.LinkTurn.{Turn, carrying, started as turn_started, still}
 use Rattle.sms_inbox.specs.Groups.{is_among}
 use Rattle.sms_outbox.specs.Keys.{out_key}
-use Rattle.sms_handset.specs.MemoryAvailable.{first_notice, put_notice, send_notice}
+use Rattle.sms_handset_draft.specs.MemoryAvailable.{first_notice, put_notice, send_notice}
 use Rattle.sms_outbox.specs.Offers.{first_due, first_fired, is_fired, submit_of}
-use Rattle.sms_handset.specs.Outbox.{follow, is_notice_next, lapse, lapse_rows, offer, offer_after, offer_entry, offer_message, offer_wanted}
+use Rattle.sms_handset_draft.specs.Outbox.{follow, is_notice_next, lapse, lapse_rows, offer, offer_after, offer_entry, offer_message, offer_wanted}
 use Rattle.sms_outbox.specs.Settling.{is_sending, lost, most_tries}
 use Rattle.sms_outbox.specs.References.{held_by_entries, held_references, is_unfinished, next_free}
 use Rattle.sms_handset.proofs.SoundDrafts.{SoundAt}

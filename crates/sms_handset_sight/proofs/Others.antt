@@ -7,7 +7,7 @@ use Rattle.sms_control.specs.declared.link_state.Begun.{Begun}
 use Rattle.sms_control.specs.declared.link_state.Opened.{Opened}
 use Rattle.sms_control.specs.declared.transaction.TransactionFlag.TheVariants.{FromOriginator, ToOriginator}
 use Rattle.sms_control.specs.declared.transaction.TransactionFlag.{TransactionFlag}
-use Rattle.sms_handset.specs.Draft.{Core, draft_of, no_changes}
+use Rattle.sms_handset_draft.specs.Draft.{Core, draft_of, no_changes}
 use Rattle.sms_inbox.specs.Groups.{mark_of, members}
 use Rattle.sms_world.specs.Groups.{Groups}
 use Rattle.sms_world.specs.ScriptRun.{items}

@@ -15,13 +15,13 @@ use Rattle.sms_outbox.specs.declared.out_entry.EntryState.TheVariants.{Queued, S
 use Rattle.sms_outbox.specs.declared.out_entry.OutEntry.{OutEntry as OutRow}
 use Rattle.sms_handset.specs.declared.refusal.Refusal.{Refusal}
 use Rattle.sms_handset.specs.declared.refusal.Refusal.TheVariants.{NoEntry, StillOpen, TooManyDiscarded}
-use Rattle.sms_handset.specs.Draft.{Core, Draft, draft_of, put_counters, put_mark, remove_entry, remove_out}
+use Rattle.sms_handset_draft.specs.Draft.{Core, Draft, draft_of, put_counters, put_mark, remove_entry, remove_out}
 use Rattle.sms_inbox.specs.Groups.{first_number, is_part_of, mark_of, members, part_numbers, is_open_part}
 use Rattle.sms_handset.specs.HandsetEvent.{acted, deleted, discarded}
 use Rattle.sms_inbox.specs.Keys.{entry_key, mark_key}
 use Rattle.sms_outbox.specs.Keys.{out_key}
-use Rattle.sms_handset.specs.MemoryAvailable.{freed, want_notice}
-use Rattle.sms_handset.specs.Outbox.{follow}
+use Rattle.sms_handset_draft.specs.MemoryAvailable.{freed, want_notice}
+use Rattle.sms_handset_draft.specs.Outbox.{follow}
 use Rattle.sms_handset.specs.OwnersActs.{delete, delete_in, delete_out, discard, discard_at, discard_group, discard_in, discard_members}
 use Rattle.sms_outbox.specs.References.{is_unfinished}
 use Rattle.sms_handset.specs.SoundCore.{IsSoundCore}

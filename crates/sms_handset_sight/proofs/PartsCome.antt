@@ -7,16 +7,16 @@ use Rattle.sms_table.specs.Table.{put}
 use Rattle.sms_base.specs.declared.holder.Holder.{Holder}
 use Rattle.sms_concat.specs.declared.content.Content.{Content}
 use Rattle.sms_relay.specs.declared.cause.RpCause.TheVariants.{MemoryCapacityExceeded}
-use Rattle.sms_handset.specs.declared.counters.Counters.{Counters}
+use Rattle.sms_handset_draft.specs.declared.counters.Counters.{Counters}
 use Rattle.sms_inbox.specs.declared.entry.Entry.{Entry}
 use Rattle.sms_inbox.specs.declared.entry.Group.{Group}
 use Rattle.sms_inbox.specs.declared.discarded_group.DiscardedGroup.{DiscardedGroup}
-use Rattle.sms_handset.specs.Draft.{Draft}
+use Rattle.sms_handset_draft.specs.Draft.{Draft}
 use Rattle.sms_inbox.specs.Groups.{all_numbers, is_among, joined_content, mark_of, members, part_entry, part_numbers, single_entry, first_number}
-use Rattle.sms_handset.specs.Storing.{ended, keep, store_part, store_single}
+use Rattle.sms_handset_draft.specs.Storing.{ended, keep, store_part, store_single}
 use Rattle.sms_inbox.specs.Keys.{entry_key}
-use Rattle.sms_handset.specs.MemoryAvailable.{flag, has_room}
-use Rattle.sms_handset.specs.Receiving.{accept, member_came, new_part_came, no_room, single_came}
+use Rattle.sms_handset_draft.specs.MemoryAvailable.{flag, has_room}
+use Rattle.sms_handset_draft.specs.Receiving.{accept, member_came, new_part_came, no_room, single_came}
 use Rattle.sms_inbox.specs.SoundInbox.{IsPartOf}
 use Rattle.sms_handset.proofs.SoundDrafts.{SoundAt}
 use Rattle.sms_inbox.proofs.SoundGroups.{Arrived, arrives, ended_entries}

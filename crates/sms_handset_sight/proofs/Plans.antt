@@ -1,13 +1,14 @@
 -- What a handset plans leads on in the world.
 use Rattle.std.proofs.Common.{◌≡◌, ℕ, List, false, sym, ◌∙◌, ap, subst, Result, Ok}
 use Rattle.sms_handset.specs.declared.refusal.Refusal.{Refusal}
-use Rattle.sms_handset.specs.Draft.{Draft, HandsetOf, draft_of}
+use Rattle.sms_handset_draft.specs.Draft.{Draft, HandsetOf, draft_of}
 use Rattle.sms_handset.specs.HandsetEvent.{deleted, discarded, frame_came, tag_of, ticked, wrote}
 use Rattle.sms_handset.specs.declared.event.HandsetEvent.{HandsetEvent}
 use Rattle.sms_handset.specs.SoundCore.{IsSoundCore}
 use Rattle.sms_frame_sight.specs.FramesDown.{IsHanded}
 use Rattle.sms_handset.specs.declared.event.HandsetEvent.TheVariants.{Frame, Tick, Write, Delete, Discard}
-use Rattle.sms_handset.specs.Planning.{OfFrame, Outcome, Plan, Plans, Rests, RestsIfDone, outcome_of}
+use Rattle.sms_handset.specs.Planning.{OfFrame, Plan, Plans, Rests, RestsIfDone}
+use Rattle.sms_handset_draft.specs.Outcome.{Outcome, outcome_of}
 use Rattle.sms_handset.proofs.Resting.{delete_rests, discard_rests, frame_rests, tick_rests, write_rests}
 use Rattle.sms_world.specs.ScriptRun.{items, Event, Handed, Removed, Tick_handset, Wrote}
 use Rattle.sms_world.specs.Run.{end}

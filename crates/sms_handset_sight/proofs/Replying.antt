@@ -21,7 +21,7 @@ use Rattle.sms_base.specs.declared.carried.Carried.{Carried as Carries}
 use Rattle.sms_base.specs.declared.carried.Kind.{Kind}
 use Rattle.sms_base.specs.declared.carried.Kind.TheVariants.{Ack, Error}
 use Rattle.sms_link.specs.declared.outgoing.Outgoing.{Outgoing}
-use Rattle.sms_handset.specs.Draft.{Draft, link_of, reply, with_turn}
+use Rattle.sms_handset_draft.specs.Draft.{Draft, link_of, reply, with_turn}
 use Rattle.sms_link.specs.LinkTurn.{Turn, answering, carrying, still}
 use Rattle.sms_world.specs.World.{World, Sent}
 use Rattle.sms_frame_sight.specs.FramesUp.{CarriesUp, IsOfKind, flag_for, sent_as}

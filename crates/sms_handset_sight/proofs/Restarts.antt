@@ -1,9 +1,9 @@
 -- A restart leaves what the handset sees as it was: what is forgotten, the world doesn't show.
 use Rattle.std.proofs.Common.{ℕ, ◌<◌, arith, List, [], false, refl, sym, subst}
-use Rattle.sms_handset.specs.declared.setup.Setup.{Setup}
-use Rattle.sms_handset.specs.Draft.{Core, Draft, draft_of, recovered}
+use Rattle.sms_handset_draft.specs.declared.setup.Setup.{Setup}
+use Rattle.sms_handset_draft.specs.Draft.{Core, Draft, draft_of, recovered}
 use Rattle.sms_world.specs.World.{World, Sent, empty}
-use Rattle.sms_handset.specs.declared.counters.Counters.{Counters}
+use Rattle.sms_handset_draft.specs.declared.counters.Counters.{Counters}
 use Rattle.sms_world.specs.ScriptRun.{items, Restarted}
 use Rattle.sms_world.specs.Run.{end}
 use Rattle.sms_world.proofs.Stops.{stopped_so}

@@ -11,15 +11,15 @@ use Rattle.sms_control.specs.declared.link_state.Opened.{Opened}
 use Rattle.sms_relay.specs.declared.cause.RpCause.{RpCause}
 use Rattle.sms_relay.specs.Cause.{IsRpCause}
 use Rattle.sms_relay.specs.RelayGrammar.{ack_up, error_up}
-use Rattle.sms_handset.specs.declared.counters.Counters.{Counters}
+use Rattle.sms_handset_draft.specs.declared.counters.Counters.{Counters}
 use Rattle.sms_inbox.specs.declared.entry.Entry.{Entry}
 use Rattle.sms_inbox.specs.declared.last_accepted.LastAccepted.{LastAccepted}
 use Rattle.sms_inbox.specs.declared.discarded_group.DiscardedGroup.{DiscardedGroup}
 use Rattle.sms_outbox.specs.declared.out_entry.OutEntry.{OutEntry as OutRow}
 use Rattle.sms_base.specs.declared.carried.Kind.TheVariants.{Ack, Error}
-use Rattle.sms_handset.specs.Draft.{Changes, Draft, put_last}
+use Rattle.sms_handset_draft.specs.Draft.{Changes, Draft, put_last}
 use Rattle.sms_inbox.specs.Keys.{last_key}
-use Rattle.sms_handset.specs.Receiving.{acknowledge, refuse, accept}
+use Rattle.sms_handset_draft.specs.Receiving.{acknowledge, refuse, accept}
 use Rattle.sms_inbox.specs.Doubles.{is_double}
 use Rattle.sms_world.specs.World.{World, Carried, Accepted, Joined, Giving, OutEntry, IsLast}
 use Rattle.sms_tpdu.specs.MoreMessages.{compared, same_message}

@@ -12,13 +12,14 @@ use Rattle.sms_control.specs.LinkStep.{Step, answer_frames, begun_fired, begun_f
 use Rattle.sms_control.specs.Timers.{begun_firing, opened_firing, sent_again}
 use Rattle.sms_base.specs.declared.carried.Carried.{Carried as Carries}
 use Rattle.sms_link.specs.declared.outgoing.Outgoing.{Outgoing}
-use Rattle.sms_handset.specs.Draft.{Core, Draft, draft_of, link_of}
+use Rattle.sms_handset_draft.specs.Draft.{Core, Draft, draft_of, link_of}
 use Rattle.sms_link.specs.LinkTurn.{carried_by, came_up, from_links, heard, of_links, still_under_way}
 use Rattle.sms_link.specs.declared.ending.Side.TheVariants.{Handset as HandsetSide}
 use Rattle.sms_link.specs.declared.ending.Ending.TheVariants.{Lost as LostEnd}
 use Rattle.sms_link.specs.declared.ending.Upward.TheVariants.{Ended}
-use Rattle.sms_handset.specs.HandsetEvent.{at_moment, ticked, timed_out, timers_fired}
-use Rattle.sms_handset.specs.Outbox.{follow}
+use Rattle.sms_handset.specs.HandsetEvent.{ticked}
+use Rattle.sms_handset_draft.specs.FramesAndTicks.{at_moment, timed_out, timers_fired}
+use Rattle.sms_handset_draft.specs.Outbox.{follow}
 use Rattle.sms_handset.specs.SoundCore.{IsSoundCore, IsUnderWay}
 use Rattle.sms_handset.proofs.SoundDrafts.{SoundAt, sound_from}
 use Rattle.sms_handset.proofs.SoundEvents.{timed_out_sound}

@@ -18,11 +18,11 @@ use Rattle.sms_outbox.specs.declared.notice.Notice.{Notice}
 use Rattle.sms_outbox.specs.declared.out_entry.OutEntry.{OutEntry as OutRow}
 use Rattle.sms_handset.specs.declared.refusal.Refusal.{Refusal}
 use Rattle.sms_handset.specs.declared.refusal.Refusal.TheVariants.{OutboxFull}
-use Rattle.sms_handset.specs.Draft.{Core, Draft, draft_of}
+use Rattle.sms_handset_draft.specs.Draft.{Core, Draft, draft_of}
 use Rattle.sms_inbox.specs.Groups.{is_among}
 use Rattle.sms_handset.specs.HandsetEvent.{wrote}
 use Rattle.sms_outbox.specs.Keys.{out_key}
-use Rattle.sms_handset.specs.Outbox.{follow}
+use Rattle.sms_handset_draft.specs.Outbox.{follow}
 use Rattle.sms_concat.specs.TextContent.{content_of_text}
 use Rattle.sms_handset.specs.OwnersActs.{count_split, fits_outbox, write, write_part, write_parts, write_split, write_to, written}
 use Rattle.sms_outbox.specs.Submits.{written_entry}

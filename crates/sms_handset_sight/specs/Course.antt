@@ -2,12 +2,13 @@
 -- However it goes, it is steps of the world.
 use Rattle.std.specs.Prelude.{◌≡◌, ◌⊎◌, ℕ, List, [], ◌∷◌, Bool, true, false}
 use Rattle.sms_handset.specs.declared.event.HandsetEvent.{HandsetEvent}
-use Rattle.sms_handset.specs.declared.setup.Setup.{Setup}
-use Rattle.sms_handset.specs.Draft.{HandsetOf, draft_of, recovered, rows_after}
+use Rattle.sms_handset_draft.specs.declared.setup.Setup.{Setup}
+use Rattle.sms_handset_draft.specs.Draft.{HandsetOf, draft_of, recovered, rows_after}
 use Rattle.sms_handset.specs.HandsetEvent.{tag_of}
 use Rattle.sms_handset.specs.Planning.{OfFrame, Plan, adopted}
 use Rattle.sms_handset.specs.SoundCore.{IsSoundCore}
-use Rattle.sms_handset.specs.SoundRows.{IsSetup, first_rows}
+use Rattle.sms_handset.specs.SoundRows.{IsSetup}
+use Rattle.sms_handset_draft.specs.FirstRows.{first_rows}
 use Rattle.sms_world.specs.Run.{Run, end}
 use Rattle.sms_world.specs.ScriptRun.{IsPlayed, items}
 use Rattle.sms_world.specs.Sides.{AllOfCentre, AllOfHandset}

@@ -1,9 +1,9 @@
 -- Every event of a handset is steps of the world.
 use Rattle.std.specs.Prelude.{ℕ, List, Result, Ok, Err, Bool}
 use Rattle.sms_base.specs.declared.holder.Holder.{Holder}
-use Rattle.sms_handset.specs.Draft.{Draft, Core, draft_of, recovered}
+use Rattle.sms_handset_draft.specs.Draft.{Draft, Core, draft_of, recovered}
 use Rattle.sms_world.specs.World.{World}
-use Rattle.sms_handset.specs.declared.setup.Setup.{Setup}
+use Rattle.sms_handset_draft.specs.declared.setup.Setup.{Setup}
 use Rattle.sms_handset.specs.HandsetEvent.{deleted, discarded, frame_came, ticked, wrote}
 use Rattle.sms_handset.specs.declared.refusal.Refusal.{Refusal}
 use Rattle.sms_handset.specs.SoundCore.{IsSoundCore}

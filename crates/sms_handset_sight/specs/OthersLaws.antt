@@ -5,7 +5,7 @@ use Rattle.sms_world.specs.ScriptRun.{items}
 use Rattle.sms_world.specs.Sides.{AllOfHandset, AllOfCentre}
 use Rattle.sms_world.specs.WorldStep.{Step}
 use Rattle.sms_world.specs.Run.{end}
-use Rattle.sms_handset.specs.Draft.{Core, draft_of, no_changes}
+use Rattle.sms_handset_draft.specs.Draft.{Core, draft_of, no_changes}
 use Rattle.sms_handset_sight.specs.PutInOrder.{Kept}
 use Rattle.sms_handset_sight.specs.Sight.{Sees}
 

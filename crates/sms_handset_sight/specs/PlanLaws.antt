@@ -1,12 +1,13 @@
 -- What a handset plans leads on in the world, and the handset that adopts the plan sees where.
 use Rattle.std.specs.Prelude.{◌≡◌, ℕ, List, false, Ok}
-use Rattle.sms_handset.specs.Draft.{Core, Draft, HandsetOf, draft_of}
+use Rattle.sms_handset_draft.specs.Draft.{Core, Draft, HandsetOf, draft_of}
 use Rattle.sms_world.specs.World.{World}
 use Rattle.sms_world.specs.ScriptRun.{Event, IsPlayed, items, Handed, Removed, Tick_handset, Wrote}
 use Rattle.sms_world.specs.Sides.{AllOfHandset}
 use Rattle.sms_world.specs.WorldStep.{Step}
 use Rattle.sms_world.specs.Run.{Run, end}
-use Rattle.sms_handset.specs.Planning.{OfDelete, OfDiscard, OfFrame, OfTick, OfWrite, Outcome, Plan, Plans, Rests, adopted, outcome_of}
+use Rattle.sms_handset.specs.Planning.{OfDelete, OfDiscard, OfFrame, OfTick, OfWrite, Plan, Plans, Rests, adopted}
+use Rattle.sms_handset_draft.specs.Outcome.{Outcome, outcome_of}
 use Rattle.sms_handset.specs.HandsetEvent.{deleted, discarded, frame_came, tag_of, ticked, wrote}
 use Rattle.sms_handset.specs.SoundCore.{IsSoundCore}
 use Rattle.sms_handset.specs.declared.event.HandsetEvent.{HandsetEvent}

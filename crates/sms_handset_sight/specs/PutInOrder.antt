@@ -10,7 +10,7 @@ use Rattle.sms_inbox.specs.declared.entry.Message.TheVariants.{Single, Part, Joi
 use Rattle.sms_inbox.specs.declared.last_accepted.LastAccepted.{LastAccepted}
 use Rattle.sms_tpdu.specs.MoreMessages.{compared}
 use Rattle.sms_world.specs.World.{is_same_handset, World, Accepted, Joined}
-use Rattle.sms_handset.specs.Draft.{Changes}
+use Rattle.sms_handset_draft.specs.Draft.{Changes}
 
 -- what this handset accepted
 abbrev pub accepted_at : List ℕ → List Accepted → List Accepted

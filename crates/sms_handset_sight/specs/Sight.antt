@@ -1,6 +1,6 @@
 -- What a handset in the middle of an event says of the world.
 use Rattle.std.specs.Prelude.{◌≡◌, ℕ, List}
-use Rattle.sms_handset.specs.Draft.{Draft}
+use Rattle.sms_handset_draft.specs.Draft.{Draft}
 use Rattle.sms_world.specs.World.{World}
 use Rattle.sms_frame_sight.specs.FramesUp.{AreWhole, stacked}
 use Rattle.sms_handset_sight.specs.SeesLink.{SeesLinks}

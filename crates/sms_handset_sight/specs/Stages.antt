@@ -1,6 +1,6 @@
 -- Stages of an event, as steps of the world.
 use Rattle.std.specs.Prelude.{ℕ, List, [], ◌∷◌, false}
-use Rattle.sms_handset.specs.Draft.{Draft}
+use Rattle.sms_handset_draft.specs.Draft.{Draft}
 use Rattle.sms_world.specs.World.{World, Frame}
 use Rattle.sms_world.specs.ScriptRun.{Event, Follows, IsPlayed, items, Reads}
 use Rattle.sms_world.specs.Sides.{IsOfHandset, AllOfHandset}

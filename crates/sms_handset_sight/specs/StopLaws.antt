@@ -1,13 +1,13 @@
 -- Stops and starts: what a handset says of the world that comes back after its store call, or comes new.
 use Rattle.std.specs.Prelude.{ℕ, List, [], true}
-use Rattle.sms_handset.specs.Draft.{Draft, draft_of, recovered}
+use Rattle.sms_handset_draft.specs.Draft.{Draft, draft_of, recovered}
 use Rattle.sms_world.specs.World.{Sent, World, empty, with_frames}
 use Rattle.sms_world.specs.ScriptRun.{Event, IsPlayed, items}
 use Rattle.sms_world.specs.Sides.{AllOfHandset}
 use Rattle.sms_world.specs.WorldStep.{Step}
 use Rattle.sms_world.specs.Run.{Run, end}
-use Rattle.sms_handset.specs.declared.counters.Counters.{Counters}
-use Rattle.sms_handset.specs.declared.setup.Setup.{Setup}
+use Rattle.sms_handset_draft.specs.declared.counters.Counters.{Counters}
+use Rattle.sms_handset_draft.specs.declared.setup.Setup.{Setup}
 use Rattle.sms_handset_sight.specs.PutInOrder.{Kept}
 use Rattle.sms_handset_sight.specs.Sight.{Sees}
 use Rattle.sms_handset_sight.specs.Stages.{Happens}

@@ -1,5 +1,5 @@
 -- Groups in the index.
-use Rattle.std.proofs.Common.{◌≡◌, ℕ, List, nat_eq, Some, [], ◌∷◌, false, None, refl, ◌∙◌, true, sym, ap, ⊎_elim, eq-eqb, true≢false, Option, ◌+◌, ◌++◌, append-nil, append_assoc, subst, zero, suc, take, cond, ◌<◌, length, get_or}
+use Rattle.std.proofs.Common.{◌≡◌, ℕ, List, nat_eq, Some, [], ◌∷◌, false, None, refl, ◌∙◌, true, sym, ap, ⊎_elim, eq-eqb, true≢false, Option, ◌+◌, ◌++◌, append-nil, append_assoc, subst, zero, suc, take, ◌<◌, length, get_or}
 use Rattle.std.specs.Map.{lookup, keys_of}
 use Rattle.std.specs.List.{AllByRecursion, IsDistinct}
 use Rattle.std.proofs.lemmas.Bool.{cond-false, cases_Bool, cases_eq, cond-true, ne_eqb}
@@ -10,14 +10,16 @@ use Rattle.indexmap.proofs.MapLemmas.{absent_before, absent_from_lookup, insert_
 use Rattle.sms_table.specs.Table.{Rises, AllAbove}
 use Rattle.sms_inbox.specs.declared.entry.Group.{Group}
 use Rattle.sms_inbox.specs.declared.open_group.OpenGroup.{OpenGroup}
-use Rattle.sms_inbox.specs.Groups.{is_same_group, members, is_part_of, part_number}
-use Rattle.sms_inbox.specs.OpenIndex.{OpenIndex, find_open, Indexes, parts_of, first_entry_of, under, with_one_more}
+use Rattle.sms_inbox.specs.Groups.{is_same_group, members, is_part_of}
+use Rattle.sms_inbox.specs.OpenIndex.{OpenIndex, find_open, Indexes, parts_of, under}
 use Rattle.sms_inbox.proofs.GroupMembers.{same_group, one_group, members_append, other_group}
 use Rattle.sms_inbox.specs.declared.entry.Entry.{Entry}
 use Rattle.sms_inbox.specs.Keys.{entry_key}
-use Rattle.sms_inbox.specs.OpenGroups.{open_group, stored_parts, stored_part}
-use Rattle.sms_inbox.proofs.Indexing.{stands_first, all_stay, one_opens}
-use Rattle.sms_inbox.proofs.PartsFound.{open_parts, stored_more}
+use Rattle.sms_inbox.specs.OpenGroups.{HasTaken, one_more, open_group, regrouped, stored_parts}
+use Rattle.sms_inbox.specs.TakenParts.{taken_of}
+use Rattle.sms_inbox.specs.declared.open_group.Regrouping.{Regrouping}
+use Rattle.sms_inbox.proofs.Indexing.{stands_first, all_stay, one_grows}
+use Rattle.sms_inbox.proofs.PartsFound.{open_joined, open_parts}
 use Rattle.sms_inbox.specs.declared.entry.Message.{Message}
 use Rattle.sms_inbox.specs.declared.entry.Message.TheVariants.{Part, Single, Joined}
 use Rattle.sms_inbox.specs.declared.open_group.StoredPart.{StoredPart}
@@ -91,6 +93,18 @@ pub parts_are : (g : Group) (index : OpenIndex) (es : List Entry) → Rises entr
     → parts_of (find_open g index.groups) ≡ stored_parts (members g es)
 parts_are g index es r i u = by_found g index es (find_open g index.groups) r i u refl
 
+taken_found : (g : Group) (index : OpenIndex) (es : List Entry) (o : Option OpenGroup) → Rises entry_key es → Indexes index es → IsDistinct nat_eq (keys_of index.groups)
+    → find_open g index.groups ≡ o → HasTaken o (members g es)
+taken_found g index es None r i u s = tt
+taken_found g index es (Some o) r i u s =
+    let f = found_there g o index.groups u s in
+    open_joined f.number o es (sym (i f.number) ∙ f.there) ∙ ap (λ (h : Group). taken_of o.group (members h es)) f.group_is
+
+-- what the index has taken of a group is its members
+pub has_taken : (g : Group) (index : OpenIndex) (es : List Entry) → Rises entry_key es → Indexes index es → IsDistinct nat_eq (keys_of index.groups)
+    → HasTaken (find_open g index.groups) (members g es)
+has_taken g index es r i u = taken_found g index es (find_open g index.groups) r i u refl
+
 -- groups that are put into an empty index one by one stand as they stood
 pub put_all : (done es : List (ℕ × OpenGroup)) → IsDistinct nat_eq (keys_of (done ++ es)) → insert_all nat_eq done es ≡ done ++ es
 put_all done [] d = sym (append-nil done)
@@ -133,42 +147,22 @@ pub takes_other : (e : Entry) (index : OpenIndex) → ((h : Group) → is_part_o
     → Indexes index es → Indexes index (es ++ e ∷ [])
 takes_other e index f es r i n = i n ∙ sym (all_stay es (es ++ e ∷ []) (rises_front es e r) r (λ h. none_more h es e (f h)) n)
 
--- the first of the parts with one more
-record HasFirst (ms : List Entry) (e : Entry) : Type 0 where
-  x : Entry
-  xs : List Entry
-  all_is : ms ++ e ∷ [] ≡ x ∷ xs
-  number : first_entry_of (stored_parts ms) e.number ≡ x.number
-  stays : (y : Entry) (ys : List Entry) → ms ≡ y ∷ ys → y.number ≡ x.number
-
-has_first : (ms : List Entry) (e : Entry) → HasFirst ms e
-has_first [] e = record { x = e; xs = []; all_is = refl; number = refl; stays = λ y ys q. absurd cc }
-has_first (m ∷ ms) e = record { x = m; xs = ms ++ e ∷ []; all_is = refl; number = refl; stays = λ y ys q. let same : m ≡ y = cc in ap (λ (z : Entry). z.number) (sym same) }
-
 -- a part: its group stands with one part more
-pub takes_part : (e : Entry) (g : Group) (k : ℕ) (t : List ℕ) (parts : List StoredPart) (first : ℕ) (there : OpenGroup) (i j : OpenIndex) → e.message ≡ Part g k t
+pub takes_part : (e : Entry) (g : Group) (k : ℕ) (t : List ℕ) (parts : List StoredPart) (change : Regrouping) (i j : OpenIndex) → e.message ≡ Part g k t
     → parts ≡ parts_of (find_open g i.groups) → IsDistinct nat_eq (keys_of i.groups)
-    → first ≡ first_entry_of parts e.number → there ≡ with_one_more g parts (record { entry = e.number; number = k })
-    → ((n : ℕ) → under j n ≡ cond (nat_eq first n) (Some there) (under i n))
+    → ((ms : List Entry) → parts ≡ stored_parts ms → change ≡ one_more g ms e)
+    → ((n : ℕ) → under j n ≡ regrouped change n (under i n))
     → (es : List Entry) → Rises entry_key (es ++ e ∷ []) → Indexes i es → Indexes j (es ++ e ∷ [])
-takes_part e g k t parts first there i j m p u q o h es r index n =
+takes_part e g k t parts change i j m p u o h es r index n =
     let before = rises_front es e r in
-    let are : parts ≡ stored_parts (members g es) = p ∙ parts_are g i es before index u in
-    let f = has_first (members g es) e in
-    let first_is : first ≡ f.x.number = q ∙ ap (λ (l : List StoredPart). first_entry_of l e.number) are ∙ f.number in
-    let part : stored_part e ≡ record { entry = e.number; number = k } = ap (λ (z : Message). let s : StoredPart = record { entry = e.number; number = part_number z } in s) m in
-    let all : stored_parts (f.x ∷ f.xs) ≡ parts ++ record { entry = e.number; number = k } ∷ [] =
-    ap (λ (l : List Entry). stored_parts l) (sym f.all_is) ∙ stored_more (members g es) e
-    ∙ ap (λ (l : List StoredPart). l ++ stored_part e ∷ []) (sym are) ∙ ap (λ (s : StoredPart). parts ++ s ∷ []) part in
-    let there_is : there ≡ open_group g (f.x ∷ f.xs) = o ∙ ap (λ (l : List StoredPart). let z : OpenGroup = record { group = g; parts = l } in z) (sym all) in
-    let own : members g (es ++ e ∷ []) ≡ f.x ∷ f.xs =
+    let is : change ≡ one_more g (members g es) e = o (members g es) (p ∙ parts_are g i es before index u) in
+    let own : members g (es ++ e ∷ []) ≡ members g es ++ e ∷ [] =
     members_append g es (e ∷ []) ∙ ap (λ (l : List Entry). members g es ++ l)
-    (cond-true (is_part_of g e.message) (e ∷ []) [] (ap (λ (z : Message). is_part_of g z) m ∙ one_group g)) ∙ f.all_is in
-    h n ∙ ap (λ (a : ℕ). cond (nat_eq a n) (Some there) (under i n)) first_is
-    ∙ ap (λ (z : OpenGroup). cond (nat_eq f.x.number n) (Some z) (under i n)) there_is
-    ∙ ap (λ (z : Option OpenGroup). cond (nat_eq f.x.number n) (Some (open_group g (f.x ∷ f.xs))) z) (index n)
-    ∙ sym (one_opens g f.x f.xs es (es ++ e ∷ []) before r
-    (λ b ne. none_more b es e (ap (λ (z : Message). is_part_of b z) m ∙ other_group g b ne)) own f.stays n)
+    (cond-true (is_part_of g e.message) (e ∷ []) [] (ap (λ (z : Message). is_part_of g z) m ∙ one_group g)) in
+    h n ∙ ap (λ (c : Regrouping). regrouped c n (under i n)) is
+    ∙ ap (λ (z : Option OpenGroup). regrouped (one_more g (members g es) e) n z) (index n)
+    ∙ sym (one_grows g e (members g es) es (es ++ e ∷ []) before r
+    (λ b ne. none_more b es e (ap (λ (z : Message). is_part_of b z) m ∙ other_group g b ne)) refl own n)
 
 pub no_part : (h : Group) (m : Message) → ((g : Group) (k : ℕ) (t : List ℕ) → m ≡ Part g k t → ⊥) → is_part_of h m ≡ false
 no_part h (Single tpdu) n = refl

@@ -1,5 +1,5 @@
 -- Open groups by their first stored parts, as entries come and go.
-use Rattle.std.proofs.Common.{◌≡◌, List, ◌∷◌, true, Some, None, refl, ◌∙◌, ap, eq-eqb, Option, sym, subst, inl, ℕ, [], ⊎_elim}
+use Rattle.std.proofs.Common.{◌≡◌, List, ◌∷◌, ◌++◌, true, Some, None, refl, ◌∙◌, ap, eq-eqb, Option, sym, subst, inl, ℕ, [], ⊎_elim}
 use Rattle.std.specs.Prelude.{◌==◌, if◌then◌else◌}
 use Rattle.std.proofs.lemmas.Bool.{cond-true, cases_eq, cond-false, ne_eqb}
 use Rattle.sms_base.specs.Among.{Among}
@@ -9,7 +9,10 @@ use Rattle.sms_inbox.specs.declared.entry.Entry.{Entry}
 use Rattle.sms_inbox.specs.declared.entry.Group.{Group}
 use Rattle.sms_inbox.specs.declared.entry.Message.{Message}
 use Rattle.sms_inbox.specs.Groups.{is_part_of, members}
-use Rattle.sms_inbox.specs.OpenGroups.{open_first, open_group, open_under, open_at, open_of}
+use Rattle.sms_joiner.specs.StepwiseJoining.{Taken}
+use Rattle.sms_inbox.specs.OpenGroups.{open_first, open_group, open_under, open_at, open_of, grown, one_more, regrouped, stored_parts}
+use Rattle.sms_inbox.specs.TakenParts.{carried_by, none_of}
+use Rattle.sms_inbox.proofs.TakenGroups.{taken_push}
 use Rattle.sms_inbox.proofs.GroupMembers.{part_is, members_among, one_group, among_members, cases_group}
 use Rattle.sms_inbox.specs.Keys.{entry_key}
 use Rattle.sms_inbox.specs.declared.open_group.OpenGroup.{OpenGroup}
@@ -116,6 +119,28 @@ one_opens g x xs a b ra rb others own first n =
     (λ (q : g ≡ o.group → ⊥). stands_too n o a b rb (others o.group q) s)
     (cases_group g o.group))
     ∙ sym (cond-false (x.number == n) there (open_at n a) (ne_eqb x.number n e)))
+    (cases_eq x.number n)
+
+-- one group has one more part
+pub one_grows : (g : Group) (e : Entry) (ms a b : List Entry) → Rises entry_key a → Rises entry_key b
+    → ((h : Group) → ¬ (g ≡ h) → members h b ≡ members h a) → members g a ≡ ms → members g b ≡ ms ++ e ∷ []
+    → (n : ℕ) → open_at n b ≡ regrouped (one_more g ms e) n (open_at n a)
+one_grows g e [] a b ra rb others before after n = one_opens g e [] a b ra rb others after (λ y ys q. let bad : [] ≡ y ∷ ys = sym before ∙ q in absurd cc) n
+one_grows g e (x ∷ xs) a b ra rb others before after n =
+    let all = x ∷ xs ++ e ∷ [] in
+    let grows : Some (open_group g all) ≡ grown (stored_parts all) (carried_by e) (Some (open_group g (x ∷ xs))) =
+    ap (λ (t : Option Taken). let o : Option OpenGroup = Some (record { group = g; parts = stored_parts all; joined = t }) in o) (taken_push (Some (none_of g)) (x ∷ xs) e) in
+    one_opens g x (xs ++ e ∷ []) a b ra rb others after
+    (λ y ys q. let l : x ∷ xs ≡ y ∷ ys = sym before ∙ q in let same : x ≡ y = cc in ap (λ (z : Entry). z.number) (sym same)) n
+    ∙ ⊎_elim
+    (λ (q : x.number ≡ n).
+    let there : open_at n a ≡ Some (open_group g (x ∷ xs)) = ap (λ (k : ℕ). open_at k a) (sym q) ∙ stands_first g x xs a ra before in
+    cond-true (x.number == n) (Some (open_group g all)) (open_at n a) (eq-eqb x.number n q) ∙ grows
+    ∙ ap (λ (o : Option OpenGroup). grown (stored_parts all) (carried_by e) o) (sym there)
+    ∙ sym (cond-true (x.number == n) (grown (stored_parts all) (carried_by e) (open_at n a)) (open_at n a) (eq-eqb x.number n q)))
+    (λ (q : x.number ≡ n → ⊥).
+    cond-false (x.number == n) (Some (open_group g all)) (open_at n a) (ne_eqb x.number n q)
+    ∙ sym (cond-false (x.number == n) (grown (stored_parts all) (carried_by e) (open_at n a)) (open_at n a) (ne_eqb x.number n q)))
     (cases_eq x.number n)
 
 -- one group goes, and no other stands under its number

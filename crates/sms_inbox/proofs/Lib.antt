@@ -10,3 +10,4 @@ pub mod SoundGroups
 pub mod SoundMarks
 pub mod SoundRoom
 pub mod InboxTold
+pub mod TakenGroups

@@ -1,18 +1,20 @@
 -- Parts that stand as their entries.
-use Rattle.std.proofs.Common.{Result, Ok, Err, OnOk, ◌≡◌, List, [], ◌∷◌, Option, Some, refl, sym, subst, inl, inr, ◌∙◌, ap, None, ℕ, suc, length, cond, Bool, true, false, ◌++◌}
+use Rattle.std.proofs.Common.{Result, Ok, Err, OnOk, ◌≡◌, List, [], ◌∷◌, Option, Some, refl, sym, subst, inl, inr, ◌∙◌, ap, None, ℕ, suc, length, cond, Bool, true, false, ◌++◌, ◌≤◌, arith}
 use Rattle.std.specs.Prelude.{◌==◌}
 use Rattle.sms_base.specs.Among.{Among}
 use Rattle.sms_table.specs.Table.{row_at, Rises}
 use Rattle.sms_table.proofs.Tables.{among_found}
 use Rattle.sms_inbox.specs.declared.entry.Entry.{Entry}
 use Rattle.sms_inbox.specs.Keys.{entry_key}
-use Rattle.sms_inbox.specs.OpenGroups.{AreFound, IsFoundAs, stored_part, stored_parts, entries_of, found_then, open_at}
+use Rattle.sms_inbox.specs.OpenGroups.{AreFound, IsFoundAs, stored_part, stored_parts, entries_of, found_then, one_more, open_at}
+use Rattle.sms_inbox.specs.declared.open_group.Regrouping.TheVariants.{Grown}
 use Rattle.sms_inbox.specs.declared.entry.Group.{Group}
 use Rattle.sms_inbox.specs.Groups.{members, part_number, part_numbers, part_with, first_number}
 use Rattle.sms_inbox.proofs.GroupMembers.{members_among}
 use Rattle.sms_inbox.specs.declared.open_group.StoredPart.{StoredPart}
 use Rattle.sms_inbox.specs.StoredParts.{numbers_of, entry_with}
 use Rattle.sms_inbox.specs.declared.open_group.OpenGroup.{OpenGroup}
+use Rattle.sms_inbox.specs.TakenParts.{carried_by, taken_of}
 use Rattle.sms_inbox.proofs.Indexing.{is_first}
 use Rattle.sms_inbox.specs.OpenIndex.{first_entry_of}
 
@@ -94,6 +96,11 @@ open_parts n o es s =
     let f = is_first n o es s in
     ap (λ (z : OpenGroup). z.parts) f.open_is ∙ ap (λ (l : List Entry). stored_parts l) (sym f.members_are)
 
+pub open_joined : (n : ℕ) (o : OpenGroup) (es : List Entry) → open_at n es ≡ Some o → o.joined ≡ taken_of o.group (members o.group es)
+open_joined n o es s =
+    let f = is_first n o es s in
+    ap (λ (z : OpenGroup). z.joined) f.open_is ∙ ap (λ (l : List Entry). taken_of o.group l) (sym f.members_are)
+
 stored_append : (xs ys : List Entry) → stored_parts (xs ++ ys) ≡ stored_parts xs ++ stored_parts ys
 stored_append [] ys = refl
 stored_append (x ∷ xs) ys = ap (λ (l : List StoredPart). stored_part x ∷ l) (stored_append xs ys)
@@ -109,3 +116,13 @@ first_is (p ∷ ps) es n e h q = first_more p (row_at entry_key p.entry es) (ent
     first_more : (p : StoredPart) (o : Option Entry) (rest : List Entry) (e : Entry) → IsFoundAs p o → p.entry ≡ first_number (found_then o rest ++ e ∷ [])
     first_more p None rest e h = absurd h
     first_more p (Some x) rest e h = ap (λ (q : StoredPart). q.entry) (sym h)
+
+-- a group that has parts has one more
+pub grows_as : (g : Group) (ps : List StoredPart) (es : List Entry) (e : Entry) (first : ℕ) → 1 ≤ length ps → first ≡ first_entry_of ps e.number → ps ≡ stored_parts es
+    → Grown first (ps ++ stored_part e ∷ []) (carried_by e) ≡ one_more g es e
+grows_as g ps [] e first l i q = absurd (let none : length ps ≡ 0 = ap (λ (z : List StoredPart). length z) q in omega (arith, l, none))
+grows_as g ps (x ∷ xs) e first l i q =
+    let is : first ≡ x.number = i ∙ ap (λ (z : List StoredPart). first_entry_of z e.number) q in
+    ap (λ (k : ℕ). Grown k (ps ++ stored_part e ∷ []) (carried_by e)) is
+    ∙ ap (λ (z : List StoredPart). Grown x.number (z ++ stored_part e ∷ []) (carried_by e)) q
+    ∙ ap (λ (z : List StoredPart). Grown x.number z (carried_by e)) (sym (stored_more (x ∷ xs) e))

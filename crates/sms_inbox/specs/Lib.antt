@@ -1,6 +1,7 @@
 pub mod Keys
 pub mod Groups
 pub mod Slots
+pub mod TakenParts
 pub mod OpenGroups
 pub mod StoredParts
 pub mod OpenIndex

@@ -1,5 +1,5 @@
 -- Open groups by their first stored parts, and what becomes of them.
-use Rattle.std.specs.Prelude.{List, [], ◌∷◌, ℕ, ◌==◌, if◌then◌else◌, Option, Some, None, ◌≡◌}
+use Rattle.std.specs.Prelude.{List, [], ◌∷◌, ◌++◌, ℕ, ◌==◌, if◌then◌else◌, Option, Some, None, ◌≡◌}
 use Rattle.std.specs.List.{AllByRecursion}
 use Rattle.sms_table.specs.Table.{row_at}
 use Rattle.sms_inbox.specs.declared.entry.Entry.{Entry}
@@ -11,7 +11,9 @@ use Rattle.sms_inbox.specs.declared.entry.Message.{Message}
 use Rattle.sms_inbox.specs.declared.entry.Message.TheVariants.{Single, Part, Joined}
 use Rattle.sms_inbox.specs.Keys.{entry_key}
 use Rattle.sms_inbox.specs.declared.open_group.Regrouping.{Regrouping}
-use Rattle.sms_inbox.specs.declared.open_group.Regrouping.TheVariants.{Unchanged, Opened, Closed}
+use Rattle.sms_inbox.specs.declared.open_group.Regrouping.TheVariants.{Unchanged, Opened, Grown, Closed}
+use Rattle.sms_concat.specs.declared.content.Part.{Part as PartOf}
+use Rattle.sms_inbox.specs.TakenParts.{carried_by, taken_of, with_taken}
 
 -- ---- what stands under the number of a first stored part
 
@@ -24,7 +26,7 @@ stored_parts [] = []
 stored_parts (e ∷ es) = stored_part e ∷ stored_parts es
 
 abbrev pub open_group : Group → List Entry → OpenGroup
-open_group g es = record { group = g; parts = stored_parts es }
+open_group g es = record { group = g; parts = stored_parts es; joined = taken_of g es }
 
 abbrev pub open_first : ℕ → Group → List Entry → Option OpenGroup
 open_first n g es = if first_number es == n then Some (open_group g es) else None
@@ -44,15 +46,26 @@ open_at n entries = open_of n (row_at entry_key n entries) entries
 
 -- ---- what an event changes of it
 
+-- the group with these parts, one of which is new
+abbrev pub grown : List StoredPart → Option PartOf → Option OpenGroup → Option OpenGroup
+grown parts part None = None
+grown parts part (Some o) = Some (record o { parts = parts; joined = with_taken o.joined part })
+
 abbrev pub regrouped : Regrouping → ℕ → Option OpenGroup → Option OpenGroup
 regrouped Unchanged n there = there
 regrouped (Opened first group) n there = if first == n then Some group else there
+regrouped (Grown first parts part) n there = if first == n then grown parts part there else there
 regrouped (Closed first) n there = if first == n then None else there
 
--- What becomes of a group that has these parts now: it ends once it is full.
-abbrev pub grouped : Group → List Entry → Regrouping
-grouped g es =
-    if all_numbers g.total (part_numbers es) then Closed (first_number es) else Opened (first_number es) (open_group g es)
+-- a group that is not full, with one more part: it opens with its first
+abbrev pub one_more : Group → List Entry → Entry → Regrouping
+one_more g [] e = Opened e.number (open_group g (e ∷ []))
+one_more g (x ∷ xs) e = Grown x.number (stored_parts (x ∷ xs ++ e ∷ [])) (carried_by e)
+
+-- What becomes of a group that had these parts with one more: it ends once it is full.
+abbrev pub grouped : Group → List Entry → Entry → Regrouping
+grouped g es e =
+    if all_numbers g.total (part_numbers (es ++ e ∷ [])) then Closed (first_number (es ++ e ∷ [])) else one_more g es e
 
 -- ---- parts by their entries
 
@@ -72,3 +85,8 @@ IsFoundAs p (Some e) = stored_part e ≡ p
 -- each part is the entry of its number
 abbrev pub AreFound : List StoredPart → List Entry → Type 0
 AreFound parts entries = AllByRecursion (λ (p : StoredPart). IsFoundAs p (row_at entry_key p.entry entries)) parts
+
+-- what the group's joiner has taken, if there is one, is these entries
+abbrev pub HasTaken : Option OpenGroup → List Entry → Type 0
+HasTaken None es = Unit {0}
+HasTaken (Some o) es = o.joined ≡ taken_of o.group es

@@ -1,5 +1,5 @@
 -- The index of open groups: each under the number of its first stored part.
-use Rattle.std.specs.Prelude.{ℕ, nat_eq, Option, ◌≡◌, List, [], ◌∷◌, if◌then◌else◌, Some, None, ◌++◌}
+use Rattle.std.specs.Prelude.{ℕ, nat_eq, Option, ◌≡◌, List, [], ◌∷◌, if◌then◌else◌, Some, None}
 use Rattle.std.specs.Map.{lookup}
 use Rattle.sms_inbox.specs.declared.open_group.OpenGroup.{OpenGroup}
 use Rattle.sms_inbox.specs.declared.entry.Entry.{Entry}
@@ -8,7 +8,7 @@ use Rattle.sms_inbox.specs.declared.entry.Group.{Group}
 use Rattle.sms_inbox.specs.Groups.{is_same_group}
 use Rattle.sms_inbox.specs.declared.open_group.StoredPart.{StoredPart}
 use Rattle.sms_inbox.specs.declared.open_group.Regrouping.{Regrouping}
-use Rattle.sms_inbox.specs.declared.open_group.Regrouping.TheVariants.{Unchanged, Opened, Closed}
+use Rattle.sms_inbox.specs.declared.open_group.Regrouping.TheVariants.{Unchanged, Opened, Grown, Closed}
 
 -- the groups by the entry numbers of their first stored parts, and how many groups the memory holds
 pub record OpenIndex : Type 0 where
@@ -39,11 +39,8 @@ parts_of (Some o) = o.parts
 abbrev pub opening : Regrouping → ℕ
 opening Unchanged = 0
 opening (Opened first group) = 1
+opening (Grown first parts part) = 0
 opening (Closed first) = 0
-
--- the open group of the parts, with one more
-abbrev pub with_one_more : Group → List StoredPart → StoredPart → OpenGroup
-with_one_more g parts part = record { group = g; parts = parts ++ part ∷ [] }
 
 -- the entry of the first part, or that one where there is none
 abbrev pub first_entry_of : List StoredPart → ℕ → ℕ

@@ -1,14 +1,13 @@
 //! Full groups.
-ghost use Rattle.std.specs.Prelude.{◌≡◌, ◌++◌, ◌∷◌, [], IfOk, option_copied};
-ghost use Rattle.sms_tpdu.specs.TpduReading.{down_at};
-ghost use Rattle.sms_tpdu.specs.declared.carrier.Carrier.TheVariants.{InData as Data};
-ghost use Rattle.sms_inbox.specs.Groups.{carried_part, entry_part as entry_part_of, joined_content as joined_content_of, part_with as part_with_of, parts_to};
+ghost use Rattle.std.specs.Prelude.{◌≡◌, ◌++◌, ◌∷◌, [], Some, IfOk, option_copied};
+ghost use Rattle.sms_inbox.specs.Groups.{entry_part as entry_part_of, joined_content as joined_content_of, part_with as part_with_of, parts_to};
+ghost use Rattle.sms_inbox.specs.TakenParts.{taken_of};
 
 use crate::entry::{Entry, Group};
 use crate::members::Members;
-use sms_alphabet::UnpackError;
-use sms_concat::{Content, Part, Parts, join, part_of};
-use sms_tpdu::{Carrier, Down, read_down};
+use crate::taking::{carried_by, part_at};
+use sms_concat::{Content, Part, Parts, join};
+use sms_joiner::Joiner;
 use std::alloc::{AllocError, Global};
 
 // The entry that holds the part of that number.
@@ -22,26 +21,6 @@ fn part_with<'e>(members: &Members<'e>, part: &'e Entry, number: u8) -> Option<&
         Some(part)
     } else {
         None
-    }
-}
-
-// What a DELIVER carries.
-fn part_at(alloc: Global, tpdu: &[u8]) -> Result<Option<Part>, AllocError>
-    ensures { IfOk result (λ part. part ≡ carried_part (down_at Data tpdu.now)) }
-{
-    match read_down(tpdu, Carrier::InData) {
-        Ok(Down::Deliver(message)) => match part_of(
-            alloc,
-            message.user_data_header_indicator,
-            message.data_coding_scheme,
-            message.user_data.length,
-            message.user_data.octets.as_slice(),
-        ) {
-            Ok(part) => Ok(Some(part)),
-            Err(UnpackError::NoMemory) => Err(AllocError),
-            Err(_) => Ok(None),
-        },
-        _ => Ok(None),
     }
 }
 
@@ -74,8 +53,8 @@ fn parts_in(
     Ok(Some(parts))
 }
 
-/// The content that a group joins to, with one more part.
-pub fn joined_content(
+// The content that a group joins to, with one more part, where all are read again.
+fn join_again(
     alloc: Global,
     group: &Group,
     members: &Members<'_>,
@@ -86,5 +65,41 @@ pub fn joined_content(
     match parts_in(alloc, group.total, members, part)? {
         Some(parts) => Ok(join(alloc, parts.as_slice())?),
         None => Ok(None),
+    }
+}
+
+// The same, where what the parts carry was taken: the new one alone is read, if the group is full with it.
+fn join_taken(
+    alloc: Global,
+    group: &Group,
+    joiner: &Joiner,
+    members: &Members<'_>,
+    part: &Entry,
+) -> Result<Option<Content>, AllocError>
+    requires { taken_of group.now members.now ≡ Some joiner.now }
+    ensures { IfOk result (λ content. content ≡ joined_content_of group.now (members.now ++ part.now ∷ [])) }
+{
+    let Some(last) = carried_by(alloc, part)? else {
+        return join_again(alloc, group, members, part);
+    };
+    if joiner.is_full_with(&last) {
+        joiner.finish_with(alloc, &last)
+    } else {
+        join_again(alloc, group, members, part)
+    }
+}
+
+/// The content that a group joins to, with one more part.
+pub fn joined_content(
+    alloc: Global,
+    group: &Group,
+    members: &Members<'_>,
+    part: &Entry,
+) -> Result<Option<Content>, AllocError>
+    ensures { IfOk result (λ content. content ≡ joined_content_of group.now (members.now ++ part.now ∷ [])) }
+{
+    match members.joiner(group) {
+        Some(joiner) => join_taken(alloc, group, joiner, members, part),
+        None => join_again(alloc, group, members, part),
     }
 }

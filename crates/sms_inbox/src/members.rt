@@ -1,15 +1,19 @@
 //! The stored parts of a group.
-ghost use Rattle.std.specs.Prelude.{◌≡◌, ◌++◌, ◌∷◌, [], length, IfOk, option_copied};
+ghost use Rattle.std.specs.Prelude.{◌≡◌, ◌++◌, ◌∷◌, [], length, Some, IfOk, option_copied};
+ghost use Rattle.sms_joiner.specs.StepwiseJoining.{Taken};
 ghost use Rattle.sms_inbox.specs.declared.entry.Entry.{Entry as EntryOf};
 ghost use Rattle.sms_inbox.specs.Groups.{first_number as first_number_of, is_among as is_among_of, members as members_of, part_numbers, part_with as part_with_of};
-ghost use Rattle.sms_inbox.specs.OpenGroups.{entries_of, stored_parts};
-ghost use Rattle.sms_inbox.specs.OpenIndex.{Indexes};
+ghost use Rattle.sms_inbox.specs.OpenGroups.{entries_of, one_more as one_more_of, stored_parts};
+ghost use Rattle.sms_inbox.specs.OpenIndex.{Indexes, parts_of as parts_of_group};
+ghost use Rattle.sms_inbox.specs.TakenParts.{taken_of};
 ghost use Rattle.sms_inbox.specs.StoredParts.{entry_with as entry_with_of, numbers_of as numbers_of_parts};
 
 use crate::entry::{Entry, Group};
-use crate::open_group::{OpenGroup, StoredPart};
-use crate::open_groups::{OpenGroups, first_entry};
+use crate::groups::is_same_group;
+use crate::open_group::{OpenGroup, Regrouping, StoredPart};
+use crate::open_groups::{OpenGroups, first_entry, one_more};
 use sms_base::Octets;
+use sms_joiner::Joiner;
 use sms_table::{Key, Table};
 use std::alloc::{AllocError, Global};
 use std::marker::Model;
@@ -19,18 +23,20 @@ use std::marker::Model;
 pub struct Members<'a> {
     entries: &'a Table<Entry>,
     parts: &'a [StoredPart],
+    // The group in the index, if what it has taken is these parts.
+    found: Option<&'a OpenGroup>,
 }
 
 impl<'a> Model for Members<'a> {
-    ghost use Rattle.std.specs.Prelude.{List};
+    ghost use Rattle.std.specs.Prelude.{List, option_copied};
     ghost use Rattle.sms_inbox.specs.declared.entry.Entry.{Entry as EntryOf};
-    ghost use Rattle.sms_inbox.specs.OpenGroups.{AreFound, entries_of};
+    ghost use Rattle.sms_inbox.specs.OpenGroups.{AreFound, HasTaken, entries_of};
 
     ghost Value = { List EntryOf };
 
     ghost view = { λ m. entries_of m.parts.now m.entries.now.rows };
 
-    ghost invariant = { λ m. AreFound m.parts.now m.entries.now.rows };
+    ghost invariant = { λ m. AreFound m.parts.now m.entries.now.rows × HasTaken (option_copied m.found) (entries_of m.parts.now m.entries.now.rows) };
 }
 
 impl<'a> Members<'a> {
@@ -41,13 +47,15 @@ impl<'a> Members<'a> {
     {
         // The call tells that the entries stand in order.
         let _in_order = entries.as_slice();
+        let found = groups.find(group);
         Members {
             entries,
-            parts: groups.parts(group),
+            parts: parts_of(found),
+            found,
         }
     }
 
-    /// Those of an open group that has them.
+    /// Those of an open group that has them, not to be joined.
     pub fn in_group(entries: &'a Table<Entry>, there: &'a OpenGroup) -> Members<'a>
         requires { there.now.parts ≡ stored_parts (members_of there.now.group entries.now.rows) }
         ensures { result ≡ members_of there.entry.now.group entries.entry.now.rows }
@@ -57,6 +65,7 @@ impl<'a> Members<'a> {
         Members {
             entries,
             parts: there.parts.as_slice(),
+            found: None,
         }
     }
 
@@ -79,6 +88,30 @@ impl<'a> Members<'a> {
         ensures { entries_of (stored_parts self.now) result.now.rows ≡ self.now }
     {
         self.entries
+    }
+
+    /// What becomes of the group, which is not full, with one more part.
+    pub fn one_more(
+        &self,
+        alloc: Global,
+        group: &Group,
+        part: &Entry,
+    ) -> Result<Regrouping, AllocError>
+        ensures { IfOk result (λ change. change ≡ one_more_of group.now self.now part.now) }
+    {
+        one_more(alloc, group, self.parts(), part)
+    }
+
+    /// What the parts carry, where they were taken as those of the group.
+    pub(crate) fn joiner(&self, group: &Group) -> Option<&'a Joiner>
+        ensures { (t : Taken) → option_copied result ≡ Some t → taken_of group.now self.now ≡ Some t }
+    {
+        let found = self.found?;
+        if is_same_group(&found.group, group) {
+            found.joiner()
+        } else {
+            None
+        }
     }
 
     /// Whether the part of that number is there.
@@ -110,6 +143,15 @@ impl<'a> Members<'a> {
         ensures { IfOk result (λ numbers. numbers ≡ part_numbers self.now) }
     {
         numbers_of(alloc, self.parts)
+    }
+}
+
+fn parts_of<'a>(there: Option<&'a OpenGroup>) -> &'a [StoredPart]
+    ensures { result.now ≡ parts_of_group (option_copied there.entry) }
+{
+    match there {
+        Some(there) => there.parts.as_slice(),
+        None => &[],
     }
 }
 

@@ -1,19 +1,23 @@
 //! The index of open groups.
-ghost use Rattle.std.specs.Prelude.{◌≡◌, ◌+◌, ◌≤◌, ◌++◌, ◌∷◌, ℕ, List, [], length, max, nat_eq, IfOk, OnOk, option_copied};
+ghost use Rattle.std.specs.Prelude.{◌≡◌, ◌+◌, ◌≤◌, ◌++◌, ◌∷◌, ℕ, List, [], length, max, nat_eq, if◌then◌else◌, IfOk, OnOk, IsOk, option_copied};
 ghost use Rattle.std.specs.List.{IsDistinct};
 ghost use Rattle.std.specs.Map.{keys_of};
 ghost use Rattle.sms_table.specs.Table.{Rises};
 ghost use Rattle.sms_inbox.specs.declared.entry.Entry.{Entry as EntryOf};
-ghost use Rattle.sms_inbox.specs.declared.open_group.Regrouping.TheVariants.{Opened};
+ghost use Rattle.sms_inbox.specs.declared.open_group.Regrouping.TheVariants.{Grown, Opened};
 ghost use Rattle.sms_inbox.specs.Keys.{entry_key};
-ghost use Rattle.sms_inbox.specs.OpenGroups.{regrouped};
-ghost use Rattle.sms_inbox.specs.OpenIndex.{Indexes, find_open, first_entry_of, opening, parts_of, under, with_one_more};
+ghost use Rattle.sms_inbox.specs.OpenGroups.{one_more as one_more_of, open_group, regrouped, stored_part, stored_parts};
+ghost use Rattle.sms_inbox.specs.TakenParts.{carried_by as carried_by_of};
+ghost use Rattle.sms_inbox.specs.OpenIndex.{Indexes, find_open, first_entry_of, opening, parts_of, under};
 
 use crate::entry::{Entry, Group, Message};
 use crate::groups::is_same_group;
 use crate::open_group::{OpenGroup, Regrouping, StoredPart};
+use crate::taking::{carried_by, with_taken};
 use indexmap::IndexMap;
 use sms_base::Listed;
+use sms_concat::{ConcatKey, Part};
+use sms_joiner::Joiner;
 use std::alloc::{AllocError, Global};
 use std::marker::Model;
 
@@ -69,29 +73,42 @@ impl OpenGroups {
     fn take(&mut self, alloc: Global, entry: &Entry) -> Result<(), AllocError>
         ensures { OnOk result ((before : List EntryOf) → Rises entry_key (before ++ entry.now ∷ []) → Indexes self.old before → Indexes self.new (before ++ entry.now ∷ [])) }
     {
-        if let Message::Part { group, number, .. } = &entry.message {
-            let part = StoredPart {
-                entry: entry.number,
-                number: *number,
-            };
-            let parts = self.parts(group);
-            let first = first_entry(parts, entry.number);
-            let open = with_part(alloc, group, parts, part)?;
-            self.put_under(first, open)?;
+        if let Message::Part { group, .. } = &entry.message {
+            let change = one_more(alloc, group, self.parts(group), entry)?;
+            self.carry_out(change)?;
         }
         Ok(())
     }
 
-    // The group stands under that number, in the place of what stood there.
-    fn put_under(&mut self, first: u32, group: OpenGroup) -> Result<(), AllocError>
-        ensures { OnOk result ((n : ℕ) → under self.new n ≡ regrouped (Opened first group) n (under self.old n)) }
+    // Carries out the change; takes no memory where there is room for what opens.
+    fn carry_out(&mut self, change: Regrouping) -> Result<(), AllocError>
+        ensures done { OnOk result ((n : ℕ) → under self.new n ≡ regrouped change n (under self.old n)) }
+        ensures in_place { length self.old.groups + opening change ≤ self.old.capacity → IsOk result }
     {
-        self.by_first_part.insert(first, group)?;
+        match change {
+            Regrouping::Unchanged => (),
+            Regrouping::Opened { first, group } => {
+                self.by_first_part.insert(first, group)?;
+            }
+            Regrouping::Grown { first, parts, part } => self.grow(first, parts, part),
+            Regrouping::Closed { first } => {
+                self.by_first_part.swap_remove(&first);
+            }
+        }
         Ok(())
     }
 
+    // The group under that number, if there is one, has one part more.
+    fn grow(&mut self, first: u32, parts: Listed<StoredPart>, part: Option<Part>)
+        ensures under { (n : ℕ) → under self.new n ≡ regrouped (Grown first parts part) n (under self.old n) }
+    {
+        if let Some(group) = self.by_first_part.get_mut(&first) {
+            group.take_one_more(parts, part);
+        }
+    }
+
     // The open group that is this group.
-    fn find(&self, group: &Group) -> Option<&OpenGroup>
+    pub(crate) fn find(&self, group: &Group) -> Option<&OpenGroup>
         ensures found { option_copied result ≡ find_open group.now self.now.groups }
         ensures unique { IsDistinct nat_eq (keys_of self.now.groups) }
     {
@@ -126,9 +143,10 @@ impl OpenGroups {
         ensures { IfOk result (λ spare. length self.now.groups + opening change.now ≤ max self.now.capacity spare) }
     {
         let len = self.by_first_part.len();
-        let wanted = match change {
-            Regrouping::Opened { .. } if self.by_first_part.capacity() == len => 2 * len + 1,
-            _ => 0,
+        let wanted = if opens(change) && self.by_first_part.capacity() == len {
+            2 * len + 1
+        } else {
+            0
         };
         let map = IndexMap::with_capacity(alloc, wanted)?;
         Ok(SpareGroups { map })
@@ -156,34 +174,85 @@ impl OpenGroups {
         requires { length self.old.groups + opening change ≤ self.old.capacity }
         ensures { (n : ℕ) → under self.new n ≡ regrouped change n (under self.old n) }
     {
-        match change {
-            Regrouping::Unchanged => (),
-            Regrouping::Opened { first, group } => match self.by_first_part.insert(first, group) {
-                Ok(_) => (),
-                Err(_) => (),
-            },
-            Regrouping::Closed { first } => {
-                self.by_first_part.swap_remove(&first);
-            }
+        match self.carry_out(change) {
+            Ok(()) => (),
+            Err(_) => (),
         }
     }
 }
 
-/// The group with one more part.
-pub fn with_part(
+// Whether a group opens.
+fn opens(change: &Regrouping) -> bool
+    ensures { opening change.now ≡ (if result then 1 else 0) }
+{
+    matches!(change, Regrouping::Opened { .. })
+}
+
+// A group that opens with its first part.
+fn opened(alloc: Global, group: &Group, entry: &Entry) -> Result<Regrouping, AllocError>
+    ensures { IfOk result (λ change. change ≡ Opened entry.now.number (open_group group.now (entry.now ∷ []))) }
+{
+    let key = ConcatKey {
+        reference: group.reference,
+        total: group.total,
+        number: 0,
+    };
+    let joiner = Joiner::new(alloc, key)?;
+    let part = carried_by(alloc, entry)?;
+    let parts = stored_with(alloc, &[], entry)?;
+    Ok(Regrouping::Opened {
+        first: entry.number,
+        group: OpenGroup {
+            group: *group,
+            parts,
+            joined: with_taken(Some(joiner), part),
+        },
+    })
+}
+
+// The stored parts with one more.
+fn stored_with(
+    alloc: Global,
+    parts: &[StoredPart],
+    entry: &Entry,
+) -> Result<Listed<StoredPart>, AllocError>
+    ensures { IfOk result (λ all. all ≡ parts.now ++ stored_part entry.now ∷ []) }
+{
+    let mut all = Vec::from_slice(alloc, parts)?;
+    all.push(StoredPart {
+        entry: entry.number,
+        number: entry.message.part_number(),
+    })?;
+    Ok(Listed::from_vec(all))
+}
+
+// A group that has one part more.
+fn grown(
+    alloc: Global,
+    first: u32,
+    parts: &[StoredPart],
+    entry: &Entry,
+) -> Result<Regrouping, AllocError>
+    ensures { IfOk result (λ change. change ≡ Grown first (parts.now ++ stored_part entry.now ∷ []) (carried_by_of entry.now)) }
+{
+    let part = carried_by(alloc, entry)?;
+    let parts = stored_with(alloc, parts, entry)?;
+    Ok(Regrouping::Grown { first, parts, part })
+}
+
+/// What becomes of a group that is not full, with one more part.
+pub(crate) fn one_more(
     alloc: Global,
     group: &Group,
     parts: &[StoredPart],
-    part: StoredPart,
-) -> Result<OpenGroup, AllocError>
-    ensures { IfOk result (λ there. there ≡ with_one_more group.now parts.now part) }
+    entry: &Entry,
+) -> Result<Regrouping, AllocError>
+    ensures { (es : List EntryOf) → parts.now ≡ stored_parts es → IfOk result (λ change. change ≡ one_more_of group.now es entry.now) }
 {
-    let mut parts = Vec::from_slice(alloc, parts)?;
-    parts.push(part)?;
-    Ok(OpenGroup {
-        group: *group,
-        parts: Listed::from_vec(parts),
-    })
+    match parts {
+        [] => opened(alloc, group, entry),
+        [_, ..] => grown(alloc, first_entry(parts, entry.number), parts, entry),
+    }
 }
 
 /// The entry of the first part, or that number.

@@ -10,7 +10,7 @@ use Rattle.sms_report.specs.declared.rows.FrameRow.{FrameRow}
 use Rattle.sms_report.specs.declared.rows.GivenRow.{GivenRow}
 use Rattle.sms_report.specs.declared.rows.JoinedRow.{JoinedRow}
 use Rattle.sms_centre_rules.specs.Draft.{Core as CentreCore}
-use Rattle.sms_handset.specs.Draft.{Core as HandsetCore}
+use Rattle.sms_handset_draft.specs.Draft.{Core as HandsetCore}
 
 -- a handset of the script
 pub record Party : Type 0 where

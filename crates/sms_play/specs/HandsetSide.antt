@@ -16,7 +16,7 @@ use Rattle.sms_handset.specs.declared.event.HandsetEvent.TheVariants.{Frame, Tic
 use Rattle.sms_inbox.specs.declared.last_accepted.LastAccepted.{LastAccepted}
 use Rattle.sms_outbox.specs.declared.out_entry.OutEntry.{OutEntry}
 use Rattle.sms_handset.specs.declared.refusal.Refusal.{Refusal}
-use Rattle.sms_handset.specs.Draft.{Core, Draft, core_of}
+use Rattle.sms_handset_draft.specs.Draft.{Core, Draft, core_of}
 use Rattle.sms_handset.specs.FaultCodes.{refusal_code}
 use Rattle.sms_handset.specs.HandsetEvent.{frame_came, tag_of, ticked, wrote, deleted, discarded}
 use Rattle.sms_outbox.specs.Keys.{out_key}

@@ -15,7 +15,7 @@ use Rattle.sms_script.specs.declared.event.Stop.TheVariants.{Before, After}
 use Rattle.sms_script.specs.declared.event.WorldEvent.{WorldEvent}
 use Rattle.sms_script.specs.declared.event.WorldEvent.TheVariants.{Whole, Stopped, Restart}
 use Rattle.sms_centre_rules.specs.CentreEvent.{happened, recovered}
-use Rattle.sms_handset.specs.Draft.{Draft as HandsetDraft, recovered as handset_recovered}
+use Rattle.sms_handset_draft.specs.Draft.{Draft as HandsetDraft, recovered as handset_recovered}
 use Rattle.sms_play.specs.declared.fault.PlayFault.{PlayFault}
 use Rattle.sms_play.specs.declared.fault.PlayFault.TheVariants.{NoSuchSide}
 use Rattle.sms_play.specs.CentreSide.{centre_meets, committed as centre_committed}

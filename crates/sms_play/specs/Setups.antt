@@ -6,13 +6,13 @@ use Rattle.sms_base.specs.HandsetNumber.{is_decimal, own_address}
 use Rattle.sms_intake.specs.declared.submission.Account.{Account as CentreAccount}
 use Rattle.sms_centre_rules.specs.declared.setup.Setup.{Setup as CentreSetup}
 use Rattle.sms_centre_rules.specs.declared.rows.Rows.{Rows as CentreRows}
-use Rattle.sms_handset.specs.declared.setup.Setup.{Setup as OwnSetup}
+use Rattle.sms_handset_draft.specs.declared.setup.Setup.{Setup as OwnSetup}
 use Rattle.sms_script.specs.declared.setup.Account.{Account}
 use Rattle.sms_script.specs.declared.setup.HandsetSetup.{HandsetSetup}
 use Rattle.sms_script.specs.declared.setup.Setup.{Setup}
 use Rattle.sms_centre_rules.specs.CentreEvent.{started}
-use Rattle.sms_handset.specs.Draft.{recovered as handset_recovered}
-use Rattle.sms_handset.specs.SoundRows.{first_rows}
+use Rattle.sms_handset_draft.specs.Draft.{recovered as handset_recovered}
+use Rattle.sms_handset_draft.specs.FirstRows.{first_rows}
 use Rattle.sms_play.specs.Course.{Course, Party, numbers_of}
 use Rattle.sms_play.specs.PlayedEvent.{sessions_from}
 

@@ -2,7 +2,8 @@
 use crate::rows::{are, holds, is_code};
 use sms_alphabet::Coding;
 use sms_base::Octets;
-use sms_concat::{AddError, ConcatKey, ConcatReference, Content, Joiner, Part, join, split};
+use sms_concat::{ConcatKey, ConcatReference, Content, Part, join, split};
+use sms_joiner::{AddError, Joiner};
 use std::alloc::Global;
 use std::test::Fail;
 
@@ -34,7 +35,6 @@ fn taken(joiner: &mut Joiner, alloc: Global, total: u8, numbers: &[u8]) -> Resul
     for number in numbers {
         match joiner.add(part(alloc, total, *number)?) {
             Ok(()) | Err(AddError::NoPlace(_)) => {}
-            Err(AddError::NoMemory(_)) => return Err(Fail::new("no memory")),
         }
     }
     Ok(joiner.parts().len().saturating_sub(before))
@@ -78,7 +78,8 @@ fn three_join(joiner: &mut Joiner, alloc: Global) -> Result<bool, Fail> {
 fn refuses(joiner: &mut Joiner, part: Part, code: &str, number: u8) -> bool {
     match joiner.add(part) {
         Ok(()) => false,
-        Err(refusal) => is_code(refusal.code(), code) && is_numbered(&refusal.into_part(), number),
+        Err(refusal) => is_code(Some(refusal.code()), code)
+            && is_numbered(&refusal.into_part(), number),
     }
 }
 
@@ -103,7 +104,7 @@ fn parts_join(joiner: &mut Joiner, alloc: Global) -> Result<(), Fail> {
 
 #[test]
 fn parts_join_in_whatever_order_they_come(rt: HostRuntime) -> Result<(), Fail> {
-    let mut joiner = Joiner::new(rt.alloc(), key(3, 0));
+    let mut joiner = Joiner::new(rt.alloc(), key(3, 0))?;
     parts_join(&mut joiner, rt.alloc())
 }
 
@@ -129,7 +130,7 @@ fn does_not_join(joiner: &mut Joiner, alloc: Global) -> Result<(), Fail> {
 
 #[test]
 fn a_part_of_another_scheme_does_not_join(rt: HostRuntime) -> Result<(), Fail> {
-    let mut joiner = Joiner::new(rt.alloc(), key(2, 1));
+    let mut joiner = Joiner::new(rt.alloc(), key(2, 1))?;
     does_not_join(&mut joiner, rt.alloc())
 }
 
@@ -141,7 +142,7 @@ fn copy_stays(joiner: &mut Joiner, alloc: Global) -> Result<bool, Fail> {
 
 #[test]
 fn a_copy_stays_as_it_is(rt: HostRuntime) -> Result<(), Fail> {
-    let mut joiner = Joiner::new(rt.alloc(), key(3, 1));
+    let mut joiner = Joiner::new(rt.alloc(), key(3, 1))?;
     holds(copy_stays(&mut joiner, rt.alloc())?, "a copy")
 }
 
@@ -165,7 +166,7 @@ fn most_parts_join(joiner: &mut Joiner, alloc: Global) -> Result<(), Fail> {
 
 #[test]
 fn the_most_parts_join(rt: HostRuntime) -> Result<(), Fail> {
-    let mut joiner = Joiner::new(rt.alloc(), key(255, 255));
+    let mut joiner = Joiner::new(rt.alloc(), key(255, 255))?;
     most_parts_join(&mut joiner, rt.alloc())
 }
 
@@ -206,6 +207,6 @@ fn longest_parts_join(joiner: &mut Joiner, alloc: Global) -> Result<(), Fail> {
 
 #[test]
 fn the_longest_parts_join(rt: HostRuntime) -> Result<(), Fail> {
-    let mut joiner = Joiner::new(rt.alloc(), key(20, 1));
+    let mut joiner = Joiner::new(rt.alloc(), key(20, 1))?;
     longest_parts_join(&mut joiner, rt.alloc())
 }

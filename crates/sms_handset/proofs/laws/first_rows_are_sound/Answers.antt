@@ -1,6 +1,7 @@
 use Rattle.std.proofs.Common.{arith}
-use Rattle.sms_handset.specs.declared.setup.Setup.{Setup}
-use Rattle.sms_handset.specs.SoundRows.{IsSetup, IsSound, first_rows}
+use Rattle.sms_handset_draft.specs.declared.setup.Setup.{Setup}
+use Rattle.sms_handset_draft.specs.FirstRows.{first_rows}
+use Rattle.sms_handset.specs.SoundRows.{IsSetup, IsSound}
 use Rattle.sms_handset.proofs.laws.first_rows_are_sound.Goals as goal
 
 sound_first : (setup : Setup) → IsSetup setup → IsSound (first_rows setup)

@@ -1,5 +1,5 @@
-use Rattle.sms_handset.specs.declared.rows.Rows.{Rows}
-use Rattle.sms_handset.specs.declared.setup.Setup.{Setup}
+use Rattle.sms_handset_draft.specs.declared.rows.Rows.{Rows}
+use Rattle.sms_handset_draft.specs.declared.setup.Setup.{Setup}
 use Rattle.sms_handset.specs.SoundRows.{IsSetup, IsSound}
 use Rattle.sms_handset.proofs.laws.sound_rows_take_any_setup.Goals as goal
 

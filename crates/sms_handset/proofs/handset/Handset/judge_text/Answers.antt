@@ -1,6 +1,6 @@
 use Rattle.std.proofs.Common.{sym, ◌∙◌}
 use Rattle.std.specs.Str.{chars}
-use Rattle.sms_handset.specs.Draft.{draft_of}
+use Rattle.sms_handset_draft.specs.Draft.{draft_of}
 use Rattle.sms_handset.proofs.JudgedTexts.{goes}
 use Rattle.sms_handset.proofs.handset.Handset.judge_text.Goals as goal
 

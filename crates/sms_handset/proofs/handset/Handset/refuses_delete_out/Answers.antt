@@ -2,7 +2,7 @@ use Rattle.std.proofs.Common.{ℕ, sym, ◌∙◌, ap, Option, option_copied, Bo
 use Rattle.sms_table.specs.Table.{row_at}
 use Rattle.sms_outbox.specs.declared.out_entry.OutEntry.{OutEntry}
 use Rattle.sms_outbox.specs.Keys.{out_key}
-use Rattle.sms_handset.specs.Draft.{HandsetOf, draft_of}
+use Rattle.sms_handset_draft.specs.Draft.{HandsetOf, draft_of}
 use Rattle.sms_handset.proofs.Judging.{deletes_out}
 use Rattle.sms_handset.proofs.handset.Handset.refuses_delete_out.Goals as goal
 

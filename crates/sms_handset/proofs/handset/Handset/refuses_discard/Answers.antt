@@ -1,7 +1,7 @@
 use Rattle.std.proofs.Common.{◌≡◌, ◌<◌, sym, ◌∙◌, ap, subst, true, not, is_some, List, Option, length, Bool}
 use Rattle.sms_inbox.specs.declared.discarded_group.DiscardedGroup.{DiscardedGroup}
 use Rattle.sms_inbox.specs.declared.open_group.OpenGroup.{OpenGroup}
-use Rattle.sms_handset.specs.Draft.{HandsetOf, draft_of}
+use Rattle.sms_handset_draft.specs.Draft.{HandsetOf, draft_of}
 use Rattle.sms_inbox.specs.OpenGroups.{open_at}
 use Rattle.sms_inbox.specs.OpenIndex.{under}
 use Rattle.sms_handset.proofs.Judging.{copied_some, discards_some}

@@ -6,5 +6,5 @@ use Rattle.sms_inbox.proofs.members.Members.first_number.Goals as goal
 
 pub returns : goal.returns
 returns c e q =
-    c.first_entry.ensures ∙ first_is c.self.inside.parts.now c.self.inside.entries.now.rows c.args.number e c.self.invariant q
+    c.first_entry.ensures ∙ first_is c.self.inside.parts.now c.self.inside.entries.now.rows c.args.number e c.self.invariant.0 q
     ∙ ap (λ (es : List Entry). first_number (es ++ e ∷ [])) c.self.view_is

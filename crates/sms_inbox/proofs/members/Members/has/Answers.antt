@@ -6,5 +6,5 @@ use Rattle.sms_inbox.proofs.members.Members.has.Goals as goal
 
 pub returns : goal.returns
 returns c =
-    c.has_number.ensures ∙ ap (λ (ns : List ℕ). is_among c.args.number ns) (numbers_are c.self.inside.parts.now c.self.inside.entries.now.rows c.self.invariant)
+    c.has_number.ensures ∙ ap (λ (ns : List ℕ). is_among c.args.number ns) (numbers_are c.self.inside.parts.now c.self.inside.entries.now.rows c.self.invariant.0)
     ∙ ap (λ (es : List Entry). is_among c.args.number (part_numbers es)) c.self.view_is

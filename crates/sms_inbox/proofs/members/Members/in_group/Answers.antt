@@ -7,7 +7,7 @@ use Rattle.sms_inbox.proofs.members.Members.in_group.Goals as goal
 pub invariant_of-result : goal.invariant_of-result
 invariant_of-result c =
     let rows = c.args.entries.now.rows in
-    subst (λ (ps : List StoredPart). AreFound ps rows) (sym (c.as_slice.ensures ∙ c.requires)) (members_found c.args.there.now.group rows c.as_slice-in_order.ensures.order)
+    (subst (λ (ps : List StoredPart). AreFound ps rows) (sym (c.as_slice.ensures ∙ c.requires)) (members_found c.args.there.now.group rows c.as_slice-in_order.ensures.order), tt)
 
 pub returns : goal.returns
 returns c =

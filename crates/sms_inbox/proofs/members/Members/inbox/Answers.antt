@@ -9,5 +9,5 @@ pub returns : goal.returns
 returns c =
     let rows = c.self.inside.entries.now.rows in
     ap (λ (es : List Entry). entries_of (stored_parts es) rows) (sym c.self.view_is)
-    ∙ ap (λ (ps : List StoredPart). entries_of ps rows) (stored_again c.self.inside.parts.now rows c.self.invariant)
+    ∙ ap (λ (ps : List StoredPart). entries_of ps rows) (stored_again c.self.inside.parts.now rows c.self.invariant.0)
     ∙ c.self.view_is

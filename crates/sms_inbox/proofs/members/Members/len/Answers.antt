@@ -4,4 +4,4 @@ use Rattle.sms_inbox.proofs.PartsFound.{length_is}
 use Rattle.sms_inbox.proofs.members.Members.len.Goals as goal
 
 pub returns : goal.returns
-returns c = length_is c.self.inside.parts.now c.self.inside.entries.now.rows c.self.invariant ∙ ap (λ (es : List Entry). length es) c.self.view_is
+returns c = length_is c.self.inside.parts.now c.self.inside.entries.now.rows c.self.invariant.0 ∙ ap (λ (es : List Entry). length es) c.self.view_is

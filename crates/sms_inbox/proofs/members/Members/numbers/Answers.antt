@@ -7,5 +7,5 @@ use Rattle.sms_inbox.proofs.members.Members.numbers.Goals as goal
 pub returns : goal.returns
 returns c =
     subst (λ (ns : List ℕ). IfOk c.numbers_of.result (λ numbers. numbers ≡ ns))
-    (numbers_are c.self.inside.parts.now c.self.inside.entries.now.rows c.self.invariant ∙ ap (λ (es : List Entry). part_numbers es) c.self.view_is)
+    (numbers_are c.self.inside.parts.now c.self.inside.entries.now.rows c.self.invariant.0 ∙ ap (λ (es : List Entry). part_numbers es) c.self.view_is)
     c.numbers_of.ensures

@@ -10,10 +10,10 @@ pub returns-in-Some : goal.returns-in-Some
 returns-in-Some c =
     let rows = c.self.inside.entries.now.rows in
     c.find.ensures ∙ ap (λ (n : ℕ). row_at entry_key n rows) (c.of.ensures ∙ c.from.ensures) ∙ ap (λ (o : Option ℕ). row_of o rows) (sym c.in-Some.is ∙ c.entry_with.ensures)
-    ∙ with_is c.args.number c.self.inside.parts.now rows c.self.invariant ∙ ap (λ (es : List Entry). part_with c.args.number es) c.self.view_is
+    ∙ with_is c.args.number c.self.inside.parts.now rows c.self.invariant.0 ∙ ap (λ (es : List Entry). part_with c.args.number es) c.self.view_is
 
 pub returns-in-None : goal.returns-in-None
 returns-in-None c =
     let rows = c.self.inside.entries.now.rows in
     ap (λ (o : Option ℕ). row_of o rows) (sym c.in-None.is ∙ c.entry_with.ensures)
-    ∙ with_is c.args.number c.self.inside.parts.now rows c.self.invariant ∙ ap (λ (es : List Entry). part_with c.args.number es) c.self.view_is
+    ∙ with_is c.args.number c.self.inside.parts.now rows c.self.invariant.0 ∙ ap (λ (es : List Entry). part_with c.args.number es) c.self.view_is

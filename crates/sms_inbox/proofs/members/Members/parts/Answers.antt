@@ -6,5 +6,5 @@ use Rattle.sms_inbox.proofs.members.Members.parts.Goals as goal
 
 pub returns : goal.returns
 returns c =
-    sym (stored_again c.self.inside.parts.now c.self.inside.entries.now.rows c.self.invariant)
+    sym (stored_again c.self.inside.parts.now c.self.inside.entries.now.rows c.self.invariant.0)
     ∙ ap (λ (es : List Entry). stored_parts es) c.self.view_is

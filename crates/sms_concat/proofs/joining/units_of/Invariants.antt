@@ -1,5 +1,0 @@
-use Rattle.sms_concat.proofs.Joined.{Gathering}
-use Rattle.sms_concat.proofs.joining.units_of.Given as goal
-
-abbrev pub invariant-loop-part : goal.invariant-loop-part
-invariant-loop-part l = Gathering l.parts l.units l.part-index

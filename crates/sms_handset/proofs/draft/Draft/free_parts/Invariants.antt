@@ -1,6 +1,0 @@
-use Rattle.std.proofs.Common.{◌≡◌, drop}
-use Rattle.sms_handset.specs.Storing.{free_parts}
-use Rattle.sms_handset.proofs.draft.Draft.free_parts.Given as goal
-
-abbrev pub invariant-loop-part : goal.invariant-loop-part
-invariant-loop-part l = free_parts (drop l.part-index l.parts) l.entries.rows l.self ≡ free_parts l.parts l.entries.rows l.initial.self

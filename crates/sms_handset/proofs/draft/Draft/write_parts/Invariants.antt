@@ -1,9 +1,0 @@
-use Rattle.std.proofs.Common.{◌≡◌, ◌+◌, drop}
-use Rattle.sms_handset.specs.OwnersActs.{write_parts}
-use Rattle.sms_handset.proofs.draft.Draft.write_parts.Given as goal
-
-abbrev pub invariant-loop-part : goal.invariant-loop-part
-invariant-loop-part l = record {
-  so_far : write_parts l.destination l.report l.is_long (drop l.part-index l.parts) l.self ≡ write_parts l.destination l.report l.is_long l.parts l.initial.self;
-  numbers : l.self.rows.counters.entry ≡ l.initial.self.rows.counters.entry + l.part-index;
-}

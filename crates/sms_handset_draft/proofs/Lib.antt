@@ -1,0 +1,2 @@
+pub mod HandsetLink
+pub mod PartMoves

@@ -1,0 +1,33 @@
+use Rattle.std.proofs.Common.{◌≡◌, ℕ, [], ◌∷◌, ◌++◌, sym, subst, ◌∙◌, ap, arith}
+use Rattle.sms_table.specs.Pending.{PendingOf}
+use Rattle.sms_table.specs.Table.{Kept, all_applied, row_at}
+use Rattle.sms_table.specs.declared.change.Change.TheVariants.{Remove}
+use Rattle.sms_inbox.specs.declared.entry.Entry.{Entry}
+use Rattle.sms_inbox.specs.Keys.{entry_key}
+use Rattle.sms_inbox.specs.Slots.{slots_of, slots_taken}
+use Rattle.sms_inbox.proofs.CountedSlots.{no_more, one_removed}
+use Rattle.sms_handset_draft.proofs.draft.Draft.remove_entry.Goals as goal
+
+-- what the entry takes that stands there
+freed : (n : ℕ) (p : PendingOf Entry) (t : Kept Entry) (k : ℕ) → p.base ≡ t → k ≡ slots_of (row_at entry_key n (all_applied entry_key p.changes p.base.rows)) → k ≡ slots_of (row_at entry_key n (all_applied entry_key p.changes t.rows))
+freed n p t k e f = f ∙ ap (λ (b : Kept Entry). slots_of (row_at entry_key n (all_applied entry_key p.changes b.rows))) e
+
+pub retaken-requires : goal.retaken-requires
+retaken-requires c =
+    let rows = c.self.inside.base.now.entries.rows in
+    let free = freed c.args.number c.self.inside.entries c.self.inside.base.now.entries c.slots_at-freed.result c.self.invariant.3 c.slots_at-freed.ensures in
+    omega (arith, free, no_more c.args.number (all_applied entry_key c.self.inside.entries.changes rows), c.self.invariant.1)
+
+pub invariant_of-self-2 : goal.invariant_of-self-2
+invariant_of-self-2 c =
+    let rows = c.self.inside.base.now.entries.rows in
+    let free = freed c.args.number c.self.inside.entries c.self.inside.base.now.entries c.slots_at-freed.result c.self.invariant.3 c.slots_at-freed.ensures in (
+      c.self.invariant.0,
+      subst (λ (n : ℕ). c.in_ok-taken.taken ≡ slots_taken (all_applied entry_key (c.self.inside.entries.changes ++ Remove n ∷ []) rows)) (sym (c.of.ensures ∙ c.from.ensures))
+          (one_removed c.args.number c.self.inside.entries.changes rows c.self.inside.taken c.in_ok-taken.taken c.slots_at-freed.result c.as_slice-in_order.ensures.order
+          c.self.invariant.1 free c.in_ok-taken.ensures)
+          ∙ ap (λ (p : PendingOf Entry). slots_taken (all_applied entry_key p.changes rows)) (sym c.in_ok-remove.ensures.change),
+      c.self.invariant.2,
+      ap (λ (p : PendingOf Entry). p.base) c.in_ok-remove.ensures.change ∙ c.self.invariant.3,
+      c.self.invariant.4,
+    )

@@ -1,0 +1,11 @@
+pub mod Draft
+pub mod Storing
+pub mod Regrouping
+pub mod Consistent
+pub mod GroupChanges
+pub mod MemoryAvailable
+pub mod Outbox
+pub mod Receiving
+pub mod FramesAndTicks
+pub mod FirstRows
+pub mod Outcome
