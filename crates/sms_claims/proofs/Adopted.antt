@@ -1,12 +1,11 @@
 -- What an event leaves is put in.
-use Rattle.std.proofs.Common.{◌≡◌, ℕ, ◌+◌, ◌≤◌, List, [], ◌∷◌, ◌++◌, ◌<◌, length, get_or, drop, max, Bool, true, false, Option, Some, None, append-nil, append_assoc, refl, sym, ◌∙◌, ap, subst, ⊎_elim, arith}
-use Rattle.std.specs.Map.{keys_of, lookup}
+use Rattle.std.proofs.Common.{◌≡◌, ℕ, ◌+◌, ◌≤◌, List, [], ◌∷◌, ◌++◌, ◌<◌, length, get_or, drop, Bool, true, false, Option, Some, append-nil, append_assoc, refl, sym, ◌∙◌, ap, subst, arith}
+use Rattle.std.specs.Map.{keys_of}
 use Rattle.std.specs.List.{IsDistinct}
 use Rattle.std.specs.Prelude.{◌==◌, if◌then◌else◌}
 use Rattle.std.specs.Cmp.{decided, IsEquivalence}
 use Rattle.indexmap.specs.IndexMap.{insert_all, insert_entry}
 use Rattle.indexmap.proofs.MapLemmas.{absent_before, absent_from_lookup, insert_entry-absent}
-use Rattle.sms_base.specs.declared.address.Address.{Address}
 use Rattle.sms_table.specs.declared.change.Change.{Change}
 use Rattle.sms_table.specs.declared.change.Change.TheVariants.{Put}
 use Rattle.std.proofs.lemmas.List.{at_drop_all, drop_more}
@@ -22,7 +21,6 @@ use Rattle.sms_waiting.specs.declared.progress.Progress.{Progress}
 use Rattle.sms_waiting.specs.Revisions.{all_revised, amended, revised}
 use Rattle.sms_claims.specs.declared.between.Between.{Between}
 use Rattle.sms_claims.specs.Claims.{ClaimsOf, Holds, came_with, came_with_any, total}
-use Rattle.sms_claims.specs.Counts.{CountsOf, counted}
 use Rattle.sms_claims.specs.Keys.{is_same, key_of, pair_of}
 use Rattle.sms_claims.specs.Moves.{AreMoves, ArePartMoves, Fits, HasRoomFor, IsMove, IsPartMove, SpareOf, Takes}
 use Rattle.sms_claims.proofs.Written.{same_key, same_here}

@@ -1,13 +1,13 @@
 -- What the counts answer is what all rows answer.
-use Rattle.std.proofs.Common.{◌≡◌, ℕ, zero, suc, ◌+◌, ◌-◌, ◌%◌, ◌<◌, ◌≤◌, min, nat_lt, List, [], ◌∷◌, ◌++◌, length, Bool, true, false, Option, Some, None, refl, sym, ◌∙◌, ap, subst, ⊎_elim, arith}
+use Rattle.std.proofs.Common.{◌≡◌, ℕ, zero, suc, ◌+◌, ◌%◌, ◌<◌, nat_lt, List, [], ◌∷◌, ◌++◌, length, Bool, true, false, Option, Some, None, refl, sym, ◌∙◌, ap, arith}
 use Rattle.std.specs.Prelude.{◌||◌, ◌==◌}
 use Rattle.sms_base.specs.declared.address.Address.{Address}
 use Rattle.sms_messages.specs.declared.message.MessageRow.{MessageRow}
 use Rattle.sms_messages.specs.declared.part.PartRow.{PartRow}
-use Rattle.sms_messages.specs.SplitReferences.{first_free_split, held_splits, is_among, last_split, next_split, own_splits, start_after, turns_for}
+use Rattle.sms_messages.specs.SplitReferences.{first_free_split, held_splits, is_among, last_split, own_splits, start_after}
 use Rattle.std.proofs.lemmas.Bool.{cond-true, cond-false}
-use Rattle.sms_claims.specs.Claims.{ClaimsOf, Holds, came_with, came_with_any, has_pending, holds, holds_any, last_code, repeats, total}
-use Rattle.sms_claims.specs.Counts.{CountsOf, counted, one_if}
+use Rattle.sms_claims.specs.Claims.{ClaimsOf, Holds, has_pending, last_code}
+use Rattle.sms_claims.specs.Counts.{counted}
 use Rattle.sms_claims.specs.Keys.{key_of, pair_of}
 use Rattle.sms_claims.proofs.Tallies.{among_counted, held_counted, held_length, length_append, own_counted, own_length, pending_counted}
 

@@ -1,8 +1,8 @@
 -- A message ends, and a part comes.
-use Rattle.std.proofs.Common.{◌≡◌, ℕ, ◌+◌, ◌-◌, ◌<◌, ◌≤◌, nat_eq, List, [], ◌∷◌, length, Bool, true, false, Option, Some, None, is_some, is_none, true≢false, refl, sym, ◌∙◌, ap, subst, inl, inr, ⊎_elim, arith}
+use Rattle.std.proofs.Common.{◌≡◌, ℕ, ◌+◌, ◌-◌, ◌<◌, ◌≤◌, nat_eq, List, [], ◌∷◌, Bool, true, false, Option, Some, None, is_some, is_none, true≢false, refl, sym, ◌∙◌, ap, subst, ⊎_elim, arith}
 use Rattle.std.specs.Prelude.{◌==◌, ◌&&◌, not, if◌then◌else◌}
 use Rattle.std.specs.Str.{bytes_eq}
-use Rattle.std.proofs.lemmas.Bool.{cases_Bool, cases_eq}
+use Rattle.std.proofs.lemmas.Bool.{cases_eq}
 use Rattle.sms_base.specs.Among.{Among}
 use Rattle.sms_base.specs.declared.address.Address.{Address}
 use Rattle.sms_base.specs.declared.final_state.FinalState.{FinalState}
@@ -10,7 +10,7 @@ use Rattle.sms_base.specs.declared.originator.Originator.{Originator}
 use Rattle.sms_base.specs.declared.originator.Originator.TheVariants.{Application, Handset}
 use Rattle.sms_concat.specs.declared.concat_key.ConcatKey.{ConcatKey}
 use Rattle.sms_table.specs.Table.{AllAbove, Rises, insert, put, row_at, without}
-use Rattle.sms_table.proofs.Tables.{above_lower, found_among, found_key, insert_behind, insert_here, row_at_put, row_at_put_other, row_behind, row_here, without_behind, without_here}
+use Rattle.sms_table.proofs.Tables.{found_among, insert_behind, insert_here, row_at_put, row_at_put_other, row_behind, row_here, without_behind, without_here}
 use Rattle.std.proofs.lemmas.Bool.{cases_lt}
 use Rattle.sms_messages.specs.declared.message.MessageRow.{MessageRow}
 use Rattle.sms_messages.specs.declared.part.PartRow.{PartRow}
@@ -19,7 +19,7 @@ use Rattle.sms_messages.specs.SplitReferences.{is_between, is_delivered, last_sp
 use Rattle.sms_claims.specs.declared.between.Between.{Between}
 use Rattle.sms_claims.specs.Claims.{AreFew, BarsLess, BringsBar, BringsOwn, Brought, ClaimsOf, Ended, Holds, HoldsLess, PendsLess, still, came_with, came_with_any, holds, holds_any, last_code, is_from_handset, is_of, is_reference, repeats, total, wide_of}
 use Rattle.sms_claims.specs.Counts.{CountsOf, IsAdded, IsTaken, counted, one_if}
-use Rattle.sms_claims.specs.Keys.{is_same, is_same_sender, key_of, pair_of}
+use Rattle.sms_claims.specs.Keys.{is_same_sender, key_of, pair_of}
 use Rattle.sms_claims.proofs.Entering.{at_most_one, none_any, none_first, plus_none, same_both, total_few, total_same, turned_back}
 
 -- ---- totals where a row takes the place of another

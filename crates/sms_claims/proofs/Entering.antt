@@ -1,10 +1,9 @@
 -- A message comes behind all others.
-use Rattle.std.proofs.Common.{◌≡◌, ℕ, zero, suc, ◌+◌, ◌<◌, ◌≤◌, nat_eq, List, [], ◌∷◌, ◌++◌, length, Bool, true, false, Option, Some, None, is_some, is_none, refl, sym, ◌∙◌, ap, subst, inl, inr, ⊎_elim, eq-eqb, arith}
+use Rattle.std.proofs.Common.{◌≡◌, ℕ, ◌+◌, ◌<◌, ◌≤◌, nat_eq, List, [], ◌∷◌, ◌++◌, length, Bool, true, false, Option, Some, None, is_some, refl, sym, ◌∙◌, ap, inl, inr, ⊎_elim, eq-eqb, arith}
 use Rattle.std.specs.Prelude.{◌==◌, ◌&&◌, not, if◌then◌else◌}
 use Rattle.std.specs.Str.{bytes_eq}
-use Rattle.std.proofs.lemmas.Bool.{cases_Bool, cases_eq, ne_eqb}
+use Rattle.std.proofs.lemmas.Bool.{cases_eq, ne_eqb}
 use Rattle.std.proofs.lemmas.Slice.Eq.{bytes_eq-Decides}
-use Rattle.sms_base.specs.AddressKind.{type_number}
 use Rattle.sms_base.specs.Among.{Among}
 use Rattle.sms_base.specs.declared.address.Address.{Address}
 use Rattle.sms_base.specs.declared.originator.Originator.{Originator}
@@ -15,10 +14,9 @@ use Rattle.sms_messages.specs.declared.message.MessageRow.{MessageRow}
 use Rattle.sms_messages.specs.declared.part.PartRow.{PartRow}
 use Rattle.sms_messages.specs.Messages.{is_pending, message_at, message_key}
 use Rattle.sms_messages.specs.SplitReferences.{is_between, is_delivered, last_split, or_later}
-use Rattle.sms_claims.specs.declared.between.Between.{Between}
-use Rattle.sms_claims.specs.Claims.{AreFew, BarsMore, ClaimsOf, ComesBehind, Entered, GivesLast, Holds, HoldsMore, PendsMore, came_with, came_with_any, code_or, holds, holds_any, is_from_handset, is_of, is_reference, last_code, repeats, total, wide_of}
+use Rattle.sms_claims.specs.Claims.{AreFew, BarsMore, ClaimsOf, ComesBehind, Entered, GivesLast, Holds, HoldsMore, PendsMore, came_with_any, code_or, holds, holds_any, is_from_handset, is_of, is_reference, last_code, repeats, total, wide_of}
 use Rattle.sms_claims.specs.Counts.{CountsOf, IsAdded, IsSet, counted, one_if}
-use Rattle.sms_claims.specs.Keys.{is_same, is_same_sender, key_of, pair_of}
+use Rattle.sms_claims.specs.Keys.{is_same_sender, key_of, pair_of}
 use Rattle.sms_claims.proofs.Behind.{put_last}
 
 -- ---- totals

@@ -1,5 +1,5 @@
 -- Rows of a store come one by one, in the order of their keys.
-use Rattle.std.proofs.Common.{◌≡◌, ℕ, zero, suc, ◌+◌, ◌<◌, ◌≤◌, List, [], ◌∷◌, ◌++◌, length, take, get_or, Option, Some, None, is_some, refl, sym, ◌∙◌, ap, subst, inl, inr, ⊎_elim, arith}
+use Rattle.std.proofs.Common.{◌≡◌, ℕ, zero, suc, ◌+◌, ◌<◌, ◌≤◌, List, [], ◌∷◌, length, take, get_or, Option, None, is_some, refl, sym, ◌∙◌, ap, subst, inl, inr, ⊎_elim, arith}
 use Rattle.std.proofs.lemmas.List.{take_more}
 use Rattle.sms_base.specs.Among.{Among}
 use Rattle.sms_table.specs.Table.{AllAbove, Rises, put, row_at}
@@ -7,8 +7,8 @@ use Rattle.sms_table.proofs.Tables.{row_behind}
 use Rattle.sms_messages.specs.declared.message.MessageRow.{MessageRow}
 use Rattle.sms_messages.specs.declared.part.PartRow.{PartRow}
 use Rattle.sms_messages.specs.Messages.{message_at, message_key, part_key}
-use Rattle.sms_claims.specs.Claims.{AreFew, ClaimsOf, ComesBehind, Holds, came_with, came_with_any, is_reference, total, wide_of}
-use Rattle.sms_claims.specs.Counts.{counted, one_if}
+use Rattle.sms_claims.specs.Claims.{AreFew, ClaimsOf, ComesBehind, Holds, came_with, came_with_any, is_reference, wide_of}
+use Rattle.sms_claims.specs.Counts.{one_if}
 use Rattle.sms_claims.specs.Keys.{key_of}
 use Rattle.sms_claims.proofs.Behind.{put_last}
 use Rattle.sms_claims.proofs.Ending.{total_new}

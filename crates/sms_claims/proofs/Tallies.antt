@@ -1,13 +1,11 @@
 -- Counts of lists: what the definitions of all rows say is told by them.
-use Rattle.std.proofs.Common.{◌≡◌, ℕ, zero, suc, ◌+◌, ◌<◌, nat_lt, nat_eq, List, [], ◌∷◌, ◌++◌, length, Bool, true, false, Option, Some, None, is_some, lt-ltb, refl, sym, ◌∙◌, ap, subst, inl, inr, arith}
+use Rattle.std.proofs.Common.{◌≡◌, ℕ, ◌+◌, nat_lt, List, [], ◌∷◌, ◌++◌, length, Bool, true, false, Option, Some, None, is_some, lt-ltb, refl, sym, ◌∙◌, ap, arith}
 use Rattle.std.specs.Prelude.{◌==◌, ◌&&◌, ◌||◌, not, if◌then◌else◌}
-use Rattle.std.specs.Str.{bytes_eq}
-use Rattle.sms_base.specs.Among.{Among}
 use Rattle.sms_base.specs.declared.address.Address.{Address}
 use Rattle.sms_messages.specs.declared.message.MessageRow.{MessageRow}
 use Rattle.sms_messages.specs.declared.part.PartRow.{PartRow}
 use Rattle.sms_messages.specs.Messages.{message_at}
-use Rattle.sms_messages.specs.SplitReferences.{held_splits, is_among, is_between, is_delivered, last_split, optional, or_later, own_splits, own_wide}
+use Rattle.sms_messages.specs.SplitReferences.{held_splits, is_among, is_between, is_delivered, optional, own_splits, own_wide}
 use Rattle.sms_claims.specs.Claims.{came_with, came_with_any, has_pending, holds, holds_any, is_reference, repeats, total, wide_of}
 use Rattle.sms_claims.specs.Counts.{one_if}
 use Rattle.sms_claims.specs.Keys.{key_of}

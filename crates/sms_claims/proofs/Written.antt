@@ -1,5 +1,5 @@
 -- What stands under keys after one was written.
-use Rattle.std.proofs.Common.{◌≡◌, ℕ, ◌+◌, ◌-◌, ◌<◌, ◌≤◌, nat_eq, cond, List, Bool, true, false, Option, Some, None, eq-eqb, refl, sym, ◌∙◌, ap, subst, ⊎_elim, arith}
+use Rattle.std.proofs.Common.{◌≡◌, ℕ, ◌+◌, ◌-◌, ◌<◌, ◌≤◌, nat_eq, cond, List, Bool, true, false, Option, None, eq-eqb, refl, ◌∙◌, ap, subst, ⊎_elim, arith}
 use Rattle.std.specs.Map.{lookup}
 use Rattle.std.specs.Option.{unwrap_or}
 use Rattle.std.specs.Prelude.{◌&&◌, if◌then◌else◌}

@@ -1,5 +1,5 @@
 -- What messages lay claim to, as counts of messages and parts, and what is kept of it.
-use Rattle.std.specs.Prelude.{◌≡◌, ℕ, ◌+◌, ◌-◌, ◌<◌, ◌==◌, ◌&&◌, ◌||◌, not, is_some, List, [], ◌∷◌, ◌++◌, length, Bool, true, false, if◌then◌else◌, Option, Some, None}
+use Rattle.std.specs.Prelude.{◌≡◌, ℕ, ◌+◌, ◌-◌, ◌<◌, ◌==◌, ◌&&◌, ◌||◌, not, is_some, List, [], ◌∷◌, length, Bool, false, if◌then◌else◌, Option, Some, None}
 use Rattle.std.specs.Str.{bytes_eq}
 use Rattle.sms_base.specs.AddressKind.{type_number}
 use Rattle.sms_base.specs.Among.{Among}
@@ -10,7 +10,7 @@ use Rattle.sms_concat.specs.declared.concat_key.ConcatKey.{ConcatKey}
 use Rattle.sms_messages.specs.declared.message.MessageRow.{MessageRow}
 use Rattle.sms_messages.specs.declared.part.PartRow.{PartRow}
 use Rattle.sms_messages.specs.Messages.{is_pending, message_at}
-use Rattle.sms_messages.specs.SplitReferences.{is_delivered, last_split, or_later, unless_split, wide_in}
+use Rattle.sms_messages.specs.SplitReferences.{is_delivered, last_split, unless_split, wide_in}
 use Rattle.sms_base.specs.declared.address.Address.{Address}
 use Rattle.sms_claims.specs.declared.between.Between.{Between}
 use Rattle.sms_claims.specs.Counts.{CountsOf, counted, one_if}

@@ -1,7 +1,7 @@
-use Rattle.std.proofs.Common.{length, refl}
+use Rattle.std.proofs.Common.{refl}
 use Rattle.sms_messages.specs.Messages.{message_key}
 use Rattle.sms_table.specs.Table.{all_applied}
-use Rattle.sms_claims.proofs.Adopted.{holds_taken, room_taken}
+use Rattle.sms_claims.proofs.Adopted.{holds_taken}
 use Rattle.sms_claims.proofs.claims.KeptClaims.adopt.Goals as goal
 
 pub returns : goal.returns

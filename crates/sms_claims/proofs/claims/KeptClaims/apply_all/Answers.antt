@@ -1,5 +1,4 @@
-use Rattle.std.proofs.Common.{ℕ, ◌+◌, ◌-◌, length, subst, arith}
-use Rattle.sms_claims.specs.Moves.{HasRoomFor}
+use Rattle.std.proofs.Common.{◌+◌, ◌-◌, length, arith}
 use Rattle.sms_claims.proofs.Adopted.{leads_first, leads_last, leads_on, less_room}
 use Rattle.sms_claims.proofs.claims.KeptClaims.apply_all.Goals as goal
 

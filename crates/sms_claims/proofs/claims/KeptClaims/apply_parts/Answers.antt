@@ -1,5 +1,4 @@
-use Rattle.std.proofs.Common.{ℕ, ◌+◌, ◌-◌, length, subst, arith}
-use Rattle.sms_claims.specs.Moves.{HasRoomFor}
+use Rattle.std.proofs.Common.{◌+◌, ◌-◌, length, arith}
 use Rattle.sms_claims.proofs.Adopted.{less_room, parts_first, parts_last, parts_on}
 use Rattle.sms_claims.proofs.claims.KeptClaims.apply_parts.Goals as goal
 

@@ -1,6 +1,5 @@
-use Rattle.std.proofs.Common.{◌≡◌, ℕ, List, Option, Some, None, sym, ◌∙◌, ap}
-use Rattle.sms_messages.specs.declared.message.MessageRow.{MessageRow}
-use Rattle.sms_messages.specs.Messages.{message_at, message_key}
+use Rattle.std.proofs.Common.{ℕ, sym, ◌∙◌, ap}
+use Rattle.sms_messages.specs.Messages.{message_key}
 use Rattle.sms_table.specs.Table.{row_at}
 use Rattle.sms_claims.proofs.Recovering.{holds_unfound}
 use Rattle.sms_claims.proofs.claims.KeptClaims.bring_found.Goals as goal

@@ -1,7 +1,4 @@
-use Rattle.std.proofs.Common.{List, [], take, subst, arith}
-use Rattle.std.proofs.lemmas.List.{take_all}
-use Rattle.sms_messages.specs.declared.message.MessageRow.{MessageRow}
-use Rattle.sms_claims.specs.Claims.{Holds}
+use Rattle.std.proofs.Common.{arith}
 use Rattle.sms_claims.proofs.Recovering.{entered_next}
 use Rattle.sms_claims.proofs.claims.KeptClaims.enter_each.Goals as goal
 

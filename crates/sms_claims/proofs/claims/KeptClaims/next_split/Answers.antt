@@ -1,4 +1,4 @@
-use Rattle.std.proofs.Common.{◌≡◌, ℕ, ◌+◌, ◌-◌, ◌%◌, ◌++◌, min, List, length, Bool, true, false, None, refl, sym, ◌∙◌, ap, arith}
+use Rattle.std.proofs.Common.{◌≡◌, ℕ, ◌+◌, ◌-◌, ◌%◌, ◌++◌, min, length, None, refl, sym, ◌∙◌, ap, arith}
 use Rattle.sms_messages.specs.SplitReferences.{first_free_split, held_splits, last_split, own_splits, start_after, turns_for}
 use Rattle.sms_claims.specs.declared.between.Between.{Between}
 use Rattle.sms_claims.specs.Claims.{ClaimsOf}
