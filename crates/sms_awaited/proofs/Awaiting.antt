@@ -94,6 +94,14 @@ serves (Some m) s (x ∷ ss) e = ⊎_elim
     let f = serves (Some m) s ss (sym (cond-false (x.receives && is_account x.account m.originator) (Some x) (session_for (Some m) ss) t) ∙ e) in (inr f.0, f.1))
     (cases_Bool (x.receives && is_account x.account m.originator))
 
+-- ---- nothing was sent
+
+pub none_awaited : (ms : List MessageRow) (rows : List ReportRow) (ss : List Session) → ((s : Session) → Among s ss → s.unanswered ≡ []) → AreAwaited ms rows ss
+none_awaited ms rows ss none = record {
+  each = λ s m id k. absurd (subst (λ (ids : List ℕ). Among id ids) (none s m) k);
+  apart = λ s other m n id k l. absurd (subst (λ (ids : List ℕ). Among id ids) (none s m) k);
+}
+
 -- ---- one session is as it is now, all others are as before
 
 module _ (ms : List MessageRow) (rows after : List ReportRow) (ss : List Session) (s : Session) (ids : List ℕ) where

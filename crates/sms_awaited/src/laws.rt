@@ -1,8 +1,9 @@
 //! Laws of what sessions wait for, over definitions alone.
-ghost use Rattle.std.specs.Prelude.{◌≡◌, ℕ, Bool, List, None, Some, true, if◌then◌else◌};
+ghost use Rattle.std.specs.Prelude.{◌≡◌, ℕ, Bool, List, [], None, Some, true, if◌then◌else◌};
+ghost use Rattle.sms_base.specs.Among.{Among};
 ghost use Rattle.sms_intake.specs.declared.submission.Account.{Account};
 ghost use Rattle.sms_messages.specs.declared.message.MessageRow.{MessageRow};
-ghost use Rattle.sms_reports.specs.Receipts.{Desk, send_all};
+ghost use Rattle.sms_reports.specs.Receipts.{Desk, Session, send_all};
 ghost use Rattle.sms_reports.specs.Reports.{is_open_receipt, report_key, report_of, reports_of};
 ghost use Rattle.sms_reports.specs.Waiting.{Alone};
 ghost use Rattle.sms_reports.specs.declared.report.ReportRow.{ReportRow};
@@ -47,6 +48,11 @@ pub fn what_is_awaited_stays_so()
         → AreAwaited messages (reports_of (reports_unbound session moment desk.sessions t)) (desk_unbound session desk).sessions }
     ensures bound { (messages : List MessageRow) (session moment : ℕ) (account : List ℕ) (receives : Bool) (t : Revised ReportRow) (desk : Desk) → AreAwaited messages (reports_of t) desk.sessions
         → AreAwaited messages (reports_of (reports_bound session account receives moment desk.sessions messages t)) (desk_bound session account receives desk).sessions }
+{}
+
+/// Sessions in which nothing was sent yet, as they are when a centre starts, wait for nothing.
+pub fn new_sessions_wait_for_nothing()
+    ensures { (messages : List MessageRow) (rows : List ReportRow) (sessions : List Session) → ((s : Session) → Among s sessions → s.unanswered ≡ []) → AreAwaited messages rows sessions }
 {}
 
 /// No event but an answer to a receipt closes a receipt, and after every event of a sound centre what was sent and not answered is an

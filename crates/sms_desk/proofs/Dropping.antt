@@ -1,7 +1,7 @@
 -- Status reports are dropped as what is kept tells them.
 use Rattle.std.proofs.Common.{◌≡◌, ℕ, ◌+◌, ◌<◌, ◌≤◌, List, [], ◌∷◌, Bool, true, false, Option, Some, None, refl, sym, ◌∙◌, ap, subst, inl, inr, ⊎_elim, arith}
 use Rattle.std.specs.Prelude.{nat_le, if◌then◌else◌}
-use Rattle.std.proofs.lemmas.Bool.{and_from, and_parts, cases_Bool, cases_lt, cond-true, cond-false, le-leb, leb-true}
+use Rattle.std.proofs.lemmas.Bool.{and_from, and_parts, cases_Bool, cond-true, cond-false, le-leb, leb-true}
 use Rattle.sms_base.specs.Among.{Among}
 use Rattle.sms_index.specs.First.{first_such, is_past_from}
 use Rattle.sms_index.proofs.Picking.{picked_rises}
@@ -13,58 +13,21 @@ use Rattle.sms_desk.specs.declared.entry.StatusEntry.{StatusEntry}
 use Rattle.sms_desk.specs.Dropping.{drop_old, is_old}
 use Rattle.sms_desk.specs.Entries.{status_entry, status_key, status_limit, status_until}
 use Rattle.sms_desk.specs.Kept.{Kept, Shows}
+use Rattle.sms_desk.proofs.Amended.{amend_each, amends_end, amends_on}
 use Rattle.sms_desk.proofs.Keeping.{kept_where, status_place}
 use Rattle.sms_desk.proofs.Serving.{among_kept, kept_among}
-use Rattle.sms_desk.proofs.Walking.{above_one, from_all, from_behind, from_here}
+use Rattle.sms_waiting.specs.declared.progress.Progress.{Progress}
 use Rattle.sms_waiting.specs.Revisions.{Revised}
 use Rattle.sms_waiting.specs.Trying.{finished, later}
 
 -- ---- the walk
 
-module _ (moment : ℕ) where
-  step_over : (r : ReportRow) (t : Revised ReportRow) → is_old moment r ≡ false → (if is_old moment r then amend_report r (finished r.progress) t else t) ≡ t
-  step_over r t e = cond-false (is_old moment r) (amend_report r (finished r.progress) t) t e
+abbrev closed : ReportRow → Progress
+closed r = finished r.progress
 
-  rest_over : (rs : List ReportRow) (t : Revised ReportRow) → ((r : ReportRow) → Among r rs → is_old moment r ≡ false) → drop_old moment rs t ≡ t
-  rest_over [] t f = refl
-  rest_over (r ∷ rs) t f = ap (λ (u : Revised ReportRow). drop_old moment rs u) (step_over r t (f r (inl refl))) ∙ rest_over rs t (λ s m. f s (inr m))
-
-  drops_end : (first : ℕ) (rs : List ReportRow) (t : Revised ReportRow) → Rises report_key rs → ((r : ReportRow) → Among r rs → first ≤ r.place → is_old moment r ≡ false) → drop_old moment (rows_from report_key first rs) t ≡ t
-  drops_end first [] t h f = refl
-  drops_end first (r ∷ rs) t h f = ⊎_elim
-      (λ (l : r.place < first). ap (λ (x : List ReportRow). drop_old moment x t) (from_behind first r rs l) ∙ drops_end first rs t h.1 (λ s m. f s (inr m)))
-      (λ (l : first ≤ r.place). ap (λ (x : List ReportRow). drop_old moment x t) (from_here first r rs l)
-      ∙ rest_over (r ∷ rs) t (λ s m. f s m (⊎_elim
-      (λ (e : s ≡ r). subst (λ (x : ReportRow). first ≤ x.place) (sym e) l)
-      (λ (k : Among s rs). let q = above_one r.place s rs h.0 k in omega (arith, q, l))
-      m)))
-      (cases_lt r.place first)
-
-  drops_on : (first : ℕ) (rs : List ReportRow) (r : ReportRow) (t : Revised ReportRow) → Rises report_key rs → Among r rs → first ≤ r.place
-      → ((x : ReportRow) → Among x rs → first ≤ x.place → x.place < r.place → is_old moment x ≡ false) → is_old moment r ≡ true
-      → drop_old moment (rows_from report_key first rs) t ≡ drop_old moment (rows_from report_key (r.place + 1) rs) (amend_report r (finished r.progress) t)
-  drops_on first [] r t h m l f e = elim m [ ]
-  drops_on first (y ∷ ys) r t h m l f e = ⊎_elim
-      (λ (q : r ≡ y).
-      ap (λ (x : List ReportRow). drop_old moment x t) (from_here first y ys (subst (λ (x : ReportRow). first ≤ x.place) q l))
-      ∙ ap (λ (u : Revised ReportRow). drop_old moment ys u)
-      (ap (λ (x : ReportRow). if is_old moment x then amend_report x (finished x.progress) t else t) (sym q) ∙ cond-true (is_old moment r) (amend_report r (finished r.progress) t) t e)
-      ∙ ap (λ (x : List ReportRow). drop_old moment x (amend_report r (finished r.progress) t))
-      (sym (ap (λ (x : ReportRow). rows_from report_key (x.place + 1) (y ∷ ys)) q ∙ from_behind (y.place + 1) y ys (omega arith) ∙ from_all (y.place + 1) y.place ys h.0 (omega arith))))
-      (λ (k : Among r ys).
-      let before : y.place < r.place = above_one y.place r ys h.0 k in
-      let behind : rows_from report_key (r.place + 1) (y ∷ ys) ≡ rows_from report_key (r.place + 1) ys = from_behind (r.place + 1) y ys (omega (arith, before)) in
-      let next = drops_on first ys r t h.1 k l (λ x n. f x (inr n)) e in
-      ⊎_elim
-      (λ (b : y.place < first).
-      ap (λ (x : List ReportRow). drop_old moment x t) (from_behind first y ys b) ∙ next ∙ ap (λ (x : List ReportRow). drop_old moment x (amend_report r (finished r.progress) t)) (sym behind))
-      (λ (b : first ≤ y.place).
-      ap (λ (x : List ReportRow). drop_old moment x t) (from_here first y ys b)
-      ∙ ap (λ (u : Revised ReportRow). drop_old moment ys u) (step_over y t (f y (inl refl) b before))
-      ∙ ap (λ (x : List ReportRow). drop_old moment x t) (sym (from_all first y.place ys h.0 (omega (arith, b))))
-      ∙ next ∙ ap (λ (x : List ReportRow). drop_old moment x (amend_report r (finished r.progress) t)) (sym behind))
-      (cases_lt y.place first))
-      m
+walk_is : (moment : ℕ) (rs : List ReportRow) (t : Revised ReportRow) → drop_old moment rs t ≡ amend_each (is_old moment) closed rs t
+walk_is moment [] t = refl
+walk_is moment (r ∷ rs) t = walk_is moment rs (if is_old moment r then amend_report r (finished r.progress) t else t)
 
 -- ---- the first of the entries that passes
 
@@ -132,7 +95,7 @@ module _ (first moment : ℕ) (ms : List MessageRow) (kept : Kept) (rows : List 
       (cases_Bool (is_old moment x))
 
   pub none_dropped : (t : Revised ReportRow) → first_such (is_past_from status_key status_until first moment) kept.statuses ≡ None → drop_old moment (rows_from report_key first rows) t ≡ t
-  none_dropped t e = drops_end moment first rows t shows.keys (λ r m l. none_old None e r m l (λ f q. absurd cc))
+  none_dropped t e = walk_is moment (rows_from report_key first rows) t ∙ amends_end (is_old moment) closed first rows t shows.keys (λ r m l. none_old None e r m l (λ f q. absurd cc))
 
   past_parts : (e : StatusEntry) → is_past_from status_key status_until first moment e ≡ true → (first ≤ e.place) × (nat_le e.until moment ≡ true)
   past_parts e t = ⊎_elim
@@ -153,8 +116,10 @@ module _ (first moment : ℕ) (ms : List MessageRow) (kept : Kept) (rows : List 
         r,
         (
           (row.1.0, row.1.1),
-          drops_on moment first rows r t shows.keys row.1.0 (subst (λ (n : ℕ). first ≤ n) (sym place) past.0)
+          walk_is moment (rows_from report_key first rows) t
+              ∙ amends_on (is_old moment) closed first rows r t shows.keys row.1.0 (subst (λ (n : ℕ). first ≤ n) (sym place) past.0)
               (λ x m l before. none_old (Some e) q x m l (λ g h. let same : e ≡ g = one_entry e g h in subst (λ (y : StatusEntry). x.place < y.place) same (omega (arith, before, place)))) old
+              ∙ sym (walk_is moment (rows_from report_key (r.place + 1) rows) (amend_report r (finished r.progress) t))
               ∙ ap (λ (n : ℕ). drop_old moment (rows_from report_key (n + 1) rows) (amend_report r (finished r.progress) t)) place,
         ),
       )

@@ -3,7 +3,7 @@ pub mod Becoming
 mod Dropping
 pub mod Keeping
 mod Moves
-mod Noting
+pub mod Noting
 mod PutOff
 mod Rebuilding
 pub mod ReceiptsMoved

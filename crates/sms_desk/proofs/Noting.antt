@@ -12,7 +12,10 @@ use Rattle.sms_reports.specs.Waiting.{Alone}
 use Rattle.sms_desk.specs.Became.{Became}
 use Rattle.sms_desk.specs.declared.made.MadeEntry.{MadeEntry}
 use Rattle.sms_desk.specs.Pending.{IsNotedAs, PendingOf, Stays, Tells, is_made, made_in, made_key, put_at, put_of, tpdu_in, tpdu_made}
+use Rattle.sms_desk.specs.Entries.{account_in}
+use Rattle.sms_messages.specs.Messages.{message_at}
 use Rattle.sms_desk.proofs.Becoming.{became_far}
+use Rattle.sms_desk.proofs.Keeping.{other_messages}
 use Rattle.sms_waiting.specs.declared.progress.Progress.{Progress}
 use Rattle.sms_waiting.specs.declared.revision.Revision.{Revision}
 use Rattle.sms_waiting.specs.declared.revision.Revision.TheVariants.{Put, Amend, Remove}
@@ -143,3 +146,14 @@ module _ (ms : List MessageRow) (p : PendingOf) (t : Revised ReportRow) (tells :
       let same : noted.0 ≡ r = one_row noted.0 r (sym noted.1.1 ∙ f) in
       let made : made_in id t.news ≡ Some r = noted.1.0 ∙ ap (λ (x : ReportRow). Some x) same in
       sym (cond-true (is_made id t.news) (Some (tpdu_in (report_of id (reports_of t)))) None (made_is id r t.news made) ∙ ap (λ (o : List ℕ). Some o) (stays_there r made))
+
+-- ---- messages change
+
+pub told_of_others : (ms others : List MessageRow) (p : PendingOf) (t : Revised ReportRow) → Tells ms p t
+    → ((r : ReportRow) → report_of r.id (reports_of t) ≡ Some r → account_in (message_at r.id others) ≡ account_in (message_at r.id ms)) → Tells others p t
+told_of_others ms others p t tells same = record {
+  kept = other_messages ms others p.kept (reports_of t) tells.kept same;
+  changes = tells.changes;
+  noted = tells.noted;
+  stay = tells.stay;
+}

@@ -4,13 +4,14 @@ ghost use Rattle.sms_base.specs.Among.{Among};
 ghost use Rattle.sms_desk.specs.Dropping.{drop_old};
 ghost use Rattle.sms_desk.specs.Entries.{account_in, status_entry, status_key, status_until};
 ghost use Rattle.sms_desk.specs.Kept.{Kept, Shows};
+ghost use Rattle.sms_desk.specs.Pending.{PendingOf, Tells};
 ghost use Rattle.sms_desk.specs.Serving.{Next, next_among};
 ghost use Rattle.sms_desk.specs.declared.entry.StatusEntry.{StatusEntry};
 ghost use Rattle.sms_index.specs.First.{first_such, is_past_from};
 ghost use Rattle.sms_messages.specs.Messages.{message_at};
 ghost use Rattle.sms_messages.specs.declared.message.MessageRow.{MessageRow};
 ghost use Rattle.sms_reports.specs.Receipts.{Desk, send_all, send_in, session_key};
-ghost use Rattle.sms_reports.specs.Reports.{amend_report, report_key, report_of};
+ghost use Rattle.sms_reports.specs.Reports.{amend_report, report_key, report_of, reports_of};
 ghost use Rattle.sms_reports.specs.declared.report.ReportRow.{ReportRow};
 ghost use Rattle.sms_table.specs.Table.{Rises, rows_from};
 ghost use Rattle.sms_waiting.specs.Revisions.{Revised};
@@ -20,6 +21,12 @@ ghost use Rattle.sms_waiting.specs.Trying.{finished};
 pub fn messages_may_change()
     ensures { (messages others : List MessageRow) (kept : Kept) (rows : List ReportRow) → Shows messages kept rows
         → ((r : ReportRow) → report_of r.id rows ≡ Some r → account_in (message_at r.id others) ≡ account_in (message_at r.id messages)) → Shows others kept rows }
+{}
+
+/// So they may in the middle of an event.
+pub fn messages_may_change_in_an_event()
+    ensures { (messages others : List MessageRow) (p : PendingOf) (t : Revised ReportRow) → Tells messages p t
+        → ((r : ReportRow) → report_of r.id (reports_of t) ≡ Some r → account_in (message_at r.id others) ≡ account_in (message_at r.id messages)) → Tells others p t }
 {}
 
 /// The receipts that go from a place on: first the one that what is kept tells, in its session; then those behind it. Where it
