@@ -1,11 +1,11 @@
 -- What waits for a handset is open, and stays so while it becomes due.
-use Rattle.std.proofs.Common.{◌≡◌, ℕ, ◌<◌, List, [], ◌∷◌, Bool, true, false, Option, Some, None, refl, sym, ◌∙◌, ap, subst, inl, inr, ⊎_elim, eq-eqb, arith}
-use Rattle.std.specs.Prelude.{◌&&◌, ◌==◌, not, if◌then◌else◌}
+use Rattle.std.proofs.Common.{◌≡◌, ℕ, List, [], ◌∷◌, Bool, true, false, Option, Some, None, refl, sym, ◌∙◌, ap, subst, inl, inr, ⊎_elim, eq-eqb}
+use Rattle.std.specs.Prelude.{◌&&◌, ◌==◌, not}
 use Rattle.std.specs.Str.{bytes_eq}
 use Rattle.std.proofs.lemmas.Bool.{and_from, and_parts, cases_Bool, cases_eq, cond-false, cond-true, cond_both, ne_eqb}
 use Rattle.sms_base.specs.Among.{Among}
 use Rattle.sms_table.specs.Keys.{pair_key}
-use Rattle.sms_table.specs.Table.{Rises, row_at}
+use Rattle.sms_table.specs.Table.{row_at}
 use Rattle.sms_table.proofs.Tables.{among_found}
 use Rattle.sms_messages.specs.declared.message.MessageRow.{MessageRow}
 use Rattle.sms_messages.specs.declared.part.PartRow.{PartRow}
@@ -29,7 +29,6 @@ use Rattle.sms_centre_rules.specs.Draft.{Draft, Store, in_store, messages_in, pa
 use Rattle.sms_centre_rules.specs.Held.{SoundHeld}
 use Rattle.sms_centre_rules.specs.Transfers.{is_open_part_at, is_open_status_at}
 use Rattle.sms_working.specs.DueNow.{IsOpenLoad}
-use Rattle.sms_working.proofs.OthersWaiting.{cases_zero}
 
 -- ---- what waits is open
 

@@ -3,16 +3,15 @@ use Rattle.std.proofs.Common.{◌≡◌, ℕ, ◌+◌, ◌<◌, ◌≤◌, List,
 use Rattle.std.specs.Option.{option_and_then}
 use Rattle.sms_base.specs.Among.{Among}
 use Rattle.sms_table.specs.Keys.{pair_key}
-use Rattle.sms_table.specs.Table.{put, row_at}
+use Rattle.sms_table.specs.Table.{put}
 use Rattle.sms_table.proofs.Tables.{among_put, found_among, found_key, row_at_put, row_at_put_other}
 use Rattle.sms_messages.specs.declared.message.MessageRow.{MessageRow}
 use Rattle.sms_messages.specs.declared.part.PartRow.{PartRow}
 use Rattle.sms_messages.specs.declared.priority.PriorityRow.{PriorityRow}
-use Rattle.sms_messages.specs.Messages.{is_pending, message_at, message_key, part_at, part_key, priority_in, priority_key, priority_of, put_message, put_part, put_priority}
+use Rattle.sms_messages.specs.Messages.{message_at, message_key, part_at, part_key, priority_in, priority_key, put_message, put_part, put_priority}
 use Rattle.sms_kept.specs.Kept.{PendingOf as MessagesOf, Shows as ShowsMessages}
 use Rattle.sms_reports.specs.declared.report.ReportRow.{ReportRow}
 use Rattle.sms_reports.specs.Reports.{report_of}
-use Rattle.sms_waiting.specs.declared.load.Load.{Load}
 use Rattle.sms_waiting.specs.Keys.{load_key}
 use Rattle.sms_waiting.specs.References.{give, handset_of}
 use Rattle.sms_waiting.specs.SoundGivings.{IsNumber}
@@ -21,7 +20,7 @@ use Rattle.sms_shelves.specs.Shown.{Shows as ShowsShelves, Waits}
 use Rattle.sms_intake.specs.declared.submission.SinglePart.{SinglePart}
 use Rattle.sms_intake.specs.declared.submission.Submission.{Submission}
 use Rattle.sms_intake.specs.PartBodies.{deliver_octets}
-use Rattle.sms_centre_rules.specs.Draft.{Draft, Store, handsets_in, in_store, messages_in, parts_in, priorities_in, reports_in, with_given, with_message, with_part, with_priority}
+use Rattle.sms_centre_rules.specs.Draft.{Draft, Store, handsets_in, in_store, messages_in, parts_in, priorities_in, reports_in, with_given, with_part}
 use Rattle.sms_centre_rules.specs.SoundRows.{CanBeTold}
 use Rattle.sms_centre_rules.specs.Standing.{Stands}
 use Rattle.sms_centre_rules.specs.Submitting.{enter, give_part, give_parts, message_of, part_given, put_part_of, reference_for}

@@ -1,6 +1,6 @@
 -- What a transfer was for is found by what is kept in memory.
 use Rattle.std.proofs.Common.{◌≡◌, ℕ, List, Bool, true, false, Option, Some, None, refl, sym, ◌∙◌, ap, subst, ⊎_elim}
-use Rattle.std.specs.Prelude.{◌&&◌, ◌||◌, not, is_some, if◌then◌else◌}
+use Rattle.std.specs.Prelude.{◌&&◌, ◌||◌, not, is_some}
 use Rattle.std.proofs.lemmas.Bool.{and_from, and_parts, cases_Bool, cond-false, cond-true}
 use Rattle.sms_base.specs.declared.holder.Holder.TheVariants.{Part, Report}
 use Rattle.sms_link.specs.declared.ending.Ending.{Ending}

@@ -1,3 +1,4 @@
+pub mod Begun
 pub mod DueNow
 pub mod Entering
 pub mod FoundOpen

@@ -5,7 +5,7 @@ use Rattle.std.proofs.lemmas.Bool.{cases_Bool, cases_eq, cond-false}
 use Rattle.std.proofs.lemmas.Slice.Eq.{bytes_eq-Decides}
 use Rattle.sms_base.specs.declared.final_state.FinalState.{FinalState}
 use Rattle.sms_table.specs.Keys.{pair_key}
-use Rattle.sms_table.specs.Table.{row_at, without}
+use Rattle.sms_table.specs.Table.{row_at}
 use Rattle.sms_table.proofs.Tables.{found_among, found_key}
 use Rattle.sms_messages.specs.declared.message.MessageRow.{MessageRow}
 use Rattle.sms_messages.specs.declared.part.PartRow.{PartRow}
@@ -13,7 +13,7 @@ use Rattle.sms_messages.specs.declared.priority.PriorityRow.{PriorityRow}
 use Rattle.sms_messages.specs.Messages.{ended, is_pending, message_at, part_at, part_key}
 use Rattle.sms_messages.specs.OpenParts.{Numbered, part_load, part_wait, waits_for}
 use Rattle.sms_reports.specs.declared.report.ReportRow.{ReportRow}
-use Rattle.sms_reports.specs.Waiting.{Alone, waiting_for}
+use Rattle.sms_reports.specs.Waiting.{waiting_for}
 use Rattle.sms_reports.proofs.AllWaiting.{part_waits_at, rises_all}
 use Rattle.sms_reports.proofs.EndsWaiting.{end_waits}
 use Rattle.sms_reports.proofs.FewWaiting.{all_few}

@@ -11,9 +11,7 @@ use Rattle.sms_messages.specs.declared.message.MessageRow.{MessageRow}
 use Rattle.sms_messages.specs.Messages.{ended, message_at, message_key}
 use Rattle.sms_reports.specs.declared.report.ReportRow.{ReportRow}
 use Rattle.sms_reports.specs.Reports.{is_open_receipt, reports_of}
-use Rattle.sms_desk.specs.declared.entry.ReceiptEntry.{ReceiptEntry}
 use Rattle.sms_desk.specs.Entries.{account_in, is_named, receipt_entry}
-use Rattle.sms_desk.specs.Kept.{Kept}
 use Rattle.sms_desk.specs.Pending.{PendingOf, Tells}
 use Rattle.sms_waiting.specs.Revisions.{Revised}
 

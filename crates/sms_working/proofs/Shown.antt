@@ -1,13 +1,12 @@
 -- What is shown after a move of the rows.
-use Rattle.std.proofs.Common.{◌≡◌, ℕ, ◌≤◌, List, Bool, true, false, Option, Some, None, refl, sym, ◌∙◌, ap, subst, ⊎_elim, arith}
+use Rattle.std.proofs.Common.{◌≡◌, ℕ, ◌≤◌, List, Bool, true, false, Option, Some, refl, sym, ◌∙◌, ap, subst, ⊎_elim}
 use Rattle.std.specs.Prelude.{◌&&◌, max, not}
-use Rattle.sms_base.specs.Among.{Among}
 use Rattle.sms_base.specs.declared.final_state.FinalState.{FinalState}
 use Rattle.sms_base.specs.declared.originator.Originator.{Originator}
 use Rattle.sms_base.specs.declared.originator.Originator.TheVariants.{Application, Handset}
 use Rattle.sms_table.specs.Keys.{AllDigits}
 use Rattle.sms_table.specs.Table.{put, row_at}
-use Rattle.sms_table.proofs.Tables.{among_put, found_among, row_at_put}
+use Rattle.sms_table.proofs.Tables.{found_among}
 use Rattle.sms_messages.specs.declared.message.MessageRow.{MessageRow}
 use Rattle.sms_messages.specs.declared.part.PartRow.{PartRow}
 use Rattle.sms_messages.specs.Messages.{amend_part, ended, is_pending, message_at, message_key, part_key, part_reaching, put_message}

@@ -1,5 +1,5 @@
 -- What waits for a handset, as it becomes due.
-use Rattle.std.specs.Prelude.{◌≡◌, ℕ, ◌<◌, true}
+use Rattle.std.specs.Prelude.{◌≡◌, ◌<◌, true}
 use Rattle.sms_messages.specs.Messages.{part_at}
 use Rattle.sms_reports.specs.Reports.{report_of}
 use Rattle.sms_waiting.specs.declared.load.Load.{Load}

@@ -3,3 +3,5 @@ pub mod Telling
 pub mod Submitting
 pub mod Transfers
 pub mod DueNow
+pub mod Beginning
+pub mod Aging

@@ -7,6 +7,7 @@
 //! A call that finds no memory leaves no stated state: an event that finds none is given up whole.
 #![tactic(auto)]
 
+mod aging;
 mod ends;
 mod lines;
 mod moves;

@@ -12,6 +12,7 @@ ghost use Rattle.sms_index.specs.Picked.{pick_of};
 ghost use Rattle.sms_reports.specs.Reports.{is_open_status, report_of};
 ghost use Rattle.sms_reports.specs.declared.report.ReportRow.{ReportRow as ReportRowOf};
 ghost use Rattle.sms_centre_rules.specs.Draft.{Draft, in_store, messages_in, on_air, parts_in, reports_in, with_part_at};
+ghost use Rattle.sms_centre_rules.specs.declared.verdict.Verdict.TheVariants.{Settled};
 ghost use Rattle.sms_centre_rules.specs.Transfers.{cause_verdict as cause_verdict_of, complete as complete_of, conclude as conclude_of, ended_with as ended_with_of, is_temporary as is_temporary_of, line_ended as line_ended_of, part_ended as part_ended_of, report_ended as report_ended_of, verdict_of as verdict_of_ending, verdict_on as verdict_on_ending};
 ghost use Rattle.sms_working.specs.Transfers.{IsOpenPart, IsOpenStatus, IsTelling, IsWaiting, waiting_part as waiting_part_of, waiting_status as waiting_status_of};
 ghost use Rattle.sms_working.specs.Working.{Shows};
@@ -192,6 +193,19 @@ impl<'a> Working<'a> {
             Some(entry) => self.status_of(entry),
             None => Ok(None),
         }
+    }
+
+    /// The status report, which waits, is closed.
+    pub(crate) fn close_status(
+        &mut self,
+        entry: &ReportEntry,
+        message: &MessageRow,
+    ) -> Result<(), AllocError>
+        ensures { (d : Draft) (r : ReportRowOf) → Shows d self.old → report_of r.id (reports_in d.store) ≡ Some r → entry.now ≡ report_entry r → is_open_status r ≡ true
+            → message_at r.id (messages_in d.store) ≡ Some message.now
+            → OnOk result (Shows (in_store (report_ended_of Settled r d.store) d) self.new) }
+    {
+        self.status_ended(Verdict::Settled, entry, message)
     }
 
     // A transfer of the status report, which waits, has ended.

@@ -1,12 +1,17 @@
 //! The centre in the middle of an event.
+ghost use Rattle.std.specs.Prelude.{IfOk};
+ghost use Rattle.sms_centre_rules.specs.Draft.{Core, draft_of};
+ghost use Rattle.sms_working.specs.Beginning.{IsCentre};
+ghost use Rattle.sms_working.specs.Working.{Shows};
 
 use sms_base::Moment;
 use sms_centre_rules::{CentreAnswer, Setup};
-use sms_desk::PendingReports;
-use sms_kept::PendingMessages;
-use sms_sessions::PendingDesk;
-use sms_shelves::PendingShelves;
-use std::alloc::Global;
+use sms_desk::{PendingReports, Reports};
+use sms_kept::{KeptMessages, PendingMessages};
+use sms_sessions::{PendingDesk, Seat};
+use sms_shelves::{PendingShelves, Shelves};
+use sms_table::Table;
+use std::alloc::{AllocError, Global};
 use std::marker::Model;
 
 /// The centre in the middle of an event.
@@ -36,4 +41,35 @@ impl<'a> Model for Working<'a> {
       desk = w.desk;
       answer = w.answer;
     } };
+}
+
+impl<'a> Working<'a> {
+    /// The centre as an event begins.
+    pub fn of(
+        alloc: Global,
+        setup: &'a Setup,
+        moment: Moment,
+        messages: &'a KeptMessages,
+        shelves: &'a Shelves,
+        reports: &Reports,
+        sessions: &Table<Seat>,
+    ) -> Result<Working<'a>, AllocError>
+        ensures { (c : Core) → IsCentre c setup.entry.now moment messages.entry.now shelves.entry.now reports.now sessions.now.rows
+            → IfOk result (Shows (draft_of c)) }
+    {
+        let reports = PendingReports::of(alloc, reports)?;
+        let desk = PendingDesk::of(alloc, sessions)?;
+        let messages = PendingMessages::of(alloc, messages);
+        let shelves = PendingShelves::of(alloc, shelves);
+        Ok(Working {
+            alloc,
+            setup,
+            moment,
+            messages,
+            shelves,
+            reports,
+            desk,
+            answer: None,
+        })
+    }
 }

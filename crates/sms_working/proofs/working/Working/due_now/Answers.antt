@@ -1,4 +1,4 @@
-use Rattle.std.proofs.Common.{List, OnOk, sym, ◌∙◌, subst}
+use Rattle.std.proofs.Common.{List, OnOk, ◌∙◌, subst}
 use Rattle.sms_base.specs.Among.{Among}
 use Rattle.sms_waiting.specs.declared.load.Load.{Load}
 use Rattle.sms_centre_rules.specs.Draft.{in_store}

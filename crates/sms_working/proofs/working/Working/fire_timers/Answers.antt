@@ -1,5 +1,4 @@
-use Rattle.std.proofs.Common.{ℕ, Option, ◌≡◌, sym, ◌∙◌, ap, subst}
-use Rattle.sms_link.specs.declared.ending.Upward.{Upward}
+use Rattle.std.proofs.Common.{ℕ, sym, ◌∙◌, ap, subst}
 use Rattle.sms_link.specs.LinkTurn.{fired}
 use Rattle.sms_waiting.specs.Lines.{line_of, turn_line}
 use Rattle.sms_centre_rules.specs.Draft.{on_air}

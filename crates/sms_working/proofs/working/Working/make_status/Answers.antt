@@ -1,6 +1,6 @@
-use Rattle.std.proofs.Common.{◌≡◌, ℕ, Option, Some, None, OnOk, sym, ◌∙◌, subst}
+use Rattle.std.proofs.Common.{ℕ, Option, OnOk, sym, ◌∙◌, subst}
 use Rattle.sms_waiting.specs.References.{handset_of}
-use Rattle.sms_centre_rules.specs.Draft.{Draft, handsets_in, in_store}
+use Rattle.sms_centre_rules.specs.Draft.{handsets_in, in_store}
 use Rattle.sms_centre_rules.specs.Ends.{status_given}
 use Rattle.sms_working.specs.Working.{Shows}
 use Rattle.sms_working.proofs.Shown.{told_number}

@@ -3,7 +3,7 @@ use Rattle.sms_messages.specs.declared.message.MessageRow.{MessageRow}
 use Rattle.sms_messages.specs.declared.parts.PartEntry.{PartEntry}
 use Rattle.sms_working.specs.Transfers.{IsOpenPart}
 use Rattle.sms_working.specs.Working.{Shows, WorkingOf}
-use Rattle.sms_working.proofs.FoundOpen.{found_open_part, no_part_open}
+use Rattle.sms_working.proofs.FoundOpen.{found_open_part}
 use Rattle.sms_working.proofs.working.Working.open_part.Goals as goal
 
 pub returns : goal.returns

@@ -1,0 +1,31 @@
+-- An event begins.
+use Rattle.std.proofs.Common.{◌≡◌, ℕ, [], None, refl, sym, ◌∙◌, ap, subst}
+use Rattle.sms_kept.specs.Kept.{KeptOf, PendingOf as MessagesOf, Shows as ShowsMessages, opened}
+use Rattle.sms_desk.specs.Kept.{Kept}
+use Rattle.sms_desk.specs.Pending.{PendingOf as ReportsOf, Tells}
+use Rattle.sms_reports.specs.Receipts.{Desk, Session}
+use Rattle.sms_shelves.specs.Placing.{PendingOf as ShelvesNow, ShelvesOf, pending_of}
+use Rattle.sms_shelves.specs.Shown.{Shows as ShowsShelves}
+use Rattle.sms_waiting.specs.Revisions.{unrevised}
+use Rattle.sms_centre_rules.specs.declared.setup.Setup.{Setup}
+use Rattle.sms_centre_rules.specs.Draft.{Core, draft_of}
+use Rattle.sms_centre_rules.proofs.SoundStores.{store_sound}
+use Rattle.std.specs.Prelude.{List}
+use Rattle.sms_working.specs.Beginning.{IsCentre, all_of}
+use Rattle.sms_working.specs.Working.{Shows, WorkingOf, all_waiting}
+
+pub begun_shown : (c : Core) (setup : Setup) (moment : ℕ) (kept : KeptOf) (base : ShelvesOf) (known : Kept) (sessions : List Session) (messages : MessagesOf) (shelves : ShelvesNow) (reports : ReportsOf) (desk : Desk)
+    → IsCentre c setup moment kept base known sessions
+    → ShowsMessages messages (opened c.rows.messages c.rows.parts c.rows.priorities) → shelves ≡ pending_of base → Tells c.rows.messages reports (unrevised c.rows.reports) → desk ≡ record { sessions = sessions; deliveries = [] }
+    → Shows (draft_of c) (record { setup = setup; moment = moment; messages = messages; shelves = shelves; reports = reports; desk = desk; answer = None })
+begun_shown c setup moment kept base known sessions messages shelves reports desk is shown placed tells seated = record {
+  stands = (store_sound c.rows c.moment is.sound.rows is.sound.now is.sound.moment).stands;
+  few = λ p among. (is.sound.rows.messages.each_part p among).few;
+  setup = is.setup_is;
+  moment = is.moment_is;
+  messages = shown;
+  shelves = subst (λ (p : ShelvesNow). ShowsShelves (draft_of c).store.givings (draft_of c).air (all_waiting (draft_of c).store) p) (sym placed) is.shelves_are;
+  reports = tells;
+  desk = seated ∙ ap (λ (ss : List Session). record { sessions = ss; deliveries = [] }) is.sessions_are;
+  answer = refl;
+}

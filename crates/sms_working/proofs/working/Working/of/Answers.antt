@@ -1,0 +1,9 @@
+use Rattle.sms_working.proofs.Begun.{begun_shown}
+use Rattle.sms_working.proofs.working.Working.of.Goals as goal
+
+pub returns : goal.returns
+returns c = λ core is.
+    begun_shown core c.args.setup.now c.args.moment c.args.messages.now c.args.shelves.now c.args.reports.now c.args.sessions.now.rows
+    c.of-messages.result c.of-shelves.result c.in_ok-reports.reports c.in_ok-desk.desk is
+    (c.of-messages.ensures core.rows.messages core.rows.parts core.rows.priorities is.messages_are) c.of-shelves.ensures
+    (c.in_ok-reports.ensures core.rows.messages core.rows.reports is.reports_are) c.in_ok-desk.ensures
