@@ -11,3 +11,4 @@ mod PlacesFound
 mod WaitingTested
 mod SplitsTested
 mod RowsTested
+mod Together

@@ -6,3 +6,4 @@ pub mod ReportTest
 pub mod RowsTest
 pub mod WaitingTest
 pub mod SplitTest
+pub mod RowsOf

@@ -1,0 +1,27 @@
+-- Tables of rows, as a centre's definition has the rows.
+use Rattle.sms_table.specs.Table.{Rises}
+use Rattle.sms_messages.specs.Messages.{message_key, part_key, priority_key}
+use Rattle.sms_reports.specs.Reports.{report_key}
+use Rattle.sms_waiting.specs.Keys.{handset_key, reference_key}
+use Rattle.sms_centre_rules.specs.declared.rows.Rows.{Rows}
+use Rattle.sms_soundness.specs.declared.tables.RowTables.{RowTables}
+
+abbrev pub rows_of : RowTables → Rows
+rows_of t = record {
+  messages = t.messages.rows;
+  parts = t.parts.rows;
+  references = t.references.rows;
+  handsets = t.handsets.rows;
+  reports = t.reports.rows;
+  priorities = t.priorities.rows;
+  setup = t.setup;
+}
+
+-- each list stands in the order of its keys
+pub record KeysRise (rows : Rows) : Type 0 where
+  pub messages : Rises message_key rows.messages
+  pub parts : Rises part_key rows.parts
+  pub references : Rises reference_key rows.references
+  pub handsets : Rises handset_key rows.handsets
+  pub reports : Rises report_key rows.reports
+  pub priorities : Rises priority_key rows.priorities
