@@ -1,16 +1,27 @@
 -- What of the centre's sight is proved: it begins, it comes back, and others leave it.
-use Rattle.std.specs.Prelude.{ℕ, List, Bool}
-use Rattle.sms_centre_rules.specs.CentreEvent.{recovered, started}
-use Rattle.sms_centre_rules.specs.Draft.{Core, Draft, core_of, draft_of, rows_of}
+use Rattle.std.specs.Prelude.{◌≡◌, ℕ, List, [], ◌∷◌, Bool, Some, true, false}
+use Rattle.sms_centre_rules.specs.CentreEvent.{happened, recovered, started}
+use Rattle.sms_centre_rules.specs.SoundCore.{IsSoundCore}
+use Rattle.sms_centre_rules.specs.declared.event.CentreEvent.{CentreEvent}
+use Rattle.sms_centre_rules.specs.declared.event.CentreEvent.TheVariants.{LinkDown, LinkUp, Query}
+use Rattle.smpp_pdu.specs.declared.query.QuerySm.{QuerySm}
+use Rattle.sms_waiting.specs.SoundGivings.{IsNumber}
+use Rattle.sms_centre_rules.specs.Draft.{Core, Draft, Store, core_of, draft_of, parts_in, reports_in, rows_of, with_part_at, with_report_at}
+use Rattle.sms_messages.specs.Messages.{part_key}
+use Rattle.sms_messages.specs.declared.part.PartRow.{PartRow}
+use Rattle.sms_reports.specs.Reports.{is_status, report_key, report_of}
+use Rattle.sms_reports.specs.declared.report.ReportRow.{ReportRow}
+use Rattle.sms_table.specs.Table.{Rises, row_at}
+use Rattle.sms_waiting.specs.declared.progress.Progress.{Progress}
 use Rattle.sms_centre_rules.specs.SoundRows.{first_rows}
 use Rattle.sms_centre_rules.specs.declared.setup.Setup.{Setup}
 use Rattle.sms_reports.specs.Receipts.{Session}
-use Rattle.sms_world.specs.Run.{end}
+use Rattle.sms_world.specs.Run.{Run, end}
 use Rattle.sms_world.specs.ScriptRun.{items}
 use Rattle.sms_world.specs.Sides.{AllOfHandset}
-use Rattle.sms_world.specs.World.{Sent, World, empty, with_frames}
-use Rattle.sms_world.specs.WorldStep.{Step}
-use Rattle.sms_centre_sight.specs.CentreSight.{CentreSees}
+use Rattle.sms_world.specs.World.{Giving, Sent, World, empty, with_frames}
+use Rattle.sms_world.specs.WorldStep.{Offer, Step}
+use Rattle.sms_centre_sight.specs.CentreSight.{CentreSees, StoreSees}
 
 -- a new store's centre sees the empty world
 abbrev pub FirstLaw : Type 0
@@ -32,3 +43,36 @@ abbrev pub HandsetLaw : Type 0
 HandsetLaw =
     (h : List ℕ) (c : Core) (w : World) (m : ℕ) (b : Bool) (steps : List Step) → AllOfHandset h steps → CentreSees w (draft_of c) w
     → CentreSees (end w (items m b steps)) (draft_of c) (end w (items m b steps))
+
+-- how far a part is, when it is tried next and how often it was, the world does not show; whether it is done is another matter
+abbrev pub PartFarLaw : Type 0
+PartFarLaw =
+    (p : PartRow) (q : Progress) (s : Store) (w : World) → row_at part_key (part_key p) (parts_in s) ≡ Some p → q.is_done ≡ p.progress.is_done
+    → StoreSees s w → StoreSees (with_part_at p q s) w
+
+-- nor of a status report; and of a receipt nothing but that there is one
+abbrev pub ReportFarLaw : Type 0
+ReportFarLaw =
+    (r : ReportRow) (q : Progress) (s : Store) (w : World) → Rises report_key (reports_in s) → report_of r.id (reports_in s) ≡ Some r
+    → (is_status r.kind ≡ true → q.is_done ≡ r.progress.is_done) → StoreSees s w → StoreSees (with_report_at r q s) w
+
+-- ---- events that have no step of their own
+
+-- steps of the centre that offer what waits
+abbrev pub AllOffer : List Step → Type 0
+AllOffer [] = Unit {0}
+AllOffer (s ∷ ss) = ((g : Giving) × (tpdu : List ℕ) × (s ≡ Offer g tpdu)) × AllOffer ss
+
+-- The event is offers alone, at whatever moment, and what they lead to the centre sees.
+abbrev pub OffersOnly : ℕ → CentreEvent → Core → World → Type 0
+OffersOnly m event c w = (steps : List Step) × (AllOffer steps × Run w (items m false steps) × CentreSees w (happened event c) (end w (items m false steps)))
+
+abbrev pub QueryLaw : Type 0
+QueryLaw = (m : ℕ) (account : ℕ) (wanted : QuerySm) (c : Core) (w : World) → IsSoundCore c → CentreSees w (draft_of c) w → OffersOnly m (Query account wanted) c w
+
+-- a link comes up or goes down, to a handset that has a number
+abbrev pub LinkUpLaw : Type 0
+LinkUpLaw = (m : ℕ) (handset : List ℕ) (c : Core) (w : World) → IsSoundCore c → IsNumber handset → CentreSees w (draft_of c) w → OffersOnly m (LinkUp handset) c w
+
+abbrev pub LinkDownLaw : Type 0
+LinkDownLaw = (m : ℕ) (handset : List ℕ) (c : Core) (w : World) → IsSoundCore c → IsNumber handset → CentreSees w (draft_of c) w → OffersOnly m (LinkDown handset) c w

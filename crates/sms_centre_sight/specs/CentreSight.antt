@@ -1,6 +1,6 @@
 -- What the centre in the middle of an event says of the world. Each field looks rows up in the world, or the world's lists in rows.
 use Rattle.std.specs.Prelude.{◌≡◌, ℕ, Option}
-use Rattle.sms_centre_rules.specs.Draft.{Draft, handsets_in, messages_in, parts_in, references_in, reports_in}
+use Rattle.sms_centre_rules.specs.Draft.{Draft, Store, handsets_in, messages_in, parts_in, references_in, reports_in}
 use Rattle.sms_messages.specs.declared.message.MessageRow.{MessageRow}
 use Rattle.sms_world.specs.KeptGivings.{Kept, SeesGivings}
 use Rattle.sms_world.specs.World.{World}
@@ -17,10 +17,12 @@ pub record SeesRows (ms : ℕ → Option MessageRow) (ps : ℕ → ℕ → Optio
   pub holders : SeesHolders ms ps rs w.down
   pub seconds : SeesGivings kept w.down now
 
+abbrev pub StoreSees : Store → World → Type 0
+StoreSees s w =
+    SeesRows (messages_by (messages_in s)) (parts_by (parts_in s)) (reports_by (reports_in s)) (seconds_by (handsets_in s) (references_in s)) s.moment w
+
 abbrev pub RowsSee : Draft → World → Type 0
-RowsSee d w =
-    SeesRows (messages_by (messages_in d.store)) (parts_by (parts_in d.store)) (reports_by (reports_in d.store))
-    (seconds_by (handsets_in d.store) (references_in d.store)) d.store.moment w
+RowsSee d w = StoreSees d.store w
 
 -- The draft shows the world, which its event began with `before`: its frames are sent on top of the bag.
 pub record CentreSees (before : World) (d : Draft) (w : World) : Type 0 where

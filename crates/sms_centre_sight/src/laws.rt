@@ -1,5 +1,5 @@
 //! How the centre's sight of the world begins, and what leaves it.
-ghost use Rattle.sms_centre_sight.specs.CentreLaws.{BackLaw, FirstLaw, HandsetLaw, NextLaw};
+ghost use Rattle.sms_centre_sight.specs.CentreLaws.{BackLaw, FirstLaw, HandsetLaw, LinkDownLaw, LinkUpLaw, NextLaw, PartFarLaw, QueryLaw, ReportFarLaw};
 
 /// The centre of a new store sees the empty world; one that has adopted an event sees the world that the event led to; and one
 /// that stops, behind a store call or between two events, comes back with rows that show the world.
@@ -12,4 +12,18 @@ pub fn a_centre_begins_to_see()
 /// What a handset does leaves what the centre sees.
 pub fn handsets_leave_what_is_seen()
     ensures { HandsetLaw }
+{}
+
+/// How far parts and reports are, the world does not show, but for which parts and status reports are done.
+pub fn progress_is_not_seen()
+    ensures part { PartFarLaw }
+    ensures report { ReportFarLaw }
+{}
+
+/// Where a sound centre sees the world, a question of an application, and a link that comes up or goes down, are steps of the
+/// world, all of them offers of what waits for handsets, and it sees where they lead.
+pub fn quiet_events_are_offers()
+    ensures query { QueryLaw }
+    ensures up { LinkUpLaw }
+    ensures down { LinkDownLaw }
 {}

@@ -1,8 +1,8 @@
 -- The rows that a keep in memory has.
 use Rattle.std.specs.Prelude.{◌≡◌}
 use Rattle.sms_table.specs.Pending.{FitsIn}
-use Rattle.sms_handset.specs.declared.rows.Rows.{Rows}
-use Rattle.sms_handset.specs.declared.rows.Changes.{Changes}
+use Rattle.sms_handset_draft.specs.declared.rows.Rows.{Rows}
+use Rattle.sms_handset_draft.specs.declared.rows.Changes.{Changes}
 use Rattle.sms_handset_memory.specs.declared.keep.MemoryKeep.{MemoryKeep}
 
 abbrev pub rows_in : MemoryKeep → Rows

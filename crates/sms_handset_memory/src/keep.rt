@@ -1,8 +1,8 @@
 //! The keep in memory.
 ghost use Rattle.std.specs.Prelude.{◌≡◌, ⊤, IfOk};
-ghost use Rattle.sms_handset.specs.Draft.{rows_after};
-ghost use Rattle.sms_handset.specs.Planning.{changes_in};
-ghost use Rattle.sms_handset.specs.SoundRows.{first_rows};
+ghost use Rattle.sms_handset_draft.specs.Draft.{rows_after};
+ghost use Rattle.sms_handset_draft.specs.Outcome.{changes_in};
+ghost use Rattle.sms_handset_draft.specs.FirstRows.{first_rows};
 ghost use Rattle.sms_handset_memory.specs.Kept.{AreReady, rows_in};
 
 use sms_base::Listed;

@@ -9,6 +9,7 @@ use Rattle.sms_control.specs.declared.transaction.TransactionFlag.TheVariants.{F
 use Rattle.sms_base.specs.declared.carried.Carried.{Carried as Carries}
 use Rattle.sms_link.specs.declared.outgoing.Outgoing.{Outgoing}
 use Rattle.sms_handset_draft.specs.Draft.{Draft}
+use Rattle.sms_frame_sight.proofs.RunsOn.{end_both, run_both}
 use Rattle.sms_world.specs.World.{World, Sent}
 use Rattle.sms_world.specs.WorldStep.{Step}
 use Rattle.sms_world.specs.Run.{Run, end, after_item}
@@ -19,15 +20,7 @@ use Rattle.sms_handset_sight.specs.SeesLink.{SeesAnswer, SeesBegun, SeesLinks, S
 use Rattle.sms_handset_sight.specs.Sight.{Sees}
 use Rattle.sms_handset_sight.specs.Stages.{AllMine, Happens, Moves}
 
--- ---- runs
-
-pub run_both : (m : ℕ) (w : World) (xs ys : List Step) → Run w (items m false xs) → Run (end w (items m false xs)) (items m false ys) → Run w (items m false (xs ++ ys))
-run_both m w [] ys r s = s
-run_both m w (x ∷ xs) ys r s = (r.0, run_both m (after_item w (record { step = x; moment = m; stopped = false })) xs ys r.1 s)
-
-pub end_both : (m : ℕ) (w : World) (xs ys : List Step) → end w (items m false (xs ++ ys)) ≡ end (end w (items m false xs)) (items m false ys)
-end_both m w [] ys = refl
-end_both m w (x ∷ xs) ys = end_both m (after_item w (record { step = x; moment = m; stopped = false })) xs ys
+-- ---- steps of a handset
 
 pub follow_both : (h : List ℕ) (xs ys : List Step) → AllMine h xs → AllMine h ys → AllMine h (xs ++ ys)
 follow_both h [] ys f g = g
