@@ -1,15 +1,15 @@
 -- What a group's entries were taken to be is what the group joins to.
-use Rattle.std.proofs.Common.{◌≡◌, ℕ, zero, suc, ◌<◌, ◌≤◌, Bool, true, false, cond, ◌&&◌, eqb, List, [], ◌∷◌, ◌++◌, Option, Some, None, refl, sym, ap, subst, ◌∙◌, arith, inl, inr, eqb-true, eq-eqb}
+use Rattle.std.proofs.Common.{◌≡◌, ℕ, zero, suc, ◌<◌, ◌≤◌, Bool, true, false, cond, ◌&&◌, ◌||◌, eqb, List, [], ◌∷◌, ◌++◌, Option, Some, None, refl, sym, ap, subst, ◌∙◌, arith, inl, inr, eqb-true, eq-eqb}
 use Rattle.std.specs.Prelude.{◌⊎◌}
-use Rattle.std.proofs.lemmas.Bool.{and_parts, cases_eq, cond-true, cond-false}
+use Rattle.std.proofs.lemmas.Bool.{or_cases, and_parts, cases_eq, cond-true, cond-false}
 use Rattle.sms_base.specs.Among.{Among}
 use Rattle.sms_concat.specs.declared.content.Part.{Part as PartOf}
 use Rattle.sms_concat.specs.Joining.{content_joined}
-use Rattle.sms_joiner.specs.StepwiseJoining.{Taken, IsTaken, RiseFrom, is_full, number_of, takes, with_part}
+use Rattle.sms_joiner.specs.StepwiseJoining.{Taken, IsTaken, RiseFrom, is_full, number_of, takes, with_part, has_number}
 use Rattle.sms_joiner.proofs.Stepwise.{above, all_within, found_number, full_is_all, here_inserted, in_inserted, one_of_number, one_order, taken_more, there_inserted}
 use Rattle.sms_inbox.specs.declared.entry.Entry.{Entry}
 use Rattle.sms_inbox.specs.declared.entry.Group.{Group}
-use Rattle.sms_inbox.specs.Groups.{entry_part, joined_content, joined_parts, part_number, part_with, parts_to, with_part as with_read}
+use Rattle.sms_inbox.specs.Groups.{entry_part, joined_content, joined_parts, part_number, part_with, parts_to, with_part as with_read, all_numbers, is_among, part_numbers}
 use Rattle.sms_inbox.specs.TakenParts.{carried_by, none_of, numbered, taken_from, taken_of, with_taken}
 
 -- one entry more
@@ -231,3 +231,46 @@ taken_joins g ms e t p b s q is t' =
     taken_push (Some (none_of g)) ms e ∙ ap (λ (o : Option Taken). with_taken o (carried_by e)) s ∙ ap (λ (o : Option PartOf). with_taken (Some t) o) (sym q)
     ∙ cond-true (takes t p) (Some (with_part t p)) None both.0 in
     sym (full_joins g (ms ++ e ∷ []) (with_part t p) more both.1)
+
+-- ---- each number is there
+
+every_number : (total n : ℕ) (ns : List ℕ) → all_numbers total ns ≡ true → 0 < n → n ≤ total → is_among n ns ≡ true
+every_number zero n ns h low high = absurd (omega (arith, low, high))
+every_number (suc m) n ns h low high =
+    let both = and_parts (is_among (suc m) ns) (all_numbers m ns) h in
+    elim (cases_eq n (suc m)) [
+      | inl e ↦ ap (λ (k : ℕ). is_among k ns) e ∙ both.0
+      | inr ne ↦ every_number m n ns both.1 low (below n m high ne)
+    ]
+  where
+    below : (a b : ℕ) → a ≤ suc b → (a ≡ suc b → ⊥) → a ≤ b
+    below a b le ne = omega (arith, le, ne)
+
+entry_of_number : (n : ℕ) (es : List Entry) → is_among n (part_numbers es) ≡ true → (e : Entry) × (Among e es × (part_number e.message ≡ n))
+entry_of_number n [] h = absurd cc
+entry_of_number n (x ∷ xs) h = elim (or_cases (eqb (part_number x.message) n) (is_among n (part_numbers xs)) h) [
+  | inl a ↦ (x, (inl refl, eqb-true (part_number x.message) n a))
+  | inr b ↦ let r = entry_of_number n xs b in (r.0, (inr r.1.0, r.1.1))
+]
+
+number_of_part : (n : ℕ) (p : PartOf) (ps : List PartOf) → Among p ps → number_of p ≡ n → has_number n ps ≡ true
+number_of_part n p [] m e = absurd m
+number_of_part n p (x ∷ xs) m e = elim m [
+  | inl s ↦ ap (λ (b : Bool). b || has_number n xs) (eq-eqb (number_of x) n (ap (λ (y : PartOf). number_of y) (sym s) ∙ e))
+  | inr k ↦ either (eqb (number_of x) n) (has_number n xs) (number_of_part n p xs k e)
+]
+  where
+    either : (a b : Bool) → b ≡ true → (a || b) ≡ true
+    either true b h = refl
+    either false b h = h
+
+-- what was taken of a group whose numbers are all there joins to the group's content
+pub all_join : (g : Group) (es : List Entry) (t : Taken) → taken_of g es ≡ Some t → all_numbers g.total (part_numbers es) ≡ true → joined_content g es ≡ content_joined t.parts
+all_join g es t e all =
+    let h = gathered (none_of g) es t (none_in_order g) e in
+    let total : t.total ≡ g.total = h.total in
+    full_joins g es t e
+    ((full_is_all t h.taken).1 (λ n low high.
+    let r = entry_of_number n es (every_number g.total n (part_numbers es) all low (omega (arith, total, high))) in
+    let has = h.each r.0 r.1.0 in
+    number_of_part n has.part t.parts has.there (has.number ∙ r.1.1)))

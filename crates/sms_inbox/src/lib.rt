@@ -12,6 +12,7 @@ mod entry;
 mod groups;
 mod joining;
 mod last_accepted;
+pub mod laws;
 mod members;
 mod open_group;
 mod open_groups;
