@@ -3,7 +3,8 @@
 //! Nothing is kept of a report that was answered or dropped. The others are found by their messages, receipts also by their
 //! account in the order in which they were made, status reports by the moment at which they are dropped, each in a logarithm.
 //! Copies share all of it, so that an event changes a copy at the cost of what it touches, and adopting it takes no memory.
-//! `specs/` says what is kept of the rows; each call says that it follows the move that the definition makes of them.
+//! `specs/` says what is kept of the rows; each call says that it follows the move that the definition makes of them. In the middle
+//! of an event the reports that it made are noted, since their octets don't stand in the store yet.
 #![tactic(auto)]
 
 mod accounts;
