@@ -1,7 +1,6 @@
 -- How long answers are.
-use Rattle.std.proofs.Common.{◌≡◌, ℕ, length, Some, refl}
+use Rattle.std.proofs.Common.{◌≡◌, ℕ, length, refl}
 use Rattle.sms_relay.specs.Cause.{IsRpCause}
-use Rattle.sms_relay.specs.declared.cause.RpCause.{RpCause}
 use Rattle.sms_intake.specs.declared.refusal.SubmitRefusal.{SubmitRefusal}
 use Rattle.sms_intake.specs.declared.refusal.SubmitRefusal.TheVariants.{WrongType, WrongValidityFormat, Unreadable, NoHandset, PastLimit, Duplicate, ReferenceTaken, Congested}
 use Rattle.sms_intake.specs.Refusals.{cause_of}

@@ -1,4 +1,4 @@
-use Rattle.std.proofs.Common.{List, ℕ, ◌≡◌, ◌<◌, ◌+◌, length, Some, sym, ◌∙◌, ap, subst, arith}
+use Rattle.std.proofs.Common.{List, ℕ, ◌≡◌, length, Some, sym, ◌∙◌, ap, subst, arith}
 use Rattle.sms_relay.specs.RelayGrammar.{ack_down}
 use Rattle.sms_intake.specs.SubmitReports.{accepting_report}
 use Rattle.sms_working.specs.Working.{Shows, WorkingOf}

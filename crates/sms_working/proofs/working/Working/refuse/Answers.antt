@@ -1,5 +1,5 @@
-use Rattle.std.proofs.Common.{List, ℕ, ◌≡◌, length, OnOk, sym, ◌∙◌, ap, subst, arith}
-use Rattle.sms_base.specs.declared.carried.Kind.TheVariants.{Ack, Error}
+use Rattle.std.proofs.Common.{List, ℕ, length, OnOk, ◌∙◌, ap, subst, arith}
+use Rattle.sms_base.specs.declared.carried.Kind.TheVariants.{Error}
 use Rattle.sms_centre_rules.specs.Receiving.{reply}
 use Rattle.sms_working.specs.Working.{Shows}
 use Rattle.sms_working.proofs.working.Working.refuse.Goals as goal

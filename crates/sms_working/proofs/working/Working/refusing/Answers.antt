@@ -1,4 +1,4 @@
-use Rattle.std.proofs.Common.{List, ℕ, ◌≡◌, ◌<◌, ◌+◌, length, Some, sym, ◌∙◌, ap, subst, arith}
+use Rattle.std.proofs.Common.{List, ℕ, ◌≡◌, length, Some, sym, ◌∙◌, ap, subst, arith}
 use Rattle.sms_relay.specs.declared.cause.RpCause.{RpCause}
 use Rattle.sms_relay.specs.Cause.{IsRpCause}
 use Rattle.sms_relay.specs.RelayGrammar.{error_down}
