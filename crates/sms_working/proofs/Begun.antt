@@ -11,8 +11,8 @@ use Rattle.sms_centre_rules.specs.declared.setup.Setup.{Setup}
 use Rattle.sms_centre_rules.specs.Draft.{Core, draft_of}
 use Rattle.sms_centre_rules.proofs.SoundStores.{store_sound}
 use Rattle.std.specs.Prelude.{List}
-use Rattle.sms_working.specs.Beginning.{IsCentre, all_of}
-use Rattle.sms_working.specs.Working.{Shows, WorkingOf, all_waiting}
+use Rattle.sms_working.specs.Beginning.{IsCentre}
+use Rattle.sms_working.specs.Working.{Shows, all_waiting}
 
 pub begun_shown : (c : Core) (setup : Setup) (moment : ℕ) (kept : KeptOf) (base : ShelvesOf) (known : Kept) (sessions : List Session) (messages : MessagesOf) (shelves : ShelvesNow) (reports : ReportsOf) (desk : Desk)
     → IsCentre c setup moment kept base known sessions

@@ -1,3 +1,4 @@
+pub mod AnswerLengths
 pub mod Begun
 pub mod DueNow
 pub mod Entering

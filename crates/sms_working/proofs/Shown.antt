@@ -31,8 +31,9 @@ use Rattle.sms_waiting.specs.SoundGivings.{IsNumber}
 use Rattle.sms_waiting.proofs.Mentions.{row_fits}
 use Rattle.sms_shelves.specs.Placing.{PendingOf as ShelvesOf, placed_of}
 use Rattle.sms_shelves.specs.Shown.{Shows as ShowsShelves, ShowsPlaced, Waits}
-use Rattle.sms_centre_rules.specs.Draft.{Draft, Store, handsets_in, in_store, messages_in, on_air, parts_in, references_in, reports_in, waiting_in, with_message, with_part_at, with_report_at, with_reports}
+use Rattle.sms_centre_rules.specs.Draft.{Draft, Store, answer_with, handsets_in, in_store, messages_in, on_air, parts_in, references_in, reports_in, waiting_in, with_message, with_part_at, with_report_at, with_reports}
 use Rattle.sms_centre_rules.specs.SoundRows.{CanBeTold}
+use Rattle.sms_centre_rules.specs.declared.answer.CentreAnswer.{CentreAnswer}
 use Rattle.sms_centre_rules.specs.CentreEvent.{at_moment}
 use Rattle.sms_centre_rules.specs.Ends.{make_report, status_given}
 use Rattle.sms_centre_rules.specs.Finals.{final_of}
@@ -281,4 +282,19 @@ later_shown d w now moment shows is = record {
   reports = shows.reports;
   desk = shows.desk;
   answer = shows.answer;
+}
+
+-- ---- an application is answered
+
+pub answered_shown : (d : Draft) (w : WorkingOf) (answer : CentreAnswer) → Shows d w → Shows (answer_with answer d) (record w { answer = Some answer })
+answered_shown d w answer shows = record {
+  stands = shows.stands;
+  few = shows.few;
+  setup = shows.setup;
+  moment = shows.moment;
+  messages = shows.messages;
+  shelves = shows.shelves;
+  reports = shows.reports;
+  desk = shows.desk;
+  answer = refl;
 }

@@ -8,6 +8,7 @@
 #![tactic(auto)]
 
 mod aging;
+mod answers;
 mod ends;
 mod lines;
 mod moves;
