@@ -1,5 +1,5 @@
 -- Tests that hold together.
-use Rattle.std.proofs.Common.{◌≡◌, ℕ, List, Bool, true, refl, sym, ◌∙◌}
+use Rattle.std.proofs.Common.{◌≡◌, ℕ, List, Bool, true, false, refl, sym, ◌∙◌}
 use Rattle.std.specs.Prelude.{◌&&◌}
 use Rattle.std.proofs.lemmas.Bool.{and_from, and_parts}
 use Rattle.sms_base.specs.Among.{Among}
@@ -11,6 +11,7 @@ use Rattle.sms_waiting.specs.SoundGivings.{SoundGivings}
 use Rattle.sms_waiting.specs.SoundWaiting.{SoundWaiting}
 use Rattle.sms_centre_rules.specs.declared.rows.Rows.{Rows}
 use Rattle.sms_centre_rules.specs.SoundRows.{AreSplitApart, AreTimes, CanBeTold, IsSetup, IsSound, all_for}
+use Rattle.sms_soundness.specs.RowsOf.{StandsAlone}
 
 -- ---- two and three
 
@@ -51,35 +52,44 @@ WaitingTold rows b =
 abbrev pub Tells : Bool → Type 0 → Type 0
 Tells b P = (b ≡ true → P) × (P → b ≡ true)
 
-pub sound_together : (rows : Rows) (setup times told messages givings reports splits waiting one two alone three four beside out : Bool) → Tells setup (IsSetup rows.setup) → Tells times (AreTimes rows.messages rows.references rows.reports)
+pub alone_from : (rows : Rows) (setup times told messages one two out : Bool) → Tells setup (IsSetup rows.setup) → Tells times (AreTimes rows.messages rows.references rows.reports)
     → Tells told ((m : MessageRow) → Among m rows.messages → CanBeTold m.originator m.source) → Tells messages (SoundMessages rows.messages rows.parts rows.priorities)
+    → one ≡ setup && times → two ≡ told && messages → out ≡ one && two → out ≡ true → StandsAlone rows
+alone_from rows setup times told messages one two out s t d m a b o x =
+    let top = and_parts one two (sym o ∙ x) in
+    let x1 = and_parts setup times (sym a ∙ top.0) in
+    let x2 = and_parts told messages (sym b ∙ top.1) in
+    record { setup = s.0 x1.0; times = t.0 x1.1; told = d.0 x2.0; sound = m.0 x2.1 }
+
+pub alone_to : (rows : Rows) (setup times told messages one two out : Bool) → Tells setup (IsSetup rows.setup) → Tells times (AreTimes rows.messages rows.references rows.reports)
+    → Tells told ((m : MessageRow) → Among m rows.messages → CanBeTold m.originator m.source) → Tells messages (SoundMessages rows.messages rows.parts rows.priorities)
+    → one ≡ setup && times → two ≡ told && messages → out ≡ one && two → IsSound rows → out ≡ true
+alone_to rows setup times told messages one two out s t d m a b o sound =
+    o ∙ and_from one two (a ∙ and_from setup times (s.1 sound.setup) (t.1 sound.times)) (b ∙ and_from told messages (d.1 sound.told) (m.1 sound.messages))
+
+pub beside_tells : (rows : Rows) (givings reports splits waiting three four out : Bool)
     → Tells givings (SoundGivings rows.handsets rows.references) → Tells reports (SoundReports rows.messages rows.reports) → Tells splits (AreSplitApart rows.messages) → WaitingTold rows waiting
-    → one ≡ setup && times → two ≡ told && messages → alone ≡ one && two → three ≡ givings && reports → four ≡ splits && waiting → beside ≡ three && four → out ≡ alone && beside
-    → Tells out (IsSound rows)
-sound_together rows setup times told messages givings reports splits waiting one two alone three four beside out s t d m g r p w a b c e f h o = (
+    → three ≡ givings && reports → four ≡ splits && waiting → out ≡ three && four → StandsAlone rows → Tells out (IsSound rows)
+beside_tells rows givings reports splits waiting three four out g r p w e f o alone = (
   λ x.
-      let top = and_parts alone beside (sym o ∙ x) in
-      let left = and_parts one two (sym c ∙ top.0) in
-      let right = and_parts three four (sym h ∙ top.1) in
-      let x1 = and_parts setup times (sym a ∙ left.0) in
-      let x2 = and_parts told messages (sym b ∙ left.1) in
-      let x3 = and_parts givings reports (sym e ∙ right.0) in
-      let x4 = and_parts splits waiting (sym f ∙ right.1) in
+      let top = and_parts three four (sym o ∙ x) in
+      let x3 = and_parts givings reports (sym e ∙ top.0) in
+      let x4 = and_parts splits waiting (sym f ∙ top.1) in
       record {
-        setup = s.0 x1.0;
-        times = t.0 x1.1;
-        messages = m.0 x2.1;
-        told = d.0 x2.0;
+        setup = alone.setup;
+        times = alone.times;
+        messages = alone.sound;
+        told = alone.told;
         givings = g.0 x3.0;
         reports = r.0 x3.1;
-        waiting = (w (g.0 x3.0) (m.0 x2.1) (r.0 x3.1) (d.0 x2.0)).0 x4.1;
+        waiting = (w (g.0 x3.0) alone.sound (r.0 x3.1) alone.told).0 x4.1;
         splits = p.0 x4.0;
       },
   λ sound.
-      o
-      ∙ and_from alone beside
-      (c ∙ and_from one two (a ∙ and_from setup times (s.1 sound.setup) (t.1 sound.times)) (b ∙ and_from told messages (d.1 sound.told) (m.1 sound.messages)))
-      (h
-      ∙ and_from three four (e ∙ and_from givings reports (g.1 sound.givings) (r.1 sound.reports))
-      (f ∙ and_from splits waiting (p.1 sound.splits) ((w sound.givings sound.messages sound.reports sound.told).1 sound.waiting))),
+      o ∙ and_from three four (e ∙ and_from givings reports (g.1 sound.givings) (r.1 sound.reports))
+      (f ∙ and_from splits waiting (p.1 sound.splits) ((w sound.givings sound.messages sound.reports sound.told).1 sound.waiting)),
 )
+
+-- what does not stand alone is not sound
+pub not_alone : (rows : Rows) (alone : Bool) → (IsSound rows → alone ≡ true) → alone ≡ false → Tells false (IsSound rows)
+not_alone rows alone only e = (λ x. absurd cc, λ sound. let bad : true ≡ false = sym (only sound) ∙ e in absurd cc)

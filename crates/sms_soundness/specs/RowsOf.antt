@@ -1,9 +1,13 @@
 -- Tables of rows, as a centre's definition has the rows.
+use Rattle.sms_base.specs.Among.{Among}
 use Rattle.sms_table.specs.Table.{Rises}
 use Rattle.sms_messages.specs.Messages.{message_key, part_key, priority_key}
+use Rattle.sms_messages.specs.declared.message.MessageRow.{MessageRow}
+use Rattle.sms_messages.specs.SoundMessages.{SoundMessages}
 use Rattle.sms_reports.specs.Reports.{report_key}
 use Rattle.sms_waiting.specs.Keys.{handset_key, reference_key}
 use Rattle.sms_centre_rules.specs.declared.rows.Rows.{Rows}
+use Rattle.sms_centre_rules.specs.SoundRows.{AreTimes, CanBeTold, IsSetup}
 use Rattle.sms_soundness.specs.declared.tables.RowTables.{RowTables}
 
 abbrev pub rows_of : RowTables → Rows
@@ -25,3 +29,10 @@ pub record KeysRise (rows : Rows) : Type 0 where
   pub handsets : Rises handset_key rows.handsets
   pub reports : Rises report_key rows.reports
   pub priorities : Rises priority_key rows.priorities
+
+-- what of the rows is judged without memory
+pub record StandsAlone (rows : Rows) : Type 0 where
+  pub setup : IsSetup rows.setup
+  pub times : AreTimes rows.messages rows.references rows.reports
+  pub told : (m : MessageRow) → Among m rows.messages → CanBeTold m.originator m.source
+  pub sound : SoundMessages rows.messages rows.parts rows.priorities

@@ -17,11 +17,4 @@ mod splits;
 mod tables;
 mod waiting_rows;
 
-pub use addresses::is_address;
-pub use giving_rows::{are_given, are_mentioned, have_numbers_apart};
-pub use message_rows::{are_messages, are_parts, are_priorities, is_handset};
-pub use report_rows::{are_once, are_reports};
-pub use setup_and_times::{are_dated, are_made, are_submitted, are_told, is_setup};
-pub use splits::are_split_apart;
 pub use tables::RowTables;
-pub use waiting_rows::{are_parts_given, are_reports_given, have_references_apart, places_of};

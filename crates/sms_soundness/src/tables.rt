@@ -8,7 +8,7 @@ ghost use Rattle.sms_waiting.specs.References.{handset_at};
 ghost use Rattle.sms_waiting.specs.SoundGivings.{SoundGivings};
 ghost use Rattle.sms_waiting.specs.SoundWaiting.{SoundWaiting};
 ghost use Rattle.sms_centre_rules.specs.SoundRows.{AreSplitApart, AreTimes, CanBeTold, IsSetup, IsSound, all_for};
-ghost use Rattle.sms_soundness.specs.RowsOf.{KeysRise, rows_of};
+ghost use Rattle.sms_soundness.specs.RowsOf.{KeysRise, StandsAlone, rows_of};
 
 use crate::giving_rows::{are_given, are_mentioned, have_numbers_apart};
 use crate::message_rows::{are_messages, are_parts, are_priorities};
@@ -160,20 +160,37 @@ impl RowTables {
         is_setup(&self.setup)
     }
 
-    /// Whether a centre can stand on the rows. It takes time linear in them, up to a logarithm.
-    pub fn is_sound(&self, alloc: Global) -> Result<bool, AllocError>
-        ensures { IfOk result (λ b. (b ≡ true) ↔ IsSound (rows_of self.now)) }
+    // What takes no memory to judge.
+    fn stands_alone(&self) -> bool
+        ensures alone { result ≡ true → StandsAlone (rows_of self.now) }
+        ensures only { IsSound (rows_of self.now) → result ≡ true }
     {
         let setup = self.has_setup();
         let times = self.has_times();
         let told = self.has_tellable();
         let messages = self.has_messages();
+        both(both(setup, times), both(told, messages))
+    }
+
+    // What takes memory to judge, where all else is sound.
+    fn stands_beside(&self, alloc: Global) -> Result<bool, AllocError>
+        ensures { IfOk result (λ b. StandsAlone (rows_of self.now) → (b ≡ true) ↔ IsSound (rows_of self.now)) }
+    {
         let givings = self.has_givings(alloc)?;
         let reports = self.has_reports(alloc)?;
         let splits = self.has_splits(alloc)?;
         let waiting = self.has_waiting(alloc)?;
-        let alone = both(both(setup, times), both(told, messages));
-        let beside = both(both(givings, reports), both(splits, waiting));
-        Ok(both(alone, beside))
+        Ok(both(both(givings, reports), both(splits, waiting)))
+    }
+
+    /// Whether a centre can stand on the rows. It takes time linear in them, up to a logarithm; what can be judged without memory is
+    /// judged first.
+    pub fn is_sound(&self, alloc: Global) -> Result<bool, AllocError>
+        ensures { IfOk result (λ b. (b ≡ true) ↔ IsSound (rows_of self.now)) }
+    {
+        if !self.stands_alone() {
+            return Ok(false);
+        }
+        self.stands_beside(alloc)
     }
 }
