@@ -8,13 +8,14 @@ ghost use Rattle.sms_messages.specs.declared.part.PartRow.{PartRow as PartRowOf}
 ghost use Rattle.sms_table.specs.Table.{all_applied};
 ghost use Rattle.sms_table.specs.Pending.{FitsIn};
 
+use crate::event_parts::{PartsLeft, adopt_parts};
 use crate::message_entry::MessageEntry;
 use crate::names::Names;
 use sms_base::{Listed, MessageId, Moment};
 use sms_expiry::{Deadline, Deadlines, SpareDeadlines};
 use sms_interning::{SpareAccounts, SpareNumbers};
 use sms_messages::{MessageRow, PartEntry};
-use sms_table::{Change, Key, Settled, Spare, Table, adopt};
+use sms_table::{Change, Key, Spare, Table};
 use std::alloc::{AllocError, Global};
 use std::marker::Model;
 
@@ -38,7 +39,7 @@ impl Model for KeptMessages {
 /// Memory for what an event brings, which is put in with its changes.
 #[derive(Drop)]
 pub struct SpareMessages {
-    parts: Settled<PartEntry>,
+    parts: PartsLeft,
     messages: Spare<MessageEntry>,
     numbers: SpareNumbers,
     accounts: SpareAccounts,
@@ -115,7 +116,7 @@ impl KeptMessages {
         &self,
         alloc: Global,
         changes: usize,
-        parts: Settled<PartEntry>,
+        parts: PartsLeft,
     ) -> Result<SpareMessages, AllocError>
         ensures fits { IfOk result (λ spare. FitsIn parts self.now.parts → Fits spare changes self.now) }
         ensures parts { IfOk result (λ spare. spare.parts ≡ parts) }
@@ -145,7 +146,7 @@ impl KeptMessages {
         self.names.use_spare(spare.numbers, spare.accounts);
         self.messages.use_spare(spare.messages);
         self.deadlines.use_spare(spare.deadlines);
-        adopt(&mut self.parts, spare.parts);
+        adopt_parts(&mut self.parts, spare.parts);
     }
 
     // A message comes, or takes the place of that of its number.

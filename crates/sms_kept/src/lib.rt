@@ -9,6 +9,7 @@
 
 mod changes;
 mod copying;
+mod event_parts;
 mod expiring;
 mod kept;
 pub mod laws;

@@ -10,9 +10,10 @@ ghost use Rattle.sms_messages.specs.declared.priority.PriorityRow.{PriorityRow a
 
 use crate::changes::NewestChanges;
 use crate::copying::copy_left_by;
+use crate::event_parts::EventParts;
 use crate::kept::{KeptMessages, SpareMessages};
 use sms_base::{Listed, MessageId};
-use sms_messages::{MessageRow, PartEntry, PartRow, PendingParts, PriorityRow};
+use sms_messages::{MessageRow, PartEntry, PartRow, PriorityRow};
 use sms_table::{Change, Key};
 use sms_waiting::{Progress, Revision};
 use std::alloc::{AllocError, Global};
@@ -24,7 +25,7 @@ pub struct PendingMessages<'a> {
     alloc: Global,
     kept: &'a KeptMessages,
     messages: NewestChanges<MessageRow>,
-    parts: PendingParts<'a>,
+    parts: EventParts<'a>,
     priorities: Vec<Change<PriorityRow>>,
 }
 
@@ -51,7 +52,7 @@ impl<'a> PendingMessages<'a> {
         ensures { (ms : List MessageRowOf) (ps : List PartRowOf) (qs : List PriorityRowOf) → Holds kept.entry.now ms ps → Shows result (opened ms ps qs) }
     {
         let messages = NewestChanges::new(alloc);
-        let parts = PendingParts::of(alloc, &kept.parts);
+        let parts = EventParts::of(alloc, &kept.parts);
         let priorities = Vec::new(alloc);
         PendingMessages {
             alloc,
