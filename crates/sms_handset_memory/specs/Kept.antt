@@ -1,5 +1,4 @@
 -- The rows that a keep in memory has.
-use Rattle.std.specs.Prelude.{◌≡◌}
 use Rattle.sms_table.specs.Pending.{FitsIn}
 use Rattle.sms_handset_draft.specs.declared.rows.Rows.{Rows}
 use Rattle.sms_handset_draft.specs.declared.rows.Changes.{Changes}

@@ -1,7 +1,6 @@
 -- What a load finds.
-use Rattle.std.proofs.Common.{◌≡◌, ℕ, List, [], ◌∷◌, refl, sym, ap, subst, ◌∙◌}
+use Rattle.std.proofs.Common.{◌≡◌, List, [], ◌∷◌, sym, ap, subst, ◌∙◌}
 use Rattle.sqlite.specs.Effect.{Database}
-use Rattle.sqlite.specs.Order.{Row}
 use Rattle.sms_listing.specs.Listing.{ListOf, Holds}
 use Rattle.sms_handset_store.specs.HandsetRows.{IsStoreWith, counters_row}
 use Rattle.sms_handset_tables.specs.EntryList.{entry_list}

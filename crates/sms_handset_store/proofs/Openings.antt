@@ -1,20 +1,18 @@
 -- What is kept of a database that was opened.
-use Rattle.std.proofs.Common.{◌≡◌, ◌≢◌, ◌⊎◌, inl, inr, false, List, [], ◌∷◌, refl, sym, ap, subst, ◌∙◌, Result, Ok, Err, OnOk, IfOk, IfErr}
+use Rattle.std.proofs.Common.{◌≡◌, inl, inr, false, List, sym, ap, subst, ◌∙◌, Result, Ok, Err, OnOk, IfOk, IfErr}
 use Rattle.sqlite.specs.Schema.{Schema}
 use Rattle.sqlite.specs.Effect.{Database}
 use Rattle.sqlite.specs.State.{State, Shows}
 use Rattle.sms_keep.specs.declared.error.KeepError.{KeepError}
 use Rattle.sms_keep.specs.declared.error.KeepError.TheVariants.{OldVersion, NotThisStore, Disk, NoMemory, Interrupted, Closed}
-use Rattle.sms_listing.specs.Listing.{Holds}
 use Rattle.sms_listing.specs.Transaction.{IsKept}
 use Rattle.sms_listing.specs.declared.meta.StoreKind.TheVariants.{Handset}
 use Rattle.sms_schema.specs.Blank.{no_tables}
 use Rattle.sms_schema.specs.Judged.{judged}
 use Rattle.sms_handset_tables.specs.HandsetSchema.{handset_schema, schema_is}
-use Rattle.sms_handset_tables.specs.MetaList.{meta_list}
 use Rattle.sms_handset_store.specs.HandsetRows.{IsStoreWith}
 use Rattle.sms_handset_store.specs.Opened.{Opened, Says, FindsSaid, Refuses}
-use Rattle.sms_handset_store.specs.Types.{Rows, Setup, Meta, first_rows}
+use Rattle.sms_handset_store.specs.Types.{Setup, Meta, first_rows}
 
 tables_differ : no_tables ≡ handset_schema → ⊥
 tables_differ same = let named = ap (λ (s : Schema). s.tables) (same ∙ schema_is) in cc

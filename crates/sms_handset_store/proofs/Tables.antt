@@ -9,19 +9,18 @@ use Rattle.sms_table.specs.Table.{put}
 use Rattle.sms_schema.specs.Blank.{no_tables}
 use Rattle.sms_listing.specs.Inside.{Alters, Ran}
 use Rattle.sms_listing.specs.Listing.{ListOf, Holds}
-use Rattle.sms_listing.specs.Making.{Makes}
 use Rattle.sms_listing.specs.Transaction.{Leads}
 use Rattle.sms_listing.proofs.Making.{makes}
 use Rattle.sms_handset_tables.specs.HandsetSchema.{with_meta, with_entry, with_last, with_out, with_mark, handset_schema, create_meta, create_entry, create_last, create_out, create_mark, create_count, meta_made, entry_made, last_made, out_made, mark_made, count_made, adds_meta, adds_entry, adds_last, adds_out, adds_mark, adds_count}
-use Rattle.sms_handset_store.specs.HandsetRows.{IsStore, handset_meta, counters_row, Founds}
-use Rattle.sms_handset_store.specs.Founding.{HasFirst, HasLast, MakesFirst, MakesLast, Tabulates, Declares}
+use Rattle.sms_handset_store.specs.HandsetRows.{handset_meta, counters_row, Founds}
+use Rattle.sms_handset_store.specs.Founding.{MakesFirst, MakesLast, Tabulates, Declares}
 use Rattle.sms_handset_tables.specs.MetaList.{meta_list}
 use Rattle.sms_handset_tables.specs.EntryList.{entry_list}
 use Rattle.sms_handset_tables.specs.LastAcceptedList.{last_list}
 use Rattle.sms_handset_tables.specs.OutEntryList.{out_list}
 use Rattle.sms_handset_tables.specs.DiscardedGroupList.{mark_list}
 use Rattle.sms_handset_store.specs.CountersList.{count_list}
-use Rattle.sms_handset_store.specs.Types.{Setup, Counters, CountersRow, Meta, first_rows}
+use Rattle.sms_handset_store.specs.Types.{Counters}
 use Rattle.sms_handset_store.proofs.Turning.{other, free_0, free_2, free_4, free_6, free_8, free_10}
 
 abbrev first_counters : Counters

@@ -1,24 +1,23 @@
 -- What changes of a list make of the store.
-use Rattle.std.proofs.Common.{◌≡◌, ◌≢◌, ℕ, List, [], ◌∷◌, Option, Some, None, unwrap_or, IsTrue, refl, sym, subst, ap, ◌∙◌, arith}
+use Rattle.std.proofs.Common.{◌≡◌, ◌≢◌, List, [], ◌∷◌, IsTrue, refl, sym, subst, ap, ◌∙◌, arith}
 use Rattle.sqlite.specs.Effect.{Database}
 use Rattle.sqlite.specs.Tree.{Trees}
 use Rattle.sqlite.specs.State.{State}
 use Rattle.sqlite_rules.specs.Edit.{IsNoIndex}
-use Rattle.sms_table.specs.declared.change.Change.{Change}
-use Rattle.sms_table.specs.Table.{all_applied, put}
+use Rattle.sms_table.specs.Table.{put}
 use Rattle.sms_listing.specs.Inside.{Alters}
 use Rattle.sms_listing.specs.Listing.{ListOf, Holds}
 use Rattle.sms_listing.specs.Transaction.{Leads, IsOfOne}
 use Rattle.sms_listing.proofs.Once.{holds_once}
 use Rattle.sms_handset_tables.specs.HandsetSchema.{handset_schema}
-use Rattle.sms_handset_store.specs.HandsetRows.{IsStore, IsStoreWith, Turns, counters_row, handset_meta}
+use Rattle.sms_handset_store.specs.HandsetRows.{IsStoreWith, Turns, counters_row, handset_meta}
 use Rattle.sms_handset_tables.specs.MetaList.{meta_list}
 use Rattle.sms_handset_tables.specs.EntryList.{entry_list, entry_is_list}
 use Rattle.sms_handset_tables.specs.LastAcceptedList.{last_list, last_is_list}
 use Rattle.sms_handset_tables.specs.OutEntryList.{out_list, out_is_list}
 use Rattle.sms_handset_tables.specs.DiscardedGroupList.{mark_list, mark_is_list}
 use Rattle.sms_handset_store.specs.CountersList.{count_list, count_is_list}
-use Rattle.sms_handset_store.specs.Types.{Rows, Changes, rows_after, Setup, Entry, LastAccepted, OutEntry, DiscardedGroup, Counters, CountersRow, entry_key, last_key, out_key, mark_key}
+use Rattle.sms_handset_store.specs.Types.{Rows, Changes, rows_after, Setup, Entry, LastAccepted, OutEntry, DiscardedGroup, Counters, CountersRow}
 
 -- steps one after another
 pub turns_none : (s : State) → IsTrue s.is_open → IsTrue s.in_transaction → Leads (Turns (λ rows. rows)) s s

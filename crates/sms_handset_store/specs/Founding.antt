@@ -1,5 +1,5 @@
 -- How a new store comes to be.
-use Rattle.std.specs.Prelude.{◌≡◌, [], ◌∷◌}
+use Rattle.std.specs.Prelude.{◌≡◌, []}
 use Rattle.sqlite.specs.Effect.{Database}
 use Rattle.sms_handset_tables.specs.HandsetSchema.{with_last, handset_schema}
 use Rattle.sms_schema.specs.Blank.{no_tables}

@@ -1,6 +1,6 @@
 -- The inbox. What a row does not have is NULL: of a single entry all but its octets, of a part how its content is coded, of a joined one its group.
-use Rattle.std.specs.Prelude.{◌≡◌, ℕ, ◌<◌, ◌+◌, ◌/◌, ◌%◌, ◌==◌, ◌&&◌, ℤ, pos, Bool, true, false, ⊤, Option, Some, None, List, [], ◌∷◌, length, codes, encode_utf8_all, refl}
-use Rattle.std.proofs.Common.{ap, ap₂, ◌∙◌, sym}
+use Rattle.std.specs.Prelude.{◌≡◌, ℕ, ◌==◌, ℤ, true, false, ⊤, List, [], ◌∷◌, codes, encode_utf8_all, refl}
+use Rattle.std.proofs.Common.{ap}
 use Rattle.std.specs.List.{list_all}
 use Rattle.std.specs.Str.{all_scalars}
 use Rattle.sqlite.specs.declared.types.Value.TheVariants.{Null, Int, Text, Blob}
@@ -15,9 +15,9 @@ use Rattle.sqlite_rules.specs.Cast.{cast_row}
 use Rattle.sqlite.specs.Effect.{value_rows}
 use Rattle.sqlite_sql.specs.Term.{eval_all}
 use Rattle.sqlite_tied.specs.Compute.{everything}
-use Rattle.sms_listing.specs.Columns.{number, number_in, octets_in, text_in, characters_in, if_given, flag, flag_in, or_none}
+use Rattle.sms_listing.specs.Columns.{number, number_in, octets_in, text_in}
 use Rattle.sms_listing.specs.Listing.{TableOf, ListOf, IsList, table_of, rowids_where, whole_table, row_of, columns_of, equals}
-use Rattle.sms_listing.proofs.Columns.{same_number, one_found, pair_found, and_true, cast_null, cast_int, cast_row_same, cast_flag, cast_optional, flag_back, characters_back, given_back}
+use Rattle.sms_listing.proofs.Columns.{one_found, cast_null, cast_int, cast_row_same}
 use Rattle.sms_handset_tables.specs.HandsetSchema.{handset_schema, entry_columns}
 use Rattle.sms_handset_tables.specs.Types.{Entry, Group, Message, Content}
 use Rattle.std.specs.Prelude.{if◌then◌else◌, drop}

@@ -1,8 +1,7 @@
 -- The columns that a table is to have.
-use Rattle.std.specs.Prelude.{ℕ, Bool, true, not, List}
+use Rattle.std.specs.Prelude.{true, not}
 use Rattle.sqlite.specs.Collation.TheVariants.{Binary}
 use Rattle.sqlite.specs.declared.types.Value.TheVariants.{Null}
-use Rattle.sqlite.specs.Kind.{Kind}
 use Rattle.sqlite_schema.specs.declared.schema.Column.{Column}
 use Rattle.sms_schema.specs.declared.columns.Wanted.{Wanted}
 

@@ -1,4 +1,3 @@
-use Rattle.std.proofs.Common.{subst}
 use Rattle.sqlite.specs.Held.{state}
 use Rattle.sms_listing.proofs.Keeping.{stop_leaves}
 use Rattle.sms_handset_store.specs.HandsetRows.{IsStoreWith, Turns}
