@@ -5,3 +5,4 @@ pub mod Loads
 pub mod Offers
 pub mod LinksChange
 pub mod QuietEvents
+pub mod SessionsChange

@@ -3,7 +3,7 @@ use Rattle.std.specs.Prelude.{◌≡◌, ℕ, List, [], ◌∷◌, Bool, Some, t
 use Rattle.sms_centre_rules.specs.CentreEvent.{happened, recovered, started}
 use Rattle.sms_centre_rules.specs.SoundCore.{IsSoundCore}
 use Rattle.sms_centre_rules.specs.declared.event.CentreEvent.{CentreEvent}
-use Rattle.sms_centre_rules.specs.declared.event.CentreEvent.TheVariants.{LinkDown, LinkUp, Query}
+use Rattle.sms_centre_rules.specs.declared.event.CentreEvent.TheVariants.{DeliverAnswered, LinkDown, LinkUp, Query, Unbound}
 use Rattle.smpp_pdu.specs.declared.query.QuerySm.{QuerySm}
 use Rattle.sms_waiting.specs.SoundGivings.{IsNumber}
 use Rattle.sms_centre_rules.specs.Draft.{Core, Draft, Store, core_of, draft_of, parts_in, reports_in, rows_of, with_part_at, with_report_at}
@@ -76,3 +76,11 @@ LinkUpLaw = (m : ℕ) (handset : List ℕ) (c : Core) (w : World) → IsSoundCor
 
 abbrev pub LinkDownLaw : Type 0
 LinkDownLaw = (m : ℕ) (handset : List ℕ) (c : Core) (w : World) → IsSoundCore c → IsNumber handset → CentreSees w (draft_of c) w → OffersOnly m (LinkDown handset) c w
+
+-- a session ends, and an application answers a receipt that was sent in its session
+abbrev pub UnboundLaw : Type 0
+UnboundLaw = (m : ℕ) (session : ℕ) (c : Core) (w : World) → IsSoundCore c → CentreSees w (draft_of c) w → OffersOnly m (Unbound session) c w
+
+abbrev pub AnsweredLaw : Type 0
+AnsweredLaw =
+    (m : ℕ) (session id : ℕ) (is_accepted : Bool) (c : Core) (w : World) → IsSoundCore c → CentreSees w (draft_of c) w → OffersOnly m (DeliverAnswered session id is_accepted) c w

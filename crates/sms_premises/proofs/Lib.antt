@@ -1,0 +1,2 @@
+pub mod TimelyFrames
+pub mod FreshRounds
