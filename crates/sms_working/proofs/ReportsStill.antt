@@ -33,6 +33,8 @@ told_still ms others p t tells same = record {
     next = tells.kept.next;
   };
   changes = tells.changes;
+  noted = tells.noted;
+  stay = tells.stay;
 }
 
 pub ended_told : (ms : List MessageRow) (m : MessageRow) (f : FinalState) (moment : ℕ) (p : PendingOf) (t : Revised ReportRow) → message_at m.id ms ≡ Some m → Tells ms p t → Tells (put message_key (ended f moment m) ms) p t
