@@ -2,15 +2,15 @@
 use Rattle.std.proofs.Common.{◌≡◌, ◌↔◌, ℕ, ◌+◌, ◌-◌, ◌<◌, ◌≤◌, List, [], ◌∷◌, length, Bool, true, false, refl, sym, ◌∙◌, ap, subst, ⊎_elim, arith}
 use Rattle.std.specs.List.{AllByRecursion, list_all}
 use Rattle.std.specs.Prelude.{◌&&◌, nat_le, nat_lt, if◌then◌else◌}
-use Rattle.std.proofs.lemmas.Bool.{and_from, and_parts, cases_Bool, cond-true, cond-false, cond_both, le-leb, leb-true, lt-ltb, ltb-true}
+use Rattle.std.proofs.lemmas.Bool.{and_from, and_parts, cases_Bool, cond-true, cond-false, le-leb, leb-true, lt-ltb, ltb-true}
 use Rattle.std.proofs.lemmas.Slice.Eq.{bytes_eq-Decides}
 use Rattle.std.specs.Str.{bytes_eq}
-use Rattle.std.proofs.Common.{eq-eqb, eqb-true, Option, Some, None}
+use Rattle.std.proofs.Common.{eq-eqb, eqb-true, Some}
 use Rattle.std.specs.Prelude.{◌==◌}
 use Rattle.sms_base.specs.declared.address.Address.{Address}
 use Rattle.sms_base.specs.declared.type_of_number.TypeOfNumber.{TypeOfNumber}
 use Rattle.sms_base.specs.declared.type_of_number.TypeOfNumber.TheVariants.{Unknown, International, National, NetworkSpecific, Subscriber, Alphanumeric, Abbreviated}
-use Rattle.sms_base.specs.Address.{IsAddress, IsAddressText, IsName, IsNumber, has_code, septet_count, width_of}
+use Rattle.sms_base.specs.Address.{IsAddress, IsAddressText, has_code, septet_count, width_of}
 use Rattle.sms_base.specs.AddressKind.{is_name, type_number, type_of}
 use Rattle.sms_base.specs.Alphabet.{code_for}
 use Rattle.sms_base.specs.SemiOctet.{is_digit}

@@ -1,11 +1,11 @@
 -- Whether all parts of a message are done is told by those that stand between its keys.
-use Rattle.std.proofs.Common.{◌≡◌, ℕ, ◌+◌, ◌*◌, ◌<◌, ◌≤◌, List, [], ◌∷◌, Bool, true, false, refl, sym, ◌∙◌, ap, subst, inl, inr, ⊎_elim, arith}
+use Rattle.std.proofs.Common.{◌≡◌, ℕ, ◌+◌, ◌<◌, ◌≤◌, List, [], ◌∷◌, Bool, true, false, refl, sym, ◌∙◌, ap, subst, inl, inr, ⊎_elim, arith}
 use Rattle.std.specs.List.{list_all}
 use Rattle.std.specs.Prelude.{◌&&◌, ◌==◌, not, nat_lt}
-use Rattle.std.proofs.lemmas.Bool.{and_from, cases_Bool, cases_eq, cases_lt, cond-true, cond-false, eq-eqb, le-ltb, lt-ltb, ne_eqb}
+use Rattle.std.proofs.lemmas.Bool.{and_from, cases_Bool, cases_eq, cases_lt, cond-true, cond-false, le-ltb, lt-ltb, ne_eqb}
 use Rattle.sms_base.specs.Among.{Among}
 use Rattle.sms_table.specs.Keys.{pair_key}
-use Rattle.sms_table.specs.Table.{AllAbove, Rises, rows_before, rows_from}
+use Rattle.sms_table.specs.Table.{Rises, rows_before, rows_from}
 use Rattle.sms_messages.specs.declared.part.PartRow.{PartRow}
 use Rattle.sms_messages.specs.Messages.{all_done, is_undone, part_key}
 use Rattle.sms_centre_rules.proofs.DoneMarks.{not_all_done}

@@ -1,9 +1,7 @@
 -- The tests of handsets and references hold exactly where a centre can stand on them.
-use Rattle.std.proofs.Common.{◌≡◌, ℕ, ◌<◌, List, map, Bool, true, Option, Some, refl, ap, is_some}
-use Rattle.std.specs.List.{list_all}
+use Rattle.std.proofs.Common.{◌≡◌, ℕ, List, map, true, refl, ap, is_some}
 use Rattle.std.specs.Prelude.{◌&&◌, nat_lt}
 use Rattle.std.proofs.lemmas.Bool.{and_from, and_parts, lt-ltb, ltb-true}
-use Rattle.sms_base.specs.Among.{Among}
 use Rattle.sms_base.specs.HandsetNumber.{own_address}
 use Rattle.sms_table.specs.Keys.{AllDigits, digits_key}
 use Rattle.sms_table.specs.Table.{Rises, row_at}
@@ -12,7 +10,6 @@ use Rattle.sms_waiting.specs.declared.handset.HandsetRow.{HandsetRow}
 use Rattle.sms_waiting.specs.declared.reference.ReferenceRow.{ReferenceRow}
 use Rattle.sms_waiting.specs.Keys.{handset_key, reference_key}
 use Rattle.sms_waiting.specs.SoundGivings.{IsGiven, IsMentioned, IsNumber, SoundGivings, reference_at}
-use Rattle.sms_soundness.specs.Differing.{differ}
 use Rattle.sms_soundness.specs.GivingTest.{GivingsPass, is_given, is_mentioned, number_key}
 use Rattle.sms_soundness.specs.MessageTest.{is_handset}
 use Rattle.sms_soundness.proofs.AddressTested.{address_from, address_to}

@@ -1,5 +1,5 @@
 -- Keys that some rows of two lists have: where none stands twice, rows of one key are one, and no row of the other list has it.
-use Rattle.std.proofs.Common.{◌≡◌, ◌⊎◌, ℕ, ◌<◌, List, [], ◌∷◌, ◌++◌, filter_map, Option, Some, None, refl, sym, ◌∙◌, ap, subst, inl, inr, ⊎_elim, arith}
+use Rattle.std.proofs.Common.{◌≡◌, ◌⊎◌, ℕ, List, [], ◌∷◌, ◌++◌, filter_map, Option, Some, None, refl, sym, ◌∙◌, ap, subst, inl, inr, ⊎_elim, arith}
 use Rattle.std.specs.List.{cons_option}
 use Rattle.sms_base.specs.Among.{Among}
 use Rattle.sms_table.specs.Table.{Rises}

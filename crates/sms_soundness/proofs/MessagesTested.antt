@@ -1,5 +1,5 @@
 -- The tests of messages, parts and priorities hold exactly where a centre can stand on them.
-use Rattle.std.proofs.Common.{◌≡◌, ◌↔◌, ℕ, ◌<◌, ◌≤◌, List, length, Bool, true, false, Option, Some, None, Result, Ok, Err, refl, sym, ◌∙◌, ap, subst, is_none, is_some, arith}
+use Rattle.std.proofs.Common.{◌≡◌, ℕ, ◌<◌, List, length, Bool, true, false, Option, Some, None, Result, Ok, Err, refl, sym, ◌∙◌, ap, is_none, is_some, arith}
 use Rattle.std.specs.List.{list_all}
 use Rattle.std.specs.Prelude.{◌&&◌, ◌==◌, nat_le, nat_lt, not}
 use Rattle.std.proofs.lemmas.Bool.{and_from, and_parts, eq-eqb, eqb-true, le-leb, leb-true, lt-ltb, ltb-true}
@@ -16,7 +16,7 @@ use Rattle.sms_tpdu.specs.TpduReading.{down_at}
 use Rattle.sms_messages.specs.declared.message.MessageRow.{MessageRow}
 use Rattle.sms_messages.specs.declared.part.PartRow.{PartRow}
 use Rattle.sms_messages.specs.declared.priority.PriorityRow.{PriorityRow}
-use Rattle.sms_messages.specs.Messages.{all_done, message_at, message_key, part_at, part_key, priority_key}
+use Rattle.sms_messages.specs.Messages.{message_at, message_key, part_at, part_key, priority_key}
 use Rattle.sms_messages.specs.SoundMessages.{EndsAt, IsDeliver, IsMessage, IsPart, IsPriority, SoundMessages}
 use Rattle.sms_messages.specs.SplitReferences.{is_delivered, is_same_address}
 use Rattle.sms_soundness.specs.AddressTest.{is_address}

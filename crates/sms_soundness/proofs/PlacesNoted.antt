@@ -1,5 +1,5 @@
 -- The place of one handset is noted under its key, and all others stay.
-use Rattle.std.proofs.Common.{◌≡◌, ℕ, List, Bool, nat_eq, Some, refl, sym, ◌∙◌, ap, ⊎_elim, cond, eq-eqb}
+use Rattle.std.proofs.Common.{◌≡◌, ℕ, List, Bool, nat_eq, Some, sym, ◌∙◌, ap, ⊎_elim, cond, eq-eqb}
 use Rattle.std.specs.Map.{lookup}
 use Rattle.std.proofs.lemmas.Bool.{cases_eq, ne_eqb}
 

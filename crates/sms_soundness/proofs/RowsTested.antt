@@ -1,5 +1,5 @@
 -- The tests of the setup, of moments and of originators hold exactly where a centre can stand on them.
-use Rattle.std.proofs.Common.{◌≡◌, ℕ, List, Bool, true, refl}
+use Rattle.std.proofs.Common.{◌≡◌, ℕ, List, true, refl}
 use Rattle.std.specs.List.{list_all}
 use Rattle.std.specs.Prelude.{◌&&◌, nat_le}
 use Rattle.std.proofs.lemmas.Bool.{and_from, and_parts, le-leb, leb-true}

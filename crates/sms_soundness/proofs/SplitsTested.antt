@@ -1,10 +1,9 @@
 -- The test of split references holds exactly where messages that aren't wholly delivered were split apart.
-use Rattle.std.proofs.Common.{◌≡◌, ◌↔◌, ℕ, List, filter_map, Bool, true, false, Option, Some, None, refl, sym, ◌∙◌, ap, ⊎_elim, cond, option_map}
+use Rattle.std.proofs.Common.{◌≡◌, ℕ, List, filter_map, true, false, Option, Some, None, refl, sym, ◌∙◌, ap, ⊎_elim, cond, option_map}
 use Rattle.std.specs.Prelude.{◌&&◌, ◌==◌}
 use Rattle.std.specs.Str.{bytes_eq}
 use Rattle.std.proofs.lemmas.Bool.{and_from, and_parts, cases_Bool, cond-true, cond-false, eq-eqb, eqb-true}
 use Rattle.std.proofs.lemmas.Slice.Eq.{bytes_eq-Decides}
-use Rattle.sms_base.specs.Among.{Among}
 use Rattle.sms_base.specs.declared.address.Address.{Address}
 use Rattle.sms_base.specs.AddressKind.{type_number}
 use Rattle.sms_table.specs.Table.{Rises}
@@ -15,7 +14,7 @@ use Rattle.sms_centre_rules.specs.SoundRows.{AreSplitApart}
 use Rattle.sms_soundness.specs.declared.splits.Split.{Split}
 use Rattle.sms_soundness.specs.SplitTest.{is_same_split, split_of, split_under, splits_differ}
 use Rattle.sms_soundness.proofs.AddressTested.{same_address}
-use Rattle.sms_soundness.proofs.DifferTested.{AreDistinct, by_from, by_to}
+use Rattle.sms_soundness.proofs.DifferTested.{by_from, by_to}
 use Rattle.sms_soundness.proofs.HoldsApart.{kept_differ, one_kept}
 
 -- ---- splits that are one

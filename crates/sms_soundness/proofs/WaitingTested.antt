@@ -1,7 +1,6 @@
 -- The tests of what waits hold exactly where a centre can stand on it, at every handset.
-use Rattle.std.proofs.Common.{◌≡◌, ◌⊎◌, ℕ, ◌<◌, ◌≤◌, List, ◌++◌, filter_map, Bool, true, false, Option, Some, None, refl, sym, ◌∙◌, ap, subst, inl, inr, ⊎_elim, is_some, arith}
-use Rattle.std.specs.List.{list_all}
-use Rattle.std.specs.Prelude.{◌&&◌, ◌==◌, not}
+use Rattle.std.proofs.Common.{◌≡◌, ◌⊎◌, ℕ, ◌<◌, List, filter_map, true, false, Option, Some, None, refl, sym, ◌∙◌, ap, subst, inl, inr, ⊎_elim, arith}
+use Rattle.std.specs.Prelude.{◌&&◌, not}
 use Rattle.std.specs.Str.{bytes_eq}
 use Rattle.std.proofs.lemmas.Bool.{and_from, and_parts, cases_Bool, cases_eq, cond-true, cond-false}
 use Rattle.std.proofs.lemmas.Slice.Eq.{bytes_eq-Decides}
@@ -10,9 +9,9 @@ use Rattle.sms_base.specs.declared.address.Address.{Address}
 use Rattle.sms_base.specs.declared.originator.Originator.{Originator}
 use Rattle.sms_base.specs.declared.originator.Originator.TheVariants.{Application, Handset}
 use Rattle.sms_table.specs.Keys.{pair_key}
-use Rattle.sms_table.specs.Table.{Rises, row_at}
+use Rattle.sms_table.specs.Table.{row_at}
 use Rattle.sms_table.proofs.KeyLaws.{pairs_apart}
-use Rattle.sms_table.proofs.Tables.{among_found, found_among, found_key}
+use Rattle.sms_table.proofs.Tables.{among_found, found_among}
 use Rattle.sms_messages.specs.declared.message.MessageRow.{MessageRow}
 use Rattle.sms_messages.specs.declared.part.PartRow.{PartRow}
 use Rattle.sms_messages.specs.declared.priority.PriorityRow.{PriorityRow}
@@ -23,14 +22,14 @@ use Rattle.sms_reports.specs.declared.report.ReportKind.{ReportKind}
 use Rattle.sms_reports.specs.declared.report.ReportKind.TheVariants.{Receipt, Status, Unsent}
 use Rattle.sms_reports.specs.declared.report.ReportRow.{ReportRow}
 use Rattle.sms_reports.specs.Reports.{is_open_status, is_status, report_key, report_of, status_reference}
-use Rattle.sms_reports.specs.SoundReports.{FitsOriginator, IsReport, SoundReports}
+use Rattle.sms_reports.specs.SoundReports.{FitsOriginator, SoundReports}
 use Rattle.sms_reports.specs.Waiting.{Alone, report_load, report_wait, reports_to, waiting_for}
 use Rattle.sms_reports.proofs.AllWaiting.{part_waits_at as part_waits, report_found, report_waits_at as report_waits, rises_all}
 use Rattle.sms_reports.proofs.FewWaiting.{all_few}
 use Rattle.sms_waiting.specs.declared.handset.HandsetRow.{HandsetRow}
 use Rattle.sms_waiting.specs.declared.load.Load.{Load}
 use Rattle.sms_waiting.specs.declared.reference.ReferenceRow.{ReferenceRow}
-use Rattle.sms_waiting.specs.Keys.{handset_key, load_key, reference_key}
+use Rattle.sms_waiting.specs.Keys.{handset_key, load_key}
 use Rattle.sms_waiting.specs.References.{handset_at}
 use Rattle.sms_waiting.specs.SoundGivings.{IsNumber, SoundGivings, reference_at}
 use Rattle.sms_waiting.specs.SoundWaiting.{SoundWaiting, WasGiven}
