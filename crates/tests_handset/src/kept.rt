@@ -1,48 +1,30 @@
 //! What a handset's store holds: the rows as the changes of its plans left them.
-use crate::plain::{Accepted, Discarded, Plain};
+use crate::plain::Plain;
+use crate::rows::are;
 use sms_base::{Listed, Octets};
 use sms_concat::Content;
 use sms_handset::{
     Changes, Counters, DiscardedGroup, Entry, LastAccepted, Message, OutEntry, Rows, Setup,
-    SubmitTpdu,
 };
-use sms_table::{Change, Key, Row};
+use sms_table::{Change, Row, Table};
 use std::alloc::Global;
 use std::test::Fail;
 
-/// The rows.
-#[derive(Drop)]
-pub(crate) struct Kept {
-    alloc: Global,
-    entries: Vec<Entry>,
-    last: Vec<LastAccepted>,
-    outbox: Vec<OutEntry>,
-    marks: Vec<DiscardedGroup>,
-    counters: Counters,
-}
-
-fn remove<T: Row + Drop>(rows: &mut Vec<T>, key: Key) {
-    rows.retain(|row| row.key() != key);
-}
-
-// The row takes the place of that of its key, or stands behind those of lower keys.
-fn put<T: Row + Drop>(rows: &mut Vec<T>, row: T) -> Result<(), Fail> {
-    let key = row.key();
-    remove(rows, key);
-    let mut place: usize = 0;
-    for other in rows.iter() {
-        if other.key().number() < key.number() {
-            place = place.saturating_add(1);
-        }
-    }
-    if place <= rows.len() {
-        rows.insert(place, row)?;
-    }
-    Ok(())
+// A row of which a store has a copy of its own.
+trait Stored: Row + Drop {
+    fn stored(&self, alloc: Global) -> Result<Self, Fail>;
 }
 
 fn owned(alloc: Global, octets: &Octets) -> Result<Octets, Fail> {
     Ok(Octets::copy_of(alloc, octets.as_slice())?)
+}
+
+fn content(alloc: Global, content: &Content) -> Result<Content, Fail> {
+    Ok(Content {
+        coding: content.coding,
+        dcs: content.dcs,
+        units: owned(alloc, &content.units)?,
+    })
 }
 
 fn message(alloc: Global, message: &Message) -> Result<Message, Fail> {
@@ -59,218 +41,172 @@ fn message(alloc: Global, message: &Message) -> Result<Message, Fail> {
             number: *number,
             tpdu: owned(alloc, tpdu)?,
         }),
-        Message::Joined { source, content } => Ok(Message::Joined {
+        Message::Joined {
+            source,
+            content: joined,
+        } => Ok(Message::Joined {
             source: *source,
-            content: Content {
-                coding: content.coding,
-                dcs: content.dcs,
-                units: owned(alloc, &content.units)?,
-            },
+            content: content(alloc, joined)?,
         }),
     }
 }
 
-fn entry(alloc: Global, entry: &Entry) -> Result<Entry, Fail> {
-    Ok(Entry {
-        number: entry.number,
-        slots: entry.slots,
-        message: message(alloc, &entry.message)?,
-    })
+impl Stored for Entry {
+    fn stored(&self, alloc: Global) -> Result<Entry, Fail> {
+        Ok(Entry {
+            number: self.number,
+            slots: self.slots,
+            message: message(alloc, &self.message)?,
+        })
+    }
 }
 
-fn last(alloc: Global, last: &LastAccepted) -> Result<LastAccepted, Fail> {
-    Ok(LastAccepted {
-        reference: last.reference,
-        tpdu: owned(alloc, &last.tpdu)?,
-    })
+impl Stored for LastAccepted {
+    fn stored(&self, alloc: Global) -> Result<LastAccepted, Fail> {
+        Ok(LastAccepted {
+            reference: self.reference,
+            tpdu: owned(alloc, &self.tpdu)?,
+        })
+    }
 }
 
-fn mark(alloc: Global, mark: &DiscardedGroup) -> Result<DiscardedGroup, Fail> {
-    Ok(DiscardedGroup {
-        number: mark.number,
-        group: mark.group,
-        seen: owned(alloc, &mark.seen)?,
-    })
+impl Stored for OutEntry {
+    fn stored(&self, alloc: Global) -> Result<OutEntry, Fail> {
+        Ok(self.copy(alloc)?)
+    }
 }
 
-fn out_entry(alloc: Global, entry: &OutEntry) -> Result<OutEntry, Fail> {
-    let tpdu = Octets::copy_of(alloc, entry.tpdu.as_slice())?;
-    Ok(OutEntry {
-        number: entry.number,
-        message_reference: entry.message_reference,
-        reference: entry.reference,
-        destination: entry.destination,
-        tpdu: SubmitTpdu::of(tpdu),
-        is_long: entry.is_long,
-        state: entry.state,
-        tries: entry.tries,
-        rejects_duplicates: entry.rejects_duplicates,
-        due: entry.due,
-        status: entry.status,
-    })
+impl Stored for DiscardedGroup {
+    fn stored(&self, alloc: Global) -> Result<DiscardedGroup, Fail> {
+        Ok(DiscardedGroup {
+            number: self.number,
+            group: self.group,
+            seen: owned(alloc, &self.seen)?,
+        })
+    }
+}
+
+// The changes are carried out, in their order.
+fn change<T: Stored>(
+    alloc: Global,
+    rows: &mut Table<T>,
+    changes: &[Change<T>],
+) -> Result<(), Fail> {
+    for change in changes {
+        match change {
+            Change::Put(row) => rows.put(row.stored(alloc)?)?,
+            Change::Remove(key) => {
+                rows.remove(*key);
+            }
+        }
+    }
+    Ok(())
+}
+
+fn copy_rows<T: Stored>(alloc: Global, rows: &[T], to: &mut Listed<T>) -> Result<(), Fail> {
+    for row in rows {
+        to.push(row.stored(alloc)?)?;
+    }
+    Ok(())
+}
+
+/// The rows.
+#[derive(Drop)]
+pub(crate) struct Kept {
+    alloc: Global,
+    entries: Table<Entry>,
+    last: Table<LastAccepted>,
+    outbox: Table<OutEntry>,
+    marks: Table<DiscardedGroup>,
+    counters: Counters,
 }
 
 impl Kept {
     /// Nothing.
-    pub(crate) fn new(alloc: Global) -> Kept {
+    pub(crate) fn new(alloc: Global, counters: Counters) -> Kept {
         Kept {
             alloc,
-            entries: Vec::new(alloc),
-            last: Vec::new(alloc),
-            outbox: Vec::new(alloc),
-            marks: Vec::new(alloc),
-            counters: Counters {
-                entry: 1,
-                message_reference: 0,
-                reference: 0,
-                concat_reference: 0,
-                notice: 0,
-                is_memory_full: false,
-            },
+            entries: Table::new(alloc),
+            last: Table::new(alloc),
+            outbox: Table::new(alloc),
+            marks: Table::new(alloc),
+            counters,
         }
     }
 
-    /// The changes are carried out, each list's in their order.
+    /// The changes are carried out.
     pub(crate) fn commit(&mut self, changes: &Changes) -> Result<(), Fail> {
-        self.change_entries(changes.entries.changes())?;
-        self.change_last(changes.last.changes())?;
-        self.change_outbox(changes.outbox.changes())?;
-        self.change_marks(changes.marks.changes())?;
+        let alloc = self.alloc;
+        change(alloc, &mut self.entries, changes.entries.changes())?;
+        change(alloc, &mut self.last, changes.last.changes())?;
+        change(alloc, &mut self.outbox, changes.outbox.changes())?;
+        change(alloc, &mut self.marks, changes.marks.changes())?;
         if let Some(counters) = changes.counters {
             self.counters = counters;
         }
         Ok(())
     }
 
-    fn change_entries(&mut self, changes: &[Change<Entry>]) -> Result<(), Fail> {
-        for change in changes {
-            match change {
-                Change::Put(row) => put(&mut self.entries, entry(self.alloc, row)?)?,
-                Change::Remove(key) => remove(&mut self.entries, *key),
-            }
-        }
-        Ok(())
-    }
-
-    fn change_last(&mut self, changes: &[Change<LastAccepted>]) -> Result<(), Fail> {
-        for change in changes {
-            match change {
-                Change::Put(row) => put(&mut self.last, last(self.alloc, row)?)?,
-                Change::Remove(key) => remove(&mut self.last, *key),
-            }
-        }
-        Ok(())
-    }
-
-    fn change_outbox(&mut self, changes: &[Change<OutEntry>]) -> Result<(), Fail> {
-        for change in changes {
-            match change {
-                Change::Put(row) => put(&mut self.outbox, out_entry(self.alloc, row)?)?,
-                Change::Remove(key) => remove(&mut self.outbox, *key),
-            }
-        }
-        Ok(())
-    }
-
-    fn change_marks(&mut self, changes: &[Change<DiscardedGroup>]) -> Result<(), Fail> {
-        for change in changes {
-            match change {
-                Change::Put(row) => put(&mut self.marks, mark(self.alloc, row)?)?,
-                Change::Remove(key) => remove(&mut self.marks, *key),
-            }
-        }
+    fn copy_to(&self, rows: &mut Rows) -> Result<(), Fail> {
+        let alloc = self.alloc;
+        copy_rows(alloc, self.entries.as_slice(), &mut rows.entries)?;
+        copy_rows(alloc, self.last.as_slice(), &mut rows.last)?;
+        copy_rows(alloc, self.outbox.as_slice(), &mut rows.outbox)?;
+        copy_rows(alloc, self.marks.as_slice(), &mut rows.marks)?;
+        rows.counters = self.counters;
         Ok(())
     }
 
     /// A copy of the rows.
     pub(crate) fn rows(&self, setup: Setup) -> Result<Rows, Fail> {
-        Ok(Rows {
-            entries: self.copied_entries()?,
-            last: self.copied_last()?,
-            outbox: self.copied_outbox()?,
-            marks: self.copied_marks()?,
-            counters: self.counters,
-            setup,
-        })
-    }
-
-    fn copied_entries(&self) -> Result<Listed<Entry>, Fail> {
-        let mut rows = Listed::new(self.alloc);
-        for row in &self.entries {
-            rows.push(entry(self.alloc, row)?)?;
-        }
-        Ok(rows)
-    }
-
-    fn copied_last(&self) -> Result<Listed<LastAccepted>, Fail> {
-        let mut rows = Listed::new(self.alloc);
-        for row in &self.last {
-            rows.push(last(self.alloc, row)?)?;
-        }
-        Ok(rows)
-    }
-
-    fn copied_outbox(&self) -> Result<Listed<OutEntry>, Fail> {
-        let mut rows = Listed::new(self.alloc);
-        for row in &self.outbox {
-            rows.push(out_entry(self.alloc, row)?)?;
-        }
-        Ok(rows)
-    }
-
-    fn copied_marks(&self) -> Result<Listed<DiscardedGroup>, Fail> {
-        let mut rows = Listed::new(self.alloc);
-        for row in &self.marks {
-            rows.push(mark(self.alloc, row)?)?;
-        }
+        let mut rows = Rows::first(self.alloc, setup);
+        self.copy_to(&mut rows)?;
         Ok(rows)
     }
 
     /// Whether what no look at the handset shows is as the plain one has it.
     pub(crate) fn is_as(&self, plain: &Plain) -> bool {
-        has_counters(&self.counters, plain)
+        self.counters == plain.counters
             && is_same_last(self.last.as_slice(), plain.accepted.as_slice())
             && is_same_marks(self.marks.as_slice(), plain.discarded.as_slice())
     }
 }
 
-fn has_counters(counters: &Counters, plain: &Plain) -> bool {
-    counters.entry == plain.next_number
-        && counters.message_reference == plain.next_message_reference
-        && counters.reference == plain.next_reference
-        && counters.concat_reference == plain.next_split
-        && counters.notice == plain.next_notice
-        && counters.is_memory_full == plain.is_memory_full
+fn has_last(rows: &[LastAccepted], wanted: &LastAccepted) -> bool {
+    for row in rows {
+        if row.reference == wanted.reference && are(row.tpdu.as_slice(), wanted.tpdu.as_slice()) {
+            return true;
+        }
+    }
+    false
 }
 
-fn is_same_last(rows: &[LastAccepted], others: &[Accepted]) -> bool {
-    if rows.len() != others.len() {
-        return false;
-    }
+fn is_same_last(rows: &[LastAccepted], others: &[LastAccepted]) -> bool {
     for row in rows {
-        let found = others.iter().any(|other| {
-            other.reference == row.reference && other.tpdu.as_slice() == row.tpdu.as_slice()
-        });
-        if !found {
+        if !has_last(others, row) {
             return false;
         }
     }
-    true
+    rows.len() == others.len()
 }
 
-fn is_same_marks(rows: &[DiscardedGroup], others: &[Discarded]) -> bool {
-    if rows.len() != others.len() {
-        return false;
-    }
+fn has_mark(rows: &[DiscardedGroup], wanted: &DiscardedGroup) -> bool {
     for row in rows {
-        let found = others.iter().any(|other| {
-            other.number == row.number
-                && other.group == row.group
-                && other.seen.as_slice() == row.seen.as_slice()
-        });
-        if !found {
+        if row.number == wanted.number
+            && row.group == wanted.group
+            && are(row.seen.as_slice(), wanted.seen.as_slice())
+        {
+            return true;
+        }
+    }
+    false
+}
+
+fn is_same_marks(rows: &[DiscardedGroup], others: &[DiscardedGroup]) -> bool {
+    for row in rows {
+        if !has_mark(others, row) {
             return false;
         }
     }
-    true
+    rows.len() == others.len()
 }

@@ -1,4 +1,5 @@
 //! What the owner writes, over frames that were written down elsewhere.
+use crate::cases::{Case, run};
 use crate::pair::Pair;
 use crate::rows::{are, changed, holds};
 use sms_base::AddressError;
@@ -27,6 +28,12 @@ fn ticks(pair: &mut Pair, seconds: u64, frames: &[&[u8]]) -> Result<(), Fail> {
     pair.has_sent(frames)
 }
 
+// Then the SUBMIT goes with other octets.
+fn submits(pair: &mut Pair, seconds: u64, changes: &[(usize, u8)]) -> Result<(), Fail> {
+    let again = changed(pair.alloc, SUBMIT, changes)?;
+    ticks(pair, seconds, &[again.as_slice()])
+}
+
 // The entry at a place of the outbox is in that state.
 fn is_in(pair: &Pair, place: usize, state: EntryState) -> Result<(), Fail> {
     match pair.handset.outbox().get(place) {
@@ -43,39 +50,34 @@ fn has_tpdu(pair: &Pair, place: usize, tpdu: &[u8]) -> Result<(), Fail> {
     }
 }
 
-fn acknowledged(pair: &mut Pair) -> Result<(), Fail> {
+pub(crate) fn acknowledged(pair: &mut Pair) -> Result<(), Fail> {
     pair.gives(&to_a("hello"), &[SUBMIT])?;
     is_in(pair, 0, EntryState::Sending)?;
     pair.takes(b"\x89\x04", &[])?;
     let ack: &[u8] = b"\x89\x01\x0D\x03\x00\x41\x09\x01\x00\x42\x20\x92\x32\x95\x85\x00";
     pair.takes(ack, &[b"\x09\x04"])?;
-    is_in(pair, 0, EntryState::Sent)?;
-    Ok(())
+    is_in(pair, 0, EntryState::Sent)
 }
 
 #[test]
 fn an_acknowledged_text_is_sent(rt: HostRuntime) -> Result<(), Fail> {
-    let mut pair = Pair::new(rt.alloc(), 1)?;
-    acknowledged(&mut pair)
+    run(rt.alloc(), 1, Case::Acknowledged)
 }
 
-fn duplicate(pair: &mut Pair) -> Result<(), Fail> {
+pub(crate) fn duplicate(pair: &mut Pair) -> Result<(), Fail> {
     pair.gives(&to_a("hello"), &[SUBMIT])?;
     pair.takes(b"\x89\x04", &[])?;
     ticks(pair, 39, &[])?;
-    let again = changed(pair.alloc, SUBMIT, &[(0, 0x19), (15, 0x05)])?;
-    ticks(pair, 40, &[again.as_slice()])?;
+    submits(pair, 40, &[(0, 0x19), (15, 0x05)])?;
     let duplicate: &[u8] =
         b"\x99\x01\x10\x05\x00\x01\x15\x41\x0A\x01\xC5\x00\x42\x20\x92\x32\x95\x85\x00";
     pair.takes(duplicate, &[b"\x19\x04"])?;
-    is_in(pair, 0, EntryState::Unsure)?;
-    Ok(())
+    is_in(pair, 0, EntryState::Unsure)
 }
 
 #[test]
 fn a_duplicate_of_a_lost_text_is_unsure(rt: HostRuntime) -> Result<(), Fail> {
-    let mut pair = Pair::new(rt.alloc(), 1)?;
-    duplicate(&mut pair)
+    run(rt.alloc(), 1, Case::Duplicate)
 }
 
 // After so many seconds the SUBMIT goes with that octet in front, and is refused by a frame with a cause that passes.
@@ -86,12 +88,11 @@ fn is_tried(
     refusal: &[u8],
     ack: &[u8],
 ) -> Result<(), Fail> {
-    let again = changed(pair.alloc, SUBMIT, &[(0, head)])?;
-    ticks(pair, seconds, &[again.as_slice()])?;
+    submits(pair, seconds, &[(0, head)])?;
     pair.takes(refusal, &[ack])
 }
 
-fn passing_cause(pair: &mut Pair) -> Result<(), Fail> {
+pub(crate) fn passing_cause(pair: &mut Pair) -> Result<(), Fail> {
     pair.gives(&to_a("hello"), &[SUBMIT])?;
     pair.takes(b"\x89\x01\x04\x05\x00\x01\x29", &[b"\x09\x04"])?;
     is_in(pair, 0, EntryState::Queued)?;
@@ -109,11 +110,10 @@ fn passing_cause(pair: &mut Pair) -> Result<(), Fail> {
 
 #[test]
 fn a_cause_that_passes_is_tried_again_after_60_seconds(rt: HostRuntime) -> Result<(), Fail> {
-    let mut pair = Pair::new(rt.alloc(), 1)?;
-    passing_cause(&mut pair)
+    run(rt.alloc(), 1, Case::PassingCause)
 }
 
-fn long_text(pair: &mut Pair) -> Result<(), Fail> {
+pub(crate) fn long_text(pair: &mut Pair) -> Result<(), Fail> {
     pair.done(&to_a(LONG))?;
     is_in(pair, 0, EntryState::Sending)?;
     is_in(pair, 1, EntryState::Queued)?;
@@ -126,8 +126,7 @@ fn long_text(pair: &mut Pair) -> Result<(), Fail> {
 
 #[test]
 fn a_long_text_is_split(rt: HostRuntime) -> Result<(), Fail> {
-    let mut pair = Pair::new(rt.alloc(), 1)?;
-    long_text(&mut pair)
+    run(rt.alloc(), 1, Case::LongText)
 }
 
 fn fills_outbox(pair: &mut Pair) -> Result<(), Fail> {
@@ -137,7 +136,7 @@ fn fills_outbox(pair: &mut Pair) -> Result<(), Fail> {
     Ok(())
 }
 
-fn full_outbox(pair: &mut Pair) -> Result<(), Fail> {
+pub(crate) fn full_outbox(pair: &mut Pair) -> Result<(), Fail> {
     let nowhere = HandsetEvent::Write {
         text: TextView::of("hello"),
         to: TextView::of(""),
@@ -151,11 +150,10 @@ fn full_outbox(pair: &mut Pair) -> Result<(), Fail> {
 
 #[test]
 fn a_faulty_number_is_refused_and_so_is_a_twenty_first_entry(rt: HostRuntime) -> Result<(), Fail> {
-    let mut pair = Pair::new(rt.alloc(), 1)?;
-    full_outbox(&mut pair)
+    run(rt.alloc(), 1, Case::FullOutbox)
 }
 
-fn longest_text(pair: &mut Pair, text: &str) -> Result<(), Fail> {
+pub(crate) fn longest_text(pair: &mut Pair, text: &str) -> Result<(), Fail> {
     if let Some(refusal) = pair.write(text, "447700900123", false)? {
         return Err(Fail::new(refusal));
     }
@@ -164,7 +162,6 @@ fn longest_text(pair: &mut Pair, text: &str) -> Result<(), Fail> {
 
 #[test]
 fn the_longest_text_takes_twenty_parts(rt: HostRuntime) -> Result<(), Fail> {
-    let mut pair = Pair::new(rt.alloc(), 1)?;
     let text = "a".repeat(rt.alloc(), 3040)?;
-    longest_text(&mut pair, text.as_str())
+    run(rt.alloc(), 1, Case::LongestText(text.as_str()))
 }

@@ -1,6 +1,9 @@
 //! A handset and the plain one beside it: each event happens to both, and they must do and hold the same.
+ghost use Rattle.sms_handset.specs.SoundRows.{IsSetup};
+ghost use Rattle.std.specs.Prelude.{IfOk};
+
 use crate::kept::Kept;
-use crate::plain::{Plain, Text};
+use crate::plain::Plain;
 use crate::rows::are;
 use sms_base::{Address, Holder, Listed, Moment, OctetView, Octets};
 use sms_concat::Content;
@@ -12,14 +15,16 @@ use sms_link::Outgoing;
 use std::alloc::Global;
 use std::test::Fail;
 
-/// The address of the centre in RP-DATA, 447700900000.
-const CENTRE: [u8; 8] = [0x07, 0x91, 0x44, 0x77, 0x00, 0x09, 0x00, 0x00];
-
 /// 2024-02-29 23:59:58.
 pub(crate) const T0: u64 = 1_709_251_198;
 
-/// What a handset of 447700900456 is told when it starts.
-pub(crate) fn setup(slots: u8) -> Result<Setup, Fail> {
+/// What a handset of 447700900456 with so many slots is told when it starts.
+pub(crate) fn setup(slots: u8) -> Result<Setup, Fail>
+    ensures { IfOk result (λ setup. IsSetup setup) }
+{
+    if slots == 0 {
+        return Err(Fail::new("no slots"));
+    }
     Ok(Setup {
         number: Address::new(1, 1, "447700900456")?,
         slots,
@@ -28,43 +33,16 @@ pub(crate) fn setup(slots: u8) -> Result<Setup, Fail> {
     })
 }
 
-/// What a handset of so many slots answers that is to start with the rows.
-pub(crate) fn started(
-    alloc: Global,
-    rows: Rows,
-    slots: u8,
-) -> Result<Result<Handset, RecoverError>, Fail> {
-    if slots == 0 {
-        return Err(Fail::new("no slots"));
-    }
+/// What a handset answers that is to start with the rows and is told that.
+pub(crate) fn started(alloc: Global, rows: Rows, setup: Setup) -> Result<Handset, RecoverError>
+    requires { IsSetup setup }
+{
     let mut rows = rows;
-    rows.setup = Setup {
-        number: Address::new(1, 1, "447700900456")?,
-        slots,
-        centre: Address::new(1, 1, "447700900000")?,
-        start: Moment::from_seconds(T0)?,
-    };
-    Ok(Handset::recover(alloc, rows))
+    rows.setup = setup;
+    Handset::recover(alloc, rows)
 }
 
-// The handset that starts with the rows.
-fn recovered(alloc: Global, rows: Rows, slots: u8) -> Result<Handset, Fail> {
-    match started(alloc, rows, slots)? {
-        Ok(handset) => Ok(handset),
-        Err(error) => Err(Fail::new(error)),
-    }
-}
-
-fn first_handset(alloc: Global, slots: u8) -> Result<Handset, Fail> {
-    recovered(alloc, Rows::first(alloc, setup(slots)?), slots)
-}
-
-fn first_plain(alloc: Global, slots: u8) -> Result<Plain, Fail> {
-    let centre = Octets::copy_of(alloc, &CENTRE)?;
-    Ok(Plain::new(alloc, slots, centre, Moment::from_seconds(T0)?))
-}
-
-// The frames that the handset sends, once what it planned is in its store, or why it refuses.
+// What the handset plans is in its store, and the frames that it sends then; or why it refuses.
 fn happens(
     handset: &mut Handset,
     kept: &mut Kept,
@@ -93,22 +71,28 @@ pub(crate) struct Pair {
 impl Pair {
     /// Both are new and have so many slots.
     pub(crate) fn new(alloc: Global, slots: u8) -> Result<Pair, Fail> {
-        let handset = first_handset(alloc, slots)?;
-        let plain = first_plain(alloc, slots)?;
+        let setup = setup(slots)?;
+        let plain = Plain::new(alloc, slots, setup.start);
+        let kept = Kept::new(alloc, plain.counters);
         Ok(Pair {
-            handset,
+            handset: started(alloc, Rows::first(alloc, setup), setup)?,
             plain,
             alloc,
-            kept: Kept::new(alloc),
+            kept,
             events: 0,
         })
     }
 
-    /// Both are switched off and on; the handset begins with the rows that the changes left.
+    // The handset begins with the rows that the changes left.
+    fn starts_again(&mut self) -> Result<(), Fail> {
+        let setup = setup(self.plain.slots)?;
+        self.handset = started(self.alloc, self.kept.rows(setup)?, setup)?;
+        Ok(())
+    }
+
+    /// Both are switched off and on.
     pub(crate) fn restart(&mut self) -> Result<(), Fail> {
-        let slots = self.plain.slots;
-        let rows = self.kept.rows(setup(slots)?)?;
-        self.handset = recovered(self.alloc, rows, slots)?;
+        self.starts_again()?;
         self.plain.restart();
         self.compare_rows()
     }
@@ -117,15 +101,29 @@ impl Pair {
     pub(crate) fn event(&mut self, event: &HandsetEvent<'_>) -> Result<Option<Refusal>, Fail> {
         self.events = self.events.wrapping_add(1);
         let refusal = self.plain.event(event)?;
-        match happens(&mut self.handset, &mut self.kept, event)? {
-            Ok(sent) => {
-                self.agrees(refusal.is_none(), "not refused")?;
-                self.compare_frames(sent.as_slice())?;
-            }
-            Err(refused) => self.agrees(refusal == Some(refused), "refused in another way")?,
-        }
+        self.happens(event, refusal)?;
         self.compare_rows()?;
         Ok(refusal)
+    }
+
+    // The event happens to the handset, and the plain one was as it is now.
+    fn happens(&mut self, event: &HandsetEvent<'_>, refusal: Option<Refusal>) -> Result<(), Fail> {
+        let told = happens(&mut self.handset, &mut self.kept, event)?;
+        self.compare(&told, refusal)
+    }
+
+    fn compare(
+        &self,
+        told: &Result<Listed<Outgoing>, Refusal>,
+        refusal: Option<Refusal>,
+    ) -> Result<(), Fail> {
+        match told {
+            Ok(sent) => {
+                self.agrees(refusal.is_none(), "not refused")?;
+                self.compare_frames(sent.as_slice())
+            }
+            Err(refused) => self.agrees(refusal == Some(*refused), "refused in another way"),
+        }
     }
 
     // Ends the test where a row does not hold, with the number of the event.
@@ -331,31 +329,31 @@ fn is_same_message(message: &Message, other: &Message) -> bool {
     }
 }
 
-fn is_same_outbox(entries: &[OutEntry], texts: &[Text]) -> bool {
-    if entries.len() != texts.len() {
+fn is_same_outbox(entries: &[OutEntry], others: &[OutEntry]) -> bool {
+    if entries.len() != others.len() {
         return false;
     }
-    for (entry, text) in entries.iter().zip(texts) {
-        if !is_same_submission(entry, text) || !is_same_progress(entry, text) {
+    for (entry, other) in entries.iter().zip(others) {
+        if !is_same_submission(entry, other) || !is_same_progress(entry, other) {
             return false;
         }
     }
     true
 }
 
-fn is_same_submission(entry: &OutEntry, text: &Text) -> bool {
-    entry.number == text.number
-        && entry.message_reference == text.message_reference
-        && entry.reference == text.reference
-        && entry.destination == text.to
-        && are(entry.tpdu.as_slice(), text.submit.as_slice())
-        && entry.is_long == text.is_long
+fn is_same_submission(entry: &OutEntry, other: &OutEntry) -> bool {
+    entry.number == other.number
+        && entry.message_reference == other.message_reference
+        && entry.reference == other.reference
+        && entry.destination == other.destination
+        && are(entry.tpdu.as_slice(), other.tpdu.as_slice())
+        && entry.is_long == other.is_long
 }
 
-fn is_same_progress(entry: &OutEntry, text: &Text) -> bool {
-    entry.state == text.state
-        && entry.tries == text.tries
-        && entry.rejects_duplicates == text.rejects_duplicates
-        && entry.due == text.not_before
-        && entry.status == text.status
+fn is_same_progress(entry: &OutEntry, other: &OutEntry) -> bool {
+    entry.state == other.state
+        && entry.tries == other.tries
+        && entry.rejects_duplicates == other.rejects_duplicates
+        && entry.due == other.due
+        && entry.status == other.status
 }

@@ -4,45 +4,16 @@ mod receiving;
 mod sending;
 mod writing;
 
-use sms_base::{Address, Carried, Holder, Kind, Listed, Moment, Octets};
-use sms_control::{Links, TransactionFlag, Up};
-use sms_handset::{Entry, EntryState, Group, HandsetEvent, Message, Refusal};
+use sms_base::{Carried, Holder, Kind, Moment, Octets};
+use sms_control::{Links, Out, TransactionFlag, Up};
+use sms_handset::{
+    Counters, DiscardedGroup, Entry, EntryState, Group, HandsetEvent, LastAccepted, Message,
+    OutEntry, Refusal,
+};
 use sms_link::Outgoing;
+use sms_table::{Key, Row};
 use std::alloc::Global;
 use std::test::Fail;
-pub(crate) use writing::submit_of;
-
-/// A discarded group, and the numbers that came of it.
-#[derive(Drop)]
-pub(crate) struct Discarded {
-    pub(crate) number: u32,
-    pub(crate) group: Group,
-    pub(crate) seen: Octets,
-}
-
-/// The TPDU that was accepted last under a reference.
-#[derive(Drop)]
-pub(crate) struct Accepted {
-    pub(crate) reference: u8,
-    pub(crate) tpdu: Octets,
-}
-
-/// A text in the outbox, or a part of one.
-#[derive(Drop)]
-pub(crate) struct Text {
-    pub(crate) number: u32,
-    pub(crate) message_reference: u8,
-    pub(crate) reference: u8,
-    pub(crate) to: Address,
-    /// The SUBMIT with TP-RD 0.
-    pub(crate) submit: Octets,
-    pub(crate) is_long: bool,
-    pub(crate) state: EntryState,
-    pub(crate) tries: u8,
-    pub(crate) rejects_duplicates: bool,
-    pub(crate) not_before: Option<Moment>,
-    pub(crate) status: Option<u8>,
-}
 
 /// An RP-SMMA that was sent once or twice.
 #[derive(Clone, Copy)]
@@ -77,19 +48,12 @@ pub(crate) enum Ending {
 pub(crate) struct Plain {
     pub(crate) alloc: Global,
     pub(crate) slots: u8,
-    /// The address of the centre as RP-DATA has it: its length, its type and its digits.
-    pub(crate) centre: Octets,
     // What a restart keeps.
     pub(crate) entries: Vec<Entry>,
-    pub(crate) accepted: Vec<Accepted>,
-    pub(crate) outbox: Vec<Text>,
-    pub(crate) discarded: Vec<Discarded>,
-    pub(crate) next_number: u32,
-    pub(crate) next_message_reference: u8,
-    pub(crate) next_reference: u8,
-    pub(crate) next_split: u16,
-    pub(crate) next_notice: u32,
-    pub(crate) is_memory_full: bool,
+    pub(crate) accepted: Vec<LastAccepted>,
+    pub(crate) outbox: Vec<OutEntry>,
+    pub(crate) discarded: Vec<DiscardedGroup>,
+    pub(crate) counters: Counters,
     // What a restart forgets.
     pub(crate) start: Moment,
     pub(crate) now: Moment,
@@ -105,21 +69,22 @@ pub(crate) struct Plain {
 
 impl Plain {
     /// A new handset.
-    pub(crate) fn new(alloc: Global, slots: u8, centre: Octets, start: Moment) -> Plain {
+    pub(crate) fn new(alloc: Global, slots: u8, start: Moment) -> Plain {
         Plain {
             alloc,
             slots,
-            centre,
             entries: Vec::new(alloc),
             accepted: Vec::new(alloc),
             outbox: Vec::new(alloc),
             discarded: Vec::new(alloc),
-            next_number: 1,
-            next_message_reference: 0,
-            next_reference: 0,
-            next_split: 0,
-            next_notice: 0,
-            is_memory_full: false,
+            counters: Counters {
+                entry: 1,
+                message_reference: 0,
+                reference: 0,
+                concat_reference: 0,
+                notice: 0,
+                is_memory_full: false,
+            },
             start,
             now: start,
             links: Links::new(alloc),
@@ -173,24 +138,9 @@ impl Plain {
     }
 
     fn frame(&mut self, frame: &[u8], tag: Option<Holder>) -> Result<(), Fail> {
-        // entry 0 is none
-        let tag = tag.unwrap_or(Holder::Entry(0));
         let out = self.links.take(frame)?;
-        self.send_all(out.frames, true)?;
-        match out.up {
-            None => Ok(()),
-            Some(Up::Failed) => {
-                self.ended(Ending::Lost);
-                Ok(())
-            }
-            Some(Up::Unit { flag, unit }) => match flag {
-                TransactionFlag::FromOriginator => self.receive(unit.as_slice(), tag),
-                TransactionFlag::ToOriginator => {
-                    self.answered(unit.as_slice());
-                    Ok(())
-                }
-            },
-        }
+        // entry 0 is none
+        self.goes_on(&out, tag.unwrap_or(Holder::Entry(0)))
     }
 
     fn tick(&mut self, now: Moment) -> Result<(), Fail> {
@@ -198,24 +148,48 @@ impl Plain {
             self.now = now;
         }
         let out = self.links.fire(self.now)?;
-        self.send_all(out.frames, true)?;
-        if matches!(out.up, Some(Up::Failed)) {
-            self.ended(Ending::Lost);
+        self.goes_on(&out, Holder::Entry(0))
+    }
+
+    // What the links give of their own is sent, and what they tell is done.
+    fn goes_on(&mut self, out: &Out, tag: Holder) -> Result<(), Fail> {
+        self.send_all(out, true)?;
+        match &out.up {
+            None => Ok(()),
+            Some(Up::Failed) => {
+                self.ended(Ending::Lost);
+                Ok(())
+            }
+            Some(Up::Unit { flag, unit }) => self.unit(*flag, unit.as_slice(), tag),
+        }
+    }
+
+    fn unit(&mut self, flag: TransactionFlag, unit: &[u8], tag: Holder) -> Result<(), Fail> {
+        match flag {
+            TransactionFlag::FromOriginator => self.receive(unit, tag),
+            TransactionFlag::ToOriginator => {
+                self.answered(unit);
+                Ok(())
+            }
+        }
+    }
+
+    // Frames that links gave, of their own or not: CP-DATA has what its transaction carries, anything else nothing.
+    pub(crate) fn send_all(&mut self, out: &Out, again: bool) -> Result<(), Fail> {
+        for frame in out.frames.as_slice() {
+            self.send(frame.as_slice(), again)?;
         }
         Ok(())
     }
 
-    // Frames that links gave, of their own or not: CP-DATA has what its transaction carries, anything else nothing.
-    pub(crate) fn send_all(&mut self, frames: Listed<Octets>, again: bool) -> Result<(), Fail> {
-        for octets in frames.into_vec() {
-            let carried = self.carried_by(octets.as_slice());
-            let is_copy = again && carried.is_some();
-            self.sent.push(Outgoing {
-                octets,
-                carried,
-                is_copy,
-            })?;
-        }
+    fn send(&mut self, frame: &[u8], again: bool) -> Result<(), Fail> {
+        let carried = self.carried_by(frame);
+        let octets = owned(self.alloc, frame)?;
+        self.sent.push(Outgoing {
+            octets,
+            carried,
+            is_copy: again && carried.is_some(),
+        })?;
         Ok(())
     }
 
@@ -253,45 +227,37 @@ impl Plain {
     }
 
     pub(crate) fn has_room(&self) -> bool {
-        self.taken() < u32::from(self.slots) && self.next_number < u32::MAX
+        self.taken() < u32::from(self.slots) && self.counters.entry < u32::MAX
     }
 
     // The number of an entry that comes.
     pub(crate) fn number(&mut self) -> u32 {
-        let number = self.next_number;
-        self.next_number = number.saturating_add(1);
+        let number = self.counters.entry;
+        self.counters.entry = number.saturating_add(1);
         number
     }
 
     // A slot has become free.
     fn freed(&mut self) {
-        if self.is_memory_full {
-            self.is_memory_full = false;
+        if self.counters.is_memory_full {
+            self.counters.is_memory_full = false;
             self.notices_wanted = self.notices_wanted.saturating_add(1);
         }
     }
 
     fn delete(&mut self, number: u32) -> Option<Refusal> {
-        for entry in &self.entries {
-            if entry.number == number {
-                if matches!(&entry.message, Message::Part { .. }) {
-                    return Some(Refusal::StillOpen);
-                }
-                self.entries.retain(|entry| entry.number != number);
+        match may_delete(self.entries.as_slice(), self.outbox.as_slice(), number) {
+            Deletion::FromInbox => {
+                remove(&mut self.entries, Key::of(u64::from(number)));
                 self.freed();
-                return None;
+                None
             }
-        }
-        for text in &self.outbox {
-            if text.number == number {
-                if text.state == EntryState::Queued || text.state == EntryState::Sending {
-                    return Some(Refusal::StillOpen);
-                }
-                self.outbox.retain(|text| text.number != number);
-                return None;
+            Deletion::FromOutbox => {
+                remove(&mut self.outbox, Key::of(u64::from(number)));
+                None
             }
+            Deletion::Refused(refusal) => Some(refusal),
         }
-        Some(Refusal::NoEntry)
     }
 
     // The open group whose first stored part has that number.
@@ -336,23 +302,64 @@ impl Plain {
     }
 
     fn discard(&mut self, number: u32) -> Result<Option<Refusal>, Fail> {
-        let group = match self.group_that_begins_at(number) {
-            Some(group) => group,
-            None => return Ok(Some(Refusal::NoEntry)),
-        };
-        if self.discarded.len() >= 64 {
-            return Ok(Some(Refusal::TooManyDiscarded));
+        match self.group_that_begins_at(number) {
+            None => Ok(Some(Refusal::NoEntry)),
+            Some(_) if self.discarded.len() >= 64 => Ok(Some(Refusal::TooManyDiscarded)),
+            Some(group) => {
+                self.discard_group(number, &group)?;
+                Ok(None)
+            }
         }
-        let seen = self.numbers_of(&group)?;
-        self.discarded.push(Discarded {
+    }
+
+    fn discard_group(&mut self, number: u32, group: &Group) -> Result<(), Fail> {
+        let seen = self.numbers_of(group)?;
+        self.discarded.push(DiscardedGroup {
             number,
-            group,
+            group: *group,
             seen,
         })?;
-        self.entries.retain(|entry| !is_part_of(&group, entry));
+        remove_parts(&mut self.entries, group);
         self.freed();
-        Ok(None)
+        Ok(())
     }
+}
+
+// What an owner's wish to delete comes to.
+enum Deletion {
+    FromInbox,
+    FromOutbox,
+    Refused(Refusal),
+}
+
+fn may_delete(entries: &[Entry], outbox: &[OutEntry], number: u32) -> Deletion {
+    for entry in entries {
+        if entry.number == number {
+            return match &entry.message {
+                Message::Part { .. } => Deletion::Refused(Refusal::StillOpen),
+                _ => Deletion::FromInbox,
+            };
+        }
+    }
+    for text in outbox {
+        if text.number == number {
+            return match text.state {
+                EntryState::Queued | EntryState::Sending => Deletion::Refused(Refusal::StillOpen),
+                _ => Deletion::FromOutbox,
+            };
+        }
+    }
+    Deletion::Refused(Refusal::NoEntry)
+}
+
+/// The row of that key goes.
+pub(crate) fn remove<T: Row + Drop>(rows: &mut Vec<T>, key: Key) {
+    rows.retain(|row| row.key() != key);
+}
+
+/// The parts of the group go.
+pub(crate) fn remove_parts(entries: &mut Vec<Entry>, group: &Group) {
+    entries.retain(|entry| !is_part_of(group, entry));
 }
 
 pub(crate) fn is_part_of(group: &Group, entry: &Entry) -> bool {

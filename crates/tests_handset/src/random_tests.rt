@@ -1,4 +1,5 @@
 //! Long lists of events from a fixed generator, which happen to the handset and to the plain one.
+use crate::cases::{Case, run};
 use crate::pair::Pair;
 use sms_base::Octets;
 use sms_link::Outgoing;
@@ -46,6 +47,10 @@ struct Others {
     message_reference: u8,
     // The transaction that the centre began last.
     opened: u8,
+    // What is being made: a TPDU, a unit, a frame.
+    tpdu: Vec<u8>,
+    unit: Vec<u8>,
+    frame: Vec<u8>,
     // Frames that came.
     frames: Vec<Octets>,
     seconds: u64,
@@ -60,155 +65,134 @@ fn other_head(identifier: u8) -> u8 {
     head(identifier).saturating_add(128)
 }
 
-// CP-DATA with the unit.
-fn data_frame(alloc: Global, head: u8, unit: &[u8]) -> Result<Octets, Fail> {
-    let mut frame = Octets::copy_of(alloc, &[head, 1, u8::try_from(unit.len())?])?;
-    frame.append(unit)?;
-    Ok(frame)
-}
-
-// RP-DATA from the centre 447700900000.
-fn data_unit(alloc: Global, reference: u8, tpdu: &[u8]) -> Result<Octets, Fail> {
-    let len = u8::try_from(tpdu.len())?;
-    let head = [1, reference, 7, 0x91, 0x44, 0x77, 0, 9, 0, 0, 0, len];
-    let mut unit = Octets::copy_of(alloc, &head)?;
-    unit.append(tpdu)?;
-    Ok(unit)
-}
-
 // A DELIVER from 447700900001 or 447700900002.
 fn deliver(
-    alloc: Global,
+    tpdu: &mut Vec<u8>,
     first: u8,
     sender: u8,
     scheme: u8,
     length: u8,
     user_data: &[u8],
-) -> Result<Octets, Fail> {
+) -> Result<(), Fail> {
     let last = if sender == 0 { 0x10 } else { 0x20 };
-    let head = [
+    tpdu.extend_from_slice(&[
         first, 0x0C, 0x91, 0x44, 0x77, 0, 9, 0, last, 0, scheme, 0x42, 0x20, 0x92, 0x32, 0x95,
         0x85, 0, length,
-    ];
-    let mut tpdu = Octets::copy_of(alloc, &head)?;
-    tpdu.append(user_data)?;
-    Ok(tpdu)
+    ])?;
+    tpdu.extend_from_slice(user_data)?;
+    Ok(())
 }
 
 // A part with a septet of the default alphabet, which stands behind one fill bit.
-fn part(alloc: Global, sender: u8, key: [u8; 3], letter: u8) -> Result<Octets, Fail> {
+fn part(tpdu: &mut Vec<u8>, sender: u8, key: [u8; 3], letter: u8) -> Result<(), Fail> {
     let [reference, total, number] = key;
     let septet = letter.saturating_mul(2).saturating_add(0xC2);
     let user_data = [5, 0, 3, reference, total, number, septet];
-    deliver(alloc, 0x44, sender, 0, 8, &user_data)
+    deliver(tpdu, 0x44, sender, 0, 8, &user_data)
 }
 
 // A part with an octet.
-fn octet_part(alloc: Global, key: [u8; 3], letter: u8) -> Result<Octets, Fail> {
+fn octet_part(tpdu: &mut Vec<u8>, key: [u8; 3], letter: u8) -> Result<(), Fail> {
     let [reference, total, number] = key;
-    deliver(
-        alloc,
-        0x44,
-        0,
-        4,
-        7,
-        &[5, 0, 3, reference, total, number, letter],
-    )
+    let user_data = [5, 0, 3, reference, total, number, letter];
+    deliver(tpdu, 0x44, 0, 4, 7, &user_data)
 }
 
 // A part whose reference has 16 bits.
-fn wide_part(alloc: Global, reference: u8, number: u8, letter: u8) -> Result<Octets, Fail> {
-    deliver(
-        alloc,
-        0x44,
-        0,
-        4,
-        8,
-        &[6, 8, 4, 0, reference, 2, number, letter],
-    )
+fn wide_part(tpdu: &mut Vec<u8>, reference: u8, number: u8, letter: u8) -> Result<(), Fail> {
+    let user_data = [6, 8, 4, 0, reference, 2, number, letter];
+    deliver(tpdu, 0x44, 0, 4, 8, &user_data)
 }
 
 // STATUS-REPORT for a message to 447700900123 or 447700900124.
-fn status_report(alloc: Global, reference: u8, to: u8, status: u8) -> Result<Octets, Fail> {
+fn status_report(tpdu: &mut Vec<u8>, reference: u8, to: u8, status: u8) -> Result<(), Fail> {
     let last = if to == 0 { 0x32 } else { 0x42 };
-    let tpdu = [
+    tpdu.extend_from_slice(&[
         6, reference, 0x0C, 0x91, 0x44, 0x77, 0, 9, 0x10, last, 0x42, 0x20, 0x92, 0x32, 0x95, 0x85,
         0, 0x42, 0x30, 0x10, 0, 0, 0, 0, status,
-    ];
-    Ok(Octets::copy_of(alloc, &tpdu)?)
+    ])?;
+    Ok(())
 }
 
-// RP-ACK, RP-ERROR with a cause, or a unit that is unknown.
-fn plain_answer(alloc: Global, choice: u8, reference: u8) -> Result<Octets, Fail> {
-    let cause = match choice {
-        0..=4 => return Ok(Octets::copy_of(alloc, &[3, reference])?),
-        5 => return Ok(Octets::copy_of(alloc, &[9, reference])?),
-        6 => 41,
-        7 => 38,
-        8 => 42,
-        9 => 47,
-        _ => 21,
-    };
-    Ok(Octets::copy_of(alloc, &[5, reference, 1, cause])?)
+// RP-ERROR with a cause.
+fn error(unit: &mut Vec<u8>, reference: u8, cause: u8) -> Result<(), Fail> {
+    unit.extend_from_slice(&[5, reference, 1, cause])?;
+    Ok(())
+}
+
+// RP-ACK, or a unit that is unknown.
+fn two_octets(unit: &mut Vec<u8>, kind: u8, reference: u8) -> Result<(), Fail> {
+    unit.extend_from_slice(&[kind, reference])?;
+    Ok(())
+}
+
+fn plain_answer(unit: &mut Vec<u8>, choice: u8, reference: u8) -> Result<(), Fail> {
+    match choice {
+        0..=4 => two_octets(unit, 3, reference),
+        5 => two_octets(unit, 9, reference),
+        6 => error(unit, reference, 41),
+        7 => error(unit, reference, 38),
+        8 => error(unit, reference, 42),
+        9 => error(unit, reference, 47),
+        _ => error(unit, reference, 21),
+    }
 }
 
 impl Others {
-    fn single(&mut self) -> Result<Octets, Fail> {
+    fn single(&mut self) -> Result<(), Fail> {
         let first = self.dice.roll(2).saturating_mul(4);
+        let tpdu = &mut self.tpdu;
         match self.dice.roll(4) {
-            0 => deliver(self.alloc, first, 0, 0, 5, &[0xE8, 0x32, 0x9B, 0xFD, 0x06]),
-            1 => deliver(self.alloc, first, 1, 8, 2, &[0x04, 0x36]),
-            2 => deliver(self.alloc, first, 0, 4, 0, &[]),
-            _ => {
-                let status = self.dice.roll(3);
-                let back = self.dice.roll(3);
-                let reference = self.message_reference.wrapping_sub(back);
-                let to = self.dice.roll(4) / 3;
-                status_report(self.alloc, reference, to, status)
-            }
+            0 => deliver(tpdu, first, 0, 0, 5, &[0xE8, 0x32, 0x9B, 0xFD, 0x06]),
+            1 => deliver(tpdu, first, 1, 8, 2, &[0x04, 0x36]),
+            2 => deliver(tpdu, first, 0, 4, 0, &[]),
+            _ => self.report(),
         }
     }
 
+    fn report(&mut self) -> Result<(), Fail> {
+        let status = self.dice.roll(3);
+        let back = self.dice.roll(3);
+        let reference = self.message_reference.wrapping_sub(back);
+        let to = self.dice.roll(4) / 3;
+        status_report(&mut self.tpdu, reference, to, status)
+    }
+
     // A part of two or three, under one of two keys and from one of two senders.
-    fn long(&mut self) -> Result<Octets, Fail> {
+    fn long(&mut self) -> Result<(), Fail> {
         let letter = self.dice.roll(2);
         let two = self.dice.roll(2).saturating_add(1);
         let three = self.dice.roll(3).saturating_add(1);
+        let tpdu = &mut self.tpdu;
         match self.dice.roll(14) {
-            0..=3 => part(self.alloc, 0, [0x11, 2, two], letter),
-            4..=7 => part(self.alloc, 0, [0x22, 3, three], letter),
-            8 => part(self.alloc, 1, [0x11, 2, two], letter),
-            9 => octet_part(self.alloc, [0x22, 3, three], letter),
-            10 => wide_part(self.alloc, 0x11, two, letter),
-            11 => part(self.alloc, 0, [0x11, 3, three], letter),
-            12 => part(self.alloc, 0, [0x33, 1, 1], letter),
-            _ => part(self.alloc, 0, [0x33, 2, three], letter),
+            0..=3 => part(tpdu, 0, [0x11, 2, two], letter),
+            4..=7 => part(tpdu, 0, [0x22, 3, three], letter),
+            8 => part(tpdu, 1, [0x11, 2, two], letter),
+            9 => octet_part(tpdu, [0x22, 3, three], letter),
+            10 => wide_part(tpdu, 0x11, two, letter),
+            11 => part(tpdu, 0, [0x11, 3, three], letter),
+            12 => part(tpdu, 0, [0x33, 1, 1], letter),
+            _ => part(tpdu, 0, [0x33, 2, three], letter),
         }
     }
 
     // Octets that are no TPDU downwards, or a header without a key.
-    fn odd(&mut self) -> Result<Octets, Fail> {
-        let alloc = self.alloc;
-        match self.dice.roll(8) {
-            0 => Ok(Octets::new(alloc)),
-            1 => deliver(alloc, 3, 0, 0, 0, &[]),
-            2 => deliver(alloc, 1, 0, 0, 0, &[]),
-            3 => deliver(alloc, 0, 0, 4, 1, &[]),
-            4 => deliver(alloc, 0, 0, 4, 0, &[7]),
-            5 => deliver(alloc, 0x40, 0, 4, 5, &[4, 0, 3, 0x11, 2]),
-            6 => deliver(alloc, 0x40, 0, 4, 3, &[4, 0, 3]),
-            _ => deliver(
-                alloc,
-                0x40,
-                0,
-                4,
-                12,
-                &[11, 0, 3, 0x11, 2, 1, 8, 4, 0, 0x11, 2, 2],
-            ),
-        }
+    fn odd(&mut self) -> Result<(), Fail> {
+        let (first, scheme, length, user_data): (u8, u8, u8, &[u8]) = match self.dice.roll(8) {
+            0 => return Ok(()),
+            1 => (3, 0, 0, &[]),
+            2 => (1, 0, 0, &[]),
+            3 => (0, 4, 1, &[]),
+            4 => (0, 4, 0, &[7]),
+            5 => (0x40, 4, 5, &[4, 0, 3, 0x11, 2]),
+            6 => (0x40, 4, 3, &[4, 0, 3]),
+            _ => (0x40, 4, 12, &[11, 0, 3, 0x11, 2, 1, 8, 4, 0, 0x11, 2, 2]),
+        };
+        deliver(&mut self.tpdu, first, 0, scheme, length, user_data)
     }
 
-    fn tpdu(&mut self) -> Result<Octets, Fail> {
+    fn tpdu(&mut self) -> Result<(), Fail> {
+        self.tpdu.clear();
         match self.dice.roll(10) {
             0..=2 => self.single(),
             3..=8 => self.long(),
@@ -216,17 +200,34 @@ impl Others {
         }
     }
 
+    // RP-DATA from the centre 447700900000 with the TPDU.
+    fn data(&mut self, reference: u8) -> Result<(), Fail> {
+        let len = u8::try_from(self.tpdu.len())?;
+        self.unit
+            .extend_from_slice(&[1, reference, 7, 0x91, 0x44, 0x77, 0, 9, 0, 0, 0, len])?;
+        self.unit.extend_from_slice(self.tpdu.as_slice())?;
+        Ok(())
+    }
+
+    // CP-DATA with the unit.
+    fn wrap(&mut self, head: u8) -> Result<(), Fail> {
+        let len = u8::try_from(self.unit.len())?;
+        self.frame.extend_from_slice(&[head, 1, len])?;
+        self.frame.extend_from_slice(self.unit.as_slice())?;
+        Ok(())
+    }
+
     // CP-DATA that opens a transaction.
-    fn opening(&mut self) -> Result<Octets, Fail> {
+    fn opening(&mut self) -> Result<(), Fail> {
         self.opened = self.dice.roll(7);
-        let tpdu = self.tpdu()?;
+        self.tpdu()?;
         let reference = self.dice.roll(4);
-        let unit = data_unit(self.alloc, reference, tpdu.as_slice())?;
-        data_frame(self.alloc, head(self.opened), unit.as_slice())
+        self.data(reference)?;
+        self.wrap(head(self.opened))
     }
 
     // CP-DATA with another unit, or one that can't be read.
-    fn odd_opening(&mut self) -> Result<Octets, Fail> {
+    fn odd_opening(&mut self) -> Result<(), Fail> {
         self.opened = self.dice.roll(7);
         let unit: &[u8] = match self.dice.roll(9) {
             0 => &[6, 5],
@@ -239,59 +240,57 @@ impl Others {
             7 => &[2, 1, 0x41, 2, 0, 0],
             _ => &[1, 8, 7, 0x91, 0x44, 0x77, 0, 9, 0, 0, 1, 0],
         };
-        data_frame(self.alloc, head(self.opened), unit)
+        self.unit.extend_from_slice(unit)?;
+        self.wrap(head(self.opened))
     }
 
-    // CP-DATA that answers what the handset began.
-    fn answer(&mut self) -> Result<Octets, Fail> {
-        let unit = self.answer_unit()?;
-        data_frame(self.alloc, other_head(self.begun), unit.as_slice())
-    }
-
-    // Now and then under another reference, and with a report that has the failure cause of a duplicate.
-    fn answer_unit(&mut self) -> Result<Octets, Fail> {
+    // CP-DATA that answers what the handset began: now and then under another reference, and with a report that has the
+    // failure cause of a duplicate.
+    fn answer(&mut self) -> Result<(), Fail> {
         let other = if self.dice.roll(8) == 0 { 1 } else { 0 };
         let choice = self.dice.roll(13);
-        let mut unit = plain_answer(self.alloc, choice, self.reference.wrapping_add(other))?;
+        plain_answer(&mut self.unit, choice, self.reference.wrapping_add(other))?;
         if choice > 5 && self.dice.roll(3) == 0 {
-            unit.append(&DUPLICATE)?;
+            self.unit.extend_from_slice(&DUPLICATE)?;
         }
-        Ok(unit)
+        self.wrap(other_head(self.begun))
     }
 
     // CP-ACK or CP-ERROR for one of the two transactions.
-    fn control(&mut self) -> Result<Octets, Fail> {
+    fn control(&mut self) -> Result<(), Fail> {
         let choice = self.dice.roll(7);
         let head = match choice {
             0..=2 => other_head(self.begun),
             _ => head(self.opened),
         };
-        let frame: &[u8] = if choice < 5 { &[4] } else { &[0x10, 0x51] };
-        let mut octets = Octets::copy_of(self.alloc, &[head])?;
-        octets.append(frame)?;
-        Ok(octets)
+        let rest: &[u8] = if choice < 5 { &[4] } else { &[0x10, 0x51] };
+        self.frame.push(head)?;
+        self.frame.extend_from_slice(rest)?;
+        Ok(())
     }
 
     // A frame that came before, or one that can't be read.
-    fn repeated(&mut self) -> Result<Octets, Fail> {
+    fn repeated(&mut self) -> Result<(), Fail> {
         let back = usize::from(self.dice.roll(6));
-        match self.frames.iter().rev().nth(back) {
-            Some(earlier) => Ok(Octets::copy_of(self.alloc, earlier.as_slice())?),
-            None => Ok(Octets::new(self.alloc)),
+        if let Some(earlier) = self.frames.iter().rev().nth(back) {
+            self.frame.extend_from_slice(earlier.as_slice())?;
         }
+        Ok(())
     }
 
-    fn frame(&mut self) -> Result<Octets, Fail> {
-        let frame = match self.dice.roll(40) {
+    fn frame(&mut self) -> Result<(), Fail> {
+        self.unit.clear();
+        self.frame.clear();
+        match self.dice.roll(40) {
             0..=16 => self.opening()?,
             17 => self.odd_opening()?,
             18..=27 => self.answer()?,
             28..=34 => self.control()?,
             _ => self.repeated()?,
-        };
-        let copy = Octets::copy_of(self.alloc, frame.as_slice())?;
-        self.frames.push(copy)?;
-        Ok(frame)
+        }
+        self.frames
+            .push(Octets::copy_of(self.alloc, self.frame.as_slice())?)?;
+        Ok(())
     }
 
     fn tick(&mut self, pair: &mut Pair) -> Result<(), Fail> {
@@ -348,8 +347,8 @@ impl Others {
     fn act(&mut self, pair: &mut Pair) -> Result<(), Fail> {
         match self.dice.roll(25) {
             0..=14 => {
-                let frame = self.frame()?;
-                pair.frame(frame.as_slice())?;
+                self.frame()?;
+                pair.frame(self.frame.as_slice())?;
             }
             15..=16 => self.tick(pair)?,
             17..=18 => self.write(pair)?,
@@ -396,17 +395,19 @@ fn meeting(alloc: Global, seed: u64) -> Others {
         reference: 0,
         message_reference: 0,
         opened: 0,
+        tpdu: Vec::new(alloc),
+        unit: Vec::new(alloc),
+        frame: Vec::new(alloc),
         frames: Vec::new(alloc),
         seconds: 0,
     }
 }
 
 // So many events from the seed.
-fn run(alloc: Global, seed: u64, slots: u8, events: u32) -> Result<(), Fail> {
-    let mut pair = Pair::new(alloc, slots)?;
-    let mut others = meeting(alloc, seed);
+pub(crate) fn meet(pair: &mut Pair, seed: u64, events: u32) -> Result<(), Fail> {
+    let mut others = meeting(pair.alloc, seed);
     for _ in 0..events {
-        others.act(&mut pair)?;
+        others.act(pair)?;
     }
     Ok(())
 }
@@ -414,7 +415,7 @@ fn run(alloc: Global, seed: u64, slots: u8, events: u32) -> Result<(), Fail> {
 #[test]
 fn random_events_with_few_slots(rt: HostRuntime) -> Result<(), Fail> {
     for seed in 1..=4 {
-        run(rt.alloc(), seed, 3, 100)?;
+        run(rt.alloc(), 3, Case::Meet { seed, events: 100 })?;
     }
     Ok(())
 }
@@ -422,7 +423,7 @@ fn random_events_with_few_slots(rt: HostRuntime) -> Result<(), Fail> {
 #[test]
 fn random_events_with_many_slots(rt: HostRuntime) -> Result<(), Fail> {
     for seed in 5..=8 {
-        run(rt.alloc(), seed, 12, 100)?;
+        run(rt.alloc(), 12, Case::Meet { seed, events: 100 })?;
     }
     Ok(())
 }

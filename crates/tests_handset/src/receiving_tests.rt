@@ -1,9 +1,9 @@
 //! A handset, and the plain one beside it, over frames that were written down elsewhere.
+use crate::cases::{Case, run};
 use crate::pair::Pair;
 use crate::rows::{are, changed, holds};
-use sms_base::{AddressError, Octets};
+use sms_base::AddressError;
 use sms_handset::{Entry, HandsetEvent, Message, Refusal, TextView};
-use std::alloc::Global;
 use std::test::Fail;
 
 // CP-DATA with an RP-DATA of reference 0: `hello` from 447700900001.
@@ -17,15 +17,48 @@ const SECOND: &[u8] =
 // RP-ACK of the reference 0, in a transaction.
 const ACK: &[u8] = b"\x89\x01\x06\x02\x00\x41\x02\x00\x00";
 
-// The message comes with other octets, and is acknowledged; the octet is that of the transaction.
+// A frame comes with other octets, and these are sent.
+fn takes_changed(
+    pair: &mut Pair,
+    frame: &[u8],
+    changes: &[(usize, u8)],
+    sent: &[&[u8]],
+) -> Result<(), Fail> {
+    let frame = changed(pair.alloc, frame, changes)?;
+    pair.takes(frame.as_slice(), sent)
+}
+
+// The message comes with other octets, and is answered so with other octets; the answer's first is the transaction's.
+fn is_answered(
+    pair: &mut Pair,
+    frame: &[u8],
+    changes: &[(usize, u8)],
+    answer: &[u8],
+    others: &[(usize, u8)],
+) -> Result<(), Fail> {
+    let answer = changed(pair.alloc, answer, others)?;
+    takes_answered(pair, frame, changes, answer.as_slice())
+}
+
+fn takes_answered(
+    pair: &mut Pair,
+    frame: &[u8],
+    changes: &[(usize, u8)],
+    answer: &[u8],
+) -> Result<(), Fail> {
+    match answer {
+        [head, ..] => takes_changed(pair, frame, changes, &[&[*head, 0x04], answer]),
+        [] => Err(Fail::new("no answer")),
+    }
+}
+
+// The message comes again and is acknowledged in that transaction; nothing more is stored.
 fn is_acknowledged(pair: &mut Pair, head: u8, changes: &[(usize, u8)]) -> Result<(), Fail> {
-    let again = changed(pair.alloc, HELLO, changes)?;
-    let ack = changed(pair.alloc, ACK, &[(0, head)])?;
-    pair.takes(again.as_slice(), &[&[head, 0x04], ack.as_slice()])?;
+    is_answered(pair, HELLO, changes, ACK, &[(0, head)])?;
     pair.has_stored(1)
 }
 
-fn double(pair: &mut Pair) -> Result<(), Fail> {
+pub(crate) fn double(pair: &mut Pair) -> Result<(), Fail> {
     is_acknowledged(pair, 0x89, &[])?;
     is_acknowledged(pair, 0x99, &[(0, 0x19)])?;
     // the same, which tells now that more messages wait
@@ -35,11 +68,10 @@ fn double(pair: &mut Pair) -> Result<(), Fail> {
 
 #[test]
 fn a_double_is_acknowledged_alone(rt: HostRuntime) -> Result<(), Fail> {
-    let mut pair = Pair::new(rt.alloc(), 1)?;
-    double(&mut pair)
+    run(rt.alloc(), 1, Case::Double)
 }
 
-fn memory_available(pair: &mut Pair) -> Result<(), Fail> {
+pub(crate) fn memory_available(pair: &mut Pair) -> Result<(), Fail> {
     let ack: &[u8] = b"\x89\x01\x06\x02\x00\x41\x02\x00\x00";
     pair.takes(HELLO, &[b"\x89\x04", ack])?;
     pair.takes(b"\x09\x04", &[])?;
@@ -56,16 +88,19 @@ fn memory_available(pair: &mut Pair) -> Result<(), Fail> {
 
 #[test]
 fn a_full_handset_says_when_it_has_memory_again(rt: HostRuntime) -> Result<(), Fail> {
-    let mut pair = Pair::new(rt.alloc(), 1)?;
-    memory_available(&mut pair)
+    run(rt.alloc(), 1, Case::MemoryAvailable)
 }
 
 // A message comes in that transaction under the reference, and is answered so; the answer is acknowledged.
-fn is_answered(pair: &mut Pair, head: u8, reference: u8, answer: &[u8]) -> Result<(), Fail> {
+fn goes_through(pair: &mut Pair, head: u8, reference: u8, answer: &[u8]) -> Result<(), Fail> {
     let other = head.saturating_add(128);
-    let frame = changed(pair.alloc, HELLO, &[(0, head), (4, reference)])?;
-    let unit = changed(pair.alloc, answer, &[(0, other), (4, reference)])?;
-    pair.takes(frame.as_slice(), &[&[other, 4], unit.as_slice()])?;
+    is_answered(
+        pair,
+        HELLO,
+        &[(0, head), (4, reference)],
+        answer,
+        &[(0, other), (4, reference)],
+    )?;
     pair.takes(&[head, 4], &[])
 }
 
@@ -80,12 +115,12 @@ fn fills_and_frees(
     refused: (u8, u8),
     smma: &[u8],
 ) -> Result<(), Fail> {
-    is_answered(pair, stored.0, stored.1, ACK)?;
-    is_answered(pair, refused.0, refused.1, FULL)?;
+    goes_through(pair, stored.0, stored.1, ACK)?;
+    goes_through(pair, refused.0, refused.1, FULL)?;
     pair.gives(&HandsetEvent::Delete { entry }, &[smma])
 }
 
-fn two_notices(pair: &mut Pair) -> Result<(), Fail> {
+pub(crate) fn two_notices(pair: &mut Pair) -> Result<(), Fail> {
     let first: &[u8] = b"\x09\x01\x02\x06\x00";
     fills_and_frees(pair, 1, (0x09, 0), (0x19, 1), first)?;
     // RP-ERROR 38: it waits for TRAM
@@ -101,37 +136,48 @@ fn two_notices(pair: &mut Pair) -> Result<(), Fail> {
 
 #[test]
 fn a_notice_that_waits_holds_up_no_other(rt: HostRuntime) -> Result<(), Fail> {
-    let mut pair = Pair::new(rt.alloc(), 1)?;
-    two_notices(&mut pair)
+    run(rt.alloc(), 1, Case::TwoNotices)
 }
 
 // CP-DATA with part 1 of 3 under the reference 7, and one septet, moved left by one fill bit.
 const PART: &[u8] =
     b"\x09\x01\x26\x01\x00\x07\x91\x44\x77\x00\x09\x00\x00\x00\x1A\x44\x0C\x91\x44\x77\x00\x09\x10\x00\x00\x00\x42\x20\x92\x32\x95\x85\x00\x08\x05\x00\x03\x07\x03\x01\xC2";
 
-// The same in that transaction, under another RP reference, concatenation reference, total and number.
-fn part(alloc: Global, head: u8, reference: u8, key: [u8; 3], septet: u8) -> Result<Octets, Fail> {
-    let [concat, total, number] = key;
-    let front = changed(alloc, PART, &[(0, head), (4, reference)])?;
-    changed(
-        alloc,
-        front.as_slice(),
-        &[(37, concat), (38, total), (39, number), (40, septet)],
-    )
-}
-
 // The octet of a transaction that the centre begins.
 fn head_of(ti: u8) -> u8 {
     (ti % 7).saturating_mul(16).saturating_add(9)
 }
 
+// A part comes in that transaction under the RP reference, with its concatenation reference, total and number, and is
+// acknowledged.
+fn comes_part(
+    pair: &mut Pair,
+    head: u8,
+    reference: u8,
+    key: [u8; 3],
+    septet: u8,
+) -> Result<(), Fail> {
+    let [concat, total, number] = key;
+    is_answered(
+        pair,
+        PART,
+        &[
+            (0, head),
+            (4, reference),
+            (37, concat),
+            (38, total),
+            (39, number),
+            (40, septet),
+        ],
+        ACK,
+        &[(0, head.saturating_add(128)), (4, reference)],
+    )
+}
+
 // A part comes, is acknowledged, and its acknowledgement is.
 fn takes_part(pair: &mut Pair, ti: u8, key: [u8; 3], septet: u8) -> Result<(), Fail> {
     let head = head_of(ti);
-    let other = head.saturating_add(128);
-    let frame = part(pair.alloc, head, ti, key, septet)?;
-    let ack = changed(pair.alloc, ACK, &[(0, other), (4, ti)])?;
-    pair.takes(frame.as_slice(), &[&[other, 0x04], ack.as_slice()])?;
+    comes_part(pair, head, ti, key, septet)?;
     pair.takes(&[head, 0x04], &[])
 }
 
@@ -155,13 +201,11 @@ fn has_joined(pair: &Pair, number: u32, parts: u8, septets: &[u8]) -> Result<(),
 }
 
 fn part_again(pair: &mut Pair) -> Result<(), Fail> {
-    let again = part(pair.alloc, 0x29, 1, [7, 3, 1], 0xC2)?;
-    let ack: &[u8] = b"\xA9\x01\x06\x02\x01\x41\x02\x00\x00";
-    pair.takes(again.as_slice(), &[b"\xA9\x04", ack])?;
+    comes_part(pair, 0x29, 1, [7, 3, 1], 0xC2)?;
     pair.has_stored(2)
 }
 
-fn three_parts(pair: &mut Pair) -> Result<(), Fail> {
+pub(crate) fn three_parts(pair: &mut Pair) -> Result<(), Fail> {
     takes_part(pair, 0, [7, 3, 3], 0xC6)?;
     takes_part(pair, 1, [7, 3, 1], 0xC2)?;
     part_again(pair)?;
@@ -171,8 +215,7 @@ fn three_parts(pair: &mut Pair) -> Result<(), Fail> {
 
 #[test]
 fn parts_are_joined_in_order(rt: HostRuntime) -> Result<(), Fail> {
-    let mut pair = Pair::new(rt.alloc(), 4)?;
-    three_parts(&mut pair)
+    run(rt.alloc(), 4, Case::ThreeParts)
 }
 
 // The first part of two is discarded.
@@ -184,7 +227,7 @@ fn discards_part(pair: &mut Pair) -> Result<(), Fail> {
     pair.refuses(&HandsetEvent::Discard { entry: 1 }, Refusal::NoEntry)
 }
 
-fn discarded_group(pair: &mut Pair) -> Result<(), Fail> {
+pub(crate) fn discarded_group(pair: &mut Pair) -> Result<(), Fail> {
     discards_part(pair)?;
     takes_part(pair, 1, [9, 2, 2], 0xC4)?;
     pair.has_stored(0)?;
@@ -195,8 +238,7 @@ fn discarded_group(pair: &mut Pair) -> Result<(), Fail> {
 
 #[test]
 fn a_discarded_group_is_forgotten_with_its_last_part(rt: HostRuntime) -> Result<(), Fail> {
-    let mut pair = Pair::new(rt.alloc(), 2)?;
-    discarded_group(&mut pair)
+    run(rt.alloc(), 2, Case::DiscardedGroup)
 }
 
 // A group of its own reference opens, and is discarded.
@@ -206,7 +248,7 @@ fn discards_group(pair: &mut Pair, n: u8) -> Result<(), Fail> {
     pair.gives(&HandsetEvent::Discard { entry }, &[])
 }
 
-fn discarded_groups(pair: &mut Pair) -> Result<(), Fail> {
+pub(crate) fn discarded_groups(pair: &mut Pair) -> Result<(), Fail> {
     for n in 0u8..64 {
         discards_group(pair, n)?;
     }
@@ -219,11 +261,10 @@ fn discarded_groups(pair: &mut Pair) -> Result<(), Fail> {
 
 #[test]
 fn at_most_64_groups_are_discarded(rt: HostRuntime) -> Result<(), Fail> {
-    let mut pair = Pair::new(rt.alloc(), 2)?;
-    discarded_groups(&mut pair)
+    run(rt.alloc(), 2, Case::DiscardedGroups)
 }
 
-fn refused_texts(pair: &mut Pair, long: &str) -> Result<(), Fail> {
+pub(crate) fn refused_texts(pair: &mut Pair, long: &str) -> Result<(), Fail> {
     let nobody = HandsetEvent::Write {
         text: TextView::of("hello"),
         to: TextView::of(""),
@@ -241,12 +282,11 @@ fn refused_texts(pair: &mut Pair, long: &str) -> Result<(), Fail> {
 
 #[test]
 fn texts_are_refused_in_order(rt: HostRuntime) -> Result<(), Fail> {
-    let mut pair = Pair::new(rt.alloc(), 1)?;
     let long = "a".repeat(rt.alloc(), 3041)?;
-    refused_texts(&mut pair, long.as_str())
+    run(rt.alloc(), 1, Case::RefusedTexts(long.as_str()))
 }
 
-fn unreadable_units(pair: &mut Pair) -> Result<(), Fail> {
+pub(crate) fn unreadable_units(pair: &mut Pair) -> Result<(), Fail> {
     let unknown: &[u8] = b"\x89\x01\x04\x04\x05\x01\x61";
     pair.takes(b"\x09\x01\x02\x07\x05", &[b"\x89\x04", unknown])?;
     let short: &[u8] = b"\x99\x01\x04\x04\x00\x01\x60";
@@ -257,6 +297,5 @@ fn unreadable_units(pair: &mut Pair) -> Result<(), Fail> {
 
 #[test]
 fn an_unreadable_unit_is_refused(rt: HostRuntime) -> Result<(), Fail> {
-    let mut pair = Pair::new(rt.alloc(), 1)?;
-    unreadable_units(&mut pair)
+    run(rt.alloc(), 1, Case::UnreadableUnits)
 }

@@ -2,7 +2,7 @@
 use crate::pair::{setup, started};
 use crate::rows::holds;
 use sms_base::Octets;
-use sms_handset::{Entry, Message, RecoverError, Rows};
+use sms_handset::{Entry, Message, RecoverError, Rows, Setup};
 use std::alloc::Global;
 use std::test::Fail;
 
@@ -20,33 +20,39 @@ fn single(alloc: Global, number: u32) -> Result<Entry, Fail> {
     })
 }
 
-// A handset's first rows, and two messages of these numbers, 3 being the next to give.
-fn rows_of(alloc: Global, one: u32, other: u32) -> Result<Rows, Fail> {
-    let mut rows = Rows::first(alloc, setup(1)?);
+// Two messages of these numbers, 3 being the next to give.
+fn add_two(alloc: Global, rows: &mut Rows, one: u32, other: u32) -> Result<(), Fail> {
     rows.counters.entry = 3;
     rows.entries.push(single(alloc, one)?)?;
     rows.entries.push(single(alloc, other)?)?;
+    Ok(())
+}
+
+fn rows_of(alloc: Global, setup: Setup, one: u32, other: u32) -> Result<Rows, Fail> {
+    let mut rows = Rows::first(alloc, setup);
+    add_two(alloc, &mut rows, one, other)?;
     Ok(rows)
 }
 
-// Whether no handset starts with them.
-fn are_bad(alloc: Global, one: u32, other: u32) -> Result<bool, Fail> {
-    match started(alloc, rows_of(alloc, one, other)?, 1)? {
-        Ok(_) => Ok(false),
-        Err(error) => Ok(error == RecoverError::BadRows),
+// How a handset starts with them.
+fn start(alloc: Global, one: u32, other: u32) -> Result<&'static str, Fail> {
+    let setup = setup(1)?;
+    match started(alloc, rows_of(alloc, setup, one, other)?, setup) {
+        Ok(_) => Ok("started"),
+        Err(RecoverError::BadRows) => Ok("bad rows"),
+        Err(RecoverError::NoMemory) => Ok("no memory"),
     }
-}
-
-fn is_started(alloc: Global, one: u32, other: u32) -> Result<bool, Fail> {
-    Ok(started(alloc, rows_of(alloc, one, other)?, 1)?.is_ok())
 }
 
 #[test]
 fn rows_with_two_entries_of_one_number_are_refused(rt: HostRuntime) -> Result<(), Fail> {
-    holds(is_started(rt.alloc(), 1, 2)?, "sound rows")?;
-    holds(are_bad(rt.alloc(), 1, 1)?, "two entries of one number")?;
+    holds(start(rt.alloc(), 1, 2)? == "started", "sound rows")?;
     holds(
-        are_bad(rt.alloc(), 1, 3)?,
+        start(rt.alloc(), 1, 1)? == "bad rows",
+        "two entries of one number",
+    )?;
+    holds(
+        start(rt.alloc(), 1, 3)? == "bad rows",
         "an entry of a number that was not given",
     )
 }

@@ -1,4 +1,5 @@
 //! References go around, past those that are held.
+use crate::cases::{Case, run};
 use crate::pair::Pair;
 use crate::rows::holds;
 use sms_handset::HandsetEvent;
@@ -89,7 +90,7 @@ fn texts_go(pair: &mut Pair) -> Result<(), Fail> {
     Ok(())
 }
 
-fn references(pair: &mut Pair) -> Result<(), Fail> {
+pub(crate) fn references(pair: &mut Pair) -> Result<(), Fail> {
     holding(pair)?;
     newest_has(pair, 0, 1)?;
     texts_go(pair)?;
@@ -101,6 +102,5 @@ fn references(pair: &mut Pair) -> Result<(), Fail> {
 
 #[test]
 fn references_go_around_those_that_are_held(rt: HostRuntime) -> Result<(), Fail> {
-    let mut pair = Pair::new(rt.alloc(), 1)?;
-    references(&mut pair)
+    run(rt.alloc(), 1, Case::References)
 }

@@ -19,7 +19,7 @@ pub(crate) fn changed(
     frame: &[u8],
     changes: &[(usize, u8)],
 ) -> Result<Octets, Fail> {
-    let mut octets = Octets::copy_of(alloc, frame)?.into_vec();
+    let mut octets = Vec::from_slice(alloc, frame)?;
     for (place, octet) in changes {
         if let Some(other) = octets.get_mut(*place) {
             *other = *octet;

@@ -1,9 +1,10 @@
 //! What comes to the handset.
-use super::{Accepted, Plain, is_part_of, owned};
+use super::{Plain, is_part_of, owned, remove, remove_parts};
 use sms_base::{Address, Carried, Holder, Kind, Octets};
 use sms_concat::{ConcatKey, Content, Part, join, part_of};
-use sms_handset::{Entry, Group, Message};
+use sms_handset::{DiscardedGroup, Entry, Group, LastAccepted, Message};
 use sms_relay::{RelayFault, Rp, read_down as read_unit};
+use sms_table::Key;
 use sms_tpdu::{Carrier, Deliver, Down, StatusReport, read_down};
 use std::alloc::Global;
 use std::test::Fail;
@@ -40,7 +41,7 @@ impl Plain {
             tag,
         });
         let out = self.links.reply(self.now, unit)?;
-        self.send_all(out.frames, false)
+        self.send_all(&out, false)
     }
 
     fn acknowledge(&mut self, reference: u8, tag: Holder) -> Result<(), Fail> {
@@ -57,18 +58,24 @@ impl Plain {
 
     // RP-ACK, and the TPDU is the last under its reference.
     fn accept(&mut self, reference: u8, tpdu: &[u8], tag: Holder) -> Result<(), Fail> {
-        self.accepted.retain(|last| last.reference != reference);
-        let copy = owned(self.alloc, tpdu)?;
-        self.accepted.push(Accepted {
-            reference,
-            tpdu: copy,
-        })?;
+        remove(&mut self.accepted, Key::of(u64::from(reference)));
+        self.remember(reference, tpdu)?;
         self.acknowledge(reference, tag)
     }
 
+    fn remember(&mut self, reference: u8, tpdu: &[u8]) -> Result<(), Fail> {
+        let tpdu = owned(self.alloc, tpdu)?;
+        self.accepted.push(LastAccepted { reference, tpdu })?;
+        Ok(())
+    }
+
     fn is_accepted(&self, reference: u8, tpdu: &[u8]) -> bool {
-        self.accepted.iter().any(|last| last.reference == reference
-            && is_one_message(last.tpdu.as_slice(), tpdu))
+        for last in &self.accepted {
+            if last.reference == reference && is_one_message(last.tpdu.as_slice(), tpdu) {
+                return true;
+            }
+        }
+        false
     }
 
     fn tpdu(&mut self, reference: u8, tpdu: &[u8], tag: Holder) -> Result<(), Fail> {
@@ -90,7 +97,7 @@ impl Plain {
         let mut newest: u32 = 0;
         for text in &self.outbox {
             if text.message_reference == report.message_reference
-                && text.to.digits == report.recipient_address.digits
+                && text.destination.digits == report.recipient_address.digits
                 && newest < text.number
             {
                 newest = text.number;
@@ -110,27 +117,35 @@ impl Plain {
         deliver: &Deliver<'_>,
         tag: Holder,
     ) -> Result<(), Fail> {
-        let key = part_in(self.alloc, deliver)?.key;
-        if let Some(key) = key {
-            let group = group_of(&deliver.originating_address, &key);
-            if self.is_unseen_of_a_discarded_group(&group, key.number) {
-                self.mark(&group, key.number)?;
-                return self.accept(reference, tpdu, tag);
-            }
-            if !self.is_discarded(&group) && !self.has_number(&group, key.number)? {
-                return self.part(reference, tpdu, &group, key.number, tag);
-            }
+        match key_in(self.alloc, deliver)? {
+            Some(key) => self.keyed(
+                reference,
+                tpdu,
+                &group_of(&deliver.originating_address, &key),
+                key.number,
+                tag,
+            ),
+            None => self.single(reference, tpdu, tag),
         }
-        self.single(reference, tpdu, tag)
     }
 
-    fn is_discarded(&self, group: &Group) -> bool {
-        self.discarded.iter().any(|mark| mark.group == *group)
-    }
-
-    fn is_unseen_of_a_discarded_group(&self, group: &Group, number: u8) -> bool {
-        self.discarded.iter().any(|mark| mark.group == *group
-            && !is_among(number, mark.seen.as_slice()))
+    fn keyed(
+        &mut self,
+        reference: u8,
+        tpdu: &[u8],
+        group: &Group,
+        number: u8,
+        tag: Holder,
+    ) -> Result<(), Fail> {
+        match seen_of(self.discarded.as_slice(), group) {
+            Some(seen) if is_among(number, seen) => self.single(reference, tpdu, tag),
+            Some(_) => {
+                self.mark(group, number)?;
+                self.accept(reference, tpdu, tag)
+            }
+            None if self.has_number(group, number)? => self.single(reference, tpdu, tag),
+            None => self.part(reference, tpdu, group, number, tag),
+        }
     }
 
     fn has_number(&self, group: &Group, number: u8) -> Result<bool, Fail> {
@@ -150,7 +165,7 @@ impl Plain {
     }
 
     fn no_room(&mut self, reference: u8, tag: Holder) -> Result<(), Fail> {
-        self.is_memory_full = true;
+        self.counters.is_memory_full = true;
         self.refuse(reference, 22, 0xD3, tag)
     }
 
@@ -158,13 +173,7 @@ impl Plain {
         if !self.has_room() {
             return self.no_room(reference, tag);
         }
-        let number = self.number();
-        let copy = owned(self.alloc, tpdu)?;
-        self.entries.push(Entry {
-            number,
-            slots: 1,
-            message: Message::Single { tpdu: copy },
-        })?;
+        self.store(tpdu, None)?;
         self.accept(reference, tpdu, tag)
     }
 
@@ -179,37 +188,61 @@ impl Plain {
         if !self.has_room() {
             return self.no_room(reference, tag);
         }
-        let number = self.number();
-        let copy = owned(self.alloc, tpdu)?;
-        self.entries.push(Entry {
-            number,
-            slots: 1,
-            message: Message::Part {
-                group: *group,
-                number: part,
-                tpdu: copy,
-            },
-        })?;
-        if has_all(group.total, self.numbers_of(group)?.as_slice()) {
+        self.store(tpdu, Some((*group, part)))?;
+        if self.is_full(group)? {
             self.complete(group)?;
         }
         self.accept(reference, tpdu, tag)
     }
 
+    // An entry of its own, or a part of a group with its number.
+    fn store(&mut self, tpdu: &[u8], place: Option<(Group, u8)>) -> Result<(), Fail> {
+        let number = self.number();
+        let tpdu = owned(self.alloc, tpdu)?;
+        let message = match place {
+            None => Message::Single { tpdu },
+            Some((group, number)) => Message::Part {
+                group,
+                number,
+                tpdu,
+            },
+        };
+        self.entries.push(Entry {
+            number,
+            slots: 1,
+            message,
+        })?;
+        Ok(())
+    }
+
+    fn is_full(&self, group: &Group) -> Result<bool, Fail> {
+        let numbers = self.numbers_of(group)?;
+        Ok(has_all(group.total, numbers.as_slice()))
+    }
+
     // A full group becomes one entry, or its parts stay as entries of their own.
     fn complete(&mut self, group: &Group) -> Result<(), Fail> {
-        let mut parts = Vec::new(self.alloc);
-        for number in 1..=group.total {
-            let part = self.part_numbered(group, number)?;
-            parts.push(part)?;
-        }
-        match join(self.alloc, parts.as_slice())? {
+        match self.content_of(group)? {
             Some(content) => {
                 self.joined(group, content);
                 Ok(())
             }
             None => self.loosen(group),
         }
+    }
+
+    fn content_of(&self, group: &Group) -> Result<Option<Content>, Fail> {
+        let parts = self.parts_of(group)?;
+        Ok(join(self.alloc, parts.as_slice())?)
+    }
+
+    // The parts in the order of their numbers.
+    fn parts_of(&self, group: &Group) -> Result<Vec<Part>, Fail> {
+        let mut parts = Vec::new(self.alloc);
+        for number in 1..=group.total {
+            parts.push(self.part_numbered(group, number)?)?;
+        }
+        Ok(parts)
     }
 
     // What the group's part of that number carries.
@@ -245,7 +278,7 @@ impl Plain {
                 content,
             };
         }
-        self.entries.retain(|entry| !is_part_of(group, entry));
+        remove_parts(&mut self.entries, group);
     }
 
     fn loosen(&mut self, group: &Group) -> Result<(), Fail> {
@@ -298,6 +331,21 @@ fn part_in(alloc: Global, deliver: &Deliver<'_>) -> Result<Part, Fail> {
     Ok(part)
 }
 
+fn key_in(alloc: Global, deliver: &Deliver<'_>) -> Result<Option<ConcatKey>, Fail> {
+    let part = part_in(alloc, deliver)?;
+    Ok(part.key)
+}
+
+// The numbers that came of a discarded group.
+fn seen_of<'a>(discarded: &'a [DiscardedGroup], group: &Group) -> Option<&'a [u8]> {
+    for mark in discarded {
+        if mark.group == *group {
+            return Some(mark.seen.as_slice());
+        }
+    }
+    None
+}
+
 fn group_of(source: &Address, key: &ConcatKey) -> Group {
     Group {
         source: *source,
@@ -307,7 +355,7 @@ fn group_of(source: &Address, key: &ConcatKey) -> Group {
 }
 
 fn is_among(number: u8, numbers: &[u8]) -> bool {
-    numbers.iter().any(|other| *other == number)
+    numbers.contains(&number)
 }
 
 // Whether the numbers from 1 to the total are there.

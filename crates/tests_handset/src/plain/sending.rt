@@ -1,10 +1,14 @@
 //! What the handset sends, and how it ends.
-use super::{Ending, MemoryAvailable, Plain, Text, UnderWay, owned};
+use super::{Ending, MemoryAvailable, Plain, UnderWay, owned};
 use sms_base::{Moment, OctetView, Octets};
-use sms_handset::EntryState;
+use sms_handset::{EntryState, OutEntry};
 use sms_relay::{Rp, read_down as read_unit};
 use sms_tpdu::{Carrier, Down, read_down};
+use std::alloc::Global;
 use std::test::Fail;
+
+// The address of the centre in RP-DATA, 447700900000.
+const CENTRE: &[u8] = b"\x07\x91\x44\x77\x00\x09\x00\x00";
 
 // How often a text is sent at most.
 const MOST_TRIES: u8 = 3;
@@ -101,12 +105,12 @@ impl Plain {
         }
         self.notices_wanted = self.notices_wanted.saturating_sub(1);
         let notice = MemoryAvailable {
-            number: self.next_notice,
+            number: self.counters.notice,
             reference: self.free_reference()?,
             times_sent: 1,
             again: None,
         };
-        self.next_notice = notice.number.saturating_add(1);
+        self.counters.notice = notice.number.saturating_add(1);
         self.notices.push(notice)?;
         Ok(Some(notice))
     }
@@ -121,36 +125,42 @@ impl Plain {
         oldest
     }
 
-    fn send_text(&mut self, wanted: u32) -> Result<(), Fail> {
-        let mut tpdu = Octets::new(self.alloc);
+    fn send_text(&mut self, number: u32) -> Result<(), Fail> {
+        let reference = self.begin_text(number);
+        let tpdu = self.tpdu_to_send(number)?;
+        self.begin_data(reference, tpdu.as_slice())
+    }
+
+    // The text is sent from now on, under its reference.
+    fn begin_text(&mut self, number: u32) -> u8 {
         for text in self.outbox.iter_mut() {
-            if text.number == wanted {
+            if text.number == number {
                 text.state = EntryState::Sending;
                 text.tries = text.tries.saturating_add(1);
-                text.not_before = None;
+                text.due = None;
                 self.under_way = UnderWay::Text {
-                    number: wanted,
+                    number,
                     reference: text.reference,
                 };
-                tpdu = owned(self.alloc, text.submit.as_slice())?;
-                if text.rejects_duplicates {
-                    tpdu = with_duplicates_rejected(tpdu)?;
-                }
+                return text.reference;
             }
         }
-        self.begin_data(tpdu.as_slice())
+        0
+    }
+
+    fn tpdu_to_send(&self, number: u32) -> Result<Octets, Fail> {
+        for text in &self.outbox {
+            if text.number == number {
+                return sent_tpdu(self.alloc, text);
+            }
+        }
+        Err(Fail::new("no text"))
     }
 
     // RP-DATA to the centre.
-    fn begin_data(&mut self, tpdu: &[u8]) -> Result<(), Fail> {
-        let reference = match self.under_way {
-            UnderWay::Text { reference, .. } => reference,
-            _ => return Err(Fail::new("no text is under way")),
-        };
+    fn begin_data(&mut self, reference: u8, tpdu: &[u8]) -> Result<(), Fail> {
         let mut unit = owned(self.alloc, &[0, reference, 0])?;
-        unit.append(self.centre.as_slice())?;
-        unit.push(u8::try_from(tpdu.len())?)?;
-        unit.append(tpdu)?;
+        append_data(&mut unit, tpdu)?;
         self.begin(unit.as_slice())
     }
 
@@ -159,15 +169,15 @@ impl Plain {
             return Err(Fail::new("no unit"));
         }
         let out = self.links.begin(self.now, unit)?;
-        self.send_all(out.frames, false)
+        self.send_all(&out, false)
     }
 
     // The next RP reference that no unfinished text and no RP-SMMA holds.
     pub(crate) fn free_reference(&mut self) -> Result<u8, Fail> {
-        let mut reference = self.next_reference;
+        let mut reference = self.counters.reference;
         for _ in 0..256 {
             if !self.holds_reference(reference) {
-                self.next_reference = reference.wrapping_add(1);
+                self.counters.reference = reference.wrapping_add(1);
                 return Ok(reference);
             }
             reference = reference.wrapping_add(1);
@@ -176,28 +186,39 @@ impl Plain {
     }
 
     fn holds_reference(&self, reference: u8) -> bool {
-        self.notices
-            .iter()
-            .any(|notice| notice.reference == reference)
-            || self
-                .outbox
-                .iter()
-                .any(|text| is_unfinished(text) && text.reference == reference)
+        for notice in &self.notices {
+            if notice.reference == reference {
+                return true;
+            }
+        }
+        for text in &self.outbox {
+            if is_unfinished(text) && text.reference == reference {
+                return true;
+            }
+        }
+        false
     }
 
     // The next TP-MR that no unfinished text holds.
     pub(crate) fn free_message_reference(&mut self) -> Result<u8, Fail> {
-        let mut reference = self.next_message_reference;
+        let mut reference = self.counters.message_reference;
         for _ in 0..256 {
-            let is_held = self.outbox.iter().any(|text| is_unfinished(text)
-                && text.message_reference == reference);
-            if !is_held {
-                self.next_message_reference = reference.wrapping_add(1);
+            if !self.holds_message_reference(reference) {
+                self.counters.message_reference = reference.wrapping_add(1);
                 return Ok(reference);
             }
             reference = reference.wrapping_add(1);
         }
         Err(Fail::new("no TP-MR is free"))
+    }
+
+    fn holds_message_reference(&self, reference: u8) -> bool {
+        for text in &self.outbox {
+            if is_unfinished(text) && text.message_reference == reference {
+                return true;
+            }
+        }
+        false
     }
 }
 
@@ -208,13 +229,13 @@ fn is_past(moment: Option<Moment>, now: Moment) -> bool {
     }
 }
 
-fn is_unfinished(text: &Text) -> bool {
+fn is_unfinished(text: &OutEntry) -> bool {
     text.state == EntryState::Queued || text.state == EntryState::Sending
 }
 
-fn is_due(text: &Text, now: Moment) -> bool {
+fn is_due(text: &OutEntry, now: Moment) -> bool {
     text.state == EntryState::Queued
-        && match text.not_before {
+        && match text.due {
             None => true,
             Some(moment) => moment <= now,
         }
@@ -228,15 +249,24 @@ fn older(number: u32, oldest: Option<u32>) -> bool {
 }
 
 // TP-RD is bit 2 of the first octet, which is 0 in the SUBMIT that is kept.
-fn with_duplicates_rejected(tpdu: Octets) -> Result<Octets, Fail> {
-    let mut octets = tpdu.into_vec();
-    if let Some(first) = octets.get_mut(0) {
-        *first |= 4;
+fn sent_tpdu(alloc: Global, text: &OutEntry) -> Result<Octets, Fail> {
+    let mut octets = Vec::from_slice(alloc, text.tpdu.as_slice())?;
+    if text.rejects_duplicates {
+        if let Some(first) = octets.get_mut(0) {
+            *first |= 4;
+        }
     }
     Ok(Octets::from_vec(octets))
 }
 
-fn end_text(text: &mut Text, now: Moment, ending: Ending) {
+fn append_data(unit: &mut Octets, tpdu: &[u8]) -> Result<(), Fail> {
+    unit.append(CENTRE)?;
+    unit.push(u8::try_from(tpdu.len())?)?;
+    unit.append(tpdu)?;
+    Ok(())
+}
+
+fn end_text(text: &mut OutEntry, now: Moment, ending: Ending) {
     match ending {
         Ending::Acknowledged => text.state = EntryState::Sent,
         Ending::Duplicate => text.state = EntryState::Unsure,
@@ -246,7 +276,7 @@ fn end_text(text: &mut Text, now: Moment, ending: Ending) {
                 text.state = EntryState::Failed;
             } else {
                 text.state = EntryState::Queued;
-                text.not_before = Some(now.plus(60));
+                text.due = Some(now.plus(60));
             }
         }
         Ending::Lost => {

@@ -1,9 +1,9 @@
 //! What the owner writes.
-use super::{Plain, Text, owned};
+use super::{Plain, owned};
 use sms_alphabet::{Coding, SpellingError, septets_of, ucs2_of};
 use sms_base::{Address, Octets};
-use sms_concat::{Content, Part, Parts, SplitError, fits, split, user_data};
-use sms_handset::{EntryState, Refusal};
+use sms_concat::{Content, Part, SplitError, UserData, fits, split, user_data};
+use sms_handset::{EntryState, OutEntry, Refusal, SubmitTpdu};
 use std::alloc::Global;
 use std::test::Fail;
 
@@ -15,55 +15,84 @@ impl Plain {
         report: bool,
     ) -> Result<Option<Refusal>, Fail> {
         let content = content_of(self.alloc, text)?;
-        let parts = match split(self.alloc, &content, self.next_split) {
-            Ok(parts) => parts,
-            Err(SplitError::TooManyParts) => return Ok(Some(Refusal::TooManyParts)),
-            Err(error) => return Err(Fail::new(error)),
-        };
-        let to = match Address::new(1, 1, to) {
-            Ok(to) => to,
-            Err(fault) => return Ok(Some(Refusal::Destination(fault))),
-        };
-        let count = parts.as_slice().len();
-        if self.outbox.len().saturating_add(count) > 20 || !self.has_numbers(count) {
-            return Ok(Some(Refusal::OutboxFull));
+        self.write_content(&content, to, report)
+    }
+
+    fn write_content(
+        &mut self,
+        content: &Content,
+        to: &str,
+        report: bool,
+    ) -> Result<Option<Refusal>, Fail> {
+        match split(self.alloc, content, self.counters.concat_reference) {
+            Ok(parts) => self.write_parts(parts.as_slice(), to, report),
+            Err(SplitError::TooManyParts) => Ok(Some(Refusal::TooManyParts)),
+            Err(error) => Err(Fail::new(error)),
         }
-        self.queue(&parts, to, report)?;
-        Ok(None)
+    }
+
+    fn write_parts(
+        &mut self,
+        parts: &[Part],
+        to: &str,
+        report: bool,
+    ) -> Result<Option<Refusal>, Fail> {
+        match Address::new(1, 1, to) {
+            Err(fault) => Ok(Some(Refusal::Destination(fault))),
+            Ok(_) if !self.has_place_for(parts.len()) => Ok(Some(Refusal::OutboxFull)),
+            Ok(to) => {
+                self.queue(parts, &to, report)?;
+                Ok(None)
+            }
+        }
     }
 
     // The last number is given to none.
-    fn has_numbers(&self, count: usize) -> bool {
+    fn has_place_for(&self, count: usize) -> bool {
         match u32::try_from(count) {
-            Ok(count) => self.next_number.checked_add(count).is_some(),
+            Ok(numbers) => {
+                self.outbox.len().saturating_add(count) <= 20
+                    && self.counters.entry.checked_add(numbers).is_some()
+            }
             Err(_) => false,
         }
     }
 
-    fn queue(&mut self, parts: &Parts, to: Address, report: bool) -> Result<(), Fail> {
-        let is_long = parts.as_slice().len() > 1;
+    fn queue(&mut self, parts: &[Part], to: &Address, report: bool) -> Result<(), Fail> {
+        let is_long = parts.len() > 1;
         if is_long {
-            self.next_split = self.next_split.wrapping_add(1);
+            self.counters.concat_reference = self.counters.concat_reference.wrapping_add(1);
         }
-        for part in parts.as_slice() {
-            let message_reference = self.free_message_reference()?;
-            let reference = self.free_reference()?;
-            let submit = submit_of(self.alloc, part, message_reference, &to, report)?;
-            let number = self.number();
-            self.outbox.push(Text {
-                number,
-                message_reference,
-                reference,
-                to,
-                submit,
-                is_long,
-                state: EntryState::Queued,
-                tries: 0,
-                rejects_duplicates: false,
-                not_before: None,
-                status: None,
-            })?;
+        for part in parts {
+            self.queue_part(part, to, report, is_long)?;
         }
+        Ok(())
+    }
+
+    fn queue_part(
+        &mut self,
+        part: &Part,
+        to: &Address,
+        report: bool,
+        is_long: bool,
+    ) -> Result<(), Fail> {
+        let message_reference = self.free_message_reference()?;
+        let reference = self.free_reference()?;
+        let tpdu = submit_of(self.alloc, part, message_reference, to, report)?;
+        let number = self.number();
+        self.outbox.push(OutEntry {
+            number,
+            message_reference,
+            reference,
+            destination: *to,
+            tpdu,
+            is_long,
+            state: EntryState::Queued,
+            tries: 0,
+            rejects_duplicates: false,
+            due: None,
+            status: None,
+        })?;
         Ok(())
     }
 }
@@ -85,29 +114,56 @@ fn content_of(alloc: Global, text: &str) -> Result<Content, Fail> {
     }
 }
 
-/// The SUBMIT of a part: no validity period, no reply path, protocol identifier 0.
-pub(crate) fn submit_of(
+// The SUBMIT of a part: no validity period, no reply path, protocol identifier 0.
+fn submit_of(
     alloc: Global,
     part: &Part,
     message_reference: u8,
     to: &Address,
     report: bool,
-) -> Result<Octets, Fail> {
+) -> Result<SubmitTpdu, Fail> {
+    let mut tpdu = Octets::new(alloc);
+    append_submit(&mut tpdu, alloc, part, message_reference, to, report)?;
+    if tpdu.is_empty() || tpdu.len() > 200 {
+        return Err(Fail::new("no SUBMIT has that length"));
+    }
+    Ok(SubmitTpdu::of(tpdu))
+}
+
+fn append_submit(
+    tpdu: &mut Octets,
+    alloc: Global,
+    part: &Part,
+    message_reference: u8,
+    to: &Address,
+    report: bool,
+) -> Result<(), Fail> {
     if !fits(part) {
         return Err(Fail::new("the part has no room"));
     }
     let user = user_data(alloc, part)?;
+    append_parts(tpdu, &user, part.content.dcs, message_reference, to, report)
+}
+
+fn append_parts(
+    tpdu: &mut Octets,
+    user: &UserData,
+    dcs: u8,
+    message_reference: u8,
+    to: &Address,
+    report: bool,
+) -> Result<(), Fail> {
     let first = match (report, user.header_indicator) {
         (false, false) => 0x01,
         (true, false) => 0x21,
         (false, true) => 0x41,
         (true, true) => 0x61,
     };
-    let mut tpdu = owned(alloc, &[first, message_reference])?;
-    append_number(&mut tpdu, to.digits.as_slice())?;
-    tpdu.append(&[0, part.content.dcs, user.length])?;
+    tpdu.append(&[first, message_reference])?;
+    append_number(tpdu, to.digits.as_slice())?;
+    tpdu.append(&[0, dcs, user.length])?;
     tpdu.append(user.octets.as_slice())?;
-    Ok(tpdu)
+    Ok(())
 }
 
 // An international number: how many digits, its type, and two digits an octet, the first in the low half.
