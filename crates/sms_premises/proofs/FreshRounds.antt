@@ -1,16 +1,15 @@
 -- A part may begin a round exactly where that is decided.
-use Rattle.std.proofs.Common.{◌≡◌, ◌⊎◌, ℕ, zero, suc, ◌<◌, ◌≤◌, arith, List, [], ◌∷◌, Bool, true, false, cond, refl, sym, ◌∙◌, ap, subst, inl, inr, ⊎_elim, Option, Some, None}
-use Rattle.std.specs.Prelude.{◌==◌, ◌&&◌, ◌||◌, ◌↔◌}
+use Rattle.std.proofs.Common.{◌≡◌, ◌⊎◌, ℕ, zero, suc, ◌≤◌, arith, List, [], ◌∷◌, Bool, true, false, cond, refl, sym, ◌∙◌, ap, subst, inl, inr, ⊎_elim, Option, Some, None}
+use Rattle.std.specs.Prelude.{◌==◌, ◌&&◌, ◌||◌}
 use Rattle.std.specs.Str.{bytes_eq}
-use Rattle.std.proofs.lemmas.Bool.{and_from, and_parts, both_ways, cases_Bool, cases_eq, cond-false, cond-true, eq-eqb, eqb-true}
+use Rattle.std.proofs.lemmas.Bool.{and_from, and_parts, cases_Bool, cases_eq, cond-false, cond-true, eq-eqb, eqb-true}
 use Rattle.std.proofs.lemmas.Slice.Eq.{bytes_eq-Decides}
 use Rattle.sms_base.specs.Among.{Among}
 use Rattle.sms_play.specs.Premises.{all_arrived, are_fresh, has_arrived, has_pair, is_same_pair, may_begin, may_begin_at, may_begin_round, all_pairs, behind, is_fresh_event, newest_first, part_givings}
-use Rattle.sms_play.specs.Course.{Course}
-use Rattle.sms_premises.specs.PremiseLaws.{AlikeLaw, FreshEventLaw, FreshLaw, MayBeginLaw, TellParts, parts_given}
+use Rattle.sms_premises.specs.PremiseLaws.{AlikeLaw, FreshEventLaw, FreshLaw, MayBeginLaw, parts_given}
 use Rattle.sms_world.specs.Fresh.{AllArrived, FreshParts, MayBegin}
 use Rattle.sms_world.specs.Lists.{is_among}
-use Rattle.sms_world.specs.Place.{Key, Place, has_key, is_same_key, place_in}
+use Rattle.sms_world.specs.Place.{Key, Place, has_key, place_in}
 use Rattle.sms_world.specs.PartsOfKey.{is_for, number_in, numbers, of_key}
 use Rattle.sms_world.specs.References.{Ticket, part_giving}
 use Rattle.sms_world.specs.Rounds.{Rounds, rounds, rounds_of, submitted_pairs, with_part_of}

@@ -1,12 +1,10 @@
 -- A frame is timely exactly where the rows tell so.
-use Rattle.std.proofs.Common.{◌≡◌, ◌⊎◌, ℕ, List, [], ◌∷◌, Bool, true, false, cond, refl, sym, ◌∙◌, ap, subst, inl, inr, ⊎_elim, Option, Some, None}
-use Rattle.std.specs.Prelude.{◌==◌, ◌&&◌, ◌↔◌}
+use Rattle.std.proofs.Common.{◌≡◌, ℕ, List, [], ◌∷◌, Bool, true, false, cond, refl, sym, ◌∙◌, ap, subst, inl, inr, ⊎_elim, Option, Some, None}
+use Rattle.std.specs.Prelude.{◌==◌, ◌&&◌}
 use Rattle.std.specs.Str.{bytes_eq}
 use Rattle.std.proofs.lemmas.Bool.{and_from, and_parts, both_ways, cases_Bool, cond-false, cond-true, eq-eqb, eqb-true}
 use Rattle.std.proofs.lemmas.Slice.Eq.{bytes_eq-Decides}
-use Rattle.sms_base.specs.Among.{Among}
 use Rattle.sms_base.specs.declared.carried.Carried.{Carried}
-use Rattle.sms_base.specs.declared.carried.Kind.{Kind}
 use Rattle.sms_base.specs.declared.holder.Holder.{Holder}
 use Rattle.sms_base.specs.declared.holder.Holder.TheVariants.{Part, Report, Entry, Memory}
 use Rattle.sms_report.specs.declared.rows.Direction.{Direction}
@@ -14,13 +12,13 @@ use Rattle.sms_report.specs.declared.rows.FrameRow.{FrameRow}
 use Rattle.sms_report.specs.declared.rows.GivenRow.{GivenRow}
 use Rattle.sms_report.specs.declared.rows.Direction.TheVariants.{Up, Down}
 use Rattle.sms_play.specs.Course.{frame_at}
-use Rattle.sms_play.specs.Premises.{giver, is_held_by, is_of_reference, is_same_holder, is_same_side, is_timely, is_timely_at, last_holder}
+use Rattle.sms_play.specs.Premises.{giver, is_held_by, is_same_holder, is_same_side, is_timely, is_timely_at, last_holder}
 use Rattle.sms_premises.specs.PremiseLaws.{TimelyLaw}
 use Rattle.sms_premises.specs.Told.{TellFrames, TellGivings, frame_told, giving_told, line_of, told_by, untold}
 use Rattle.sms_world.specs.ScriptPremises.{HandsTimely}
 use Rattle.sms_world.specs.ScriptRun.{Handed}
 use Rattle.sms_world.specs.Timely.{IsTimely, givings}
-use Rattle.sms_world.specs.World.{Carried as Carried_frame, Frame, Giving, IsLatest, Line, SameReference, World, Down as Down_line, Up as Up_line}
+use Rattle.sms_world.specs.World.{Frame, Giving, IsLatest, SameReference, World}
 
 -- ---- holders
 
