@@ -6,3 +6,4 @@ pub mod Offers
 pub mod LinksChange
 pub mod QuietEvents
 pub mod SessionsChange
+pub mod SessionsBound

@@ -3,7 +3,7 @@ use Rattle.std.specs.Prelude.{◌≡◌, ℕ, List, [], ◌∷◌, Bool, Some, t
 use Rattle.sms_centre_rules.specs.CentreEvent.{happened, recovered, started}
 use Rattle.sms_centre_rules.specs.SoundCore.{IsSoundCore}
 use Rattle.sms_centre_rules.specs.declared.event.CentreEvent.{CentreEvent}
-use Rattle.sms_centre_rules.specs.declared.event.CentreEvent.TheVariants.{DeliverAnswered, LinkDown, LinkUp, Query, Unbound}
+use Rattle.sms_centre_rules.specs.declared.event.CentreEvent.TheVariants.{Bound, DeliverAnswered, LinkDown, LinkUp, Query, Unbound}
 use Rattle.smpp_pdu.specs.declared.query.QuerySm.{QuerySm}
 use Rattle.sms_waiting.specs.SoundGivings.{IsNumber}
 use Rattle.sms_centre_rules.specs.Draft.{Core, Draft, Store, core_of, draft_of, parts_in, reports_in, rows_of, with_part_at, with_report_at}
@@ -76,6 +76,11 @@ LinkUpLaw = (m : ℕ) (handset : List ℕ) (c : Core) (w : World) → IsSoundCor
 
 abbrev pub LinkDownLaw : Type 0
 LinkDownLaw = (m : ℕ) (handset : List ℕ) (c : Core) (w : World) → IsSoundCore c → IsNumber handset → CentreSees w (draft_of c) w → OffersOnly m (LinkDown handset) c w
+
+-- a session is bound
+abbrev pub BoundLaw : Type 0
+BoundLaw =
+    (m : ℕ) (session account : ℕ) (receives : Bool) (c : Core) (w : World) → IsSoundCore c → CentreSees w (draft_of c) w → OffersOnly m (Bound session account receives) c w
 
 -- a session ends, and an application answers a receipt that was sent in its session
 abbrev pub UnboundLaw : Type 0

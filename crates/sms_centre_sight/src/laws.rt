@@ -1,5 +1,5 @@
 //! How the centre's sight of the world begins, and what leaves it.
-ghost use Rattle.sms_centre_sight.specs.CentreLaws.{AnsweredLaw, BackLaw, FirstLaw, HandsetLaw, LinkDownLaw, LinkUpLaw, NextLaw, PartFarLaw, QueryLaw, ReportFarLaw, UnboundLaw};
+ghost use Rattle.sms_centre_sight.specs.CentreLaws.{AnsweredLaw, BackLaw, BoundLaw, FirstLaw, HandsetLaw, LinkDownLaw, LinkUpLaw, NextLaw, PartFarLaw, QueryLaw, ReportFarLaw, UnboundLaw};
 
 /// The centre of a new store sees the empty world; one that has adopted an event sees the world that the event led to; and one
 /// that stops, behind a store call or between two events, comes back with rows that show the world.
@@ -28,8 +28,9 @@ pub fn quiet_events_are_offers()
     ensures down { LinkDownLaw }
 {}
 
-/// So are a session that ends and the answer to a receipt.
+/// So are a session that is bound, one that ends and the answer to a receipt.
 pub fn sessions_are_offers()
+    ensures bound { BoundLaw }
     ensures unbound { UnboundLaw }
     ensures answered { AnsweredLaw }
 {}
