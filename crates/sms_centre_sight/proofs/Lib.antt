@@ -1,3 +1,4 @@
+pub mod ByOctets
 pub mod Staying
 pub mod Beginning
 pub mod Unseen

@@ -34,6 +34,7 @@ use Rattle.sms_centre_rules.specs.Draft.{Store, messages_in, parts_in, prioritie
 use Rattle.sms_centre_rules.specs.Offering.{holder_of, part_tpdu, report_tpdu, tpdu_of}
 use Rattle.sms_world.specs.World.{Giving, IsUnanswered, Pending, Stands, State, World}
 use Rattle.sms_centre_sight.specs.CentreSight.{StoreSees}
+use Rattle.sms_centre_sight.proofs.ByOctets.{by_octet_is}
 use Rattle.sms_centre_sight.specs.SeesGiven.{given_part, given_report}
 use Rattle.sms_centre_sight.specs.SeesMessages.{IsStateOf, PartSeen, part_seen, parts_by}
 use Rattle.sms_centre_sight.specs.SeesReports.{ReportSeen, report_seen}
@@ -71,7 +72,10 @@ module _ (h : List ℕ) (l : Load) (s : Store) (w : World) (sound : SoundStore s
     message_there = ap (λ (n : ℕ). message_at n (messages_in s)) (sym id_is) ∙ of
 
     there : parts_by (parts_in s) l.id l.number ≡ Some (record { reference = p.reference; tpdu = compared p.tpdu; is_done = p.progress.is_done })
-    there = ap part_seen at
+    there =
+        let number : p.number ≡ l.number = ap (λ (x : Load). x.number) same in
+        let small = (sound.stands.held.parts.numbers p (found_among part_key (pair_key l.id l.number) p (parts_in s) at)).1 in
+        by_octet_is l.number (part_seen (part_at l.id l.number (parts_in s))) (omega (arith, number, small)) ∙ ap part_seen at
 
     part_unanswered : IsUnanswered w.table w.reports (Part l.id l.number)
     part_unanswered =
