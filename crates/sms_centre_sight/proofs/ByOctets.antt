@@ -15,3 +15,9 @@ by_octet_some n o x e = ⊎_elim
   where
     none_some : {A : Type 0} (x : A) → None ≡ Some x → ⊥
     none_some x e = cc
+
+pub by_octet_same : {A : Type 0} (n : ℕ) (o z : Option A) → (n < 256 → o ≡ z) → by_octet n o ≡ by_octet n z
+by_octet_same n o z f = ⊎_elim
+    (λ (t : nat_lt n 256 ≡ true). cond-true (nat_lt n 256) o None t ∙ f (ltb-true n 256 t) ∙ sym (cond-true (nat_lt n 256) z None t))
+    (λ (t : nat_lt n 256 ≡ false). cond-false (nat_lt n 256) o None t ∙ sym (cond-false (nat_lt n 256) z None t))
+    (cases_Bool (nat_lt n 256))

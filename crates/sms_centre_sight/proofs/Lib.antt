@@ -3,8 +3,11 @@ pub mod Staying
 pub mod Beginning
 pub mod Unseen
 pub mod Loads
+pub mod Givings
+pub mod References
 pub mod Offers
 pub mod LinksChange
 pub mod QuietEvents
 pub mod SessionsChange
 pub mod SessionsBound
+pub mod Ending

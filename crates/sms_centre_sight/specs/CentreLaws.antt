@@ -1,5 +1,5 @@
 -- What of the centre's sight is proved: it begins, it comes back, and others leave it.
-use Rattle.std.specs.Prelude.{◌≡◌, ℕ, List, [], ◌∷◌, Bool, Some, true, false}
+use Rattle.std.specs.Prelude.{◌≡◌, ℕ, List, [], ◌∷◌, Bool, Some, None, true, false}
 use Rattle.sms_centre_rules.specs.CentreEvent.{happened, recovered, started}
 use Rattle.sms_centre_rules.specs.SoundCore.{IsSoundCore}
 use Rattle.sms_centre_rules.specs.declared.event.CentreEvent.{CentreEvent}
@@ -16,6 +16,9 @@ use Rattle.sms_waiting.specs.declared.progress.Progress.{Progress}
 use Rattle.sms_centre_rules.specs.SoundRows.{first_rows}
 use Rattle.sms_centre_rules.specs.declared.setup.Setup.{Setup}
 use Rattle.sms_reports.specs.Receipts.{Session}
+use Rattle.sms_waiting.specs.References.{handset_of}
+use Rattle.sms_centre_rules.specs.Submitting.{reference_for}
+use Rattle.sms_world.specs.References.{CanGive}
 use Rattle.sms_world.specs.Run.{Run, end}
 use Rattle.sms_world.specs.ScriptRun.{items}
 use Rattle.sms_world.specs.Sides.{AllOfHandset}
@@ -55,6 +58,20 @@ abbrev pub ReportFarLaw : Type 0
 ReportFarLaw =
     (r : ReportRow) (q : Progress) (s : Store) (w : World) → Rises report_key (reports_in s) → report_of r.id (reports_in s) ≡ Some r
     → (is_status r.kind ≡ true → q.is_done ≡ r.progress.is_done) → StoreSees s w → StoreSees (with_report_at r q s) w
+
+-- ---- references
+
+-- the reference that comes next at a handset the world may give there
+abbrev pub NextReferenceLaw : Type 0
+NextReferenceLaw =
+    (number : List ℕ) (reference : ℕ) (c : Core) (w : World) → IsSoundCore c → CentreSees w (draft_of c) w
+    → reference_for (handset_of number c.rows.handsets) (draft_of c).store ≡ Some reference → CanGive w number reference c.moment
+
+-- where none comes next, the world may give none
+abbrev pub NoReferenceLaw : Type 0
+NoReferenceLaw =
+    (number : List ℕ) (c : Core) (w : World) → IsSoundCore c → CentreSees w (draft_of c) w
+    → reference_for (handset_of number c.rows.handsets) (draft_of c).store ≡ None → (reference : ℕ) → CanGive w number reference c.moment → ⊥
 
 -- ---- events that have no step of their own
 

@@ -1,5 +1,5 @@
 //! How the centre's sight of the world begins, and what leaves it.
-ghost use Rattle.sms_centre_sight.specs.CentreLaws.{AnsweredLaw, BackLaw, BoundLaw, FirstLaw, HandsetLaw, LinkDownLaw, LinkUpLaw, NextLaw, PartFarLaw, QueryLaw, ReportFarLaw, UnboundLaw};
+ghost use Rattle.sms_centre_sight.specs.CentreLaws.{AnsweredLaw, BackLaw, BoundLaw, FirstLaw, HandsetLaw, LinkDownLaw, LinkUpLaw, NextLaw, NextReferenceLaw, NoReferenceLaw, PartFarLaw, QueryLaw, ReportFarLaw, UnboundLaw};
 
 /// The centre of a new store sees the empty world; one that has adopted an event sees the world that the event led to; and one
 /// that stops, behind a store call or between two events, comes back with rows that show the world.
@@ -18,6 +18,12 @@ pub fn handsets_leave_what_is_seen()
 pub fn progress_is_not_seen()
     ensures part { PartFarLaw }
     ensures report { ReportFarLaw }
+{}
+
+/// The reference that comes next at a handset is one that the world may give there; where none does, the world may give none.
+pub fn references_are_those_of_the_world()
+    ensures next { NextReferenceLaw }
+    ensures none { NoReferenceLaw }
 {}
 
 /// Where a sound centre sees the world, a question of an application, and a link that comes up or goes down, are steps of the
