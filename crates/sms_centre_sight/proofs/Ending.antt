@@ -3,6 +3,7 @@ use Rattle.std.proofs.Common.{◌≡◌, ◌⊎◌, ℕ, ◌<◌, arith, List, [
 use Rattle.std.specs.Prelude.{is_none}
 use Rattle.std.proofs.lemmas.Bool.{cases_eq, cond_both}
 use Rattle.sms_base.specs.Among.{Among}
+use Rattle.sms_base.specs.declared.address.Address.{Address}
 use Rattle.sms_base.specs.declared.final_state.FinalState.{FinalState}
 use Rattle.sms_base.specs.declared.final_state.FinalState.TheVariants.{Delivered, Expired, Deleted, Undeliverable}
 use Rattle.sms_base.specs.declared.holder.Holder.{Holder}
@@ -45,18 +46,19 @@ use Rattle.sms_centre_rules.specs.Submitting.{reference_for}
 use Rattle.sms_world.proofs.Alike.{report_alike}
 use Rattle.sms_world.proofs.Givings.{gave}
 use Rattle.sms_world.proofs.Tables.{changed_back, changed_here, changed_there}
-use Rattle.sms_world.specs.References.{CanGive}
+use Rattle.sms_world.specs.References.{CanGive, Ticket}
 use Rattle.sms_world.specs.Run.{Run, end}
 use Rattle.sms_world.specs.ScriptRun.{items}
-use Rattle.sms_world.specs.Submission.{Always, Failures, IsWished, Never, Submission}
+use Rattle.sms_world.specs.Submission.{IsWished, Submission, Wish}
 use Rattle.sms_world.specs.WhoseTpdu.{IsReportOf, status_of}
 use Rattle.sms_world.specs.World.{Final, Giving, Message, Pending, ReceiptOf, Stands, State, World, changed}
 use Rattle.sms_world.specs.WorldStep.{IsOwed, Receipt, Status, Step}
 use Rattle.sms_centre_sight.proofs.Givings.{can_give, cannot_give, kept_given, seen_report}
+use Rattle.sms_centre_sight.proofs.Loads.{none_of}
 use Rattle.sms_centre_sight.proofs.References.{states_of}
 use Rattle.sms_centre_sight.specs.CentreSight.{StoreSees}
 use Rattle.sms_centre_sight.specs.SeesGiven.{SeesHolders, given_part, given_report, seconds_by}
-use Rattle.sms_centre_sight.specs.SeesMessages.{IsInTable, IsRowOf, PartSeen, SeesTable, is_handset, messages_by, parts_by, wish_of}
+use Rattle.sms_centre_sight.specs.SeesMessages.{IsInTable, IsRowOf, IsStateOf, PartSeen, SeesTable, is_handset, messages_by, parts_by, wish_of}
 use Rattle.sms_centre_sight.specs.SeesReports.{ReportSeen, SeesReports, report_seen, reports_by}
 
 -- ---- the state
@@ -193,7 +195,7 @@ ended_sees f m s w there change ends sees =
 -- steps that tell of a final state
 abbrev pub AllTell : List Step → Type 0
 AllTell [] = Unit {0}
-AllTell (x ∷ xs) = (((u : Submission) × (f : FinalState) × (x ≡ Receipt u f)) ⊎ ((u : Submission) × (f : FinalState) × (t : Rattle.sms_world.specs.References.Ticket) × (x ≡ Status u f t))) × AllTell xs
+AllTell (x ∷ xs) = (((u : Submission) × (f : FinalState) × (x ≡ Receipt u f)) ⊎ ((u : Submission) × (f : FinalState) × (t : Ticket) × (x ≡ Status u f t))) × AllTell xs
 
 -- the world comes by such steps, which send nothing, to where the store sees it
 abbrev pub Comes : (List Step → Type 0) → ℕ → Store → World → Type 0
@@ -318,3 +320,236 @@ module _ (f : FinalState) (n : ℕ) (m : MessageRow) (s : Store) (w : World) (ca
       where
         apart : is_status kind ≡ true → ⊥
         apart e = let bad : true ≡ false = sym e ∙ quiet in absurd cc
+
+-- A status report of it takes the reference that comes next.
+module _ (f : FinalState) (n : ℕ) (m : MessageRow) (s : Store) (w : World) (can : CanReport f n m s) (sees : StoreSees s w) (reference : ℕ)
+    (next : reference_for (handset_of m.source.digits (handsets_in s)) s ≡ Some reference) where
+  abbrev report_octets : List ℕ
+  report_octets = status_octets (final_of f s.moment m)
+
+  abbrev report_kind : ReportKind
+  report_kind = StatusKind reference (status_octets (final_of f s.moment m))
+
+  abbrev report_seen_now : ReportSeen
+  report_seen_now = record { kind = StatusKind reference (status_octets (final_of f s.moment m)); is_done = false }
+
+  abbrev report_given : Giving
+  report_given = given_report (ended f n m) reference (status_octets (final_of f s.moment m)) s.moment
+
+  small_reference : reference < 256
+  small_reference =
+      let h : HandsetRow = handset_of m.source.digits (handsets_in s) in (next_is_free h (waiting_in h.number s) (references_in s) s.moment reference next).1
+
+  parts_apart : (x y : Holder) (id k number : ℕ) → x ≡ Report id → y ≡ Part k number → x ≡ y → ⊥
+  parts_apart x y id k number a b e = let bad : Report id ≡ Part k number = sym a ∙ e ∙ b in absurd cc
+
+  status_holders : SeesHolders (messages_by (messages_in s)) (parts_by (parts_in s)) (reports_by (more f n m s w can sees report_kind false)) (report_given ∷ w.down)
+  status_holders = record {
+    part = λ id number x p e q. let y = sees.holders.part id number x p e q in (y.0, inr y.1);
+    report = λ id r tpdu x seen e k q. ⊎_elim
+        (λ (own : m.id ≡ id).
+        let both : Some report_seen_now ≡ Some seen = sym (own_report f n m s w can sees report_kind false id own) ∙ k in
+        let same : report_seen_now ≡ seen = cc in
+        let kinds : report_kind ≡ StatusKind r tpdu = ap (λ (y : ReportSeen). y.kind) same ∙ q in
+        let rows : Some (ended f n m) ≡ Some x = sym can.there ∙ ap (λ (j : ℕ). message_at j (messages_in s)) own ∙ e in
+        let row : ended f n m ≡ x = cc in
+        let a : reference ≡ r = cc in
+        let b : report_octets ≡ tpdu = cc in
+        let is : (moment : ℕ) × Among (given_report x r tpdu moment) (report_given ∷ w.down) = (s.moment, inl (λ j. given_report (sym row j) (sym a j) (sym b j) s.moment)) in is)
+        (λ (ne : m.id ≡ id → ⊥).
+        let y = sees.holders.report id r tpdu x seen e (sym (other_report f n m s w can sees report_kind false id ne) ∙ k) q in
+        let is : (moment : ℕ) × Among (given_report x r tpdu moment) (report_given ∷ w.down) = (y.0, inr y.1) in is)
+        (cases_eq m.id id);
+    of_part = λ g id number i e. ⊎_elim
+        (λ (q : g ≡ report_given). absurd (parts_apart report_given.holder g.holder m.id id number refl e (ap (λ (x : Giving). x.holder) (sym q))))
+        (λ (j : Among g w.down). sees.holders.of_part g id number j e)
+        i;
+    of_report = λ g id i e. ⊎_elim
+        (λ (q : g ≡ report_given).
+        let holders : Report m.id ≡ Report id = ap (λ (x : Giving). x.holder) (sym q) ∙ e in
+        let same : m.id ≡ id = cc in
+        let moment : report_given.moment ≡ g.moment = ap (λ (x : Giving). x.moment) (sym q) in
+        let is : (x : MessageRow) × (r : ReportSeen) × (k : ℕ) × (tpdu : List ℕ)
+            × ((message_at id (messages_in s) ≡ Some x) × (reports_by (more f n m s w can sees report_kind false) id ≡ Some r) × (r.kind ≡ StatusKind k tpdu) × (g ≡ given_report x k tpdu g.moment)) =
+        (
+          ended f n m,
+          report_seen_now,
+          reference,
+          report_octets,
+          (ap (λ (j : ℕ). message_at j (messages_in s)) (sym same) ∙ can.there, own_report f n m s w can sees report_kind false id same, refl, q ∙ ap (λ (t : ℕ). given_report (ended f n m) reference report_octets t) moment),
+        ) in is)
+        (λ (j : Among g w.down).
+        let x = sees.holders.of_report g id j e in
+        let is : (y : MessageRow) × (r : ReportSeen) × (k : ℕ) × (tpdu : List ℕ)
+            × ((message_at id (messages_in s) ≡ Some y) × (reports_by (more f n m s w can sees report_kind false) id ≡ Some r) × (r.kind ≡ StatusKind k tpdu) × (g ≡ given_report y k tpdu g.moment)) =
+        (x.0, x.1, x.2, x.3, (x.4.0, kept_report f n m s w can sees report_kind false id x.1 x.4.1, x.4.2, x.4.3)) in is)
+        i;
+  }
+
+  status_sees : StoreSees (status_given f m (handset_of m.source.digits (handsets_in s)) (Some reference) s)
+      (record w { receipts = record { id = m.id; state = f } ∷ w.receipts; reports = m.id ∷ w.reports; down = report_given ∷ w.down })
+  status_sees = record {
+    table = sees.table;
+    reports = reports_more f n m s w can sees report_kind false (m.id ∷ w.reports) (λ id i. inr i) (λ e x. inl refl) (λ id i. ⊎_elim
+        (λ (e : id ≡ m.id). inr (sym e, refl, refl))
+        (λ (j : Among id w.reports). inl j)
+        i);
+    holders = status_holders;
+    seconds = gave (seconds_by (handsets_in s) (references_in s))
+        (seconds_by (handsets_in (status_given f m (handset_of m.source.digits (handsets_in s)) (Some reference) s)) (references_in (status_given f m (handset_of m.source.digits (handsets_in s)) (Some reference) s)))
+        w.down s.moment report_given sees.seconds (kept_given s can.stands.held report_given refl small_reference) refl;
+  }
+
+-- ---- what is told is a step
+
+module _ (f : FinalState) (n : ℕ) (m : MessageRow) (s : Store) (w : World) (can : CanReport f n m s) (sees : StoreSees s w) (sound : SoundStore s) (wish : is_wished m.wish f ≡ true) where
+  abbrev submission_of : Submission
+  submission_of = (sees.table.there m.id (ended f n m) can.there).0
+
+  row_of : IsRowOf (ended f n m) submission_of
+  row_of = (sees.table.there m.id (ended f n m) can.there).2.1
+
+  owed : IsOwed w submission_of f
+  owed =
+      let x = sees.table.there m.id (ended f n m) can.there in
+      let stands : Stands w.table m.id submission_of (Final f) = subst (λ (z : State). Stands w.table m.id submission_of z) x.2.2 x.2.0 in (
+        subst (λ (k : ℕ). Stands w.table k submission_of (Final f)) (sym row_of.id) stands,
+        subst (λ (z : Wish). IsWished z f) (sym row_of.wish) (wished m.wish f wish),
+        λ g i. no_receipt f n m s w can sees (record { id = submission_of.id; state = g }) i row_of.id,
+      )
+
+  receipt_comes : (kind : ReportKind) (closed : Bool) → is_status kind ≡ false → (submission_of.by_report ≡ true → (r : ℕ) → CanGive w submission_of.source.digits r s.moment → ⊥)
+      → Comes AllTell s.moment (make_report m.id kind closed s) w
+  receipt_comes kind closed quiet none = (
+    Receipt submission_of f ∷ [],
+    (
+      (inl (submission_of, f, refl), tt),
+      ((owed, none), tt),
+      subst (λ (k : ℕ). StoreSees (make_report m.id kind closed s) (record w { receipts = record { id = k; state = f } ∷ w.receipts })) (sym row_of.id) (quiet_sees f n m s w can sees kind closed quiet),
+      refl,
+    ),
+  )
+
+  status_comes : (mr reference : ℕ) → m.originator ≡ Handset mr → reference_for (handset_of m.source.digits (handsets_in s)) s ≡ Some reference
+      → Comes AllTell s.moment (status_given f m (handset_of m.source.digits (handsets_in s)) (Some reference) s) w
+  status_comes mr reference from next =
+      let octets : List ℕ = status_octets (final_of f s.moment m) in
+      let row : MessageRow = ended f n m in
+      let among : Among row (messages_in s) = found_among message_key m.id row (messages_in s) can.there in
+      let reads : IsStatus mr row s.moment octets (status_report_of (final_of f s.moment m)) =
+      status_reads f s.moment mr m row sound.times.now (sound.times.submitted row among).0 (sound.messages.each_message row among).handset from refl refl in
+      let is : IsReportOf submission_of f octets = record {
+        report = status_report_of (final_of f s.moment m);
+        reads = reads.read;
+        status = codes_agree f;
+        recipient = reads.recipient ∙ sym row_of.handset;
+      } in
+      let may : CanGive w m.source.digits reference s.moment = can_give s w can.stands.held sees.holders (states_of s w sees) sees.reports m.source.digits reference sees.seconds next in
+      let t : Ticket = record { reference = reference; tpdu = compared octets } in (
+        Status submission_of f t ∷ [],
+        (
+          (inr (submission_of, f, t, refl), tt),
+          (
+            (
+              owed,
+              row_of.by_report ∙ ap is_handset from,
+              subst (λ (a : Address). CanGive w a.digits reference s.moment) (sym row_of.source) may,
+              (report_alike submission_of f octets).1 is,
+            ),
+            tt,
+          ),
+          subst (λ (z : World). StoreSees (status_given f m (handset_of m.source.digits (handsets_in s)) (Some reference) s) z)
+              (λ j. record w {
+                receipts = record { id = sym row_of.id j; state = f } ∷ w.receipts;
+                reports = sym row_of.id j ∷ w.reports;
+                down = record { handset = (sym row_of.source j).digits; reference = reference; holder = Report (sym row_of.id j); moment = s.moment; tpdu = compared octets } ∷ w.down;
+              })
+              (status_sees f n m s w can sees reference next),
+          refl,
+        ),
+      )
+
+  handset_comes : (mr : ℕ) (o : Option ℕ) → m.originator ≡ Handset mr → reference_for (handset_of m.source.digits (handsets_in s)) s ≡ o
+      → Comes AllTell s.moment (status_given f m (handset_of m.source.digits (handsets_in s)) o s) w
+  handset_comes mr None from next =
+      receipt_comes Unsent true refl (λ e r may. cannot_give s w sound sees m.source.digits next r (subst (λ (a : Address). CanGive w a.digits r s.moment) row_of.source may))
+  handset_comes mr (Some reference) from next = status_comes mr reference from next
+
+  report_comes : (o : Originator) → m.originator ≡ o → Comes AllTell s.moment (report_to o f m s) w
+  report_comes (Application account) from =
+      receipt_comes ReceiptKind false refl (λ e r may. not_by (sym (row_of.by_report ∙ ap is_handset from) ∙ e))
+    where
+      not_by : false ≡ true → ⊥
+      not_by e = cc
+  report_comes (Handset mr) from = handset_comes mr (reference_for (handset_of m.source.digits (handsets_in s)) s) from refl
+
+-- ---- a message ends
+
+rows_map : (D E : MessageRow → Type 0) (s : Store) → AreRows D (messages_in s) (parts_in s) (priorities_in s) → ((x : MessageRow) → Among x (messages_in s) → D x → E x)
+    → AreRows E (messages_in s) (parts_in s) (priorities_in s)
+rows_map D E s r f = record {
+  message_keys = r.message_keys;
+  part_keys = r.part_keys;
+  priority_keys = r.priority_keys;
+  each = r.each;
+  told = λ x among. f x among (r.told x among);
+  each_part = r.each_part;
+  each_priority = r.each_priority;
+}
+
+-- a message that is pending is so in the world
+pub pending_in_world : (m : MessageRow) (s : Store) (w : World) → StoreSees s w → message_at m.id (messages_in s) ≡ Some m → is_pending m ≡ true
+    → (u : Submission) × (done : List ℕ) × (Stands w.table m.id u (Pending done) × IsRowOf m u)
+pending_in_world m s w sees there pending =
+    let x = sees.table.there m.id m there in
+    let y : IsStateOf None (parts_by (parts_in s) m.id) x.1 = subst (λ (z : Option FinalState). IsStateOf z (parts_by (parts_in s) m.id) x.1) (none_of m.state pending) x.2.2 in
+    (x.0, y.0, (subst (λ (z : State). Stands w.table m.id x.0 z) y.1.0 x.2.0, x.2.1))
+
+-- with a part undone
+pub can_end : (f : FinalState) (m : MessageRow) (s : Store) → SoundStore s → message_at m.id (messages_in s) ≡ Some m → is_pending m ≡ true → is_delivered (Some f) ≡ false → CanEnd f m s
+can_end f m s k there pending partly =
+    let rows = rows_are (messages_in s) (parts_in s) (priorities_in s) k.messages in
+    record {
+      stands = k.stands;
+      rows = rows_map (IsTold (parts_in s)) (λ x. ¬ (x.id ≡ m.id) → IsTold (parts_in s) x) s rows (λ x among told ne. told);
+      told = partly ∙ sym (pending_undelivered m.state pending) ∙ rows.told m (found_among message_key m.id m (messages_in s) there);
+      reports = k.reports;
+      splits = k.splits;
+      setup = k.setup;
+      times = k.times;
+      there = there;
+      pending = pending;
+    }
+
+ended_sound : (f : FinalState) (m : MessageRow) (s : Store) → CanEnd f m s → SoundStore (with_message (ended f s.moment m) s)
+ended_sound f m s c =
+    let x : MessageRow = ended f s.moment m in
+    let can = can_report f m s c.stands c.there c.pending in
+    let ps = parts_in s in
+    record {
+      stands = can.stands;
+      messages = rows_sound (put message_key x (messages_in s)) ps (priorities_in s)
+          (ended_rows (λ y. ¬ (y.id ≡ m.id) → IsTold ps y) (IsTold ps) (messages_in s) ps (priorities_in s) m f s.moment c.rows c.there c.told (λ y among ne told. told ne));
+      reports = end_reports (messages_in s) (reports_in s) m f s.moment c.reports c.there c.pending;
+      splits = end_apart (messages_in s) m f s.moment c.splits c.there c.pending;
+      setup = c.setup;
+      times = record {
+        now = c.times.now;
+        start = c.times.start;
+        submitted = λ y among. ⊎_elim
+            (λ (e : y ≡ x). subst (λ (z : MessageRow). IsPast s.moment z.submitted) (sym e) (c.times.submitted m (found_among message_key m.id m (messages_in s) c.there)))
+            (λ (a : Among y (messages_in s) × ¬ (y.id ≡ m.id)). c.times.submitted y a.0)
+            (among_put message_key y x (messages_in s) among);
+        given = c.times.given;
+        made = c.times.made;
+      };
+    }
+
+-- the world in which the message has ended comes to what is told of it
+pub end_comes : (f : FinalState) (m : MessageRow) (s : Store) (w : World) → CanEnd f m s → StoreSees (with_message (ended f s.moment m) s) w → Comes AllTell s.moment (end_message f m s) w
+end_comes f m s w c sees =
+    let e : Store = with_message (ended f s.moment m) s in
+    let can = can_report f m s c.stands c.there c.pending in
+    cond_both (is_wished m.wish f) (report_to m.originator f m e) e (λ (x : Store). Comes AllTell s.moment x w)
+    (λ t. report_comes f s.moment m e w can sees (ended_sound f m s c) t m.originator refl)
+    (λ t. ([], (tt, tt, sees, refl)))

@@ -11,3 +11,5 @@ pub mod QuietEvents
 pub mod SessionsChange
 pub mod SessionsBound
 pub mod Ending
+pub mod Playing
+pub mod Cancelling

@@ -49,7 +49,7 @@ pub record IsOffered (handset : List ℕ) (reference : ℕ) (w : World) (holder 
   pub unanswered : IsUnanswered w.table w.reports holder
   pub fits : length tpdu ≤ 200
 
-none_of : (o : Option FinalState) → is_none o ≡ true → o ≡ None
+pub none_of : (o : Option FinalState) → is_none o ≡ true → o ≡ None
 none_of None e = refl
 none_of (Some f) e = absurd cc
 

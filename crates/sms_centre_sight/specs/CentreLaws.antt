@@ -3,7 +3,8 @@ use Rattle.std.specs.Prelude.{◌≡◌, ℕ, List, [], ◌∷◌, Bool, Some, N
 use Rattle.sms_centre_rules.specs.CentreEvent.{happened, recovered, started}
 use Rattle.sms_centre_rules.specs.SoundCore.{IsSoundCore}
 use Rattle.sms_centre_rules.specs.declared.event.CentreEvent.{CentreEvent}
-use Rattle.sms_centre_rules.specs.declared.event.CentreEvent.TheVariants.{Bound, DeliverAnswered, LinkDown, LinkUp, Query, Unbound}
+use Rattle.sms_centre_rules.specs.declared.event.CentreEvent.TheVariants.{Bound, Cancel, DeliverAnswered, LinkDown, LinkUp, Query, Unbound}
+use Rattle.smpp_pdu.specs.declared.cancel.CancelSm.{CancelSm}
 use Rattle.smpp_pdu.specs.declared.query.QuerySm.{QuerySm}
 use Rattle.sms_waiting.specs.SoundGivings.{IsNumber}
 use Rattle.sms_centre_rules.specs.Draft.{Core, Draft, Store, core_of, draft_of, parts_in, reports_in, rows_of, with_part_at, with_report_at}
@@ -20,8 +21,8 @@ use Rattle.sms_waiting.specs.References.{handset_of}
 use Rattle.sms_centre_rules.specs.Submitting.{reference_for}
 use Rattle.sms_world.specs.References.{CanGive}
 use Rattle.sms_world.specs.Run.{Run, end}
-use Rattle.sms_world.specs.ScriptRun.{items}
-use Rattle.sms_world.specs.Sides.{AllOfHandset}
+use Rattle.sms_world.specs.ScriptRun.{Cancelled, Event, IsPlayed, items}
+use Rattle.sms_world.specs.Sides.{AllOfCentre, AllOfHandset}
 use Rattle.sms_world.specs.World.{Giving, Sent, World, empty, with_frames}
 use Rattle.sms_world.specs.WorldStep.{Offer, Step}
 use Rattle.sms_centre_sight.specs.CentreSight.{CentreSees, StoreSees}
@@ -106,3 +107,13 @@ UnboundLaw = (m : ℕ) (session : ℕ) (c : Core) (w : World) → IsSoundCore c 
 abbrev pub AnsweredLaw : Type 0
 AnsweredLaw =
     (m : ℕ) (session id : ℕ) (is_accepted : Bool) (c : Core) (w : World) → IsSoundCore c → CentreSees w (draft_of c) w → OffersOnly m (DeliverAnswered session id is_accepted) c w
+
+-- ---- events of a script
+
+-- The event is steps of the centre as that event of a script may be, at its moment, and what they lead to the centre sees.
+abbrev pub LeadsOn : ℕ → Event → CentreEvent → Core → World → Type 0
+LeadsOn m played event c w = (steps : List Step) × (IsPlayed w played steps × AllOfCentre steps × Run w (items m false steps) × CentreSees w (happened event c) (end w (items m false steps)))
+
+-- an application cancels
+abbrev pub CancelLaw : Type 0
+CancelLaw = (account : ℕ) (wanted : CancelSm) (c : Core) (w : World) → IsSoundCore c → CentreSees w (draft_of c) w → LeadsOn c.moment Cancelled (Cancel account wanted) c w
