@@ -13,3 +13,6 @@ pub mod SessionsBound
 pub mod Ending
 pub mod Playing
 pub mod Cancelling
+pub mod Aging
+pub mod Firing
+pub mod Ticks

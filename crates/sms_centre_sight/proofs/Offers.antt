@@ -80,11 +80,11 @@ telling_long more (x ∷ xs) = refl
 
 -- ---- frames and lines
 
-stacked_both : (fs gs : List SentRow) (bag : List Sent) → stacked_down (fs ++ gs) bag ≡ stacked_down gs (stacked_down fs bag)
+pub stacked_both : (fs gs : List SentRow) (bag : List Sent) → stacked_down (fs ++ gs) bag ≡ stacked_down gs (stacked_down fs bag)
 stacked_both [] gs bag = refl
 stacked_both (f ∷ fs) gs bag = stacked_both fs gs (sent_down f.handset (length bag + 1) f.frame.octets f.frame.carried ∷ bag)
 
-whole_both : (fs gs : List SentRow) → AreWholeDown fs → AreWholeDown gs → AreWholeDown (fs ++ gs)
+pub whole_both : (fs gs : List SentRow) → AreWholeDown fs → AreWholeDown gs → AreWholeDown (fs ++ gs)
 whole_both [] gs a b = b
 whole_both (f ∷ fs) gs a b = (a.0, whole_both fs gs a.1 b)
 

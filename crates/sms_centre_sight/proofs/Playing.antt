@@ -35,7 +35,7 @@ module _ (event : Event) (may : (x : Step) → Follows x → MayFollow event x) 
       (λ (r : (u : Submission) × (f : FinalState) × (t : Ticket) × (x ≡ Status u f t)). ((may x (subst Follows (sym r.3) tt), rest.0), (subst IsOfCentre (sym r.3) tt, rest.1)))
       k
 
-  follow_both : (xs ys : List Step) → AllMayFollow event xs → AllMayFollow event ys → AllMayFollow event (xs ++ ys)
+  pub follow_both : (xs ys : List Step) → AllMayFollow event xs → AllMayFollow event ys → AllMayFollow event (xs ++ ys)
   follow_both [] ys a b = b
   follow_both (x ∷ xs) ys a b = (a.0, follow_both xs ys a.1 b)
 

@@ -1,9 +1,10 @@
 -- What of the centre's sight is proved: it begins, it comes back, and others leave it.
-use Rattle.std.specs.Prelude.{◌≡◌, ℕ, List, [], ◌∷◌, Bool, Some, None, true, false}
+use Rattle.sms_base.specs.TimeStamp.{IsMoment}
+use Rattle.std.specs.Prelude.{◌≡◌, ℕ, max, List, [], ◌∷◌, Bool, Some, None, true, false}
 use Rattle.sms_centre_rules.specs.CentreEvent.{happened, recovered, started}
 use Rattle.sms_centre_rules.specs.SoundCore.{IsSoundCore}
 use Rattle.sms_centre_rules.specs.declared.event.CentreEvent.{CentreEvent}
-use Rattle.sms_centre_rules.specs.declared.event.CentreEvent.TheVariants.{Bound, Cancel, DeliverAnswered, LinkDown, LinkUp, Query, Unbound}
+use Rattle.sms_centre_rules.specs.declared.event.CentreEvent.TheVariants.{Bound, Cancel, DeliverAnswered, LinkDown, LinkUp, Query, Tick, Unbound}
 use Rattle.smpp_pdu.specs.declared.cancel.CancelSm.{CancelSm}
 use Rattle.smpp_pdu.specs.declared.query.QuerySm.{QuerySm}
 use Rattle.sms_waiting.specs.SoundGivings.{IsNumber}
@@ -21,7 +22,7 @@ use Rattle.sms_waiting.specs.References.{handset_of}
 use Rattle.sms_centre_rules.specs.Submitting.{reference_for}
 use Rattle.sms_world.specs.References.{CanGive}
 use Rattle.sms_world.specs.Run.{Run, end}
-use Rattle.sms_world.specs.ScriptRun.{Cancelled, Event, IsPlayed, items}
+use Rattle.sms_world.specs.ScriptRun.{Cancelled, Event, IsPlayed, Tick_centre, items}
 use Rattle.sms_world.specs.Sides.{AllOfCentre, AllOfHandset}
 use Rattle.sms_world.specs.World.{Giving, Sent, World, empty, with_frames}
 use Rattle.sms_world.specs.WorldStep.{Offer, Step}
@@ -117,3 +118,7 @@ LeadsOn m played event c w = (steps : List Step) × (IsPlayed w played steps × 
 -- an application cancels
 abbrev pub CancelLaw : Type 0
 CancelLaw = (account : ℕ) (wanted : CancelSm) (c : Core) (w : World) → IsSoundCore c → CentreSees w (draft_of c) w → LeadsOn c.moment Cancelled (Cancel account wanted) c w
+
+-- its timers are looked at, and time never goes back
+abbrev pub TickLaw : Type 0
+TickLaw = (now : ℕ) (c : Core) (w : World) → IsSoundCore c → IsMoment now → CentreSees w (draft_of c) w → LeadsOn (max c.moment now) Tick_centre (Tick now) c w

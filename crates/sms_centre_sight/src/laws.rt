@@ -1,5 +1,5 @@
 //! How the centre's sight of the world begins, and what leaves it.
-ghost use Rattle.sms_centre_sight.specs.CentreLaws.{AnsweredLaw, BackLaw, BoundLaw, CancelLaw, FirstLaw, HandsetLaw, LinkDownLaw, LinkUpLaw, NextLaw, NextReferenceLaw, NoReferenceLaw, PartFarLaw, QueryLaw, ReportFarLaw, UnboundLaw};
+ghost use Rattle.sms_centre_sight.specs.CentreLaws.{AnsweredLaw, BackLaw, BoundLaw, CancelLaw, FirstLaw, HandsetLaw, LinkDownLaw, LinkUpLaw, NextLaw, NextReferenceLaw, NoReferenceLaw, PartFarLaw, QueryLaw, ReportFarLaw, TickLaw, UnboundLaw};
 
 /// The centre of a new store sees the empty world; one that has adopted an event sees the world that the event led to; and one
 /// that stops, behind a store call or between two events, comes back with rows that show the world.
@@ -42,7 +42,9 @@ pub fn sessions_are_offers()
 {}
 
 /// Where a sound centre sees the world, an event that ends messages is an event of a script, by steps of the centre, and it sees
-/// where they lead: a cancel deletes the message, and what is told of it and the next offers follow.
+/// where they lead: a cancel deletes the message, and what is told of it and the
+/// next offers follow; at a tick messages expire and tell it, old status reports are dropped, frames go again, and what is due is offered.
 pub fn ends_are_events_of_scripts()
     ensures cancel { CancelLaw }
+    ensures tick { TickLaw }
 {}
