@@ -11,7 +11,6 @@ use Rattle.sms_messages.specs.Messages.{ended, is_pending, message_at, message_k
 use Rattle.sms_messages.specs.declared.message.MessageRow.{MessageRow}
 use Rattle.sms_reports.proofs.ReportRows.{amended_other, amended_own}
 use Rattle.sms_reports.specs.Reports.{is_open_status, is_status, report_key, report_of, report_reaching}
-use Rattle.sms_reports.specs.declared.report.ReportKind.{ReportKind}
 use Rattle.sms_reports.specs.declared.report.ReportRow.{ReportRow}
 use Rattle.sms_table.specs.Table.{Rises}
 use Rattle.sms_table.proofs.Tables.{among_found}
@@ -30,7 +29,7 @@ use Rattle.sms_centre_rules.specs.Transfers.{report_closed}
 use Rattle.sms_frame_sight.proofs.RunsOn.{end_both, run_both}
 use Rattle.sms_world.proofs.Tables.{among_without}
 use Rattle.sms_world.specs.Lists.{without}
-use Rattle.sms_world.specs.Run.{Run, end}
+use Rattle.sms_world.specs.Run.{end}
 use Rattle.sms_world.specs.ScriptRun.{AllMayFollow, Tick_centre, items}
 use Rattle.sms_world.specs.Sides.{AllOfCentre}
 use Rattle.sms_world.specs.World.{Final, World, changed}
@@ -39,7 +38,7 @@ use Rattle.sms_centre_sight.specs.CentreSight.{StoreSees}
 use Rattle.sms_centre_sight.specs.SeesGiven.{SeesHolders}
 use Rattle.sms_centre_sight.specs.SeesMessages.{messages_by, parts_by}
 use Rattle.sms_centre_sight.specs.SeesReports.{ReportSeen, SeesReports, report_seen, reports_by}
-use Rattle.sms_centre_sight.proofs.Ending.{AllTell, Comes, can_end, end_comes, ended_sees, pending_in_world}
+use Rattle.sms_centre_sight.proofs.Ending.{Comes, can_end, end_comes, ended_sees, pending_in_world}
 use Rattle.sms_centre_sight.proofs.Playing.{centre_both, follow_both, tells_follow}
 use Rattle.sms_centre_sight.proofs.SessionsBound.{far_leaves}
 

@@ -1,11 +1,10 @@
 -- A cancel_sm: the message is deleted and that is told, or nothing but the answer comes of it.
-use Rattle.std.proofs.Common.{◌≡◌, ℕ, List, [], ◌∷◌, Bool, true, false, refl, sym, ◌∙◌, inl, inr, Option, Some, None}
-use Rattle.std.specs.Prelude.{◌&&◌, is_none}
+use Rattle.std.proofs.Common.{◌≡◌, ℕ, [], ◌∷◌, true, false, refl, inl, inr, Option, Some, None}
+use Rattle.std.specs.Prelude.{◌&&◌}
 use Rattle.std.proofs.lemmas.Bool.{cond_both}
 use Rattle.sms_base.specs.declared.address.Address.{Address}
 use Rattle.sms_base.specs.declared.final_state.FinalState.TheVariants.{Deleted}
 use Rattle.smpp_pdu.specs.declared.cancel.CancelSm.{CancelSm}
-use Rattle.smpp_pdu.specs.declared.status.CommandStatus.{CommandStatus}
 use Rattle.smpp_pdu.specs.declared.status.CommandStatus.TheVariants.{ESME_RCANCELFAIL}
 use Rattle.sms_intake.specs.SmppIntake.{is_empty, source_in}
 use Rattle.sms_intake.specs.declared.submission.Account.{Account}
@@ -15,7 +14,6 @@ use Rattle.sms_reports.specs.Receipts.{is_account}
 use Rattle.sms_centre_rules.proofs.SoundEvents.{event_after}
 use Rattle.sms_centre_rules.proofs.SoundStores.{SoundStore}
 use Rattle.sms_centre_rules.proofs.Steady.{message_own}
-use Rattle.sms_centre_rules.specs.CentreEvent.{follow}
 use Rattle.sms_centre_rules.specs.Draft.{Draft, Store, answer_with, draft_of, in_store, messages_in, with_message}
 use Rattle.sms_centre_rules.specs.Ends.{end as end_message}
 use Rattle.sms_centre_rules.specs.Numbers.{id_in}
@@ -26,7 +24,7 @@ use Rattle.sms_centre_rules.specs.declared.event.CentreEvent.TheVariants.{Cancel
 use Rattle.sms_world.specs.Run.{end}
 use Rattle.sms_world.specs.ScriptRun.{Cancelled, items}
 use Rattle.sms_world.specs.World.{Final, World, changed}
-use Rattle.sms_world.specs.WorldStep.{Delete, IsPending, ended as ended_in}
+use Rattle.sms_world.specs.WorldStep.{Delete}
 use Rattle.sms_centre_sight.specs.CentreLaws.{CancelLaw}
 use Rattle.sms_centre_sight.specs.CentreSight.{CentreSees, StoreSees}
 use Rattle.sms_centre_sight.proofs.Ending.{can_end, end_comes, ended_sees, pending_in_world}

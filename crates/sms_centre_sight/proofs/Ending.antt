@@ -1,6 +1,5 @@
 -- A message ends and is told: its state in the world, then a receipt, or a status report under the reference that comes next.
-use Rattle.std.proofs.Common.{◌≡◌, ◌⊎◌, ℕ, ◌<◌, arith, List, [], ◌∷◌, Bool, true, false, refl, sym, ◌∙◌, ap, subst, inl, inr, ⊎_elim, Option, Some, None}
-use Rattle.std.specs.Prelude.{is_none}
+use Rattle.std.proofs.Common.{◌≡◌, ◌⊎◌, ℕ, ◌<◌, List, [], ◌∷◌, Bool, true, false, refl, sym, ◌∙◌, ap, subst, inl, inr, ⊎_elim, Option, Some, None}
 use Rattle.std.proofs.lemmas.Bool.{cases_eq, cond_both}
 use Rattle.sms_base.specs.Among.{Among}
 use Rattle.sms_base.specs.declared.address.Address.{Address}
@@ -24,7 +23,7 @@ use Rattle.sms_reports.specs.Waiting.{IsNew}
 use Rattle.sms_reports.specs.declared.report.ReportKind.{ReportKind}
 use Rattle.sms_reports.specs.declared.report.ReportKind.TheVariants.{Receipt as ReceiptKind, Status as StatusKind, Unsent}
 use Rattle.sms_reports.specs.declared.report.ReportRow.{ReportRow}
-use Rattle.sms_table.specs.Table.{put, row_at}
+use Rattle.sms_table.specs.Table.{put}
 use Rattle.sms_table.proofs.Tables.{among_put, found_among, found_key, row_at_put, row_at_put_other}
 use Rattle.sms_tpdu.specs.Codes.{status_octet}
 use Rattle.sms_tpdu.specs.MoreMessages.{compared}
@@ -41,7 +40,6 @@ use Rattle.sms_centre_rules.proofs.TpdusRead.{status_reads}
 use Rattle.sms_centre_rules.specs.Draft.{Store, handsets_in, messages_in, parts_in, priorities_in, references_in, reports_in, waiting_in, with_message}
 use Rattle.sms_centre_rules.specs.Ends.{end as end_message, is_wished, make_report, report_to, status_given}
 use Rattle.sms_centre_rules.specs.Finals.{final_of}
-use Rattle.sms_centre_rules.specs.SoundRows.{CanBeTold}
 use Rattle.sms_centre_rules.specs.Submitting.{reference_for}
 use Rattle.sms_world.proofs.Alike.{report_alike}
 use Rattle.sms_world.proofs.Givings.{gave}
@@ -370,8 +368,7 @@ module _ (f : FinalState) (n : ℕ) (m : MessageRow) (s : Store) (w : World) (ca
         let same : m.id ≡ id = cc in
         let moment : report_given.moment ≡ g.moment = ap (λ (x : Giving). x.moment) (sym q) in
         let is : (x : MessageRow) × (r : ReportSeen) × (k : ℕ) × (tpdu : List ℕ)
-            × ((message_at id (messages_in s) ≡ Some x) × (reports_by (more f n m s w can sees report_kind false) id ≡ Some r) × (r.kind ≡ StatusKind k tpdu) × (g ≡ given_report x k tpdu g.moment)) =
-        (
+        × ((message_at id (messages_in s) ≡ Some x) × (reports_by (more f n m s w can sees report_kind false) id ≡ Some r) × (r.kind ≡ StatusKind k tpdu) × (g ≡ given_report x k tpdu g.moment)) = (
           ended f n m,
           report_seen_now,
           reference,
@@ -381,7 +378,7 @@ module _ (f : FinalState) (n : ℕ) (m : MessageRow) (s : Store) (w : World) (ca
         (λ (j : Among g w.down).
         let x = sees.holders.of_report g id j e in
         let is : (y : MessageRow) × (r : ReportSeen) × (k : ℕ) × (tpdu : List ℕ)
-            × ((message_at id (messages_in s) ≡ Some y) × (reports_by (more f n m s w can sees report_kind false) id ≡ Some r) × (r.kind ≡ StatusKind k tpdu) × (g ≡ given_report y k tpdu g.moment)) =
+        × ((message_at id (messages_in s) ≡ Some y) × (reports_by (more f n m s w can sees report_kind false) id ≡ Some r) × (r.kind ≡ StatusKind k tpdu) × (g ≡ given_report y k tpdu g.moment)) =
         (x.0, x.1, x.2, x.3, (x.4.0, kept_report f n m s w can sees report_kind false id x.1 x.4.1, x.4.2, x.4.3)) in is)
         i;
   }

@@ -24,7 +24,6 @@ use Rattle.sms_link.specs.declared.ending.Ending.TheVariants.{Lost as LostEnd}
 use Rattle.sms_link.specs.declared.ending.Side.{Side}
 use Rattle.sms_link.specs.declared.ending.Upward.{Upward}
 use Rattle.sms_link.specs.declared.ending.Upward.TheVariants.{Ended, Opened as OpenedUp}
-use Rattle.sms_link.specs.declared.outgoing.Outgoing.{Outgoing}
 use Rattle.sms_waiting.specs.Lines.{line_at, line_of, to_handset, turn_line, turned}
 use Rattle.sms_waiting.specs.References.{handset_at}
 use Rattle.sms_waiting.specs.declared.handset.HandsetRow.{HandsetRow}
@@ -34,16 +33,16 @@ use Rattle.sms_centre_rules.proofs.SoundAccepted.{sound_steady}
 use Rattle.sms_centre_rules.proofs.SoundAir.{line_found}
 use Rattle.sms_centre_rules.proofs.SoundStores.{SoundStore}
 use Rattle.sms_centre_rules.proofs.Steady.{concluded_steady, due_now_steady}
-use Rattle.sms_centre_rules.specs.CentreEvent.{fire_all, fire_at, fire_line, fire_mentioned, fire_others, fired, is_mentioned, raise, raise_all, timed_out}
-use Rattle.sms_centre_rules.specs.Draft.{Draft, Store, handsets_in, in_store, on_air}
+use Rattle.sms_centre_rules.specs.CentreEvent.{fire_at, fire_line, fire_mentioned, fire_others, fired, is_mentioned, raise, raise_all, timed_out}
+use Rattle.sms_centre_rules.specs.Draft.{Draft, handsets_in, on_air}
 use Rattle.sms_frame_sight.proofs.RunsOn.{end_both, run_both}
 use Rattle.sms_frame_sight.specs.Between.{frame_down}
 use Rattle.sms_world.specs.Run.{Run, end}
 use Rattle.sms_world.specs.ScriptRun.{items}
-use Rattle.sms_world.specs.World.{Frame, Sent, World}
+use Rattle.sms_world.specs.World.{Sent, World}
 use Rattle.sms_world.specs.WorldStep.{Again, Step as WorldStep}
 use Rattle.sms_centre_sight.specs.CentreSight.{CentreSees}
-use Rattle.sms_centre_sight.specs.FramesOut.{sent_down, stacked_down}
+use Rattle.sms_centre_sight.specs.FramesOut.{sent_down}
 use Rattle.sms_centre_sight.specs.SeesLines.{SeesAnswerDown, SeesBegunDown, SeesLine, SeesOpenedDown, WasSentDown}
 use Rattle.sms_centre_sight.proofs.Aging.{InTick, tick_both}
 use Rattle.sms_centre_sight.proofs.LinksChange.{lost_law, raise_law}

@@ -1,10 +1,10 @@
 -- The reference that comes next at a handset is one that the world may give there, and the rows keep that it was given; where none
 -- is free, the world may give none.
 use Rattle.std.proofs.Common.{◌≡◌, ◌⊎◌, ℕ, zero, suc, ◌+◌, ◌-◌, ◌%◌, ◌<◌, ◌≤◌, arith, List, Bool, true, false, refl, sym, ◌∙◌, ap, subst, ⊎_elim, Option, Some, None, inl, inr, [], ◌∷◌}
-use Rattle.std.specs.Prelude.{◌==◌, ◌&&◌, ◌||◌, not, nat_le, is_none}
+use Rattle.std.specs.Prelude.{◌==◌, ◌&&◌, not, is_none}
 use Rattle.std.specs.Option.{option_map}
 use Rattle.std.specs.Str.{bytes_eq}
-use Rattle.std.proofs.lemmas.Bool.{cases_Bool, cases_lt, cond-false, cond-true, eqb-true, leb-false, leb-true, or_cases}
+use Rattle.std.proofs.lemmas.Bool.{cases_Bool, cond-true, eqb-true, leb-false, leb-true, or_cases}
 use Rattle.std.proofs.lemmas.Slice.Eq.{bytes_eq-Decides}
 use Rattle.sms_base.specs.Among.{Among}
 use Rattle.sms_base.specs.declared.final_state.FinalState.{FinalState}
@@ -44,7 +44,6 @@ use Rattle.sms_world.specs.Submission.{Submission}
 use Rattle.sms_world.specs.World.{Final, Giving, IsHeld, IsUnanswered, Message, Pending, Stands, State, World, find}
 use Rattle.sms_centre_sight.proofs.ByOctets.{by_octet_is, by_octet_same, by_octet_some}
 use Rattle.sms_centre_sight.proofs.Loads.{load_offered}
-use Rattle.sms_centre_sight.specs.ByOctet.{by_octet}
 use Rattle.sms_centre_sight.specs.CentreSight.{StoreSees}
 use Rattle.sms_centre_sight.specs.SeesGiven.{SeesHolders, second_at, seconds_by}
 use Rattle.sms_centre_sight.specs.SeesMessages.{IsStateOf, PartSeen, messages_by, part_seen, parts_by}

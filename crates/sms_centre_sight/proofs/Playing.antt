@@ -10,13 +10,12 @@ use Rattle.sms_world.specs.ScriptRun.{AllMayFollow, Event, Follows, IsInOrder, I
 use Rattle.sms_world.specs.Sides.{AllOfCentre, IsOfCentre}
 use Rattle.sms_world.specs.Submission.{Submission}
 use Rattle.sms_base.specs.declared.final_state.FinalState.{FinalState}
-use Rattle.sms_world.specs.World.{Giving, Sent, World}
-use Rattle.sms_world.specs.WorldStep.{Offer, Receipt, Status, Step}
+use Rattle.sms_world.specs.World.{Sent, World}
+use Rattle.sms_world.specs.WorldStep.{Receipt, Status, Step}
 use Rattle.sms_centre_sight.specs.CentreLaws.{AllOffer}
 use Rattle.sms_centre_sight.specs.CentreSight.{CentreSees, StoreSees}
-use Rattle.sms_centre_sight.specs.FramesOut.{stacked_down}
 use Rattle.sms_centre_sight.specs.SeesLines.{SeesLines}
-use Rattle.sms_centre_sight.proofs.Ending.{AllTell, Comes}
+use Rattle.sms_centre_sight.proofs.Ending.{AllTell}
 use Rattle.sms_centre_sight.proofs.Offers.{follow_law}
 
 module _ (event : Event) (may : (x : Step) → Follows x → MayFollow event x) where

@@ -1,8 +1,6 @@
 -- The references of a centre between two events are those of the world.
-use Rattle.std.proofs.Common.{ℕ}
 use Rattle.sms_centre_rules.proofs.SoundStores.{SoundStore}
 use Rattle.sms_centre_rules.specs.Draft.{Store, draft_of, messages_in, parts_in}
-use Rattle.sms_messages.specs.declared.message.MessageRow.{MessageRow}
 use Rattle.sms_world.specs.World.{World}
 use Rattle.sms_centre_sight.specs.CentreLaws.{NextReferenceLaw, NoReferenceLaw}
 use Rattle.sms_centre_sight.specs.CentreSight.{StoreSees}

@@ -1,18 +1,18 @@
 -- Sessions that end or are bound, and answers to receipts: the world shows of receipts only that they are.
-use Rattle.std.proofs.Common.{◌≡◌, ℕ, List, [], ◌∷◌, Bool, true, false, cond, refl, sym, ◌∙◌, ap, inl, inr, Option, Some, None}
+use Rattle.std.proofs.Common.{◌≡◌, ℕ, List, [], ◌∷◌, Bool, true, false, refl, sym, ◌∙◌, ap, inl, inr, Option, Some, None}
 use Rattle.std.specs.Prelude.{◌==◌, ◌||◌}
 use Rattle.std.proofs.lemmas.Bool.{both_ways, cond_both, eqb-true}
 use Rattle.sms_base.specs.Among.{Among}
 use Rattle.sms_reports.specs.Receipts.{Session, all_tried, answered_in, receipt_ended, receipt_tried, session_key}
 use Rattle.sms_messages.specs.SplitReferences.{is_among}
-use Rattle.sms_reports.specs.Reports.{amend_report, is_receipt, is_status, report_key, report_of, reports_of}
+use Rattle.sms_reports.specs.Reports.{amend_report, is_receipt, is_status, report_of, reports_of}
 use Rattle.sms_reports.specs.declared.report.ReportKind.{ReportKind}
 use Rattle.sms_reports.specs.declared.report.ReportKind.TheVariants.{Receipt, Status, Unsent}
 use Rattle.sms_reports.specs.declared.report.ReportRow.{ReportRow}
-use Rattle.sms_table.specs.Table.{Rises, row_at}
+use Rattle.sms_table.specs.Table.{row_at}
 use Rattle.sms_table.proofs.Tables.{found_among}
 use Rattle.sms_waiting.specs.Revisions.{Revised}
-use Rattle.sms_waiting.specs.Trying.{due_at, finished}
+use Rattle.sms_waiting.specs.Trying.{finished}
 use Rattle.sms_waiting.specs.declared.progress.Progress.{Progress}
 use Rattle.sms_centre_rules.proofs.SoundAccepted.{sound_steady}
 use Rattle.sms_centre_rules.proofs.SoundEvents.{event_after}

@@ -1,5 +1,5 @@
 -- A tick of the centre: messages expire, old status reports are dropped, timers fire, and links that were up come up.
-use Rattle.std.proofs.Common.{◌≡◌, ℕ, ◌≤◌, arith, max, List, [], false, refl, sym, subst, inl}
+use Rattle.std.proofs.Common.{◌≡◌, ℕ, ◌≤◌, arith, max, [], false, refl, sym, subst, inl}
 use Rattle.sms_base.specs.TimeStamp.{IsMoment}
 use Rattle.sms_centre_rules.proofs.SoundAccepted.{sound_steady}
 use Rattle.sms_centre_rules.proofs.SoundEvents.{event_after}
