@@ -16,3 +16,4 @@ pub mod Cancelling
 pub mod Aging
 pub mod Firing
 pub mod Ticks
+pub mod Entering
