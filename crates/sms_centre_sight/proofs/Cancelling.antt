@@ -28,11 +28,8 @@ use Rattle.sms_world.specs.WorldStep.{Delete}
 use Rattle.sms_centre_sight.specs.CentreLaws.{CancelLaw}
 use Rattle.sms_centre_sight.specs.CentreSight.{CentreSees, StoreSees}
 use Rattle.sms_centre_sight.proofs.Ending.{can_end, end_comes, ended_sees, pending_in_world}
-use Rattle.sms_centre_sight.proofs.Playing.{Acts, acts_lead, store_comes, tells_follow}
+use Rattle.sms_centre_sight.proofs.Playing.{Acts, acts_lead, answer_sees, store_comes, tells_follow}
 use Rattle.sms_centre_sight.proofs.SessionsChange.{start}
-
-answer_sees : (b : World) (a : CentreAnswer) (d : Draft) (w : World) → CentreSees b d w → CentreSees b (answer_with a d) w
-answer_sees b a d w s = record { frames = s.frames; whole = s.whole; lines = s.lines; rows = s.rows }
 
 -- nothing but an answer
 answered_acts : (m : ℕ) (w : World) (a : CentreAnswer) (d : Draft) → CentreSees w d w → Acts Cancelled m w (answer_with a d)

@@ -17,3 +17,4 @@ pub mod Aging
 pub mod Firing
 pub mod Ticks
 pub mod Entering
+pub mod Submits

@@ -2,7 +2,8 @@
 use Rattle.std.proofs.Common.{◌≡◌, ℕ, List, [], ◌∷◌, ◌++◌, false, refl, sym, ◌∙◌, subst, ⊎_elim}
 use Rattle.sms_centre_rules.proofs.SoundStores.{SoundStore}
 use Rattle.sms_centre_rules.specs.CentreEvent.{follow}
-use Rattle.sms_centre_rules.specs.Draft.{Draft, Store, in_store}
+use Rattle.sms_centre_rules.specs.Draft.{Draft, Store, answer_with, in_store}
+use Rattle.sms_centre_rules.specs.declared.answer.CentreAnswer.{CentreAnswer}
 use Rattle.sms_frame_sight.proofs.RunsOn.{end_both, run_both}
 use Rattle.sms_world.specs.References.{Ticket}
 use Rattle.sms_world.specs.Run.{Run, end}
@@ -62,6 +63,10 @@ store_comes b e d w v s rows bag = record {
   lines = subst (λ (x : List Sent). SeesLines x d.air.lines) (sym bag) s.lines;
   rows = rows;
 }
+
+-- an answer is not seen
+pub answer_sees : (b : World) (a : CentreAnswer) (d : Draft) (w : World) → CentreSees b d w → CentreSees b (answer_with a d) w
+answer_sees b a d w s = record { frames = s.frames; whole = s.whole; lines = s.lines; rows = s.rows }
 
 -- receipts and offers follow
 pub acts_lead : (event : Event) (may : (x : Step) → Follows x → MayFollow event x) (m : ℕ) (w : World) (d : Draft) → Acts event m w d → SoundStore d.store

@@ -4,8 +4,9 @@ use Rattle.std.specs.Prelude.{◌≡◌, ℕ, max, List, [], ◌∷◌, Bool, So
 use Rattle.sms_centre_rules.specs.CentreEvent.{happened, recovered, started}
 use Rattle.sms_centre_rules.specs.SoundCore.{IsSoundCore}
 use Rattle.sms_centre_rules.specs.declared.event.CentreEvent.{CentreEvent}
-use Rattle.sms_centre_rules.specs.declared.event.CentreEvent.TheVariants.{Bound, Cancel, DeliverAnswered, LinkDown, LinkUp, Query, Tick, Unbound}
+use Rattle.sms_centre_rules.specs.declared.event.CentreEvent.TheVariants.{Bound, Cancel, DeliverAnswered, LinkDown, LinkUp, Query, Submit, Tick, Unbound}
 use Rattle.smpp_pdu.specs.declared.cancel.CancelSm.{CancelSm}
+use Rattle.smpp_pdu.specs.declared.message.Message.{Message}
 use Rattle.smpp_pdu.specs.declared.query.QuerySm.{QuerySm}
 use Rattle.sms_waiting.specs.SoundGivings.{IsNumber}
 use Rattle.sms_centre_rules.specs.Draft.{Core, Draft, Store, core_of, draft_of, parts_in, reports_in, rows_of, with_part_at, with_report_at}
@@ -22,7 +23,7 @@ use Rattle.sms_waiting.specs.References.{handset_of}
 use Rattle.sms_centre_rules.specs.Submitting.{reference_for}
 use Rattle.sms_world.specs.References.{CanGive}
 use Rattle.sms_world.specs.Run.{Run, end}
-use Rattle.sms_world.specs.ScriptRun.{Cancelled, Event, IsPlayed, Tick_centre, items}
+use Rattle.sms_world.specs.ScriptRun.{Cancelled, Event, IsPlayed, Submitted, Tick_centre, items}
 use Rattle.sms_world.specs.Sides.{AllOfCentre, AllOfHandset}
 use Rattle.sms_world.specs.World.{Giving, Sent, World, empty, with_frames}
 use Rattle.sms_world.specs.WorldStep.{Offer, Step}
@@ -114,6 +115,10 @@ AnsweredLaw =
 -- The event is steps of the centre as that event of a script may be, at its moment, and what they lead to the centre sees.
 abbrev pub LeadsOn : ℕ → Event → CentreEvent → Core → World → Type 0
 LeadsOn m played event c w = (steps : List Step) × (IsPlayed w played steps × AllOfCentre steps × Run w (items m false steps) × CentreSees w (happened event c) (end w (items m false steps)))
+
+-- an application submits
+abbrev pub SubmitLaw : Type 0
+SubmitLaw = (account : ℕ) (message : Message) (c : Core) (w : World) → IsSoundCore c → CentreSees w (draft_of c) w → LeadsOn c.moment Submitted (Submit account message) c w
 
 -- an application cancels
 abbrev pub CancelLaw : Type 0

@@ -1,5 +1,5 @@
 //! How the centre's sight of the world begins, and what leaves it.
-ghost use Rattle.sms_centre_sight.specs.CentreLaws.{AnsweredLaw, BackLaw, BoundLaw, CancelLaw, FirstLaw, HandsetLaw, LinkDownLaw, LinkUpLaw, NextLaw, NextReferenceLaw, NoReferenceLaw, PartFarLaw, QueryLaw, ReportFarLaw, TickLaw, UnboundLaw};
+ghost use Rattle.sms_centre_sight.specs.CentreLaws.{AnsweredLaw, BackLaw, BoundLaw, CancelLaw, FirstLaw, HandsetLaw, LinkDownLaw, LinkUpLaw, NextLaw, NextReferenceLaw, NoReferenceLaw, PartFarLaw, QueryLaw, ReportFarLaw, SubmitLaw, TickLaw, UnboundLaw};
 
 /// The centre of a new store sees the empty world; one that has adopted an event sees the world that the event led to; and one
 /// that stops, behind a store call or between two events, comes back with rows that show the world.
@@ -47,4 +47,10 @@ pub fn sessions_are_offers()
 pub fn ends_are_events_of_scripts()
     ensures cancel { CancelLaw }
     ensures tick { TickLaw }
+{}
+
+/// So is a submission: the message stands in the table with all its parts, each under the reference that comes next at its handset,
+/// with a DELIVER of that part, or nothing but the answer comes of it.
+pub fn submissions_are_events_of_scripts()
+    ensures submit { SubmitLaw }
 {}

@@ -1,5 +1,4 @@
 use Rattle.sms_centre_sight.proofs.Cancelling.{cancel_event}
-use Rattle.sms_centre_sight.proofs.Entering.{under_submits}
 use Rattle.sms_centre_sight.proofs.Ticks.{tick_event}
 use Rattle.sms_centre_sight.proofs.laws.ends_are_events_of_scripts.Goals as goal
 
