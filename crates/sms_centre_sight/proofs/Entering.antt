@@ -1,11 +1,10 @@
 -- A submission becomes a message: it is entered, and each part takes the reference that comes next.
 use Rattle.std.proofs.Common.{◌≡◌, ◌⊎◌, ℕ, zero, suc, ◌+◌, ◌*◌, ◌<◌, ◌≤◌, arith, List, [], ◌∷◌, Bool, true, false, refl, sym, ◌∙◌, ap, subst, inl, inr, ⊎_elim, Option, Some, None, length}
-use Rattle.std.specs.Prelude.{slice_get, if◌then◌else◌, ◌==◌}
+use Rattle.std.specs.Prelude.{slice_get, ◌==◌}
 use Rattle.std.specs.Option.{option_and_then}
 use Rattle.std.proofs.lemmas.Bool.{cases_eq, cond-false, ne_eqb}
 use Rattle.sms_base.specs.Among.{Among}
 use Rattle.sms_base.specs.TimeStamp.{IsMoment}
-use Rattle.sms_base.specs.declared.holder.Holder.{Holder}
 use Rattle.sms_base.specs.declared.holder.Holder.TheVariants.{Part, Report}
 use Rattle.sms_intake.specs.PartBodies.{deliver_octets, deliver_of}
 use Rattle.sms_intake.specs.declared.submission.SinglePart.{SinglePart}
@@ -17,7 +16,7 @@ use Rattle.sms_messages.specs.declared.part.PartRow.{PartRow}
 use Rattle.sms_reports.proofs.AllWaiting.{report_found}
 use Rattle.sms_reports.specs.Reports.{report_of}
 use Rattle.sms_table.specs.Keys.{pair_key}
-use Rattle.sms_table.specs.Table.{put, row_at}
+use Rattle.sms_table.specs.Table.{put}
 use Rattle.sms_table.proofs.Tables.{found_among, found_key, row_at_put, row_at_put_other}
 use Rattle.sms_tpdu.specs.MoreMessages.{compared}
 use Rattle.sms_tpdu.specs.declared.user_data.UserData.{UserData}
@@ -42,9 +41,8 @@ use Rattle.sms_world.specs.WorldStep.{CanSubmit, IsNew, submitted}
 use Rattle.sms_centre_sight.proofs.ByOctets.{by_octet_is, by_octet_same, by_octet_some}
 use Rattle.sms_centre_sight.proofs.Givings.{SeesStates, can_give, kept_given, seen_part, seen_report}
 use Rattle.std.proofs.lemmas.Option.{slice_get_within}
-use Rattle.sms_centre_sight.specs.ByOctet.{by_octet}
 use Rattle.sms_centre_sight.specs.CentreSight.{StoreSees}
-use Rattle.sms_centre_sight.specs.SeesGiven.{SeesHolders, given_part, given_report, seconds_by}
+use Rattle.sms_centre_sight.specs.SeesGiven.{SeesHolders, given_part, seconds_by}
 use Rattle.sms_centre_sight.specs.SeesMessages.{IsInTable, IsStateOf, PartSeen, is_handset, messages_by, part_seen, parts_by, wish_of}
 use Rattle.sms_centre_sight.specs.SeesReports.{ReportSeen, SeesReports, reports_by}
 
@@ -103,8 +101,7 @@ module _ (id submitted : ℕ) (split : Option ℕ) (u : SubmissionRow) (header :
       (λ (same : i ≡ id).
       let both : Some row ≡ Some x = sym e.entered.1 ∙ ap (λ (j : ℕ). message_at j (messages_in s)) (sym same) ∙ at in
       let is : row ≡ x = cc in
-      subst (λ (y : MessageRow). (v : Submission) × (st : State) × (Stands w.table y.id v st × IsStateOf y.state (parts_by (parts_in s) i) st)) is
-      (
+      subst (λ (y : MessageRow). (v : Submission) × (st : State) × (Stands w.table y.id v st × IsStateOf y.state (parts_by (parts_in s) i) st)) is (
         whole,
         Pending [],
         (

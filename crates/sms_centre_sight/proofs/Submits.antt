@@ -1,8 +1,7 @@
 -- A submit_sm: the message is entered with all its parts, or nothing but the answer comes of it.
-use Rattle.std.proofs.Common.{◌≡◌, ℕ, ◌+◌, ◌<◌, ◌≤◌, List, [], ◌∷◌, Bool, true, false, refl, sym, ◌∙◌, ap, subst, inl, inr, ⊎_elim, Option, Some, None, Result, Ok, Err, length}
+use Rattle.std.proofs.Common.{◌≡◌, ℕ, ◌+◌, ◌<◌, ◌≤◌, List, [], ◌∷◌, Bool, true, false, refl, sym, ap, subst, inl, inr, ⊎_elim, Option, Some, None, Result, Ok, Err, length}
 use Rattle.std.specs.Prelude.{nat_le, nat_lt}
 use Rattle.std.proofs.lemmas.Bool.{cases_Bool, cases_lt, cond_both}
-use Rattle.sms_alphabet.specs.declared.scheme.Coding.{Coding}
 use Rattle.sms_base.specs.Among.{Among}
 use Rattle.sms_concat.proofs.Numbering.{split_alone, split_cut, split_refused}
 use Rattle.sms_concat.specs.Splitting.{alone, is_compressed, numbered, numbered_all, pieces_of, split_of}
