@@ -176,7 +176,7 @@ module _ (m : ℕ) (b : World) (d : Draft) (w : World) (sound : SoundStore d.sto
           frames = ap (λ (y : Sent). y ∷ w.bag) (sym q) ∙ ap (λ (bag : List Sent). sent_down line.handset (length bag + 1) octets (Some c) ∷ bag) s.frames ∙ sym (stacked_both d.air.frames (f ∷ []) b.bag);
           whole = whole_both d.air.frames (f ∷ []) s.whole (carries, tt);
           lines = lines_with v.bag (line_turned (turn_started c (started d.store.moment octets line.link.links) line.link) line) d.air.lines
-              (record { next = next_below n; opened = old.opened; begun = (c, (refl, (carries, refl, (length w.bag + 1, inl q)))) })
+              (record { next = next_below n; opened = old.opened; begun = (c, (refl, (carries, refl, (length w.bag + 1, inl q)), i.numbered)) })
               (λ y a. line_still w.bag v.bag grown y (s.lines y a));
           rows = record { table = s.rows.table; reports = s.rows.reports; holders = s.rows.holders; seconds = s.rows.seconds };
         } in (
