@@ -18,3 +18,4 @@ pub mod Firing
 pub mod Ticks
 pub mod Entering
 pub mod Submits
+pub mod Refusing
