@@ -1,16 +1,13 @@
 -- A transfer to a handset that was refused: the message can't be delivered, the report is closed, or it waits again.
 use Rattle.std.proofs.Common.{◌≡◌, ℕ, ◌<◌, arith, List, [], ◌∷◌, Bool, true, false, refl, sym, ◌∙◌, ap, subst, Option, Some, None}
-use Rattle.std.specs.Prelude.{◌==◌, ◌&&◌, not, if◌then◌else◌}
+use Rattle.std.specs.Prelude.{◌==◌, not, if◌then◌else◌}
 use Rattle.std.proofs.lemmas.Bool.{and_parts, cond_both}
 use Rattle.sms_base.specs.Among.{Among}
-use Rattle.sms_base.specs.declared.carried.Carried.{Carried}
 use Rattle.sms_base.specs.declared.final_state.FinalState.{FinalState}
 use Rattle.sms_base.specs.declared.final_state.FinalState.TheVariants.{Undeliverable}
 use Rattle.sms_base.specs.declared.holder.Holder.{Holder}
 use Rattle.sms_base.specs.declared.holder.Holder.TheVariants.{Part, Report, Entry, Memory}
-use Rattle.sms_link.specs.declared.ending.Ending.TheVariants.{Refused as RefusedWith}
 use Rattle.sms_relay.specs.Cause.{number_of}
-use Rattle.sms_relay.specs.declared.cause.RpCause.{RpCause}
 use Rattle.sms_messages.specs.Messages.{ended, is_pending, message_at, message_key, part_at, part_key}
 use Rattle.sms_messages.specs.OpenParts.{is_open_part}
 use Rattle.sms_messages.specs.declared.message.MessageRow.{MessageRow}
@@ -20,7 +17,7 @@ use Rattle.sms_reports.specs.declared.report.ReportRow.{ReportRow}
 use Rattle.sms_table.specs.Keys.{pair_key}
 use Rattle.sms_table.proofs.Tables.{found_among, found_key}
 use Rattle.sms_tpdu.specs.MoreMessages.{compared}
-use Rattle.sms_waiting.specs.Lines.{Air, filled, line_of, put_line}
+use Rattle.sms_waiting.specs.Lines.{filled, line_of}
 use Rattle.sms_waiting.specs.declared.line.Line.{Line}
 use Rattle.sms_centre_rules.proofs.SoundStores.{SoundStore}
 use Rattle.sms_centre_rules.proofs.Steady.{message_own, report_own}
@@ -34,9 +31,8 @@ use Rattle.sms_centre_rules.specs.declared.verdict.Verdict.TheVariants.{HandsetF
 use Rattle.sms_world.specs.Run.{Run, end}
 use Rattle.sms_world.specs.ScriptRun.{Cancelled, items}
 use Rattle.sms_world.specs.Sides.{AllOfCentre}
-use Rattle.sms_world.specs.Submission.{Submission}
 use Rattle.sms_base.specs.declared.carried.Kind.TheVariants.{Error}
-use Rattle.sms_world.specs.World.{Down, Final, Frame, Giving, IsUnanswered, Pending, Stands, State, World, changed}
+use Rattle.sms_world.specs.World.{Down, Final, Frame, Giving, IsUnanswered, Stands, State, World, changed}
 use Rattle.sms_world.specs.WorldStep.{Close, Fail, HasReference, IsSent, Step}
 use Rattle.sms_centre_sight.specs.CentreLaws.{RefusedLaw}
 use Rattle.sms_centre_sight.specs.CentreSight.{CentreSees, StoreSees}
@@ -143,12 +139,19 @@ refused_law t cause tpdu c w u sound s for_it small sent =
     let l : SeesLine w.bag line = line_sees w.bag u.handset d.air.lines s.lines in
     cond_both (is_open t.tag d.store) (cause_verdict code) Late P
     (λ waits. cond_both (code == 22) HandsetFull (if is_temporary code then Again else Refused) P
-    (λ e. ([], (tt, tt, record {
-      frames = s.frames;
-      whole = s.whole;
-      lines = lines_with w.bag (filled line) d.air.lines (record { next = l.next; opened = l.opened; begun = l.begun }) s.lines;
-      rows = full_sees t.tag d.store w s.rows;
-    })))
+    (λ e. (
+      [],
+      (
+        tt,
+        tt,
+        record {
+          frames = s.frames;
+          whole = s.whole;
+          lines = lines_with w.bag (filled line) d.air.lines (record { next = l.next; opened = l.opened; begun = l.begun }) s.lines;
+          rows = full_sees t.tag d.store w s.rows;
+        },
+      ),
+    ))
     (λ e. cond_both (is_temporary code) Again Refused P
     (λ f. ([], (tt, tt, record { frames = s.frames; whole = s.whole; lines = s.lines; rows = (again_both w t.tag d.store (k, s.rows)).1 })))
     (λ f.
