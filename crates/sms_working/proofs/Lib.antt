@@ -6,5 +6,6 @@ pub mod FoundOpen
 pub mod MovesWaiting
 pub mod OthersWaiting
 pub mod ReportsStill
+pub mod Sending
 pub mod Shown
 pub mod Steps

@@ -9,6 +9,7 @@
 
 mod aging;
 mod answers;
+mod asking;
 mod ends;
 mod lines;
 mod moves;
