@@ -23,7 +23,7 @@ impl<'a> Working<'a> {
 
     /// The first open status report from that place on that is dropped by now.
     pub fn first_old(&self, first: u64) -> Option<StatusEntry>
-        ensures { (d : Draft) → Shows d self.now → result ≡ first_such (is_past_from status_key status_until first d.store.moment) self.now.reports.kept.statuses }
+        ensures { result ≡ first_such (is_past_from status_key status_until first self.now.moment) self.now.reports.kept.statuses }
     {
         self.reports.first_old(first, self.moment)
     }

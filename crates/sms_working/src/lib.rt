@@ -21,4 +21,5 @@ mod submitting;
 mod transfers;
 mod working;
 
+pub use numbers::are_digits;
 pub use working::Working;

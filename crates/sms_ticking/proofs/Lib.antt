@@ -1,0 +1,4 @@
+pub mod Dropped
+pub mod Numbered
+pub mod Steps
+pub mod Walked
