@@ -16,6 +16,7 @@ mod moves;
 mod numbers;
 mod receiving;
 mod rows;
+mod sessions;
 mod shelves;
 mod submitting;
 mod transfers;
