@@ -1,4 +1,3 @@
 pub mod Dropped
 pub mod Numbered
-pub mod Steps
 pub mod Walked

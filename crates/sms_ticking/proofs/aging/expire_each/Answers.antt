@@ -1,7 +1,7 @@
 use Rattle.std.proofs.Common.{◌+◌, refl, drop, arith}
 use Rattle.std.proofs.Math.ListN.{drop_of_length-le}
 use Rattle.sms_ticking.proofs.Numbered.{left_next, left_none}
-use Rattle.sms_ticking.proofs.Steps.{drop_one}
+use Rattle.sms_working.proofs.Steps.{drop_one}
 use Rattle.sms_ticking.proofs.aging.expire_each.Goals as goal
 
 pub loop-id-init : goal.loop-id-init

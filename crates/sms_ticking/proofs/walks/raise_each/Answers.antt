@@ -1,7 +1,7 @@
 use Rattle.std.proofs.Common.{◌+◌, refl, drop, arith}
 use Rattle.std.proofs.Math.ListN.{drop_of_length-le}
 use Rattle.sms_centre_rules.specs.CentreEvent.{raise}
-use Rattle.sms_ticking.proofs.Steps.{drop_one}
+use Rattle.sms_working.proofs.Steps.{drop_one}
 use Rattle.sms_ticking.proofs.Walked.{left_next, left_none}
 use Rattle.sms_ticking.proofs.walks.raise_each.Goals as goal
 
