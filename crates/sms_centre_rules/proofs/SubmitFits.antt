@@ -79,7 +79,7 @@ submit_fits from now s octets u is submit e =
     } in
     subst (λ (x : Submission). IsSubmission x) same fits
 
-tpdu_fits : (from : List ℕ) (now : ℕ) (tpdu : List ℕ) (r : Result Up TpduFault) (u : Submission) → IsNumber from → AreOctets tpdu → tpdu_up_at InData tpdu ≡ r → from_read from now r ≡ Ok u → IsSubmission u
+pub tpdu_fits : (from : List ℕ) (now : ℕ) (tpdu : List ℕ) (r : Result Up TpduFault) (u : Submission) → IsNumber from → AreOctets tpdu → tpdu_up_at InData tpdu ≡ r → from_read from now r ≡ Ok u → IsSubmission u
 tpdu_fits from now tpdu (Ok (Submit s)) u is are e f = submit_fits from now s tpdu u is (up_takes InData tpdu (Submit s) are e) f
 tpdu_fits from now tpdu (Ok (DeliverReport r)) u is are e f = absurd cc
 tpdu_fits from now tpdu (Err fault) u is are e f = absurd cc

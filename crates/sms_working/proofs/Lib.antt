@@ -5,6 +5,8 @@ pub mod Entering
 pub mod FoundOpen
 pub mod MovesWaiting
 pub mod OthersWaiting
+pub mod ReceiptsEnded
 pub mod ReportsStill
+pub mod Sending
 pub mod Shown
 pub mod Steps

@@ -214,6 +214,18 @@ status_off_waits s r q m held there of status undone =
     (status_waits (messages_in s) (report_reaching q r) m of (ap (λ (b : Bool). b && not q.is_done) status ∙ ap (λ (b : Bool). not b) undone))
     (report_none_else s r q m held there of)
 
+-- a receipt, or what is never sent, is so far
+pub quiet_far_waits : (s : Store) (r : ReportRow) (q : Progress) → SoundHeld s → report_of r.id (reports_in s) ≡ Some r → is_status r.kind ≡ false
+    → (n : List ℕ) → all_waiting (with_report_at r q s) n ≡ all_waiting s n
+quiet_far_waits s r q held there quiet n =
+    report_far_as s r q held there n
+    ∙ ap (λ (o : Option Load). waiting_as (pair_key r.id 0) o (all_waiting s n))
+    (quiet_waits n (messages_in s) (report_reaching q r) (message_at r.id (messages_in s)) refl (ap (λ (b : Bool). b && not q.is_done) quiet))
+    ∙ absent_same (pair_key r.id 0) (all_waiting s n)
+    (report_waits_at n (messages_in s) (priorities_in s) (parts_in s) (reports_in s) r.id held.parts held.alone
+    ∙ ap (λ (x : Option ReportRow). report_wait n (messages_in s) x) there
+    ∙ quiet_waits n (messages_in s) r (message_at r.id (messages_in s)) refl (ap (λ (b : Bool). b && not r.progress.is_done) quiet))
+
 -- what waits of an open status report, looked up
 pub status_waiting : (s : Store) (r : ReportRow) (m : MessageRow) → SoundHeld s → report_of r.id (reports_in s) ≡ Some r → message_at r.id (messages_in s) ≡ Some m → is_open_status r ≡ true
     → row_at load_key (pair_key r.id 0) (all_waiting s m.source.digits) ≡ Some (report_load r)

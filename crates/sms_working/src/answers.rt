@@ -181,7 +181,8 @@ impl<'a> Working<'a> {
         self.reply(handset, Kind::Error, reference, tag, unit.as_slice())
     }
 
-    fn alloc(&self) -> Global {
+    /// Where its memory comes from.
+    pub fn alloc(&self) -> Global {
         self.alloc
     }
 

@@ -9,15 +9,18 @@
 
 mod aging;
 mod answers;
+mod asking;
 mod ends;
 mod lines;
 mod moves;
 mod numbers;
 mod receiving;
 mod rows;
+mod sessions;
 mod shelves;
 mod submitting;
 mod transfers;
 mod working;
 
+pub use numbers::are_digits;
 pub use working::Working;

@@ -13,7 +13,7 @@ fn is_digit(character: char) -> bool
 }
 
 /// Whether each character is a digit.
-pub(crate) fn are_digits(characters: &[char]) -> bool
+pub fn are_digits(characters: &[char]) -> bool
     ensures { (result ≡ true) ↔ AllDigits characters.now }
 {
     characters.iter().all(|character| is_digit(*character))

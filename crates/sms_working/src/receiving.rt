@@ -32,7 +32,7 @@ fn due_at(moment: Moment, progress: &Progress) -> Progress
 
 impl<'a> Working<'a> {
     /// The moment of the event.
-    pub(crate) fn now(&self) -> Moment
+    pub fn now(&self) -> Moment
         ensures { (d : Draft) → Shows d self.now → result ≡ d.store.moment }
     {
         self.moment

@@ -1,0 +1,3 @@
+pub mod Dropped
+pub mod Numbered
+pub mod Walked
