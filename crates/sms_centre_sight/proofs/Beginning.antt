@@ -20,6 +20,8 @@ use Rattle.sms_waiting.specs.declared.reference.ReferenceRow.{ReferenceRow}
 use Rattle.sms_world.specs.World.{Sent}
 use Rattle.sms_world.proofs.Givings.{seen_again}
 use Rattle.sms_centre_sight.specs.CentreLaws.{BackLaw, FirstLaw}
+use Rattle.sms_centre_sight.proofs.ByOctets.{by_octet_some}
+use Rattle.sms_centre_sight.specs.ByOctet.{by_octet}
 use Rattle.sms_centre_sight.specs.SeesGiven.{second_at, seconds_by}
 use Rattle.sms_centre_sight.specs.SeesLines.{SeesLine, SeesLines}
 
@@ -69,6 +71,9 @@ past_at (Some h) reference second rows e =
     let y : after_references n rows.references ≤ moment_of rows = later_reports (after_references n rows.references) rows.reports in
     subst (λ (z : ℕ). z ≤ moment_of rows) x.1.1 (omega (arith, l, y))
 
+never : (n second : ℕ) → by_octet n None ≡ Some second → ⊥
+never n second e = let x = (by_octet_some n (let none : Option ℕ = None in none) second e).1 in cc
+
 -- ---- the laws
 
 pub comes_back : BackLaw
@@ -83,7 +88,8 @@ comes_back b bag d handsets sessions w s =
         reports = s.rows.reports;
         holders = s.rows.holders;
         seconds = seen_again (seconds_by rows.handsets rows.references) w.down d.store.moment (moment_of rows) s.rows.seconds
-            (λ handset reference second e. past_at (handset_at handset rows.handsets) reference second rows e);
+            (λ handset reference second e. past_at (handset_at handset rows.handsets) reference second rows
+            (by_octet_some reference (second_at (handset_at handset rows.handsets) reference rows.references) second e).1);
       };
     }
 
@@ -96,6 +102,10 @@ first_sees setup handsets sessions = record {
     table = record { there = λ id m e. absurd cc; only = λ id u st e. absurd cc };
     reports = record { told = λ id r e. absurd cc; only = λ x i. absurd i; still = λ id r e k n. absurd cc; opened = λ id i. absurd i };
     holders = record { part = λ id number m p e f. absurd cc; report = λ id reference tpdu m r e f k. absurd cc; of_part = λ g id number i e. absurd i; of_report = λ g id i e. absurd i };
-    seconds = record { all = λ g i. absurd i; real = λ handset reference second e. absurd cc; past = λ handset reference second e. absurd cc };
+    seconds = record {
+      all = λ g i. absurd i;
+      real = λ handset reference second e. absurd (never reference second e);
+      past = λ handset reference second e. absurd (never reference second e);
+    };
   };
 }

@@ -92,13 +92,13 @@ module _ (w : World) where
   report_too_late None s k = k
   report_too_late (Some r) s k = k
 
-  again_both : (h : Holder) (s : Store) → Both w s → Both w (holder_ended Again h s)
+  pub again_both : (h : Holder) (s : Store) → Both w s → Both w (holder_ended Again h s)
   again_both (Part id number) s k = part_again (pair_key id number) (part_at id number (parts_in s)) s k refl
   again_both (Report id) s k = report_again id (report_of id (reports_in s)) s k refl
   again_both (Entry n) s k = k
   again_both (Memory n) s k = k
 
-  late_both : (h : Holder) (s : Store) → Both w s → Both w (holder_ended Late h s)
+  pub late_both : (h : Holder) (s : Store) → Both w s → Both w (holder_ended Late h s)
   late_both (Part id number) s k = part_too_late (part_at id number (parts_in s)) s k
   late_both (Report id) s k = report_too_late (report_of id (reports_in s)) s k
   late_both (Entry n) s k = k

@@ -1,5 +1,5 @@
 -- What waits for a handset holds a reference that was given there, for what is not answered yet.
-use Rattle.std.proofs.Common.{◌≡◌, ℕ, ◌≤◌, arith, List, Bool, true, false, refl, sym, ◌∙◌, ap, subst, ⊎_elim, length, Option, Some, None}
+use Rattle.std.proofs.Common.{◌≡◌, ℕ, ◌≤◌, arith, ◌<◌, List, Bool, true, false, refl, sym, ◌∙◌, ap, subst, ⊎_elim, length, Option, Some, None}
 use Rattle.std.specs.Prelude.{◌==◌, ◌&&◌, not, is_none}
 use Rattle.std.specs.Str.{bytes_eq}
 use Rattle.std.proofs.lemmas.Bool.{and_parts, cases_Bool, cond_both, cond-false, cond-true, eqb-false, eqb-true}
@@ -34,7 +34,9 @@ use Rattle.sms_centre_rules.specs.Draft.{Store, messages_in, parts_in, prioritie
 use Rattle.sms_centre_rules.specs.Offering.{holder_of, part_tpdu, report_tpdu, tpdu_of}
 use Rattle.sms_world.specs.World.{Giving, IsUnanswered, Pending, Stands, State, World}
 use Rattle.sms_centre_sight.specs.CentreSight.{StoreSees}
+use Rattle.sms_centre_sight.proofs.ByOctets.{by_octet_is}
 use Rattle.sms_centre_sight.specs.SeesGiven.{given_part, given_report}
+use Rattle.sms_centre_sight.specs.SeesLines.{IsNumbered}
 use Rattle.sms_centre_sight.specs.SeesMessages.{IsStateOf, PartSeen, part_seen, parts_by}
 use Rattle.sms_centre_sight.specs.SeesReports.{ReportSeen, report_seen}
 
@@ -47,8 +49,9 @@ pub record IsOffered (handset : List ℕ) (reference : ℕ) (w : World) (holder 
   pub given : Among (giving_at handset reference holder tpdu moment) w.down
   pub unanswered : IsUnanswered w.table w.reports holder
   pub fits : length tpdu ≤ 200
+  pub numbered : IsNumbered holder
 
-none_of : (o : Option FinalState) → is_none o ≡ true → o ≡ None
+pub none_of : (o : Option FinalState) → is_none o ≡ true → o ≡ None
 none_of None e = refl
 none_of (Some f) e = absurd cc
 
@@ -70,8 +73,15 @@ module _ (h : List ℕ) (l : Load) (s : Store) (w : World) (sound : SoundStore s
     message_there : message_at l.id (messages_in s) ≡ Some m
     message_there = ap (λ (n : ℕ). message_at n (messages_in s)) (sym id_is) ∙ of
 
+    small_number : l.number < 256
+    small_number =
+        let number : p.number ≡ l.number = ap (λ (x : Load). x.number) same in
+        let small = (sound.stands.held.parts.numbers p (found_among part_key (pair_key l.id l.number) p (parts_in s) at)).1 in
+        omega (arith, number, small)
+
     there : parts_by (parts_in s) l.id l.number ≡ Some (record { reference = p.reference; tpdu = compared p.tpdu; is_done = p.progress.is_done })
-    there = ap part_seen at
+    there =
+        by_octet_is l.number (part_seen (part_at l.id l.number (parts_in s))) small_number ∙ ap part_seen at
 
     part_unanswered : IsUnanswered w.table w.reports (Part l.id l.number)
     part_unanswered =
@@ -93,7 +103,7 @@ module _ (h : List ℕ) (l : Load) (s : Store) (w : World) (sound : SoundStore s
         let e : given_part m l.number v g.0 ≡ giving_at h l.reference (Part l.id l.number) p.tpdu g.0 =
         λ j. record { handset = to j; reference = reference j; holder = Part (own_id j) l.number; moment = g.0; tpdu = compared p.tpdu } in
         let fit = (sound.messages.each_part p (found_among part_key (pair_key l.id l.number) p (parts_in s) at)).message in
-        record { moment = g.0; given = subst (λ (x : Giving). Among x w.down) e g.1; unanswered = part_unanswered; fits = fit.1.1.1.fits }
+        record { moment = g.0; given = subst (λ (x : Giving). Among x w.down) e g.1; unanswered = part_unanswered; fits = fit.1.1.1.fits; numbered = small_number }
 
   part_waits : (o : Option PartRow) → part_at l.id l.number (parts_in s) ≡ o → part_wait h (messages_in s) (priorities_in s) o ≡ Some l → IsOffered h l.reference w (Part l.id l.number) (part_tpdu o)
   part_waits None e q = absurd cc
@@ -169,6 +179,7 @@ module _ (h : List ℕ) (l : Load) (s : Store) (w : World) (sound : SoundStore s
             given = subst (λ (x : Giving). Among x w.down) same_giving g.1;
             unanswered = sees.reports.still l.id v (ap report_seen e) going_on.0 (not_false r.progress.is_done going_on.1);
             fits = status_fits r.kind one.message.0.originator one.message.0 r going_on.0 one.message.1.1.1;
+            numbered = tt;
           }
 
   -- ---- either

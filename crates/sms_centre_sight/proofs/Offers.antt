@@ -80,11 +80,11 @@ telling_long more (x ∷ xs) = refl
 
 -- ---- frames and lines
 
-stacked_both : (fs gs : List SentRow) (bag : List Sent) → stacked_down (fs ++ gs) bag ≡ stacked_down gs (stacked_down fs bag)
+pub stacked_both : (fs gs : List SentRow) (bag : List Sent) → stacked_down (fs ++ gs) bag ≡ stacked_down gs (stacked_down fs bag)
 stacked_both [] gs bag = refl
 stacked_both (f ∷ fs) gs bag = stacked_both fs gs (sent_down f.handset (length bag + 1) f.frame.octets f.frame.carried ∷ bag)
 
-whole_both : (fs gs : List SentRow) → AreWholeDown fs → AreWholeDown gs → AreWholeDown (fs ++ gs)
+pub whole_both : (fs gs : List SentRow) → AreWholeDown fs → AreWholeDown gs → AreWholeDown (fs ++ gs)
 whole_both [] gs a b = b
 whole_both (f ∷ fs) gs a b = (a.0, whole_both fs gs a.1 b)
 
@@ -176,7 +176,7 @@ module _ (m : ℕ) (b : World) (d : Draft) (w : World) (sound : SoundStore d.sto
           frames = ap (λ (y : Sent). y ∷ w.bag) (sym q) ∙ ap (λ (bag : List Sent). sent_down line.handset (length bag + 1) octets (Some c) ∷ bag) s.frames ∙ sym (stacked_both d.air.frames (f ∷ []) b.bag);
           whole = whole_both d.air.frames (f ∷ []) s.whole (carries, tt);
           lines = lines_with v.bag (line_turned (turn_started c (started d.store.moment octets line.link.links) line.link) line) d.air.lines
-              (record { next = next_below n; opened = old.opened; begun = (c, (refl, (carries, refl, (length w.bag + 1, inl q)))) })
+              (record { next = next_below n; opened = old.opened; begun = (c, (refl, (carries, refl, (length w.bag + 1, inl q)), i.numbered)) })
               (λ y a. line_still w.bag v.bag grown y (s.lines y a));
           rows = record { table = s.rows.table; reports = s.rows.reports; holders = s.rows.holders; seconds = s.rows.seconds };
         } in (

@@ -1,18 +1,18 @@
 -- Sessions that end or are bound, and answers to receipts: the world shows of receipts only that they are.
-use Rattle.std.proofs.Common.{◌≡◌, ℕ, List, [], ◌∷◌, Bool, true, false, cond, refl, sym, ◌∙◌, ap, inl, inr, Option, Some, None}
+use Rattle.std.proofs.Common.{◌≡◌, ℕ, List, [], ◌∷◌, Bool, true, false, refl, sym, ◌∙◌, ap, inl, inr, Option, Some, None}
 use Rattle.std.specs.Prelude.{◌==◌, ◌||◌}
 use Rattle.std.proofs.lemmas.Bool.{both_ways, cond_both, eqb-true}
 use Rattle.sms_base.specs.Among.{Among}
 use Rattle.sms_reports.specs.Receipts.{Session, all_tried, answered_in, receipt_ended, receipt_tried, session_key}
 use Rattle.sms_messages.specs.SplitReferences.{is_among}
-use Rattle.sms_reports.specs.Reports.{amend_report, is_receipt, is_status, report_key, report_of, reports_of}
+use Rattle.sms_reports.specs.Reports.{amend_report, is_receipt, is_status, report_of, reports_of}
 use Rattle.sms_reports.specs.declared.report.ReportKind.{ReportKind}
 use Rattle.sms_reports.specs.declared.report.ReportKind.TheVariants.{Receipt, Status, Unsent}
 use Rattle.sms_reports.specs.declared.report.ReportRow.{ReportRow}
-use Rattle.sms_table.specs.Table.{Rises, row_at}
+use Rattle.sms_table.specs.Table.{row_at}
 use Rattle.sms_table.proofs.Tables.{found_among}
 use Rattle.sms_waiting.specs.Revisions.{Revised}
-use Rattle.sms_waiting.specs.Trying.{due_at, finished}
+use Rattle.sms_waiting.specs.Trying.{finished}
 use Rattle.sms_waiting.specs.declared.progress.Progress.{Progress}
 use Rattle.sms_centre_rules.proofs.SoundAccepted.{sound_steady}
 use Rattle.sms_centre_rules.proofs.SoundEvents.{event_after}
@@ -35,7 +35,7 @@ no_status (Status reference tpdu) e = absurd cc
 no_status Unsent e = absurd cc
 
 module _ (w : World) where
-  receipt_both : (r : ReportRow) (q : Progress) (s : Store) → Both w s → report_of r.id (reports_in s) ≡ Some r → (q.is_done ≡ false → r.progress.is_done ≡ false) → (is_status r.kind ≡ true → q.is_done ≡ r.progress.is_done)
+  pub receipt_both : (r : ReportRow) (q : Progress) (s : Store) → Both w s → report_of r.id (reports_in s) ≡ Some r → (q.is_done ≡ false → r.progress.is_done ≡ false) → (is_status r.kind ≡ true → q.is_done ≡ r.progress.is_done)
       → Both w (with_report_at r q s)
   receipt_both r q s k there still same =
       (sound_steady.report_far r q s k.0 there still, report_far_unseen r q s w k.0.stands.held.report_keys there same k.1)
@@ -49,18 +49,18 @@ module _ (w : World) where
       (λ e. receipt_both r (finished r.progress) (with_reports t s) k own (λ x. absurd cc) (λ x. absurd (both_ways (is_status r.kind) (f e r refl) x)))
       (λ e. receipt_both r (receipt_tried n r.progress) (with_reports t s) k own (λ x. x) (λ x. refl))
 
-  all_tried_both : (n : ℕ) (ids : List ℕ) (t : Revised ReportRow) (s : Store) → Both w (with_reports t s) → Both w (with_reports (all_tried n ids t) s)
+  pub all_tried_both : (n : ℕ) (ids : List ℕ) (t : Revised ReportRow) (s : Store) → Both w (with_reports t s) → Both w (with_reports (all_tried n ids t) s)
   all_tried_both n [] t s k = k
   all_tried_both n (id ∷ ids) t s k =
       all_tried_both n ids (receipt_ended false n (report_of id (reports_of t)) t) s
       (ended_both false n id (report_of id (reports_of t)) t s k refl (λ e. absurd cc))
 
-start : (c : Core) → IsSoundCore c → SoundStore (draft_of c).store
+pub start : (c : Core) → IsSoundCore c → SoundStore (draft_of c).store
 start c s = store_sound c.rows c.moment s.rows s.now s.moment
 
 -- ---- a session ends: its receipts go again
 
-unbound_sees : (b : World) (o : Option Session) (d : Draft) (w : World) → SoundStore d.store → CentreSees b d w → CentreSees b (unbound_from o d) w
+pub unbound_sees : (b : World) (o : Option Session) (d : Draft) (w : World) → SoundStore d.store → CentreSees b d w → CentreSees b (unbound_from o d) w
 unbound_sees b None d w sound s = s
 unbound_sees b (Some session) d w sound s =
     record { frames = s.frames; whole = s.whole; lines = s.lines; rows = (all_tried_both w d.store.moment session.unanswered d.store.reports d.store (sound, s.rows)).1 }

@@ -41,7 +41,7 @@ module _ (bag more : List Sent) (grown : (x : Sent) → Among x bag → Among x 
 
   begun_still : (under_way : Option Carried) (o : Option Begun) → SeesBegunDown h bag under_way o → SeesBegunDown h more under_way o
   begun_still under_way None s = tt
-  begun_still under_way (Some b) s = (s.0, (s.1.0, sent_still FromOriginator b.frame s.0 s.1.1))
+  begun_still under_way (Some b) s = (s.0, (s.1.0, sent_still FromOriginator b.frame s.0 s.1.1, s.1.2))
 
 pub line_still : (bag more : List Sent) → ((x : Sent) → Among x bag → Among x more) → (line : Line) → SeesLine bag line → SeesLine more line
 line_still bag more grown line s = record {

@@ -17,6 +17,7 @@ use Rattle.sms_waiting.specs.declared.progress.Progress.{Progress}
 use Rattle.sms_centre_rules.specs.Draft.{Store, handsets_in, messages_in, parts_in, references_in, reports_in, with_part_at, with_report_at}
 use Rattle.sms_world.specs.World.{World}
 use Rattle.sms_centre_sight.specs.CentreSight.{SeesRows, StoreSees}
+use Rattle.sms_centre_sight.specs.ByOctet.{by_octet}
 use Rattle.sms_centre_sight.specs.SeesGiven.{SeesHolders, seconds_by}
 use Rattle.sms_centre_sight.specs.SeesMessages.{PartSeen, messages_by, part_seen, parts_by}
 use Rattle.sms_centre_sight.specs.SeesReports.{ReportSeen, SeesReports, report_seen, reports_by}
@@ -31,9 +32,9 @@ part_alike p q parts there same id n = ⊎_elim
     ap (λ (k : ℕ). row_at part_key k (amended part_key part_reaching (part_key p) q parts)) (sym e)
     ∙ row_at_amended part_key part_reaching (λ x y. refl) (part_key p) q parts ∙ ap (λ (o : Option PartRow). option_map (λ (x : PartRow). part_reaching q x) o) there in
     let was : part_at id n parts ≡ Some p = ap (λ (k : ℕ). row_at part_key k parts) (sym e) ∙ there in
-    ap part_seen was ∙ (λ j. Some (record { reference = p.reference; tpdu = compared p.tpdu; is_done = sym same j })) ∙ ap part_seen (sym now))
+    ap (λ (o : Option PartSeen). by_octet n o) (ap part_seen was ∙ (λ j. Some (record { reference = p.reference; tpdu = compared p.tpdu; is_done = sym same j })) ∙ ap part_seen (sym now)))
     (λ (ne : part_key p ≡ pair_key id n → ⊥).
-    ap part_seen (sym (row_at_amended_other part_key part_reaching (λ x y. refl) (pair_key id n) (part_key p) q parts ne)))
+    ap (λ (o : Option PartRow). by_octet n (part_seen o)) (sym (row_at_amended_other part_key part_reaching (λ x y. refl) (pair_key id n) (part_key p) q parts ne)))
     (cases_eq (part_key p) (pair_key id n))
 
 pub part_far_unseen : (p : PartRow) (q : Progress) (s : Store) (w : World) → row_at part_key (part_key p) (parts_in s) ≡ Some p → q.is_done ≡ p.progress.is_done

@@ -1,9 +1,18 @@
 -- What of the centre's sight is proved: it begins, it comes back, and others leave it.
-use Rattle.std.specs.Prelude.{◌≡◌, ℕ, List, [], ◌∷◌, Bool, Some, true, false}
+use Rattle.sms_base.specs.TimeStamp.{IsMoment}
+use Rattle.std.specs.Prelude.{◌≡◌, ℕ, max, List, [], ◌∷◌, Bool, Option, Some, None, true, false}
 use Rattle.sms_centre_rules.specs.CentreEvent.{happened, recovered, started}
-use Rattle.sms_centre_rules.specs.SoundCore.{IsSoundCore}
+use Rattle.sms_centre_rules.specs.SoundCore.{IsSentFor, IsSoundCore}
+use Rattle.sms_centre_rules.specs.Transfers.{conclude}
+use Rattle.sms_base.specs.declared.carried.Carried.{Carried}
+use Rattle.sms_base.specs.declared.carried.Kind.TheVariants.{Error}
+use Rattle.sms_link.specs.declared.ending.Ending.TheVariants.{Refused}
+use Rattle.sms_relay.specs.declared.cause.RpCause.{RpCause}
+use Rattle.sms_centre_sight.specs.SeesLines.{IsNumbered}
 use Rattle.sms_centre_rules.specs.declared.event.CentreEvent.{CentreEvent}
-use Rattle.sms_centre_rules.specs.declared.event.CentreEvent.TheVariants.{DeliverAnswered, LinkDown, LinkUp, Query, Unbound}
+use Rattle.sms_centre_rules.specs.declared.event.CentreEvent.TheVariants.{Bound, Cancel, DeliverAnswered, LinkDown, LinkUp, Query, Submit, Tick, Unbound}
+use Rattle.smpp_pdu.specs.declared.cancel.CancelSm.{CancelSm}
+use Rattle.smpp_pdu.specs.declared.message.Message.{Message}
 use Rattle.smpp_pdu.specs.declared.query.QuerySm.{QuerySm}
 use Rattle.sms_waiting.specs.SoundGivings.{IsNumber}
 use Rattle.sms_centre_rules.specs.Draft.{Core, Draft, Store, core_of, draft_of, parts_in, reports_in, rows_of, with_part_at, with_report_at}
@@ -16,11 +25,14 @@ use Rattle.sms_waiting.specs.declared.progress.Progress.{Progress}
 use Rattle.sms_centre_rules.specs.SoundRows.{first_rows}
 use Rattle.sms_centre_rules.specs.declared.setup.Setup.{Setup}
 use Rattle.sms_reports.specs.Receipts.{Session}
+use Rattle.sms_waiting.specs.References.{handset_of}
+use Rattle.sms_centre_rules.specs.Submitting.{reference_for}
+use Rattle.sms_world.specs.References.{CanGive}
 use Rattle.sms_world.specs.Run.{Run, end}
-use Rattle.sms_world.specs.ScriptRun.{items}
-use Rattle.sms_world.specs.Sides.{AllOfHandset}
-use Rattle.sms_world.specs.World.{Giving, Sent, World, empty, with_frames}
-use Rattle.sms_world.specs.WorldStep.{Offer, Step}
+use Rattle.sms_world.specs.ScriptRun.{Cancelled, Event, IsPlayed, Submitted, Tick_centre, items}
+use Rattle.sms_world.specs.Sides.{AllOfCentre, AllOfHandset}
+use Rattle.sms_world.specs.World.{Down, Frame, Giving, Sent, World, empty, with_frames}
+use Rattle.sms_world.specs.WorldStep.{IsSent, Offer, Step}
 use Rattle.sms_centre_sight.specs.CentreSight.{CentreSees, StoreSees}
 
 -- a new store's centre sees the empty world
@@ -56,6 +68,20 @@ ReportFarLaw =
     (r : ReportRow) (q : Progress) (s : Store) (w : World) → Rises report_key (reports_in s) → report_of r.id (reports_in s) ≡ Some r
     → (is_status r.kind ≡ true → q.is_done ≡ r.progress.is_done) → StoreSees s w → StoreSees (with_report_at r q s) w
 
+-- ---- references
+
+-- the reference that comes next at a handset the world may give there
+abbrev pub NextReferenceLaw : Type 0
+NextReferenceLaw =
+    (number : List ℕ) (reference : ℕ) (c : Core) (w : World) → IsSoundCore c → CentreSees w (draft_of c) w
+    → reference_for (handset_of number c.rows.handsets) (draft_of c).store ≡ Some reference → CanGive w number reference c.moment
+
+-- where none comes next, the world may give none
+abbrev pub NoReferenceLaw : Type 0
+NoReferenceLaw =
+    (number : List ℕ) (c : Core) (w : World) → IsSoundCore c → CentreSees w (draft_of c) w
+    → reference_for (handset_of number c.rows.handsets) (draft_of c).store ≡ None → (reference : ℕ) → CanGive w number reference c.moment → ⊥
+
 -- ---- events that have no step of their own
 
 -- steps of the centre that offer what waits
@@ -77,6 +103,11 @@ LinkUpLaw = (m : ℕ) (handset : List ℕ) (c : Core) (w : World) → IsSoundCor
 abbrev pub LinkDownLaw : Type 0
 LinkDownLaw = (m : ℕ) (handset : List ℕ) (c : Core) (w : World) → IsSoundCore c → IsNumber handset → CentreSees w (draft_of c) w → OffersOnly m (LinkDown handset) c w
 
+-- a session is bound
+abbrev pub BoundLaw : Type 0
+BoundLaw =
+    (m : ℕ) (session account : ℕ) (receives : Bool) (c : Core) (w : World) → IsSoundCore c → CentreSees w (draft_of c) w → OffersOnly m (Bound session account receives) c w
+
 -- a session ends, and an application answers a receipt that was sent in its session
 abbrev pub UnboundLaw : Type 0
 UnboundLaw = (m : ℕ) (session : ℕ) (c : Core) (w : World) → IsSoundCore c → CentreSees w (draft_of c) w → OffersOnly m (Unbound session) c w
@@ -84,3 +115,31 @@ UnboundLaw = (m : ℕ) (session : ℕ) (c : Core) (w : World) → IsSoundCore c 
 abbrev pub AnsweredLaw : Type 0
 AnsweredLaw =
     (m : ℕ) (session id : ℕ) (is_accepted : Bool) (c : Core) (w : World) → IsSoundCore c → CentreSees w (draft_of c) w → OffersOnly m (DeliverAnswered session id is_accepted) c w
+
+-- ---- events of a script
+
+-- The event is steps of the centre as that event of a script may be, at its moment, and what they lead to the centre sees.
+abbrev pub LeadsOn : ℕ → Event → CentreEvent → Core → World → Type 0
+LeadsOn m played event c w = (steps : List Step) × (IsPlayed w played steps × AllOfCentre steps × Run w (items m false steps) × CentreSees w (happened event c) (end w (items m false steps)))
+
+-- an application submits
+abbrev pub SubmitLaw : Type 0
+SubmitLaw = (account : ℕ) (message : Message) (c : Core) (w : World) → IsSoundCore c → CentreSees w (draft_of c) w → LeadsOn c.moment Submitted (Submit account message) c w
+
+-- an application cancels
+abbrev pub CancelLaw : Type 0
+CancelLaw = (account : ℕ) (wanted : CancelSm) (c : Core) (w : World) → IsSoundCore c → CentreSees w (draft_of c) w → LeadsOn c.moment Cancelled (Cancel account wanted) c w
+
+-- its timers are looked at, and time never goes back
+abbrev pub TickLaw : Type 0
+TickLaw = (now : ℕ) (c : Core) (w : World) → IsSoundCore c → IsMoment now → CentreSees w (draft_of c) w → LeadsOn (max c.moment now) Tick_centre (Tick now) c w
+
+-- ---- transfers
+
+-- The error that answers a transfer, one of the world, ends it: the message can't be delivered, its status report is closed, or what it
+-- was for waits on.
+abbrev pub RefusedLaw : Type 0
+RefusedLaw =
+    (t : Carried) (cause : RpCause) (tpdu : Option (List ℕ)) (c : Core) (w : World) (u : Frame) → IsSoundCore c → CentreSees w (draft_of c) w
+    → IsSentFor u.handset u.reference t.tag c.rows → IsNumbered t.tag → IsSent w u Down Error
+    → (steps : List Step) × (AllOfCentre steps × Run w (items c.moment false steps) × CentreSees w (conclude u.handset t (Refused cause tpdu) (draft_of c)) (end w (items c.moment false steps)))

@@ -1,3 +1,4 @@
+pub mod ByOctet
 pub mod FramesOut
 pub mod SeesLines
 pub mod SeesMessages

@@ -13,6 +13,7 @@ use Rattle.sms_waiting.specs.References.{handset_at}
 use Rattle.sms_waiting.specs.declared.handset.HandsetRow.{HandsetRow}
 use Rattle.sms_waiting.specs.declared.reference.ReferenceRow.{ReferenceRow}
 use Rattle.sms_world.specs.World.{Giving}
+use Rattle.sms_centre_sight.specs.ByOctet.{by_octet}
 use Rattle.sms_centre_sight.specs.SeesMessages.{PartSeen}
 use Rattle.sms_centre_sight.specs.SeesReports.{ReportSeen}
 
@@ -23,7 +24,7 @@ second_at None reference references = None
 second_at (Some h) reference references = option_map (λ (r : ReferenceRow). r.last) (row_at reference_key (pair_key h.place reference) references)
 
 abbrev pub seconds_by : List HandsetRow → List ReferenceRow → List ℕ → ℕ → Option ℕ
-seconds_by handsets references handset reference = second_at (handset_at handset handsets) reference references
+seconds_by handsets references handset reference = by_octet reference (second_at (handset_at handset handsets) reference references)
 
 -- ---- to whom
 

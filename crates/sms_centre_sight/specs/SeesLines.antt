@@ -2,6 +2,8 @@
 use Rattle.std.specs.Prelude.{◌≡◌, ℕ, ◌<◌, List, Option, Some, None}
 use Rattle.sms_base.specs.Among.{Among}
 use Rattle.sms_base.specs.declared.carried.Carried.{Carried}
+use Rattle.sms_base.specs.declared.holder.Holder.{Holder}
+use Rattle.sms_base.specs.declared.holder.Holder.TheVariants.{Part, Report, Entry, Memory}
 use Rattle.sms_control.specs.declared.link_state.Answer.{Answer}
 use Rattle.sms_control.specs.declared.link_state.Begun.{Begun}
 use Rattle.sms_control.specs.declared.link_state.Opened.{Opened}
@@ -25,9 +27,16 @@ abbrev pub SeesOpenedDown : List ℕ → List Sent → Option Carried → Option
 SeesOpenedDown handset bag answered None = Unit {0}
 SeesOpenedDown handset bag answered (Some o) = (o.identifier < 7) × SeesAnswerDown handset bag answered o.answer
 
+-- the number of a part is an octet
+abbrev pub IsNumbered : Holder → Type 0
+IsNumbered (Part id number) = number < 256
+IsNumbered (Report id) = Unit {0}
+IsNumbered (Entry n) = Unit {0}
+IsNumbered (Memory n) = Unit {0}
+
 abbrev pub SeesBegunDown : List ℕ → List Sent → Option Carried → Option Begun → Type 0
 SeesBegunDown handset bag under_way None = Unit {0}
-SeesBegunDown handset bag under_way (Some b) = (c : Carried) × ((under_way ≡ Some c) × WasSentDown handset bag FromOriginator b.frame c)
+SeesBegunDown handset bag under_way (Some b) = (c : Carried) × ((under_way ≡ Some c) × WasSentDown handset bag FromOriginator b.frame c × IsNumbered c.tag)
 
 pub record SeesLine (bag : List Sent) (line : Line) : Type 0 where
   pub next : line.link.links.next_identifier < 7

@@ -12,6 +12,7 @@ use Rattle.sms_messages.specs.declared.part.PartRow.{PartRow}
 use Rattle.sms_tpdu.specs.MoreMessages.{compared}
 use Rattle.sms_tpdu.specs.declared.user_data.UserData.{UserData}
 use Rattle.sms_world.specs.Submission.{Always, Failures, HasPart, Never, Submission, Wish}
+use Rattle.sms_centre_sight.specs.ByOctet.{by_octet}
 use Rattle.sms_world.specs.World.{Final, Message, Pending, Stands, State}
 
 -- ---- a message
@@ -53,7 +54,7 @@ abbrev pub messages_by : List MessageRow → ℕ → Option MessageRow
 messages_by messages id = message_at id messages
 
 abbrev pub parts_by : List PartRow → ℕ → ℕ → Option PartSeen
-parts_by parts id number = part_seen (part_at id number parts)
+parts_by parts id number = by_octet number (part_seen (part_at id number parts))
 
 -- ---- the table
 

@@ -1,5 +1,5 @@
 //! How the centre's sight of the world begins, and what leaves it.
-ghost use Rattle.sms_centre_sight.specs.CentreLaws.{AnsweredLaw, BackLaw, FirstLaw, HandsetLaw, LinkDownLaw, LinkUpLaw, NextLaw, PartFarLaw, QueryLaw, ReportFarLaw, UnboundLaw};
+ghost use Rattle.sms_centre_sight.specs.CentreLaws.{AnsweredLaw, BackLaw, BoundLaw, CancelLaw, FirstLaw, HandsetLaw, LinkDownLaw, LinkUpLaw, NextLaw, NextReferenceLaw, NoReferenceLaw, PartFarLaw, QueryLaw, RefusedLaw, ReportFarLaw, SubmitLaw, TickLaw, UnboundLaw};
 
 /// The centre of a new store sees the empty world; one that has adopted an event sees the world that the event led to; and one
 /// that stops, behind a store call or between two events, comes back with rows that show the world.
@@ -20,6 +20,12 @@ pub fn progress_is_not_seen()
     ensures report { ReportFarLaw }
 {}
 
+/// The reference that comes next at a handset is one that the world may give there; where none does, the world may give none.
+pub fn references_are_those_of_the_world()
+    ensures next { NextReferenceLaw }
+    ensures none { NoReferenceLaw }
+{}
+
 /// Where a sound centre sees the world, a question of an application, and a link that comes up or goes down, are steps of the
 /// world, all of them offers of what waits for handsets, and it sees where they lead.
 pub fn quiet_events_are_offers()
@@ -28,8 +34,29 @@ pub fn quiet_events_are_offers()
     ensures down { LinkDownLaw }
 {}
 
-/// So are a session that ends and the answer to a receipt.
+/// So are a session that is bound, one that ends and the answer to a receipt.
 pub fn sessions_are_offers()
+    ensures bound { BoundLaw }
     ensures unbound { UnboundLaw }
     ensures answered { AnsweredLaw }
+{}
+
+/// Where a sound centre sees the world, an event that ends messages is an event of a script, by steps of the centre, and it sees
+/// where they lead: a cancel deletes the message, and what is told of it and the
+/// next offers follow; at a tick messages expire and tell it, old status reports are dropped, frames go again, and what is due is offered.
+pub fn ends_are_events_of_scripts()
+    ensures cancel { CancelLaw }
+    ensures tick { TickLaw }
+{}
+
+/// So is a submission: the message stands in the table with all its parts, each under the reference that comes next at its handset,
+/// with a DELIVER of that part, or nothing but the answer comes of it.
+pub fn submissions_are_events_of_scripts()
+    ensures submit { SubmitLaw }
+{}
+
+/// The error that answers a transfer to a handset is steps: the message fails and tells it, or its status report is closed; where the
+/// error passes, or what it was for is answered already, none.
+pub fn refused_transfers_are_steps()
+    ensures refused { RefusedLaw }
 {}
