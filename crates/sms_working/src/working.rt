@@ -17,14 +17,14 @@ use std::marker::Model;
 /// The centre in the middle of an event.
 #[derive(Drop)]
 pub struct Working<'a> {
-    pub(crate) alloc: Global,
-    pub(crate) setup: &'a Setup,
-    pub(crate) moment: Moment,
-    pub(crate) messages: PendingMessages<'a>,
-    pub(crate) shelves: PendingShelves<'a>,
-    pub(crate) reports: PendingReports,
-    pub(crate) desk: PendingDesk,
-    pub(crate) answer: Option<CentreAnswer>,
+    pub alloc: Global,
+    pub setup: &'a Setup,
+    pub moment: Moment,
+    pub messages: PendingMessages<'a>,
+    pub shelves: PendingShelves<'a>,
+    pub reports: PendingReports,
+    pub desk: PendingDesk,
+    pub answer: Option<CentreAnswer>,
 }
 
 impl<'a> Model for Working<'a> {
