@@ -482,7 +482,7 @@ module _ (f : FinalState) (n : ℕ) (m : MessageRow) (s : Store) (w : World) (ca
 
 -- ---- a message ends
 
-rows_map : (D E : MessageRow → Type 0) (s : Store) → AreRows D (messages_in s) (parts_in s) (priorities_in s) → ((x : MessageRow) → Among x (messages_in s) → D x → E x)
+pub rows_map : (D E : MessageRow → Type 0) (s : Store) → AreRows D (messages_in s) (parts_in s) (priorities_in s) → ((x : MessageRow) → Among x (messages_in s) → D x → E x)
     → AreRows E (messages_in s) (parts_in s) (priorities_in s)
 rows_map D E s r f = record {
   message_keys = r.message_keys;

@@ -436,14 +436,23 @@ module _ (id : ℕ) (split : Option ℕ) (u : SubmissionRow) (header : Bool) (bo
   is_new : IsNew w.table id
   is_new = new_in w.table id (λ i v st k q. let x = sees.table.only i v st k in message_apart i x.0 x.1 (sym q))
 
--- the world takes the submission, and the rows see it
+-- the world takes that submission, and the rows see it
+abbrev pub SubmitsAs : Submission → World → ℕ → Option Store → Type 0
+SubmitsAs v w moment None = Unit {0}
+SubmitsAs v w moment (Some e) = (tickets : List Ticket) × (CanSubmit w moment v tickets × StoreSees e (submitted w moment v tickets))
+
+-- whichever it is
 abbrev pub Submits : World → ℕ → Option Store → Type 0
 Submits w moment None = Unit {0}
-Submits w moment (Some e) = (v : Submission) × (tickets : List Ticket) × (CanSubmit w moment v tickets × StoreSees e (submitted w moment v tickets))
+Submits w moment (Some e) = (v : Submission) × SubmitsAs v w moment (Some e)
+
+pub any_submits : (v : Submission) (w : World) (moment : ℕ) (o : Option Store) → SubmitsAs v w moment o → Submits w moment o
+any_submits v w moment None k = tt
+any_submits v w moment (Some e) k = (v, k)
 
 pub under_submits : (id : ℕ) (split : Option ℕ) (u : SubmissionRow) (header : Bool) (bodies : List SinglePart) → IsSubmission u → (s : Store) (w : World) → SoundStore s → StoreSees s w
     → ((x : MessageRow) → Among x (messages_in s) → x.id < id) → 0 < length bodies → length bodies ≤ 20 → ((b : SinglePart) → Among b bodies → IsBody u b × (b.header_indicator ≡ header))
-    → Submits w s.moment (accept_under id split bodies u s)
+    → SubmitsAs (entered_as id u header bodies) w s.moment (accept_under id split bodies u s)
 under_submits id split u header bodies fit s w sound sees new some few each =
     let e : Store = enter id split u s in
     let v : World = entered_world id split u header bodies fit s w sound sees new in
@@ -452,11 +461,11 @@ under_submits id split u header bodies fit s w sound sees new some few each =
     (λ j. ap (λ (n : ℕ). slice_get (data_of bodies) n) (let q : 0 + j ≡ j = omega arith in q)))
     (is_new id split u header bodies fit s w sound sees new)
   where
-    by : (o : Option Store) → AllGiven id s.moment split u header bodies fit 1 bodies (entered_world id split u header bodies fit s w sound sees new) s.moment o → IsNew w.table id → Submits w s.moment o
+    by : (o : Option Store) → AllGiven id s.moment split u header bodies fit 1 bodies (entered_world id split u header bodies fit s w sound sees new) s.moment o → IsNew w.table id → SubmitsAs (entered_as id u header bodies) w s.moment o
     by None given new = tt
     by (Some e) (ts, (long, can, moment, after)) fresh =
         let whole_one : Submission = entered_as id u header bodies in
         let q = data_long id s.moment split u header bodies fit bodies in
         let parts : 0 < length (data_of bodies) = omega (arith, some, q) in
         let tickets : length ts ≡ length (data_of bodies) = long ∙ sym q in
-        (whole_one, ts, ((fresh, parts, tickets, can), all_there id s.moment split u header bodies fit e (submitted w s.moment whole_one ts) after))
+        (ts, ((fresh, parts, tickets, can), all_there id s.moment split u header bodies fit e (submitted w s.moment whole_one ts) after))

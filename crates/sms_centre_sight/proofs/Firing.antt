@@ -62,7 +62,7 @@ goes_then m b e f w (xs, (kx, rx, sx)) further =
 pub goes_still : (m : ℕ) (b : World) (d : Draft) (w : World) → CentreSees b d w → Goes m b d w
 goes_still m b d w s = ([], ((tt, tt), tt, s))
 
-appended : {A : Type 0} (xs ys zs : List A) → (xs ++ ys) ++ zs ≡ xs ++ (ys ++ zs)
+pub appended : {A : Type 0} (xs ys zs : List A) → (xs ++ ys) ++ zs ≡ xs ++ (ys ++ zs)
 appended {A = A} [] ys zs = refl
 appended {A = A} (x ∷ xs) ys zs = ap (λ (l : List A). x ∷ l) (appended xs ys zs)
 
@@ -87,7 +87,7 @@ all_both : (h : List ℕ) (bag : List Sent) (u a : Option Carried) (fs gs : List
 all_both h bag u a [] gs k l = l
 all_both h bag u a (f ∷ fs) gs k l = (k.0, all_both h bag u a fs gs k.1 l)
 
-again_carries : (h : List ℕ) (bag : List Sent) (flag : TransactionFlag) (frame : List ℕ) (c : Carried) (under_way answered : Option Carried) → WasSentDown h bag flag frame c
+pub again_carries : (h : List ℕ) (bag : List Sent) (flag : TransactionFlag) (frame : List ℕ) (c : Carried) (under_way answered : Option Carried) → WasSentDown h bag flag frame c
     → carried_in (cp_at frame) under_way answered ≡ carried_by flag under_way answered
 again_carries h bag flag frame c under_way answered sent =
     let i = sent.0 in

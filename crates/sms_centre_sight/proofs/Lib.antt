@@ -1,4 +1,5 @@
 pub mod ByOctets
+mod CentreAddresses
 pub mod Staying
 pub mod Beginning
 pub mod Unseen
@@ -18,4 +19,3 @@ pub mod Firing
 pub mod Ticks
 pub mod Entering
 pub mod Submits
-pub mod Refusing

@@ -83,7 +83,7 @@ among_is n (x ∷ xs) e = which (x == n) (λ t. sym (eqb-true x n t)) (λ t. amo
 same_report : (r x : ReportRow) → Some r ≡ Some x → r ≡ x
 same_report r x e = cc
 
-answered_sees : (b : World) (id : ℕ) (accepted : Bool) (o : Option Session) (d : Draft) (w : World) → ((session : Session) → o ≡ Some session → (n : ℕ) → Among n session.unanswered
+pub answered_sees : (b : World) (id : ℕ) (accepted : Bool) (o : Option Session) (d : Draft) (w : World) → ((session : Session) → o ≡ Some session → (n : ℕ) → Among n session.unanswered
     → (r : ReportRow) → report_of n (reports_in d.store) ≡ Some r → is_status r.kind ≡ false)
     → SoundStore d.store → CentreSees b d w → CentreSees b (answered_by id accepted o d) w
 answered_sees b id accepted None d w f sound s = s
@@ -98,7 +98,7 @@ answered_sees b id accepted (Some session) d w f sound s =
     })
     (λ t. s)
 
-receipt_there : (c : Core) (session : Session) (number : ℕ) → IsSoundCore c → row_at session_key number c.sessions ≡ Some session → (n : ℕ) → Among n session.unanswered
+pub receipt_there : (c : Core) (session : Session) (number : ℕ) → IsSoundCore c → row_at session_key number c.sessions ≡ Some session → (n : ℕ) → Among n session.unanswered
     → (r : ReportRow) → report_of n c.rows.reports ≡ Some r → is_status r.kind ≡ false
 receipt_there c session number sound e n i r q =
     let x : IsReceiptRow c.rows n = (sound.each_session session (found_among session_key number session c.sessions e)).unanswered n i in

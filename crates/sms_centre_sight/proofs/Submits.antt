@@ -40,7 +40,7 @@ use Rattle.sms_world.specs.World.{World}
 use Rattle.sms_world.specs.WorldStep.{Submit as SubmitStep, submitted}
 use Rattle.sms_centre_sight.specs.CentreLaws.{SubmitLaw}
 use Rattle.sms_centre_sight.specs.CentreSight.{CentreSees, StoreSees}
-use Rattle.sms_centre_sight.proofs.Entering.{Submits, under_submits}
+use Rattle.sms_centre_sight.proofs.Entering.{Submits, any_submits, entered_as, under_submits}
 use Rattle.sms_centre_sight.proofs.Playing.{Acts, acts_lead, answer_sees, store_comes}
 use Rattle.sms_centre_sight.proofs.SessionsChange.{start}
 
@@ -88,7 +88,8 @@ module _ (u : SubmissionRow) (fit : IsSubmission u) (s : Store) (w : World) (sou
   under split reference =
       let alike = bodies_alike reference u.text in
       let new : (x : MessageRow) → Among x (messages_in s) → x.id < id = λ x among. below_next_id 1 x (messages_in s) sound.stands.message_keys among in
-      under_submits id split u alike.0 (bodies_under reference u.text) fit s w sound sees new (fit.some reference) (fit.few reference) (λ b i. (fit.bodies reference b i, alike.1 b i))
+      any_submits (entered_as id u alike.0 (bodies_under reference u.text)) w s.moment (accept_under id split (bodies_under reference u.text) u s)
+      (under_submits id split u alike.0 (bodies_under reference u.text) fit s w sound sees new (fit.some reference) (fit.few reference) (λ b i. (fit.bodies reference b i, alike.1 b i)))
 
   splits : (o : Option ℕ) → Submits w s.moment (accept_split id o u s)
   splits None = tt
@@ -118,7 +119,7 @@ refused_acts a d w s = record {
 
 accepted_acts : (number : ℕ) (o : Option Store) (d : Draft) (w : World) → CentreSees w d w → Submits w d.store.moment o → Acts Submitted d.store.moment w (accepted number o d)
 accepted_acts number None d w s k = refused_acts _ d w s
-accepted_acts number (Some e) d w s (v, tickets, (can, sees)) = record {
+accepted_acts number (Some e) d w s (v, (tickets, (can, sees))) = record {
   own = SubmitStep v tickets ∷ [];
   follows = [];
   is_own = inr (v, tickets, refl);

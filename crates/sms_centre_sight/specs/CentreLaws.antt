@@ -2,13 +2,7 @@
 use Rattle.sms_base.specs.TimeStamp.{IsMoment}
 use Rattle.std.specs.Prelude.{◌≡◌, ℕ, max, List, [], ◌∷◌, Bool, Option, Some, None, true, false}
 use Rattle.sms_centre_rules.specs.CentreEvent.{happened, recovered, started}
-use Rattle.sms_centre_rules.specs.SoundCore.{IsSentFor, IsSoundCore}
-use Rattle.sms_centre_rules.specs.Transfers.{conclude}
-use Rattle.sms_base.specs.declared.carried.Carried.{Carried}
-use Rattle.sms_base.specs.declared.carried.Kind.TheVariants.{Error}
-use Rattle.sms_link.specs.declared.ending.Ending.TheVariants.{Refused}
-use Rattle.sms_relay.specs.declared.cause.RpCause.{RpCause}
-use Rattle.sms_centre_sight.specs.SeesLines.{IsNumbered}
+use Rattle.sms_centre_rules.specs.SoundCore.{IsSoundCore}
 use Rattle.sms_centre_rules.specs.declared.event.CentreEvent.{CentreEvent}
 use Rattle.sms_centre_rules.specs.declared.event.CentreEvent.TheVariants.{Bound, Cancel, DeliverAnswered, LinkDown, LinkUp, Query, Submit, Tick, Unbound}
 use Rattle.smpp_pdu.specs.declared.cancel.CancelSm.{CancelSm}
@@ -31,8 +25,8 @@ use Rattle.sms_world.specs.References.{CanGive}
 use Rattle.sms_world.specs.Run.{Run, end}
 use Rattle.sms_world.specs.ScriptRun.{Cancelled, Event, IsPlayed, Submitted, Tick_centre, items}
 use Rattle.sms_world.specs.Sides.{AllOfCentre, AllOfHandset}
-use Rattle.sms_world.specs.World.{Down, Frame, Giving, Sent, World, empty, with_frames}
-use Rattle.sms_world.specs.WorldStep.{IsSent, Offer, Step}
+use Rattle.sms_world.specs.World.{Giving, Sent, World, empty, with_frames}
+use Rattle.sms_world.specs.WorldStep.{Offer, Step}
 use Rattle.sms_centre_sight.specs.CentreSight.{CentreSees, StoreSees}
 
 -- a new store's centre sees the empty world
@@ -133,13 +127,3 @@ CancelLaw = (account : ℕ) (wanted : CancelSm) (c : Core) (w : World) → IsSou
 -- its timers are looked at, and time never goes back
 abbrev pub TickLaw : Type 0
 TickLaw = (now : ℕ) (c : Core) (w : World) → IsSoundCore c → IsMoment now → CentreSees w (draft_of c) w → LeadsOn (max c.moment now) Tick_centre (Tick now) c w
-
--- ---- transfers
-
--- The error that answers a transfer, one of the world, ends it: the message can't be delivered, its status report is closed, or what it
--- was for waits on.
-abbrev pub RefusedLaw : Type 0
-RefusedLaw =
-    (t : Carried) (cause : RpCause) (tpdu : Option (List ℕ)) (c : Core) (w : World) (u : Frame) → IsSoundCore c → CentreSees w (draft_of c) w
-    → IsSentFor u.handset u.reference t.tag c.rows → IsNumbered t.tag → IsSent w u Down Error
-    → (steps : List Step) × (AllOfCentre steps × Run w (items c.moment false steps) × CentreSees w (conclude u.handset t (Refused cause tpdu) (draft_of c)) (end w (items c.moment false steps)))

@@ -1,5 +1,5 @@
 //! How the centre's sight of the world begins, and what leaves it.
-ghost use Rattle.sms_centre_sight.specs.CentreLaws.{AnsweredLaw, BackLaw, BoundLaw, CancelLaw, FirstLaw, HandsetLaw, LinkDownLaw, LinkUpLaw, NextLaw, NextReferenceLaw, NoReferenceLaw, PartFarLaw, QueryLaw, RefusedLaw, ReportFarLaw, SubmitLaw, TickLaw, UnboundLaw};
+ghost use Rattle.sms_centre_sight.specs.CentreLaws.{AnsweredLaw, BackLaw, BoundLaw, CancelLaw, FirstLaw, HandsetLaw, LinkDownLaw, LinkUpLaw, NextLaw, NextReferenceLaw, NoReferenceLaw, PartFarLaw, QueryLaw, ReportFarLaw, SubmitLaw, TickLaw, UnboundLaw};
 
 /// The centre of a new store sees the empty world; one that has adopted an event sees the world that the event led to; and one
 /// that stops, behind a store call or between two events, comes back with rows that show the world.
@@ -53,10 +53,4 @@ pub fn ends_are_events_of_scripts()
 /// with a DELIVER of that part, or nothing but the answer comes of it.
 pub fn submissions_are_events_of_scripts()
     ensures submit { SubmitLaw }
-{}
-
-/// The error that answers a transfer to a handset is steps: the message fails and tells it, or its status report is closed; where the
-/// error passes, or what it was for is answered already, none.
-pub fn refused_transfers_are_steps()
-    ensures refused { RefusedLaw }
 {}

@@ -1,0 +1,4 @@
+pub mod NoSteps
+pub mod EveryEvent
+pub mod Plans
+pub mod Courses

@@ -1,0 +1,3 @@
+pub mod CourseEvents
+pub mod PlanLaws
+pub mod Course

@@ -1,0 +1,11 @@
+pub mod Stepping
+pub mod Hearing
+pub mod LineOf
+pub mod Replying
+pub mod AllDone
+pub mod DoneParts
+pub mod Settling
+pub mod Concluding
+pub mod UnitsCome
+pub mod FrameComes
+pub mod FrameEvents
