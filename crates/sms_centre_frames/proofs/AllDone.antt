@@ -1,14 +1,14 @@
 -- All parts of a message are done exactly where the world has all their numbers.
-use Rattle.std.proofs.Common.{◌≡◌, ◌⊎◌, ℕ, zero, suc, ◌<◌, ◌≤◌, arith, List, [], ◌∷◌, Bool, true, false, refl, sym, ◌∙◌, ap, subst, inl, inr, ⊎_elim, Option, Some, None, length, eq-eqb}
+use Rattle.std.proofs.Common.{◌≡◌, ℕ, zero, suc, ◌<◌, ◌≤◌, arith, List, [], ◌∷◌, Bool, true, false, refl, sym, ◌∙◌, ap, inl, inr, ⊎_elim, Some, length, eq-eqb}
 use Rattle.std.specs.Prelude.{◌==◌, ◌&&◌, ◌||◌, not, slice_get}
-use Rattle.std.proofs.lemmas.Bool.{and_from, and_parts, cases_Bool, cases_eq, eqb-true}
+use Rattle.std.proofs.lemmas.Bool.{and_from, and_parts, cases_Bool, eqb-true}
 use Rattle.std.proofs.lemmas.Option.{slice_get_within}
 use Rattle.sms_base.specs.Among.{Among}
 use Rattle.sms_messages.specs.Messages.{all_done, is_undone}
 use Rattle.sms_messages.specs.declared.part.PartRow.{PartRow}
 use Rattle.sms_tpdu.specs.declared.user_data.UserData.{UserData}
 use Rattle.sms_world.specs.Lists.{all_numbers, is_among}
-use Rattle.sms_world.specs.Submission.{HasPart, Submission, part_at}
+use Rattle.sms_world.specs.Submission.{HasPart, Submission}
 
 -- a message with a part undone has one
 pub some_undone : (id : ℕ) (ps : List PartRow) → all_done id ps ≡ false → (p : PartRow) × (Among p ps × (p.id ≡ id) × (p.progress.is_done ≡ false))

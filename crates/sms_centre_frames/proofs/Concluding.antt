@@ -1,8 +1,7 @@
 -- A transfer to a handset has ended by the frame that was handed over: what it was for is done, can't be delivered, or waits on.
-use Rattle.std.proofs.Common.{◌≡◌, ℕ, ◌<◌, List, [], ◌∷◌, Bool, true, false, refl, sym, ◌∙◌, ap, subst, Option, Some, None}
+use Rattle.std.proofs.Common.{◌≡◌, ℕ, ◌<◌, List, Bool, true, false, refl, sym, ◌∙◌, ap, subst, Option, Some, None}
 use Rattle.std.specs.Prelude.{◌==◌, not, if◌then◌else◌}
 use Rattle.std.proofs.lemmas.Bool.{and_parts, cond_both}
-use Rattle.sms_base.specs.Among.{Among}
 use Rattle.sms_base.specs.declared.carried.Carried.{Carried}
 use Rattle.sms_base.specs.declared.carried.Kind.TheVariants.{Ack, Error}
 use Rattle.sms_base.specs.declared.final_state.FinalState.{FinalState}
@@ -21,14 +20,13 @@ use Rattle.sms_reports.specs.declared.report.ReportRow.{ReportRow}
 use Rattle.sms_table.proofs.Tables.{found_key}
 use Rattle.sms_tpdu.specs.MoreMessages.{compared}
 use Rattle.sms_waiting.specs.Lines.{filled, line_of}
-use Rattle.sms_waiting.specs.Trying.{finished}
 use Rattle.sms_waiting.specs.declared.line.Line.{Line}
 use Rattle.sms_centre_rules.proofs.SoundStores.{SoundStore}
 use Rattle.sms_centre_rules.proofs.Steady.{message_own, report_own}
-use Rattle.sms_centre_rules.specs.Draft.{Draft, Store, messages_in, parts_in, reports_in, rows_of, with_message, with_part_at}
+use Rattle.sms_centre_rules.specs.Draft.{Draft, Store, messages_in, parts_in, reports_in, rows_of, with_message}
 use Rattle.sms_centre_rules.specs.Ends.{end as end_message}
 use Rattle.sms_centre_rules.specs.SoundCore.{IsSentFor}
-use Rattle.sms_centre_rules.specs.Transfers.{cause_verdict, complete, conclude, ended_with, holder_ended, is_open, is_open_part_at, is_open_status_at, is_temporary, part_ended_at, part_ended_of, report_closed, report_ended_at}
+use Rattle.sms_centre_rules.specs.Transfers.{cause_verdict, conclude, ended_with, holder_ended, is_open, is_open_part_at, is_open_status_at, is_temporary, part_ended_at, part_ended_of, report_closed, report_ended_at}
 use Rattle.sms_centre_rules.specs.declared.verdict.Verdict.{Verdict}
 use Rattle.sms_centre_rules.specs.declared.verdict.Verdict.TheVariants.{Settled, HandsetFull, Again, Refused, Late}
 use Rattle.sms_world.specs.World.{Down, Final, Frame, Giving, IsUnanswered, Stands, State, World, changed}

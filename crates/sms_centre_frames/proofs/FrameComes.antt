@@ -1,6 +1,6 @@
 -- A frame comes to the centre: what the links do with it, and then what goes up.
-use Rattle.std.proofs.Common.{◌≡◌, ℕ, ◌+◌, ◌<◌, List, [], ◌∷◌, cond, true, refl, sym, ◌∙◌, ap, subst, inl, inr, ⊎_elim, Option, Some, None, Result, Ok, Err, length, is_some}
-use Rattle.std.specs.Prelude.{◌⊎◌, ◌&&◌, ◌==◌}
+use Rattle.std.proofs.Common.{◌≡◌, ℕ, ◌+◌, ◌<◌, List, [], ◌∷◌, cond, true, refl, sym, ◌∙◌, ap, subst, inr, ⊎_elim, Option, Some, None, Result, Ok, Err, length, is_some}
+use Rattle.std.specs.Prelude.{◌&&◌, ◌==◌}
 use Rattle.std.specs.Option.{option_map}
 use Rattle.std.proofs.lemmas.Bool.{cond_both, eqb-true}
 use Rattle.sms_base.specs.Among.{Among}
@@ -17,13 +17,12 @@ use Rattle.sms_control.specs.declared.link_state.LinkState.{LinkState}
 use Rattle.sms_control.specs.declared.link_state.Opened.{Opened}
 use Rattle.sms_control.specs.declared.message.Cp.{Cp}
 use Rattle.sms_control.specs.declared.message.Cp.TheVariants.{DataUnit as CpData, AckUnit as CpAck, ErrorUnit as CpError}
-use Rattle.sms_control.specs.declared.out.Up.{Up as UpOf}
 use Rattle.sms_control.specs.declared.out.Up.TheVariants.{Unit as UnitUp, Failed}
 use Rattle.sms_control.specs.declared.transaction.Transaction.{Transaction}
 use Rattle.sms_control.specs.declared.transaction.TransactionFlag.{TransactionFlag}
 use Rattle.sms_control.specs.declared.transaction.TransactionFlag.TheVariants.{FromOriginator, ToOriginator}
 use Rattle.sms_link.specs.Ending.{ended_by, unit_at}
-use Rattle.sms_link.specs.LinkTurn.{came_up, heard, unit_ended}
+use Rattle.sms_link.specs.LinkTurn.{heard, unit_ended}
 use Rattle.sms_link.specs.declared.ending.Ending.{Ending}
 use Rattle.sms_link.specs.declared.ending.Ending.TheVariants.{Acknowledged, Lost as LostEnd, Refused as RefusedWith, Wrong}
 use Rattle.sms_link.specs.declared.ending.Side.{Side}
@@ -44,10 +43,9 @@ use Rattle.sms_centre_rules.specs.SoundCore.{IsLine, IsSentFor, IsUnderWay}
 use Rattle.sms_centre_rules.specs.Submitted.{UnitGives, UpGives}
 use Rattle.sms_centre_rules.specs.Transfers.{conclude}
 use Rattle.sms_frame_sight.proofs.Linking.{Awaits, ack_read, data_is, rejection_read, taken_is}
-use Rattle.sms_frame_sight.specs.Between.{CameUp, TellsUp, line_to_centre}
+use Rattle.sms_frame_sight.specs.Between.{CameUp, TellsUp}
 use Rattle.sms_frame_sight.specs.FramesUp.{IsBare}
-use Rattle.sms_world.specs.World.{World, Line as LineOf, Frame, Sent, Carried, Bare, Down, Up}
-use Rattle.sms_world.specs.WorldStep.{IsSent}
+use Rattle.sms_world.specs.World.{World, Line as LineOf, Frame, Sent, Carried, Bare, Down}
 use Rattle.sms_centre_sight.specs.CentreSight.{CentreSees}
 use Rattle.sms_centre_sight.specs.SeesLines.{IsNumbered, SeesAnswerDown, SeesBegunDown, SeesLine, SeesOpenedDown}
 use Rattle.sms_centre_sight.proofs.LinksChange.{lost_law}

@@ -1,6 +1,5 @@
 -- The event of a frame that is handed to the centre.
-use Rattle.std.proofs.Common.{◌≡◌, ℕ, List, sym, subst, ⊎_elim}
-use Rattle.sms_base.specs.declared.holder.Holder.{Holder}
+use Rattle.std.proofs.Common.{◌≡◌, ℕ, List, sym, subst}
 use Rattle.sms_waiting.specs.Lines.{line_of}
 use Rattle.sms_waiting.specs.declared.line.Line.{Line}
 use Rattle.sms_centre_rules.proofs.PduFits.{event_gives}
@@ -9,7 +8,6 @@ use Rattle.sms_centre_rules.proofs.SoundEvents.{event_after}
 use Rattle.sms_centre_rules.specs.CentreEvent.{frame_taken, tag_of}
 use Rattle.sms_centre_rules.specs.Draft.{Draft, draft_of}
 use Rattle.sms_centre_rules.specs.declared.event.CentreEvent.TheVariants.{Frame}
-use Rattle.sms_world.specs.World.{World}
 use Rattle.sms_centre_sight.proofs.Offers.{line_sees}
 use Rattle.sms_centre_sight.proofs.SessionsChange.{start}
 use Rattle.sms_centre_frames.specs.FrameLaws.{FrameLaw}

@@ -1,7 +1,6 @@
 -- Frames of the links' own: CP-ACK and CP-ERROR are control, and so is what is sent again.
-use Rattle.std.proofs.Common.{◌≡◌, ℕ, ◌+◌, List, [], ◌∷◌, ◌++◌, false, refl, sym, ◌∙◌, ap, subst, inl, inr, Option, Some, None, Result, Ok, Err, length}
+use Rattle.std.proofs.Common.{◌≡◌, ℕ, ◌+◌, List, [], ◌∷◌, ◌++◌, refl, sym, ◌∙◌, ap, subst, inr, Option, Some, None, Result, Ok, Err, length}
 use Rattle.std.proofs.lemmas.List.{append-nil}
-use Rattle.sms_base.specs.Among.{Among}
 use Rattle.sms_base.specs.declared.carried.Carried.{Carried}
 use Rattle.sms_control.specs.ControlReading.{cp_at}
 use Rattle.sms_control.specs.LinkStep.{Step}
@@ -19,8 +18,6 @@ use Rattle.sms_waiting.specs.declared.line.Sent.{Sent as SentRow}
 use Rattle.sms_centre_rules.specs.Draft.{Draft, on_air}
 use Rattle.sms_frame_sight.specs.Between.{frame_down}
 use Rattle.sms_frame_sight.specs.FramesUp.{IsBare}
-use Rattle.sms_world.specs.Run.{end}
-use Rattle.sms_world.specs.ScriptRun.{items}
 use Rattle.sms_world.specs.World.{Bare, Sent, World}
 use Rattle.sms_world.specs.WorldStep.{Again, Control}
 use Rattle.sms_centre_sight.specs.CentreSight.{CentreSees}

@@ -1,5 +1,5 @@
 -- The answer to a unit of a handset goes into the bag.
-use Rattle.std.proofs.Common.{◌≡◌, ℕ, ◌+◌, ◌<◌, ◌≤◌, arith, List, [], ◌∷◌, ◌++◌, Bool, true, false, refl, sym, ◌∙◌, ap, subst, inl, inr, Option, Some, None, Result, length, is_some, is_none}
+use Rattle.std.proofs.Common.{◌≡◌, ℕ, ◌+◌, ◌<◌, ◌≤◌, arith, List, [], ◌∷◌, true, false, refl, sym, ◌∙◌, ap, subst, inl, inr, Option, Some, None, Result, length, is_some, is_none}
 use Rattle.std.specs.Prelude.{◌&&◌}
 use Rattle.std.proofs.lemmas.Bool.{cond-true}
 use Rattle.sms_base.specs.Among.{Among}
@@ -14,7 +14,6 @@ use Rattle.sms_control.specs.declared.link_state.Opened.{Opened}
 use Rattle.sms_control.specs.declared.message.Cp.TheVariants.{DataUnit as CpData}
 use Rattle.sms_control.specs.declared.transaction.TransactionFlag.TheVariants.{ToOriginator}
 use Rattle.sms_link.specs.LinkTurn.{Turn, answering, of_kind, still}
-use Rattle.sms_link.specs.declared.outgoing.Outgoing.{Outgoing}
 use Rattle.sms_relay.proofs.UnitLaws.{down_again, written_down_is}
 use Rattle.sms_relay.specs.Cause.{IsRpCause}
 use Rattle.sms_relay.specs.RelayGrammar.{ack_down, error_down}

@@ -1,6 +1,6 @@
 -- A part was acknowledged: it is done, and where all parts of its message are, the message is delivered and told so.
-use Rattle.std.proofs.Common.{◌≡◌, ◌⊎◌, ℕ, ◌<◌, ◌≤◌, arith, List, [], ◌∷◌, Bool, true, false, refl, sym, ◌∙◌, ap, subst, inl, inr, ⊎_elim, Option, Some, None, length}
-use Rattle.std.specs.Prelude.{◌↔◌, if◌then◌else◌}
+use Rattle.std.proofs.Common.{◌≡◌, ℕ, ◌<◌, arith, List, [], ◌∷◌, true, false, refl, sym, ◌∙◌, ap, subst, inl, inr, ⊎_elim, Option, Some, None, length}
+use Rattle.std.specs.Prelude.{◌↔◌}
 use Rattle.std.proofs.lemmas.Bool.{cases_Bool, cases_eq, cond-false, cond-true, cond_both}
 use Rattle.sms_base.specs.Among.{Among}
 use Rattle.sms_base.specs.declared.final_state.FinalState.{FinalState}
@@ -10,17 +10,15 @@ use Rattle.sms_base.specs.declared.holder.Holder.TheVariants.{Part}
 use Rattle.sms_messages.specs.Messages.{all_done, ended, is_pending, message_at, message_key, part_at, part_key}
 use Rattle.sms_messages.specs.declared.message.MessageRow.{MessageRow}
 use Rattle.sms_messages.specs.declared.part.PartRow.{PartRow}
-use Rattle.sms_table.proofs.Tables.{among_found, found_among, found_key, row_at_put, row_at_put_other}
+use Rattle.sms_table.proofs.Tables.{among_found, found_among, found_key, row_at_put}
 use Rattle.sms_table.specs.Keys.{pair_key}
 use Rattle.sms_table.specs.Table.{put, row_at}
 use Rattle.sms_tpdu.specs.MoreMessages.{compared}
-use Rattle.sms_tpdu.specs.declared.user_data.UserData.{UserData}
 use Rattle.sms_waiting.specs.Trying.{finished}
-use Rattle.sms_waiting.specs.declared.progress.Progress.{Progress}
 use Rattle.sms_centre_rules.proofs.DoneMarks.{not_all_done}
 use Rattle.sms_centre_rules.proofs.MessagesKept.{AreRows, IsTold, finished_rows, rows_are}
 use Rattle.sms_centre_rules.proofs.SoundEnds.{CanEnd}
-use Rattle.sms_centre_rules.proofs.SoundStores.{SoundStore, Times}
+use Rattle.sms_centre_rules.proofs.SoundStores.{SoundStore}
 use Rattle.sms_centre_rules.proofs.StandsKept.{part_far_stands}
 use Rattle.sms_centre_rules.specs.Draft.{Store, messages_in, parts_in, priorities_in, reports_in, with_message, with_part_at}
 use Rattle.sms_centre_rules.specs.Ends.{end as end_message}
@@ -28,11 +26,9 @@ use Rattle.sms_centre_rules.specs.Standing.{Stands as StandsStore}
 use Rattle.sms_centre_rules.specs.Transfers.{complete}
 use Rattle.sms_world.proofs.Tables.{changed_back, changed_here, changed_there, number_done, same_message}
 use Rattle.sms_world.specs.Lists.{all_numbers}
-use Rattle.sms_world.specs.Run.{Run, end}
-use Rattle.sms_world.specs.ScriptRun.{items}
-use Rattle.sms_world.specs.Submission.{HasPart, Submission}
+use Rattle.sms_world.specs.Submission.{Submission}
 use Rattle.sms_world.specs.World.{Down, Final, Frame, Giving, IsUnanswered, Message, Pending, Stands, State, World, changed}
-use Rattle.sms_world.specs.WorldStep.{HasReference, IsSent, Settle, Step, marked, settled}
+use Rattle.sms_world.specs.WorldStep.{HasReference, IsSent, Settle, marked, settled}
 use Rattle.sms_centre_sight.proofs.ByOctets.{by_octet_is, by_octet_some}
 use Rattle.sms_centre_sight.proofs.Ending.{end_comes, ended_sees, rows_map}
 use Rattle.sms_centre_sight.proofs.Givings.{seen_part}

@@ -1,17 +1,17 @@
 -- Stages one after another.
-use Rattle.std.proofs.Common.{◌≡◌, ◌⊎◌, ℕ, List, [], ◌∷◌, ◌++◌, false, refl, sym, ◌∙◌, ap, subst, inl, inr}
+use Rattle.std.proofs.Common.{◌≡◌, ℕ, List, [], ◌∷◌, ◌++◌, false, refl, sym, subst, inl, inr}
 use Rattle.sms_base.specs.Among.{Among}
 use Rattle.sms_centre_rules.proofs.SoundStores.{SoundStore}
 use Rattle.sms_centre_rules.specs.CentreEvent.{follow}
 use Rattle.sms_centre_rules.specs.Draft.{Draft, Store, in_store}
 use Rattle.sms_frame_sight.proofs.RunsOn.{end_both, run_both}
 use Rattle.sms_world.specs.Run.{Run, end}
-use Rattle.sms_world.specs.ScriptRun.{AllMayFollow, Handed, IsInOrder, IsOwn, Reads, items}
+use Rattle.sms_world.specs.ScriptRun.{AllMayFollow, Handed, IsInOrder, Reads, items}
 use Rattle.sms_world.specs.Sides.{AllOfCentre, IsOfCentre}
 use Rattle.sms_world.specs.World.{Carried, Frame, World}
 use Rattle.sms_world.specs.WorldStep.{Can, Step}
-use Rattle.sms_centre_sight.specs.CentreSight.{CentreSees, StoreSees}
-use Rattle.sms_centre_sight.proofs.Ending.{AllTell, Comes}
+use Rattle.sms_centre_sight.specs.CentreSight.{CentreSees}
+use Rattle.sms_centre_sight.proofs.Ending.{AllTell}
 use Rattle.sms_centre_sight.proofs.Firing.{appended}
 use Rattle.sms_centre_sight.proofs.Offers.{follow_law}
 use Rattle.sms_centre_sight.proofs.Playing.{centre_both, follow_both, offers_follow, store_comes, tells_follow}

@@ -1,5 +1,5 @@
 -- A unit of a handset came: a SUBMIT becomes a message or is refused, and with memory at hand all that waits is due.
-use Rattle.std.proofs.Common.{◌≡◌, ℕ, ◌+◌, ◌<◌, ◌≤◌, arith, List, [], ◌∷◌, Bool, true, false, refl, sym, ◌∙◌, ap, subst, ⊎_elim, Option, Some, None, Result, Ok, Err, length}
+use Rattle.std.proofs.Common.{◌≡◌, ℕ, ◌<◌, List, [], refl, sym, ap, subst, ⊎_elim, Option, Some, None, Result, Ok, Err}
 use Rattle.std.specs.Prelude.{nat_le, not, if◌then◌else◌}
 use Rattle.std.proofs.lemmas.Bool.{cond_both}
 use Rattle.sms_base.proofs.Steps.{bind_ok, ok_is}
@@ -35,7 +35,6 @@ use Rattle.sms_centre_rules.specs.Receiving.{confirm, data_came, has_memory, is_
 use Rattle.sms_centre_rules.specs.Standing.{IsSubmission}
 use Rattle.sms_centre_rules.specs.Submitting.{accept, accept_under, is_reference_taken}
 use Rattle.sms_frame_sight.proofs.Linking.{Awaits}
-use Rattle.sms_world.specs.References.{Ticket}
 use Rattle.sms_world.specs.Submission.{Submission}
 use Rattle.sms_world.specs.World.{Carried as Carried_frame, Frame, Up, World}
 use Rattle.sms_world.specs.WorldStep.{Asks, IsSent, Memory_free, Receive, Reject, submitted}

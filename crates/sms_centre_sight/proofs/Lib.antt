@@ -1,5 +1,4 @@
 pub mod ByOctets
-mod CentreAddresses
 pub mod Staying
 pub mod Beginning
 pub mod Unseen

@@ -17,7 +17,7 @@ use Rattle.sms_control.specs.declared.message.Cp.{Cp}
 use Rattle.sms_control.specs.declared.message.Cp.TheVariants.{DataUnit as CpData}
 use Rattle.sms_control.specs.declared.transaction.TransactionFlag.TheVariants.{FromOriginator}
 use Rattle.sms_link.specs.LinkTurn.{Turn, begun, carrying, of_kind, started as turn_started, still}
-use Rattle.sms_centre_sight.proofs.CentreAddresses.{relay_some}
+use Rattle.sms_outbox.proofs.CentreAddresses.{relay_some}
 use Rattle.sms_relay.proofs.UnitLaws.{down_again}
 use Rattle.sms_relay.specs.RelayGrammar.{IsCentre, data_down}
 use Rattle.sms_relay.specs.RelayReading.{down_at}

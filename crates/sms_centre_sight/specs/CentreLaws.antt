@@ -1,6 +1,6 @@
 -- What of the centre's sight is proved: it begins, it comes back, and others leave it.
 use Rattle.sms_base.specs.TimeStamp.{IsMoment}
-use Rattle.std.specs.Prelude.{◌≡◌, ℕ, max, List, [], ◌∷◌, Bool, Option, Some, None, true, false}
+use Rattle.std.specs.Prelude.{◌≡◌, ℕ, max, List, [], ◌∷◌, Bool, Some, None, true, false}
 use Rattle.sms_centre_rules.specs.CentreEvent.{happened, recovered, started}
 use Rattle.sms_centre_rules.specs.SoundCore.{IsSoundCore}
 use Rattle.sms_centre_rules.specs.declared.event.CentreEvent.{CentreEvent}
