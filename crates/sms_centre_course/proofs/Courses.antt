@@ -1,11 +1,11 @@
 -- A centre's course, episode by episode.
-use Rattle.std.proofs.Common.{◌≡◌, ℕ, List, [], ◌∷◌, true, false, refl, sym, ◌∙◌, ap, subst}
+use Rattle.std.proofs.Common.{◌≡◌, ℕ, List, [], ◌∷◌, true, false, refl, sym, ap, subst}
 use Rattle.sms_reports.specs.Receipts.{Session}
 use Rattle.sms_centre_rules.proofs.EventLaws.{stays_sound}
 use Rattle.sms_centre_rules.proofs.SoundBegins.{first_sound, recovered_sound, started_sound}
 use Rattle.sms_centre_rules.specs.CentreEvent.{happened, recovered, started}
-use Rattle.sms_centre_rules.specs.Draft.{Core, Draft, core_of, draft_of, rows_of}
-use Rattle.sms_centre_rules.specs.SoundCore.{IsEvent, IsSoundCore}
+use Rattle.sms_centre_rules.specs.Draft.{Core, Draft, draft_of, rows_of}
+use Rattle.sms_centre_rules.specs.SoundCore.{IsSoundCore}
 use Rattle.sms_centre_rules.specs.SoundRows.{IsSound, first_rows}
 use Rattle.sms_centre_rules.specs.declared.event.CentreEvent.{CentreEvent}
 use Rattle.sms_centre_rules.specs.declared.event.CentreEvent.TheVariants.{Bound, Cancel, DeliverAnswered, Frame, LinkDown, LinkUp, Query, Submit, Tick, Unbound}
@@ -14,7 +14,7 @@ use Rattle.sms_offered.specs.Offered.{HasOffered}
 use Rattle.sms_offered.proofs.AfterOffers.{back_offered, event_offered, first_offered}
 use Rattle.sms_world.proofs.Stops.{centre_stopped_so}
 use Rattle.sms_world.specs.Run.{Run, end}
-use Rattle.sms_world.specs.ScriptRun.{Asked, Cancelled, Event, Handed, IsPlayed, Submitted, Tick_centre, items}
+use Rattle.sms_world.specs.ScriptRun.{Asked, Cancelled, Handed, Submitted, Tick_centre, items}
 use Rattle.sms_world.specs.Sides.{AllOfCentre}
 use Rattle.sms_world.specs.World.{World, empty, with_frames}
 use Rattle.sms_world.specs.WorldStep.{Step}
@@ -64,8 +64,7 @@ leads (Stopped number event handsets sessions) c w sound k s may =
     let m : ℕ = moment_at event c in
     let x = every_event number event c w sound k may.1 may.2 s in
     let y = stops number event m w x.0 may.0 x.1.0.0 x.1.0.1 x.1.1 in
-    let v : World = end w (items m true y.0) in
-    (
+    let v : World = end w (items m true y.0) in (
       v,
       (
         (y.0, (y.1.0, y.1.1, refl, ap (λ (z : World). z.bag) y.1.2)),

@@ -1,11 +1,7 @@
 -- Each event of the centre, as steps.
-use Rattle.std.proofs.Common.{◌≡◌, ℕ, max, List, [], false, refl}
-use Rattle.sms_centre_rules.specs.Draft.{Core}
-use Rattle.sms_centre_rules.specs.declared.event.CentreEvent.{CentreEvent}
+use Rattle.std.proofs.Common.{[], refl}
 use Rattle.sms_centre_rules.specs.declared.event.CentreEvent.TheVariants.{Bound, Cancel, DeliverAnswered, Frame, LinkDown, LinkUp, Query, Submit, Tick, Unbound}
 use Rattle.sms_world.specs.ScriptRun.{Handed}
-use Rattle.sms_world.specs.World.{World}
-use Rattle.sms_centre_sight.specs.CentreLaws.{OffersOnly}
 use Rattle.sms_centre_sight.proofs.Cancelling.{cancel_event}
 use Rattle.sms_centre_sight.proofs.Playing.{offers_follow}
 use Rattle.sms_centre_sight.proofs.QuietEvents.{down_event, up_event}
@@ -14,7 +10,7 @@ use Rattle.sms_centre_sight.proofs.SessionsChange.{unbound_event}
 use Rattle.sms_centre_sight.proofs.Submits.{submit_event}
 use Rattle.sms_centre_sight.proofs.Ticks.{tick_event}
 use Rattle.sms_centre_frames.proofs.FrameEvents.{frame_event}
-use Rattle.sms_centre_course.specs.CourseEvents.{EventLaw, IsEventSteps}
+use Rattle.sms_centre_course.specs.CourseEvents.{EventLaw}
 use Rattle.sms_centre_course.proofs.NoSteps.{answered_still, query_still}
 
 pub every_event : EventLaw

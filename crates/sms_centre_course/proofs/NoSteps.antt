@@ -7,8 +7,8 @@ use Rattle.sms_reports.specs.Receipts.{session_key}
 use Rattle.sms_table.specs.Table.{row_at}
 use Rattle.sms_waiting.specs.Lines.{Air}
 use Rattle.sms_centre_rules.specs.CentreEvent.{happened}
-use Rattle.sms_centre_rules.specs.Draft.{Core, Draft, Store, draft_of}
-use Rattle.sms_centre_rules.specs.Requests.{account_at, queried, query, query_by}
+use Rattle.sms_centre_rules.specs.Draft.{Core, Draft, draft_of}
+use Rattle.sms_centre_rules.specs.Requests.{account_at, queried, query_by}
 use Rattle.sms_centre_rules.specs.SoundCore.{IsSoundCore}
 use Rattle.sms_centre_rules.specs.declared.event.CentreEvent.TheVariants.{DeliverAnswered, Query}
 use Rattle.sms_offered.specs.Offered.{HasOffered}

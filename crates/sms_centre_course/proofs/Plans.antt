@@ -1,11 +1,11 @@
 -- What a plan leads to.
-use Rattle.std.proofs.Common.{◌≡◌, ℕ, Bool, false, List, refl, sym, ap, subst, Result, Ok, Err}
+use Rattle.std.proofs.Common.{◌≡◌, ℕ, Bool, false, sym, subst, Result, Ok, Err}
 use Rattle.std.proofs.lemmas.Bool.{cond_both}
 use Rattle.sms_centre_rules.proofs.EventLaws.{stays_sound}
 use Rattle.sms_centre_rules.proofs.Resting.{adopted_is}
 use Rattle.sms_centre_rules.specs.CentreEvent.{happened}
-use Rattle.sms_centre_rules.specs.Draft.{Core, Draft, core_of, draft_of}
-use Rattle.sms_centre_rules.specs.Planning.{Outcome, adopted, all_answered, outcome_of, planned}
+use Rattle.sms_centre_rules.specs.Draft.{Core, Draft, draft_of}
+use Rattle.sms_centre_rules.specs.Planning.{Outcome, all_answered, outcome_of, planned}
 use Rattle.sms_centre_rules.specs.declared.plan_error.PlanError.{PlanError}
 use Rattle.sms_centre_rules.specs.declared.plan_error.PlanError.TheVariants.{NoBody}
 use Rattle.sms_centre_rules.specs.SoundCore.{IsSoundCore}
@@ -31,8 +31,7 @@ plan_leads answers number event c outcome w planned_so sound k is may s =
     let d : Draft = happened event c in
     let x = every_event number event c w sound k is may s in
     let v : World = end w (items (moment_at event c) false x.0) in
-    subst (λ (o : Outcome). LeadsOn number event c o w) (planned_is answers d outcome planned_so)
-    (
+    subst (λ (o : Outcome). LeadsOn number event c o w) (planned_is answers d outcome planned_so) (
       x.0,
       (
         x.1.0,

@@ -1,3 +1,4 @@
 pub mod CourseEvents
 pub mod PlanLaws
 pub mod Course
+pub mod TruthfulRows

@@ -2,6 +2,7 @@
 ghost use Rattle.sms_centre_course.specs.Course.{CourseLaw, FirstCourseLaw};
 ghost use Rattle.sms_centre_course.specs.CourseEvents.{EventLaw};
 ghost use Rattle.sms_centre_course.specs.PlanLaws.{PlanLaw};
+ghost use Rattle.sms_centre_course.specs.TruthfulRows.{DeliveredLaw, EpisodeLaw, OnceLaw, ToldLaw};
 
 /// Every event of a sound centre that sees the world is steps of it, all of them the centre's own, and the centre sees where they lead.
 pub fn every_event_is_steps()
@@ -19,4 +20,14 @@ pub fn plans_are_steps()
 pub fn a_course_is_steps()
     ensures course { CourseLaw }
     ensures first { FirstCourseLaw }
+{}
+
+/// An episode is a run of the world. And wherever a run led that the centre sees: a receipt or status report is of a message that has
+/// ended, the only one, of the state that its row has; while frames come in time, a message counts as delivered only if its handset
+/// accepted each of its parts exactly once, as it was submitted, and no part was accepted twice.
+pub fn rows_tell_what_was_accepted()
+    ensures runs { EpisodeLaw }
+    ensures told { ToldLaw }
+    ensures delivered { DeliveredLaw }
+    ensures once { OnceLaw }
 {}

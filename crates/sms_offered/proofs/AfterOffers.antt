@@ -1,16 +1,15 @@
 -- Behind the offers no line that is ready has anything due.
-use Rattle.std.proofs.Common.{◌≡◌, ◌⊎◌, ℕ, ◌++◌, List, [], ◌∷◌, Bool, true, false, refl, sym, ◌∙◌, ap, subst, inl, inr, ⊎_elim, Option, Some, None}
+use Rattle.std.proofs.Common.{◌≡◌, ℕ, List, [], ◌∷◌, Bool, true, false, refl, sym, ◌∙◌, ap, subst, inl, ⊎_elim, Option, Some, None}
 use Rattle.std.specs.Prelude.{◌&&◌, not}
-use Rattle.std.proofs.lemmas.Bool.{and_parts, cases_Bool, cond_both, cond-false, cond-true}
+use Rattle.std.proofs.lemmas.Bool.{and_parts, cond_both}
 use Rattle.sms_base.specs.Among.{Among}
-use Rattle.sms_control.specs.ControlGrammar.{spelled}
 use Rattle.sms_control.specs.LinkStep.{Step, begin_step, is_busy}
 use Rattle.sms_control.specs.declared.link_state.LinkState.{LinkState}
 use Rattle.sms_link.specs.LinkTurn.{LinkOf, Turn, begun, of_kind, started as turn_started, still}
 use Rattle.sms_base.specs.declared.carried.Kind.TheVariants.{Data}
 use Rattle.sms_base.specs.declared.holder.Holder.{Holder}
 use Rattle.sms_waiting.proofs.Mentions.{cases_number, number_found}
-use Rattle.sms_waiting.specs.Lines.{Air, is_ready, line_at, line_of, new_line, or_new_line, turn_line, turned}
+use Rattle.sms_waiting.specs.Lines.{Air, is_ready, line_at, line_of, or_new_line, turn_line, turned}
 use Rattle.sms_waiting.specs.References.{handset_at}
 use Rattle.sms_waiting.specs.SoundWaiting.{SoundWaiting}
 use Rattle.sms_waiting.specs.Waiting.{next, waits_beside}
@@ -18,16 +17,14 @@ use Rattle.sms_waiting.specs.declared.handset.HandsetRow.{HandsetRow}
 use Rattle.sms_waiting.specs.declared.line.Line.{Line}
 use Rattle.sms_waiting.specs.declared.load.Load.{Load}
 use Rattle.sms_waiting.specs.declared.reference.ReferenceRow.{ReferenceRow}
-use Rattle.sms_reports.specs.Receipts.{Session}
 use Rattle.sms_centre_rules.proofs.EventLaws.{keeps_apart}
 use Rattle.sms_centre_rules.proofs.SoundAir.{line_of_handset}
 use Rattle.sms_centre_rules.specs.CentreEvent.{aged, at_moment, fired, follow, frame_taken, happened, lines_awaited, lower, raise, raised, tag_of}
 use Rattle.sms_centre_rules.specs.Draft.{Core, Draft, Store, core_of, draft_of, handsets_in, references_in, waiting_in}
 use Rattle.sms_centre_rules.specs.Held.{SoundHeld}
-use Rattle.sms_centre_rules.specs.Offering.{holder_of, offer_all, offer_among, offer_load, offer_on, offer_to, read_of, unit_of}
+use Rattle.sms_centre_rules.specs.Offering.{holder_of, offer_all, offer_among, offer_load, offer_to, read_of, unit_of}
 use Rattle.sms_centre_rules.specs.Requests.{cancel, query, submit}
 use Rattle.sms_centre_rules.specs.Sessions.{bind, deliver_answered, unbind}
-use Rattle.sms_centre_rules.specs.SoundCore.{IsEvent, IsSoundCore}
 use Rattle.sms_centre_rules.specs.declared.event.CentreEvent.{CentreEvent}
 use Rattle.sms_centre_rules.specs.declared.event.CentreEvent.TheVariants.{Submit, Query, Cancel, Bound, Unbound, DeliverAnswered, Frame, LinkUp, LinkDown, Tick}
 use Rattle.sms_offered.specs.Offered.{HasOffered, IsOffered}

@@ -1,5 +1,5 @@
 -- Events that change nothing that waits offer nothing.
-use Rattle.std.proofs.Common.{◌≡◌, ℕ, List, [], ◌∷◌, Bool, true, false, refl, sym, ◌∙◌, ap, subst, inl, inr, ⊎_elim, Option, Some, None}
+use Rattle.std.proofs.Common.{◌≡◌, ℕ, List, [], ◌∷◌, Bool, true, false, refl, sym, ◌∙◌, ap, inl, inr, ⊎_elim, Option, Some, None}
 use Rattle.std.specs.Prelude.{◌==◌, ◌&&◌, not, if◌then◌else◌}
 use Rattle.std.proofs.lemmas.Bool.{cond_both, cond-false, eqb-true, or_cases}
 use Rattle.std.specs.Str.{bytes_eq}
@@ -11,7 +11,7 @@ use Rattle.sms_messages.specs.OpenParts.{parts_waiting}
 use Rattle.sms_messages.specs.SplitReferences.{is_among}
 use Rattle.sms_messages.specs.declared.message.MessageRow.{MessageRow}
 use Rattle.sms_reports.specs.Receipts.{Session, answered_in, receipt_ended, receipt_tried, session_key}
-use Rattle.sms_reports.specs.Reports.{is_receipt, is_status, report_key, report_of, report_reaching, reports_of}
+use Rattle.sms_reports.specs.Reports.{is_receipt, is_status, report_key, report_of, report_reaching}
 use Rattle.sms_reports.specs.Waiting.{report_load, reports_to, with_reports as with_loads}
 use Rattle.sms_reports.specs.declared.report.ReportKind.{ReportKind}
 use Rattle.sms_reports.specs.declared.report.ReportKind.TheVariants.{Receipt, Status, Unsent}
@@ -31,11 +31,11 @@ use Rattle.sms_waiting.specs.declared.progress.Progress.{Progress}
 use Rattle.sms_centre_rules.proofs.SoundAir.{line_of_handset}
 use Rattle.sms_centre_rules.specs.CentreEvent.{follow}
 use Rattle.sms_centre_rules.specs.Draft.{Core, Draft, Store, draft_of, handsets_in, messages_in, priorities_in, parts_in, reports_in, waiting_in, with_reports}
-use Rattle.sms_centre_rules.specs.Offering.{offer_all, offer_among, offer_load, offer_on, offer_to}
+use Rattle.sms_centre_rules.specs.Offering.{offer_all, offer_among, offer_load, offer_to}
 use Rattle.sms_centre_rules.specs.Requests.{account_at, queried, query, query_by}
-use Rattle.sms_centre_rules.specs.Sessions.{answered_by, deliver_answered, receipt_answered}
+use Rattle.sms_centre_rules.specs.Sessions.{answered_by, receipt_answered}
 use Rattle.sms_centre_rules.specs.SoundCore.{IsReceiptRow, IsSoundCore}
-use Rattle.sms_offered.specs.Offered.{HasOffered, IsOffered}
+use Rattle.sms_offered.specs.Offered.{IsOffered}
 use Rattle.sms_offered.specs.OfferedLaws.{AnsweredLaw, QueryLaw}
 
 -- ---- where all was offered, nothing is
@@ -92,12 +92,12 @@ waits_alike handset ms key q (r ∷ rs) loads f =
     let rest = waits_alike handset ms key q rs loads (λ x i e. f x (inr i) e) in
     let more : ReportRow → List Load → List Load = λ x ls. if reports_to handset x (message_at x.id ms) then put load_key (report_load x) ls else ls in
     let head : (ls : List Load) → more (if report_key r == key then report_reaching q r else r) ls ≡ more r ls = λ ls.
-        cond_both (report_key r == key) (report_reaching q r) r (λ (x : ReportRow). more x ls ≡ more r ls)
-        (λ t.
-        let plain : is_status r.kind ≡ false = f r (inl refl) (eqb-true (report_key r) key t) in
-        cond-false (reports_to handset (report_reaching q r) (message_at r.id ms)) (put load_key (report_load (report_reaching q r)) ls) ls (never_waits handset (report_reaching q r) (message_at r.id ms) plain)
-        ∙ sym (cond-false (reports_to handset r (message_at r.id ms)) (put load_key (report_load r) ls) ls (never_waits handset r (message_at r.id ms) plain)))
-        (λ t. refl) in
+    cond_both (report_key r == key) (report_reaching q r) r (λ (x : ReportRow). more x ls ≡ more r ls)
+    (λ t.
+    let plain : is_status r.kind ≡ false = f r (inl refl) (eqb-true (report_key r) key t) in
+    cond-false (reports_to handset (report_reaching q r) (message_at r.id ms)) (put load_key (report_load (report_reaching q r)) ls) ls (never_waits handset (report_reaching q r) (message_at r.id ms) plain)
+    ∙ sym (cond-false (reports_to handset r (message_at r.id ms)) (put load_key (report_load r) ls) ls (never_waits handset r (message_at r.id ms) plain)))
+    (λ t. refl) in
     head (with_loads handset ms (amended report_key report_reaching key q rs) loads) ∙ ap (λ (ls : List Load). more r ls) rest
 
 same_report : (r x : ReportRow) → Some r ≡ Some x → r ≡ x
