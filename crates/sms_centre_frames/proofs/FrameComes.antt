@@ -42,6 +42,7 @@ use Rattle.sms_centre_rules.specs.Receiving.{unit_came}
 use Rattle.sms_centre_rules.specs.SoundCore.{IsLine, IsSentFor, IsUnderWay}
 use Rattle.sms_centre_rules.specs.Submitted.{UnitGives, UpGives}
 use Rattle.sms_centre_rules.specs.Transfers.{conclude}
+use Rattle.sms_offered.proofs.LinesOf.{own_line}
 use Rattle.sms_frame_sight.proofs.Linking.{Awaits, ack_read, data_is, rejection_read, taken_is}
 use Rattle.sms_frame_sight.specs.Between.{CameUp, TellsUp}
 use Rattle.sms_frame_sight.specs.FramesUp.{IsBare}
@@ -53,7 +54,6 @@ use Rattle.sms_centre_frames.specs.Handing.{IsHandedUp}
 use Rattle.sms_centre_frames.specs.Stages.{Answers, Begins}
 use Rattle.sms_centre_frames.proofs.Concluding.{acknowledged, refused}
 use Rattle.sms_centre_frames.proofs.Hearing.{bare_alone, bare_and_again, bare_begins, hears, hears_bare, hears_nothing, with_links}
-use Rattle.sms_centre_frames.proofs.LineOf.{line_with}
 use Rattle.sms_centre_frames.proofs.Stepping.{WasHanded, begins_still, still}
 use Rattle.sms_centre_frames.proofs.UnitsCome.{data_law, data_up, memory_law}
 
@@ -131,7 +131,7 @@ module _ (number : ℕ) (tag : Holder) (d : Draft) (w : World) (sound : SoundSto
       heard_sees = hears_bare w line d w s opened_links (Some (UnitUp FromOriginator unit)) new_line_sees (acknowledgement t) (bare_ack t low)
 
       line_now : line_of line.handset (hears line opening_step d).air.lines ≡ with_links opened_links line.link.under_way line
-      line_now = line_with (with_links opened_links line.link.under_way line) d.air.lines
+      line_now = own_line (with_links opened_links line.link.under_way line) d.air.lines
 
       awaits : Awaits (line_of line.handset (hears line opening_step d).air.lines).link.links opening
       awaits = (ap (λ (x : Line). x.link.links.opened) line_now, refl)

@@ -1,6 +1,5 @@
 pub mod Stepping
 pub mod Hearing
-pub mod LineOf
 pub mod Replying
 pub mod AllDone
 pub mod DoneParts
