@@ -3,15 +3,15 @@ use Rattle.std.proofs.Common.{◌≡◌, ◌+◌, ◌<◌, ℕ, zero, suc, true,
 use Rattle.std.proofs.lemmas.List.{length-map}
 use Rattle.std.specs.declared.alloc.Global.{Global}
 use Rattle.std.specs.Prelude.{Vec}
-use Rattle.sms_hub.specs.declared.keeper.Keeper.{Keeper}
-use Rattle.sms_hub.specs.declared.machine.Item.{Item}
-use Rattle.sms_hub.specs.declared.seat.Seat.{Seat}
-use Rattle.sms_hub.specs.Jobs.{of, has_end}
-use Rattle.sms_hub.specs.History.{answers_in, each_seat, for_seat, jobs_of, work}
-use Rattle.sms_hub.specs.Keeping.{given_by, ran_by, seats_of, IsClosed, IsSameHub}
+use Rattle.sms_keeper.specs.declared.keeper.Keeper.{Keeper}
+use Rattle.sms_keeper.specs.declared.machine.Item.{Item}
+use Rattle.sms_keeper.specs.declared.seat.Seat.{Seat}
+use Rattle.sms_keeper.specs.Jobs.{of, has_end}
+use Rattle.sms_keeper.specs.History.{answers_in, each_seat, for_seat, jobs_of, work}
+use Rattle.sms_keeper.specs.Keeping.{given_by, ran_by, seats_of, IsClosed, IsSameHub}
 use Rattle.sms_hub.specs.Running.{SessionThread, AreAt, jobs_for, lists_of}
-use Rattle.sms_hub.specs.Seating.{IsAll, IsNewKeeper, IsSeatOf, IsUnchanged}
-use Rattle.sms_hub.proofs.Histories.{same_length, seat_kept}
+use Rattle.sms_keeper.specs.Seating.{number_of, IsAll, IsNewKeeper, IsSeatOf, IsUnchanged}
+use Rattle.sms_keeper.proofs.Histories.{same_length, seat_kept}
 
 module _ {A : Type 0} where
   pub each_more : (n m : ℕ) (f : ℕ → A) (l : List A) (x : A) → l ≡ each_seat n f → x ≡ f n → m ≡ suc n → l ++ x ∷ [] ≡ each_seat m f
@@ -39,7 +39,7 @@ module _ {J O : Type 0} where
   unchanged_trans a b c h k = record { hub = (k.hub.0 ∙ h.hub.0, k.hub.1 ∙ h.hub.1); ran = k.ran ∙ h.ran; given = λ s. k.given s ∙ h.given s; last = k.last ∙ h.last }
 
   -- the first of the threads, and the others
-  pub at_first : (k : Keeper J O) (n : ℕ) (t : SessionThread J O) (l rest : List (SessionThread J O)) → l ≡ t ∷ rest → AreAt k n l → IsSeatOf k t.promise.seat.value × (t.promise.seat.value.number ≡ n)
+  pub at_first : (k : Keeper J O) (n : ℕ) (t : SessionThread J O) (l rest : List (SessionThread J O)) → l ≡ t ∷ rest → AreAt k n l → IsSeatOf k t.promise.seat.value × (number_of t.promise.seat.value ≡ n)
   at_first k n t l rest e h = let P : List (SessionThread J O) → Type 0 = λ x. AreAt k n x in let x : AreAt k n (t ∷ rest) = subst P e h in (x.0, x.1)
 
   pub at_next : (k : Keeper J O) (n m : ℕ) (t : SessionThread J O) (l rest : List (SessionThread J O)) → l ≡ t ∷ rest → m ≡ n + 1 → AreAt k n l → AreAt k m rest
@@ -55,7 +55,7 @@ module _ {J O : Type 0} where
   keeper_more a b n m more h e = subst (λ x. IsNewKeeper x b) (ap (λ x. x + 1) h.seats ∙ sym e) (more (subst (λ x. IsNewKeeper x a) (sym h.seats) h))
 
   pub at_more : (a b : Keeper J O) (n : ℕ) (ts : List (SessionThread J O)) (t : SessionThread J O) → ((s : Seat J O) → IsSeatOf a s → IsSeatOf b s)
-      → AreAt a n ts → IsSeatOf b t.promise.seat.value → t.promise.seat.value.number ≡ n + length ts → AreAt b n (ts ++ t ∷ [])
+      → AreAt a n ts → IsSeatOf b t.promise.seat.value → number_of t.promise.seat.value ≡ n + length ts → AreAt b n (ts ++ t ∷ [])
   at_more a b n [] t stays h is at = (is, omega arith, tt)
   at_more a b n (x ∷ xs) t stays h is at = (stays x.promise.seat.value h.0, h.1, at_more a b (n + 1) xs t stays h.2 is (omega arith))
 

@@ -1,11 +1,1 @@
-pub mod Answers
-pub mod Ends
-pub mod Fates
-pub mod Faults
-pub mod FaultCodes
-pub mod History
-pub mod Jobs
-pub mod Keeping
-pub mod OutLists
 pub mod Running
-pub mod Seating

@@ -5,8 +5,8 @@ use Rattle.std.specs.declared.thread.PromisedHandle.{PromisedHandle}
 use Rattle.sms_hub.specs.declared.session.Session.{Session}
 use Rattle.sms_hub.specs.declared.run.threads.SessionOf.{SessionOf}
 use Rattle.sms_hub.specs.declared.run.opened.Opened.{Opened}
-use Rattle.sms_hub.specs.declared.keeper.Keeper.{Keeper}
-use Rattle.sms_hub.specs.Seating.{IsSeatOf, IsNewKeeper}
+use Rattle.sms_keeper.specs.declared.keeper.Keeper.{Keeper}
+use Rattle.sms_keeper.specs.Seating.{number_of, IsSeatOf, IsNewKeeper}
 
 -- what the vectors hold
 abbrev pub lists_of : {A : Type 0} → List (Vec A Global) → List (List A)
@@ -24,7 +24,7 @@ module _ {J O : Type 0} where
   -- the threads are those of the seats from the number n on
   abbrev pub AreAt : Keeper J O → ℕ → List (SessionThread J O) → Type 0
   AreAt keeper n [] = Unit {0}
-  AreAt keeper n (t ∷ ts) = IsSeatOf keeper t.promise.seat.value × (t.promise.seat.value.number ≡ n) × AreAt keeper (n + 1) ts
+  AreAt keeper n (t ∷ ts) = IsSeatOf keeper t.promise.seat.value × (number_of t.promise.seat.value ≡ n) × AreAt keeper (n + 1) ts
 
   -- a keeper that has done nothing, with the threads of its seats
   pub record IsOpened (opened : Opened J O) : Type 0 where

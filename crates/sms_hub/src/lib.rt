@@ -1,28 +1,15 @@
-//! Sessions, links and the one keeper of the centre as threads that share queues alone.
+//! Runs of a hub: lists of jobs, each put by a session in a thread of its own, and one keeper that runs them.
 //!
-//! Up to 32 seats put jobs into one queue and take their answers from queues of their own; the keeper owns the
-//! machine and asks it one job after another, and a tick where its clock shows a later moment. What it ran is one
-//! history: each item's outs are what the machine's definition gives after the items before it, each seat's jobs
-//! stand in it in order, each once, and what a seat took is the beginning of its outs there.
-//! No lock stands round the machine, and a put never waits: where the queue is full the job comes back. The keeper waits
-//! for a seat that takes no answers. That a thread gets on is promised nowhere.
+//! `many_sessions` runs up to 32 lists, `two_sessions` two. With an answer each list was run whole and in order, and
+//! nothing else, in one history of the machine, and the answers of each session are its outs there. What a hub is, its queues,
+//! its seats and its keeper, is `sms_keeper`'s, whose calls are given on.
 #![tactic(auto)]
 
-mod answers;
-mod hub;
-mod hub_fault;
-mod jobs;
-mod keeper;
-mod machine;
-mod outs;
 mod run;
-mod seat;
 mod session;
 
-pub use hub::Hub;
-pub use hub_fault::HubFault;
-pub use keeper::{End, Keeper, Term};
-pub use machine::{Broken, Clock, Fate, Gate, Item, Machine, Step, Stimulus};
-pub use outs::{Out, Outs};
 pub use run::{ManyRun, Run, many_sessions, two_sessions};
-pub use seat::Seat;
+pub use sms_keeper::{
+    Broken, Clock, End, Fate, Gate, Hub, HubFault, Item, Keeper, Machine, Out, Outs, Seat, Step,
+    Stimulus, Term,
+};

@@ -1,9 +1,8 @@
 //! Runs of given lists of jobs, each session in a thread of its own.
-use crate::machine::Item;
+use sms_keeper::Item;
 
 mod many;
 mod opened;
-mod terms;
 mod threads;
 mod two;
 

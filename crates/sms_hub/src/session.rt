@@ -1,8 +1,8 @@
 //! A session of a given list of jobs.
 ghost use Rattle.std.specs.Prelude.{◌≡◌, false};
-ghost use Rattle.crossbeam_queue.specs.Passes.{view};
+ghost use Rattle.sms_keeper.specs.Seating.{taken_by};
 
-use crate::seat::Seat;
+use sms_keeper::Seat;
 
 pub(crate) mod steps;
 
@@ -13,5 +13,5 @@ pub(crate) struct Session<J, O> {
     pub(crate) answers: Vec<O>,
     // Memory ran out, and an answer was lost.
     pub(crate) short: bool,
-    ghost kept: { short ≡ false → answers.items ≡ (view seat.taker).taken },
+    ghost kept: { short ≡ false → answers.items ≡ taken_by seat },
 }

@@ -1,10 +1,10 @@
 -- The machine that adds up the jobs.
 use Rattle.std.specs.Prelude.{ℕ, ◌+◌, ◌%◌, ◌^◌, ◌==◌, if◌then◌else◌, List, [], ◌∷◌}
-use Rattle.sms_hub.specs.declared.machine.Stimulus.{Stimulus}
-use Rattle.sms_hub.specs.declared.machine.Stimulus.TheVariants.{Job, Tick}
-use Rattle.sms_hub.specs.declared.machine.Fate.{Fate}
-use Rattle.sms_hub.specs.declared.machine.Fate.TheVariants.{Done, NoMemory, Refused}
-use Rattle.sms_hub.specs.declared.outs.Out.{Out}
+use Rattle.sms_keeper.specs.declared.machine.Stimulus.{Stimulus}
+use Rattle.sms_keeper.specs.declared.machine.Stimulus.TheVariants.{Job, Tick}
+use Rattle.sms_keeper.specs.declared.machine.Fate.{Fate}
+use Rattle.sms_keeper.specs.declared.machine.Fate.TheVariants.{Done, NoMemory, Refused}
+use Rattle.sms_keeper.specs.declared.outs.Out.{Out}
 use Rattle.tests_hub.specs.declared.counter.Reply.{Reply}
 use Rattle.tests_hub.specs.declared.counter.Reply.TheVariants.{Sum, Failed}
 

@@ -45,8 +45,8 @@ impl Counter {
 
 impl Counter {
     ghost use Rattle.std.specs.Prelude.{◌≡◌, ◌+◌, ◌%◌, ◌^◌};
-    ghost use Rattle.sms_hub.specs.declared.machine.Stimulus.TheVariants.{Job};
-    ghost use Rattle.sms_hub.specs.Fates.{MatchFate};
+    ghost use Rattle.sms_keeper.specs.declared.machine.Stimulus.TheVariants.{Job};
+    ghost use Rattle.sms_keeper.specs.Fates.{MatchFate};
     ghost use Rattle.tests_hub.specs.Counting.{sum_after, sums_given};
 
     // Adds a job up, or refuses it.

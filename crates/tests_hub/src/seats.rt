@@ -1,7 +1,7 @@
 //! Seats and the keeper in one thread, and beside a keeper that is held or has many jobs.
 ghost use Rattle.std.specs.Prelude.{◌≡◌, [], false};
-ghost use Rattle.sms_hub.specs.Jobs.{has_end};
-ghost use Rattle.sms_hub.specs.Seating.{put_by, IsSeatOf};
+ghost use Rattle.sms_keeper.specs.Jobs.{has_end};
+ghost use Rattle.sms_keeper.specs.Seating.{put_by, IsSeatOf};
 
 use crate::counter::{Counter, Open, Reply, Still};
 use crate::gates::Held;

@@ -1,19 +1,16 @@
 //! A run of up to 32 sessions.
 ghost use Rattle.std.specs.Prelude.{◌≡◌, ◌++◌, ◌∷◌, ◌≤◌, ℕ, Option, None, [], ⊤, true, length, IfOk, IfErr, IfSome, OnOk};
-ghost use Rattle.sms_hub.specs.Faults.{IsTooMany, MatchFault};
-ghost use Rattle.sms_hub.specs.History.{IsHistory, IsRising, answers_in, each_seat, for_seat, jobs_of, work};
-ghost use Rattle.sms_hub.specs.Jobs.{of, has_end};
-ghost use Rattle.sms_hub.specs.Keeping.{given_by, ran_by, seats_of, IsClosed};
+ghost use Rattle.sms_keeper.specs.Faults.{IsTooMany, MatchFault};
+ghost use Rattle.sms_keeper.specs.History.{IsHistory, IsRising, answers_in, each_seat, for_seat, jobs_of, work};
+ghost use Rattle.sms_keeper.specs.Jobs.{of, has_end};
+ghost use Rattle.sms_keeper.specs.Keeping.{given_by, ran_by, seats_of, IsClosed};
 ghost use Rattle.sms_hub.specs.Running.{AreAt, IsOpened, jobs_for, lists_of};
-ghost use Rattle.sms_hub.specs.Seating.{number_of, IsAll, IsSeatOf, IsUnchanged};
+ghost use Rattle.sms_keeper.specs.Seating.{number_of, IsAll, IsSeatOf, IsUnchanged};
 
 use super::ManyRun;
 use super::opened::Opened;
-use super::terms::run_terms;
 use super::threads::{SessionThread, settle, start};
-use crate::hub_fault::HubFault;
-use crate::keeper::Keeper;
-use crate::machine::{Clock, Gate, Item, Machine};
+use sms_keeper::{Clock, Gate, HubFault, Item, Keeper, Machine, run_terms};
 use std::alloc::{AllocError, Global};
 use std::sync::atomic::{AtomicBool, Ordering};
 use std::sync::{Arc, Wait};

@@ -1,6 +1,6 @@
 //! A hub with the threads of its sessions.
 use super::threads::SessionThread;
-use crate::keeper::Keeper;
+use sms_keeper::Keeper;
 use std::alloc::Global;
 use std::sync::Arc;
 use std::sync::atomic::AtomicBool;

@@ -1,10 +1,10 @@
 //! What a session does.
 ghost use Rattle.std.specs.Prelude.{◌≡◌, ◌++◌, [], ◌∷◌, Some, None, false, true, map, MatchBool};
-ghost use Rattle.sms_hub.specs.Jobs.{has_end};
-ghost use Rattle.sms_hub.specs.Seating.{put_by, taken_by, IsSameSeat};
+ghost use Rattle.sms_keeper.specs.Jobs.{has_end};
+ghost use Rattle.sms_keeper.specs.Seating.{put_by, taken_by, IsSameSeat};
 
 use super::Session;
-use crate::seat::Seat;
+use sms_keeper::Seat;
 use std::alloc::Global;
 use std::sync::Wait;
 use std::sync::atomic::{AtomicBool, Ordering};

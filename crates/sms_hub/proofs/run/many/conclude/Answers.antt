@@ -1,6 +1,6 @@
 use Rattle.std.proofs.Common.{◌∙◌, length, sym, arith}
 use Rattle.sms_hub.specs.Running.{jobs_for}
-use Rattle.sms_hub.proofs.Wholes.{none_ran}
+use Rattle.sms_keeper.proofs.Wholes.{none_ran}
 use Rattle.sms_hub.proofs.Sessions.{at_kept, seats_kept, closed_kept, jobs_told, answers_told}
 use Rattle.sms_hub.proofs.run.many.conclude.Goals as goal
 

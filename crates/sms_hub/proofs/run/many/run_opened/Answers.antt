@@ -1,5 +1,5 @@
 use Rattle.std.proofs.Common.{◌∙◌, length, sym}
-use Rattle.sms_hub.proofs.Wholes.{all_did}
+use Rattle.sms_keeper.proofs.Wholes.{all_did}
 use Rattle.sms_hub.proofs.Sessions.{at_kept, seats_kept}
 use Rattle.sms_hub.proofs.run.many.run_opened.Goals as goal
 

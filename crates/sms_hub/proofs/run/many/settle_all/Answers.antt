@@ -1,10 +1,11 @@
 use Rattle.std.proofs.Common.{◌≡◌, [], ◌∷◌, ◌∙◌, List, true≢false, ◌++◌, refl, length, sym, ap, subst, zero-add, arith}
 use Rattle.std.specs.Vec.Iter.{into_iter_items}
-use Rattle.sms_hub.specs.History.{each_seat, for_seat, work}
-use Rattle.sms_hub.specs.Keeping.{given_by, ran_by}
+use Rattle.sms_keeper.specs.History.{each_seat, for_seat, work}
+use Rattle.sms_keeper.specs.Keeping.{given_by, ran_by}
+use Rattle.sms_keeper.specs.Seating.{number_of}
 use Rattle.sms_hub.specs.Running.{SessionThread, AreAt, jobs_for, lists_of}
-use Rattle.sms_hub.proofs.Histories.{seat_kept}
-use Rattle.sms_hub.proofs.Places.{length_nil, length_snoc}
+use Rattle.sms_keeper.proofs.Histories.{seat_kept}
+use Rattle.sms_keeper.proofs.Places.{length_nil, length_snoc}
 use Rattle.sms_hub.proofs.Sessions.{each_more, each_next, each_last, unchanged_same, unchanged_trans, at_first, at_next, jobs_next}
 use Rattle.sms_hub.proofs.run.many.settle_all.Goals as goal
 
@@ -38,9 +39,9 @@ loop-thread-preserved g c = let l = c.loop-thread.invariant in let k = c.args.ke
       keeper = unchanged_trans k c.loop-thread.keeper c.settle_next.new.keeper l.keeper h.keeper;
       ready = at_next k n _ t _ _ c.in-Some.ensures.steps.0 more l.ready;
       count = (let e = l.count in omega arith);
-      answers = λ whole. h.answers done ∙ each_more n (length (c.loop-thread.yielded ++ t ∷ [])) (given_by k) (lists_of c.loop-thread.all.items) _ (l.answers whole) (l.keeper.given t.promise.seat.value.number ∙ ap (given_by k) first.1) (omega arith);
+      answers = λ whole. h.answers done ∙ each_more n (length (c.loop-thread.yielded ++ t ∷ [])) (given_by k) (lists_of c.loop-thread.all.items) _ (l.answers whole) (l.keeper.given (number_of t.promise.seat.value) ∙ ap (given_by k) first.1) (omega arith);
       jobs = λ whole. each_next n (length (c.loop-thread.yielded ++ t ∷ [])) (λ m. for_seat m (work (ran_by k))) t.promise.jobs.value.items _ _ (omega arith)
-          (jobs_next k c.loop-thread.keeper n t.promise.seat.value.number t.promise.jobs.value.items l.keeper first.1 c.requires.closed (let e = l.count in let f = c.requires.count in omega arith) (h.jobs done))
+          (jobs_next k c.loop-thread.keeper n (number_of t.promise.seat.value) t.promise.jobs.value.items l.keeper first.1 c.requires.closed (let e = l.count in let f = c.requires.count in omega arith) (h.jobs done))
           (ap (λ r. each_seat n (λ m. for_seat m (work (ran_by k))) ++ jobs_for r) (sym c.in-Some.ensures.steps.0) ∙ l.jobs whole);
     }
 

@@ -1,9 +1,9 @@
 use Rattle.std.proofs.Common.{◌≡◌, ◌++◌, ◌+◌, length, true}
 use Rattle.std.specs.Vec.Iter.{into_iter_items}
-use Rattle.sms_hub.specs.History.{each_seat, for_seat, work}
-use Rattle.sms_hub.specs.Keeping.{given_by, ran_by}
+use Rattle.sms_keeper.specs.History.{each_seat, for_seat, work}
+use Rattle.sms_keeper.specs.Keeping.{given_by, ran_by}
 use Rattle.sms_hub.specs.Running.{AreAt, jobs_for, lists_of}
-use Rattle.sms_hub.specs.Seating.{IsUnchanged}
+use Rattle.sms_keeper.specs.Seating.{IsUnchanged}
 use Rattle.sms_hub.proofs.run.many.settle_all.Given as goal
 
 abbrev pub invariant-loop-thread : goal.invariant-loop-thread

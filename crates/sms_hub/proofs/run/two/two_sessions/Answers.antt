@@ -1,5 +1,5 @@
 use Rattle.std.proofs.Common.{length, ap, arith}
-use Rattle.sms_hub.specs.History.{answers_in}
+use Rattle.sms_keeper.specs.History.{answers_in}
 use Rattle.sms_hub.proofs.Sessions.{answer_count}
 use Rattle.sms_hub.proofs.run.two.two_sessions.Goals as goal
 

@@ -1,0 +1,13 @@
+use Rattle.std.proofs.Common.{rules, ◌∙◌, sym, refl, subst}
+use Rattle.sms_keeper.specs.Keeping.{Gave}
+use Rattle.sms_keeper.proofs.keeper.Keeper.handle.Goals as goal
+
+pub returns-clause-item : goal.returns-clause-item
+returns-clause-item g c = let s = c.step-fate in (
+  record { stimulus = c.args.stimulus; fate = s.result.fate; outs = s.result.to_history },
+  search rules,
+  refl,
+  refl,
+  s.ensures.history,
+  subst (λ o. Gave c.args.self.now.lines.items c.give_outs.new.lines.items o) (s.ensures.seats ∙ sym s.ensures.history) c.give_outs.ensures.given,
+)

@@ -1,0 +1,10 @@
+pub mod Answers
+pub mod Ends
+pub mod Fates
+pub mod Faults
+pub mod FaultCodes
+pub mod History
+pub mod Jobs
+pub mod Keeping
+pub mod OutLists
+pub mod Seating

@@ -1,0 +1,208 @@
+//! What the keeper does, turn by turn.
+ghost use Rattle.std.specs.Prelude.{◌≡◌, ◌<◌, ◌≤◌, ℕ, true, IsTrue, List, [], ◌∷◌, ◌++◌, MatchOption, length, vec_len, vec_capacity};
+ghost use Rattle.sms_keeper.specs.declared.machine.Item.{Item};
+ghost use Rattle.sms_keeper.specs.declared.keeper.End.TheVariants.{AllClosed, Full};
+ghost use Rattle.sms_keeper.specs.Ends.{MatchEnd};
+ghost use Rattle.sms_keeper.specs.Fates.{MatchFate, EndsRefused, WentOn};
+ghost use Rattle.sms_keeper.specs.History.{asked, IsLater};
+ghost use Rattle.sms_keeper.specs.Keeping.{Gave, ran_by, IsClosed, IsSameHub, IsStretch, IsTurn};
+
+use super::giving::give_outs;
+use super::{End, Keeper, Term};
+use crate::jobs::{Letter, next};
+use crate::machine::{Clock, Fate, Gate, Item, Machine, Step, Stimulus};
+use sms_base::Moment;
+use std::alloc::Global;
+use std::sync::Wait;
+use std::time::Duration;
+
+// What a turn of the keeper did. Where nothing was asked, its fate is Done.
+#[derive(Drop)]
+struct Turn {
+    jobs: u32,
+    fate: Fate,
+}
+
+impl<J: Drop, O: Drop> Keeper<J, O> {
+    // Takes the next job or end mark.
+    fn pop<R: Wait>(&mut self, rt: &R) -> Option<Letter<J>>
+        ensures same { IsSameHub self.old self.new × (self.new.last ≡ self.old.last) }
+        ensures lines { self.new.lines ≡ self.old.lines }
+        ensures ran { MatchOption result (ran_by self.new ≡ ran_by self.old) (λ x. ran_by self.new ≡ ran_by self.old ++ x ∷ []) }
+    {
+        let letter = next(rt, &self.jobs, &mut self.pass)?;
+        if letter.job.is_none() && letter.seat < self.closed.len() {
+            self.closed[letter.seat] = true;
+        }
+        Some(letter)
+    }
+
+    // Asks the machine, gives each seat its answers, and writes the item down.
+    fn handle<R: Wait, M: Machine<J, O>, G: Gate>(
+        &mut self,
+        rt: &R,
+        machine: &mut M,
+        gate: &G,
+        history: &mut Vec<Item<J, O>>,
+        stimulus: Stimulus<J>,
+    ) -> Fate
+        requires room { vec_len history.old < vec_capacity history.old }
+        ensures same { IsSameHub self.old self.new × (self.new.last ≡ self.old.last) }
+        ensures ran { ran_by self.new ≡ ran_by self.old }
+        ensures after { MatchFate result
+            (M.state machine.new ≡ M.after (M.state machine.old) stimulus result)
+            (M.resumes machine.new ≡ M.after (M.state machine.old) stimulus result) }
+        ensures item { (e : Item J O) × (history.new.items ≡ history.old.items ++ e ∷ []) × (e.stimulus ≡ stimulus) × (e.fate ≡ result)
+            × (e.outs ≡ M.gives (M.state machine.old) stimulus result) × Gave self.old.lines.items self.new.lines.items e.outs }
+    {
+        let Step {
+            fate,
+            to_seats,
+            to_history,
+        } = machine.step(gate, &stimulus);
+        give_outs(rt, &mut self.lines, to_seats);
+        history.push_reserved(Item {
+            stimulus,
+            fate,
+            outs: to_history,
+        });
+        fate
+    }
+
+    // Runs the next job, notes an end mark, or waits a little for either.
+    fn serve<R: Wait, M: Machine<J, O>, G: Gate, C: Clock>(
+        &mut self,
+        rt: &R,
+        machine: &mut M,
+        gate: &G,
+        clock: &C,
+        history: &mut Vec<Item<J, O>>,
+    ) -> Turn
+        requires room { vec_len history.old < vec_capacity history.old }
+        ensures { IsTurn M.gives M.after (C.shows clock.now) self.old (M.state machine.old) history.old.items
+            self.new (M.state machine.new) (M.resumes machine.new) history.new.items result.jobs result.fate }
+    {
+        match self.pop(rt) {
+            Some(letter) => {
+                let Letter { seat, job } = letter;
+                match job {
+                    Some(job) => {
+                        let stimulus = Stimulus::Job(seat, job);
+                        let fate = self.handle(rt, machine, gate, history, stimulus);
+                        Turn { jobs: 1, fate }
+                    }
+                    None => Turn {
+                        jobs: 0,
+                        fate: Fate::Done,
+                    },
+                }
+            }
+            None => {
+                self.bell.park_timeout(rt, Duration::from_millis(20));
+                Turn {
+                    jobs: 0,
+                    fate: Fate::Done,
+                }
+            }
+        }
+    }
+
+    // Whether a moment is later than the last tick.
+    fn is_due(&self, now: Moment) -> bool
+        ensures { IsTrue result → IsLater self.now.last now }
+    {
+        match self.last {
+            Some(last) => last.seconds() < now.seconds(),
+            None => true,
+        }
+    }
+
+    // A tick where the clock shows a later moment than the last one, and otherwise what the queue has. A tick comes
+    // before the jobs that wait, so that time goes on however many come.
+    fn turn<R: Wait, M: Machine<J, O>, G: Gate, C: Clock>(
+        &mut self,
+        rt: &R,
+        machine: &mut M,
+        gate: &G,
+        clock: &C,
+        history: &mut Vec<Item<J, O>>,
+    ) -> Turn
+        requires room { vec_len history.old < vec_capacity history.old }
+        ensures { IsTurn M.gives M.after (C.shows clock.now) self.old (M.state machine.old) history.old.items
+            self.new (M.state machine.new) (M.resumes machine.new) history.new.items result.jobs result.fate }
+    {
+        let now = clock.now();
+        if self.is_due(now) {
+            let fate = self.handle(rt, machine, gate, history, Stimulus::Tick(now));
+            self.last = Some(now);
+            return Turn { jobs: 0, fate };
+        }
+        self.serve(rt, machine, gate, clock, history)
+    }
+
+    // Whether all end marks were popped.
+    fn all_closed(&self) -> bool
+        ensures { IsTrue result → IsClosed self.now }
+    {
+        for at in 0..self.closed.len() {
+            if !self.closed[at] {
+                return false;
+            }
+        }
+        true
+    }
+
+    /// Runs a term: the jobs of the seats in the order in which they are popped, and a tick where the clock shows a
+    /// later moment than the last one. It waits where there is nothing to do, and where a seat takes no answers.
+    pub fn run<R: Wait, M: Machine<J, O>, G: Gate, C: Clock>(
+        &mut self,
+        rt: &R,
+        alloc: Global,
+        machine: &mut M,
+        gate: &G,
+        clock: &C,
+    ) -> Term<J, O>
+        // One history, which leads to what the machine is, or once a step was refused is to be.
+        ensures history { MatchEnd result.end
+            (IsStretch M.gives M.after (C.shows clock.now) self.old (M.state machine.old) result.history.items self.new (M.state machine.new))
+            (IsStretch M.gives M.after (C.shows clock.now) self.old (M.state machine.old) result.history.items self.new (M.resumes machine.new)) }
+
+        // The end is told as it was.
+        ensures refused { MatchEnd result.end (WentOn result.history.items) (EndsRefused result.history.items) }
+        ensures closed { result.end ≡ AllClosed → IsClosed self.new }
+        ensures full { result.end ≡ Full → length (asked result.history.items) ≡ 65536 }
+        ensures most { length (asked result.history.items) ≤ 65536 }
+    {
+        let mut history = Vec::new(alloc);
+        let mut jobs = 0u32;
+        for _ in rt.forever() {
+            if self.all_closed() {
+                return Term {
+                    history,
+                    end: End::AllClosed,
+                };
+            }
+            if jobs == 65536 {
+                return Term {
+                    history,
+                    end: End::Full,
+                };
+            }
+            if history.reserve(1).is_err() {
+                return Term {
+                    history,
+                    end: End::Short,
+                };
+            }
+            let turn = self.turn(rt, machine, gate, clock, &mut history);
+            jobs += turn.jobs;
+            if let Fate::Refused = turn.fate {
+                return Term {
+                    history,
+                    end: End::Refused,
+                };
+            }
+        }
+        unreachable!()
+    }
+}

@@ -1,0 +1,97 @@
+//! What a seat does.
+ghost use Rattle.std.specs.Prelude.{◌≡◌, [], ◌∷◌, ◌++◌, Some, None, false, MatchBool, MatchResult, MatchOption};
+ghost use Rattle.crossbeam_queue.specs.Fifo.{Held};
+ghost use Rattle.sms_keeper.specs.Jobs.{of, EndsWith, has_end};
+ghost use Rattle.sms_keeper.specs.Seating.{number_of, put_by, taken_by, slots_of, IsSameSeat};
+
+use super::Seat;
+use crate::answers::take;
+use crate::jobs::{Letter, put};
+use std::sync::Wait;
+use std::thread::Parker;
+use std::time::Duration;
+
+impl<J: Drop, O: Drop> Seat<J, O> {
+    /// The number of the seat, from 0.
+    pub fn number(&self) -> usize
+        ensures { result ≡ number_of self.now }
+    {
+        self.number
+    }
+
+    /// Puts a job, or hands it back where the queue was full at one moment of the call.
+    pub fn put<R: Wait>(&mut self, rt: &R, job: J) -> Result<(), J>
+        requires open { has_end (put_by self.old) ≡ false }
+        ensures seat { IsSameSeat self.old self.new }
+        ensures taken { taken_by self.new ≡ taken_by self.old }
+        ensures open { has_end (put_by self.new) ≡ false }
+        ensures put { MatchResult result
+            (λ _. put_by self.new ≡ put_by self.old ++ Some job ∷ [])
+            (λ back. (back ≡ job) × (put_by self.new ≡ put_by self.old) × Held (slots_of self.old) (λ items. EndsWith (put_by self.old) (of (number_of self.old) items))) }
+    {
+        let letter = Letter {
+            seat: self.number,
+            job: Some(job),
+        };
+        match put(rt, &self.jobs, &mut self.pass, letter) {
+            Ok(()) => {
+                self.keeper.unpark();
+                Ok(())
+            }
+            Err(back) => {
+                let Letter { seat: _, job } = back;
+                match job {
+                    Some(job) => Err(job),
+                    None => unreachable!(),
+                }
+            }
+        }
+    }
+
+    /// Puts the end mark, after which nothing is put, and says whether there was room for it.
+    pub fn try_close<R: Wait>(&mut self, rt: &R) -> bool
+        requires open { has_end (put_by self.old) ≡ false }
+        ensures seat { IsSameSeat self.old self.new }
+        ensures taken { taken_by self.new ≡ taken_by self.old }
+        ensures put { MatchBool result (put_by self.new ≡ put_by self.old ++ None ∷ []) (put_by self.new ≡ put_by self.old) }
+    {
+        let mark = Letter {
+            seat: self.number,
+            job: None,
+        };
+        let closed = put(rt, &self.jobs, &mut self.pass, mark).is_ok();
+        self.keeper.unpark();
+        closed
+    }
+
+    /// Puts the end mark, and waits while the queue is full. Where the keeper may be waiting for this seat to take its
+    /// answers, call `try_close` and `take_answer` in turn instead.
+    pub fn close<R: Wait>(&mut self, rt: &R)
+        requires open { has_end (put_by self.old) ≡ false }
+        ensures seat { IsSameSeat self.old self.new }
+        ensures taken { taken_by self.new ≡ taken_by self.old }
+        ensures put { put_by self.new ≡ put_by self.old ++ None ∷ [] }
+    {
+        for _ in rt.forever() {
+            if self.try_close(rt) {
+                return;
+            }
+            Parker::new().park_timeout(rt, Duration::from_millis(1));
+        }
+        unreachable!()
+    }
+
+    /// Takes an answer. None only where the queue was empty at one moment of the call.
+    pub fn take_answer<R: Wait>(&mut self, rt: &R) -> Option<O>
+        ensures seat { IsSameSeat self.old self.new }
+        ensures put { put_by self.new ≡ put_by self.old }
+        ensures taken { MatchOption result (taken_by self.new ≡ taken_by self.old) (λ x. taken_by self.new ≡ taken_by self.old ++ x ∷ []) }
+    {
+        take(rt, &self.answers, &mut self.taker)
+    }
+
+    /// Sleeps until the keeper gives an answer, at most so long. It may return early.
+    pub fn wait<R: Wait>(&self, rt: &R, at_most: Duration) {
+        self.bell.park_timeout(rt, at_most);
+    }
+}
