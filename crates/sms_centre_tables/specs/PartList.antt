@@ -1,26 +1,28 @@
 -- The parts of messages.
-use Rattle.std.specs.Prelude.{◌≡◌, ℕ, ◌<◌, ◌+◌, ◌/◌, ◌%◌, ◌==◌, ◌&&◌, ℤ, pos, Bool, true, false, ⊤, Option, Some, None, List, [], ◌∷◌, length, codes, encode_utf8_all, refl}
+use Rattle.std.specs.Prelude.{◌≡◌, ℕ, ◌<◌, ◌+◌, ◌++◌, ◌/◌, ◌%◌, ◌==◌, ◌&&◌, ℤ, pos, Bool, true, false, ⊤, Option, Some, None, List, [], ◌∷◌, length, codes, encode_utf8_all, refl}
 use Rattle.std.proofs.Common.{ap, ap₂, ◌∙◌, sym}
 use Rattle.std.specs.List.{list_all}
 use Rattle.std.specs.Str.{all_scalars}
 use Rattle.sqlite.specs.declared.types.Value.TheVariants.{Null, Int, Text, Blob}
 use Rattle.sqlite.specs.Order.{Row}
 use Rattle.sqlite_value.specs.Order.{column}
-use Rattle.sqlite.specs.Term.{holds}
+use Rattle.sqlite.specs.Term.{Term, col, holds}
 use Rattle.sqlite.specs.Source.TheVariants.{Values}
-use Rattle.sqlite.specs.Command.TheVariants.{Insert, Delete, Select}
+use Rattle.sqlite.specs.Command.TheVariants.{Insert, Update, Delete, Select}
 use Rattle.sqlite.specs.Listing.{understood, reads_listing}
 use Rattle.sqlite.proofs.Callers.{IsPlain, command_of}
 use Rattle.sqlite_rules.specs.Cast.{cast_row}
 use Rattle.sqlite_tied.specs.Compute.{everything}
 use Rattle.sms_listing.specs.Columns.{number, number_in, octets_in, text_in, characters_in, if_given, flag, flag_in, or_none}
 use Rattle.sms_listing.specs.Finding.{rows_where, FindsOne}
-use Rattle.sms_listing.specs.Listing.{TableOf, ListOf, IsList, table_of, rowids_where, whole_table, row_of, columns_of, equals}
+use Rattle.sms_listing.specs.Listing.{TableOf, ListOf, IsList, table_of, rowids_where, whole_table, row_of, given_from, columns_of, equals}
 use Rattle.sms_listing.proofs.Columns.{same_number, one_found, pair_found, and_true, cast_null, cast_int, cast_row_same, cast_flag, cast_optional, flag_back, characters_back, given_back}
 use Rattle.sms_centre_tables.specs.CentreSchema.{centre_schema, part_columns}
 use Rattle.sms_centre_tables.specs.Types.{PartRow, ConcatKey, Progress}
 use Rattle.sms_table.specs.Keys.{pair_key}
-use Rattle.sms_centre_tables.specs.Pieces.{reference_bits, reference_number, key_in, key_back, progress_in, progress_back}
+use Rattle.sms_centre_tables.specs.Pieces.{reference_bits, reference_number, key_in, key_back, progress_in, progress_back, progress_columns}
+use Rattle.sms_amending.specs.Amending.{AmendsOne}
+use Rattle.sms_messages.specs.Messages.{part_reaching}
 
 abbrev pub part_table : TableOf
 part_table = record {
@@ -112,3 +114,23 @@ finding = (refl, (refl, refl), refl)
 
 pub part_is_found : FindsOne part_list find_part
 part_is_found = record { selects = finding.0; alone = finding.1; is_no_listing = finding.2; read = λ params id x. refl }
+
+-- ---- how far it is
+
+abbrev pub amend_part : List ℕ
+amend_part = codes "UPDATE part SET is_done = ?3, attempts = ?4, due = ?5 WHERE message = ?1 AND number = ?2"
+
+-- its other columns stay
+abbrev pub part_amended : List Term
+part_amended = columns_of 8 ++ given_from 2 3
+
+amending : (command_of (understood centre_schema amend_part) ≡ Update 2 (record { lets = []; body = rows_where 4 part_table.tests (col 1 0 ∷ col 1 0 ∷ part_amended) })) × IsPlain (understood centre_schema amend_part)
+unfolding understood everything
+amending = (refl, (refl, refl))
+
+amend_finds : (n : ℕ) (q : Progress) (id : ℤ) (x : PartRow) → part_list.Fits x → list_all (holds ((part_list.key_columns n ++ progress_columns q) ∷ (Int id ∷ part_list.columns x) ∷ [])) part_table.tests ≡ (part_list.key x == n)
+amend_finds n q id x fits =
+    ap₂ (λ a b. a && (b && true)) (same_number x.id (n / 256)) (same_number x.number (n % 256)) ∙ ap (λ b. (x.id == n / 256) && b) (and_true _) ∙ pair_found x.id x.number n fits
+
+pub part_amends : AmendsOne part_list amend_part part_reaching progress_columns part_amended
+part_amends = record { updates = amending.0; alone = amending.1; finds = amend_finds; shows = λ n q id x. refl; same_key = λ q x. refl; still_fits = λ q x fits. fits }

@@ -1,5 +1,6 @@
 -- What stands in the store in several columns, or as a word.
-use Rattle.std.specs.Prelude.{◌≡◌, ℕ, true, nat_eq, if◌then◌else◌, List, codes, Option, Some, None, refl}
+use Rattle.std.specs.Prelude.{◌≡◌, ℕ, true, nat_eq, if◌then◌else◌, List, [], ◌∷◌, codes, Option, Some, None, refl}
+use Rattle.sqlite.specs.Order.{Row}
 use Rattle.sqlite.specs.declared.types.Value.{Value}
 use Rattle.sqlite.specs.declared.types.Value.TheVariants.{Null, Int, Blob}
 use Rattle.sqlite.specs.Cast.{cast}
@@ -44,6 +45,9 @@ progress_in done attempts due = record { is_done = flag_in done; attempts = numb
 
 pub progress_back : (p : Progress) → progress_in (flag p.is_done) (number p.attempts) (number p.due) ≡ p
 progress_back p = let f = flag_back p.is_done in λ i. record { is_done = f i; attempts = p.attempts; due = p.due }
+
+abbrev pub progress_columns : Progress → Row
+progress_columns p = flag p.is_done ∷ number p.attempts ∷ number p.due ∷ []
 
 -- ---- who submitted a message
 

@@ -1,25 +1,28 @@
 -- Receipts and status reports, in the order in which they were made.
-use Rattle.std.specs.Prelude.{◌≡◌, ℕ, ◌<◌, ◌+◌, ◌/◌, ◌%◌, ◌==◌, ◌&&◌, ℤ, pos, Bool, true, false, ⊤, Option, Some, None, List, [], ◌∷◌, length, codes, encode_utf8_all, refl}
+use Rattle.std.specs.Prelude.{◌≡◌, ℕ, ◌<◌, ◌+◌, ◌++◌, ◌/◌, ◌%◌, ◌==◌, ◌&&◌, ℤ, pos, Bool, true, false, ⊤, Option, Some, None, List, [], ◌∷◌, length, codes, encode_utf8_all, refl}
 use Rattle.std.proofs.Common.{ap, ap₂, ◌∙◌, sym}
 use Rattle.std.specs.List.{list_all}
 use Rattle.std.specs.Str.{all_scalars}
 use Rattle.sqlite.specs.declared.types.Value.TheVariants.{Null, Int, Text, Blob}
 use Rattle.sqlite.specs.Order.{Row}
 use Rattle.sqlite_value.specs.Order.{column}
-use Rattle.sqlite.specs.Term.{holds}
+use Rattle.sqlite.specs.Term.{Term, col, holds}
 use Rattle.sqlite.specs.Source.TheVariants.{Values}
-use Rattle.sqlite.specs.Command.TheVariants.{Insert, Delete, Select}
+use Rattle.sqlite.specs.Command.TheVariants.{Insert, Update, Delete, Select}
 use Rattle.sqlite.specs.Listing.{understood, reads_listing}
 use Rattle.sqlite.proofs.Callers.{IsPlain, command_of}
 use Rattle.sqlite_rules.specs.Cast.{cast_row}
 use Rattle.sqlite_tied.specs.Compute.{everything}
 use Rattle.sms_listing.specs.Columns.{number, number_in, octets_in, text_in, characters_in, if_given, flag, flag_in, or_none}
 use Rattle.sms_listing.specs.Finding.{rows_where, FindsOne}
-use Rattle.sms_listing.specs.Listing.{TableOf, ListOf, IsList, table_of, rowids_where, whole_table, row_of, columns_of, equals}
+use Rattle.sms_listing.specs.Seeking.{SeeksBy}
+use Rattle.sms_listing.specs.Listing.{TableOf, ListOf, IsList, table_of, rowids_where, whole_table, row_of, given_from, columns_of, equals}
 use Rattle.sms_listing.proofs.Columns.{same_number, one_found, pair_found, and_true, cast_null, cast_int, cast_row_same, cast_flag, cast_optional, flag_back, characters_back, given_back}
 use Rattle.sms_centre_tables.specs.CentreSchema.{centre_schema, report_columns}
 use Rattle.sms_centre_tables.specs.Types.{ReportRow, ReportKind, Progress}
-use Rattle.sms_centre_tables.specs.Pieces.{kind_word, kind_reference, kind_tpdu, kind_in, kind_back, reference_stays, progress_in, progress_back}
+use Rattle.sms_centre_tables.specs.Pieces.{kind_word, kind_reference, kind_tpdu, kind_in, kind_back, reference_stays, progress_in, progress_back, progress_columns}
+use Rattle.sms_amending.specs.Amending.{AmendsOne}
+use Rattle.sms_reports.specs.Reports.{report_reaching}
 
 abbrev pub report_table : TableOf
 report_table = record {
@@ -108,3 +111,44 @@ finding = (refl, (refl, refl), refl)
 
 pub report_is_found : FindsOne report_list find_report
 report_is_found = record { selects = finding.0; alone = finding.1; is_no_listing = finding.2; read = λ params id x. refl }
+
+-- ---- how far it is
+
+abbrev pub amend_report : List ℕ
+amend_report = codes "UPDATE report SET is_done = ?2, attempts = ?3, due = ?4 WHERE place = ?1"
+
+-- its other columns stay
+abbrev pub report_amended : List Term
+report_amended = columns_of 6 ++ given_from 1 3
+
+amending : (command_of (understood centre_schema amend_report) ≡ Update 5 (record { lets = []; body = rows_where 10 report_table.tests (col 1 0 ∷ col 1 0 ∷ report_amended) })) × IsPlain (understood centre_schema amend_report)
+unfolding understood everything
+amending = (refl, (refl, refl))
+
+amend_finds : (n : ℕ) (q : Progress) (id : ℤ) (x : ReportRow) → report_list.Fits x → list_all (holds ((report_list.key_columns n ++ progress_columns q) ∷ (Int id ∷ report_list.columns x) ∷ [])) report_table.tests ≡ (report_list.key x == n)
+amend_finds n q id x fits = one_found x.place n
+
+pub report_amends : AmendsOne report_list amend_report report_reaching progress_columns report_amended
+report_amends = record { updates = amending.0; alone = amending.1; finds = amend_finds; shows = λ n q id x. refl; same_key = λ q x. refl; still_fits = λ q x fits. fits }
+
+-- ---- the rows of a message
+
+abbrev pub report_message : ReportRow → ℕ
+report_message r = r.id
+
+abbrev pub seek_report : List ℕ
+seek_report = codes "SELECT place, message, kind, reference, tpdu, made, is_done, attempts, due FROM report WHERE message = ?1"
+
+abbrev pub message_tests : List Term
+message_tests = equals 2 0 ∷ []
+
+seeking : (command_of (understood centre_schema seek_report) ≡ Select (record { lets = []; body = rows_where 10 message_tests report_table.shown }) report_table.names) × IsPlain (understood centre_schema seek_report)
+    × (reads_listing centre_schema seek_report ≡ false)
+unfolding understood everything
+seeking = (refl, (refl, refl), refl)
+
+seek_finds : (n : ℕ) (id : ℤ) (x : ReportRow) → report_list.Fits x → list_all (holds ((number n ∷ []) ∷ (Int id ∷ report_list.columns x) ∷ [])) message_tests ≡ (report_message x == n)
+seek_finds n id x fits = one_found x.id n
+
+pub report_is_sought : SeeksBy report_list report_message seek_report message_tests
+report_is_sought = record { selects = seeking.0; alone = seeking.1; is_no_listing = seeking.2; finds = seek_finds; read = λ params id x. refl }

@@ -2,7 +2,8 @@
 //!
 //! Each list of rows is a STRICT table with one key, its columns numbers, texts and octets (`StoredRow<CentreStore>`), and
 //! `Meta` is the table in which the store says what it is. Version 2 has the priorities of messages; all other tables are those
-//! of version 1, of which only `Meta` is a list of its own. A part and a report are found by their keys too.
+//! of version 1, of which only `Meta` is a list of its own. A part and a report are found by their keys too, a report by
+//! its message, and one text changes how far each is.
 #![tactic(auto)]
 
 mod handsets;

@@ -1,15 +1,19 @@
 //! The parts of messages.
 ghost use Rattle.std.specs.Prelude.{refl};
-ghost use Rattle.sms_centre_tables.specs.PartList.{find_part, part_is_found, part_is_list, part_list};
+ghost use Rattle.sms_centre_tables.specs.PartList.{amend_part, find_part, part_amended, part_amends, part_is_found, part_is_list, part_list};
+ghost use Rattle.sms_centre_tables.specs.Pieces.{progress_columns};
+ghost use Rattle.sms_messages.specs.Messages.{part_reaching};
 
 use crate::key::{id_value, integers_of, moment_value};
 use crate::kind::CentreStore;
 use crate::pieces::{
     bits_of, concat_number_of, concat_total_of, id_at, key_at, number_of, progress_at,
 };
+use sms_amending::AmendedRow;
 use sms_listing::{FoundRow, StoredRow, octet_at, octets_at, run};
 use sms_messages::PartRow;
 use sms_table::Key;
+use sms_waiting::Progress;
 use sqlite::{Alter, Error, Row, Transaction, params};
 use std::alloc::Global;
 
@@ -85,4 +89,36 @@ impl FoundRow<CentreStore> for PartRow {
     }
 
     ghost is_found = { part_is_found };
+}
+
+impl AmendedRow<CentreStore> for PartRow {
+    ghost reaching = { part_reaching };
+
+    ghost progress_columns = { progress_columns };
+
+    ghost amendment = { amend_part };
+
+    ghost amended_columns = { part_amended };
+
+    fn update<S: Alter>(
+        tx: &mut Transaction<'_, S>,
+        key: Key,
+        progress: Progress,
+    ) -> Result<(), Error> {
+        let pair = integers_of(key)?;
+        let due = moment_value(progress.due)?;
+        run(
+            tx,
+            "UPDATE part SET is_done = ?3, attempts = ?4, due = ?5 WHERE message = ?1 AND number = ?2",
+            params![
+                &pair.0,
+                &pair.1,
+                progress.is_done,
+                u32::from(progress.attempts),
+                &due
+            ],
+        )
+    }
+
+    ghost amends = { part_amends };
 }

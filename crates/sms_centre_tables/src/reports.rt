@@ -1,13 +1,17 @@
 //! Receipts and status reports.
 ghost use Rattle.std.specs.Prelude.{refl};
-ghost use Rattle.sms_centre_tables.specs.ReportList.{find_report, report_is_found, report_is_list, report_list};
+ghost use Rattle.sms_centre_tables.specs.Pieces.{progress_columns};
+ghost use Rattle.sms_centre_tables.specs.ReportList.{amend_report, find_report, message_tests, report_amended, report_amends, report_is_found, report_is_list, report_is_sought, report_list, report_message, seek_report};
+ghost use Rattle.sms_reports.specs.Reports.{report_reaching};
 
-use crate::key::{id_value, integer_of, moment_value, place_value};
+use crate::key::{id_value, integer, integer_of, moment_value, place_value};
 use crate::kind::CentreStore;
 use crate::pieces::{id_at, kind_reference, kind_tpdu, kind_word, progress_at, report_kind_at};
-use sms_listing::{FoundRow, StoredRow, moment_at, number_at, run};
+use sms_amending::AmendedRow;
+use sms_listing::{FoundRow, SoughtRow, StoredRow, moment_at, number_at, run};
 use sms_reports::ReportRow;
 use sms_table::Key;
+use sms_waiting::Progress;
 use sqlite::{Alter, Error, Row, Transaction, params};
 use std::alloc::Global;
 
@@ -77,4 +81,48 @@ impl FoundRow<CentreStore> for ReportRow {
     }
 
     ghost is_found = { report_is_found };
+}
+
+impl SoughtRow<CentreStore> for ReportRow {
+    ghost mark = { report_message };
+
+    ghost sought = { seek_report };
+
+    ghost tests = { message_tests };
+
+    fn query_mark<S: Alter>(tx: &mut Transaction<'_, S>, number: u128) -> Result<Vec<Row>, Error> {
+        let message = integer(number)?;
+        tx.query_all(
+            "SELECT place, message, kind, reference, tpdu, made, is_done, attempts, due FROM report WHERE message = ?1",
+            params![&message],
+        )
+    }
+
+    ghost is_sought = { report_is_sought };
+}
+
+impl AmendedRow<CentreStore> for ReportRow {
+    ghost reaching = { report_reaching };
+
+    ghost progress_columns = { progress_columns };
+
+    ghost amendment = { amend_report };
+
+    ghost amended_columns = { report_amended };
+
+    fn update<S: Alter>(
+        tx: &mut Transaction<'_, S>,
+        key: Key,
+        progress: Progress,
+    ) -> Result<(), Error> {
+        let place = integer_of(key)?;
+        let due = moment_value(progress.due)?;
+        run(
+            tx,
+            "UPDATE report SET is_done = ?2, attempts = ?3, due = ?4 WHERE place = ?1",
+            params![&place, progress.is_done, u32::from(progress.attempts), &due],
+        )
+    }
+
+    ghost amends = { report_amends };
 }

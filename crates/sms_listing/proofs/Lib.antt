@@ -7,6 +7,7 @@ pub mod Making
 pub mod Once
 pub mod OneRow
 pub mod Perms
+pub mod Sought
 pub mod Statements
 pub mod Steps
 pub mod Trees

@@ -21,7 +21,7 @@ use Rattle.sms_listing.proofs.Perms.{all_mapped}
 -- ---- lists
 
 -- one element, or none, stands in one order
-same_few : {X : Type 0} (xs ys : List X) → IsPermutation xs ys → length xs ≤ 1 → ys ≡ xs
+pub same_few : {X : Type 0} (xs ys : List X) → IsPermutation xs ys → length xs ≤ 1 → ys ≡ xs
 same_few {X} = along_permutation (λ xs ys. length xs ≤ 1 → ys ≡ xs) (λ xs few. refl) skip turn chain
   where
     skip : (x : X) (xs ys : List X) → (length xs ≤ 1 → ys ≡ xs) → length (x ∷ xs) ≤ 1 → x ∷ ys ≡ x ∷ xs
@@ -52,7 +52,7 @@ module _ {X : Type 0} (key : X → ℕ) (n : ℕ) where
       go rest true e = absurd (let d = differs (key y) n h.0 in let both : true ≡ false = sym e ∙ d in cc)
       go rest false e = rest
 
-  at_most_one : (xs : List X) → Rises key xs → length (filter has xs) ≤ 1
+  pub at_most_one : (xs : List X) → Rises key xs → length (filter has xs) ≤ 1
   at_most_one [] h = omega arith
   at_most_one (x ∷ xs) h = go (at_most_one xs h.1) (key x == n) refl
     where
@@ -63,11 +63,11 @@ module _ {X : Type 0} (key : X → ℕ) (n : ℕ) where
       go later true e = subst (λ l. length (x ∷ l) ≤ 1) (sym (none_above xs (subst (λ k. AllByRecursion (λ y. k < key y) xs) (equal (key x) n e) h.0))) (omega arith)
       go later false e = later
 
-  all_having : (P : X → Type 0) (xs : List X) → AllByRecursion P xs → AllByRecursion P (filter has xs)
+  pub all_having : (P : X → Type 0) (xs : List X) → AllByRecursion P xs → AllByRecursion P (filter has xs)
   all_having P [] h = tt
   all_having P (x ∷ xs) h = elim (key x == n) as (λ b. AllByRecursion P (cond b (x ∷ filter has xs) (filter has xs))) [ true ↦ (h.0, all_having P xs h.1) | false ↦ all_having P xs h.1 ]
 
-  kept_values : (p : ℤ × X → Bool) (es : List (ℤ × X)) → AllByRecursion (λ (e : ℤ × X). p e ≡ has e.1) es → map (λ (e : ℤ × X). e.1) (filter p es) ≡ filter has (map (λ (e : ℤ × X). e.1) es)
+  pub kept_values : (p : ℤ × X → Bool) (es : List (ℤ × X)) → AllByRecursion (λ (e : ℤ × X). p e ≡ has e.1) es → map (λ (e : ℤ × X). e.1) (filter p es) ≡ filter has (map (λ (e : ℤ × X). e.1) es)
   kept_values p [] h = refl
   kept_values p (e ∷ es) h = go (p e) (has e.1) h.0 (kept_values p es h.1)
     where

@@ -72,15 +72,15 @@ module _ {X : Type 0} (columns : X → Row) (entries : List (ℤ × X)) (keyed :
         ap (λ l. without_all l (ids_of rows)) stored ∙ deletes-map id_of (with_rowid columns) (λ e. refl) (ids_of rows) entries
         ∙ ap (map (with_rowid columns)) (sym (removes_in_any_order id_of entries _ _ (ids_are rows a)) ∙ removes_delete id_of passes entries keyed)
 
-insert_last : {X : Type 0} (xs : List (ℤ × X)) (new : ℤ × X) → AllByRecursion (λ (y : ℤ × X). y.0 <ℤ new.0) xs → insert_by (λ (e : ℤ × X). e.0) xs new ≡ xs ++ new ∷ []
+pub insert_last : {X : Type 0} (xs : List (ℤ × X)) (new : ℤ × X) → AllByRecursion (λ (y : ℤ × X). y.0 <ℤ new.0) xs → insert_by (λ (e : ℤ × X). e.0) xs new ≡ xs ++ new ∷ []
 insert_last [] new h = refl
 insert_last (x ∷ xs) new h = rw (Less-from_lt x.0 new.0 h.0) (ap (λ l. x ∷ l) (insert_last xs new h.1))
 
-below_next : {X : Type 0} (xs : List (ℤ × X)) → IsKeyedBy (λ (e : ℤ × X). e.0) xs → AllByRecursion (λ (y : ℤ × X). y.0 <ℤ next_key (λ (e : ℤ × X). e.0) xs) xs
+pub below_next : {X : Type 0} (xs : List (ℤ × X)) → IsKeyedBy (λ (e : ℤ × X). e.0) xs → AllByRecursion (λ (y : ℤ × X). y.0 <ℤ next_key (λ (e : ℤ × X). e.0) xs) xs
 below_next {X = X} [] up = tt
 below_next {X = X} (x ∷ xs) up = above_all (λ (e : ℤ × X). e.0) xs x up
 
-next_from : {X : Type 0} (columns : X → Row) (xs : List (ℤ × X)) (a : ℤ) → fold (λ _ r. id_in (rowid r) +ℤ pos 1) a (map (with_rowid columns) xs) ≡ fold (λ _ (e : ℤ × X). e.0 +ℤ pos 1) a xs
+pub next_from : {X : Type 0} (columns : X → Row) (xs : List (ℤ × X)) (a : ℤ) → fold (λ _ r. id_in (rowid r) +ℤ pos 1) a (map (with_rowid columns) xs) ≡ fold (λ _ (e : ℤ × X). e.0 +ℤ pos 1) a xs
 next_from columns [] a = refl
 next_from columns (x ∷ xs) a = next_from columns xs (x.0 +ℤ pos 1)
 

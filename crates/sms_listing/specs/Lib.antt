@@ -6,4 +6,5 @@ pub mod Inside
 pub mod Listing
 pub mod Making
 pub mod Meta
+pub mod Seeking
 pub mod Transaction

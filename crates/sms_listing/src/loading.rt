@@ -10,7 +10,10 @@ use sms_table::Row;
 use sqlite::{Alter, Error, Row as Found, Transaction};
 use std::alloc::Global;
 
-fn rows_of<K, T: Drop + StoredRow<K>>(alloc: Global, rows: &[Found]) -> Result<Vec<T>, Error>
+pub(crate) fn rows_of<K, T: Drop + StoredRow<K>>(
+    alloc: Global,
+    rows: &[Found],
+) -> Result<Vec<T>, Error>
     ensures { IfOk result (λ found. (seen : List T) → AllByRecursion T.list.Fits seen → rows.now ≡ map T.list.columns seen → found.items ≡ seen) }
 {
     let mut found = Vec::new(alloc);
@@ -20,7 +23,7 @@ fn rows_of<K, T: Drop + StoredRow<K>>(alloc: Global, rows: &[Found]) -> Result<V
     Ok(found)
 }
 
-fn in_order<T: Drop + Row>(rows: Vec<T>) -> Result<Vec<T>, Error>
+pub(crate) fn in_order<T: Drop + Row>(rows: Vec<T>) -> Result<Vec<T>, Error>
     ensures { IfOk result (λ sorted. (xs : List T) → IsPermutation rows.items xs → Rises T.key xs → sorted.items ≡ xs) }
 {
     let mut sorted = rows;

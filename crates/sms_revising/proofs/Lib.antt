@@ -1,1 +1,2 @@
 pub mod AsPut
+pub mod Lengths

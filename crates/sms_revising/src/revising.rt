@@ -1,14 +1,14 @@
-//! One change of such a list.
-ghost use Rattle.std.specs.Prelude.{◌≡◌};
-ghost use Rattle.sms_table.specs.Table.{HasRoom, Rises};
-ghost use Rattle.sms_waiting.specs.Revisions.{amended, revised};
+//! Changes of such a list.
+ghost use Rattle.std.specs.Prelude.{◌≡◌, length};
+ghost use Rattle.sms_table.specs.Table.{HasRoom};
+ghost use Rattle.sms_waiting.specs.Revisions.{all_revised, amended, revised};
 ghost use Rattle.sms_waiting.specs.declared.progress.Progress.{Progress as ProgressOf};
 
 use sms_table::{Key, Row, Table};
 use sms_waiting::{Progress, Revision};
 
-/// A row of which only how far it is may change.
-pub trait Reaching: Row {
+/// A row of which only how far it is may change, in a keep of the kind `K`.
+pub trait Reaching<K>: Row {
     /// The row, so far.
     ghost reaching: { ProgressOf → Self → Self };
 
@@ -19,10 +19,12 @@ pub trait Reaching: Row {
     ghost keeps: { (progress : ProgressOf) (row : Self) → Self.key (reaching progress row) ≡ Self.key row };
 }
 
-fn amend<T: Drop + Reaching>(table: &mut Table<T>, key: Key, progress: Progress)
+// A table's rows stand in order, which its slice tells.
+fn amend<K, T: Drop + Reaching<K>>(table: &mut Table<T>, key: Key, progress: Progress)
     requires { HasRoom 1 table.old }
-    ensures { Rises T.key table.old.rows → table.new ≡ record table.old { rows = amended T.key T.reaching key progress table.old.rows } }
+    ensures { table.new ≡ record table.old { rows = amended T.key T.reaching key progress table.old.rows } }
 {
+    let _rows = table.as_slice();
     match table.remove(key) {
         Some(row) => table.put_ready(row.reach(progress)),
         None => (),
@@ -30,15 +32,25 @@ fn amend<T: Drop + Reaching>(table: &mut Table<T>, key: Key, progress: Progress)
 }
 
 /// Makes the change.
-pub fn revise<T: Drop + Reaching>(table: &mut Table<T>, revision: Revision<T>)
+pub fn revise<K, T: Drop + Reaching<K>>(table: &mut Table<T>, revision: Revision<T>)
     requires { HasRoom 1 table.old }
-    ensures { Rises T.key table.old.rows → table.new ≡ record table.old { rows = revised T.key T.reaching revision table.old.rows } }
+    ensures { table.new ≡ record table.old { rows = revised T.key T.reaching revision table.old.rows } }
 {
     match revision {
         Revision::Put(row) => table.put_ready(row),
-        Revision::Amend { key, progress } => amend(table, key, progress),
+        Revision::Amend { key, progress } => amend::<K, T>(table, key, progress),
         Revision::Remove(key) => {
             table.remove(key);
         }
+    }
+}
+
+/// Makes the changes in their order.
+pub fn revise_all<K, T: Drop + Reaching<K>>(table: &mut Table<T>, revisions: Vec<Revision<T>>)
+    requires { HasRoom (length revisions.items) table.old }
+    ensures { table.new ≡ record table.old { rows = all_revised T.key T.reaching revisions.items table.old.rows } }
+{
+    for revision in revisions {
+        revise::<K, T>(table, revision);
     }
 }

@@ -11,9 +11,9 @@ put_ready-requires g c =
     omega (arith, rows, capacity, length_without g.T.Row.key c.args.key c.args.table.now.rows, c.requires)
 
 pub returns-in-Some : goal.returns-in-Some
-returns-in-Some g c rises =
-    put_back g.T.Row.key g.T.Reaching.reaching g.met.T.Reaching.keeps c.args.key c.args.progress c.args.table.now _ c.remove.ensures.rows rises _ c.in-Some.row _ (sym c.remove.ensures.row ∙ c.in-Some.is) c.reach.ensures c.put_ready.ensures
+returns-in-Some g c =
+    put_back g.T.Row.key g.T.Reaching.reaching g.met.T.Reaching.keeps c.args.key c.args.progress c.args.table.now _ c.remove.ensures.rows c.as_slice-rows.ensures.order _ c.in-Some.row _ (sym c.remove.ensures.row ∙ c.in-Some.is) c.reach.ensures c.put_ready.ensures
 
 pub returns-in-None : goal.returns-in-None
-returns-in-None g c rises =
-    left_alone g.T.Row.key g.T.Reaching.reaching g.met.T.Reaching.keeps c.args.key c.args.progress c.args.table.now _ c.remove.ensures.rows rises (sym c.remove.ensures.row ∙ c.in-None.is)
+returns-in-None g c =
+    left_alone g.T.Row.key g.T.Reaching.reaching g.met.T.Reaching.keeps c.args.key c.args.progress c.args.table.now _ c.remove.ensures.rows c.as_slice-rows.ensures.order (sym c.remove.ensures.row ∙ c.in-None.is)

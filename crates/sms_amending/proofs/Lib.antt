@@ -1,0 +1,3 @@
+pub mod Amended
+pub mod Rows
+pub mod Steps

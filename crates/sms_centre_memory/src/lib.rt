@@ -1,0 +1,12 @@
+//! A centre's rows in memory, for runs without a store.
+//!
+//! `MemoryKeep` is a keep like the one over a database: a commit makes all changes or none. It is refused only where a growth
+//! was refused, and never closed. It reads bodies too.
+#![tactic(auto)]
+
+mod bodies;
+mod copies;
+mod keep;
+mod revisions;
+
+pub use keep::MemoryKeep;

@@ -1,0 +1,37 @@
+-- How a new store comes to be.
+use Rattle.std.specs.Prelude.{◌≡◌, []}
+use Rattle.sqlite.specs.Effect.{Database}
+use Rattle.sms_centre_tables.specs.CentreSchema.{with_part, first_schema, centre_schema}
+use Rattle.sms_listing.specs.Making.{Makes}
+use Rattle.sms_schema.specs.Blank.{no_tables}
+use Rattle.sms_centre_store.specs.CentreRows.{IsStore}
+use Rattle.sms_centre_store.specs.Types.{Setup, first_rows}
+
+-- the first three tables, without rows
+pub record HasFirst (db : Database) : Type 0 where
+  pub meta : db.trees 0 ≡ []
+  pub messages : db.trees 2 ≡ []
+  pub parts : db.trees 4 ≡ []
+
+-- the next three
+pub record HasNext (db : Database) : Type 0 where
+  pub references : db.trees 6 ≡ []
+  pub handsets : db.trees 8 ≡ []
+  pub reports : db.trees 10 ≡ []
+
+abbrev pub MakesFirst : Database → Database → Type 0
+MakesFirst before after = before.schema ≡ no_tables → (after.schema ≡ with_part) × HasFirst after
+
+abbrev pub MakesNext : Database → Database → Type 0
+MakesNext before after = before.schema ≡ with_part → HasFirst before → (after.schema ≡ first_schema) × HasFirst after × HasNext after
+
+-- the last one, which version 1 lacks
+abbrev pub MakesPriority : Database → Database → Type 0
+MakesPriority before after = before.schema ≡ first_schema → Makes first_schema centre_schema before after
+
+abbrev pub Tabulates : Database → Database → Type 0
+Tabulates before after = before.schema ≡ no_tables → (after.schema ≡ centre_schema) × HasFirst after × HasNext after × (after.trees 12 ≡ [])
+
+-- what the store is
+abbrev pub Declares : Database → Database → Type 0
+Declares before after = before.schema ≡ centre_schema → HasFirst before → HasNext before → before.trees 12 ≡ [] → (setup : Setup) → IsStore after (first_rows setup)

@@ -1,0 +1,6 @@
+pub mod CentreRows
+pub mod Founding
+pub mod Migrating
+pub mod Opened
+pub mod Reading
+pub mod Types

@@ -1,0 +1,135 @@
+//! Bodies of a store: one query each.
+ghost use Rattle.std.specs.Prelude.{◌≡◌, ◌⊎◌, ◌==◌, ◌%◌, ℕ, false, true, IfOk, List, OnErr, Option};
+ghost use Rattle.sqlite.specs.Held.{state};
+ghost use Rattle.sqlite.specs.State.{HasCleanDisk};
+ghost use Rattle.sms_centre_rows.specs.OctetsAt.{kind_octets, part_octets, report_octets};
+ghost use Rattle.sms_centre_tables.specs.CentreSchema.{centre_schema};
+ghost use Rattle.sms_listing.specs.Finding.{first_of};
+ghost use Rattle.sms_centre_store.specs.Reading.{FindsPart, FindsReports, HasOctets};
+
+use crate::keep::CentreKeep;
+use sms_base::Octets;
+use sms_centre_tables::CentreStore;
+use sms_keep::{Bodies, KeepError};
+use sms_listing::{Lookup, find, load_cause_of, look, seek};
+use sms_messages::PartRow;
+use sms_reports::{ReportKind, ReportRow};
+use sms_table::Key;
+use sqlite::{Alter, Error, Transaction};
+use std::alloc::Global;
+
+/// The part of a key.
+#[derive(Drop)]
+struct PartAt {
+    key: Key,
+}
+
+impl Lookup for PartAt {
+    type Found = Option<PartRow>;
+
+    ghost schema = { λ lookup. centre_schema };
+
+    ghost finds = { λ lookup db found. FindsPart lookup.key db found };
+
+    fn read<S: Alter>(
+        &self,
+        alloc: Global,
+        tx: &mut Transaction<'_, S>,
+    ) -> Result<Option<PartRow>, Error> {
+        find::<CentreStore, PartRow, S>(alloc, tx, self.key)
+    }
+}
+
+/// The reports of a message.
+#[derive(Drop)]
+struct ReportsOf {
+    id: u128,
+}
+
+impl Lookup for ReportsOf {
+    type Found = Vec<ReportRow>;
+
+    ghost schema = { λ lookup. centre_schema };
+
+    ghost finds = { λ lookup db found. FindsReports lookup.id db found.items };
+
+    fn read<S: Alter>(
+        &self,
+        alloc: Global,
+        tx: &mut Transaction<'_, S>,
+    ) -> Result<Vec<ReportRow>, Error> {
+        seek::<CentreStore, ReportRow, S>(alloc, tx, self.id)
+    }
+}
+
+fn octets_of_part(part: Option<PartRow>) -> Option<Octets>
+    ensures { result ≡ part_octets part }
+{
+    match part {
+        Some(part) => Some(part.tpdu),
+        None => None,
+    }
+}
+
+fn octets_of_kind(kind: ReportKind) -> Option<Octets>
+    ensures { result ≡ kind_octets kind }
+{
+    match kind {
+        ReportKind::Status { tpdu, .. } => Some(tpdu),
+        ReportKind::Receipt | ReportKind::Unsent => None,
+    }
+}
+
+fn octets_of_first(reports: Vec<ReportRow>) -> Option<Octets>
+    ensures { result ≡ report_octets (first_of reports.items) }
+{
+    match reports.into_iter().next() {
+        Some(report) => octets_of_kind(report.kind),
+        None => None,
+    }
+}
+
+impl<S: Alter> CentreKeep<S> {
+    fn part_body(&mut self, key: Key) -> Result<Option<Octets>, KeepError>
+        ensures ok { HasCleanDisk (state S.Store self.new.conn) → (key % 256 == 0) ≡ false → (found : ℕ → Option (List ℕ)) → HasOctets self.old.setup (state S.Store self.old.conn) found
+            → IfOk result (λ body. (body ≡ found key) × HasOctets self.new.setup (state S.Store self.new.conn) found) }
+        ensures err { HasCleanDisk (state S.Store self.new.conn) → (found : ℕ → Option (List ℕ)) → HasOctets self.old.setup (state S.Store self.old.conn) found
+            → OnErr result (HasOctets self.new.setup (state S.Store self.new.conn) found ⊎ ((state S.Store self.new.conn).is_open ≡ false)) }
+    {
+        match look(self.alloc, &mut self.conn, &PartAt { key }) {
+            Ok(part) => Ok(octets_of_part(part)),
+            Err(error) => Err(load_cause_of(error)),
+        }
+    }
+
+    fn report_body(&mut self, key: Key) -> Result<Option<Octets>, KeepError>
+        ensures ok { HasCleanDisk (state S.Store self.new.conn) → (key % 256 == 0) ≡ true → (found : ℕ → Option (List ℕ)) → HasOctets self.old.setup (state S.Store self.old.conn) found
+            → IfOk result (λ body. (body ≡ found key) × HasOctets self.new.setup (state S.Store self.new.conn) found) }
+        ensures err { HasCleanDisk (state S.Store self.new.conn) → (found : ℕ → Option (List ℕ)) → HasOctets self.old.setup (state S.Store self.old.conn) found
+            → OnErr result (HasOctets self.new.setup (state S.Store self.new.conn) found ⊎ ((state S.Store self.new.conn).is_open ≡ false)) }
+    {
+        let lookup = ReportsOf {
+            id: key.number() / 256,
+        };
+        match look(self.alloc, &mut self.conn, &lookup) {
+            Ok(reports) => Ok(octets_of_first(reports)),
+            Err(error) => Err(load_cause_of(error)),
+        }
+    }
+}
+
+impl<S: Alter> Bodies for CentreKeep<S> {
+    ghost bodies = { λ keep found. HasOctets keep.setup (state S.Store keep.conn) found };
+
+    ghost is_honest = { λ keep. HasCleanDisk (state S.Store keep.conn) };
+
+    ghost is_closed = { λ keep. (state S.Store keep.conn).is_open ≡ false };
+
+    fn body(&mut self, key: Key) -> Result<Option<Octets>, KeepError> {
+        if key.number() % 256 == 0 {
+            self.report_body(key)
+        } else {
+            self.part_body(key)
+        }
+    }
+}

@@ -1,0 +1,51 @@
+//! A new store: its tables, and what it says of itself.
+ghost use Rattle.std.specs.Prelude.{◌≡◌};
+ghost use Rattle.sqlite.specs.Held.{state};
+ghost use Rattle.sms_listing.specs.Inside.{Goes, Keeps, Spares};
+ghost use Rattle.sms_listing.specs.Transaction.{Leads};
+ghost use Rattle.sms_centre_store.specs.CentreRows.{Founds};
+ghost use Rattle.sms_centre_store.specs.Founding.{Declares, Tabulates};
+
+use crate::tables::{make_first_tables, make_next_tables, make_priority_table};
+use sms_centre_tables::CentreStore;
+use sms_listing::{Meta, StoreKind, Work, put};
+use sqlite::{Alter, Error, Transaction};
+use std::alloc::Global;
+
+/// The tables of a new store, and the row that says what it is.
+#[derive(Drop)]
+pub(crate) struct Founding;
+
+impl Work for Founding {
+    ghost changes = { λ work. Founds };
+
+    fn run<S: Alter>(&self, alloc: Global, tx: &mut Transaction<'_, S>) -> Result<(), Error> {
+        make_tables(tx)?;
+        declare(alloc, tx)
+    }
+}
+
+fn make_tables<S: Alter>(tx: &mut Transaction<'_, S>) -> Result<(), Error>
+    ensures same_reference { tx.new.conn.ghost_name ≡ tx.old.conn.ghost_name }
+    ensures done { Goes S.Store tx.old.conn.now tx.new.conn.now (Leads Tabulates) result }
+    ensures kept { Keeps S.Store tx.old.conn.now tx.new.conn.now }
+    ensures survives { Spares S.Store tx.old.conn.now tx.new.conn.now }
+{
+    make_first_tables(tx)?;
+    make_next_tables(tx)?;
+    make_priority_table(tx)
+}
+
+// What the store is.
+fn declare<S: Alter>(alloc: Global, tx: &mut Transaction<'_, S>) -> Result<(), Error>
+    ensures same_reference { tx.new.conn.ghost_name ≡ tx.old.conn.ghost_name }
+    ensures done { Goes S.Store tx.old.conn.now tx.new.conn.now (Leads Declares) result }
+    ensures kept { Keeps S.Store tx.old.conn.now tx.new.conn.now }
+    ensures survives { Spares S.Store tx.old.conn.now tx.new.conn.now }
+{
+    let meta = Meta {
+        version: 2,
+        kind: StoreKind::Centre,
+    };
+    put::<CentreStore, Meta, S>(alloc, tx, &meta)
+}
