@@ -110,17 +110,8 @@ impl<'a> EventParts<'a> {
         true
     }
 
-    // The changes, with memory for the parts that they bring.
-    pub(crate) fn settle(self, alloc: Global) -> Result<SettledEventParts, AllocError>
-        ensures changes { IfOk result (λ s. (s.entries.changes ≡ self.entry.entries.changes) × (s.changes.items ≡ self.entry.changes)) }
-        ensures fits { IfOk result (λ s. FitsIn s.entries self.entry.entries.base) }
-    {
-        let base = self.base;
-        self.settle_for(alloc, base)
-    }
-
-    // The same, with memory for that table.
-    fn settle_for(
+    // The changes, with memory for the parts that they bring to that table.
+    pub(crate) fn settle(
         self,
         alloc: Global,
         table: &Table<PartEntry>,

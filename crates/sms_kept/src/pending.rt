@@ -120,14 +120,14 @@ impl<'a> PendingMessages<'a> {
         Ok(())
     }
 
-    /// The changes, with memory for what they bring.
-    pub fn settle(self) -> Result<SettledMessages, AllocError>
+    /// The changes, with memory for what they bring to what is kept.
+    pub fn settle(self, kept: &KeptMessages) -> Result<SettledMessages, AllocError>
         ensures settled { (m : Messages) → Shows self.entry m → IfOk result (IsSettled m) }
-        ensures fits { (m : Messages) → Shows self.entry m → IfOk result (λ s. Fits s.spare (length s.messages) self.entry.kept) }
+        ensures fits { IfOk result (λ s. Fits s.spare (length s.messages) kept.now) }
     {
         let count = self.messages.len();
-        let parts = self.parts.settle(self.alloc)?;
-        let spare = self.kept.make_spare(self.alloc, count, parts.entries)?;
+        let parts = self.parts.settle(self.alloc, &kept.parts)?;
+        let spare = kept.make_spare(self.alloc, count, parts.entries)?;
         let messages = Listed::from_vec(self.messages.into_vec());
         let changes = Listed::from_vec(parts.changes);
         let priorities = Listed::from_vec(self.priorities);

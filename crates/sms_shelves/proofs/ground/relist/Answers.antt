@@ -2,7 +2,7 @@ use Rattle.std.proofs.Common.{◌∙◌, sym, ap}
 use Rattle.sms_shelves.specs.Adopting.{relisted_all}
 use Rattle.sms_shelves.specs.Placing.{is_listed}
 use Rattle.sms_shelves.proofs.Relisting.{relisted_once}
-use Rattle.sms_shelves.proofs.settled.relist.Goals as goal
+use Rattle.sms_shelves.proofs.ground.relist.Goals as goal
 
 pub returns : goal.returns
 returns c key =

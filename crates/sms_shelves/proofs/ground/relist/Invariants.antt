@@ -2,7 +2,7 @@ use Rattle.std.proofs.Common.{◌≡◌, ℕ, ◌≤◌, length}
 use Rattle.indexmap.specs.IndexMap.{spare}
 use Rattle.sms_shelves.specs.Adopting.{relisted_all}
 use Rattle.sms_shelves.specs.Placing.{is_listed}
-use Rattle.sms_shelves.proofs.settled.relist.Given as goal
+use Rattle.sms_shelves.proofs.ground.relist.Given as goal
 
 abbrev pub invariant-loop-key : goal.invariant-loop-key
 invariant-loop-key l =
