@@ -17,4 +17,5 @@ mod splits;
 mod tables;
 mod waiting_rows;
 
+pub use addresses::is_address;
 pub use tables::RowTables;
