@@ -1,42 +1,22 @@
 //! Receipts go, then offers.
 ghost use Rattle.std.specs.Prelude.{◌≡◌, None};
-ghost use Rattle.sms_base.specs.Address.{IsAddress};
 ghost use Rattle.sms_shelves.specs.Walks.{walk};
 ghost use Rattle.sms_shelves.specs.declared.stop.Wanted.TheVariants.{Offer};
-ghost use Rattle.sms_tpdu.specs.AddressGrammar.{relay_address};
 ghost use Rattle.sms_walks.specs.Stepping.{offer_at as offer_at_of, stops_in};
 ghost use Rattle.sms_centre_rules.specs.CentreEvent.{follow as follow_of};
-ghost use Rattle.sms_centre_rules.specs.Draft.{Draft, rows_of};
+ghost use Rattle.sms_centre_rules.specs.Draft.{Draft};
 ghost use Rattle.sms_centre_rules.specs.Offering.{offer as offer_of};
 ghost use Rattle.sms_centre_rules.specs.Sessions.{send as send_of};
-ghost use Rattle.sms_centre_rules.specs.SoundRows.{IsSound};
 ghost use Rattle.sms_offering.specs.Going.{Goes, UnlessMemory};
-ghost use Rattle.sms_offering.specs.Stored.{CanOffer, Stores};
-ghost use Rattle.sms_ticking.specs.Walking.{AreDigits};
+ghost use Rattle.sms_offering.specs.Stored.{AreDigits, CanOffer};
 ghost use Rattle.sms_working.specs.Working.{Shows};
 
 use crate::offers::offer_at;
-use sms_base::Octets;
 use sms_centre_rules::PlanError;
 use sms_keep::Bodies;
 use sms_shelves::{Stop, Wanted};
-use sms_soundness::is_address;
-use sms_tpdu::write_relay_address;
 use sms_walks::laws::offers_go_to_those_found;
 use sms_working::Working;
-
-// The centre's address, as it is sent.
-fn centre_address(working: &Working<'_>) -> Result<Octets, PlanError>
-    ensures { (d : Draft) → Shows d working.now → IsAddress d.store.setup.centre → UnlessMemory (λ octets. octets ≡ relay_address d.store.setup.centre) result }
-{
-    if !is_address(&working.setup.centre) {
-        return Err(PlanError::NoBody);
-    }
-    match write_relay_address(working.alloc(), &working.setup.centre) {
-        Ok(octets) => Ok(octets),
-        Err(_) => Err(PlanError::NoMemory),
-    }
-}
 
 // Offers go to these handsets, one after the other.
 fn offer_each<B: Bodies>(
@@ -66,18 +46,18 @@ fn stops(working: &Working<'_>) -> Result<Vec<Stop>, PlanError>
 }
 
 // To each handset whose line is ready the next that is due is offered.
-fn offer<B: Bodies>(working: &mut Working<'_>, bodies: &mut B) -> Result<(), PlanError>
-    ensures { B.is_honest bodies.new → (d : Draft) (rows : B.Rows) → Shows d working.old → IsSound (rows_of d.store) → Stores (B.body_of rows) d.store → B.holds bodies.old rows → B.refused bodies.old ≡ None
+fn offer<B: Bodies>(
+    working: &mut Working<'_>,
+    bodies: &mut B,
+    centre: &[u8],
+) -> Result<(), PlanError>
+    ensures { B.is_honest bodies.new → (d : Draft) (rows : B.Rows) → Shows d working.old → CanOffer B.body_of rows centre.now d.store → B.holds bodies.old rows → B.refused bodies.old ≡ None
         → Goes (λ _. Shows (offer_of d) working.new) (offer_of d).air.read (B.holds bodies.new rows) (B.is_closed bodies.new) (B.refused bodies.new) result }
     ensures before { B.is_honest bodies.new → B.is_honest bodies.old }
 {
     offers_go_to_those_found();
     let stops = stops(working)?;
-    if stops.is_empty() {
-        return Ok(());
-    }
-    let centre = centre_address(working)?;
-    offer_each(working, bodies, centre.as_slice(), stops.as_slice())
+    offer_each(working, bodies, centre, stops.as_slice())
 }
 
 // Receipts that are due go.
@@ -91,16 +71,21 @@ fn send_receipts(working: &mut Working<'_>) -> Result<(), PlanError>
 }
 
 /// What follows every event: receipts that are due go to their sessions, then to each handset whose line is ready the next that is
-/// due is offered. Its TPDU is read from the store, unless the event made it.
+/// due is offered. Its TPDU is read from the store, unless the event made it. `centre` is the centre's address as RP units carry it,
+/// 2 to 11 octets.
 ///
 /// Where the rows are sound, and the store has refused no read before: the centre then shows what follows in the definition, and the
 /// store holds what it held; or the store refused to read a body that the definition reads (`NoBody`), and is as it was or closed;
 /// or there was no memory, and the store refused nothing. After an error the event is given up.
-pub fn follow<B: Bodies>(working: &mut Working<'_>, bodies: &mut B) -> Result<(), PlanError>
-    ensures { B.is_honest bodies.new → (d : Draft) (rows : B.Rows) → Shows d working.old → IsSound (rows_of d.store) → Stores (B.body_of rows) d.store → B.holds bodies.old rows → B.refused bodies.old ≡ None
+pub fn follow<B: Bodies>(
+    working: &mut Working<'_>,
+    bodies: &mut B,
+    centre: &[u8],
+) -> Result<(), PlanError>
+    ensures { B.is_honest bodies.new → (d : Draft) (rows : B.Rows) → Shows d working.old → CanOffer B.body_of rows centre.now d.store → B.holds bodies.old rows → B.refused bodies.old ≡ None
         → Goes (λ _. Shows (follow_of d) working.new) (follow_of d).air.read (B.holds bodies.new rows) (B.is_closed bodies.new) (B.refused bodies.new) result }
     ensures before { B.is_honest bodies.new → B.is_honest bodies.old }
 {
     send_receipts(working)?;
-    offer(working, bodies)
+    offer(working, bodies, centre)
 }

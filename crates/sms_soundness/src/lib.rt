@@ -17,5 +17,4 @@ mod splits;
 mod tables;
 mod waiting_rows;
 
-pub use addresses::is_address;
 pub use tables::RowTables;

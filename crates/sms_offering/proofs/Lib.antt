@@ -1,0 +1,5 @@
+pub mod Unput
+pub mod TpdusMade
+pub mod Units
+pub mod OneOffer
+pub mod Walking
