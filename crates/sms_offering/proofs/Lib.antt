@@ -3,3 +3,4 @@ pub mod TpdusMade
 pub mod Units
 pub mod OneOffer
 pub mod Walking
+pub mod Planned

@@ -14,11 +14,12 @@ use Rattle.sms_waiting.specs.Waiting.{if_due, is_due, next, preceding, precedes}
 use Rattle.sms_centre_rules.specs.declared.plan_error.PlanError.{PlanError}
 use Rattle.sms_centre_rules.specs.declared.plan_error.PlanError.TheVariants.{NoBody, NoMemory}
 use Rattle.sms_centre_rules.specs.Draft.{Draft, Store, on_air, waiting_in}
-use Rattle.sms_centre_rules.specs.Offering.{is_made, offer_load, read_of}
+use Rattle.sms_centre_rules.specs.Offering.{is_made, offer_load, read_of, tpdu_of}
 use Rattle.sms_centre_rules.proofs.SoundAir.{line_of_handset}
 use Rattle.sms_walks.specs.Stepping.{offer_at}
 use Rattle.sms_offering.specs.Going.{Goes, UnlessMemory}
 use Rattle.sms_offering.specs.Offered.{next_for, offer_next}
+use Rattle.sms_offering.specs.Stored.{made_tpdu}
 
 -- ---- the next one is offered
 
@@ -123,3 +124,35 @@ pub goes_off : {A B : Type 0} (ok : A → Type 0) (then : B → Type 0) (keys mo
     → Goes ok keys held closed refused (Err e) → Goes then more held closed refused (Err e)
 goes_off ok then keys more held closed refused NoBody into goes = let n = goes.0 in ((n.0, (into n.0 n.1.0, n.1.1)), goes.1)
 goes_off ok then keys more held closed refused NoMemory into goes = goes
+
+pub short_off : {A B : Type 0} (ok : A → Type 0) (then : B → Type 0) (keys : List ℕ) (held closed : Type 0) (refused : Option ℕ) (e : PlanError) → UnlessMemory ok (Err e) → held → refused ≡ None
+    → Goes then keys held closed refused (Err e)
+short_off ok then keys held closed refused NoBody is holds none = absurd is
+short_off ok then keys held closed refused NoMemory is holds none = (holds, none)
+
+pub goes_wide : {A : Type 0} (ok : A → Type 0) (keys more : List ℕ) (held closed : Type 0) (refused : Option ℕ) (r : Result A PlanError) → ((k : ℕ) → Among k keys → Among k more)
+    → Goes ok keys held closed refused r → Goes ok more held closed refused r
+goes_wide ok keys more held closed refused (Ok x) into goes = goes
+goes_wide ok keys more held closed refused (Err NoBody) into goes = let n = goes.0 in ((n.0, (into n.0 n.1.0, n.1.1)), goes.1)
+goes_wide ok keys more held closed refused (Err NoMemory) into goes = goes
+
+pub unless_alike : {A : Type 0} (ok then : A → Type 0) (r : Result A PlanError) → ((x : A) → ok x → then x) → UnlessMemory ok r → UnlessMemory then r
+unless_alike ok then (Ok x) into is = into x is
+unless_alike ok then (Err NoBody) into is = is
+unless_alike ok then (Err NoMemory) into is = is
+
+-- ---- what was made
+
+made_by : (b : Bool) (x t : List ℕ) → Some x ≡ cond b (Some t) None → x ≡ t
+made_by true x t e = cc
+made_by false x t e = absurd cc
+
+unmade_by : (b : Bool) (t : List ℕ) → None ≡ cond b (Some t) None → b ≡ false
+unmade_by true t e = absurd cc
+unmade_by false t e = refl
+
+pub made_some : (x : List ℕ) (l : Load) (s : Store) → Some x ≡ made_tpdu l s → x ≡ tpdu_of l s
+made_some x l s e = made_by (is_made l s) x (tpdu_of l s) e
+
+pub made_none : (l : Load) (s : Store) → None ≡ made_tpdu l s → is_made l s ≡ false
+made_none l s e = unmade_by (is_made l s) (tpdu_of l s) e

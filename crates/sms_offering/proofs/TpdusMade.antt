@@ -25,6 +25,7 @@ use Rattle.sms_reports.specs.Waiting.{report_load, report_wait, reports_to}
 use Rattle.sms_desk.specs.Pending.{is_made as report_is_made, tpdu_in, tpdu_made}
 use Rattle.sms_kept.specs.Puts.{put_in, tpdu_of as tpdu_of_part, tpdu_put}
 use Rattle.sms_waiting.specs.declared.load.Load.{Load}
+use Rattle.sms_waiting.specs.declared.progress.Progress.{Progress}
 use Rattle.sms_waiting.specs.declared.revision.Revision.{Revision}
 use Rattle.sms_waiting.specs.declared.revision.Revision.TheVariants.{Put, Amend, Remove}
 use Rattle.sms_waiting.specs.Keys.{load_key}
@@ -87,7 +88,7 @@ puts_is key (Put p ∷ news) = some_or (part_key p == key) p (put_in key news) (
 puts_is key (Amend n progress ∷ news) = puts_is key news
 puts_is key (Remove n ∷ news) = puts_is key news
 
-reached : (p : PartRow) (q : _) (o : Option PartRow) → option_map (part_reaching q) o ≡ Some p → (x : PartRow) × ((o ≡ Some x) × (p.tpdu ≡ x.tpdu))
+reached : (p : PartRow) (q : Progress) (o : Option PartRow) → option_map (part_reaching q) o ≡ Some p → (x : PartRow) × ((o ≡ Some x) × (p.tpdu ≡ x.tpdu))
 reached p q None e = absurd cc
 reached p q (Some x) e = let same : part_reaching q x ≡ p = cc in (x, (refl, sym (ap (λ (y : PartRow). y.tpdu) same)))
 

@@ -25,18 +25,21 @@ fn offer_each<B: Bodies>(
     centre: &[u8],
     stops: &[Stop],
 ) -> Result<(), PlanError>
-    ensures { B.is_honest bodies.new → (d : Draft) (rows : B.Rows) → Shows d working.old → AreDigits stops.now → CanOffer B.body_of rows centre.now d.store → B.holds bodies.old rows → B.refused bodies.old ≡ None
+    ensures goes { B.is_honest bodies.new → (d : Draft) (rows : B.Rows) → Shows d working.old → AreDigits stops.now → CanOffer B.body_of rows centre.now d.store → B.holds bodies.old rows → B.refused bodies.old ≡ None
         → Goes (λ _. Shows (walk offer_at_of stops.now d) working.new) (walk offer_at_of stops.now d).air.read (B.holds bodies.new rows) (B.is_closed bodies.new) (B.refused bodies.new) result }
     ensures before { B.is_honest bodies.new → B.is_honest bodies.old }
 {
     for stop in stops {
-        offer_at(working, bodies, centre, stop.number)?;
+        match offer_at(working, bodies, centre, stop.number) {
+            Ok(()) => {}
+            Err(error) => return Err(error),
+        }
     }
     Ok(())
 }
 
 // The handsets to which offers go.
-fn stops(working: &Working<'_>) -> Result<Vec<Stop>, PlanError>
+fn find(working: &Working<'_>) -> Result<Vec<Stop>, PlanError>
     ensures { (d : Draft) → Shows d working.now → UnlessMemory (λ stops. stops.items ≡ stops_in (Offer d.store.moment) d) result }
 {
     match working.stops(&Wanted::Offer(working.now())) {
@@ -51,13 +54,15 @@ fn offer<B: Bodies>(
     bodies: &mut B,
     centre: &[u8],
 ) -> Result<(), PlanError>
-    ensures { B.is_honest bodies.new → (d : Draft) (rows : B.Rows) → Shows d working.old → CanOffer B.body_of rows centre.now d.store → B.holds bodies.old rows → B.refused bodies.old ≡ None
+    ensures goes { B.is_honest bodies.new → (d : Draft) (rows : B.Rows) → Shows d working.old → CanOffer B.body_of rows centre.now d.store → B.holds bodies.old rows → B.refused bodies.old ≡ None
         → Goes (λ _. Shows (offer_of d) working.new) (offer_of d).air.read (B.holds bodies.new rows) (B.is_closed bodies.new) (B.refused bodies.new) result }
     ensures before { B.is_honest bodies.new → B.is_honest bodies.old }
 {
     offers_go_to_those_found();
-    let stops = stops(working)?;
-    offer_each(working, bodies, centre, stops.as_slice())
+    match find(working) {
+        Ok(stops) => offer_each(working, bodies, centre, stops.as_slice()),
+        Err(error) => Err(error),
+    }
 }
 
 // Receipts that are due go.
@@ -82,10 +87,12 @@ pub fn follow<B: Bodies>(
     bodies: &mut B,
     centre: &[u8],
 ) -> Result<(), PlanError>
-    ensures { B.is_honest bodies.new → (d : Draft) (rows : B.Rows) → Shows d working.old → CanOffer B.body_of rows centre.now d.store → B.holds bodies.old rows → B.refused bodies.old ≡ None
+    ensures goes { B.is_honest bodies.new → (d : Draft) (rows : B.Rows) → Shows d working.old → CanOffer B.body_of rows centre.now d.store → B.holds bodies.old rows → B.refused bodies.old ≡ None
         → Goes (λ _. Shows (follow_of d) working.new) (follow_of d).air.read (B.holds bodies.new rows) (B.is_closed bodies.new) (B.refused bodies.new) result }
     ensures before { B.is_honest bodies.new → B.is_honest bodies.old }
 {
-    send_receipts(working)?;
-    offer(working, bodies, centre)
+    match send_receipts(working) {
+        Ok(()) => offer(working, bodies, centre),
+        Err(error) => Err(error),
+    }
 }

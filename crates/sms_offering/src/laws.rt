@@ -10,5 +10,5 @@ ghost use Rattle.sms_offering.specs.Going.{answers_but};
 /// refused; nothing, if one was that the event reads.
 pub fn a_refused_read_plans_nothing()
     ensures answered { (d : Draft) (refused : Option ℕ) → refused ≡ None → planned (answers_but refused) d ≡ Ok (outcome_of d) }
-    ensures refused { (d : Draft) (refused : Option ℕ) (key : ℕ) → Among key d.air.read → refused ≡ Some key → planned (answers_but refused) d ≡ Err NoBody }
+    ensures refusal { (d : Draft) (refused : Option ℕ) (key : ℕ) → Among key d.air.read → refused ≡ Some key → planned (answers_but refused) d ≡ Err NoBody }
 {}

@@ -48,7 +48,7 @@ fn offer_load<B: Bodies>(
     load: &Load,
 ) -> Result<(), PlanError>
     requires digits { AllDigits handset }
-    ensures { B.is_honest bodies.new → (d : Draft) (rows : B.Rows) → Shows d working.old → CanOffer B.body_of rows centre.now d.store → Among load.now (waiting_in handset d.store)
+    ensures goes { B.is_honest bodies.new → (d : Draft) (rows : B.Rows) → Shows d working.old → CanOffer B.body_of rows centre.now d.store → Among load.now (waiting_in handset d.store)
         → B.holds bodies.old rows → B.refused bodies.old ≡ None
         → Goes (λ _. Shows (offer_next handset (Some load.now) d) working.new) (offer_next handset (Some load.now) d).air.read (B.holds bodies.new rows) (B.is_closed bodies.new) (B.refused bodies.new) result }
     ensures before { B.is_honest bodies.new → B.is_honest bodies.old }
@@ -68,7 +68,7 @@ fn offer_to<B: Bodies>(
     handset: Digits,
 ) -> Result<(), PlanError>
     requires digits { AllDigits handset }
-    ensures { B.is_honest bodies.new → (d : Draft) (rows : B.Rows) → Shows d working.old → CanOffer B.body_of rows centre.now d.store → B.holds bodies.old rows → B.refused bodies.old ≡ None
+    ensures goes { B.is_honest bodies.new → (d : Draft) (rows : B.Rows) → Shows d working.old → CanOffer B.body_of rows centre.now d.store → B.holds bodies.old rows → B.refused bodies.old ≡ None
         → Goes (λ _. Shows (offer_at_of handset d) working.new) (offer_at_of handset d).air.read (B.holds bodies.new rows) (B.is_closed bodies.new) (B.refused bodies.new) result }
     ensures before { B.is_honest bodies.new → B.is_honest bodies.old }
 {
@@ -85,7 +85,7 @@ pub(crate) fn offer_at<B: Bodies>(
     centre: &[u8],
     handset: Digits,
 ) -> Result<(), PlanError>
-    ensures { B.is_honest bodies.new → (d : Draft) (rows : B.Rows) → Shows d working.old → AllDigits handset → CanOffer B.body_of rows centre.now d.store → B.holds bodies.old rows → B.refused bodies.old ≡ None
+    ensures goes { B.is_honest bodies.new → (d : Draft) (rows : B.Rows) → Shows d working.old → AllDigits handset → CanOffer B.body_of rows centre.now d.store → B.holds bodies.old rows → B.refused bodies.old ≡ None
         → Goes (λ _. Shows (offer_at_of handset d) working.new) (offer_at_of handset d).air.read (B.holds bodies.new rows) (B.is_closed bodies.new) (B.refused bodies.new) result }
     ensures before { B.is_honest bodies.new → B.is_honest bodies.old }
 {

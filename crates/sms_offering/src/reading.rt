@@ -16,7 +16,7 @@ use sms_working::Working;
 
 // The body of that key, which stands in the store.
 fn read<B: Bodies>(bodies: &mut B, key: Key) -> Result<Octets, PlanError>
-    ensures { B.is_honest bodies.new → (rows : B.Rows) (tpdu : List ℕ) → B.holds bodies.old rows → B.body_of rows key ≡ Some tpdu
+    ensures goes { B.is_honest bodies.new → (rows : B.Rows) (tpdu : List ℕ) → B.holds bodies.old rows → B.body_of rows key ≡ Some tpdu
         → Goes (λ octets. octets ≡ tpdu) (key ∷ []) (B.holds bodies.new rows) (B.is_closed bodies.new) (B.refused bodies.new) result }
     ensures before { B.is_honest bodies.new → B.is_honest bodies.old }
 {
@@ -43,7 +43,7 @@ pub(crate) fn tpdu<B: Bodies>(
     bodies: &mut B,
     load: &Load,
 ) -> Result<Octets, PlanError>
-    ensures { B.is_honest bodies.new → (d : Draft) (rows : B.Rows) (centre handset : List ℕ) → Shows d working.now → Among load.now (waiting_in handset d.store) → CanOffer B.body_of rows centre d.store
+    ensures goes { B.is_honest bodies.new → (d : Draft) (rows : B.Rows) (centre handset : List ℕ) → Shows d working.now → Among load.now (waiting_in handset d.store) → CanOffer B.body_of rows centre d.store
         → B.holds bodies.old rows → B.refused bodies.old ≡ None
         → Goes (λ octets. octets ≡ tpdu_of load.now d.store) (read_of load.now d.store d.air).read (B.holds bodies.new rows) (B.is_closed bodies.new) (B.refused bodies.new) result }
     ensures before { B.is_honest bodies.new → B.is_honest bodies.old }

@@ -1,9 +1,7 @@
 //! The unit in which a TPDU is offered, and the transaction that carries it.
-ghost use Rattle.std.specs.Prelude.{◌≡◌, ◌<◌, ◌≤◌, ℕ, List, length, None, Some, IfOk, IfSome, OnOk};
-ghost use Rattle.sms_base.specs.Address.{IsAddress};
+ghost use Rattle.std.specs.Prelude.{◌≡◌, ◌<◌, ◌≤◌, ◌↔◌, length, true, IfOk};
 ghost use Rattle.sms_relay.specs.RelayGrammar.{IsCentre, IsTpdu, data_down};
 ghost use Rattle.sms_table.specs.Keys.{AllDigits};
-ghost use Rattle.sms_tpdu.specs.AddressGrammar.{relay_address};
 ghost use Rattle.sms_tpdu.specs.MoreMessages.{telling};
 ghost use Rattle.sms_centre_rules.specs.Draft.{Draft};
 ghost use Rattle.sms_centre_rules.specs.Offering.{holder_of as holder_of_load};
@@ -49,7 +47,7 @@ fn data_unit(
     )
 }
 
-/// Whether a TPDU fits RP-DATA from that centre, which takes 248 octets at most.
+// Whether a TPDU fits RP-DATA from that centre, which takes 248 octets at most.
 fn fits(centre: &[u8], tpdu: &[u8]) -> bool
     ensures { (result ≡ true) ↔ ((2 ≤ length centre.now) × ((length centre.now ≤ 11) × (length tpdu.now ≤ 232))) }
 {
@@ -68,11 +66,11 @@ fn unit(
         → UnlessMemory (λ unit. unit ≡ data_down reference centre.now (telling more tpdu)) result }
     ensures fits { IfOk result (λ unit. (0 < length unit) × (length unit ≤ 248)) }
 {
-    let told = told(tpdu, more);
-    if !fits(centre, told.as_slice()) {
+    let octets = told(tpdu, more);
+    if !fits(centre, octets.as_slice()) {
         return Err(PlanError::NoBody);
     }
-    match data_unit(alloc, reference, centre, told.as_slice()) {
+    match data_unit(alloc, reference, centre, octets.as_slice()) {
         Ok(unit) => Ok(unit),
         Err(_) => Err(PlanError::NoMemory),
     }
