@@ -1,7 +1,9 @@
 //! Messages, parts and priorities in the middle of an event.
-ghost use Rattle.std.specs.Prelude.{◌≡◌, [], ℕ, List, Some, OnOk, IfOk, length};
+ghost use Rattle.std.specs.Prelude.{◌≡◌, [], ℕ, List, Some, OnOk, IfOk, length, option_copied};
 ghost use Rattle.sms_kept.specs.Kept.{Fits, Holds, Shows, found_part, opened};
+ghost use Rattle.sms_kept.specs.Puts.{tpdu_put};
 ghost use Rattle.sms_kept.specs.Settling.{IsSettled};
+ghost use Rattle.sms_table.specs.Keys.{pair_key};
 ghost use Rattle.sms_messages.specs.Messages.{Messages, all_done, amend_part, message_at, messages_of, part_at, parts_of, put_message, put_part, put_priority};
 ghost use Rattle.sms_messages.specs.PartEntries.{Few, part_entry};
 ghost use Rattle.sms_messages.specs.declared.message.MessageRow.{MessageRow as MessageRowOf};
@@ -78,6 +80,13 @@ impl<'a> PendingMessages<'a> {
         ensures { (m : Messages) → Shows self.now m → result ≡ found_part (part_at id number (parts_of m)) }
     {
         self.parts.find(id, number)
+    }
+
+    /// The TPDU of the part of that message and number, if the event put it: else it stands in the store.
+    pub fn tpdu_put(&self, id: MessageId, number: u8) -> Option<&[u8]>
+        ensures { (m : Messages) → Shows self.now m → option_copied result ≡ tpdu_put (pair_key id number) m.parts.news }
+    {
+        self.parts.tpdu_put(id, number)
     }
 
     /// Whether all parts of the message are done; a message has 1 to 20 parts.
