@@ -1,5 +1,5 @@
 -- What a submission becomes is what the definition says of its text and of its number.
-use Rattle.std.proofs.Common.{◌≡◌, ℕ, ◌<◌, nat_le, nat_lt, List, [], ◌∷◌, length, Bool, true, false, Option, Some, None, refl, sym, ◌∙◌, ap, subst, arith}
+use Rattle.std.proofs.Common.{◌≡◌, ℕ, ◌<◌, ◌≤◌, nat_le, nat_lt, List, [], ◌∷◌, length, Bool, true, false, Option, Some, None, refl, sym, ◌∙◌, ap, subst, arith}
 use Rattle.std.proofs.lemmas.Bool.{cond-false, cond-true, le-leb, leb-true}
 use Rattle.std.specs.Prelude.{SomeIff, if◌then◌else◌}
 use Rattle.sms_base.specs.MessageId.{IsMessageId}

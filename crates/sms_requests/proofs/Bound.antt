@@ -1,17 +1,14 @@
 -- A session is bound: receipts move, and nothing waits otherwise for a handset.
-use Rattle.std.proofs.Common.{◌≡◌, ℕ, List, [], ◌∷◌, Bool, true, false, Option, Some, None, refl, sym, ◌∙◌, ap, subst, inl, inr}
-use Rattle.std.specs.Prelude.{◌&&◌, nat_lt, not, if◌then◌else◌}
-use Rattle.std.proofs.lemmas.Bool.{and_parts, cond_both}
+use Rattle.std.proofs.Common.{◌≡◌, ℕ, List, Bool, true, false, Option, Some, None, refl, ◌∙◌, subst}
+use Rattle.std.specs.Prelude.{not}
+use Rattle.std.proofs.lemmas.Bool.{and_parts}
 use Rattle.sms_base.specs.Among.{Among}
-use Rattle.sms_table.specs.Table.{Rises, row_at}
+use Rattle.sms_table.specs.Table.{row_at}
 use Rattle.sms_table.proofs.Tables.{found_among}
-use Rattle.sms_messages.specs.declared.message.MessageRow.{MessageRow}
-use Rattle.sms_messages.specs.Messages.{message_at}
 use Rattle.sms_reports.specs.declared.report.ReportRow.{ReportRow}
-use Rattle.sms_reports.specs.Receipts.{Desk, Session, all_tried, is_account, is_put_off, put_session, receipts_due, session_key}
-use Rattle.sms_reports.specs.Reports.{amend_report, is_open_receipt, is_receipt, report_key, report_of, reports_of}
+use Rattle.sms_reports.specs.Receipts.{Desk, Session, put_session, session_key}
+use Rattle.sms_reports.specs.Reports.{is_receipt, reports_of}
 use Rattle.sms_waiting.specs.Revisions.{Revised}
-use Rattle.sms_waiting.specs.Trying.{due_at}
 use Rattle.sms_desk.specs.Pending.{PendingOf as ReportsOf, Tells}
 use Rattle.sms_sessions.specs.Answering.{desk_bound, desk_unbound_from, reports_bound, reports_due, reports_unbound_from, session_new}
 use Rattle.sms_sessions.specs.Awaited.{AreAwaited}
@@ -20,7 +17,7 @@ use Rattle.sms_centre_rules.specs.Draft.{Draft, Store, messages_in, reports_in, 
 use Rattle.sms_centre_rules.specs.Sessions.{bound_as, unbind, unbound_from}
 use Rattle.sms_centre_rules.specs.Standing.{Stands}
 use Rattle.sms_centre_rules.proofs.StandsKept.{stands_steady}
-use Rattle.sms_centre_rules.proofs.SteadyTimes.{StandReports, all_tried_steady, due_for_steady, stand_all}
+use Rattle.sms_centre_rules.proofs.SteadyTimes.{all_tried_steady, due_for_steady, stand_all}
 use Rattle.sms_working.specs.Working.{Shows, WorkingOf, all_waiting}
 use Rattle.sms_requests.proofs.Quiet.{AreReceipts, due_waits, tried_waits}
 use Rattle.sms_working.proofs.Shown.{shelves_alike}
@@ -83,7 +80,7 @@ bound_shown session receives a d w desk reports shows awaited is tells =
     (moved_shown (reports_due a.name receives d.store.moment (messages_in d.store) t) (put_session (session_new session receives a.name) (desk_unbound_from o d.desk)) d w desk reports shows
     (due_stays receives a.name t d (unbound_stays o d w shows (λ x e. receipts x (found_among session_key session x d.desk.sessions e)))) is tells)
   where
-  receipts : (x : Session) → Among x d.desk.sessions → AreReceipts x.unanswered (reports_in d.store)
-  receipts x among id sent =
-      let one = (awaited.each x among id sent).report in
-      (one.0, (one.1.0, (and_parts (is_receipt one.0.kind) (not one.0.progress.is_done) one.1.1).0))
+    receipts : (x : Session) → Among x d.desk.sessions → AreReceipts x.unanswered (reports_in d.store)
+    receipts x among id sent =
+        let one = (awaited.each x among id sent).report in
+        (one.0, (one.1.0, (and_parts (is_receipt one.0.kind) (not one.0.progress.is_done) one.1.1).0))

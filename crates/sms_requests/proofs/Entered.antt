@@ -1,5 +1,5 @@
 -- A submission that was accepted, or not, is answered as the definition says.
-use Rattle.std.proofs.Common.{◌≡◌, ℕ, Bool, true, false, Option, Some, None, refl}
+use Rattle.std.proofs.Common.{◌≡◌, ℕ, true, false, Option, Some, None, refl}
 use Rattle.smpp_pdu.specs.declared.status.CommandStatus.TheVariants.{ESME_RMSGQFUL}
 use Rattle.sms_centre_rules.specs.declared.answer.CentreAnswer.TheVariants.{Submitted}
 use Rattle.sms_centre_rules.specs.Draft.{Draft, Store, answer_with, in_store}

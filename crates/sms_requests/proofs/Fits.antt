@@ -1,14 +1,12 @@
 -- A submit_sm that passed all checks is a submission that does: a centre that holds nothing would take it.
-use Rattle.std.proofs.Common.{◌≡◌, ℕ, ◌≤◌, List, [], ◌∷◌, Some, Ok, refl, sym, subst, ⊎_elim, arith}
+use Rattle.std.proofs.Common.{◌≡◌, ℕ, [], ◌∷◌, Ok, sym, subst, ⊎_elim, arith}
 use Rattle.sms_base.specs.Address.{IsAddress}
-use Rattle.sms_base.specs.Among.{Among}
 use Rattle.sms_base.specs.TimeStamp.{IsMoment}
 use Rattle.smpp_pdu.specs.declared.message.Message.{Message}
 use Rattle.sms_intake.specs.declared.submission.Account.{Account}
 use Rattle.sms_intake.specs.declared.submission.Submission.{Submission}
 use Rattle.sms_intake.specs.SmppIntake.{from_pdu}
 use Rattle.sms_centre_rules.specs.declared.event.CentreEvent.TheVariants.{Submit}
-use Rattle.sms_centre_rules.specs.declared.setup.Setup.{Setup}
 use Rattle.sms_centre_rules.specs.Draft.{Core}
 use Rattle.sms_centre_rules.specs.SoundCore.{IsSoundCore}
 use Rattle.sms_centre_rules.specs.SoundRows.{IsSetup, first_rows}

@@ -31,7 +31,7 @@ not_status Unsent e = refl
 -- ---- receipts of a session that ends go again
 
 -- a receipt stands there for each
-pub AreReceipts : List ℕ → List ReportRow → Type 0
+unfoldable pub AreReceipts : List ℕ → List ReportRow → Type 0
 AreReceipts ids rows = (id : ℕ) → Among id ids → (r : ReportRow) × ((report_of id rows ≡ Some r) × (is_receipt r.kind ≡ true))
 
 receipts_stay : (r : ReportRow) (q : Progress) (ids : List ℕ) (t : Revised ReportRow) → Rises report_key (reports_of t) → report_of r.id (reports_of t) ≡ Some r → is_receipt r.kind ≡ true → AreReceipts ids (reports_of t)
@@ -73,7 +73,7 @@ far_leaves r q rs s keys rises stand x among =
 put_off_receipt : (n : ℕ) (a : List ℕ) (r : ReportRow) (o : Option MessageRow) → is_put_off n a r o ≡ true → is_receipt r.kind ≡ true
 put_off_receipt n a r None e = absurd cc
 put_off_receipt n a r (Some m) e =
-    and_parts (is_receipt r.kind) (not r.progress.is_done) (and_parts (is_open_receipt r) (is_account a m.originator && nat_lt n r.progress.due) e).0
+    (and_parts (is_receipt r.kind) (not r.progress.is_done) (and_parts (is_open_receipt r) (is_account a m.originator && nat_lt n r.progress.due) e).0).0
 
 pub due_waits : (n : ℕ) (a : List ℕ) (ms : List MessageRow) (rs : List ReportRow) (t : Revised ReportRow) (s : Store) → Stands (with_reports t s) → Rises report_key rs → StandReports rs (with_reports t s)
     → (h : List ℕ) → all_waiting (with_reports (receipts_due n a ms rs t) s) h ≡ all_waiting (with_reports t s) h
@@ -82,11 +82,11 @@ due_waits n a ms (r ∷ rs) t s k rises stand h =
     let is_one : Bool = is_put_off n a r (message_at r.id ms) in
     let there : report_of r.id (reports_of t) ≡ Some r = stand r (inl refl) in
     let all = cond_both is_one (amend_report r (due_at n r.progress) t) t
-        (λ (u : Revised ReportRow). Stands (with_reports u s) × StandReports rs (with_reports u s) × (all_waiting (with_reports u s) h ≡ all_waiting (with_reports t s) h))
-        (λ e. (
-          stands_steady.report_far r (due_at n r.progress) (with_reports t s) k there (λ f. f),
-          far_leaves r (due_at n r.progress) rs (with_reports t s) k.held.report_keys rises stand,
-          quiet_far_waits (with_reports t s) r (due_at n r.progress) k.held there (not_status r.kind (put_off_receipt n a r (message_at r.id ms) e)) h,
-        ))
-        (λ e. (k, (λ x among. stand x (inr among)), refl)) in
+    (λ (u : Revised ReportRow). Stands (with_reports u s) × StandReports rs (with_reports u s) × (all_waiting (with_reports u s) h ≡ all_waiting (with_reports t s) h))
+    (λ e. (
+      stands_steady.report_far r (due_at n r.progress) (with_reports t s) k there (λ f. f),
+      far_leaves r (due_at n r.progress) rs (with_reports t s) k.held.report_keys rises stand,
+      quiet_far_waits (with_reports t s) r (due_at n r.progress) k.held there (not_status r.kind (put_off_receipt n a r (message_at r.id ms) e)) h,
+    ))
+    (λ e. (k, (λ x among. stand x (inr among)), refl)) in
     due_waits n a ms rs (if is_one then amend_report r (due_at n r.progress) t else t) s all.0 rises.1 all.1 h ∙ all.2

@@ -1,6 +1,6 @@
 -- A message that is found stands under its number.
-use Rattle.std.proofs.Common.{◌≡◌, ℕ, Bool, Option, Some, None, refl, subst, sym}
-use Rattle.std.specs.Prelude.{◌&&◌, if◌then◌else◌}
+use Rattle.std.proofs.Common.{◌≡◌, ℕ, Option, Some, None, refl, subst, sym}
+use Rattle.std.specs.Prelude.{◌&&◌}
 use Rattle.std.proofs.lemmas.Bool.{cond_both}
 use Rattle.sms_base.specs.declared.address.Address.{Address}
 use Rattle.sms_intake.specs.declared.submission.Account.{Account}

@@ -1,5 +1,5 @@
 -- A submit_sm that passed all checks has units of its coding.
-use Rattle.std.proofs.Common.{◌≡◌, ℕ, List, length, take, drop, Bool, true, false, Option, Some, None, Result, Ok, Err, subst, ap, ◌∙◌}
+use Rattle.std.proofs.Common.{◌≡◌, ℕ, List, length, take, drop, Option, Some, None, Ok, Err, subst, ap, ◌∙◌}
 use Rattle.std.specs.Prelude.{nat_le}
 use Rattle.std.proofs.lemmas.Bool.{cond_both}
 use Rattle.sms_base.specs.Reading.{only_if}

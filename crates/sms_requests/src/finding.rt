@@ -51,11 +51,7 @@ fn if_own(account: &Account, source: &Option<Address>, message: MessageRow) -> O
 }
 
 // The message, if it is one of the account's from that source.
-fn own(
-    account: &Account,
-    source: &Option<Address>,
-    found: Option<MessageRow>,
-) -> Option<MessageRow>
+fn own(account: &Account, source: &Option<Address>, found: Option<MessageRow>) -> Option<MessageRow>
     ensures { result ≡ own_message_of account.now source.now found }
 {
     match found {

@@ -49,23 +49,14 @@ fn query_by(
 ) -> Result<(), AllocError>
     ensures { (d : Draft) → Shows d working.old → OnOk result (Shows (query_by_of (Some account.now) query.now d) working.new) }
 {
-    let found = own_message(
-        working,
-        account,
-        &query.source,
-        query.message_id.as_slice(),
-    )?;
+    let found = own_message(working, account, &query.source, query.message_id.as_slice())?;
     queried(working, found);
     Ok(())
 }
 
 /// Tells how the message stands that the account asks for, by its number and source; refused are an account that isn't there
 /// (ESME_RSYSERR) and a message that isn't the account's (ESME_RINVMSGID).
-pub fn query(
-    working: &mut Working<'_>,
-    account: u8,
-    query: &QuerySm<'_>,
-) -> Result<(), AllocError>
+pub fn query(working: &mut Working<'_>, account: u8, query: &QuerySm<'_>) -> Result<(), AllocError>
     ensures { (d : Draft) → Shows d working.old → OnOk result (Shows (query_of account query.now d) working.new) }
 {
     match account_of(working, account) {
@@ -101,10 +92,7 @@ fn cancelled(working: &mut Working<'_>, message: &MessageRow) -> Result<(), Allo
 }
 
 // The message is deleted, if it is there and hasn't ended.
-fn cancel_found(
-    working: &mut Working<'_>,
-    found: Option<MessageRow>,
-) -> Result<(), AllocError>
+fn cancel_found(working: &mut Working<'_>, found: Option<MessageRow>) -> Result<(), AllocError>
     ensures { (d : Draft) → Shows d working.old → StandsThere found d.store → OnOk result (Shows (cancelled_of found d) working.new) }
 {
     match found {

@@ -1,5 +1,5 @@
 //! The centre in the middle of an event.
-ghost use Rattle.std.specs.Prelude.{IfOk};
+ghost use Rattle.std.specs.Prelude.{◌≡◌, IfOk};
 ghost use Rattle.sms_centre_rules.specs.Draft.{Core, draft_of};
 ghost use Rattle.sms_working.specs.Beginning.{IsCentre};
 ghost use Rattle.sms_working.specs.Working.{Shows};
@@ -54,8 +54,9 @@ impl<'a> Working<'a> {
         reports: &Reports,
         sessions: &Table<Seat>,
     ) -> Result<Working<'a>, AllocError>
-        ensures { (c : Core) → IsCentre c setup.entry.now moment messages.entry.now shelves.now reports.now sessions.now.rows
+        ensures shown { (c : Core) → IsCentre c setup.entry.now moment messages.entry.now shelves.now reports.now sessions.now.rows
             → IfOk result (Shows (draft_of c)) }
+        ensures setup { IfOk result (λ working. working.setup ≡ setup.entry.now) }
     {
         let reports = PendingReports::of(alloc, reports)?;
         let desk = PendingDesk::of(alloc, sessions)?;

@@ -1,4 +1,4 @@
-use Rattle.std.proofs.Common.{Option, sym, ◌∙◌, subst}
+use Rattle.std.proofs.Common.{Option, sym, subst}
 use Rattle.std.specs.Prelude.{IfOk}
 use Rattle.sms_centre_rules.specs.Draft.{Store}
 use Rattle.sms_working.specs.Submitting.{Accepts}

@@ -1,4 +1,4 @@
-use Rattle.std.proofs.Common.{◌≡◌, ◌<◌, ◌≤◌, length, arith, get_or, ℕ, List, Option, Some, None, subst, sym, ◌∙◌, ap}
+use Rattle.std.proofs.Common.{ℕ, List, sym, ◌∙◌, ap}
 use Rattle.sms_intake.specs.declared.submission.Account.{Account}
 use Rattle.sms_centre_rules.specs.Requests.{account_at}
 use Rattle.sms_requests.proofs.Places.{account_got, account_past}

@@ -6,8 +6,8 @@ use Rattle.sms_requests.specs.Coming.{Comes}
 use Rattle.sms_requests.proofs.Places.{account_address, account_there, no_account}
 use Rattle.sms_requests.proofs.submitting.submit.Goals as goal
 
-pub submit_by-requires-clause-address : goal.submit_by-requires-clause-address
-submit_by-requires-clause-address c = account_address c.args.account c.args.working.now c.account_of.result c.in-Some.account c.requires.setup c.account_of.ensures c.in-Some.is
+pub submit_by-requires : goal.submit_by-requires
+submit_by-requires c = record { address = account_address c.args.account c.args.working.now c.account_of.result c.in-Some.account c.requires.setup c.account_of.ensures c.in-Some.is }
 
 pub returns-in-Some : goal.returns-in-Some
 returns-in-Some c = λ d shows knows.
