@@ -3,22 +3,26 @@ use Rattle.std.proofs.Common.{◌≡◌, ◌≤◌, ℕ, List, [], ◌∷◌, �
 use Rattle.std.specs.Prelude.{◌⊎◌}
 use Rattle.std.proofs.lemmas.Bool.{cond_both}
 use Rattle.sms_base.specs.Among.{Among}
+use Rattle.sms_base.specs.declared.holder.Holder.{Holder}
 use Rattle.sms_shelves.specs.Placing.{PendingOf as ShelvesOf, placed_of}
 use Rattle.sms_shelves.specs.Shown.{Shows as ShowsShelves}
 use Rattle.sms_waiting.specs.declared.line.Line.{Line}
 use Rattle.sms_waiting.specs.declared.load.Load.{Load}
 use Rattle.sms_waiting.specs.Keys.{load_key}
-use Rattle.sms_waiting.specs.Lines.{Air, is_ready, line_of, read_for}
+use Rattle.sms_waiting.specs.Lines.{Air, is_ready, line_of, read_for, turn_line}
+use Rattle.sms_link.specs.LinkTurn.{begun}
 use Rattle.sms_waiting.specs.References.{Givings, handsets_of, references_of}
 use Rattle.sms_waiting.specs.Waiting.{if_due, is_due, next, preceding, precedes}
 use Rattle.sms_centre_rules.specs.declared.plan_error.PlanError.{PlanError}
 use Rattle.sms_centre_rules.specs.declared.plan_error.PlanError.TheVariants.{NoBody, NoMemory}
 use Rattle.sms_centre_rules.specs.Draft.{Draft, Store, on_air, waiting_in}
-use Rattle.sms_centre_rules.specs.Offering.{is_made, offer_load, read_of, tpdu_of}
+use Rattle.sms_centre_rules.specs.Offering.{holder_of, is_made, offer_load, read_of, tpdu_of}
 use Rattle.sms_centre_rules.proofs.SoundAir.{line_of_handset}
 use Rattle.sms_walks.specs.Stepping.{offer_at}
 use Rattle.sms_offering.specs.Going.{Goes, UnlessMemory}
-use Rattle.sms_offering.specs.Offered.{next_for, offer_next}
+use Rattle.sms_offering.specs.Offered.{next_for, offer_in, offer_next}
+use Rattle.sms_working.specs.Working.{Shows, WorkingOf, all_waiting}
+use Rattle.sms_working.proofs.Shown.{aired_shown}
 use Rattle.sms_offering.specs.Stored.{made_tpdu}
 
 -- ---- the next one is offered
@@ -156,3 +160,16 @@ made_some x l s e = made_by (is_made l s) x (tpdu_of l s) e
 
 pub made_none : (l : Load) (s : Store) → None ≡ made_tpdu l s → is_made l s ≡ false
 made_none l s e = unmade_by (is_made l s) (tpdu_of l s) e
+
+-- ---- a transaction begins
+
+pub begun_shown : (handset : List ℕ) (l : Load) (unit : List ℕ) (now : ℕ) (tag : Holder) (d : Draft) (w : WorkingOf) (shelves : ShelvesOf) → Shows d w → now ≡ d.store.moment → tag ≡ holder_of l
+    → ShowsShelves d.store.givings
+    (turn_line (line_of handset (read_of l d.store d.air).lines) (begun now l.reference tag unit (line_of handset (read_of l d.store d.air).lines).link) (read_of l d.store d.air)) (all_waiting d.store) shelves
+    → Shows (offer_in handset unit l d) (record w { shelves = shelves })
+begun_shown handset l unit now tag d w shelves shows is held placed =
+    let air : Air = read_of l d.store d.air in
+    aired_shown d w (turn_line (line_of handset d.air.lines) (begun d.store.moment l.reference (holder_of l) unit (line_of handset d.air.lines).link) air) shelves shows
+    (subst (λ (ls : List Line). ShowsShelves d.store.givings (turn_line (line_of handset ls) (begun d.store.moment l.reference (holder_of l) unit (line_of handset ls).link) air) (all_waiting d.store) shelves) (read_lines l d.store d.air)
+    (subst (λ (n : ℕ). ShowsShelves d.store.givings (turn_line (line_of handset air.lines) (begun n l.reference (holder_of l) unit (line_of handset air.lines).link) air) (all_waiting d.store) shelves) is
+    (subst (λ (t : Holder). ShowsShelves d.store.givings (turn_line (line_of handset air.lines) (begun now l.reference t unit (line_of handset air.lines).link) air) (all_waiting d.store) shelves) held placed)))

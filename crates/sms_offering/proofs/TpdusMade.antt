@@ -44,11 +44,11 @@ there_load : (h : List ℕ) (l : Load) (s : Store) → Stands s → Among l (wai
 there_load h l s stands among = among_found load_key l (waiting_in h s) (stands.held.waiting h).keys among
 
 part_there : (h : List ℕ) (l : Load) (s : Store) → Stands s → Among l (waiting_in h s) → (l.number == 0) ≡ false → (p : PartRow) × (part_at l.id l.number (parts_in s) ≡ Some p)
-part_there h l s stands among no = of (part_at l.id l.number (parts_in s)) refl
+part_there h l s stands among nonzero = of (part_at l.id l.number (parts_in s)) refl
   where
     waits : part_wait h (messages_in s) (priorities_in s) (part_at l.id l.number (parts_in s)) ≡ Some l
     waits =
-        let ne = eqb-false l.number 0 no in
+        let ne = eqb-false l.number 0 nonzero in
         sym (part_waits_at h (messages_in s) (priorities_in s) (parts_in s) (reports_in s) l.id l.number stands.held.parts (omega (arith, ne))
         (all_few h (messages_in s) (priorities_in s) (parts_in s) (reports_in s) stands.held.parts l among)) ∙ there_load h l s stands among
 
@@ -130,13 +130,13 @@ made_by key news base p there None e = refl
 made_by key news base p there (Some q) e = ap (λ (t : List ℕ). Some t) (sym (put_tpdu key news base p q e there))
 
 pub part_made : (h : List ℕ) (l : Load) (s : Store) → Stands s → Among l (waiting_in h s) → (l.number == 0) ≡ false → tpdu_put (load_key l) s.messages.parts.news ≡ made_tpdu l s
-part_made h l s stands among no =
-    let there = part_there h l s stands among no in
+part_made h l s stands among nonzero =
+    let there = part_there h l s stands among nonzero in
     let news = s.messages.parts.news in
     let octets : tpdu_of l s ≡ there.0.tpdu =
-    cond-false (l.number == 0) (report_tpdu (report_of l.id (reports_in s))) (part_tpdu (part_at l.id l.number (parts_in s))) no ∙ ap part_tpdu there.1 in
+    cond-false (l.number == 0) (report_tpdu (report_of l.id (reports_in s))) (part_tpdu (part_at l.id l.number (parts_in s))) nonzero ∙ ap part_tpdu there.1 in
     let is : is_made l s ≡ is_some (put_in (load_key l) news) =
-    cond-false (l.number == 0) (puts_report l.id s.reports.news) (puts_part (load_key l) news) no ∙ puts_is (load_key l) news in
+    cond-false (l.number == 0) (puts_report l.id s.reports.news) (puts_part (load_key l) news) nonzero ∙ puts_is (load_key l) news in
     made_by (load_key l) news s.messages.parts.base there.0 there.1 (put_in (load_key l) news) refl
     ∙ sym (ap (λ (b : Bool). cond b (Some (tpdu_of l s)) None) is ∙ ap (λ (t : List ℕ). cond (is_some (put_in (load_key l) news)) (Some t) None) octets)
 
@@ -190,16 +190,16 @@ reports_unput id kind (Remove n ∷ news) e = reports_unput id kind news e
 
 part_stored : (body : ℕ → Option (List ℕ)) (h : List ℕ) (l : Load) (s : Store) → Stores body s → Stands s → Among l (waiting_in h s) → (l.number == 0) ≡ false → is_made l s ≡ false
     → body (load_key l) ≡ Some (tpdu_of l s)
-part_stored body h l s stored stands among no unmade =
-    let there = part_there h l s stands among no in
+part_stored body h l s stored stands among nonzero unmade =
+    let there = part_there h l s stands among nonzero in
     let p = there.0 in
     let key : part_key p ≡ load_key l = found_key part_key (load_key l) p (parts_in s) there.1 in
     let not_put : puts_part (load_key l) s.messages.parts.news ≡ false =
-    sym (cond-false (l.number == 0) (puts_report l.id s.reports.news) (puts_part (load_key l) s.messages.parts.news) no) ∙ unmade in
+    sym (cond-false (l.number == 0) (puts_report l.id s.reports.news) (puts_part (load_key l) s.messages.parts.news) nonzero) ∙ unmade in
     let row = stood part_key part_reaching (IsPartRow (load_key l) p.tpdu) (λ q x is. is) s.messages.parts.news s.messages.parts.base p
         (parts_unput (load_key l) p.tpdu s.messages.parts.news not_put) (found_among part_key (load_key l) p (parts_in s) there.1) (key, refl) in
     ap body (sym row.1.1.0) ∙ stored.parts row.0 row.1.0 ∙ ap (λ (t : List ℕ). Some t)
-    (row.1.1.1 ∙ sym (cond-false (l.number == 0) (report_tpdu (report_of l.id (reports_in s))) (part_tpdu (part_at l.id l.number (parts_in s))) no ∙ ap part_tpdu there.1))
+    (row.1.1.1 ∙ sym (cond-false (l.number == 0) (report_tpdu (report_of l.id (reports_in s))) (part_tpdu (part_at l.id l.number (parts_in s))) nonzero ∙ ap part_tpdu there.1))
 
 report_stored : (body : ℕ → Option (List ℕ)) (h : List ℕ) (l : Load) (s : Store) → Stores body s → Stands s → Among l (waiting_in h s) → (l.number == 0) ≡ true → is_made l s ≡ false
     → body (load_key l) ≡ Some (tpdu_of l s)

@@ -1,8 +1,7 @@
 //! Receipts go, then offers.
 ghost use Rattle.std.specs.Prelude.{◌≡◌, None};
 ghost use Rattle.sms_shelves.specs.Walks.{walk};
-ghost use Rattle.sms_shelves.specs.declared.stop.Wanted.TheVariants.{Offer};
-ghost use Rattle.sms_walks.specs.Stepping.{offer_at as offer_at_of, stops_in};
+ghost use Rattle.sms_walks.specs.Stepping.{offer_at as offer_at_of};
 ghost use Rattle.sms_centre_rules.specs.CentreEvent.{follow as follow_of};
 ghost use Rattle.sms_centre_rules.specs.Draft.{Draft};
 ghost use Rattle.sms_centre_rules.specs.Offering.{offer as offer_of};
@@ -38,16 +37,6 @@ fn offer_each<B: Bodies>(
     Ok(())
 }
 
-// The handsets to which offers go.
-fn find(working: &Working<'_>) -> Result<Vec<Stop>, PlanError>
-    ensures { (d : Draft) → Shows d working.now → UnlessMemory (λ stops. stops.items ≡ stops_in (Offer d.store.moment) d) result }
-{
-    match working.stops(&Wanted::Offer(working.now())) {
-        Ok(stops) => Ok(stops),
-        Err(_) => Err(PlanError::NoMemory),
-    }
-}
-
 // To each handset whose line is ready the next that is due is offered.
 fn offer<B: Bodies>(
     working: &mut Working<'_>,
@@ -59,9 +48,10 @@ fn offer<B: Bodies>(
     ensures before { B.is_honest bodies.new → B.is_honest bodies.old }
 {
     offers_go_to_those_found();
-    match find(working) {
+    let now = working.now();
+    match working.stops(&Wanted::Offer(now)) {
         Ok(stops) => offer_each(working, bodies, centre, stops.as_slice()),
-        Err(error) => Err(error),
+        Err(_) => Err(PlanError::NoMemory),
     }
 }
 

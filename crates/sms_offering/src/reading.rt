@@ -31,10 +31,10 @@ fn read<B: Bodies>(bodies: &mut B, key: Key) -> Result<Octets, PlanError>
 fn made<'w>(working: &'w Working<'_>, load: &Load) -> Option<&'w [u8]>
     ensures { (d : Draft) (handset : List ℕ) → Shows d working.now → Among load.now (waiting_in handset d.store) → option_copied result ≡ made_tpdu load.now d.store }
 {
-    match load.number {
-        0 => working.reports.tpdu_made(load.id),
-        number => working.messages.tpdu_put(load.id, number),
+    if load.number == 0 {
+        return working.reports.tpdu_made(load.id);
     }
+    working.messages.tpdu_put(load.id, load.number)
 }
 
 /// The TPDU of what waits for a handset: the event made it, or it is read.

@@ -1,5 +1,5 @@
 //! The unit in which a TPDU is offered, and the transaction that carries it.
-ghost use Rattle.std.specs.Prelude.{◌≡◌, ◌<◌, ◌≤◌, ◌↔◌, length, true, IfOk};
+ghost use Rattle.std.specs.Prelude.{◌≡◌, ◌<◌, ◌≤◌, ◌↔◌, length, true, IfOk, OnOk};
 ghost use Rattle.sms_relay.specs.RelayGrammar.{IsCentre, IsTpdu, data_down};
 ghost use Rattle.sms_table.specs.Keys.{AllDigits};
 ghost use Rattle.sms_tpdu.specs.MoreMessages.{telling};
@@ -87,6 +87,25 @@ fn holder_of(load: &Load) -> Holder
 }
 
 // A transaction to the handset begins with the unit.
+fn begun(
+    working: &mut Working<'_>,
+    handset: Digits,
+    load: &Load,
+    unit: &[u8],
+) -> Result<(), AllocError>
+    requires digits { AllDigits handset }
+    requires some { 0 < length unit.now }
+    requires fits { length unit.now ≤ 248 }
+    ensures { (d : Draft) → Shows d working.old → OnOk result (Shows (offer_in handset unit.now load.now d) working.new) }
+{
+    let now = working.now();
+    let holder = holder_of(load);
+    working
+        .shelves
+        .begin(handset, now, load.reference, holder, unit)?;
+    Ok(())
+}
+
 fn begin(
     working: &mut Working<'_>,
     handset: Digits,
@@ -98,11 +117,7 @@ fn begin(
     requires fits { length unit.now ≤ 248 }
     ensures { (d : Draft) → Shows d working.old → UnlessMemory (λ _. Shows (offer_in handset unit.now load.now d) working.new) result }
 {
-    let now = working.now();
-    match working
-        .shelves
-        .begin(handset, now, load.reference, holder_of(load), unit)
-    {
+    match begun(working, handset, load, unit) {
         Ok(()) => Ok(()),
         Err(_) => Err(PlanError::NoMemory),
     }

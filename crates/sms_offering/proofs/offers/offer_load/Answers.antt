@@ -7,7 +7,7 @@ use Rattle.sms_centre_rules.specs.Offering.{read_of, tpdu_of, unit_of}
 use Rattle.sms_offering.specs.Offered.{offer_in, offer_next}
 use Rattle.sms_offering.proofs.OneOffer.{goes_off, goes_on, unless_alike}
 use Rattle.sms_offering.proofs.TpdusMade.{tpdu_short}
-use Rattle.sms_offering.proofs.Units.{centre_is}
+use Rattle.sms_offering.proofs.UnitOctets.{centre_is}
 use Rattle.sms_offering.proofs.offers.offer_load.Goals as goal
 
 pub returns-in-Ok-clause-goes : goal.returns-in-Ok-clause-goes
