@@ -1,23 +1,13 @@
 -- What waits, as one more of the rows is looked at.
-<<<<<<< HEAD
-use Rattle.std.proofs.Common.{◌≡◌, ℕ, zero, suc, ◌+◌, ◌-◌, ◌<◌, List, [], ◌∷◌, length, drop, get_or, Bool, true, false, Option, Some, None, refl, sym, ◌∙◌, ap, subst, inl, inr, ⊎_elim, bytes_eq, arith}
-use Rattle.std.specs.Prelude.{◌&&◌, not, if◌then◌else◌}
-use Rattle.std.proofs.lemmas.Bool.{and_from, and_parts, cases_Bool, cond-true, cond-false}
-=======
 use Rattle.std.proofs.Common.{◌≡◌, ℕ, zero, List, [], ◌∷◌, Bool, true, false, Option, Some, Result, Ok, Err, OnOk, refl, sym, ◌∙◌, ap, subst, bytes_eq}
 use Rattle.std.specs.Prelude.{◌&&◌, not}
 use Rattle.std.proofs.lemmas.Bool.{and_from, and_parts, cond-true, cond-false}
->>>>>>> standing
 use Rattle.std.proofs.lemmas.Slice.Eq.{bytes_eq-Decides}
 use Rattle.sms_base.specs.Among.{Among}
 use Rattle.sms_base.specs.declared.originator.Originator.{Originator}
 use Rattle.sms_base.specs.declared.originator.Originator.TheVariants.{Application, Handset}
 use Rattle.sms_table.specs.Keys.{AllDigits}
-<<<<<<< HEAD
-use Rattle.sms_table.specs.Table.{AllAbove, Rises, insert, put, without}
-=======
 use Rattle.sms_table.specs.Table.{AllAbove, Rises, insert, put}
->>>>>>> standing
 use Rattle.sms_table.proofs.Places.{without_gap}
 use Rattle.sms_table.proofs.Tables.{found_among, insert_here}
 use Rattle.sms_messages.specs.declared.message.MessageRow.{MessageRow}
@@ -44,11 +34,7 @@ use Rattle.sms_centre_rules.specs.SoundRows.{CanBeTold, IsSound}
 -- ---- a row that goes before all others
 
 put_first : {A : Type 0} (key : A → ℕ) (x : A) (xs : List A) → AllAbove key (key x) xs → put key x xs ≡ x ∷ xs
-<<<<<<< HEAD
-put_first key x xs above = ap (λ (ys : List A). insert key x ys) (without_gap key (key x) zero xs above) ∙ first xs above
-=======
 put_first {A} key x xs above = ap (λ (ys : List A). insert key x ys) (without_gap key (key x) zero xs above) ∙ first xs above
->>>>>>> standing
   where
     first : (ys : List A) → AllAbove key (key x) ys → insert key x ys ≡ x ∷ ys
     first [] a = refl
@@ -70,26 +56,10 @@ module _ (ms : List MessageRow) (qs : List PriorityRow) where
       no_eq true false c e = refl
       no_eq false b c e = refl
 
-<<<<<<< HEAD
-  waits_not : (h : List ℕ) (p : PartRow) (o : Option MessageRow) → is_open_part p o ≡ false → waits_for h p o ≡ false
-  waits_not h p None e = refl
-  waits_not h p (Some m) e = no_open (not p.progress.is_done) (is_pending m) (bytes_eq m.handset h) e
-    where
-      no_open : (a b c : Bool) → (a && b) ≡ false → (a && (b && c)) ≡ false
-      no_open true true c f = absurd cc
-      no_open true false c f = refl
-      no_open false b c f = refl
-
-  pub part_waits : (p : PartRow) (m : MessageRow) (ps : List PartRow) → message_at p.id ms ≡ Some m → is_open_part p (Some m) ≡ true → Rises part_key (p ∷ ps)
-      → Waits m.handset (put load_key (part_load p qs)) (λ h. parts_waiting h ms qs ps) (λ h. parts_waiting h ms qs (p ∷ ps))
-  part_waits p m ps found open rises =
-      let is : waits_for m.handset p (message_at p.id ms) ≡ true = ap (λ (o : Option MessageRow). waits_for m.handset p o) found ∙ waits_own p m open in
-=======
   pub part_waits : (p : PartRow) (m : MessageRow) (ps : List PartRow) → message_at p.id ms ≡ Some m → is_open_part p (Some m) ≡ true → Rises part_key (p ∷ ps)
       → Waits m.handset (put load_key (part_load p qs)) (λ h. parts_waiting h ms qs ps) (λ h. parts_waiting h ms qs (p ∷ ps))
   part_waits p m ps found waits rises =
       let is : waits_for m.handset p (message_at p.id ms) ≡ true = ap (λ (o : Option MessageRow). waits_for m.handset p o) found ∙ waits_own p m waits in
->>>>>>> standing
       let own : parts_waiting m.handset ms qs (p ∷ ps) ≡ part_load p qs ∷ parts_waiting m.handset ms qs ps = cond-true (waits_for m.handset p (message_at p.id ms)) (part_load p qs ∷ parts_waiting m.handset ms qs ps) (parts_waiting m.handset ms qs ps) is in
       let order : Rises load_key (part_load p qs ∷ parts_waiting m.handset ms qs ps) = subst (λ (ls : List Load). Rises load_key ls) own (rises_waiting m.handset ms qs (p ∷ ps) rises) in (
         own ∙ sym (put_first load_key (part_load p qs) (parts_waiting m.handset ms qs ps) order.0),
@@ -97,15 +67,6 @@ module _ (ms : List MessageRow) (qs : List PriorityRow) where
             (ap (λ (o : Option MessageRow). waits_for other p o) found ∙ waits_other other p m ne),
       )
 
-<<<<<<< HEAD
-  part_stays : (p : PartRow) (ps : List PartRow) (h : List ℕ) → is_open_part p (message_at p.id ms) ≡ false → parts_waiting h ms qs ps ≡ parts_waiting h ms qs (p ∷ ps)
-  part_stays p ps h e = sym (cond-false (waits_for h p (message_at p.id ms)) (part_load p qs ∷ parts_waiting h ms qs ps) (parts_waiting h ms qs ps) (waits_not h p (message_at p.id ms) e))
-
-  pub parts_stay : (p : PartRow) (ps : List PartRow) → is_open_part p (message_at p.id ms) ≡ false → (λ (h : List ℕ). parts_waiting h ms qs ps) ≡ (λ (h : List ℕ). parts_waiting h ms qs (p ∷ ps))
-  parts_stay p ps e = λ i h. part_stays p ps h e i
-
-=======
->>>>>>> standing
 -- ---- status reports
 
 module _ (ms : List MessageRow) (w : List ℕ → List Load) where
@@ -119,43 +80,15 @@ module _ (ms : List MessageRow) (w : List ℕ → List Load) where
       no_eq true c e = e
       no_eq false c e = refl
 
-<<<<<<< HEAD
-  reports_not : (h : List ℕ) (r : ReportRow) (o : Option MessageRow) → is_open_status r ≡ false → reports_to h r o ≡ false
-  reports_not h r None e = refl
-  reports_not h r (Some m) e = no_open (is_open_status r) (bytes_eq m.source.digits h) e
-    where
-      no_open : (a c : Bool) → a ≡ false → (a && c) ≡ false
-      no_open true c f = absurd cc
-      no_open false c f = refl
-
-  pub report_waits : (r : ReportRow) (m : MessageRow) (rs : List ReportRow) → message_at r.id ms ≡ Some m → is_open_status r ≡ true
-      → Waits m.source.digits (put load_key (report_load r)) (λ h. with_reports h ms rs (w h)) (λ h. with_reports h ms (r ∷ rs) (w h))
-  report_waits r m rs found open = (
-    cond-true (reports_to m.source.digits r (message_at r.id ms)) (put load_key (report_load r) (with_reports m.source.digits ms rs (w m.source.digits))) (with_reports m.source.digits ms rs (w m.source.digits))
-        (ap (λ (o : Option MessageRow). reports_to m.source.digits r o) found ∙ reports_own r m open),
-=======
   pub report_waits : (r : ReportRow) (m : MessageRow) (rs : List ReportRow) → message_at r.id ms ≡ Some m → is_open_status r ≡ true
       → Waits m.source.digits (put load_key (report_load r)) (λ h. with_reports h ms rs (w h)) (λ h. with_reports h ms (r ∷ rs) (w h))
   report_waits r m rs found waits = (
     cond-true (reports_to m.source.digits r (message_at r.id ms)) (put load_key (report_load r) (with_reports m.source.digits ms rs (w m.source.digits))) (with_reports m.source.digits ms rs (w m.source.digits))
         (ap (λ (o : Option MessageRow). reports_to m.source.digits r o) found ∙ reports_own r m waits),
->>>>>>> standing
     λ other ne. cond-false (reports_to other r (message_at r.id ms)) (put load_key (report_load r) (with_reports other ms rs (w other))) (with_reports other ms rs (w other))
         (ap (λ (o : Option MessageRow). reports_to other r o) found ∙ reports_other other r m ne),
   )
 
-<<<<<<< HEAD
-  rest_stays : (r : ReportRow) (rs : List ReportRow) (h : List ℕ) → reports_to h r (message_at r.id ms) ≡ false → with_reports h ms rs (w h) ≡ with_reports h ms (r ∷ rs) (w h)
-  rest_stays r rs h e = sym (cond-false (reports_to h r (message_at r.id ms)) (put load_key (report_load r) (with_reports h ms rs (w h))) (with_reports h ms rs (w h)) e)
-
-  pub closed_stays : (r : ReportRow) (rs : List ReportRow) → is_open_status r ≡ false → (λ (h : List ℕ). with_reports h ms rs (w h)) ≡ (λ (h : List ℕ). with_reports h ms (r ∷ rs) (w h))
-  closed_stays r rs e = λ i h. rest_stays r rs h (reports_not h r (message_at r.id ms) e) i
-
-  pub lost_stays : (r : ReportRow) (rs : List ReportRow) → message_at r.id ms ≡ None → (λ (h : List ℕ). with_reports h ms rs (w h)) ≡ (λ (h : List ℕ). with_reports h ms (r ∷ rs) (w h))
-  lost_stays r rs e = λ i h. rest_stays r rs h (ap (λ (o : Option MessageRow). reports_to h r o) e) i
-
-=======
->>>>>>> standing
 -- ---- whose digits are digits
 
 pub handset_digits : (rows : Rows) (id : ℕ) (m : MessageRow) → IsSound rows → message_at id rows.messages ≡ Some m → AllDigits m.handset
@@ -169,21 +102,11 @@ from_handset (Status reference tpdu) (Handset n) m r e fits told = told
 from_handset Unsent o m r e fits told = absurd cc
 
 pub source_digits : (rows : Rows) (r : ReportRow) (m : MessageRow) → IsSound rows → Among r rows.reports → is_open_status r ≡ true → message_at r.id rows.messages ≡ Some m → AllDigits m.source.digits
-<<<<<<< HEAD
-source_digits rows r m sound there open found =
-=======
 source_digits rows r m sound there waits found =
->>>>>>> standing
     let is = (sound.reports.each r there).message in
     let same : is.0 ≡ m = some_same (sym is.1.0 ∙ found) in
     let fits : FitsOriginator r.kind m.originator m r = subst (λ (x : MessageRow). FitsOriginator r.kind x.originator x r) same is.1.1.1 in
     number_digits m.source.digits
-<<<<<<< HEAD
-    (from_handset r.kind m.originator m r (and_parts (is_status r.kind) (not r.progress.is_done) open).0 fits (sound.told m (found_among message_key r.id m rows.messages found)))
-  where
-    some_same : {x y : MessageRow} → Some x ≡ Some y → x ≡ y
-    some_same e = cc
-=======
     (from_handset r.kind m.originator m r (and_parts (is_status r.kind) (not r.progress.is_done) waits).0 fits (sound.told m (found_among message_key r.id m rows.messages found)))
   where
     some_same : {x y : MessageRow} → Some x ≡ Some y → x ≡ y
@@ -192,4 +115,3 @@ source_digits rows r m sound there waits found =
 pub if_ok : {X E : Type 0} {P Q : Type 0} (r : Result X E) → (P → Q) → OnOk r P → OnOk r Q
 if_ok (Ok x) f p = f p
 if_ok (Err e) f p = p
->>>>>>> standing

@@ -1,18 +1,10 @@
 -- The last rows first.
-<<<<<<< HEAD
-use Rattle.std.proofs.Common.{◌≡◌, ℕ, zero, suc, ◌+◌, ◌-◌, ◌<◌, List, [], ◌∷◌, length, drop, get_or, sym, ◌∙◌, ap, arith}
-=======
 use Rattle.std.proofs.Common.{◌≡◌, ℕ, ◌+◌, ◌-◌, ◌<◌, List, ◌∷◌, length, drop, get_or, sym, ◌∙◌, ap, arith}
->>>>>>> standing
 use Rattle.std.proofs.lemmas.List.{at_drop_more}
 
 -- the row before those that were looked at comes next
 pub next_back : {A : Type 0} (xs : List A) (i : ℕ) (x : A) → i < length xs → x ≡ get_or xs (length xs - 1 - i) x → drop (length xs - (i + 1)) xs ≡ x ∷ drop (length xs - i) xs
-<<<<<<< HEAD
-next_back xs i x l is =
-=======
 next_back {A} xs i x l is =
->>>>>>> standing
     let n : ℕ = length xs - 1 - i in
     let one : length xs - (i + 1) ≡ n = omega (arith, l) in
     let more : length xs - i ≡ n + 1 = omega (arith, l) in

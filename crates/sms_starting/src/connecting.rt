@@ -14,15 +14,7 @@ use sms_base::Digits;
 use sms_shelves::PendingShelves;
 use std::alloc::AllocError;
 
-<<<<<<< HEAD
-fn connect(
-    handset: Digits,
-    is_up: bool,
-    shelves: &mut PendingShelves<'_>,
-) -> Result<(), AllocError>
-=======
 fn connect(handset: Digits, is_up: bool, shelves: &mut PendingShelves<'_>) -> Result<(), AllocError>
->>>>>>> standing
     requires { AllDigits handset }
     ensures { OnOk result ((g : Givings) (air : Air) (waiting : List ℕ → List LoadOf) → Shows g air waiting shelves.old
         → Shows g (put_line (connected is_up (line_of handset air.lines)) air) waiting shelves.new) }
@@ -35,11 +27,7 @@ fn connect(handset: Digits, is_up: bool, shelves: &mut PendingShelves<'_>) -> Re
 }
 
 /// Lines to these handsets, where there are none.
-<<<<<<< HEAD
-pub(crate) fn connect_all(
-=======
 pub fn connect_all(
->>>>>>> standing
     handsets: &[Digits],
     are_up: bool,
     shelves: &mut PendingShelves<'_>,

@@ -74,11 +74,7 @@ fn put_part(
 }
 
 /// All of these parts that wait, where nothing does: the last comes first, so that each next one stands before the others.
-<<<<<<< HEAD
-pub(crate) fn put_parts(
-=======
 pub fn put_parts(
->>>>>>> standing
     tables: &RowTables,
     parts: &[PartRow],
     shelves: &mut PendingShelves<'_>,
@@ -146,11 +142,7 @@ fn put_report(
 }
 
 /// All of these status reports that wait, beside what waits already: the last comes first.
-<<<<<<< HEAD
-pub(crate) fn put_reports(
-=======
 pub fn put_reports(
->>>>>>> standing
     tables: &RowTables,
     reports: &[ReportRow],
     shelves: &mut PendingShelves<'_>,

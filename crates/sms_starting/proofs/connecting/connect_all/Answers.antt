@@ -1,9 +1,5 @@
-<<<<<<< HEAD
-use Rattle.std.proofs.Common.{◌≡◌, ℕ, List, [], Bool, true, false, take, length, refl, sym, subst, arith}
-=======
 use Rattle.std.proofs.Common.{◌≡◌, ℕ, List, [], Bool, true, false, take, refl, sym, subst, arith}
 use Rattle.std.proofs.lemmas.List.{take_all}
->>>>>>> standing
 use Rattle.sms_base.specs.Among.{Among}
 use Rattle.sms_shelves.specs.Shown.{Shows}
 use Rattle.sms_shelves.proofs.Giving.{number_digits}
@@ -34,11 +30,8 @@ loop-handset-preserved c = λ g waiting shows.
     subst (λ (ls : List Line). Shows g (record { lines = ls; frames = []; read = [] }) waiting c.connect.new.shelves)
     (next_line c.args.are_up i handsets c.handset-item.result c.requires.apart (omega (arith, c.loop-handset-test.true)) c.handset-item.is)
     (c.in_ok-connect.ensures g (record { lines = lines_of c.args.are_up (take i handsets); frames = []; read = [] }) waiting (c.loop-handset.invariant g waiting shows))
-<<<<<<< HEAD
-=======
 
 pub returns : goal.returns
 returns c = λ g waiting shows.
     subst (λ (ns : List (List ℕ)). Shows g (record { lines = lines_of c.args.are_up ns; frames = []; read = [] }) waiting c.loop-handset.shelves)
     (take_all c.loop-handset.handset-index c.args.handsets.now (omega (arith, c.loop-handset-test.false))) (c.loop-handset.invariant g waiting shows)
->>>>>>> standing

@@ -1,8 +1,4 @@
-<<<<<<< HEAD
-use Rattle.std.proofs.Common.{ℕ, List, ◌+◌, ◌-◌, ◌≡◌, length, drop, get_or, sym, subst, arith}
-=======
 use Rattle.std.proofs.Common.{ℕ, List, ◌-◌, ◌≡◌, length, drop, sym, subst, arith}
->>>>>>> standing
 use Rattle.std.proofs.lemmas.List.{drop_all}
 use Rattle.sms_base.specs.Among.{Among}
 use Rattle.sms_reports.specs.declared.report.ReportRow.{ReportRow}
@@ -19,13 +15,8 @@ loop-i-init c = λ g air waiting shows.
     subst (λ (rs : List ReportRow). Shows g air (λ (number : List ℕ). with_reports number messages rs (waiting number)) c.args.shelves.now)
     (sym (drop_all (length reports - 0) reports (omega arith))) shows
 
-<<<<<<< HEAD
-pub put_report-requires-there : goal.put_report-requires-there
-put_report-requires-there c =
-=======
 pub put_report-requires-clause-there : goal.put_report-requires-clause-there
 put_report-requires-clause-there c =
->>>>>>> standing
     let reports = c.args.reports.now in
     let place = length reports - 1 - c.loop-i.i in
     let report = c.index-reports-reports.result in

@@ -3,8 +3,4 @@ use Rattle.sms_centre_rules.specs.CentreEvent.{after_reports}
 use Rattle.sms_starting.proofs.moments.after_reports.Given as goal
 
 abbrev pub invariant-loop-row : goal.invariant-loop-row
-<<<<<<< HEAD
-invariant-loop-row l = after_reports l.moment (drop l.row-index l.rows) ≡ after_reports l.start l.rows
-=======
 invariant-loop-row l = after_reports l.moment (drop l.row-index l.rows) ≡ after_reports l.fn.start l.rows
->>>>>>> standing
