@@ -1,9 +1,5 @@
 -- Lines that are told one after the other.
-<<<<<<< HEAD
-use Rattle.std.proofs.Common.{◌≡◌, ℕ, zero, suc, ◌+◌, ◌<◌, List, [], ◌∷◌, ◌++◌, length, map, take, get_or, add-one, append-nil, Option, Some, None, refl, sym, ◌∙◌, ap, arith}
-=======
 use Rattle.std.proofs.Common.{◌≡◌, ℕ, zero, suc, ◌+◌, ◌<◌, List, [], ◌∷◌, ◌++◌, length, map, take, get_or, add-one, append-nil, refl, sym, ◌∙◌, ap, arith}
->>>>>>> standing
 use Rattle.std.specs.Prelude.{slice_get}
 use Rattle.std.proofs.lemmas.List.{append_assoc}
 use Rattle.sms_messages.specs.declared.message.MessageRow.{MessageRow}

@@ -6,16 +6,6 @@
 //! the centre as an event begins. `table` and `receipts` tell of all messages, and of all reports that were made.
 #![tactic(auto)]
 
-<<<<<<< HEAD
-mod first_rows;
-pub mod laws;
-mod recover;
-mod recover_error;
-mod standing;
-mod telling;
-
-pub use first_rows::first_rows;
-=======
 mod new_store;
 pub mod laws;
 mod recover;
@@ -25,6 +15,5 @@ mod standing;
 mod telling;
 
 pub use new_store::first_rows;
->>>>>>> standing
 pub use recover_error::RecoverError;
 pub use standing::Standing;

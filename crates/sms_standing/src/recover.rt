@@ -19,12 +19,8 @@ use sms_kept::KeptMessages;
 use sms_register::Register;
 use sms_sessions::Seat;
 use sms_soundness::RowTables;
-<<<<<<< HEAD
-use sms_starting::{moment_of, shelves_of};
-=======
 use crate::shelves::shelves_of;
 use sms_starting::moment_of;
->>>>>>> standing
 use sms_table::Table;
 use std::alloc::{AllocError, Global};
 

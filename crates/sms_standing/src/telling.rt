@@ -53,14 +53,7 @@ fn push_message(
     }
 }
 
-<<<<<<< HEAD
-fn message_lines(
-    alloc: Global,
-    messages: &KeptMessages,
-) -> Result<Listed<MessageRow>, AllocError>
-=======
 fn message_lines(alloc: Global, messages: &KeptMessages) -> Result<Listed<MessageRow>, AllocError>
->>>>>>> standing
     ensures { (ms : List MessageRowOf) (ps : List PartRowOf) → Holds messages.now ms ps → IfOk result (λ lines. lines ≡ message_lines_of ms) }
 {
     let mut lines = Listed::new(alloc);
