@@ -1,4 +1,4 @@
-use Rattle.std.proofs.Common.{◌≡◌, sym, ◌∙◌, subst, eq-eqb}
+use Rattle.std.proofs.Common.{sym, ◌∙◌, subst, eq-eqb}
 use Rattle.std.proofs.lemmas.Bool.{ne_eqb}
 use Rattle.sms_centre_rules.specs.Draft.{messages_in}
 use Rattle.sms_working.specs.Working.{Shows, WorkingOf}
