@@ -1,5 +1,5 @@
 -- One change of a part more, and where the parts stand that were put.
-use Rattle.std.proofs.Common.{◌≡◌, ℕ, ◌+◌, ◌<◌, List, [], ◌∷◌, ◌++◌, length, nat_eq, cond, Option, Some, None, slice_get, eq-eqb, refl, sym, ◌∙◌, ap, subst, ⊎_elim, arith, Bool, true, false}
+use Rattle.std.proofs.Common.{◌≡◌, ℕ, ◌+◌, List, [], ◌∷◌, ◌++◌, length, nat_eq, cond, Option, Some, None, eq-eqb, refl, sym, ◌∙◌, ap, subst, ⊎_elim, arith, Bool, true, false}
 use Rattle.std.specs.Map.{lookup}
 use Rattle.std.specs.Option.{option_and_then, option_map, option_or}
 use Rattle.std.proofs.lemmas.Bool.{cases_eq, ne_eqb, cond-true, cond-false}

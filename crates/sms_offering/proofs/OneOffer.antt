@@ -1,17 +1,16 @@
 -- What is offered to one handset.
-use Rattle.std.proofs.Common.{◌≡◌, ◌≤◌, ℕ, List, [], ◌∷◌, ◌++◌, Bool, true, false, Option, Some, None, Result, Ok, Err, refl, sym, ◌∙◌, ap, subst, cond, inl, inr, ⊎_elim, length}
-use Rattle.std.specs.Prelude.{◌⊎◌}
+use Rattle.std.proofs.Common.{◌≡◌, ℕ, List, [], ◌∷◌, ◌++◌, Bool, true, false, Option, Some, None, Result, Ok, Err, refl, sym, ◌∙◌, ap, subst, cond, inl, inr, ⊎_elim}
 use Rattle.std.proofs.lemmas.Bool.{cond_both}
 use Rattle.sms_base.specs.Among.{Among}
 use Rattle.sms_base.specs.declared.holder.Holder.{Holder}
-use Rattle.sms_shelves.specs.Placing.{PendingOf as ShelvesOf, placed_of}
+use Rattle.sms_shelves.specs.Placing.{PendingOf as ShelvesOf}
 use Rattle.sms_shelves.specs.Shown.{Shows as ShowsShelves}
 use Rattle.sms_waiting.specs.declared.line.Line.{Line}
 use Rattle.sms_waiting.specs.declared.load.Load.{Load}
 use Rattle.sms_waiting.specs.Keys.{load_key}
 use Rattle.sms_waiting.specs.Lines.{Air, is_ready, line_of, read_for, turn_line}
 use Rattle.sms_link.specs.LinkTurn.{begun}
-use Rattle.sms_waiting.specs.References.{Givings, handsets_of, references_of}
+use Rattle.sms_waiting.specs.References.{Givings}
 use Rattle.sms_waiting.specs.Waiting.{if_due, is_due, next, preceding, precedes}
 use Rattle.sms_centre_rules.specs.declared.plan_error.PlanError.{PlanError}
 use Rattle.sms_centre_rules.specs.declared.plan_error.PlanError.TheVariants.{NoBody, NoMemory}

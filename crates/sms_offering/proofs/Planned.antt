@@ -1,11 +1,10 @@
 -- What is planned with a store that answers every read but one.
-use Rattle.std.proofs.Common.{◌≡◌, ℕ, List, [], ◌∷◌, Bool, true, false, Option, Some, None, Result, Ok, Err, refl, sym, ◌∙◌, ap, ⊎_elim, cond, eq-eqb}
+use Rattle.std.proofs.Common.{◌≡◌, ℕ, List, [], ◌∷◌, Bool, true, false, Option, Some, None, Ok, Err, refl, sym, ◌∙◌, ap, ⊎_elim, cond, eq-eqb}
 use Rattle.std.specs.Prelude.{◌==◌, ◌&&◌, not}
 use Rattle.sms_base.specs.Among.{Among}
-use Rattle.sms_centre_rules.specs.declared.plan_error.PlanError.{PlanError}
 use Rattle.sms_centre_rules.specs.declared.plan_error.PlanError.TheVariants.{NoBody}
 use Rattle.sms_centre_rules.specs.Draft.{Draft}
-use Rattle.sms_centre_rules.specs.Planning.{Outcome, all_answered, outcome_of, planned}
+use Rattle.sms_centre_rules.specs.Planning.{all_answered, outcome_of, planned}
 use Rattle.sms_offering.specs.Going.{answers_but}
 
 all_true : (keys : List ℕ) → all_answered (answers_but None) keys ≡ true

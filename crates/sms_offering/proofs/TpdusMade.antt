@@ -111,7 +111,7 @@ put_tpdu key (Amend n g ∷ news) base p q e there =
     ⊎_elim
     (λ (own : n ≡ key).
     let was = reached p g (row_at part_key key rows)
-        (sym (row_at_amended part_key part_reaching (λ r x. refl) key g rows) ∙ ap (λ (k : ℕ). row_at part_key key (amended part_key part_reaching k g rows)) (sym own) ∙ there) in
+    (sym (row_at_amended part_key part_reaching (λ r x. refl) key g rows) ∙ ap (λ (k : ℕ). row_at part_key key (amended part_key part_reaching k g rows)) (sym own) ∙ there) in
     was.1.1 ∙ put_tpdu key news base was.0 q e was.1.0)
     (λ (other : n ≡ key → ⊥). put_tpdu key news base p q e (sym (row_at_amended_other part_key part_reaching (λ r x. refl) key n g rows other) ∙ there))
     (cases_eq n key)
@@ -197,7 +197,7 @@ part_stored body h l s stored stands among nonzero unmade =
     let not_put : puts_part (load_key l) s.messages.parts.news ≡ false =
     sym (cond-false (l.number == 0) (puts_report l.id s.reports.news) (puts_part (load_key l) s.messages.parts.news) nonzero) ∙ unmade in
     let row = stood part_key part_reaching (IsPartRow (load_key l) p.tpdu) (λ q x is. is) s.messages.parts.news s.messages.parts.base p
-        (parts_unput (load_key l) p.tpdu s.messages.parts.news not_put) (found_among part_key (load_key l) p (parts_in s) there.1) (key, refl) in
+    (parts_unput (load_key l) p.tpdu s.messages.parts.news not_put) (found_among part_key (load_key l) p (parts_in s) there.1) (key, refl) in
     ap body (sym row.1.1.0) ∙ stored.parts row.0 row.1.0 ∙ ap (λ (t : List ℕ). Some t)
     (row.1.1.1 ∙ sym (cond-false (l.number == 0) (report_tpdu (report_of l.id (reports_in s))) (part_tpdu (part_at l.id l.number (parts_in s))) nonzero ∙ ap part_tpdu there.1))
 
@@ -210,7 +210,7 @@ report_stored body h l s stored stands among is unmade =
     let not_put : puts_report l.id s.reports.news ≡ false =
     sym (cond-true (l.number == 0) (puts_report l.id s.reports.news) (puts_part (load_key l) s.messages.parts.news) is) ∙ unmade in
     let row = stood report_key report_reaching (IsReportRow l.id r.kind) (λ q x is. is) s.reports.news s.reports.base r
-        (reports_unput l.id r.kind s.reports.news not_put) found.0 (found.1, refl) in
+    (reports_unput l.id r.kind s.reports.news not_put) found.0 (found.1, refl) in
     let key : load_key l ≡ pair_key row.0.id 0 = ap (λ (n : ℕ). pair_key l.id n) (eqb-true l.number 0 is) ∙ ap (λ (i : ℕ). pair_key i 0) (sym row.1.1.0) in
     ap body key ∙ stored.reports row.0 row.1.0 (ap (λ (k : ReportKind). is_status k) row.1.1.1 ∙ there.1.1) ∙ ap (λ (t : List ℕ). Some t)
     (ap (λ (k : ReportKind). status_tpdu k) row.1.1.1

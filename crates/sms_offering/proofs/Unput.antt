@@ -1,6 +1,5 @@
 -- Rows that an event did not put stood there as it began.
 use Rattle.std.proofs.Common.{◌≡◌, ℕ, List, [], ◌∷◌, subst, ⊎_elim}
-use Rattle.std.specs.Prelude.{◌⊎◌}
 use Rattle.sms_base.specs.Among.{Among}
 use Rattle.sms_table.proofs.Tables.{among_put, among_without}
 use Rattle.sms_waiting.specs.declared.progress.Progress.{Progress}

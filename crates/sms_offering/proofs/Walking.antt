@@ -1,5 +1,5 @@
 -- Offers to handsets, one after the other.
-use Rattle.std.proofs.Common.{◌≡◌, ℕ, ◌∷◌, List, [], Option, None, Result, refl, sym, ◌∙◌, ap, subst, inl, inr, ⊎_elim}
+use Rattle.std.proofs.Common.{◌≡◌, ℕ, ◌∷◌, List, [], Option, None, refl, sym, ◌∙◌, ap, subst, inl, inr, ⊎_elim}
 use Rattle.sms_base.specs.Among.{Among}
 use Rattle.sms_shelves.specs.declared.stop.Stop.{Stop}
 use Rattle.sms_shelves.specs.declared.stop.Wanted.TheVariants.{Offer}

@@ -1,8 +1,8 @@
 -- What is offered to one handset.
-use Rattle.std.specs.Prelude.{ℕ, List, Bool, if◌then◌else◌, Option, None}
+use Rattle.std.specs.Prelude.{ℕ, List, if◌then◌else◌, Option, None}
 use Rattle.sms_link.specs.LinkTurn.{begun}
 use Rattle.sms_waiting.specs.declared.load.Load.{Load}
-use Rattle.sms_waiting.specs.Lines.{Air, is_ready, line_of, turn_line}
+use Rattle.sms_waiting.specs.Lines.{is_ready, line_of, turn_line}
 use Rattle.sms_waiting.specs.Waiting.{next}
 use Rattle.sms_centre_rules.specs.Draft.{Draft, on_air, waiting_in}
 use Rattle.sms_centre_rules.specs.Offering.{holder_of, offer_load, read_of}

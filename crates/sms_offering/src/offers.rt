@@ -34,9 +34,7 @@ fn has_more(working: &Working<'_>, handset: &Digits, load: &Load) -> bool
     requires digits { AllDigits handset.now }
     ensures { (d : Draft) → Shows d working.now → result ≡ waits_beside d.store.moment load.now (waiting_in handset.now d.store) }
 {
-    working
-        .shelves
-        .waits_beside(handset, working.now(), load)
+    working.shelves.waits_beside(handset, working.now(), load)
 }
 
 // That one is offered.

@@ -27,12 +27,7 @@ fn told(tpdu: Octets, more: bool) -> Octets
 }
 
 // RP-DATA.
-fn data_unit(
-    alloc: Global,
-    reference: u8,
-    centre: &[u8],
-    tpdu: &[u8],
-) -> Result<Octets, AllocError>
+fn data_unit(alloc: Global, reference: u8, centre: &[u8], tpdu: &[u8]) -> Result<Octets, AllocError>
     requires centre { IsCentre centre.now }
     requires tpdu { IsTpdu tpdu.now }
     ensures { IfOk result (λ unit. unit ≡ data_down reference centre.now tpdu.now) }

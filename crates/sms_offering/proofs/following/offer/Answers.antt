@@ -3,7 +3,6 @@ use Rattle.sms_shelves.specs.declared.stop.Stop.{Stop}
 use Rattle.sms_shelves.specs.declared.stop.Wanted.TheVariants.{Offer}
 use Rattle.sms_shelves.specs.Walks.{walk}
 use Rattle.sms_centre_rules.specs.Draft.{Draft}
-use Rattle.sms_centre_rules.specs.Offering.{offer}
 use Rattle.sms_walks.specs.Stepping.{offer_at, stops_in}
 use Rattle.sms_working.specs.Working.{Shows}
 use Rattle.sms_offering.specs.Going.{Goes}

@@ -1,4 +1,4 @@
-use Rattle.std.proofs.Common.{ℕ, Option, None, Bool, sym, ◌∙◌, ap, subst}
+use Rattle.std.proofs.Common.{ℕ, None, sym, ◌∙◌, ap, subst}
 use Rattle.std.proofs.lemmas.Bool.{cond-false, cond-true}
 use Rattle.sms_waiting.specs.Lines.{is_ready, line_of}
 use Rattle.sms_waiting.specs.Waiting.{next}

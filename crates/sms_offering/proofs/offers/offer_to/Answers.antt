@@ -1,4 +1,4 @@
-use Rattle.std.proofs.Common.{Option, None, sym, ◌∙◌, ap, subst}
+use Rattle.std.proofs.Common.{Option, sym, ◌∙◌, ap, subst}
 use Rattle.sms_waiting.specs.declared.load.Load.{Load}
 use Rattle.sms_centre_rules.specs.Draft.{Draft}
 use Rattle.sms_working.specs.Working.{Shows}

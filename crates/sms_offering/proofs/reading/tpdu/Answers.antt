@@ -1,6 +1,5 @@
-use Rattle.std.proofs.Common.{◌≡◌, ℕ, List, [], ◌∷◌, sym, ◌∙◌, ap, subst, ⊎_elim}
+use Rattle.std.proofs.Common.{◌≡◌, ℕ, [], ◌∷◌, sym, ◌∙◌, ap, subst, ⊎_elim}
 use Rattle.sms_base.specs.Among.{Among}
-use Rattle.sms_waiting.specs.Keys.{load_key}
 use Rattle.sms_centre_rules.specs.Offering.{read_of, tpdu_of}
 use Rattle.sms_offering.proofs.OneOffer.{goes_on, goes_wide, is_read, made_none, made_some, unless_alike}
 use Rattle.sms_offering.proofs.TpdusMade.{load_stored}
