@@ -1,11 +1,14 @@
 //! The parts in the middle of an event, found at once however many of them it changed.
-ghost use Rattle.std.specs.Prelude.{◌≡◌, [], OnOk, IfOk};
+ghost use Rattle.std.specs.Prelude.{◌≡◌, [], OnOk, IfOk, option_copied};
+ghost use Rattle.std.specs.Option.{option_map};
+ghost use Rattle.sms_kept.specs.Puts.{newest_put, tpdu_of};
 ghost use Rattle.sms_messages.specs.PartEntries.{amending, done_to, entry_key, is_done_entry, putting, rows_now};
 ghost use Rattle.sms_table.specs.Keys.{pair_key};
 ghost use Rattle.sms_table.specs.Pending.{FitsIn};
 ghost use Rattle.sms_table.specs.Table.{all_applied, row_at};
 
 use crate::changes::NewestChanges;
+use crate::part_changes::PartChanges;
 use sms_base::MessageId;
 use sms_messages::{PartEntry, PartRow};
 use sms_table::{Change, Key, Row, Spare, Table};
@@ -18,7 +21,7 @@ use std::marker::Model;
 pub(crate) struct EventParts<'a> {
     base: &'a Table<PartEntry>,
     entries: NewestChanges<PartEntry>,
-    changes: Vec<Revision<PartRow>>,
+    changes: PartChanges,
 }
 
 impl<'a> Model for EventParts<'a> {
@@ -26,7 +29,7 @@ impl<'a> Model for EventParts<'a> {
 
     ghost Value = { PartsOf };
 
-    ghost view = { λ p. record { entries = record { base = p.base.now; changes = p.entries }; changes = p.changes.items } };
+    ghost view = { λ p. record { entries = record { base = p.base.now; changes = p.entries }; changes = p.changes } };
 }
 
 // The changes of parts in memory, with memory for the parts that they bring.
@@ -60,7 +63,7 @@ impl<'a> EventParts<'a> {
         EventParts {
             base,
             entries: NewestChanges::new(alloc),
-            changes: Vec::new(alloc),
+            changes: PartChanges::new(alloc),
         }
     }
 
@@ -75,12 +78,19 @@ impl<'a> EventParts<'a> {
         }
     }
 
+    // The TPDU of the part of that message and number, if the event put it.
+    pub(crate) fn tpdu_put(&self, id: MessageId, number: u8) -> Option<&[u8]>
+        ensures { option_copied result ≡ option_map tpdu_of (newest_put (pair_key id number) self.now.changes) }
+    {
+        self.changes.tpdu(Key::pair(id.number(), number))
+    }
+
     // A part comes whole.
     pub(crate) fn put(&mut self, row: PartRow) -> Result<(), AllocError>
         ensures { OnOk result (self.new ≡ putting row self.old) }
     {
         self.entries.push(Change::Put(row.entry()))?;
-        self.changes.push(Revision::Put(row))?;
+        self.changes.put(row)?;
         Ok(())
     }
 
@@ -91,10 +101,7 @@ impl<'a> EventParts<'a> {
         let reached = entry.reaching(progress);
         let key = entry.key();
         self.entries.push(Change::Put(reached))?;
-        self.changes.push(Revision::Amend {
-            key,
-            progress: *progress,
-        })?;
+        self.changes.amend(key, *progress)?;
         Ok(())
     }
 
@@ -110,17 +117,8 @@ impl<'a> EventParts<'a> {
         true
     }
 
-    // The changes, with memory for the parts that they bring.
-    pub(crate) fn settle(self, alloc: Global) -> Result<SettledEventParts, AllocError>
-        ensures changes { IfOk result (λ s. (s.entries.changes ≡ self.entry.entries.changes) × (s.changes.items ≡ self.entry.changes)) }
-        ensures fits { IfOk result (λ s. FitsIn s.entries self.entry.entries.base) }
-    {
-        let base = self.base;
-        self.settle_for(alloc, base)
-    }
-
-    // The same, with memory for that table.
-    fn settle_for(
+    // The changes, with memory for the parts that they bring to that table.
+    pub(crate) fn settle(
         self,
         alloc: Global,
         table: &Table<PartEntry>,
@@ -132,7 +130,7 @@ impl<'a> EventParts<'a> {
         let changes = self.entries.into_vec();
         Ok(SettledEventParts {
             entries: PartsLeft { changes, spare },
-            changes: self.changes,
+            changes: self.changes.into_vec(),
         })
     }
 }

@@ -15,6 +15,7 @@ mod kept;
 pub mod laws;
 mod message_entry;
 mod names;
+mod part_changes;
 mod pending;
 mod recover;
 mod summary;

@@ -1,7 +1,9 @@
 //! Messages, parts and priorities in the middle of an event.
-ghost use Rattle.std.specs.Prelude.{◌≡◌, [], ℕ, List, Some, OnOk, IfOk, length};
+ghost use Rattle.std.specs.Prelude.{◌≡◌, [], ℕ, List, Some, OnOk, IfOk, length, option_copied};
 ghost use Rattle.sms_kept.specs.Kept.{Fits, Holds, Shows, found_part, opened};
+ghost use Rattle.sms_kept.specs.Puts.{tpdu_put};
 ghost use Rattle.sms_kept.specs.Settling.{IsSettled};
+ghost use Rattle.sms_table.specs.Keys.{pair_key};
 ghost use Rattle.sms_messages.specs.Messages.{Messages, all_done, amend_part, message_at, messages_of, part_at, parts_of, put_message, put_part, put_priority};
 ghost use Rattle.sms_messages.specs.PartEntries.{Few, part_entry};
 ghost use Rattle.sms_messages.specs.declared.message.MessageRow.{MessageRow as MessageRowOf};
@@ -80,6 +82,13 @@ impl<'a> PendingMessages<'a> {
         self.parts.find(id, number)
     }
 
+    /// The TPDU of the part of that message and number, if the event put it: else it stands in the store.
+    pub fn tpdu_put(&self, id: MessageId, number: u8) -> Option<&[u8]>
+        ensures { (m : Messages) → Shows self.now m → option_copied result ≡ tpdu_put (pair_key id number) m.parts.news }
+    {
+        self.parts.tpdu_put(id, number)
+    }
+
     /// Whether all parts of the message are done; a message has 1 to 20 parts.
     pub fn all_done(&self, id: MessageId) -> bool
         ensures { (m : Messages) → Shows self.now m → Few (parts_of m) → result ≡ all_done id (parts_of m) }
@@ -120,14 +129,14 @@ impl<'a> PendingMessages<'a> {
         Ok(())
     }
 
-    /// The changes, with memory for what they bring.
-    pub fn settle(self) -> Result<SettledMessages, AllocError>
+    /// The changes, with memory for what they bring to what is kept.
+    pub fn settle(self, kept: &KeptMessages) -> Result<SettledMessages, AllocError>
         ensures settled { (m : Messages) → Shows self.entry m → IfOk result (IsSettled m) }
-        ensures fits { (m : Messages) → Shows self.entry m → IfOk result (λ s. Fits s.spare (length s.messages) self.entry.kept) }
+        ensures fits { IfOk result (λ s. Fits s.spare (length s.messages) kept.now) }
     {
         let count = self.messages.len();
-        let parts = self.parts.settle(self.alloc)?;
-        let spare = self.kept.make_spare(self.alloc, count, parts.entries)?;
+        let parts = self.parts.settle(self.alloc, &kept.parts)?;
+        let spare = kept.make_spare(self.alloc, count, parts.entries)?;
         let messages = Listed::from_vec(self.messages.into_vec());
         let changes = Listed::from_vec(parts.changes);
         let priorities = Listed::from_vec(self.priorities);

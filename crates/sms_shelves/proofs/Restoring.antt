@@ -14,7 +14,7 @@ use Rattle.sms_waiting.specs.References.{handset_at, place_after}
 use Rattle.sms_waiting.specs.SoundGivings.{SoundGivings}
 use Rattle.sms_waiting.proofs.Mentions.{number_found, number_none}
 use Rattle.sms_shelves.specs.declared.placed.Placed.{Placed}
-use Rattle.sms_shelves.specs.Placing.{ShelvesOf, or_new, under}
+use Rattle.sms_shelves.specs.Placing.{GroundOf, ShelvesOf, or_new, under}
 use Rattle.sms_shelves.specs.Recovering.{restored, restored_all}
 use Rattle.sms_shelves.specs.Shown.{IsNamed, ShowsPlaced, Stands}
 use Rattle.sms_shelves.specs.Stops.{is_active}
@@ -110,11 +110,11 @@ restored_at number hs rs (Some h) (Some q) sound digits at is = ⊎_elim
     })))
     (from_row (digits_key number) hs rs None q is)
 
-pub restored_stands : (hs : List HandsetRow) (rs : List ReferenceRow) (s : ShelvesOf) → SoundGivings hs rs → ((key : ℕ) → under key s.shelves ≡ restored_all key hs rs None) → s.next_place ≡ place_after 1 hs
-    → s.lines ≡ 0 → s.rested ≡ None → Stands hs rs [] (λ n. []) s
-restored_stands hs rs s sound all place lines rested = record {
+ground_stands : (hs : List HandsetRow) (rs : List ReferenceRow) (g : GroundOf) (place lines : ℕ) → SoundGivings hs rs → ((key : ℕ) → under key g.shelves ≡ restored_all key hs rs None) → place ≡ place_after 1 hs
+    → lines ≡ 0 → g.rested ≡ None → Stands hs rs [] (λ n. []) (record { ground = g; touched = []; next_place = place; lines = lines })
+ground_stands hs rs g n k sound all place lines rested = record {
   sound = sound;
-  each = λ number d. restored_at number hs rs (handset_at number hs) (under (digits_key number) s.shelves) sound d refl (sym (all (digits_key number)));
+  each = λ number d. restored_at number hs rs (handset_at number hs) (under (digits_key number) g.shelves) sound d refl (sym (all (digits_key number)));
   named = λ key placed found. ⊎_elim
       (λ (n : None ≡ Some placed). absurd cc)
       (λ (h : (x : HandsetRow) × (Among x hs × (key ≡ digits_key x.number) × (placed ≡ restored x rs))).
@@ -136,3 +136,9 @@ restored_stands hs rs s sound all place lines rested = record {
     rested = λ moment key placed is found. let bad : None ≡ Some moment = sym rested ∙ is in absurd cc;
   };
 }
+
+pub restored_stands : (hs : List HandsetRow) (rs : List ReferenceRow) (s : ShelvesOf) → SoundGivings hs rs → ((key : ℕ) → under key s.ground.shelves ≡ restored_all key hs rs None) → s.touched ≡ [] → s.next_place ≡ place_after 1 hs
+    → s.lines ≡ 0 → s.ground.rested ≡ None → Stands hs rs [] (λ n. []) s
+restored_stands hs rs s sound all none place lines rested =
+    subst (λ (es : List (ℕ × Placed)). Stands hs rs [] (λ n. []) (record { ground = s.ground; touched = es; next_place = s.next_place; lines = s.lines })) (sym none)
+    (ground_stands hs rs s.ground s.next_place s.lines sound all place lines rested)

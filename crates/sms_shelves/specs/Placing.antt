@@ -40,26 +40,32 @@ is_listed key entries = is_some (lookup (nat_eq key) entries)
 
 -- ---- between two events
 
-pub record ShelvesOf : Type 0 where
+-- the shelves as they were put in last, which events share
+pub record GroundOf : Type 0 where
   pub shelves : List (ℕ × Placed)
   -- how many shelves its memory holds
   pub capacity : ℕ
   -- the keys of all shelves that an event which is not their own can concern
   pub index : List (ℕ × Unit {0})
   pub index_capacity : ℕ
+  -- nothing was left to offer at that moment
+  pub rested : Option ℕ
+
+pub record ShelvesOf : Type 0 where
+  pub ground : GroundOf
+  -- those that changed since, where the ground was shared and they could not be put in: none, as a rule
+  pub touched : List (ℕ × Placed)
   -- the place of the next handset that is mentioned first
   pub next_place : ℕ
   -- how many lines came
   pub lines : ℕ
-  -- nothing was left to offer at that moment
-  pub rested : Option ℕ
 
 -- ---- in the middle of an event
 
 pub record PendingOf : Type 0 where
-  -- the shelves as the event began
-  pub base : ShelvesOf
-  -- those that the event touched, as they are
+  -- the shelves as they were put in last
+  pub base : GroundOf
+  -- those that changed since, as they are
   pub touched : List (ℕ × Placed)
   -- what came of the rows of handsets and references, and the frames that were sent, the oldest first
   pub handsets : List (Change HandsetRow)
@@ -70,7 +76,12 @@ pub record PendingOf : Type 0 where
 
 -- an event begins
 abbrev pub pending_of : ShelvesOf → PendingOf
-pending_of s = record { base = s; touched = []; handsets = []; references = []; frames = []; next_place = s.next_place; lines = s.lines }
+pending_of s = record { base = s.ground; touched = s.touched; handsets = []; references = []; frames = []; next_place = s.next_place; lines = s.lines }
+
+-- it begins with these, the shelves beside the ground in memory of its own
+pub record Continues (s : ShelvesOf) (p : PendingOf) : Type 0 where
+  pub alike : (key : ℕ) → under key p.touched ≡ under key s.touched
+  pub rest : p ≡ record (pending_of s) { touched = p.touched }
 
 -- the shelf under a key as it is, if there is one
 abbrev pub at : ℕ → PendingOf → Option Placed

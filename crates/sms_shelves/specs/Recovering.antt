@@ -1,5 +1,5 @@
 -- The shelves of handsets that were given references, as rows tell of them: nothing waits yet, and there are no lines.
-use Rattle.std.specs.Prelude.{ℕ, ◌+◌, nat_eq, List, [], ◌∷◌, if◌then◌else◌, Option, Some}
+use Rattle.std.specs.Prelude.{◌≡◌, ℕ, ◌+◌, nat_eq, List, [], ◌∷◌, if◌then◌else◌, Option, Some, None}
 use Rattle.sms_table.specs.Keys.{digits_key, pair_key}
 use Rattle.sms_table.specs.Table.{rows_between}
 use Rattle.sms_waiting.specs.declared.handset.HandsetRow.{HandsetRow}
@@ -7,6 +7,7 @@ use Rattle.sms_waiting.specs.declared.reference.ReferenceRow.{ReferenceRow}
 use Rattle.sms_waiting.specs.Keys.{reference_key}
 use Rattle.sms_waiting.specs.Lines.{new_line}
 use Rattle.sms_shelves.specs.declared.placed.Placed.{Placed}
+use Rattle.sms_shelves.specs.Placing.{ShelvesOf}
 
 -- the references that were given there
 abbrev pub given_at : HandsetRow → List ReferenceRow → List ReferenceRow
@@ -19,3 +20,11 @@ restored h references = record { shelf = record { row = Some h; given = given_at
 abbrev pub restored_all : ℕ → List HandsetRow → List ReferenceRow → Option Placed → Option Placed
 restored_all key [] references placed = placed
 restored_all key (h ∷ hs) references placed = restored_all key hs references (if nat_eq key (digits_key h.number) then Some (restored h references) else placed)
+
+-- these shelves, which no event concerns that isn't their own, with that place for the next handset
+pub record AreBare (entries : List (ℕ × Placed)) (place : ℕ) (s : ShelvesOf) : Type 0 where
+  pub shelves : s.ground.shelves ≡ entries
+  pub touched : s.touched ≡ []
+  pub next_place : s.next_place ≡ place
+  pub lines : s.lines ≡ 0
+  pub rested : s.ground.rested ≡ None

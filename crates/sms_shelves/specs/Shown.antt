@@ -15,7 +15,7 @@ use Rattle.sms_waiting.specs.SoundGivings.{SoundGivings}
 use Rattle.sms_shelves.specs.declared.placed.Placed.{Placed}
 use Rattle.sms_shelves.specs.declared.stop.Wanted.TheVariants.{Offer}
 use Rattle.sms_shelves.specs.LineOrder.{AreLines, came_in}
-use Rattle.sms_shelves.specs.Placing.{PendingOf, ShelvesOf, at, is_listed, pending_of, placed_of, under}
+use Rattle.sms_shelves.specs.Placing.{GroundOf, PendingOf, ShelvesOf, at, is_listed, pending_of, placed_of, under}
 use Rattle.sms_shelves.specs.Stops.{is_active, stop_at}
 
 -- ---- one handset
@@ -31,7 +31,7 @@ pub record IsNamed (key : ℕ) (placed : Placed) : Type 0 where
 
 -- ---- the index: what it leaves out concerns no event but its handset's own
 
-pub record Indexed (s : ShelvesOf) : Type 0 where
+pub record Indexed (s : GroundOf) : Type 0 where
   pub active : (key : ℕ) (placed : Placed) → under key s.shelves ≡ Some placed → is_active placed.shelf.line ≡ true → is_listed key s.index ≡ true
   pub rested : (moment key : ℕ) (placed : Placed) → s.rested ≡ Some moment → under key s.shelves ≡ Some placed → stop_at (Offer moment) placed ≡ None
 
@@ -56,7 +56,11 @@ Waits number becomes before after = (after number ≡ becomes (before number)) �
 
 -- ---- between two events
 
--- an event that begins shows these rows, with no changes, and these lines
+-- it is of these rows, with no changes, and these lines, on which nothing was sent
+abbrev pub Begins : List HandsetRow → List ReferenceRow → List Line → (List ℕ → List Load) → PendingOf → Type 0
+Begins handsets references lines waiting p =
+    Shows (record { handsets = untouched handsets; references = untouched references }) (record { lines = lines; frames = []; read = [] }) waiting p
+
+-- so is an event that begins with the shelves of these
 abbrev pub Stands : List HandsetRow → List ReferenceRow → List Line → (List ℕ → List Load) → ShelvesOf → Type 0
-Stands handsets references lines waiting s =
-    Shows (record { handsets = untouched handsets; references = untouched references }) (record { lines = lines; frames = []; read = [] }) waiting (pending_of s)
+Stands handsets references lines waiting s = Begins handsets references lines waiting (pending_of s)

@@ -13,7 +13,7 @@ ghost use Rattle.sms_shelves.specs.declared.stop.Stop.{Stop};
 /// What an event left shows the rows with their changes, once it was put in: the next event begins with it.
 pub fn what_was_left_stands()
     ensures { (g : Givings) (air : Air) (waiting : List ℕ → List Load) (p : PendingOf) (s : SettledOf) (new : ShelvesOf)
-        → Shows g air waiting p → IsSettled p s → IsAdopted s p.base new → Stands (handsets_of g) (references_of g) air.lines waiting new }
+        → Shows g air waiting p → IsSettled p s → IsAdopted s new → Stands (handsets_of g) (references_of g) air.lines waiting new }
 {}
 
 /// An event that goes over all handsets may go over those alone that it concerns as it begins.

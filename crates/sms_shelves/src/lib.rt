@@ -1,6 +1,6 @@
 //! The shelves of all handsets of a service centre, between two events and in the middle of one.
 //!
-//! `Shelves` stand between events; `PendingShelves` are borrowed from them as an event begins, and copy the shelves that the event
+//! `Shelves` stand between events; `PendingShelves` share them as an event begins, and copy the shelves that the event
 //! touches. Each call's contract is one over the centre's definition: whatever rows of handsets and references, lines, frames and
 //! waiting loads the shelves show before it (`specs/Shown.antt`), they show what the definition makes of them after it; each question
 //! is the definition's. `settle` gives what is to be committed and sent, with the memory that it takes to put it in, and
@@ -11,6 +11,7 @@
 //! awaited or have a timer that runs; at a moment at which nothing was left to offer, by the shelves that the event touched alone.
 #![tactic(auto)]
 
+mod ground;
 pub mod laws;
 mod moves;
 mod pending;

@@ -21,7 +21,7 @@ use sms_table::Change;
 use sms_waiting::{HandsetRow, Load};
 use std::alloc::AllocError;
 
-impl<'a> PendingShelves<'a> {
+impl PendingShelves {
     /// One more waits for the handset, or the one of that message and number waits otherwise.
     pub fn put(&mut self, number: Digits, load: Load) -> Result<(), AllocError>
         requires digits { AllDigits number }
@@ -67,7 +67,7 @@ impl<'a> PendingShelves<'a> {
     }
 }
 
-impl<'a> PendingShelves<'a> {
+impl PendingShelves {
     /// The handset can be reached, and has memory.
     pub fn raise(&mut self, number: Digits) -> Result<(), AllocError>
         requires digits { AllDigits number }
@@ -129,7 +129,7 @@ impl<'a> PendingShelves<'a> {
     }
 }
 
-impl<'a> PendingShelves<'a> {
+impl PendingShelves {
     /// A transaction to the handset, unless one is under way: a unit of 1 to 248 octets.
     pub fn begin(
         &mut self,
@@ -200,7 +200,7 @@ impl<'a> PendingShelves<'a> {
     }
 }
 
-impl<'a> PendingShelves<'a> {
+impl PendingShelves {
     /// The reference is given to the handset. Places go to 4,294,967,295: a handset that comes behind that one gets none.
     pub fn give(&mut self, number: Digits, reference: u8, now: Moment) -> Result<(), AllocError>
         requires is { IsNumber number }

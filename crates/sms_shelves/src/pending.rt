@@ -1,10 +1,16 @@
 //! The shelves of all handsets, in the middle of an event.
-ghost use Rattle.std.specs.Prelude.{◌≡◌, ◌++◌, ℕ, [], IfOk, OnOk, option_copied};
+ghost use Rattle.std.specs.Prelude.{◌≡◌, ◌++◌, ℕ, List, [], Some, nat_eq, if◌then◌else◌, IfOk, OnOk, option_copied};
 ghost use Rattle.sms_table.specs.Keys.{digits_key};
 ghost use Rattle.sms_waiting.specs.Lines.{to_handset};
-ghost use Rattle.sms_shelves.specs.Placing.{Becomes, IsTaken, at, came_now, counted, lines_now, pending_of, under};
+ghost use Rattle.sms_waiting.specs.declared.handset.HandsetRow.{HandsetRow as HandsetRowOf};
+ghost use Rattle.sms_waiting.specs.declared.line.Line.{Line};
+ghost use Rattle.sms_waiting.specs.declared.load.Load.{Load};
+ghost use Rattle.sms_waiting.specs.declared.reference.ReferenceRow.{ReferenceRow as ReferenceRowOf};
+ghost use Rattle.sms_shelves.specs.Placing.{Becomes, Continues, IsTaken, at, came_now, counted, lines_now, under};
+ghost use Rattle.sms_shelves.specs.Shown.{Begins, Stands};
 ghost use Rattle.sms_shelves.specs.Stops.{all_noted, noted, scanned, stop_if};
 
+use crate::ground::Ground;
 use crate::placed::Placed;
 use crate::shelves::Shelves;
 use crate::stop::{Stop, Wanted};
@@ -15,12 +21,13 @@ use sms_table::{Change, Key, Table};
 use sms_waiting::{HandsetRow, ReferenceRow, Sent};
 use std::alloc::{AllocError, Global};
 use std::marker::Model;
+use std::sync::Arc;
 
 /// The shelves of all handsets, in the middle of an event: those that it touched are copies.
 #[derive(Drop)]
-pub struct PendingShelves<'a> {
+pub struct PendingShelves {
     pub(crate) alloc: Global,
-    pub(crate) base: &'a Shelves,
+    pub(crate) ground: Arc<Ground>,
     pub(crate) touched: IndexMap<u128, Placed>,
     pub(crate) handsets: Listed<Change<HandsetRow>>,
     pub(crate) references: Listed<Change<ReferenceRow>>,
@@ -29,13 +36,13 @@ pub struct PendingShelves<'a> {
     pub(crate) lines: u64,
 }
 
-impl<'a> Model for PendingShelves<'a> {
+impl Model for PendingShelves {
     ghost use Rattle.sms_shelves.specs.Placing.{PendingOf};
 
     ghost Value = { PendingOf };
 
     ghost view = { λ p. record {
-      base = p.base.now;
+      base = p.ground.value;
       touched = p.touched.entries;
       handsets = p.handsets;
       references = p.references;
@@ -45,21 +52,31 @@ impl<'a> Model for PendingShelves<'a> {
     } };
 }
 
-impl<'a> PendingShelves<'a> {
+impl PendingShelves {
     /// The shelves as an event begins.
-    pub fn of(alloc: Global, base: &'a Shelves) -> PendingShelves<'a>
-        ensures { result ≡ pending_of base.entry.now }
+    pub fn of(alloc: Global, base: &Shelves) -> Result<PendingShelves, AllocError>
+        ensures { (handsets : List HandsetRowOf) (references : List ReferenceRowOf) (lines : List Line) (waiting : List ℕ → List Load) → Stands handsets references lines waiting base.now
+            → IfOk result (Begins handsets references lines waiting) }
     {
-        PendingShelves {
+        let pending = PendingShelves::share(alloc, base)?;
+        Ok(pending)
+    }
+
+    fn share(alloc: Global, base: &Shelves) -> Result<PendingShelves, AllocError>
+        ensures { IfOk result (Continues base.now) }
+    {
+        let touched = copies(alloc, &base.touched)?;
+        let ground = Arc::try_clone(&base.ground)?;
+        Ok(PendingShelves {
             alloc,
-            base,
-            touched: IndexMap::new(alloc),
+            ground,
+            touched,
             handsets: Listed::new(alloc),
             references: Listed::new(alloc),
             frames: Listed::new(alloc),
             next_place: base.next_place,
             lines: base.lines,
-        }
+        })
     }
 
     /// The shelf under that key as it is, if there is one.
@@ -68,7 +85,7 @@ impl<'a> PendingShelves<'a> {
     {
         match self.touched.get(&key) {
             Some(placed) => Some(placed),
-            None => self.base.placed(key),
+            None => self.ground.placed(key),
         }
     }
 
@@ -80,7 +97,7 @@ impl<'a> PendingShelves<'a> {
         if let Some(placed) = self.touched.swap_remove(&key) {
             return Ok(placed);
         }
-        match self.base.placed(key) {
+        match self.ground.placed(key) {
             Some(placed) => placed.copy(),
             None => Ok(Placed::new(self.alloc, number)),
         }
@@ -152,8 +169,8 @@ impl<'a> PendingShelves<'a> {
     fn note_index(&self, wanted: &Wanted, found: &mut Table<Stop>) -> Result<(), AllocError>
         ensures { OnOk result (found.new.rows ≡ all_noted wanted.now self.now self.now.base.index found.old.rows) }
     {
-        let base: &Shelves = self.base;
-        for (key, _) in base.index.iter() {
+        let ground: &Ground = &self.ground;
+        for (key, _) in ground.index.iter() {
             self.note(wanted, *key, found)?;
         }
         Ok(())
@@ -165,7 +182,7 @@ impl<'a> PendingShelves<'a> {
     {
         let mut found = Table::new(self.alloc);
         self.note_touched(wanted, &mut found)?;
-        if !self.base.rests(wanted) {
+        if !self.ground.rests(wanted) {
             self.note_index(wanted, &mut found)?;
         }
         Ok(found.into_vec())
@@ -187,4 +204,31 @@ fn push_sent(
         })?;
     }
     Ok(())
+}
+
+// The same shelves, in memory of their own.
+fn copies(
+    alloc: Global,
+    shelves: &IndexMap<u128, Placed>,
+) -> Result<IndexMap<u128, Placed>, AllocError>
+    ensures { IfOk result (λ copy. (key : ℕ) → under key copy.entries ≡ under key shelves.now.entries) }
+{
+    let mut copy = IndexMap::new(alloc);
+    // The call tells that no key stands twice.
+    let _len = shelves.len();
+    for (key, placed) in shelves.iter() {
+        copy_one(&mut copy, *key, placed)?;
+    }
+    Ok(copy)
+}
+
+#[tactic(auto, using(crate::proofs::Listing::placed_as))]
+fn copy_one(copy: &mut IndexMap<u128, Placed>, key: u128, placed: &Placed) -> Result<(), AllocError>
+    ensures { OnOk result ((k : ℕ) → under k copy.new.entries ≡ (if nat_eq k key then Some placed.now else under k copy.old.entries)) }
+{
+    let placed = placed.copy()?;
+    match copy.insert(key, placed) {
+        Ok(_) => Ok(()),
+        Err(_) => Err(AllocError),
+    }
 }

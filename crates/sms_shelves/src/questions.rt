@@ -19,7 +19,7 @@ use sms_table::Key;
 use sms_waiting::Load;
 use std::alloc::AllocError;
 
-impl<'a> PendingShelves<'a> {
+impl PendingShelves {
     /// What waits for the handset, in the order of messages and numbers.
     pub fn waiting(&self, number: &Digits) -> &[Load]
         requires digits { AllDigits number.now }

@@ -4,15 +4,17 @@ ghost use Rattle.sms_table.specs.Keys.{digits_key};
 ghost use Rattle.sms_waiting.specs.References.{place_after};
 ghost use Rattle.sms_waiting.specs.SoundGivings.{SoundGivings};
 ghost use Rattle.sms_shelves.specs.Placing.{under};
-ghost use Rattle.sms_shelves.specs.Recovering.{given_at, restored, restored_all};
+ghost use Rattle.sms_shelves.specs.Recovering.{AreBare, given_at, restored, restored_all};
 ghost use Rattle.sms_shelves.specs.Shown.{Stands};
 
+use crate::ground::Ground;
 use crate::placed::Placed;
 use crate::shelves::Shelves;
 use indexmap::IndexMap;
 use sms_table::{Key, Table};
 use sms_waiting::{HandsetRow, ReferenceRow, Shelf};
 use std::alloc::{AllocError, Global};
+use std::sync::Arc;
 
 impl Shelves {
     /// The shelves of the handsets of the rows, with the references that were given there. Nothing waits for them yet, and
@@ -27,14 +29,32 @@ impl Shelves {
     {
         let next_place = place_behind(handsets);
         let shelves = shelves_of(alloc, handsets, references)?;
-        let index = IndexMap::new(alloc);
+        let stood = Shelves::bare(alloc, shelves, next_place)?;
+        Ok(stood)
+    }
+
+    // These shelves, which no event concerns that isn't their own.
+    fn bare(
+        alloc: Global,
+        shelves: IndexMap<u128, Placed>,
+        next_place: u64,
+    ) -> Result<Shelves, AllocError>
+        ensures { IfOk result (AreBare shelves.entries next_place) }
+    {
+        let ground = Arc::new(
+            alloc,
+            Ground {
+                shelves,
+                index: IndexMap::new(alloc),
+                rested: None,
+            },
+        )?;
         Ok(Shelves {
             alloc,
-            shelves,
-            index,
+            ground,
+            touched: IndexMap::new(alloc),
             next_place,
             lines: 0,
-            rested: None,
         })
     }
 }

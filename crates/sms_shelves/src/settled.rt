@@ -1,16 +1,14 @@
 //! What an event leaves of the shelves.
-ghost use Rattle.std.specs.Prelude.{◌≡◌, ◌+◌, ◌≤◌, ◌<◌, ℕ, [], max, length, nat_eq, if◌then◌else◌, Some, IfOk};
-ghost use Rattle.std.specs.Option.{option_or};
-ghost use Rattle.indexmap.specs.IndexMap.{index_map_len, spare as spare_of};
-ghost use Rattle.sms_shelves.specs.Adopting.{FitsIn, IsAdopted, IsSettled, relisted};
-ghost use Rattle.sms_shelves.specs.Placing.{is_listed, under};
-ghost use Rattle.sms_shelves.specs.Stops.{is_active, scanned};
+ghost use Rattle.std.specs.Prelude.{◌≡◌, ℕ, [], Some, IfOk};
+ghost use Rattle.sms_shelves.specs.Adopting.{Fits, IsAdopted, IsSettled};
+ghost use Rattle.sms_shelves.specs.Stops.{scanned};
 ghost use Rattle.sms_shelves.specs.declared.stop.Wanted.TheVariants.{Offer};
 
+use crate::ground::Ground;
 use crate::pending::PendingShelves;
 use crate::placed::Placed;
 use crate::shelves::Shelves;
-use crate::spare::{SpareMap, make_spare, use_spare};
+use crate::spare::SpareMap;
 use crate::stop::Wanted;
 use indexmap::IndexMap;
 use sms_base::{Listed, Moment};
@@ -18,10 +16,12 @@ use sms_table::Change;
 use sms_waiting::{HandsetRow, ReferenceRow, Sent};
 use std::alloc::{AllocError, Global};
 use std::marker::Model;
+use std::sync::Arc;
 
 /// What an event leaves of the shelves, ready made, with the memory that it takes to put it in.
 #[derive(Drop)]
 pub struct SettledShelves {
+    ground: Arc<Ground>,
     touched: IndexMap<u128, Placed>,
     spare: SpareMap<Placed>,
     index_spare: SpareMap<()>,
@@ -36,6 +36,7 @@ impl Model for SettledShelves {
     ghost Value = { SettledOf };
 
     ghost view = { λ s. record {
+      ground = s.ground.value;
       touched = s.touched.entries;
       spare = s.spare;
       index_spare = s.index_spare;
@@ -55,26 +56,26 @@ pub struct ShelvesPlan {
     pub shelves: SettledShelves,
 }
 
-impl<'a> PendingShelves<'a> {
+impl PendingShelves {
     /// What the event leaves, with the memory for it. The moment is that of the event.
     pub fn settle(self, now: Moment) -> Result<ShelvesPlan, AllocError>
-        ensures handsets { IfOk result (λ plan. plan.handsets ≡ self.entry.handsets) }
-        ensures references { IfOk result (λ plan. plan.references ≡ self.entry.references) }
-        ensures frames { IfOk result (λ plan. plan.frames ≡ self.entry.frames) }
-        ensures shelves { IfOk result (λ plan. IsSettled self.entry plan.shelves) }
-        ensures fits { IfOk result (λ plan. FitsIn plan.shelves self.entry.base) }
+        ensures handsets { IfOk result (λ plan. plan.handsets ≡ self.handsets) }
+        ensures references { IfOk result (λ plan. plan.references ≡ self.references) }
+        ensures frames { IfOk result (λ plan. plan.frames ≡ self.frames) }
+        ensures shelves { IfOk result (λ plan. IsSettled self plan.shelves) }
+        ensures fits { IfOk result (λ plan. Fits plan.shelves) }
     {
         let rested = self.rested_at(now)?;
         let next_place = self.next_place;
         let lines = self.lines;
-        let base: &Shelves = self.base;
-        let spare = base.more_shelves(self.alloc, self.touched.len())?;
-        let index_spare = base.more_keys(self.alloc, self.touched.len())?;
+        let spare = self.ground.more_shelves(self.alloc, self.touched.len())?;
+        let index_spare = self.ground.more_keys(self.alloc, self.touched.len())?;
         Ok(ShelvesPlan {
             handsets: self.handsets,
             references: self.references,
             frames: self.frames,
             shelves: SettledShelves {
+                ground: self.ground,
                 touched: self.touched,
                 spare,
                 index_spare,
@@ -100,26 +101,14 @@ impl<'a> PendingShelves<'a> {
 }
 
 impl Shelves {
-    fn more_shelves(&self, alloc: Global, extra: usize) -> Result<SpareMap<Placed>, AllocError>
-        ensures { IfOk result (λ spare. length self.now.shelves + extra ≤ max self.now.capacity spare) }
-    {
-        let spare = make_spare(alloc, &self.shelves, extra)?;
-        Ok(spare)
-    }
-
-    fn more_keys(&self, alloc: Global, extra: usize) -> Result<SpareMap<()>, AllocError>
-        ensures { IfOk result (λ spare. length self.now.index + extra ≤ max self.now.index_capacity spare) }
-    {
-        let spare = make_spare(alloc, &self.index, extra)?;
-        Ok(spare)
-    }
-
-    /// Puts in what an event left, without taking memory.
+    /// Puts in what an event left, without taking memory. Where another event still shares the ground, what was touched stands
+    /// beside it until one is adopted that has it alone.
     pub fn adopt(&mut self, settled: SettledShelves)
-        requires fits { FitsIn settled self.old }
-        ensures { IsAdopted settled self.old self.new }
+        requires fits { Fits settled }
+        ensures { IsAdopted settled self.new }
     {
         let SettledShelves {
+            ground,
             touched,
             spare,
             index_spare,
@@ -127,74 +116,16 @@ impl Shelves {
             lines,
             rested,
         } = settled;
-        reindex(&mut self.index, index_spare, &touched);
-        install(&mut self.shelves, spare, touched);
+        let alloc = self.alloc;
+        self.ground = ground;
         self.next_place = next_place;
         self.lines = lines;
-        self.rested = rested;
-    }
-}
-
-// The shelves come in, with that memory where the map's own is too small.
-fn install(
-    shelves: &mut IndexMap<u128, Placed>,
-    memory: SpareMap<Placed>,
-    touched: IndexMap<u128, Placed>,
-)
-    requires room { index_map_len shelves.old + index_map_len touched ≤ max (index_map_len shelves.old + spare_of shelves.old) memory }
-    ensures { (key : ℕ) → under key shelves.new.entries ≡ option_or (under key touched.entries) (under key shelves.old.entries) }
-{
-    use_spare(shelves, memory);
-    put_all(shelves, touched);
-}
-
-// The keys of these shelves come into the index or go, with that memory where the map's own is too small.
-fn reindex(index: &mut IndexMap<u128, ()>, memory: SpareMap<()>, touched: &IndexMap<u128, Placed>)
-    requires room { index_map_len index.old + index_map_len touched.now ≤ max (index_map_len index.old + spare_of index.old) memory }
-    ensures { (key : ℕ) → is_listed key index.new.entries ≡ relisted (under key touched.now.entries) (is_listed key index.old.entries) }
-{
-    use_spare(index, memory);
-    relist(index, touched);
-}
-
-// The shelves take the place of those of their keys, or come behind the others.
-fn put_all(shelves: &mut IndexMap<u128, Placed>, touched: IndexMap<u128, Placed>)
-    requires room { index_map_len touched ≤ spare_of shelves.old }
-    ensures { (key : ℕ) → under key shelves.new.entries ≡ option_or (under key touched.entries) (under key shelves.old.entries) }
-{
-    let mut touched = touched;
-    // The call tells that no key stands twice.
-    let _len = touched.len();
-    match shelves.append(&mut touched) {
-        Ok(()) => (),
-        Err(_) => (),
-    }
-}
-
-// The keys of shelves that an event can concern which isn't their own stand in the index, those of others don't.
-fn relist(index: &mut IndexMap<u128, ()>, touched: &IndexMap<u128, Placed>)
-    requires room { index_map_len touched.now ≤ spare_of index.old }
-    ensures { (key : ℕ) → is_listed key index.new.entries ≡ relisted (under key touched.now.entries) (is_listed key index.old.entries) }
-{
-    // The call tells that no key stands twice.
-    let _len = touched.len();
-    for (key, placed) in touched.iter() {
-        list_one(index, *key, placed);
-    }
-}
-
-#[tactic(auto, using(crate::proofs::Listing::listed_as))]
-fn list_one(index: &mut IndexMap<u128, ()>, key: u128, placed: &Placed)
-    requires room { 0 < spare_of index.old }
-    ensures listed { (k : ℕ) → is_listed k index.new.entries ≡ (if nat_eq k key then is_active placed.now.shelf.line else is_listed k index.old.entries) }
-    ensures room { spare_of index.old ≤ spare_of index.new + 1 }
-{
-    if placed.is_active() {
-        match index.insert(key, ()) {
-            Ok(_) => (),
-            Err(_) => (),
+        match Arc::get_mut(&mut self.ground) {
+            Some(ground) => {
+                ground.install(spare, index_spare, touched, rested);
+                self.touched = IndexMap::new(alloc);
+            }
+            None => self.touched = touched,
         }
-    } else {
-        index.swap_remove(&key);
     }
 }

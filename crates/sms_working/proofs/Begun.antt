@@ -4,7 +4,7 @@ use Rattle.sms_kept.specs.Kept.{KeptOf, PendingOf as MessagesOf, Shows as ShowsM
 use Rattle.sms_desk.specs.Kept.{Kept}
 use Rattle.sms_desk.specs.Pending.{PendingOf as ReportsOf, Tells}
 use Rattle.sms_reports.specs.Receipts.{Desk, Session}
-use Rattle.sms_shelves.specs.Placing.{PendingOf as ShelvesNow, ShelvesOf, pending_of}
+use Rattle.sms_shelves.specs.Placing.{PendingOf as ShelvesNow, ShelvesOf}
 use Rattle.sms_shelves.specs.Shown.{Shows as ShowsShelves}
 use Rattle.sms_waiting.specs.Revisions.{unrevised}
 use Rattle.sms_centre_rules.specs.declared.setup.Setup.{Setup}
@@ -16,7 +16,7 @@ use Rattle.sms_working.specs.Working.{Shows, all_waiting}
 
 pub begun_shown : (c : Core) (setup : Setup) (moment : ℕ) (kept : KeptOf) (base : ShelvesOf) (known : Kept) (sessions : List Session) (messages : MessagesOf) (shelves : ShelvesNow) (reports : ReportsOf) (desk : Desk)
     → IsCentre c setup moment kept base known sessions
-    → ShowsMessages messages (opened c.rows.messages c.rows.parts c.rows.priorities) → shelves ≡ pending_of base → Tells c.rows.messages reports (unrevised c.rows.reports) → desk ≡ record { sessions = sessions; deliveries = [] }
+    → ShowsMessages messages (opened c.rows.messages c.rows.parts c.rows.priorities) → ShowsShelves (draft_of c).store.givings (draft_of c).air (all_waiting (draft_of c).store) shelves → Tells c.rows.messages reports (unrevised c.rows.reports) → desk ≡ record { sessions = sessions; deliveries = [] }
     → Shows (draft_of c) (record { setup = setup; moment = moment; messages = messages; shelves = shelves; reports = reports; desk = desk; answer = None })
 begun_shown c setup moment kept base known sessions messages shelves reports desk is shown placed tells seated = record {
   stands = (store_sound c.rows c.moment is.sound.rows is.sound.now is.sound.moment).stands;
@@ -24,7 +24,7 @@ begun_shown c setup moment kept base known sessions messages shelves reports des
   setup = is.setup_is;
   moment = is.moment_is;
   messages = shown;
-  shelves = subst (λ (p : ShelvesNow). ShowsShelves (draft_of c).store.givings (draft_of c).air (all_waiting (draft_of c).store) p) (sym placed) is.shelves_are;
+  shelves = placed;
   reports = tells;
   desk = seated ∙ ap (λ (ss : List Session). record { sessions = ss; deliveries = [] }) is.sessions_are;
   answer = refl;

@@ -18,7 +18,7 @@ use std::alloc::AllocError;
 
 /// No part of that message waits for the handset any more.
 pub(crate) fn withdraw(
-    shelves: &mut PendingShelves<'_>,
+    shelves: &mut PendingShelves,
     number: Digits,
     id: MessageId,
 ) -> Result<(), AllocError>
@@ -33,7 +33,7 @@ pub(crate) fn withdraw(
 
 /// One more waits for the handset, or the one of that message and number waits otherwise.
 pub(crate) fn put(
-    shelves: &mut PendingShelves<'_>,
+    shelves: &mut PendingShelves,
     number: Digits,
     load: Load,
 ) -> Result<(), AllocError>
@@ -48,7 +48,7 @@ pub(crate) fn put(
 
 /// That one waits no more.
 pub(crate) fn remove(
-    shelves: &mut PendingShelves<'_>,
+    shelves: &mut PendingShelves,
     number: Digits,
     id: MessageId,
     part: u8,
@@ -70,7 +70,7 @@ fn due_then(load: Load, due: Moment) -> Load
 
 /// What waits for the handset under that message and number is due then.
 pub(crate) fn put_off(
-    shelves: &mut PendingShelves<'_>,
+    shelves: &mut PendingShelves,
     number: Digits,
     id: MessageId,
     part: u8,
@@ -90,7 +90,7 @@ pub(crate) fn put_off(
 
 /// The next reference that may be given to the handset.
 pub(crate) fn next_reference(
-    shelves: &PendingShelves<'_>,
+    shelves: &PendingShelves,
     number: Digits,
     now: Moment,
 ) -> Result<Option<u8>, AllocError>
@@ -105,7 +105,7 @@ pub(crate) fn next_reference(
 
 /// The reference is given to the handset.
 pub(crate) fn give(
-    shelves: &mut PendingShelves<'_>,
+    shelves: &mut PendingShelves,
     number: Digits,
     reference: u8,
     now: Moment,

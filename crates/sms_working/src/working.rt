@@ -1,5 +1,5 @@
 //! The centre in the middle of an event.
-ghost use Rattle.std.specs.Prelude.{IfOk};
+ghost use Rattle.std.specs.Prelude.{◌≡◌, IfOk};
 ghost use Rattle.sms_centre_rules.specs.Draft.{Core, draft_of};
 ghost use Rattle.sms_working.specs.Beginning.{IsCentre};
 ghost use Rattle.sms_working.specs.Working.{Shows};
@@ -21,7 +21,7 @@ pub struct Working<'a> {
     pub setup: &'a Setup,
     pub moment: Moment,
     pub messages: PendingMessages<'a>,
-    pub shelves: PendingShelves<'a>,
+    pub shelves: PendingShelves,
     pub reports: PendingReports,
     pub desk: PendingDesk,
     pub answer: Option<CentreAnswer>,
@@ -50,17 +50,18 @@ impl<'a> Working<'a> {
         setup: &'a Setup,
         moment: Moment,
         messages: &'a KeptMessages,
-        shelves: &'a Shelves,
+        shelves: &Shelves,
         reports: &Reports,
         sessions: &Table<Seat>,
     ) -> Result<Working<'a>, AllocError>
-        ensures { (c : Core) → IsCentre c setup.entry.now moment messages.entry.now shelves.entry.now reports.now sessions.now.rows
+        ensures shown { (c : Core) → IsCentre c setup.entry.now moment messages.entry.now shelves.now reports.now sessions.now.rows
             → IfOk result (Shows (draft_of c)) }
+        ensures setup { IfOk result (λ working. working.setup ≡ setup.entry.now) }
     {
         let reports = PendingReports::of(alloc, reports)?;
         let desk = PendingDesk::of(alloc, sessions)?;
         let messages = PendingMessages::of(alloc, messages);
-        let shelves = PendingShelves::of(alloc, shelves);
+        let shelves = PendingShelves::of(alloc, shelves)?;
         Ok(Working {
             alloc,
             setup,

@@ -3,8 +3,7 @@ use Rattle.sms_messages.specs.declared.message.MessageRow.{MessageRow}
 use Rattle.sms_messages.specs.declared.parts.PartEntry.{PartEntry}
 use Rattle.sms_table.specs.declared.change.Change.{Change}
 use Rattle.sms_table.specs.Pending.{FitsIn, SettledOf}
-use Rattle.sms_table.specs.Table.{Kept}
-use Rattle.sms_kept.specs.Kept.{Fits, PendingOf, Shows}
+use Rattle.sms_kept.specs.Kept.{Fits, KeptOf, PendingOf, Shows}
 use Rattle.sms_kept.proofs.Settles.{settled}
 use Rattle.sms_kept.proofs.pending.PendingMessages.settle.Goals as goal
 
@@ -15,8 +14,7 @@ returns-clause-settled c = λ m s.
     (ap (λ (t : SettledOf PartEntry). t.changes) c.in_ok-spare.ensures.parts ∙ c.in_ok-parts.ensures.changes.0)
 
 pub returns-clause-fits : goal.returns-clause-fits
-returns-clause-fits c = λ m s.
-    subst (λ (p : PendingOf). Fits c.in_ok-spare.spare (length c.from_vec-messages.result) p.kept) c.self.view_is
-    (subst (λ (n : ℕ). Fits c.in_ok-spare.spare n c.self.inside.kept.now)
+returns-clause-fits c =
+    subst (λ (n : ℕ). Fits c.in_ok-spare.spare n c.args.kept.now)
     (c.len-count.ensures ∙ ap (λ (l : List (Change MessageRow)). length l) (sym (c.from_vec-messages.ensures ∙ c.into_vec.ensures)))
-    (c.in_ok-spare.ensures.fits (subst (λ (t : Kept PartEntry). FitsIn c.in_ok-parts.parts.entries t) (subst (λ (p : PendingOf). Shows p m) (sym c.self.view_is) s).parts_base c.in_ok-parts.ensures.fits)))
+    (c.in_ok-spare.ensures.fits (subst (λ (k : KeptOf). FitsIn c.in_ok-parts.parts.entries k.parts) c.kept.view_is c.in_ok-parts.ensures.fits))

@@ -1,0 +1,37 @@
+use Rattle.std.proofs.Common.{◌+◌, refl, drop, arith, subst, sym}
+use Rattle.sms_working.proofs.Steps.{drop_one}
+use Rattle.sms_working.specs.Working.{Shows}
+use Rattle.sms_shelves.specs.Walks.{walk}
+use Rattle.sms_walks.specs.Stepping.{offer_at}
+use Rattle.sms_centre_rules.specs.Draft.{Store}
+use Rattle.sms_offering.specs.Stored.{CanOffer}
+use Rattle.sms_offering.proofs.OneOffer.{goes_off}
+use Rattle.sms_offering.proofs.Walking.{first_digits, left_next, reads_last}
+use Rattle.sms_offering.proofs.following.offer_each.Goals as goal
+
+pub loop-stop-init : goal.loop-stop-init
+loop-stop-init g c = ((λ honest. honest), λ honest d rows shows digits can holds none. record { draft = d; shows = shows; same = refl; digits = digits; goes = refl; holds = holds; none = none })
+
+pub loop-stop-preserved : goal.loop-stop-preserved
+loop-stop-preserved g c = (
+  (λ honest. c.loop-stop.invariant.0 (c.in-Ok.ensures.before honest)),
+  λ honest d rows shows digits can holds none.
+      let i = c.loop-stop.stop-index in
+      let left = c.loop-stop.invariant.1 (c.in-Ok.ensures.before honest) d rows shows digits can holds none in
+      let split = drop_one c.args.stops.now i c.stop-item.result (omega (arith, c.loop-stop-test.true)) c.stop-item.is in
+      let goes = c.in-Ok.ensures.goes honest left.draft rows left.shows (first_digits d c.args.stops.now (drop i c.args.stops.now) c.stop-item.result (drop (i + 1) c.args.stops.now) (g.B.Keep.holds c.loop-stop.bodies rows) (g.B.Bodies.refused c.loop-stop.bodies) c.loop-stop.working split left)
+      (subst (λ (s : Store). CanOffer g.B.Bodies.body_of rows c.args.centre.now s) (sym left.same) can) left.holds left.none in
+      left_next d c.args.stops.now (drop i c.args.stops.now) c.stop-item.result (drop (i + 1) c.args.stops.now) (g.B.Keep.holds c.loop-stop.bodies rows) (g.B.Keep.holds c.offer_at.new.bodies rows)
+      (g.B.Bodies.refused c.loop-stop.bodies) (g.B.Bodies.refused c.offer_at.new.bodies) c.loop-stop.working c.offer_at.new.working split left goes.0 goes.1.0 goes.1.1,
+)
+
+pub returns-in-Err-clause-goes : goal.returns-in-Err-clause-goes
+returns-in-Err-clause-goes g c = λ honest d rows shows digits can holds none.
+    let i = c.loop-stop.stop-index in
+    let left = c.loop-stop.invariant.1 (c.in-Err.ensures.before honest) d rows shows digits can holds none in
+    let split = drop_one c.args.stops.now i c.stop-item.result (omega (arith, c.loop-stop-test.true)) c.stop-item.is in
+    let own = first_digits d c.args.stops.now (drop i c.args.stops.now) c.stop-item.result (drop (i + 1) c.args.stops.now) (g.B.Keep.holds c.loop-stop.bodies rows) (g.B.Bodies.refused c.loop-stop.bodies) c.loop-stop.working split left in
+    let goes = c.in-Err.ensures.goes honest left.draft rows left.shows own (subst (λ (s : Store). CanOffer g.B.Bodies.body_of rows c.args.centre.now s) (sym left.same) can) left.holds left.none in
+    goes_off (λ (u : Unit {0}). Shows (offer_at c.stop-item.result.number left.draft) c.offer_at.new.working) (λ (u : Unit {0}). Shows (walk offer_at c.args.stops.now d) c.offer_at.new.working)
+    (offer_at c.stop-item.result.number left.draft).air.read (walk offer_at c.args.stops.now d).air.read (g.B.Keep.holds c.offer_at.new.bodies rows) (g.B.Keep.is_closed c.offer_at.new.bodies) (g.B.Bodies.refused c.offer_at.new.bodies) c.in-Err.error
+    (λ k a. reads_last d c.args.stops.now (drop i c.args.stops.now) c.stop-item.result (drop (i + 1) c.args.stops.now) (g.B.Keep.holds c.loop-stop.bodies rows) (g.B.Bodies.refused c.loop-stop.bodies) c.loop-stop.working k split left a) goes

@@ -1,0 +1,23 @@
+-- How steps end whose reads the store may refuse.
+use Rattle.std.specs.Prelude.{◌≡◌, ◌⊎◌, ℕ, ◌==◌, not, List, Bool, true, Option, Some, None, Result, Ok, Err}
+use Rattle.sms_base.specs.Among.{Among}
+use Rattle.sms_centre_rules.specs.declared.plan_error.PlanError.{PlanError}
+use Rattle.sms_centre_rules.specs.declared.plan_error.PlanError.TheVariants.{NoBody, NoMemory}
+
+-- It went well, or there was no memory.
+abbrev pub UnlessMemory : {A : Type 0} → (A → Type 0) → Result A PlanError → Type 0
+UnlessMemory ok (Ok value) = ok value
+UnlessMemory ok (Err NoBody) = ⊥
+UnlessMemory ok (Err NoMemory) = Unit {0}
+
+-- It went well; or the store refused to read the body of a key that is among these; or there was no memory, and the store refused
+-- nothing. Only after a refusal may the store be closed; else it holds what it held.
+abbrev pub Goes : {A : Type 0} → (A → Type 0) → List ℕ → Type 0 → Type 0 → Option ℕ → Result A PlanError → Type 0
+Goes ok keys held closed refused (Ok value) = ok value × (held × (refused ≡ None))
+Goes ok keys held closed refused (Err NoBody) = ((key : ℕ) × (Among key keys × (refused ≡ Some key))) × (held ⊎ closed)
+Goes ok keys held closed refused (Err NoMemory) = held × (refused ≡ None)
+
+-- the store answers every read but that which it refused
+abbrev pub answers_but : Option ℕ → ℕ → Bool
+answers_but None key = true
+answers_but (Some refused) key = not (key == refused)

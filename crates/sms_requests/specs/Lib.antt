@@ -1,0 +1,3 @@
+pub mod Coming
+pub mod Found
+pub mod Knowing

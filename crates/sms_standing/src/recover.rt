@@ -1,0 +1,137 @@
+//! A centre that starts on the rows of a store.
+ghost use Rattle.std.specs.Prelude.{◌≡◌, ℕ, List, IfErr, IfOk};
+ghost use Rattle.sms_base.specs.Among.{Among};
+ghost use Rattle.sms_soundness.specs.RowsOf.{rows_of};
+ghost use Rattle.sms_standing.specs.Recovering.{AreNew, RefusesRows, begun};
+ghost use Rattle.sms_standing.specs.Standing.{IsStanding};
+ghost use Rattle.sms_waiting.specs.SoundGivings.{IsNumber};
+ghost use Rattle.sms_centre_rules.specs.CentreEvent.{recovered, started};
+ghost use Rattle.sms_centre_rules.specs.SoundCore.{AreDifferent};
+ghost use Rattle.sms_centre_rules.specs.SoundRows.{IsSound};
+
+use crate::recover_error::RecoverError;
+use crate::standing::Standing;
+use sms_base::Digits;
+use sms_centre_rules::Rows;
+use sms_claims::KeptClaims;
+use sms_desk::Reports;
+use sms_kept::KeptMessages;
+use sms_register::Register;
+use sms_sessions::Seat;
+use sms_soundness::RowTables;
+use crate::shelves::shelves_of;
+use sms_starting::moment_of;
+use sms_table::Table;
+use std::alloc::{AllocError, Global};
+
+impl Standing {
+    /// The centre that starts again with these rows, if it can: `BadRows` only where they are not sound, and no centre of such rows.
+    /// Want of memory may be told before all of them is judged. Links to these handsets come
+    /// up at its first tick; these sessions are bound, in which nothing was sent yet.
+    pub fn recover(
+        alloc: Global,
+        rows: Rows,
+        handsets: &[Digits],
+        sessions: Table<Seat>,
+    ) -> Result<Standing, RecoverError>
+        requires numbers { (number : List ℕ) → Among number handsets.now → IsNumber number }
+        requires apart { AreDifferent handsets.now }
+        requires sessions { AreNew sessions.rows }
+        ensures standing { IfOk result (IsStanding (recovered rows handsets.now sessions.rows)) }
+        ensures refused { IfErr result (λ error. RefusesRows error rows) }
+    {
+        let standing = Standing::on(alloc, rows, handsets, false, sessions)?;
+        Ok(standing)
+    }
+
+    /// The same, where links to these handsets are up at once.
+    pub fn start(
+        alloc: Global,
+        rows: Rows,
+        handsets: &[Digits],
+        sessions: Table<Seat>,
+    ) -> Result<Standing, RecoverError>
+        requires numbers { (number : List ℕ) → Among number handsets.now → IsNumber number }
+        requires apart { AreDifferent handsets.now }
+        requires sessions { AreNew sessions.rows }
+        ensures standing { IfOk result (IsStanding (started rows handsets.now sessions.rows)) }
+        ensures refused { IfErr result (λ error. RefusesRows error rows) }
+    {
+        let standing = Standing::on(alloc, rows, handsets, true, sessions)?;
+        Ok(standing)
+    }
+
+    fn on(
+        alloc: Global,
+        rows: Rows,
+        handsets: &[Digits],
+        are_up: bool,
+        sessions: Table<Seat>,
+    ) -> Result<Standing, RecoverError>
+        requires numbers { (number : List ℕ) → Among number handsets.now → IsNumber number }
+        requires apart { AreDifferent handsets.now }
+        requires sessions { AreNew sessions.rows }
+        ensures standing { IfOk result (IsStanding (begun are_up rows handsets.now sessions.rows)) }
+        ensures refused { IfErr result (λ error. RefusesRows error rows) }
+    {
+        let tables = sound_tables(alloc, rows)?;
+        let standing = Standing::on_sound(alloc, tables, handsets, are_up, sessions)?;
+        Ok(standing)
+    }
+
+    fn on_sound(
+        alloc: Global,
+        tables: RowTables,
+        handsets: &[Digits],
+        are_up: bool,
+        sessions: Table<Seat>,
+    ) -> Result<Standing, AllocError>
+        requires sound { IsSound (rows_of tables) }
+        requires numbers { (number : List ℕ) → Among number handsets.now → IsNumber number }
+        requires apart { AreDifferent handsets.now }
+        requires sessions { AreNew sessions.rows }
+        ensures { IfOk result (IsStanding (begun are_up (rows_of tables) handsets.now sessions.rows)) }
+    {
+        // The call tells that the sessions stand in order.
+        let _seats = sessions.as_slice();
+        let moment = moment_of(&tables);
+        let messages = KeptMessages::recover(
+            alloc,
+            tables.messages.as_slice(),
+            tables.parts.as_slice(),
+        )?;
+        let claims = KeptClaims::recover(alloc, &tables.messages, tables.parts.as_slice())?;
+        let shelves = shelves_of(alloc, &tables, handsets, are_up, moment)?;
+        let reports = Reports::recover(
+            alloc,
+            tables.messages.as_slice(),
+            tables.reports.as_slice(),
+        )?;
+        let register = Register::recover(alloc, tables.reports.as_slice())?;
+        Ok(Standing {
+            setup: tables.setup,
+            moment,
+            messages,
+            claims,
+            shelves,
+            reports,
+            register,
+            sessions,
+        })
+    }
+}
+
+// The rows as tables, if they are sound.
+fn sound_tables(alloc: Global, rows: Rows) -> Result<RowTables, RecoverError>
+    ensures rows { IfOk result (λ tables. rows_of tables ≡ rows) }
+    ensures sound { IfOk result (λ tables. IsSound (rows_of tables)) }
+    ensures refused { IfErr result (λ error. RefusesRows error rows) }
+{
+    let Some(tables) = RowTables::of(rows) else {
+        return Err(RecoverError::BadRows);
+    };
+    if !tables.is_sound(alloc)? {
+        return Err(RecoverError::BadRows);
+    }
+    Ok(tables)
+}

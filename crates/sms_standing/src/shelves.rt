@@ -1,0 +1,63 @@
+//! The shelves of a centre that starts.
+ghost use Rattle.std.specs.Prelude.{ℕ, List, [], IfOk};
+ghost use Rattle.sms_base.specs.Among.{Among};
+ghost use Rattle.sms_shelves.specs.Adopting.{Fits, IsAdopted};
+ghost use Rattle.sms_shelves.specs.Placing.{ShelvesOf};
+ghost use Rattle.sms_shelves.specs.Shown.{Stands};
+ghost use Rattle.sms_soundness.specs.RowsOf.{rows_of};
+ghost use Rattle.sms_starting.specs.Starting.{lines_of};
+ghost use Rattle.sms_waiting.specs.SoundGivings.{IsNumber};
+ghost use Rattle.sms_centre_rules.specs.SoundCore.{AreDifferent};
+ghost use Rattle.sms_centre_rules.specs.SoundRows.{IsSound, all_for};
+
+use sms_base::{Digits, Moment};
+use sms_shelves::laws::what_was_left_stands;
+use sms_shelves::{PendingShelves, SettledShelves, Shelves};
+use sms_soundness::RowTables;
+use sms_starting::{connect_all, put_parts, put_reports};
+use std::alloc::{AllocError, Global};
+
+// What comes on the empty shelves, ready made.
+fn load(
+    alloc: Global,
+    tables: &RowTables,
+    handsets: &[Digits],
+    are_up: bool,
+    now: Moment,
+    shelves: &Shelves,
+) -> Result<SettledShelves, AllocError>
+    requires sound { IsSound (rows_of tables.now) }
+    requires numbers { (number : List ℕ) → Among number handsets.now → IsNumber number }
+    requires apart { AreDifferent handsets.now }
+    ensures fits { IfOk result Fits }
+    ensures stands { IfOk result (λ settled. (new : ShelvesOf) → Stands tables.now.handsets.rows tables.now.references.rows [] (λ number. []) shelves.now → IsAdopted settled new
+        → Stands tables.now.handsets.rows tables.now.references.rows (lines_of are_up handsets.now) (λ number. all_for number (rows_of tables.now)) new) }
+{
+    what_was_left_stands();
+    let mut pending = PendingShelves::of(alloc, shelves)?;
+    connect_all(handsets, are_up, &mut pending)?;
+    put_parts(tables, tables.parts.as_slice(), &mut pending)?;
+    put_reports(tables, tables.reports.as_slice(), &mut pending)?;
+    let plan = pending.settle(now)?;
+    Ok(plan.shelves)
+}
+
+/// The shelves of a centre that starts on these rows at that moment, with lines to these handsets: up at once, or expected to come up
+/// at its first tick.
+pub(crate) fn shelves_of(
+    alloc: Global,
+    tables: &RowTables,
+    handsets: &[Digits],
+    are_up: bool,
+    now: Moment,
+) -> Result<Shelves, AllocError>
+    requires sound { IsSound (rows_of tables.now) }
+    requires numbers { (number : List ℕ) → Among number handsets.now → IsNumber number }
+    requires apart { AreDifferent handsets.now }
+    ensures { IfOk result (λ shelves. Stands tables.now.handsets.rows tables.now.references.rows (lines_of are_up handsets.now) (λ number. all_for number (rows_of tables.now)) shelves) }
+{
+    let mut shelves = Shelves::recover(alloc, tables.handsets.as_slice(), &tables.references)?;
+    let settled = load(alloc, tables, handsets, are_up, now, &shelves)?;
+    shelves.adopt(settled);
+    Ok(shelves)
+}

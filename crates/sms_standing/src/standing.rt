@@ -1,0 +1,70 @@
+//! The centre between two events.
+ghost use Rattle.std.specs.Prelude.{IfOk};
+ghost use Rattle.sms_centre_rules.specs.Draft.{Core, draft_of};
+ghost use Rattle.sms_standing.specs.Standing.{IsStanding};
+ghost use Rattle.sms_working.specs.Working.{Shows};
+
+use sms_base::Moment;
+use sms_centre_rules::Setup;
+use sms_claims::KeptClaims;
+use sms_desk::Reports;
+use sms_kept::KeptMessages;
+use sms_register::Register;
+use sms_sessions::Seat;
+use sms_shelves::Shelves;
+use sms_table::Table;
+use sms_working::Working;
+use std::alloc::{AllocError, Global};
+use std::marker::Model;
+
+/// All that a centre keeps in memory between two events.
+#[derive(Drop)]
+pub struct Standing {
+    pub setup: Setup,
+    /// The greatest moment that it was told, or that its rows have seen.
+    pub moment: Moment,
+    pub messages: KeptMessages,
+    /// The split references and TP-MRs that earlier messages lay claim to.
+    pub claims: KeptClaims,
+    pub shelves: Shelves,
+    /// The reports that are open.
+    pub reports: Reports,
+    /// All reports that were made.
+    pub register: Register,
+    pub sessions: Table<Seat>,
+}
+
+impl Model for Standing {
+    ghost use Rattle.sms_standing.specs.Standing.{StandingOf};
+
+    ghost Value = { StandingOf };
+
+    ghost view = { λ s. record {
+      setup = s.setup;
+      moment = s.moment;
+      messages = s.messages;
+      claims = s.claims;
+      shelves = s.shelves;
+      reports = s.reports;
+      register = s.register;
+      sessions = s.sessions;
+    } };
+}
+
+impl Standing {
+    /// The centre as an event begins.
+    pub fn begin<'a>(&'a self, alloc: Global) -> Result<Working<'a>, AllocError>
+        ensures { (c : Core) → IsStanding c self.entry.now → IfOk result (Shows (draft_of c)) }
+    {
+        let working = Working::of(
+            alloc,
+            &self.setup,
+            self.moment,
+            &self.messages,
+            &self.shelves,
+            &self.reports,
+            &self.sessions,
+        )?;
+        Ok(working)
+    }
+}

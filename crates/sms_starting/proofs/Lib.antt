@@ -1,0 +1,3 @@
+pub mod LoadsWait
+pub mod LinesNew
+pub mod RowsSeen
