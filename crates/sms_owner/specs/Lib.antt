@@ -1,0 +1,2 @@
+pub mod OwnersLines
+pub mod OwnersText
