@@ -6,6 +6,7 @@
 #![tactic(auto)]
 
 mod act;
+pub mod laws;
 mod line;
 mod reading;
 
