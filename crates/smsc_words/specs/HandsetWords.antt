@@ -26,7 +26,6 @@ run_value name words = first_of name (matches_of run_command words)
 abbrev pub show_value : List ℕ → List (List ℕ) → Option (List ℕ)
 show_value name words = first_of name (matches_of show_command words)
 
-
 -- the values of the six options spell what a run is to do
 abbrev pub SpelledRun : Option (List ℕ) → Option (List ℕ) → Option (List ℕ) → Option (List ℕ) → Option (List ℕ) → Option (List ℕ) → HandsetWords → Type 0
 SpelledRun given_connect given_number given_centre given_slots given_store given_frames (Run connect number centre slots store frames) =

@@ -5,8 +5,8 @@ ghost use Rattle.smsc_server.specs.Handsets.{is_decimal};
 ghost use Rattle.smsc_server.specs.SimWords.{SpellsNumber};
 ghost use Rattle.smsc_words.specs.Numbers.{SpellsCount, SpellsFrom};
 
-use smsc_server::own_address;
 use sms_base::Address;
+use smsc_server::own_address;
 
 fn is_decimal_text(text: &str) -> bool
     ensures { result ≡ list_all is_decimal text.now }

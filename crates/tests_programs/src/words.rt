@@ -6,8 +6,19 @@ use std::alloc::Global;
 use std::test::Fail;
 
 const WORDS: [&str; 13] = [
-    "handset", "--connect", "2775", "--number", "447700900456", "--centre", "447700900000",
-    "--slots", "3", "--store", "b.store", "--frames", "8",
+    "handset",
+    "--connect",
+    "2775",
+    "--number",
+    "447700900456",
+    "--centre",
+    "447700900000",
+    "--slots",
+    "3",
+    "--store",
+    "b.store",
+    "--frames",
+    "8",
 ];
 
 // The words, with one in place of another.
