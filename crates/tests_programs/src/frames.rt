@@ -19,11 +19,12 @@ fn cut_all(buffer: &mut FrameBuffer, place: usize) -> Option<usize> {
         match buffer.front() {
             Ok(Some(frame)) => {
                 let octets = frame.as_slice();
-                let behind = STREAM.get(at + 2..at + 2 + octets.len())?;
-                if octets != behind {
+                let start = at.checked_add(2)?;
+                let end = start.checked_add(octets.len())?;
+                if octets != STREAM.get(start..end)? {
                     return None;
                 }
-                at += 2 + octets.len();
+                at = end;
             }
             Ok(None) => return Some(at),
             Err(_) => return None,
@@ -36,7 +37,7 @@ fn cut_all(buffer: &mut FrameBuffer, place: usize) -> Option<usize> {
 // Whether the stream, cut at a place, gives its three frames.
 fn is_cut_at(alloc: Global, place: usize) -> bool {
     let mut buffer = FrameBuffer::new(alloc);
-    let (first, second) = STREAM.split_at(place);
+    let (first, second) = STREAM.split_at(place.min(19));
     if buffer.feed(first).is_err() {
         return false;
     }
