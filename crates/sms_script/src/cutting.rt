@@ -51,7 +51,7 @@ fn first_piece(line: &[u8]) -> (&[u8], Option<&[u8]>)
 
 /// The lines that are left of a text.
 #[derive(Debug, Drop)]
-pub(crate) struct Lines<'a> {
+pub struct Lines<'a> {
     rest: Option<&'a [u8]>,
 }
 
@@ -66,14 +66,14 @@ impl<'a> Model for Lines<'a> {
 
 impl<'a> Lines<'a> {
     /// The lines of a text.
-    pub(crate) fn of(text: &'a [u8]) -> Lines<'a>
+    pub fn of(text: &'a [u8]) -> Lines<'a>
         ensures { result ≡ lines_of text.entry.now }
     {
         Lines { rest: Some(text) }
     }
 
     /// Takes the next line.
-    pub(crate) fn next(&mut self) -> Option<&'a [u8]>
+    pub fn next(&mut self) -> Option<&'a [u8]>
         ensures { MatchOption result (self.old ≡ []) (λ line. self.old ≡ line.now ∷ self.new) }
     {
         let (line, rest) = first_line(self.rest?)?;
@@ -84,7 +84,7 @@ impl<'a> Lines<'a> {
 
 /// The words that are left of a line.
 #[derive(Debug, Drop)]
-pub(crate) struct Words<'a> {
+pub struct Words<'a> {
     rest: Option<&'a [u8]>,
 }
 
@@ -99,7 +99,7 @@ impl<'a> Model for Words<'a> {
 
 impl<'a> Words<'a> {
     /// The words of a line.
-    pub(crate) fn of(line: &'a [u8]) -> Words<'a>
+    pub fn of(line: &'a [u8]) -> Words<'a>
         ensures { result ≡ words_of line.entry.now }
     {
         Words { rest: Some(line) }
@@ -115,7 +115,7 @@ impl<'a> Words<'a> {
     }
 
     /// Takes the next word.
-    pub(crate) fn word(&mut self) -> Result<&'a [u8], LineFault>
+    pub fn word(&mut self) -> Result<&'a [u8], LineFault>
         ensures { Takes (λ x. x.now) result self.new (word_in self.old) }
     {
         let piece = self.piece().ok_or(LineFault::BadLine)?;
@@ -127,7 +127,7 @@ impl<'a> Words<'a> {
 
     /// Refuses a word that is left.
     #[tactic(auto, using(crate::proofs::Pieces::some_left))]
-    pub(crate) fn end(&self) -> Result<(), LineFault>
+    pub fn end(&self) -> Result<(), LineFault>
         ensures { result ≡ done_in self.now }
     {
         match self.rest {

@@ -7,8 +7,8 @@ use thiserror::Error;
 
 /// What is wrong with a line.
 #[derive(Clone, Copy, Debug, PartialEq, Eq)]
-pub(crate) enum LineFault {
-    /// The line is none of a script.
+pub enum LineFault {
+    /// The line says nothing that is known.
     BadLine,
 }
 

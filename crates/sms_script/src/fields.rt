@@ -67,14 +67,14 @@ fn stop_of(word: &[u8]) -> Result<Stop, LineFault>
 }
 
 /// A word as it stands.
-pub(crate) fn word<'a>(words: &mut Words<'a>) -> Result<OctetView<'a>, LineFault>
+pub fn word<'a>(words: &mut Words<'a>) -> Result<OctetView<'a>, LineFault>
     ensures { Takes (λ x. x) result words.new (word_in words.old) }
 {
     Ok(OctetView::of(words.word()?))
 }
 
 /// A number of decimal digits.
-pub(crate) fn number(words: &mut Words<'_>) -> Result<u64, LineFault>
+pub fn number(words: &mut Words<'_>) -> Result<u64, LineFault>
     ensures { Takes (λ x. x) result words.new (field_in number_of words.old) }
 {
     number_of(words.word()?)
@@ -95,7 +95,7 @@ pub(crate) fn octet(words: &mut Words<'_>) -> Result<u8, LineFault>
 }
 
 /// 0 or 1.
-pub(crate) fn flag(words: &mut Words<'_>) -> Result<bool, LineFault>
+pub fn flag(words: &mut Words<'_>) -> Result<bool, LineFault>
     ensures { Takes (λ x. x) result words.new (field_in flag_of words.old) }
 {
     flag_of(words.word()?)
@@ -123,7 +123,7 @@ pub(crate) fn body<'a>(words: &mut Words<'a>) -> Result<HexView<'a>, LineFault>
 }
 
 /// A text in UTF-8 in hexadecimal digits, or `-` for none.
-pub(crate) fn text<'a>(words: &mut Words<'a>) -> Result<TextView<'a>, LineFault>
+pub fn text<'a>(words: &mut Words<'a>) -> Result<TextView<'a>, LineFault>
     ensures { Takes (λ x. x) result words.new (field_in text_in words.old) }
 {
     text_in(words.word()?)

@@ -7,14 +7,14 @@
 //! To the layer above this one promises: `read_script` answers a script exactly where the grammar has one for the whole
 //! text, and otherwise the number of the first bad line, whatever memory there is; want of memory is told of good scripts
 //! alone. Each text is one script at most. Texts and numbers of the head are kept as they were written, for the player to
-//! judge.
+//! judge. `cutting` and `fields` are the lines, words and fields that other texts of lines share.
 #![tactic(auto)]
 
 mod act;
-mod cutting;
+pub mod cutting;
 mod event;
 mod fault;
-mod fields;
+pub mod fields;
 mod hexadecimal;
 mod keyword;
 pub mod laws;
@@ -26,7 +26,7 @@ mod setup;
 mod text;
 
 pub use event::{Act, Side, Stop, Submission, WorldEvent};
-pub use fault::ScriptFault;
+pub use fault::{LineFault, ScriptFault};
 pub use hexadecimal::HexView;
 pub use script::{Script, read_script};
 pub use setup::{Account, HandsetSetup, Setup};

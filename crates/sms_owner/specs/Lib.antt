@@ -1,0 +1,3 @@
+pub mod OwnersLines
+pub mod OwnersText
+pub mod ScriptsLines

@@ -1,0 +1,2 @@
+pub mod HandsetWords
+pub mod Numbers

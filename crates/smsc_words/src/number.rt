@@ -1,0 +1,60 @@
+//! Numbers in words.
+ghost use Rattle.std.specs.Prelude.{◌≡◌, IfSome};
+ghost use Rattle.std.specs.List.{list_all};
+ghost use Rattle.smsc_server.specs.Handsets.{is_decimal};
+ghost use Rattle.smsc_server.specs.SimWords.{SpellsNumber};
+ghost use Rattle.smsc_words.specs.Numbers.{SpellsCount, SpellsFrom};
+
+use sms_base::Address;
+use smsc_server::own_address;
+
+fn is_decimal_text(text: &str) -> bool
+    ensures { result ≡ list_all is_decimal text.now }
+{
+    text.as_bytes().iter().all(|digit| digit.is_ascii_digit())
+}
+
+/// The number of a handset or of the centre, 1 to 20 digits.
+pub(crate) fn address_of(text: &str) -> Option<Address>
+    ensures { IfSome result (λ address. SpellsNumber text.now address) }
+{
+    own_address(text)
+}
+
+/// A count of 32 bits in decimal digits alone.
+pub(crate) fn count_of(text: &str) -> Option<u32>
+    ensures { IfSome result (λ count. SpellsCount text.now count) }
+{
+    if !is_decimal_text(text) {
+        return None;
+    }
+    text.parse().ok()
+}
+
+/// A port, 1 to 65535, in decimal digits alone.
+pub(crate) fn port_of(text: &str) -> Option<u16>
+    ensures { IfSome result (λ port. SpellsFrom 1 text.now port) }
+{
+    if !is_decimal_text(text) {
+        return None;
+    }
+    let port: u16 = text.parse().ok()?;
+    if port == 0 {
+        return None;
+    }
+    Some(port)
+}
+
+/// How many slots a store has, 1 to 255, in decimal digits alone.
+pub(crate) fn slots_of(text: &str) -> Option<u8>
+    ensures { IfSome result (λ slots. SpellsFrom 1 text.now slots) }
+{
+    if !is_decimal_text(text) {
+        return None;
+    }
+    let slots: u8 = text.parse().ok()?;
+    if slots == 0 {
+        return None;
+    }
+    Some(slots)
+}
