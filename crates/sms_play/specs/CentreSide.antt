@@ -1,6 +1,7 @@
 -- What an event of the centre leads to: its rows change, its frames go out, and each receipt that goes to an application is
 -- accepted there at once.
 use Rattle.std.specs.Prelude.{ℕ, List, [], ◌∷◌, ◌++◌, length, zero, suc, Option, Some, None, true}
+use Rattle.sms_base.specs.declared.final_state.FinalState.{FinalState}
 use Rattle.sms_base.specs.declared.holder.Holder.TheVariants.{Part, Report}
 use Rattle.smpp_pdu.specs.declared.status.CommandStatus.TheVariants.{ESME_ROK}
 use Rattle.sms_centre_rules.specs.declared.answer.CentreAnswer.{CentreAnswer}
@@ -17,9 +18,10 @@ use Rattle.sms_reports.specs.declared.report.ReportRow.{ReportRow}
 use Rattle.sms_waiting.specs.declared.line.Sent.{Sent}
 use Rattle.sms_waiting.specs.declared.revision.Revision.{Revision}
 use Rattle.sms_waiting.specs.declared.revision.Revision.TheVariants.{Put, Amend, Remove}
-use Rattle.sms_register.specs.Telling.{state_of}
 use Rattle.sms_report.specs.declared.answers.Answered.{Answered}
 use Rattle.sms_report.specs.declared.answers.Answered.TheVariants.{Accepted, Found, Status}
+use Rattle.sms_report.specs.declared.answers.MessageState.{MessageState}
+use Rattle.sms_report.specs.declared.answers.MessageState.TheVariants.{Enroute, Final}
 use Rattle.sms_report.specs.declared.rows.Direction.TheVariants.{Down}
 use Rattle.sms_report.specs.declared.rows.FrameRow.{FrameRow}
 use Rattle.sms_report.specs.declared.rows.GivenRow.{GivenRow}
@@ -89,6 +91,10 @@ abbrev pub whole : Draft → Course → Course
 whole d c = accepted_after d (length (core_of d).rows.reports) d.desk.deliveries (done d c)
 
 -- ---- answers to requests
+
+abbrev pub state_of : Option FinalState → MessageState
+state_of None = Enroute
+state_of (Some state) = Final state
 
 abbrev pub answered_as : CentreAnswer → Answered
 answered_as (Submitted id) = Accepted id

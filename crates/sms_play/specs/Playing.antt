@@ -1,21 +1,27 @@
 -- A whole script: its events one after another, the report of where they lead, and the first of them that breaks a premise.
 use Rattle.std.specs.Prelude.{ℕ, ◌+◌, List, [], ◌∷◌, ◌++◌, if◌then◌else◌, Option, Some, None, Result, Ok, Err}
 use Rattle.sms_base.specs.Reading.{◌>>=◌}
+use Rattle.sms_base.specs.declared.final_state.FinalState.{FinalState}
 use Rattle.sms_outbox.specs.declared.out_entry.EntryState.{EntryState as OwnState}
 use Rattle.sms_outbox.specs.declared.out_entry.EntryState.TheVariants.{Queued as OwnQueued, Sending as OwnSending, Sent as OwnSent, Failed as OwnFailed, Unsure as OwnUnsure}
 use Rattle.sms_outbox.specs.declared.out_entry.OutEntry.{OutEntry}
-use Rattle.sms_register.specs.Telling.{message_lines, receipt_lines}
+use Rattle.sms_messages.specs.declared.message.MessageRow.{MessageRow}
+use Rattle.sms_messages.specs.Messages.{message_at}
+use Rattle.sms_reports.specs.declared.report.ReportRow.{ReportRow}
 use Rattle.sms_report.specs.declared.report.Broken.{Broken}
 use Rattle.sms_report.specs.declared.report.Report.{Report}
 use Rattle.sms_report.specs.declared.rows.AcceptedRow.{AcceptedRow}
 use Rattle.sms_report.specs.declared.rows.EntryState.{EntryState}
 use Rattle.sms_report.specs.declared.rows.EntryState.TheVariants.{Queued, Sending, Sent, Failed, Unsure}
 use Rattle.sms_report.specs.declared.rows.JoinedRow.{JoinedRow}
+use Rattle.sms_report.specs.declared.rows.MessageRow.{MessageRow as MessageLine}
 use Rattle.sms_report.specs.declared.rows.OutboxRow.{OutboxRow}
+use Rattle.sms_report.specs.declared.rows.ReceiptRow.{ReceiptRow}
 use Rattle.sms_script.specs.declared.event.WorldEvent.{WorldEvent}
 use Rattle.sms_script.specs.declared.setup.Setup.{Setup}
 use Rattle.sms_play.specs.declared.fault.PlayFault.{PlayFault}
 use Rattle.sms_play.specs.declared.fault.PlayFault.TheVariants.{BadSetup}
+use Rattle.sms_play.specs.CentreSide.{state_of}
 use Rattle.sms_play.specs.Course.{Course, Party}
 use Rattle.sms_play.specs.PlayedEvent.{played}
 use Rattle.sms_play.specs.Premises.{broken_by}
@@ -33,6 +39,10 @@ course_of s events = if can_be_played s then played_on 1 events (beginning s) el
 
 -- ---- the report: read off the rows in the end, and what was collected on the way
 
+abbrev pub message_lines : List MessageRow → List MessageLine
+message_lines [] = []
+message_lines (m ∷ ms) = record { id = m.id; from = m.source.digits; to = m.handset; state = state_of m.state } ∷ message_lines ms
+
 abbrev pub accepted_lines : List Party → List AcceptedRow
 accepted_lines [] = []
 accepted_lines (p ∷ ps) = p.accepted ++ accepted_lines ps
@@ -40,6 +50,19 @@ accepted_lines (p ∷ ps) = p.accepted ++ accepted_lines ps
 abbrev pub joined_lines : List Party → List JoinedRow
 joined_lines [] = []
 joined_lines (p ∷ ps) = p.joined ++ joined_lines ps
+
+-- a receipt or status report says how its message ended
+abbrev pub receipt_of : ℕ → Option FinalState → List ReceiptRow
+receipt_of id None = []
+receipt_of id (Some state) = record { id = id; state = state } ∷ []
+
+abbrev pub receipt_line : Option MessageRow → List ReceiptRow
+receipt_line None = []
+receipt_line (Some m) = receipt_of m.id m.state
+
+abbrev pub receipt_lines : List MessageRow → List ReportRow → List ReceiptRow
+receipt_lines messages [] = []
+receipt_lines messages (r ∷ rs) = receipt_line (message_at r.id messages) ++ receipt_lines messages rs
 
 abbrev pub entry_state : OwnState → EntryState
 entry_state OwnQueued = Queued

@@ -1,5 +1,5 @@
 //! The centre between two events.
-ghost use Rattle.std.specs.Prelude.{IfOk};
+ghost use Rattle.std.specs.Prelude.{◌≡◌, IfOk};
 ghost use Rattle.sms_centre_rules.specs.Draft.{Core, draft_of};
 ghost use Rattle.sms_standing.specs.Standing.{IsStanding};
 ghost use Rattle.sms_working.specs.Working.{Shows};
@@ -54,7 +54,8 @@ impl Model for Standing {
 impl Standing {
     /// The centre as an event begins.
     pub fn begin<'a>(&'a self, alloc: Global) -> Result<Working<'a>, AllocError>
-        ensures { (c : Core) → IsStanding c self.entry.now → IfOk result (Shows (draft_of c)) }
+        ensures shown { (c : Core) → IsStanding c self.entry.now → IfOk result (Shows (draft_of c)) }
+        ensures setup { IfOk result (λ working. working.setup ≡ self.entry.now.setup) }
     {
         let working = Working::of(
             alloc,

@@ -14,7 +14,7 @@ use sms_base::Digits;
 use sms_shelves::PendingShelves;
 use std::alloc::AllocError;
 
-fn connect(handset: Digits, is_up: bool, shelves: &mut PendingShelves<'_>) -> Result<(), AllocError>
+fn connect(handset: Digits, is_up: bool, shelves: &mut PendingShelves) -> Result<(), AllocError>
     requires { AllDigits handset }
     ensures { OnOk result ((g : Givings) (air : Air) (waiting : List ℕ → List LoadOf) → Shows g air waiting shelves.old
         → Shows g (put_line (connected is_up (line_of handset air.lines)) air) waiting shelves.new) }
@@ -30,7 +30,7 @@ fn connect(handset: Digits, is_up: bool, shelves: &mut PendingShelves<'_>) -> Re
 pub fn connect_all(
     handsets: &[Digits],
     are_up: bool,
-    shelves: &mut PendingShelves<'_>,
+    shelves: &mut PendingShelves,
 ) -> Result<(), AllocError>
     requires numbers { (number : List ℕ) → Among number handsets.now → IsNumber number }
     requires apart { AreDifferent handsets.now }

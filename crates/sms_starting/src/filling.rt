@@ -57,7 +57,7 @@ fn part_load(tables: &RowTables, part: &PartRow) -> Load
 fn put_part(
     tables: &RowTables,
     part: &PartRow,
-    shelves: &mut PendingShelves<'_>,
+    shelves: &mut PendingShelves,
 ) -> Result<(), AllocError>
     requires { IsSound (rows_of tables.now) }
     ensures { OnOk result ((g : Givings) (air : Air) (ps : List PartRowOf) → Rises part_key (part.now ∷ ps)
@@ -77,7 +77,7 @@ fn put_part(
 pub fn put_parts(
     tables: &RowTables,
     parts: &[PartRow],
-    shelves: &mut PendingShelves<'_>,
+    shelves: &mut PendingShelves,
 ) -> Result<(), AllocError>
     requires sound { IsSound (rows_of tables.now) }
     requires order { Rises part_key parts.now }
@@ -124,7 +124,7 @@ fn report_load(report: &ReportRow) -> Load
 fn put_report(
     tables: &RowTables,
     report: &ReportRow,
-    shelves: &mut PendingShelves<'_>,
+    shelves: &mut PendingShelves,
 ) -> Result<(), AllocError>
     requires sound { IsSound (rows_of tables.now) }
     requires there { Among report.now tables.now.reports.rows }
@@ -145,7 +145,7 @@ fn put_report(
 pub fn put_reports(
     tables: &RowTables,
     reports: &[ReportRow],
-    shelves: &mut PendingShelves<'_>,
+    shelves: &mut PendingShelves,
 ) -> Result<(), AllocError>
     requires sound { IsSound (rows_of tables.now) }
     requires there { (r : ReportRowOf) → Among r reports.now → Among r tables.now.reports.rows }
