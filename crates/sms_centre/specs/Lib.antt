@@ -1,3 +1,0 @@
-pub mod Acting
-pub mod Planning
-pub mod Stored

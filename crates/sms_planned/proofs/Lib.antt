@@ -1,2 +1,0 @@
-mod Adopted
-mod Settled
