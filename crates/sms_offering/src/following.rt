@@ -12,13 +12,13 @@ ghost use Rattle.sms_working.specs.Working.{Shows};
 
 use crate::offers::offer_at;
 use sms_centre_rules::PlanError;
-use sms_keep::Bodies;
+use sms_keep::BodyKeep;
 use sms_shelves::{Stop, Wanted};
 use sms_walks::laws::offers_go_to_those_found;
 use sms_working::Working;
 
 // Offers go to these handsets, one after the other.
-fn offer_each<B: Bodies>(
+fn offer_each<B: BodyKeep>(
     working: &mut Working<'_>,
     bodies: &mut B,
     centre: &[u8],
@@ -38,7 +38,7 @@ fn offer_each<B: Bodies>(
 }
 
 // To each handset whose line is ready the next that is due is offered.
-fn offer<B: Bodies>(
+fn offer<B: BodyKeep>(
     working: &mut Working<'_>,
     bodies: &mut B,
     centre: &[u8],
@@ -72,7 +72,7 @@ fn send_receipts(working: &mut Working<'_>) -> Result<(), PlanError>
 /// Where the rows are sound, and the store has refused no read before: the centre then shows what follows in the definition, and the
 /// store holds what it held; or the store refused to read a body that the definition reads (`NoBody`), and is as it was or closed;
 /// or there was no memory, and the store refused nothing. After an error the event is given up.
-pub fn follow<B: Bodies>(
+pub fn follow<B: BodyKeep>(
     working: &mut Working<'_>,
     bodies: &mut B,
     centre: &[u8],

@@ -14,7 +14,7 @@ use crate::reading::tpdu;
 use crate::units::send;
 use sms_base::Digits;
 use sms_centre_rules::PlanError;
-use sms_keep::Bodies;
+use sms_keep::BodyKeep;
 use sms_waiting::Load;
 use sms_working::{Working, are_digits};
 
@@ -38,7 +38,7 @@ fn has_more(working: &Working<'_>, handset: &Digits, load: &Load) -> bool
 }
 
 // That one is offered.
-fn offer_load<B: Bodies>(
+fn offer_load<B: BodyKeep>(
     working: &mut Working<'_>,
     bodies: &mut B,
     centre: &[u8],
@@ -59,7 +59,7 @@ fn offer_load<B: Bodies>(
 }
 
 // The next that is due for the handset is offered, if its line is ready.
-fn offer_to<B: Bodies>(
+fn offer_to<B: BodyKeep>(
     working: &mut Working<'_>,
     bodies: &mut B,
     centre: &[u8],
@@ -77,7 +77,7 @@ fn offer_to<B: Bodies>(
 }
 
 /// The same, of whatever characters: none but digits have a line.
-pub(crate) fn offer_at<B: Bodies>(
+pub(crate) fn offer_at<B: BodyKeep>(
     working: &mut Working<'_>,
     bodies: &mut B,
     centre: &[u8],

@@ -9,13 +9,13 @@ ghost use Rattle.sms_working.specs.Working.{Shows};
 
 use sms_base::Octets;
 use sms_centre_rules::PlanError;
-use sms_keep::Bodies;
+use sms_keep::BodyKeep;
 use sms_table::{Key, Row};
 use sms_waiting::Load;
 use sms_working::Working;
 
 // The body of that key, which stands in the store.
-fn read<B: Bodies>(bodies: &mut B, key: Key) -> Result<Octets, PlanError>
+fn read<B: BodyKeep>(bodies: &mut B, key: Key) -> Result<Octets, PlanError>
     ensures goes { B.is_honest bodies.new → (rows : B.Rows) (tpdu : List ℕ) → B.holds bodies.old rows → B.body_of rows key ≡ Some tpdu
         → Goes (λ octets. octets ≡ tpdu) (key ∷ []) (B.holds bodies.new rows) (B.is_closed bodies.new) (B.refused bodies.new) result }
     ensures before { B.is_honest bodies.new → B.is_honest bodies.old }
@@ -38,7 +38,7 @@ fn made<'w>(working: &'w Working<'_>, load: &Load) -> Option<&'w [u8]>
 }
 
 /// The TPDU of what waits for a handset: the event made it, or it is read.
-pub(crate) fn tpdu<B: Bodies>(
+pub(crate) fn tpdu<B: BodyKeep>(
     working: &Working<'_>,
     bodies: &mut B,
     load: &Load,
