@@ -8,6 +8,7 @@
 
 mod new_store;
 pub mod laws;
+mod memory;
 mod recover;
 mod recover_error;
 mod shelves;
