@@ -24,8 +24,8 @@ returns c = record {
       let ms = t.messages.rows in
       let qs = t.priorities.rows in
       let parts = subst (λ (ps : List PartRow). Shows g air (λ (n : List ℕ). parts_waiting n ms qs ps) c.put_parts.new.shelves) c.as_slice-parts.ensures.rows
-        (c.in_ok-put_parts.ensures g air lined) in
+      (c.in_ok-put_parts.ensures g air lined) in
       let reports = subst (λ (rs : List ReportRow). Shows g air (λ (n : List ℕ). with_reports n ms rs (parts_waiting n ms qs t.parts.rows)) c.put_reports.new.shelves) c.as_slice-reports.ensures.rows
-        (c.in_ok-put_reports.ensures g air (λ (n : List ℕ). parts_waiting n ms qs t.parts.rows) parts) in
+      (c.in_ok-put_reports.ensures g air (λ (n : List ℕ). parts_waiting n ms qs t.parts.rows) parts) in
       c.what_was_left_stands.ensures g air (λ (n : List ℕ). all_for n (rows_of t)) c.put_reports.new.shelves c.in_ok-plan.plan.shelves new reports c.in_ok-plan.ensures.shelves adopted;
 }
