@@ -1,5 +1,5 @@
 -- A centre that starts on sound rows stands.
-use Rattle.std.proofs.Common.{◌≡◌, ℕ, List, [], Bool, true, false, refl, sym, subst}
+use Rattle.std.proofs.Common.{◌≡◌, ℕ, List, Bool, true, false, subst}
 use Rattle.sms_base.specs.Among.{Among}
 use Rattle.sms_claims.specs.Claims.{Holds as HoldsClaims}
 use Rattle.sms_desk.specs.Kept.{Shows as ShowsReports}
@@ -13,7 +13,6 @@ use Rattle.sms_shelves.specs.Shown.{Stands}
 use Rattle.sms_starting.specs.Starting.{lines_of}
 use Rattle.sms_table.specs.Table.{Rises}
 use Rattle.sms_waiting.specs.SoundGivings.{IsNumber}
-use Rattle.sms_working.specs.Beginning.{IsCentre}
 use Rattle.sms_centre_rules.specs.declared.rows.Rows.{Rows}
 use Rattle.sms_centre_rules.specs.CentreEvent.{moment_of}
 use Rattle.sms_centre_rules.specs.SoundCore.{AreDifferent, IsSession, IsSoundCore}

@@ -6,8 +6,9 @@
 //! the centre as an event begins. `table` and `receipts` tell of all messages, and of all reports that were made.
 #![tactic(auto)]
 
-mod new_store;
 pub mod laws;
+mod memory;
+mod new_store;
 mod recover;
 mod recover_error;
 mod shelves;

@@ -9,17 +9,13 @@ ghost use Rattle.sms_centre_rules.specs.CentreEvent.{recovered, started};
 ghost use Rattle.sms_centre_rules.specs.SoundCore.{AreDifferent};
 ghost use Rattle.sms_centre_rules.specs.SoundRows.{IsSound};
 
+use crate::memory::memory_of;
 use crate::recover_error::RecoverError;
 use crate::standing::Standing;
 use sms_base::Digits;
 use sms_centre_rules::Rows;
-use sms_claims::KeptClaims;
-use sms_desk::Reports;
-use sms_kept::KeptMessages;
-use sms_register::Register;
 use sms_sessions::Seat;
 use sms_soundness::RowTables;
-use crate::shelves::shelves_of;
 use sms_starting::moment_of;
 use sms_table::Table;
 use std::alloc::{AllocError, Global};
@@ -95,27 +91,15 @@ impl Standing {
         // The call tells that the sessions stand in order.
         let _seats = sessions.as_slice();
         let moment = moment_of(&tables);
-        let messages = KeptMessages::recover(
-            alloc,
-            tables.messages.as_slice(),
-            tables.parts.as_slice(),
-        )?;
-        let claims = KeptClaims::recover(alloc, &tables.messages, tables.parts.as_slice())?;
-        let shelves = shelves_of(alloc, &tables, handsets, are_up, moment)?;
-        let reports = Reports::recover(
-            alloc,
-            tables.messages.as_slice(),
-            tables.reports.as_slice(),
-        )?;
-        let register = Register::recover(alloc, tables.reports.as_slice())?;
+        let memory = memory_of(alloc, &tables, handsets, are_up, moment)?;
         Ok(Standing {
             setup: tables.setup,
             moment,
-            messages,
-            claims,
-            shelves,
-            reports,
-            register,
+            messages: memory.messages,
+            claims: memory.claims,
+            shelves: memory.shelves,
+            reports: memory.reports,
+            register: memory.register,
             sessions,
         })
     }

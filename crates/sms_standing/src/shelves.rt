@@ -34,10 +34,12 @@ fn load(
         → Stands tables.now.handsets.rows tables.now.references.rows (lines_of are_up handsets.now) (λ number. all_for number (rows_of tables.now)) new) }
 {
     what_was_left_stands();
+    let parts = tables.parts.as_slice();
+    let reports = tables.reports.as_slice();
     let mut pending = PendingShelves::of(alloc, shelves)?;
     connect_all(handsets, are_up, &mut pending)?;
-    put_parts(tables, tables.parts.as_slice(), &mut pending)?;
-    put_reports(tables, tables.reports.as_slice(), &mut pending)?;
+    put_parts(tables, parts, &mut pending)?;
+    put_reports(tables, reports, &mut pending)?;
     let plan = pending.settle(now)?;
     Ok(plan.shelves)
 }

@@ -1,0 +1,97 @@
+//! What a centre that starts on rows keeps of them in memory.
+ghost use Rattle.std.specs.Prelude.{ℕ, List, IfOk};
+ghost use Rattle.sms_base.specs.Among.{Among};
+ghost use Rattle.sms_claims.specs.Claims.{Holds as HoldsClaims};
+ghost use Rattle.sms_desk.specs.Kept.{Shows as ShowsReports};
+ghost use Rattle.sms_kept.specs.Kept.{Holds as HoldsMessages};
+ghost use Rattle.sms_register.specs.Register.{Holds as HoldsRegister};
+ghost use Rattle.sms_shelves.specs.Shown.{Stands};
+ghost use Rattle.sms_soundness.specs.RowsOf.{rows_of};
+ghost use Rattle.sms_starting.specs.Starting.{lines_of};
+ghost use Rattle.sms_waiting.specs.SoundGivings.{IsNumber};
+ghost use Rattle.sms_centre_rules.specs.SoundCore.{AreDifferent};
+ghost use Rattle.sms_centre_rules.specs.SoundRows.{IsSound, all_for};
+
+use crate::shelves::shelves_of;
+use sms_base::{Digits, Moment};
+use sms_claims::KeptClaims;
+use sms_desk::Reports;
+use sms_kept::KeptMessages;
+use sms_register::Register;
+use sms_shelves::Shelves;
+use sms_soundness::RowTables;
+use std::alloc::{AllocError, Global};
+
+#[derive(Drop)]
+struct MessageMemory {
+    messages: KeptMessages,
+    claims: KeptClaims,
+}
+
+#[derive(Drop)]
+struct ReportMemory {
+    reports: Reports,
+    register: Register,
+}
+
+/// What is kept of rows.
+#[derive(Drop)]
+pub(crate) struct Memory {
+    pub messages: KeptMessages,
+    pub claims: KeptClaims,
+    pub shelves: Shelves,
+    pub reports: Reports,
+    pub register: Register,
+}
+
+fn message_memory(alloc: Global, tables: &RowTables) -> Result<MessageMemory, AllocError>
+    ensures messages { IfOk result (λ memory. HoldsMessages memory.messages tables.now.messages.rows tables.now.parts.rows) }
+    ensures claims { IfOk result (λ memory. HoldsClaims memory.claims tables.now.messages.rows tables.now.parts.rows) }
+{
+    let rows = tables.messages.as_slice();
+    let parts = tables.parts.as_slice();
+    let messages = KeptMessages::recover(alloc, rows, parts)?;
+    let claims = KeptClaims::recover(alloc, &tables.messages, parts)?;
+    Ok(MessageMemory { messages, claims })
+}
+
+fn report_memory(alloc: Global, tables: &RowTables) -> Result<ReportMemory, AllocError>
+    requires { IsSound (rows_of tables.now) }
+    ensures reports { IfOk result (λ memory. ShowsReports tables.now.messages.rows memory.reports tables.now.reports.rows) }
+    ensures register { IfOk result (λ memory. HoldsRegister memory.register tables.now.reports.rows) }
+{
+    let messages = tables.messages.as_slice();
+    let rows = tables.reports.as_slice();
+    let reports = Reports::recover(alloc, messages, rows)?;
+    let register = Register::recover(alloc, rows)?;
+    Ok(ReportMemory { reports, register })
+}
+
+/// What a centre keeps of sound rows that starts on them at that moment, with lines to these handsets.
+pub(crate) fn memory_of(
+    alloc: Global,
+    tables: &RowTables,
+    handsets: &[Digits],
+    are_up: bool,
+    now: Moment,
+) -> Result<Memory, AllocError>
+    requires sound { IsSound (rows_of tables.now) }
+    requires numbers { (number : List ℕ) → Among number handsets.now → IsNumber number }
+    requires apart { AreDifferent handsets.now }
+    ensures messages { IfOk result (λ memory. HoldsMessages memory.messages tables.now.messages.rows tables.now.parts.rows) }
+    ensures claims { IfOk result (λ memory. HoldsClaims memory.claims tables.now.messages.rows tables.now.parts.rows) }
+    ensures shelves { IfOk result (λ memory. Stands tables.now.handsets.rows tables.now.references.rows (lines_of are_up handsets.now) (λ number. all_for number (rows_of tables.now)) memory.shelves) }
+    ensures reports { IfOk result (λ memory. ShowsReports tables.now.messages.rows memory.reports tables.now.reports.rows) }
+    ensures register { IfOk result (λ memory. HoldsRegister memory.register tables.now.reports.rows) }
+{
+    let of_messages = message_memory(alloc, tables)?;
+    let of_reports = report_memory(alloc, tables)?;
+    let shelves = shelves_of(alloc, tables, handsets, are_up, now)?;
+    Ok(Memory {
+        messages: of_messages.messages,
+        claims: of_messages.claims,
+        shelves,
+        reports: of_reports.reports,
+        register: of_reports.register,
+    })
+}
