@@ -2,17 +2,17 @@ use Rattle.std.proofs.Common.{inl, inr, ap, ◌/◌}
 use Rattle.sqlite.specs.Held.{state}
 use Rattle.sms_listing.proofs.Keeping.{failure_keeps}
 use Rattle.sms_centre_store.specs.CentreRows.{IsStoreWith}
-use Rattle.sms_centre_store.proofs.BodiesRead.{has_still, report_read}
-use Rattle.sms_centre_store.proofs.keep.CentreKeep.report_body.Goals as goal
+use Rattle.sms_centre_store.proofs.BodiesRead.{report_read}
+use Rattle.sms_centre_store.proofs.Openings.{kept_still}
+use Rattle.sms_centre_store.proofs.keep.CentreKeep.report_octets.Goals as goal
 
 pub returns-in-Ok-clause-ok : goal.returns-in-Ok-clause-ok
-returns-in-Ok-clause-ok g c clean zero found has =
-    let h = c.in-Ok.ensures.ok clean has.1.store.0.schema in
+returns-in-Ok-clause-ok g c clean is rows kept =
+    let h = c.in-Ok.ensures.ok clean kept.store.0.schema in
     let setup = c.args.self.now.setup in
-    (report_read setup _ _ h.0 found has c.args.key c.in-Ok.reports.items _ zero (rw c.number.ensures at h.1) c.octets_of_first.ensures, has_still setup _ _ h.0 found has)
+    (report_read _ setup rows kept.store c.args.key _ c.in-Ok.reports.items is (rw c.number.ensures at h.1) c.octets_of_first.ensures, kept_still setup _ _ rows h.0 kept.store)
 
 pub returns-in-Err-clause-err : goal.returns-in-Err-clause-err
-returns-in-Err-clause-err g c clean found has =
+returns-in-Err-clause-err g c clean rows kept =
     let keep = c.args.self.now in
-    elim (failure_keeps (IsStoreWith keep.setup) (state g.S.Store keep.conn) _ has.0 has.1 c.look.ensures.mode (c.in-Err.ensures.err clean has.1.store.0.schema))
-    [ inl kept ↦ inl (has.0, kept, has.2) | inr closed ↦ inr closed ]
+    failure_keeps (IsStoreWith keep.setup) (state g.S.Store keep.conn) _ rows kept c.look.ensures.mode (c.in-Err.ensures.err clean kept.store.0.schema)
