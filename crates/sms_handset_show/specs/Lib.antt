@@ -1,0 +1,2 @@
+pub mod HandsetTable
+pub mod MessageText

@@ -1,127 +1,129 @@
 //! What a short message says, for a person.
-use sms_alphabet::{Coding, text_of, ucs2_text};
+ghost use Rattle.std.specs.Prelude.{◌≡◌, ◌++◌, codes, decimal, OnOk};
+ghost use Rattle.sms_alphabet.specs.TextReading.{text_read};
+ghost use Rattle.sms_alphabet.specs.Ucs2.{ucs2_in};
+ghost use Rattle.sms_concat.specs.UserData.{part_in};
+ghost use Rattle.sms_tpdu.specs.TpduReading.{down_at, up_at};
+ghost use Rattle.sms_tpdu.specs.declared.carrier.Carrier.TheVariants.{InData};
+ghost use Rattle.sms_handset_show.specs.MessageText.{content_text, delivered_text, no_text, read_text, submitted_text, units_text, user_data_text};
+
+use sms_alphabet::{Coding, ReadingError, Ucs2Error, UnpackError, text_of, ucs2_text};
+use sms_base::Octets;
+use sms_columns::{put_decimal, put_text};
 use sms_concat::{Content, part_of};
-use sms_inbox::Message;
-use sms_tpdu::{Carrier, Deliver, Down, Submit, Up, read_down, read_up};
+use sms_tpdu::{Carrier, Down, Up, UserData, read_down, read_up};
 use std::alloc::{AllocError, Global};
 
-/// The text of a message that can't be read, or is none.
-const NO_TEXT: &str = "(no text)";
-
-// A text on one line: a space stands for each control character.
-fn one_line(alloc: Global, text: &str) -> Result<String, AllocError> {
-    let mut line = String::new(alloc);
-    for character in text.chars() {
-        if character.is_control() {
-            line.push(' ')?;
-        } else {
-            line.push(character)?;
-        }
-    }
-    Ok(line)
+fn put_no_text(out: &mut Octets) -> Result<(), AllocError>
+    ensures { OnOk result (out.new ≡ out.old ++ no_text) }
+{
+    out.append(b"(no text)")
 }
 
-fn septets_line(alloc: Global, units: &[u8]) -> Result<String, AllocError> {
+fn put_septets(alloc: Global, out: &mut Octets, units: &[u8]) -> Result<(), AllocError>
+    ensures { OnOk result (out.new ≡ out.old ++ read_text (text_read units.now)) }
+{
     match text_of(alloc, units) {
-        Ok(text) => one_line(alloc, text.as_str()),
-        Err(_) => String::from_str(alloc, NO_TEXT),
+        Ok(text) => put_text(out, text.as_str()),
+        Err(ReadingError::NotSeptet) => put_no_text(out),
+        Err(ReadingError::NoMemory) => Err(AllocError),
     }
 }
 
-fn ucs2_line(alloc: Global, units: &[u8]) -> Result<String, AllocError> {
+fn put_ucs2(alloc: Global, out: &mut Octets, units: &[u8]) -> Result<(), AllocError>
+    ensures { OnOk result (out.new ≡ out.old ++ read_text (ucs2_in units.now)) }
+{
     match ucs2_text(alloc, units) {
-        Ok(text) => one_line(alloc, text.as_str()),
-        Err(_) => String::from_str(alloc, NO_TEXT),
+        Ok(text) => put_text(out, text.as_str()),
+        Err(Ucs2Error::OddLength | Ucs2Error::LoneSurrogate) => put_no_text(out),
+        Err(Ucs2Error::NoMemory) => Err(AllocError),
+    }
+}
+
+fn put_octets(out: &mut Octets, count: usize) -> Result<(), AllocError>
+    ensures { OnOk result (out.new ≡ out.old ++ (codes "(" ++ (decimal count ++ codes " octets)"))) }
+{
+    out.append(b"(")?;
+    put_decimal(out, count as u64)?;
+    out.append(b" octets)")
+}
+
+fn put_units(
+    alloc: Global,
+    out: &mut Octets,
+    coding: Coding,
+    units: &[u8],
+) -> Result<(), AllocError>
+    ensures { OnOk result (out.new ≡ out.old ++ units_text coding units.now) }
+{
+    match coding {
+        Coding::Septets => put_septets(alloc, out, units),
+        Coding::Ucs2 => put_ucs2(alloc, out, units),
+        Coding::Octets | Coding::Compressed => put_octets(out, units.len()),
     }
 }
 
 /// A content as a text on one line.
-pub(crate) fn content_line(alloc: Global, content: &Content) -> Result<String, AllocError> {
-    match content.coding {
-        Coding::Septets => septets_line(alloc, content.units.as_slice()),
-        Coding::Ucs2 => ucs2_line(alloc, content.units.as_slice()),
-        Coding::Octets | Coding::Compressed => {
-            format!(in alloc; "({} octets)", content.units.len())
-        }
-    }
+pub(crate) fn put_content(
+    alloc: Global,
+    out: &mut Octets,
+    content: &Content,
+) -> Result<(), AllocError>
+    ensures { OnOk result (out.new ≡ out.old ++ content_text content.now) }
+{
+    put_units(alloc, out, content.coding, content.units.as_slice())
 }
 
-fn part_line(
+fn put_user_data(
     alloc: Global,
+    out: &mut Octets,
     header_indicator: bool,
     data_coding_scheme: u8,
-    length: u8,
-    octets: &[u8],
-) -> Result<String, AllocError> {
-    match part_of(alloc, header_indicator, data_coding_scheme, length, octets) {
-        Ok(part) => content_line(alloc, &part.content),
-        Err(_) => String::from_str(alloc, NO_TEXT),
+    data: &UserData<'_>,
+) -> Result<(), AllocError>
+    ensures { OnOk result (out.new ≡ out.old ++ user_data_text header_indicator data_coding_scheme data.now) }
+{
+    match part_of(
+        alloc,
+        header_indicator,
+        data_coding_scheme,
+        data.length,
+        data.octets.as_slice(),
+    ) {
+        Ok(part) => put_content(alloc, out, &part.content),
+        Err(UnpackError::TooShort | UnpackError::SpareBits) => put_no_text(out),
+        Err(UnpackError::NoMemory) => Err(AllocError),
     }
 }
 
-fn deliver_line(alloc: Global, message: &Deliver<'_>) -> Result<String, AllocError> {
-    part_line(
-        alloc,
-        message.user_data_header_indicator,
-        message.data_coding_scheme,
-        message.user_data.length,
-        message.user_data.octets.as_slice(),
-    )
-}
-
-fn submit_line(alloc: Global, message: &Submit<'_>) -> Result<String, AllocError> {
-    part_line(
-        alloc,
-        message.user_data_header_indicator,
-        message.data_coding_scheme,
-        message.user_data.length,
-        message.user_data.octets.as_slice(),
-    )
-}
-
-/// The text of a DELIVER.
-pub(crate) fn delivered_line(alloc: Global, tpdu: &[u8]) -> Result<String, AllocError> {
+/// What a DELIVER says.
+pub(crate) fn put_delivered(alloc: Global, out: &mut Octets, tpdu: &[u8]) -> Result<(), AllocError>
+    ensures { OnOk result (out.new ≡ out.old ++ delivered_text (down_at InData tpdu.now)) }
+{
     match read_down(tpdu, Carrier::InData) {
-        Ok(Down::Deliver(message)) => deliver_line(alloc, &message),
-        _ => String::from_str(alloc, NO_TEXT),
+        Ok(Down::Deliver(message)) => put_user_data(
+            alloc,
+            out,
+            message.user_data_header_indicator,
+            message.data_coding_scheme,
+            &message.user_data,
+        ),
+        Ok(Down::StatusReport(_) | Down::SubmitReport(_)) | Err(_) => put_no_text(out),
     }
 }
 
-/// The text of a SUBMIT.
-pub(crate) fn submitted_line(alloc: Global, tpdu: &[u8]) -> Result<String, AllocError> {
+/// What a SUBMIT says.
+pub(crate) fn put_submitted(alloc: Global, out: &mut Octets, tpdu: &[u8]) -> Result<(), AllocError>
+    ensures { OnOk result (out.new ≡ out.old ++ submitted_text (up_at InData tpdu.now)) }
+{
     match read_up(tpdu, Carrier::InData) {
-        Ok(Up::Submit(message)) => submit_line(alloc, &message),
-        _ => String::from_str(alloc, NO_TEXT),
+        Ok(Up::Submit(message)) => put_user_data(
+            alloc,
+            out,
+            message.user_data_header_indicator,
+            message.data_coding_scheme,
+            &message.user_data,
+        ),
+        Ok(Up::DeliverReport(_)) | Err(_) => put_no_text(out),
     }
-}
-
-/// The digits or the name that a message comes from.
-pub(crate) fn source_line(alloc: Global, message: &Message) -> Result<String, AllocError> {
-    match message {
-        Message::Joined { source, .. } => digits_line(alloc, source.digits.as_slice()),
-        Message::Part { group, .. } => digits_line(alloc, group.source.digits.as_slice()),
-        Message::Single { tpdu } => originator_line(alloc, tpdu.as_slice()),
-    }
-}
-
-fn originator_line(alloc: Global, tpdu: &[u8]) -> Result<String, AllocError> {
-    match read_down(tpdu, Carrier::InData) {
-        Ok(Down::Deliver(message)) => {
-            digits_line(alloc, message.originating_address.digits.as_slice())
-        }
-        _ => String::from_str(alloc, "-"),
-    }
-}
-
-/// Digits or a name, on one line.
-pub(crate) fn digits_line(alloc: Global, digits: &[char]) -> Result<String, AllocError> {
-    let mut line = String::new(alloc);
-    for digit in digits {
-        if digit.is_control() {
-            line.push(' ')?;
-        } else {
-            line.push(*digit)?;
-        }
-    }
-    Ok(line)
 }

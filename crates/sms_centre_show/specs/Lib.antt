@@ -1,0 +1,2 @@
+pub mod CentreTable
+pub mod Progressing
