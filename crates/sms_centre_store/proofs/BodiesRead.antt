@@ -1,5 +1,5 @@
 -- What one query reads of the octets.
-use Rattle.std.proofs.Common.{◌≡◌, ℕ, ◌==◌, ◌/◌, ◌%◌, false, true, Bool, cond, List, [], ◌∷◌, filter, Option, Some, None, refl, sym, ap, ◌∙◌}
+use Rattle.std.proofs.Common.{◌≡◌, ℕ, ◌==◌, ◌/◌, ◌%◌, false, true, cond, List, [], ◌∷◌, filter, Option, Some, refl, sym, ap, ◌∙◌}
 use Rattle.sqlite.specs.Effect.{Database}
 use Rattle.sms_listing.specs.Finding.{first_of}
 use Rattle.sms_table.specs.Table.{row_at}

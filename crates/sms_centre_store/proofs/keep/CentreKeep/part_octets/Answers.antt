@@ -1,4 +1,3 @@
-use Rattle.std.proofs.Common.{inl, inr}
 use Rattle.sqlite.specs.Held.{state}
 use Rattle.sms_listing.proofs.Keeping.{failure_keeps}
 use Rattle.sms_centre_store.specs.CentreRows.{IsStoreWith}
