@@ -1,0 +1,256 @@
+-- An event of a handset, in a course: it is steps of the world, and the course after it sees where they lead.
+use Rattle.std.proofs.Common.{◌≡◌, ℕ, ◌≤◌, arith, List, [], ◌∷◌, ◌++◌, Bool, true, false, refl, sym, ◌∙◌, ap, subst, inl, inr, ⊎_elim, Option, Some, None, Result, Ok, Err}
+use Rattle.sms_base.specs.Among.{Among}
+use Rattle.sms_link.specs.declared.outgoing.Outgoing.{Outgoing}
+use Rattle.sms_report.specs.declared.answers.Answered.{Answered}
+use Rattle.sms_report.specs.declared.answers.Answered.TheVariants.{Done, Refused}
+use Rattle.sms_report.specs.declared.rows.JoinedRow.{JoinedRow}
+use Rattle.sms_centre_rules.specs.SoundCore.{AreDifferent}
+use Rattle.sms_handset_draft.specs.declared.rows.Rows.{Rows}
+use Rattle.sms_handset_draft.specs.Draft.{Core, Draft, core_of, draft_of, recovered}
+use Rattle.sms_handset.specs.FaultCodes.{refusal_code}
+use Rattle.sms_handset.specs.HandsetEvent.{tag_of}
+use Rattle.sms_handset.specs.Planning.{OfFrame}
+use Rattle.sms_handset.specs.SoundCore.{IsSoundCore}
+use Rattle.sms_handset.specs.SoundRows.{IsSound}
+use Rattle.sms_handset.specs.declared.event.HandsetEvent.{HandsetEvent}
+use Rattle.sms_handset.specs.declared.event.HandsetEvent.TheVariants.{Frame, Tick, Write, Delete, Discard}
+use Rattle.sms_handset.specs.declared.refusal.Refusal.{Refusal}
+use Rattle.sms_handset.proofs.SoundActs.{SoundIfDone}
+use Rattle.sms_handset.proofs.SoundDrafts.{SoundAt, sound_core}
+use Rattle.sms_handset.proofs.SoundEvents.{deleted_sound, discarded_sound, frame_sound, tick_sound, wrote_sound}
+use Rattle.sms_play.specs.Course.{Course, Party, answer, numbers_of, party_at, with_party}
+use Rattle.sms_play.specs.HandsetSide.{committed, done, handset_meets, happened, joined_in, party_after, told, whole}
+use Rattle.sms_play.specs.PlayedEvent.{handset_kept, handset_restarted, party_restarted}
+use Rattle.sms_play.specs.Premises.{pairs_of}
+use Rattle.sms_world.specs.Run.{Run, after_item, end}
+use Rattle.sms_world.specs.ScriptRun.{Event, Handed, IsPlayed, Removed, Tick_handset, Wrote, items}
+use Rattle.sms_world.specs.Sides.{AllOfHandset}
+use Rattle.sms_world.specs.World.{Accepted, Sent, World}
+use Rattle.sms_world.specs.WorldStep.{Step}
+use Rattle.sms_frame_sight.specs.FramesDown.{IsHanded}
+use Rattle.sms_frame_sight.specs.FramesUp.{stacked}
+use Rattle.sms_centre_sight.proofs.Staying.{handset_stays}
+use Rattle.sms_handset_sight.specs.EventLaws.{IfDone}
+use Rattle.sms_handset_sight.specs.PlanLaws.{event_seen}
+use Rattle.sms_handset_sight.specs.PutInOrder.{JoinedText, accepted_at, joined_at, joined_by, taken_by}
+use Rattle.sms_handset_sight.specs.Sight.{Sees}
+use Rattle.sms_handset_sight.specs.Stages.{Happens}
+use Rattle.sms_handset_sight.proofs.HandsetEvents.{frame_event, seen_next}
+use Rattle.sms_handset_sight.proofs.Others.{other_event}
+use Rattle.sms_handset_sight.proofs.OwnersEvents.{delete_event, discard_event}
+use Rattle.sms_handset_sight.proofs.Restarts.{stop_event, stopped_seen}
+use Rattle.sms_handset_sight.proofs.Ticks.{tick_event}
+use Rattle.sms_handset_sight.proofs.WriteEvents.{write_event}
+use Rattle.sms_course_sight.specs.CourseSight.{CourseSees, PartySees, all_seen, rows_joined}
+use Rattle.sms_course_sight.proofs.Bags.{up_rows, up_stacked}
+use Rattle.sms_course_sight.proofs.Parties.{party_found, with_among, with_found, with_numbers}
+use Rattle.sms_course_sight.proofs.PutRows.{pairs_more, rows_more}
+
+-- the event is steps, whole or stopped, to a world that the course sees
+abbrev pub Goes : Event → ℕ → Bool → World → Course → Type 0
+Goes event m b w d = (steps : List Step) × (IsPlayed w event steps × Run w (items m b steps) × CourseSees d (end w (items m b steps)))
+
+-- ---- what was answered the world doesn't show
+
+pub answer_sees : (n : ℕ) (a : Answered) (c : Course) (w : World) → CourseSees c w → CourseSees (answer n a c) w
+answer_sees n a c w s = record { sound = s.sound; offered = s.offered; centre = s.centre; parties = s.parties; apart = s.apart; bag = s.bag; sent = s.sent }
+
+-- ---- a stopped event sends nothing
+
+pub stopped_bag : (w : World) (m : ℕ) (steps : List Step) → (end w (items m true steps)).bag ≡ w.bag
+stopped_bag w m [] = refl
+stopped_bag w m (x ∷ xs) = stopped_bag (after_item w (record { step = x; moment = m; stopped = true })) m xs
+
+-- ---- soundness
+
+pub recovered_sound : (rows : Rows) → IsSound rows → IsSoundCore (recovered rows)
+recovered_sound rows s = record { rows = s; recovered = λ e. refl; under_way = tt; few_notices = (let l : 0 ≤ 200 = omega arith in l) }
+
+sound_if : (e : HandsetEvent) (c : Core) → IsSoundCore c → SoundIfDone (happened e c)
+sound_if (Frame octets tag) c s = frame_sound octets (tag_of tag) c s
+sound_if (Tick now) c s = tick_sound now c s
+sound_if (Write text to report) c s = wrote_sound text to report c s
+sound_if (Delete entry) c s = deleted_sound entry c s
+sound_if (Discard entry) c s = discarded_sound entry c s
+
+happens_if : (m : ℕ) (h : List ℕ) (number : ℕ) (e : HandsetEvent) (c : Core) (w : World) → IsSoundCore c → Sees h w (draft_of c) w → OfFrame e (λ octets tag. IsHanded h number octets (tag_of tag) w)
+    → IfDone (λ (d : Draft). Happens m (event_seen number e) h w d w) (happened e c)
+happens_if m h number (Frame octets tag) c w sound k i = frame_event m h number octets (tag_of tag) c w sound k i
+happens_if m h number (Tick now) c w sound k i = tick_event m h now c w sound k
+happens_if m h number (Write text to report) c w sound k i = write_event m h text to report c w sound k
+happens_if m h number (Delete entry) c w sound k i = delete_event m h entry c w sound k
+happens_if m h number (Discard entry) c w sound k i = discard_event m h entry c w sound k
+
+-- an act that is refused is no step
+nothing_played : (number : ℕ) (e : HandsetEvent) (c : Core) (w : World) (refusal : Refusal) → happened e c ≡ Err refusal → IsPlayed w (event_seen number e) []
+nothing_played number (Frame octets tag) c w refusal q = absurd cc
+nothing_played number (Tick now) c w refusal q = absurd cc
+nothing_played number (Write text to report) c w refusal q = ([], [], [], (tt, tt, tt, refl))
+nothing_played number (Delete entry) c w refusal q = ([], [], [], (tt, inl refl, tt, refl))
+nothing_played number (Discard entry) c w refusal q = ([], [], [], (tt, inl refl, tt, refl))
+
+-- ---- one handset's steps, in a course
+
+module _ (c : Course) (w : World) (s : CourseSees c w) (p : Party) (there : Among p c.parties) where
+  mine : PartySees p w
+  mine = s.parties p there
+
+  other_party : (m : ℕ) (b : Bool) (steps : List Step) → AllOfHandset p.number steps → (q : Party) → PartySees q w → ¬ (p.number ≡ q.number) → PartySees q (end w (items m b steps))
+  other_party m b steps own q k ne =
+      let x = other_event q.number p.number q.core w m b steps ne own k.sees in
+      record {
+        number = k.number;
+        sound = k.sound;
+        sees = x.0;
+        accepted = x.1.accepted ∙ k.accepted;
+        joined = k.joined ∙ ap (λ (js : List JoinedText). rows_joined q.number js) (sym x.1.joined);
+      }
+
+  all_parties : (m : ℕ) (b : Bool) (steps : List Step) → AllOfHandset p.number steps → (z : Party) → z.number ≡ p.number → PartySees z (end w (items m b steps))
+      → (q : Party) → Among q (with_party z c.parties) → PartySees q (end w (items m b steps))
+  all_parties m b steps own z e k q i = ⊎_elim
+      (λ (same : q ≡ z). subst (λ (x : Party). PartySees x (end w (items m b steps))) (sym same) k)
+      (λ (a : Among q c.parties × ¬ (z.number ≡ q.number)). other_party m b steps own q (s.parties q a.0) (λ y. a.1 (e ∙ y)))
+      (with_among z c.parties s.apart q i)
+
+  still_apart : (z : Party) → AreDifferent (numbers_of (with_party z c.parties))
+  still_apart z = subst (λ (ns : List (List ℕ)). AreDifferent ns) (sym (with_numbers z c.parties)) s.apart
+
+  -- ---- whole
+
+  -- what came of the event puts rows into what was collected
+  accepted_now : (d : Draft) (v : World) → accepted_at p.number v.accepted ≡ taken_by p.number d.changes.last (accepted_at p.number w.accepted)
+      → accepted_at p.number v.accepted ≡ pairs_of [] (party_after p d).accepted
+  accepted_now d v e =
+      e ∙ ap (λ (ps : List Accepted). taken_by p.number d.changes.last ps) mine.accepted ∙ sym (pairs_more p.number d.changes.last p.accepted [])
+
+  joined_now : (d : Draft) (v : World) → joined_at p.number v.joined ≡ joined_by d.changes.entries (joined_at p.number w.joined)
+      → (party_after p d).joined ≡ rows_joined p.number (joined_at p.number v.joined)
+  joined_now d v e =
+      ap (λ (rows : List JoinedRow). rows ++ joined_in p.number d.changes.entries) mine.joined
+      ∙ sym (rows_more p.number d.changes.entries (joined_at p.number w.joined))
+      ∙ ap (λ (js : List JoinedText). rows_joined p.number js) (sym e)
+
+  done_sees : (m : ℕ) (event : Event) (d : Draft) → SoundAt d → Happens m event p.number w d w → Goes event m false w (done p d c)
+  done_sees m event d at x =
+      let v : World = end w (items m false x.0) in
+      let k : Sees p.number w d v = x.1.2 in (
+        x.0,
+        (
+          x.1.0.0,
+          x.1.1,
+          record {
+            sound = s.sound;
+            offered = s.offered;
+            centre = handset_stays p.number c.centre w m false x.0 x.1.0.1 s.centre;
+            parties = all_parties m false x.0 x.1.0.1 (party_after p d) refl (record {
+              number = mine.number;
+              sound = sound_core d at;
+              sees = seen_next p.number w d v k;
+              accepted = accepted_now d v k.accepted;
+              joined = joined_now d v k.joined;
+            });
+            apart = still_apart (party_after p d);
+            bag = k.frames ∙ ap (λ (bag : List Sent). stacked p.number d.frames bag) s.bag ∙ sym (up_stacked p.number d.frames c.bag);
+            sent = up_rows p.number mine.number d.frames c.bag k.whole s.sent;
+          },
+        ),
+      )
+
+  whole_sees : (m number : ℕ) (e : HandsetEvent) (r : Result Draft Refusal) → happened e p.core ≡ r → SoundIfDone r → IfDone (λ (d : Draft). Happens m (event_seen number e) p.number w d w) r
+      → Goes (event_seen number e) m false w (whole p r c)
+  whole_sees m number e (Ok d) q at x = done_sees m (event_seen number e) d at x
+  whole_sees m number e (Err refusal) q at x = ([], (nothing_played number e p.core w refusal q, tt, s))
+
+  told_sees : (event : Event) (m n : ℕ) (b : Bool) (r : Result Draft Refusal) (d : Course) → Goes event m b w d → Goes event m b w (told n r d)
+  told_sees event m n b (Ok x) d g = (g.0, (g.1.0, g.1.1, answer_sees n Done d (end w (items m b g.0)) g.1.2))
+  told_sees event m n b (Err refusal) d g = (g.0, (g.1.0, g.1.1, answer_sees n (Refused (refusal_code refusal)) d (end w (items m b g.0)) g.1.2))
+
+  meets_as : (m n number : ℕ) (e : HandsetEvent) → Goes (event_seen number e) m false w (whole p (happened e p.core) c) → Goes (event_seen number e) m false w (handset_meets n p e c)
+  meets_as m n number (Frame octets tag) g = g
+  meets_as m n number (Tick now) g = g
+  meets_as m n number (Write text to report) g = told_sees Wrote m n false (happened (Write text to report) p.core) (whole p (happened (Write text to report) p.core) c) g
+  meets_as m n number (Delete entry) g = told_sees Removed m n false (happened (Delete entry) p.core) (whole p (happened (Delete entry) p.core) c) g
+  meets_as m n number (Discard entry) g = told_sees Removed m n false (happened (Discard entry) p.core) (whole p (happened (Discard entry) p.core) c) g
+
+  pub handset_goes : (m n number : ℕ) (e : HandsetEvent) → OfFrame e (λ octets tag. IsHanded p.number number octets (tag_of tag) w) → Goes (event_seen number e) m false w (handset_meets n p e c)
+  handset_goes m n number e i =
+      meets_as m n number e
+      (whole_sees m number e (happened e p.core) refl (sound_if e p.core mine.sound) (happens_if m p.number number e p.core w mine.sound mine.sees i))
+
+  -- ---- a restart
+
+  pub restart_sees : CourseSees (party_restarted p c) w
+  restart_sees =
+      let z : Party = record p { core = recovered p.core.rows } in
+      let k : PartySees z w = record {
+        number = mine.number;
+        sound = recovered_sound p.core.rows mine.sound.rows;
+        sees = stopped_seen p.number w w.bag (draft_of p.core) p.core.rows.setup w mine.sees;
+        accepted = mine.accepted;
+        joined = mine.joined;
+      } in
+      record {
+        sound = s.sound;
+        offered = s.offered;
+        centre = s.centre;
+        parties = λ q i. ⊎_elim
+            (λ (same : q ≡ z). subst (λ (x : Party). PartySees x w) (sym same) k)
+            (λ (a : Among q c.parties × ¬ (z.number ≡ q.number)). s.parties q a.0)
+            (with_among z c.parties s.apart q i);
+        apart = still_apart z;
+        bag = s.bag;
+        sent = s.sent;
+      }
+
+  -- ---- stopped behind the store call
+
+  stop_sees : (m : ℕ) (event : Event) (d : Draft) → SoundAt d → Happens m event p.number w d w
+      → Goes event m true w (handset_restarted (party_at p.number (with_party (party_after p d) c.parties)) (committed p d c))
+  stop_sees m event d at x =
+      let y = stop_event m event p.number d d.rows.setup w x in
+      let v : World = end w (items m true y.0) in
+      let own : AllOfHandset p.number y.0 = y.1.0.1 in
+      let z : Party = party_after p d in
+      let b : Party = record z { core = recovered z.core.rows } in
+      let k : PartySees b v = record {
+        number = mine.number;
+        sound = recovered_sound d.rows (sound_core d at).rows;
+        sees = y.1.2;
+        accepted = accepted_now d v y.1.3.accepted;
+        joined = joined_now d v y.1.3.joined;
+      } in
+      let is : CourseSees (party_restarted z (committed p d c)) v = record {
+        sound = s.sound;
+        offered = s.offered;
+        centre = handset_stays p.number c.centre w m true y.0 own s.centre;
+        parties = λ q i. ⊎_elim
+            (λ (same : q ≡ b). subst (λ (u : Party). PartySees u v) (sym same) k)
+            (λ (a : Among q (with_party z c.parties) × ¬ (b.number ≡ q.number)). ⊎_elim
+            (λ (same : q ≡ z). absurd (a.1 (sym (ap (λ (u : Party). u.number) same))))
+            (λ (o : Among q c.parties × ¬ (z.number ≡ q.number)). other_party m true y.0 own q (s.parties q o.0) o.1)
+            (with_among z c.parties s.apart q a.0))
+            (with_among b (with_party z c.parties) (still_apart z) q i);
+        apart = subst (λ (ns : List (List ℕ)). AreDifferent ns) (sym (with_numbers b (with_party z c.parties))) (still_apart z);
+        bag = stopped_bag w m y.0 ∙ s.bag;
+        sent = s.sent;
+      } in
+      (y.0, (y.1.0.0, y.1.1, subst (λ (o : Option Party). CourseSees (handset_restarted o (committed p d c)) v) (sym (with_found z c.parties p there refl)) is))
+
+-- ---- by its number
+
+pub restarted_sees : (c : Course) (w : World) → CourseSees c w → (n : List ℕ) (o : Option Party) → party_at n c.parties ≡ o → CourseSees (handset_restarted o c) w
+restarted_sees c w s n None e = s
+restarted_sees c w s n (Some p) e = restart_sees c w s p (party_found n c.parties p e).0
+
+module _ (c : Course) (w : World) (s : CourseSees c w) (p : Party) (there : Among p c.parties) where
+  kept_sees : (m number : ℕ) (e : HandsetEvent) (r : Result Draft Refusal) → happened e p.core ≡ r → SoundIfDone r → IfDone (λ (d : Draft). Happens m (event_seen number e) p.number w d w) r
+      → Goes (event_seen number e) m true w (handset_restarted (party_at p.number (handset_kept p r c).parties) (handset_kept p r c))
+  kept_sees m number e (Ok d) q at x = stop_sees c w s p there m (event_seen number e) d at x
+  kept_sees m number e (Err refusal) q at x = ([], (nothing_played number e p.core w refusal q, tt, restarted_sees c w s p.number (party_at p.number c.parties) refl))
+
+  pub handset_stops : (m number : ℕ) (e : HandsetEvent) → OfFrame e (λ octets tag. IsHanded p.number number octets (tag_of tag) w)
+      → Goes (event_seen number e) m true w (handset_restarted (party_at p.number (handset_kept p (happened e p.core) c).parties) (handset_kept p (happened e p.core) c))
+  handset_stops m number e i =
+      kept_sees m number e (happened e p.core) refl (sound_if e p.core (s.parties p there).sound) (happens_if m p.number number e p.core w (s.parties p there).sound (s.parties p there).sees i)

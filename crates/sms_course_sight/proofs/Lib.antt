@@ -1,0 +1,9 @@
+pub mod Bags
+pub mod Parties
+pub mod PutRows
+pub mod HandsetMeets
+pub mod CentreMeets
+pub mod Meetings
+pub mod Events
+pub mod Beginnings
+pub mod Runs

@@ -1,0 +1,3 @@
+pub mod CourseSight
+pub mod Happening
+pub mod CourseRuns

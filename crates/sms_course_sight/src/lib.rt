@@ -1,0 +1,10 @@
+//! What the course of a script shows of the world.
+//!
+//! `sms_play` says what a script leads to: each of its events is an event of one of the two cores, what comes of it is committed, and
+//! its frames get the next numbers. `sms_handset_sight` and `sms_centre_course` show that every event of a core is steps of the world
+//! that the core sees. Here both are put together: a course **sees** the world (`specs/CourseSight`) where the centre and each handset
+//! see it, every frame of its bag is one of the world's by its number, and what each handset accepted and joined is the world's, in
+//! order. However a script goes, with stops and restarts, its course is a run of the world (`specs/CourseRuns`).
+#![tactic(auto)]
+
+pub mod laws;

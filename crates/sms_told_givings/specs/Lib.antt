@@ -1,0 +1,2 @@
+pub mod ToldGivings
+pub mod TellingLaws

@@ -1,0 +1,32 @@
+-- An event of the centre tells what its steps gave.
+use Rattle.std.specs.Prelude.{◌≡◌, ℕ, List, ◌++◌, Bool}
+use Rattle.sms_report.specs.declared.rows.GivenRow.{GivenRow}
+use Rattle.sms_messages.specs.declared.message.MessageRow.{MessageRow}
+use Rattle.sms_centre_rules.specs.CentreEvent.{happened}
+use Rattle.sms_centre_rules.specs.Draft.{Core, rows_of}
+use Rattle.sms_centre_rules.specs.SoundCore.{IsEvent, IsSoundCore}
+use Rattle.sms_centre_rules.specs.declared.event.CentreEvent.{CentreEvent}
+use Rattle.sms_centre_rules.specs.declared.rows.Rows.{Rows}
+use Rattle.sms_play.specs.CentreSide.{given_by}
+use Rattle.sms_world.specs.Run.{Item, Run, end}
+use Rattle.sms_world.specs.ScriptRun.{items}
+use Rattle.sms_world.specs.World.{World, empty}
+use Rattle.sms_world.specs.WorldStep.{Step}
+use Rattle.sms_centre_sight.specs.SeesGiven.{SeesHolders}
+use Rattle.sms_centre_sight.specs.SeesMessages.{messages_by, parts_by}
+use Rattle.sms_centre_sight.specs.SeesReports.{reports_by}
+use Rattle.sms_told_givings.specs.ToldGivings.{TellsDown}
+
+-- the rows show to whom the centre gave references
+abbrev pub HoldersSee : Rows → World → Type 0
+HoldersSee rows w = SeesHolders (messages_by rows.messages) (parts_by rows.parts) (reports_by rows.reports) w.down
+
+-- a run led there from the empty world
+abbrev pub IsReached : World → Type 0
+IsReached w = (is : List Item) × (Run empty is × (end empty is ≡ w))
+
+abbrev pub TellLaw : Type 0
+TellLaw =
+    (event : CentreEvent) (c : Core) (w : World) (m : ℕ) (b : Bool) (steps : List Step) (given : List GivenRow) → IsSoundCore c → IsEvent event → IsReached w → Run w (items m b steps)
+    → HoldersSee c.rows w → HoldersSee (rows_of (happened event c).store) (end w (items m b steps)) → TellsDown given w.down
+    → TellsDown (given ++ given_by (happened event c)) (end w (items m b steps)).down

@@ -1,0 +1,8 @@
+//! The references that the centre gives, as a script's course tells them.
+//!
+//! `sms_play` tells of each event of the centre which references its changes give, and to whom; the steps of the world that the event
+//! is give references, too. Here it is shown that they are the same ones: a row for each giving, and a giving for each row. So to
+//! whom a reference was given last is the same in both (`specs/ToldGivings`), which is what the premise on frames goes by.
+#![tactic(auto)]
+
+pub mod laws;
