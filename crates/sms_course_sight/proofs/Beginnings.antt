@@ -163,4 +163,4 @@ begins s e =
     let all : (p : Party) → Among p ps → PartySees p empty = parties_see s centre s.handsets handsets.1 in
     let can : CanComeBack (first_centre_rows setup) (numbers_of ps) sessions = can_come (first_centre_rows setup) ps (λ p i. (all p i).number) apart (accounts_of s.accounts) in
     let x = first_course_is_steps [] setup (numbers_of ps) sessions is can in
-    record { sound = x.0; offered = x.1; centre = x.2; parties = all; apart = apart; bag = refl; sent = λ f i. absurd i }
+    record { sound = x.0; offered = x.1; centre = x.2; parties = all; apart = apart; bag = refl; sent = λ f i. absurd i; reached = ([], (tt, refl)); down = λ h r. refl }

@@ -35,6 +35,7 @@ use Rattle.sms_centre_course.specs.CourseEvents.{AreOfEvent, MayCome, moment_at}
 use Rattle.sms_handset_sight.proofs.Others.{centre_event}
 use Rattle.sms_handset_sight.specs.PutInOrder.{JoinedText}
 use Rattle.sms_course_sight.specs.CourseSight.{CourseSees, PartySees, rows_joined}
+use Rattle.sms_told_givings.proofs.Telling.{event_told, goes_on}
 use Rattle.sms_course_sight.proofs.Bags.{down_rows, down_stacked}
 use Rattle.sms_course_sight.proofs.HandsetMeets.{Goes, answer_sees}
 
@@ -92,6 +93,7 @@ module _ (c : Course) (w : World) (s : CourseSees c w) where
   done_sees : (number : ℕ) (event : CentreEvent) → IsEvent event → MayCome number event w → Steps number event
   done_sees number event is may =
       let d : Draft = happened event c.centre in
+      let m : ℕ = moment_at event c.centre in
       let x = every_event number event c.centre w s.sound s.offered is may s.centre in
       let v : World = end w (items (moment_at event c.centre) false x.0) in
       let k : CentreSees w d v = x.1.2 in (
@@ -107,6 +109,8 @@ module _ (c : Course) (w : World) (s : CourseSees c w) where
             apart = s.apart;
             bag = k.frames ∙ ap (λ (bag : List Sent). stacked_down d.air.frames bag) s.bag ∙ sym (down_stacked d.air.frames c.bag);
             sent = down_rows d.air.frames c.bag k.whole s.sent;
+            reached = goes_on w m false x.0 s.reached x.1.1;
+            down = event_told event c.centre w m false x.0 c.given s.sound is s.reached x.1.1 s.centre.rows.holders k.rows.holders s.down;
           },
         ),
       )
@@ -131,6 +135,8 @@ module _ (c : Course) (w : World) (s : CourseSees c w) where
         apart = s.apart;
         bag = s.bag;
         sent = s.sent;
+        reached = s.reached;
+        down = s.down;
       }
 
   -- ---- stopped behind the store call
@@ -147,7 +153,8 @@ module _ (c : Course) (w : World) (s : CourseSees c w) where
       (scripted, is, may, comes_back c w s (rows_of d.store) accounts) in
       let steps : List Step = x.1.0.0 in
       let v : World = end w (items m true steps) in
-      let same : x.0 ≡ v = x.1.0.1.2 in (
+      let same : x.0 ≡ v = x.1.0.1.2 in
+      let there : CentreSees v (draft_of left) v = subst (λ (u : World). CentreSees u (draft_of left) u) same x.1.1.2 in (
         steps,
         (
           plays steps x.1.0.1.0.0,
@@ -155,11 +162,13 @@ module _ (c : Course) (w : World) (s : CourseSees c w) where
           record {
             sound = x.1.1.0;
             offered = x.1.1.1;
-            centre = subst (λ (u : World). CentreSees u (draft_of left) u) same x.1.1.2;
+            centre = there;
             parties = parties_still m true steps x.1.0.1.0.1;
             apart = s.apart;
             bag = subst (λ (u : World). u.bag ≡ w.bag) same x.1.0.1.3 ∙ s.bag;
             sent = s.sent;
+            reached = goes_on w m true steps s.reached x.1.0.1.1;
+            down = event_told event c.centre w m true steps c.given s.sound is s.reached x.1.0.1.1 s.centre.rows.holders there.rows.holders s.down;
           },
         ),
       )

@@ -1,7 +1,25 @@
 -- An event of a handset, in a course: it is steps of the world, and the course after it sees where they lead.
 use Rattle.std.proofs.Common.{◌≡◌, ℕ, ◌≤◌, arith, List, [], ◌∷◌, ◌++◌, Bool, true, false, refl, sym, ◌∙◌, ap, subst, inl, inr, ⊎_elim, Option, Some, None, Result, Ok, Err}
 use Rattle.sms_base.specs.Among.{Among}
+use Rattle.sms_base.specs.declared.carried.Carried.{Carried}
+use Rattle.sms_base.specs.declared.carried.Kind.{Kind}
+use Rattle.sms_base.specs.declared.carried.Kind.TheVariants.{Data, Ack, Error}
+use Rattle.sms_base.specs.declared.holder.Holder.{Holder}
+use Rattle.sms_base.specs.declared.holder.Holder.TheVariants.{Part, Report, Entry, Memory}
 use Rattle.sms_link.specs.declared.outgoing.Outgoing.{Outgoing}
+use Rattle.sms_outbox.specs.declared.out_entry.OutEntry.{OutEntry}
+use Rattle.sms_outbox.specs.Keys.{out_key}
+use Rattle.sms_report.specs.declared.rows.Direction.TheVariants.{Up}
+use Rattle.sms_report.specs.declared.rows.GivenRow.{GivenRow}
+use Rattle.sms_table.specs.declared.change.Change.{Change}
+use Rattle.sms_table.specs.declared.change.Change.TheVariants.{Put, Remove}
+use Rattle.sms_table.specs.Table.{put, row_at, without}
+use Rattle.sms_told_givings.specs.ToldGivings.{TellsDown}
+use Rattle.sms_told_givings.proofs.Latest.{AllUp, tells_still}
+use Rattle.sms_told_givings.proofs.Telling.{goes_on}
+use Rattle.sms_world.proofs.Apart.{handset_leaves_centre}
+use Rattle.std.specs.Prelude.{if◌then◌else◌, is_some, nat_le}
+use Rattle.std.proofs.lemmas.Bool.{cond_both}
 use Rattle.sms_report.specs.declared.answers.Answered.{Answered}
 use Rattle.sms_report.specs.declared.answers.Answered.TheVariants.{Done, Refused}
 use Rattle.sms_report.specs.declared.rows.JoinedRow.{JoinedRow}
@@ -20,13 +38,13 @@ use Rattle.sms_handset.proofs.SoundActs.{SoundIfDone}
 use Rattle.sms_handset.proofs.SoundDrafts.{SoundAt, sound_core}
 use Rattle.sms_handset.proofs.SoundEvents.{deleted_sound, discarded_sound, frame_sound, tick_sound, wrote_sound}
 use Rattle.sms_play.specs.Course.{Course, Party, answer, numbers_of, party_at, with_party}
-use Rattle.sms_play.specs.HandsetSide.{committed, done, handset_meets, happened, joined_in, party_after, told, whole}
+use Rattle.sms_play.specs.HandsetSide.{carried_given, committed, data_given, done, entries_given, entry_given, given_by, handset_meets, happened, joined_in, memories_given, memory_given, party_after, told, whole}
 use Rattle.sms_play.specs.PlayedEvent.{handset_kept, handset_restarted, party_restarted}
 use Rattle.sms_play.specs.Premises.{pairs_of}
 use Rattle.sms_world.specs.Run.{Run, after_item, end}
 use Rattle.sms_world.specs.ScriptRun.{Event, Handed, IsPlayed, Removed, Tick_handset, Wrote, items}
 use Rattle.sms_world.specs.Sides.{AllOfHandset}
-use Rattle.sms_world.specs.World.{Accepted, Sent, World}
+use Rattle.sms_world.specs.World.{Accepted, Giving, Sent, World}
 use Rattle.sms_world.specs.WorldStep.{Step}
 use Rattle.sms_frame_sight.specs.FramesDown.{IsHanded}
 use Rattle.sms_frame_sight.specs.FramesUp.{stacked}
@@ -54,7 +72,7 @@ Goes event m b w d = (steps : List Step) × (IsPlayed w event steps × Run w (it
 -- ---- what was answered the world doesn't show
 
 pub answer_sees : (n : ℕ) (a : Answered) (c : Course) (w : World) → CourseSees c w → CourseSees (answer n a c) w
-answer_sees n a c w s = record { sound = s.sound; offered = s.offered; centre = s.centre; parties = s.parties; apart = s.apart; bag = s.bag; sent = s.sent }
+answer_sees n a c w s = record { sound = s.sound; offered = s.offered; centre = s.centre; parties = s.parties; apart = s.apart; bag = s.bag; sent = s.sent; reached = s.reached; down = s.down }
 
 -- ---- a stopped event sends nothing
 
@@ -89,6 +107,48 @@ nothing_played number (Tick now) c w refusal q = absurd cc
 nothing_played number (Write text to report) c w refusal q = ([], [], [], (tt, tt, tt, refl))
 nothing_played number (Delete entry) c w refusal q = ([], [], [], (tt, inl refl, tt, refl))
 nothing_played number (Discard entry) c w refusal q = ([], [], [], (tt, inl refl, tt, refl))
+
+-- ---- what a handset gives it gives on its own line
+
+up_both : (xs ys : List GivenRow) → AllUp xs → AllUp ys → AllUp (xs ++ ys)
+up_both [] ys a b = b
+up_both (x ∷ xs) ys a b = (a.0, up_both xs ys a.1 b)
+
+entries_up : (h : List ℕ) (moment : ℕ) (outbox : List OutEntry) (cs : List (Change OutEntry)) → AllUp (entries_given h moment outbox cs)
+entries_up h moment outbox [] = tt
+entries_up h moment outbox (Put o ∷ cs) =
+    up_both (if is_some (row_at out_key o.number outbox) then [] else entry_given h moment o) (entries_given h moment (put out_key o outbox) cs)
+    (cond_both (is_some (row_at out_key o.number outbox)) [] (entry_given h moment o) (λ (rows : List GivenRow). AllUp rows) (λ t. tt) (λ t. (refl, tt)))
+    (entries_up h moment (put out_key o outbox) cs)
+entries_up h moment outbox (Remove key ∷ cs) = entries_up h moment (without out_key key outbox) cs
+
+memory_up : (h : List ℕ) (moment next reference : ℕ) (tag : Holder) → AllUp (memory_given h moment next reference tag)
+memory_up h moment next reference (Part id number) = tt
+memory_up h moment next reference (Report id) = tt
+memory_up h moment next reference (Entry n) = tt
+memory_up h moment next reference (Memory n) =
+    cond_both (nat_le next n) (record { handset = h; direction = Up; reference = reference; holder = Memory n; moment = moment } ∷ []) [] (λ (rows : List GivenRow). AllUp rows) (λ t. (refl, tt)) (λ t. tt)
+
+data_up : (h : List ℕ) (moment next reference : ℕ) (tag : Holder) (k : Kind) → AllUp (data_given h moment next reference tag k)
+data_up h moment next reference tag Data = memory_up h moment next reference tag
+data_up h moment next reference tag Ack = tt
+data_up h moment next reference tag Error = tt
+
+carried_up : (h : List ℕ) (moment next : ℕ) (o : Option Carried) → AllUp (carried_given h moment next o)
+carried_up h moment next None = tt
+carried_up h moment next (Some x) = data_up h moment next x.reference x.tag x.kind
+
+memories_up : (h : List ℕ) (moment next : ℕ) (fs : List Outgoing) → AllUp (memories_given h moment next fs)
+memories_up h moment next [] = tt
+memories_up h moment next (f ∷ fs) =
+    up_both (if f.is_copy then [] else carried_given h moment next f.carried) (memories_given h moment next fs)
+    (cond_both f.is_copy [] (carried_given h moment next f.carried) (λ (rows : List GivenRow). AllUp rows) (λ t. tt) (λ t. carried_up h moment next f.carried))
+    (memories_up h moment next fs)
+
+all_up : (p : Party) (d : Draft) → AllUp (given_by p d)
+all_up p d =
+    up_both (entries_given p.number d.moment p.core.rows.outbox d.changes.outbox) (memories_given p.number d.moment p.core.rows.counters.notice d.frames)
+    (entries_up p.number d.moment p.core.rows.outbox d.changes.outbox) (memories_up p.number d.moment p.core.rows.counters.notice d.frames)
 
 -- ---- one handset's steps, in a course
 
@@ -132,6 +192,12 @@ module _ (c : Course) (w : World) (s : CourseSees c w) (p : Party) (there : Amon
       ∙ sym (rows_more p.number d.changes.entries (joined_at p.number w.joined))
       ∙ ap (λ (js : List JoinedText). rows_joined p.number js) (sym e)
 
+  -- a handset gives none of the centre's references
+  still_told : (d : Draft) (m : ℕ) (b : Bool) (steps : List Step) → AllOfHandset p.number steps → TellsDown (c.given ++ given_by p d) (end w (items m b steps)).down
+  still_told d m b steps own =
+      subst (λ (ds : List Giving). TellsDown (c.given ++ given_by p d) ds) (sym (handset_leaves_centre p.number w m b steps own).down)
+      (tells_still c.given (given_by p d) w.down s.down (all_up p d))
+
   done_sees : (m : ℕ) (event : Event) (d : Draft) → SoundAt d → Happens m event p.number w d w → Goes event m false w (done p d c)
   done_sees m event d at x =
       let v : World = end w (items m false x.0) in
@@ -154,6 +220,8 @@ module _ (c : Course) (w : World) (s : CourseSees c w) (p : Party) (there : Amon
             apart = still_apart (party_after p d);
             bag = k.frames ∙ ap (λ (bag : List Sent). stacked p.number d.frames bag) s.bag ∙ sym (up_stacked p.number d.frames c.bag);
             sent = up_rows p.number mine.number d.frames c.bag k.whole s.sent;
+            reached = goes_on w m false x.0 s.reached x.1.1;
+            down = still_told d m false x.0 x.1.0.1;
           },
         ),
       )
@@ -202,6 +270,8 @@ module _ (c : Course) (w : World) (s : CourseSees c w) (p : Party) (there : Amon
         apart = still_apart z;
         bag = s.bag;
         sent = s.sent;
+        reached = s.reached;
+        down = s.down;
       }
 
   -- ---- stopped behind the store call
@@ -235,6 +305,8 @@ module _ (c : Course) (w : World) (s : CourseSees c w) (p : Party) (there : Amon
         apart = subst (λ (ns : List (List ℕ)). AreDifferent ns) (sym (with_numbers b (with_party z c.parties))) (still_apart z);
         bag = stopped_bag w m y.0 ∙ s.bag;
         sent = s.sent;
+        reached = goes_on w m true y.0 s.reached y.1.1;
+        down = still_told d m true y.0 own;
       } in
       (y.0, (y.1.0.0, y.1.1, subst (λ (o : Option Party). CourseSees (handset_restarted o (committed p d c)) v) (sym (with_found z c.parties p there refl)) is))
 

@@ -23,6 +23,8 @@ use Rattle.sms_centre_sight.specs.CentreSight.{CentreSees}
 use Rattle.sms_centre_sight.specs.FramesOut.{IsWholeDown, sent_down}
 use Rattle.sms_handset_sight.specs.PutInOrder.{JoinedText, accepted_at, joined_at}
 use Rattle.sms_handset_sight.specs.Sight.{Sees}
+use Rattle.sms_told_givings.specs.TellingLaws.{IsReached}
+use Rattle.sms_told_givings.specs.ToldGivings.{TellsDown}
 
 -- ---- frames
 
@@ -78,3 +80,6 @@ pub record CourseSees (c : Course) (w : World) : Type 0 where
   pub apart : AreDifferent (numbers_of c.parties)
   pub bag : w.bag ≡ all_seen [] c.bag
   pub sent : (f : FrameRow) → Among f c.bag → IsSentRow f
+  -- a run led there, and to whom the centre gave each reference last is told
+  pub reached : IsReached w
+  pub down : TellsDown c.given w.down

@@ -50,7 +50,7 @@ holder_one (Report a) = eq-eqb a a refl
 holder_one (Entry m) = eq-eqb m m refl
 holder_one (Memory m) = eq-eqb m m refl
 
-held_is : (holder : Holder) (o : Option Holder) → is_held_by holder o ≡ true → o ≡ Some holder
+pub held_is : (holder : Holder) (o : Option Holder) → is_held_by holder o ≡ true → o ≡ Some holder
 held_is holder None e = absurd cc
 held_is holder (Some x) e = ap (λ z. Some z) (sym (holder_same holder x e))
 

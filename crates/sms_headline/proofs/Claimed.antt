@@ -1,0 +1,116 @@
+-- The claims of every script.
+use Rattle.std.proofs.Common.{◌≡◌, ℕ, ◌+◌, List, [], ◌++◌, length, Bool, true, false, refl, sym, ◌∙◌, ap, subst, inl, inr, ⊎_elim, Option, Some, None, Result, Ok, Err}
+use Rattle.std.specs.Prelude.{if◌then◌else◌}
+use Rattle.std.proofs.lemmas.Bool.{cases_Bool, cond-false, cond-true}
+use Rattle.sms_base.specs.Among.{Among}
+use Rattle.sms_messages.specs.Messages.{message_key}
+use Rattle.sms_script.specs.declared.event.WorldEvent.{WorldEvent}
+use Rattle.sms_script.specs.declared.script.Script.{Script}
+use Rattle.sms_script.specs.declared.setup.Setup.{Setup}
+use Rattle.sms_report.specs.declared.rows.MessageRow.{MessageRow as MessageLine}
+use Rattle.sms_table.proofs.Tables.{found_among}
+use Rattle.sms_play.specs.declared.fault.PlayFault.{PlayFault}
+use Rattle.sms_play.specs.declared.fault.PlayFault.TheVariants.{BadSetup}
+use Rattle.sms_play.specs.CentreSide.{state_of}
+use Rattle.sms_play.specs.Course.{Course}
+use Rattle.sms_play.specs.Playing.{course_of, played_on, report_of}
+use Rattle.sms_play.specs.Setups.{beginning, can_be_played}
+use Rattle.sms_world.specs.Agreement.{FinalForGood, HeldDiffer as WorldHeldDiffer}
+use Rattle.sms_world.specs.Run.{end}
+use Rattle.sms_world.specs.ScriptRun.{Plays}
+use Rattle.sms_world.specs.World.{World, empty}
+use Rattle.sms_world.proofs.Runs.{final_stays, held_differ, sound_empty, sound_run}
+use Rattle.sms_world.proofs.Scripts.{script_steps}
+use Rattle.sms_course_sight.specs.CourseRuns.{AllHandOctets, AreGood, happenings}
+use Rattle.sms_course_sight.specs.CourseSight.{CourseSees}
+use Rattle.sms_course_sight.proofs.Beginnings.{begins}
+use Rattle.sms_course_sight.proofs.Events.{ok_course, same_course}
+use Rattle.sms_course_sight.proofs.Runs.{run_leads}
+use Rattle.sms_headline.specs.Claims.{HeldDiffer}
+use Rattle.sms_headline.specs.HeadlineLaws.{DeliveredLaw, FinalLaw, HeldLaw, IsScript, LeadsOn, LineLaw, OnceLaw, ReceiptLaw, RunLaw}
+use Rattle.sms_headline.proofs.GoodScripts.{script_good}
+use Rattle.sms_headline.proofs.HeldApart.{held_apart}
+use Rattle.sms_headline.proofs.Parting.{others_good, parted}
+use Rattle.sms_headline.proofs.ReceiptLines.{from_report, receipts_once}
+use Rattle.sms_world.proofs.Faithful.{faithful_empty}
+use Rattle.sms_headline.proofs.TimelyClaims.{all_reach, delivered_once}
+use Rattle.sms_headline.proofs.Tables.{line_of, line_stays, line_there, one_line}
+
+abbrev unplayed : Result Course PlayFault
+unplayed = Err BadSetup
+
+-- a head that leads anywhere can be played
+record CanPlay (s : Setup) (es : List WorldEvent) (c : Course) : Type 0 where
+  can : can_be_played s ≡ true
+  leads : played_on 1 es (beginning s) ≡ ok_course c
+
+can_play : (s : Setup) (es : List WorldEvent) (c : Course) → course_of s es ≡ ok_course c → CanPlay s es c
+can_play s es c e = ⊎_elim
+    (λ (t : can_be_played s ≡ true). record { can = t; leads = sym (cond-true (can_be_played s) (played_on 1 es (beginning s)) unplayed t) ∙ e })
+    (λ (f : can_be_played s ≡ false). let bad : unplayed ≡ ok_course c = sym (cond-false (can_be_played s) (played_on 1 es (beginning s)) unplayed f) ∙ e in absurd cc)
+    (cases_Bool (can_be_played s))
+
+pub run_is : RunLaw
+run_is text script some others c d is on =
+    let s : Setup = script.setup in
+    let start : Course = beginning s in
+    let good : AreGood script.events = script_good text script is.reads in
+    let goods = others_good some others (subst (λ (es : List WorldEvent). AreGood es) is.events good) in
+    let here = can_play s some c on.here in
+    let there = can_play s script.events d on.there in
+    let p = parted some others 1 start d (subst (λ (es : List WorldEvent). AllHandOctets 1 es start) is.events is.octets)
+    (subst (λ (es : List WorldEvent). played_on 1 es start ≡ ok_course d) is.events there.leads) in
+    let same : p.between ≡ c = same_course p.between c (sym p.first ∙ here.leads) in
+    let x = run_leads 1 some start c empty (begins s here.can) goods.0 p.first_octets here.leads in
+    let y = run_leads (1 + length some) others c d x.0 x.1.1 goods.1 (subst (λ (z : Course). AllHandOctets (1 + length some) others z) same p.then_octets)
+    (subst (λ (z : Course). played_on (1 + length some) others z ≡ ok_course d) same p.then) in
+    (x.0, y.0, (x.1.0, x.1.1, y.1.0, y.1.1))
+
+pub final_is : FinalLaw
+final_is text script some others c d is on m state i e =
+    let x = run_is text script some others c d is on in
+    let k : CourseSees c x.0 = x.2.1 in
+    let l : CourseSees d x.1 = x.2.3 in
+    let z = script_steps x.0 x.1 (happenings (1 + length some) others c) x.2.2 in
+    let good : FinalForGood x.0 x.1 = subst (λ (v : World). FinalForGood x.0 v) z.1.1 (final_stays x.0 z.0 z.1.0) in
+    line_stays c.centre d.centre x.0 x.1 k.sound l.sound k.centre l.centre good m state i e
+
+pub lines_are : LineLaw
+lines_are text script some others c d is on a b i j e =
+    let x = run_is text script some others c d is on in
+    let k : CourseSees c x.0 = x.2.1 in
+    one_line a b c.centre.rows.messages k.sound.rows.messages.message_keys i j e
+
+pub receipts_are : ReceiptLaw
+receipts_are text script some others c d is on r i =
+    let f = from_report r c.centre.rows.messages c.centre.rows.reports i in (
+      line_of f.message,
+      (line_there f.message c.centre.rows.messages (found_among message_key f.report.id f.message c.centre.rows.messages f.found), f.id, ap state_of f.state),
+    )
+
+pub once_is : OnceLaw
+once_is text script some others c d is on =
+    let x = run_is text script some others c d is on in
+    let k : CourseSees c x.0 = x.2.1 in
+    receipts_once c.centre.rows.messages c.centre.rows.reports k.sound.rows.reports.keys k.sound.rows.reports.once
+
+pub held_is : HeldLaw
+held_is text script some others c d is on =
+    let x = run_is text script some others c d is on in
+    let k : CourseSees c x.0 = x.2.1 in
+    let z = script_steps empty x.0 (happenings 1 some (beginning script.setup)) x.2.0 in
+    let differ : WorldHeldDiffer x.0 = subst (λ (v : World). WorldHeldDiffer v) z.1.1 (held_differ (end empty z.0) (sound_run empty z.0 sound_empty z.1.0)) in
+    held_apart c.centre x.0 k.sound k.centre differ
+
+pub delivered_is : DeliveredLaw
+delivered_is text script some others c d is on timely =
+    let s : Setup = script.setup in
+    let start : Course = beginning s in
+    let good : AreGood script.events = script_good text script is.reads in
+    let goods = others_good some others (subst (λ (es : List WorldEvent). AreGood es) is.events good) in
+    let here = can_play s some c on.here in
+    let there = can_play s script.events d on.there in
+    let p = parted some others 1 start d (subst (λ (es : List WorldEvent). AllHandOctets 1 es start) is.events is.octets)
+    (subst (λ (es : List WorldEvent). played_on 1 es start ≡ ok_course d) is.events there.leads) in
+    let r = all_reach 1 some start c empty (begins s here.can) goods.0 p.first_octets timely faithful_empty here.leads in
+    delivered_once c r.0 r.1.0 r.1.1

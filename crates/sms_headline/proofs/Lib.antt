@@ -1,0 +1,10 @@
+pub mod GoodScripts
+pub mod Parting
+pub mod Tables
+pub mod ReceiptLines
+pub mod HeldApart
+pub mod FaithfulRuns
+pub mod DecidedTimely
+pub mod TimelyClaims
+pub mod PremisesHold
+pub mod Claimed

@@ -1,0 +1,66 @@
+-- The claims, of every script that reads.
+use Rattle.std.specs.Prelude.{◌≡◌, ℕ, ◌+◌, List, ◌++◌, length, None, Ok}
+use Rattle.sms_script.specs.declared.event.WorldEvent.{WorldEvent}
+use Rattle.sms_script.specs.declared.script.Script.{Script}
+use Rattle.sms_script.specs.declared.setup.Setup.{Setup}
+use Rattle.sms_script.specs.WholeScript.{script_in}
+use Rattle.sms_play.specs.Course.{Course}
+use Rattle.sms_play.specs.Playing.{course_of, premises_of, report_of}
+use Rattle.sms_play.specs.Setups.{beginning}
+use Rattle.sms_world.specs.ScriptRun.{Plays}
+use Rattle.sms_world.specs.World.{World, empty}
+use Rattle.sms_course_sight.specs.CourseRuns.{AllHandOctets, happenings}
+use Rattle.sms_course_sight.specs.CourseSight.{CourseSees}
+use Rattle.sms_headline.specs.Claims.{AllTimely, AreOnce, DeliveredOnce, FinalStays, HasOneLine, HeldDiffer, ReceiptsTell}
+
+-- The text reads as a script of these events in order, some and then others; whatever goes up is octets.
+pub record IsScript (text : List ℕ) (script : Script) (some others : List WorldEvent) : Type 0 where
+  pub reads : script_in text ≡ Ok script
+  pub events : script.events ≡ some ++ others
+  pub octets : AllHandOctets 1 script.events (beginning script.setup)
+
+-- it leads here after the one, and there after the others
+pub record LeadsOn (script : Script) (some : List WorldEvent) (c d : Course) : Type 0 where
+  pub here : course_of script.setup some ≡ Ok c
+  pub there : course_of script.setup script.events ≡ Ok d
+
+-- ---- it is a run
+
+-- The events up to any of them happened in the world, from the empty one on, and the course shows the world that they led to.
+abbrev pub RunLaw : Type 0
+RunLaw =
+    (text : List ℕ) (script : Script) (some others : List WorldEvent) (c d : Course) → IsScript text script some others → LeadsOn script some c d
+    → (w : World) × (v : World) × (Plays empty (happenings 1 some (beginning script.setup)) w × CourseSees c w × Plays w (happenings (1 + length some) others c) v × CourseSees d v)
+
+-- ---- whatever happens
+
+abbrev pub FinalLaw : Type 0
+FinalLaw =
+    (text : List ℕ) (script : Script) (some others : List WorldEvent) (c d : Course) → IsScript text script some others → LeadsOn script some c d → FinalStays (report_of c) (report_of d)
+
+-- the same of one report
+abbrev pub Of : (Course → Type 0) → Type 0
+Of Claim =
+    (text : List ℕ) (script : Script) (some others : List WorldEvent) (c d : Course) → IsScript text script some others → LeadsOn script some c d → Claim c
+
+abbrev pub LineLaw : Type 0
+LineLaw = Of (λ c. HasOneLine (report_of c))
+
+abbrev pub ReceiptLaw : Type 0
+ReceiptLaw = Of (λ c. ReceiptsTell (report_of c))
+
+abbrev pub OnceLaw : Type 0
+OnceLaw = Of (λ c. AreOnce (report_of c).receipts)
+
+abbrev pub HeldLaw : Type 0
+HeldLaw = Of (λ c. HeldDiffer c)
+
+-- ---- while frames come in time
+
+abbrev pub DeliveredLaw : Type 0
+DeliveredLaw =
+    (text : List ℕ) (script : Script) (some others : List WorldEvent) (c d : Course) → IsScript text script some others → LeadsOn script some c d → AllTimely 1 some (beginning script.setup) → DeliveredOnce c
+
+-- so they are where it is decided that the premises hold
+abbrev pub PremisesLaw : Type 0
+PremisesLaw = (s : Setup) (events : List WorldEvent) → premises_of s events ≡ Ok None → AllTimely 1 events (beginning s)

@@ -1,0 +1,31 @@
+//! The claims.
+ghost use Rattle.sms_headline.specs.HeadlineLaws.{DeliveredLaw, FinalLaw, HeldLaw, LineLaw, OnceLaw, PremisesLaw, ReceiptLaw, RunLaw};
+
+/// The events of a script, up to any of them, are a run of the world from the empty one on, and the course shows where it led.
+pub fn a_script_is_a_run()
+    ensures { RunLaw }
+{}
+
+/// Whatever happens, a message has one line in the report, and once it says a final state it stays as it is.
+pub fn one_final_state()
+    ensures stays { FinalLaw }
+    ensures line { LineLaw }
+{}
+
+/// Whatever happens, a receipt or status report says the final state of its message, and no message has two.
+pub fn receipts_tell_how_it_ended()
+    ensures tells { ReceiptLaw }
+    ensures once { OnceLaw }
+{}
+
+/// Whatever happens, no reference is held twice at a handset, by parts that are pending and by status reports that are open.
+pub fn references_held_differ()
+    ensures { HeldLaw }
+{}
+
+/// While each frame that is handed over is decided timely, a message counts as delivered only if its handset accepted each of its
+/// parts exactly once, as it was submitted; and each frame is so where it is decided that no event breaks a premise.
+pub fn delivered_was_accepted()
+    ensures delivered { DeliveredLaw }
+    ensures premises { PremisesLaw }
+{}
