@@ -3,6 +3,7 @@ use Rattle.std.proofs.Common.{◌≡◌, ℕ, ◌+◌, List, [], ◌++◌, lengt
 use Rattle.std.specs.Prelude.{if◌then◌else◌}
 use Rattle.std.proofs.lemmas.Bool.{cases_Bool, cond-false, cond-true}
 use Rattle.sms_base.specs.Among.{Among}
+use Rattle.sms_base.specs.declared.final_state.FinalState.{FinalState}
 use Rattle.sms_messages.specs.Messages.{message_key}
 use Rattle.sms_script.specs.declared.event.WorldEvent.{WorldEvent}
 use Rattle.sms_script.specs.declared.script.Script.{Script}
@@ -26,8 +27,8 @@ use Rattle.sms_course_sight.specs.CourseSight.{CourseSees}
 use Rattle.sms_course_sight.proofs.Beginnings.{begins}
 use Rattle.sms_course_sight.proofs.Events.{ok_course, same_course}
 use Rattle.sms_course_sight.proofs.Runs.{run_leads}
-use Rattle.sms_headline.specs.Claims.{HeldDiffer}
-use Rattle.sms_headline.specs.HeadlineLaws.{DeliveredLaw, FinalLaw, HeldLaw, IsScript, LeadsOn, LineLaw, OnceLaw, ReceiptLaw, RunLaw}
+use Rattle.sms_headline.specs.Claims.{DeliveredOnce, HeldDiffer}
+use Rattle.sms_headline.specs.HeadlineLaws.{DeliveredLaw, FinalLaw, HeldLaw, IsScript, LeadsOn, LineLaw, OnceLaw, ReceiptLaw, RunLaw, ToldLaw}
 use Rattle.sms_headline.proofs.GoodScripts.{script_good}
 use Rattle.sms_headline.proofs.HeldApart.{held_apart}
 use Rattle.sms_headline.proofs.Parting.{others_good, parted}
@@ -114,3 +115,10 @@ delivered_is text script some others c d is on timely =
     (subst (λ (es : List WorldEvent). played_on 1 es start ≡ ok_course d) is.events there.leads) in
     let r = all_reach 1 some start c empty (begins s here.can) goods.0 p.first_octets timely faithful_empty here.leads in
     delivered_once c r.0 r.1.0 r.1.1
+
+pub told_is : ToldLaw
+told_is text script some others c d is on timely x i e =
+    let f = from_report x c.centre.rows.messages c.centre.rows.reports i in
+    let among : Among f.message c.centre.rows.messages = found_among message_key f.report.id f.message c.centre.rows.messages f.found in
+    let once : DeliveredOnce c = delivered_is text script some others c d is on timely in
+    (f.message, (among, f.id, λ p q j of k own. once f.message p q among (f.state ∙ ap (λ (z : FinalState). Some z) e) j of k own))

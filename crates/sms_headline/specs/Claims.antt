@@ -19,6 +19,7 @@ use Rattle.sms_script.specs.declared.event.WorldEvent.{WorldEvent}
 use Rattle.sms_base.specs.declared.final_state.FinalState.TheVariants.{Delivered}
 use Rattle.sms_play.specs.Course.{Course, Party}
 use Rattle.sms_play.specs.PlayedEvent.{played}
+use Rattle.sms_play.specs.Playing.{report_of as report_told_of}
 use Rattle.sms_play.specs.Premises.{is_timely_event, pairs_of}
 use Rattle.sms_world.specs.Lists.{StandsOnce}
 use Rattle.sms_centre_course.specs.TruthfulRows.{IsAsSubmitted, pair_in_row}
@@ -77,3 +78,12 @@ abbrev pub DeliveredOnce : Course → Type 0
 DeliveredOnce c =
     (m : MessageRow) (p : PartRow) (q : Party) → Among m c.centre.rows.messages → m.state ≡ Some Delivered → Among p c.centre.rows.parts → p.id ≡ m.id → Among q c.parties → q.number ≡ m.handset
     → StandsOnce (pair_in_row m p) (pairs_of [] q.accepted) × IsAsSubmitted m p.number p
+
+-- So a receipt or status report says that its message was delivered only if that is so.
+abbrev pub ToldOnce : Course → Type 0
+ToldOnce c =
+    (x : ReceiptRow) → Among x (report_told_of c).receipts → x.state ≡ Delivered
+    → (m : MessageRow)
+    × (Among m c.centre.rows.messages × (m.id ≡ x.id)
+    × ((p : PartRow) (q : Party) → Among p c.centre.rows.parts → p.id ≡ m.id → Among q c.parties → q.number ≡ m.handset
+    → StandsOnce (pair_in_row m p) (pairs_of [] q.accepted) × IsAsSubmitted m p.number p))

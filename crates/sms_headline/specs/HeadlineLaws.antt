@@ -11,7 +11,7 @@ use Rattle.sms_world.specs.ScriptRun.{Plays}
 use Rattle.sms_world.specs.World.{World, empty}
 use Rattle.sms_course_sight.specs.CourseRuns.{AllHandOctets, happenings}
 use Rattle.sms_course_sight.specs.CourseSight.{CourseSees}
-use Rattle.sms_headline.specs.Claims.{AllTimely, AreOnce, DeliveredOnce, FinalStays, HasOneLine, HeldDiffer, ReceiptsTell}
+use Rattle.sms_headline.specs.Claims.{AllTimely, AreOnce, DeliveredOnce, FinalStays, HasOneLine, HeldDiffer, ReceiptsTell, ToldOnce}
 
 -- The text reads as a script of these events in order, some and then others; whatever goes up is octets.
 pub record IsScript (text : List ℕ) (script : Script) (some others : List WorldEvent) : Type 0 where
@@ -60,6 +60,10 @@ HeldLaw = Of (λ c. HeldDiffer c)
 abbrev pub DeliveredLaw : Type 0
 DeliveredLaw =
     (text : List ℕ) (script : Script) (some others : List WorldEvent) (c d : Course) → IsScript text script some others → LeadsOn script some c d → AllTimely 1 some (beginning script.setup) → DeliveredOnce c
+
+abbrev pub ToldLaw : Type 0
+ToldLaw =
+    (text : List ℕ) (script : Script) (some others : List WorldEvent) (c d : Course) → IsScript text script some others → LeadsOn script some c d → AllTimely 1 some (beginning script.setup) → ToldOnce c
 
 -- so they are where it is decided that the premises hold
 abbrev pub PremisesLaw : Type 0

@@ -1,5 +1,5 @@
 //! The claims.
-ghost use Rattle.sms_headline.specs.HeadlineLaws.{DeliveredLaw, FinalLaw, HeldLaw, LineLaw, OnceLaw, PremisesLaw, ReceiptLaw, RunLaw};
+ghost use Rattle.sms_headline.specs.HeadlineLaws.{DeliveredLaw, FinalLaw, HeldLaw, LineLaw, OnceLaw, PremisesLaw, ReceiptLaw, RunLaw, ToldLaw};
 
 /// The events of a script, up to any of them, are a run of the world from the empty one on, and the course shows where it led.
 pub fn a_script_is_a_run()
@@ -24,8 +24,10 @@ pub fn references_held_differ()
 {}
 
 /// While each frame that is handed over is decided timely, a message counts as delivered only if its handset accepted each of its
-/// parts exactly once, as it was submitted; and each frame is so where it is decided that no event breaks a premise.
+/// parts exactly once, as it was submitted, and a receipt or status report says so only of such a message; and each frame is so
+/// where it is decided that no event breaks a premise.
 pub fn delivered_was_accepted()
     ensures delivered { DeliveredLaw }
+    ensures told { ToldLaw }
     ensures premises { PremisesLaw }
 {}
