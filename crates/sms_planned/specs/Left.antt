@@ -1,0 +1,17 @@
+-- What is kept after an event, ready made.
+use Rattle.std.specs.Prelude.{ℕ, List}
+use Rattle.sms_claims.specs.Moves.{SpareOf as ClaimsSpare}
+use Rattle.sms_desk.specs.Kept.{Kept as ReportsOf}
+use Rattle.sms_kept.specs.Kept.{SpareOf as MessagesSpare}
+use Rattle.sms_reports.specs.Receipts.{Session}
+use Rattle.sms_shelves.specs.Adopting.{SettledOf}
+
+pub record LeftOf : Type 0 where
+  pub moment : ℕ
+  -- memory for the messages that change, and the parts in memory as they change
+  pub messages : MessagesSpare
+  -- memory for what they lay claim to
+  pub claims : ClaimsSpare
+  pub shelves : SettledOf
+  pub reports : ReportsOf
+  pub sessions : List Session
