@@ -1,5 +1,5 @@
 //! Bodies of a keep in memory.
-ghost use Rattle.std.specs.Prelude.{◌≡◌, ⊤, ℕ, IfOk, option_copied};
+ghost use Rattle.std.specs.Prelude.{◌≡◌, IfOk, option_copied};
 ghost use Rattle.sms_centre_rows.specs.OctetsAt.{kind_octets, octets_at, part_octets, report_octets};
 ghost use Rattle.sms_messages.specs.Messages.{part_key};
 ghost use Rattle.sms_table.specs.Table.{row_at};
@@ -9,7 +9,7 @@ ghost use Rattle.sms_centre_memory.specs.Kept.{rows_in};
 use crate::keep::MemoryKeep;
 use sms_base::Octets;
 use sms_centre_rows::copy_of_octets;
-use sms_keep::{Bodies, KeepError};
+use sms_keep::{BodyKeep, KeepError};
 use sms_reports::{ReportKind, ReportRow};
 use sms_table::Key;
 use std::alloc::{AllocError, Global};
@@ -70,17 +70,21 @@ impl MemoryKeep {
     }
 }
 
-impl Bodies for MemoryKeep {
-    ghost bodies = { λ keep found. (key : ℕ) → octets_at (rows_in keep) key ≡ found key };
+impl BodyKeep for MemoryKeep {
+    ghost body_of = { octets_at };
 
-    ghost is_honest = { λ keep. ⊤ };
-
-    ghost is_closed = { λ keep. ⊥ };
+    ghost refused = { λ keep. keep.refused };
 
     fn body(&mut self, key: Key) -> Result<Option<Octets>, KeepError> {
         match self.octets_under(key) {
-            Ok(octets) => Ok(octets),
-            Err(_) => Err(KeepError::NoMemory),
+            Ok(octets) => {
+                self.refused = None;
+                Ok(octets)
+            }
+            Err(_) => {
+                self.refused = Some(key);
+                Err(KeepError::NoMemory)
+            }
         }
     }
 }

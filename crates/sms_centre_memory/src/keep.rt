@@ -13,7 +13,7 @@ use sms_memory::{copy_of_rows, settled_copy};
 use sms_messages::{MessageRow, PartRow, PriorityRow};
 use sms_reports::ReportRow;
 use sms_revising::{Ready, adopt_revisions};
-use sms_table::{Settled, Table, adopt};
+use sms_table::{Key, Settled, Table, adopt};
 use sms_waiting::{HandsetRow, ReferenceRow};
 use std::alloc::{AllocError, Global};
 
@@ -29,6 +29,8 @@ pub struct MemoryKeep {
     /// Handed in at the start.
     pub setup: Setup,
     pub alloc: Global,
+    // The key of the last read of a body, where that was refused.
+    pub(crate) refused: Option<Key>,
 }
 
 // The changes of an event, copied, with the memory for them.
@@ -56,6 +58,7 @@ impl MemoryKeep {
             priorities: Table::new(alloc),
             setup,
             alloc,
+            refused: None,
         }
     }
 

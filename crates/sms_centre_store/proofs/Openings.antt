@@ -1,5 +1,5 @@
 -- What is kept of a database that was opened.
-use Rattle.std.proofs.Common.{◌≡◌, ◌≢◌, ◌⊎◌, refl, inl, inr, false, ℕ, List, sym, ap, subst, ◌∙◌, Result, Ok, Err, OnOk, IfOk, IfErr}
+use Rattle.std.proofs.Common.{◌≡◌, ◌≢◌, refl, inl, inr, false, ℕ, List, sym, ap, subst, ◌∙◌, Result, Ok, Err, OnOk, IfOk, IfErr}
 use Rattle.sqlite.specs.Schema.{Schema}
 use Rattle.sqlite.specs.Effect.{Database}
 use Rattle.sqlite.specs.State.{State, Shows}
@@ -14,7 +14,7 @@ use Rattle.sms_centre_tables.specs.CentreSchema.{centre_schema, first_schema, sc
 use Rattle.sms_centre_tables.specs.MetaList.{meta_list}
 use Rattle.sms_centre_tables.specs.FirstMetaList.{meta_list as first_list}
 use Rattle.sms_centre_store.specs.CentreRows.{IsStoreWith}
-use Rattle.sms_centre_store.specs.Opened.{Opened, Says, SaysNow, SaysFirst, FindsSaid, Refused, Refuses}
+use Rattle.sms_centre_store.specs.Opened.{Opened, Says, SaysNow, FindsSaid, Refused, Refuses}
 use Rattle.sms_centre_store.specs.Types.{Rows, Setup, Meta, first_rows}
 
 tables_differ : no_tables ≡ centre_schema → ⊥

@@ -1,18 +1,18 @@
 -- What the statements of a migration make of a store of version 1.
-use Rattle.std.proofs.Common.{◌≡◌, ◌≢◌, ◌⊎◌, inl, inr, ℕ, ◌<◌, ℤ, pos, true, None, drop, List, [], ◌∷◌, ◌++◌, map, length, Ok, Err, Result, refl, sym, ap, ap₂, subst, ◌∙◌, arith, IsPermutation, IsTrue, append-nil}
+use Rattle.std.proofs.Common.{◌≡◌, ◌⊎◌, inl, inr, ℕ, ◌<◌, ℤ, pos, true, None, drop, List, [], ◌∷◌, ◌++◌, map, Ok, Err, Result, refl, sym, ap, ap₂, subst, ◌∙◌, IsPermutation, append-nil}
 use Rattle.std.specs.List.{AllByRecursion}
 use Rattle.std.proofs.lemmas.List.Sorted.{IsPermutation-map, IsPermutation-trans, IsPermutation-sym}
 use Rattle.sqlite.specs.declared.types.Value.TheVariants.{Null, Int}
 use Rattle.sqlite.specs.Collation.TheVariants.{Binary}
 use Rattle.sqlite.specs.Order.{Row}
 use Rattle.sqlite.specs.Tree.{Trees}
-use Rattle.sqlite.specs.Term.{Term, lit, col}
-use Rattle.sqlite.specs.Query.{IsAnswer, Query, inner, end, output, Output}
+use Rattle.sqlite.specs.Term.{lit, col}
+use Rattle.sqlite.specs.Query.{IsAnswer, Query, output, Output}
 use Rattle.sqlite.specs.Source.TheVariants.{Query as Selected}
 use Rattle.sqlite.specs.Command.TheVariants.{Insert}
 use Rattle.sqlite.specs.Program.{overlay}
 use Rattle.sqlite_rules.specs.Cast.{cast_row}
-use Rattle.sqlite_rules.specs.Edit.{edit_of, edited, numbered, put_all, without_all, taken_by, next_rowid, IsNoIndex}
+use Rattle.sqlite_rules.specs.Edit.{edit_of, numbered, put_all, taken_by, next_rowid}
 use Rattle.sqlite.specs.Rowids.TheVariants.{Chosen}
 use Rattle.sqlite.specs.Does.{Tally, Does}
 use Rattle.sqlite.specs.Rows.{Written}
@@ -25,7 +25,7 @@ use Rattle.sqlite_tied.specs.Compute.{everything}
 use Rattle.sqlite_trees.specs.Tree.{put_row}
 use Rattle.sqlite_typed.proofs.AnswerLemmas.{last_table, at_end, matches_are}
 use Rattle.sqlite_typed.proofs.RowLemmas.{puts-map}
-use Rattle.sqlite_keyed.specs.Keyed.{IsKeyedBy, insert_by, next_key}
+use Rattle.sqlite_keyed.specs.Keyed.{IsKeyedBy, next_key}
 use Rattle.sqlite_keyed.proofs.ListLemmas.{map-map, filter_all, all_of, all_map}
 use Rattle.sqlite_keyed.proofs.KeyedLemmas.{IsKeyedBy-insert_by}
 use Rattle.sms_listing.specs.Listing.{ListOf, IsList, Holds, table_of, with_rowid}
@@ -37,7 +37,7 @@ use Rattle.sms_table.specs.Table.{Rises}
 use Rattle.sms_centre_tables.specs.CentreSchema.{centre_schema}
 use Rattle.sms_centre_tables.specs.MessageList.{message_list, message_is_list}
 use Rattle.sms_centre_tables.specs.PriorityList.{priority_list, priority_is_list, priority_table}
-use Rattle.sms_centre_store.specs.Migrating.{Ranked, Ranks, lowest}
+use Rattle.sms_centre_store.specs.Migrating.{Ranks, lowest}
 use Rattle.sms_centre_store.specs.Types.{MessageRow, PriorityRow}
 
 -- ---- many rows come under rowids of their own

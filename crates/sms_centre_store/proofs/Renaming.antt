@@ -1,17 +1,14 @@
 -- What a whole migration makes of a store of version 1.
-use Rattle.std.proofs.Common.{◌≡◌, ◌≢◌, ◌⊎◌, inl, inr, ℕ, false, IsTrue, List, [], ◌∷◌, length, Ok, refl, sym, ap, subst, ◌∙◌, arith}
+use Rattle.std.proofs.Common.{◌≡◌, ◌⊎◌, inl, inr, false, IsTrue, List, [], ◌∷◌, length, Ok, sym, ap, subst, ◌∙◌, arith}
 use Rattle.sqlite.specs.Effect.{Database}
 use Rattle.sqlite.specs.Order.{Row}
 use Rattle.sqlite.specs.Schema.{Schema}
 use Rattle.sqlite.specs.State.{State, Shows}
 use Rattle.sqlite.specs.Tree.{Trees}
-use Rattle.sqlite_rules.specs.Edit.{IsNoIndex}
 use Rattle.sms_table.specs.Table.{put, without}
 use Rattle.sms_listing.specs.Inside.{Alters}
 use Rattle.sms_listing.specs.Listing.{ListOf, Holds}
-use Rattle.sms_listing.specs.Transaction.{Committed, Leads, Leaves, IsKept}
-use Rattle.sms_schema.specs.Blank.{no_tables}
-use Rattle.sms_listing.specs.Making.{Makes}
+use Rattle.sms_listing.specs.Transaction.{Committed, Leaves, IsKept}
 use Rattle.sms_centre_tables.specs.CentreSchema.{first_schema, centre_schema, schema_is, first_schema_is}
 use Rattle.sms_centre_tables.specs.MetaList.{meta_list}
 use Rattle.sms_centre_tables.specs.FirstMetaList.{meta_list as first_list}
@@ -21,12 +18,12 @@ use Rattle.sms_centre_tables.specs.ReferenceList.{reference_list}
 use Rattle.sms_centre_tables.specs.HandsetList.{handset_list}
 use Rattle.sms_centre_tables.specs.ReportList.{report_list}
 use Rattle.sms_centre_tables.specs.PriorityList.{priority_list}
-use Rattle.sms_centre_store.specs.CentreRows.{IsStore, IsStoreWith, centre_meta}
+use Rattle.sms_centre_store.specs.CentreRows.{centre_meta}
 use Rattle.sms_centre_store.specs.Founding.{MakesPriority}
-use Rattle.sms_centre_store.specs.Migrating.{first_meta, IsFirstStore, IsFirstStoreWith, Ranked, Ranks, Renamed, Renames, Migrates, Migrated, AreStore, KeepsOthers, migrated}
+use Rattle.sms_centre_store.specs.Migrating.{first_meta, IsFirstStore, Ranks, Renames, Migrates, Migrated, AreStore, migrated}
 use Rattle.sms_centre_store.specs.Opened.{Opened, SaysFirst}
 use Rattle.sms_centre_store.specs.Types.{Rows, Setup, Meta}
-use Rattle.sms_centre_store.proofs.Turning.{other, free_0, free_2, free_4, free_6, free_8, free_10, free_12}
+use Rattle.sms_centre_store.proofs.Turning.{free_0, free_2, free_4, free_6, free_8, free_10, free_12}
 use Rattle.sms_centre_store.proofs.Openings.{first_differs}
 
 -- what a list holds it holds in the same rows

@@ -1,16 +1,11 @@
--- The octets that a store has under a key, read one at a time.
-use Rattle.std.specs.Prelude.{◌≡◌, ℕ, ◌==◌, List, [], ◌∷◌, filter, Option, None}
+-- The rows that a store has under a key, read one at a time.
+use Rattle.std.specs.Prelude.{◌≡◌, ℕ, ◌==◌, List, filter, Option}
 use Rattle.sqlite.specs.Effect.{Database}
-use Rattle.sqlite.specs.State.{State}
-use Rattle.sms_listing.specs.Finding.{first_of}
 use Rattle.sms_listing.specs.Listing.{Holds}
-use Rattle.sms_listing.specs.Transaction.{IsKept}
 use Rattle.sms_table.specs.Table.{row_at}
-use Rattle.sms_centre_rows.specs.OctetsAt.{octets_at}
 use Rattle.sms_centre_tables.specs.PartList.{part_list}
 use Rattle.sms_centre_tables.specs.ReportList.{report_list}
-use Rattle.sms_centre_store.specs.CentreRows.{IsStoreWith}
-use Rattle.sms_centre_store.specs.Types.{PartRow, ReportRow, Rows, Setup}
+use Rattle.sms_centre_store.specs.Types.{PartRow, ReportRow}
 
 abbrev pub FindsPart : ℕ → Database → Option PartRow → Type 0
 FindsPart key db found = (parts : List PartRow) → Holds part_list (db.trees 4) parts → found ≡ row_at part_list.key key parts
@@ -18,7 +13,3 @@ FindsPart key db found = (parts : List PartRow) → Holds part_list (db.trees 4)
 -- the reports of a message
 abbrev pub FindsReports : ℕ → Database → List ReportRow → Type 0
 FindsReports id db found = (reports : List ReportRow) → Holds report_list (db.trees 10) reports → found ≡ filter (λ r. r.id == id) reports
-
--- the rows that are kept have these octets
-abbrev pub HasOctets : Setup → State → (ℕ → Option (List ℕ)) → Type 0
-HasOctets setup s found = (rows : Rows) × IsKept (IsStoreWith setup) s rows × ((key : ℕ) → octets_at rows key ≡ found key)

@@ -1,16 +1,19 @@
 //! Bodies of a store: one query each.
-ghost use Rattle.std.specs.Prelude.{◌≡◌, ◌⊎◌, ◌==◌, ◌%◌, ℕ, false, true, IfOk, List, OnErr, Option};
+ghost use Rattle.std.specs.Prelude.{◌≡◌, ◌⊎◌, ◌==◌, ◌%◌, false, true, IfOk, OnErr};
 ghost use Rattle.sqlite.specs.Held.{state};
 ghost use Rattle.sqlite.specs.State.{HasCleanDisk};
-ghost use Rattle.sms_centre_rows.specs.OctetsAt.{kind_octets, part_octets, report_octets};
+ghost use Rattle.sms_centre_rows.specs.OctetsAt.{kind_octets, octets_at, part_octets, report_octets};
 ghost use Rattle.sms_centre_tables.specs.CentreSchema.{centre_schema};
 ghost use Rattle.sms_listing.specs.Finding.{first_of};
-ghost use Rattle.sms_centre_store.specs.Reading.{FindsPart, FindsReports, HasOctets};
+ghost use Rattle.sms_listing.specs.Transaction.{IsKept};
+ghost use Rattle.sms_centre_store.specs.CentreRows.{IsStoreWith};
+ghost use Rattle.sms_centre_store.specs.Reading.{FindsPart, FindsReports};
+ghost use Rattle.sms_centre_store.specs.Types.{Rows as RowsOf};
 
 use crate::keep::CentreKeep;
 use sms_base::Octets;
 use sms_centre_tables::CentreStore;
-use sms_keep::{Bodies, KeepError};
+use sms_keep::{BodyKeep, KeepError};
 use sms_listing::{Lookup, find, load_cause_of, look, seek};
 use sms_messages::PartRow;
 use sms_reports::{ReportKind, ReportRow};
@@ -90,11 +93,12 @@ fn octets_of_first(reports: Vec<ReportRow>) -> Option<Octets>
 }
 
 impl<S: Alter> CentreKeep<S> {
-    fn part_body(&mut self, key: Key) -> Result<Option<Octets>, KeepError>
-        ensures ok { HasCleanDisk (state S.Store self.new.conn) → (key % 256 == 0) ≡ false → (found : ℕ → Option (List ℕ)) → HasOctets self.old.setup (state S.Store self.old.conn) found
-            → IfOk result (λ body. (body ≡ found key) × HasOctets self.new.setup (state S.Store self.new.conn) found) }
-        ensures err { HasCleanDisk (state S.Store self.new.conn) → (found : ℕ → Option (List ℕ)) → HasOctets self.old.setup (state S.Store self.old.conn) found
-            → OnErr result (HasOctets self.new.setup (state S.Store self.new.conn) found ⊎ ((state S.Store self.new.conn).is_open ≡ false)) }
+    fn part_octets(&mut self, key: Key) -> Result<Option<Octets>, KeepError>
+        ensures ok { HasCleanDisk (state S.Store self.new.conn) → (key % 256 == 0) ≡ false → (rows : RowsOf) → IsKept (IsStoreWith self.old.setup) (state S.Store self.old.conn) rows
+            → IfOk result (λ octets. (octets ≡ octets_at rows key) × IsKept (IsStoreWith self.new.setup) (state S.Store self.new.conn) rows) }
+        ensures err { HasCleanDisk (state S.Store self.new.conn) → (rows : RowsOf) → IsKept (IsStoreWith self.old.setup) (state S.Store self.old.conn) rows
+            → OnErr result (IsKept (IsStoreWith self.new.setup) (state S.Store self.new.conn) rows ⊎ ((state S.Store self.new.conn).is_open ≡ false)) }
+        ensures before { HasCleanDisk (state S.Store self.new.conn) → HasCleanDisk (state S.Store self.old.conn) }
     {
         match look(self.alloc, &mut self.conn, &PartAt { key }) {
             Ok(part) => Ok(octets_of_part(part)),
@@ -102,11 +106,12 @@ impl<S: Alter> CentreKeep<S> {
         }
     }
 
-    fn report_body(&mut self, key: Key) -> Result<Option<Octets>, KeepError>
-        ensures ok { HasCleanDisk (state S.Store self.new.conn) → (key % 256 == 0) ≡ true → (found : ℕ → Option (List ℕ)) → HasOctets self.old.setup (state S.Store self.old.conn) found
-            → IfOk result (λ body. (body ≡ found key) × HasOctets self.new.setup (state S.Store self.new.conn) found) }
-        ensures err { HasCleanDisk (state S.Store self.new.conn) → (found : ℕ → Option (List ℕ)) → HasOctets self.old.setup (state S.Store self.old.conn) found
-            → OnErr result (HasOctets self.new.setup (state S.Store self.new.conn) found ⊎ ((state S.Store self.new.conn).is_open ≡ false)) }
+    fn report_octets(&mut self, key: Key) -> Result<Option<Octets>, KeepError>
+        ensures ok { HasCleanDisk (state S.Store self.new.conn) → (key % 256 == 0) ≡ true → (rows : RowsOf) → IsKept (IsStoreWith self.old.setup) (state S.Store self.old.conn) rows
+            → IfOk result (λ octets. (octets ≡ octets_at rows key) × IsKept (IsStoreWith self.new.setup) (state S.Store self.new.conn) rows) }
+        ensures err { HasCleanDisk (state S.Store self.new.conn) → (rows : RowsOf) → IsKept (IsStoreWith self.old.setup) (state S.Store self.old.conn) rows
+            → OnErr result (IsKept (IsStoreWith self.new.setup) (state S.Store self.new.conn) rows ⊎ ((state S.Store self.new.conn).is_open ≡ false)) }
+        ensures before { HasCleanDisk (state S.Store self.new.conn) → HasCleanDisk (state S.Store self.old.conn) }
     {
         let lookup = ReportsOf {
             id: key.number() / 256,
@@ -116,20 +121,37 @@ impl<S: Alter> CentreKeep<S> {
             Err(error) => Err(load_cause_of(error)),
         }
     }
+
+    fn octets_under(&mut self, key: Key) -> Result<Option<Octets>, KeepError>
+        ensures ok { HasCleanDisk (state S.Store self.new.conn) → (rows : RowsOf) → IsKept (IsStoreWith self.old.setup) (state S.Store self.old.conn) rows
+            → IfOk result (λ octets. (octets ≡ octets_at rows key) × IsKept (IsStoreWith self.new.setup) (state S.Store self.new.conn) rows) }
+        ensures err { HasCleanDisk (state S.Store self.new.conn) → (rows : RowsOf) → IsKept (IsStoreWith self.old.setup) (state S.Store self.old.conn) rows
+            → OnErr result (IsKept (IsStoreWith self.new.setup) (state S.Store self.new.conn) rows ⊎ ((state S.Store self.new.conn).is_open ≡ false)) }
+        ensures before { HasCleanDisk (state S.Store self.new.conn) → HasCleanDisk (state S.Store self.old.conn) }
+    {
+        if key.number() % 256 == 0 {
+            self.report_octets(key)
+        } else {
+            self.part_octets(key)
+        }
+    }
 }
 
-impl<S: Alter> Bodies for CentreKeep<S> {
-    ghost bodies = { λ keep found. HasOctets keep.setup (state S.Store keep.conn) found };
+impl<S: Alter> BodyKeep for CentreKeep<S> {
+    ghost body_of = { octets_at };
 
-    ghost is_honest = { λ keep. HasCleanDisk (state S.Store keep.conn) };
-
-    ghost is_closed = { λ keep. (state S.Store keep.conn).is_open ≡ false };
+    ghost refused = { λ keep. keep.refused };
 
     fn body(&mut self, key: Key) -> Result<Option<Octets>, KeepError> {
-        if key.number() % 256 == 0 {
-            self.report_body(key)
-        } else {
-            self.part_body(key)
+        match self.octets_under(key) {
+            Ok(octets) => {
+                self.refused = None;
+                Ok(octets)
+            }
+            Err(error) => {
+                self.refused = Some(key);
+                Err(error)
+            }
         }
     }
 }

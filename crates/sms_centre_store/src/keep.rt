@@ -11,6 +11,7 @@ use crate::commit::Commit;
 use sms_centre_rules::{Changes, Rows, Setup};
 use sms_keep::{Keep, KeepError};
 use sms_listing::{load_cause_of, look, transact, write_cause_of};
+use sms_table::Key;
 use sqlite::{Alter, Connection};
 use std::alloc::Global;
 
@@ -21,6 +22,8 @@ pub struct CentreKeep<S: Alter> {
     /// Handed in at the opening, not stored.
     pub setup: Setup,
     pub(crate) alloc: Global,
+    // The key of the last read of a body, where that was refused.
+    pub(crate) refused: Option<Key>,
 }
 
 impl<S: Alter> CentreKeep<S> {
@@ -32,6 +35,7 @@ impl<S: Alter> CentreKeep<S> {
             conn,
             setup: _,
             alloc: _,
+            refused: _,
         } = self;
         conn
     }

@@ -115,7 +115,12 @@ impl<S: Alter + Drop> CentreKeep<S> {
         }
         let mut conn = conn;
         match raise_first(alloc, &mut conn) {
-            Ok(()) => Ok(CentreKeep { conn, setup, alloc }),
+            Ok(()) => Ok(CentreKeep {
+                conn,
+                setup,
+                alloc,
+                refused: None,
+            }),
             Err(error) => Err(error),
         }
     }

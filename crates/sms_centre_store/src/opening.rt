@@ -36,7 +36,12 @@ impl<S: Alter + Drop> CentreKeep<S> {
     {
         let mut conn = conn;
         match transact(alloc, &mut conn, &Founding) {
-            Ok(()) => Ok(CentreKeep { conn, setup, alloc }),
+            Ok(()) => Ok(CentreKeep {
+                conn,
+                setup,
+                alloc,
+                refused: None,
+            }),
             Err(error) => Err(write_cause_of(error)),
         }
     }
@@ -60,7 +65,12 @@ impl<S: Alter + Drop> CentreKeep<S> {
         }
         let mut conn = conn;
         match judge_store(alloc, &mut conn) {
-            Ok(()) => Ok(CentreKeep { conn, setup, alloc }),
+            Ok(()) => Ok(CentreKeep {
+                conn,
+                setup,
+                alloc,
+                refused: None,
+            }),
             Err(error) => Err(error),
         }
     }

@@ -18,7 +18,7 @@ use Rattle.sms_centre_rules.specs.Draft.{Draft, Store, on_air, waiting_in}
 use Rattle.sms_centre_rules.specs.Offering.{holder_of, is_made, offer_load, read_of, tpdu_of}
 use Rattle.sms_centre_rules.proofs.SoundAir.{line_of_handset}
 use Rattle.sms_walks.specs.Stepping.{offer_at}
-use Rattle.sms_offering.specs.Going.{Goes, UnlessMemory}
+use Rattle.sms_offering.specs.Going.{Goes, NoneRefused, UnlessMemory}
 use Rattle.sms_offering.specs.Offered.{next_for, offer_in, offer_next}
 use Rattle.sms_working.specs.Working.{Shows, WorkingOf, all_waiting}
 use Rattle.sms_working.proofs.Shown.{aired_shown}
@@ -118,26 +118,33 @@ read_shown l s g air waiting p shows = shown_by (is_made l s) (load_key l) g air
 
 -- ---- how steps end
 
-pub goes_on : {A : Type 0} (ok : A → Type 0) (keys : List ℕ) (held closed : Type 0) (refused : Option ℕ) (r : Result A PlanError) → UnlessMemory ok r → held → refused ≡ None → Goes ok keys held closed refused r
-goes_on ok keys held closed refused (Ok x) is holds none = (is, (holds, none))
-goes_on ok keys held closed refused (Err NoBody) is holds none = absurd is
-goes_on ok keys held closed refused (Err NoMemory) is holds none = (holds, none)
+-- what the store told before, and then, is what it tells in the end
+pub none_since : (first before after : Option ℕ) → NoneRefused first before → NoneRefused before after → NoneRefused first after
+none_since first before after none then = ⊎_elim
+    (λ (e : after ≡ None). inl e)
+    (λ (e : after ≡ before). ⊎_elim (λ (n : before ≡ None). inl (e ∙ n)) (λ (s : before ≡ first). inr (e ∙ s)) none)
+    then
 
-pub goes_off : {A B : Type 0} (ok : A → Type 0) (then : B → Type 0) (keys more : List ℕ) (held closed : Type 0) (refused : Option ℕ) (e : PlanError) → ((k : ℕ) → Among k keys → Among k more)
-    → Goes ok keys held closed refused (Err e) → Goes then more held closed refused (Err e)
-goes_off ok then keys more held closed refused NoBody into goes = let n = goes.0 in ((n.0, (into n.0 n.1.0, n.1.1)), goes.1)
-goes_off ok then keys more held closed refused NoMemory into goes = goes
+pub goes_on : {A : Type 0} (ok : A → Type 0) (keys : List ℕ) (held closed : Type 0) (before refused : Option ℕ) (r : Result A PlanError) → UnlessMemory ok r → held → NoneRefused before refused → Goes ok keys held closed before refused r
+goes_on ok keys held closed before refused (Ok x) is holds none = (is, (holds, none))
+goes_on ok keys held closed before refused (Err NoBody) is holds none = absurd is
+goes_on ok keys held closed before refused (Err NoMemory) is holds none = (holds, none)
 
-pub short_off : {A B : Type 0} (ok : A → Type 0) (then : B → Type 0) (keys : List ℕ) (held closed : Type 0) (refused : Option ℕ) (e : PlanError) → UnlessMemory ok (Err e) → held → refused ≡ None
-    → Goes then keys held closed refused (Err e)
-short_off ok then keys held closed refused NoBody is holds none = absurd is
-short_off ok then keys held closed refused NoMemory is holds none = (holds, none)
+pub goes_off : {A B : Type 0} (ok : A → Type 0) (then : B → Type 0) (keys more : List ℕ) (held closed : Type 0) (first before refused : Option ℕ) (e : PlanError) → NoneRefused first before → ((k : ℕ) → Among k keys → Among k more)
+    → Goes ok keys held closed before refused (Err e) → Goes then more held closed first refused (Err e)
+goes_off ok then keys more held closed first before refused NoBody none into goes = let n = goes.0 in ((n.0, (into n.0 n.1.0, n.1.1)), goes.1)
+goes_off ok then keys more held closed first before refused NoMemory none into goes = (goes.0, none_since first before refused none goes.1)
 
-pub goes_wide : {A : Type 0} (ok : A → Type 0) (keys more : List ℕ) (held closed : Type 0) (refused : Option ℕ) (r : Result A PlanError) → ((k : ℕ) → Among k keys → Among k more)
-    → Goes ok keys held closed refused r → Goes ok more held closed refused r
-goes_wide ok keys more held closed refused (Ok x) into goes = goes
-goes_wide ok keys more held closed refused (Err NoBody) into goes = let n = goes.0 in ((n.0, (into n.0 n.1.0, n.1.1)), goes.1)
-goes_wide ok keys more held closed refused (Err NoMemory) into goes = goes
+pub short_off : {A B : Type 0} (ok : A → Type 0) (then : B → Type 0) (keys : List ℕ) (held closed : Type 0) (refused : Option ℕ) (e : PlanError) → UnlessMemory ok (Err e) → held
+    → Goes then keys held closed refused refused (Err e)
+short_off ok then keys held closed refused NoBody is holds = absurd is
+short_off ok then keys held closed refused NoMemory is holds = (holds, inr refl)
+
+pub goes_wide : {A : Type 0} (ok : A → Type 0) (keys more : List ℕ) (held closed : Type 0) (before refused : Option ℕ) (r : Result A PlanError) → ((k : ℕ) → Among k keys → Among k more)
+    → Goes ok keys held closed before refused r → Goes ok more held closed before refused r
+goes_wide ok keys more held closed before refused (Ok x) into goes = goes
+goes_wide ok keys more held closed before refused (Err NoBody) into goes = let n = goes.0 in ((n.0, (into n.0 n.1.0, n.1.1)), goes.1)
+goes_wide ok keys more held closed before refused (Err NoMemory) into goes = goes
 
 pub unless_alike : {A : Type 0} (ok then : A → Type 0) (r : Result A PlanError) → ((x : A) → ok x → then x) → UnlessMemory ok r → UnlessMemory then r
 unless_alike ok then (Ok x) into is = into x is

@@ -10,12 +10,16 @@ UnlessMemory ok (Ok value) = ok value
 UnlessMemory ok (Err NoBody) = ⊥
 UnlessMemory ok (Err NoMemory) = Unit {0}
 
+-- What the store tells of its last read: it answered that, or none was made since.
+abbrev pub NoneRefused : Option ℕ → Option ℕ → Type 0
+NoneRefused before after = (after ≡ None) ⊎ (after ≡ before)
+
 -- It went well; or the store refused to read the body of a key that is among these; or there was no memory, and the store refused
 -- nothing. Only after a refusal may the store be closed; else it holds what it held.
-abbrev pub Goes : {A : Type 0} → (A → Type 0) → List ℕ → Type 0 → Type 0 → Option ℕ → Result A PlanError → Type 0
-Goes ok keys held closed refused (Ok value) = ok value × (held × (refused ≡ None))
-Goes ok keys held closed refused (Err NoBody) = ((key : ℕ) × (Among key keys × (refused ≡ Some key))) × (held ⊎ closed)
-Goes ok keys held closed refused (Err NoMemory) = held × (refused ≡ None)
+abbrev pub Goes : {A : Type 0} → (A → Type 0) → List ℕ → Type 0 → Type 0 → Option ℕ → Option ℕ → Result A PlanError → Type 0
+Goes ok keys held closed before refused (Ok value) = ok value × (held × NoneRefused before refused)
+Goes ok keys held closed before refused (Err NoBody) = ((key : ℕ) × (Among key keys × (refused ≡ Some key))) × (held ⊎ closed)
+Goes ok keys held closed before refused (Err NoMemory) = held × NoneRefused before refused
 
 -- the store answers every read but that which it refused
 abbrev pub answers_but : Option ℕ → ℕ → Bool

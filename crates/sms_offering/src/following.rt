@@ -24,8 +24,8 @@ fn offer_each<B: BodyKeep>(
     centre: &[u8],
     stops: &[Stop],
 ) -> Result<(), PlanError>
-    ensures goes { B.is_honest bodies.new → (d : Draft) (rows : B.Rows) → Shows d working.old → AreDigits stops.now → CanOffer B.body_of rows centre.now d.store → B.holds bodies.old rows → B.refused bodies.old ≡ None
-        → Goes (λ _. Shows (walk offer_at_of stops.now d) working.new) (walk offer_at_of stops.now d).air.read (B.holds bodies.new rows) (B.is_closed bodies.new) (B.refused bodies.new) result }
+    ensures goes { B.is_honest bodies.new → (d : Draft) (rows : B.Rows) → Shows d working.old → AreDigits stops.now → CanOffer B.body_of rows centre.now d.store → B.holds bodies.old rows
+        → Goes (λ _. Shows (walk offer_at_of stops.now d) working.new) (walk offer_at_of stops.now d).air.read (B.holds bodies.new rows) (B.is_closed bodies.new) (B.refused bodies.old) (B.refused bodies.new) result }
     ensures before { B.is_honest bodies.new → B.is_honest bodies.old }
 {
     for stop in stops {
@@ -43,8 +43,8 @@ fn offer<B: BodyKeep>(
     bodies: &mut B,
     centre: &[u8],
 ) -> Result<(), PlanError>
-    ensures goes { B.is_honest bodies.new → (d : Draft) (rows : B.Rows) → Shows d working.old → CanOffer B.body_of rows centre.now d.store → B.holds bodies.old rows → B.refused bodies.old ≡ None
-        → Goes (λ _. Shows (offer_of d) working.new) (offer_of d).air.read (B.holds bodies.new rows) (B.is_closed bodies.new) (B.refused bodies.new) result }
+    ensures goes { B.is_honest bodies.new → (d : Draft) (rows : B.Rows) → Shows d working.old → CanOffer B.body_of rows centre.now d.store → B.holds bodies.old rows
+        → Goes (λ _. Shows (offer_of d) working.new) (offer_of d).air.read (B.holds bodies.new rows) (B.is_closed bodies.new) (B.refused bodies.old) (B.refused bodies.new) result }
     ensures before { B.is_honest bodies.new → B.is_honest bodies.old }
 {
     offers_go_to_those_found();
@@ -69,16 +69,16 @@ fn send_receipts(working: &mut Working<'_>) -> Result<(), PlanError>
 /// due is offered. Its TPDU is read from the store, unless the event made it. `centre` is the centre's address as RP units carry it,
 /// 2 to 11 octets.
 ///
-/// Where the rows are sound, and the store has refused no read before: the centre then shows what follows in the definition, and the
-/// store holds what it held; or the store refused to read a body that the definition reads (`NoBody`), and is as it was or closed;
-/// or there was no memory, and the store refused nothing. After an error the event is given up.
+/// Where the rows are sound, the centre then shows what follows in the definition, and the store holds what it held; or the store
+/// refused to read a body that the definition reads (`NoBody`), and is as it was or closed; or there was no memory, and the store
+/// refused nothing. After an error the event is given up.
 pub fn follow<B: BodyKeep>(
     working: &mut Working<'_>,
     bodies: &mut B,
     centre: &[u8],
 ) -> Result<(), PlanError>
-    ensures goes { B.is_honest bodies.new → (d : Draft) (rows : B.Rows) → Shows d working.old → CanOffer B.body_of rows centre.now d.store → B.holds bodies.old rows → B.refused bodies.old ≡ None
-        → Goes (λ _. Shows (follow_of d) working.new) (follow_of d).air.read (B.holds bodies.new rows) (B.is_closed bodies.new) (B.refused bodies.new) result }
+    ensures goes { B.is_honest bodies.new → (d : Draft) (rows : B.Rows) → Shows d working.old → CanOffer B.body_of rows centre.now d.store → B.holds bodies.old rows
+        → Goes (λ _. Shows (follow_of d) working.new) (follow_of d).air.read (B.holds bodies.new rows) (B.is_closed bodies.new) (B.refused bodies.old) (B.refused bodies.new) result }
     ensures before { B.is_honest bodies.new → B.is_honest bodies.old }
 {
     match send_receipts(working) {
