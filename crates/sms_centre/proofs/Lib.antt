@@ -1,0 +1,3 @@
+mod ActsFirst
+mod AsDefined
+mod Promises

@@ -1,0 +1,5 @@
+use Rattle.sms_centre_rules.specs.Draft.{draft_of}
+use Rattle.sms_centre.proofs.acting.unbound.Goals as goal
+
+pub returns : goal.returns
+returns c = λ core shows standing. c.in_ok-unbind.ensures (draft_of core) shows standing.awaited

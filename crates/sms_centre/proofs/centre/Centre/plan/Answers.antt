@@ -1,0 +1,25 @@
+use Rattle.std.proofs.Common.{ℕ, List, sym, subst}
+use Rattle.sms_centre_rules.specs.Draft.{Draft}
+use Rattle.sms_offering.specs.Going.{Goes}
+use Rattle.sms_offering.specs.Stored.{CanOffer}
+use Rattle.sms_planned.specs.Planned.{IsPlanned}
+use Rattle.sms_standing.specs.Standing.{IsStanding, StandingOf}
+use Rattle.sms_centre.specs.Acting.{acted}
+use Rattle.sms_centre.proofs.ActsFirst.{acts_then_follows, can_offer}
+use Rattle.sms_centre.proofs.AsDefined.{plans_event}
+use Rattle.sms_centre.proofs.centre.Centre.plan.Goals as goal
+
+pub returns-clause-goes : goal.returns-clause-goes
+returns-clause-goes g c = λ honest core rows standing stores holds.
+    let event = c.args.event.now in
+    let was : IsStanding core c.self.inside.standing = subst (λ (s : StandingOf). IsStanding core s) (sym c.self.view_is) standing in
+    subst (λ (d : Draft). Goes (λ p. IsPlanned d p.plan) d.air.read (g.B.Keep.holds c.plan_of.new.bodies rows) (g.B.Keep.is_closed c.plan_of.new.bodies) (g.B.BodyKeep.refused c.args.bodies.now) (g.B.BodyKeep.refused c.plan_of.new.bodies) c.plan_of.result)
+    (sym (acts_then_follows event core))
+    (c.plan_of.ensures.goes honest core rows was
+    (subst (λ (o : List ℕ). CanOffer g.B.BodyKeep.body_of rows o (acted event core).store) (sym c.as_slice.ensures)
+    (can_offer g.B.BodyKeep.body_of rows event core c.self.inside.standing c.self.inside.address was c.is_event.ensures stores c.self.invariant.1)) holds)
+
+pub returns-clause-definition : goal.returns-clause-definition
+returns-clause-definition g c = λ honest core rows standing stores holds none.
+    plans_event c.args.event.now core (g.B.Keep.holds c.plan_of.new.bodies rows) (g.B.Keep.is_closed c.plan_of.new.bodies) (g.B.BodyKeep.refused c.args.bodies.now) (g.B.BodyKeep.refused c.plan_of.new.bodies) c.plan_of.result
+    (returns-clause-goes g c honest core rows standing stores holds) none

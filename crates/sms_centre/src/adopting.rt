@@ -1,0 +1,36 @@
+//! Putting a plan in.
+ghost use Rattle.std.specs.Prelude.{◌≡◌};
+ghost use Rattle.sms_centre_rules.specs.CentreEvent.{happened};
+ghost use Rattle.sms_centre_rules.specs.Draft.{Core, core_of};
+ghost use Rattle.sms_centre_rules.specs.SoundCore.{IsEvent};
+ghost use Rattle.sms_centre_rules.specs.declared.event.CentreEvent.{CentreEvent as CentreEventOf};
+ghost use Rattle.sms_centre.specs.Planning.{Fits};
+ghost use Rattle.sms_planned.specs.Planned.{IsPlanned};
+ghost use Rattle.sms_standing.specs.Standing.{IsStanding};
+
+use crate::planned::Planned;
+use sms_awaited::laws::every_event_keeps_what_is_awaited;
+use sms_planned::Told;
+use sms_standing::Standing;
+
+/// Puts the plan into what the centre keeps, without taking memory, and gives what is told.
+pub(crate) fn put_in(standing: &mut Standing, planned: Planned) -> Told
+    requires { Fits standing.old planned }
+    ensures told { result ≡ planned.plan.told }
+    ensures setup { standing.new.setup ≡ standing.old.setup }
+    ensures standing { (event : CentreEventOf) (c : Core) → IsStanding c standing.old → IsEvent event → IsPlanned (happened event c) planned.plan → IsStanding (core_of (happened event c)) standing.new }
+{
+    every_event_keeps_what_is_awaited();
+    let Planned { plan, register } = planned;
+    standing
+        .register
+        .adopt(register, plan.changes.reports.as_slice());
+    plan.adopt(
+        &mut standing.moment,
+        &mut standing.messages,
+        &mut standing.claims,
+        &mut standing.shelves,
+        &mut standing.reports,
+        &mut standing.sessions,
+    )
+}

@@ -1,0 +1,156 @@
+//! The centre.
+ghost use Rattle.std.specs.Prelude.{◌≡◌, ℕ, List, None, IfErr, IfOk};
+ghost use Rattle.sms_base.specs.Among.{Among};
+ghost use Rattle.sms_waiting.specs.SoundGivings.{IsNumber};
+ghost use Rattle.sms_centre_rules.specs.declared.event.CentreEvent.{CentreEvent as CentreEventOf};
+ghost use Rattle.sms_centre_rules.specs.CentreEvent.{happened, recovered, started};
+ghost use Rattle.sms_centre_rules.specs.Draft.{Core, core_of};
+ghost use Rattle.sms_centre_rules.specs.SoundCore.{AreDifferent, HasNumber, IsEvent};
+ghost use Rattle.sms_centre_rules.specs.SoundRows.{IsSetup};
+ghost use Rattle.sms_centre.specs.Planning.{Fits, PlansEvent};
+ghost use Rattle.sms_centre.specs.Stored.{StoresRows};
+ghost use Rattle.sms_offering.specs.Going.{Goes, answers_but};
+ghost use Rattle.sms_planned.specs.Planned.{IsPlanned};
+ghost use Rattle.sms_register.specs.Telling.{message_lines, receipt_lines};
+ghost use Rattle.sms_standing.specs.Recovering.{AreNew, RefusesRows};
+ghost use Rattle.sms_standing.specs.Standing.{IsStanding};
+
+use crate::acting::is_event;
+use crate::adopting::put_in;
+use crate::finishing::plan_of;
+use crate::planned::Planned;
+use sms_base::{Digits, Listed, Octets};
+use sms_centre_rules::{CentreEvent, PlanError, Rows};
+use sms_keep::BodyKeep;
+use sms_planned::Told;
+use sms_report::{MessageRow, ReceiptRow};
+use sms_sessions::Seat;
+use sms_standing::{RecoverError, Standing};
+use sms_table::Table;
+use sms_tpdu::write_relay_address;
+use std::alloc::{AllocError, Global};
+use std::marker::Model;
+
+/// A short message service centre: what it keeps in memory, and all that a restart forgets.
+#[derive(Drop)]
+pub struct Centre {
+    alloc: Global,
+    standing: Standing,
+    // Its address as RP units carry it.
+    address: Octets,
+}
+
+impl Model for Centre {
+    ghost use Rattle.std.specs.Prelude.{◌≡◌};
+    ghost use Rattle.sms_tpdu.specs.AddressGrammar.{relay_address};
+    ghost use Rattle.sms_centre_rules.specs.SoundRows.{IsSetup};
+    ghost use Rattle.sms_standing.specs.Standing.{StandingOf};
+
+    ghost Value = { StandingOf };
+
+    ghost view = { λ c. c.standing };
+
+    ghost invariant = { λ c. IsSetup c.standing.setup × (c.address ≡ relay_address c.standing.setup.centre) };
+}
+
+impl Centre {
+    /// The centre that starts again with these rows, if it can: `BadRows` only where they are not sound, and no centre of such rows;
+    /// in a time that grows as the rows do, up to a logarithm. Links to these handsets come up at its first tick; these sessions are
+    /// bound, in which nothing was sent yet.
+    pub fn recover(
+        alloc: Global,
+        rows: Rows,
+        handsets: &[Digits],
+        sessions: Table<Seat>,
+    ) -> Result<Centre, RecoverError>
+        requires numbers { (number : List ℕ) → Among number handsets.now → IsNumber number }
+        requires apart { AreDifferent handsets.now }
+        requires sessions { AreNew sessions.rows }
+        ensures standing { IfOk result (IsStanding (recovered rows handsets.now sessions.rows)) }
+        ensures refused { IfErr result (λ error. RefusesRows error rows) }
+    {
+        let standing = Standing::recover(alloc, rows, handsets, sessions)?;
+        Ok(Centre::of(alloc, standing)?)
+    }
+
+    /// The same, where links to these handsets are up at once.
+    pub fn start(
+        alloc: Global,
+        rows: Rows,
+        handsets: &[Digits],
+        sessions: Table<Seat>,
+    ) -> Result<Centre, RecoverError>
+        requires numbers { (number : List ℕ) → Among number handsets.now → IsNumber number }
+        requires apart { AreDifferent handsets.now }
+        requires sessions { AreNew sessions.rows }
+        ensures standing { IfOk result (IsStanding (started rows handsets.now sessions.rows)) }
+        ensures refused { IfErr result (λ error. RefusesRows error rows) }
+    {
+        let standing = Standing::start(alloc, rows, handsets, sessions)?;
+        Ok(Centre::of(alloc, standing)?)
+    }
+
+    fn of(alloc: Global, standing: Standing) -> Result<Centre, AllocError>
+        requires { IsSetup standing.setup }
+        ensures { IfOk result (λ centre. centre ≡ standing) }
+    {
+        let address = write_relay_address(alloc, &standing.setup.centre)?;
+        Ok(Centre {
+            alloc,
+            standing,
+            address,
+        })
+    }
+
+    /// What the event leads to, with a store that gives the TPDUs of the rows as they stand. Nothing has changed yet.
+    ///
+    /// `NoBody` where the store refused to read a body of those that the event reads; `NoMemory` where a growth was refused, and the
+    /// store refused nothing. A handset that the event names has a number.
+    pub fn plan<B: BodyKeep>(
+        &self,
+        event: &CentreEvent<'_>,
+        bodies: &mut B,
+    ) -> Result<Planned, PlanError>
+        requires number { HasNumber event.now }
+        ensures goes { B.is_honest bodies.new → (c : Core) (rows : B.Rows) → IsStanding c self.now → StoresRows (B.body_of rows) c.rows → B.holds bodies.old rows
+            → Goes (λ p. IsPlanned (happened event.now c) p.plan) (happened event.now c).air.read (B.holds bodies.new rows) (B.is_closed bodies.new) (B.refused bodies.old) (B.refused bodies.new) result }
+        // So it is what the definition plans with a store that answers all that the event reads but what it refused.
+        ensures definition { B.is_honest bodies.new → (c : Core) (rows : B.Rows) → IsStanding c self.now → StoresRows (B.body_of rows) c.rows → B.holds bodies.old rows → B.refused bodies.old ≡ None
+            → PlansEvent (answers_but (B.refused bodies.new)) event.now c result }
+        ensures fits { IfOk result (Fits self.now) }
+        ensures event { IsEvent event.now }
+        ensures before { B.is_honest bodies.new → B.is_honest bodies.old }
+    {
+        is_event(event);
+        plan_of(
+            self.alloc,
+            &self.standing,
+            event,
+            bodies,
+            self.address.as_slice(),
+        )
+    }
+
+    /// Puts the plan of an event into the centre, without taking memory, and gives what is told.
+    pub fn adopt(&mut self, planned: Planned) -> Told
+        requires { Fits self.old planned }
+        ensures told { result ≡ planned.plan.told }
+        ensures standing { (event : CentreEventOf) (c : Core) → IsStanding c self.old → IsEvent event → IsPlanned (happened event c) planned.plan → IsStanding (core_of (happened event c)) self.new }
+    {
+        put_in(&mut self.standing, planned)
+    }
+
+    /// Every message with its state, by number. It takes time linear in the messages.
+    pub fn table(&self) -> Result<Listed<MessageRow>, AllocError>
+        ensures { (c : Core) → IsStanding c self.now → IfOk result (λ table. table ≡ message_lines c.rows.messages) }
+    {
+        self.standing.table(self.alloc)
+    }
+
+    /// Every receipt and status report that was made, in the order made, with the final state of its message. Each costs a look-up.
+    pub fn receipts(&self) -> Result<Listed<ReceiptRow>, AllocError>
+        ensures { (c : Core) → IsStanding c self.now → IfOk result (λ receipts. receipts ≡ receipt_lines c.rows.messages c.rows.reports) }
+    {
+        self.standing.receipts(self.alloc)
+    }
+}

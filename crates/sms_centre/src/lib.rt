@@ -1,0 +1,22 @@
+//! The centre core (3GPP TS 23.040 3 and 9.2, 3GPP TS 24.011 6, SMPP v3.4 4): what a short message service centre does with what
+//! applications ask, with frames from handsets, with links that come and go, and with time.
+//!
+//! `Centre` is a machine over rows, which it judges when it starts. `plan` takes an event and hands out what it leads to; nothing has
+//! changed yet. Its caller commits the changes and calls `adopt`, which can't fail and gives what is told: frames to handsets, the
+//! answer to an application, receipts. What an event leads to is said by the definition (`sms_centre_rules`): `plan` is exactly that,
+//! and a sound centre is sound after each event and starts again from the rows that were committed. What it keeps between events is
+//! `sms_standing`'s; its events' stages are those of `sms_working` and the crates above it.
+#![tactic(auto)]
+
+mod acting;
+mod adopting;
+mod centre;
+mod finishing;
+pub mod laws;
+mod planned;
+
+pub use centre::Centre;
+pub use planned::Planned;
+pub use sms_centre_rules::{CentreAnswer, CentreEvent, Changes, PlanError, Rows, Setup};
+pub use sms_planned::Told;
+pub use sms_standing::{RecoverError, first_rows};

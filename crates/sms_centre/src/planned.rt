@@ -1,0 +1,46 @@
+//! A plan.
+ghost use Rattle.std.specs.Prelude.{◌≡◌};
+
+use sms_base::Moment;
+use sms_centre_rules::Changes;
+use sms_planned::{Planned as Plan, Told};
+use sms_register::SpareRegister;
+use std::marker::Model;
+
+/// What an event leads to, with the memory to put it in. Its changes are to be committed before it is adopted.
+#[derive(Drop)]
+pub struct Planned {
+    pub(crate) plan: Plan,
+    pub(crate) register: SpareRegister,
+}
+
+impl Model for Planned {
+    ghost use Rattle.sms_centre.specs.Planning.{PlannedOf};
+
+    ghost Value = { PlannedOf };
+
+    ghost view = { λ p. record { plan = p.plan; register = p.register } };
+}
+
+impl Planned {
+    /// What is to be committed.
+    pub fn changes(&self) -> &Changes
+        ensures { result.now ≡ self.now.plan.changes }
+    {
+        &self.plan.changes
+    }
+
+    /// What goes out once it is.
+    pub fn told(&self) -> &Told
+        ensures { result.now ≡ self.now.plan.told }
+    {
+        &self.plan.told
+    }
+
+    /// The centre's moment after the event.
+    pub fn moment(&self) -> Moment
+        ensures { result ≡ self.now.plan.left.moment }
+    {
+        self.plan.left.moment
+    }
+}
