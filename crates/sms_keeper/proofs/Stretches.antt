@@ -7,14 +7,9 @@ use Rattle.sms_keeper.specs.declared.outs.Out.{Out}
 use Rattle.sms_keeper.specs.declared.machine.Item.{Item}
 use Rattle.sms_keeper.specs.declared.keeper.Keeper.{Keeper}
 use Rattle.sms_keeper.specs.Fates.{MatchFate, WentOn, EndsRefused}
-use Rattle.sms_keeper.specs.History.{IsHistory, IsRising, IsTimely, tick_after, outs_to, answers_in, asked_by, asked, work}
+use Rattle.sms_keeper.specs.History.{IsHistory, IsRising, Leads, LeadsBy, IsTimely, tick_after, outs_to, answers_in, asked_by, asked, work}
 use Rattle.sms_keeper.specs.Keeping.{given_at, given_by, ran_by, IsSameHub, Gave, IsStretch}
 use Rattle.sms_keeper.proofs.Histories.{same_length, answers-append, asked-append}
-
-pub fate_map : (f : Fate) {A B C D : Type 0} → (A → C) → (B → D) → MatchFate f A B → MatchFate f C D
-fate_map Done a b h = a h
-fate_map NoMemory a b h = a h
-fate_map Refused a b h = b h
 
 pub fate_went : (f : Fate) (A B : Type 0) → f ≢ Refused → MatchFate f A B → A
 fate_went Done A B n h = h
@@ -37,11 +32,7 @@ no_memory≢refused : NoMemory ≢ Refused
 unfolding is_refused
 no_memory≢refused e = true≢false (sym (ap is_refused e))
 
-module _ {J O S : Type 0} (gives : S → Stimulus J → Fate → List (Out O)) (after : S → Stimulus J → Fate → S) (shows : ℕ → Type 0) where
-  history-append : (s : S) (xs : List (Item J O)) (t : S) (ys : List (Item J O)) (u : S) → IsHistory gives after s xs t → IsHistory gives after t ys u → IsHistory gives after s (xs ++ ys) u
-  history-append s [] t ys u h k = subst (λ v. IsHistory gives after v ys u) h k
-  history-append s (x ∷ xs) t ys u h k = (h.0, history-append (after s x.stimulus x.fate) xs t ys u h.1 k)
-
+module _ {J O : Type 0} (shows : ℕ → Type 0) where
   rising-append : (a : Option ℕ) (xs : List (Item J O)) (b : Option ℕ) (ys : List (Item J O)) (c : Option ℕ) → IsRising shows a xs b → IsRising shows b ys c → IsRising shows a (xs ++ ys) c
   rising-append a [] b ys c h k = subst (λ v. IsRising shows v ys c) h k
   rising-append a (x ∷ xs) b ys c h k = (h.0, rising-append (tick_after a x.stimulus) xs b ys c h.1 k)
@@ -49,11 +40,10 @@ module _ {J O S : Type 0} (gives : S → Stimulus J → Fate → List (Out O)) (
   same_trans : (a b c : Keeper J O) → IsSameHub a b → IsSameHub b c → IsSameHub a c
   same_trans a b c h k = (k.0 ∙ h.0, k.1 ∙ h.1)
 
-  pub stretch-append : (a : Keeper J O) (s : S) (xs : List (Item J O)) (b : Keeper J O) (t : S) (ys : List (Item J O)) (c : Keeper J O) (u : S)
-      → IsStretch gives after shows a s xs b t → IsStretch gives after shows b t ys c u → IsStretch gives after shows a s (xs ++ ys) c u
-  stretch-append a s xs b t ys c u h k = record {
+  pub stretch-append : (a : Keeper J O) (xs : List (Item J O)) (b : Keeper J O) (ys : List (Item J O)) (c : Keeper J O)
+      → IsStretch shows a xs b → IsStretch shows b ys c → IsStretch shows a (xs ++ ys) c
+  stretch-append a xs b ys c h k = record {
     hub = same_trans a b c h.hub k.hub;
-    history = history-append s xs t ys u h.history k.history;
     ran = k.ran ∙ ap (λ l. l ++ asked ys) h.ran ∙ append_assoc (work (ran_by a)) (asked xs) (asked ys) ∙ ap (λ l. work (ran_by a) ++ l) (sym (asked-append xs ys));
     given = λ n less. k.given n (subst (λ m. n < m) (sym (same_length a.lines.items b.lines.items h.hub.1)) less) ∙ ap (λ l. l ++ answers_in n ys) (h.given n less)
         ∙ append_assoc (given_by a n) (answers_in n xs) (answers_in n ys) ∙ ap (λ l. given_by a n ++ l) (sym (answers-append n xs ys));
@@ -61,43 +51,69 @@ module _ {J O S : Type 0} (gives : S → Stimulus J → Fate → List (Out O)) (
   }
 
   -- the keeper asked nothing
-  pub stretch_none : (a b : Keeper J O) (s t : S) → IsSameHub a b → b.lines ≡ a.lines → b.last ≡ a.last → work (ran_by b) ≡ work (ran_by a) → t ≡ s → IsStretch gives after shows a s [] b t
-  stretch_none a b s t hub lines last ran at = record {
+  pub stretch_none : (a b : Keeper J O) → IsSameHub a b → b.lines ≡ a.lines → b.last ≡ a.last → work (ran_by b) ≡ work (ran_by a) → IsStretch shows a [] b
+  stretch_none a b hub lines last ran = record {
     hub = hub;
-    history = at;
     ran = ran ∙ sym (append-nil (work (ran_by a)));
     given = λ n less. ap (λ l. given_at l.items n) lines ∙ sym (append-nil (given_by a n));
     ticks = last;
   }
 
   -- the keeper popped, and then asked once
-  pub stretch_one : (a b c : Keeper J O) (s t : S) (stimulus : Stimulus J) (fate : Fate) (e : Item J O)
+  pub stretch_one : (a b c : Keeper J O) (stimulus : Stimulus J) (e : Item J O)
       → IsSameHub a b → b.lines ≡ a.lines → work (ran_by b) ≡ work (ran_by a) ++ asked_by stimulus → IsSameHub b c → ran_by c ≡ ran_by b → c.last ≡ tick_after a.last stimulus → IsTimely shows a.last stimulus
-      → e.stimulus ≡ stimulus → e.fate ≡ fate → e.outs ≡ gives s stimulus fate → Gave b.lines.items c.lines.items e.outs → t ≡ after s stimulus fate
-      → IsStretch gives after shows a s (e ∷ []) c t
-  stretch_one a b c s t stimulus fate e hub lines ran hub' ran' last timely is befell outs gave at = record {
+      → e.stimulus ≡ stimulus → Gave b.lines.items c.lines.items e.outs
+      → IsStretch shows a (e ∷ []) c
+  stretch_one a b c stimulus e hub lines ran hub' ran' last timely is gave = record {
     hub = same_trans a b c hub hub';
-    history = (outs ∙ ap (λ x. gives s x fate) (sym is) ∙ ap (λ f. gives s e.stimulus f) (sym befell), at ∙ ap (λ x. after s x fate) (sym is) ∙ ap (λ f. after s e.stimulus f) (sym befell));
     ran = ap work ran' ∙ ran ∙ ap (λ l. work (ran_by a) ++ l) (ap asked_by (sym is) ∙ sym (append-nil (asked_by e.stimulus)));
     given = λ n less. gave n (subst (λ m. n < m) (sym (same_length a.lines.items b.lines.items hub.1)) less) ∙ ap (λ l. given_at l.items n ++ outs_to n e.outs) lines
         ∙ ap (λ l. given_by a n ++ l) (sym (append-nil (outs_to n e.outs)));
     ticks = (subst (λ x. IsTimely shows a.last x) (sym is) timely, last ∙ ap (λ x. tick_after a.last x) (sym is));
   }
 
-  -- the same, whether the machine goes on from m, or has to be opened again and then goes on from n
-  pub stretch_asked : (a b c : Keeper J O) (s m n : S) (stimulus : Stimulus J) (fate : Fate) (e : Item J O)
-      → IsSameHub a b → b.lines ≡ a.lines → work (ran_by b) ≡ work (ran_by a) ++ asked_by stimulus → IsSameHub b c → ran_by c ≡ ran_by b → c.last ≡ tick_after a.last stimulus → IsTimely shows a.last stimulus
-      → e.stimulus ≡ stimulus → e.fate ≡ fate → e.outs ≡ gives s stimulus fate → Gave b.lines.items c.lines.items e.outs
-      → MatchFate fate (m ≡ after s stimulus fate) (n ≡ after s stimulus fate)
-      → MatchFate fate (IsStretch gives after shows a s (e ∷ []) c m) (IsStretch gives after shows a s (e ∷ []) c n)
-  stretch_asked a b c s m n stimulus fate e hub lines ran hub' ran' last timely is befell outs gave at = fate_map fate
-      (λ (h : m ≡ after s stimulus fate). stretch_one a b c s m stimulus fate e hub lines ran hub' ran' last timely is befell outs gave h)
-      (λ (h : n ≡ after s stimulus fate). stretch_one a b c s n stimulus fate e hub lines ran hub' ran' last timely is befell outs gave h)
-      at
+  pub stretch_more : (a : Keeper J O) (xs : List (Item J O)) (b : Keeper J O) (ys : List (Item J O)) (c : Keeper J O) (xs' zs : List (Item J O))
+      → IsStretch shows a xs b → IsStretch shows b ys c → xs' ≡ xs → zs ≡ xs' ++ ys → IsStretch shows a zs c
+  stretch_more a xs b ys c xs' zs h k same all = subst (λ l. IsStretch shows a l c) (sym (all ∙ ap (λ l. l ++ ys) same)) (stretch-append a xs b ys c h k)
 
-  pub stretch_more : (a : Keeper J O) (s : S) (xs : List (Item J O)) (b : Keeper J O) (t : S) (ys : List (Item J O)) (c : Keeper J O) (u : S) (xs' zs : List (Item J O))
-      → IsStretch gives after shows a s xs b t → IsStretch gives after shows b t ys c u → xs' ≡ xs → zs ≡ xs' ++ ys → IsStretch gives after shows a s zs c u
-  stretch_more a s xs b t ys c u xs' zs h k same all = subst (λ l. IsStretch gives after shows a s l c u) (sym (all ∙ ap (λ l. l ++ ys) same)) (stretch-append a s xs b t ys c u h k)
+module _ {J O S : Type 0} (gives : S → Stimulus J → Fate → List (Out O)) (after : S → Stimulus J → Fate → S) where
+  history-append : (s : S) (xs : List (Item J O)) (t : S) (ys : List (Item J O)) (u : S) → IsHistory gives after s xs t → IsHistory gives after t ys u → IsHistory gives after s (xs ++ ys) u
+  history-append s [] t ys u h k = subst (λ v. IsHistory gives after v ys u) h k
+  history-append s (x ∷ xs) t ys u h k = (h.0, history-append (after s x.stimulus x.fate) xs t ys u h.1 k)
+
+  -- no item leads from where it stands
+  pub leads_none : (P : S → Type 0) → Leads gives after P [] P
+  leads_none P s p = (s, (refl, p))
+
+  leads-append : (P : S → Type 0) (xs : List (Item J O)) (Q : S → Type 0) (ys : List (Item J O)) (R : S → Type 0) → Leads gives after P xs Q → Leads gives after Q ys R → Leads gives after P (xs ++ ys) R
+  leads-append P xs Q ys R h k s p =
+      let x = h s p in let y = k x.0 x.1.1 in (y.0, (history-append s xs x.0 ys y.0 x.1.0 y.1.0, y.1.1))
+
+  pub leads_more : (P : S → Type 0) (xs : List (Item J O)) (Q : S → Type 0) (ys : List (Item J O)) (R : S → Type 0) (xs' zs : List (Item J O))
+      → Leads gives after P xs Q → Leads gives after Q ys R → xs' ≡ xs → zs ≡ xs' ++ ys → Leads gives after P zs R
+  leads_more P xs Q ys R xs' zs h k same all = subst (λ l. Leads gives after P l R) (sym (all ∙ ap (λ l. l ++ ys) same)) (leads-append P xs Q ys R h k)
+
+  -- where nothing was asked
+  pub led_none : (fate : Fate) (P Q R : S → Type 0) → fate ≡ Done → ((s : S) → P s → Q s) → LeadsBy gives after fate P [] Q R
+  led_none fate P Q R is f = subst (λ x. LeadsBy gives after x P [] Q R) (sym is) (λ s p. (s, (refl, f s p)))
+
+  -- what one item leads to
+  pub leads_one : (P Q : S → Type 0) (stimulus : Stimulus J) (fate : Fate) (e : Item J O) → e.stimulus ≡ stimulus → e.fate ≡ fate
+      → ((s : S) → P s → (e.outs ≡ gives s stimulus fate) × Q (after s stimulus fate)) → Leads gives after P (e ∷ []) Q
+  leads_one P Q stimulus fate e is befell f s p =
+      let h = f s p in (
+        after s e.stimulus e.fate,
+        (
+          (h.0 ∙ ap (λ x. gives s x fate) (sym is) ∙ ap (λ y. gives s e.stimulus y) (sym befell), refl),
+          subst Q (ap (λ x. after s x fate) (sym is) ∙ ap (λ y. after s e.stimulus y) (sym befell)) h.1,
+        ),
+      )
+
+  pub led_one : (fate : Fate) (P Q R : S → Type 0) (stimulus : Stimulus J) (e : Item J O) → e.stimulus ≡ stimulus → e.fate ≡ fate
+      → ((s : S) → P s → (e.outs ≡ gives s stimulus fate) × MatchFate fate (Q (after s stimulus fate)) (R (after s stimulus fate))) → LeadsBy gives after fate P (e ∷ []) Q R
+  led_one Done P Q R stimulus e is befell f = leads_one P Q stimulus Done e is befell f
+  led_one NoMemory P Q R stimulus e is befell f = leads_one P Q stimulus NoMemory e is befell f
+  led_one Refused P Q R stimulus e is befell f = leads_one P R stimulus Refused e is befell f
 
 module _ {J O : Type 0} where
   went-append : (xs ys : List (Item J O)) → WentOn xs → WentOn ys → WentOn (xs ++ ys)

@@ -1,9 +1,6 @@
 -- A seat whose end mark was popped has had all its jobs run.
 use Rattle.std.proofs.Common.{◌≡◌, ◌==◌, ◌<◌, ℕ, Bool, true, false, true≢false, ◌||◌, if◌then◌else◌, List, [], ◌∷◌, ◌++◌, length, map, drop, sym, refl, ap, ◌∙◌, subst, Option, Some, None, arith}
 use Rattle.sms_keeper.specs.declared.jobs.Letter.{Letter}
-use Rattle.sms_keeper.specs.declared.machine.Stimulus.{Stimulus}
-use Rattle.sms_keeper.specs.declared.machine.Fate.{Fate}
-use Rattle.sms_keeper.specs.declared.outs.Out.{Out}
 use Rattle.sms_keeper.specs.declared.machine.Item.{Item}
 use Rattle.sms_keeper.specs.declared.keeper.Keeper.{Keeper}
 use Rattle.sms_keeper.specs.Jobs.{of, is_end, has_end}
@@ -65,10 +62,9 @@ module _ {J : Type 0} where
   pub all_ran : (n : ℕ) (js : List J) (put : List (Option J)) (ran : List (Letter J)) (rest : List (Option J)) → put ≡ map Some js ++ None ∷ [] → put ≡ of n ran ++ rest → has_end (of n ran) ≡ true → for_seat n (work ran) ≡ js
   all_ran n js put ran rest whole parts end = sym (somes_of n ran) ∙ ended js (of n ran) rest (sym whole ∙ parts) end
 
-module _ {J O S : Type 0} (gives : S → Stimulus J → Fate → List (Out O)) (after : S → Stimulus J → Fate → S) (shows : ℕ → Type 0) where
-  pub all_did : (k m : Keeper J O) (s t : S) (h : List (Item J O)) (seats : ℕ) → IsNewKeeper seats k → IsStretch gives after shows k s h m t
-      → IsClosed m → IsAll m h
-  all_did k m s t h seats new did closed = record {
+module _ {J O : Type 0} (shows : ℕ → Type 0) where
+  pub all_did : (k m : Keeper J O) (h : List (Item J O)) (seats : ℕ) → IsNewKeeper seats k → IsStretch shows k h m → IsClosed m → IsAll m h
+  all_did k m h seats new did closed = record {
     ran = did.ran ∙ ap (λ l. work l ++ asked h) new.ran;
     given = λ n less. did.given n (subst (λ x. n < x) (same_length k.lines.items m.lines.items did.hub.1) less) ∙ ap (λ l. l ++ answers_in n h) (new.given n);
     closed = closed;

@@ -3,13 +3,12 @@ use Rattle.std.specs.Prelude.{◌≡◌, ◌<◌, ◌≤◌, ℕ, zero, suc, tru
 use Rattle.std.specs.Arc.{arc_value}
 use Rattle.crossbeam_queue.specs.Passes.{view, ruled_capacity}
 use Rattle.sms_keeper.specs.declared.jobs.Letter.{Letter}
-use Rattle.sms_keeper.specs.declared.machine.Stimulus.{Stimulus}
 use Rattle.sms_keeper.specs.declared.machine.Fate.{Fate}
 use Rattle.sms_keeper.specs.declared.machine.Item.{Item}
 use Rattle.sms_keeper.specs.declared.outs.Out.{Out}
 use Rattle.sms_keeper.specs.Fates.{MatchFate, WentOn, EndsRefused}
 use Rattle.sms_keeper.specs.Jobs.{of, has_end}
-use Rattle.sms_keeper.specs.History.{IsHistory, IsRising, asked, answers_in, outs_to, work}
+use Rattle.sms_keeper.specs.History.{IsRising, asked, answers_in, outs_to, work}
 use Rattle.sms_keeper.specs.declared.keeper.Line.{Line}
 use Rattle.sms_keeper.specs.declared.keeper.Keeper.{Keeper}
 
@@ -53,20 +52,20 @@ module _ {J O : Type 0} where
   abbrev pub IsSameHub : Keeper J O → Keeper J O → Type 0
   IsSameHub a b = (b.pass.table_id ≡ a.pass.table_id) × IsSameLines a.lines.items b.lines.items
 
-module _ {J O S : Type 0} (gives : S → Stimulus J → Fate → List (Out O)) (after : S → Stimulus J → Fate → S) (shows : ℕ → Type 0) where
-  -- What the keeper did while the machine went from the state s to t, by these items: it ran their jobs in order, each as it popped it, and gave each seat its outs.
-  pub record IsStretch (a : Keeper J O) (s : S) (items : List (Item J O)) (b : Keeper J O) (t : S) : Type 0 where
+module _ {J O : Type 0} (shows : ℕ → Type 0) where
+  -- What the keeper did by these items: it ran their jobs in order, each as it popped it, and gave each seat its outs.
+  pub record IsStretch (a : Keeper J O) (items : List (Item J O)) (b : Keeper J O) : Type 0 where
     pub hub : IsSameHub a b
-    pub history : IsHistory gives after s items t
     pub ran : work (ran_by b) ≡ work (ran_by a) ++ asked items
     pub given : (k : ℕ) → k < seats_of a → given_by b k ≡ given_by a k ++ answers_in k items
     pub ticks : IsRising shows a.last items b.last
 
-  -- What a turn did while the machine went from the state s to t, or where it was refused is to begin again at u: at most one item more than before, and at most one job.
-  pub record IsTurn (a : Keeper J O) (s : S) (before : List (Item J O)) (b : Keeper J O) (t u : S) (now : List (Item J O)) (jobs : ℕ) (fate : Fate) : Type 0 where
+  -- What a turn did: at most one item more than before, and at most one job. What those items lead to is told.
+  pub record IsTurn (leads : List (Item J O) → Type 0) (a : Keeper J O) (before : List (Item J O)) (b : Keeper J O) (now : List (Item J O)) (jobs : ℕ) (fate : Fate) : Type 0 where
     pub more : List (Item J O)
     pub written : now ≡ before ++ more
     pub count : length (asked more) ≡ jobs
     pub most : jobs ≤ 1
     pub told : MatchFate fate (WentOn more) (EndsRefused more)
-    pub did : MatchFate fate (IsStretch a s more b t) (IsStretch a s more b u)
+    pub did : IsStretch a more b
+    pub led : leads more

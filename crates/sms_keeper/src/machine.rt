@@ -63,14 +63,19 @@ pub trait Clock {
 }
 
 /// What the keeper runs: its definition, by `gives` and `after`, says what each stimulus puts out and leads to.
+///
+/// Its laws are told for as long as it is honest: its store returns what was written.
 pub trait Machine<J, O> {
     /// What a machine stands for. No value of it is made.
     type State;
 
-    ghost state: { Self → Self.State };
+    ghost stands: { Self → Self.State → Type 0 };
 
     /// What it stands for once it is opened again.
-    ghost resumes: { Self → Self.State };
+    ghost resumes: { Self → Self.State → Type 0 };
+
+    /// So far its store has returned what was written.
+    ghost is_honest: { Self → Type 0 };
 
     /// Its rows could not be read when it was last to be opened again.
     ghost is_broken: { Self → Type 0 };
@@ -81,14 +86,16 @@ pub trait Machine<J, O> {
 
     /// Plans, passes the gate, commits, and only then gives the outs.
     fn step<G: Gate>(&mut self, gate: &G, stimulus: &Stimulus<J>) -> Step<O>
-        ensures seats { result.to_seats ≡ gives (state self.old) stimulus.now result.fate }
-        ensures history { result.to_history ≡ gives (state self.old) stimulus.now result.fate }
-        ensures after { MatchFate result.fate
-            (state self.new ≡ after (state self.old) stimulus.now result.fate)
-            (resumes self.new ≡ after (state self.old) stimulus.now result.fate) };
+        ensures alike { result.to_seats ≡ result.to_history }
+        ensures before { is_honest self.new → is_honest self.old }
+        ensures gives { is_honest self.new → (s : Self.State) → stands self.old s → (result.to_history ≡ gives s stimulus.now result.fate)
+            × MatchFate result.fate
+            (stands self.new (after s stimulus.now result.fate))
+            (resumes self.new (after s stimulus.now result.fate)) };
 
     /// Recovers the machine from its rows, after a step that was refused.
     fn reopen(&mut self) -> Result<(), Broken>
-        ensures ok { OnOk result (state self.new ≡ resumes self.old) }
+        ensures ok { is_honest self.new → (s : Self.State) → resumes self.old s → OnOk result (stands self.new s) }
+        ensures before { is_honest self.new → is_honest self.old }
         ensures err { OnErr result (is_broken self.new) };
 }

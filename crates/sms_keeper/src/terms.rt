@@ -1,6 +1,7 @@
 //! Terms, one after the other.
 ghost use Rattle.std.specs.Prelude.{◌≡◌, true, ⊤, IfOk, IfErr};
 ghost use Rattle.sms_keeper.specs.Faults.{MatchFault};
+ghost use Rattle.sms_keeper.specs.History.{Leads};
 ghost use Rattle.sms_keeper.specs.Keeping.{IsClosed, IsStretch};
 
 use crate::hub_fault::HubFault;
@@ -18,7 +19,9 @@ fn run_term<J: Drop, O: Drop, R: Wait, M: Machine<J, O>, G: Gate, C: Clock>(
     gate: &G,
     clock: &C,
 ) -> Result<(Vec<Item<J, O>>, bool), HubFault>
-    ensures history { IfOk result (λ r. IsStretch M.gives M.after (C.shows clock.now) keeper.old (M.state machine.old) r.0.items keeper.new (M.state machine.new)) }
+    ensures did { IfOk result (λ r. IsStretch (C.shows clock.now) keeper.old r.0.items keeper.new) }
+    ensures history { IfOk result (λ r. M.is_honest machine.new → Leads M.gives M.after (M.stands machine.old) r.0.items (M.stands machine.new)) }
+    ensures before { M.is_honest machine.new → M.is_honest machine.old }
     ensures closed { IfOk result (λ r. r.1 ≡ true → IsClosed keeper.new) }
     ensures fault { IfErr result (λ fault. MatchFault fault ⊥ ⊤ (M.is_broken machine.new) ⊥) }
 {
@@ -43,7 +46,10 @@ pub fn run_terms<J: Drop, O: Drop, R: Wait, M: Machine<J, O>, G: Gate, C: Clock>
     gate: &G,
     clock: &C,
 ) -> Result<Vec<Item<J, O>>, HubFault>
-    ensures history { IfOk result (λ h. IsStretch M.gives M.after (C.shows clock.now) keeper.old (M.state machine.old) h.items keeper.new (M.state machine.new)) }
+    // What was run is one history of the machine.
+    ensures did { IfOk result (λ h. IsStretch (C.shows clock.now) keeper.old h.items keeper.new) }
+    ensures history { IfOk result (λ h. M.is_honest machine.new → Leads M.gives M.after (M.stands machine.old) h.items (M.stands machine.new)) }
+    ensures before { M.is_honest machine.new → M.is_honest machine.old }
     ensures closed { IfOk result (λ h. IsClosed keeper.new) }
     ensures fault { IfErr result (λ fault. MatchFault fault ⊥ ⊤ (M.is_broken machine.new) ⊥) }
 {

@@ -4,8 +4,8 @@ ghost use Rattle.clap.specs.Words.{app_of, first_value, found_of, rule_of};
 ghost use Rattle.smsc_server.specs.SimWords.{required_option};
 ghost use Rattle.smsc_words.specs.HandsetWords.{AsksFor, AsksToRun, AsksToShow, SpelledRun, is_show, link_command, run_command, run_value, show_command, show_value};
 
+use crate::fault::fault_of;
 use crate::number::{address_of, count_of, port_of, slots_of};
-use clap::error::ErrorKind;
 use clap::{Arg, ArgAction, ArgMatches, Command, Error};
 use sms_base::Address;
 use smsc_server::WordsFault;
@@ -192,12 +192,4 @@ pub fn handset_words<'a>(
         return show_asked(alloc, &words[1..]);
     }
     run_asked(alloc, words)
-}
-
-fn fault_of(error: &Error) -> WordsFault {
-    if error.kind() == ErrorKind::OutOfMemory {
-        WordsFault::NoMemory
-    } else {
-        WordsFault::BadWords
-    }
 }

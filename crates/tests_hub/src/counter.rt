@@ -94,14 +94,16 @@ fn told(seat: usize, job: u32, sum: u64) -> Outs<Reply>
 }
 
 impl Machine<u32, Reply> for Counter {
-    ghost use Rattle.std.specs.Prelude.{◌≡◌, true};
+    ghost use Rattle.std.specs.Prelude.{◌≡◌, true, ⊤};
     ghost use Rattle.tests_hub.specs.Counting.{sum_after, sums_given};
 
     type State = u64;
 
-    ghost state = { λ m. m.sum };
+    ghost stands = { λ m s. m.sum ≡ s };
 
-    ghost resumes = { λ m. m.kept };
+    ghost resumes = { λ m s. m.kept ≡ s };
+
+    ghost is_honest = { λ m. ⊤ };
 
     ghost is_broken = { λ m. m.broken ≡ true };
 

@@ -1,7 +1,7 @@
 //! A run of up to 32 sessions.
 ghost use Rattle.std.specs.Prelude.{◌≡◌, ◌++◌, ◌∷◌, ◌≤◌, ℕ, Option, None, [], ⊤, true, length, IfOk, IfErr, IfSome, OnOk};
 ghost use Rattle.sms_keeper.specs.Faults.{IsTooMany, MatchFault};
-ghost use Rattle.sms_keeper.specs.History.{IsHistory, IsRising, answers_in, each_seat, for_seat, jobs_of, work};
+ghost use Rattle.sms_keeper.specs.History.{IsRising, Leads, answers_in, each_seat, for_seat, jobs_of, work};
 ghost use Rattle.sms_keeper.specs.Jobs.{of, has_end};
 ghost use Rattle.sms_keeper.specs.Keeping.{given_by, ran_by, seats_of, IsClosed};
 ghost use Rattle.sms_hub.specs.Running.{AreAt, IsOpened, jobs_for, lists_of};
@@ -177,7 +177,8 @@ fn run_opened<J: Drop, O: Drop, R: Threads + Wait, M: Machine<J, O>, G: Gate, C:
     clock: &C,
 ) -> Result<ManyRun<J, O>, HubFault>
     requires { IsOpened opened }
-    ensures history { IfOk result (λ r. IsHistory M.gives M.after (M.state machine.old) r.history.items (M.state machine.new)) }
+    ensures history { IfOk result (λ r. M.is_honest machine.new → Leads M.gives M.after (M.stands machine.old) r.history.items (M.stands machine.new)) }
+    ensures before { M.is_honest machine.new → M.is_honest machine.old }
     ensures ticks { IfOk result (λ r. (last : Option ℕ) × IsRising (C.shows clock.now) None r.history.items last) }
     ensures jobs { IfOk result (λ r. each_seat (length opened.threads.items) (λ n. jobs_of n r.history.items) ≡ jobs_for opened.threads.items) }
     ensures others { IfOk result (λ r. (n : ℕ) → length opened.threads.items ≤ n → jobs_of n r.history.items ≡ []) }
@@ -224,7 +225,8 @@ pub fn many_sessions<
     requires { (1 ≤ slots) × (slots ≤ 1024) }
 
     // One history of the machine, from what it was to what it is.
-    ensures history { IfOk result (λ r. IsHistory M.gives M.after (M.state machine.old) r.history.items (M.state machine.new)) }
+    ensures history { IfOk result (λ r. M.is_honest machine.new → Leads M.gives M.after (M.stands machine.old) r.history.items (M.stands machine.new)) }
+    ensures before { M.is_honest machine.new → M.is_honest machine.old }
     ensures ticks { IfOk result (λ r. (last : Option ℕ) × IsRising (C.shows clock.now) None r.history.items last) }
 
     // In it each list stands whole, and nothing else; each session's answers are all of its outs.

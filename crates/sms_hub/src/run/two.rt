@@ -1,7 +1,7 @@
 //! A run of two sessions.
 ghost use Rattle.std.specs.Prelude.{◌≡◌, ◌≤◌, ◌∷◌, ℕ, Option, None, [], ⊤, length, IfOk, IfErr};
 ghost use Rattle.sms_keeper.specs.Faults.{MatchFault};
-ghost use Rattle.sms_keeper.specs.History.{IsHistory, IsRising, answers_in, jobs_of};
+ghost use Rattle.sms_keeper.specs.History.{IsRising, Leads, answers_in, jobs_of};
 ghost use Rattle.sms_hub.specs.Running.{lists_of};
 
 use super::many::many_sessions;
@@ -55,7 +55,8 @@ pub fn two_sessions<
     requires { (1 ≤ slots) × (slots ≤ 1024) }
 
     // One history of the machine, from what it was to what it is.
-    ensures history { IfOk result (λ r. IsHistory M.gives M.after (M.state machine.old) r.history.items (M.state machine.new)) }
+    ensures history { IfOk result (λ r. M.is_honest machine.new → Leads M.gives M.after (M.stands machine.old) r.history.items (M.stands machine.new)) }
+    ensures before { M.is_honest machine.new → M.is_honest machine.old }
     ensures ticks { IfOk result (λ r. (last : Option ℕ) × IsRising (C.shows clock.now) None r.history.items last) }
 
     // In it each list stands whole, and nothing else; each session's answers are all of its outs.

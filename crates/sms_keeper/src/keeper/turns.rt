@@ -4,7 +4,7 @@ ghost use Rattle.sms_keeper.specs.declared.machine.Item.{Item};
 ghost use Rattle.sms_keeper.specs.declared.keeper.End.TheVariants.{AllClosed, Full};
 ghost use Rattle.sms_keeper.specs.Ends.{MatchEnd};
 ghost use Rattle.sms_keeper.specs.Fates.{MatchFate, EndsRefused, WentOn};
-ghost use Rattle.sms_keeper.specs.History.{asked, IsLater};
+ghost use Rattle.sms_keeper.specs.History.{asked, IsLater, Leads, LeadsBy};
 ghost use Rattle.sms_keeper.specs.Keeping.{Gave, ran_by, IsClosed, IsSameHub, IsStretch, IsTurn};
 
 use super::giving::give_outs;
@@ -49,11 +49,11 @@ impl<J: Drop, O: Drop> Keeper<J, O> {
         requires room { vec_len history.old < vec_capacity history.old }
         ensures same { IsSameHub self.old self.new × (self.new.last ≡ self.old.last) }
         ensures ran { ran_by self.new ≡ ran_by self.old }
-        ensures after { MatchFate result
-            (M.state machine.new ≡ M.after (M.state machine.old) stimulus result)
-            (M.resumes machine.new ≡ M.after (M.state machine.old) stimulus result) }
         ensures item { (e : Item J O) × (history.new.items ≡ history.old.items ++ e ∷ []) × (e.stimulus ≡ stimulus) × (e.fate ≡ result)
-            × (e.outs ≡ M.gives (M.state machine.old) stimulus result) × Gave self.old.lines.items self.new.lines.items e.outs }
+            × (M.is_honest machine.new → (s : M.State) → M.stands machine.old s → (e.outs ≡ M.gives s stimulus result)
+            × MatchFate result (M.stands machine.new (M.after s stimulus result)) (M.resumes machine.new (M.after s stimulus result)))
+            × Gave self.old.lines.items self.new.lines.items e.outs }
+        ensures before { M.is_honest machine.new → M.is_honest machine.old }
     {
         let Step {
             fate,
@@ -79,8 +79,10 @@ impl<J: Drop, O: Drop> Keeper<J, O> {
         history: &mut Vec<Item<J, O>>,
     ) -> Turn
         requires room { vec_len history.old < vec_capacity history.old }
-        ensures { IsTurn M.gives M.after (C.shows clock.now) self.old (M.state machine.old) history.old.items
-            self.new (M.state machine.new) (M.resumes machine.new) history.new.items result.jobs result.fate }
+        ensures turn { IsTurn (C.shows clock.now)
+            (λ more. M.is_honest machine.new → LeadsBy M.gives M.after result.fate (M.stands machine.old) more (M.stands machine.new) (M.resumes machine.new))
+            self.old history.old.items self.new history.new.items result.jobs result.fate }
+        ensures before { M.is_honest machine.new → M.is_honest machine.old }
     {
         match self.pop(rt) {
             Some(letter) => {
@@ -128,8 +130,10 @@ impl<J: Drop, O: Drop> Keeper<J, O> {
         history: &mut Vec<Item<J, O>>,
     ) -> Turn
         requires room { vec_len history.old < vec_capacity history.old }
-        ensures { IsTurn M.gives M.after (C.shows clock.now) self.old (M.state machine.old) history.old.items
-            self.new (M.state machine.new) (M.resumes machine.new) history.new.items result.jobs result.fate }
+        ensures turn { IsTurn (C.shows clock.now)
+            (λ more. M.is_honest machine.new → LeadsBy M.gives M.after result.fate (M.stands machine.old) more (M.stands machine.new) (M.resumes machine.new))
+            self.old history.old.items self.new history.new.items result.jobs result.fate }
+        ensures before { M.is_honest machine.new → M.is_honest machine.old }
     {
         let now = clock.now();
         if self.is_due(now) {
@@ -162,10 +166,14 @@ impl<J: Drop, O: Drop> Keeper<J, O> {
         gate: &G,
         clock: &C,
     ) -> Term<J, O>
+        // Each job was run as it was popped, and each seat was given its outs.
+        ensures did { IsStretch (C.shows clock.now) self.old result.history.items self.new }
+
         // One history, which leads to what the machine is, or once a step was refused is to be.
-        ensures history { MatchEnd result.end
-            (IsStretch M.gives M.after (C.shows clock.now) self.old (M.state machine.old) result.history.items self.new (M.state machine.new))
-            (IsStretch M.gives M.after (C.shows clock.now) self.old (M.state machine.old) result.history.items self.new (M.resumes machine.new)) }
+        ensures history { M.is_honest machine.new → MatchEnd result.end
+            (Leads M.gives M.after (M.stands machine.old) result.history.items (M.stands machine.new))
+            (Leads M.gives M.after (M.stands machine.old) result.history.items (M.resumes machine.new)) }
+        ensures before { M.is_honest machine.new → M.is_honest machine.old }
 
         // The end is told as it was.
         ensures refused { MatchEnd result.end (WentOn result.history.items) (EndsRefused result.history.items) }

@@ -1,5 +1,10 @@
+use Rattle.sms_keeper.specs.History.{Leads}
 use Rattle.sms_keeper.specs.Keeping.{IsStretch}
 use Rattle.sms_keeper.proofs.terms.run_terms.Given as goal
 
 abbrev pub invariant-loop : goal.invariant-loop
-invariant-loop g l = IsStretch g.M.Machine.gives g.M.Machine.after (g.C.Clock.shows l.fn.clock) l.fn.keeper (g.M.Machine.state l.fn.machine) l.history.items l.keeper (g.M.Machine.state l.machine)
+invariant-loop g l = record {
+  did : IsStretch (g.C.Clock.shows l.fn.clock) l.fn.keeper l.history.items l.keeper;
+  led : g.M.Machine.is_honest l.machine → Leads g.M.Machine.gives g.M.Machine.after (g.M.Machine.stands l.fn.machine) l.history.items (g.M.Machine.stands l.machine);
+  before : g.M.Machine.is_honest l.machine → g.M.Machine.is_honest l.fn.machine;
+}

@@ -4,11 +4,11 @@ use Rattle.sms_hub.proofs.Sessions.{at_kept, seats_kept}
 use Rattle.sms_hub.proofs.run.many.run_opened.Goals as goal
 
 pub conclude-requires-clause-seats : goal.conclude-requires-clause-seats
-conclude-requires-clause-seats g c = at_kept c.args.opened.keeper c.run_terms.new.keeper 0 c.args.opened.threads.items c.in-Ok.ensures.history.hub c.requires.seats
+conclude-requires-clause-seats g c = at_kept c.args.opened.keeper c.run_terms.new.keeper 0 c.args.opened.threads.items c.in-Ok.ensures.did.hub c.requires.seats
 
 pub conclude-requires-clause-all : goal.conclude-requires-clause-all
-conclude-requires-clause-all g c = all_did g.M.Machine.gives g.M.Machine.after (g.C.Clock.shows c.args.clock.now) c.args.opened.keeper c.run_terms.new.keeper (g.M.Machine.state c.args.machine.now) (g.M.Machine.state c.run_terms.new.machine)
-    c.in-Ok.history.items (length c.args.opened.threads.items) c.requires.keeper c.in-Ok.ensures.history c.in-Ok.ensures.closed
+conclude-requires-clause-all g c = all_did (g.C.Clock.shows c.args.clock.now) c.args.opened.keeper c.run_terms.new.keeper
+    c.in-Ok.history.items (length c.args.opened.threads.items) c.requires.keeper c.in-Ok.ensures.did c.in-Ok.ensures.closed
 
 pub conclude-requires-clause-count : goal.conclude-requires-clause-count
-conclude-requires-clause-count g c = sym (seats_kept c.args.opened.keeper c.run_terms.new.keeper c.in-Ok.ensures.history.hub ∙ c.requires.keeper.seats)
+conclude-requires-clause-count g c = sym (seats_kept c.args.opened.keeper c.run_terms.new.keeper c.in-Ok.ensures.did.hub ∙ c.requires.keeper.seats)

@@ -1,4 +1,4 @@
-use Rattle.std.proofs.Common.{rules, ◌∙◌, sym, refl, subst}
+use Rattle.std.proofs.Common.{rules, refl, subst}
 use Rattle.sms_keeper.specs.Keeping.{Gave}
 use Rattle.sms_keeper.proofs.keeper.Keeper.handle.Goals as goal
 
@@ -8,6 +8,6 @@ returns-clause-item g c = let s = c.step-fate in (
   search rules,
   refl,
   refl,
-  s.ensures.history,
-  subst (λ o. Gave c.args.self.now.lines.items c.give_outs.new.lines.items o) (s.ensures.seats ∙ sym s.ensures.history) c.give_outs.ensures.given,
+  s.ensures.gives,
+  subst (λ o. Gave c.args.self.now.lines.items c.give_outs.new.lines.items o) s.ensures.alike c.give_outs.ensures.given,
 )
