@@ -1,3 +1,5 @@
 mod ActsFirst
 mod AsDefined
 mod Promises
+mod Registered
+mod Stopped

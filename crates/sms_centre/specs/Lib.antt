@@ -1,3 +1,4 @@
 pub mod Acting
 pub mod Planning
+pub mod Stopping
 pub mod Stored

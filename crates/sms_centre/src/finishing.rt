@@ -1,10 +1,11 @@
 //! What follows an event, and the plan of it.
-ghost use Rattle.std.specs.Prelude.{◌≡◌, Ok, IfOk};
+ghost use Rattle.std.specs.Prelude.{◌≡◌, ℕ, Err, Ok, Option, IfOk};
 ghost use Rattle.sms_centre_rules.specs.CentreEvent.{follow as follow_of};
 ghost use Rattle.sms_centre_rules.specs.Draft.{Core, Draft, draft_of};
 ghost use Rattle.sms_centre_rules.specs.SoundCore.{HasNumber};
 ghost use Rattle.sms_centre_rules.specs.SoundRows.{IsSetup};
 ghost use Rattle.sms_centre.specs.Acting.{Acts, acted, congested};
+ghost use Rattle.sms_centre.specs.Stopping.{Stops, stop_of as stop_of_error};
 ghost use Rattle.sms_centre.specs.Planning.{Fits};
 ghost use Rattle.sms_offering.specs.Going.{Goes, UnlessMemory};
 ghost use Rattle.sms_offering.specs.Stored.{CanOffer};
@@ -17,10 +18,25 @@ use crate::planned::Planned;
 use sms_centre_rules::{CentreEvent, PlanError};
 use sms_keep::BodyKeep;
 use sms_offering::follow;
-use sms_planned::settle;
+use sms_planned::{Planned as Plan, settle};
+use sms_register::SpareRegister;
 use sms_standing::Standing;
 use sms_working::Working;
 use std::alloc::{AllocError, Global};
+
+// A plan, if there is memory for its reports.
+fn with_register(
+    plan: Plan,
+    register: Result<SpareRegister, AllocError>,
+) -> Result<Planned, AllocError>
+    ensures plan { IfOk result (λ p. p.plan ≡ plan) }
+    ensures register { IfOk result (λ p. register ≡ Ok p.register) }
+{
+    match register {
+        Ok(register) => Ok(Planned { plan, register }),
+        Err(error) => Err(error),
+    }
+}
 
 // The plan of the centre as it stands.
 fn planned(alloc: Global, standing: &Standing, working: Working<'_>) -> Result<Planned, AllocError>
@@ -30,8 +46,8 @@ fn planned(alloc: Global, standing: &Standing, working: Working<'_>) -> Result<P
     let plan = settle(working, &standing.messages, &standing.claims)?;
     let register = standing
         .register
-        .make_spare(alloc, plan.changes.reports.len())?;
-    Ok(Planned { plan, register })
+        .make_spare(alloc, plan.changes.reports.len());
+    with_register(plan, register)
 }
 
 fn unless_memory(made: Result<Planned, AllocError>) -> Result<Planned, PlanError>
@@ -50,26 +66,104 @@ fn plan(alloc: Global, standing: &Standing, working: Working<'_>) -> Result<Plan
     unless_memory(planned(alloc, standing, working))
 }
 
-// Receipts go, then offers, and it is the plan. `centre` is the centre's address as RP units carry it.
-fn finish<B: BodyKeep>(
-    alloc: Global,
-    standing: &Standing,
-    mut working: Working<'_>,
-    bodies: &mut B,
-    centre: &[u8],
-) -> Result<Planned, PlanError>
-    ensures goes { B.is_honest bodies.new → (d : Draft) (rows : B.Rows) → Shows d working.entry → CanOffer B.body_of rows centre.now d.store → B.holds bodies.old rows
-        → Goes (λ p. IsPlanned (follow_of d) p.plan) (follow_of d).air.read (B.holds bodies.new rows) (B.is_closed bodies.new) (B.refused bodies.old) (B.refused bodies.new) result }
-    ensures fits { IfOk result (Fits standing.now) }
-    ensures before { B.is_honest bodies.new → B.is_honest bodies.old }
+// ---- what the event comes to
+
+/// Why an event goes no further.
+#[derive(Clone, Copy, Debug)]
+pub enum Stop {
+    /// The store refused to read a body.
+    NoBody,
+    /// There was no memory.
+    NoMemory,
+    /// Numbers or references are free for not all of a submission: the event is to begin anew, and refuses it.
+    Congested(u8),
+}
+
+fn stop_of(error: PlanError) -> Stop
+    ensures { result ≡ stop_of_error error }
 {
-    match follow(&mut working, bodies, centre) {
-        Ok(()) => plan(alloc, standing, working),
-        Err(error) => Err(error),
+    match error {
+        PlanError::NoBody => Stop::NoBody,
+        PlanError::NoMemory => Stop::NoMemory,
     }
 }
 
-// The event begins anew, and refuses the submission that it brings.
+// Receipts go, then offers.
+fn followed<B: BodyKeep>(
+    working: &mut Working<'_>,
+    bodies: &mut B,
+    centre: &[u8],
+) -> Result<(), Stop>
+    ensures goes { B.is_honest bodies.new → (d : Draft) (rows : B.Rows) → Shows d working.old → CanOffer B.body_of rows centre.now d.store → B.holds bodies.old rows
+        → Stops (Shows (follow_of d) working.new) (λ reference. ⊥) (follow_of d).air.read (B.holds bodies.new rows) (B.is_closed bodies.new) (B.refused bodies.old) (B.refused bodies.new) result }
+    ensures before { B.is_honest bodies.new → B.is_honest bodies.old }
+{
+    match follow(working, bodies, centre) {
+        Ok(()) => Ok(()),
+        Err(error) => Err(stop_of(error)),
+    }
+}
+
+fn run_on<B: BodyKeep>(
+    working: &mut Working<'_>,
+    came: Acted,
+    event: &CentreEvent<'_>,
+    bodies: &mut B,
+    centre: &[u8],
+) -> Result<(), Stop>
+    ensures goes { B.is_honest bodies.new → (c : Core) (rows : B.Rows) → Acts event.now c working.old came → CanOffer B.body_of rows centre.now (acted event.now c).store → B.holds bodies.old rows
+        → Stops (Shows (follow_of (acted event.now c)) working.new) (λ reference. acted event.now c ≡ congested event.now reference c) (follow_of (acted event.now c)).air.read (B.holds bodies.new rows) (B.is_closed bodies.new) (B.refused bodies.old) (B.refused bodies.new) result }
+    ensures before { B.is_honest bodies.new → B.is_honest bodies.old }
+{
+    // The clause speaks of it.
+    let _event = event;
+    match came {
+        Acted::Done => followed(working, bodies, centre),
+        Acted::Congested(reference) => Err(Stop::Congested(reference)),
+    }
+}
+
+// The event acts, and receipts and offers follow.
+fn run<B: BodyKeep>(
+    working: &mut Working<'_>,
+    standing: &Standing,
+    event: &CentreEvent<'_>,
+    bodies: &mut B,
+    centre: &[u8],
+) -> Result<(), Stop>
+    requires number { HasNumber event.now }
+    requires setup { IsSetup working.old.setup }
+    ensures goes { B.is_honest bodies.new → (c : Core) (rows : B.Rows) → Shows (draft_of c) working.old → IsStanding c standing.now → CanOffer B.body_of rows centre.now (acted event.now c).store → B.holds bodies.old rows
+        → Stops (Shows (follow_of (acted event.now c)) working.new) (λ reference. acted event.now c ≡ congested event.now reference c) (follow_of (acted event.now c)).air.read (B.holds bodies.new rows) (B.is_closed bodies.new) (B.refused bodies.old) (B.refused bodies.new) result }
+    ensures before { B.is_honest bodies.new → B.is_honest bodies.old }
+{
+    match act(working, standing, event) {
+        Ok(came) => run_on(working, came, event, bodies, centre),
+        Err(_) => Err(Stop::NoMemory),
+    }
+}
+
+// The event, which began anew, refuses the submission that it brings, and receipts and offers follow.
+fn run_anew<B: BodyKeep>(
+    working: &mut Working<'_>,
+    event: &CentreEvent<'_>,
+    reference: u8,
+    bodies: &mut B,
+    centre: &[u8],
+) -> Result<(), PlanError>
+    requires number { HasNumber event.now }
+    ensures goes { B.is_honest bodies.new → (c : Core) (rows : B.Rows) → Shows (draft_of c) working.old → CanOffer B.body_of rows centre.now (congested event.now reference c).store → B.holds bodies.old rows
+        → Goes (λ _. Shows (follow_of (congested event.now reference c)) working.new) (follow_of (congested event.now reference c)).air.read (B.holds bodies.new rows) (B.is_closed bodies.new) (B.refused bodies.old) (B.refused bodies.new) result }
+    ensures before { B.is_honest bodies.new → B.is_honest bodies.old }
+{
+    match refuse(working, event, reference) {
+        Ok(()) => follow(working, bodies, centre),
+        Err(_) => Err(PlanError::NoMemory),
+    }
+}
+
+// ---- its plan
+
 fn plan_anew<B: BodyKeep>(
     alloc: Global,
     standing: &Standing,
@@ -85,13 +179,13 @@ fn plan_anew<B: BodyKeep>(
     ensures fits { IfOk result (Fits standing.now) }
     ensures before { B.is_honest bodies.new → B.is_honest bodies.old }
 {
-    match refuse(&mut working, event, reference) {
-        Ok(()) => finish(alloc, standing, working, bodies, centre),
-        Err(_) => Err(PlanError::NoMemory),
+    match run_anew(&mut working, event, reference, bodies, centre) {
+        Ok(()) => plan(alloc, standing, working),
+        Err(error) => Err(error),
     }
 }
 
-// The same, from the centre as it stands.
+// The event begins anew.
 fn begin_anew<B: BodyKeep>(
     alloc: Global,
     standing: &Standing,
@@ -112,31 +206,29 @@ fn begin_anew<B: BodyKeep>(
     }
 }
 
-// The plan of what came of the event.
-fn plan_acted<B: BodyKeep>(
+// What comes of an event that goes no further.
+fn stopped<B: BodyKeep>(
     alloc: Global,
     standing: &Standing,
-    working: Working<'_>,
-    came: Acted,
     event: &CentreEvent<'_>,
+    stop: Stop,
     bodies: &mut B,
     centre: &[u8],
 ) -> Result<Planned, PlanError>
     requires number { HasNumber event.now }
-    ensures goes { B.is_honest bodies.new → (c : Core) (rows : B.Rows) → IsStanding c standing.now → Acts event.now c working.entry came → CanOffer B.body_of rows centre.now (acted event.now c).store → B.holds bodies.old rows
-        → Goes (λ p. IsPlanned (follow_of (acted event.now c)) p.plan) (follow_of (acted event.now c)).air.read (B.holds bodies.new rows) (B.is_closed bodies.new) (B.refused bodies.old) (B.refused bodies.new) result }
+    ensures goes { B.is_honest bodies.new → (c : Core) (rows : B.Rows) (first : Option ℕ) → IsStanding c standing.now → CanOffer B.body_of rows centre.now (acted event.now c).store
+        → Stops (Unit {0}) (λ reference. acted event.now c ≡ congested event.now reference c) (follow_of (acted event.now c)).air.read (B.holds bodies.old rows) (B.is_closed bodies.old) first (B.refused bodies.old) (Err stop)
+        → Goes (λ p. IsPlanned (follow_of (acted event.now c)) p.plan) (follow_of (acted event.now c)).air.read (B.holds bodies.new rows) (B.is_closed bodies.new) first (B.refused bodies.new) result }
     ensures fits { IfOk result (Fits standing.now) }
     ensures before { B.is_honest bodies.new → B.is_honest bodies.old }
 {
-    match came {
-        Acted::Done => finish(alloc, standing, working, bodies, centre),
-        Acted::Congested(reference) => {
-            begin_anew(alloc, standing, event, reference, bodies, centre)
-        }
+    match stop {
+        Stop::NoBody => Err(PlanError::NoBody),
+        Stop::NoMemory => Err(PlanError::NoMemory),
+        Stop::Congested(reference) => begin_anew(alloc, standing, event, reference, bodies, centre),
     }
 }
 
-// The event acts on the centre as it begins, and its plan is made.
 fn plan_begun<B: BodyKeep>(
     alloc: Global,
     standing: &Standing,
@@ -152,9 +244,9 @@ fn plan_begun<B: BodyKeep>(
     ensures fits { IfOk result (Fits standing.now) }
     ensures before { B.is_honest bodies.new → B.is_honest bodies.old }
 {
-    match act(&mut working, standing, event) {
-        Ok(came) => plan_acted(alloc, standing, working, came, event, bodies, centre),
-        Err(_) => Err(PlanError::NoMemory),
+    match run(&mut working, standing, event, bodies, centre) {
+        Ok(()) => plan(alloc, standing, working),
+        Err(stop) => stopped(alloc, standing, event, stop, bodies, centre),
     }
 }
 
