@@ -17,8 +17,8 @@ pub trait Teller {
 // So many octets are read at once.
 const PIECE: usize = 4096;
 
-// So many turns without a word a guest may be unknown: half a minute of reads that wait.
-const SILENT_TURNS: u32 = 1500;
+// So many turns a guest may be unknown, whatever it sends: half a minute of reads that wait.
+const UNKNOWN_TURNS: u32 = 1500;
 
 // So many turns the other side may take no octets: ten seconds.
 const STALLED_TURNS: u32 = 2000;
@@ -40,7 +40,7 @@ enum Leaves {
 // What a guest has shown of itself.
 #[derive(Clone, Copy)]
 struct Patience {
-    silent: u32,
+    unknown: u32,
     stalled: u32,
 }
 
@@ -97,6 +97,20 @@ fn tell_notes<G: Guest, T: Teller>(teller: &T, seat: usize, guest: &mut G) {
     }
 }
 
+// Counts a turn of a guest that has not said who it is, and gives it up where there were too many.
+fn count_unknown<G: Guest>(guest: &G, patience: &mut Patience) -> Leaves {
+    if guest.is_known() {
+        patience.unknown = 0;
+        return Leaves::Stays;
+    }
+    patience.unknown = patience.unknown.saturating_add(1);
+    if patience.unknown > UNKNOWN_TURNS {
+        Leaves::Silent
+    } else {
+        Leaves::Stays
+    }
+}
+
 // Reads, waiting only where there is nothing else to do.
 fn read<R: Wait, W: Wire, G: Guest>(
     rt: &R,
@@ -117,22 +131,13 @@ fn read<R: Wait, W: Wire, G: Guest>(
             if count <= buffer.len() {
                 guest.take(&buffer[..count])?;
             }
-            if guest.is_known() {
-                patience.silent = 0;
-            }
+            Ok(count_unknown(guest, patience))
+        }
+        Received::Nothing if is_busy => {
+            seat.wait(rt, Duration::from_millis(1));
             Ok(Leaves::Stays)
         }
-        Received::Nothing => {
-            if is_busy {
-                seat.wait(rt, Duration::from_millis(1));
-            } else if !guest.is_known() {
-                patience.silent = patience.silent.saturating_add(1);
-                if patience.silent > SILENT_TURNS {
-                    return Ok(Leaves::Silent);
-                }
-            }
-            Ok(Leaves::Stays)
-        }
+        Received::Nothing => Ok(count_unknown(guest, patience)),
         Received::Ended => Ok(Leaves::Ended),
     }
 }
@@ -151,11 +156,15 @@ fn turn<R: Wait, W: Wire, G: Guest>(
     let Some(sent) = send(wire, guest) else {
         return Ok(Leaves::Ended);
     };
+    // Also of a connection that takes some octets in every turn, but fewer than it asks for.
+    if guest.octets().len() > MOST_OCTETS {
+        return Ok(Leaves::Stalled);
+    }
     if guest.octets().is_empty() {
         patience.stalled = 0;
     } else if sent == 0 {
         patience.stalled = patience.stalled.saturating_add(1);
-        if patience.stalled > STALLED_TURNS || guest.octets().len() > MOST_OCTETS {
+        if patience.stalled > STALLED_TURNS {
             return Ok(Leaves::Stalled);
         }
         seat.wait(rt, Duration::from_millis(5));
@@ -283,7 +292,7 @@ fn stay<R: Wait, W: Wire, G: Guest, T: Teller>(
 ) -> Leaves {
     let mut buffer = [0u8; PIECE];
     let mut patience = Patience {
-        silent: 0,
+        unknown: 0,
         stalled: 0,
     };
     for _ in rt.forever() {
