@@ -3,7 +3,8 @@
 //!
 //! `specs/` has its definition: an event is a composition of small stages over a draft in three parts, the rows, the lines to
 //! handsets and the sessions of applications. `laws` says what every event keeps: a sound centre stays sound, no final state is
-//! taken back, and what goes out is for what stands in the rows. This crate has no code yet but the types that the definition names.
+//! taken back, and what goes out is for what stands in the rows. This crate has no code but the types that the definition names:
+//! the crates from `sms_kept` to `sms_centre` do what stands here.
 #![tactic(auto)]
 
 mod answer;

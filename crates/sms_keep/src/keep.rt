@@ -35,12 +35,14 @@ pub trait Keep {
         ensures ok { is_honest self.new → (rows : Self.Rows) → holds self.old rows → OnOk result (holds self.new (after changes.now rows)) }
         ensures err { is_honest self.new → (rows : Self.Rows) → holds self.old rows → OnErr result (holds self.new rows ⊎ is_closed self.new) }
         ensures stop { is_honest self.new → (rows : Self.Rows) → holds self.old rows → (left : Self.Rows) → may_leave self.new left → (left ≡ rows) ⊎ (left ≡ after changes.now rows) }
-        ensures named { IfErr result (λ error. (error ≢ OldVersion) × (error ≢ NotThisStore)) };
+        ensures named { IfErr result (λ error. (error ≢ OldVersion) × (error ≢ NotThisStore)) }
+        ensures before { is_honest self.new → is_honest self.old };
 
     /// The rows after all commits, each list in the order of its keys.
     fn load(&mut self) -> Result<Self::Rows, KeepError>
         ensures ok { is_honest self.new → (rows : Self.Rows) → holds self.old rows → IfOk result (λ found. (found ≡ rows) × holds self.new rows) }
         ensures err { is_honest self.new → (rows : Self.Rows) → holds self.old rows → OnErr result (holds self.new rows ⊎ is_closed self.new) }
         ensures stop { is_honest self.new → (rows : Self.Rows) → holds self.old rows → (left : Self.Rows) → may_leave self.new left → left ≡ rows }
-        ensures named { IfErr result (λ error. error ≢ OldVersion) };
+        ensures named { IfErr result (λ error. error ≢ OldVersion) }
+        ensures before { is_honest self.new → is_honest self.old };
 }

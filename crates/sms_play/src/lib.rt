@@ -3,8 +3,8 @@
 //!
 //! `specs/` has the definition: an event of the script is an event of one of the two cores (`Meeting`), what the core makes
 //! of it is committed, its frames get the next numbers, and the report is read off the rows and the changes that led to them.
-//! Whether frames were timely and concatenation references fresh is decided beside it. This crate has no code yet but the
-//! faults that the definition names.
+//! Whether frames were timely and concatenation references fresh is decided beside it. This crate has no code but the faults
+//! that the definition names.
 #![tactic(auto)]
 
 mod fault;
