@@ -1,6 +1,8 @@
-//! Tests of what the programs over links stand on: frames in a stream, owners' lines, words.
+//! Tests of what the programs over links stand on: frames in a stream, owners' lines, words, captures.
 #![tactic(auto)]
 
+#[cfg(test)]
+mod captures;
 #[cfg(test)]
 mod frames;
 #[cfg(test)]
