@@ -1,1 +1,1 @@
-mod Bodies
+pub mod Bodies
