@@ -9,6 +9,7 @@ ghost use Rattle.sms_centre_rules.specs.SoundCore.{AreDifferent, HasNumber, IsEv
 ghost use Rattle.sms_centre_rules.specs.SoundRows.{IsSetup};
 ghost use Rattle.sms_centre.specs.Planning.{Fits, PlansEvent};
 ghost use Rattle.sms_centre.specs.Stored.{StoresRows};
+ghost use Rattle.sms_messages.specs.Messages.{message_at};
 ghost use Rattle.sms_offering.specs.Going.{Goes, answers_but};
 ghost use Rattle.sms_planned.specs.Planned.{IsPlanned};
 ghost use Rattle.sms_register.specs.Telling.{message_lines, receipt_lines};
@@ -19,9 +20,10 @@ use crate::acting::is_event;
 use crate::adopting::put_in;
 use crate::finishing::plan_of;
 use crate::planned::Planned;
-use sms_base::{Digits, Listed, Octets};
+use sms_base::{Digits, Listed, MessageId, Octets};
 use sms_centre_rules::{CentreEvent, PlanError, Rows};
 use sms_keep::BodyKeep;
+use sms_messages::MessageRow as Message;
 use sms_planned::Told;
 use sms_report::{MessageRow, ReceiptRow};
 use sms_sessions::Seat;
@@ -138,6 +140,14 @@ impl Centre {
         ensures standing { (event : CentreEventOf) (c : Core) → IsStanding c self.old → IsEvent event → IsPlanned (happened event c) planned.plan → IsStanding (core_of (happened event c)) self.new }
     {
         put_in(&mut self.standing, planned)
+    }
+
+    /// The message of that number, in memory of its own.
+    pub fn message(&self, id: MessageId) -> Result<Option<Message>, AllocError>
+        ensures { (c : Core) → IsStanding c self.now → IfOk result (λ row. row ≡ message_at id c.rows.messages) }
+    {
+        let message = self.standing.messages.find(self.alloc, id)?;
+        Ok(message)
     }
 
     /// Every message with its state, by number. It takes time linear in the messages.

@@ -1,0 +1,30 @@
+-- What a plan of the centre comes to in a step.
+use Rattle.std.proofs.Common.{◌≡◌, ◌⊎◌, inl, inr, ℕ, List, Option, Ok, Err, ap, ◌∙◌}
+use Rattle.sms_centre_rules.specs.declared.event.CentreEvent.{CentreEvent}
+use Rattle.sms_centre_rules.specs.declared.plan_error.PlanError.{PlanError}
+use Rattle.sms_centre_rules.specs.declared.plan_error.PlanError.TheVariants.{NoBody, NoMemory}
+use Rattle.sms_centre_rules.specs.declared.rows.Changes.{Changes}
+use Rattle.sms_centre_rules.specs.declared.rows.Rows.{Rows}
+use Rattle.sms_centre_rules.specs.CentreEvent.{happened}
+use Rattle.sms_centre_rules.specs.Draft.{Core, Draft, core_of, rows_after}
+use Rattle.sms_centre_rules.proofs.Resting.{happened_rests}
+use Rattle.sms_centre.specs.Planning.{PlannedOf}
+use Rattle.sms_offering.specs.Going.{Goes}
+use Rattle.sms_planned.specs.declared.planned.Planned.{Planned}
+use Rattle.sms_planned.specs.Planned.{IsPlanned}
+use Rattle.sms_centre_machine.specs.Stepping.{PlansStep, step_error_of}
+
+pub goes_on : (d : Draft) (keys : List ℕ) (held closed : Type 0) (before refused : Option ℕ) (p : PlannedOf) → Goes (λ (x : PlannedOf). IsPlanned d x.plan) keys held closed before refused (Ok p) → PlansStep held closed d (Ok p)
+goes_on d keys held closed before refused p goes = (goes.0, goes.1.0)
+
+pub goes_back : (d : Draft) (keys : List ℕ) (held closed : Type 0) (before refused : Option ℕ) (e : PlanError) → Goes (λ (x : PlannedOf). IsPlanned d x.plan) keys held closed before refused (Err e) → PlansStep held closed d (Err (step_error_of e))
+goes_back d keys held closed before refused NoBody goes = goes.1
+goes_back d keys held closed before refused NoMemory goes = goes.0
+
+-- the rows with the changes are those after the event
+pub rows_then : (event : CentreEvent) (c : Core) (p : Planned) → IsPlanned (happened event c) p → rows_after p.changes c.rows ≡ (core_of (happened event c)).rows
+rows_then event c p k = ap (λ (x : Changes). rows_after x c.rows) k.changes ∙ happened_rests event c
+
+pub stopped : (event : CentreEvent) (c : Core) (p : Planned) (changes : Changes) (left : Rows) → changes ≡ p.changes → IsPlanned (happened event c) p → (left ≡ c.rows) ⊎ (left ≡ rows_after changes c.rows) → (left ≡ c.rows) ⊎ (left ≡ (core_of (happened event c)).rows)
+stopped event c p changes left same k (inl e) = inl e
+stopped event c p changes left same k (inr e) = inr (e ∙ ap (λ (x : Changes). rows_after x c.rows) same ∙ rows_then event c p k)
