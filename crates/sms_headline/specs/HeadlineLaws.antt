@@ -9,15 +9,14 @@ use Rattle.sms_play.specs.Playing.{course_of, premises_of, report_of}
 use Rattle.sms_play.specs.Setups.{beginning}
 use Rattle.sms_world.specs.ScriptRun.{Plays}
 use Rattle.sms_world.specs.World.{World, empty}
-use Rattle.sms_course_sight.specs.CourseRuns.{AllHandOctets, happenings}
+use Rattle.sms_course_sight.specs.CourseRuns.{happenings}
 use Rattle.sms_course_sight.specs.CourseSight.{CourseSees}
-use Rattle.sms_headline.specs.Claims.{AllTimely, AreOnce, DeliveredOnce, FinalStays, HasOneLine, HeldDiffer, ReceiptsTell, ToldOnce}
+use Rattle.sms_headline.specs.Claims.{AllTimely, AreOnce, DeliveredOnce, FinalStays, HasOneLine, HeldDiffer, JoinedOfParts, JoinedOnce, ReceiptsTell, ToldOnce}
 
--- The text reads as a script of these events in order, some and then others; whatever goes up is octets.
+-- The text reads as a script of these events in order, some and then others.
 pub record IsScript (text : List ℕ) (script : Script) (some others : List WorldEvent) : Type 0 where
   pub reads : script_in text ≡ Ok script
   pub events : script.events ≡ some ++ others
-  pub octets : AllHandOctets 1 script.events (beginning script.setup)
 
 -- it leads here after the one, and there after the others
 pub record LeadsOn (script : Script) (some : List WorldEvent) (c d : Course) : Type 0 where
@@ -55,6 +54,9 @@ OnceLaw = Of (λ c. AreOnce (report_of c).receipts)
 abbrev pub HeldLaw : Type 0
 HeldLaw = Of (λ c. HeldDiffer c)
 
+abbrev pub JoinedLaw : Type 0
+JoinedLaw = Of (λ c. JoinedOfParts c)
+
 -- ---- while frames come in time
 
 abbrev pub DeliveredLaw : Type 0
@@ -64,6 +66,10 @@ DeliveredLaw =
 abbrev pub ToldLaw : Type 0
 ToldLaw =
     (text : List ℕ) (script : Script) (some others : List WorldEvent) (c d : Course) → IsScript text script some others → LeadsOn script some c d → AllTimely 1 some (beginning script.setup) → ToldOnce c
+
+abbrev pub JoinedOnceLaw : Type 0
+JoinedOnceLaw =
+    (text : List ℕ) (script : Script) (some others : List WorldEvent) (c d : Course) → IsScript text script some others → LeadsOn script some c d → AllTimely 1 some (beginning script.setup) → JoinedOnce c
 
 -- so they are where it is decided that the premises hold
 abbrev pub PremisesLaw : Type 0
