@@ -13,3 +13,4 @@ pub mod TimelyClaims
 pub mod PremisesHold
 pub mod JoinedClaims
 pub mod Claimed
+pub mod Played

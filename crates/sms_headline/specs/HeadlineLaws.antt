@@ -1,11 +1,12 @@
 -- The claims, of every script that reads.
 use Rattle.std.specs.Prelude.{◌≡◌, ℕ, ◌+◌, List, ◌++◌, length, None, Ok}
+use Rattle.sms_report.specs.declared.report.Report.{Report}
 use Rattle.sms_script.specs.declared.event.WorldEvent.{WorldEvent}
 use Rattle.sms_script.specs.declared.script.Script.{Script}
 use Rattle.sms_script.specs.declared.setup.Setup.{Setup}
 use Rattle.sms_script.specs.WholeScript.{script_in}
 use Rattle.sms_play.specs.Course.{Course}
-use Rattle.sms_play.specs.Playing.{course_of, premises_of, report_of}
+use Rattle.sms_play.specs.Playing.{course_of, play_of, premises_of, report_of}
 use Rattle.sms_play.specs.Setups.{beginning}
 use Rattle.sms_world.specs.ScriptRun.{Plays}
 use Rattle.sms_world.specs.World.{World, empty}
@@ -74,3 +75,25 @@ JoinedOnceLaw =
 -- so they are where it is decided that the premises hold
 abbrev pub PremisesLaw : Type 0
 PremisesLaw = (s : Setup) (events : List WorldEvent) → premises_of s events ≡ Ok None → AllTimely 1 events (beginning s)
+
+-- ---- all of it, of what is played
+
+-- What holds of the course that a script leads to, whatever happens.
+pub record AlwaysHolds (c : Course) : Type 0 where
+  pub lines : HasOneLine (report_of c)
+  pub receipts : ReceiptsTell (report_of c)
+  pub once : AreOnce (report_of c).receipts
+  pub held : HeldDiffer c
+  pub joined : JoinedOfParts c
+
+-- and where no event breaks a premise
+pub record HoldsInTime (c : Course) : Type 0 where
+  pub delivered : DeliveredOnce c
+  pub told : ToldOnce c
+  pub joined : JoinedOnce c
+
+-- The report of a script that reads and plays is that of such a course; and where it is decided that the premises hold, of such a one.
+abbrev pub PlayedLaw : Type 0
+PlayedLaw =
+    (text : List ℕ) (script : Script) (report : Report) → script_in text ≡ Ok script → play_of script.setup script.events ≡ Ok report
+    → (c : Course) × ((report ≡ report_of c) × AlwaysHolds c × (premises_of script.setup script.events ≡ Ok None → HoldsInTime c))
