@@ -1,5 +1,5 @@
 -- What a centre's code plans leads on in the world.
-use Rattle.std.specs.Prelude.{◌≡◌, ℕ, Bool, false, List, Ok}
+use Rattle.std.specs.Prelude.{◌≡◌, ℕ, false, List}
 use Rattle.sms_centre_rules.specs.CentreEvent.{happened}
 use Rattle.sms_centre_rules.specs.Draft.{Core, core_of, draft_of}
 use Rattle.sms_centre_rules.specs.SoundCore.{IsEvent, IsSoundCore}
@@ -13,21 +13,22 @@ use Rattle.sms_world.specs.WorldStep.{Step}
 use Rattle.sms_centre_sight.specs.CentreSight.{CentreSees}
 use Rattle.sms_centre_sight.specs.FramesOut.{stacked_down}
 use Rattle.sms_centre_course.specs.CourseEvents.{AreOfEvent, MayCome, moment_at}
-use Rattle.sms_centre.specs.Planning.{PlannedOf, PlansEvent}
+use Rattle.sms_planned.specs.Planned.{IsPlanned}
+use Rattle.sms_planned.specs.declared.planned.Planned.{Planned}
 
 -- The event is steps of the world, all of them the centre's own; the frames that are told go on top of the bag; and the centre as it
 -- stands once the plan is adopted sees where the steps lead, sound, with all offered that can go.
-abbrev pub LeadsOn : ℕ → CentreEvent → Core → PlannedOf → World → Type 0
+abbrev pub LeadsOn : ℕ → CentreEvent → Core → Planned → World → Type 0
 LeadsOn number event c p w =
     (steps : List Step)
     × ((AreOfEvent number event w steps × AllOfCentre steps) × Run w (items (moment_at event c) false steps)
-    × ((end w (items (moment_at event c) false steps)).bag ≡ stacked_down p.plan.told.frames w.bag)
+    × ((end w (items (moment_at event c) false steps)).bag ≡ stacked_down p.told.frames w.bag)
     × CentreSees (end w (items (moment_at event c) false steps)) (draft_of (core_of (happened event c))) (end w (items (moment_at event c) false steps))
     × IsSoundCore (core_of (happened event c)) × HasOffered (core_of (happened event c)))
 
--- `PlansEvent` is what `Centre::plan` says of its result where the code stands as the centre `c`; and `Centre::adopt` leaves it
--- standing as `core_of (happened event c)`.
+-- `IsPlanned (happened event c)` is what `Centre::plan` says of the plan that it hands out where the code stands as the centre `c`, in
+-- its clause `goes`; and `Centre::adopt` leaves it standing as `core_of (happened event c)`.
 abbrev pub PlannedLaw : Type 0
 PlannedLaw =
-    (answers : ℕ → Bool) (number : ℕ) (event : CentreEvent) (c : Core) (p : PlannedOf) (w : World) → PlansEvent answers event c (Ok p) → IsSoundCore c → HasOffered c → IsEvent event
-    → MayCome number event w → CentreSees w (draft_of c) w → LeadsOn number event c p w
+    (number : ℕ) (event : CentreEvent) (c : Core) (p : Planned) (w : World) → IsPlanned (happened event c) p → IsSoundCore c → HasOffered c → IsEvent event → MayCome number event w
+    → CentreSees w (draft_of c) w → LeadsOn number event c p w
