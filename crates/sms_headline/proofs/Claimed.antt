@@ -1,24 +1,22 @@
 -- The claims of every script.
-use Rattle.std.proofs.Common.{◌≡◌, ℕ, ◌+◌, List, [], ◌++◌, length, Bool, true, false, refl, sym, ◌∙◌, ap, subst, inl, inr, ⊎_elim, Option, Some, None, Result, Ok, Err}
-use Rattle.std.specs.Prelude.{if◌then◌else◌}
+use Rattle.std.proofs.Common.{◌≡◌, ℕ, ◌+◌, List, length, true, false, sym, ◌∙◌, ap, subst, ⊎_elim, Some, Result, Ok, Err}
 use Rattle.std.proofs.lemmas.Bool.{cases_Bool, cond-false, cond-true}
 use Rattle.sms_base.specs.Among.{Among}
 use Rattle.sms_base.specs.declared.final_state.FinalState.{FinalState}
 use Rattle.sms_messages.specs.Messages.{message_key}
 use Rattle.sms_script.specs.declared.event.WorldEvent.{WorldEvent}
 use Rattle.sms_script.specs.declared.script.Script.{Script}
+use Rattle.sms_script.specs.WholeScript.{script_in}
 use Rattle.sms_script.specs.declared.setup.Setup.{Setup}
-use Rattle.sms_report.specs.declared.rows.MessageRow.{MessageRow as MessageLine}
 use Rattle.sms_table.proofs.Tables.{found_among}
 use Rattle.sms_play.specs.declared.fault.PlayFault.{PlayFault}
 use Rattle.sms_play.specs.declared.fault.PlayFault.TheVariants.{BadSetup}
 use Rattle.sms_play.specs.CentreSide.{state_of}
 use Rattle.sms_play.specs.Course.{Course}
-use Rattle.sms_play.specs.Playing.{course_of, played_on, report_of}
+use Rattle.sms_play.specs.Playing.{course_of, played_on}
 use Rattle.sms_play.specs.Setups.{beginning, can_be_played}
 use Rattle.sms_world.specs.Agreement.{FinalForGood, HeldDiffer as WorldHeldDiffer}
 use Rattle.sms_world.specs.Run.{end}
-use Rattle.sms_world.specs.ScriptRun.{Plays}
 use Rattle.sms_world.specs.World.{World, empty}
 use Rattle.sms_world.proofs.Runs.{final_stays, held_differ, sound_empty, sound_run}
 use Rattle.sms_world.proofs.Scripts.{script_steps}
@@ -27,14 +25,16 @@ use Rattle.sms_course_sight.specs.CourseSight.{CourseSees}
 use Rattle.sms_course_sight.proofs.Beginnings.{begins}
 use Rattle.sms_course_sight.proofs.Events.{ok_course, same_course}
 use Rattle.sms_course_sight.proofs.Runs.{run_leads}
-use Rattle.sms_headline.specs.Claims.{DeliveredOnce, HeldDiffer}
-use Rattle.sms_headline.specs.HeadlineLaws.{DeliveredLaw, FinalLaw, HeldLaw, IsScript, LeadsOn, LineLaw, OnceLaw, ReceiptLaw, RunLaw, ToldLaw}
-use Rattle.sms_headline.proofs.GoodScripts.{script_good}
+use Rattle.sms_headline.specs.Claims.{AllTimely, DeliveredOnce}
+use Rattle.sms_headline.specs.HeadlineLaws.{DeliveredLaw, FinalLaw, HeldLaw, IsScript, JoinedLaw, JoinedOnceLaw, LeadsOn, LineLaw, OnceLaw, ReceiptLaw, RunLaw, ToldLaw}
+use Rattle.sms_headline.proofs.GoodScripts.{script_good, script_texts}
 use Rattle.sms_headline.proofs.HeldApart.{held_apart}
+use Rattle.sms_headline.proofs.OctetCourses.{all_hand, begins_keep}
 use Rattle.sms_headline.proofs.Parting.{others_good, parted}
 use Rattle.sms_headline.proofs.ReceiptLines.{from_report, receipts_once}
 use Rattle.sms_world.proofs.Faithful.{faithful_empty}
-use Rattle.sms_headline.proofs.TimelyClaims.{all_reach, delivered_once}
+use Rattle.sms_headline.proofs.JoinedClaims.{joined_of_parts, joined_once}
+use Rattle.sms_headline.proofs.TimelyClaims.{Reaches, all_reach, delivered_once}
 use Rattle.sms_headline.proofs.Tables.{line_of, line_stays, line_there, one_line}
 
 abbrev unplayed : Result Course PlayFault
@@ -51,6 +51,12 @@ can_play s es c e = ⊎_elim
     (λ (f : can_be_played s ≡ false). let bad : unplayed ≡ ok_course c = sym (cond-false (can_be_played s) (played_on 1 es (beginning s)) unplayed f) ∙ e in absurd cc)
     (cases_Bool (can_be_played s))
 
+-- whatever a script hands to the centre is octets
+script_hands : (text : List ℕ) (script : Script) → script_in text ≡ Ok script → can_be_played script.setup ≡ true → AllHandOctets 1 script.events (beginning script.setup)
+script_hands text script reads can =
+    let s : CourseSees (beginning script.setup) empty = begins script.setup can in
+    all_hand 1 script.events (beginning script.setup) empty s (begins_keep script.setup s) (script_good text script reads) (script_texts text script reads)
+
 pub run_is : RunLaw
 run_is text script some others c d is on =
     let s : Setup = script.setup in
@@ -59,7 +65,7 @@ run_is text script some others c d is on =
     let goods = others_good some others (subst (λ (es : List WorldEvent). AreGood es) is.events good) in
     let here = can_play s some c on.here in
     let there = can_play s script.events d on.there in
-    let p = parted some others 1 start d (subst (λ (es : List WorldEvent). AllHandOctets 1 es start) is.events is.octets)
+    let p = parted some others 1 start d (subst (λ (es : List WorldEvent). AllHandOctets 1 es start) is.events (script_hands text script is.reads there.can))
     (subst (λ (es : List WorldEvent). played_on 1 es start ≡ ok_course d) is.events there.leads) in
     let same : p.between ≡ c = same_course p.between c (sym p.first ∙ here.leads) in
     let x = run_leads 1 some start c empty (begins s here.can) goods.0 p.first_octets here.leads in
@@ -103,22 +109,35 @@ held_is text script some others c d is on =
     let differ : WorldHeldDiffer x.0 = subst (λ (v : World). WorldHeldDiffer v) z.1.1 (held_differ (end empty z.0) (sound_run empty z.0 sound_empty z.1.0)) in
     held_apart c.centre x.0 k.sound k.centre differ
 
-pub delivered_is : DeliveredLaw
-delivered_is text script some others c d is on timely =
+pub joined_is : JoinedLaw
+joined_is text script some others c d is on =
+    let x = run_is text script some others c d is on in
+    joined_of_parts c x.0 x.2.1
+
+-- while frames are timely, the course sees a world where what counts as delivered was accepted
+reaches : (text : List ℕ) (script : Script) (some others : List WorldEvent) (c d : Course) → IsScript text script some others → LeadsOn script some c d → AllTimely 1 some (beginning script.setup) → Reaches c
+reaches text script some others c d is on timely =
     let s : Setup = script.setup in
     let start : Course = beginning s in
     let good : AreGood script.events = script_good text script is.reads in
     let goods = others_good some others (subst (λ (es : List WorldEvent). AreGood es) is.events good) in
     let here = can_play s some c on.here in
     let there = can_play s script.events d on.there in
-    let p = parted some others 1 start d (subst (λ (es : List WorldEvent). AllHandOctets 1 es start) is.events is.octets)
+    let p = parted some others 1 start d (subst (λ (es : List WorldEvent). AllHandOctets 1 es start) is.events (script_hands text script is.reads there.can))
     (subst (λ (es : List WorldEvent). played_on 1 es start ≡ ok_course d) is.events there.leads) in
-    let r = all_reach 1 some start c empty (begins s here.can) goods.0 p.first_octets timely faithful_empty here.leads in
-    delivered_once c r.0 r.1.0 r.1.1
+    all_reach 1 some start c empty (begins s here.can) goods.0 p.first_octets timely faithful_empty (λ a i. absurd i) here.leads
+
+pub delivered_is : DeliveredLaw
+delivered_is text script some others c d is on timely =
+    let r = reaches text script some others c d is on timely in delivered_once c r.0 r.1.0 r.1.1 r.1.2
+
+pub joined_once_is : JoinedOnceLaw
+joined_once_is text script some others c d is on timely =
+    let r = reaches text script some others c d is on timely in joined_once c r.0 r.1.0 r.1.1
 
 pub told_is : ToldLaw
 told_is text script some others c d is on timely x i e =
     let f = from_report x c.centre.rows.messages c.centre.rows.reports i in
     let among : Among f.message c.centre.rows.messages = found_among message_key f.report.id f.message c.centre.rows.messages f.found in
     let once : DeliveredOnce c = delivered_is text script some others c d is on timely in
-    (f.message, (among, f.id, λ p q j of k own. once f.message p q among (f.state ∙ ap (λ (z : FinalState). Some z) e) j of k own))
+    (f.message, (among, f.id, λ p j of. once f.message p among (f.state ∙ ap (λ (z : FinalState). Some z) e) j of))

@@ -1,18 +1,16 @@
 -- A frame of the centre's line that is decided timely is so in the world.
-use Rattle.std.proofs.Common.{◌≡◌, ℕ, ◌+◌, ◌≤◌, List, [], ◌∷◌, Bool, true, false, length, refl, sym, ◌∙◌, ap, subst, inl, inr, ⊎_elim, Option, Some, None, arith}
+use Rattle.std.proofs.Common.{◌≡◌, ℕ, ◌+◌, ◌≤◌, List, [], ◌∷◌, true, false, length, refl, sym, ◌∙◌, ap, subst, inl, inr, ⊎_elim, Option, Some, None, arith}
 use Rattle.std.specs.Prelude.{◌⊎◌, ◌==◌}
 use Rattle.std.proofs.lemmas.Bool.{both_ways, cases_Bool, cond-false, cond-true, eq-eqb}
 use Rattle.sms_base.specs.Among.{Among}
 use Rattle.sms_base.specs.declared.carried.Carried.{Carried as Carries}
 use Rattle.sms_base.specs.declared.carried.Kind.{Kind}
 use Rattle.sms_base.specs.declared.carried.Kind.TheVariants.{Data, Ack, Error}
-use Rattle.sms_base.specs.declared.holder.Holder.{Holder}
 use Rattle.sms_report.specs.declared.rows.Direction.{Direction}
 use Rattle.sms_report.specs.declared.rows.Direction.TheVariants.{Up as UpRow, Down as DownRow}
 use Rattle.sms_report.specs.declared.rows.FrameRow.{FrameRow}
 use Rattle.sms_script.specs.declared.event.Act.{Act}
 use Rattle.sms_script.specs.declared.event.Act.TheVariants.{Submit, Query, Cancel, Write, Delete, Discard, Deliver, Tick}
-use Rattle.sms_script.specs.declared.event.Side.{Side}
 use Rattle.sms_script.specs.declared.event.Side.TheVariants.{Centre, Handset}
 use Rattle.sms_script.specs.declared.event.WorldEvent.{WorldEvent}
 use Rattle.sms_script.specs.declared.event.WorldEvent.TheVariants.{Whole, Stopped, Restart}
@@ -22,7 +20,6 @@ use Rattle.sms_premises.proofs.TimelyFrames.{held_is}
 use Rattle.sms_world.specs.ScriptRun.{Handed}
 use Rattle.sms_world.specs.Timely.{IsTimely, givings}
 use Rattle.sms_world.specs.World.{Bare, Carried, Down, Frame, Giving, IsLatest, Line, Sent, Up, World, empty}
-use Rattle.sms_world.specs.Run.{end}
 use Rattle.sms_frame_sight.specs.Between.{frame_down, frame_up}
 use Rattle.sms_frame_sight.specs.FramesDown.{line_down}
 use Rattle.sms_frame_sight.specs.FramesUp.{line_up}
@@ -36,7 +33,7 @@ use Rattle.sms_headline.proofs.FaithfulRuns.{HandsDown}
 
 -- ---- a number names one frame
 
-abbrev number_sent : Sent → ℕ
+abbrev pub number_sent : Sent → ℕ
 number_sent (Carried u) = u.number
 number_sent (Bare n a) = n
 
@@ -47,7 +44,7 @@ below (y ∷ ys) x h i = ⊎_elim
     (λ (j : Among x ys). let l = below ys x h.1 j in omega (arith, l))
     i
 
-one_number : (xs : List Sent) (x y : Sent) → Numbered xs → Among x xs → Among y xs → number_sent x ≡ number_sent y → x ≡ y
+pub one_number : (xs : List Sent) (x y : Sent) → Numbered xs → Among x xs → Among y xs → number_sent x ≡ number_sent y → x ≡ y
 one_number [] x y h i j e = absurd i
 one_number (z ∷ zs) x y h i j e = ⊎_elim
     (λ (a : x ≡ z). ⊎_elim
@@ -62,10 +59,10 @@ one_number (z ∷ zs) x y h i j e = ⊎_elim
     (λ (b : Among y zs). one_number zs x y h.1 a b e) j)
     i
 
-numbered_there : (w : World) → IsReached w → Numbered w.bag
+pub numbered_there : (w : World) → IsReached w → Numbered w.bag
 numbered_there w (is, (run, at)) = subst (λ (v : World). Numbered v.bag) at (numbered_run empty is tt)
 
-number_by : (d : Direction) (n : ℕ) (h octets : List ℕ) (o : Option Carries) → number_sent (sent_by d n h octets o) ≡ n
+pub number_by : (d : Direction) (n : ℕ) (h octets : List ℕ) (o : Option Carries) → number_sent (sent_by d n h octets o) ≡ n
 number_by UpRow n h octets None = refl
 number_by UpRow n h octets (Some x) = refl
 number_by DownRow n h octets None = refl

@@ -1,8 +1,8 @@
 -- While frames come in time on the centre's line, what counts as delivered was accepted. Nothing is asked of the handsets' own line.
-use Rattle.std.proofs.Common.{◌≡◌, ℕ, List, [], ◌∷◌, ◌++◌, Bool, true, false, refl, sym, ◌∙◌, ap, subst, inl, inr, ⊎_elim}
+use Rattle.std.proofs.Common.{◌≡◌, ℕ, List, [], ◌∷◌, ◌++◌, Bool, true, false, refl, sym, ◌∙◌, ap, subst, ⊎_elim}
 use Rattle.sms_base.specs.Among.{Among}
-use Rattle.sms_world.specs.Run.{Item, Run, after_item, end}
-use Rattle.sms_world.specs.ScriptRun.{After, AllControl, AllMayFollow, Asked, Before, Belongs, Cancelled, Event, Follows, Handed, Happening, IsInOrder, IsPlayed, Reads, Removed, Restarted, Submitted, Tick_centre, Tick_handset, Went, Whole, Wrote, happened, is_stopped, items}
+use Rattle.sms_world.specs.Run.{Run, after_item, end}
+use Rattle.sms_world.specs.ScriptRun.{After, AllControl, AllMayFollow, Asked, Before, Belongs, Cancelled, Event, Follows, Handed, Happening, IsInOrder, Reads, Removed, Restarted, Submitted, Tick_centre, Tick_handset, Went, Whole, Wrote, happened, is_stopped, items}
 use Rattle.std.specs.Prelude.{◌⊎◌}
 use Rattle.sms_world.specs.ScriptPremises.{HandsTimely}
 use Rattle.sms_world.specs.Timely.{IsTimely, ReadsTimely, Timely, givings}

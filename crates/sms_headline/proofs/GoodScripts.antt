@@ -1,6 +1,8 @@
--- The ticks of a script that was read are at moments that time stamps write.
-use Rattle.std.proofs.Common.{◌≡◌, ℕ, List, [], ◌∷◌, ◌++◌, map, Bool, true, false, refl, sym, ◌∙◌, ap, subst, inl, inr, ⊎_elim, Option, Some, None, Result, Ok, Err}
-use Rattle.std.specs.Prelude.{◌&&◌, if◌then◌else◌, nat_le}
+-- The ticks of a script that was read are at moments that time stamps write, and its texts are texts.
+use Rattle.std.proofs.Common.{◌≡◌, ℕ, List, [], ◌∷◌, map, Bool, true, false, refl, sym, ◌∙◌, ap, subst, inl, inr, ⊎_elim, Option, Some, None, Result, Ok, Err}
+use Rattle.std.specs.Prelude.{◌&&◌, nat_le}
+use Rattle.std.specs.Str.{all_scalars, chars, is_utf8}
+use Rattle.std.proofs.lemmas.Str.{IsUtf8-from_is_utf8, scalars-chars}
 use Rattle.std.proofs.lemmas.Bool.{and_parts, cases_Bool, cond-false, cond-true, leb-true}
 use Rattle.sms_base.specs.Among.{Among}
 use Rattle.sms_base.specs.Reading.{◌>>=◌}
@@ -8,6 +10,7 @@ use Rattle.sms_base.specs.TimeStamp.{IsMoment}
 use Rattle.sms_script.specs.Numbers.{moment_of, number_of, second_in}
 use Rattle.sms_script.specs.ScriptGrammar.{AreLines, IsAct, IsEvent, IsScript, Says, script_lines}
 use Rattle.sms_script.specs.WholeScript.{script_in}
+use Rattle.sms_script.specs.Hexadecimal.{text_of}
 use Rattle.sms_script.specs.Lines.{lines_of}
 use Rattle.sms_script.specs.declared.event.Act.{Act}
 use Rattle.sms_script.specs.declared.event.Act.TheVariants.{Submit, Query, Cancel, Write, Delete, Discard, Deliver, Tick}
@@ -23,6 +26,7 @@ use Rattle.sms_script.specs.declared.setup.HandsetSetup.{HandsetSetup}
 use Rattle.sms_script.proofs.ScriptLaws.{script_found}
 use Rattle.sms_course_sight.specs.CourseRuns.{AreGood}
 use Rattle.sms_course_sight.specs.Happening.{IsGoodAct, IsGoodEvent, IsGoodTick}
+use Rattle.sms_headline.proofs.OctetCourses.{AreTexts, IsTextAct, IsTextEvent}
 
 abbrev read : ℕ → Result ℕ LineFault
 read n = Ok n
@@ -91,16 +95,18 @@ IsEventLine l e = third (script_lines (one_event e)) ≡ Some l
 same_line : {A : Type 0} (a b : A) → Some a ≡ Some b → a ≡ b
 same_line a b e = cc
 
-said_good : (words : List (List ℕ)) (l : Line) (e : WorldEvent) → IsEventLine l e → Says words l → IsGoodEvent e
-said_good words l e q says = event_good words e (subst (λ (z : Line). Says words z) (sym (same_line _ l q)) says)
+-- what holds of the events of all lines
+module _ (P : WorldEvent → Type 0) (all : (words : List (List ℕ)) (e : WorldEvent) → IsEvent words e → P e) where
+  said : (words : List (List ℕ)) (l : Line) (e : WorldEvent) → IsEventLine l e → Says words l → P e
+  said words l e q says = all words e (subst (λ (z : Line). Says words z) (sym (same_line _ l q)) says)
 
-line_good : (lines : List (List ℕ)) (ls : List Line) → AreLines lines ls → (l : Line) → Among l ls → (e : WorldEvent) → IsEventLine l e → IsGoodEvent e
-line_good [] [] are l i e q = absurd i
-line_good [] (x ∷ ls) are l i e q = absurd are
-line_good (o ∷ os) [] are l i e q = absurd are
-line_good (o ∷ os) (x ∷ ls) are l i e q = ⊎_elim
-    (λ (same : l ≡ x). let w = are.0.1 in said_good w.0 l e q (subst (λ (z : Line). Says w.0 z) (sym same) w.1.2))
-    (λ (j : Among l ls). line_good os ls are.1 l j e q) i
+  of_line : (lines : List (List ℕ)) (ls : List Line) → AreLines lines ls → (l : Line) → Among l ls → (e : WorldEvent) → IsEventLine l e → P e
+  of_line [] [] are l i e q = absurd i
+  of_line [] (x ∷ ls) are l i e q = absurd are
+  of_line (o ∷ os) [] are l i e q = absurd are
+  of_line (o ∷ os) (x ∷ ls) are l i e q = ⊎_elim
+      (λ (same : l ≡ x). let w = are.0.1 in said w.0 l e q (subst (λ (z : Line). Says w.0 z) (sym same) w.1.2))
+      (λ (j : Among l ls). of_line os ls are.1 l j e q) i
 
 in_map : {A B : Type 0} (f : A → B) (x : A) (xs : List A) → Among x xs → Among (f x) (map f xs)
 in_map f x [] i = absurd i
@@ -137,13 +143,52 @@ in_lines start centre [] [] events x i = in_map event_line x events i
 in_lines start centre [] (h ∷ hs) events x i = inr (in_lines start centre [] hs events x i)
 in_lines start centre (a ∷ others) hs events x i = inr (in_lines start centre others hs events x i)
 
+of_script : (P : WorldEvent → Type 0) → ((words : List (List ℕ)) (e : WorldEvent) → IsEvent words e → P e) → (text : List ℕ) (script : Script) → script_in text ≡ Ok script
+    → (x : WorldEvent) → Among x script.events → P x
+of_script P all text script e x i =
+    let is : IsScript text script = script_found text (Ok script) e in
+    of_line P all (lines_of text) (script_lines script) is.0 (event_line x)
+    (inr (inr (in_lines script.setup.start script.setup.centre script.setup.accounts script.setup.handsets script.events x i))) x refl
+
 all_good : (es : List WorldEvent) → ((e : WorldEvent) → Among e es → IsGoodEvent e) → AreGood es
 all_good [] all = tt
 all_good (e ∷ es) all = (all e (inl refl), all_good es (λ x i. all x (inr i)))
 
 pub script_good : (text : List ℕ) (script : Script) → script_in text ≡ Ok script → AreGood script.events
-script_good text script e =
-    let is : IsScript text script = script_found text (Ok script) e in
-    all_good script.events
-    (λ x i. line_good (lines_of text) (script_lines script) is.0 (event_line x)
-    (inr (inr (in_lines script.setup.start script.setup.centre script.setup.accounts script.setup.handsets script.events x i))) x refl)
+script_good text script e = all_good script.events (of_script (λ x. IsGoodEvent x) event_good text script e)
+
+-- ---- texts
+
+abbrev as_text : List ℕ → Result (List ℕ) LineFault
+as_text text = Ok text
+
+abbrev unwritten : Result (List ℕ) LineFault
+unwritten = Err BadLine
+
+text_is : (text : List ℕ) → text_of text ≡ Ok text → all_scalars (chars text) ≡ true
+text_is text e = ⊎_elim
+    (λ (t : is_utf8 text ≡ true). scalars-chars text (IsUtf8-from_is_utf8 text t))
+    (λ (f : is_utf8 text ≡ false). let bad : unwritten ≡ as_text text = sym (cond-false (is_utf8 text) (as_text text) unwritten f) ∙ e in absurd cc)
+    (cases_Bool (is_utf8 text))
+
+act_text : (words : List (List ℕ)) (act : Act) → IsAct words act → IsTextAct act
+act_text words (Submit s) i = tt
+act_text words (Query name id) i = tt
+act_text words (Cancel name id) i = tt
+act_text words (Write handset to report text) (asked, spelling, i) = text_is text i.2.1
+act_text words (Delete handset entry) i = tt
+act_text words (Discard handset entry) i = tt
+act_text words (Deliver number) i = tt
+act_text words (Tick side now) i = tt
+
+event_text : (words : List (List ℕ)) (e : WorldEvent) → IsEvent words e → IsTextEvent e
+event_text words (Whole act) i = act_text words act i
+event_text words (Stopped stop act) (rest, i) = act_text rest act i.1
+event_text words (Restart side) i = tt
+
+all_texts : (es : List WorldEvent) → ((e : WorldEvent) → Among e es → IsTextEvent e) → AreTexts es
+all_texts [] all = tt
+all_texts (e ∷ es) all = (all e (inl refl), all_texts es (λ x i. all x (inr i)))
+
+pub script_texts : (text : List ℕ) (script : Script) → script_in text ≡ Ok script → AreTexts script.events
+script_texts text script e = all_texts script.events (of_script (λ x. IsTextEvent x) event_text text script e)

@@ -6,13 +6,9 @@ use Rattle.sms_base.specs.declared.holder.Holder.{Holder}
 use Rattle.sms_base.specs.declared.holder.Holder.TheVariants.{Part, Report, Entry, Memory}
 use Rattle.sms_centre_rules.specs.Draft.{Core, draft_of}
 use Rattle.sms_centre_rules.specs.SoundCore.{IsSoundCore}
-use Rattle.sms_messages.specs.Messages.{message_at, message_key, part_at, part_key}
-use Rattle.sms_messages.specs.declared.message.MessageRow.{MessageRow}
-use Rattle.sms_messages.specs.declared.part.PartRow.{PartRow}
-use Rattle.sms_reports.specs.Reports.{is_status, report_of}
+use Rattle.sms_messages.specs.Messages.{message_key, part_at, part_key}
+use Rattle.sms_reports.specs.Reports.{is_status}
 use Rattle.sms_reports.specs.declared.report.ReportKind.{ReportKind}
-use Rattle.sms_reports.specs.declared.report.ReportKind.TheVariants.{Status}
-use Rattle.sms_reports.specs.declared.report.ReportRow.{ReportRow}
 use Rattle.sms_table.proofs.Tables.{among_found, found_key}
 use Rattle.sms_tpdu.specs.MoreMessages.{compared}
 use Rattle.sms_world.specs.Agreement.{HeldDiffer as WorldHeldDiffer}

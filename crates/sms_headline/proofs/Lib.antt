@@ -1,3 +1,5 @@
+pub mod SmallReferences
+pub mod OctetCourses
 pub mod GoodScripts
 pub mod Parting
 pub mod Tables
@@ -5,6 +7,10 @@ pub mod ReceiptLines
 pub mod HeldApart
 pub mod FaithfulRuns
 pub mod DecidedTimely
+pub mod SameHandsets
+pub mod Takers
 pub mod TimelyClaims
 pub mod PremisesHold
+pub mod JoinedClaims
 pub mod Claimed
+pub mod Played

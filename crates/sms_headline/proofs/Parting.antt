@@ -1,5 +1,5 @@
 -- Some events, and then the others.
-use Rattle.std.proofs.Common.{◌≡◌, ℕ, zero, suc, ◌+◌, arith, List, [], ◌∷◌, ◌++◌, length, refl, sym, ◌∙◌, ap, subst, Result, Ok, Err}
+use Rattle.std.proofs.Common.{◌≡◌, ℕ, suc, ◌+◌, arith, List, [], ◌∷◌, ◌++◌, length, refl, subst, Result, Ok, Err}
 use Rattle.sms_base.specs.Reading.{◌>>=◌}
 use Rattle.sms_script.specs.declared.event.WorldEvent.{WorldEvent}
 use Rattle.sms_play.specs.declared.fault.PlayFault.{PlayFault}
@@ -7,7 +7,6 @@ use Rattle.sms_play.specs.Course.{Course}
 use Rattle.sms_play.specs.PlayedEvent.{played}
 use Rattle.sms_play.specs.Playing.{played_on}
 use Rattle.sms_course_sight.specs.CourseRuns.{AllHandOctets, AreGood, IfPlayed}
-use Rattle.sms_course_sight.specs.Happening.{HandsOctets}
 use Rattle.sms_course_sight.proofs.Events.{ok_course}
 
 -- the first lead to a course, and the others on from there

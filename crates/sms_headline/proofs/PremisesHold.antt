@@ -1,17 +1,16 @@
 -- Where it is decided that the premises hold, every frame that is handed over is timely.
-use Rattle.std.proofs.Common.{◌≡◌, ℕ, ◌+◌, List, [], ◌∷◌, Bool, true, false, refl, sym, ◌∙◌, ap, ⊎_elim, Option, Some, None, Result, Ok, Err}
+use Rattle.std.proofs.Common.{◌≡◌, ℕ, ◌+◌, List, [], ◌∷◌, Bool, true, false, refl, sym, ◌∙◌, ⊎_elim, Option, Some, None, Result, Ok, Err}
 use Rattle.std.specs.Prelude.{if◌then◌else◌, not}
 use Rattle.std.proofs.lemmas.Bool.{cases_Bool, cond-false, cond-true}
 use Rattle.sms_base.specs.Reading.{◌>>=◌}
 use Rattle.sms_report.specs.declared.report.Broken.{Broken}
 use Rattle.sms_report.specs.declared.report.Broken.TheVariants.{Timely}
 use Rattle.sms_script.specs.declared.event.WorldEvent.{WorldEvent}
-use Rattle.sms_script.specs.declared.setup.Setup.{Setup}
 use Rattle.sms_play.specs.declared.fault.PlayFault.{PlayFault}
 use Rattle.sms_play.specs.declared.fault.PlayFault.TheVariants.{BadSetup}
 use Rattle.sms_play.specs.Course.{Course}
 use Rattle.sms_play.specs.PlayedEvent.{played}
-use Rattle.sms_play.specs.Playing.{broken_on, or_later, premises_of}
+use Rattle.sms_play.specs.Playing.{broken_on, or_later}
 use Rattle.sms_play.specs.Premises.{broken_by, is_timely_event}
 use Rattle.sms_play.specs.Setups.{beginning, can_be_played}
 use Rattle.sms_course_sight.specs.CourseRuns.{IfPlayed}

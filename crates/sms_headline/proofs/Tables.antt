@@ -6,8 +6,7 @@ use Rattle.sms_centre_rules.specs.Draft.{Core, draft_of}
 use Rattle.sms_centre_rules.specs.SoundCore.{IsSoundCore}
 use Rattle.sms_messages.specs.Messages.{message_at, message_key}
 use Rattle.sms_messages.specs.declared.message.MessageRow.{MessageRow}
-use Rattle.sms_report.specs.declared.answers.MessageState.{MessageState}
-use Rattle.sms_report.specs.declared.answers.MessageState.TheVariants.{Enroute, Final as FinalLine}
+use Rattle.sms_report.specs.declared.answers.MessageState.TheVariants.{Final as FinalLine}
 use Rattle.sms_report.specs.declared.rows.MessageRow.{MessageRow as MessageLine}
 use Rattle.sms_table.specs.Table.{Rises}
 use Rattle.sms_table.proofs.Tables.{among_found, found_among, found_key}

@@ -1,5 +1,5 @@
 -- What counts as delivered was accepted, while frames are decided timely.
-use Rattle.std.proofs.Common.{◌≡◌, ℕ, ◌+◌, ◌<◌, ◌≤◌, arith, List, [], ◌∷◌, Bool, true, false, refl, sym, ◌∙◌, ap, subst, inl, inr, ⊎_elim, Option, Some, None, Result, Ok, Err}
+use Rattle.std.proofs.Common.{◌≡◌, ℕ, ◌+◌, ◌<◌, ◌≤◌, arith, List, [], ◌∷◌, true, false, refl, sym, ◌∙◌, ap, subst, inl, inr, ⊎_elim, Option, Some, Result, Ok, Err}
 use Rattle.std.proofs.lemmas.Bool.{both_ways, cases_Bool, cond-false, cond-true}
 use Rattle.std.proofs.lemmas.Slice.Eq.{bytes_eq-Decides}
 use Rattle.std.specs.Str.{bytes_eq}
@@ -8,17 +8,16 @@ use Rattle.sms_base.specs.Reading.{◌>>=◌}
 use Rattle.sms_base.specs.declared.final_state.FinalState.{FinalState}
 use Rattle.sms_base.specs.declared.final_state.FinalState.TheVariants.{Delivered}
 use Rattle.sms_base.specs.declared.holder.Holder.TheVariants.{Part}
-use Rattle.sms_centre_rules.specs.Draft.{draft_of}
 use Rattle.sms_messages.specs.Messages.{message_at, message_key, part_at, part_key}
 use Rattle.sms_messages.specs.declared.message.MessageRow.{MessageRow}
 use Rattle.sms_messages.specs.declared.part.PartRow.{PartRow}
 use Rattle.sms_script.specs.declared.event.WorldEvent.{WorldEvent}
 use Rattle.sms_play.specs.declared.fault.PlayFault.{PlayFault}
-use Rattle.sms_play.specs.Course.{Course, Party}
+use Rattle.sms_play.specs.Course.{Course}
 use Rattle.sms_play.specs.PlayedEvent.{played}
 use Rattle.sms_play.specs.Playing.{played_on}
-use Rattle.sms_play.specs.Premises.{is_timely_event, pairs_of}
-use Rattle.sms_table.proofs.Tables.{among_found, found_among, found_key}
+use Rattle.sms_play.specs.Premises.{is_timely_event}
+use Rattle.sms_table.proofs.Tables.{among_found}
 use Rattle.sms_tpdu.specs.MoreMessages.{compared}
 use Rattle.sms_world.specs.Agreement.{DeliveredAccepted}
 use Rattle.sms_world.specs.Lists.{StandsOnce}
@@ -27,7 +26,6 @@ use Rattle.sms_world.specs.ScriptRun.{Happening, happened}
 use Rattle.sms_world.specs.WhoseTpdu.{IsDeliverOf}
 use Rattle.sms_world.specs.World.{Accepted, Final, Giving, Stands, State, World, pair_given}
 use Rattle.sms_world.proofs.Faithful.{IsFaithful, delivered_accepted}
-use Rattle.sms_centre_sight.specs.CentreSight.{CentreSees}
 use Rattle.sms_centre_sight.specs.SeesMessages.{IsStateOf, PartSeen, part_seen, parts_by}
 use Rattle.sms_centre_sight.proofs.ByOctets.{by_octet_is}
 use Rattle.sms_centre_course.specs.TruthfulRows.{IsAsSubmitted, pair_in_row}
@@ -40,33 +38,39 @@ use Rattle.sms_course_sight.proofs.Events.{event_leads, ok_course, same_course}
 use Rattle.sms_headline.specs.Claims.{AllTimely, DeliveredOnce}
 use Rattle.sms_headline.proofs.DecidedTimely.{hands_down}
 use Rattle.sms_headline.proofs.FaithfulRuns.{event_faithful}
+use Rattle.sms_headline.proofs.Takers.{TakersThere, of_number, stands_among, takers_stay}
 
 -- ---- one event, and then the others
 
 abbrev pub Reaches : Course → Type 0
-Reaches d = (v : World) × (CourseSees d v × IsFaithful v)
+Reaches d = (v : World) × (CourseSees d v × IsFaithful v × TakersThere d v)
 
-event_reaches : (n : ℕ) (e : WorldEvent) (c d : Course) (w : World) → CourseSees c w → IsGoodEvent e → HandsOctets e c → is_timely_event e c ≡ true → played n e c ≡ ok_course d → IsFaithful w → Reaches d
-event_reaches n e c d w s good octets timely q f =
+event_reaches : (n : ℕ) (e : WorldEvent) (c d : Course) (w : World) → CourseSees c w → IsGoodEvent e → HandsOctets e c → is_timely_event e c ≡ true → played n e c ≡ ok_course d → IsFaithful w → TakersThere c w → Reaches d
+event_reaches n e c d w s good octets timely q f takers =
     let l = event_leads n e c d w s good octets q in
     let h : Happening = happening_of e c.centre.moment in (
       end w (happened h l.0),
-      (l.1.2, event_faithful w h.event h.went h.moment l.0 l.1.0 (hands_down e c w c.centre.moment s timely) l.1.1 (sound_there w s.reached) f),
+      (
+        l.1.2,
+        event_faithful w h.event h.went h.moment l.0 l.1.0 (hands_down e c w c.centre.moment s timely) l.1.1 (sound_there w s.reached) f,
+        takers_stay n e c d w c.centre.moment l.0 s q l.1.0 l.1.1 takers,
+      ),
     )
 
 then_reaches : (n : ℕ) (e : WorldEvent) (c d : Course) (w : World) (more : Course → Result Course PlayFault) (Octets Timely : Course → Type 0)
-    → ((x : Course) (v : World) → CourseSees x v → IsFaithful v → Octets x → Timely x → more x ≡ ok_course d → Reaches d)
-    → CourseSees c w → IsGoodEvent e → HandsOctets e c → is_timely_event e c ≡ true → IsFaithful w → (r : Result Course PlayFault) → played n e c ≡ r → IfPlayed r Octets → IfPlayed r Timely
+    → ((x : Course) (v : World) → CourseSees x v → IsFaithful v → TakersThere x v → Octets x → Timely x → more x ≡ ok_course d → Reaches d)
+    → CourseSees c w → IsGoodEvent e → HandsOctets e c → is_timely_event e c ≡ true → IsFaithful w → TakersThere c w → (r : Result Course PlayFault) → played n e c ≡ r → IfPlayed r Octets → IfPlayed r Timely
     → (r >>= λ (x : Course). more x) ≡ ok_course d → Reaches d
-then_reaches n e c d w more Octets Timely go s good octets timely f (Ok x) is later in_time q =
-    let y = event_reaches n e c x w s good octets timely is f in go x y.0 y.1.0 y.1.1 later in_time q
-then_reaches n e c d w more Octets Timely go s good octets timely f (Err fault) is later in_time q = absurd cc
+then_reaches n e c d w more Octets Timely go s good octets timely f takers (Ok x) is later in_time q =
+    let y = event_reaches n e c x w s good octets timely is f takers in go x y.0 y.1.0 y.1.1 y.1.2 later in_time q
+then_reaches n e c d w more Octets Timely go s good octets timely f takers (Err fault) is later in_time q = absurd cc
 
-pub all_reach : (n : ℕ) (es : List WorldEvent) (c d : Course) (w : World) → CourseSees c w → AreGood es → AllHandOctets n es c → AllTimely n es c → IsFaithful w → played_on n es c ≡ ok_course d → Reaches d
-all_reach n [] c d w s good octets timely f q = (w, (subst (λ (z : Course). CourseSees z w) (same_course c d q) s, f))
-all_reach n (e ∷ es) c d w s good octets timely f q =
-    then_reaches n e c d w (λ x. played_on (n + 1) es x) (λ x. AllHandOctets (n + 1) es x) (λ x. AllTimely (n + 1) es x) (λ x v k g o t p. all_reach (n + 1) es x d v k good.1 o t g p)
-    s good.0 octets.0 timely.0 f (played n e c) refl octets.1 timely.1 q
+pub all_reach : (n : ℕ) (es : List WorldEvent) (c d : Course) (w : World) → CourseSees c w → AreGood es → AllHandOctets n es c → AllTimely n es c → IsFaithful w → TakersThere c w → played_on n es c ≡ ok_course d → Reaches d
+all_reach n [] c d w s good octets timely f takers q =
+    (w, (subst (λ (z : Course). CourseSees z w) (same_course c d q) s, f, subst (λ (z : Course). TakersThere z w) (same_course c d q) takers))
+all_reach n (e ∷ es) c d w s good octets timely f takers q =
+    then_reaches n e c d w (λ x. played_on (n + 1) es x) (λ x. AllHandOctets (n + 1) es x) (λ x. AllTimely (n + 1) es x) (λ x v k g h o t p. all_reach (n + 1) es x d v k good.1 o t g h p)
+    s good.0 octets.0 timely.0 f takers (played n e c) refl octets.1 timely.1 q
 
 -- ---- of one handset
 
@@ -142,7 +146,15 @@ module _ (c : Course) (w : World) (s : CourseSees c w) (all : DeliveredAccepted 
         (x.0, has.0, y.0.moment, (x.2.1, has.1, subst (λ (a : Accepted). IsDeliverOf x.0 has.0 y.0.moment a.tpdu) same y.1.3)),
       )
 
-pub delivered_once : (c : Course) (w : World) → CourseSees c w → IsFaithful w → DeliveredOnce c
-delivered_once c w s f m p q i ended j of k own =
+pub delivered_once : (c : Course) (w : World) → CourseSees c w → IsFaithful w → TakersThere c w → DeliveredOnce c
+delivered_once c w s f takers m p i ended j of =
     let x = delivered_row c w s (delivered_accepted w f) m p i ended j of in
-    (subst (λ (ps : List Accepted). StandsOnce (pair_in_row m p) ps) (s.parties q k).accepted (own_once q.number (pair_in_row m p) w.accepted (sym own) x.0), x.1)
+    let q = of_number m.handset c.parties (takers (pair_in_row m p) (stands_among (pair_in_row m p) w.accepted x.0)) in (
+      q.0,
+      (
+        q.1.0,
+        q.1.1,
+        subst (λ (ps : List Accepted). StandsOnce (pair_in_row m p) ps) (s.parties q.0 q.1.0).accepted (own_once q.0.number (pair_in_row m p) w.accepted (sym q.1.1) x.0),
+        x.1,
+      ),
+    )

@@ -14,14 +14,21 @@ use Rattle.sms_reports.specs.declared.report.ReportRow.{ReportRow}
 use Rattle.sms_report.specs.declared.answers.MessageState.TheVariants.{Final}
 use Rattle.sms_report.specs.declared.report.Report.{Report}
 use Rattle.sms_report.specs.declared.rows.MessageRow.{MessageRow as MessageLine}
+use Rattle.sms_report.specs.declared.rows.JoinedRow.{JoinedRow}
 use Rattle.sms_report.specs.declared.rows.ReceiptRow.{ReceiptRow}
 use Rattle.sms_script.specs.declared.event.WorldEvent.{WorldEvent}
 use Rattle.sms_base.specs.declared.final_state.FinalState.TheVariants.{Delivered}
+use Rattle.sms_concat.specs.declared.content.Content.{Content}
 use Rattle.sms_play.specs.Course.{Course, Party}
+use Rattle.sms_play.specs.HandsetSide.{coding_of}
 use Rattle.sms_play.specs.PlayedEvent.{played}
 use Rattle.sms_play.specs.Playing.{report_of as report_told_of}
 use Rattle.sms_play.specs.Premises.{is_timely_event, pairs_of}
+use Rattle.sms_world.specs.Groups.{joined_content}
 use Rattle.sms_world.specs.Lists.{StandsOnce}
+use Rattle.sms_world.specs.PartsOfKey.{is_for}
+use Rattle.sms_world.specs.Place.{Key}
+use Rattle.sms_world.specs.World.{Accepted}
 use Rattle.sms_centre_course.specs.TruthfulRows.{IsAsSubmitted, pair_in_row}
 use Rattle.sms_course_sight.specs.CourseRuns.{IfPlayed}
 
@@ -72,18 +79,64 @@ abbrev pub AllTimely : ℕ → List WorldEvent → Course → Type 0
 AllTimely number [] c = Unit {0}
 AllTimely number (e ∷ es) c = (is_timely_event e c ≡ true) × IfPlayed (played number e c) (λ d. AllTimely (number + 1) es d)
 
--- A message counts as delivered only if its handset accepted each of its parts exactly once, under the part's reference and with the octets
--- of its row, which are a DELIVER of that part as it was submitted.
+-- Its handset is one of the script's, and accepted the part exactly once, under the part's reference and with the octets of its row, which
+-- are a DELIVER of that part as it was submitted.
+abbrev pub IsAcceptedOnce : Course → MessageRow → PartRow → Type 0
+IsAcceptedOnce c m p =
+    (q : Party) × (Among q c.parties × (q.number ≡ m.handset) × StandsOnce (pair_in_row m p) (pairs_of [] q.accepted) × IsAsSubmitted m p.number p)
+
+-- A message counts as delivered only if that is so of each of its parts.
 abbrev pub DeliveredOnce : Course → Type 0
 DeliveredOnce c =
-    (m : MessageRow) (p : PartRow) (q : Party) → Among m c.centre.rows.messages → m.state ≡ Some Delivered → Among p c.centre.rows.parts → p.id ≡ m.id → Among q c.parties → q.number ≡ m.handset
-    → StandsOnce (pair_in_row m p) (pairs_of [] q.accepted) × IsAsSubmitted m p.number p
+    (m : MessageRow) (p : PartRow) → Among m c.centre.rows.messages → m.state ≡ Some Delivered → Among p c.centre.rows.parts → p.id ≡ m.id → IsAcceptedOnce c m p
 
 -- So a receipt or status report says that its message was delivered only if that is so.
 abbrev pub ToldOnce : Course → Type 0
 ToldOnce c =
     (x : ReceiptRow) → Among x (report_told_of c).receipts → x.state ≡ Delivered
     → (m : MessageRow)
-    × (Among m c.centre.rows.messages × (m.id ≡ x.id)
-    × ((p : PartRow) (q : Party) → Among p c.centre.rows.parts → p.id ≡ m.id → Among q c.parties → q.number ≡ m.handset
-    → StandsOnce (pair_in_row m p) (pairs_of [] q.accepted) × IsAsSubmitted m p.number p))
+    × (Among m c.centre.rows.messages × (m.id ≡ x.id) × ((p : PartRow) → Among p c.centre.rows.parts → p.id ≡ m.id → IsAcceptedOnce c m p))
+
+-- ---- what handsets joined
+
+-- The pair is that of a part which a message from that source has, submitted to that handset; the handset accepted it, and it is of that key.
+pub record IsPartOf (c : Course) (q : Party) (key : Key) (x : Accepted) : Type 0 where
+  pub accepted : Among x (pairs_of [] q.accepted)
+  pub of_key : is_for q.number key x ≡ true
+  pub message : MessageRow
+  pub part : PartRow
+  pub there : Among message c.centre.rows.messages
+  pub part_there : Among part c.centre.rows.parts
+  pub its : part.id ≡ message.id
+  pub source : message.source ≡ key.source
+  pub handset : message.handset ≡ q.number
+  pub pair : x ≡ pair_in_row message part
+  pub submitted : IsAsSubmitted message part.number part
+
+-- The row says what a group of parts of one key joins to.
+pub record IsJoinedFrom (c : Course) (q : Party) (row : JoinedRow) (group : List Accepted) : Type 0 where
+  pub key : Key
+  pub content : Content
+  pub joins : joined_content key.total group ≡ Some content
+  pub says : row ≡ record { handset = q.number; from = key.source.digits; coding = coding_of content.coding; units = content.units }
+  pub parts : (x : Accepted) → Among x group → IsPartOf c q key x
+
+-- each row a group, in order
+abbrev pub AreJoinedFrom : Course → Party → List JoinedRow → List (List Accepted) → Type 0
+AreJoinedFrom c q [] [] = Unit {0}
+AreJoinedFrom c q [] (g ∷ gs) = ⊥
+AreJoinedFrom c q (r ∷ rs) [] = ⊥
+AreJoinedFrom c q (r ∷ rs) (g ∷ gs) = IsJoinedFrom c q r g × AreJoinedFrom c q rs gs
+
+-- Whatever happens, each message that a handset joined was joined from parts that its source submitted to it.
+abbrev pub JoinedOfParts : Course → Type 0
+JoinedOfParts c = (q : Party) → Among q c.parties → (groups : List (List Accepted)) × AreJoinedFrom c q q.joined groups
+
+-- no part stands in two of them
+abbrev pub HaveNoneInCommon : List (List Accepted) → Type 0
+HaveNoneInCommon [] = Unit {0}
+HaveNoneInCommon (g ∷ gs) = ((h : List Accepted) (x : Accepted) → Among h gs → Among x g → Among x h → ⊥) × HaveNoneInCommon gs
+
+-- While frames come in time, no part is joined twice.
+abbrev pub JoinedOnce : Course → Type 0
+JoinedOnce c = (q : Party) → Among q c.parties → (groups : List (List Accepted)) × (AreJoinedFrom c q q.joined groups × HaveNoneInCommon groups)

@@ -1,23 +1,23 @@
 -- The claims, of every script that reads.
 use Rattle.std.specs.Prelude.{◌≡◌, ℕ, ◌+◌, List, ◌++◌, length, None, Ok}
+use Rattle.sms_report.specs.declared.report.Report.{Report}
 use Rattle.sms_script.specs.declared.event.WorldEvent.{WorldEvent}
 use Rattle.sms_script.specs.declared.script.Script.{Script}
 use Rattle.sms_script.specs.declared.setup.Setup.{Setup}
 use Rattle.sms_script.specs.WholeScript.{script_in}
 use Rattle.sms_play.specs.Course.{Course}
-use Rattle.sms_play.specs.Playing.{course_of, premises_of, report_of}
+use Rattle.sms_play.specs.Playing.{course_of, play_of, premises_of, report_of}
 use Rattle.sms_play.specs.Setups.{beginning}
 use Rattle.sms_world.specs.ScriptRun.{Plays}
 use Rattle.sms_world.specs.World.{World, empty}
-use Rattle.sms_course_sight.specs.CourseRuns.{AllHandOctets, happenings}
+use Rattle.sms_course_sight.specs.CourseRuns.{happenings}
 use Rattle.sms_course_sight.specs.CourseSight.{CourseSees}
-use Rattle.sms_headline.specs.Claims.{AllTimely, AreOnce, DeliveredOnce, FinalStays, HasOneLine, HeldDiffer, ReceiptsTell, ToldOnce}
+use Rattle.sms_headline.specs.Claims.{AllTimely, AreOnce, DeliveredOnce, FinalStays, HasOneLine, HeldDiffer, JoinedOfParts, JoinedOnce, ReceiptsTell, ToldOnce}
 
--- The text reads as a script of these events in order, some and then others; whatever goes up is octets.
+-- The text reads as a script of these events in order, some and then others.
 pub record IsScript (text : List ℕ) (script : Script) (some others : List WorldEvent) : Type 0 where
   pub reads : script_in text ≡ Ok script
   pub events : script.events ≡ some ++ others
-  pub octets : AllHandOctets 1 script.events (beginning script.setup)
 
 -- it leads here after the one, and there after the others
 pub record LeadsOn (script : Script) (some : List WorldEvent) (c d : Course) : Type 0 where
@@ -55,6 +55,9 @@ OnceLaw = Of (λ c. AreOnce (report_of c).receipts)
 abbrev pub HeldLaw : Type 0
 HeldLaw = Of (λ c. HeldDiffer c)
 
+abbrev pub JoinedLaw : Type 0
+JoinedLaw = Of (λ c. JoinedOfParts c)
+
 -- ---- while frames come in time
 
 abbrev pub DeliveredLaw : Type 0
@@ -65,6 +68,32 @@ abbrev pub ToldLaw : Type 0
 ToldLaw =
     (text : List ℕ) (script : Script) (some others : List WorldEvent) (c d : Course) → IsScript text script some others → LeadsOn script some c d → AllTimely 1 some (beginning script.setup) → ToldOnce c
 
+abbrev pub JoinedOnceLaw : Type 0
+JoinedOnceLaw =
+    (text : List ℕ) (script : Script) (some others : List WorldEvent) (c d : Course) → IsScript text script some others → LeadsOn script some c d → AllTimely 1 some (beginning script.setup) → JoinedOnce c
+
 -- so they are where it is decided that the premises hold
 abbrev pub PremisesLaw : Type 0
 PremisesLaw = (s : Setup) (events : List WorldEvent) → premises_of s events ≡ Ok None → AllTimely 1 events (beginning s)
+
+-- ---- all of it, of what is played
+
+-- What holds of the course that a script leads to, whatever happens.
+pub record AlwaysHolds (c : Course) : Type 0 where
+  pub lines : HasOneLine (report_of c)
+  pub receipts : ReceiptsTell (report_of c)
+  pub once : AreOnce (report_of c).receipts
+  pub held : HeldDiffer c
+  pub joined : JoinedOfParts c
+
+-- and where no event breaks a premise
+pub record HoldsInTime (c : Course) : Type 0 where
+  pub delivered : DeliveredOnce c
+  pub told : ToldOnce c
+  pub joined : JoinedOnce c
+
+-- The report of a script that reads and plays is that of such a course; and where it is decided that the premises hold, of such a one.
+abbrev pub PlayedLaw : Type 0
+PlayedLaw =
+    (text : List ℕ) (script : Script) (report : Report) → script_in text ≡ Ok script → play_of script.setup script.events ≡ Ok report
+    → (c : Course) × ((report ≡ report_of c) × AlwaysHolds c × (premises_of script.setup script.events ≡ Ok None → HoldsInTime c))

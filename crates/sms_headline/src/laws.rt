@@ -1,5 +1,5 @@
 //! The claims.
-ghost use Rattle.sms_headline.specs.HeadlineLaws.{DeliveredLaw, FinalLaw, HeldLaw, LineLaw, OnceLaw, PremisesLaw, ReceiptLaw, RunLaw, ToldLaw};
+ghost use Rattle.sms_headline.specs.HeadlineLaws.{DeliveredLaw, FinalLaw, HeldLaw, JoinedLaw, JoinedOnceLaw, LineLaw, OnceLaw, PlayedLaw, PremisesLaw, ReceiptLaw, RunLaw, ToldLaw};
 
 /// The events of a script, up to any of them, are a run of the world from the empty one on, and the course shows where it led.
 pub fn a_script_is_a_run()
@@ -30,4 +30,16 @@ pub fn delivered_was_accepted()
     ensures delivered { DeliveredLaw }
     ensures told { ToldLaw }
     ensures premises { PremisesLaw }
+{}
+
+/// Whatever happens, each message that a handset joined was joined from parts that its source submitted to that handset, and that
+/// the handset accepted; and while each frame that is handed over is decided timely, no part is joined twice.
+pub fn joined_was_submitted()
+    ensures parts { JoinedLaw }
+    ensures once { JoinedOnceLaw }
+{}
+
+/// All of it of the report of a script that plays, with the two premises as `sms_play` decides them.
+pub fn what_is_played_holds()
+    ensures { PlayedLaw }
 {}

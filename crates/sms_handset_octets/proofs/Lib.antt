@@ -1,0 +1,4 @@
+pub mod WrittenOctets
+pub mod LinkOctets
+pub mod StageOctets
+pub mod EventOctets
