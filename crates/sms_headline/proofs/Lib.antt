@@ -14,3 +14,4 @@ pub mod PremisesHold
 pub mod JoinedClaims
 pub mod Claimed
 pub mod Played
+pub mod ExactPremises

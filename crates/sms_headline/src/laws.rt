@@ -1,4 +1,5 @@
 //! The claims.
+ghost use Rattle.sms_headline.specs.DecidedPremises.{FirstLaw, NoneLaw};
 ghost use Rattle.sms_headline.specs.HeadlineLaws.{DeliveredLaw, FinalLaw, HeldLaw, JoinedLaw, JoinedOnceLaw, LineLaw, OnceLaw, PlayedLaw, PremisesLaw, ReceiptLaw, RunLaw, ToldLaw};
 
 /// The events of a script, up to any of them, are a run of the world from the empty one on, and the course shows where it led.
@@ -42,4 +43,11 @@ pub fn joined_was_submitted()
 /// All of it of the report of a script that plays, with the two premises as `sms_play` decides them.
 pub fn what_is_played_holds()
     ensures { PlayedLaw }
+{}
+
+/// `premises` answers None exactly where the script plays and each event is decided timely and fresh; else it names the first event that
+/// is not, timely before fresh at the same event.
+pub fn premises_are_decided()
+    ensures none { NoneLaw }
+    ensures first { FirstLaw }
 {}
