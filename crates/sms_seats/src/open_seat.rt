@@ -6,6 +6,7 @@ ghost use Rattle.sms_keeper.specs.Seating.{put_by};
 use sms_jobs::{Job, Reply};
 use sms_keeper::Seat;
 use std::sync::Wait;
+use std::sync::atomic::{AtomicBool, Ordering};
 use std::time::Duration;
 
 /// A seat of the hub whose end mark was not put.
@@ -36,11 +37,12 @@ impl OpenSeat {
         self.seat.wait(rt, at_most);
     }
 
-    /// Puts the end mark, taking answers while there is no room for it.
-    pub fn close<R: Wait>(self, rt: &R) {
+    /// Puts the end mark, taking answers while there is no room for it. Where the keeper has ended none is put, since nobody would
+    /// make room.
+    pub fn close<R: Wait>(self, rt: &R, over: &AtomicBool) {
         let OpenSeat { mut seat } = self;
         for _ in rt.forever() {
-            if seat.try_close(rt) {
+            if over.load(Ordering::SeqCst) || seat.try_close(rt) {
                 return;
             }
             let _ = seat.take_answer(rt);

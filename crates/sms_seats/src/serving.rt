@@ -23,6 +23,10 @@ const UNKNOWN_TURNS: u32 = 1500;
 // So many turns the other side may take no octets: ten seconds.
 const STALLED_TURNS: u32 = 2000;
 
+// So many turns, of a thousandth of a second each, a guest stays lively after something came of it or for it: it is looked at both
+// ways meanwhile, and after them its wire is waited for.
+const LIVELY_TURNS: u32 = 50;
+
 // So many octets may wait to be sent.
 const MOST_OCTETS: usize = 1_048_576;
 
@@ -42,6 +46,8 @@ enum Leaves {
 struct Patience {
     unknown: u32,
     stalled: u32,
+    // Turns since something came.
+    quiet: u32,
 }
 
 // Takes what the seat is told, and tells whether there was anything.
@@ -128,12 +134,14 @@ fn read<R: Wait, W: Wire, G: Guest>(
     };
     match received {
         Received::Some(count) => {
+            patience.quiet = 0;
             if count <= buffer.len() {
                 guest.take(&buffer[..count])?;
             }
             Ok(count_unknown(guest, patience))
         }
         Received::Nothing if is_busy => {
+            patience.quiet = patience.quiet.saturating_add(1);
             seat.wait(rt, Duration::from_millis(1));
             Ok(Leaves::Stays)
         }
@@ -177,10 +185,15 @@ fn turn<R: Wait, W: Wire, G: Guest>(
         seat.wait(rt, Duration::from_millis(1));
         return Ok(Leaves::Stays);
     }
+    if heard {
+        patience.quiet = 0;
+    }
     if guest.is_over() || heard {
         return Ok(Leaves::Stays);
     }
-    let is_busy = guest.unanswered() > 0 || !guest.octets().is_empty();
+    let is_busy = guest.unanswered() > 0
+        || !guest.octets().is_empty()
+        || patience.quiet < LIVELY_TURNS;
     read(rt, wire, seat, guest, patience, buffer, is_busy)
 }
 
@@ -294,6 +307,7 @@ fn stay<R: Wait, W: Wire, G: Guest, T: Teller>(
     let mut patience = Patience {
         unknown: 0,
         stalled: 0,
+        quiet: LIVELY_TURNS,
     };
     for _ in rt.forever() {
         if over.load(Ordering::SeqCst) {

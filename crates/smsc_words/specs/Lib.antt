@@ -1,2 +1,3 @@
 pub mod HandsetWords
 pub mod Numbers
+pub mod ServerWords

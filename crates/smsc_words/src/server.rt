@@ -2,6 +2,8 @@
 ghost use Rattle.std.specs.Prelude.{◌≡◌, false, map, drop, option_map, slice_get, codes, IfSome, IfOk};
 ghost use Rattle.clap.specs.Words.{app_of, first_value, found_of, rule_of};
 ghost use Rattle.smsc_server.specs.SimWords.{required_option};
+ghost use Rattle.smsc_words.specs.HandsetWords.{is_show, show_command, show_value};
+ghost use Rattle.smsc_words.specs.ServerWords.{AsksOfServer, AsksToLook, AsksToServe, SpelledRun, SpelledServer, listed_words, needed_command, optional_option, port_command, server_command, server_value};
 
 use crate::account::{AccountWords, account_of};
 use crate::fault::fault_of;
@@ -66,7 +68,9 @@ fn required<'a>(alloc: Global, name: &'a str) -> Arg<'a>
 }
 
 // The first options of a run.
-fn port_command<'a>(alloc: Global) -> Result<Command<'a>, AllocError> {
+fn port_command<'a>(alloc: Global) -> Result<Command<'a>, AllocError>
+    ensures { IfOk result (λ command. app_of command ≡ port_command) }
+{
     let command = Command::new(alloc, "smscd")
         .arg(required(alloc, "store"))?
         .arg(required(alloc, "smpp"))?
@@ -74,27 +78,59 @@ fn port_command<'a>(alloc: Global) -> Result<Command<'a>, AllocError> {
     Ok(command)
 }
 
-// The command line of a run.
-fn run_command<'a>(alloc: Global) -> Result<Command<'a>, AllocError> {
-    let accounts = Arg::new(alloc, "accounts")
+fn accounts_option<'a>(alloc: Global) -> Arg<'a>
+    ensures rule { rule_of result ≡ optional_option (codes "accounts") }
+    ensures local { result.global ≡ false }
+{
+    Arg::new(alloc, "accounts")
         .long("accounts")
-        .action(ArgAction::Set);
-    let account = Arg::new(alloc, "account").action(ArgAction::Append);
+        .action(ArgAction::Set)
+}
+
+fn account_words<'a>(alloc: Global) -> Arg<'a>
+    ensures rule { rule_of result ≡ listed_words (codes "account") }
+    ensures local { result.global ≡ false }
+{
+    Arg::new(alloc, "account").action(ArgAction::Append)
+}
+
+// The options that a run must have.
+fn needed_command<'a>(alloc: Global) -> Result<Command<'a>, AllocError>
+    ensures { IfOk result (λ command. app_of command ≡ needed_command) }
+{
     let command = port_command(alloc)?
         .arg(required(alloc, "centre"))?
-        .arg(required(alloc, "sessions"))?
-        .arg(accounts)?
-        .arg(account)?;
+        .arg(required(alloc, "sessions"))?;
+    Ok(command)
+}
+
+// The command line of a run.
+fn run_command<'a>(alloc: Global) -> Result<Command<'a>, AllocError>
+    ensures { IfOk result (λ command. app_of command ≡ server_command) }
+{
+    let command = needed_command(alloc)?
+        .arg(accounts_option(alloc))?
+        .arg(account_words(alloc))?;
     Ok(command)
 }
 
 // The command line of a look at a store.
-fn show_command<'a>(alloc: Global) -> Result<Command<'a>, AllocError> {
+fn show_command<'a>(alloc: Global) -> Result<Command<'a>, AllocError>
+    ensures { IfOk result (λ command. app_of command ≡ show_command) }
+{
     let command = Command::new(alloc, "show").arg(required(alloc, "store"))?;
     Ok(command)
 }
 
-fn options_of<'a>(alloc: Global, matches: &ArgMatches<'a>) -> Result<Options<'a>, AllocError> {
+// The values of the options in the matches of the words.
+fn options_of<'a>(alloc: Global, matches: &ArgMatches<'a>) -> Result<Options<'a>, AllocError>
+    ensures store { IfOk result (λ o. option_map (λ s. s.now) o.store ≡ first_value (found_of matches.now) (codes "store")) }
+    ensures smpp { IfOk result (λ o. option_map (λ s. s.now) o.smpp ≡ first_value (found_of matches.now) (codes "smpp")) }
+    ensures links { IfOk result (λ o. option_map (λ s. s.now) o.links ≡ first_value (found_of matches.now) (codes "links")) }
+    ensures centre { IfOk result (λ o. option_map (λ s. s.now) o.centre ≡ first_value (found_of matches.now) (codes "centre")) }
+    ensures sessions { IfOk result (λ o. option_map (λ s. s.now) o.sessions ≡ first_value (found_of matches.now) (codes "sessions")) }
+    ensures accounts { IfOk result (λ o. option_map (λ s. s.now) o.accounts ≡ first_value (found_of matches.now) (codes "accounts")) }
+{
     let words = match matches.get_strs("account") {
         Some(words) => Vec::from_slice(alloc, words)?,
         None => Vec::new(alloc),
@@ -110,26 +146,31 @@ fn options_of<'a>(alloc: Global, matches: &ArgMatches<'a>) -> Result<Options<'a>
     })
 }
 
-fn run_options<'a>(alloc: Global, words: &'a [&'a str]) -> Result<Options<'a>, WordsFault> {
-    let Ok(command) = run_command(alloc) else {
-        return Err(WordsFault::NoMemory);
-    };
-    match command.try_get_matches_from(words) {
-        Ok(matches) => match options_of(alloc, &matches) {
-            Ok(options) => Ok(options),
-            Err(_) => Err(WordsFault::NoMemory),
-        },
-        Err(error) => Err(fault_of(&error)),
-    }
+fn run_options<'a>(alloc: Global, words: &'a [&'a str]) -> Result<Options<'a>, Error>
+    ensures store { IfOk result (λ o. option_map (λ s. s.now) o.store ≡ server_value (codes "store") (map (λ w. w.now) words.entry.now)) }
+    ensures smpp { IfOk result (λ o. option_map (λ s. s.now) o.smpp ≡ server_value (codes "smpp") (map (λ w. w.now) words.entry.now)) }
+    ensures links { IfOk result (λ o. option_map (λ s. s.now) o.links ≡ server_value (codes "links") (map (λ w. w.now) words.entry.now)) }
+    ensures centre { IfOk result (λ o. option_map (λ s. s.now) o.centre ≡ server_value (codes "centre") (map (λ w. w.now) words.entry.now)) }
+    ensures sessions { IfOk result (λ o. option_map (λ s. s.now) o.sessions ≡ server_value (codes "sessions") (map (λ w. w.now) words.entry.now)) }
+    ensures accounts { IfOk result (λ o. option_map (λ s. s.now) o.accounts ≡ server_value (codes "accounts") (map (λ w. w.now) words.entry.now)) }
+{
+    let command = run_command(alloc)?;
+    let matches = command.try_get_matches_from(words)?;
+    let options = options_of(alloc, &matches)?;
+    Ok(options)
 }
 
-fn shown_store<'a>(alloc: Global, words: &'a [&'a str]) -> Result<Option<&'a str>, Error> {
+fn shown_store<'a>(alloc: Global, words: &'a [&'a str]) -> Result<Option<&'a str>, Error>
+    ensures { IfOk result (λ store. option_map (λ s. s.now) store ≡ show_value (codes "store") (map (λ w. w.now) words.entry.now)) }
+{
     let command = show_command(alloc)?;
     let matches = command.try_get_matches_from(words)?;
     Ok(matches.get_str("store"))
 }
 
-fn run_of<'a>(options: &Options<'a>) -> Option<ServerRun<'a>> {
+fn run_of<'a>(options: &Options<'a>) -> Option<ServerRun<'a>>
+    ensures { IfSome result (λ run. SpelledServer (option_map (λ s. s.now) options.entry.now.store) (option_map (λ s. s.now) options.entry.now.smpp) (option_map (λ s. s.now) options.entry.now.links) (option_map (λ s. s.now) options.entry.now.centre) (option_map (λ s. s.now) options.entry.now.sessions) (option_map (λ s. s.now) options.entry.now.accounts) run) }
+{
     let store = options.store?;
     let smpp = port_of(options.smpp?)?;
     let links = port_of(options.links?)?;
@@ -181,17 +222,35 @@ pub fn add_lines<'a>(
     Ok(())
 }
 
-fn run_asked<'a>(alloc: Global, words: &'a [&'a str]) -> Result<ServerWords<'a>, WordsFault> {
-    let options = run_options(alloc, words)?;
-    let Some(run) = run_of(&options) else {
+// The accounts that all these texts spell.
+fn accounts_of<'a>(alloc: Global, texts: &[&'a str]) -> Result<Vec<AccountWords<'a>>, WordsFault> {
+    let mut accounts = Vec::new(alloc);
+    add_all(&mut accounts, texts)?;
+    Ok(accounts)
+}
+
+fn run_words<'a>(alloc: Global, options: &Options<'a>) -> Result<ServerWords<'a>, WordsFault>
+    ensures { IfOk result (λ asked. SpelledRun (option_map (λ s. s.now) options.entry.now.store) (option_map (λ s. s.now) options.entry.now.smpp) (option_map (λ s. s.now) options.entry.now.links) (option_map (λ s. s.now) options.entry.now.centre) (option_map (λ s. s.now) options.entry.now.sessions) (option_map (λ s. s.now) options.entry.now.accounts) asked) }
+{
+    let Some(run) = run_of(options) else {
         return Err(WordsFault::BadWords);
     };
-    let mut accounts = Vec::new(alloc);
-    add_all(&mut accounts, options.words.as_slice())?;
+    let accounts = accounts_of(alloc, options.words.as_slice())?;
     Ok(ServerWords::Run(run, accounts))
 }
 
-fn show_asked<'a>(alloc: Global, words: &'a [&'a str]) -> Result<ServerWords<'a>, WordsFault> {
+fn run_asked<'a>(alloc: Global, words: &'a [&'a str]) -> Result<ServerWords<'a>, WordsFault>
+    ensures { IfOk result (λ asked. AsksToServe (map (λ w. w.now) words.entry.now) asked) }
+{
+    match run_options(alloc, words) {
+        Ok(options) => run_words(alloc, &options),
+        Err(error) => Err(fault_of(&error)),
+    }
+}
+
+fn show_asked<'a>(alloc: Global, words: &'a [&'a str]) -> Result<ServerWords<'a>, WordsFault>
+    ensures { IfOk result (λ asked. AsksToLook (map (λ w. w.now) words.entry.now) asked) }
+{
     match shown_store(alloc, words) {
         Ok(Some(store)) => Ok(ServerWords::Show { store }),
         Ok(None) => Err(WordsFault::BadWords),
@@ -199,7 +258,9 @@ fn show_asked<'a>(alloc: Global, words: &'a [&'a str]) -> Result<ServerWords<'a>
     }
 }
 
-fn is_show(words: &[&str]) -> bool {
+fn is_show(words: &[&str]) -> bool
+    ensures { result ≡ is_show (option_map (λ w. w.now) (slice_get words.now 1)) }
+{
     match words.get(1) {
         Some(word) => *word == "show",
         None => false,
@@ -212,10 +273,9 @@ fn is_show(words: &[&str]) -> bool {
 /// NUMBER 1 to 20 digits 0 to 9 and N 0 to 4294967295, then perhaps `--accounts FILE`, and up to 32 accounts
 /// `NAME:PASSWORD:NUMBER`, each cut at its first two colons into a name of 1 to 15 and a password of up to 8 ASCII characters and a
 /// NUMBER, no two of one name; or `show --store FILE`. All else is bad words.
-pub fn server_words<'a>(
-    alloc: Global,
-    words: &'a [&'a str],
-) -> Result<ServerWords<'a>, WordsFault> {
+pub fn server_words<'a>(alloc: Global, words: &'a [&'a str]) -> Result<ServerWords<'a>, WordsFault>
+    ensures { IfOk result (AsksOfServer (option_map (λ w. w.now) (slice_get words.entry.now 1)) (map (λ w. w.now) words.entry.now) (map (λ w. w.now) (drop 1 words.entry.now))) }
+{
     if words.len() > 1 && is_show(words) {
         return show_asked(alloc, &words[1..]);
     }
