@@ -1,0 +1,2 @@
+mod NumbersTold
+mod Sittings

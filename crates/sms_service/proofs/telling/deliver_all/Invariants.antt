@@ -1,0 +1,13 @@
+use Rattle.std.proofs.Common.{◌≡◌, ◌++◌, drop}
+use Rattle.sms_centre_rules.specs.Draft.{Core}
+use Rattle.sms_messages.specs.Messages.{message_key}
+use Rattle.sms_standing.specs.Standing.{IsStanding}
+use Rattle.sms_table.specs.Table.{all_applied}
+use Rattle.sms_service.specs.Telling.{receipt_outs}
+use Rattle.sms_service.proofs.telling.deliver_all.Given as goal
+
+abbrev pub invariant-loop-delivery : goal.invariant-loop-delivery
+invariant-loop-delivery l =
+    (c : Core) → IsStanding c l.centre
+    → l.outs.items ++ receipt_outs (all_applied message_key l.planned.plan.changes.messages c.rows.messages) (drop l.delivery-index l.deliveries)
+    ≡ l.initial.outs.items ++ receipt_outs (all_applied message_key l.planned.plan.changes.messages c.rows.messages) l.deliveries

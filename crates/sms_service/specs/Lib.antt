@@ -1,0 +1,6 @@
+pub mod Asking
+pub mod Numbers
+pub mod Room
+pub mod Seats
+pub mod Sitting
+pub mod Telling
