@@ -1,0 +1,4 @@
+pub mod Moments
+pub mod Events
+pub mod Noted
+pub mod Beyond
