@@ -1,5 +1,5 @@
 -- No entry has a number from the next one on.
-use Rattle.std.proofs.Common.{◌≡◌, ℕ, ◌≤◌, List, [], ◌∷◌, Option, Some, None, Result, Err, sym, ◌∙◌, ap, refl, arith}
+use Rattle.std.proofs.Common.{◌≡◌, ℕ, ◌≤◌, List, [], ◌∷◌, Option, Some, None, Err, ◌∙◌, ap, refl, arith}
 use Rattle.std.proofs.lemmas.Bool.{cond-false, ne_eqb}
 use Rattle.std.specs.Prelude.{◌==◌}
 use Rattle.sms_inbox.specs.SoundInbox.{AreEntries}
@@ -9,11 +9,10 @@ use Rattle.sms_outbox.specs.SoundOutbox.{AreOutEntries}
 use Rattle.sms_outbox.specs.Keys.{out_key}
 use Rattle.sms_outbox.specs.declared.out_entry.OutEntry.{OutEntry}
 use Rattle.sms_table.specs.Table.{row_at}
-use Rattle.sms_handset_draft.specs.Draft.{Core, Draft, draft_of}
+use Rattle.sms_handset_draft.specs.Draft.{Core, draft_of}
 use Rattle.sms_handset.specs.HandsetEvent.{acted, deleted, discarded}
 use Rattle.sms_handset.specs.OwnersActs.{delete_in, delete_out, discard_at}
 use Rattle.sms_handset.specs.SoundRows.{IsSound}
-use Rattle.sms_handset.specs.declared.refusal.Refusal.{Refusal}
 use Rattle.sms_handset.specs.declared.refusal.Refusal.TheVariants.{NoEntry}
 
 no_entry : (next n : ℕ) (entries : List Entry) → AreEntries next entries → next ≤ n → row_at entry_key n entries ≡ None

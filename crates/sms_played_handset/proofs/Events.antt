@@ -1,8 +1,8 @@
 -- What a handset's events have in common, from event to event.
-use Rattle.std.proofs.Common.{◌≡◌, ℕ, List, ◌++◌, Bool, Result, Ok, Err, sym, ◌∙◌, ap, subst, append_assoc, refl}
+use Rattle.std.proofs.Common.{◌≡◌, ℕ, List, ◌++◌, Bool, Result, Ok, Err, sym, ◌∙◌, ap, subst, append_assoc}
 use Rattle.std.specs.Prelude.{IfOk, OnOk}
 use Rattle.sms_base.specs.declared.holder.Holder.{Holder}
-use Rattle.sms_handset_draft.specs.Draft.{Core, Draft, core_of, rows_after}
+use Rattle.sms_handset_draft.specs.Draft.{Core, Draft, core_of}
 use Rattle.sms_handset_draft.specs.declared.rows.Rows.{Rows}
 use Rattle.sms_handset_draft.specs.Outcome.{Outcome, outcome_of}
 use Rattle.sms_handset.specs.HandsetEvent.{deleted, discarded, frame_came, ticked, wrote}

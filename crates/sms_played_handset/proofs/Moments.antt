@@ -1,5 +1,5 @@
 -- Through all stages but a tick's first the draft's moment is as it was.
-use Rattle.std.proofs.Common.{◌≡◌, List, sym, ◌∙◌, ap, ℕ, [], ◌∷◌, Option, Some, None, ◌++◌, true, Result, Ok, Err, false, Bool, refl}
+use Rattle.std.proofs.Common.{◌≡◌, List, ℕ, [], ◌∷◌, Option, Some, None, ◌++◌, true, Result, Ok, Err, false, Bool, refl}
 use Rattle.std.proofs.lemmas.Bool.{cond_both}
 use Rattle.std.specs.Prelude.{max, ◌+◌, ◌%◌, nat_lt, length, ◌==◌}
 use Rattle.sms_base.specs.declared.holder.Holder.{Holder}
@@ -7,8 +7,7 @@ use Rattle.sms_base.specs.declared.holder.Holder.TheVariants.{Part as PartHolder
 use Rattle.sms_base.specs.declared.address.Address.{Address}
 use Rattle.sms_base.specs.declared.address_error.AddressError.{AddressError}
 use Rattle.sms_base.specs.Address.{address_of}
-use Rattle.sms_table.specs.Table.{put, without, row_at}
-use Rattle.sms_table.specs.declared.change.Change.TheVariants.{Put, Remove}
+use Rattle.sms_table.specs.Table.{row_at}
 use Rattle.sms_concat.specs.declared.content.Content.{Content}
 use Rattle.sms_concat.specs.declared.concat_key.ConcatKey.{ConcatKey}
 use Rattle.sms_concat.specs.declared.content.Part.{Part as PartOf}
@@ -31,7 +30,7 @@ use Rattle.sms_tpdu.specs.declared.fault.TpduFault.{TpduFault}
 use Rattle.sms_tpdu.specs.declared.carrier.Carrier.TheVariants.{InData}
 use Rattle.sms_tpdu.specs.TpduReading.{down_at}
 use Rattle.sms_inbox.specs.declared.entry.Entry.{Entry}
-use Rattle.sms_inbox.specs.Keys.{entry_key, last_key, mark_key}
+use Rattle.sms_inbox.specs.Keys.{entry_key, last_key}
 use Rattle.sms_inbox.specs.declared.last_accepted.LastAccepted.{LastAccepted}
 use Rattle.sms_inbox.specs.declared.discarded_group.DiscardedGroup.{DiscardedGroup}
 use Rattle.sms_inbox.specs.Groups.{alone, joined_entry, all_numbers, joined_content, part_numbers, single_entry, part_entry, is_among, members, group_of, mark_of, key_of, is_open_part, first_number}
@@ -48,8 +47,7 @@ use Rattle.sms_outbox.specs.Settling.{settled, is_sending, lost}
 use Rattle.sms_outbox.specs.Offers.{first_due, first_fired}
 use Rattle.sms_outbox.specs.References.{held_references, next_free, is_unfinished}
 use Rattle.sms_concat.specs.TextContent.{content_of_text}
-use Rattle.sms_handset_draft.specs.declared.rows.Rows.{Rows}
-use Rattle.sms_handset_draft.specs.Draft.{Draft, rows_after, put_entry, remove_entry, put_last, put_out, remove_out, put_mark, remove_mark, put_counters, Core, draft_of, link_of, with_turn}
+use Rattle.sms_handset_draft.specs.Draft.{Draft, put_entry, remove_entry, put_last, put_out, remove_out, put_mark, remove_mark, put_counters, Core, draft_of, link_of, with_turn}
 use Rattle.sms_handset_draft.specs.declared.counters.Counters.{Counters}
 use Rattle.sms_handset_draft.specs.Storing.{drop_all, free_all, ended, completed, store_single, store_part, marked}
 use Rattle.sms_handset_draft.specs.Receiving.{accept, no_room, single_came, new_part_came, member_came, part_came, deliver_came, note, tpdu_came, acknowledge, data_came, unit_came}

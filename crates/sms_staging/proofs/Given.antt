@@ -1,15 +1,13 @@
 -- What is noted change by change is what the definition tells of all changes.
 use Rattle.std.proofs.Common.{◌≡◌, ℕ, List, [], ◌∷◌, ◌++◌, ap, refl}
-use Rattle.sms_base.specs.declared.holder.Holder.TheVariants.{Part}
 use Rattle.sms_messages.specs.declared.message.MessageRow.{MessageRow}
 use Rattle.sms_messages.specs.declared.part.PartRow.{PartRow}
 use Rattle.sms_messages.specs.Messages.{message_at}
 use Rattle.sms_reports.specs.declared.report.ReportRow.{ReportRow}
 use Rattle.sms_waiting.specs.declared.revision.Revision.{Revision}
 use Rattle.sms_waiting.specs.declared.revision.Revision.TheVariants.{Put, Amend, Remove}
-use Rattle.sms_report.specs.declared.rows.Direction.TheVariants.{Down}
 use Rattle.sms_report.specs.declared.rows.GivenRow.{GivenRow}
-use Rattle.sms_play.specs.CentreSide.{destination_in, parts_given, report_given, reports_given, source_in}
+use Rattle.sms_play.specs.CentreSide.{parts_given, report_given, reports_given, source_in}
 use Rattle.sms_staging.specs.Numbering.{each, part_of, report_of}
 
 pub parts_each : (moment : ℕ) (messages : List MessageRow) (changes : List (Revision PartRow)) → each (part_of moment messages) changes ≡ parts_given moment messages changes
