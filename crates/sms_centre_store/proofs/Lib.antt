@@ -1,7 +1,6 @@
 pub mod BodiesRead
 pub mod Loading
 pub mod Openings
-pub mod Raising
 pub mod Renaming
 pub mod TablesMade
 pub mod Turning

@@ -11,7 +11,7 @@ use Rattle.sms_listing.specs.Inside.{Alters, Ran}
 use Rattle.sms_listing.specs.Listing.{ListOf, Holds}
 use Rattle.sms_listing.specs.Transaction.{Leads}
 use Rattle.sms_listing.proofs.Making.{makes}
-use Rattle.sms_centre_tables.specs.CentreSchema.{with_meta, with_message, with_part, with_reference, with_handset, first_schema, centre_schema, create_meta, create_message, create_part, create_reference, create_handset, create_report, create_priority, meta_made, message_made, part_made, reference_made, handset_made, report_made, priority_made, adds_meta, adds_message, adds_part, adds_reference, adds_handset, adds_report, adds_priority}
+use Rattle.sms_centre_tables.specs.CentreSchema.{with_meta, with_message, with_part, with_reference, with_handset, first_schema, centre_schema, create_meta, create_message, create_part, create_reference, create_handset, create_report, meta_made, message_made, part_made, reference_made, handset_made, report_made, adds_meta, adds_message, adds_part, adds_reference, adds_handset, adds_report}
 use Rattle.sms_centre_tables.specs.MetaList.{meta_list}
 use Rattle.sms_centre_tables.specs.MessageList.{message_list}
 use Rattle.sms_centre_tables.specs.PartList.{part_list}
@@ -19,9 +19,12 @@ use Rattle.sms_centre_tables.specs.ReferenceList.{reference_list}
 use Rattle.sms_centre_tables.specs.HandsetList.{handset_list}
 use Rattle.sms_centre_tables.specs.ReportList.{report_list}
 use Rattle.sms_centre_tables.specs.PriorityList.{priority_list}
-use Rattle.sms_centre_store.specs.CentreRows.{centre_meta, Founds}
-use Rattle.sms_centre_store.specs.Founding.{HasFirst, HasNext, MakesFirst, MakesNext, MakesPriority, Tabulates, Declares}
-use Rattle.sms_centre_store.proofs.Turning.{other, free_2, free_4, free_6, free_8, free_10, free_12}
+use Rattle.sms_centre_migration.specs.Versions.{centre_meta}
+use Rattle.sms_centre_store.specs.CentreRows.{Founds}
+use Rattle.sms_centre_migration.specs.Migrating.{MakesPriority}
+use Rattle.sms_centre_migration.proofs.Apart.{free_2, free_4, free_6, free_8, free_10, free_12}
+use Rattle.sms_centre_store.specs.Founding.{HasFirst, HasNext, MakesFirst, MakesNext, Tabulates, Declares}
+use Rattle.sms_centre_store.proofs.Turning.{other}
 
 -- one step after another
 pub leads_then : (P Q R : Database → Database → Type 0) (a b c : State) → ((x y z : Database) → P x y → Q y z → R x z) → Leads P a b → Leads Q b c → Leads R a c
@@ -29,9 +32,6 @@ leads_then P Q R a b c both p q = record {
   inside = record { was_open = p.inside.was_open; is_open = q.inside.is_open; now_is = refl; committed_is = q.inside.committed_is ∙ p.inside.committed_is; mode = q.inside.mode };
   changed = both _ _ _ p.changed q.changed;
 }
-
-pub ran_leads : (P : Database → Database → Type 0) (sql : List ℕ) (params : Row) (a b : State) → (Ran sql params a b → P a.now b.now) → Ran sql params a b → Leads P a b
-ran_leads P sql params a b turn h = record { inside = h.inside; changed = turn h }
 
 pub first_made : (a b c d : State) → Ran create_meta [] a b → Ran create_message [] b c → Ran create_part [] c d → MakesFirst a.now d.now
 first_made a b c d p q r has =
@@ -57,9 +57,6 @@ next_made a b c d p q r has first =
         reports = three.empty;
       },
     )
-
-pub priority_table_made : (a b : State) → Ran create_priority [] a b → MakesPriority a.now b.now
-priority_table_made a b p has = makes create_priority priority_made first_schema centre_schema adds_priority a b p has
 
 abbrev pub MakesBoth : Database → Database → Type 0
 MakesBoth before after = before.schema ≡ no_tables → (after.schema ≡ first_schema) × HasFirst after × HasNext after

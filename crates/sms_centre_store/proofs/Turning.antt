@@ -8,6 +8,7 @@ use Rattle.sms_listing.specs.Inside.{Alters}
 use Rattle.sms_listing.specs.Listing.{ListOf, Holds}
 use Rattle.sms_listing.specs.Transaction.{Leads, IsOfOne}
 use Rattle.sms_listing.proofs.Once.{holds_once}
+use Rattle.sms_centre_migration.proofs.Apart.{free_0, free_2, free_4, free_6, free_8, free_10, free_12}
 use Rattle.sms_centre_tables.specs.CentreSchema.{centre_schema}
 use Rattle.sms_centre_tables.specs.MetaList.{meta_list}
 use Rattle.sms_centre_tables.specs.MessageList.{message_list, message_is_list}
@@ -16,7 +17,8 @@ use Rattle.sms_centre_tables.specs.ReferenceList.{reference_list, reference_is_l
 use Rattle.sms_centre_tables.specs.HandsetList.{handset_list, handset_is_list}
 use Rattle.sms_centre_tables.specs.ReportList.{report_list, report_is_list}
 use Rattle.sms_centre_tables.specs.PriorityList.{priority_list, priority_is_list}
-use Rattle.sms_centre_store.specs.CentreRows.{IsStoreWith, Turns, centre_meta}
+use Rattle.sms_centre_migration.specs.Versions.{centre_meta}
+use Rattle.sms_centre_store.specs.CentreRows.{IsStoreWith, Turns}
 use Rattle.sms_centre_store.specs.Types.{Rows, Changes, rows_after, Setup, MessageRow, PartRow, ReferenceRow, HandsetRow, ReportRow, PriorityRow}
 
 -- one step after another
@@ -25,28 +27,6 @@ turns_then a b c f g p q = record {
   inside = record { was_open = p.inside.was_open; is_open = q.inside.is_open; now_is = refl; committed_is = q.inside.committed_is ∙ p.inside.committed_is; mode = q.inside.mode };
   changed = λ rows h. q.changed (f rows) (p.changed rows h);
 }
-
--- no table stands where an index does
-pub free_0 : IsNoIndex centre_schema 0
-free_0 = (λ (e : 1 ≡ 0). omega (arith, e), (λ (e : 3 ≡ 0). omega (arith, e), (λ (e : 5 ≡ 0). omega (arith, e), (λ (e : 7 ≡ 0). omega (arith, e), (λ (e : 9 ≡ 0). omega (arith, e), (λ (e : 11 ≡ 0). omega (arith, e), (λ (e : 13 ≡ 0). omega (arith, e), tt)))))))
-
-pub free_2 : IsNoIndex centre_schema 2
-free_2 = (λ (e : 1 ≡ 2). omega (arith, e), (λ (e : 3 ≡ 2). omega (arith, e), (λ (e : 5 ≡ 2). omega (arith, e), (λ (e : 7 ≡ 2). omega (arith, e), (λ (e : 9 ≡ 2). omega (arith, e), (λ (e : 11 ≡ 2). omega (arith, e), (λ (e : 13 ≡ 2). omega (arith, e), tt)))))))
-
-pub free_4 : IsNoIndex centre_schema 4
-free_4 = (λ (e : 1 ≡ 4). omega (arith, e), (λ (e : 3 ≡ 4). omega (arith, e), (λ (e : 5 ≡ 4). omega (arith, e), (λ (e : 7 ≡ 4). omega (arith, e), (λ (e : 9 ≡ 4). omega (arith, e), (λ (e : 11 ≡ 4). omega (arith, e), (λ (e : 13 ≡ 4). omega (arith, e), tt)))))))
-
-pub free_6 : IsNoIndex centre_schema 6
-free_6 = (λ (e : 1 ≡ 6). omega (arith, e), (λ (e : 3 ≡ 6). omega (arith, e), (λ (e : 5 ≡ 6). omega (arith, e), (λ (e : 7 ≡ 6). omega (arith, e), (λ (e : 9 ≡ 6). omega (arith, e), (λ (e : 11 ≡ 6). omega (arith, e), (λ (e : 13 ≡ 6). omega (arith, e), tt)))))))
-
-pub free_8 : IsNoIndex centre_schema 8
-free_8 = (λ (e : 1 ≡ 8). omega (arith, e), (λ (e : 3 ≡ 8). omega (arith, e), (λ (e : 5 ≡ 8). omega (arith, e), (λ (e : 7 ≡ 8). omega (arith, e), (λ (e : 9 ≡ 8). omega (arith, e), (λ (e : 11 ≡ 8). omega (arith, e), (λ (e : 13 ≡ 8). omega (arith, e), tt)))))))
-
-pub free_10 : IsNoIndex centre_schema 10
-free_10 = (λ (e : 1 ≡ 10). omega (arith, e), (λ (e : 3 ≡ 10). omega (arith, e), (λ (e : 5 ≡ 10). omega (arith, e), (λ (e : 7 ≡ 10). omega (arith, e), (λ (e : 9 ≡ 10). omega (arith, e), (λ (e : 11 ≡ 10). omega (arith, e), (λ (e : 13 ≡ 10). omega (arith, e), tt)))))))
-
-pub free_12 : IsNoIndex centre_schema 12
-free_12 = (λ (e : 1 ≡ 12). omega (arith, e), (λ (e : 3 ≡ 12). omega (arith, e), (λ (e : 5 ≡ 12). omega (arith, e), (λ (e : 7 ≡ 12). omega (arith, e), (λ (e : 9 ≡ 12). omega (arith, e), (λ (e : 11 ≡ 12). omega (arith, e), (λ (e : 13 ≡ 12). omega (arith, e), tt)))))))
 
 module _ {X : Type 0} (l : ListOf X) (here : l.table.schema ≡ centre_schema) (change : List X → List X) (old new : State) (alters : Alters l change old new) where
   -- every other list is as it was

@@ -2,9 +2,8 @@
 use Rattle.std.specs.Prelude.{◌≡◌, []}
 use Rattle.sqlite.specs.Effect.{Database}
 use Rattle.sms_centre_tables.specs.CentreSchema.{with_part, first_schema, centre_schema}
-use Rattle.sms_listing.specs.Making.{Makes}
 use Rattle.sms_schema.specs.Blank.{no_tables}
-use Rattle.sms_centre_store.specs.CentreRows.{IsStore}
+use Rattle.sms_centre_migration.specs.Versions.{IsStore}
 use Rattle.sms_centre_store.specs.Types.{Setup, first_rows}
 
 -- the first three tables, without rows
@@ -24,10 +23,6 @@ MakesFirst before after = before.schema ≡ no_tables → (after.schema ≡ with
 
 abbrev pub MakesNext : Database → Database → Type 0
 MakesNext before after = before.schema ≡ with_part → HasFirst before → (after.schema ≡ first_schema) × HasFirst after × HasNext after
-
--- the last one, which version 1 lacks
-abbrev pub MakesPriority : Database → Database → Type 0
-MakesPriority before after = before.schema ≡ first_schema → Makes first_schema centre_schema before after
 
 abbrev pub Tabulates : Database → Database → Type 0
 Tabulates before after = before.schema ≡ no_tables → (after.schema ≡ centre_schema) × HasFirst after × HasNext after × (after.trees 12 ≡ [])

@@ -6,7 +6,8 @@ ghost use Rattle.sms_listing.specs.Transaction.{Leads};
 ghost use Rattle.sms_centre_store.specs.CentreRows.{Founds};
 ghost use Rattle.sms_centre_store.specs.Founding.{Declares, Tabulates};
 
-use crate::tables::{make_first_tables, make_next_tables, make_priority_table};
+use crate::tables::{make_first_tables, make_next_tables};
+use sms_centre_migration::make_priority_table;
 use sms_centre_tables::CentreStore;
 use sms_listing::{Meta, StoreKind, Work, put};
 use sqlite::{Alter, Error, Transaction};

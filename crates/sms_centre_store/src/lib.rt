@@ -16,5 +16,5 @@ mod said;
 mod tables;
 
 pub use keep::CentreKeep;
-pub use migrating::raise;
 pub use opening::in_memory;
+pub use sms_centre_migration::raise;

@@ -3,7 +3,7 @@ ghost use Rattle.std.specs.Prelude.{◌≡◌};
 ghost use Rattle.sqlite.specs.Held.{state};
 ghost use Rattle.sms_listing.specs.Inside.{Goes, Keeps, Spares};
 ghost use Rattle.sms_listing.specs.Transaction.{Leads};
-ghost use Rattle.sms_centre_store.specs.Founding.{MakesFirst, MakesNext, MakesPriority};
+ghost use Rattle.sms_centre_store.specs.Founding.{MakesFirst, MakesNext};
 
 use sms_listing::run;
 use sqlite::{Alter, Error, Transaction};
@@ -50,19 +50,6 @@ pub(crate) fn make_next_tables<S: Alter>(tx: &mut Transaction<'_, S>) -> Result<
     run(
         tx,
         "CREATE TABLE report (place INTEGER NOT NULL, message INTEGER NOT NULL, kind TEXT NOT NULL, reference INTEGER, tpdu BLOB, made INTEGER NOT NULL, is_done INTEGER NOT NULL, attempts INTEGER NOT NULL, due INTEGER NOT NULL, UNIQUE (place)) STRICT",
-        &[],
-    )
-}
-
-pub(crate) fn make_priority_table<S: Alter>(tx: &mut Transaction<'_, S>) -> Result<(), Error>
-    ensures same_reference { tx.new.conn.ghost_name ≡ tx.old.conn.ghost_name }
-    ensures done { Goes S.Store tx.old.conn.now tx.new.conn.now (Leads MakesPriority) result }
-    ensures kept { Keeps S.Store tx.old.conn.now tx.new.conn.now }
-    ensures survives { Spares S.Store tx.old.conn.now tx.new.conn.now }
-{
-    run(
-        tx,
-        "CREATE TABLE priority (message INTEGER NOT NULL, priority INTEGER NOT NULL, UNIQUE (message)) STRICT",
         &[],
     )
 }

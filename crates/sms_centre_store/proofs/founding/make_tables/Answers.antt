@@ -2,7 +2,8 @@ use Rattle.std.proofs.Common.{arith}
 use Rattle.sqlite.specs.State.{HasCleanDisk}
 use Rattle.sqlite.specs.Held.{state}
 use Rattle.sms_listing.proofs.Steps.{ok_then}
-use Rattle.sms_centre_store.specs.Founding.{MakesFirst, MakesNext, MakesPriority, Tabulates}
+use Rattle.sms_centre_migration.specs.Migrating.{MakesPriority}
+use Rattle.sms_centre_store.specs.Founding.{MakesFirst, MakesNext, Tabulates}
 use Rattle.sms_centre_store.proofs.TablesMade.{leads_then, MakesBoth, both_made, tables_made}
 use Rattle.sms_centre_store.proofs.founding.make_tables.Goals as goal
 

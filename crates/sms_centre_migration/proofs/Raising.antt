@@ -37,8 +37,8 @@ use Rattle.sms_table.specs.Table.{Rises}
 use Rattle.sms_centre_tables.specs.CentreSchema.{centre_schema}
 use Rattle.sms_centre_tables.specs.MessageList.{message_list, message_is_list}
 use Rattle.sms_centre_tables.specs.PriorityList.{priority_list, priority_is_list, priority_table}
-use Rattle.sms_centre_store.specs.Migrating.{Ranks, lowest}
-use Rattle.sms_centre_store.specs.Types.{MessageRow, PriorityRow}
+use Rattle.sms_centre_migration.specs.Migrating.{Ranks, lowest}
+use Rattle.sms_centre_migration.specs.Types.{MessageRow, PriorityRow}
 
 -- ---- many rows come under rowids of their own
 

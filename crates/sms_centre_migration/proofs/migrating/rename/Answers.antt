@@ -2,8 +2,8 @@ use Rattle.std.proofs.Common.{arith, refl, ◌∙◌}
 use Rattle.sqlite.specs.State.{HasCleanDisk}
 use Rattle.sqlite.specs.Held.{state}
 use Rattle.sms_listing.proofs.Steps.{ok_then}
-use Rattle.sms_centre_store.proofs.Renaming.{renames}
-use Rattle.sms_centre_store.proofs.migrating.rename.Goals as goal
+use Rattle.sms_centre_migration.proofs.Renaming.{renames}
+use Rattle.sms_centre_migration.proofs.migrating.rename.Goals as goal
 
 pub returns-clause-done : goal.returns-clause-done
 returns-clause-done g c clean live inside =

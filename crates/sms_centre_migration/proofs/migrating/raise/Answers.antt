@@ -1,6 +1,6 @@
 use Rattle.sqlite.specs.Held.{state}
-use Rattle.sms_centre_store.proofs.Renaming.{stop_raises}
-use Rattle.sms_centre_store.proofs.migrating.raise.Goals as goal
+use Rattle.sms_centre_migration.proofs.Renaming.{stop_raises}
+use Rattle.sms_centre_migration.proofs.migrating.raise.Goals as goal
 
 pub returns-in-Ok-clause-stop : goal.returns-in-Ok-clause-stop
 returns-in-Ok-clause-stop g c clean rows kept left may =

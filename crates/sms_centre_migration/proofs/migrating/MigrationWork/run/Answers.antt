@@ -2,8 +2,8 @@ use Rattle.std.proofs.Common.{arith, refl, ◌∙◌}
 use Rattle.sqlite.specs.State.{HasCleanDisk}
 use Rattle.sqlite.specs.Held.{state}
 use Rattle.sms_listing.proofs.Steps.{ok_then}
-use Rattle.sms_centre_store.proofs.Renaming.{migrates}
-use Rattle.sms_centre_store.proofs.migrating.MigrationWork.run.Goals as goal
+use Rattle.sms_centre_migration.proofs.Renaming.{migrates}
+use Rattle.sms_centre_migration.proofs.migrating.MigrationWork.run.Goals as goal
 
 pub returns-clause-done : goal.returns-clause-done
 returns-clause-done g c clean live inside =

@@ -1,0 +1,4 @@
+pub mod Apart
+pub mod PriorityMade
+pub mod Raising
+pub mod Renaming

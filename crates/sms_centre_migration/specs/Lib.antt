@@ -1,0 +1,3 @@
+pub mod Migrating
+pub mod Types
+pub mod Versions
