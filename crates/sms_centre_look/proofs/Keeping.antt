@@ -2,7 +2,8 @@
 use Rattle.std.proofs.Common.{◌≡◌, sym, subst}
 use Rattle.sqlite.specs.State.{State}
 use Rattle.sms_listing.specs.Transaction.{IsKept}
-use Rattle.sms_centre_store.specs.CentreRows.{IsStore, IsStoreWith}
+use Rattle.sms_centre_migration.specs.Versions.{IsStore}
+use Rattle.sms_centre_store.specs.CentreRows.{IsStoreWith}
 use Rattle.sms_centre_store.specs.Types.{Rows, Setup}
 
 pub still : (setup : Setup) (s : State) (rows : Rows) → IsKept (IsStoreWith setup) s rows → IsKept IsStore s rows

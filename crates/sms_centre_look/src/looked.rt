@@ -2,7 +2,8 @@
 ghost use Rattle.std.specs.Prelude.{◌≡◌, IfOk};
 ghost use Rattle.sqlite.specs.Held.{state};
 ghost use Rattle.sqlite.specs.State.{HasCleanDisk};
-ghost use Rattle.sms_centre_store.specs.CentreRows.{IsStore, IsStoreWith};
+ghost use Rattle.sms_centre_migration.specs.Versions.{IsStore};
+ghost use Rattle.sms_centre_store.specs.CentreRows.{IsStoreWith};
 ghost use Rattle.sms_centre_store.specs.Opened.{Opened};
 ghost use Rattle.sms_centre_store.specs.Types.{Rows as RowsOf};
 ghost use Rattle.sms_listing.specs.Transaction.{IsKept};

@@ -2,7 +2,7 @@ use Rattle.std.proofs.Common.{◌≡◌, sym, subst}
 use Rattle.sqlite.specs.Held.{state}
 use Rattle.sqlite.specs.State.{HasCleanDisk}
 use Rattle.sms_listing.specs.Transaction.{IsKept}
-use Rattle.sms_centre_store.specs.CentreRows.{IsStore}
+use Rattle.sms_centre_migration.specs.Versions.{IsStore}
 use Rattle.sms_centre_look.proofs.Keeping.{still}
 use Rattle.sms_centre_look.proofs.looked.look_in.Goals as goal
 
