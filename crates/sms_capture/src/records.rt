@@ -24,7 +24,7 @@ pub struct CapturedFrame<'a> {
     pub octets: OctetView<'a>,
 }
 
-/// A PDU in the session of an application, at most 65,495 octets.
+/// A PDU of an application, or to it, at most 65,495 octets.
 #[derive(Debug, Drop)]
 pub struct CapturedPdu<'a> {
     pub moment: Moment,
@@ -32,9 +32,9 @@ pub struct CapturedPdu<'a> {
     pub application: u16,
     /// Whether the application sent it.
     pub is_up: bool,
-    /// How many octets its sender sent in this session before.
+    /// How many octets its sender had sent over the connection before.
     pub sent: u32,
-    /// How many octets its sender was sent in this session.
+    /// How many octets its sender was sent over the connection.
     pub received: u32,
     pub octets: OctetView<'a>,
 }
