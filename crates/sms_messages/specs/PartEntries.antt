@@ -7,7 +7,6 @@ use Rattle.sms_table.specs.Pending.{PendingOf, changed, rows_in}
 use Rattle.sms_table.specs.Table.{Rises, row_at}
 use Rattle.sms_messages.specs.declared.part.PartRow.{PartRow}
 use Rattle.sms_messages.specs.declared.parts.PartEntry.{PartEntry}
-use Rattle.sms_messages.specs.declared.parts.SettledParts.{SettledParts}
 use Rattle.sms_messages.specs.Messages.{part_key, part_reaching}
 use Rattle.sms_waiting.specs.declared.progress.Progress.{Progress}
 use Rattle.sms_waiting.specs.declared.revision.Revision.{Revision}
@@ -39,10 +38,6 @@ amending entry progress p = record {
   entries = changed (PutRow (entry_reaching progress entry)) p.entries;
   changes = p.changes ++ Amend (entry_key entry) progress ∷ [];
 }
-
--- what is settled are these changes
-abbrev pub settles : PartsOf → SettledParts → Type 0
-settles p s = (s.entries.changes ≡ p.entries.changes) × (s.changes.items ≡ p.changes)
 
 -- ---- what of a message is done
 

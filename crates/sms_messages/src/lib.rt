@@ -14,5 +14,5 @@ mod priority;
 
 pub use message::MessageRow;
 pub use part::PartRow;
-pub use parts::{PartEntry, PendingParts, SettledParts};
+pub use parts::PartEntry;
 pub use priority::PriorityRow;
