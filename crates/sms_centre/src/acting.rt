@@ -13,12 +13,12 @@ ghost use Rattle.sms_standing.specs.Standing.{IsStanding};
 ghost use Rattle.sms_working.specs.Working.{Shows};
 
 use smpp_pdu::{CancelSm, Message, QuerySm};
-use sms_answering::{Came, frame_refused, frame_taken};
 use sms_base::{Digits, Holder, MessageId, Moment};
 use sms_centre_rules::CentreEvent;
-use sms_requests::{Asked, bind, cancel, query, submit, submit_refused};
+use sms_events::{
+    Asked, Came, bind, cancel, frame_refused, frame_taken, query, submit, submit_refused, tick,
+};
 use sms_standing::Standing;
-use sms_ticking::tick;
 use sms_working::Working;
 use std::alloc::AllocError;
 

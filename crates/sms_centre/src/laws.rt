@@ -20,6 +20,8 @@ ghost use Rattle.sms_centre_rules.specs.declared.event.CentreEvent.TheVariants.{
 ghost use Rattle.sms_planned.specs.declared.planned.Planned.{Planned};
 ghost use Rattle.sms_planned.specs.Planned.{IsPlanned};
 
+pub use sms_standing::laws::what_stands_is_known;
+
 /// What happens to a centre at each kind of event, by the definition's own name for it.
 pub fn each_event_is_of_a_kind()
     ensures submit { (account : ℕ) (message : Message) (c : Core) → happened (Submit account message) c ≡ submit_came account message c }

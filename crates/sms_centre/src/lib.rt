@@ -19,4 +19,5 @@ pub use centre::Centre;
 pub use planned::Planned;
 pub use sms_centre_rules::{CentreAnswer, CentreEvent, Changes, PlanError, Rows, Setup};
 pub use sms_planned::Told;
+pub use sms_sessions::Seat;
 pub use sms_standing::{RecoverError, first_rows};

@@ -8,10 +8,8 @@ use Rattle.sms_centre_rules.specs.declared.rows.Rows.{Rows}
 use Rattle.sms_centre_rules.specs.CentreEvent.{happened}
 use Rattle.sms_centre_rules.specs.Draft.{Core, Draft, core_of, rows_after}
 use Rattle.sms_centre_rules.proofs.Resting.{happened_rests}
+use Rattle.sms_centre.specs.FromBelow.{Goes, IsPlanned, Planned}
 use Rattle.sms_centre.specs.Planning.{PlannedOf}
-use Rattle.sms_offering.specs.Going.{Goes}
-use Rattle.sms_planned.specs.declared.planned.Planned.{Planned}
-use Rattle.sms_planned.specs.Planned.{IsPlanned}
 use Rattle.sms_centre_machine.specs.Stepping.{PlansStep, step_error_of}
 
 pub goes_on : (d : Draft) (keys : List ℕ) (held closed : Type 0) (before refused : Option ℕ) (p : PlannedOf) → Goes (λ (x : PlannedOf). IsPlanned d x.plan) keys held closed before refused (Ok p) → PlansStep held closed d (Ok p)

@@ -1,3 +1,4 @@
+pub mod FromBelow
 pub mod Starting
 pub mod Stepping
 pub mod Storing

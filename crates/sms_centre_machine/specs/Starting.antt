@@ -1,6 +1,5 @@
 -- Why a centre does not start.
-use Rattle.sms_standing.specs.declared.recover_error.RecoverError.{RecoverError}
-use Rattle.sms_standing.specs.declared.recover_error.RecoverError.TheVariants.{BadRows as BadRecover, NoMemory as NoRecover}
+use Rattle.sms_centre.specs.FromBelow.{RecoverError, BadRows as BadRecover, NoMemory as NoRecover}
 use Rattle.sms_centre_machine.specs.declared.start_error.StartError.{StartError}
 use Rattle.sms_centre_machine.specs.declared.start_error.StartError.TheVariants.{BadRows, NoMemory}
 

@@ -3,8 +3,8 @@ use Rattle.std.specs.Prelude.{◌⊎◌, Result, Ok, Err}
 use Rattle.sms_centre_rules.specs.declared.plan_error.PlanError.{PlanError}
 use Rattle.sms_centre_rules.specs.declared.plan_error.PlanError.TheVariants.{NoBody as NoPlanBody, NoMemory as NoPlanMemory}
 use Rattle.sms_centre_rules.specs.Draft.{Draft}
+use Rattle.sms_centre.specs.FromBelow.{IsPlanned}
 use Rattle.sms_centre.specs.Planning.{PlannedOf}
-use Rattle.sms_planned.specs.Planned.{IsPlanned}
 use Rattle.sms_centre_machine.specs.declared.step_error.StepError.{StepError}
 use Rattle.sms_centre_machine.specs.declared.step_error.StepError.TheVariants.{NoMemory, NoBody, Store}
 

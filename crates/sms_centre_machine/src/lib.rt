@@ -14,5 +14,6 @@ mod step_error;
 
 pub use centre_store::CentreStore;
 pub use machine::CentreMachine;
+pub use sms_centre::{Centre, CentreAnswer, CentreEvent, Planned, Rows, Seat, Setup};
 pub use start_error::StartError;
 pub use step_error::StepError;

@@ -1,13 +1,12 @@
 //! A centre and the keep of its rows.
 ghost use Rattle.std.specs.Prelude.{◌≡◌, ◌⊎◌, IsTrue, IfOk, OnErr, OnOk};
+ghost use Rattle.sms_centre.specs.FromBelow.{IsPlanned, IsStanding};
 ghost use Rattle.sms_centre.specs.Planning.{Fits};
 ghost use Rattle.sms_centre_rules.specs.CentreEvent.{happened};
 ghost use Rattle.sms_centre_rules.specs.Draft.{Core, core_of, rows_after};
 ghost use Rattle.sms_centre_rules.specs.SoundCore.{HasNumber, IsEvent};
 ghost use Rattle.sms_centre_rules.specs.declared.event.CentreEvent.{CentreEvent as CentreEventOf};
 ghost use Rattle.sms_centre_rules.specs.declared.rows.Rows.{Rows as RowsOf};
-ghost use Rattle.sms_planned.specs.Planned.{IsPlanned};
-ghost use Rattle.sms_standing.specs.Standing.{IsStanding};
 ghost use Rattle.sms_centre_machine.specs.Stepping.{PlansStep, step_error_of as step_error_of_plan};
 
 use crate::centre_store::CentreStore;

@@ -1,8 +1,8 @@
 use Rattle.std.proofs.Common.{sym, subst}
 use Rattle.sms_centre_rules.specs.Draft.{draft_of}
 use Rattle.sms_centre_rules.specs.Requests.{submit}
-use Rattle.sms_requests.specs.Coming.{Comes}
-use Rattle.sms_requests.specs.declared.submitting.Asked.{Asked}
+use Rattle.sms_events.specs.Coming.{Comes}
+use Rattle.sms_events.specs.declared.submitting.Asked.{Asked}
 use Rattle.sms_standing.specs.Standing.{IsStanding, StandingOf}
 use Rattle.sms_centre.proofs.acting.submitted.Goals as goal
 

@@ -1,3 +1,0 @@
-pub mod Doubles
-pub mod Submits
-pub mod Texts

@@ -1,0 +1,15 @@
+pub mod Accepted
+pub mod Bound
+pub mod Entered
+pub mod Fits
+pub mod IdTexts
+pub mod Places
+pub mod Quiet
+pub mod Standing
+pub mod TextUnits
+pub mod Doubles
+pub mod SingleTexts
+pub mod Submits
+pub mod Dropped
+pub mod Numbered
+pub mod Walked

@@ -1,9 +1,0 @@
-pub mod Accepted
-pub mod Bound
-pub mod Entered
-pub mod Fits
-pub mod IdTexts
-pub mod Places
-pub mod Quiet
-pub mod Standing
-pub mod Units

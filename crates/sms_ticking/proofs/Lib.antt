@@ -1,3 +1,0 @@
-pub mod Dropped
-pub mod Numbered
-pub mod Walked
