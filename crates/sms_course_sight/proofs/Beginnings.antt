@@ -1,14 +1,14 @@
 -- A new script's course sees the empty world.
-use Rattle.std.proofs.Common.{◌≡◌, ℕ, ◌<◌, ◌≤◌, ◌+◌, arith, List, [], ◌∷◌, length, Bool, true, false, refl, sym, ◌∙◌, ap, subst, inl, inr, ⊎_elim, zero, suc}
+use Rattle.std.proofs.Common.{◌≡◌, ℕ, ◌<◌, ◌≤◌, ◌+◌, arith, List, [], ◌∷◌, length, Bool, true, false, refl, sym, ◌∙◌, subst, ⊎_elim}
 use Rattle.std.specs.List.{AllByRecursion, list_all}
 use Rattle.std.specs.Prelude.{◌&&◌, ◌||◌, nat_le, nat_lt, not}
 use Rattle.std.specs.Str.{bytes_eq}
-use Rattle.std.proofs.lemmas.Bool.{and_parts, both_ways, leb-true, ltb-true, or_cases}
+use Rattle.std.proofs.lemmas.Bool.{and_parts, leb-true, ltb-true}
 use Rattle.std.proofs.lemmas.Bool.Decides.{nat_tests}
 use Rattle.std.proofs.lemmas.Slice.Eq.{bytes_eq-Decides}
 use Rattle.sms_base.specs.Address.{IsAddress}
 use Rattle.sms_base.specs.Among.{Among}
-use Rattle.sms_base.specs.HandsetNumber.{is_decimal, own_address}
+use Rattle.sms_base.specs.HandsetNumber.{is_decimal}
 use Rattle.sms_base.specs.SemiOctet.{is_digit}
 use Rattle.sms_base.specs.TimeStamp.{IsMoment}
 use Rattle.sms_waiting.specs.SoundGivings.{IsNumber}
@@ -28,11 +28,11 @@ use Rattle.sms_handset_draft.specs.FirstRows.{first_rows}
 use Rattle.sms_handset.specs.SoundRows.{IsSetup, IsSound}
 use Rattle.sms_play.specs.Course.{Party, numbers_of}
 use Rattle.sms_play.specs.PlayedEvent.{sessions_from}
-use Rattle.sms_play.specs.Setups.{accounts_of, are_accounts, are_handsets, beginning, can_be_played, centre_setup, handset_setup, has_account, has_handset, is_handset, is_moment, is_number, no_rows, parties_of}
-use Rattle.sms_world.specs.World.{World, empty}
+use Rattle.sms_play.specs.Setups.{accounts_of, are_accounts, are_handsets, centre_setup, handset_setup, has_account, has_handset, is_handset, is_moment, is_number, parties_of}
+use Rattle.sms_world.specs.World.{empty}
 use Rattle.sms_handset_sight.proofs.Restarts.{start_seen}
 use Rattle.sms_course_sight.specs.CourseRuns.{BeginningLaw}
-use Rattle.sms_course_sight.specs.CourseSight.{CourseSees, PartySees}
+use Rattle.sms_course_sight.specs.CourseSight.{PartySees}
 use Rattle.sms_course_sight.proofs.CentreMeets.{can_come}
 use Rattle.sms_course_sight.proofs.HandsetMeets.{recovered_sound}
 
@@ -163,4 +163,4 @@ begins s e =
     let all : (p : Party) → Among p ps → PartySees p empty = parties_see s centre s.handsets handsets.1 in
     let can : CanComeBack (first_centre_rows setup) (numbers_of ps) sessions = can_come (first_centre_rows setup) ps (λ p i. (all p i).number) apart (accounts_of s.accounts) in
     let x = first_course_is_steps [] setup (numbers_of ps) sessions is can in
-    record { sound = x.0; offered = x.1; centre = x.2; parties = all; apart = apart; bag = refl; sent = λ f i. absurd i; reached = ([], (tt, refl)); down = λ h r. refl }
+    record { sound = x.0; offered = x.1; centre = x.2; parties = all; apart = apart; bag = refl; sent = λ f i. absurd i; reached = ([], (tt, refl)); down = record { each = λ g i is. absurd i; differ = tt; last = λ h r. refl; parts = refl } }

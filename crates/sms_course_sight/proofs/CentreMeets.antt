@@ -1,6 +1,5 @@
 -- An event of the centre, in a course: it is steps of the world, and the course after it sees where they lead.
 use Rattle.std.proofs.Common.{◌≡◌, ℕ, zero, suc, ◌+◌, ◌<◌, arith, List, [], ◌∷◌, ◌++◌, Bool, true, false, length, refl, sym, ◌∙◌, ap, subst, inl, inr, ⊎_elim, Option, Some, None}
-use Rattle.std.specs.List.{AllByRecursion}
 use Rattle.sms_base.specs.Among.{Among}
 use Rattle.sms_intake.specs.declared.submission.Account.{Account}
 use Rattle.sms_reports.specs.Receipts.{Session, session_key}
@@ -15,7 +14,6 @@ use Rattle.sms_centre_rules.specs.declared.answer.CentreAnswer.{CentreAnswer}
 use Rattle.sms_centre_rules.specs.declared.event.CentreEvent.{CentreEvent}
 use Rattle.sms_centre_rules.specs.declared.event.CentreEvent.TheVariants.{DeliverAnswered}
 use Rattle.sms_centre_rules.specs.declared.rows.Rows.{Rows}
-use Rattle.sms_offered.specs.Offered.{HasOffered}
 use Rattle.sms_offered.proofs.AfterOffers.{event_offered}
 use Rattle.sms_play.specs.CentreSide.{accepted_after, answered_as, centre_meets, committed, done, told, whole}
 use Rattle.sms_play.specs.Course.{Course, Party, answer, numbers_of}
@@ -38,6 +36,8 @@ use Rattle.sms_course_sight.specs.CourseSight.{CourseSees, PartySees, rows_joine
 use Rattle.sms_told_givings.proofs.Telling.{event_told, goes_on}
 use Rattle.sms_course_sight.proofs.Bags.{down_rows, down_stacked}
 use Rattle.sms_course_sight.proofs.HandsetMeets.{Goes, answer_sees}
+use Rattle.sms_course_sight.proofs.EventMoments.{event_moment}
+use Rattle.sms_course_sight.proofs.OneSubmission.{event_once}
 
 -- ---- with whom it comes back
 
@@ -110,7 +110,7 @@ module _ (c : Course) (w : World) (s : CourseSees c w) where
             bag = k.frames ∙ ap (λ (bag : List Sent). stacked_down d.air.frames bag) s.bag ∙ sym (down_stacked d.air.frames c.bag);
             sent = down_rows d.air.frames c.bag k.whole s.sent;
             reached = goes_on w m false x.0 s.reached x.1.1;
-            down = event_told event c.centre w m false x.0 c.given s.sound is s.reached x.1.1 s.centre.rows.holders k.rows.holders s.down;
+            down = event_told event c.centre w m false x.0 c.given s.sound is (event_moment event c.centre) (event_once number event w x.0 x.1.0.0) s.reached x.1.1 s.centre.rows.holders k.rows.holders s.down;
           },
         ),
       )
@@ -168,7 +168,7 @@ module _ (c : Course) (w : World) (s : CourseSees c w) where
             bag = subst (λ (u : World). u.bag ≡ w.bag) same x.1.0.1.3 ∙ s.bag;
             sent = s.sent;
             reached = goes_on w m true steps s.reached x.1.0.1.1;
-            down = event_told event c.centre w m true steps c.given s.sound is s.reached x.1.0.1.1 s.centre.rows.holders there.rows.holders s.down;
+            down = event_told event c.centre w m true steps c.given s.sound is (event_moment event c.centre) (event_once number event w steps x.1.0.1.0.0) s.reached x.1.0.1.1 s.centre.rows.holders there.rows.holders s.down;
           },
         ),
       )

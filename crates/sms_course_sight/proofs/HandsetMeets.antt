@@ -1,5 +1,5 @@
 -- An event of a handset, in a course: it is steps of the world, and the course after it sees where they lead.
-use Rattle.std.proofs.Common.{◌≡◌, ℕ, ◌≤◌, arith, List, [], ◌∷◌, ◌++◌, Bool, true, false, refl, sym, ◌∙◌, ap, subst, inl, inr, ⊎_elim, Option, Some, None, Result, Ok, Err}
+use Rattle.std.proofs.Common.{◌≡◌, ℕ, ◌≤◌, arith, List, [], ◌∷◌, ◌++◌, Bool, true, false, refl, sym, ◌∙◌, ap, subst, inl, ⊎_elim, Option, Some, None, Result, Ok, Err}
 use Rattle.sms_base.specs.Among.{Among}
 use Rattle.sms_base.specs.declared.carried.Carried.{Carried}
 use Rattle.sms_base.specs.declared.carried.Kind.{Kind}
@@ -25,7 +25,7 @@ use Rattle.sms_report.specs.declared.answers.Answered.TheVariants.{Done, Refused
 use Rattle.sms_report.specs.declared.rows.JoinedRow.{JoinedRow}
 use Rattle.sms_centre_rules.specs.SoundCore.{AreDifferent}
 use Rattle.sms_handset_draft.specs.declared.rows.Rows.{Rows}
-use Rattle.sms_handset_draft.specs.Draft.{Core, Draft, core_of, draft_of, recovered}
+use Rattle.sms_handset_draft.specs.Draft.{Core, Draft, draft_of, recovered}
 use Rattle.sms_handset.specs.FaultCodes.{refusal_code}
 use Rattle.sms_handset.specs.HandsetEvent.{tag_of}
 use Rattle.sms_handset.specs.Planning.{OfFrame}
@@ -42,7 +42,7 @@ use Rattle.sms_play.specs.HandsetSide.{carried_given, committed, data_given, don
 use Rattle.sms_play.specs.PlayedEvent.{handset_kept, handset_restarted, party_restarted}
 use Rattle.sms_play.specs.Premises.{pairs_of}
 use Rattle.sms_world.specs.Run.{Run, after_item, end}
-use Rattle.sms_world.specs.ScriptRun.{Event, Handed, IsPlayed, Removed, Tick_handset, Wrote, items}
+use Rattle.sms_world.specs.ScriptRun.{Event, IsPlayed, Removed, Wrote, items}
 use Rattle.sms_world.specs.Sides.{AllOfHandset}
 use Rattle.sms_world.specs.World.{Accepted, Giving, Sent, World}
 use Rattle.sms_world.specs.WorldStep.{Step}
@@ -60,7 +60,7 @@ use Rattle.sms_handset_sight.proofs.OwnersEvents.{delete_event, discard_event}
 use Rattle.sms_handset_sight.proofs.Restarts.{stop_event, stopped_seen}
 use Rattle.sms_handset_sight.proofs.Ticks.{tick_event}
 use Rattle.sms_handset_sight.proofs.WriteEvents.{write_event}
-use Rattle.sms_course_sight.specs.CourseSight.{CourseSees, PartySees, all_seen, rows_joined}
+use Rattle.sms_course_sight.specs.CourseSight.{CourseSees, PartySees, rows_joined}
 use Rattle.sms_course_sight.proofs.Bags.{up_rows, up_stacked}
 use Rattle.sms_course_sight.proofs.Parties.{party_found, with_among, with_found, with_numbers}
 use Rattle.sms_course_sight.proofs.PutRows.{pairs_more, rows_more}
@@ -112,13 +112,13 @@ nothing_played number (Discard entry) c w refusal q = ([], [], [], (tt, inl refl
 
 up_both : (xs ys : List GivenRow) → AllUp xs → AllUp ys → AllUp (xs ++ ys)
 up_both [] ys a b = b
-up_both (x ∷ xs) ys a b = (a.0, up_both xs ys a.1 b)
+up_both (x ∷ xs) ys a b = (a.0, a.1, up_both xs ys a.2 b)
 
 entries_up : (h : List ℕ) (moment : ℕ) (outbox : List OutEntry) (cs : List (Change OutEntry)) → AllUp (entries_given h moment outbox cs)
 entries_up h moment outbox [] = tt
 entries_up h moment outbox (Put o ∷ cs) =
     up_both (if is_some (row_at out_key o.number outbox) then [] else entry_given h moment o) (entries_given h moment (put out_key o outbox) cs)
-    (cond_both (is_some (row_at out_key o.number outbox)) [] (entry_given h moment o) (λ (rows : List GivenRow). AllUp rows) (λ t. tt) (λ t. (refl, tt)))
+    (cond_both (is_some (row_at out_key o.number outbox)) [] (entry_given h moment o) (λ (rows : List GivenRow). AllUp rows) (λ t. tt) (λ t. (refl, tt, tt)))
     (entries_up h moment (put out_key o outbox) cs)
 entries_up h moment outbox (Remove key ∷ cs) = entries_up h moment (without out_key key outbox) cs
 
@@ -127,7 +127,7 @@ memory_up h moment next reference (Part id number) = tt
 memory_up h moment next reference (Report id) = tt
 memory_up h moment next reference (Entry n) = tt
 memory_up h moment next reference (Memory n) =
-    cond_both (nat_le next n) (record { handset = h; direction = Up; reference = reference; holder = Memory n; moment = moment } ∷ []) [] (λ (rows : List GivenRow). AllUp rows) (λ t. (refl, tt)) (λ t. tt)
+    cond_both (nat_le next n) (record { handset = h; direction = Up; reference = reference; holder = Memory n; moment = moment } ∷ []) [] (λ (rows : List GivenRow). AllUp rows) (λ t. (refl, tt, tt)) (λ t. tt)
 
 data_up : (h : List ℕ) (moment next reference : ℕ) (tag : Holder) (k : Kind) → AllUp (data_given h moment next reference tag k)
 data_up h moment next reference tag Data = memory_up h moment next reference tag

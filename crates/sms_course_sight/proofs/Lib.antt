@@ -2,6 +2,8 @@ pub mod Bags
 pub mod Parties
 pub mod PutRows
 pub mod HandsetMeets
+pub mod OneSubmission
+pub mod EventMoments
 pub mod CentreMeets
 pub mod Meetings
 pub mod Events

@@ -26,14 +26,21 @@ use Rattle.sms_course_sight.proofs.Beginnings.{begins}
 use Rattle.sms_course_sight.proofs.Events.{ok_course, same_course}
 use Rattle.sms_course_sight.proofs.Runs.{run_leads}
 use Rattle.sms_headline.specs.Claims.{AllTimely, DeliveredOnce}
-use Rattle.sms_headline.specs.HeadlineLaws.{DeliveredLaw, FinalLaw, HeldLaw, IsScript, JoinedLaw, JoinedOnceLaw, LeadsOn, LineLaw, OnceLaw, ReceiptLaw, RunLaw, ToldLaw}
+use Rattle.sms_headline.specs.DecidedPremises.{AllFresh}
+use Rattle.sms_headline.specs.HeadlineLaws.{DeliveredLaw, FinalLaw, GivenLaw, HeldLaw, IsScript, JoinedLaw, JoinedOnceLaw, JoinedWholeLaw, LeadsOn, LineLaw, OnceLaw, ReceiptLaw, RunLaw, SentLaw, ToldLaw}
 use Rattle.sms_headline.proofs.GoodScripts.{script_good, script_texts}
+use Rattle.sms_headline.proofs.GivenRows.{given_once}
 use Rattle.sms_headline.proofs.HeldApart.{held_apart}
 use Rattle.sms_headline.proofs.OctetCourses.{all_hand, begins_keep}
 use Rattle.sms_headline.proofs.Parting.{others_good, parted}
 use Rattle.sms_headline.proofs.ReceiptLines.{from_report, receipts_once}
 use Rattle.sms_world.proofs.Faithful.{faithful_empty}
+use Rattle.sms_world.proofs.Joins.{joins_empty}
+use Rattle.sms_world.proofs.Wholes.{whole_empty}
+use Rattle.sms_headline.proofs.FreshClaims.{Matches, all_match, joined_whole}
 use Rattle.sms_headline.proofs.JoinedClaims.{joined_of_parts, joined_once}
+use Rattle.sms_world.proofs.Upward.{up_empty}
+use Rattle.sms_headline.proofs.SentClaims.{Sends, all_send, none_tell, sent_submitted}
 use Rattle.sms_headline.proofs.TimelyClaims.{Reaches, all_reach, delivered_once}
 use Rattle.sms_headline.proofs.Tables.{line_of, line_stays, line_there, one_line}
 
@@ -109,6 +116,11 @@ held_is text script some others c d is on =
     let differ : WorldHeldDiffer x.0 = subst (λ (v : World). WorldHeldDiffer v) z.1.1 (held_differ (end empty z.0) (sound_run empty z.0 sound_empty z.1.0)) in
     held_apart c.centre x.0 k.sound k.centre differ
 
+pub given_is : GivenLaw
+given_is text script some others c d is on =
+    let x = run_is text script some others c d is on in
+    given_once c x.0 x.2.1
+
 pub joined_is : JoinedLaw
 joined_is text script some others c d is on =
     let x = run_is text script some others c d is on in
@@ -141,3 +153,39 @@ told_is text script some others c d is on timely x i e =
     let among : Among f.message c.centre.rows.messages = found_among message_key f.report.id f.message c.centre.rows.messages f.found in
     let once : DeliveredOnce c = delivered_is text script some others c d is on timely in
     (f.message, (among, f.id, λ p j of. once f.message p among (f.state ∙ ap (λ (z : FinalState). Some z) e) j of))
+
+-- while references are fresh, too, one where each ended group is a round
+matches : (text : List ℕ) (script : Script) (some others : List WorldEvent) (c d : Course) → IsScript text script some others → LeadsOn script some c d → AllTimely 1 some (beginning script.setup)
+    → AllFresh 1 some (beginning script.setup) → Matches c
+matches text script some others c d is on timely fresh =
+    let s : Setup = script.setup in
+    let start : Course = beginning s in
+    let good : AreGood script.events = script_good text script is.reads in
+    let goods = others_good some others (subst (λ (es : List WorldEvent). AreGood es) is.events good) in
+    let here = can_play s some c on.here in
+    let there = can_play s script.events d on.there in
+    let p = parted some others 1 start d (subst (λ (es : List WorldEvent). AllHandOctets 1 es start) is.events (script_hands text script is.reads there.can))
+    (subst (λ (es : List WorldEvent). played_on 1 es start ≡ ok_course d) is.events there.leads) in
+    all_match 1 some start c empty (begins s here.can) goods.0 p.first_octets timely fresh faithful_empty (λ a i. absurd i) joins_empty whole_empty here.leads
+
+pub joined_whole_is : JoinedWholeLaw
+joined_whole_is text script some others c d is on timely fresh =
+    let r = matches text script some others c d is on timely fresh in joined_whole c r.0 r.1.0 r.1.1 r.1.3 r.1.4
+
+-- while frames are timely, one where what counts as sent has its message
+sends : (text : List ℕ) (script : Script) (some others : List WorldEvent) (c d : Course) → IsScript text script some others → LeadsOn script some c d → AllTimely 1 some (beginning script.setup) → Sends c
+sends text script some others c d is on timely =
+    let s : Setup = script.setup in
+    let start : Course = beginning s in
+    let good : AreGood script.events = script_good text script is.reads in
+    let goods = others_good some others (subst (λ (es : List WorldEvent). AreGood es) is.events good) in
+    let here = can_play s some c on.here in
+    let there = can_play s script.events d on.there in
+    let p = parted some others 1 start d (subst (λ (es : List WorldEvent). AllHandOctets 1 es start) is.events (script_hands text script is.reads there.can))
+    (subst (λ (es : List WorldEvent). played_on 1 es start ≡ ok_course d) is.events there.leads) in
+    let sees : CourseSees start empty = begins s here.can in
+    all_send 1 some start c empty sees goods.0 p.first_octets timely up_empty (none_tell start sees) here.leads
+
+pub sent_is : SentLaw
+sent_is text script some others c d is on timely =
+    let r = sends text script some others c d is on timely in sent_submitted c r.0 r.1.0 r.1.1

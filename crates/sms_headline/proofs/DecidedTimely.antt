@@ -88,7 +88,7 @@ module _ (c : Course) (w : World) (s : CourseSees c w) (u : Frame) (line : u.lin
 
   told_down : (f : FrameRow) (x : Carries) → Held f DownRow x → IsOfRow u f x → IsTimely w u
   told_down f x e k =
-      let g = latest_is f.handset x.reference x.tag w.down (sym (s.down f.handset x.reference) ∙ held_is x.tag (last_holder None f.handset DownRow x.reference c.given) e) in
+      let g = latest_is f.handset x.reference x.tag w.down (sym (s.down.last f.handset x.reference) ∙ held_is x.tag (last_holder None f.handset DownRow x.reference c.given) e) in
       (g.0, (subst (λ (gs : List Giving). IsLatest g.0 gs) (down_givings u.line line) g.1.0, g.1.1 ∙ sym k.handset, g.1.2 ∙ sym k.reference, g.1.3 ∙ sym k.tag))
 
   up_is : (f : FrameRow) (x : Carries) (k : Kind) → u.line ≡ line_up k → Held f (giver UpRow k) x → IsOfRow u f x → IsTimely w u

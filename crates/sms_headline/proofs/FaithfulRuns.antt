@@ -26,11 +26,11 @@ follow_timely w (Settle u g id n) f = absurd f
 follow_timely w (Acknowledged u g e) f = absurd f
 follow_timely w _ f = tt
 
-follows_timely : (w : World) (m n : ℕ) (b : Bool) (ss : List Step) → AllMayFollow (Handed n) ss → Timely w (items m b ss)
+pub follows_timely : (w : World) (m n : ℕ) (b : Bool) (ss : List Step) → AllMayFollow (Handed n) ss → Timely w (items m b ss)
 follows_timely w m n b [] f = tt
 follows_timely w m n b (s ∷ ss) f = (follow_timely w s f.0, follows_timely (after_item w (record { step = s; moment = m; stopped = b })) m n b ss f.1)
 
-control_timely : (w : World) (m : ℕ) (b : Bool) (ss : List Step) → AllControl ss → Timely w (items m b ss)
+pub control_timely : (w : World) (m : ℕ) (b : Bool) (ss : List Step) → AllControl ss → Timely w (items m b ss)
 control_timely w m b [] c = tt
 control_timely w m b (Again u ∷ ss) c = (tt, control_timely (after_item w (record { step = Again u; moment = m; stopped = b })) m b ss c.1)
 control_timely w m b (Control a ∷ ss) c = (tt, control_timely (after_item w (record { step = Control a; moment = m; stopped = b })) m b ss c.1)
@@ -43,7 +43,7 @@ same_givings w bag Up = refl
 timely_frames : (w : World) (bag : List Sent) (u : Frame) → IsTimely w u → IsTimely (with_frames bag w) u
 timely_frames w bag u (g, x) = (g, (subst (λ (gs : List Giving). IsLatest g gs) (same_givings w bag u.line) x.0, x.1, x.2, x.3))
 
-stays_timely : (w : World) (m : ℕ) (b : Bool) (ss : List Step) (u : Frame) → AllControl ss → IsTimely w u → IsTimely (end w (items m b ss)) u
+pub stays_timely : (w : World) (m : ℕ) (b : Bool) (ss : List Step) (u : Frame) → AllControl ss → IsTimely w u → IsTimely (end w (items m b ss)) u
 stays_timely w m b [] u c t = t
 stays_timely w m b (Again v ∷ ss) u c t =
     let x = after_item w (record { step = Again v; moment = m; stopped = b }) in stays_timely x m b ss u c.1 (timely_frames w x.bag u t)
@@ -53,7 +53,7 @@ stays_timely w m b (_ ∷ ss) u c t = absurd c.0
 
 -- ---- the step that reads the frame
 
-one_faithful : (w : World) (m : ℕ) (u : Frame) (s : Step) → Reads u s → (u.line ≡ Down → IsTimely w u) → IsSound w → IsFaithful w → Can w m s → IsFaithful (after_item w (record { step = s; moment = m; stopped = true }))
+pub one_faithful : (w : World) (m : ℕ) (u : Frame) (s : Step) → Reads u s → (u.line ≡ Down → IsTimely w u) → IsSound w → IsFaithful w → Can w m s → IsFaithful (after_item w (record { step = s; moment = m; stopped = true }))
 one_faithful w m u (Take x) r t sound h can =
     faithful_step w m (Take x) sound h can (subst (λ (z : Frame). IsTimely w z) (sym r) (t (ap (λ (z : Frame). z.line) (sym r) ∙ can.0.1)))
 one_faithful w m u (Settle x g id n) r t sound h can =
@@ -70,12 +70,12 @@ one_faithful w m u _ r t sound h can = absurd r
 
 -- ---- some steps and then others
 
-run_parts : (w : World) (m : ℕ) (b : Bool) (a c : List Step) → Run w (items m b (a ++ c)) → Run w (items m b a) × Run (end w (items m b a)) (items m b c)
+pub run_parts : (w : World) (m : ℕ) (b : Bool) (a c : List Step) → Run w (items m b (a ++ c)) → Run w (items m b a) × Run (end w (items m b a)) (items m b c)
 run_parts w m b [] c run = (tt, run)
 run_parts w m b (s ∷ a) c run =
     let x = run_parts (after_item w (record { step = s; moment = m; stopped = b })) m b a c run.1 in ((run.0, x.0), x.1)
 
-end_parts : (w : World) (m : ℕ) (b : Bool) (a c : List Step) → end w (items m b (a ++ c)) ≡ end (end w (items m b a)) (items m b c)
+pub end_parts : (w : World) (m : ℕ) (b : Bool) (a c : List Step) → end w (items m b (a ++ c)) ≡ end (end w (items m b a)) (items m b c)
 end_parts w m b [] c = refl
 end_parts w m b (s ∷ a) c = end_parts (after_item w (record { step = s; moment = m; stopped = b })) m b a c
 

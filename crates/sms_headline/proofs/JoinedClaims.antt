@@ -39,7 +39,7 @@ use Rattle.sms_course_sight.proofs.Bags.{among_last}
 use Rattle.sms_course_sight.specs.CourseSight.{CourseSees, row_joined, rows_joined}
 use Rattle.sms_headline.specs.Claims.{AreJoinedFrom, HaveNoneInCommon, IsJoinedFrom, IsPartOf, JoinedOfParts, JoinedOnce}
 
-placed_there : (w : World) → IsReached w → IsPlaced w
+pub placed_there : (w : World) → IsReached w → IsPlaced w
 placed_there w (is, (run, at)) = subst (λ (v : World). IsPlaced v) at (placed_run empty is placed_empty run)
 
 -- ---- a part of a group
@@ -139,20 +139,17 @@ module _ (c : Course) (w : World) (s : CourseSees c w) (q : Party) (there : Amon
 -- ---- each joined message
 
 module _ (c : Course) (w : World) (s : CourseSees c w) (q : Party) (there : Among q c.parties) where
+  pub group_part : (j : Joined) → Among j w.joined → j.handset ≡ q.number → (x : Accepted) → Among x j.group → IsPartOf c q j.key x
+  group_part j i own x k =
+      let ended = group_ended w (placed_there w s.reached) j i in
+      let inside = among_of_key j.handset j.key x w.accepted ((within j.key.total (of_key j.handset j.key w.accepted)).1 j.group x ended k) in
+      part_of c w s q there j.key x inside.0 (subst (λ (h : List ℕ). is_for h j.key x ≡ true) own inside.1)
+
   joined_from : (j : Joined) → Among j w.joined → j.handset ≡ q.number → IsJoinedFrom c q (row_joined q.number (text_of j)) j.group
-  joined_from j i own = record {
-    key = j.key;
-    content = j.content;
-    joins = (placed_there w s.reached).content j i;
-    says = refl;
-    parts = λ x k.
-        let ended = group_ended w (placed_there w s.reached) j i in
-        let inside = among_of_key j.handset j.key x w.accepted ((within j.key.total (of_key j.handset j.key w.accepted)).1 j.group x ended k) in
-        part_of c w s q there j.key x inside.0 (subst (λ (h : List ℕ). is_for h j.key x ≡ true) own inside.1);
-  }
+  joined_from j i own = record { key = j.key; content = j.content; joins = (placed_there w s.reached).content j i; says = refl; parts = λ x k. group_part j i own x k }
 
 -- the groups of what a handset joined, oldest first
-abbrev groups_at : List ℕ → List Joined → List (List Accepted)
+abbrev pub groups_at : List ℕ → List Joined → List (List Accepted)
 groups_at h [] = []
 groups_at h (j ∷ js) = if bytes_eq j.handset h then groups_at h js ++ j.group ∷ [] else groups_at h js
 
@@ -283,7 +280,7 @@ from_group h (j ∷ js) g i = ⊎_elim
     (x.0, (inr x.1.0, x.1.1, x.1.2)))
     (cases_Bool (bytes_eq j.handset h))
 
-all_apart : (w : World) → IsPlaced w → IsFaithful w → (h : List ℕ) (js : List Joined) → ((j : Joined) → Among j js → Among j w.joined) → PlacesOnce js → HaveNoneInCommon (groups_at h js)
+pub all_apart : (w : World) → IsPlaced w → IsFaithful w → (h : List ℕ) (js : List Joined) → ((j : Joined) → Among j js → Among j w.joined) → PlacesOnce js → HaveNoneInCommon (groups_at h js)
 all_apart w placed f h [] inside once = tt
 all_apart w placed f h (j ∷ js) inside once =
     let older = all_apart w placed f h js (λ y i. inside y (inr i)) once.1 in

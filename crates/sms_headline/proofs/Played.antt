@@ -10,7 +10,8 @@ use Rattle.sms_play.specs.Course.{Course}
 use Rattle.sms_play.specs.Playing.{course_of, premises_of, report_of}
 use Rattle.sms_course_sight.proofs.Events.{ok_course}
 use Rattle.sms_headline.specs.HeadlineLaws.{AlwaysHolds, HoldsInTime, IsScript, LeadsOn, PlayedLaw}
-use Rattle.sms_headline.proofs.Claimed.{delivered_is, held_is, joined_is, joined_once_is, lines_are, once_is, receipts_are, told_is}
+use Rattle.sms_headline.proofs.Claimed.{delivered_is, given_is, held_is, joined_is, joined_once_is, joined_whole_is, lines_are, once_is, receipts_are, sent_is, told_is}
+use Rattle.sms_headline.proofs.ExactPremises.{none_is}
 use Rattle.sms_headline.proofs.PremisesHold.{premises_hold}
 
 nothing_more : (es : List WorldEvent) → es ≡ es ++ []
@@ -41,6 +42,7 @@ module _ (text : List ℕ) (script : Script) (reads : script_in text ≡ Ok scri
     receipts = receipts_are text script script.events [] c c is on;
     once = once_is text script script.events [] c c is on;
     held = held_is text script script.events [] c c is on;
+    given = given_is text script script.events [] c c is on;
     joined = joined_is text script script.events [] c c is on;
   }
 
@@ -50,7 +52,9 @@ module _ (text : List ℕ) (script : Script) (reads : script_in text ≡ Ok scri
       record {
         delivered = delivered_is text script script.events [] c c is on timely;
         told = told_is text script script.events [] c c is on timely;
+        sent = sent_is text script script.events [] c c is on timely;
         joined = joined_once_is text script script.events [] c c is on timely;
+        whole = joined_whole_is text script script.events [] c c is on timely ((none_is script.setup script.events).0 hold).2;
       }
 
 pub played_is : PlayedLaw

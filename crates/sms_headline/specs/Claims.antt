@@ -1,5 +1,5 @@
 -- What is claimed of the report of a script, and of the course that it is read off.
-use Rattle.std.specs.Prelude.{◌≡◌, ℕ, ◌+◌, List, [], ◌∷◌, Some, None, true, false}
+use Rattle.std.specs.Prelude.{◌≡◌, ℕ, ◌+◌, ◌<◌, ◌≤◌, List, [], ◌∷◌, Some, None, true, false}
 use Rattle.sms_base.specs.Among.{Among}
 use Rattle.sms_base.specs.declared.final_state.FinalState.{FinalState}
 use Rattle.sms_base.specs.declared.holder.Holder.{Holder}
@@ -13,22 +13,33 @@ use Rattle.sms_reports.specs.declared.report.ReportKind.TheVariants.{Status}
 use Rattle.sms_reports.specs.declared.report.ReportRow.{ReportRow}
 use Rattle.sms_report.specs.declared.answers.MessageState.TheVariants.{Final}
 use Rattle.sms_report.specs.declared.report.Report.{Report}
+use Rattle.sms_report.specs.declared.rows.Direction.TheVariants.{Down}
+use Rattle.sms_report.specs.declared.rows.GivenRow.{GivenRow}
 use Rattle.sms_report.specs.declared.rows.MessageRow.{MessageRow as MessageLine}
 use Rattle.sms_report.specs.declared.rows.JoinedRow.{JoinedRow}
 use Rattle.sms_report.specs.declared.rows.ReceiptRow.{ReceiptRow}
 use Rattle.sms_script.specs.declared.event.WorldEvent.{WorldEvent}
 use Rattle.sms_base.specs.declared.final_state.FinalState.TheVariants.{Delivered}
 use Rattle.sms_concat.specs.declared.content.Content.{Content}
+use Rattle.sms_outbox.specs.declared.out_entry.EntryState.TheVariants.{Sent}
+use Rattle.sms_outbox.specs.declared.out_entry.OutEntry.{OutEntry}
+use Rattle.sms_tpdu.specs.MoreMessages.{compared}
+use Rattle.sms_tpdu.specs.TpduReading.{submit_at}
 use Rattle.sms_play.specs.Course.{Course, Party}
 use Rattle.sms_play.specs.HandsetSide.{coding_of}
 use Rattle.sms_play.specs.PlayedEvent.{played}
 use Rattle.sms_play.specs.Playing.{report_of as report_told_of}
-use Rattle.sms_play.specs.Premises.{is_timely_event, pairs_of}
+use Rattle.sms_play.specs.Premises.{is_timely_event, newest_first, pairs_of, part_givings}
 use Rattle.sms_world.specs.Groups.{joined_content}
 use Rattle.sms_world.specs.Lists.{StandsOnce}
 use Rattle.sms_world.specs.PartsOfKey.{is_for}
-use Rattle.sms_world.specs.Place.{Key}
+use Rattle.sms_world.specs.Place.{Key, place_in}
+use Rattle.sms_world.specs.Rounds.{Rounds, rounds_of}
+use Rattle.sms_world.specs.Submission.{Submission}
+use Rattle.sms_world.specs.WhoseTpdu.{IsDeliverOf}
 use Rattle.sms_world.specs.World.{Accepted}
+use Rattle.sms_centre_sight.specs.SeesMessages.{IsRowOf}
+use Rattle.sms_handset_sight.specs.SeesOutbox.{user_data_in}
 use Rattle.sms_centre_course.specs.TruthfulRows.{IsAsSubmitted, pair_in_row}
 use Rattle.sms_course_sight.specs.CourseRuns.{IfPlayed}
 
@@ -72,6 +83,12 @@ Holds rows handset reference (Memory number) = ⊥
 abbrev pub HeldDiffer : Course → Type 0
 HeldDiffer c = (handset : List ℕ) (reference : ℕ) (a b : Holder) → Holds c.centre.rows handset reference a → Holds c.centre.rows handset reference b → a ≡ b
 
+-- no two rows of the centre give one reference at one handset in one second
+abbrev pub GivenOnce : List GivenRow → Type 0
+GivenOnce [] = Unit {0}
+GivenOnce (g ∷ given) =
+    ((y : GivenRow) → Among y given → g.direction ≡ Down → y.direction ≡ Down → g.handset ≡ y.handset → g.reference ≡ y.reference → ¬ (g.moment ≡ y.moment)) × GivenOnce given
+
 -- ---- while frames come in time
 
 -- each frame that the events hand over is decided timely
@@ -96,6 +113,25 @@ ToldOnce c =
     (x : ReceiptRow) → Among x (report_told_of c).receipts → x.state ≡ Delivered
     → (m : MessageRow)
     × (Among m c.centre.rows.messages × (m.id ≡ x.id) × ((p : PartRow) → Among p c.centre.rows.parts → p.id ≡ m.id → IsAcceptedOnce c m p))
+
+-- ---- what handsets sent
+
+-- The message came from that handset and goes to the entry's destination; it has one part, whose octets are a DELIVER with the user data of
+-- the entry's SUBMIT.
+pub record IsMessageOf (c : Course) (q : Party) (o : OutEntry) (m : MessageRow) (p : PartRow) : Type 0 where
+  pub there : Among m c.centre.rows.messages
+  pub part_there : Among p c.centre.rows.parts
+  pub its : p.id ≡ m.id
+  pub alone : (x : PartRow) → Among x c.centre.rows.parts → x.id ≡ m.id → x ≡ p
+  pub source : m.source.digits ≡ q.number
+  pub handset : m.handset ≡ o.destination.digits
+  pub submitted : (u : Submission) × (moment : ℕ)
+      × (IsRowOf m u × (u.parts ≡ user_data_in (submit_at o.tpdu) ∷ []) × IsDeliverOf u (user_data_in (submit_at o.tpdu)) moment (compared p.tpdu))
+
+-- While frames come in time, an entry of a handset's outbox counts as sent only if the centre has its message.
+abbrev pub SentSubmitted : Course → Type 0
+SentSubmitted c =
+    (q : Party) (o : OutEntry) → Among q c.parties → Among o q.core.rows.outbox → o.state ≡ Sent → (m : MessageRow) × (p : PartRow) × IsMessageOf c q o m p
 
 -- ---- what handsets joined
 
@@ -140,3 +176,39 @@ HaveNoneInCommon (g ∷ gs) = ((h : List Accepted) (x : Accepted) → Among h gs
 -- While frames come in time, no part is joined twice.
 abbrev pub JoinedOnce : Course → Type 0
 JoinedOnce c = (q : Party) → Among q c.parties → (groups : List (List Accepted)) × (AreJoinedFrom c q q.joined groups × HaveNoneInCommon groups)
+
+-- ---- while originators keep references fresh, too
+
+-- the rounds of a key that were submitted to a handset, in the order in which the parts were given references, with the octets that their
+-- rows have
+abbrev pub rounds_told : Course → Party → Key → Rounds
+rounds_told c q key = rounds_of q.number key (newest_first [] (part_givings c.centre.rows.parts c.given))
+
+-- a long message that was submitted at once: its parts are those of that key, each under its own number
+pub record IsLongMessage (c : Course) (m : MessageRow) (key : Key) : Type 0 where
+  pub placed : (p : PartRow) → Among p c.centre.rows.parts → p.id ≡ m.id → place_in p.tpdu ≡ Some (record { key = key; number = p.number })
+  pub each : (n : ℕ) → 0 < n → n ≤ key.total → (p : PartRow) × (Among p c.centre.rows.parts × (p.id ≡ m.id) × (p.number ≡ n))
+
+-- of which one part is among these only if all of these are its parts
+abbrev pub IsWholeIn : Course → MessageRow → List Accepted → Type 0
+IsWholeIn c m round =
+    (p : PartRow) → Among p c.centre.rows.parts → p.id ≡ m.id → Among (pair_in_row m p) round
+    → (y : Accepted) → Among y round → (x : PartRow) × (Among x c.centre.rows.parts × (x.id ≡ m.id) × (y ≡ pair_in_row m x))
+
+-- The row says what one of these rounds joins to, and it has all its parts; a long message that was submitted at once is such a round by
+-- itself.
+pub record IsJoinedRound (c : Course) (q : Party) (row : JoinedRow) (round : List Accepted) : Type 0 where
+  pub joined : IsJoinedFrom c q row round
+  pub among : Among round ((rounds_told c q joined.key).present ∷ (rounds_told c q joined.key).finished)
+  pub whole : (m : MessageRow) → Among m c.centre.rows.messages → m.handset ≡ q.number → IsLongMessage c m joined.key → IsWholeIn c m round
+
+-- each row a round, in order
+abbrev pub AreJoinedRounds : Course → Party → List JoinedRow → List (List Accepted) → Type 0
+AreJoinedRounds c q [] [] = Unit {0}
+AreJoinedRounds c q [] (g ∷ gs) = ⊥
+AreJoinedRounds c q (r ∷ rs) [] = ⊥
+AreJoinedRounds c q (r ∷ rs) (g ∷ gs) = IsJoinedRound c q r g × AreJoinedRounds c q rs gs
+
+-- Each long message that a handset joined is one that was submitted to it: one round of one key, whole; and none was joined twice.
+abbrev pub JoinedWhole : Course → Type 0
+JoinedWhole c = (q : Party) → Among q c.parties → (rounds : List (List Accepted)) × (AreJoinedRounds c q q.joined rounds × HaveNoneInCommon rounds)

@@ -12,7 +12,8 @@ use Rattle.sms_world.specs.ScriptRun.{Plays}
 use Rattle.sms_world.specs.World.{World, empty}
 use Rattle.sms_course_sight.specs.CourseRuns.{happenings}
 use Rattle.sms_course_sight.specs.CourseSight.{CourseSees}
-use Rattle.sms_headline.specs.Claims.{AllTimely, AreOnce, DeliveredOnce, FinalStays, HasOneLine, HeldDiffer, JoinedOfParts, JoinedOnce, ReceiptsTell, ToldOnce}
+use Rattle.sms_headline.specs.Claims.{AllTimely, AreOnce, DeliveredOnce, FinalStays, GivenOnce, HasOneLine, HeldDiffer, JoinedOfParts, JoinedOnce, JoinedWhole, ReceiptsTell, SentSubmitted, ToldOnce}
+use Rattle.sms_headline.specs.DecidedPremises.{AllFresh}
 
 -- The text reads as a script of these events in order, some and then others.
 pub record IsScript (text : List ℕ) (script : Script) (some others : List WorldEvent) : Type 0 where
@@ -55,6 +56,9 @@ OnceLaw = Of (λ c. AreOnce (report_of c).receipts)
 abbrev pub HeldLaw : Type 0
 HeldLaw = Of (λ c. HeldDiffer c)
 
+abbrev pub GivenLaw : Type 0
+GivenLaw = Of (λ c. GivenOnce (report_of c).given)
+
 abbrev pub JoinedLaw : Type 0
 JoinedLaw = Of (λ c. JoinedOfParts c)
 
@@ -68,9 +72,19 @@ abbrev pub ToldLaw : Type 0
 ToldLaw =
     (text : List ℕ) (script : Script) (some others : List WorldEvent) (c d : Course) → IsScript text script some others → LeadsOn script some c d → AllTimely 1 some (beginning script.setup) → ToldOnce c
 
+abbrev pub SentLaw : Type 0
+SentLaw =
+    (text : List ℕ) (script : Script) (some others : List WorldEvent) (c d : Course) → IsScript text script some others → LeadsOn script some c d → AllTimely 1 some (beginning script.setup) → SentSubmitted c
+
 abbrev pub JoinedOnceLaw : Type 0
 JoinedOnceLaw =
     (text : List ℕ) (script : Script) (some others : List WorldEvent) (c d : Course) → IsScript text script some others → LeadsOn script some c d → AllTimely 1 some (beginning script.setup) → JoinedOnce c
+
+-- and while originators keep references fresh, too
+abbrev pub JoinedWholeLaw : Type 0
+JoinedWholeLaw =
+    (text : List ℕ) (script : Script) (some others : List WorldEvent) (c d : Course) → IsScript text script some others → LeadsOn script some c d
+    → AllTimely 1 some (beginning script.setup) → AllFresh 1 some (beginning script.setup) → JoinedWhole c
 
 -- so they are where it is decided that the premises hold
 abbrev pub PremisesLaw : Type 0
@@ -84,13 +98,16 @@ pub record AlwaysHolds (c : Course) : Type 0 where
   pub receipts : ReceiptsTell (report_of c)
   pub once : AreOnce (report_of c).receipts
   pub held : HeldDiffer c
+  pub given : GivenOnce (report_of c).given
   pub joined : JoinedOfParts c
 
 -- and where no event breaks a premise
 pub record HoldsInTime (c : Course) : Type 0 where
   pub delivered : DeliveredOnce c
   pub told : ToldOnce c
+  pub sent : SentSubmitted c
   pub joined : JoinedOnce c
+  pub whole : JoinedWhole c
 
 -- The report of a script that reads and plays is that of such a course; and where it is decided that the premises hold, of such a one.
 abbrev pub PlayedLaw : Type 0

@@ -1,3 +1,3 @@
 pub mod Claims
-pub mod HeadlineLaws
 pub mod DecidedPremises
+pub mod HeadlineLaws

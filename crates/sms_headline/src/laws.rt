@@ -1,6 +1,6 @@
 //! The claims.
 ghost use Rattle.sms_headline.specs.DecidedPremises.{FirstLaw, NoneLaw};
-ghost use Rattle.sms_headline.specs.HeadlineLaws.{DeliveredLaw, FinalLaw, HeldLaw, JoinedLaw, JoinedOnceLaw, LineLaw, OnceLaw, PlayedLaw, PremisesLaw, ReceiptLaw, RunLaw, ToldLaw};
+ghost use Rattle.sms_headline.specs.HeadlineLaws.{DeliveredLaw, FinalLaw, GivenLaw, HeldLaw, JoinedLaw, JoinedOnceLaw, JoinedWholeLaw, LineLaw, OnceLaw, PlayedLaw, PremisesLaw, ReceiptLaw, RunLaw, SentLaw, ToldLaw};
 
 /// The events of a script, up to any of them, are a run of the world from the empty one on, and the course shows where it led.
 pub fn a_script_is_a_run()
@@ -24,6 +24,11 @@ pub fn references_held_differ()
     ensures { HeldLaw }
 {}
 
+/// Whatever happens, no reference is given twice at a handset in one second, to parts and to status reports.
+pub fn no_reference_is_given_twice()
+    ensures { GivenLaw }
+{}
+
 /// While each frame that is handed over is decided timely, a message counts as delivered only if its handset accepted each of its
 /// parts exactly once, as it was submitted, and a receipt or status report says so only of such a message; and each frame is so
 /// where it is decided that no event breaks a premise.
@@ -33,11 +38,19 @@ pub fn delivered_was_accepted()
     ensures premises { PremisesLaw }
 {}
 
+/// While each frame that is handed over is decided timely, an entry of a handset's outbox counts as sent only if the centre has its
+/// message: from that handset, to that destination, with the user data of its SUBMIT.
+pub fn sent_was_submitted()
+    ensures { SentLaw }
+{}
+
 /// Whatever happens, each message that a handset joined was joined from parts that its source submitted to that handset, and that
-/// the handset accepted; and while each frame that is handed over is decided timely, no part is joined twice.
+/// the handset accepted; while each frame that is handed over is decided timely, no part is joined twice; and while originators are
+/// decided to keep references fresh, too, each joined message is one round that was submitted to that handset, whole.
 pub fn joined_was_submitted()
     ensures parts { JoinedLaw }
     ensures once { JoinedOnceLaw }
+    ensures whole { JoinedWholeLaw }
 {}
 
 /// All of it of the report of a script that plays, with the two premises as `sms_play` decides them.

@@ -1,5 +1,5 @@
 -- The rows that an event of the centre tells are the givings that its steps gave.
-use Rattle.std.proofs.Common.{◌≡◌, ℕ, ◌<◌, ◌≤◌, List, [], ◌∷◌, ◌++◌, true, refl, sym, ◌∙◌, ap, subst, inl, inr, ⊎_elim, Option, Some, None, arith}
+use Rattle.std.proofs.Common.{◌≡◌, ℕ, ◌<◌, ◌≤◌, List, [], ◌∷◌, ◌++◌, refl, sym, ◌∙◌, ap, subst, inl, inr, ⊎_elim, Option, Some, None, arith}
 use Rattle.sms_base.specs.Among.{Among}
 use Rattle.sms_base.specs.declared.holder.Holder.{Holder}
 use Rattle.sms_base.specs.declared.holder.Holder.TheVariants.{Part, Report, Entry, Memory}
@@ -20,11 +20,11 @@ use Rattle.sms_table.proofs.Tables.{found_among, found_key}
 use Rattle.sms_tpdu.specs.MoreMessages.{compared}
 use Rattle.sms_waiting.specs.declared.revision.Revision.{Revision}
 use Rattle.sms_waiting.specs.declared.revision.Revision.TheVariants.{Put, Amend, Remove}
-use Rattle.sms_waiting.specs.Revisions.{all_revised, oldest_first}
+use Rattle.sms_waiting.specs.Revisions.{all_revised}
 use Rattle.sms_claims.specs.Moves.{ArePartMoves}
 use Rattle.sms_claim_moves.proofs.EventMoves.{event_moves}
 use Rattle.sms_centre_rules.specs.CentreEvent.{happened}
-use Rattle.sms_centre_rules.specs.Draft.{Core, Draft, changes_in, messages_in, rows_of}
+use Rattle.sms_centre_rules.specs.Draft.{Core, Draft, changes_in, rows_of}
 use Rattle.sms_centre_rules.specs.SoundCore.{IsEvent, IsSoundCore}
 use Rattle.sms_centre_rules.specs.SoundRows.{IsSound}
 use Rattle.sms_centre_rules.specs.declared.event.CentreEvent.{CentreEvent}
@@ -37,9 +37,9 @@ use Rattle.sms_world.specs.World.{Giving, World}
 use Rattle.sms_world.proofs.Faithful.{given_same}
 use Rattle.sms_world.proofs.Sound.{IsKnown, IsSound as IsSoundWorld}
 use Rattle.sms_centre_sight.proofs.ByOctets.{by_octet_is, by_octet_some}
-use Rattle.sms_centre_sight.specs.SeesGiven.{SeesHolders, given_part, given_report}
-use Rattle.sms_centre_sight.specs.SeesMessages.{PartSeen, messages_by, part_seen, parts_by}
-use Rattle.sms_centre_sight.specs.SeesReports.{ReportSeen, report_seen, reports_by}
+use Rattle.sms_centre_sight.specs.SeesGiven.{given_part, given_report}
+use Rattle.sms_centre_sight.specs.SeesMessages.{PartSeen, part_seen, parts_by}
+use Rattle.sms_centre_sight.specs.SeesReports.{ReportSeen, report_seen}
 use Rattle.sms_told_givings.specs.TellingLaws.{HoldersSee}
 use Rattle.sms_told_givings.proofs.Growing.{Grown, either_part, in_front, in_rest, not_twice}
 use Rattle.sms_told_givings.proofs.Latest.{TellAll, Tells}
@@ -48,13 +48,13 @@ use Rattle.sms_told_givings.proofs.ReportMoves.{Reporting, some_report, came, co
 
 -- ---- rows of parts and of status reports
 
-abbrev part_row : ℕ → List MessageRow → PartRow → GivenRow
+abbrev pub part_row : ℕ → List MessageRow → PartRow → GivenRow
 part_row moment ms p = record { handset = destination_in (message_at p.id ms); direction = Down; reference = p.reference; holder = Part p.id p.number; moment = moment }
 
-abbrev report_row : ℕ → List MessageRow → ℕ → ℕ → GivenRow
+abbrev pub report_row : ℕ → List MessageRow → ℕ → ℕ → GivenRow
 report_row moment ms id reference = record { handset = source_in (message_at id ms); direction = Down; reference = reference; holder = Report id; moment = moment }
 
-in_parts : (moment : ℕ) (ms : List MessageRow) (cs : List (Revision PartRow)) (g : GivenRow) → Among g (parts_given moment ms cs) → (p : PartRow) × (Among (Put p) cs × (g ≡ part_row moment ms p))
+pub in_parts : (moment : ℕ) (ms : List MessageRow) (cs : List (Revision PartRow)) (g : GivenRow) → Among g (parts_given moment ms cs) → (p : PartRow) × (Among (Put p) cs × (g ≡ part_row moment ms p))
 in_parts moment ms [] g i = absurd i
 in_parts moment ms (Put p ∷ cs) g i = ⊎_elim
     (λ (e : g ≡ part_row moment ms p). (p, (inl refl, e)))
@@ -72,13 +72,13 @@ part_there moment ms (Amend n q ∷ cs) p i = ⊎_elim (λ (e : Put p ≡ Amend 
 part_there moment ms (Remove n ∷ cs) p i = ⊎_elim (λ (e : Put p ≡ Remove n). absurd cc) (λ (j : Among (Put p) cs). part_there moment ms cs p j) i
 
 -- whose row it is
-record IsReportRow (moment : ℕ) (ms : List MessageRow) (cs : List (Revision ReportRow)) (g : GivenRow) : Type 0 where
-  report : ReportRow
-  reference : ℕ
-  tpdu : List ℕ
-  among : Among (Put report) cs
-  kind : report.kind ≡ Status reference tpdu
-  row : g ≡ report_row moment ms report.id reference
+pub record IsReportRow (moment : ℕ) (ms : List MessageRow) (cs : List (Revision ReportRow)) (g : GivenRow) : Type 0 where
+  pub report : ReportRow
+  pub reference : ℕ
+  pub tpdu : List ℕ
+  pub among : Among (Put report) cs
+  pub kind : report.kind ≡ Status reference tpdu
+  pub row : g ≡ report_row moment ms report.id reference
 
 in_kind : (moment : ℕ) (ms : List MessageRow) (r : ReportRow) (cs : List (Revision ReportRow)) (k : ReportKind) → r.kind ≡ k → (g : GivenRow)
     → Among g (report_given moment r.id (source_in (message_at r.id ms)) k) → IsReportRow moment ms (Put r ∷ cs) g
@@ -91,7 +91,7 @@ in_kind moment ms r cs Unsent e g i = absurd i
 later_row : (moment : ℕ) (ms : List MessageRow) (x : Revision ReportRow) (cs : List (Revision ReportRow)) (g : GivenRow) → IsReportRow moment ms cs g → IsReportRow moment ms (x ∷ cs) g
 later_row moment ms x cs g y = record { report = y.report; reference = y.reference; tpdu = y.tpdu; among = inr y.among; kind = y.kind; row = y.row }
 
-in_reports : (moment : ℕ) (ms : List MessageRow) (cs : List (Revision ReportRow)) (g : GivenRow) → Among g (reports_given moment ms cs) → IsReportRow moment ms cs g
+pub in_reports : (moment : ℕ) (ms : List MessageRow) (cs : List (Revision ReportRow)) (g : GivenRow) → Among g (reports_given moment ms cs) → IsReportRow moment ms cs g
 in_reports moment ms [] g i = absurd i
 in_reports moment ms (Put r ∷ cs) g i = ⊎_elim
     (λ (j : Among g (report_given moment r.id (source_in (message_at r.id ms)) r.kind)). in_kind moment ms r cs r.kind refl g j)

@@ -1,5 +1,5 @@
 -- To whom a reference was given last, as more are given.
-use Rattle.std.proofs.Common.{◌≡◌, ℕ, List, [], ◌∷◌, ◌++◌, Bool, true, false, cond, refl, sym, ◌∙◌, ap, subst, inl, inr, ⊎_elim, Option, Some, None}
+use Rattle.std.proofs.Common.{◌≡◌, ℕ, List, [], ◌∷◌, ◌++◌, Bool, true, false, cond, refl, sym, ◌∙◌, ap, inl, inr, ⊎_elim, Option, Some, None}
 use Rattle.std.specs.Prelude.{◌==◌, ◌&&◌}
 use Rattle.std.specs.Str.{bytes_eq}
 use Rattle.std.proofs.lemmas.Bool.{and_from, and_parts, both_ways, cases_Bool, cond-false, cond-true, eq-eqb, eqb-true}
@@ -9,8 +9,11 @@ use Rattle.sms_base.specs.declared.holder.Holder.{Holder}
 use Rattle.sms_report.specs.declared.rows.Direction.TheVariants.{Down}
 use Rattle.sms_report.specs.declared.rows.GivenRow.{GivenRow}
 use Rattle.sms_play.specs.Premises.{is_of_reference, is_same_side, last_holder}
-use Rattle.sms_world.specs.World.{Giving, IsLatest, SameReference}
-use Rattle.sms_told_givings.specs.ToldGivings.{TellsDown, latest_holder}
+use Rattle.sms_world.specs.World.{Giving, IsLatest}
+use Rattle.sms_base.specs.declared.holder.Holder.TheVariants.{Part, Report, Entry, Memory}
+use Rattle.sms_told_givings.specs.ToldGivings.{HoldersDiffer, IsDown, PartGiven, TellsDown, latest_holder, parts_given, parts_told, with_part}
+use Rattle.sms_told_givings.proofs.Growing.{either_part, in_front, in_rest}
+use Rattle.sms_told_givings.proofs.Falling.{Falls, part_from, part_to, parts_append, same_order, told_from, told_on, told_over, told_to}
 
 some_holder : (a b : Holder) → Some a ≡ Some b → a ≡ b
 some_holder a b e = cc
@@ -164,17 +167,82 @@ module _ (gs : List GivenRow) (ds : List Giving) (t : TellAll gs ds) (h : List �
       let same : x.0.holder ≡ y.0.holder = t.once x.0 y.0 x.1.0 y.1.0 (x.1.1.handset ∙ n.0 ∙ sym m.0) (x.1.1.reference ∙ n.1 ∙ sym m.1) in
       ap (λ (z : Holder). Some z) (sym g.1.2 ∙ sym x.1.1.holder ∙ same ∙ y.1.2)
 
-pub tells_more : (given gs : List GivenRow) (down ds : List Giving) → TellsDown given down → TellAll gs ds → TellsDown (given ++ gs) (ds ++ down)
-tells_more given gs down ds tells t h r =
+last_more : (given gs : List GivenRow) (down ds : List Giving) → TellsDown given down → TellAll gs ds → (h : List ℕ) (r : ℕ) → last_holder None h Down r (given ++ gs) ≡ latest_holder h r (ds ++ down)
+last_more given gs down ds tells t h r =
     last_over h r None given gs ∙ last_else h r gs (last_holder None h Down r given)
-    ∙ (λ j. or_else (same_last gs ds t h r (last_holder None h Down r gs) (latest_holder h r ds) refl refl j) (tells h r j))
+    ∙ (λ j. or_else (same_last gs ds t h r (last_holder None h Down r gs) (latest_holder h r ds) refl refl j) (tells.last h r j))
     ∙ sym (latest_else h r ds down)
+
+-- ---- the parts, in order
+
+same_parts : (gs : List GivenRow) (ds : List Giving) → TellAll gs ds → Falls (parts_told [] gs) → Falls (parts_given ds) → parts_told [] gs ≡ parts_given ds
+same_parts gs ds t rows givings =
+    same_order (parts_told [] gs) (parts_given ds) rows givings
+    (λ x i.
+    let g = told_from gs x i in
+    let y = t.there g.0 g.1.0 in
+    part_to ds y.0 x y.1.0 (y.1.1.holder ∙ g.1.1) (y.1.1.handset ∙ g.1.2) (y.1.1.reference ∙ g.1.3))
+    (λ x i.
+    let y = part_from ds x i in
+    let g = t.told y.0 y.1.0 in
+    told_to [] gs g.0 x g.1.0 (sym g.1.1.holder ∙ y.1.1) (sym g.1.1.handset ∙ y.1.2) (sym g.1.1.reference ∙ y.1.3))
+
+-- ---- of no holder two
+
+pub differ_append : (xs ys : List GivenRow) → HoldersDiffer xs → HoldersDiffer ys → ((x y : GivenRow) → Among x xs → Among y ys → IsDown x → IsDown y → ¬ (x.holder ≡ y.holder)) → HoldersDiffer (xs ++ ys)
+differ_append [] ys a b apart = b
+differ_append (x ∷ xs) ys a b apart = (
+  λ is y i down. ⊎_elim (λ (j : Among y xs). a.0 is y j down) (λ (j : Among y ys). apart x y (inl refl) j is down) (either_part y xs ys i),
+  differ_append xs ys a.1 b (λ z y i j. apart z y (inr i) j),
+)
+
+-- ---- all that is told
+
+-- What more rows tell is new, all of it of that moment, and of no holder two.
+pub record TellNew (m : ℕ) (gs : List GivenRow) (ds down : List Giving) : Type 0 where
+  pub all : TellAll gs ds
+  pub rows : Falls (parts_told [] gs)
+  pub givings : Falls (parts_given ds)
+  pub rows_now : (g : GivenRow) → Among g gs → g.moment ≡ m
+  pub now : (x : Giving) → Among x ds → x.moment ≡ m
+  pub differ : HoldersDiffer gs
+  pub new : (x y : Giving) → Among x ds → Among y down → ¬ (x.holder ≡ y.holder)
+
+pub tells_more : (m : ℕ) (given gs : List GivenRow) (down ds : List Giving) → TellsDown given down → TellNew m gs ds down → TellsDown (given ++ gs) (ds ++ down)
+tells_more m given gs down ds tells t = record {
+  each = λ g i is. ⊎_elim
+      (λ (j : Among g given). let x = tells.each g j is in (x.0, (in_rest x.0 ds down x.1.0, x.1.1)))
+      (λ (j : Among g gs).
+      let x = t.all.there g j in (
+        x.0,
+        (
+          in_front x.0 ds down x.1.0,
+          record { handset = x.1.1.handset; reference = x.1.1.reference; holder = x.1.1.holder; moment = t.now x.0 x.1.0 ∙ sym (t.rows_now g j) },
+        ),
+      ))
+      (either_part g given gs i);
+  differ = differ_append given gs tells.differ t.differ (λ x y i j is down_y e.
+      let a = tells.each x i is in
+      let b = t.all.there y j in
+      t.new b.0 a.0 b.1.0 a.1.0 (b.1.1.holder ∙ sym e ∙ sym a.1.1.holder));
+  last = last_more given gs down ds tells t.all;
+  parts = told_over [] given gs ∙ told_on (parts_told [] given) gs
+      ∙ (λ j. same_parts gs ds t.all t.rows t.givings j ++ tells.parts j)
+      ∙ sym (parts_append ds down);
+}
 
 -- ---- rows of the other side tell nothing
 
+-- no part, nor status report
+abbrev pub IsOfHandset : Holder → Type 0
+IsOfHandset (Part id n) = ⊥
+IsOfHandset (Report id) = ⊥
+IsOfHandset (Entry n) = Unit {0}
+IsOfHandset (Memory n) = Unit {0}
+
 abbrev pub AllUp : List GivenRow → Type 0
 AllUp [] = Unit {0}
-AllUp (g ∷ gs) = (is_same_side g.direction Down ≡ false) × AllUp gs
+AllUp (g ∷ gs) = (is_same_side g.direction Down ≡ false) × IsOfHandset g.holder × AllUp gs
 
 never : (a b : Bool) → b ≡ false → (a && b) ≡ false
 never true b e = e
@@ -186,10 +254,37 @@ not_of h r g e = never (bytes_eq g.handset h) (is_same_side g.direction Down && 
 still_last : (h : List ℕ) (r : ℕ) (o : Option Holder) (gs : List GivenRow) → AllUp gs → last_holder o h Down r gs ≡ o
 still_last h r o [] all = refl
 still_last h r o (g ∷ gs) all =
-    ap (λ (z : Option Holder). last_holder z h Down r gs) (cond-false (is_of_reference h Down r g) (Some g.holder) o (not_of h r g all.0)) ∙ still_last h r o gs all.1
+    ap (λ (z : Option Holder). last_holder z h Down r gs) (cond-false (is_of_reference h Down r g) (Some g.holder) o (not_of h r g all.0)) ∙ still_last h r o gs all.2
+
+not_with : (h : Holder) (a : List ℕ) (r : ℕ) (ps : List PartGiven) → IsOfHandset h → with_part h a r ps ≡ ps
+not_with (Part id n) a r ps is = absurd is
+not_with (Report id) a r ps is = absurd is
+not_with (Entry n) a r ps is = refl
+not_with (Memory n) a r ps is = refl
+
+still_parts : (newest : List PartGiven) (gs : List GivenRow) → AllUp gs → parts_told newest gs ≡ newest
+still_parts newest [] all = refl
+still_parts newest (g ∷ gs) all =
+    ap (λ (z : List PartGiven). parts_told z gs) (not_with g.holder g.handset g.reference newest all.1) ∙ still_parts newest gs all.2
+
+not_down : (g : GivenRow) (gs : List GivenRow) → AllUp gs → Among g gs → IsDown g → ⊥
+not_down g [] all i is = absurd i
+not_down g (x ∷ gs) all i is = ⊎_elim
+    (λ (e : g ≡ x). both_ways (is_same_side x.direction Down) all.0 (ap (λ (z : GivenRow). is_same_side z.direction Down) (sym e) ∙ is))
+    (λ (j : Among g gs). not_down g gs all.2 j is)
+    i
+
+up_differ : (gs : List GivenRow) → AllUp gs → HoldersDiffer gs
+up_differ [] all = tt
+up_differ (g ∷ gs) all = ((λ is y i down. absurd (both_ways (is_same_side g.direction Down) all.0 is)), up_differ gs all.2)
 
 pub tells_still : (given gs : List GivenRow) (down : List Giving) → TellsDown given down → AllUp gs → TellsDown (given ++ gs) down
-tells_still given gs down tells all h r = last_over h r None given gs ∙ still_last h r (last_holder None h Down r given) gs all ∙ tells h r
+tells_still given gs down tells all = record {
+  each = λ g i is. ⊎_elim (λ (j : Among g given). tells.each g j is) (λ (j : Among g gs). absurd (not_down g gs all j is)) (either_part g given gs i);
+  differ = differ_append given gs tells.differ (up_differ gs all) (λ x y i j is down_y e. not_down y gs all j down_y);
+  last = λ h r. last_over h r None given gs ∙ still_last h r (last_holder None h Down r given) gs all ∙ tells.last h r;
+  parts = told_over [] given gs ∙ still_parts (parts_told [] given) gs all ∙ tells.parts;
+}
 
 -- ---- the latest of the world
 

@@ -1,6 +1,10 @@
+pub mod Falling
+pub mod Growing
 pub mod Latest
 pub mod PartMoves
-pub mod Growing
+pub mod PartsInOrder
 pub mod ReportMoves
 pub mod GivenBy
+pub mod PutsTold
+pub mod HoldersApart
 pub mod Telling

@@ -1,0 +1,2 @@
+pub mod RowsGiven
+pub mod EntriesTold
