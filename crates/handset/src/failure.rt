@@ -1,0 +1,68 @@
+//! Why the work was not done, and how that is told.
+use sms_handset_machine::StartError;
+use sms_keep::KeepError;
+use std::io::{self, Print};
+
+const USAGE: &str =
+    "usage: handset --connect PORT --number NUMBER --centre NUMBER --slots K --store FILE --frames N < LINES\n\
+    \u{20}      handset show --store FILE\n\
+    NUMBER is 1 to 20 digits, K 1 to 255; it ends after N frames, or when the link closes.\n\
+    LINES are `write NUMBER REPORT HEX` (REPORT 0 or 1, HEX the text in UTF-8), `delete ENTRY`, `discard ENTRY`\n";
+
+/// Why the work was not done.
+#[derive(Debug, Drop)]
+pub(crate) enum Failure {
+    BadWords,
+    /// The owner's line of that number, from 1.
+    BadLine(u64),
+    NoMemory,
+    Store(KeepError),
+    /// Nothing can be looked at.
+    NoStore(io::Error),
+    /// The rows of the store could not have been left by a handset.
+    BadRows,
+    Connecting(io::Error),
+    /// Standard input or output.
+    Standard(io::Error),
+    /// The centre sent octets that are no frames.
+    Link,
+}
+
+impl Failure {
+    /// The exit status.
+    pub(crate) fn status(&self) -> u8 {
+        match self {
+            Failure::BadWords | Failure::BadLine(_) => 2,
+            Failure::NoMemory => 3,
+            Failure::Store(_) | Failure::NoStore(_) | Failure::BadRows => 4,
+            Failure::Connecting(_) | Failure::Standard(_) | Failure::Link => 5,
+        }
+    }
+}
+
+impl From<StartError> for Failure {
+    fn from(error: StartError) -> Failure {
+        match error {
+            StartError::BadRows => Failure::BadRows,
+            StartError::NoMemory => Failure::NoMemory,
+            StartError::Store(error) => Failure::Store(error),
+        }
+    }
+}
+
+/// Says on standard error why the work was not done.
+pub(crate) fn tell(rt: &HostRuntime, failure: &Failure) -> io::Result<()> {
+    match failure {
+        Failure::BadWords => eprint!(rt; "{USAGE}"),
+        Failure::BadLine(line) => eprint!(rt; "handset: line {line}: bad line\n"),
+        Failure::NoMemory => eprint!(rt; "handset: out of memory\n"),
+        Failure::Store(error) => eprint!(rt; "handset: {}: {error}\n", error.code()),
+        Failure::NoStore(error) => eprint!(rt; "handset: no store: {error}\n"),
+        Failure::BadRows => eprint!(rt; "handset: the rows of the store are not sound\n"),
+        Failure::Connecting(error) => eprint!(rt; "handset: no connection: {error}\n"),
+        Failure::Standard(error) => {
+            eprint!(rt; "handset: standard input or output failed: {error}\n")
+        }
+        Failure::Link => eprint!(rt; "handset: the centre sends no frames\n"),
+    }
+}

@@ -1,0 +1,95 @@
+//! A handset: does what its owner asks and what the centre sends, over a link, or shows what it stores.
+#![tactic(auto)]
+
+ghost use Rattle.std.specs.Prelude.{IfOk, IfSome};
+ghost use Rattle.sms_handset.specs.SoundRows.{IsSetup};
+ghost use Rattle.handset.specs.Setups.{AreWords};
+
+mod clock;
+mod failure;
+mod looking;
+mod running;
+
+use crate::clock::first_moment;
+use crate::failure::{Failure, tell};
+use crate::looking::show_store;
+use crate::running::{Run, run_lines};
+use sms_handset::Setup;
+use smsc_server::WordsFault;
+use smsc_words::{HandsetWords, handset_words};
+use std::process::ExitCode;
+use std::{env, io};
+
+fn main(rt: HostRuntime) -> ExitCode {
+    match started(&rt) {
+        Ok(()) => ExitCode::from(0),
+        Err(failure) => match tell(&rt, &failure) {
+            Ok(()) => ExitCode::from(failure.status()),
+            Err(_) => ExitCode::from(5),
+        },
+    }
+}
+
+fn started(rt: &HostRuntime) -> Result<(), Failure> {
+    let owned = args_of(rt)?;
+    do_args(rt, owned.as_slice())
+}
+
+fn args_of(rt: &HostRuntime) -> Result<Vec<String>, Failure> {
+    let args = env::args(rt).map_err(|error| match error.kind() {
+        io::ErrorKind::OutOfMemory => Failure::NoMemory,
+        _ => Failure::BadWords,
+    })?;
+    let mut owned = Vec::new(rt.alloc());
+    for arg in args {
+        owned.push(arg).map_err(|_| Failure::NoMemory)?;
+    }
+    Ok(owned)
+}
+
+fn do_args(rt: &HostRuntime, owned: &[String]) -> Result<(), Failure> {
+    let mut words = Vec::new(rt.alloc());
+    for word in owned {
+        words.push(word.as_str()).map_err(|_| Failure::NoMemory)?;
+    }
+    do_words(rt, words.as_slice())
+}
+
+#[tactic(auto, using(crate::proofs::Asked::are_words))]
+fn do_words(rt: &HostRuntime, words: &[&str]) -> Result<(), Failure> {
+    match handset_words(rt.alloc(), words) {
+        Ok(asked) => do_asked(rt, &asked),
+        Err(WordsFault::BadWords) => Err(Failure::BadWords),
+        Err(WordsFault::NoMemory) => Err(Failure::NoMemory),
+    }
+}
+
+fn do_asked(rt: &HostRuntime, asked: &HandsetWords<'_>) -> Result<(), Failure>
+    requires { AreWords asked.now }
+{
+    match asked {
+        HandsetWords::Run {
+            connect,
+            number,
+            centre,
+            slots,
+            store,
+            frames,
+        } => {
+            let setup = Setup {
+                number: *number,
+                slots: *slots,
+                centre: *centre,
+                start: first_moment(),
+            };
+            let run = Run {
+                setup,
+                store,
+                port: *connect,
+                frames: *frames,
+            };
+            run_lines(rt, &run)
+        }
+        HandsetWords::Show { store } => show_store(rt, store),
+    }
+}
