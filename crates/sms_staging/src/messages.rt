@@ -36,9 +36,16 @@ fn payload(octets: &[u8]) -> Option<OctetView<'_>>
     }
 }
 
-/// The submit_sm of a submission, whose message's octets are these.
-pub fn submit_of<'a>(submission: &Submission<'a>, octets: &'a [u8]) -> Message<'a>
-    requires { octets.now ≡ submission.now.message }
+/// The submit_sm of a submission, over its texts: the destination's, the validity's and the message's octets.
+pub fn submit_of<'a>(
+    submission: &Submission<'_>,
+    to: &'a [u8],
+    validity: &'a [u8],
+    octets: &'a [u8],
+) -> Message<'a>
+    requires to { to.now ≡ submission.now.to }
+    requires validity { validity.now ≡ submission.now.validity }
+    requires octets { octets.now ≡ submission.now.message }
     ensures { result ≡ submit_of_submission submission.entry.now }
 {
     Message {
@@ -47,13 +54,13 @@ pub fn submit_of<'a>(submission: &Submission<'a>, octets: &'a [u8]) -> Message<'
         destination: SmeAddress {
             ton: 1,
             npi: 1,
-            addr: OctetView::of(submission.to.as_slice()),
+            addr: OctetView::of(to),
         },
         esm_class: submission.esm_class,
         protocol_id: 0,
         priority_flag: submission.priority,
         schedule_delivery_time: OctetView::of(&[]),
-        validity_period: OctetView::of(submission.validity.as_slice()),
+        validity_period: OctetView::of(validity),
         registered_delivery: submission.registered_delivery,
         replace_if_present_flag: 0,
         data_coding: submission.coding,

@@ -1,0 +1,122 @@
+//! Rows of a ladder: a lane for each application, for the centre and for each handset.
+use sms_base::Octets;
+use std::alloc::AllocError;
+
+// Characters from a lane to the next.
+const WIDTH: usize = 20;
+
+// What stands between two lanes, the next one's place not counted.
+const GAP: usize = WIDTH - 1;
+
+// The last place of a gap.
+const LAST: usize = GAP - 1;
+
+/// How a row runs between two lanes.
+#[derive(Clone, Copy)]
+pub(crate) enum Stroke {
+    /// It arrives.
+    Whole,
+    /// It was sent, and nothing is said of its arrival.
+    Broken,
+}
+
+/// From the one lane to the other.
+#[derive(Clone, Copy)]
+pub(crate) struct Arrow {
+    pub from: usize,
+    pub to: usize,
+    pub stroke: Stroke,
+}
+
+fn stroke_at(stroke: Stroke, place: usize) -> u8 {
+    match stroke {
+        Stroke::Whole => b'-',
+        Stroke::Broken => { if place % 2 == 0 { b'-' } else { b' ' } }
+    }
+}
+
+impl Arrow {
+    // What stands in that place of the gap behind that lane.
+    fn at(&self, lane: usize, place: usize) -> u8 {
+        let first = self.from.min(self.to);
+        let last = self.from.max(self.to);
+        if lane < first || last <= lane {
+            return b' ';
+        }
+        if self.to < self.from && lane == first && place == 0 {
+            return b'<';
+        }
+        if self.from < self.to && lane + 1 == last && place == LAST {
+            return b'>';
+        }
+        stroke_at(self.stroke, place)
+    }
+}
+
+fn put_note(out: &mut Octets, note: &str) -> Result<(), AllocError> {
+    if !note.is_empty() {
+        out.append(b"  ")?;
+        out.append(note.as_bytes())?;
+    }
+    out.append(b"\n")
+}
+
+fn put_gap(out: &mut Octets, arrow: &Arrow, lane: usize) -> Result<(), AllocError> {
+    for place in 0..GAP {
+        out.push(arrow.at(lane, place))?;
+    }
+    Ok(())
+}
+
+/// A row with an arrow.
+pub(crate) fn put_arrow(
+    out: &mut Octets,
+    lanes: usize,
+    arrow: Arrow,
+    note: &str,
+) -> Result<(), AllocError> {
+    for lane in 0..lanes {
+        out.push(b'|')?;
+        if lane + 1 < lanes {
+            put_gap(out, &arrow, lane)?;
+        }
+    }
+    put_note(out, note)
+}
+
+fn put_blanks(out: &mut Octets) -> Result<(), AllocError> {
+    for _ in 0..GAP {
+        out.push(b' ')?;
+    }
+    Ok(())
+}
+
+/// A row with a mark in one lane.
+pub(crate) fn put_mark(
+    out: &mut Octets,
+    lanes: usize,
+    at: usize,
+    mark: u8,
+    note: &str,
+) -> Result<(), AllocError> {
+    for lane in 0..lanes {
+        out.push(if lane == at { mark } else { b'|' })?;
+        if lane + 1 < lanes {
+            put_blanks(out)?;
+        }
+    }
+    put_note(out, note)
+}
+
+/// The name of a lane, in as many characters as lanes are apart where another follows.
+pub(crate) fn put_name(out: &mut Octets, name: &[u8], is_last: bool) -> Result<(), AllocError> {
+    let shown = name.len().min(GAP);
+    out.append(&name[..shown])?;
+    if is_last {
+        return Ok(());
+    }
+    for _ in shown..WIDTH {
+        out.push(b' ')?;
+    }
+    Ok(())
+}

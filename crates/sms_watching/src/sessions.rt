@@ -1,0 +1,152 @@
+//! The sessions of a script's applications, as a capture has them.
+ghost use Rattle.std.specs.Prelude.{◌≤◌, length, IfSome};
+
+use crate::pdus::octets_of;
+use smpp_pdu::{Body, Pdu};
+use sms_base::{Moment, OctetView, Octets};
+use sms_capture::{CapturedPdu, put_pdu};
+use std::alloc::{AllocError, Global};
+
+/// How far the session of an application is.
+#[derive(Clone, Copy)]
+pub(crate) struct SessionSoFar {
+    application: u16,
+    // How many octets went up and down.
+    up: u32,
+    down: u32,
+    // The last sequence numbers of the application and of the centre.
+    asked: u32,
+    told: u32,
+}
+
+// A PDU that a packet has room for. Octets are counted modulo 2^32, as TCP does (RFC 9293 3.4).
+fn length_of(octets: &[u8]) -> Option<u32>
+    ensures { IfSome result (λ size. length octets.now ≤ 65495) }
+{
+    if octets.len() <= 65_495 {
+        Some(octets.len() as u32)
+    } else {
+        None
+    }
+}
+
+impl SessionSoFar {
+    /// The session of the application at that place, before its first PDU.
+    pub(crate) fn of(application: u16) -> SessionSoFar {
+        SessionSoFar {
+            application,
+            up: 0,
+            down: 0,
+            asked: 0,
+            told: 0,
+        }
+    }
+
+    fn put(
+        &mut self,
+        out: &mut Octets,
+        moment: Moment,
+        is_up: bool,
+        octets: &[u8],
+    ) -> Result<(), AllocError> {
+        let Some(size) = length_of(octets) else {
+            return Ok(());
+        };
+        let pdu = CapturedPdu {
+            moment,
+            application: self.application,
+            is_up,
+            sent: if is_up { self.up } else { self.down },
+            received: if is_up { self.down } else { self.up },
+            octets: OctetView::of(octets),
+        };
+        put_pdu(out, &pdu)?;
+        if is_up {
+            self.up = self.up.wrapping_add(size);
+        } else {
+            self.down = self.down.wrapping_add(size);
+        }
+        Ok(())
+    }
+
+    fn put_body(
+        &mut self,
+        alloc: Global,
+        out: &mut Octets,
+        moment: Moment,
+        is_up: bool,
+        pdu: &Pdu<'_>,
+    ) -> Result<(), AllocError> {
+        match octets_of(alloc, pdu)? {
+            Some(octets) => self.put(out, moment, is_up, octets.as_slice()),
+            None => Ok(()),
+        }
+    }
+
+    /// The application asks.
+    pub(crate) fn ask(
+        &mut self,
+        alloc: Global,
+        out: &mut Octets,
+        moment: Moment,
+        body: Body<'_>,
+    ) -> Result<(), AllocError> {
+        self.asked = self.asked.wrapping_add(1);
+        let pdu = Pdu {
+            command_status: 0,
+            sequence_number: self.asked,
+            body,
+        };
+        self.put_body(alloc, out, moment, true, &pdu)
+    }
+
+    /// It is answered.
+    pub(crate) fn answer(
+        &mut self,
+        alloc: Global,
+        out: &mut Octets,
+        moment: Moment,
+        status: u32,
+        body: Body<'_>,
+    ) -> Result<(), AllocError> {
+        let pdu = Pdu {
+            command_status: status,
+            sequence_number: self.asked,
+            body,
+        };
+        self.put_body(alloc, out, moment, false, &pdu)
+    }
+
+    /// The centre tells it something.
+    pub(crate) fn tell(
+        &mut self,
+        alloc: Global,
+        out: &mut Octets,
+        moment: Moment,
+        body: Body<'_>,
+    ) -> Result<(), AllocError> {
+        self.told = self.told.wrapping_add(1);
+        let pdu = Pdu {
+            command_status: 0,
+            sequence_number: self.told,
+            body,
+        };
+        self.put_body(alloc, out, moment, false, &pdu)
+    }
+
+    /// It accepts what it was told.
+    pub(crate) fn accept(
+        &mut self,
+        alloc: Global,
+        out: &mut Octets,
+        moment: Moment,
+        body: Body<'_>,
+    ) -> Result<(), AllocError> {
+        let pdu = Pdu {
+            command_status: 0,
+            sequence_number: self.told,
+            body,
+        };
+        self.put_body(alloc, out, moment, true, &pdu)
+    }
+}
