@@ -1,17 +1,15 @@
 -- The bag of a course, as the world has it.
-use Rattle.std.proofs.Common.{◌≡◌, ℕ, ◌+◌, arith, zero, suc, List, [], ◌∷◌, ◌++◌, length, Bool, true, false, refl, sym, ◌∙◌, ap, subst, inl, inr, ⊎_elim, Option, Some, None}
+use Rattle.std.proofs.Common.{◌≡◌, ℕ, ◌+◌, arith, suc, List, [], ◌∷◌, ◌++◌, length, true, false, refl, sym, ◌∙◌, ap, subst, inl, inr, ⊎_elim, Some}
 use Rattle.std.specs.Prelude.{◌⊎◌, ◌==◌}
 use Rattle.std.proofs.lemmas.Bool.{cases_Bool, cond-false, cond-true, eqb-true}
 use Rattle.sms_base.specs.Among.{Among}
-use Rattle.sms_base.specs.declared.carried.Carried.{Carried}
 use Rattle.sms_link.specs.declared.outgoing.Outgoing.{Outgoing}
-use Rattle.sms_report.specs.declared.rows.Direction.{Direction}
 use Rattle.sms_report.specs.declared.rows.Direction.TheVariants.{Up, Down}
 use Rattle.sms_report.specs.declared.rows.FrameRow.{FrameRow}
 use Rattle.sms_waiting.specs.SoundGivings.{IsNumber}
 use Rattle.sms_waiting.specs.declared.line.Sent.{Sent as SentDown}
 use Rattle.sms_play.specs.CentreSide.{all_sent as all_sent_down}
-use Rattle.sms_play.specs.Course.{frame_at, sent}
+use Rattle.sms_play.specs.Course.{frame_at}
 use Rattle.sms_play.specs.HandsetSide.{all_sent as all_sent_up}
 use Rattle.sms_world.specs.World.{Sent}
 use Rattle.sms_frame_sight.specs.FramesUp.{AreWhole, sent_as, stacked}

@@ -1,5 +1,5 @@
 -- Each event of a script.
-use Rattle.std.proofs.Common.{◌≡◌, ℕ, List, [], Bool, true, false, refl, sym, ap, subst, Option, Some, None, Result, Ok, Err}
+use Rattle.std.proofs.Common.{◌≡◌, ℕ, List, [], Bool, true, false, refl, subst, Option, Some, None, Result, Ok, Err}
 use Rattle.std.specs.Prelude.{if◌then◌else◌}
 use Rattle.sms_base.specs.Reading.{◌>>=◌}
 use Rattle.sms_report.specs.declared.answers.Answered.TheVariants.{Stopped as AnsweredStopped}
@@ -8,18 +8,17 @@ use Rattle.sms_script.specs.declared.event.Side.{Side}
 use Rattle.sms_script.specs.declared.event.Side.TheVariants.{Centre, Handset}
 use Rattle.sms_script.specs.declared.event.Stop.{Stop}
 use Rattle.sms_script.specs.declared.event.Stop.TheVariants.{Before, After}
-use Rattle.sms_script.specs.declared.event.WorldEvent.{WorldEvent}
 use Rattle.sms_script.specs.declared.event.WorldEvent.TheVariants.{Whole, Stopped, Restart}
 use Rattle.sms_play.specs.declared.fault.PlayFault.{PlayFault}
 use Rattle.sms_play.specs.Course.{Course, Party, answer, party_at}
 use Rattle.sms_play.specs.Meeting.{AtCentre, AtHandset, Meeting, is_answered, meeting_of}
-use Rattle.sms_play.specs.PlayedEvent.{handset_restarts, kept, met, played, restart, restarted, stopped}
+use Rattle.sms_play.specs.PlayedEvent.{handset_restarts, kept, met, restart, restarted, stopped}
 use Rattle.sms_world.specs.Run.{end}
 use Rattle.sms_world.specs.ScriptRun.{Event, items}
 use Rattle.sms_world.specs.World.{World}
 use Rattle.sms_course_sight.specs.CourseRuns.{EventLaw, LeadsTo}
 use Rattle.sms_course_sight.specs.CourseSight.{CourseSees}
-use Rattle.sms_course_sight.specs.Happening.{ActHandsOctets, IsGoodAct, act_moment, event_of}
+use Rattle.sms_course_sight.specs.Happening.{act_moment, event_of}
 use Rattle.sms_course_sight.proofs.CentreMeets.{centre_goes, centre_restarts, centre_stops}
 use Rattle.sms_course_sight.proofs.HandsetMeets.{Goes, answer_sees, handset_goes, handset_stops, restart_sees, restarted_sees}
 use Rattle.sms_course_sight.proofs.Meetings.{Meets, meets, number_of}

@@ -1,5 +1,5 @@
 -- Whom an act of a script meets, and that the world allows it.
-use Rattle.std.proofs.Common.{◌≡◌, ℕ, List, [], ◌∷◌, refl, sym, ◌∙◌, ap, subst, inl, inr, Option, Some, None, Result, Ok, Err}
+use Rattle.std.proofs.Common.{◌≡◌, ℕ, List, [], refl, sym, subst, inl, inr, Option, Some, None, Result, Ok}
 use Rattle.std.specs.Str.{chars}
 use Rattle.sms_base.specs.Among.{Among}
 use Rattle.sms_base.specs.declared.carried.Carried.{Carried}
@@ -21,7 +21,7 @@ use Rattle.sms_handset.specs.declared.event.HandsetEvent.TheVariants.{Frame as H
 use Rattle.sms_play.specs.declared.fault.PlayFault.{PlayFault}
 use Rattle.sms_play.specs.Course.{Course, Party, frame_at, party_at}
 use Rattle.sms_play.specs.Meeting.{AtCentre, AtHandset, Meeting, account_from, by_account, by_handset, cancel_of, delivered, handed_over, meeting_of, query_of, submit_of, tag_in}
-use Rattle.sms_world.specs.ScriptRun.{Handed, IsPlayed}
+use Rattle.sms_world.specs.ScriptRun.{IsPlayed}
 use Rattle.sms_world.specs.World.{Sent, World}
 use Rattle.sms_world.specs.WorldStep.{Step}
 use Rattle.sms_frame_sight.proofs.Passing.{goes_down, goes_up}

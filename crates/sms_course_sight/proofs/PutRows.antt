@@ -1,5 +1,5 @@
 -- What a handset's changes put, as a course collects it.
-use Rattle.std.proofs.Common.{◌≡◌, ℕ, List, [], ◌∷◌, ◌++◌, refl, sym, ◌∙◌, ap}
+use Rattle.std.proofs.Common.{◌≡◌, ℕ, List, [], ◌∷◌, ◌++◌, refl, sym, ◌∙◌}
 use Rattle.sms_inbox.specs.declared.entry.Entry.{Entry}
 use Rattle.sms_inbox.specs.declared.entry.Message.{Message}
 use Rattle.sms_inbox.specs.declared.entry.Message.TheVariants.{Single, Part, Joined}

@@ -1,5 +1,5 @@
 -- All events of a script, one after another.
-use Rattle.std.proofs.Common.{◌≡◌, ℕ, ◌+◌, List, [], ◌∷◌, Bool, true, false, refl, sym, ◌∙◌, ap, subst, ⊎_elim, Result, Ok, Err}
+use Rattle.std.proofs.Common.{◌≡◌, ℕ, ◌+◌, List, [], ◌∷◌, true, false, refl, sym, ◌∙◌, subst, ⊎_elim, Result, Ok, Err}
 use Rattle.std.proofs.lemmas.Bool.{cases_Bool, cond-false, cond-true}
 use Rattle.sms_base.specs.Reading.{◌>>=◌}
 use Rattle.sms_script.specs.declared.event.WorldEvent.{WorldEvent}
@@ -7,7 +7,7 @@ use Rattle.sms_play.specs.declared.fault.PlayFault.{PlayFault}
 use Rattle.sms_play.specs.declared.fault.PlayFault.TheVariants.{BadSetup}
 use Rattle.sms_play.specs.Course.{Course}
 use Rattle.sms_play.specs.PlayedEvent.{played}
-use Rattle.sms_play.specs.Playing.{course_of, played_on}
+use Rattle.sms_play.specs.Playing.{played_on}
 use Rattle.sms_play.specs.Setups.{beginning, can_be_played}
 use Rattle.sms_world.specs.ScriptRun.{Happening, Plays}
 use Rattle.sms_world.specs.World.{World, empty}

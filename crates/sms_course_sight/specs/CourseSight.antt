@@ -2,7 +2,6 @@
 -- numbers, and what each handset accepted and joined is the world's, in order.
 use Rattle.std.specs.Prelude.{◌≡◌, ℕ, List, [], ◌∷◌, ◌++◌, Option}
 use Rattle.sms_base.specs.Among.{Among}
-use Rattle.sms_base.specs.Reading.{AreOctets}
 use Rattle.sms_base.specs.declared.carried.Carried.{Carried}
 use Rattle.sms_report.specs.declared.rows.Direction.{Direction}
 use Rattle.sms_report.specs.declared.rows.Direction.TheVariants.{Up, Down}

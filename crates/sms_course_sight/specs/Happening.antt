@@ -1,5 +1,5 @@
 -- What an event of a script is in the world: which event, how it went, and when.
-use Rattle.std.specs.Prelude.{◌≡◌, ℕ, max, Option, Some, None}
+use Rattle.std.specs.Prelude.{ℕ, max, Option, Some, None}
 use Rattle.sms_base.specs.Reading.{AreOctets}
 use Rattle.sms_base.specs.TimeStamp.{IsMoment}
 use Rattle.sms_report.specs.declared.rows.Direction.{Direction}

@@ -1,5 +1,5 @@
 -- An acknowledgement that is handed to a handset and is decided timely was made for the entry that holds its reference.
-use Rattle.std.proofs.Common.{◌≡◌, ℕ, List, [], ◌∷◌, true, refl, sym, ◌∙◌, ap, subst, Option, Some, None, Result, Ok, Err}
+use Rattle.std.proofs.Common.{◌≡◌, ℕ, List, [], true, refl, sym, ◌∙◌, ap, subst, Option, Some, None, Result, Ok, Err}
 use Rattle.sms_base.specs.Among.{Among}
 use Rattle.sms_base.specs.Reading.{◌>>=◌}
 use Rattle.sms_base.specs.declared.carried.Carried.{Carried as Carries}

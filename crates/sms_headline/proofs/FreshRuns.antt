@@ -1,6 +1,5 @@
 -- While frames come in time and rounds begin only where they may, what ends at a handset is one round.
 use Rattle.std.proofs.Common.{◌≡◌, ℕ, List, [], ◌∷◌, ◌++◌, Bool, refl, sym, ◌∙◌, subst, inl, inr, ⊎_elim}
-use Rattle.std.specs.Prelude.{◌⊎◌}
 use Rattle.sms_base.specs.Among.{Among}
 use Rattle.sms_world.specs.Fresh.{FreshParts, SubmitsFresh}
 use Rattle.sms_world.specs.References.{Ticket}

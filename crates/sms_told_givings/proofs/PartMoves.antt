@@ -5,7 +5,7 @@ use Rattle.std.proofs.lemmas.Bool.{cases_eq}
 use Rattle.sms_base.specs.Among.{Among}
 use Rattle.sms_table.specs.declared.change.Change.{Change}
 use Rattle.sms_table.specs.Table.{row_at}
-use Rattle.sms_table.proofs.Tables.{found_key, row_at_put, row_at_put_other}
+use Rattle.sms_table.proofs.Tables.{row_at_put, row_at_put_other}
 use Rattle.sms_messages.specs.declared.message.MessageRow.{MessageRow}
 use Rattle.sms_messages.specs.declared.part.PartRow.{PartRow}
 use Rattle.sms_messages.specs.Messages.{part_key, part_reaching}

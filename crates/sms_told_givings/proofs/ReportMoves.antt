@@ -1,9 +1,8 @@
 -- Reports that an event puts are of messages that had none.
-use Rattle.std.proofs.Common.{◌≡◌, ℕ, ◌+◌, ◌≤◌, List, [], ◌∷◌, ◌++◌, Bool, true, false, refl, sym, ◌∙◌, ap, subst, inl, inr, ⊎_elim, Option, Some, None}
+use Rattle.std.proofs.Common.{◌≡◌, ℕ, ◌+◌, List, [], ◌∷◌, ◌++◌, true, false, refl, sym, ◌∙◌, ap, subst, inl, inr, ⊎_elim, Option, Some, None}
 use Rattle.std.specs.Prelude.{◌==◌, nat_le}
 use Rattle.std.proofs.lemmas.Bool.{cases_eq, cond_both}
 use Rattle.sms_base.specs.Among.{Among}
-use Rattle.sms_base.specs.TimeStamp.{IsMoment}
 use Rattle.sms_base.specs.declared.final_state.FinalState.{FinalState}
 use Rattle.sms_base.specs.declared.final_state.FinalState.TheVariants.{Delivered}
 use Rattle.sms_base.specs.declared.originator.Originator.{Originator}
@@ -11,7 +10,7 @@ use Rattle.sms_base.specs.declared.originator.Originator.TheVariants.{Applicatio
 use Rattle.sms_messages.specs.declared.message.MessageRow.{MessageRow}
 use Rattle.sms_messages.specs.declared.part.PartRow.{PartRow}
 use Rattle.sms_messages.specs.Messages.{all_done, ended, is_pending, message_at, next_id}
-use Rattle.sms_messages.specs.SplitReferences.{is_delivered, next_split}
+use Rattle.sms_messages.specs.SplitReferences.{next_split}
 use Rattle.sms_reports.specs.Reports.{report_key, report_of, report_reaching}
 use Rattle.sms_reports.specs.declared.report.ReportKind.{ReportKind}
 use Rattle.sms_reports.specs.declared.report.ReportRow.{ReportRow}
@@ -32,10 +31,10 @@ use Rattle.sms_intake.specs.PartBodies.{bodies_under, is_long}
 use Rattle.sms_centre_rules.specs.CentreEvent.{happened}
 use Rattle.sms_centre_rules.specs.declared.event.CentreEvent.{CentreEvent}
 use Rattle.sms_centre_rules.specs.declared.rows.Rows.{Rows}
-use Rattle.sms_centre_rules.specs.Draft.{Core, Store, handsets_in, messages_in, parts_in, reports_in, rows_of, with_message, with_part_at}
+use Rattle.sms_centre_rules.specs.Draft.{Core, Store, handsets_in, messages_in, parts_in, reports_in, with_message, with_part_at}
 use Rattle.sms_centre_rules.specs.Ends.{end, is_wished, report_to, status_given}
 use Rattle.sms_centre_rules.specs.SoundCore.{IsEvent, IsSoundCore}
-use Rattle.sms_centre_rules.specs.Standing.{IsSubmission, Stands}
+use Rattle.sms_centre_rules.specs.Standing.{Stands}
 use Rattle.sms_centre_rules.specs.Submitting.{accept, accept_as, accept_split, accept_under, enter, give_part, give_parts, part_given, reference_for}
 use Rattle.sms_centre_rules.specs.Transfers.{complete}
 use Rattle.sms_centre_rules.proofs.Keeping.{keeps_same}
