@@ -1,5 +1,5 @@
 -- PDUs of a script's run that can be written.
-use Rattle.std.specs.Prelude.{ℕ, ◌≤◌}
+use Rattle.std.specs.Prelude.{◌≤◌}
 use Rattle.smpp_pdu.specs.BodyGrammar.{IsCancelValue, IsMessageValue, IsQueryRespValue, IsQueryValue}
 use Rattle.smpp_pdu.specs.Writing.{IfThere, IsMessageRespValue, written_len}
 use Rattle.smpp_pdu.specs.declared.body.Body.{Body}
