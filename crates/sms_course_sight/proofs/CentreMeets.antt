@@ -16,7 +16,7 @@ use Rattle.sms_centre_rules.specs.declared.event.CentreEvent.TheVariants.{Delive
 use Rattle.sms_centre_rules.specs.declared.rows.Rows.{Rows}
 use Rattle.sms_offered.proofs.AfterOffers.{event_offered}
 use Rattle.sms_play.specs.CentreSide.{accepted_after, answered_as, centre_meets, committed, done, told, whole}
-use Rattle.sms_play.specs.Course.{Course, Party, answer, numbers_of}
+use Rattle.sms_play.specs.Course.{Course, Party, numbers_of}
 use Rattle.sms_play.specs.PlayedEvent.{centre_restarted, sessions_from}
 use Rattle.sms_world.specs.Run.{Run, end}
 use Rattle.sms_world.specs.ScriptRun.{Event, IsPlayed, items}
