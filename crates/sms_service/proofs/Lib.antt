@@ -1,2 +1,5 @@
+mod ByFate
 mod NumbersTold
+mod RokNames
 mod Sittings
+mod ToldOfPlans

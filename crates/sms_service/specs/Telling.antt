@@ -2,11 +2,10 @@
 use Rattle.std.specs.Prelude.{ℕ, List, [], ◌∷◌, ◌++◌, Option, Some, None, Bool, false, if◌then◌else◌, bytes_eq}
 use Rattle.smpp_pdu.specs.declared.status.CommandStatus.TheVariants.{ESME_RSYSERR}
 use Rattle.sms_base.specs.declared.final_state.FinalState.{FinalState}
-use Rattle.sms_base.specs.declared.originator.Originator.{Originator}
-use Rattle.sms_base.specs.declared.originator.Originator.TheVariants.{Application, Handset}
 use Rattle.sms_centre_rules.specs.declared.answer.CentreAnswer.{CentreAnswer}
 use Rattle.sms_centre_rules.specs.declared.answer.CentreAnswer.TheVariants.{Refused}
 use Rattle.sms_centre_rules.specs.Draft.{Draft, messages_in}
+use Rattle.sms_centre_rules.specs.Finals.{final_of}
 use Rattle.sms_jobs.specs.declared.job.Job.{Job}
 use Rattle.sms_jobs.specs.declared.job.Job.TheVariants.{LinkUp}
 use Rattle.sms_jobs.specs.declared.reply.Reply.{Reply}
@@ -25,6 +24,9 @@ use Rattle.sms_service.specs.Seats.{Seats, seat_of}
 
 abbrev pub for_seat : ℕ → Reply → List (Out Reply)
 for_seat seat reply = record { seat = seat; out = reply } ∷ []
+
+abbrev pub answer_for : ℕ → CentreAnswer → Out Reply
+answer_for seat answer = record { seat = seat; out = Answer answer }
 
 -- ---- what fails, or asks nothing
 
@@ -68,22 +70,9 @@ frame_outs risen seat links (sent ∷ others) = frame_out (seat_for risen seat l
 
 -- ---- receipts
 
--- TP-MR of the SUBMIT of a handset's message
-abbrev pub submit_reference : Originator → ℕ
-submit_reference (Application account) = 0
-submit_reference (Handset message_reference) = message_reference
-
 abbrev pub ended : MessageRow → FinalState → Option ℕ → Option Final
 ended m state None = None
-ended m state (Some done) = Some (record {
-  id = m.id;
-  source = m.source;
-  handset = m.handset;
-  message_reference = submit_reference m.originator;
-  submitted = m.submitted;
-  done = done;
-  state = state;
-})
+ended m state (Some done) = Some (final_of state done m)
 
 -- what is told of a message that has come to this, if it ended
 abbrev pub end_in : MessageRow → Option FinalState → Option Final

@@ -1,0 +1,12 @@
+use Rattle.std.proofs.Common.{◌∙◌}
+use Rattle.sms_service.proofs.ByFate.{is_undone}
+use Rattle.sms_service.proofs.service.Service.happen.Goals as goal
+
+pub returns-in-Ok-clause-gives : goal.returns-in-Ok-clause-gives
+returns-in-Ok-clause-gives g c = λ honest s serving.
+    c.meet.ensures.gives honest s (record { rows = serving.rows; centre = serving.centre; seats = c.make_room.ensures.seats ∙ serving.seats })
+
+pub returns-in-Err-clause-gives : goal.returns-in-Err-clause-gives
+returns-in-Err-clause-gives g c = λ honest s serving.
+    is_undone (g.K.Keep.holds c.args.self.now.machine.keep) (g.K.Keep.is_closed c.args.self.now.machine.keep) c.args.self.now.machine.centre c.make_room.new.self s c.args.stimulus.now c.args.event.now c.unmade.result.fate _
+    c.unmade.ensures.fate c.unmade.ensures.history (record { rows = serving.rows; centre = serving.centre; seats = c.make_room.ensures.seats ∙ serving.seats })
