@@ -4,9 +4,9 @@ use sms_base::{Address, Listed, Moment};
 use sms_centre_rules::{Rows, Setup};
 use sms_keep::KeepError;
 use sms_listing::load_cause_of;
-use sqlite::Connection;
+use sms_snapshot::{DatabaseCopy, connect, copy_at};
 use std::alloc::Global;
-use std::fs::metadata;
+use std::io::ErrorKind;
 
 // The first second of the year 2000.
 const FIRST_SECOND: u64 = 946_684_800;
@@ -23,24 +23,29 @@ fn any_setup(alloc: Global) -> Result<Setup, KeepError> {
     }
 }
 
-// Whether a file that holds something stands at the path. An open would make one where there is none.
-fn check_file(rt: &HostRuntime, path: &str) -> Result<(), KeepError> {
-    match metadata(rt, path) {
-        Ok(found) if found.is_file() && found.len() > 0 => Ok(()),
-        Ok(_) => Err(KeepError::NotThisStore),
+fn copy_of(rt: &HostRuntime, path: &str) -> Result<DatabaseCopy, KeepError> {
+    match copy_at(rt, path) {
+        Ok(copy) => Ok(copy),
+        Err(error) if error.kind() == ErrorKind::OutOfMemory => Err(KeepError::NoMemory),
         Err(_) => Err(KeepError::Disk),
     }
 }
 
-/// The rows of the centre's store at the path. The setup among them says nothing. A store of version 1 is `OldVersion`, what is no
-/// store of a centre `NotThisStore`, and a file that is not there `Disk`.
+fn look_at(alloc: Global, copy: &DatabaseCopy) -> Result<Rows, KeepError> {
+    let setup = any_setup(alloc)?;
+    match connect(alloc, copy) {
+        Ok(conn) => {
+            let looked = look_over(alloc, conn, setup)?;
+            Ok(looked.rows)
+        }
+        Err(error) => Err(load_cause_of(error)),
+    }
+}
+
+/// The rows of the centre's store at the path, by a copy of its files in memory: a server may have it open, and none of it is
+/// changed. The setup among them says nothing. A store of version 1 is `OldVersion`, what is no store of a centre `NotThisStore`, and a
+/// file that is not there `Disk`.
 pub fn rows_at(rt: &HostRuntime, path: &str) -> Result<Rows, KeepError> {
-    check_file(rt, path)?;
-    let setup = any_setup(rt.alloc())?;
-    let conn = match Connection::open(rt, path) {
-        Ok(conn) => conn,
-        Err(error) => return Err(load_cause_of(error)),
-    };
-    let looked = look_over(rt.alloc(), conn, setup)?;
-    Ok(looked.rows)
+    let copy = copy_of(rt, path)?;
+    look_at(rt.alloc(), &copy)
 }
