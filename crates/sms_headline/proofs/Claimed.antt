@@ -48,18 +48,18 @@ abbrev unplayed : Result Course PlayFault
 unplayed = Err BadSetup
 
 -- a head that leads anywhere can be played
-record CanPlay (s : Setup) (es : List WorldEvent) (c : Course) : Type 0 where
-  can : can_be_played s ≡ true
-  leads : played_on 1 es (beginning s) ≡ ok_course c
+pub record CanPlay (s : Setup) (es : List WorldEvent) (c : Course) : Type 0 where
+  pub can : can_be_played s ≡ true
+  pub leads : played_on 1 es (beginning s) ≡ ok_course c
 
-can_play : (s : Setup) (es : List WorldEvent) (c : Course) → course_of s es ≡ ok_course c → CanPlay s es c
+pub can_play : (s : Setup) (es : List WorldEvent) (c : Course) → course_of s es ≡ ok_course c → CanPlay s es c
 can_play s es c e = ⊎_elim
     (λ (t : can_be_played s ≡ true). record { can = t; leads = sym (cond-true (can_be_played s) (played_on 1 es (beginning s)) unplayed t) ∙ e })
     (λ (f : can_be_played s ≡ false). let bad : unplayed ≡ ok_course c = sym (cond-false (can_be_played s) (played_on 1 es (beginning s)) unplayed f) ∙ e in absurd cc)
     (cases_Bool (can_be_played s))
 
 -- whatever a script hands to the centre is octets
-script_hands : (text : List ℕ) (script : Script) → script_in text ≡ Ok script → can_be_played script.setup ≡ true → AllHandOctets 1 script.events (beginning script.setup)
+pub script_hands : (text : List ℕ) (script : Script) → script_in text ≡ Ok script → can_be_played script.setup ≡ true → AllHandOctets 1 script.events (beginning script.setup)
 script_hands text script reads can =
     let s : CourseSees (beginning script.setup) empty = begins script.setup can in
     all_hand 1 script.events (beginning script.setup) empty s (begins_keep script.setup s) (script_good text script reads) (script_texts text script reads)
@@ -155,7 +155,7 @@ told_is text script some others c d is on timely x i e =
     (f.message, (among, f.id, λ p j of. once f.message p among (f.state ∙ ap (λ (z : FinalState). Some z) e) j of))
 
 -- while references are fresh, too, one where each ended group is a round
-matches : (text : List ℕ) (script : Script) (some others : List WorldEvent) (c d : Course) → IsScript text script some others → LeadsOn script some c d → AllTimely 1 some (beginning script.setup)
+pub matches : (text : List ℕ) (script : Script) (some others : List WorldEvent) (c d : Course) → IsScript text script some others → LeadsOn script some c d → AllTimely 1 some (beginning script.setup)
     → AllFresh 1 some (beginning script.setup) → Matches c
 matches text script some others c d is on timely fresh =
     let s : Setup = script.setup in

@@ -28,3 +28,6 @@ pub mod UpwardRuns
 pub mod SentClaims
 pub mod Claimed
 pub mod Played
+pub mod SplitJoins
+pub mod SplitCourses
+pub mod SplitClaimed

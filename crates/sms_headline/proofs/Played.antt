@@ -13,6 +13,7 @@ use Rattle.sms_headline.specs.HeadlineLaws.{AlwaysHolds, HoldsInTime, IsScript, 
 use Rattle.sms_headline.proofs.Claimed.{delivered_is, given_is, held_is, joined_is, joined_once_is, joined_whole_is, lines_are, once_is, receipts_are, sent_is, told_is}
 use Rattle.sms_headline.proofs.ExactPremises.{none_is}
 use Rattle.sms_headline.proofs.PremisesHold.{premises_hold}
+use Rattle.sms_headline.proofs.SplitClaimed.{split_joined_is, split_long_is}
 
 nothing_more : (es : List WorldEvent) → es ≡ es ++ []
 nothing_more [] = refl
@@ -44,6 +45,7 @@ module _ (text : List ℕ) (script : Script) (reads : script_in text ≡ Ok scri
     held = held_is text script script.events [] c c is on;
     given = given_is text script script.events [] c c is on;
     joined = joined_is text script script.events [] c c is on;
+    splits = split_long_is text script script.events [] c c is on;
   }
 
   in_time : premises_of script.setup script.events ≡ Ok None → HoldsInTime c
@@ -55,6 +57,7 @@ module _ (text : List ℕ) (script : Script) (reads : script_in text ≡ Ok scri
         sent = sent_is text script script.events [] c c is on timely;
         joined = joined_once_is text script script.events [] c c is on timely;
         whole = joined_whole_is text script script.events [] c c is on timely ((none_is script.setup script.events).0 hold).2;
+        split = split_joined_is text script script.events [] c c is on timely ((none_is script.setup script.events).0 hold).2;
       }
 
 pub played_is : PlayedLaw

@@ -1,11 +1,28 @@
 -- The claims, of every script that reads.
-use Rattle.std.specs.Prelude.{◌≡◌, ℕ, ◌+◌, List, ◌++◌, length, None, Ok}
+use Rattle.std.specs.Prelude.{◌≡◌, ℕ, ◌+◌, List, ◌∷◌, ◌++◌, length, true, Some, None, Ok}
+use Rattle.sms_concat.specs.declared.content.Content.{Content}
+use Rattle.sms_intake.specs.declared.submission.Account.{Account as CentreAccount}
+use Rattle.sms_intake.specs.declared.submission.Submission.{Submission}
+use Rattle.sms_intake.specs.declared.submission.Text.TheVariants.{Whole as WholeText}
+use Rattle.sms_intake.specs.PartBodies.{is_long}
+use Rattle.sms_intake.specs.SmppIntake.{from_pdu}
+use Rattle.sms_messages.specs.declared.message.MessageRow.{MessageRow}
+use Rattle.sms_messages.specs.Messages.{message_at, next_id}
+use Rattle.sms_centre_rules.specs.declared.event.CentreEvent.TheVariants.{Submit as CentreSubmit}
+use Rattle.sms_centre_rules.specs.CentreEvent.{happened}
+use Rattle.sms_centre_rules.specs.Draft.{messages_in}
+use Rattle.sms_centre_rules.specs.Requests.{account_at}
+use Rattle.sms_split_rows.specs.SplitRows.{IsSplitOf}
+use Rattle.sms_script.specs.declared.event.Act.TheVariants.{Submit}
+use Rattle.sms_script.specs.declared.event.Submission.{Submission as ScriptSubmission}
+use Rattle.sms_script.specs.declared.event.WorldEvent.TheVariants.{Whole}
 use Rattle.sms_report.specs.declared.report.Report.{Report}
 use Rattle.sms_script.specs.declared.event.WorldEvent.{WorldEvent}
 use Rattle.sms_script.specs.declared.script.Script.{Script}
 use Rattle.sms_script.specs.declared.setup.Setup.{Setup}
 use Rattle.sms_script.specs.WholeScript.{script_in}
 use Rattle.sms_play.specs.Course.{Course}
+use Rattle.sms_play.specs.Meeting.{account_from, submit_of}
 use Rattle.sms_play.specs.Playing.{course_of, play_of, premises_of, report_of}
 use Rattle.sms_play.specs.Setups.{beginning}
 use Rattle.sms_world.specs.ScriptRun.{Plays}
@@ -14,6 +31,7 @@ use Rattle.sms_course_sight.specs.CourseRuns.{happenings}
 use Rattle.sms_course_sight.specs.CourseSight.{CourseSees}
 use Rattle.sms_headline.specs.Claims.{AllTimely, AreOnce, DeliveredOnce, FinalStays, GivenOnce, HasOneLine, HeldDiffer, JoinedOfParts, JoinedOnce, JoinedWhole, ReceiptsTell, SentSubmitted, ToldOnce}
 use Rattle.sms_headline.specs.DecidedPremises.{AllFresh}
+use Rattle.sms_headline.specs.SplitClaims.{SplitsAreLong, SplitsJoined, SplitsStay}
 
 -- The text reads as a script of these events in order, some and then others.
 pub record IsScript (text : List ℕ) (script : Script) (some others : List WorldEvent) : Type 0 where
@@ -86,6 +104,29 @@ JoinedWholeLaw =
     (text : List ℕ) (script : Script) (some others : List WorldEvent) (c d : Course) → IsScript text script some others → LeadsOn script some c d
     → AllTimely 1 some (beginning script.setup) → AllFresh 1 some (beginning script.setup) → JoinedWhole c
 
+-- ---- messages that the centre split
+
+abbrev pub SplitLongLaw : Type 0
+SplitLongLaw = Of (λ c. SplitsAreLong c)
+
+abbrev pub SplitStaysLaw : Type 0
+SplitStaysLaw = (text : List ℕ) (script : Script) (some others : List WorldEvent) (c d : Course) → IsScript text script some others → LeadsOn script some c d → SplitsStay c d
+
+-- An event of the script submits a text that no part holds, for that account: if a message comes of it, it is that text, split, in what the
+-- script leads to from then on.
+abbrev pub SplitTextLaw : Type 0
+SplitTextLaw =
+    (text : List ℕ) (script : Script) (some others : List WorldEvent) (s : ScriptSubmission) (c d : Course) (place : ℕ) (account : CentreAccount) (u : Submission) (content : Content)
+    → IsScript text script some (Whole (Submit s) ∷ others) → LeadsOn script some c d → account_from 0 s.name c.centre.rows.setup.accounts ≡ Some place
+    → account_at place c.centre.rows.setup.accounts ≡ Some account → from_pdu account c.centre.moment (submit_of s) ≡ Ok u → u.text ≡ WholeText content → is_long u.text ≡ true
+    → (m : MessageRow) → message_at (next_id c.centre.rows.messages) (messages_in (happened (CentreSubmit place (submit_of s)) c.centre).store) ≡ Some m
+    → (x : MessageRow) × (reference : ℕ) × ((message_at m.id d.centre.rows.messages ≡ Some x) × IsSplitOf x content reference d.centre.rows.parts)
+
+abbrev pub SplitJoinedLaw : Type 0
+SplitJoinedLaw =
+    (text : List ℕ) (script : Script) (some others : List WorldEvent) (c d : Course) → IsScript text script some others → LeadsOn script some c d
+    → AllTimely 1 some (beginning script.setup) → AllFresh 1 some (beginning script.setup) → SplitsJoined c
+
 -- so they are where it is decided that the premises hold
 abbrev pub PremisesLaw : Type 0
 PremisesLaw = (s : Setup) (events : List WorldEvent) → premises_of s events ≡ Ok None → AllTimely 1 events (beginning s)
@@ -100,6 +141,7 @@ pub record AlwaysHolds (c : Course) : Type 0 where
   pub held : HeldDiffer c
   pub given : GivenOnce (report_of c).given
   pub joined : JoinedOfParts c
+  pub splits : SplitsAreLong c
 
 -- and where no event breaks a premise
 pub record HoldsInTime (c : Course) : Type 0 where
@@ -108,6 +150,7 @@ pub record HoldsInTime (c : Course) : Type 0 where
   pub sent : SentSubmitted c
   pub joined : JoinedOnce c
   pub whole : JoinedWhole c
+  pub split : SplitsJoined c
 
 -- The report of a script that reads and plays is that of such a course; and where it is decided that the premises hold, of such a one.
 abbrev pub PlayedLaw : Type 0

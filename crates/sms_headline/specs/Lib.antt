@@ -1,3 +1,4 @@
 pub mod Claims
 pub mod DecidedPremises
 pub mod HeadlineLaws
+pub mod SplitClaims

@@ -1,6 +1,6 @@
 //! The claims.
 ghost use Rattle.sms_headline.specs.DecidedPremises.{FirstLaw, NoneLaw};
-ghost use Rattle.sms_headline.specs.HeadlineLaws.{DeliveredLaw, FinalLaw, GivenLaw, HeldLaw, JoinedLaw, JoinedOnceLaw, JoinedWholeLaw, LineLaw, OnceLaw, PlayedLaw, PremisesLaw, ReceiptLaw, RunLaw, SentLaw, ToldLaw};
+ghost use Rattle.sms_headline.specs.HeadlineLaws.{DeliveredLaw, FinalLaw, GivenLaw, HeldLaw, JoinedLaw, JoinedOnceLaw, JoinedWholeLaw, LineLaw, OnceLaw, PlayedLaw, PremisesLaw, ReceiptLaw, RunLaw, SentLaw, SplitJoinedLaw, SplitLongLaw, SplitStaysLaw, SplitTextLaw, ToldLaw};
 
 /// The events of a script, up to any of them, are a run of the world from the empty one on, and the course shows where it led.
 pub fn a_script_is_a_run()
@@ -51,6 +51,16 @@ pub fn joined_was_submitted()
     ensures parts { JoinedLaw }
     ensures once { JoinedOnceLaw }
     ensures whole { JoinedWholeLaw }
+{}
+
+/// Whatever happens, a message that the centre split is a long message of one key; a text that a script submits, and that the centre
+/// split, is that text in the rows from then on; and while each frame that is handed over is decided timely, and references are decided
+/// fresh, what a handset joined with a part of such a message is that text, from the message's source.
+pub fn split_texts_are_joined()
+    ensures long { SplitLongLaw }
+    ensures stays { SplitStaysLaw }
+    ensures text { SplitTextLaw }
+    ensures joined { SplitJoinedLaw }
 {}
 
 /// All of it of the report of a script that plays, with the two premises as `sms_play` decides them.

@@ -10,7 +10,7 @@
 //!   accepted each of its parts exactly once, as it was submitted; an entry of a handset's outbox counts as sent only if the centre has
 //!   its message; and no part is joined twice.
 //! - While originators are decided to keep references fresh, too: each message that a handset joined is one round that was submitted to
-//!   it, whole.
+//!   it, whole; and what was joined of a text that the centre split is that text.
 #![tactic(auto)]
 
 pub mod laws;
