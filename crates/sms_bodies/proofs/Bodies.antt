@@ -19,6 +19,7 @@ use Rattle.sms_reports.proofs.AllWaiting.{report_behind, report_here}
 use Rattle.sms_centre_rules.proofs.SoundStores.{alone_from}
 use Rattle.sms_centre_rules.specs.SoundRows.{IsSound}
 use Rattle.sms_centre_rules.specs.declared.rows.Rows.{Rows}
+use Rattle.sms_bodies.specs.Storing.{GivesBodies}
 use Rattle.sms_centre_rows.specs.OctetsAt.{kind_octets, octets_at, part_octets, report_octets}
 
 -- ---- a part
@@ -58,3 +59,9 @@ report_body rows sound r there status =
     ∙ ap (λ (id : ℕ). report_octets (report_of id rows.reports)) first
     ∙ ap (λ (o : Option ReportRow). report_octets o) (own r rows.reports (alone_from rows.messages rows.reports sound.reports) there)
     ∙ status_octets r.kind status
+
+-- ---- both
+
+-- a store that answers with the octets of its rows gives each TPDU that a centre asks for
+pub bodies_given : GivesBodies octets_at
+bodies_given = record { parts = part_body; reports = report_body }

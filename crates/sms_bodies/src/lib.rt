@@ -1,8 +1,12 @@
-//! The octets that sound rows have under the keys of their parts and reports.
+//! What a centre wants of the keep of its rows.
 //!
-//! A centre asks its store for the TPDU of a part by the part's key, and for that of a status report by the key of its message and
-//! number 0. `octets_at` of `sms_centre_rows` says what a store answers, whatever rows it holds; here it is shown that of sound rows
-//! this is the TPDU that was asked for. There is a law here and no code.
+//! `CentreStore` is a keep of a centre's rows that gives bodies, makes of its rows what a centre's changes make of them, and can be asked
+//! for the rows once more after a refused commit. A centre asks it for the TPDU of a part by the part's key, and for that of a status
+//! report by the key of its message and number 0. `octets_at` of `sms_centre_rows` says what a store answers, whatever rows it holds; the
+//! law here shows that of sound rows this is the TPDU that was asked for.
 #![tactic(auto)]
 
+mod centre_store;
 pub mod laws;
+
+pub use centre_store::CentreStore;
