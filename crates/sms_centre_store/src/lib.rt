@@ -9,6 +9,7 @@ mod all;
 mod bodies;
 mod commit;
 mod founding;
+mod gathering;
 mod keep;
 mod migrating;
 mod opening;

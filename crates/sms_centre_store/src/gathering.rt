@@ -1,0 +1,37 @@
+//! The rows once more, as a centre wants them after a refused commit.
+ghost use Rattle.std.specs.Prelude.{refl};
+ghost use Rattle.sms_bodies.proofs.Bodies.{bodies_given};
+ghost use Rattle.sms_centre_store.specs.CentreRows.{Rests};
+
+use crate::keep::CentreKeep;
+use sms_bodies::CentreStore;
+use sms_centre_rules::Rows;
+use sms_keep::{Keep, KeepError};
+use sms_listing::{Work, load_cause_of, transact};
+use sqlite::{Alter, Error, Transaction};
+use std::alloc::Global;
+
+/// Nothing: a database that was closed refuses even that.
+#[derive(Drop)]
+struct Rest;
+
+impl Work for Rest {
+    ghost changes = { λ work. Rests };
+
+    fn run<S: Alter>(&self, _alloc: Global, _tx: &mut Transaction<'_, S>) -> Result<(), Error> {
+        Ok(())
+    }
+}
+
+impl<S: Alter> CentreStore for CentreKeep<S> {
+    fn gather(&mut self) -> Result<Rows, KeepError> {
+        match transact(self.alloc, &mut self.conn, &Rest) {
+            Ok(()) => self.load(),
+            Err(error) => Err(load_cause_of(error)),
+        }
+    }
+
+    ghost makes = { λ changes rows. refl };
+
+    ghost stores = { bodies_given };
+}
