@@ -1,4 +1,4 @@
 pub mod Apart
-pub mod PriorityMade
+pub mod Completing
 pub mod Raising
 pub mod Renaming

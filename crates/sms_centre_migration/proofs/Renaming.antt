@@ -16,7 +16,7 @@ use Rattle.sms_centre_tables.specs.ReferenceList.{reference_list}
 use Rattle.sms_centre_tables.specs.HandsetList.{handset_list}
 use Rattle.sms_centre_tables.specs.ReportList.{report_list}
 use Rattle.sms_centre_tables.specs.PriorityList.{priority_list}
-use Rattle.sms_centre_migration.specs.Migrating.{MakesPriority, Ranks, Renames, Migrates, migrated}
+use Rattle.sms_centre_migration.specs.Migrating.{Completes, Ranks, Renames, Migrates, migrated}
 use Rattle.sms_centre_migration.specs.Versions.{AreStore, IsFirstStore, centre_meta, first_meta}
 use Rattle.sms_centre_migration.specs.Types.{Rows, Meta}
 use Rattle.sms_centre_migration.proofs.Apart.{free_0, free_2, free_4, free_6, free_8, free_10, free_12}
@@ -39,7 +39,7 @@ renames a b c p q has held =
     }
 
 -- the three steps, one after another
-pub migrates : (a b c d : Database) → MakesPriority a b → Ranks b c → Renames c d → Migrates a d
+pub migrates : (a b c d : Database) → Completes a b → Ranks b c → Renames c d → Migrates a d
 migrates a b c d p q r rows is =
     let made = p is.schema in
     let ranked = q made.schema made.empty rows.messages (moved message_list (a.trees 2) (b.trees 2) rows.messages made.others.1.0 is.messages) in

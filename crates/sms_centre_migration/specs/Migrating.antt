@@ -4,7 +4,8 @@ use Rattle.sqlite_rules.specs.Edit.{IsNoIndex}
 use Rattle.sqlite.specs.Effect.{Database}
 use Rattle.sms_listing.specs.Listing.{Holds}
 use Rattle.sms_listing.specs.Making.{Makes}
-use Rattle.sms_centre_tables.specs.CentreSchema.{centre_schema, first_schema}
+use Rattle.sms_centre_tables.specs.CentreSchema.{centre_schema, first_schema, with_priority}
+use Rattle.sms_centre_tables.specs.Indexing.{Indexes}
 use Rattle.sms_centre_tables.specs.MetaList.{meta_list}
 use Rattle.sms_centre_tables.specs.PriorityList.{priority_list}
 use Rattle.sms_centre_tables.specs.MessageList.{message_list}
@@ -19,7 +20,15 @@ migrated rows = record rows { priorities = map lowest rows.messages }
 
 -- the table that version 1 lacks
 abbrev pub MakesPriority : Database → Database → Type 0
-MakesPriority before after = before.schema ≡ first_schema → Makes first_schema centre_schema before after
+MakesPriority before after = before.schema ≡ first_schema → Makes first_schema with_priority before after
+
+-- the index that version 1 lacks
+abbrev pub IndexesReports : Database → Database → Type 0
+IndexesReports before after = before.schema ≡ with_priority → Indexes with_priority centre_schema before after
+
+-- both
+abbrev pub Completes : Database → Database → Type 0
+Completes before after = before.schema ≡ first_schema → Makes first_schema centre_schema before after
 
 -- the other tables stay
 abbrev pub KeepsOthers : ℕ → Database → Database → Type 0

@@ -10,7 +10,7 @@ ghost use Rattle.sms_centre_migration.specs.Migrating.{Migrates, Ranks, Renames,
 ghost use Rattle.sms_centre_migration.specs.Versions.{AreStore, IsFirstStore};
 ghost use Rattle.sms_centre_migration.specs.Types.{Rows as RowsOf};
 
-use crate::tables::make_priority_table;
+use crate::tables::complete_tables;
 use sms_centre_tables::CentreStore;
 use sms_keep::KeepError;
 use sms_listing::{Meta, StoreKind, Work, put, remove, run, transact, write_cause_of};
@@ -18,7 +18,7 @@ use sms_table::Key;
 use sqlite::{Alter, Connection, Error, Transaction};
 use std::alloc::Global;
 
-/// The table of priorities, each 0, and the new version.
+/// The table of priorities, each 0, the index of reports, and the new version.
 #[derive(Drop)]
 struct Migration;
 
@@ -26,7 +26,7 @@ impl Work for Migration {
     ghost changes = { λ work. Migrates };
 
     fn run<S: Alter>(&self, alloc: Global, tx: &mut Transaction<'_, S>) -> Result<(), Error> {
-        make_priority_table(tx)?;
+        complete_tables(tx)?;
         rank_messages(tx)?;
         rename(alloc, tx)
     }

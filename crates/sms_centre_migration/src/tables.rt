@@ -1,15 +1,14 @@
-//! The text that makes the table of priorities.
+//! The texts that make what version 1 lacks.
 ghost use Rattle.std.specs.Prelude.{◌≡◌};
 ghost use Rattle.sqlite.specs.Held.{state};
 ghost use Rattle.sms_listing.specs.Inside.{Goes, Keeps, Spares};
 ghost use Rattle.sms_listing.specs.Transaction.{Leads};
-ghost use Rattle.sms_centre_migration.specs.Migrating.{MakesPriority};
+ghost use Rattle.sms_centre_migration.specs.Migrating.{Completes, IndexesReports, MakesPriority};
 
 use sms_listing::run;
 use sqlite::{Alter, Error, Transaction};
 
-/// Makes the table of priorities, which version 1 lacks.
-pub fn make_priority_table<S: Alter>(tx: &mut Transaction<'_, S>) -> Result<(), Error>
+fn make_priority_table<S: Alter>(tx: &mut Transaction<'_, S>) -> Result<(), Error>
     ensures same_reference { tx.new.conn.ghost_name ≡ tx.old.conn.ghost_name }
     ensures done { Goes S.Store tx.old.conn.now tx.new.conn.now (Leads MakesPriority) result }
     ensures kept { Keeps S.Store tx.old.conn.now tx.new.conn.now }
@@ -20,4 +19,25 @@ pub fn make_priority_table<S: Alter>(tx: &mut Transaction<'_, S>) -> Result<(), 
         "CREATE TABLE priority (message INTEGER NOT NULL, priority INTEGER NOT NULL, UNIQUE (message)) STRICT",
         &[],
     )
+}
+
+// By it the octets of a status report are found without a walk over all reports.
+fn index_reports<S: Alter>(tx: &mut Transaction<'_, S>) -> Result<(), Error>
+    ensures same_reference { tx.new.conn.ghost_name ≡ tx.old.conn.ghost_name }
+    ensures done { Goes S.Store tx.old.conn.now tx.new.conn.now (Leads IndexesReports) result }
+    ensures kept { Keeps S.Store tx.old.conn.now tx.new.conn.now }
+    ensures survives { Spares S.Store tx.old.conn.now tx.new.conn.now }
+{
+    run(tx, "CREATE INDEX report_message ON report (message)", &[])
+}
+
+/// Makes what version 1 lacks: the table of priorities, and the index of the reports by their messages.
+pub fn complete_tables<S: Alter>(tx: &mut Transaction<'_, S>) -> Result<(), Error>
+    ensures same_reference { tx.new.conn.ghost_name ≡ tx.old.conn.ghost_name }
+    ensures done { Goes S.Store tx.old.conn.now tx.new.conn.now (Leads Completes) result }
+    ensures kept { Keeps S.Store tx.old.conn.now tx.new.conn.now }
+    ensures survives { Spares S.Store tx.old.conn.now tx.new.conn.now }
+{
+    make_priority_table(tx)?;
+    index_reports(tx)
 }

@@ -9,7 +9,6 @@ use Rattle.sms_table.specs.Table.{put}
 use Rattle.sms_schema.specs.Blank.{no_tables}
 use Rattle.sms_listing.specs.Inside.{Alters, Ran}
 use Rattle.sms_listing.specs.Listing.{ListOf, Holds}
-use Rattle.sms_listing.specs.Transaction.{Leads}
 use Rattle.sms_listing.proofs.Making.{makes}
 use Rattle.sms_centre_tables.specs.CentreSchema.{with_meta, with_message, with_part, with_reference, with_handset, first_schema, centre_schema, create_meta, create_message, create_part, create_reference, create_handset, create_report, meta_made, message_made, part_made, reference_made, handset_made, report_made, adds_meta, adds_message, adds_part, adds_reference, adds_handset, adds_report}
 use Rattle.sms_centre_tables.specs.MetaList.{meta_list}
@@ -21,17 +20,10 @@ use Rattle.sms_centre_tables.specs.ReportList.{report_list}
 use Rattle.sms_centre_tables.specs.PriorityList.{priority_list}
 use Rattle.sms_centre_migration.specs.Versions.{centre_meta}
 use Rattle.sms_centre_store.specs.CentreRows.{Founds}
-use Rattle.sms_centre_migration.specs.Migrating.{MakesPriority}
+use Rattle.sms_centre_migration.specs.Migrating.{Completes}
 use Rattle.sms_centre_migration.proofs.Apart.{free_2, free_4, free_6, free_8, free_10, free_12}
 use Rattle.sms_centre_store.specs.Founding.{HasFirst, HasNext, MakesFirst, MakesNext, Tabulates, Declares}
 use Rattle.sms_centre_store.proofs.Turning.{other}
-
--- one step after another
-pub leads_then : (P Q R : Database → Database → Type 0) (a b c : State) → ((x y z : Database) → P x y → Q y z → R x z) → Leads P a b → Leads Q b c → Leads R a c
-leads_then P Q R a b c both p q = record {
-  inside = record { was_open = p.inside.was_open; is_open = q.inside.is_open; now_is = refl; committed_is = q.inside.committed_is ∙ p.inside.committed_is; mode = q.inside.mode };
-  changed = both _ _ _ p.changed q.changed;
-}
 
 pub first_made : (a b c d : State) → Ran create_meta [] a b → Ran create_message [] b c → Ran create_part [] c d → MakesFirst a.now d.now
 first_made a b c d p q r has =
@@ -64,7 +56,7 @@ MakesBoth before after = before.schema ≡ no_tables → (after.schema ≡ first
 pub both_made : (a b c : Database) → MakesFirst a b → MakesNext b c → MakesBoth a c
 both_made a b c p q has = let first = p has in q first.0 first.1
 
-pub tables_made : (a b c : Database) → MakesBoth a b → MakesPriority b c → Tabulates a c
+pub tables_made : (a b c : Database) → MakesBoth a b → Completes b c → Tabulates a c
 tables_made a b c p q has =
     let had = p has in
     let made = q had.0 in (

@@ -7,7 +7,7 @@ ghost use Rattle.sms_centre_store.specs.CentreRows.{Founds};
 ghost use Rattle.sms_centre_store.specs.Founding.{Declares, Tabulates};
 
 use crate::tables::{make_first_tables, make_next_tables};
-use sms_centre_migration::make_priority_table;
+use sms_centre_migration::complete_tables;
 use sms_centre_tables::CentreStore;
 use sms_listing::{Meta, StoreKind, Work, put};
 use sqlite::{Alter, Error, Transaction};
@@ -34,7 +34,7 @@ fn make_tables<S: Alter>(tx: &mut Transaction<'_, S>) -> Result<(), Error>
 {
     make_first_tables(tx)?;
     make_next_tables(tx)?;
-    make_priority_table(tx)
+    complete_tables(tx)
 }
 
 // What the store is.

@@ -1,2 +1,4 @@
+pub mod Indexing
 pub mod Parameters
 pub mod Queries
+mod SameItems

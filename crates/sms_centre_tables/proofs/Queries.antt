@@ -1,5 +1,5 @@
 -- A query of one of these texts commits nothing.
-use Rattle.std.proofs.Common.{◌⊎◌, inl, inr, List, Result, Ok, Err, IfOk, IfErr, ℕ}
+use Rattle.std.proofs.Common.{◌⊎◌, inl, List, Result, Ok, Err, IfOk, IfErr, ℕ}
 use Rattle.sqlite.specs.declared.error.Error.{Error}
 use Rattle.sqlite.specs.Order.{Row}
 use Rattle.sqlite.specs.Listing.{understood}

@@ -1,14 +1,16 @@
--- The tables of a centre's store, in the order in which they are made. That of priorities came with version 2.
+-- The tables of a centre's store, in the order in which they are made. That of priorities came with version 2, and with it the index that
+-- finds the reports of a message.
 use Rattle.std.specs.Prelude.{◌≡◌, ℕ, ◌+◌, false, true, List, [], ◌∷◌, codes, refl}
 use Rattle.sqlite.specs.Schema.{Schema}
 use Rattle.sqlite.specs.Table.{Table}
 use Rattle.sqlite.specs.Kind.TheVariants.{Integer, Text, Blob}
-use Rattle.sqlite.specs.Change.{created}
+use Rattle.sqlite.specs.Change.{created, indexed}
 use Rattle.sqlite_schema.specs.declared.schema.Column.{Column}
 use Rattle.sqlite_tied.specs.Compute.{everything}
 use Rattle.sqlite.specs.Listing.{understood}
 use Rattle.sms_listing.specs.Listing.{given, optional, keyed_table}
 use Rattle.sms_listing.specs.Making.{Adds}
+use Rattle.sms_centre_tables.specs.Indexing.{AddsIndex}
 use Rattle.sqlite_schema.specs.declared.schema.Index.{Index}
 use Rattle.sqlite_value.specs.Keys.{plain}
 use Rattle.sms_schema.specs.Blank.{no_tables}
@@ -139,6 +141,25 @@ pub adds_priority : Adds create_priority priority_made with_report with_priority
 unfolding understood everything
 adds_priority = record { creates = refl; whole = refl; alone = (refl, refl); defines = refl; created_is = refl; unnumbered = refl }
 
+-- ---- the reports of a message
+
+-- An index that SQLite makes for a key is unique, and has the tree behind that of its table; this one is for a column that is no key.
+abbrev pub report_message_made : Index
+report_message_made = record { name = codes "report_message"; tree = 0; table = 10; columns = 2 ∷ []; order = plain; is_unique = false }
+
+abbrev pub report_stands : Table
+report_stands = keyed_table (codes "report") 10 report_columns (1 ∷ [])
+
+abbrev pub create_report_message : List ℕ
+create_report_message = codes "CREATE INDEX report_message ON report (message)"
+
+abbrev pub with_report_message : Schema
+with_report_message = indexed with_priority report_stands report_message_made
+
+pub adds_report_message : AddsIndex create_report_message 5 report_stands report_message_made with_priority with_report_message
+unfolding understood everything
+adds_report_message = record { creates = refl; whole = refl; alone = (refl, refl); there = refl; defines = refl; indexed_is = refl }
+
 -- ---- all of them
 
 -- those of version 1
@@ -146,7 +167,7 @@ abbrev pub first_schema : Schema
 first_schema = with_report
 
 abbrev pub centre_schema : Schema
-centre_schema = with_priority
+centre_schema = with_report_message
 
 -- ---- as they stand there: each table with its tree, and the index that SQLite makes for its key
 
@@ -183,9 +204,6 @@ handset_stands = keyed_table (codes "handset") 8 handset_columns (1 ∷ [])
 abbrev pub handset_index : Index
 handset_index = index_of (codes "sqlite_autoindex_handset_1") 8 (1 ∷ [])
 
-abbrev pub report_stands : Table
-report_stands = keyed_table (codes "report") 10 report_columns (1 ∷ [])
-
 abbrev pub report_index : Index
 report_index = index_of (codes "sqlite_autoindex_report_1") 10 (1 ∷ [])
 
@@ -194,6 +212,9 @@ priority_stands = keyed_table (codes "priority") 12 priority_columns (1 ∷ [])
 
 abbrev pub priority_index : Index
 priority_index = index_of (codes "sqlite_autoindex_priority_1") 12 (1 ∷ [])
+
+abbrev pub report_message_index : Index
+report_message_index = record { name = codes "report_message"; tree = 14; table = 10; columns = 2 ∷ []; order = plain; is_unique = false }
 
 pub first_schema_is : first_schema ≡ record {
   tables = meta_stands ∷ message_stands ∷ part_stands ∷ reference_stands ∷ handset_stands ∷ report_stands ∷ [];
@@ -205,7 +226,7 @@ first_schema_is = refl
 
 pub schema_is : centre_schema ≡ record {
   tables = meta_stands ∷ message_stands ∷ part_stands ∷ reference_stands ∷ handset_stands ∷ report_stands ∷ priority_stands ∷ [];
-  indexes = meta_index ∷ message_index ∷ part_index ∷ reference_index ∷ handset_index ∷ report_index ∷ priority_index ∷ [];
+  indexes = meta_index ∷ message_index ∷ part_index ∷ reference_index ∷ handset_index ∷ report_index ∷ priority_index ∷ report_message_index ∷ [];
   views = [];
 }
 unfolding everything

@@ -1,6 +1,7 @@
 pub mod CentreSchema
 pub mod FirstMetaList
 pub mod HandsetList
+pub mod Indexing
 pub mod MessageList
 pub mod MetaList
 pub mod PartList

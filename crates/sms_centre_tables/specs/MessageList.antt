@@ -1,10 +1,8 @@
 -- The messages that were accepted. An application's message has an account, a handset's has its TP-MR.
-use Rattle.std.specs.Prelude.{◌≡◌, ℕ, ◌<◌, ◌+◌, ◌/◌, ◌%◌, ◌==◌, ◌&&◌, ℤ, pos, Bool, true, false, ⊤, Option, Some, None, List, [], ◌∷◌, length, codes, encode_utf8_all, refl}
-use Rattle.std.proofs.Common.{ap, ap₂, ◌∙◌, sym}
+use Rattle.std.specs.Prelude.{◌≡◌, ℕ, ◌==◌, ℤ, true, false, [], ◌∷◌, codes, encode_utf8_all, refl}
 use Rattle.std.specs.List.{list_all}
 use Rattle.std.specs.Str.{all_scalars}
-use Rattle.sqlite.specs.declared.types.Value.TheVariants.{Null, Int, Text, Blob}
-use Rattle.sqlite.specs.Order.{Row}
+use Rattle.sqlite.specs.declared.types.Value.TheVariants.{Null, Int, Text}
 use Rattle.sqlite_value.specs.Order.{column}
 use Rattle.sqlite.specs.Term.{holds}
 use Rattle.sqlite.specs.Source.TheVariants.{Values}
@@ -13,9 +11,9 @@ use Rattle.sqlite.specs.Listing.{understood, reads_listing}
 use Rattle.sqlite.proofs.Callers.{IsPlain, command_of}
 use Rattle.sqlite_rules.specs.Cast.{cast_row}
 use Rattle.sqlite_tied.specs.Compute.{everything}
-use Rattle.sms_listing.specs.Columns.{number, number_in, octets_in, text_in, characters_in, if_given, flag, flag_in, or_none}
+use Rattle.sms_listing.specs.Columns.{number, number_in, text_in, characters_in, if_given, or_none}
 use Rattle.sms_listing.specs.Listing.{TableOf, ListOf, IsList, table_of, rowids_where, whole_table, row_of, columns_of, equals}
-use Rattle.sms_listing.proofs.Columns.{same_number, one_found, pair_found, and_true, cast_null, cast_int, cast_row_same, cast_flag, cast_optional, flag_back, characters_back, given_back}
+use Rattle.sms_listing.proofs.Columns.{one_found, cast_int, cast_row_same, cast_optional, characters_back, given_back}
 use Rattle.sms_centre_tables.specs.CentreSchema.{centre_schema, message_columns}
 use Rattle.sms_centre_tables.specs.Types.{MessageRow}
 use Rattle.sms_base.specs.AddressKind.{type_number}

@@ -1,8 +1,8 @@
 -- What stands in the store in several columns, or as a word.
-use Rattle.std.specs.Prelude.{◌≡◌, ℕ, true, nat_eq, if◌then◌else◌, List, [], ◌∷◌, codes, Option, Some, None, refl}
+use Rattle.std.specs.Prelude.{◌≡◌, ℕ, nat_eq, if◌then◌else◌, List, [], ◌∷◌, codes, Option, Some, None, refl}
 use Rattle.sqlite.specs.Order.{Row}
 use Rattle.sqlite.specs.declared.types.Value.{Value}
-use Rattle.sqlite.specs.declared.types.Value.TheVariants.{Null, Int, Blob}
+use Rattle.sqlite.specs.declared.types.Value.TheVariants.{Null, Blob}
 use Rattle.sqlite.specs.Cast.{cast}
 use Rattle.sqlite.specs.Kind.TheVariants.{Integer}
 use Rattle.sqlite_sql.specs.Ops.{is_null}

@@ -1,10 +1,7 @@
 -- Receipts and status reports, in the order in which they were made.
-use Rattle.std.specs.Prelude.{◌≡◌, ℕ, ◌<◌, ◌+◌, ◌++◌, ◌/◌, ◌%◌, ◌==◌, ◌&&◌, ℤ, pos, Bool, true, false, ⊤, Option, Some, None, List, [], ◌∷◌, length, codes, encode_utf8_all, refl}
-use Rattle.std.proofs.Common.{ap, ap₂, ◌∙◌, sym}
+use Rattle.std.specs.Prelude.{◌≡◌, ℕ, ◌++◌, ◌==◌, ℤ, false, ⊤, List, [], ◌∷◌, codes, refl}
 use Rattle.std.specs.List.{list_all}
-use Rattle.std.specs.Str.{all_scalars}
-use Rattle.sqlite.specs.declared.types.Value.TheVariants.{Null, Int, Text, Blob}
-use Rattle.sqlite.specs.Order.{Row}
+use Rattle.sqlite.specs.declared.types.Value.TheVariants.{Null, Int, Text}
 use Rattle.sqlite_value.specs.Order.{column}
 use Rattle.sqlite.specs.Term.{Term, col, holds}
 use Rattle.sqlite.specs.Source.TheVariants.{Values}
@@ -13,13 +10,13 @@ use Rattle.sqlite.specs.Listing.{understood, reads_listing}
 use Rattle.sqlite.proofs.Callers.{IsPlain, command_of}
 use Rattle.sqlite_rules.specs.Cast.{cast_row}
 use Rattle.sqlite_tied.specs.Compute.{everything}
-use Rattle.sms_listing.specs.Columns.{number, number_in, octets_in, text_in, characters_in, if_given, flag, flag_in, or_none}
+use Rattle.sms_listing.specs.Columns.{number, number_in, text_in, flag}
 use Rattle.sms_listing.specs.Finding.{rows_where, FindsOne}
 use Rattle.sms_listing.specs.Seeking.{SeeksBy}
 use Rattle.sms_listing.specs.Listing.{TableOf, ListOf, IsList, table_of, rowids_where, whole_table, row_of, given_from, columns_of, equals}
-use Rattle.sms_listing.proofs.Columns.{same_number, one_found, pair_found, and_true, cast_null, cast_int, cast_row_same, cast_flag, cast_optional, flag_back, characters_back, given_back}
+use Rattle.sms_listing.proofs.Columns.{one_found, cast_int, cast_row_same, cast_flag}
 use Rattle.sms_centre_tables.specs.CentreSchema.{centre_schema, report_columns}
-use Rattle.sms_centre_tables.specs.Types.{ReportRow, ReportKind, Progress}
+use Rattle.sms_centre_tables.specs.Types.{ReportRow, Progress}
 use Rattle.sms_centre_tables.specs.Pieces.{kind_word, kind_reference, kind_tpdu, kind_in, kind_back, reference_stays, progress_in, progress_back, progress_columns}
 use Rattle.sms_amending.specs.Amending.{AmendsOne}
 use Rattle.sms_reports.specs.Reports.{report_reaching}

@@ -3,7 +3,7 @@
 //! Each list of rows is a STRICT table with one key, its columns numbers, texts and octets (`StoredRow<CentreStore>`), and
 //! `Meta` is the table in which the store says what it is. Version 2 has the priorities of messages; all other tables are those
 //! of version 1, of which only `Meta` is a list of its own. A part and a report are found by their keys too, a report by
-//! its message, and one text changes how far each is.
+//! its message, for which version 2 has an index, and one text changes how far each is.
 #![tactic(auto)]
 
 mod handsets;

@@ -1,9 +1,23 @@
 //! Whether a database has the tables of a centre's store.
-ghost use Rattle.std.specs.Prelude.{◌≡◌, IsTrue, [], ◌∷◌};
-ghost use Rattle.sms_centre_tables.specs.CentreSchema.{centre_schema, first_schema, handset_index, handset_stands, message_index, message_stands, meta_index, meta_stands, part_index, part_stands, priority_index, priority_stands, reference_index, reference_stands, report_index, report_stands};
+ghost use Rattle.std.specs.Prelude.{◌≡◌, false, IsTrue, [], ◌∷◌};
+ghost use Rattle.sqlite_value.specs.Keys.{plain};
+ghost use Rattle.sms_centre_tables.specs.CentreSchema.{centre_schema, first_schema, handset_index, handset_stands, message_index, message_stands, meta_index, meta_stands, part_index, part_stands, priority_index, priority_stands, reference_index, reference_stands, report_index, report_message_index, report_stands};
 
 use sms_schema::{given, is_index, is_table, optional};
 use sqlite_schema::schema::{Index, Kind, Schema, Table};
+use sqlite_value::keys::Order;
+
+// The index of that name and tree, for a column of that table that is no key.
+fn is_plain_index(index: &Index, name: &str, tree: u32, table: u32, places: &[usize]) -> bool
+    ensures { IsTrue result → index.now ≡ record { name = name.now; tree = tree; table = table; columns = places.now; order = plain; is_unique = false } }
+{
+    index.name.as_slice() == name.as_bytes()
+        && index.tree == tree
+        && index.table == table
+        && index.columns.as_slice() == places
+        && (index.order == Order::PLAIN)
+        && !index.is_unique
+}
 
 fn is_meta(table: &Table) -> bool
     ensures { IsTrue result → table.now ≡ meta_stands }
@@ -150,10 +164,13 @@ fn are_next_indexes(reference: &Index, handset: &Index, report: &Index) -> bool
         && is_index(report, "sqlite_autoindex_report_1", 11, 10, &[1])
 }
 
-fn is_priority_index(index: &Index) -> bool
-    ensures { IsTrue result → index.now ≡ priority_index }
+// Those of version 2: the second finds the reports of a message, and is for no key.
+fn are_last_indexes(priority: &Index, report_message: &Index) -> bool
+    ensures priority { IsTrue result → priority.now ≡ priority_index }
+    ensures report_message { IsTrue result → report_message.now ≡ report_message_index }
 {
-    is_index(index, "sqlite_autoindex_priority_1", 13, 12, &[1])
+    is_index(priority, "sqlite_autoindex_priority_1", 13, 12, &[1])
+        && is_plain_index(report_message, "report_message", 14, 10, &[2])
 }
 
 fn are_tables_of_first(tables: &[Table]) -> bool
@@ -190,15 +207,25 @@ fn are_tables(tables: &[Table]) -> bool
 }
 
 fn are_indexes(indexes: &[Index]) -> bool
-    ensures { IsTrue result → indexes.now ≡ meta_index ∷ message_index ∷ part_index ∷ reference_index ∷ handset_index ∷ report_index ∷ priority_index ∷ [] }
+    ensures { IsTrue result → indexes.now ≡ meta_index ∷ message_index ∷ part_index ∷ reference_index ∷ handset_index ∷ report_index ∷ priority_index ∷ report_message_index ∷ [] }
 {
-    let [meta, message, part, reference, handset, report, priority] = indexes else {
+    let [
+        meta,
+        message,
+        part,
+        reference,
+        handset,
+        report,
+        priority,
+        report_message,
+    ] = indexes
+    else {
         return false;
     };
     if !are_first_indexes(meta, message, part) || !are_next_indexes(reference, handset, report) {
         return false;
     }
-    is_priority_index(priority)
+    are_last_indexes(priority, report_message)
 }
 
 /// Whether the tables are those of a centre's store of version 1, and nothing stands beside them.

@@ -1,4 +1,3 @@
-use Rattle.std.proofs.Common.{rules}
 use Rattle.sms_centre_tables.proofs.schema.is_message.Goals as goal
 
 pub returns : goal.returns

@@ -4,7 +4,8 @@ use Rattle.sqlite.specs.Held.{state}
 use Rattle.sms_listing.proofs.Steps.{ok_then}
 use Rattle.sms_centre_store.specs.Founding.{Tabulates, Declares}
 use Rattle.sms_centre_store.specs.CentreRows.{Founds}
-use Rattle.sms_centre_store.proofs.TablesMade.{leads_then, founded}
+use Rattle.sms_centre_migration.proofs.Completing.{leads_then}
+use Rattle.sms_centre_store.proofs.TablesMade.{founded}
 use Rattle.sms_centre_store.proofs.founding.FoundingWork.run.Goals as goal
 
 pub returns-clause-done : goal.returns-clause-done
