@@ -1,9 +1,9 @@
 -- What comes of a stimulus, by what befell it.
 use Rattle.std.proofs.Common.{◌≡◌, ◌⊎◌, ⊎_elim, refl, sym, subst, ap, ◌∙◌, List, Err}
-use Rattle.sms_centre_machine.specs.FromBelow.{IsStanding, StandingOf}
-use Rattle.sms_centre_machine.specs.Stepping.{PlansStep}
-use Rattle.sms_centre_machine.specs.declared.step_error.StepError.{StepError}
-use Rattle.sms_centre_machine.specs.declared.step_error.StepError.TheVariants.{NoMemory as NoPlan, NoBody, Store}
+use Rattle.sms_centre.specs.FromBelow.{IsStanding, StandingOf}
+use Rattle.sms_service.specs.Stepping.{PlansStep}
+use Rattle.sms_service.specs.declared.step_error.StepError.{StepError}
+use Rattle.sms_service.specs.declared.step_error.StepError.TheVariants.{NoMemory as NoPlan, NoBody, Store}
 use Rattle.sms_centre_rules.specs.CentreEvent.{happened}
 use Rattle.sms_centre_rules.specs.Draft.{Core, core_of}
 use Rattle.sms_centre_rules.specs.declared.event.CentreEvent.{CentreEvent}

@@ -2,4 +2,5 @@ mod ByFate
 mod NumbersTold
 mod RokNames
 mod Sittings
+mod Stepped
 mod ToldOfPlans

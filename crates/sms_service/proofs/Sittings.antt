@@ -5,7 +5,7 @@ use Rattle.std.proofs.lemmas.Slice.Eq.{bytes_eq-Decides}
 use Rattle.sms_base.specs.Among.{Among}
 use Rattle.sms_centre_rules.specs.SoundCore.{AreDifferent}
 use Rattle.sms_reports.specs.Receipts.{Session, session_key}
-use Rattle.sms_centre_machine.specs.FromBelow.{AreNew}
+use Rattle.sms_centre.specs.FromBelow.{AreNew}
 use Rattle.sms_table.proofs.Tables.{among_put}
 use Rattle.sms_table.specs.Table.{put}
 use Rattle.sms_waiting.specs.SoundGivings.{IsNumber}

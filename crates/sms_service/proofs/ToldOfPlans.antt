@@ -1,6 +1,6 @@
 -- What is told of a plan is what the definition tells of the event.
 use Rattle.std.proofs.Common.{◌≡◌, ap, ◌∙◌, ℕ, List, Option}
-use Rattle.sms_centre_machine.specs.FromBelow.{IsPlanned, Planned}
+use Rattle.sms_centre.specs.FromBelow.{IsPlanned, Planned}
 use Rattle.sms_centre_rules.specs.CentreEvent.{happened}
 use Rattle.sms_centre_rules.specs.Draft.{Core, messages_in, rows_after}
 use Rattle.sms_centre_rules.specs.declared.answer.CentreAnswer.{CentreAnswer}

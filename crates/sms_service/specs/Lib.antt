@@ -4,4 +4,6 @@ pub mod Room
 pub mod Seats
 pub mod Serving
 pub mod Sitting
+pub mod Starting
+pub mod Stepping
 pub mod Telling

@@ -1,5 +1,5 @@
 -- What the centre does as the machine of a hub.
-use Rattle.std.specs.Prelude.{◌≡◌, ◌⊎◌, ℕ, nat_lt, List, if◌then◌else◌}
+use Rattle.std.specs.Prelude.{◌≡◌, ◌⊎◌, nat_lt, List, if◌then◌else◌}
 use Rattle.sms_centre_rules.specs.CentreEvent.{happened, recovered}
 use Rattle.sms_centre_rules.specs.Draft.{Core, core_of}
 use Rattle.sms_centre_rules.specs.declared.rows.Rows.{Rows}
@@ -11,9 +11,9 @@ use Rattle.sms_keeper.specs.declared.machine.Fate.TheVariants.{Done, NoMemory, R
 use Rattle.sms_keeper.specs.declared.machine.Stimulus.{Stimulus}
 use Rattle.sms_keeper.specs.declared.machine.Stimulus.TheVariants.{Job as JobOf, Tick}
 use Rattle.sms_keeper.specs.declared.outs.Out.{Out}
-use Rattle.sms_centre_machine.specs.FromBelow.{IsStanding, StandingOf}
-use Rattle.sms_centre_machine.specs.declared.step_error.StepError.{StepError}
-use Rattle.sms_centre_machine.specs.declared.step_error.StepError.TheVariants.{NoMemory as NoPlan, NoBody, Store}
+use Rattle.sms_centre.specs.FromBelow.{IsStanding, StandingOf}
+use Rattle.sms_service.specs.declared.step_error.StepError.{StepError}
+use Rattle.sms_service.specs.declared.step_error.StepError.TheVariants.{NoMemory as NoPlan, NoBody, Store}
 use Rattle.sms_service.specs.declared.asking.Asked.{Asked}
 use Rattle.sms_service.specs.declared.asking.Asked.TheVariants.{Event, Nothing, Taken}
 use Rattle.sms_service.specs.declared.floor.Floor.{Floor}

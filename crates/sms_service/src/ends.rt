@@ -3,12 +3,12 @@ ghost use Rattle.std.specs.Prelude.{◌≡◌, IfOk, option_copied};
 ghost use Rattle.sms_centre_rules.specs.Draft.{Core};
 ghost use Rattle.sms_centre_rules.specs.Finals.{submit_reference as submit_reference_of};
 ghost use Rattle.sms_messages.specs.Messages.{message_at, message_key};
-ghost use Rattle.sms_centre_machine.specs.FromBelow.{IsStanding};
+ghost use Rattle.sms_centre.specs.FromBelow.{IsStanding};
 ghost use Rattle.sms_table.specs.Table.{all_applied, change_row, newest_of};
 ghost use Rattle.sms_service.specs.Telling.{end_in, end_of as end_of_row};
 
 use sms_base::{MessageId, Originator};
-use sms_centre_machine::{Centre, Planned};
+use sms_centre::{Centre, Planned};
 use sms_messages::MessageRow;
 use sms_receipt::Final;
 use sms_table::{Change, Key};

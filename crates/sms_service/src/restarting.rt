@@ -1,6 +1,6 @@
 //! A centre that starts again.
 ghost use Rattle.std.specs.Prelude.{◌≡◌, IfOk, OnOk};
-ghost use Rattle.sms_centre_machine.specs.FromBelow.{IsStanding};
+ghost use Rattle.sms_centre.specs.FromBelow.{IsStanding};
 ghost use Rattle.sms_centre_rules.specs.CentreEvent.{recovered};
 ghost use Rattle.sms_centre_rules.specs.SoundCore.{AreDifferent};
 ghost use Rattle.sms_centre_rules.specs.declared.rows.Rows.{Rows as RowsOf};
@@ -10,8 +10,10 @@ ghost use Rattle.sms_service.specs.Sitting.{AreNumbers, sessions_of as sessions_
 
 use crate::floor::Floor;
 use crate::sitting::{handsets_of, sessions_of};
+use crate::start_error::StartError;
 use sms_base::Digits;
-use sms_centre_machine::{Centre, CentreStore, Rows, StartError};
+use sms_bodies::CentreStore;
+use sms_centre::{Centre, Rows};
 use std::alloc::Global;
 
 // With links to these handsets, and the sessions of the floor.

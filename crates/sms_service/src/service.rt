@@ -1,6 +1,7 @@
 //! The centre as the machine of a hub.
 ghost use Rattle.std.specs.Prelude.{◌≡◌, ◌⊎◌, true, false, IfOk, OnErr, OnOk};
-ghost use Rattle.sms_centre_machine.specs.FromBelow.{Fits, IsPlanned, IsStanding};
+ghost use Rattle.sms_centre.specs.FromBelow.{IsPlanned, IsStanding};
+ghost use Rattle.sms_centre.specs.Planning.{Fits};
 ghost use Rattle.sms_centre_rules.specs.CentreEvent.{happened};
 ghost use Rattle.sms_centre_rules.specs.Draft.{Core, core_of};
 ghost use Rattle.sms_centre_rules.specs.SoundCore.{HasNumber, IsEvent};
@@ -15,13 +16,15 @@ ghost use Rattle.sms_service.specs.Telling.{failed_by, told_by};
 
 use crate::asking::Asked;
 use crate::floor::Floor;
+use crate::machine::CentreMachine;
 use crate::restarting::restarted_from;
 use crate::served::Served;
+use crate::start_error::StartError;
+use crate::step_error::StepError;
 use crate::stimuli::{asked_by, follow, outs_told, turned_away, unmade};
 use crate::twice::{Twice, done, doubled};
-use sms_centre_machine::{
-    Centre, CentreEvent, CentreMachine, CentreStore, Planned, StartError, StepError,
-};
+use sms_bodies::CentreStore;
+use sms_centre::{Centre, CentreEvent, Planned};
 use sms_jobs::{Job, Reply};
 use sms_keeper::{Broken, Fate, Gate, Machine, Step, Stimulus};
 use std::alloc::{AllocError, Global};

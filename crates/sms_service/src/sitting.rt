@@ -1,14 +1,14 @@
 //! The handsets and sessions of a floor, as a centre that starts again wants them.
 ghost use Rattle.std.specs.Prelude.{◌≡◌, IfOk, OnOk, Some, slice_get};
 ghost use Rattle.sms_centre_rules.specs.SoundCore.{AreDifferent};
-ghost use Rattle.sms_centre_machine.specs.FromBelow.{AreNew};
+ghost use Rattle.sms_centre.specs.FromBelow.{AreNew};
 ghost use Rattle.sms_service.specs.Seats.{seats_in};
 ghost use Rattle.sms_service.specs.Sitting.{AreNumbers, handsets_of as handsets_of_links, is_among as is_among_of, sessions_of as sessions_of_sittings, with_number, with_session};
 
 use crate::floor::{Floor, Sitting};
 use crate::number::{is_number, is_same};
 use sms_base::Digits;
-use sms_centre_machine::Seat;
+use sms_centre::Seat;
 use sms_centre_rules::Rows;
 use sms_intake::Account;
 use sms_table::Table;

@@ -1,6 +1,6 @@
 //! What a stimulus asks, and what it gives.
 ghost use Rattle.std.specs.Prelude.{◌≡◌, IfOk};
-ghost use Rattle.sms_centre_machine.specs.FromBelow.{IsPlanned, IsStanding};
+ghost use Rattle.sms_centre.specs.FromBelow.{IsPlanned, IsStanding};
 ghost use Rattle.sms_centre_rules.specs.CentreEvent.{happened};
 ghost use Rattle.sms_centre_rules.specs.SoundCore.{HasNumber};
 ghost use Rattle.sms_centre_rules.specs.declared.event.CentreEvent.{CentreEvent as CentreEventOf};
@@ -15,7 +15,7 @@ use crate::asking::{Asked, job_asks};
 use crate::floor::Floor;
 use crate::telling::{Asker, failed, taken, told};
 use sms_base::Digits;
-use sms_centre_machine::{Centre, CentreEvent, Planned};
+use sms_centre::{Centre, CentreEvent, Planned};
 use sms_jobs::{Job, Reply};
 use sms_keeper::{Fate, Out, Outs, Step, Stimulus};
 use std::alloc::{AllocError, Global};

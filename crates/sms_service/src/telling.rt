@@ -3,7 +3,7 @@ ghost use Rattle.std.specs.Prelude.{◌≡◌, [], ◌∷◌, ◌++◌, Some, On
 ghost use Rattle.sms_centre_rules.specs.Draft.{Core};
 ghost use Rattle.sms_jobs.specs.declared.reply.Reply.TheVariants.{Taken};
 ghost use Rattle.sms_messages.specs.Messages.{message_at, message_key};
-ghost use Rattle.sms_centre_machine.specs.FromBelow.{IsStanding};
+ghost use Rattle.sms_centre.specs.FromBelow.{IsStanding};
 ghost use Rattle.sms_table.specs.Table.{all_applied};
 ghost use Rattle.sms_service.specs.Seats.{seats_in};
 ghost use Rattle.sms_service.specs.Telling.{answer_out, end_of, failed as failed_of, for_seat, frame_out, frame_outs, is_that as is_that_of, receipt_out, receipt_outs, seat_for as seat_for_of, told_at};
@@ -12,7 +12,7 @@ use crate::ends::end_after;
 use crate::floor::Floor;
 use smpp_pdu::CommandStatus;
 use sms_base::{Digits, Octets};
-use sms_centre_machine::{Centre, CentreAnswer, Planned};
+use sms_centre::{Centre, CentreAnswer, Planned};
 use sms_jobs::{Job, Reply};
 use sms_keeper::{Out, Outs};
 use sms_reports::Delivery;

@@ -1,5 +1,5 @@
 use Rattle.std.proofs.Common.{◌≡◌, drop}
-use Rattle.sms_centre_machine.specs.FromBelow.{AreNew}
+use Rattle.sms_centre.specs.FromBelow.{AreNew}
 use Rattle.sms_service.specs.Sitting.{sessions_from, sessions_of}
 use Rattle.sms_service.proofs.sitting.sessions_of.Given as goal
 

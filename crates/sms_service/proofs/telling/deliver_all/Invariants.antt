@@ -1,7 +1,7 @@
 use Rattle.std.proofs.Common.{◌≡◌, ◌++◌, drop}
 use Rattle.sms_centre_rules.specs.Draft.{Core}
 use Rattle.sms_messages.specs.Messages.{message_key}
-use Rattle.sms_centre_machine.specs.FromBelow.{IsStanding}
+use Rattle.sms_centre.specs.FromBelow.{IsStanding}
 use Rattle.sms_table.specs.Table.{all_applied}
 use Rattle.sms_service.specs.Telling.{receipt_outs}
 use Rattle.sms_service.proofs.telling.deliver_all.Given as goal

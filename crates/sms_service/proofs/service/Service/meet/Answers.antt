@@ -1,5 +1,5 @@
 use Rattle.std.proofs.Common.{ap, subst, sym}
-use Rattle.sms_centre_machine.specs.FromBelow.{IsStanding, StandingOf}
+use Rattle.sms_centre.specs.FromBelow.{IsStanding, StandingOf}
 use Rattle.sms_service.specs.Seats.{Seats, seats_in}
 use Rattle.sms_service.specs.Serving.{followed_by}
 use Rattle.sms_service.proofs.ByFate.{gave_up}

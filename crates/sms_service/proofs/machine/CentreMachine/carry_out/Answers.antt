@@ -2,8 +2,8 @@ use Rattle.std.proofs.Common.{ap, ◌∙◌, subst}
 use Rattle.sms_centre_rules.specs.Draft.{rows_after}
 use Rattle.sms_centre_rules.specs.declared.rows.Changes.{Changes}
 use Rattle.sms_centre_rules.specs.declared.rows.Rows.{Rows}
-use Rattle.sms_centre_machine.proofs.Stepped.{rows_then, stopped}
-use Rattle.sms_centre_machine.proofs.machine.CentreMachine.carry_out.Goals as goal
+use Rattle.sms_service.proofs.Stepped.{rows_then, stopped}
+use Rattle.sms_service.proofs.machine.CentreMachine.carry_out.Goals as goal
 
 pub returns-in-Ok-clause-committed : goal.returns-in-Ok-clause-committed
 returns-in-Ok-clause-committed g c = λ honest event core is standing plans holds. (

@@ -1,7 +1,7 @@
 -- Why a centre does not start.
 use Rattle.sms_centre.specs.FromBelow.{RecoverError, BadRows as BadRecover, NoMemory as NoRecover}
-use Rattle.sms_centre_machine.specs.declared.start_error.StartError.{StartError}
-use Rattle.sms_centre_machine.specs.declared.start_error.StartError.TheVariants.{BadRows, NoMemory}
+use Rattle.sms_service.specs.declared.start_error.StartError.{StartError}
+use Rattle.sms_service.specs.declared.start_error.StartError.TheVariants.{BadRows, NoMemory}
 
 -- the same cause
 abbrev pub of_recover : RecoverError → StartError

@@ -1,17 +1,17 @@
 use Rattle.std.proofs.Common.{Err, sym, subst}
 use Rattle.sms_centre_rules.specs.CentreEvent.{happened}
-use Rattle.sms_centre_machine.specs.declared.step_error.StepError.{StepError}
-use Rattle.sms_centre_machine.specs.Stepping.{PlansStep}
-use Rattle.sms_centre_machine.proofs.Stepped.{goes_back, goes_on}
-use Rattle.sms_centre_machine.proofs.machine.CentreMachine.plan.Goals as goal
+use Rattle.sms_service.specs.declared.step_error.StepError.{StepError}
+use Rattle.sms_service.specs.Stepping.{PlansStep}
+use Rattle.sms_service.proofs.Stepped.{goes_back, goes_on, stored}
+use Rattle.sms_service.proofs.machine.CentreMachine.plan.Goals as goal
 
 pub returns-in-Ok-clause-plan : goal.returns-in-Ok-clause-plan
 returns-in-Ok-clause-plan g c = λ honest core standing holds.
     goes_on (happened c.args.event.now core) (happened c.args.event.now core).air.read (g.K.Keep.holds c.plan.new.bodies core.rows) (g.K.Keep.is_closed c.plan.new.bodies) _ _ c.in-Ok.planned
-    (c.in-Ok.ensures.goes honest core core.rows standing (g.met.K.CentreStore.stores core.rows standing.centre.sound.rows) holds)
+    (c.in-Ok.ensures.goes honest core core.rows standing (stored g.K.BodyKeep.body_of g.met.K.CentreStore.stores core.rows standing.centre.sound.rows) holds)
 
 pub returns-in-Err-clause-plan : goal.returns-in-Err-clause-plan
 returns-in-Err-clause-plan g c = λ honest core standing holds.
     subst (λ (e : StepError). PlansStep (g.K.Keep.holds c.plan.new.bodies core.rows) (g.K.Keep.is_closed c.plan.new.bodies) (happened c.args.event.now core) (Err e)) (sym c.step_error_of.ensures)
     (goes_back (happened c.args.event.now core) (happened c.args.event.now core).air.read (g.K.Keep.holds c.plan.new.bodies core.rows) (g.K.Keep.is_closed c.plan.new.bodies) _ _ c.in-Err.error
-    (c.in-Err.ensures.goes honest core core.rows standing (g.met.K.CentreStore.stores core.rows standing.centre.sound.rows) holds))
+    (c.in-Err.ensures.goes honest core core.rows standing (stored g.K.BodyKeep.body_of g.met.K.CentreStore.stores core.rows standing.centre.sound.rows) holds))

@@ -5,8 +5,8 @@ use Rattle.sms_centre_rules.specs.declared.plan_error.PlanError.TheVariants.{NoB
 use Rattle.sms_centre_rules.specs.Draft.{Draft}
 use Rattle.sms_centre.specs.FromBelow.{IsPlanned}
 use Rattle.sms_centre.specs.Planning.{PlannedOf}
-use Rattle.sms_centre_machine.specs.declared.step_error.StepError.{StepError}
-use Rattle.sms_centre_machine.specs.declared.step_error.StepError.TheVariants.{NoMemory, NoBody, Store}
+use Rattle.sms_service.specs.declared.step_error.StepError.{StepError}
+use Rattle.sms_service.specs.declared.step_error.StepError.TheVariants.{NoMemory, NoBody, Store}
 
 -- the same cause
 abbrev pub step_error_of : PlanError → StepError

@@ -19,7 +19,7 @@ pub enum StartError {
 
 impl From<RecoverError> for StartError {
     ghost use Rattle.std.specs.Prelude.{◌≡◌};
-    ghost use Rattle.sms_centre_machine.specs.Starting.{of_recover};
+    ghost use Rattle.sms_service.specs.Starting.{of_recover};
 
     ghost from_gives = { λ recover start. start ≡ of_recover recover };
 
@@ -33,7 +33,7 @@ impl From<RecoverError> for StartError {
 
 impl From<KeepError> for StartError {
     ghost use Rattle.std.specs.Prelude.{◌≡◌};
-    ghost use Rattle.sms_centre_machine.specs.declared.start_error.StartError.TheVariants.{Store as StoreOf};
+    ghost use Rattle.sms_service.specs.declared.start_error.StartError.TheVariants.{Store as StoreOf};
 
     ghost from_gives = { λ keep start. start ≡ StoreOf keep };
 

@@ -7,10 +7,10 @@ ghost use Rattle.sms_centre_rules.specs.Draft.{Core, core_of, rows_after};
 ghost use Rattle.sms_centre_rules.specs.SoundCore.{HasNumber, IsEvent};
 ghost use Rattle.sms_centre_rules.specs.declared.event.CentreEvent.{CentreEvent as CentreEventOf};
 ghost use Rattle.sms_centre_rules.specs.declared.rows.Rows.{Rows as RowsOf};
-ghost use Rattle.sms_centre_machine.specs.Stepping.{PlansStep, step_error_of as step_error_of_plan};
+ghost use Rattle.sms_service.specs.Stepping.{PlansStep, step_error_of as step_error_of_plan};
 
-use crate::centre_store::CentreStore;
 use crate::step_error::StepError;
+use sms_bodies::CentreStore;
 use sms_centre::{Centre, CentreEvent, Changes, PlanError, Planned, Told};
 use sms_keep::KeepError;
 use sms_keeper::Gate;

@@ -7,10 +7,17 @@ use Rattle.sms_centre_rules.specs.declared.rows.Changes.{Changes}
 use Rattle.sms_centre_rules.specs.declared.rows.Rows.{Rows}
 use Rattle.sms_centre_rules.specs.CentreEvent.{happened}
 use Rattle.sms_centre_rules.specs.Draft.{Core, Draft, core_of, rows_after}
+use Rattle.sms_centre_rules.specs.SoundRows.{IsSound}
 use Rattle.sms_centre_rules.proofs.Resting.{happened_rests}
+use Rattle.sms_bodies.specs.Storing.{GivesBodies}
 use Rattle.sms_centre.specs.FromBelow.{Goes, IsPlanned, Planned}
 use Rattle.sms_centre.specs.Planning.{PlannedOf}
-use Rattle.sms_centre_machine.specs.Stepping.{PlansStep, step_error_of}
+use Rattle.sms_centre.specs.Stored.{StoresRows}
+use Rattle.sms_service.specs.Stepping.{PlansStep, step_error_of}
+
+-- of sound rows a centre's store gives each TPDU that is asked for
+pub stored : (body_of : Rows → ℕ → Option (List ℕ)) → GivesBodies body_of → (rows : Rows) → IsSound rows → StoresRows (body_of rows) rows
+stored body_of gives rows sound = record { parts = gives.parts rows sound; reports = gives.reports rows sound }
 
 pub goes_on : (d : Draft) (keys : List ℕ) (held closed : Type 0) (before refused : Option ℕ) (p : PlannedOf) → Goes (λ (x : PlannedOf). IsPlanned d x.plan) keys held closed before refused (Ok p) → PlansStep held closed d (Ok p)
 goes_on d keys held closed before refused p goes = (goes.0, goes.1.0)

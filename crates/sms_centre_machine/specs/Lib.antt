@@ -1,4 +1,0 @@
-pub mod FromBelow
-pub mod Starting
-pub mod Stepping
-pub mod Storing
