@@ -10,8 +10,8 @@ use Rattle.sms_centre_rules.specs.SoundRows.{IsSound, first_rows}
 use Rattle.sms_centre_rules.specs.declared.event.CentreEvent.{CentreEvent}
 use Rattle.sms_centre_rules.specs.declared.event.CentreEvent.TheVariants.{Bound, Cancel, DeliverAnswered, Frame, LinkDown, LinkUp, Query, Submit, Tick, Unbound}
 use Rattle.sms_centre_rules.specs.declared.rows.Rows.{Rows}
-use Rattle.sms_offered.specs.Offered.{HasOffered}
-use Rattle.sms_offered.proofs.AfterOffers.{back_offered, event_offered, first_offered}
+use Rattle.sms_centre_course.specs.Offered.{HasOffered}
+use Rattle.sms_centre_course.proofs.AfterOffers.{back_offered, event_offered, first_offered}
 use Rattle.sms_world.proofs.Stops.{centre_stopped_so}
 use Rattle.sms_world.specs.Run.{Run, end}
 use Rattle.sms_world.specs.ScriptRun.{Asked, Cancelled, Handed, Submitted, Tick_centre, items}

@@ -9,7 +9,7 @@ use Rattle.sms_centre_sight.proofs.SessionsBound.{bound_event}
 use Rattle.sms_centre_sight.proofs.SessionsChange.{unbound_event}
 use Rattle.sms_centre_sight.proofs.Submits.{submit_event}
 use Rattle.sms_centre_sight.proofs.Ticks.{tick_event}
-use Rattle.sms_centre_frames.proofs.FrameEvents.{frame_event}
+use Rattle.sms_centre_course.proofs.FrameEvents.{frame_event}
 use Rattle.sms_centre_course.specs.CourseEvents.{EventLaw}
 use Rattle.sms_centre_course.proofs.NoSteps.{answered_still, query_still}
 

@@ -3,3 +3,16 @@ pub mod EveryEvent
 pub mod Plans
 pub mod Courses
 pub mod RowsAreTrue
+pub mod LinesOf
+pub mod AfterOffers
+pub mod NothingOffered
+pub mod Stepping
+pub mod Hearing
+pub mod Replying
+pub mod AllDone
+pub mod DoneParts
+pub mod Settling
+pub mod Concluding
+pub mod UnitsCome
+pub mod FrameComes
+pub mod FrameEvents

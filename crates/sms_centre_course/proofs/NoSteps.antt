@@ -11,8 +11,8 @@ use Rattle.sms_centre_rules.specs.Draft.{Core, Draft, draft_of}
 use Rattle.sms_centre_rules.specs.Requests.{account_at, queried, query_by}
 use Rattle.sms_centre_rules.specs.SoundCore.{IsSoundCore}
 use Rattle.sms_centre_rules.specs.declared.event.CentreEvent.TheVariants.{DeliverAnswered, Query}
-use Rattle.sms_offered.specs.Offered.{HasOffered}
-use Rattle.sms_offered.proofs.NothingOffered.{answered_nothing, query_nothing}
+use Rattle.sms_centre_course.specs.Offered.{HasOffered}
+use Rattle.sms_centre_course.proofs.NothingOffered.{answered_nothing, query_nothing}
 use Rattle.sms_world.specs.World.{World}
 use Rattle.sms_centre_sight.specs.CentreSight.{CentreSees, StoreSees}
 use Rattle.sms_centre_sight.specs.FramesOut.{AreWholeDown, stacked_down}

@@ -9,8 +9,8 @@ use Rattle.sms_centre_rules.specs.Planning.{Outcome, all_answered, outcome_of, p
 use Rattle.sms_centre_rules.specs.declared.plan_error.PlanError.{PlanError}
 use Rattle.sms_centre_rules.specs.declared.plan_error.PlanError.TheVariants.{NoBody}
 use Rattle.sms_centre_rules.specs.SoundCore.{IsSoundCore}
-use Rattle.sms_offered.specs.Offered.{HasOffered}
-use Rattle.sms_offered.proofs.AfterOffers.{event_offered}
+use Rattle.sms_centre_course.specs.Offered.{HasOffered}
+use Rattle.sms_centre_course.proofs.AfterOffers.{event_offered}
 use Rattle.sms_world.specs.Run.{end}
 use Rattle.sms_world.specs.ScriptRun.{items}
 use Rattle.sms_world.specs.World.{World}

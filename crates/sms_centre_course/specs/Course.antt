@@ -13,7 +13,7 @@ use Rattle.sms_centre_rules.specs.declared.event.CentreEvent.{CentreEvent}
 use Rattle.sms_centre_rules.specs.declared.event.CentreEvent.TheVariants.{Bound, Cancel, DeliverAnswered, Frame, LinkDown, LinkUp, Query, Submit, Tick, Unbound}
 use Rattle.sms_centre_rules.specs.declared.rows.Rows.{Rows}
 use Rattle.sms_centre_rules.specs.declared.setup.Setup.{Setup}
-use Rattle.sms_offered.specs.Offered.{HasOffered}
+use Rattle.sms_centre_course.specs.Offered.{HasOffered}
 use Rattle.sms_world.specs.Run.{Run, end}
 use Rattle.sms_world.specs.ScriptRun.{items}
 use Rattle.sms_world.specs.Sides.{AllOfCentre, AllOfHandset}

@@ -5,13 +5,13 @@ use Rattle.sms_centre_rules.specs.Draft.{Core, draft_of}
 use Rattle.sms_centre_rules.specs.SoundCore.{IsEvent, IsSoundCore}
 use Rattle.sms_centre_rules.specs.declared.event.CentreEvent.{CentreEvent}
 use Rattle.sms_centre_rules.specs.declared.event.CentreEvent.TheVariants.{Bound, Cancel, DeliverAnswered, Frame, LinkDown, LinkUp, Query, Submit, Tick, Unbound}
-use Rattle.sms_offered.specs.Offered.{HasOffered}
+use Rattle.sms_centre_course.specs.Offered.{HasOffered}
 use Rattle.sms_world.specs.Run.{Run, end}
 use Rattle.sms_world.specs.ScriptRun.{Asked, Cancelled, Handed, IsPlayed, Submitted, Tick_centre, items}
 use Rattle.sms_world.specs.Sides.{AllOfCentre}
 use Rattle.sms_world.specs.World.{World}
 use Rattle.sms_world.specs.WorldStep.{Step}
-use Rattle.sms_centre_frames.specs.Handing.{IsHandedUp}
+use Rattle.sms_centre_course.specs.Handing.{IsHandedUp}
 use Rattle.sms_centre_sight.specs.CentreLaws.{AllOffer}
 use Rattle.sms_centre_sight.specs.CentreSight.{CentreSees}
 

@@ -1,4 +1,9 @@
-pub mod CourseEvents
-pub mod PlanLaws
 pub mod Course
+pub mod CourseEvents
+pub mod FrameLaws
+pub mod Handing
+pub mod Offered
+pub mod OfferedLaws
+pub mod PlanLaws
+pub mod Stages
 pub mod TruthfulRows

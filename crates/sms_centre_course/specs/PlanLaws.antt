@@ -4,7 +4,7 @@ use Rattle.sms_centre_rules.specs.Draft.{Core, draft_of}
 use Rattle.sms_centre_rules.specs.Planning.{Outcome, adopted, plan_of}
 use Rattle.sms_centre_rules.specs.SoundCore.{IsEvent, IsSoundCore}
 use Rattle.sms_centre_rules.specs.declared.event.CentreEvent.{CentreEvent}
-use Rattle.sms_offered.specs.Offered.{HasOffered}
+use Rattle.sms_centre_course.specs.Offered.{HasOffered}
 use Rattle.sms_world.specs.Run.{Run, end}
 use Rattle.sms_world.specs.ScriptRun.{items}
 use Rattle.sms_world.specs.Sides.{AllOfCentre}

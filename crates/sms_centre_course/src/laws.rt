@@ -1,8 +1,30 @@
-//! Every event, and a course of them.
+//! What is offered, a frame, every event, and a course of them.
 ghost use Rattle.sms_centre_course.specs.Course.{CourseLaw, FirstCourseLaw};
 ghost use Rattle.sms_centre_course.specs.CourseEvents.{EventLaw};
 ghost use Rattle.sms_centre_course.specs.PlanLaws.{PlanLaw};
 ghost use Rattle.sms_centre_course.specs.TruthfulRows.{DeliveredLaw, EpisodeLaw, OnceLaw, ToldLaw};
+ghost use Rattle.sms_centre_course.specs.FrameLaws.{FrameLaw};
+ghost use Rattle.sms_centre_course.specs.OfferedLaws.{AnsweredLaw, BackLaw, EventLaw as OfferedLaw, FirstLaw, QueryLaw};
+
+/// Where a line is ready, nothing that waits for its handset is due: so it is of a new centre, of one that comes back, and after every
+/// event of a sound centre.
+pub fn what_can_go_is_offered()
+    ensures first { FirstLaw }
+    ensures back { BackLaw }
+    ensures event { OfferedLaw }
+{}
+
+/// While it is so, a question and the answer to a receipt send nothing to handsets, and leave their lines as they are.
+pub fn some_events_offer_nothing()
+    ensures query { QueryLaw }
+    ensures answered { AnsweredLaw }
+{}
+
+/// Where a sound centre sees the world, a frame that is handed to it is an event of a script, by steps of the centre, and it sees where
+/// they lead.
+pub fn a_frame_is_steps()
+    ensures frame { FrameLaw }
+{}
 
 /// Every event of a sound centre that sees the world is steps of it, all of them the centre's own, and the centre sees where they lead.
 pub fn every_event_is_steps()

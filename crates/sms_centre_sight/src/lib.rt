@@ -5,7 +5,7 @@
 //! new centre sees the empty world; that one which comes back from its rows sees what they show; and that what handsets do leaves
 //! it. Of its events a question, a session that is bound or ends, an answer to a receipt, and a link that comes up or goes down, are
 //! steps of the world: offers of what waits, which follow every event; and a submission, a cancel and a tick are events of a script.
-//! A frame that comes is in `sms_centre_frames`.
+//! A frame that comes is in `sms_centre_course`.
 #![tactic(auto)]
 
 pub mod laws;

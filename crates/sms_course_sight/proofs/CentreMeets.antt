@@ -14,7 +14,7 @@ use Rattle.sms_centre_rules.specs.declared.answer.CentreAnswer.{CentreAnswer}
 use Rattle.sms_centre_rules.specs.declared.event.CentreEvent.{CentreEvent}
 use Rattle.sms_centre_rules.specs.declared.event.CentreEvent.TheVariants.{DeliverAnswered}
 use Rattle.sms_centre_rules.specs.declared.rows.Rows.{Rows}
-use Rattle.sms_offered.proofs.AfterOffers.{event_offered}
+use Rattle.sms_centre_course.proofs.AfterOffers.{event_offered}
 use Rattle.sms_play.specs.CentreSide.{accepted_after, answered_as, centre_meets, committed, done, told, whole}
 use Rattle.sms_play.specs.Course.{Course, Party, numbers_of}
 use Rattle.sms_play.specs.PlayedEvent.{centre_restarted, sessions_from}
@@ -33,7 +33,7 @@ use Rattle.sms_centre_course.specs.CourseEvents.{AreOfEvent, MayCome, moment_at}
 use Rattle.sms_handset_sight.proofs.Others.{centre_event}
 use Rattle.sms_handset_sight.specs.PutInOrder.{JoinedText}
 use Rattle.sms_course_sight.specs.CourseSight.{CourseSees, PartySees, rows_joined}
-use Rattle.sms_told_givings.proofs.Telling.{event_told, goes_on}
+use Rattle.sms_course_sight.proofs.Telling.{event_told, goes_on}
 use Rattle.sms_course_sight.proofs.Bags.{down_rows, down_stacked}
 use Rattle.sms_course_sight.proofs.HandsetMeets.{Goes, answer_sees}
 use Rattle.sms_course_sight.proofs.EventMoments.{event_moment}

@@ -14,9 +14,9 @@ use Rattle.sms_report.specs.declared.rows.GivenRow.{GivenRow}
 use Rattle.sms_table.specs.declared.change.Change.{Change}
 use Rattle.sms_table.specs.declared.change.Change.TheVariants.{Put, Remove}
 use Rattle.sms_table.specs.Table.{put, row_at, without}
-use Rattle.sms_told_givings.specs.ToldGivings.{TellsDown}
-use Rattle.sms_told_givings.proofs.Latest.{AllUp, tells_still}
-use Rattle.sms_told_givings.proofs.Telling.{goes_on}
+use Rattle.sms_course_sight.specs.ToldGivings.{TellsDown}
+use Rattle.sms_course_sight.proofs.Latest.{AllUp, tells_still}
+use Rattle.sms_course_sight.proofs.Telling.{goes_on}
 use Rattle.sms_world.proofs.Apart.{handset_leaves_centre}
 use Rattle.std.specs.Prelude.{if◌then◌else◌, is_some, nat_le}
 use Rattle.std.proofs.lemmas.Bool.{cond_both}

@@ -9,3 +9,13 @@ pub mod Meetings
 pub mod Events
 pub mod Beginnings
 pub mod Runs
+pub mod Falling
+pub mod Growing
+pub mod Latest
+pub mod PartMoves
+pub mod PartsInOrder
+pub mod ReportMoves
+pub mod GivenBy
+pub mod PutsTold
+pub mod HoldersApart
+pub mod Telling

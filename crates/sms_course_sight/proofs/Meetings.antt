@@ -28,7 +28,7 @@ use Rattle.sms_frame_sight.proofs.Passing.{goes_down, goes_up}
 use Rattle.sms_frame_sight.specs.Between.{frame_up}
 use Rattle.sms_frame_sight.specs.FramesDown.{IsHanded}
 use Rattle.sms_frame_sight.specs.FramesUp.{IsWhole, sent_as}
-use Rattle.sms_centre_frames.specs.Handing.{IsHandedUp}
+use Rattle.sms_centre_course.specs.Handing.{IsHandedUp}
 use Rattle.sms_centre_course.specs.Course.{IsScripted}
 use Rattle.sms_centre_course.specs.CourseEvents.{AreOfEvent, MayCome, moment_at}
 use Rattle.sms_centre_sight.specs.FramesOut.{IsWholeDown, sent_down}

@@ -10,7 +10,7 @@ use Rattle.sms_world.specs.World.{Carried, Frame, OutEntry, World}
 use Rattle.sms_world.specs.WorldStep.{Delete, Receive, Remove, Step, Submit}
 use Rattle.sms_centre_sight.specs.CentreLaws.{AllOffer}
 use Rattle.sms_centre_course.specs.CourseEvents.{AreOfEvent}
-use Rattle.sms_told_givings.specs.TellingLaws.{NoneSubmits, OneSubmits, Submits}
+use Rattle.sms_course_sight.specs.TellingLaws.{NoneSubmits, OneSubmits, Submits}
 
 -- ---- lists of steps
 

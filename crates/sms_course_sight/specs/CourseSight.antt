@@ -12,7 +12,7 @@ use Rattle.sms_centre_rules.specs.Draft.{draft_of as centre_draft}
 use Rattle.sms_centre_rules.specs.SoundCore.{AreDifferent, IsSoundCore as IsSoundCentre}
 use Rattle.sms_handset_draft.specs.Draft.{draft_of as handset_draft}
 use Rattle.sms_handset.specs.SoundCore.{IsSoundCore as IsSoundHandset}
-use Rattle.sms_offered.specs.Offered.{HasOffered}
+use Rattle.sms_centre_course.specs.Offered.{HasOffered}
 use Rattle.sms_play.specs.Course.{Course, Party, numbers_of}
 use Rattle.sms_play.specs.HandsetSide.{coding_of}
 use Rattle.sms_play.specs.Premises.{pairs_of}
@@ -22,8 +22,8 @@ use Rattle.sms_centre_sight.specs.CentreSight.{CentreSees}
 use Rattle.sms_centre_sight.specs.FramesOut.{IsWholeDown, sent_down}
 use Rattle.sms_handset_sight.specs.PutInOrder.{JoinedText, accepted_at, joined_at}
 use Rattle.sms_handset_sight.specs.Sight.{Sees}
-use Rattle.sms_told_givings.specs.TellingLaws.{IsReached}
-use Rattle.sms_told_givings.specs.ToldGivings.{TellsDown}
+use Rattle.sms_course_sight.specs.TellingLaws.{IsReached}
+use Rattle.sms_course_sight.specs.ToldGivings.{TellsDown}
 
 -- ---- frames
 

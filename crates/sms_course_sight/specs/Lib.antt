@@ -1,3 +1,5 @@
+pub mod CourseRuns
 pub mod CourseSight
 pub mod Happening
-pub mod CourseRuns
+pub mod TellingLaws
+pub mod ToldGivings

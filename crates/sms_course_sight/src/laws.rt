@@ -1,5 +1,12 @@
 //! A script's course is a run of the world.
 ghost use Rattle.sms_course_sight.specs.CourseRuns.{BeginningLaw, EventLaw, RunLaw, ScriptLaw};
+ghost use Rattle.sms_course_sight.specs.TellingLaws.{TellLaw};
+
+/// Where the rows that an event of a sound centre starts with and ends with show the worlds that its steps lead from and to, and its steps
+/// submit one message at most, the course tells what was given after it, if it told so before.
+pub fn an_event_tells_what_it_gave()
+    ensures tells { TellLaw }
+{}
 
 /// Each event of a script, whole, stopped or a restart, is steps of the world that its course sees, and the course after it sees
 /// where they lead.

@@ -20,8 +20,8 @@ use Rattle.sms_world.specs.ScriptRun.{items}
 use Rattle.sms_world.specs.Submission.{Submission}
 use Rattle.sms_world.specs.World.{Accepted, Giving, World, pair_given}
 use Rattle.sms_world.specs.WorldStep.{Receive, Step, Submit, after}
-use Rattle.sms_told_givings.specs.TellingLaws.{NoneSubmits, OneSubmits, Submits}
-use Rattle.sms_told_givings.proofs.Growing.{GrownOnce, in_rest, steps_grow}
+use Rattle.sms_course_sight.specs.TellingLaws.{NoneSubmits, OneSubmits, Submits}
+use Rattle.sms_course_sight.proofs.Growing.{GrownOnce, in_rest, steps_grow}
 use Rattle.sms_course_sight.specs.CourseSight.{CourseSees}
 use Rattle.sms_headline.proofs.AcceptedPairs.{same_accepted}
 use Rattle.sms_headline.proofs.PairsTold.{newest_over, pairs_told}

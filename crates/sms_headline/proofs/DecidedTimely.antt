@@ -27,8 +27,8 @@ use Rattle.sms_world.proofs.Frames.{Numbered, numbered_run}
 use Rattle.sms_course_sight.specs.CourseSight.{CourseSees, all_seen, sent_by, sent_row}
 use Rattle.sms_course_sight.specs.Happening.{event_of, happening_of}
 use Rattle.sms_course_sight.proofs.Bags.{frame_found, row_seen}
-use Rattle.sms_told_givings.specs.TellingLaws.{IsReached}
-use Rattle.sms_told_givings.proofs.Latest.{latest_is}
+use Rattle.sms_course_sight.specs.TellingLaws.{IsReached}
+use Rattle.sms_course_sight.proofs.Latest.{latest_is}
 use Rattle.sms_headline.proofs.FaithfulRuns.{HandsDown}
 
 -- ---- a number names one frame

@@ -25,8 +25,8 @@ use Rattle.sms_world.proofs.Sound.{IsSound}
 use Rattle.sms_world.proofs.Wholes.{AllWhole, splits_whole}
 use Rattle.sms_centre_course.specs.TruthfulRows.{pair_in_row}
 use Rattle.sms_handset_sight.specs.PutInOrder.{JoinedText, joined_at, text_of}
-use Rattle.sms_told_givings.specs.TellingLaws.{OneSubmits}
-use Rattle.sms_told_givings.proofs.Telling.{sound_there}
+use Rattle.sms_course_sight.specs.TellingLaws.{OneSubmits}
+use Rattle.sms_course_sight.proofs.Telling.{sound_there}
 use Rattle.sms_course_sight.specs.CourseRuns.{AllHandOctets, AreGood, IfPlayed}
 use Rattle.sms_course_sight.specs.CourseSight.{CourseSees, row_joined, rows_joined}
 use Rattle.sms_course_sight.specs.Happening.{HandsOctets, IsGoodEvent, happening_of}

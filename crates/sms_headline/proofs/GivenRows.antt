@@ -9,8 +9,8 @@ use Rattle.sms_play.specs.Premises.{is_same_side}
 use Rattle.sms_world.specs.World.{Giving, World}
 use Rattle.sms_world.proofs.Faithful.{given_same}
 use Rattle.sms_world.proofs.Sound.{IsSound}
-use Rattle.sms_told_givings.specs.ToldGivings.{HoldersDiffer, IsDown, IsToldOf}
-use Rattle.sms_told_givings.proofs.Telling.{sound_there}
+use Rattle.sms_course_sight.specs.ToldGivings.{HoldersDiffer, IsDown, IsToldOf}
+use Rattle.sms_course_sight.proofs.Telling.{sound_there}
 use Rattle.sms_course_sight.specs.CourseSight.{CourseSees}
 use Rattle.sms_headline.specs.Claims.{GivenOnce}
 

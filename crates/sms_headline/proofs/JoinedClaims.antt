@@ -33,8 +33,8 @@ use Rattle.sms_centre_sight.proofs.ByOctets.{by_octet_some}
 use Rattle.sms_centre_sight.specs.SeesMessages.{PartSeen, part_seen}
 use Rattle.sms_centre_course.specs.TruthfulRows.{pair_in_row}
 use Rattle.sms_handset_sight.specs.PutInOrder.{JoinedText, accepted_at, joined_at, text_of}
-use Rattle.sms_told_givings.specs.TellingLaws.{IsReached}
-use Rattle.sms_told_givings.proofs.Telling.{sound_there}
+use Rattle.sms_course_sight.specs.TellingLaws.{IsReached}
+use Rattle.sms_course_sight.proofs.Telling.{sound_there}
 use Rattle.sms_course_sight.proofs.Bags.{among_last}
 use Rattle.sms_course_sight.specs.CourseSight.{CourseSees, row_joined, rows_joined}
 use Rattle.sms_headline.specs.Claims.{AreJoinedFrom, HaveNoneInCommon, IsJoinedFrom, IsPartOf, JoinedOfParts, JoinedOnce}

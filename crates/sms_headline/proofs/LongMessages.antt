@@ -26,7 +26,7 @@ use Rattle.sms_centre_sight.proofs.ByOctets.{by_octet_is, by_octet_some}
 use Rattle.sms_centre_sight.specs.SeesGiven.{given_part}
 use Rattle.sms_centre_sight.specs.SeesMessages.{IsRowOf, PartSeen, part_seen, parts_by}
 use Rattle.sms_centre_course.specs.TruthfulRows.{pair_in_row}
-use Rattle.sms_told_givings.proofs.Telling.{sound_there}
+use Rattle.sms_course_sight.proofs.Telling.{sound_there}
 use Rattle.sms_course_sight.specs.CourseSight.{CourseSees}
 use Rattle.sms_headline.specs.Claims.{IsLongMessage}
 

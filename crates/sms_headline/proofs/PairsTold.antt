@@ -15,7 +15,7 @@ use Rattle.sms_world.specs.World.{Accepted, Giving, World, pair_given}
 use Rattle.sms_centre_sight.proofs.ByOctets.{by_octet_some}
 use Rattle.sms_centre_sight.specs.SeesMessages.{PartSeen, part_seen}
 use Rattle.sms_course_sight.specs.CourseSight.{CourseSees}
-use Rattle.sms_told_givings.specs.ToldGivings.{PartGiven, parts_given, parts_told, with_part}
+use Rattle.sms_course_sight.specs.ToldGivings.{PartGiven, parts_given, parts_told, with_part}
 
 -- ---- what is offered for a part, as its row has it
 

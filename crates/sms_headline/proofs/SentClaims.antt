@@ -36,7 +36,7 @@ use Rattle.sms_centre_sight.proofs.ByOctets.{by_octet_is, by_octet_some}
 use Rattle.sms_centre_sight.specs.SeesGiven.{given_part}
 use Rattle.sms_centre_sight.specs.SeesMessages.{IsRowOf, PartSeen, part_seen}
 use Rattle.sms_handset_sight.specs.SeesOutbox.{entry_seen, state_of, user_data_in}
-use Rattle.sms_told_givings.proofs.Telling.{sound_there}
+use Rattle.sms_course_sight.proofs.Telling.{sound_there}
 use Rattle.sms_course_sight.specs.CourseRuns.{AllHandOctets, AreGood, IfPlayed}
 use Rattle.sms_course_sight.specs.CourseSight.{CourseSees}
 use Rattle.sms_course_sight.specs.Happening.{HandsOctets, IsGoodEvent, happening_of}

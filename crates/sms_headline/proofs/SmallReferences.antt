@@ -9,8 +9,8 @@ use Rattle.sms_world.specs.Submission.{Submission}
 use Rattle.sms_world.specs.World.{Carried, Down, Frame, Giving, Line, World, empty, give}
 use Rattle.sms_world.specs.WorldStep.{Can, Receive, Status, Step, Submit, after, enter}
 use Rattle.sms_world.proofs.Sound.{Says}
-use Rattle.sms_told_givings.specs.TellingLaws.{IsReached}
-use Rattle.sms_told_givings.proofs.Telling.{sound_there}
+use Rattle.sms_course_sight.specs.TellingLaws.{IsReached}
+use Rattle.sms_course_sight.proofs.Telling.{sound_there}
 
 abbrev AreSmall : List Giving → Type 0
 AreSmall down = (g : Giving) → Among g down → g.reference < 256

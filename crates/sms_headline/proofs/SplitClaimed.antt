@@ -1,6 +1,5 @@
 -- The claims of messages that the centre split, of every script.
-use Rattle.std.proofs.Common.{◌≡◌, ℕ, ◌+◌, List, [], ◌∷◌, length, true, refl, sym, ◌∙◌, ap, subst, Option, Some, None, Result, Ok, Err}
-use Rattle.sms_base.specs.Among.{Among}
+use Rattle.std.proofs.Common.{◌≡◌, ℕ, ◌+◌, List, ◌∷◌, length, refl, sym, ◌∙◌, ap, subst, Option, Some, Result, Ok, Err}
 use Rattle.sms_base.specs.Reading.{◌>>=◌}
 use Rattle.sms_concat.specs.declared.content.Content.{Content}
 use Rattle.sms_messages.specs.declared.message.MessageRow.{MessageRow}
@@ -14,7 +13,6 @@ use Rattle.sms_centre_rules.specs.declared.event.CentreEvent.{CentreEvent}
 use Rattle.sms_centre_rules.specs.declared.event.CentreEvent.TheVariants.{Submit as CentreSubmit}
 use Rattle.sms_centre_rules.proofs.EventLaws.{stays_sound}
 use Rattle.sms_script.specs.declared.event.Act.TheVariants.{Submit}
-use Rattle.sms_script.specs.declared.event.Submission.{Submission as ScriptSubmission}
 use Rattle.sms_script.specs.declared.event.WorldEvent.{WorldEvent}
 use Rattle.sms_script.specs.declared.event.WorldEvent.TheVariants.{Whole}
 use Rattle.sms_script.specs.declared.script.Script.{Script}
@@ -22,7 +20,7 @@ use Rattle.sms_script.specs.declared.setup.Setup.{Setup}
 use Rattle.sms_play.specs.declared.fault.PlayFault.{PlayFault}
 use Rattle.sms_play.specs.CentreSide.{done as centre_done, whole as centre_whole}
 use Rattle.sms_play.specs.Course.{Course}
-use Rattle.sms_play.specs.Meeting.{AtCentre, Meeting, account_from, by_account, meeting_of, submit_of}
+use Rattle.sms_play.specs.Meeting.{AtCentre, Meeting, by_account, meeting_of, submit_of}
 use Rattle.sms_play.specs.PlayedEvent.{met, played}
 use Rattle.sms_play.specs.Playing.{played_on}
 use Rattle.sms_play.specs.Setups.{beginning}
@@ -31,7 +29,7 @@ use Rattle.sms_world.specs.ScriptRun.{happened as happened_in}
 use Rattle.sms_world.specs.World.{World, empty}
 use Rattle.sms_course_sight.specs.CourseRuns.{AllHandOctets, AreGood, IfPlayed}
 use Rattle.sms_course_sight.specs.CourseSight.{CourseSees}
-use Rattle.sms_course_sight.specs.Happening.{HandsOctets, happening_of}
+use Rattle.sms_course_sight.specs.Happening.{happening_of}
 use Rattle.sms_course_sight.proofs.Beginnings.{begins}
 use Rattle.sms_course_sight.proofs.Events.{event_leads, ok_course, same_course}
 use Rattle.sms_course_sight.proofs.Runs.{run_leads}

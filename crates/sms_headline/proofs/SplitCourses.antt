@@ -14,7 +14,7 @@ use Rattle.sms_script.specs.declared.event.Stop.TheVariants.{Before, After}
 use Rattle.sms_script.specs.declared.event.WorldEvent.{WorldEvent}
 use Rattle.sms_script.specs.declared.event.WorldEvent.TheVariants.{Whole, Stopped, Restart}
 use Rattle.sms_centre_rules.specs.CentreEvent.{happened as centre_happened}
-use Rattle.sms_centre_rules.specs.Draft.{Core, Draft as CentreDraft, core_of, messages_in, parts_in}
+use Rattle.sms_centre_rules.specs.Draft.{Core, Draft as CentreDraft, messages_in, parts_in}
 use Rattle.sms_centre_rules.specs.SoundCore.{IsEvent, IsSoundCore}
 use Rattle.sms_centre_rules.specs.declared.answer.CentreAnswer.{CentreAnswer}
 use Rattle.sms_centre_rules.specs.declared.event.CentreEvent.{CentreEvent}

@@ -2,7 +2,6 @@
 use Rattle.std.proofs.Common.{◌≡◌, ℕ, zero, suc, ◌+◌, ◌*◌, ◌<◌, ◌≤◌, arith, inl, inr, List, [], ◌∷◌, ◌++◌, length, refl, sym, ◌∙◌, ap, subst, ⊎_elim, Option, Some, None}
 use Rattle.std.specs.Prelude.{◌==◌, slice_get}
 use Rattle.std.proofs.lemmas.Bool.{cases_eq, cond-false, cond-true, ne_eqb, eq-eqb}
-use Rattle.std.proofs.lemmas.Option.{slice_get_within}
 use Rattle.sms_base.specs.Among.{Among}
 use Rattle.sms_concat.specs.declared.content.Content.{Content}
 use Rattle.sms_concat.specs.declared.content.Part.{Part as PartOf}
@@ -17,7 +16,7 @@ use Rattle.sms_table.proofs.Tables.{among_found, found_among, found_key}
 use Rattle.sms_play.specs.Course.{Course, Party}
 use Rattle.sms_play.specs.HandsetSide.{coding_of}
 use Rattle.sms_world.specs.Carrying.{carried_in, joined_parts, with_part}
-use Rattle.sms_world.specs.Groups.{carried_by, joined_content, parts_to}
+use Rattle.sms_world.specs.Groups.{carried_by, parts_to}
 use Rattle.sms_world.specs.PartsOfKey.{number_in}
 use Rattle.sms_world.specs.Place.{Key, Place, place_in}
 use Rattle.sms_world.specs.World.{Accepted, World}

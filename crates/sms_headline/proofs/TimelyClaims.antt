@@ -30,7 +30,7 @@ use Rattle.sms_centre_sight.specs.SeesMessages.{IsStateOf, PartSeen, part_seen, 
 use Rattle.sms_centre_sight.proofs.ByOctets.{by_octet_is}
 use Rattle.sms_centre_course.specs.TruthfulRows.{IsAsSubmitted, pair_in_row}
 use Rattle.sms_handset_sight.specs.PutInOrder.{accepted_at}
-use Rattle.sms_told_givings.proofs.Telling.{sound_there}
+use Rattle.sms_course_sight.proofs.Telling.{sound_there}
 use Rattle.sms_course_sight.specs.CourseRuns.{AllHandOctets, AreGood, IfPlayed}
 use Rattle.sms_course_sight.specs.CourseSight.{CourseSees}
 use Rattle.sms_course_sight.specs.Happening.{HandsOctets, IsGoodEvent, happening_of}

@@ -1,3 +1,0 @@
-pub mod Handing
-pub mod Stages
-pub mod FrameLaws

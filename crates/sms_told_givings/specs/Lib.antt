@@ -1,2 +1,0 @@
-pub mod ToldGivings
-pub mod TellingLaws
