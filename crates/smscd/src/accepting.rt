@@ -1,0 +1,127 @@
+//! Connections that come in.
+use crate::connection::{Connection, Ports, Side};
+use crossbeam_channel::Sender;
+use std::io::{Print, Read, Write};
+use std::net::TcpStream;
+use std::sync::atomic::{AtomicBool, AtomicUsize, Ordering};
+use std::sync::{Arc, Wait};
+use std::thread;
+use std::time::Duration;
+
+// How long a look at the ports that found nobody waits for the next one: less after somebody came, and the longer the longer nobody does.
+const SHORTEST_PAUSE: u64 = 5;
+
+const LONGEST_PAUSE: u64 = 80;
+
+/// How many connections are open at most.
+pub const MOST_OPEN: usize = 32;
+
+// generic_nack with ESME_RBINDFAIL (SMPP v3.4 4.3 and 5.1.3).
+const NO_ROOM: [u8; 16] = [
+    0x00, 0x00, 0x00, 0x10, 0x80, 0x00, 0x00, 0x00, 0x00, 0x00, 0x00, 0x0D, 0x00, 0x00, 0x00, 0x00,
+];
+
+// CP-ERROR with the cause "congestion" behind its length (3GPP TS 24.011 7.2.3 and 8.1.4.2).
+const CONGESTION: [u8; 5] = [0x00, 0x03, 0x09, 0x10, 0x16];
+
+/// Who takes connections, and what it shares with the seats.
+#[derive(Drop)]
+pub struct Porter<R> {
+    pub host: HostRuntime,
+    pub rt: R,
+    pub ports: Ports,
+    pub sender: Sender<Connection>,
+    /// How many connections are open.
+    pub open: Arc<AtomicUsize>,
+    /// The keeper has ended.
+    pub over: Arc<AtomicBool>,
+    /// How many connections are served in all.
+    pub sessions: u32,
+}
+
+// What became of a look at a port.
+#[derive(Clone, Copy, PartialEq, Eq)]
+enum Came {
+    Nobody,
+    Served,
+    Refused,
+}
+
+fn longer(pause: u64) -> u64 {
+    if pause < LONGEST_PAUSE {
+        pause.saturating_mul(2)
+    } else {
+        pause
+    }
+}
+
+// Tells the other side that there is no room, as far as it listens. What it sent is read first, since a connection that is closed
+// over octets that nobody read loses what it was told.
+fn refuse(stream: TcpStream, side: Side) {
+    let mut stream = stream;
+    if stream.set_nonblocking(true).is_err() {
+        return;
+    }
+    let mut came = [0u8; 1024];
+    let _ = stream.read(&mut came);
+    let _ = match side {
+        Side::Application => stream.write(&NO_ROOM),
+        Side::Handset => stream.write(&CONGESTION),
+    };
+}
+
+impl<R: Wait> Porter<R> {
+    fn receive(&self, stream: TcpStream, side: Side) -> Came {
+        if self.open.load(Ordering::SeqCst) >= MOST_OPEN {
+            refuse(stream, side);
+            let _ = eprint!(self.host; "smscd: refused, {MOST_OPEN} connections are open\n");
+            return Came::Refused;
+        }
+        self.open.fetch_add(1, Ordering::SeqCst);
+        match self.sender.send(&self.rt, Connection { stream, side }) {
+            Ok(()) => Came::Served,
+            Err(_) => Came::Nobody,
+        }
+    }
+
+    // Takes the next connection that waits, if there is one.
+    fn accept(&self, side: Side) -> Came {
+        let accepted = match side {
+            Side::Application => self.ports.applications.accept(),
+            Side::Handset => self.ports.links.accept(),
+        };
+        match accepted {
+            Ok((stream, _)) => self.receive(stream, side),
+            Err(_) => Came::Nobody,
+        }
+    }
+
+    /// Takes so many connections. Of those beyond the greatest number at once each is told so, and is not counted.
+    pub fn accept_all(&self) {
+        let mut left = self.sessions;
+        let mut pause = SHORTEST_PAUSE;
+        for _ in 0..u64::MAX {
+            if left == 0 || self.over.load(Ordering::SeqCst) {
+                return;
+            }
+            let first = self.accept(Side::Application);
+            if first == Came::Served {
+                left -= 1;
+            }
+            let second = if left > 0 {
+                self.accept(Side::Handset)
+            } else {
+                Came::Nobody
+            };
+            if second == Came::Served {
+                left -= 1;
+            }
+            if first == Came::Nobody && second == Came::Nobody {
+                let _ = thread::sleep(&self.host, Duration::from_millis(pause));
+                pause = longer(pause);
+            } else {
+                pause = SHORTEST_PAUSE;
+            }
+        }
+    }
+}

@@ -1,0 +1,87 @@
+//! The threads of the seats.
+use crate::connection::{Connection, Side, Socket};
+use crate::telling::ErrorTeller;
+use crossbeam_channel::Receiver;
+use smpp_session::Accounts;
+use sms_seats::{Application, HandsetLink, OpenSeat, serve};
+use std::alloc::Global;
+use std::sync::atomic::{AtomicBool, AtomicUsize, Ordering};
+use std::sync::{Arc, Wait};
+
+/// What the thread of a seat has beside its seat.
+#[derive(Drop)]
+pub struct Desk<R> {
+    pub rt: R,
+    pub alloc: Global,
+    pub accounts: Arc<Accounts>,
+    pub teller: ErrorTeller,
+    /// The keeper has ended.
+    pub over: Arc<AtomicBool>,
+    /// How many connections are open.
+    pub open: Arc<AtomicUsize>,
+    pub connections: Receiver<Connection>,
+}
+
+fn serve_application<R: Wait>(
+    alloc: Global,
+    desk: &Desk<R>,
+    seat: &mut OpenSeat,
+    socket: &mut Socket,
+) {
+    let Ok(accounts) = Arc::try_clone(&desk.accounts) else {
+        return;
+    };
+    let mut guest = Application::new(alloc, accounts);
+    serve(
+        &desk.rt,
+        alloc,
+        &desk.over,
+        socket,
+        seat,
+        &mut guest,
+        &desk.teller,
+    );
+}
+
+fn serve_handset<R: Wait>(alloc: Global, desk: &Desk<R>, seat: &mut OpenSeat, socket: &mut Socket) {
+    let mut guest = HandsetLink::new(alloc);
+    serve(
+        &desk.rt,
+        alloc,
+        &desk.over,
+        socket,
+        seat,
+        &mut guest,
+        &desk.teller,
+    );
+}
+
+fn serve_connection<R: Wait>(desk: &Desk<R>, seat: &mut OpenSeat, connection: Connection) {
+    let alloc = desk.alloc;
+    let Connection { stream, side } = connection;
+    let Ok(mut socket) = Socket::of(stream) else {
+        return;
+    };
+    match side {
+        Side::Application => serve_application(alloc, desk, seat, &mut socket),
+        Side::Handset => serve_handset(alloc, desk, seat, &mut socket),
+    }
+}
+
+// Serves one connection after another, until there will be none any more.
+fn serve_all<R: Wait>(desk: &Desk<R>, seat: &mut OpenSeat) {
+    for _ in 0..u64::MAX {
+        let Ok(connection) = desk.connections.recv(&desk.rt) else {
+            return;
+        };
+        serve_connection(desk, seat, connection);
+        desk.open.fetch_sub(1, Ordering::SeqCst);
+    }
+}
+
+/// Serves one connection after another at a seat, until there will be none any more; then the seat closes.
+pub fn sit<R: Wait>(desk: &Desk<R>, seat: OpenSeat) {
+    let mut seat = seat;
+    serve_all(desk, &mut seat);
+    seat.close(&desk.rt, &desk.over);
+}

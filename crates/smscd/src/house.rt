@@ -1,0 +1,214 @@
+//! The seats of a run with their threads, and the keeper.
+use crate::accepting::{MOST_OPEN, Porter};
+use crate::clock::MachineClock;
+use crate::connection::{Connection, Ports};
+use crate::guests::{Desk, sit};
+use crate::run_fault::RunFault;
+use crate::telling::ErrorTeller;
+use crossbeam_channel::{Receiver, Sender};
+use smpp_session::Accounts;
+use sms_jobs::{Job, Reply};
+use sms_keeper::{Broken, End, Gate, Keeper, Machine};
+use sms_seats::OpenSeat;
+use std::alloc::{AllocError, Global};
+use std::io::Print;
+use std::sync::atomic::{AtomicBool, AtomicUsize, Ordering};
+use std::sync::{Arc, Wait};
+use std::thread::{self, JoinHandle, Threads};
+
+// How many jobs wait at most, and answers of one seat.
+const SLOTS: usize = 256;
+
+// The product's gate returns at once.
+#[derive(Clone, Copy)]
+struct OpenGate;
+
+impl Gate for OpenGate {
+    fn pass(&self) {}
+}
+
+/// What the threads of a run share.
+#[derive(Drop)]
+pub struct Shared {
+    pub accounts: Arc<Accounts>,
+    /// The names of the accounts, by their places.
+    pub names: Arc<Vec<String>>,
+    /// The keeper has ended.
+    pub over: Arc<AtomicBool>,
+    /// How many connections are open.
+    pub open: Arc<AtomicUsize>,
+}
+
+impl Shared {
+    /// Nothing has happened yet.
+    pub fn of(alloc: Global, accounts: Accounts, names: Vec<String>) -> Result<Shared, AllocError> {
+        Ok(Shared {
+            accounts: Arc::new(alloc, accounts)?,
+            names: Arc::new(alloc, names)?,
+            over: Arc::new(alloc, AtomicBool::new(false))?,
+            open: Arc::new(alloc, AtomicUsize::new(0))?,
+        })
+    }
+
+    fn desk<R: Copy>(
+        &self,
+        host: HostRuntime,
+        rt: R,
+        connections: &Receiver<Connection>,
+    ) -> Result<Desk<R>, AllocError> {
+        Ok(Desk {
+            rt,
+            alloc: host.alloc(),
+            accounts: Arc::try_clone(&self.accounts)?,
+            teller: ErrorTeller {
+                rt: host,
+                names: Arc::try_clone(&self.names)?,
+            },
+            over: Arc::try_clone(&self.over)?,
+            open: Arc::try_clone(&self.open)?,
+            connections: connections.clone()?,
+        })
+    }
+
+    /// Who takes connections at these ports.
+    pub fn porter<R: Copy>(
+        &self,
+        host: HostRuntime,
+        rt: R,
+        ports: Ports,
+        sender: Sender<Connection>,
+        sessions: u32,
+    ) -> Result<Porter<R>, AllocError> {
+        Ok(Porter {
+            host,
+            rt,
+            ports,
+            sender,
+            open: Arc::try_clone(&self.open)?,
+            over: Arc::try_clone(&self.over)?,
+            sessions,
+        })
+    }
+}
+
+/// The keeper of a run, and the threads that it has started.
+#[derive(Drop)]
+pub struct House {
+    pub keeper: Keeper<Job, Reply>,
+    pub threads: Vec<JoinHandle<()>>,
+}
+
+// One more seat of the keeper.
+#[tactic(auto, using(crate::proofs::Seating::is_open))]
+fn open_seat(alloc: Global, keeper: &mut Keeper<Job, Reply>) -> Result<OpenSeat, AllocError> {
+    let seat = keeper.add_seat(alloc)?;
+    Ok(OpenSeat { seat })
+}
+
+impl House {
+    /// A keeper without seats.
+    pub fn new(alloc: Global) -> Result<House, AllocError> {
+        let keeper = Keeper::open(alloc, SLOTS)?;
+        Ok(House {
+            keeper,
+            threads: Vec::new(alloc),
+        })
+    }
+
+    // Starts the thread of one more seat.
+    fn start_seat<R: Threads + Wait + Copy + Send + 'static>(
+        &mut self,
+        alloc: Global,
+        desk: Desk<R>,
+    ) -> Result<(), RunFault> {
+        self.threads.reserve(1)?;
+        let seat = open_seat(alloc, &mut self.keeper)?;
+        let rt = desk.rt;
+        match thread::spawn(&rt, move || sit(&desk, seat)) {
+            Ok(thread) => {
+                self.threads.push_reserved(thread);
+                Ok(())
+            }
+            Err(_) => Err(RunFault::NoThread),
+        }
+    }
+
+    /// Starts the threads of all seats.
+    pub fn start_seats<R: Threads + Wait + Copy + Send + 'static>(
+        &mut self,
+        host: HostRuntime,
+        rt: R,
+        shared: &Shared,
+        connections: &Receiver<Connection>,
+    ) -> Result<(), RunFault> {
+        for _ in 0..MOST_OPEN {
+            let desk = shared.desk(host, rt, connections)?;
+            self.start_seat(host.alloc(), desk)?;
+        }
+        Ok(())
+    }
+
+    /// Starts the thread that takes connections.
+    pub fn start_porter<R: Threads + Wait + Copy + Send + 'static>(
+        &mut self,
+        porter: Porter<R>,
+    ) -> Result<(), RunFault> {
+        self.threads.reserve(1)?;
+        let rt = porter.rt;
+        match thread::spawn(&rt, move || porter.accept_all()) {
+            Ok(thread) => {
+                self.threads.push_reserved(thread);
+                Ok(())
+            }
+            Err(_) => Err(RunFault::NoThread),
+        }
+    }
+
+    // Runs a term, and says whether all seats have closed. What the term did is let go.
+    fn run_term<R: Wait, M: Machine<Job, Reply>>(
+        &mut self,
+        host: HostRuntime,
+        rt: &R,
+        machine: &mut M,
+        clock: &MachineClock,
+    ) -> Result<bool, RunFault> {
+        let term = self.keeper.run(rt, host.alloc(), machine, &OpenGate, clock);
+        match term.end {
+            End::AllClosed => Ok(true),
+            End::Full => Ok(false),
+            End::Short => Err(RunFault::NoMemory),
+            End::Refused => match machine.reopen() {
+                Ok(()) => {
+                    let _ = eprint!(host; "smscd: the store refused, and was read again\n");
+                    Ok(false)
+                }
+                Err(Broken) => Err(RunFault::Store),
+            },
+        }
+    }
+
+    /// Runs terms until all seats have closed. A term's history goes with it, so a long run takes no more memory than one term.
+    pub fn keep<R: Wait, M: Machine<Job, Reply>>(
+        &mut self,
+        host: HostRuntime,
+        rt: &R,
+        machine: &mut M,
+        clock: &MachineClock,
+    ) -> Result<(), RunFault> {
+        for _ in rt.forever() {
+            if self.run_term(host, rt, machine, clock)? {
+                return Ok(());
+            }
+        }
+        unreachable!()
+    }
+
+    /// Tells the threads that the run has ended, and waits for them.
+    pub fn end<R: Threads>(self, rt: &R, over: &AtomicBool) {
+        let House { keeper: _, threads } = self;
+        over.store(true, Ordering::SeqCst);
+        for thread in threads {
+            thread.join(rt);
+        }
+    }
+}

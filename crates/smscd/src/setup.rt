@@ -1,0 +1,90 @@
+//! What a run begins with.
+use smpp_session::Account as Login;
+use sms_base::{Listed, Moment, Octets};
+use sms_service::{CentreAccount, Setup};
+use smsc_words::{AccountWords, ServerRun};
+use std::alloc::{AllocError, Global};
+
+/// The accounts of a run, as each part of it wants them.
+#[derive(Drop)]
+pub struct Book {
+    /// Who may bind.
+    pub logins: Vec<Login>,
+    /// The names, for an operator.
+    pub names: Vec<String>,
+    /// Whose messages the centre takes.
+    pub accounts: Vec<CentreAccount>,
+}
+
+fn login_of(alloc: Global, account: &AccountWords<'_>) -> Result<Login, AllocError> {
+    Ok(Login {
+        name: Octets::copy_of(alloc, account.name.as_bytes())?,
+        password: Octets::copy_of(alloc, account.password.as_bytes())?,
+    })
+}
+
+fn name_of(alloc: Global, account: &AccountWords<'_>) -> Result<String, AllocError> {
+    let mut name = String::new(alloc);
+    name.push_str(account.name)?;
+    Ok(name)
+}
+
+fn account_of(alloc: Global, account: &AccountWords<'_>) -> Result<CentreAccount, AllocError> {
+    Ok(CentreAccount {
+        name: Octets::copy_of(alloc, account.name.as_bytes())?,
+        address: account.address,
+    })
+}
+
+impl Book {
+    /// Nobody.
+    pub fn new(alloc: Global) -> Book {
+        Book {
+            logins: Vec::new(alloc),
+            names: Vec::new(alloc),
+            accounts: Vec::new(alloc),
+        }
+    }
+
+    fn add(&mut self, alloc: Global, account: &AccountWords<'_>) -> Result<(), AllocError> {
+        self.logins.push(login_of(alloc, account)?)?;
+        self.names.push(name_of(alloc, account)?)?;
+        self.accounts.push(account_of(alloc, account)?)?;
+        Ok(())
+    }
+
+    /// Adds these behind those that are there.
+    pub fn add_all(
+        &mut self,
+        alloc: Global,
+        accounts: &[AccountWords<'_>],
+    ) -> Result<(), AllocError> {
+        for account in accounts {
+            self.add(alloc, account)?;
+        }
+        Ok(())
+    }
+
+    fn has(&self, name: &str) -> bool {
+        self.names.iter().any(|known| known.as_str() == name)
+    }
+
+    /// Whether one of these has a name that is there.
+    pub fn has_any(&self, accounts: &[AccountWords<'_>]) -> bool {
+        for account in accounts {
+            if self.has(account.name) {
+                return true;
+            }
+        }
+        false
+    }
+}
+
+/// What the centre is told when it starts.
+pub fn setup_of(run: &ServerRun<'_>, start: Moment, accounts: Vec<CentreAccount>) -> Setup {
+    Setup {
+        centre: run.centre,
+        start,
+        accounts: Listed::from_vec(accounts),
+    }
+}
