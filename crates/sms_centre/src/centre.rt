@@ -1,5 +1,5 @@
 //! The centre.
-ghost use Rattle.std.specs.Prelude.{◌≡◌, ℕ, List, None, IfErr, IfOk};
+ghost use Rattle.std.specs.Prelude.{◌≡◌, ℕ, List, None, IfErr, IfOk, OnErr, OnOk};
 ghost use Rattle.sms_base.specs.Among.{Among};
 ghost use Rattle.sms_waiting.specs.SoundGivings.{IsNumber};
 ghost use Rattle.sms_centre_rules.specs.declared.event.CentreEvent.{CentreEvent as CentreEventOf};
@@ -90,6 +90,29 @@ impl Centre {
     {
         let standing = Standing::start(alloc, rows, handsets, sessions)?;
         Ok(Centre::of(alloc, standing)?)
+    }
+
+    /// This centre starts again, with these rows in place of what it had, as `recover` says. Where it can't, it stays as it was.
+    pub fn restart(
+        &mut self,
+        rows: Rows,
+        handsets: &[Digits],
+        sessions: Table<Seat>,
+    ) -> Result<(), RecoverError>
+        requires numbers { (number : List ℕ) → Among number handsets.now → IsNumber number }
+        requires apart { AreDifferent handsets.now }
+        requires sessions { AreNew sessions.rows }
+        ensures standing { OnOk result (IsStanding (recovered rows handsets.now sessions.rows) self.new) }
+        ensures refused { IfErr result (λ error. RefusesRows error rows) }
+        ensures same { OnErr result (self.new ≡ self.old) }
+    {
+        match Centre::recover(self.alloc, rows, handsets, sessions) {
+            Ok(centre) => {
+                *self = centre;
+                Ok(())
+            }
+            Err(error) => Err(error),
+        }
     }
 
     fn of(alloc: Global, standing: Standing) -> Result<Centre, AllocError>

@@ -5,7 +5,8 @@
 //! changed yet. Its caller commits the changes and calls `adopt`, which can't fail and gives what is told: frames to handsets, the
 //! answer to an application, receipts. What an event leads to is said by the definition (`sms_centre_rules`): `plan` is exactly that,
 //! and a sound centre is sound after each event and starts again from the rows that were committed. What it keeps between events is
-//! `sms_standing`'s; its events' stages are those of `sms_working` and the crates above it.
+//! `sms_standing`'s; its events' stages are those of `sms_working` and the crates above it. `with_centre` owns a centre and lends it, so
+//! that no crate above proves how one is let go.
 #![tactic(auto)]
 
 mod acting;
@@ -13,9 +14,11 @@ mod adopting;
 mod centre;
 mod finishing;
 pub mod laws;
+mod lending;
 mod planned;
 
 pub use centre::Centre;
+pub use lending::with_centre;
 pub use planned::Planned;
 pub use sms_centre_rules::{CentreAnswer, CentreEvent, Changes, PlanError, Rows, Setup};
 pub use sms_planned::Told;

@@ -1,5 +1,5 @@
 //! A service that is lent.
-ghost use Rattle.std.specs.Prelude.{◌≡◌, IfOk};
+ghost use Rattle.std.specs.Prelude.{IfOk};
 ghost use Rattle.std.specs.Fn.{FnOnceReturnsAtMut};
 ghost use Rattle.sms_centre_rules.specs.declared.rows.Rows.{Rows as RowsOf};
 ghost use Rattle.sms_service.specs.Seats.{nobody};
@@ -8,16 +8,8 @@ ghost use Rattle.sms_service.specs.Serving.{IsServing, restarted};
 use crate::service::Service;
 use crate::start_error::StartError;
 use sms_bodies::CentreStore;
+use sms_lending::lend;
 use std::alloc::Global;
-
-// Who owns the value lends it, and lets it go then.
-fn lend<T: Drop, R, W: FnOnce(&mut T) -> R>(value: T, work: W) -> R
-    requires { W.IsAlwaysCallable work }
-    ensures { (left : _) × FnOnceReturnsAtMut W.FnOnce work value result left }
-{
-    let mut value = value;
-    work(&mut value)
-}
 
 /// Starts a service with the rows of a keep, with nobody at any seat, lends it to the work, and gives what the work gives. Who calls
 /// this owns no service.

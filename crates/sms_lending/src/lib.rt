@@ -1,0 +1,14 @@
+//! Values that are lent: who owns a large value makes it, lends it to a piece of work, and lets it go in one place, so that no crate
+//! above proves how it is let go.
+#![tactic(auto)]
+
+ghost use Rattle.std.specs.Fn.{FnOnceReturnsAtMut};
+
+/// Lends the value to the work, gives what the work gives, and lets the value go.
+pub fn lend<T: Drop, R, W: FnOnce(&mut T) -> R>(value: T, work: W) -> R
+    requires { W.IsAlwaysCallable work }
+    ensures { (left : _) × FnOnceReturnsAtMut W.FnOnce work value result left }
+{
+    let mut value = value;
+    work(&mut value)
+}
