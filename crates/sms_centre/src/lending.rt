@@ -31,7 +31,7 @@ pub fn with_centre<R, W: FnOnce(&mut Centre) -> R>(
     requires numbers { (number : List ℕ) → Among number handsets.now → IsNumber number }
     requires apart { AreDifferent handsets.now }
     requires sessions { AreNew sessions.rows }
-    requires work { W.IsAlwaysCallable work }
+    requires work { (lent : _) → IsStanding (started rows handsets.now sessions.rows) lent.now → W.pre work lent }
     // What is given is what the work gives of a centre that stands on these rows.
     ensures given { IfOk result (λ given. (lent : _) × (left : _) × IsStanding (started rows handsets.now sessions.rows) lent × FnOnceReturnsAtMut W.FnOnce work lent given left) }
     ensures refused { IfErr result (λ error. RefusesRows error rows) }

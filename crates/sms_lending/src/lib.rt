@@ -2,11 +2,12 @@
 //! above proves how it is let go.
 #![tactic(auto)]
 
+ghost use Rattle.std.specs.Prelude.{◌≡◌};
 ghost use Rattle.std.specs.Fn.{FnOnceReturnsAtMut};
 
-/// Lends the value to the work, gives what the work gives, and lets the value go.
+/// Lends the value to the work, gives what the work gives, and lets the value go. The work can be done with that value.
 pub fn lend<T: Drop, R, W: FnOnce(&mut T) -> R>(value: T, work: W) -> R
-    requires { W.IsAlwaysCallable work }
+    requires { (lent : _) → lent.now ≡ value → W.pre work lent }
     ensures { (left : _) × FnOnceReturnsAtMut W.FnOnce work value result left }
 {
     let mut value = value;
