@@ -19,6 +19,7 @@ ghost use Rattle.sms_standing.specs.Standing.{IsStanding};
 use crate::acting::is_event;
 use crate::adopting::put_in;
 use crate::finishing::plan_of;
+use crate::lending::put;
 use crate::planned::Planned;
 use sms_base::{Digits, Listed, MessageId, Octets};
 use sms_centre_rules::{CentreEvent, PlanError, Rows};
@@ -108,7 +109,7 @@ impl Centre {
     {
         match Centre::recover(self.alloc, rows, handsets, sessions) {
             Ok(centre) => {
-                *self = centre;
+                put(self, centre);
                 Ok(())
             }
             Err(error) => Err(error),

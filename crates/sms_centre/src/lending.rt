@@ -1,5 +1,5 @@
 //! A centre that is lent.
-ghost use Rattle.std.specs.Prelude.{ℕ, List, IfErr, IfOk};
+ghost use Rattle.std.specs.Prelude.{◌≡◌, ℕ, List, IfErr, IfOk};
 ghost use Rattle.std.specs.Fn.{FnOnceReturnsAtMut};
 ghost use Rattle.sms_base.specs.Among.{Among};
 ghost use Rattle.sms_waiting.specs.SoundGivings.{IsNumber};
@@ -16,6 +16,13 @@ use sms_sessions::Seat;
 use sms_standing::RecoverError;
 use sms_table::Table;
 use std::alloc::Global;
+
+/// Puts the value in the place of another, which is let go.
+pub(crate) fn put<T: Drop>(place: &mut T, value: T)
+    ensures { place.new ≡ value }
+{
+    *place = value;
+}
 
 /// Starts a centre as `Centre::start` does, lends it to the work, and gives what the work gives. Who calls this owns no centre.
 ///
