@@ -1,0 +1,210 @@
+//! A centre with its store, and the plain centre beside it.
+ghost use Rattle.std.specs.Prelude.{ℕ, List, IfOk};
+ghost use Rattle.sms_base.specs.Among.{Among};
+ghost use Rattle.sms_waiting.specs.SoundGivings.{IsNumber};
+ghost use Rattle.sms_centre_rules.specs.SoundCore.{AreDifferent, HasNumber};
+ghost use Rattle.sms_centre.specs.FromBelow.{AreNew};
+ghost use Rattle.sms_centre.specs.Planning.{Fits};
+
+use centre_acts::act_in;
+use centre_lines::{Air, StandIn, Tally, Trouble, first_difference, handset, tell};
+use plain_centre::{Plain, alone};
+use sms_base::Digits;
+use sms_centre::{Centre, CentreEvent, PlanError, Planned, RecoverError, Rows, Seat, Told};
+use sms_centre_memory::MemoryKeep;
+use sms_keep::Keep;
+use sms_table::Table;
+use std::alloc::Global;
+use std::io::Print;
+
+/// A centre with its store, and the plain one, what handsets heard, and what a run has come to.
+#[derive(Drop)]
+pub(crate) struct Pair<'a> {
+    pub(crate) alloc: Global,
+    pub(crate) centre: &'a mut Centre,
+    pub(crate) keep: &'a mut MemoryKeep,
+    pub(crate) plain: &'a mut Plain,
+    pub(crate) tally: &'a mut Tally,
+    pub(crate) air: Air,
+}
+
+/// Why a centre did not start.
+pub(crate) fn trouble_of(error: RecoverError) -> Trouble {
+    match error {
+        RecoverError::BadRows => Trouble::BadRows,
+        RecoverError::NoMemory => Trouble::NoMemory,
+    }
+}
+
+/// That handset alone.
+pub(crate) fn alone_at(place: usize) -> Result<[Digits; 1], Trouble>
+    ensures numbers { IfOk result (λ handsets. (number : List ℕ) → Among number handsets → IsNumber number) }
+    ensures apart { IfOk result AreDifferent }
+{
+    Ok(alone(handset(place)?))
+}
+
+// ---- in the place of what was there
+
+/// The centre starts again with these rows.
+pub(crate) fn restart_with(
+    centre: &mut Centre,
+    rows: Rows,
+    handsets: &[Digits],
+    seats: Table<Seat>,
+) -> Result<(), Trouble>
+    requires numbers { (number : List ℕ) → Among number handsets.now → IsNumber number }
+    requires apart { AreDifferent handsets.now }
+    requires sessions { AreNew seats.rows }
+{
+    match centre.restart(rows, handsets, seats) {
+        Ok(()) => Ok(()),
+        Err(error) => Err(trouble_of(error)),
+    }
+}
+
+fn restart_kept(
+    alloc: Global,
+    centre: &mut Centre,
+    keep: &mut MemoryKeep,
+    handsets: &[Digits],
+) -> Result<(), Trouble>
+    requires numbers { (number : List ℕ) → Among number handsets.now → IsNumber number }
+    requires apart { AreDifferent handsets.now }
+{
+    restart_with(centre, keep.load()?, handsets, Table::new(alloc))
+}
+
+fn seats(alloc: Global, session: u32) -> Result<Table<Seat>, Trouble>
+    ensures { IfOk result (λ seats. AreNew seats.rows) }
+{
+    let mut seats = Table::new(alloc);
+    seats.put(Seat::new(alloc, session, b"app1", true)?)?;
+    Ok(seats)
+}
+
+fn restart_bound(
+    alloc: Global,
+    centre: &mut Centre,
+    keep: &mut MemoryKeep,
+    session: u32,
+) -> Result<(), Trouble> {
+    let seats = seats(alloc, session)?;
+    restart_with(centre, keep.load()?, &[], seats)
+}
+
+// ---- what happens
+
+// Commits the plan and puts it in. It is put in whether it could be committed or not, so that there is one way out.
+fn adopted(centre: &mut Centre, keep: &mut MemoryKeep, is_kept: &mut bool, planned: Planned) -> Told
+    requires { Fits centre.old planned }
+{
+    *is_kept = keep.commit(planned.changes()).is_ok();
+    centre.adopt(planned)
+}
+
+fn happens(
+    centre: &mut Centre,
+    keep: &mut MemoryKeep,
+    is_kept: &mut bool,
+    event: &CentreEvent<'_>,
+) -> Result<Told, Trouble>
+    requires { HasNumber event.now }
+{
+    match centre.plan(event, keep) {
+        Ok(planned) => Ok(adopted(centre, keep, is_kept, planned)),
+        Err(error) => Err(Trouble::from(error)),
+    }
+}
+
+// Why the centre plans nothing with a store that refuses each read, if it does not.
+fn refusal(alloc: Global, centre: &Centre, event: &CentreEvent<'_>) -> Option<PlanError>
+    requires { HasNumber event.now }
+{
+    let mut store = StandIn::new(alloc, false);
+    centre.plan(event, &mut store).err()
+}
+
+impl<'a> Pair<'a> {
+    fn told(&mut self, event: &CentreEvent<'_>) -> Result<Told, Trouble>
+        requires { HasNumber event.now }
+    {
+        let mut is_kept = false;
+        let told = happens(self.centre, self.keep, &mut is_kept, event)?;
+        if is_kept {
+            Ok(told)
+        } else {
+            Err(Trouble::Store)
+        }
+    }
+
+    // What came of an event is watched, compared with what came of it at the plain centre, and told in a row.
+    fn judge(&mut self, rt: &HostRuntime, told: &Told) -> Result<(), Trouble> {
+        let (frames, receipts) = (told.frames.as_slice(), told.deliveries.as_slice());
+        self.air.watch_all(frames)?;
+        if let Some(difference) = first_difference(
+            &told.answer,
+            frames,
+            receipts,
+            self.keep,
+            self.plain,
+        ) {
+            return self.tally.differ(rt, difference);
+        }
+        if self.tally.is_told {
+            tell(rt, self.alloc, &told.answer, frames, receipts)?;
+        }
+        Ok(())
+    }
+
+    // What comes of it with a store that can't be read is told. Nothing happens to either.
+    fn tell_unread(&self, rt: &HostRuntime, event: &CentreEvent<'_>) -> Result<(), Trouble>
+        requires { HasNumber event.now }
+    {
+        match refusal(self.alloc, self.centre, event) {
+            None => println!(rt; "  planned")?,
+            Some(error) => println!(rt; "  {error:?}")?,
+        }
+        Ok(())
+    }
+
+    // The event happens to both; or it is planned with a store that can't be read, if the line asked for that.
+    fn event(&mut self, rt: &HostRuntime, event: &CentreEvent<'_>) -> Result<(), Trouble>
+        requires { HasNumber event.now }
+    {
+        if self.tally.is_unread {
+            return self.tell_unread(rt, event);
+        }
+        self.plain.event(event)?;
+        let told = self.told(event)?;
+        self.judge(rt, &told)
+    }
+
+    /// What the line says happens to both.
+    pub(crate) fn happen(&mut self, rt: &HostRuntime, line: &str) -> Result<(), Trouble> {
+        let act = act_in(self.alloc, line, self.plain, &mut self.air)?;
+        self.event(rt, &act.event()?)
+    }
+
+    /// Both stop and start again, with nobody bound; links to these handsets are up from the next tick on.
+    pub(crate) fn restart(&mut self, handsets: &[Digits]) -> Result<(), Trouble>
+        requires numbers { (number : List ℕ) → Among number handsets.now → IsNumber number }
+        requires apart { AreDifferent handsets.now }
+    {
+        self.plain.restart(handsets)?;
+        restart_kept(self.alloc, self.centre, self.keep, handsets)
+    }
+
+    /// The same, with that handset alone.
+    pub(crate) fn restart_awaiting(&mut self, place: usize) -> Result<(), Trouble> {
+        let handsets = alone_at(place)?;
+        self.restart(&handsets)
+    }
+
+    /// Both stop and start again, with a session of the first account bound.
+    pub(crate) fn restart_seated(&mut self, session: u32) -> Result<(), Trouble> {
+        self.plain.restart(&[])?;
+        self.plain.seat(session, 0, true)?;
+        restart_bound(self.alloc, self.centre, self.keep, session)
+    }
+}
