@@ -1,0 +1,2 @@
+pub mod NewSessions
+pub mod Plans

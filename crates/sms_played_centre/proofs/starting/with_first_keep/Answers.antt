@@ -1,0 +1,12 @@
+use Rattle.std.proofs.Common.{◌∙◌, ap}
+use Rattle.sms_centre_memory.specs.Kept.{rows_in}
+use Rattle.sms_centre_memory.specs.declared.keep.MemoryKeep.{MemoryKeep}
+use Rattle.sms_centre_rules.specs.SoundRows.{first_rows}
+use Rattle.sms_centre_rules.specs.declared.setup.Setup.{Setup}
+use Rattle.sms_played_centre.proofs.starting.with_first_keep.Goals as goal
+
+pub lend-requires : goal.lend-requires
+lend-requires g c = λ lent is. c.requires lent (ap (λ (k : MemoryKeep). rows_in k) is ∙ c.new.ensures ∙ ap (λ (s : Setup). first_rows s) c.in_ok-setup.ensures)
+
+pub returns : goal.returns
+returns g c = (c.new.result, c.lend.ensures.0, c.new.ensures ∙ ap (λ (s : Setup). first_rows s) c.in_ok-setup.ensures, c.lend.ensures.1)

@@ -1,0 +1,15 @@
+//! The centre of a script in play, over the centre's code.
+//!
+//! `PlayedCentre` is a centre on rows in memory, both lent to it, and at any time some centre of the definition: `meet` leads from the
+//! one to that after the event, commits its changes and tells the references that it gave; `restart` leads to the one that starts again
+//! on its rows. `with_first_centre` and `with_first_keep` lend what such a centre is made of. Memory is wanted only where a growth was
+//! refused.
+#![tactic(auto)]
+
+mod centre;
+mod events;
+mod sessions;
+mod starting;
+
+pub use centre::PlayedCentre;
+pub use starting::{with_first_centre, with_first_keep};

@@ -1,0 +1,170 @@
+//! How a centre on rows in memory starts, and starts again.
+ghost use Rattle.std.specs.Prelude.{◌≡◌, ◌≤◌, length, IfOk, OnErr, OnOk};
+ghost use Rattle.std.specs.Fn.{FnOnceReturnsAtMut};
+ghost use Rattle.sms_centre.specs.FromBelow.{AreNew, IsStanding};
+ghost use Rattle.sms_centre_memory.specs.Kept.{rows_in};
+ghost use Rattle.sms_centre_rules.specs.CentreEvent.{recovered, started};
+ghost use Rattle.sms_centre_rules.specs.Draft.{Core};
+ghost use Rattle.sms_centre_rules.specs.SoundRows.{IsSetup, IsSound, first_rows as first_rows_of};
+ghost use Rattle.sms_heads.specs.Heads.{AreHandsets};
+ghost use Rattle.sms_play.specs.PlayedEvent.{sessions_from};
+ghost use Rattle.sms_played_centre.specs.Shown.{IsPlayed, Stands};
+
+use crate::sessions::sessions_of;
+use sms_base::Digits;
+use sms_centre::laws::what_stands_is_known;
+use sms_centre::{Centre, RecoverError, Rows, Seat, Setup, first_rows, with_centre};
+use sms_centre_memory::MemoryKeep;
+use sms_centre_rows::copy_of_setup;
+use sms_keep::Keep;
+use sms_lending::lend;
+use sms_table::Table;
+use std::alloc::{AllocError, Global};
+
+// ---- the first start
+
+// A centre that starts with sound rows is lent.
+fn lend_started<R, W: FnOnce(&mut Centre) -> R>(
+    alloc: Global,
+    rows: Rows,
+    handsets: &[Digits],
+    sessions: Table<Seat>,
+    work: W,
+) -> Result<R, AllocError>
+    requires sound { IsSound rows }
+    requires handsets { AreHandsets handsets.now }
+    requires sessions { AreNew sessions.rows }
+    requires work { (lent : _) → IsStanding (started rows handsets.now sessions.rows) lent.now → W.pre work lent }
+    ensures { IfOk result (λ given. (lent : _) × (left : _) × IsStanding (started rows handsets.now sessions.rows) lent × FnOnceReturnsAtMut W.FnOnce work lent given left) }
+{
+    match with_centre(alloc, rows, handsets, sessions, work) {
+        Ok(given) => Ok(given),
+        Err(RecoverError::NoMemory) => Err(AllocError),
+        Err(RecoverError::BadRows) => unreachable!(),
+    }
+}
+
+/// Starts a centre with the first rows of a new store, with links to these handsets that are up and a session of each account, lends
+/// it to the work, and gives what the work gives. Who calls this owns no centre.
+///
+/// # Errors
+/// A growth was refused. The work is not done then.
+pub fn with_first_centre<R, W: FnOnce(&mut Centre) -> R>(
+    alloc: Global,
+    setup: &Setup,
+    handsets: &[Digits],
+    work: W,
+) -> Result<R, AllocError>
+    requires setup { IsSetup setup.now }
+    requires few { length setup.now.accounts ≤ 32 }
+    requires handsets { AreHandsets handsets.now }
+    requires work { (lent : _) → IsStanding (started (first_rows_of setup.now) handsets.now (sessions_from 0 setup.now.accounts)) lent.now → W.pre work lent }
+    // What is given is what the work gives of a centre that stands on these rows.
+    ensures { IfOk result (λ given. (lent : _) × (left : _) × IsStanding (started (first_rows_of setup.now) handsets.now (sessions_from 0 setup.now.accounts)) lent × FnOnceReturnsAtMut W.FnOnce work lent given left) }
+{
+    let sessions = sessions_of(alloc, setup.accounts.as_slice())?;
+    let rows = first_rows(alloc, copy_of_setup(alloc, setup)?);
+    lend_started(alloc, rows, handsets, sessions, work)
+}
+
+/// Makes a keep in memory of a centre's first rows, lends it to the work, and gives what the work gives. Who calls this owns no keep.
+///
+/// # Errors
+/// A growth was refused. The work is not done then.
+pub fn with_first_keep<R, W: FnOnce(&mut MemoryKeep) -> R>(
+    alloc: Global,
+    setup: &Setup,
+    work: W,
+) -> Result<R, AllocError>
+    requires { (lent : _) → rows_in lent.now ≡ first_rows_of setup.now → W.pre work lent }
+    ensures { IfOk result (λ given. (lent : _) × (left : _) × (rows_in lent ≡ first_rows_of setup.now) × FnOnceReturnsAtMut W.FnOnce work lent given left) }
+{
+    let setup = copy_of_setup(alloc, setup)?;
+    Ok(lend(MemoryKeep::new(alloc, setup), work))
+}
+
+// ---- restarts
+
+fn load(keep: &mut MemoryKeep) -> Result<Rows, AllocError>
+    ensures rows { IfOk result (λ rows. rows ≡ rows_in keep.old) }
+    ensures same { rows_in keep.new ≡ rows_in keep.old }
+{
+    match keep.load() {
+        Ok(rows) => Ok(rows),
+        Err(_) => Err(AllocError),
+    }
+}
+
+// It starts again with sound rows.
+fn recover(
+    centre: &mut Centre,
+    rows: Rows,
+    handsets: &[Digits],
+    sessions: Table<Seat>,
+) -> Result<(), AllocError>
+    requires sound { IsSound rows }
+    requires handsets { AreHandsets handsets.now }
+    requires sessions { AreNew sessions.rows }
+    ensures standing { OnOk result (IsStanding (recovered rows handsets.now sessions.rows) centre.new) }
+    ensures same { OnErr result (centre.new ≡ centre.old) }
+{
+    match centre.restart(rows, handsets, sessions) {
+        Ok(()) => Ok(()),
+        Err(RecoverError::NoMemory) => Err(AllocError),
+        Err(RecoverError::BadRows) => unreachable!(),
+    }
+}
+
+// It starts again with these rows, and a session of each account.
+fn again(
+    alloc: Global,
+    centre: &mut Centre,
+    rows: Rows,
+    handsets: &[Digits],
+) -> Result<(), AllocError>
+    requires sound { IsSound rows }
+    requires few { length rows.setup.accounts ≤ 32 }
+    requires handsets { AreHandsets handsets.now }
+    ensures standing { OnOk result (IsStanding (recovered rows handsets.now (sessions_from 0 rows.setup.accounts)) centre.new) }
+    ensures same { OnErr result (centre.new ≡ centre.old) }
+{
+    let sessions = sessions_of(alloc, rows.setup.accounts.as_slice())?;
+    recover(centre, rows, handsets, sessions)
+}
+
+// It starts again with the rows of its keep.
+fn start_again(
+    alloc: Global,
+    centre: &mut Centre,
+    keep: &mut MemoryKeep,
+    handsets: &[Digits],
+) -> Result<(), AllocError>
+    requires sound { IsSound (rows_in keep.old) }
+    requires few { length (rows_in keep.old).setup.accounts ≤ 32 }
+    requires handsets { AreHandsets handsets.now }
+    ensures standing { OnOk result (IsStanding (recovered (rows_in keep.old) handsets.now (sessions_from 0 (rows_in keep.old).setup.accounts)) centre.new) }
+    ensures same { OnErr result (centre.new ≡ centre.old) }
+    ensures rows { rows_in keep.new ≡ rows_in keep.old }
+{
+    let rows = load(keep)?;
+    again(alloc, centre, rows, handsets)
+}
+
+/// Starts again on its rows. Links to its handsets come up at its first tick.
+pub(crate) fn restart(
+    alloc: Global,
+    centre: &mut Centre,
+    keep: &mut MemoryKeep,
+    handsets: &[Digits],
+) -> Result<(), AllocError>
+    requires stands { Stands centre.old (rows_in keep.old) }
+    requires handsets { AreHandsets handsets.now }
+    ensures played { (c : Core) → IsPlayed c centre.old (rows_in keep.old) → OnOk result (IsPlayed (recovered c.rows handsets.now (sessions_from 0 c.rows.setup.accounts)) centre.new (rows_in keep.new)) }
+    ensures stands { Stands centre.new (rows_in keep.new) }
+{
+    what_stands_is_known();
+    match start_again(alloc, centre, keep, handsets) {
+        Ok(()) => Ok(()),
+        Err(error) => Err(error),
+    }
+}
