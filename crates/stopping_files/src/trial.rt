@@ -1,0 +1,25 @@
+//! A call on a store that is tried.
+use sms_keep::KeepError;
+use sqlite::{Alter, Connection};
+use std::alloc::Global;
+
+/// What a call left.
+#[derive(Drop)]
+pub struct Made<S: Alter + Drop> {
+    pub conn: Connection<S>,
+    /// Why the call was refused, if it was.
+    pub refusal: Option<KeepError>,
+}
+
+/// A call on a store that is tried, whatever the store is.
+pub trait Trial {
+    /// Makes the call on a store. None where a stop came before the call.
+    fn make<S: Alter + Drop>(&self, alloc: Global, conn: Connection<S>) -> Option<Made<S>>;
+
+    /// The rows of a store as text.
+    fn rows<S: Alter + Drop>(
+        &self,
+        alloc: Global,
+        conn: Connection<S>,
+    ) -> Result<String, KeepError>;
+}

@@ -1,0 +1,61 @@
+//! What is committed is loaded, commit by commit: over a database the rows are those that the keep in memory has. What they are is
+//! printed.
+use crate::course::{COMMITS, Commit};
+use crate::failure::{Failure, Finding, holds};
+use crate::found::Found;
+use crate::rows::setup;
+use crate::run::run;
+use sms_centre_memory::MemoryKeep;
+use sms_centre_store::in_memory;
+use std::alloc::Global;
+use std::io::Print;
+
+/// Makes so many of the commits over a new keep in memory.
+pub(crate) fn commit_in_memory(
+    alloc: Global,
+    commits: &[(&str, Commit)],
+    count: usize,
+    found: &mut Found,
+) -> Result<(), Failure> {
+    let setup = setup(alloc)?;
+    run(alloc, MemoryKeep::new(alloc, setup), commits, count, found)
+}
+
+fn commit_over_database(alloc: Global, count: usize, found: &mut Found) -> Result<(), Failure> {
+    let setup = setup(alloc)?;
+    match in_memory(alloc, setup) {
+        Ok(keep) => run(alloc, keep, COMMITS, count, found),
+        Err(error) => Err(Failure::Store(error)),
+    }
+}
+
+fn is_kept_in_memory(alloc: Global, count: usize, found: &Found) -> Result<(), Failure> {
+    let mut other = Found::new(alloc);
+    commit_in_memory(alloc, COMMITS, count, &mut other)?;
+    holds(found.is(&other), Finding::OtherRows)
+}
+
+fn print_numbers(rt: &HostRuntime, what: &str, found: &Found) -> Result<(), Failure> {
+    let numbers = found.numbers.as_str();
+    Ok(println!(rt; "  {what}: {numbers}")?)
+}
+
+fn commit_to(rt: &HostRuntime, what: &str, count: usize, found: &mut Found) -> Result<(), Failure> {
+    commit_over_database(rt.alloc(), count, found)?;
+    is_kept_in_memory(rt.alloc(), count, found)?;
+    print_numbers(rt, what, found)
+}
+
+fn commit_all(rt: &HostRuntime, found: &mut Found) -> Result<(), Failure> {
+    for (at, (what, _)) in COMMITS.iter().enumerate() {
+        commit_to(rt, what, at.saturating_add(1), found)?;
+    }
+    Ok(())
+}
+
+/// Commits over a database, and prints what it has after each commit.
+pub(crate) fn database_keeps(rt: &HostRuntime) -> Result<&'static str, Failure> {
+    let mut found = Found::new(rt.alloc());
+    commit_all(rt, &mut found)?;
+    Ok("what was committed is loaded, and read by its key")
+}
