@@ -1,8 +1,7 @@
 //! Addresses: written for the relay layer, and read in a SUBMIT without user data.
-use crate::clock::{Clock, measured};
 use crate::error::BenchError;
-use crate::sum::{Measured, Sum};
 use sms_base::{Address, Octets};
+use sms_measuring::{Measured, Stopwatch, Sum};
 use sms_tpdu::{Carrier, Up, read_up, write_relay_address};
 use std::alloc::Global;
 
@@ -23,14 +22,14 @@ fn written(alloc: Global) -> Result<Octets, BenchError> {
 pub(crate) fn writing(rt: &HostRuntime, turns: u64) -> Result<Measured, BenchError> {
     let alloc = rt.alloc();
     let mut sum = Sum::new();
-    let clock = Clock::start(rt)?;
+    let watch = Stopwatch::start(rt)?;
     for turn in 0..turns {
         let octets = written(alloc)?;
         sum.touch(octets.as_slice(), turn);
     }
-    let nanos = clock.stop(rt)?;
+    let nanos = watch.stop(rt)?;
     sum.take(written(alloc)?.as_slice());
-    Ok(measured(nanos, sum))
+    Ok(Measured::new(nanos, sum))
 }
 
 // The destination of a SUBMIT.
@@ -54,14 +53,14 @@ pub(crate) fn reading(rt: &HostRuntime, turns: u64) -> Result<Measured, BenchErr
     let mut octets = Octets::new(rt.alloc());
     octets.append(&SUBMIT)?;
     let mut sum = Sum::new();
-    let clock = Clock::start(rt)?;
+    let watch = Stopwatch::start(rt)?;
     for turn in 0..turns {
         let address = destination(octets.as_slice())?;
         sum.count(digit(&address, turn));
     }
-    let nanos = clock.stop(rt)?;
+    let nanos = watch.stop(rt)?;
     for digit in destination(octets.as_slice())?.digits.as_slice() {
         sum.take_number(u64::from(*digit as u32));
     }
-    Ok(measured(nanos, sum))
+    Ok(Measured::new(nanos, sum))
 }

@@ -1,12 +1,11 @@
 //! How the cost of splitting grows with the parts.
-use crate::clock::{Clock, measured};
 use crate::error::BenchError;
 use crate::inputs::{ESCAPED, text};
-use crate::sum::{Measured, Sum};
 use crate::words::Words;
 use sms_alphabet::{Coding, septets_of};
 use sms_base::Octets;
 use sms_concat::{Content, split};
+use sms_measuring::{Measured, Stopwatch, Sum};
 use std::alloc::{AllocError, Global};
 use std::io::Print;
 
@@ -34,18 +33,18 @@ fn splitting(
     let alloc = rt.alloc();
     let content = content(alloc, septets, count)?;
     let mut sum = Sum::new();
-    let clock = Clock::start(rt)?;
+    let watch = Stopwatch::start(rt)?;
     for turn in 0..turns {
         let parts = split(alloc, &content, 1)?;
         if let Some(part) = parts.as_slice().last() {
             sum.touch(part.content.units.as_slice(), turn);
         }
     }
-    let nanos = clock.stop(rt)?;
+    let nanos = watch.stop(rt)?;
     for part in split(alloc, &content, 1)?.as_slice() {
         sum.take(part.content.units.as_slice());
     }
-    Ok(measured(nanos, sum))
+    Ok(Measured::new(nanos, sum))
 }
 
 /// A content that fills so many parts split, if the words ask for it.

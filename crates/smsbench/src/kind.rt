@@ -1,7 +1,7 @@
 //! The kinds of work.
 use crate::error::BenchError;
-use crate::sum::Measured;
 use crate::{addresses, pdus, septets, stamps, streams, texts, tpdus};
+use sms_measuring::Measured;
 
 /// A kind of work.
 #[derive(Clone, Copy, Debug, PartialEq, Eq)]

@@ -3,7 +3,6 @@
 #![tactic(auto)]
 
 mod addresses;
-mod clock;
 mod error;
 mod growth;
 mod inputs;
@@ -12,7 +11,6 @@ mod pdus;
 mod septets;
 mod stamps;
 mod streams;
-mod sum;
 mod texts;
 mod tpdus;
 mod words;

@@ -4,12 +4,11 @@ ghost use Rattle.smpp_pdu.specs.BodyGrammar.{IsMessageValue};
 ghost use Rattle.smpp_pdu.specs.Fields.{IsTimeText};
 ghost use Rattle.smpp_pdu.specs.Writing.{IsWritable, written_message};
 
-use crate::clock::{Clock, measured};
 use crate::error::BenchError;
 use crate::inputs::{PLAIN, text};
-use crate::sum::{Measured, Sum};
 use smpp_pdu::{Body, Message, Pdu, SmeAddress, Tlvs};
 use sms_base::{OctetView, Octets};
+use sms_measuring::{Measured, Stopwatch, Sum};
 use std::alloc::Global;
 
 /// Up to when a submit_sm is kept: a day.
@@ -114,14 +113,14 @@ fn reading(rt: &HostRuntime, pdu: &Pdu<'_>, turns: u64) -> Result<Measured, Benc
 {
     let octets = pdu.write(rt.alloc())?;
     let mut sum = Sum::new();
-    let clock = Clock::start(rt)?;
+    let watch = Stopwatch::start(rt)?;
     for turn in 0..turns {
         let message = message_in(octets.as_slice())?;
         touch_message(&mut sum, &message, turn);
     }
-    let nanos = clock.stop(rt)?;
+    let nanos = watch.stop(rt)?;
     take_message(&mut sum, &message_in(octets.as_slice())?);
-    Ok(measured(nanos, sum))
+    Ok(Measured::new(nanos, sum))
 }
 
 fn writing(rt: &HostRuntime, pdu: &Pdu<'_>, turns: u64) -> Result<Measured, BenchError>
@@ -129,14 +128,14 @@ fn writing(rt: &HostRuntime, pdu: &Pdu<'_>, turns: u64) -> Result<Measured, Benc
 {
     let alloc = rt.alloc();
     let mut sum = Sum::new();
-    let clock = Clock::start(rt)?;
+    let watch = Stopwatch::start(rt)?;
     for turn in 0..turns {
         let octets = pdu.write(alloc)?;
         sum.touch(octets.as_slice(), turn);
     }
-    let nanos = clock.stop(rt)?;
+    let nanos = watch.stop(rt)?;
     sum.take(pdu.write(alloc)?.as_slice());
-    Ok(measured(nanos, sum))
+    Ok(Measured::new(nanos, sum))
 }
 
 /// The octets of the submit_sm.

@@ -1,8 +1,7 @@
 //! Time stamps of the service centre.
-use crate::clock::{Clock, measured};
 use crate::error::BenchError;
-use crate::sum::{Measured, Sum};
 use sms_base::Moment;
+use sms_measuring::{Measured, Stopwatch, Sum};
 
 /// Thursday 29 February 2024, 23:59:58 at UTC.
 const START: u64 = 1_709_251_198;
@@ -18,16 +17,16 @@ fn moment(turn: u64) -> Result<Moment, BenchError> {
 /// A time stamp written.
 pub(crate) fn writing(rt: &HostRuntime, turns: u64) -> Result<Measured, BenchError> {
     let mut sum = Sum::new();
-    let clock = Clock::start(rt)?;
+    let watch = Stopwatch::start(rt)?;
     for turn in 0..turns {
         let stamp = moment(turn)?.to_scts();
         sum.touch(stamp.as_slice(), turn);
     }
-    let nanos = clock.stop(rt)?;
+    let nanos = watch.stop(rt)?;
     for turn in 0..64 {
         sum.take(moment(turn)?.to_scts().as_slice());
     }
-    Ok(measured(nanos, sum))
+    Ok(Measured::new(nanos, sum))
 }
 
 // The stamp of a turn: a day and a minute of that month.
@@ -40,14 +39,14 @@ fn stamp(turn: u64) -> [u8; 7] {
 /// A time stamp read.
 pub(crate) fn reading(rt: &HostRuntime, turns: u64) -> Result<Measured, BenchError> {
     let mut sum = Sum::new();
-    let clock = Clock::start(rt)?;
+    let watch = Stopwatch::start(rt)?;
     for turn in 0..turns {
         let moment = Moment::from_scts(stamp(turn))?;
         sum.count(moment.seconds());
     }
-    let nanos = clock.stop(rt)?;
+    let nanos = watch.stop(rt)?;
     for turn in 0..64 {
         sum.take_number(Moment::from_scts(stamp(turn))?.seconds());
     }
-    Ok(measured(nanos, sum))
+    Ok(Measured::new(nanos, sum))
 }

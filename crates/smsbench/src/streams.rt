@@ -1,13 +1,12 @@
 //! Sessions of SMPP: streams of submit_sm fed in pieces, and what one more octet costs behind those that wait.
 ghost use Rattle.std.specs.Prelude.{◌<◌};
 
-use crate::clock::{Clock, measured};
 use crate::error::BenchError;
 use crate::pdus::submit_octets;
-use crate::sum::{Measured, Sum};
 use crate::words::Words;
 use smpp_session::{Account, Accounts, Action, Actions, Session};
 use sms_base::Octets;
+use sms_measuring::{Measured, Stopwatch, Sum};
 use std::alloc::{AllocError, Global};
 use std::io::Print;
 use std::sync::Arc;
@@ -88,15 +87,15 @@ fn feeding(rt: &HostRuntime, piece: usize, pdus: u64) -> Result<Measured, BenchE
     let stream = repeated(alloc, submit.as_slice(), pdus)?;
     let mut session = bound(alloc)?;
     let mut sum = Sum::new();
-    let clock = Clock::start(rt)?;
+    let watch = Stopwatch::start(rt)?;
     for octets in stream.as_slice().chunks(piece) {
         let given = session.feed(octets)?;
         touch_requests(&mut sum, &given.actions);
     }
-    let nanos = clock.stop(rt)?;
+    let nanos = watch.stop(rt)?;
     let last = session.feed(submit.as_slice())?;
     take_requests(&mut sum, &last.actions);
-    Ok(measured(nanos, sum))
+    Ok(Measured::new(nanos, sum))
 }
 
 /// The stream as one piece.
@@ -125,12 +124,12 @@ fn behind(rt: &HostRuntime, waiting: u16, turns: u64) -> Result<Measured, BenchE
     for _ in 0..turns {
         let mut session = bound(alloc)?;
         let _none = session.feed(front.as_slice())?;
-        let clock = Clock::start(rt)?;
+        let watch = Stopwatch::start(rt)?;
         let given = session.feed(&[0x20])?;
-        nanos = nanos.saturating_add(clock.stop(rt)?);
+        nanos = nanos.saturating_add(watch.stop(rt)?);
         sum.count(given.actions.as_slice().len() as u64);
     }
-    Ok(measured(nanos, sum))
+    Ok(Measured::new(nanos, sum))
 }
 
 /// What one more octet costs behind more and more that wait, where the words ask for it.

@@ -1,10 +1,9 @@
 //! Texts: into packed septets and back, into UCS2 and back.
-use crate::clock::{Clock, measured};
 use crate::error::BenchError;
 use crate::inputs::{ESCAPED, text};
-use crate::sum::{Measured, Sum};
 use sms_alphabet::{pack, septets_of, text_of, ucs2_of, ucs2_text, unpack};
 use sms_base::Octets;
+use sms_measuring::{Measured, Stopwatch, Sum};
 use std::alloc::Global;
 
 // The packed septets of a text.
@@ -24,14 +23,14 @@ pub(crate) fn packing(rt: &HostRuntime, turns: u64) -> Result<Measured, BenchErr
     let alloc = rt.alloc();
     let text = text(alloc, ESCAPED, 160)?;
     let mut sum = Sum::new();
-    let clock = Clock::start(rt)?;
+    let watch = Stopwatch::start(rt)?;
     for turn in 0..turns {
         let octets = packed(alloc, text.as_str())?;
         sum.touch(octets.as_slice(), turn);
     }
-    let nanos = clock.stop(rt)?;
+    let nanos = watch.stop(rt)?;
     sum.take(packed(alloc, text.as_str())?.as_slice());
-    Ok(measured(nanos, sum))
+    Ok(Measured::new(nanos, sum))
 }
 
 /// Packed septets into that text.
@@ -42,14 +41,14 @@ pub(crate) fn unpacking(rt: &HostRuntime, turns: u64) -> Result<Measured, BenchE
     let octets = pack(alloc, septets.as_slice(), 0)?;
     let count = (septets.len() % 256) as u8;
     let mut sum = Sum::new();
-    let clock = Clock::start(rt)?;
+    let watch = Stopwatch::start(rt)?;
     for turn in 0..turns {
         let text = unpacked(alloc, octets.as_slice(), count)?;
         sum.touch(text.as_bytes(), turn);
     }
-    let nanos = clock.stop(rt)?;
+    let nanos = watch.stop(rt)?;
     sum.take(unpacked(alloc, octets.as_slice(), count)?.as_bytes());
-    Ok(measured(nanos, sum))
+    Ok(Measured::new(nanos, sum))
 }
 
 /// A text of 160 of those characters into UCS2.
@@ -61,14 +60,14 @@ pub(crate) fn writing_ucs2(
     let alloc = rt.alloc();
     let text = text(alloc, characters, 160)?;
     let mut sum = Sum::new();
-    let clock = Clock::start(rt)?;
+    let watch = Stopwatch::start(rt)?;
     for turn in 0..turns {
         let octets = ucs2_of(alloc, text.as_str())?;
         sum.touch(octets.as_slice(), turn);
     }
-    let nanos = clock.stop(rt)?;
+    let nanos = watch.stop(rt)?;
     sum.take(ucs2_of(alloc, text.as_str())?.as_slice());
-    Ok(measured(nanos, sum))
+    Ok(Measured::new(nanos, sum))
 }
 
 /// UCS2 into a text of 160 of those characters.
@@ -81,12 +80,12 @@ pub(crate) fn reading_ucs2(
     let text = text(alloc, characters, 160)?;
     let octets = ucs2_of(alloc, text.as_str())?;
     let mut sum = Sum::new();
-    let clock = Clock::start(rt)?;
+    let watch = Stopwatch::start(rt)?;
     for turn in 0..turns {
         let text = ucs2_text(alloc, octets.as_slice())?;
         sum.touch(text.as_bytes(), turn);
     }
-    let nanos = clock.stop(rt)?;
+    let nanos = watch.stop(rt)?;
     sum.take(ucs2_text(alloc, octets.as_slice())?.as_bytes());
-    Ok(measured(nanos, sum))
+    Ok(Measured::new(nanos, sum))
 }

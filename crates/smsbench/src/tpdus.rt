@@ -1,8 +1,7 @@
 //! TPDUs of 160 septets.
-use crate::clock::{Clock, measured};
 use crate::error::BenchError;
 use crate::inputs::with_packed_septets;
-use crate::sum::{Measured, Sum};
+use sms_measuring::{Measured, Stopwatch, Sum};
 use sms_tpdu::{Carrier, Submit, Up, read_down, read_up, write_down};
 
 /// A SUBMIT to 447700900123 with a relative validity period, up to its length of user data.
@@ -57,14 +56,14 @@ fn touch_submit(sum: &mut Sum, submit: &Submit<'_>, turn: u64) {
 pub(crate) fn reading(rt: &HostRuntime, turns: u64) -> Result<Measured, BenchError> {
     let octets = with_packed_septets(rt.alloc(), &SUBMIT)?;
     let mut sum = Sum::new();
-    let clock = Clock::start(rt)?;
+    let watch = Stopwatch::start(rt)?;
     for turn in 0..turns {
         let submit = submit(octets.as_slice())?;
         touch_submit(&mut sum, &submit, turn);
     }
-    let nanos = clock.stop(rt)?;
+    let nanos = watch.stop(rt)?;
     take_submit(&mut sum, &submit(octets.as_slice())?);
-    Ok(measured(nanos, sum))
+    Ok(Measured::new(nanos, sum))
 }
 
 /// A DELIVER written.
@@ -73,12 +72,12 @@ pub(crate) fn writing(rt: &HostRuntime, turns: u64) -> Result<Measured, BenchErr
     let octets = with_packed_septets(alloc, &DELIVER)?;
     let deliver = read_down(octets.as_slice(), Carrier::InData)?;
     let mut sum = Sum::new();
-    let clock = Clock::start(rt)?;
+    let watch = Stopwatch::start(rt)?;
     for turn in 0..turns {
         let written = write_down(alloc, &deliver)?;
         sum.touch(written.as_slice(), turn);
     }
-    let nanos = clock.stop(rt)?;
+    let nanos = watch.stop(rt)?;
     sum.take(write_down(alloc, &deliver)?.as_slice());
-    Ok(measured(nanos, sum))
+    Ok(Measured::new(nanos, sum))
 }
