@@ -1,0 +1,419 @@
+//! The events of a script.
+ghost use Rattle.std.specs.Prelude.{◌≡◌, ◌<◌, true, length, IfSome};
+ghost use Rattle.std.specs.Str.{is_utf8};
+ghost use Rattle.sms_base.specs.Address.{IsAddress};
+ghost use Rattle.sms_base.specs.HandsetNumber.{own_address};
+
+use crate::places::{account_place, digits_place, number_at, party_place};
+use crate::playing::Playing;
+use sms_base::{Carried, Digits, Holder, Moment, OctetView, Octets};
+use sms_centre::CentreEvent;
+use sms_handset::{HandsetEvent, TextView};
+use sms_play::PlayFault;
+use sms_report::Direction;
+use sms_script::{Act, Side, Stop, Submission, TextView as TextWord, WorldEvent};
+use sms_staging::{cancel_of, frame_at, query_of, submit_of};
+use std::alloc::{AllocError, Global};
+use std::str::from_utf8;
+
+/// Want of memory at an event.
+pub(crate) fn or_no_memory<T>(event: u64, done: Result<T, AllocError>) -> Result<T, PlayFault> {
+    match done {
+        Ok(done) => Ok(done),
+        Err(_) => Err(PlayFault::NoMemory { event }),
+    }
+}
+
+fn tag_in(carried: Option<Carried>) -> Option<Holder> {
+    carried.map(|carried| carried.tag)
+}
+
+// A frame that is handed over.
+#[derive(Drop)]
+struct Handed {
+    direction: Direction,
+    handset: Digits,
+    octets: Octets,
+    tag: Option<Holder>,
+}
+
+// A character for each octet.
+fn text_of(alloc: Global, octets: &[u8]) -> Result<String, AllocError> {
+    let mut text = String::new(alloc);
+    for octet in octets {
+        text.push(char::from(*octet))?;
+    }
+    Ok(text)
+}
+
+// The octets of a text, as text.
+fn text_in(octets: &Octets) -> &str
+    requires { is_utf8 octets.now ≡ true }
+    ensures { result.now ≡ octets.entry.now }
+{
+    match from_utf8(octets.as_slice()) {
+        Ok(text) => text,
+        Err(_) => unreachable!(),
+    }
+}
+
+impl<'a> Playing<'a> {
+    // ---- whom an act concerns
+
+    fn account(&self, name: &[u8]) -> Option<u8> {
+        account_place(name, self.centre.accounts())
+    }
+
+    fn party(&self, number: &[u8]) -> Option<usize>
+        ensures { IfSome result (λ place. place < length self.now.parties) }
+    {
+        party_place(number, self.parties)
+    }
+
+    fn party_of(&self, number: &Digits) -> Option<usize>
+        ensures { IfSome result (λ place. place < length self.now.parties) }
+    {
+        digits_place(number, self.parties)
+    }
+
+    pub(crate) fn number_at(&self, place: usize) -> Digits
+        requires { place < length self.now.parties }
+        ensures { IsAddress (own_address result) }
+    {
+        number_at(self.parties, place)
+    }
+
+    // ---- requests of applications
+
+    fn submit(
+        &mut self,
+        event: u64,
+        stop: Option<Stop>,
+        account: u8,
+        submission: &Submission<'_>,
+    ) -> Result<(), AllocError> {
+        let octets = submission.message.octets(self.alloc)?;
+        let happening = CentreEvent::Submit {
+            account,
+            message: submit_of(
+                submission,
+                submission.to.as_slice(),
+                submission.validity.as_slice(),
+                octets.as_slice(),
+            ),
+        };
+        self.at_centre(event, stop, true, &happening)
+    }
+
+    fn submitted(
+        &mut self,
+        event: u64,
+        stop: Option<Stop>,
+        submission: &Submission<'_>,
+    ) -> Result<(), PlayFault> {
+        match self.account(submission.name.as_slice()) {
+            Some(account) => or_no_memory(event, self.submit(event, stop, account, submission)),
+            None => Err(PlayFault::NoSuchAccount { event }),
+        }
+    }
+
+    fn queried(
+        &mut self,
+        event: u64,
+        stop: Option<Stop>,
+        name: &[u8],
+        id: &[u8],
+    ) -> Result<(), PlayFault> {
+        match self.account(name) {
+            Some(account) => {
+                let query = query_of(id);
+                let happening = CentreEvent::Query { account, query };
+                or_no_memory(event, self.at_centre(event, stop, true, &happening))
+            }
+            None => Err(PlayFault::NoSuchAccount { event }),
+        }
+    }
+
+    fn cancelled(
+        &mut self,
+        event: u64,
+        stop: Option<Stop>,
+        name: &[u8],
+        id: &[u8],
+    ) -> Result<(), PlayFault> {
+        match self.account(name) {
+            Some(account) => {
+                let cancel = cancel_of(id);
+                let happening = CentreEvent::Cancel { account, cancel };
+                or_no_memory(event, self.at_centre(event, stop, true, &happening))
+            }
+            None => Err(PlayFault::NoSuchAccount { event }),
+        }
+    }
+
+    // ---- acts of owners
+
+    fn write_text(
+        &mut self,
+        event: u64,
+        stop: Option<Stop>,
+        place: usize,
+        to: &str,
+        report: bool,
+        text: &str,
+    ) -> Result<(), AllocError>
+        requires { place < length self.old.parties }
+    {
+        let happening = HandsetEvent::Write {
+            text: TextView::of(text),
+            to: TextView::of(to),
+            report,
+        };
+        self.at_handset(event, stop, place, &happening)
+    }
+
+    fn write(
+        &mut self,
+        event: u64,
+        stop: Option<Stop>,
+        place: usize,
+        to: &[u8],
+        report: bool,
+        text: &TextWord<'_>,
+    ) -> Result<(), AllocError>
+        requires { place < length self.old.parties }
+    {
+        let to = text_of(self.alloc, to)?;
+        let octets = text.octets(self.alloc)?;
+        self.write_text(event, stop, place, to.as_str(), report, text_in(&octets))
+    }
+
+    fn delete(
+        &mut self,
+        event: u64,
+        stop: Option<Stop>,
+        place: usize,
+        entry: u64,
+    ) -> Result<(), AllocError>
+        requires { place < length self.old.parties }
+    {
+        match u32::try_from(entry) {
+            Ok(entry) => self.at_handset(event, stop, place, &HandsetEvent::Delete { entry }),
+            Err(_) => self.no_entry(event, stop, place),
+        }
+    }
+
+    fn discard(
+        &mut self,
+        event: u64,
+        stop: Option<Stop>,
+        place: usize,
+        entry: u64,
+    ) -> Result<(), AllocError>
+        requires { place < length self.old.parties }
+    {
+        match u32::try_from(entry) {
+            Ok(entry) => self.at_handset(event, stop, place, &HandsetEvent::Discard { entry }),
+            Err(_) => self.no_entry(event, stop, place),
+        }
+    }
+
+    fn written(
+        &mut self,
+        event: u64,
+        stop: Option<Stop>,
+        handset: &[u8],
+        to: &[u8],
+        report: bool,
+        text: &TextWord<'_>,
+    ) -> Result<(), PlayFault> {
+        let Some(place) = self.party(handset) else {
+            return Err(PlayFault::NoSuchSide { event });
+        };
+        or_no_memory(event, self.write(event, stop, place, to, report, text))
+    }
+
+    fn deleted(
+        &mut self,
+        event: u64,
+        stop: Option<Stop>,
+        handset: &[u8],
+        entry: u64,
+    ) -> Result<(), PlayFault> {
+        let Some(place) = self.party(handset) else {
+            return Err(PlayFault::NoSuchSide { event });
+        };
+        or_no_memory(event, self.delete(event, stop, place, entry))
+    }
+
+    fn discarded(
+        &mut self,
+        event: u64,
+        stop: Option<Stop>,
+        handset: &[u8],
+        entry: u64,
+    ) -> Result<(), PlayFault> {
+        let Some(place) = self.party(handset) else {
+            return Err(PlayFault::NoSuchSide { event });
+        };
+        or_no_memory(event, self.discard(event, stop, place, entry))
+    }
+
+    // ---- frames
+
+    fn handed(&self, number: u64) -> Result<Option<Handed>, AllocError> {
+        match frame_at(number, &self.bag) {
+            None => Ok(None),
+            Some(frame) => {
+                let octets = Octets::copy_of(self.alloc, frame.octets.as_slice())?;
+                Ok(Some(Handed {
+                    direction: frame.direction,
+                    handset: frame.handset,
+                    octets,
+                    tag: tag_in(frame.carried),
+                }))
+            }
+        }
+    }
+
+    // A frame goes up from the handset at that place.
+    fn hand_up(
+        &mut self,
+        event: u64,
+        stop: Option<Stop>,
+        place: usize,
+        handed: &Handed,
+    ) -> Result<(), AllocError>
+        requires { place < length self.old.parties }
+    {
+        let handset = self.number_at(place);
+        let happening = CentreEvent::Frame {
+            handset,
+            octets: OctetView::of(handed.octets.as_slice()),
+            tag: handed.tag,
+        };
+        self.at_centre(event, stop, false, &happening)
+    }
+
+    fn hand_down(
+        &mut self,
+        event: u64,
+        stop: Option<Stop>,
+        place: usize,
+        handed: &Handed,
+    ) -> Result<(), AllocError>
+        requires { place < length self.old.parties }
+    {
+        let happening = HandsetEvent::Frame {
+            octets: OctetView::of(handed.octets.as_slice()),
+            tag: handed.tag,
+        };
+        self.at_handset(event, stop, place, &happening)
+    }
+
+    fn hand_over(
+        &mut self,
+        event: u64,
+        stop: Option<Stop>,
+        handed: &Handed,
+    ) -> Result<(), PlayFault> {
+        let Some(place) = self.party_of(&handed.handset) else {
+            return Err(PlayFault::NoSuchSide { event });
+        };
+        let done = match handed.direction {
+            Direction::Up => self.hand_up(event, stop, place, handed),
+            Direction::Down => self.hand_down(event, stop, place, handed),
+        };
+        or_no_memory(event, done)
+    }
+
+    fn delivered(&mut self, event: u64, stop: Option<Stop>, number: u64) -> Result<(), PlayFault> {
+        match self.handed(number) {
+            Ok(Some(handed)) => self.hand_over(event, stop, &handed),
+            Ok(None) => Err(PlayFault::NoSuchFrame { event }),
+            Err(_) => Err(PlayFault::NoMemory { event }),
+        }
+    }
+
+    // ---- time
+
+    fn handset_ticked(
+        &mut self,
+        event: u64,
+        stop: Option<Stop>,
+        number: &[u8],
+        now: Moment,
+    ) -> Result<(), PlayFault> {
+        let Some(place) = self.party(number) else {
+            return Err(PlayFault::NoSuchSide { event });
+        };
+        let happening = HandsetEvent::Tick { now };
+        or_no_memory(event, self.at_handset(event, stop, place, &happening))
+    }
+
+    fn ticked(
+        &mut self,
+        event: u64,
+        stop: Option<Stop>,
+        side: &Side<'_>,
+        now: Moment,
+    ) -> Result<(), PlayFault> {
+        match side {
+            Side::Centre => {
+                let happening = CentreEvent::Tick(now);
+                or_no_memory(event, self.at_centre(event, stop, false, &happening))
+            }
+            Side::Handset(number) => self.handset_ticked(event, stop, number.as_slice(), now),
+        }
+    }
+
+    // ---- every event
+
+    fn act(&mut self, event: u64, stop: Option<Stop>, act: &Act<'_>) -> Result<(), PlayFault> {
+        match act {
+            Act::Submit(submission) => self.submitted(event, stop, submission),
+            Act::Query { name, id } => self.queried(event, stop, name.as_slice(), id.as_slice()),
+            Act::Cancel { name, id } => self.cancelled(event, stop, name.as_slice(), id.as_slice()),
+            Act::Write {
+                handset,
+                to,
+                report,
+                text,
+            } => self.written(
+                event,
+                stop,
+                handset.as_slice(),
+                to.as_slice(),
+                *report,
+                text,
+            ),
+            Act::Delete { handset, entry } => {
+                self.deleted(event, stop, handset.as_slice(), *entry)
+            }
+            Act::Discard { handset, entry } => {
+                self.discarded(event, stop, handset.as_slice(), *entry)
+            }
+            Act::Deliver(number) => self.delivered(event, stop, *number),
+            Act::Tick { side, now } => self.ticked(event, stop, side, *now),
+        }
+    }
+
+    fn restart(&mut self, event: u64, side: &Side<'_>) -> Result<(), PlayFault> {
+        match side {
+            Side::Centre => or_no_memory(event, self.restart_centre()),
+            Side::Handset(number) => match self.party(number.as_slice()) {
+                Some(place) => or_no_memory(event, self.restart_handset(place)),
+                None => Err(PlayFault::NoSuchSide { event }),
+            },
+        }
+    }
+
+    /// The event of that number is played.
+    pub(crate) fn play(&mut self, number: u64, event: &WorldEvent<'_>) -> Result<(), PlayFault> {
+        match event {
+            WorldEvent::Whole(act) => self.act(number, None, act),
+            WorldEvent::Stopped(stop, act) => self.act(number, Some(*stop), act),
+            WorldEvent::Restart(side) => self.restart(number, side),
+        }
+    }
+}

@@ -1,0 +1,165 @@
+//! How a script begins: who takes part in it is made, and lent to it.
+ghost use Rattle.std.specs.Prelude.{◌≡◌, ◌≤◌, length, IfOk, true};
+ghost use Rattle.sms_centre.specs.FromBelow.{IsStanding};
+ghost use Rattle.sms_centre_memory.specs.Kept.{rows_in};
+ghost use Rattle.sms_centre_rules.specs.CentreEvent.{started};
+ghost use Rattle.sms_centre_rules.specs.SoundRows.{IsSetup, first_rows as first_rows_of};
+ghost use Rattle.sms_heads.specs.Heads.{AreHandsets};
+ghost use Rattle.sms_play.specs.PlayedEvent.{sessions_from};
+ghost use Rattle.sms_play.specs.Setups.{can_be_played, parties_of as parties_of_head};
+ghost use Rattle.sms_played_centre.specs.Shown.{Stands};
+
+use crate::acts::or_no_memory;
+use crate::playing::Playing;
+use crate::watching::{all, report_of};
+use sms_base::{Digits, Moment};
+use sms_centre::{Centre, Setup as CentreSetup};
+use sms_centre_memory::MemoryKeep;
+use sms_heads::laws::handsets_can_have_links;
+use sms_heads::{centre_setup, judge, numbers_of, with_parties};
+use sms_play::PlayFault;
+use sms_played_centre::{PlayedCentre, with_first_centre, with_first_keep};
+use sms_played_handset::PlayedHandset;
+use sms_report::Report;
+use sms_script::{Setup, WorldEvent};
+use sms_watching::Watcher;
+use std::alloc::{AllocError, Global};
+
+// What a centre is started with.
+#[derive(Drop)]
+struct Opening {
+    setup: CentreSetup,
+    handsets: Vec<Digits>,
+}
+
+fn opening_of(
+    alloc: Global,
+    setup: &Setup<'_>,
+    start: Moment,
+    parties: &[PlayedHandset],
+) -> Result<Opening, AllocError>
+    requires setup { can_be_played setup.now ≡ true }
+    requires start { start ≡ setup.now.start }
+    requires parties { parties.now ≡ parties_of_head setup.now setup.now.handsets }
+    ensures setup { IfOk result (λ opening. IsSetup opening.setup) }
+    ensures few { IfOk result (λ opening. length opening.setup.accounts ≤ 32) }
+    ensures handsets { IfOk result (λ opening. AreHandsets opening.handsets.items) }
+{
+    handsets_can_have_links();
+    let handsets = numbers_of(alloc, parties)?;
+    let setup = centre_setup(alloc, setup, start)?;
+    Ok(Opening { setup, handsets })
+}
+
+// The script is played by what was lent.
+fn play_by<W: Watcher>(
+    alloc: Global,
+    centre: &mut Centre,
+    keep: &mut MemoryKeep,
+    handsets: &[Digits],
+    parties: &mut [PlayedHandset],
+    events: &[WorldEvent<'_>],
+    watcher: &mut W,
+) -> Result<Report, PlayFault>
+    requires stands { Stands centre.old (rows_in keep.old) }
+    requires handsets { AreHandsets handsets.now }
+{
+    let centre = PlayedCentre::new(alloc, centre, keep, handsets);
+    let mut playing = Playing::new(alloc, centre, parties);
+    all(&mut playing, watcher, events)?;
+    report_of(playing, events.len())
+}
+
+// The centre's rows are kept in memory.
+fn play_at<W: Watcher>(
+    alloc: Global,
+    setup: &CentreSetup,
+    centre: &mut Centre,
+    handsets: &[Digits],
+    parties: &mut [PlayedHandset],
+    events: &[WorldEvent<'_>],
+    watcher: &mut W,
+) -> Result<Report, PlayFault>
+    requires few { length setup.now.accounts ≤ 32 }
+    requires handsets { AreHandsets handsets.now }
+    requires standing { IsStanding (started (first_rows_of setup.now) handsets.now (sessions_from 0 setup.now.accounts)) centre.old }
+{
+    let played = with_first_keep(alloc, setup, |keep| {
+        play_by(alloc, centre, keep, handsets, parties, events, watcher)
+    });
+    or_no_memory(0, played)?
+}
+
+// The centre starts.
+fn play_from<W: Watcher>(
+    alloc: Global,
+    setup: &CentreSetup,
+    handsets: &[Digits],
+    parties: &mut [PlayedHandset],
+    events: &[WorldEvent<'_>],
+    watcher: &mut W,
+) -> Result<Report, PlayFault>
+    requires setup { IsSetup setup.now }
+    requires few { length setup.now.accounts ≤ 32 }
+    requires handsets { AreHandsets handsets.now }
+{
+    let played = with_first_centre(alloc, setup, handsets, |centre| {
+        play_at(alloc, setup, centre, handsets, parties, events, watcher)
+    });
+    or_no_memory(0, played)?
+}
+
+// The handsets of the head take part.
+fn play_among<W: Watcher>(
+    alloc: Global,
+    setup: &Setup<'_>,
+    start: Moment,
+    parties: &mut Vec<PlayedHandset>,
+    events: &[WorldEvent<'_>],
+    watcher: &mut W,
+) -> Result<Report, PlayFault>
+    requires setup { can_be_played setup.now ≡ true }
+    requires start { start ≡ setup.now.start }
+    requires parties { parties.old.items ≡ parties_of_head setup.now setup.now.handsets }
+{
+    match opening_of(alloc, setup, start, parties.as_slice()) {
+        Ok(opening) => play_from(
+            alloc,
+            &opening.setup,
+            opening.handsets.as_slice(),
+            parties.as_mut_slice(),
+            events,
+            watcher,
+        ),
+        Err(_) => Err(PlayFault::NoMemory { event: 0 }),
+    }
+}
+
+fn play_head<W: Watcher>(
+    alloc: Global,
+    setup: &Setup<'_>,
+    start: Moment,
+    events: &[WorldEvent<'_>],
+    watcher: &mut W,
+) -> Result<Report, PlayFault>
+    requires setup { can_be_played setup.now ≡ true }
+    requires start { start ≡ setup.now.start }
+{
+    let played = with_parties(alloc, setup, start, |parties| {
+        play_among(alloc, setup, start, parties, events, watcher)
+    });
+    or_no_memory(0, played)?
+}
+
+/// What the script leads to, or why it is not played to its end. Somebody looks on.
+pub(crate) fn play_before<W: Watcher>(
+    alloc: Global,
+    setup: &Setup<'_>,
+    events: &[WorldEvent<'_>],
+    watcher: &mut W,
+) -> Result<Report, PlayFault> {
+    match judge(setup) {
+        Some(start) => play_head(alloc, setup, start, events, watcher),
+        None => Err(PlayFault::BadSetup),
+    }
+}
