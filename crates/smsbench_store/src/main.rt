@@ -1,0 +1,101 @@
+//! How long the store of a centre takes, beside the same statements written by hand over the same port: it is filled with messages
+//! that are over and messages that wait; then what a submission, an offer and an acknowledgement ask of a store is done so many times by
+//! each of both, and then all rows are loaded and a centre recovers on them. Checksums of what was read go to standard output, times to
+//! standard error. docs/PERFORMANCE.md says what each kind is.
+#![tactic(auto)]
+
+mod changes;
+mod error;
+mod filling;
+mod kept;
+mod loading;
+mod meter;
+mod plain;
+mod rows;
+mod statements;
+mod turns;
+mod words;
+
+use error::BenchError;
+use filling::fill;
+use loading::measure_load;
+use rows::setup;
+use sms_centre_store::{CentreKeep, in_memory};
+use sqlite::Alter;
+use std::io::Print;
+use std::process::ExitCode;
+use turns::measure;
+use words::{Words, words_of};
+
+const USAGE: &str = "usage: smsbench_store [FINISHED OPEN TURNS [FILE]]\n\
+FINISHED messages are over and OPEN ones wait, 1000 and 400 by themselves;\n\
+TURNS is how often each kind of work is done, 64 by itself;\n\
+FILE is where the store is made, in memory by itself\n";
+
+fn main(rt: HostRuntime) -> ExitCode {
+    let done = match words_of(&rt) {
+        Ok(Some(words)) => run(&rt, &words),
+        Ok(None) => return ExitCode::from(usage(&rt)),
+        Err(error) => Err(error),
+    };
+    match done {
+        Ok(()) => ExitCode::from(0),
+        Err(error) => ExitCode::from(failed(&rt, error)),
+    }
+}
+
+fn usage(rt: &HostRuntime) -> u8 {
+    match eprint!(rt; "{USAGE}") {
+        Ok(()) => 2,
+        Err(_) => 5,
+    }
+}
+
+fn failed(rt: &HostRuntime, error: BenchError) -> u8 {
+    match eprint!(rt; "smsbench_store: {error}\n") {
+        Ok(()) => 3,
+        Err(_) => 5,
+    }
+}
+
+fn run(rt: &HostRuntime, words: &Words) -> Result<(), BenchError> {
+    match &words.file {
+        Some(path) => on_file(rt, words, path.as_str()),
+        None => within_memory(rt, words),
+    }
+}
+
+fn on_file(rt: &HostRuntime, words: &Words, path: &str) -> Result<(), BenchError> {
+    let setup = setup(rt.alloc())?;
+    match CentreKeep::open(rt, path, setup) {
+        Ok(keep) => work(rt, words, keep),
+        Err(error) => Err(BenchError::from(error)),
+    }
+}
+
+fn within_memory(rt: &HostRuntime, words: &Words) -> Result<(), BenchError> {
+    let setup = setup(rt.alloc())?;
+    match in_memory(rt.alloc(), setup) {
+        Ok(keep) => work(rt, words, keep),
+        Err(error) => Err(BenchError::from(error)),
+    }
+}
+
+fn work<S: Alter + Drop>(
+    rt: &HostRuntime,
+    words: &Words,
+    keep: CentreKeep<S>,
+) -> Result<(), BenchError> {
+    let mut keep = keep;
+    measure_all(rt, words, &mut keep)
+}
+
+fn measure_all<S: Alter>(
+    rt: &HostRuntime,
+    words: &Words,
+    keep: &mut CentreKeep<S>,
+) -> Result<(), BenchError> {
+    fill(rt, words, keep)?;
+    measure(rt, words, keep)?;
+    measure_load(rt, keep)
+}

@@ -1,0 +1,144 @@
+//! What events ask of a store, done by hand.
+use crate::error::BenchError;
+use crate::meter::{Meter, Stopwatch};
+use crate::rows::{DAYS, NOW, deliver, number_text};
+use crate::statements::{
+    Values, delete_handset, delete_message, delete_part, delete_priority, delete_reference,
+    delete_report, insert_handset, insert_message, insert_part, insert_priority, insert_reference,
+    insert_report, part_octets, update_part,
+};
+use crate::words::Turn;
+use sqlite::{Alter, Connection, Transaction};
+use std::alloc::{AllocError, Global};
+
+/// The numbers of messages have ten digits.
+fn id_of(turn: Turn) -> i64 {
+    (turn.id % 10_000_000_000) as i64
+}
+
+fn values(alloc: Global, turn: Turn) -> Result<Values, AllocError> {
+    let handset = number_text(alloc, turn.place)?;
+    let tpdu = deliver(alloc)?;
+    Ok(Values {
+        id: id_of(turn),
+        place: turn.place,
+        reference: u32::from(turn.reference),
+        handset,
+        now: NOW as i64,
+        limit: (NOW + DAYS) as i64,
+        tpdu,
+    })
+}
+
+fn put_message<S: Alter>(tx: &mut Transaction<'_, S>, values: &Values) -> Result<(), BenchError> {
+    delete_message(tx, values)?;
+    insert_message(tx, values, "pending", None)?;
+    delete_part(tx, values)?;
+    insert_part(tx, values)
+}
+
+fn give<S: Alter>(tx: &mut Transaction<'_, S>, values: &Values) -> Result<(), BenchError> {
+    delete_reference(tx, values)?;
+    insert_reference(tx, values)?;
+    delete_handset(tx, values)?;
+    insert_handset(tx, values)
+}
+
+fn write_submission<S: Alter>(
+    tx: &mut Transaction<'_, S>,
+    values: &Values,
+) -> Result<(), BenchError> {
+    put_message(tx, values)?;
+    give(tx, values)?;
+    delete_priority(tx, values)?;
+    insert_priority(tx, values)
+}
+
+fn write_acknowledgement<S: Alter>(
+    tx: &mut Transaction<'_, S>,
+    values: &Values,
+) -> Result<(), BenchError> {
+    delete_message(tx, values)?;
+    insert_message(tx, values, "delivered", Some(values.now))?;
+    update_part(tx, values)?;
+    delete_report(tx, values)?;
+    insert_report(tx, values)
+}
+
+fn commit_submission<S: Alter>(
+    conn: &mut Connection<S>,
+    values: &Values,
+) -> Result<(), BenchError> {
+    if !conn.is_autocommit() {
+        return Err(BenchError::Store);
+    }
+    let mut tx = conn.transaction();
+    write_submission(&mut tx, values)?;
+    tx.commit()?;
+    Ok(())
+}
+
+fn commit_acknowledgement<S: Alter>(
+    conn: &mut Connection<S>,
+    values: &Values,
+) -> Result<(), BenchError> {
+    if !conn.is_autocommit() {
+        return Err(BenchError::Store);
+    }
+    let mut tx = conn.transaction();
+    write_acknowledgement(&mut tx, values)?;
+    tx.commit()?;
+    Ok(())
+}
+
+fn read_part<S: Alter>(conn: &mut Connection<S>, id: i64) -> Result<Vec<u8>, BenchError> {
+    if !conn.is_autocommit() {
+        return Err(BenchError::Store);
+    }
+    let mut tx = conn.transaction();
+    let octets = part_octets(&mut tx, id)?;
+    tx.commit()?;
+    Ok(octets)
+}
+
+/// The message of the turn comes, to a handset that is known.
+pub(crate) fn submit_by_hand<S: Alter>(
+    rt: &HostRuntime,
+    conn: &mut Connection<S>,
+    meter: &mut Meter,
+    turn: Turn,
+) -> Result<(), BenchError> {
+    let values = values(rt.alloc(), turn)?;
+    let watch = Stopwatch::start(rt)?;
+    commit_submission(conn, &values)?;
+    meter.add(watch.stop(rt)?);
+    Ok(())
+}
+
+/// Its part is acknowledged.
+pub(crate) fn acknowledge_by_hand<S: Alter>(
+    rt: &HostRuntime,
+    conn: &mut Connection<S>,
+    meter: &mut Meter,
+    turn: Turn,
+) -> Result<(), BenchError> {
+    let values = values(rt.alloc(), turn)?;
+    let watch = Stopwatch::start(rt)?;
+    commit_acknowledgement(conn, &values)?;
+    meter.add(watch.stop(rt)?);
+    Ok(())
+}
+
+/// The octets of its part are read, as it is offered.
+pub(crate) fn offer_by_hand<S: Alter>(
+    rt: &HostRuntime,
+    conn: &mut Connection<S>,
+    meter: &mut Meter,
+    turn: Turn,
+) -> Result<(), BenchError> {
+    let watch = Stopwatch::start(rt)?;
+    let octets = read_part(conn, id_of(turn))?;
+    meter.add(watch.stop(rt)?);
+    meter.take(&octets);
+    Ok(())
+}
