@@ -1,0 +1,10 @@
+-- What a run is asked, and well asked: the words of a relay run spell what they are to spell.
+use Rattle.smsc_server.specs.SimWords.{AreSimWords}
+use Rattle.smsim.specs.declared.Asked.{Asked}
+use Rattle.smsim.specs.declared.Asked.TheVariants.{Relay, Play, Ladder, Capture}
+
+abbrev pub AsksWell : Asked → Type 0
+AsksWell (Relay words) = AreSimWords words
+AsksWell Play = Unit {0}
+AsksWell Ladder = Unit {0}
+AsksWell Capture = Unit {0}
