@@ -1,0 +1,112 @@
+//! Scripts in which one event after another is stopped.
+use sms_playing::{SimError, run_sim};
+use std::alloc::{AllocError, Global};
+
+// The lines of a script's head.
+const HEAD: usize = 4;
+
+fn push_line(
+    text: &mut String,
+    place: usize,
+    line: &str,
+    stopped: usize,
+    stop: &str,
+) -> Result<(), AllocError> {
+    if place == stopped {
+        text.push_str(stop)?;
+    }
+    text.push_str(line)?;
+    text.push('\n')
+}
+
+// The script with that line stopped, and without those that are left out.
+fn stopped_script(
+    alloc: Global,
+    script: &str,
+    stopped: usize,
+    stop: &str,
+    left_out: &[usize],
+) -> Result<String, AllocError> {
+    let mut text = String::new(alloc);
+    let mut place = 0;
+    for line in script.lines() {
+        if !left_out.contains(&place) {
+            push_line(&mut text, place, line, stopped, stop)?;
+        }
+        place = place.saturating_add(1);
+    }
+    Ok(text)
+}
+
+// The place of the event of that number among the lines that are not left out.
+fn line_of(event: u64, left_out: &[usize]) -> usize {
+    let mut place = HEAD;
+    let mut number: u64 = 0;
+    for _ in 0..10_000 {
+        if !left_out.contains(&place) {
+            number = number.saturating_add(1);
+            if number == event {
+                return place;
+            }
+        }
+        place = place.saturating_add(1);
+    }
+    place
+}
+
+fn count(report: &str, begins: &str) -> usize {
+    report
+        .lines()
+        .filter(|line| line.starts_with(begins))
+        .count()
+}
+
+// The message has one state and one receipt at most, and was accepted once at most.
+fn is_well(report: &str) -> bool {
+    count(report, "message 0000000001 ") <= 1
+        && count(report, "receipt 0000000001 ") <= 1
+        && count(report, "accepted ") <= 1
+}
+
+// Plays the script with that line stopped. Deliveries of frames that are not sent then are left out.
+fn holds_stopped(
+    alloc: Global,
+    script: &str,
+    stopped: usize,
+    stop: &str,
+) -> Result<bool, AllocError> {
+    let mut left_out: Vec<usize> = Vec::new(alloc);
+    for _ in 0..100 {
+        let text = stopped_script(alloc, script, stopped, stop, left_out.as_slice())?;
+        let mut input = text.as_bytes();
+        let mut report: Vec<u8> = Vec::new(alloc);
+        match run_sim(alloc, &mut input, &mut report) {
+            Ok(()) => match String::from_utf8(report) {
+                Ok(report) => return Ok(is_well(report.as_str())),
+                Err(_) => return Ok(false),
+            },
+            Err(SimError::NoSuchFrame(event)) => {
+                let place = line_of(event, left_out.as_slice());
+                if place == stopped {
+                    return Ok(true);
+                }
+                left_out.push(place)?;
+            }
+            Err(_) => return Ok(false),
+        }
+    }
+    Ok(false)
+}
+
+/// Whether all is well whichever event is stopped, before its store call or after it.
+pub fn holds_with_stops(alloc: Global, script: &str) -> Result<bool, AllocError> {
+    let lines = script.lines().count();
+    for place in HEAD..lines {
+        if !holds_stopped(alloc, script, place, "stopped before ")?
+            || !holds_stopped(alloc, script, place, "stopped after ")?
+        {
+            return Ok(false);
+        }
+    }
+    Ok(true)
+}
