@@ -1,18 +1,17 @@
 //! A centre and the keep of its rows.
-ghost use Rattle.std.specs.Prelude.{◌≡◌, ◌⊎◌, IsTrue, IfOk, OnErr, OnOk};
+ghost use Rattle.std.specs.Prelude.{◌≡◌, ◌⊎◌, IfOk, OnErr, OnOk};
 ghost use Rattle.sms_centre.specs.FromBelow.{IsPlanned, IsStanding};
 ghost use Rattle.sms_centre.specs.Planning.{Fits};
 ghost use Rattle.sms_centre_rules.specs.CentreEvent.{happened};
-ghost use Rattle.sms_centre_rules.specs.Draft.{Core, core_of, rows_after};
+ghost use Rattle.sms_centre_rules.specs.Draft.{Core, core_of};
 ghost use Rattle.sms_centre_rules.specs.SoundCore.{HasNumber, IsEvent};
 ghost use Rattle.sms_centre_rules.specs.declared.event.CentreEvent.{CentreEvent as CentreEventOf};
 ghost use Rattle.sms_centre_rules.specs.declared.rows.Rows.{Rows as RowsOf};
 ghost use Rattle.sms_service.specs.Stepping.{PlansStep, step_error_of as step_error_of_plan};
 
 use crate::step_error::StepError;
-use sms_bodies::CentreStore;
-use sms_centre::{Centre, CentreEvent, Changes, PlanError, Planned, Told};
-use sms_keep::KeepError;
+use sms_bodies::{CentreStore, commit};
+use sms_centre::{Centre, CentreEvent, PlanError, Planned, Told};
 use sms_keeper::Gate;
 
 /// A centre over the keep of its rows.
@@ -20,31 +19,6 @@ use sms_keeper::Gate;
 pub struct CentreMachine<K: CentreStore + Drop> {
     pub keep: K,
     pub centre: Centre,
-}
-
-fn is_empty(changes: &Changes) -> bool
-    ensures { IsTrue result → (rows : RowsOf) → rows_after changes.now rows ≡ rows }
-{
-    changes.messages.as_slice().is_empty()
-        && changes.parts.as_slice().is_empty()
-        && changes.references.as_slice().is_empty()
-        && changes.handsets.as_slice().is_empty()
-        && changes.reports.as_slice().is_empty()
-        && changes.priorities.as_slice().is_empty()
-}
-
-// Commits the changes, if there are any.
-fn commit<K: CentreStore>(keep: &mut K, changes: &Changes) -> Result<(), KeepError>
-    ensures ok { K.is_honest keep.new → (rows : RowsOf) → K.holds keep.old rows → OnOk result (K.holds keep.new (rows_after changes.now rows)) }
-    ensures err { K.is_honest keep.new → (rows : RowsOf) → K.holds keep.old rows → OnErr result (K.holds keep.new rows ⊎ K.is_closed keep.new) }
-    // A stop inside it leaves the rows, or the rows with the changes, if one before it leaves the rows.
-    ensures stop { K.is_honest keep.new → (rows : RowsOf) → K.holds keep.old rows → ((left : RowsOf) → K.may_leave keep.old left → left ≡ rows) → (left : RowsOf) → K.may_leave keep.new left → (left ≡ rows) ⊎ (left ≡ rows_after changes.now rows) }
-    ensures before { K.is_honest keep.new → K.is_honest keep.old }
-{
-    if is_empty(changes) {
-        return Ok(());
-    }
-    keep.commit(changes)
 }
 
 fn step_error_of(error: PlanError) -> StepError
