@@ -2,7 +2,8 @@
 //!
 //! `judge` tells exactly which heads can be played, and the moment at which such a script begins. `centre_setup` is what its centre is
 //! told, `with_parties` makes its handsets and lends them, so that no crate above proves how they are let go. All of it is as the
-//! definition has it (`sms_play`). Memory is wanted only where a growth was refused.
+//! definition has it (`sms_play`). Memory is wanted only where a growth was refused. What crates above name of a handset in play they
+//! find here.
 #![tactic(auto)]
 
 mod centre;
@@ -13,3 +14,4 @@ pub mod laws;
 pub use centre::centre_setup;
 pub use handsets::{numbers_of, with_parties};
 pub use judging::judge;
+pub use sms_played_handset::{Met, PlayedHandset, accepted_lines, joined_lines, outbox_lines};

@@ -1,1 +1,2 @@
+pub mod FromBelow
 pub mod Shown

@@ -3,7 +3,7 @@
 //! `PlayedCentre` is a centre on rows in memory, both lent to it, and at any time some centre of the definition: `meet` leads from the
 //! one to that after the event, commits its changes and tells the references that it gave; `restart` leads to the one that starts again
 //! on its rows. `with_first_centre` and `with_first_keep` lend what such a centre is made of. Memory is wanted only where a growth was
-//! refused.
+//! refused. What a play names of the crates below, heads and handsets among it, it finds here (`specs/FromBelow.antt`).
 #![tactic(auto)]
 
 mod centre;
@@ -12,4 +12,11 @@ mod sessions;
 mod starting;
 
 pub use centre::PlayedCentre;
+pub use sms_centre::{Centre, CentreAnswer, CentreEvent, Setup as CentreSetup, Told};
+pub use sms_centre_memory::MemoryKeep;
+pub use sms_heads::laws::handsets_can_have_links;
+pub use sms_heads::{
+    Met, PlayedHandset, accepted_lines, centre_setup, joined_lines, judge, numbers_of,
+    outbox_lines, with_parties,
+};
 pub use starting::{with_first_centre, with_first_keep};

@@ -1,25 +1,21 @@
 //! How a script begins: who takes part in it is made, and lent to it.
 ghost use Rattle.std.specs.Prelude.{◌≡◌, ◌≤◌, length, IfOk, true};
-ghost use Rattle.sms_centre.specs.FromBelow.{IsStanding};
-ghost use Rattle.sms_centre_memory.specs.Kept.{rows_in};
 ghost use Rattle.sms_centre_rules.specs.CentreEvent.{started};
 ghost use Rattle.sms_centre_rules.specs.SoundRows.{IsSetup, first_rows as first_rows_of};
-ghost use Rattle.sms_heads.specs.Heads.{AreHandsets};
 ghost use Rattle.sms_play.specs.PlayedEvent.{sessions_from};
 ghost use Rattle.sms_play.specs.Setups.{can_be_played, parties_of as parties_of_head};
+ghost use Rattle.sms_played_centre.specs.FromBelow.{rows_in, AreHandsets, IsStanding};
 ghost use Rattle.sms_played_centre.specs.Shown.{Stands};
 
 use crate::acts::or_no_memory;
 use crate::playing::Playing;
 use crate::watching::{all, report_of};
 use sms_base::{Digits, Moment};
-use sms_centre::{Centre, Setup as CentreSetup};
-use sms_centre_memory::MemoryKeep;
-use sms_heads::laws::handsets_can_have_links;
-use sms_heads::{centre_setup, judge, numbers_of, with_parties};
 use sms_play::PlayFault;
-use sms_played_centre::{PlayedCentre, with_first_centre, with_first_keep};
-use sms_played_handset::PlayedHandset;
+use sms_played_centre::{
+    Centre, CentreSetup, MemoryKeep, PlayedCentre, PlayedHandset, centre_setup,
+    handsets_can_have_links, judge, numbers_of, with_first_centre, with_first_keep, with_parties,
+};
 use sms_report::Report;
 use sms_script::{Setup, WorldEvent};
 use sms_watching::Watcher;

@@ -7,7 +7,7 @@ ghost use Rattle.sms_play.specs.Meeting.{account_from};
 
 use sms_base::Digits;
 use sms_intake::Account;
-use sms_played_handset::PlayedHandset;
+use sms_played_centre::PlayedHandset;
 use sms_staging::spell;
 
 /// The place of the account of that name.

@@ -2,8 +2,7 @@
 ghost use Rattle.std.specs.Prelude.{◌≡◌, ◌++◌, ◌∷◌, [], OnOk};
 
 use sms_base::Listed;
-use sms_played_centre::PlayedCentre;
-use sms_played_handset::PlayedHandset;
+use sms_played_centre::{PlayedCentre, PlayedHandset};
 use sms_report::{Answer, Answered, FrameRow, GivenRow};
 use sms_reports::Delivery;
 use std::alloc::{AllocError, Global};

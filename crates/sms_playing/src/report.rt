@@ -4,7 +4,7 @@ ghost use Rattle.sms_play.specs.Playing.{accepted_lines as accepted_lines_of, al
 
 use crate::playing::Playing;
 use sms_base::Listed;
-use sms_played_handset::{accepted_lines, joined_lines, outbox_lines};
+use sms_played_centre::{accepted_lines, joined_lines, outbox_lines};
 use sms_report::{AcceptedRow, JoinedRow, MessageRow, OutboxRow, ReceiptRow, Report};
 use std::alloc::AllocError;
 

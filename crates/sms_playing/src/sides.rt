@@ -9,10 +9,9 @@ ghost use Rattle.sms_report.specs.declared.answers.Answered.TheVariants.{Refused
 use crate::playing::Playing;
 use smpp_pdu::CommandStatus;
 use sms_base::{Digits, FinalState, Listed, OctetView};
-use sms_centre::{CentreAnswer, CentreEvent, Told};
 use sms_handset::{HandsetEvent, Refusal};
 use sms_link::Outgoing;
-use sms_played_handset::{Met, PlayedHandset};
+use sms_played_centre::{CentreAnswer, CentreEvent, Met, PlayedHandset, Told};
 use sms_report::{Answered, GivenRow, MessageState};
 use sms_reports::Delivery;
 use sms_script::Stop;

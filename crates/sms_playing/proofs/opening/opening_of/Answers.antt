@@ -1,5 +1,5 @@
 use Rattle.std.proofs.Common.{◌∙◌, ap, List, ℕ, sym, subst}
-use Rattle.sms_heads.specs.Heads.{AreHandsets}
+use Rattle.sms_played_centre.specs.FromBelow.{AreHandsets}
 use Rattle.sms_play.specs.Course.{Party, numbers_of}
 use Rattle.sms_playing.proofs.opening.opening_of.Goals as goal
 

@@ -1,5 +1,5 @@
 use Rattle.std.proofs.Common.{List, ℕ, sym, subst}
-use Rattle.sms_heads.specs.Heads.{AreHandsets}
+use Rattle.sms_played_centre.specs.FromBelow.{AreHandsets}
 use Rattle.sms_playing.proofs.opening.play_among.Goals as goal
 
 pub play_from-requires-clause-handsets : goal.play_from-requires-clause-handsets
