@@ -1,5 +1,5 @@
 -- References of a handset (3GPP TS 24.011 8.2.3): which may be given, the next that may, and giving it.
-use Rattle.std.specs.Prelude.{ℕ, zero, suc, ◌+◌, ◌%◌, ◌==◌, ◌&&◌, ◌||◌, not, nat_le, List, [], ◌∷◌, Bool, false, if◌then◌else◌, Option, Some, None}
+use Rattle.std.specs.Prelude.{◌≡◌, ◌<◌, ℕ, zero, suc, ◌+◌, ◌%◌, ◌==◌, ◌&&◌, ◌||◌, not, nat_le, List, [], ◌∷◌, slice_get, Bool, false, if◌then◌else◌, Option, Some, None}
 use Rattle.std.specs.Str.{bytes_eq}
 use Rattle.sms_table.specs.Keys.{pair_key}
 use Rattle.sms_table.specs.Since.{Since, put_in, rows_of}
@@ -34,6 +34,10 @@ handset_of number hs = or_new_handset number (place_after 1 hs) (handset_at numb
 abbrev pub is_held : ℕ → List Load → Bool
 is_held reference [] = false
 is_held reference (l ∷ ls) = (l.reference == reference) || is_held reference ls
+
+-- the flags of all references say which of them are held
+abbrev pub AreHeld : List Bool → List Load → Type 0
+AreHeld held waiting = (r : ℕ) → r < 256 → slice_get held r ≡ Some (is_held r waiting)
 
 -- it was not given last in an earlier second
 abbrev pub is_late : ℕ → Option ReferenceRow → Bool

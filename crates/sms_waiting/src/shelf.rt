@@ -1,11 +1,11 @@
 //! All that concerns one handset.
-ghost use Rattle.std.specs.Prelude.{◌≡◌, ◌<◌, ◌≤◌, [], length, true, Some, None, IfOk, OnOk};
+ghost use Rattle.std.specs.Prelude.{◌≡◌, ◌≢◌, ◌<◌, ◌≤◌, ℕ, [], length, slice_get, true, Some, None, IfOk, OnOk};
 ghost use Rattle.sms_link.specs.LinkTurn.{begun, fired, replied, taken};
 ghost use Rattle.sms_table.specs.Keys.{pair_key};
 ghost use Rattle.sms_table.specs.Table.{row_at};
 ghost use Rattle.sms_waiting.specs.Keys.{load_key};
 ghost use Rattle.sms_waiting.specs.Lines.{emptied, filled, lowered, new_line, raised};
-ghost use Rattle.sms_waiting.specs.References.{following as following_of, is_free as is_free_of, is_held as is_held_of, next_reference as next_reference_of, or_new_handset};
+ghost use Rattle.sms_waiting.specs.References.{AreHeld, following as following_of, is_free as is_free_of, next_reference as next_reference_of, or_new_handset};
 ghost use Rattle.sms_waiting.specs.Shelves.{shelf_at_once, shelf_given, shelf_on, shelf_turned, shelf_with, shelf_withdrawn, shelf_without};
 ghost use Rattle.sms_waiting.specs.Waiting.{all_at_once, if_due, is_part_of as is_part_of_message, is_same as is_same_of, next as next_of, preceding, waits_beside as waits_beside_of, withdrawn};
 
@@ -182,9 +182,10 @@ impl Shelf {
     pub fn next_reference(&self, row: &HandsetRow, now: Moment) -> Option<u8>
         ensures { result ≡ next_reference_of row.now self.now.waiting self.now.given now }
     {
+        let held = held_references(self.waiting.as_slice());
         let mut reference = following(row.last_reference);
         for turn in 0u16..256 {
-            if self.is_free(row, now, reference) {
+            if self.is_free(row, now, &held, reference) {
                 return Some(reference);
             }
             reference = following(reference);
@@ -193,10 +194,11 @@ impl Shelf {
     }
 
     // Whether nothing that waits holds it, and it was not given last in this second.
-    fn is_free(&self, row: &HandsetRow, now: Moment, reference: u8) -> bool
+    fn is_free(&self, row: &HandsetRow, now: Moment, held: &[bool; 256], reference: u8) -> bool
+        requires { AreHeld held.now self.now.waiting }
         ensures { result ≡ is_free_of row.now self.now.waiting self.now.given now reference }
     {
-        if is_held(self.waiting.as_slice(), reference) {
+        if held[usize::from(reference)] {
             return false;
         }
         match self.given.find(Key::pair(u64::from(row.place), reference)) {
@@ -323,15 +325,30 @@ fn following(reference: u8) -> u8
     reference.wrapping_add(1)
 }
 
-fn is_held(waiting: &[Load], reference: u8) -> bool
-    ensures { result ≡ is_held_of reference waiting.now }
+// No reference is held.
+fn none_held() -> [bool; 256]
+    ensures { AreHeld result [] }
 {
+    [false; 256]
+}
+
+fn hold(held: &mut [bool; 256], reference: u8)
+    ensures this { slice_get held.new reference ≡ Some true }
+    ensures others { (r : ℕ) → r ≢ reference → slice_get held.new r ≡ slice_get held.old r }
+{
+    held[usize::from(reference)] = true;
+}
+
+// For each reference whether something that waits holds it. So a reference is found in one walk through what waits, also where the
+// handset holds nearly all of them.
+fn held_references(waiting: &[Load]) -> [bool; 256]
+    ensures { AreHeld result waiting.now }
+{
+    let mut held = none_held();
     for load in waiting {
-        if load.reference == reference {
-            return true;
-        }
+        hold(&mut held, load.reference);
     }
-    false
+    held
 }
 
 fn loads_due_at(alloc: Global, waiting: &[Load], now: Moment) -> Result<Vec<Load>, AllocError>
