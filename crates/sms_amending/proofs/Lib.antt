@@ -1,3 +1,2 @@
 pub mod Amended
-pub mod Rows
 pub mod Steps

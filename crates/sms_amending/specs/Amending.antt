@@ -8,8 +8,7 @@ use Rattle.sqlite.specs.Command.TheVariants.{Update}
 use Rattle.sqlite.specs.Listing.{understood}
 use Rattle.sqlite_sql.specs.Term.{eval_all}
 use Rattle.sqlite.proofs.Callers.{IsPlain, command_of}
-use Rattle.sms_listing.specs.Finding.{rows_where}
-use Rattle.sms_listing.specs.Listing.{ListOf}
+use Rattle.sms_listing.specs.Listing.{rows_where, ListOf}
 use Rattle.sms_waiting.specs.declared.progress.Progress.{Progress}
 
 -- What makes a text the one that changes how far the row of a key is. The key comes before the progress among its values; the

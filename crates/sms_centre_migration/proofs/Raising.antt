@@ -28,8 +28,7 @@ use Rattle.sqlite_typed.proofs.RowLemmas.{puts-map}
 use Rattle.sqlite_keyed.specs.Keyed.{IsKeyedBy, next_key}
 use Rattle.sqlite_keyed.proofs.ListLemmas.{map-map, filter_all, all_of, all_map}
 use Rattle.sqlite_keyed.proofs.KeyedLemmas.{IsKeyedBy-insert_by}
-use Rattle.sms_listing.specs.Listing.{ListOf, IsList, Holds, table_of, with_rowid}
-use Rattle.sms_listing.specs.Finding.{rows_where}
+use Rattle.sms_listing.specs.Listing.{rows_where, ListOf, IsList, Holds, table_of, with_rowid}
 use Rattle.sms_listing.specs.Inside.{Ran}
 use Rattle.sms_listing.proofs.Found.{mapped_back}
 use Rattle.sms_listing.proofs.Trees.{insert_last, below_next, next_from}

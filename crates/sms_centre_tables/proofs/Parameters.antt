@@ -1,8 +1,13 @@
--- What there may be, as a parameter.
-use Rattle.std.proofs.Common.{◌≡◌, Option, Some, None, refl}
+-- Parameters of a text: what there may be, and what they are bound to.
+use Rattle.std.proofs.Common.{◌≡◌, ℕ, List, Option, Some, None, Result, refl, subst}
+use Rattle.sqlite.specs.Held.{Held}
+use Rattle.sqlite.specs.Order.{Row}
+use Rattle.sqlite.specs.Store.{Ghosts}
 use Rattle.sqlite.specs.Values.{bound_value}
+use Rattle.sqlite.specs.declared.error.Error.{Error}
 use Rattle.sqlite.specs.declared.types.Value.{Value}
 use Rattle.sms_listing.specs.Columns.{or_none}
+use Rattle.sms_listing.specs.Inside.{Counts, RanOn}
 use Rattle.sms_centre_tables.specs.Pieces.{account_of, mark_of, kind_reference, kind_tpdu}
 use Rattle.sms_centre_tables.specs.Types.{Originator, Application, Handset, ReportKind, Receipt, Status, Unsent}
 
@@ -27,3 +32,7 @@ pub bound_tpdu : (k : ReportKind) → bound_value (kind_tpdu k) ≡ kind_tpdu k
 bound_tpdu Receipt = refl
 bound_tpdu (Status reference tpdu) = refl
 bound_tpdu Unsent = refl
+
+-- a text ran with these values, which are those
+pub ran_with : {S : Type 0} (g : Ghosts S) (old new : Held S) (text : List ℕ) (ps qs : Row) (r : Result ℕ Error) → Counts g old new (RanOn text ps) r → ps ≡ qs → Counts g old new (RanOn text qs) r
+ran_with g old new text ps qs r h e = subst (λ vs. Counts g old new (RanOn text vs) r) e h

@@ -4,15 +4,15 @@ use Rattle.std.specs.List.{list_all}
 use Rattle.std.specs.Str.{all_scalars}
 use Rattle.sqlite.specs.declared.types.Value.TheVariants.{Null, Int, Text}
 use Rattle.sqlite_value.specs.Order.{column}
-use Rattle.sqlite.specs.Term.{holds}
+use Rattle.sqlite.specs.Term.{holds, col}
 use Rattle.sqlite.specs.Source.TheVariants.{Values}
-use Rattle.sqlite.specs.Command.TheVariants.{Insert, Delete, Select}
+use Rattle.sqlite.specs.Command.TheVariants.{Insert, Update, Delete, Select}
 use Rattle.sqlite.specs.Listing.{understood, reads_listing}
 use Rattle.sqlite.proofs.Callers.{IsPlain, command_of}
 use Rattle.sqlite_rules.specs.Cast.{cast_row}
 use Rattle.sqlite_tied.specs.Compute.{everything}
 use Rattle.sms_listing.specs.Columns.{number, number_in, characters_in}
-use Rattle.sms_listing.specs.Listing.{TableOf, ListOf, IsList, table_of, rowids_where, whole_table, row_of, columns_of, equals}
+use Rattle.sms_listing.specs.Listing.{TableOf, ListOf, IsList, table_of, rowids_where, rows_where, given_from, whole_table, row_of, columns_of, equals}
 use Rattle.sms_listing.proofs.Columns.{one_found, cast_int, cast_row_same, characters_back}
 use Rattle.sms_centre_tables.specs.CentreSchema.{centre_schema, handset_columns}
 use Rattle.sms_centre_tables.specs.Types.{HandsetRow}
@@ -27,6 +27,8 @@ handset_table = record {
   key = 1 ∷ [];
   delete = codes "DELETE FROM handset WHERE place = ?1";
   tests = equals 1 0 ∷ [];
+  update = codes "UPDATE handset SET place = ?1, number = ?2, last_reference = ?3 WHERE place = ?1";
+  sets = given_from 0 3;
   insert = codes "INSERT INTO handset (place, number, last_reference) VALUES (?1, ?2, ?3)";
   values = row_of 3;
   select = codes "SELECT place, number, last_reference FROM handset";
@@ -50,6 +52,10 @@ deletes : (command_of (understood centre_schema handset_table.delete) ≡ Delete
 unfolding understood everything
 deletes = (refl, (refl, refl))
 
+updates : (command_of (understood centre_schema handset_table.update) ≡ Update 4 (record { lets = []; body = rows_where 8 handset_table.tests (col 1 0 ∷ col 1 0 ∷ handset_table.sets) })) × IsPlain (understood centre_schema handset_table.update)
+unfolding understood everything
+updates = (refl, (refl, refl))
+
 inserts : (command_of (understood centre_schema handset_table.insert) ≡ Insert 4 (Values handset_table.values 4)) × IsPlain (understood centre_schema handset_table.insert)
 unfolding understood everything
 inserts = (refl, (refl, refl))
@@ -67,6 +73,9 @@ stays x = cast_row_same (table_of handset_table) _ (cast_int _, (refl, (cast_int
 finds : (n : ℕ) (id : ℤ) (x : HandsetRow) → handset_list.Fits x → list_all (holds (handset_list.key_columns n ∷ (Int id ∷ handset_list.columns x) ∷ [])) handset_table.tests ≡ (handset_list.key x == n)
 finds n id x fits = one_found x.place n
 
+meets : (x : HandsetRow) (id : ℤ) (y : HandsetRow) → handset_list.Fits x → handset_list.Fits y → list_all (holds (handset_list.columns x ∷ (Int id ∷ handset_list.columns y) ∷ [])) handset_table.tests ≡ (handset_list.key y == handset_list.key x)
+meets x id y fits suits = finds (handset_list.key x) id y suits
+
 told : (x : HandsetRow) → handset_list.Fits x → handset_list.reads (handset_list.columns x) ≡ x
 told x fits = let d = characters_back x.number fits in λ i. record { place = x.place; number = d i; last_reference = x.last_reference }
 
@@ -75,6 +84,8 @@ handset_is_list = record {
   there = refl;
   deletes = deletes.0;
   deletes_alone = deletes.1;
+  updates = updates.0;
+  updates_alone = updates.1;
   inserts = inserts.0;
   inserts_alone = inserts.1;
   selects = selects.0;
@@ -86,5 +97,7 @@ handset_is_list = record {
   read = λ id x. refl;
   stays = stays;
   finds = finds;
+  meets = meets;
+  sets = λ x id y. refl;
   told = told;
 }

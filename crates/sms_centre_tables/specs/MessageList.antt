@@ -4,15 +4,15 @@ use Rattle.std.specs.List.{list_all}
 use Rattle.std.specs.Str.{all_scalars}
 use Rattle.sqlite.specs.declared.types.Value.TheVariants.{Null, Int, Text}
 use Rattle.sqlite_value.specs.Order.{column}
-use Rattle.sqlite.specs.Term.{holds}
+use Rattle.sqlite.specs.Term.{holds, col}
 use Rattle.sqlite.specs.Source.TheVariants.{Values}
-use Rattle.sqlite.specs.Command.TheVariants.{Insert, Delete, Select}
+use Rattle.sqlite.specs.Command.TheVariants.{Insert, Update, Delete, Select}
 use Rattle.sqlite.specs.Listing.{understood, reads_listing}
 use Rattle.sqlite.proofs.Callers.{IsPlain, command_of}
 use Rattle.sqlite_rules.specs.Cast.{cast_row}
 use Rattle.sqlite_tied.specs.Compute.{everything}
 use Rattle.sms_listing.specs.Columns.{number, number_in, text_in, characters_in, if_given, or_none}
-use Rattle.sms_listing.specs.Listing.{TableOf, ListOf, IsList, table_of, rowids_where, whole_table, row_of, columns_of, equals}
+use Rattle.sms_listing.specs.Listing.{TableOf, ListOf, IsList, table_of, rowids_where, rows_where, given_from, whole_table, row_of, columns_of, equals}
 use Rattle.sms_listing.proofs.Columns.{one_found, cast_int, cast_row_same, cast_optional, characters_back, given_back}
 use Rattle.sms_centre_tables.specs.CentreSchema.{centre_schema, message_columns}
 use Rattle.sms_centre_tables.specs.Types.{MessageRow}
@@ -31,6 +31,8 @@ message_table = record {
   key = 1 ∷ [];
   delete = codes "DELETE FROM message WHERE id = ?1";
   tests = equals 1 0 ∷ [];
+  update = codes "UPDATE message SET id = ?1, account = ?2, message_reference = ?3, source_ton = ?4, source_npi = ?5, source = ?6, handset = ?7, data_coding_scheme = ?8, protocol_identifier = ?9, wish = ?10, submitted = ?11, expires = ?12, split_reference = ?13, state = ?14, done = ?15 WHERE id = ?1";
+  sets = given_from 0 15;
   insert = codes "INSERT INTO message (id, account, message_reference, source_ton, source_npi, source, handset, data_coding_scheme, protocol_identifier, wish, submitted, expires, split_reference, state, done) VALUES (?1, ?2, ?3, ?4, ?5, ?6, ?7, ?8, ?9, ?10, ?11, ?12, ?13, ?14, ?15)";
   values = row_of 15;
   select = codes "SELECT id, account, message_reference, source_ton, source_npi, source, handset, data_coding_scheme, protocol_identifier, wish, submitted, expires, split_reference, state, done FROM message";
@@ -54,6 +56,10 @@ deletes : (command_of (understood centre_schema message_table.delete) ≡ Delete
 unfolding understood everything
 deletes = (refl, (refl, refl))
 
+updates : (command_of (understood centre_schema message_table.update) ≡ Update 1 (record { lets = []; body = rows_where 2 message_table.tests (col 1 0 ∷ col 1 0 ∷ message_table.sets) })) × IsPlain (understood centre_schema message_table.update)
+unfolding understood everything
+updates = (refl, (refl, refl))
+
 inserts : (command_of (understood centre_schema message_table.insert) ≡ Insert 1 (Values message_table.values 16)) × IsPlain (understood centre_schema message_table.insert)
 unfolding understood everything
 inserts = (refl, (refl, refl))
@@ -74,6 +80,9 @@ stays x =
 finds : (n : ℕ) (id : ℤ) (x : MessageRow) → message_list.Fits x → list_all (holds (message_list.key_columns n ∷ (Int id ∷ message_list.columns x) ∷ [])) message_table.tests ≡ (message_list.key x == n)
 finds n id x fits = one_found x.id n
 
+meets : (x : MessageRow) (id : ℤ) (y : MessageRow) → message_list.Fits x → message_list.Fits y → list_all (holds (message_list.columns x ∷ (Int id ∷ message_list.columns y) ∷ [])) message_table.tests ≡ (message_list.key y == message_list.key x)
+meets x id y fits suits = finds (message_list.key x) id y suits
+
 told : (x : MessageRow) → message_list.Fits x → message_list.reads (message_list.columns x) ≡ x
 told x fits =
     let o = originator_back x.originator in
@@ -90,6 +99,8 @@ message_is_list = record {
   there = refl;
   deletes = deletes.0;
   deletes_alone = deletes.1;
+  updates = updates.0;
+  updates_alone = updates.1;
   inserts = inserts.0;
   inserts_alone = inserts.1;
   selects = selects.0;
@@ -101,5 +112,7 @@ message_is_list = record {
   read = λ id x. refl;
   stays = stays;
   finds = finds;
+  meets = meets;
+  sets = λ x id y. refl;
   told = told;
 }

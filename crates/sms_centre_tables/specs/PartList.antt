@@ -12,9 +12,9 @@ use Rattle.sqlite.proofs.Callers.{IsPlain, command_of}
 use Rattle.sqlite_rules.specs.Cast.{cast_row}
 use Rattle.sqlite_tied.specs.Compute.{everything}
 use Rattle.sms_listing.specs.Columns.{number, number_in, octets_in, flag, or_none}
-use Rattle.sms_listing.specs.Finding.{rows_where, FindsOne}
-use Rattle.sms_listing.specs.Listing.{TableOf, ListOf, IsList, table_of, rowids_where, whole_table, row_of, given_from, columns_of, equals}
-use Rattle.sms_listing.proofs.Columns.{same_number, pair_found, and_true, cast_int, cast_row_same, cast_flag, cast_optional}
+use Rattle.sms_listing.specs.Finding.{FindsOne}
+use Rattle.sms_listing.specs.Listing.{rows_where, TableOf, ListOf, IsList, table_of, rowids_where, whole_table, row_of, given_from, columns_of, equals}
+use Rattle.sms_listing.proofs.Columns.{same_number, pair_found, pairs_agree, and_true, cast_int, cast_row_same, cast_flag, cast_optional}
 use Rattle.sms_centre_tables.specs.CentreSchema.{centre_schema, part_columns}
 use Rattle.sms_centre_tables.specs.Types.{PartRow, ConcatKey, Progress}
 use Rattle.sms_table.specs.Keys.{pair_key}
@@ -32,6 +32,8 @@ part_table = record {
   key = 1 ∷ 2 ∷ [];
   delete = codes "DELETE FROM part WHERE message = ?1 AND number = ?2";
   tests = equals 1 0 ∷ equals 2 1 ∷ [];
+  update = codes "UPDATE part SET message = ?1, number = ?2, reference = ?3, tpdu = ?4, concat_bits = ?5, concat_reference = ?6, concat_total = ?7, concat_number = ?8, is_done = ?9, attempts = ?10, due = ?11 WHERE message = ?1 AND number = ?2";
+  sets = given_from 0 11;
   insert = codes "INSERT INTO part (message, number, reference, tpdu, concat_bits, concat_reference, concat_total, concat_number, is_done, attempts, due) VALUES (?1, ?2, ?3, ?4, ?5, ?6, ?7, ?8, ?9, ?10, ?11)";
   values = row_of 11;
   select = codes "SELECT message, number, reference, tpdu, concat_bits, concat_reference, concat_total, concat_number, is_done, attempts, due FROM part";
@@ -55,6 +57,10 @@ deletes : (command_of (understood centre_schema part_table.delete) ≡ Delete 2 
 unfolding understood everything
 deletes = (refl, (refl, refl))
 
+updates : (command_of (understood centre_schema part_table.update) ≡ Update 2 (record { lets = []; body = rows_where 4 part_table.tests (col 1 0 ∷ col 1 0 ∷ part_table.sets) })) × IsPlain (understood centre_schema part_table.update)
+unfolding understood everything
+updates = (refl, (refl, refl))
+
 inserts : (command_of (understood centre_schema part_table.insert) ≡ Insert 2 (Values part_table.values 12)) × IsPlain (understood centre_schema part_table.insert)
 unfolding understood everything
 inserts = (refl, (refl, refl))
@@ -75,6 +81,10 @@ finds : (n : ℕ) (id : ℤ) (x : PartRow) → part_list.Fits x → list_all (ho
 finds n id x fits =
     ap₂ (λ a b. a && (b && true)) (same_number x.id (n / 256)) (same_number x.number (n % 256)) ∙ ap (λ b. (x.id == n / 256) && b) (and_true _) ∙ pair_found x.id x.number n fits
 
+meets : (x : PartRow) (id : ℤ) (y : PartRow) → part_list.Fits x → part_list.Fits y → list_all (holds (part_list.columns x ∷ (Int id ∷ part_list.columns y) ∷ [])) part_table.tests ≡ (part_list.key y == part_list.key x)
+meets x id y fits suits =
+    ap₂ (λ a b. a && (b && true)) (same_number y.id x.id) (same_number y.number x.number) ∙ ap (λ b. (y.id == x.id) && b) (and_true _) ∙ pairs_agree y.id y.number x.id x.number suits fits
+
 told : (x : PartRow) → part_list.Fits x → part_list.reads (part_list.columns x) ≡ x
 told x fits =
     let k = key_back x.key in
@@ -86,6 +96,8 @@ part_is_list = record {
   there = refl;
   deletes = deletes.0;
   deletes_alone = deletes.1;
+  updates = updates.0;
+  updates_alone = updates.1;
   inserts = inserts.0;
   inserts_alone = inserts.1;
   selects = selects.0;
@@ -97,6 +109,8 @@ part_is_list = record {
   read = λ id x. refl;
   stays = stays;
   finds = finds;
+  meets = meets;
+  sets = λ x id y. refl;
   told = told;
 }
 

@@ -3,15 +3,15 @@ use Rattle.std.specs.Prelude.{◌≡◌, ℕ, ◌==◌, ℤ, false, ⊤, [], ◌
 use Rattle.std.specs.List.{list_all}
 use Rattle.sqlite.specs.declared.types.Value.TheVariants.{Null, Int}
 use Rattle.sqlite_value.specs.Order.{column}
-use Rattle.sqlite.specs.Term.{holds}
+use Rattle.sqlite.specs.Term.{holds, col}
 use Rattle.sqlite.specs.Source.TheVariants.{Values}
-use Rattle.sqlite.specs.Command.TheVariants.{Insert, Delete, Select}
+use Rattle.sqlite.specs.Command.TheVariants.{Insert, Update, Delete, Select}
 use Rattle.sqlite.specs.Listing.{understood, reads_listing}
 use Rattle.sqlite.proofs.Callers.{IsPlain, command_of}
 use Rattle.sqlite_rules.specs.Cast.{cast_row}
 use Rattle.sqlite_tied.specs.Compute.{everything}
 use Rattle.sms_listing.specs.Columns.{number, number_in}
-use Rattle.sms_listing.specs.Listing.{TableOf, ListOf, IsList, table_of, rowids_where, whole_table, row_of, columns_of, equals}
+use Rattle.sms_listing.specs.Listing.{TableOf, ListOf, IsList, table_of, rowids_where, rows_where, given_from, whole_table, row_of, columns_of, equals}
 use Rattle.sms_listing.proofs.Columns.{one_found, cast_int, cast_row_same}
 use Rattle.sms_centre_tables.specs.CentreSchema.{centre_schema, priority_columns}
 use Rattle.sms_centre_tables.specs.Types.{PriorityRow}
@@ -26,6 +26,8 @@ priority_table = record {
   key = 1 ∷ [];
   delete = codes "DELETE FROM priority WHERE message = ?1";
   tests = equals 1 0 ∷ [];
+  update = codes "UPDATE priority SET message = ?1, priority = ?2 WHERE message = ?1";
+  sets = given_from 0 2;
   insert = codes "INSERT INTO priority (message, priority) VALUES (?1, ?2)";
   values = row_of 2;
   select = codes "SELECT message, priority FROM priority";
@@ -49,6 +51,10 @@ deletes : (command_of (understood centre_schema priority_table.delete) ≡ Delet
 unfolding understood everything
 deletes = (refl, (refl, refl))
 
+updates : (command_of (understood centre_schema priority_table.update) ≡ Update 6 (record { lets = []; body = rows_where 12 priority_table.tests (col 1 0 ∷ col 1 0 ∷ priority_table.sets) })) × IsPlain (understood centre_schema priority_table.update)
+unfolding understood everything
+updates = (refl, (refl, refl))
+
 inserts : (command_of (understood centre_schema priority_table.insert) ≡ Insert 6 (Values priority_table.values 3)) × IsPlain (understood centre_schema priority_table.insert)
 unfolding understood everything
 inserts = (refl, (refl, refl))
@@ -66,6 +72,9 @@ stays x = cast_row_same (table_of priority_table) _ (cast_int _, (cast_int _, tt
 finds : (n : ℕ) (id : ℤ) (x : PriorityRow) → priority_list.Fits x → list_all (holds (priority_list.key_columns n ∷ (Int id ∷ priority_list.columns x) ∷ [])) priority_table.tests ≡ (priority_list.key x == n)
 finds n id x fits = one_found x.id n
 
+meets : (x : PriorityRow) (id : ℤ) (y : PriorityRow) → priority_list.Fits x → priority_list.Fits y → list_all (holds (priority_list.columns x ∷ (Int id ∷ priority_list.columns y) ∷ [])) priority_table.tests ≡ (priority_list.key y == priority_list.key x)
+meets x id y fits suits = finds (priority_list.key x) id y suits
+
 told : (x : PriorityRow) → priority_list.Fits x → priority_list.reads (priority_list.columns x) ≡ x
 told x fits = refl
 
@@ -74,6 +83,8 @@ priority_is_list = record {
   there = refl;
   deletes = deletes.0;
   deletes_alone = deletes.1;
+  updates = updates.0;
+  updates_alone = updates.1;
   inserts = inserts.0;
   inserts_alone = inserts.1;
   selects = selects.0;
@@ -85,5 +96,7 @@ priority_is_list = record {
   read = λ id x. refl;
   stays = stays;
   finds = finds;
+  meets = meets;
+  sets = λ x id y. refl;
   told = told;
 }

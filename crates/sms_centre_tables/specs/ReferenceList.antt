@@ -4,16 +4,16 @@ use Rattle.std.proofs.Common.{ap, ap₂, ◌∙◌}
 use Rattle.std.specs.List.{list_all}
 use Rattle.sqlite.specs.declared.types.Value.TheVariants.{Null, Int}
 use Rattle.sqlite_value.specs.Order.{column}
-use Rattle.sqlite.specs.Term.{holds}
+use Rattle.sqlite.specs.Term.{holds, col}
 use Rattle.sqlite.specs.Source.TheVariants.{Values}
-use Rattle.sqlite.specs.Command.TheVariants.{Insert, Delete, Select}
+use Rattle.sqlite.specs.Command.TheVariants.{Insert, Update, Delete, Select}
 use Rattle.sqlite.specs.Listing.{understood, reads_listing}
 use Rattle.sqlite.proofs.Callers.{IsPlain, command_of}
 use Rattle.sqlite_rules.specs.Cast.{cast_row}
 use Rattle.sqlite_tied.specs.Compute.{everything}
 use Rattle.sms_listing.specs.Columns.{number, number_in}
-use Rattle.sms_listing.specs.Listing.{TableOf, ListOf, IsList, table_of, rowids_where, whole_table, row_of, columns_of, equals}
-use Rattle.sms_listing.proofs.Columns.{same_number, pair_found, and_true, cast_int, cast_row_same}
+use Rattle.sms_listing.specs.Listing.{TableOf, ListOf, IsList, table_of, rowids_where, rows_where, given_from, whole_table, row_of, columns_of, equals}
+use Rattle.sms_listing.proofs.Columns.{same_number, pair_found, pairs_agree, and_true, cast_int, cast_row_same}
 use Rattle.sms_centre_tables.specs.CentreSchema.{centre_schema, reference_columns}
 use Rattle.sms_centre_tables.specs.Types.{ReferenceRow}
 use Rattle.sms_table.specs.Keys.{pair_key}
@@ -28,6 +28,8 @@ reference_table = record {
   key = 1 ∷ 2 ∷ [];
   delete = codes "DELETE FROM given_reference WHERE place = ?1 AND reference = ?2";
   tests = equals 1 0 ∷ equals 2 1 ∷ [];
+  update = codes "UPDATE given_reference SET place = ?1, reference = ?2, last_given = ?3 WHERE place = ?1 AND reference = ?2";
+  sets = given_from 0 3;
   insert = codes "INSERT INTO given_reference (place, reference, last_given) VALUES (?1, ?2, ?3)";
   values = row_of 3;
   select = codes "SELECT place, reference, last_given FROM given_reference";
@@ -51,6 +53,10 @@ deletes : (command_of (understood centre_schema reference_table.delete) ≡ Dele
 unfolding understood everything
 deletes = (refl, (refl, refl))
 
+updates : (command_of (understood centre_schema reference_table.update) ≡ Update 3 (record { lets = []; body = rows_where 6 reference_table.tests (col 1 0 ∷ col 1 0 ∷ reference_table.sets) })) × IsPlain (understood centre_schema reference_table.update)
+unfolding understood everything
+updates = (refl, (refl, refl))
+
 inserts : (command_of (understood centre_schema reference_table.insert) ≡ Insert 3 (Values reference_table.values 4)) × IsPlain (understood centre_schema reference_table.insert)
 unfolding understood everything
 inserts = (refl, (refl, refl))
@@ -69,6 +75,10 @@ finds : (n : ℕ) (id : ℤ) (x : ReferenceRow) → reference_list.Fits x → li
 finds n id x fits =
     ap₂ (λ a b. a && (b && true)) (same_number x.place (n / 256)) (same_number x.reference (n % 256)) ∙ ap (λ b. (x.place == n / 256) && b) (and_true _) ∙ pair_found x.place x.reference n fits
 
+meets : (x : ReferenceRow) (id : ℤ) (y : ReferenceRow) → reference_list.Fits x → reference_list.Fits y → list_all (holds (reference_list.columns x ∷ (Int id ∷ reference_list.columns y) ∷ [])) reference_table.tests ≡ (reference_list.key y == reference_list.key x)
+meets x id y fits suits =
+    ap₂ (λ a b. a && (b && true)) (same_number y.place x.place) (same_number y.reference x.reference) ∙ ap (λ b. (y.place == x.place) && b) (and_true _) ∙ pairs_agree y.place y.reference x.place x.reference suits fits
+
 told : (x : ReferenceRow) → reference_list.Fits x → reference_list.reads (reference_list.columns x) ≡ x
 told x fits = refl
 
@@ -77,6 +87,8 @@ reference_is_list = record {
   there = refl;
   deletes = deletes.0;
   deletes_alone = deletes.1;
+  updates = updates.0;
+  updates_alone = updates.1;
   inserts = inserts.0;
   inserts_alone = inserts.1;
   selects = selects.0;
@@ -88,5 +100,7 @@ reference_is_list = record {
   read = λ id x. refl;
   stays = stays;
   finds = finds;
+  meets = meets;
+  sets = λ x id y. refl;
   told = told;
 }

@@ -11,9 +11,9 @@ use Rattle.sqlite.proofs.Callers.{IsPlain, command_of}
 use Rattle.sqlite_rules.specs.Cast.{cast_row}
 use Rattle.sqlite_tied.specs.Compute.{everything}
 use Rattle.sms_listing.specs.Columns.{number, number_in, text_in, flag}
-use Rattle.sms_listing.specs.Finding.{rows_where, FindsOne}
+use Rattle.sms_listing.specs.Finding.{FindsOne}
 use Rattle.sms_listing.specs.Seeking.{SeeksBy}
-use Rattle.sms_listing.specs.Listing.{TableOf, ListOf, IsList, table_of, rowids_where, whole_table, row_of, given_from, columns_of, equals}
+use Rattle.sms_listing.specs.Listing.{rows_where, TableOf, ListOf, IsList, table_of, rowids_where, whole_table, row_of, given_from, columns_of, equals}
 use Rattle.sms_listing.proofs.Columns.{one_found, cast_int, cast_row_same, cast_flag}
 use Rattle.sms_centre_tables.specs.CentreSchema.{centre_schema, report_columns}
 use Rattle.sms_centre_tables.specs.Types.{ReportRow, Progress}
@@ -31,6 +31,8 @@ report_table = record {
   key = 1 ∷ [];
   delete = codes "DELETE FROM report WHERE place = ?1";
   tests = equals 1 0 ∷ [];
+  update = codes "UPDATE report SET place = ?1, message = ?2, kind = ?3, reference = ?4, tpdu = ?5, made = ?6, is_done = ?7, attempts = ?8, due = ?9 WHERE place = ?1";
+  sets = given_from 0 9;
   insert = codes "INSERT INTO report (place, message, kind, reference, tpdu, made, is_done, attempts, due) VALUES (?1, ?2, ?3, ?4, ?5, ?6, ?7, ?8, ?9)";
   values = row_of 9;
   select = codes "SELECT place, message, kind, reference, tpdu, made, is_done, attempts, due FROM report";
@@ -54,6 +56,10 @@ deletes : (command_of (understood centre_schema report_table.delete) ≡ Delete 
 unfolding understood everything
 deletes = (refl, (refl, refl))
 
+updates : (command_of (understood centre_schema report_table.update) ≡ Update 5 (record { lets = []; body = rows_where 10 report_table.tests (col 1 0 ∷ col 1 0 ∷ report_table.sets) })) × IsPlain (understood centre_schema report_table.update)
+unfolding understood everything
+updates = (refl, (refl, refl))
+
 inserts : (command_of (understood centre_schema report_table.insert) ≡ Insert 5 (Values report_table.values 10)) × IsPlain (understood centre_schema report_table.insert)
 unfolding understood everything
 inserts = (refl, (refl, refl))
@@ -71,6 +77,9 @@ stays x = cast_row_same (table_of report_table) _ (cast_int _, (cast_int _, (ref
 finds : (n : ℕ) (id : ℤ) (x : ReportRow) → report_list.Fits x → list_all (holds (report_list.key_columns n ∷ (Int id ∷ report_list.columns x) ∷ [])) report_table.tests ≡ (report_list.key x == n)
 finds n id x fits = one_found x.place n
 
+meets : (x : ReportRow) (id : ℤ) (y : ReportRow) → report_list.Fits x → report_list.Fits y → list_all (holds (report_list.columns x ∷ (Int id ∷ report_list.columns y) ∷ [])) report_table.tests ≡ (report_list.key y == report_list.key x)
+meets x id y fits suits = finds (report_list.key x) id y suits
+
 told : (x : ReportRow) → report_list.Fits x → report_list.reads (report_list.columns x) ≡ x
 told x fits =
     let k = kind_back x.kind in
@@ -82,6 +91,8 @@ report_is_list = record {
   there = refl;
   deletes = deletes.0;
   deletes_alone = deletes.1;
+  updates = updates.0;
+  updates_alone = updates.1;
   inserts = inserts.0;
   inserts_alone = inserts.1;
   selects = selects.0;
@@ -93,6 +104,8 @@ report_is_list = record {
   read = λ id x. refl;
   stays = stays;
   finds = finds;
+  meets = meets;
+  sets = λ x id y. refl;
   told = told;
 }
 

@@ -4,7 +4,7 @@ ghost use Rattle.sms_centre_tables.specs.HandsetList.{handset_is_list, handset_l
 
 use crate::key::integer_of;
 use crate::kind::CentreStore;
-use sms_listing::{StoredRow, digits_at, octet_at, run, text_of, word_at};
+use sms_listing::{StoredRow, digits_at, octet_at, run, run_counted, text_of, word_at};
 use sms_table::Key;
 use sms_waiting::HandsetRow;
 use sqlite::{Alter, Error, Row, Transaction, params};
@@ -18,11 +18,24 @@ impl StoredRow<CentreStore> for HandsetRow {
         run(tx, "DELETE FROM handset WHERE place = ?1", params![&place])
     }
 
-    fn insert<S: Alter>(&self, alloc: Global, tx: &mut Transaction<'_, S>) -> Result<(), Error> {
+    fn update_text() -> &'static str {
+        "UPDATE handset SET place = ?1, number = ?2, last_reference = ?3 WHERE place = ?1"
+    }
+
+    fn insert_text() -> &'static str {
+        "INSERT INTO handset (place, number, last_reference) VALUES (?1, ?2, ?3)"
+    }
+
+    fn write<S: Alter>(
+        &self,
+        alloc: Global,
+        tx: &mut Transaction<'_, S>,
+        text: &str,
+    ) -> Result<usize, Error> {
         let number = text_of(alloc, self.number.as_slice())?;
-        run(
+        run_counted(
             tx,
-            "INSERT INTO handset (place, number, last_reference) VALUES (?1, ?2, ?3)",
+            text,
             params![self.place, &number, u32::from(self.last_reference)],
         )
     }

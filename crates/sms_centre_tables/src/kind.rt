@@ -4,7 +4,7 @@ ghost use Rattle.sms_centre_tables.specs.FirstMetaList.{meta_is_list as first_is
 ghost use Rattle.sms_centre_tables.specs.MetaList.{meta_is_list, meta_list};
 
 use crate::key::integer_of;
-use sms_listing::{Meta, StoredRow, kind_at, run, word_at};
+use sms_listing::{Meta, StoredRow, kind_at, run, run_counted, word_at};
 use sms_table::Key;
 use sqlite::{Alter, Error, Row, Transaction, params};
 use std::alloc::Global;
@@ -23,12 +23,21 @@ impl StoredRow<CentreStore> for Meta {
         run(tx, "DELETE FROM meta WHERE version = ?1", params![&version])
     }
 
-    fn insert<S: Alter>(&self, _alloc: Global, tx: &mut Transaction<'_, S>) -> Result<(), Error> {
-        run(
-            tx,
-            "INSERT INTO meta (version, kind) VALUES (?1, ?2)",
-            params![self.version, self.kind.word()],
-        )
+    fn update_text() -> &'static str {
+        "UPDATE meta SET version = ?1, kind = ?2 WHERE version = ?1"
+    }
+
+    fn insert_text() -> &'static str {
+        "INSERT INTO meta (version, kind) VALUES (?1, ?2)"
+    }
+
+    fn write<S: Alter>(
+        &self,
+        _alloc: Global,
+        tx: &mut Transaction<'_, S>,
+        text: &str,
+    ) -> Result<usize, Error> {
+        run_counted(tx, text, params![self.version, self.kind.word()])
     }
 
     fn select() -> &'static str {
@@ -54,12 +63,21 @@ impl StoredRow<FirstCentreStore> for Meta {
         run(tx, "DELETE FROM meta WHERE version = ?1", params![&version])
     }
 
-    fn insert<S: Alter>(&self, _alloc: Global, tx: &mut Transaction<'_, S>) -> Result<(), Error> {
-        run(
-            tx,
-            "INSERT INTO meta (version, kind) VALUES (?1, ?2)",
-            params![self.version, self.kind.word()],
-        )
+    fn update_text() -> &'static str {
+        "UPDATE meta SET version = ?1, kind = ?2 WHERE version = ?1"
+    }
+
+    fn insert_text() -> &'static str {
+        "INSERT INTO meta (version, kind) VALUES (?1, ?2)"
+    }
+
+    fn write<S: Alter>(
+        &self,
+        _alloc: Global,
+        tx: &mut Transaction<'_, S>,
+        text: &str,
+    ) -> Result<usize, Error> {
+        run_counted(tx, text, params![self.version, self.kind.word()])
     }
 
     fn select() -> &'static str {

@@ -10,7 +10,7 @@ use crate::pieces::{
 };
 use sms_listing::{
     StoredRow, address_at, digits_at, moment_at, octet_at, optional_moment_at, optional_short_at,
-    run, text_of,
+    run, run_counted, text_of,
 };
 use sms_messages::MessageRow;
 use sms_table::Key;
@@ -25,15 +25,28 @@ impl StoredRow<CentreStore> for MessageRow {
         run(tx, "DELETE FROM message WHERE id = ?1", params![&id])
     }
 
-    fn insert<S: Alter>(&self, alloc: Global, tx: &mut Transaction<'_, S>) -> Result<(), Error> {
+    fn update_text() -> &'static str {
+        "UPDATE message SET id = ?1, account = ?2, message_reference = ?3, source_ton = ?4, source_npi = ?5, source = ?6, handset = ?7, data_coding_scheme = ?8, protocol_identifier = ?9, wish = ?10, submitted = ?11, expires = ?12, split_reference = ?13, state = ?14, done = ?15 WHERE id = ?1"
+    }
+
+    fn insert_text() -> &'static str {
+        "INSERT INTO message (id, account, message_reference, source_ton, source_npi, source, handset, data_coding_scheme, protocol_identifier, wish, submitted, expires, split_reference, state, done) VALUES (?1, ?2, ?3, ?4, ?5, ?6, ?7, ?8, ?9, ?10, ?11, ?12, ?13, ?14, ?15)"
+    }
+
+    fn write<S: Alter>(
+        &self,
+        alloc: Global,
+        tx: &mut Transaction<'_, S>,
+        text: &str,
+    ) -> Result<usize, Error> {
         let id = id_value(self.id)?;
         let submitted = moment_value(self.submitted)?;
         let limit = moment_value(self.limit)?;
         let source = text_of(alloc, self.source.digits.as_slice())?;
         let handset = text_of(alloc, self.handset.as_slice())?;
-        run(
+        run_counted(
             tx,
-            "INSERT INTO message (id, account, message_reference, source_ton, source_npi, source, handset, data_coding_scheme, protocol_identifier, wish, submitted, expires, split_reference, state, done) VALUES (?1, ?2, ?3, ?4, ?5, ?6, ?7, ?8, ?9, ?10, ?11, ?12, ?13, ?14, ?15)",
+            text,
             params![
                 &id,
                 account_of(&self.originator),

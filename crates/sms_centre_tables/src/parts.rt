@@ -10,7 +10,7 @@ use crate::pieces::{
     bits_of, concat_number_of, concat_total_of, id_at, key_at, number_of, progress_at,
 };
 use sms_amending::AmendedRow;
-use sms_listing::{FoundRow, StoredRow, octet_at, octets_at, run};
+use sms_listing::{FoundRow, StoredRow, octet_at, octets_at, run, run_counted};
 use sms_messages::PartRow;
 use sms_table::Key;
 use sms_waiting::Progress;
@@ -29,12 +29,25 @@ impl StoredRow<CentreStore> for PartRow {
         )
     }
 
-    fn insert<S: Alter>(&self, _alloc: Global, tx: &mut Transaction<'_, S>) -> Result<(), Error> {
+    fn update_text() -> &'static str {
+        "UPDATE part SET message = ?1, number = ?2, reference = ?3, tpdu = ?4, concat_bits = ?5, concat_reference = ?6, concat_total = ?7, concat_number = ?8, is_done = ?9, attempts = ?10, due = ?11 WHERE message = ?1 AND number = ?2"
+    }
+
+    fn insert_text() -> &'static str {
+        "INSERT INTO part (message, number, reference, tpdu, concat_bits, concat_reference, concat_total, concat_number, is_done, attempts, due) VALUES (?1, ?2, ?3, ?4, ?5, ?6, ?7, ?8, ?9, ?10, ?11)"
+    }
+
+    fn write<S: Alter>(
+        &self,
+        _alloc: Global,
+        tx: &mut Transaction<'_, S>,
+        text: &str,
+    ) -> Result<usize, Error> {
         let id = id_value(self.id)?;
         let due = moment_value(self.progress.due)?;
-        run(
+        run_counted(
             tx,
-            "INSERT INTO part (message, number, reference, tpdu, concat_bits, concat_reference, concat_total, concat_number, is_done, attempts, due) VALUES (?1, ?2, ?3, ?4, ?5, ?6, ?7, ?8, ?9, ?10, ?11)",
+            text,
             params![
                 &id,
                 u32::from(self.number),

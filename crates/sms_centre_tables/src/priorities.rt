@@ -5,7 +5,7 @@ ghost use Rattle.sms_centre_tables.specs.PriorityList.{priority_is_list, priorit
 use crate::key::{id_value, integer_of};
 use crate::kind::CentreStore;
 use crate::pieces::id_at;
-use sms_listing::{StoredRow, octet_at, run};
+use sms_listing::{StoredRow, octet_at, run, run_counted};
 use sms_messages::PriorityRow;
 use sms_table::Key;
 use sqlite::{Alter, Error, Row, Transaction, params};
@@ -23,13 +23,22 @@ impl StoredRow<CentreStore> for PriorityRow {
         )
     }
 
-    fn insert<S: Alter>(&self, _alloc: Global, tx: &mut Transaction<'_, S>) -> Result<(), Error> {
+    fn update_text() -> &'static str {
+        "UPDATE priority SET message = ?1, priority = ?2 WHERE message = ?1"
+    }
+
+    fn insert_text() -> &'static str {
+        "INSERT INTO priority (message, priority) VALUES (?1, ?2)"
+    }
+
+    fn write<S: Alter>(
+        &self,
+        _alloc: Global,
+        tx: &mut Transaction<'_, S>,
+        text: &str,
+    ) -> Result<usize, Error> {
         let id = id_value(self.id)?;
-        run(
-            tx,
-            "INSERT INTO priority (message, priority) VALUES (?1, ?2)",
-            params![&id, u32::from(self.priority)],
-        )
+        run_counted(tx, text, params![&id, u32::from(self.priority)])
     }
 
     fn select() -> &'static str {

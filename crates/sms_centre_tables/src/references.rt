@@ -4,7 +4,7 @@ ghost use Rattle.sms_centre_tables.specs.ReferenceList.{reference_is_list, refer
 
 use crate::key::{integers_of, moment_value};
 use crate::kind::CentreStore;
-use sms_listing::{StoredRow, moment_at, octet_at, run, word_at};
+use sms_listing::{StoredRow, moment_at, octet_at, run, run_counted, word_at};
 use sms_table::Key;
 use sms_waiting::ReferenceRow;
 use sqlite::{Alter, Error, Row, Transaction, params};
@@ -22,11 +22,24 @@ impl StoredRow<CentreStore> for ReferenceRow {
         )
     }
 
-    fn insert<S: Alter>(&self, _alloc: Global, tx: &mut Transaction<'_, S>) -> Result<(), Error> {
+    fn update_text() -> &'static str {
+        "UPDATE given_reference SET place = ?1, reference = ?2, last_given = ?3 WHERE place = ?1 AND reference = ?2"
+    }
+
+    fn insert_text() -> &'static str {
+        "INSERT INTO given_reference (place, reference, last_given) VALUES (?1, ?2, ?3)"
+    }
+
+    fn write<S: Alter>(
+        &self,
+        _alloc: Global,
+        tx: &mut Transaction<'_, S>,
+        text: &str,
+    ) -> Result<usize, Error> {
         let last = moment_value(self.last)?;
-        run(
+        run_counted(
             tx,
-            "INSERT INTO given_reference (place, reference, last_given) VALUES (?1, ?2, ?3)",
+            text,
             params![self.place, u32::from(self.reference), &last],
         )
     }

@@ -8,7 +8,7 @@ use crate::key::{id_value, integer, integer_of, moment_value, place_value};
 use crate::kind::CentreStore;
 use crate::pieces::{id_at, kind_reference, kind_tpdu, kind_word, progress_at, report_kind_at};
 use sms_amending::AmendedRow;
-use sms_listing::{FoundRow, SoughtRow, StoredRow, moment_at, number_at, run};
+use sms_listing::{FoundRow, SoughtRow, StoredRow, moment_at, number_at, run, run_counted};
 use sms_reports::ReportRow;
 use sms_table::Key;
 use sms_waiting::Progress;
@@ -23,14 +23,27 @@ impl StoredRow<CentreStore> for ReportRow {
         run(tx, "DELETE FROM report WHERE place = ?1", params![&place])
     }
 
-    fn insert<S: Alter>(&self, _alloc: Global, tx: &mut Transaction<'_, S>) -> Result<(), Error> {
+    fn update_text() -> &'static str {
+        "UPDATE report SET place = ?1, message = ?2, kind = ?3, reference = ?4, tpdu = ?5, made = ?6, is_done = ?7, attempts = ?8, due = ?9 WHERE place = ?1"
+    }
+
+    fn insert_text() -> &'static str {
+        "INSERT INTO report (place, message, kind, reference, tpdu, made, is_done, attempts, due) VALUES (?1, ?2, ?3, ?4, ?5, ?6, ?7, ?8, ?9)"
+    }
+
+    fn write<S: Alter>(
+        &self,
+        _alloc: Global,
+        tx: &mut Transaction<'_, S>,
+        text: &str,
+    ) -> Result<usize, Error> {
         let place = place_value(self.place)?;
         let id = id_value(self.id)?;
         let made = moment_value(self.made)?;
         let due = moment_value(self.progress.due)?;
-        run(
+        run_counted(
             tx,
-            "INSERT INTO report (place, message, kind, reference, tpdu, made, is_done, attempts, due) VALUES (?1, ?2, ?3, ?4, ?5, ?6, ?7, ?8, ?9)",
+            text,
             params![
                 &place,
                 &id,

@@ -3,15 +3,15 @@ use Rattle.std.specs.Prelude.{◌≡◌, ℕ, ◌==◌, ℤ, false, ⊤, [], ◌
 use Rattle.std.specs.List.{list_all}
 use Rattle.sqlite.specs.declared.types.Value.TheVariants.{Null, Int}
 use Rattle.sqlite_value.specs.Order.{column}
-use Rattle.sqlite.specs.Term.{holds}
+use Rattle.sqlite.specs.Term.{holds, col}
 use Rattle.sqlite.specs.Source.TheVariants.{Values}
-use Rattle.sqlite.specs.Command.TheVariants.{Insert, Delete, Select}
+use Rattle.sqlite.specs.Command.TheVariants.{Insert, Update, Delete, Select}
 use Rattle.sqlite.specs.Listing.{understood, reads_listing}
 use Rattle.sqlite.proofs.Callers.{IsPlain, command_of}
 use Rattle.sqlite_rules.specs.Cast.{cast_row}
 use Rattle.sqlite_tied.specs.Compute.{everything}
 use Rattle.sms_listing.specs.Columns.{number, number_in, flag, flag_in}
-use Rattle.sms_listing.specs.Listing.{TableOf, ListOf, IsList, table_of, rowids_where, whole_table, row_of, columns_of, equals}
+use Rattle.sms_listing.specs.Listing.{TableOf, ListOf, IsList, table_of, rowids_where, rows_where, given_from, whole_table, row_of, columns_of, equals}
 use Rattle.sms_listing.proofs.Columns.{one_found, cast_int, cast_row_same, cast_flag, flag_back}
 use Rattle.sms_handset_tables.specs.HandsetSchema.{handset_schema, count_columns}
 use Rattle.sms_handset_store.specs.Types.{CountersRow}
@@ -26,6 +26,8 @@ count_table = record {
   key = 1 ∷ [];
   delete = codes "DELETE FROM counters WHERE place = ?1";
   tests = equals 1 0 ∷ [];
+  update = codes "UPDATE counters SET place = ?1, next_entry = ?2, next_message_reference = ?3, next_reference = ?4, next_concat_reference = ?5, next_notice = ?6, is_memory_full = ?7 WHERE place = ?1";
+  sets = given_from 0 7;
   insert = codes "INSERT INTO counters (place, next_entry, next_message_reference, next_reference, next_concat_reference, next_notice, is_memory_full) VALUES (?1, ?2, ?3, ?4, ?5, ?6, ?7)";
   values = row_of 7;
   select = codes "SELECT place, next_entry, next_message_reference, next_reference, next_concat_reference, next_notice, is_memory_full FROM counters";
@@ -49,6 +51,10 @@ deletes : (command_of (understood handset_schema count_table.delete) ≡ Delete 
 unfolding understood everything
 deletes = (refl, (refl, refl))
 
+updates : (command_of (understood handset_schema count_table.update) ≡ Update 5 (record { lets = []; body = rows_where 10 count_table.tests (col 1 0 ∷ col 1 0 ∷ count_table.sets) })) × IsPlain (understood handset_schema count_table.update)
+unfolding understood everything
+updates = (refl, (refl, refl))
+
 inserts : (command_of (understood handset_schema count_table.insert) ≡ Insert 5 (Values count_table.values 8)) × IsPlain (understood handset_schema count_table.insert)
 unfolding understood everything
 inserts = (refl, (refl, refl))
@@ -66,6 +72,9 @@ stays x = cast_row_same (table_of count_table) _ (cast_int _, (cast_int _, (cast
 finds : (n : ℕ) (id : ℤ) (x : CountersRow) → count_list.Fits x → list_all (holds (count_list.key_columns n ∷ (Int id ∷ count_list.columns x) ∷ [])) count_table.tests ≡ (count_list.key x == n)
 finds n id x fits = one_found 1 n
 
+meets : (x : CountersRow) (id : ℤ) (y : CountersRow) → count_list.Fits x → count_list.Fits y → list_all (holds (count_list.columns x ∷ (Int id ∷ count_list.columns y) ∷ [])) count_table.tests ≡ (count_list.key y == count_list.key x)
+meets x id y fits suits = finds (count_list.key x) id y suits
+
 told : (x : CountersRow) → count_list.Fits x → count_list.reads (count_list.columns x) ≡ x
 told x fits = let f = flag_back x.counters.is_memory_full in λ i. record { counters = record { entry = x.counters.entry; message_reference = x.counters.message_reference; reference = x.counters.reference; concat_reference = x.counters.concat_reference; notice = x.counters.notice; is_memory_full = f i } }
 
@@ -74,6 +83,8 @@ count_is_list = record {
   there = refl;
   deletes = deletes.0;
   deletes_alone = deletes.1;
+  updates = updates.0;
+  updates_alone = updates.1;
   inserts = inserts.0;
   inserts_alone = inserts.1;
   selects = selects.0;
@@ -85,5 +96,7 @@ count_is_list = record {
   read = λ id x. refl;
   stays = stays;
   finds = finds;
+  meets = meets;
+  sets = λ x id y. refl;
   told = told;
 }

@@ -5,7 +5,7 @@ ghost use Rattle.sms_handset_store.specs.CountersList.{count_is_list, count_list
 
 use sms_handset::Counters;
 use sms_handset_tables::{HandsetStore, integer_of};
-use sms_listing::{StoredRow, flag_at, octet_at, run, short_at, word_at};
+use sms_listing::{StoredRow, flag_at, octet_at, run, run_counted, short_at, word_at};
 use sms_table::{Key, Row as Keyed};
 use sqlite::{Alter, Error, Row, Transaction, params};
 use std::alloc::Global;
@@ -32,11 +32,24 @@ impl StoredRow<HandsetStore> for CountersRow {
         run(tx, "DELETE FROM counters WHERE place = ?1", params![&place])
     }
 
-    fn insert<S: Alter>(&self, _alloc: Global, tx: &mut Transaction<'_, S>) -> Result<(), Error> {
+    fn update_text() -> &'static str {
+        "UPDATE counters SET place = ?1, next_entry = ?2, next_message_reference = ?3, next_reference = ?4, next_concat_reference = ?5, next_notice = ?6, is_memory_full = ?7 WHERE place = ?1"
+    }
+
+    fn insert_text() -> &'static str {
+        "INSERT INTO counters (place, next_entry, next_message_reference, next_reference, next_concat_reference, next_notice, is_memory_full) VALUES (?1, ?2, ?3, ?4, ?5, ?6, ?7)"
+    }
+
+    fn write<S: Alter>(
+        &self,
+        _alloc: Global,
+        tx: &mut Transaction<'_, S>,
+        text: &str,
+    ) -> Result<usize, Error> {
         let counters = &self.counters;
-        run(
+        run_counted(
             tx,
-            "INSERT INTO counters (place, next_entry, next_message_reference, next_reference, next_concat_reference, next_notice, is_memory_full) VALUES (?1, ?2, ?3, ?4, ?5, ?6, ?7)",
+            text,
             params![
                 1u32,
                 counters.entry,

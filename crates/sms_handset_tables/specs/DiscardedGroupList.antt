@@ -4,15 +4,15 @@ use Rattle.std.specs.List.{list_all}
 use Rattle.std.specs.Str.{all_scalars}
 use Rattle.sqlite.specs.declared.types.Value.TheVariants.{Null, Int, Text, Blob}
 use Rattle.sqlite_value.specs.Order.{column}
-use Rattle.sqlite.specs.Term.{holds}
+use Rattle.sqlite.specs.Term.{holds, col}
 use Rattle.sqlite.specs.Source.TheVariants.{Values}
-use Rattle.sqlite.specs.Command.TheVariants.{Insert, Delete, Select}
+use Rattle.sqlite.specs.Command.TheVariants.{Insert, Update, Delete, Select}
 use Rattle.sqlite.specs.Listing.{understood, reads_listing}
 use Rattle.sqlite.proofs.Callers.{IsPlain, command_of}
 use Rattle.sqlite_rules.specs.Cast.{cast_row}
 use Rattle.sqlite_tied.specs.Compute.{everything}
 use Rattle.sms_listing.specs.Columns.{number, number_in, octets_in}
-use Rattle.sms_listing.specs.Listing.{TableOf, ListOf, IsList, table_of, rowids_where, whole_table, row_of, columns_of, equals}
+use Rattle.sms_listing.specs.Listing.{TableOf, ListOf, IsList, table_of, rowids_where, rows_where, given_from, whole_table, row_of, columns_of, equals}
 use Rattle.sms_listing.proofs.Columns.{one_found, cast_int, cast_row_same}
 use Rattle.sms_handset_tables.specs.HandsetSchema.{handset_schema, mark_columns}
 use Rattle.sms_handset_tables.specs.Types.{DiscardedGroup}
@@ -29,6 +29,8 @@ mark_table = record {
   key = 1 ∷ [];
   delete = codes "DELETE FROM discarded_group WHERE number = ?1";
   tests = equals 1 0 ∷ [];
+  update = codes "UPDATE discarded_group SET number = ?1, source_ton = ?2, source_npi = ?3, source = ?4, reference_bits = ?5, reference = ?6, total = ?7, seen = ?8 WHERE number = ?1";
+  sets = given_from 0 8;
   insert = codes "INSERT INTO discarded_group (number, source_ton, source_npi, source, reference_bits, reference, total, seen) VALUES (?1, ?2, ?3, ?4, ?5, ?6, ?7, ?8)";
   values = row_of 8;
   select = codes "SELECT number, source_ton, source_npi, source, reference_bits, reference, total, seen FROM discarded_group";
@@ -52,6 +54,10 @@ deletes : (command_of (understood handset_schema mark_table.delete) ≡ Delete 4
 unfolding understood everything
 deletes = (refl, (refl, refl))
 
+updates : (command_of (understood handset_schema mark_table.update) ≡ Update 4 (record { lets = []; body = rows_where 8 mark_table.tests (col 1 0 ∷ col 1 0 ∷ mark_table.sets) })) × IsPlain (understood handset_schema mark_table.update)
+unfolding understood everything
+updates = (refl, (refl, refl))
+
 inserts : (command_of (understood handset_schema mark_table.insert) ≡ Insert 4 (Values mark_table.values 9)) × IsPlain (understood handset_schema mark_table.insert)
 unfolding understood everything
 inserts = (refl, (refl, refl))
@@ -69,6 +75,9 @@ stays x = cast_row_same (table_of mark_table) _ (cast_int _, (cast_int _, (cast_
 finds : (n : ℕ) (id : ℤ) (x : DiscardedGroup) → mark_list.Fits x → list_all (holds (mark_list.key_columns n ∷ (Int id ∷ mark_list.columns x) ∷ [])) mark_table.tests ≡ (mark_list.key x == n)
 finds n id x fits = one_found x.number n
 
+meets : (x : DiscardedGroup) (id : ℤ) (y : DiscardedGroup) → mark_list.Fits x → mark_list.Fits y → list_all (holds (mark_list.columns x ∷ (Int id ∷ mark_list.columns y) ∷ [])) mark_table.tests ≡ (mark_list.key y == mark_list.key x)
+meets x id y fits suits = finds (mark_list.key x) id y suits
+
 told : (x : DiscardedGroup) → mark_list.Fits x → mark_list.reads (mark_list.columns x) ≡ x
 told x fits = let g = group_back x.group fits in λ i. record { number = x.number; group = g i; seen = x.seen }
 
@@ -77,6 +86,8 @@ mark_is_list = record {
   there = refl;
   deletes = deletes.0;
   deletes_alone = deletes.1;
+  updates = updates.0;
+  updates_alone = updates.1;
   inserts = inserts.0;
   inserts_alone = inserts.1;
   selects = selects.0;
@@ -88,5 +99,7 @@ mark_is_list = record {
   read = λ id x. refl;
   stays = stays;
   finds = finds;
+  meets = meets;
+  sets = λ x id y. refl;
   told = told;
 }

@@ -6,9 +6,9 @@ use Rattle.std.specs.Str.{all_scalars}
 use Rattle.sqlite.specs.declared.types.Value.TheVariants.{Null, Int, Text, Blob}
 use Rattle.sqlite.specs.Order.{Row}
 use Rattle.sqlite_value.specs.Order.{column}
-use Rattle.sqlite.specs.Term.{holds}
+use Rattle.sqlite.specs.Term.{holds, col}
 use Rattle.sqlite.specs.Source.TheVariants.{Values}
-use Rattle.sqlite.specs.Command.TheVariants.{Insert, Delete, Select}
+use Rattle.sqlite.specs.Command.TheVariants.{Insert, Update, Delete, Select}
 use Rattle.sqlite.specs.Listing.{understood, reads_listing}
 use Rattle.sqlite.proofs.Callers.{IsPlain, command_of}
 use Rattle.sqlite_rules.specs.Cast.{cast_row}
@@ -16,7 +16,7 @@ use Rattle.sqlite.specs.Effect.{value_rows}
 use Rattle.sqlite_sql.specs.Term.{eval_all}
 use Rattle.sqlite_tied.specs.Compute.{everything}
 use Rattle.sms_listing.specs.Columns.{number, number_in, octets_in, text_in}
-use Rattle.sms_listing.specs.Listing.{TableOf, ListOf, IsList, table_of, rowids_where, whole_table, row_of, columns_of, equals}
+use Rattle.sms_listing.specs.Listing.{TableOf, ListOf, IsList, table_of, rowids_where, rows_where, given_from, whole_table, row_of, columns_of, equals}
 use Rattle.sms_listing.proofs.Columns.{one_found, cast_null, cast_int, cast_row_same}
 use Rattle.sms_handset_tables.specs.HandsetSchema.{handset_schema, entry_columns}
 use Rattle.sms_handset_tables.specs.Types.{Entry, Group, Message, Content}
@@ -39,6 +39,8 @@ entry_table = record {
   key = 1 ∷ [];
   delete = codes "DELETE FROM entry WHERE number = ?1";
   tests = equals 1 0 ∷ [];
+  update = codes "UPDATE entry SET number = ?1, slots = ?2, kind = ?3, source_ton = ?4, source_npi = ?5, source = ?6, reference_bits = ?7, reference = ?8, total = ?9, part = ?10, coding = ?11, data_coding_scheme = ?12, octets = ?13 WHERE number = ?1";
+  sets = given_from 0 13;
   insert = codes "INSERT INTO entry (number, slots, kind, source_ton, source_npi, source, reference_bits, reference, total, part, coding, data_coding_scheme, octets) VALUES (?1, ?2, ?3, ?4, ?5, ?6, ?7, ?8, ?9, ?10, ?11, ?12, ?13)";
   values = row_of 13;
   select = codes "SELECT number, slots, kind, source_ton, source_npi, source, reference_bits, reference, total, part, coding, data_coding_scheme, octets FROM entry";
@@ -101,6 +103,10 @@ deletes : (command_of (understood handset_schema entry_table.delete) ≡ Delete 
 unfolding understood everything
 deletes = (refl, (refl, refl))
 
+updates : (command_of (understood handset_schema entry_table.update) ≡ Update 1 (record { lets = []; body = rows_where 2 entry_table.tests (col 1 0 ∷ col 1 0 ∷ entry_table.sets) })) × IsPlain (understood handset_schema entry_table.update)
+unfolding understood everything
+updates = (refl, (refl, refl))
+
 inserts : (command_of (understood handset_schema entry_table.insert) ≡ Insert 1 (Values entry_table.values 14)) × IsPlain (understood handset_schema entry_table.insert)
 unfolding understood everything
 inserts = (refl, (refl, refl))
@@ -123,6 +129,9 @@ stays x = cast_row_same (table_of entry_table) _ (cast_int _, (cast_int _, suits
 finds : (n : ℕ) (id : ℤ) (x : Entry) → entry_list.Fits x → list_all (holds (entry_list.key_columns n ∷ (Int id ∷ entry_list.columns x) ∷ [])) entry_table.tests ≡ (entry_list.key x == n)
 finds n id x fits = one_found x.number n
 
+meets : (x : Entry) (id : ℤ) (y : Entry) → entry_list.Fits x → entry_list.Fits y → list_all (holds (entry_list.columns x ∷ (Int id ∷ entry_list.columns y) ∷ [])) entry_table.tests ≡ (entry_list.key y == entry_list.key x)
+meets x id y fits suits = finds (entry_list.key x) id y suits
+
 told : (x : Entry) → entry_list.Fits x → entry_list.reads (entry_list.columns x) ≡ x
 told x fits = let m = message_back x.number x.slots x.message fits in λ i. record { number = x.number; slots = x.slots; message = m i }
   where
@@ -144,11 +153,19 @@ shows id number slots (Single tpdu) = refl
 shows id number slots (Part g n tpdu) = refl
 shows id number slots (Joined source content) = refl
 
+-- the columns of one entry are its own, whatever entry is found
+sets : (number slots : ℕ) (m : Message) (id : ℤ) (found : Row) → let row = row_columns (record { number = number; slots = slots; message = m }) in eval_all (given_from 0 13) (row ∷ (Int id ∷ found) ∷ []) ≡ row
+sets number slots (Single tpdu) id found = refl
+sets number slots (Part g n tpdu) id found = refl
+sets number slots (Joined source content) id found = refl
+
 pub entry_is_list : IsList entry_list
 entry_is_list = record {
   there = refl;
   deletes = deletes.0;
   deletes_alone = deletes.1;
+  updates = updates.0;
+  updates_alone = updates.1;
   inserts = inserts.0;
   inserts_alone = inserts.1;
   selects = selects.0;
@@ -160,5 +177,7 @@ entry_is_list = record {
   read = λ id x. shows id x.number x.slots x.message;
   stays = stays;
   finds = finds;
+  meets = meets;
+  sets = λ x id y. sets x.number x.slots x.message id (row_columns y);
   told = told;
 }

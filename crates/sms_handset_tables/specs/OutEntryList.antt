@@ -4,15 +4,15 @@ use Rattle.std.specs.List.{list_all}
 use Rattle.std.specs.Str.{all_scalars}
 use Rattle.sqlite.specs.declared.types.Value.TheVariants.{Null, Int, Text, Blob}
 use Rattle.sqlite_value.specs.Order.{column}
-use Rattle.sqlite.specs.Term.{holds}
+use Rattle.sqlite.specs.Term.{holds, col}
 use Rattle.sqlite.specs.Source.TheVariants.{Values}
-use Rattle.sqlite.specs.Command.TheVariants.{Insert, Delete, Select}
+use Rattle.sqlite.specs.Command.TheVariants.{Insert, Update, Delete, Select}
 use Rattle.sqlite.specs.Listing.{understood, reads_listing}
 use Rattle.sqlite.proofs.Callers.{IsPlain, command_of}
 use Rattle.sqlite_rules.specs.Cast.{cast_row}
 use Rattle.sqlite_tied.specs.Compute.{everything}
 use Rattle.sms_listing.specs.Columns.{number, number_in, octets_in, text_in, if_given, flag, flag_in, or_none}
-use Rattle.sms_listing.specs.Listing.{TableOf, ListOf, IsList, table_of, rowids_where, whole_table, row_of, columns_of, equals}
+use Rattle.sms_listing.specs.Listing.{TableOf, ListOf, IsList, table_of, rowids_where, rows_where, given_from, whole_table, row_of, columns_of, equals}
 use Rattle.sms_listing.proofs.Columns.{one_found, cast_int, cast_row_same, cast_flag, cast_optional, flag_back, given_back}
 use Rattle.sms_handset_tables.specs.HandsetSchema.{handset_schema, out_columns}
 use Rattle.sms_handset_tables.specs.Types.{OutEntry}
@@ -31,6 +31,8 @@ out_table = record {
   key = 1 ∷ [];
   delete = codes "DELETE FROM outbox WHERE number = ?1";
   tests = equals 1 0 ∷ [];
+  update = codes "UPDATE outbox SET number = ?1, message_reference = ?2, reference = ?3, destination_ton = ?4, destination_npi = ?5, destination = ?6, tpdu = ?7, is_long = ?8, state = ?9, tries = ?10, rejects_duplicates = ?11, due = ?12, status = ?13 WHERE number = ?1";
+  sets = given_from 0 13;
   insert = codes "INSERT INTO outbox (number, message_reference, reference, destination_ton, destination_npi, destination, tpdu, is_long, state, tries, rejects_duplicates, due, status) VALUES (?1, ?2, ?3, ?4, ?5, ?6, ?7, ?8, ?9, ?10, ?11, ?12, ?13)";
   values = row_of 13;
   select = codes "SELECT number, message_reference, reference, destination_ton, destination_npi, destination, tpdu, is_long, state, tries, rejects_duplicates, due, status FROM outbox";
@@ -54,6 +56,10 @@ deletes : (command_of (understood handset_schema out_table.delete) ≡ Delete 3 
 unfolding understood everything
 deletes = (refl, (refl, refl))
 
+updates : (command_of (understood handset_schema out_table.update) ≡ Update 3 (record { lets = []; body = rows_where 6 out_table.tests (col 1 0 ∷ col 1 0 ∷ out_table.sets) })) × IsPlain (understood handset_schema out_table.update)
+unfolding understood everything
+updates = (refl, (refl, refl))
+
 inserts : (command_of (understood handset_schema out_table.insert) ≡ Insert 3 (Values out_table.values 14)) × IsPlain (understood handset_schema out_table.insert)
 unfolding understood everything
 inserts = (refl, (refl, refl))
@@ -74,6 +80,9 @@ stays x =
 finds : (n : ℕ) (id : ℤ) (x : OutEntry) → out_list.Fits x → list_all (holds (out_list.key_columns n ∷ (Int id ∷ out_list.columns x) ∷ [])) out_table.tests ≡ (out_list.key x == n)
 finds n id x fits = one_found x.number n
 
+meets : (x : OutEntry) (id : ℤ) (y : OutEntry) → out_list.Fits x → out_list.Fits y → list_all (holds (out_list.columns x ∷ (Int id ∷ out_list.columns y) ∷ [])) out_table.tests ≡ (out_list.key y == out_list.key x)
+meets x id y fits suits = finds (out_list.key x) id y suits
+
 told : (x : OutEntry) → out_list.Fits x → out_list.reads (out_list.columns x) ≡ x
 told x fits =
     let a = address_back x.destination fits in
@@ -89,6 +98,8 @@ out_is_list = record {
   there = refl;
   deletes = deletes.0;
   deletes_alone = deletes.1;
+  updates = updates.0;
+  updates_alone = updates.1;
   inserts = inserts.0;
   inserts_alone = inserts.1;
   selects = selects.0;
@@ -100,5 +111,7 @@ out_is_list = record {
   read = λ id x. refl;
   stays = stays;
   finds = finds;
+  meets = meets;
+  sets = λ x id y. refl;
   told = told;
 }

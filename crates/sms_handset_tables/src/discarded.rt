@@ -6,7 +6,7 @@ use crate::group::{bits_of, group_at, number_of};
 use crate::key::integer_of;
 use crate::kind::HandsetStore;
 use sms_inbox::DiscardedGroup;
-use sms_listing::{StoredRow, octets_at, run, text_of, word_at};
+use sms_listing::{StoredRow, octets_at, run, run_counted, text_of, word_at};
 use sms_table::Key;
 use sqlite::{Alter, Error, Row, Transaction, params};
 use std::alloc::Global;
@@ -23,12 +23,25 @@ impl StoredRow<HandsetStore> for DiscardedGroup {
         )
     }
 
-    fn insert<S: Alter>(&self, alloc: Global, tx: &mut Transaction<'_, S>) -> Result<(), Error> {
+    fn update_text() -> &'static str {
+        "UPDATE discarded_group SET number = ?1, source_ton = ?2, source_npi = ?3, source = ?4, reference_bits = ?5, reference = ?6, total = ?7, seen = ?8 WHERE number = ?1"
+    }
+
+    fn insert_text() -> &'static str {
+        "INSERT INTO discarded_group (number, source_ton, source_npi, source, reference_bits, reference, total, seen) VALUES (?1, ?2, ?3, ?4, ?5, ?6, ?7, ?8)"
+    }
+
+    fn write<S: Alter>(
+        &self,
+        alloc: Global,
+        tx: &mut Transaction<'_, S>,
+        text: &str,
+    ) -> Result<usize, Error> {
         let group = &self.group;
         let source = text_of(alloc, group.source.digits.as_slice())?;
-        run(
+        run_counted(
             tx,
-            "INSERT INTO discarded_group (number, source_ton, source_npi, source, reference_bits, reference, total, seen) VALUES (?1, ?2, ?3, ?4, ?5, ?6, ?7, ?8)",
+            text,
             params![
                 self.number,
                 u32::from(group.source.ton.number()),

@@ -1,8 +1,8 @@
 //! The inbox.
-ghost use Rattle.std.specs.Prelude.{◌≡◌, refl, IfOk, OnOk};
-ghost use Rattle.sms_listing.specs.Inside.{Goes, Keeps, Ran, Spares};
+ghost use Rattle.std.specs.Prelude.{◌≡◌, refl, IfOk};
+ghost use Rattle.sms_listing.specs.Inside.{Counts, Keeps, RanOn, Spares};
 ghost use Rattle.sms_handset_tables.specs.Types.{Joined, Part, Single};
-ghost use Rattle.sms_handset_tables.specs.EntryList.{IsWritten, entry_is_list, entry_list, entry_table, joined_in, message_in, part_in, row_columns};
+ghost use Rattle.sms_handset_tables.specs.EntryList.{IsWritten, entry_is_list, entry_list, joined_in, message_in, part_in, row_columns};
 
 use crate::group::{bits_of, group_at, number_of};
 use crate::key::integer_of;
@@ -11,7 +11,9 @@ use crate::words::{coding_at, coding_word};
 use sms_base::{Address, Octets};
 use sms_concat::Content;
 use sms_inbox::{Entry, Group, Message};
-use sms_listing::{StoredRow, address_at, octet_at, octets_at, run, text_at, text_of, word_at};
+use sms_listing::{
+    StoredRow, address_at, octet_at, octets_at, run, run_counted, text_at, text_of, word_at,
+};
 use sms_table::Key;
 use sqlite::{Alter, Error, Row, Transaction, params};
 use std::alloc::Global;
@@ -24,16 +26,38 @@ impl StoredRow<HandsetStore> for Entry {
         run(tx, "DELETE FROM entry WHERE number = ?1", params![&number])
     }
 
-    fn insert<S: Alter>(&self, alloc: Global, tx: &mut Transaction<'_, S>) -> Result<(), Error> {
+    fn update_text() -> &'static str {
+        "UPDATE entry SET number = ?1, slots = ?2, kind = ?3, source_ton = ?4, source_npi = ?5, source = ?6, reference_bits = ?7, reference = ?8, total = ?9, part = ?10, coding = ?11, data_coding_scheme = ?12, octets = ?13 WHERE number = ?1"
+    }
+
+    fn insert_text() -> &'static str {
+        "INSERT INTO entry (number, slots, kind, source_ton, source_npi, source, reference_bits, reference, total, part, coding, data_coding_scheme, octets) VALUES (?1, ?2, ?3, ?4, ?5, ?6, ?7, ?8, ?9, ?10, ?11, ?12, ?13)"
+    }
+
+    fn write<S: Alter>(
+        &self,
+        alloc: Global,
+        tx: &mut Transaction<'_, S>,
+        text: &str,
+    ) -> Result<usize, Error> {
         match &self.message {
-            Message::Single { tpdu } => insert_single(self.number, self.slots, tpdu, tx),
+            Message::Single { tpdu } => write_single(self.number, self.slots, tpdu, tx, text),
             Message::Part {
                 group,
                 number,
                 tpdu,
-            } => insert_part(alloc, self.number, self.slots, group, *number, tpdu, tx),
+            } => write_part(
+                alloc,
+                self.number,
+                self.slots,
+                group,
+                *number,
+                tpdu,
+                tx,
+                text,
+            ),
             Message::Joined { source, content } => {
-                insert_joined(alloc, self.number, self.slots, source, content, tx)
+                write_joined(alloc, self.number, self.slots, source, content, tx, text)
             }
         }
     }
@@ -101,21 +125,22 @@ fn joined_at(row: &Row) -> Result<Message, Error>
     })
 }
 
-fn insert_single<S: Alter>(
+fn write_single<S: Alter>(
     number: u32,
     slots: u8,
     tpdu: &Octets,
     tx: &mut Transaction<'_, S>,
-) -> Result<(), Error>
+    text: &str,
+) -> Result<usize, Error>
     ensures same_reference { tx.new.conn.ghost_name ≡ tx.old.conn.ghost_name }
-    ensures done { Goes S.Store tx.old.conn.now tx.new.conn.now (Ran entry_table.insert (row_columns (record { number = number; slots = slots; message = Single tpdu.now }))) result }
+    ensures done { Counts S.Store tx.old.conn.now tx.new.conn.now (RanOn text.now (row_columns (record { number = number; slots = slots; message = Single tpdu.now }))) result }
     ensures kept { Keeps S.Store tx.old.conn.now tx.new.conn.now }
     ensures survives { Spares S.Store tx.old.conn.now tx.new.conn.now }
 {
     let none: Option<u32> = None;
-    run(
+    run_counted(
         tx,
-        "INSERT INTO entry (number, slots, kind, source_ton, source_npi, source, reference_bits, reference, total, part, coding, data_coding_scheme, octets) VALUES (?1, ?2, ?3, ?4, ?5, ?6, ?7, ?8, ?9, ?10, ?11, ?12, ?13)",
+        text,
         params![
             number,
             u32::from(slots),
@@ -134,7 +159,7 @@ fn insert_single<S: Alter>(
     )
 }
 
-fn insert_part<S: Alter>(
+fn write_part<S: Alter>(
     alloc: Global,
     number: u32,
     slots: u8,
@@ -142,18 +167,19 @@ fn insert_part<S: Alter>(
     part: u8,
     tpdu: &Octets,
     tx: &mut Transaction<'_, S>,
-) -> Result<(), Error>
+    text: &str,
+) -> Result<usize, Error>
     ensures same_reference { tx.new.conn.ghost_name ≡ tx.old.conn.ghost_name }
-    ensures done { Goes S.Store tx.old.conn.now tx.new.conn.now (Ran entry_table.insert (row_columns (record { number = number; slots = slots; message = Part group.now part tpdu.now }))) result }
+    ensures done { Counts S.Store tx.old.conn.now tx.new.conn.now (RanOn text.now (row_columns (record { number = number; slots = slots; message = Part group.now part tpdu.now }))) result }
     ensures kept { Keeps S.Store tx.old.conn.now tx.new.conn.now }
     ensures survives { Spares S.Store tx.old.conn.now tx.new.conn.now }
-    ensures fits { OnOk result (IsWritten (Part group.now part tpdu.now)) }
+    ensures fits { IfOk result (λ _. IsWritten (Part group.now part tpdu.now)) }
 {
     let source = text_of(alloc, group.source.digits.as_slice())?;
     let none: Option<u32> = None;
-    run(
+    run_counted(
         tx,
-        "INSERT INTO entry (number, slots, kind, source_ton, source_npi, source, reference_bits, reference, total, part, coding, data_coding_scheme, octets) VALUES (?1, ?2, ?3, ?4, ?5, ?6, ?7, ?8, ?9, ?10, ?11, ?12, ?13)",
+        text,
         params![
             number,
             u32::from(slots),
@@ -172,32 +198,33 @@ fn insert_part<S: Alter>(
     )
 }
 
-fn insert_joined<S: Alter>(
+fn write_joined<S: Alter>(
     alloc: Global,
     number: u32,
     slots: u8,
     source: &Address,
     content: &Content,
     tx: &mut Transaction<'_, S>,
-) -> Result<(), Error>
+    text: &str,
+) -> Result<usize, Error>
     ensures same_reference { tx.new.conn.ghost_name ≡ tx.old.conn.ghost_name }
-    ensures done { Goes S.Store tx.old.conn.now tx.new.conn.now (Ran entry_table.insert (row_columns (record { number = number; slots = slots; message = Joined source.now content.now }))) result }
+    ensures done { Counts S.Store tx.old.conn.now tx.new.conn.now (RanOn text.now (row_columns (record { number = number; slots = slots; message = Joined source.now content.now }))) result }
     ensures kept { Keeps S.Store tx.old.conn.now tx.new.conn.now }
     ensures survives { Spares S.Store tx.old.conn.now tx.new.conn.now }
-    ensures fits { OnOk result (IsWritten (Joined source.now content.now)) }
+    ensures fits { IfOk result (λ _. IsWritten (Joined source.now content.now)) }
 {
-    let text = text_of(alloc, source.digits.as_slice())?;
+    let digits = text_of(alloc, source.digits.as_slice())?;
     let none: Option<u32> = None;
-    run(
+    run_counted(
         tx,
-        "INSERT INTO entry (number, slots, kind, source_ton, source_npi, source, reference_bits, reference, total, part, coding, data_coding_scheme, octets) VALUES (?1, ?2, ?3, ?4, ?5, ?6, ?7, ?8, ?9, ?10, ?11, ?12, ?13)",
+        text,
         params![
             number,
             u32::from(slots),
             "joined",
             u32::from(source.ton.number()),
             u32::from(source.npi),
-            &text,
+            &digits,
             none,
             none,
             none,

@@ -3,7 +3,7 @@ ghost use Rattle.std.specs.Prelude.{refl};
 ghost use Rattle.sms_handset_tables.specs.MetaList.{meta_is_list, meta_list};
 
 use crate::key::integer_of;
-use sms_listing::{Meta, StoredRow, kind_at, run, word_at};
+use sms_listing::{Meta, StoredRow, kind_at, run, run_counted, word_at};
 use sms_table::Key;
 use sqlite::{Alter, Error, Row, Transaction, params};
 use std::alloc::Global;
@@ -19,12 +19,21 @@ impl StoredRow<HandsetStore> for Meta {
         run(tx, "DELETE FROM meta WHERE version = ?1", params![&version])
     }
 
-    fn insert<S: Alter>(&self, _alloc: Global, tx: &mut Transaction<'_, S>) -> Result<(), Error> {
-        run(
-            tx,
-            "INSERT INTO meta (version, kind) VALUES (?1, ?2)",
-            params![self.version, self.kind.word()],
-        )
+    fn update_text() -> &'static str {
+        "UPDATE meta SET version = ?1, kind = ?2 WHERE version = ?1"
+    }
+
+    fn insert_text() -> &'static str {
+        "INSERT INTO meta (version, kind) VALUES (?1, ?2)"
+    }
+
+    fn write<S: Alter>(
+        &self,
+        _alloc: Global,
+        tx: &mut Transaction<'_, S>,
+        text: &str,
+    ) -> Result<usize, Error> {
+        run_counted(tx, text, params![self.version, self.kind.word()])
     }
 
     fn select() -> &'static str {

@@ -5,7 +5,7 @@ ghost use Rattle.sms_handset_tables.specs.LastAcceptedList.{last_is_list, last_l
 use crate::key::integer_of;
 use crate::kind::HandsetStore;
 use sms_inbox::LastAccepted;
-use sms_listing::{StoredRow, octet_at, octets_at, run};
+use sms_listing::{StoredRow, octet_at, octets_at, run, run_counted};
 use sms_table::Key;
 use sqlite::{Alter, Error, Row, Transaction, params};
 use std::alloc::Global;
@@ -22,10 +22,23 @@ impl StoredRow<HandsetStore> for LastAccepted {
         )
     }
 
-    fn insert<S: Alter>(&self, _alloc: Global, tx: &mut Transaction<'_, S>) -> Result<(), Error> {
-        run(
+    fn update_text() -> &'static str {
+        "UPDATE last_accepted SET reference = ?1, tpdu = ?2 WHERE reference = ?1"
+    }
+
+    fn insert_text() -> &'static str {
+        "INSERT INTO last_accepted (reference, tpdu) VALUES (?1, ?2)"
+    }
+
+    fn write<S: Alter>(
+        &self,
+        _alloc: Global,
+        tx: &mut Transaction<'_, S>,
+        text: &str,
+    ) -> Result<usize, Error> {
+        run_counted(
             tx,
-            "INSERT INTO last_accepted (reference, tpdu) VALUES (?1, ?2)",
+            text,
             params![u32::from(self.reference), self.tpdu.as_slice()],
         )
     }

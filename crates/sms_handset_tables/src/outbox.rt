@@ -12,7 +12,7 @@ use crate::words::{state_at, state_word};
 use sms_base::Moment;
 use sms_listing::{
     StoredRow, address_at, flag_at, octet_at, octets_at, optional_moment_at, optional_octet_at,
-    run, text_of, word_at,
+    run, run_counted, text_of, word_at,
 };
 use sms_outbox::{OutEntry, SubmitTpdu};
 use sms_table::Key;
@@ -27,11 +27,24 @@ impl StoredRow<HandsetStore> for OutEntry {
         run(tx, "DELETE FROM outbox WHERE number = ?1", params![&number])
     }
 
-    fn insert<S: Alter>(&self, alloc: Global, tx: &mut Transaction<'_, S>) -> Result<(), Error> {
+    fn update_text() -> &'static str {
+        "UPDATE outbox SET number = ?1, message_reference = ?2, reference = ?3, destination_ton = ?4, destination_npi = ?5, destination = ?6, tpdu = ?7, is_long = ?8, state = ?9, tries = ?10, rejects_duplicates = ?11, due = ?12, status = ?13 WHERE number = ?1"
+    }
+
+    fn insert_text() -> &'static str {
+        "INSERT INTO outbox (number, message_reference, reference, destination_ton, destination_npi, destination, tpdu, is_long, state, tries, rejects_duplicates, due, status) VALUES (?1, ?2, ?3, ?4, ?5, ?6, ?7, ?8, ?9, ?10, ?11, ?12, ?13)"
+    }
+
+    fn write<S: Alter>(
+        &self,
+        alloc: Global,
+        tx: &mut Transaction<'_, S>,
+        text: &str,
+    ) -> Result<usize, Error> {
         let destination = text_of(alloc, self.destination.digits.as_slice())?;
-        run(
+        run_counted(
             tx,
-            "INSERT INTO outbox (number, message_reference, reference, destination_ton, destination_npi, destination, tpdu, is_long, state, tries, rejects_duplicates, due, status) VALUES (?1, ?2, ?3, ?4, ?5, ?6, ?7, ?8, ?9, ?10, ?11, ?12, ?13)",
+            text,
             params![
                 self.number,
                 u32::from(self.message_reference),

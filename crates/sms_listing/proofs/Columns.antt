@@ -59,6 +59,10 @@ and_true false = refl
 pub pair_found : (a b n : ℕ) → b < 256 → ((a == n / 256) && (b == n % 256)) ≡ (pair_key a b == n)
 pair_found a b n small = grind (arith, nat_tests)
 
+-- and two pairs are one where their numbers are
+pub pairs_agree : (a b c d : ℕ) → b < 256 → d < 256 → ((a == c) && (b == d)) ≡ (pair_key a b == pair_key c d)
+pairs_agree a b c d small few = grind (arith, nat_tests)
+
 -- what the column's kind leaves as it is
 pub cast_optional : {A : Type 0} (write : A → Value) (o : Option A) → ((x : A) → cast Integer (write x) ≡ write x) → cast Integer (or_none write o) ≡ or_none write o
 cast_optional write None stays = cast_null

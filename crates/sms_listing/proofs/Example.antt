@@ -5,9 +5,9 @@ use Rattle.sqlite.specs.declared.types.Value.TheVariants.{Null, Int}
 use Rattle.sqlite_value.specs.Order.{column}
 use Rattle.sqlite.specs.Schema.{Schema}
 use Rattle.sqlite.specs.Kind.TheVariants.{Integer}
-use Rattle.sqlite.specs.Term.{holds}
+use Rattle.sqlite.specs.Term.{col, holds}
 use Rattle.sqlite.specs.Source.TheVariants.{Values}
-use Rattle.sqlite.specs.Command.TheVariants.{Insert, Delete, Select}
+use Rattle.sqlite.specs.Command.TheVariants.{Insert, Update, Delete, Select}
 use Rattle.sqlite.specs.Listing.{understood, reads_listing}
 use Rattle.sqlite.proofs.Callers.{IsPlain, command_of}
 use Rattle.sqlite_catalog.specs.Listing.{automatic}
@@ -15,8 +15,8 @@ use Rattle.sqlite_rules.specs.Cast.{cast_row}
 use Rattle.sqlite_tied.specs.Compute.{everything}
 use Rattle.sms_table.specs.Keys.{pair_key}
 use Rattle.sms_listing.specs.Columns.{number_in}
-use Rattle.sms_listing.specs.Listing.{given, keyed_table, TableOf, ListOf, IsList, table_of, rowids_where, whole_table, row_of, columns_of, equals}
-use Rattle.sms_listing.proofs.Columns.{same_number, cast_null, cast_int, and_true, pair_found}
+use Rattle.sms_listing.specs.Listing.{given, keyed_table, TableOf, ListOf, IsList, table_of, rowids_where, rows_where, whole_table, row_of, given_from, columns_of, equals}
+use Rattle.sms_listing.proofs.Columns.{same_number, cast_null, cast_int, and_true, pair_found, pairs_agree}
 
 record Part : Type 0 where
   message : ℕ
@@ -37,6 +37,8 @@ part_table = record {
   key = 1 ∷ 2 ∷ [];
   delete = codes "DELETE FROM part WHERE message = ?1 AND number = ?2";
   tests = equals 1 0 ∷ equals 2 1 ∷ [];
+  update = codes "UPDATE part SET message = ?1, number = ?2 WHERE message = ?1 AND number = ?2";
+  sets = given_from 0 2;
   insert = codes "INSERT INTO part (message, number) VALUES (?1, ?2)";
   values = row_of 2;
   select = codes "SELECT message, number FROM part";
@@ -58,6 +60,10 @@ deletes : (command_of (understood part_schema part_table.delete) ≡ Delete 0 (r
 unfolding understood everything
 deletes = (refl, (refl, refl))
 
+updates : (command_of (understood part_schema part_table.update) ≡ Update 0 (record { lets = []; body = rows_where 0 part_table.tests (col 1 0 ∷ col 1 0 ∷ part_table.sets) })) × IsPlain (understood part_schema part_table.update)
+unfolding understood everything
+updates = (refl, (refl, refl))
+
 inserts : (command_of (understood part_schema part_table.insert) ≡ Insert 0 (Values part_table.values 3)) × IsPlain (understood part_schema part_table.insert)
 unfolding understood everything
 inserts = (refl, (refl, refl))
@@ -74,11 +80,17 @@ finds : (n : ℕ) (id : ℤ) (x : Part) → x.number < 256 → list_all (holds (
 finds n id x small =
     ap₂ (λ a b. a && (b && true)) (same_number x.message (n / 256)) (same_number x.number (n % 256)) ∙ ap (λ b. (x.message == n / 256) && b) (and_true _) ∙ pair_found x.message x.number n small
 
+meets : (x : Part) (id : ℤ) (y : Part) → x.number < 256 → y.number < 256 → list_all (holds (parts.columns x ∷ (Int id ∷ parts.columns y) ∷ [])) part_table.tests ≡ (pair_key y.message y.number == pair_key x.message x.number)
+meets x id y small few =
+    ap₂ (λ a b. a && (b && true)) (same_number y.message x.message) (same_number y.number x.number) ∙ ap (λ b. (y.message == x.message) && b) (and_true _) ∙ pairs_agree y.message y.number x.message x.number few small
+
 pub parts_are_listed : IsList parts
 parts_are_listed = record {
   there = refl;
   deletes = deletes.0;
   deletes_alone = deletes.1;
+  updates = updates.0;
+  updates_alone = updates.1;
   inserts = inserts.0;
   inserts_alone = inserts.1;
   selects = selects.0;
@@ -90,5 +102,7 @@ parts_are_listed = record {
   read = λ id x. refl;
   stays = stays;
   finds = finds;
+  meets = meets;
+  sets = λ x id y. refl;
   told = λ x fits. refl;
 }

@@ -1,3 +1,4 @@
+pub mod Changed
 pub mod Characters
 pub mod Columns
 pub mod Example
@@ -7,7 +8,9 @@ pub mod Making
 pub mod Once
 pub mod OneRow
 pub mod Perms
+pub mod Puts
 pub mod Sought
 pub mod Statements
 pub mod Steps
 pub mod Trees
+pub mod Updates

@@ -1,5 +1,5 @@
 -- What a query for a key reads.
-use Rattle.std.proofs.Common.{◌≡◌, ℕ, zero, suc, ℤ, ◌+◌, ◌<◌, ◌≤◌, ◌==◌, List, [], ◌∷◌, map, filter, length, Bool, true, false, cond, Some, None, refl, sym, ap, ap₂, subst, ◌∙◌, arith, IsPermutation}
+use Rattle.std.proofs.Common.{◌≡◌, ℕ, ℤ, ◌<◌, ◌≤◌, ◌==◌, List, [], ◌∷◌, map, filter, length, Bool, true, false, cond, Some, refl, sym, ap, ap₂, subst, ◌∙◌, arith, IsPermutation}
 use Rattle.std.specs.List.{AllByRecursion, list_all}
 use Rattle.std.proofs.lemmas.Bool.Decides.{nat_tests}
 use Rattle.std.proofs.lemmas.List.Sorted.{IsPermutation-map, IsPermutation-trans, IsPermutation-sym}
@@ -13,8 +13,8 @@ use Rattle.sqlite.proofs.Callers.{reads_as}
 use Rattle.sqlite_typed.proofs.AnswerLemmas.{last_table, at_end, matches_are}
 use Rattle.sqlite_keyed.proofs.ListLemmas.{map-map, along_permutation, IsPermutation-filter}
 use Rattle.sms_table.specs.Table.{Rises, row_at}
-use Rattle.sms_listing.specs.Listing.{ListOf, IsList, Holds, with_rowid}
-use Rattle.sms_listing.specs.Finding.{rows_where, FindsOne, first_of}
+use Rattle.sms_listing.specs.Listing.{rows_where, ListOf, IsList, Holds, with_rowid}
+use Rattle.sms_listing.specs.Finding.{FindsOne, first_of}
 use Rattle.sms_listing.proofs.Found.{mapped_back, all_permuted}
 use Rattle.sms_listing.proofs.Perms.{all_mapped}
 
@@ -41,7 +41,7 @@ module _ {X : Type 0} (key : X → ℕ) (n : ℕ) where
   first_is [] = refl
   first_is (x ∷ xs) = elim (key x == n) as (λ b. first_of (cond b (x ∷ filter has xs) (filter has xs)) ≡ cond b (Some x) (row_at key n xs)) [ true ↦ refl | false ↦ first_is xs ]
 
-  none_above : (ys : List X) → AllByRecursion (λ y. n < key y) ys → filter has ys ≡ []
+  pub none_above : (ys : List X) → AllByRecursion (λ y. n < key y) ys → filter has ys ≡ []
   none_above [] h = refl
   none_above (y ∷ ys) h = go (none_above ys h.1) (key y == n) refl
     where

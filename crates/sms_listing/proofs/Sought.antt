@@ -13,8 +13,7 @@ use Rattle.sqlite_typed.proofs.AnswerLemmas.{last_table, at_end, matches_are}
 use Rattle.sqlite_keyed.proofs.ListLemmas.{map-map, all-filter, IsPermutation-filter}
 use Rattle.sms_table.specs.Table.{Rises}
 use Rattle.sms_listing.specs.Columns.{number}
-use Rattle.sms_listing.specs.Listing.{ListOf, IsList, Holds, with_rowid}
-use Rattle.sms_listing.specs.Finding.{rows_where}
+use Rattle.sms_listing.specs.Listing.{rows_where, ListOf, IsList, Holds, with_rowid}
 use Rattle.sms_listing.specs.Seeking.{SeeksBy}
 use Rattle.sms_listing.proofs.Found.{mapped_back, all_permuted}
 use Rattle.sms_listing.proofs.OneRow.{has, kept_values, all_having}

@@ -1,5 +1,5 @@
 -- What each statement on a list does.
-use Rattle.std.proofs.Common.{◌≡◌, ◌≢◌, ◌⊎◌, inl, inr, ℕ, ℤ, true, None, [], ◌∷◌, Ok, Err, Result, refl, sym, ap, subst, ◌∙◌, append-nil, length, List}
+use Rattle.std.proofs.Common.{◌≡◌, ◌≢◌, ◌⊎◌, inl, inr, ℕ, ℤ, None, [], ◌∷◌, Ok, Err, Result, sym, ap, subst, ◌∙◌, append-nil, length, List}
 use Rattle.sqlite.specs.declared.types.Value.TheVariants.{Null, Int}
 use Rattle.sqlite.specs.Order.{Row}
 use Rattle.sqlite.specs.Tree.{Trees}
@@ -17,19 +17,18 @@ use Rattle.sqlite_rules.specs.Calls.{ids_of}
 use Rattle.sqlite_rules.specs.Edit.{next_rowid}
 use Rattle.sqlite_trees.specs.Tree.{put_row}
 use Rattle.sqlite.proofs.Callers.{runs_as, statement_of, one_step}
-use Rattle.sms_table.specs.Table.{Rises, without, insert, put}
-use Rattle.sms_table.proofs.Tables.{rises_put}
+use Rattle.sms_table.specs.Table.{Rises, without, insert}
 use Rattle.sms_listing.specs.Listing.{ListOf, IsList, Holds, table_of, rowids_where}
 use Rattle.sms_listing.specs.Inside.{Ran, Alters}
 use Rattle.sms_listing.proofs.Perms.{all_mapped}
 use Rattle.sms_listing.proofs.Trees.{passes, left_is, holds_left, holds_more}
 
 -- a part that gave a value did not stop on the way
-went : {B E R : Type 0} {b : B} {Stops : E → Type 0} → ((stop : E) × Stops stop × (Ok b ≡ Err stop)) ⊎ R → R
+pub went : {B E R : Type 0} {b : B} {Stops : E → Type 0} → ((stop : E) × Stops stop × (Ok b ≡ Err stop)) ⊎ R → R
 went (inl stopped) = absurd (let e = stopped.2 in cc)
 went (inr on) = on
 
-same_value : {B E : Type 0} {a b : B} → ◌≡◌ {A = Result B E} (Ok a) (Ok b) → a ≡ b
+pub same_value : {B E : Type 0} {a b : B} → ◌≡◌ {A = Result B E} (Ok a) (Ok b) → a ≡ b
 same_value e = cc
 
 -- what an insertion does, where no row has the key
@@ -101,12 +100,3 @@ module _ {X : Type 0} (l : ListOf X) (is : IsList l) (old new : State) where
             λ xs held rises. holds_more l _ xs held x _ fits rises (ap (λ (a : Trees). a t.tree) whole ∙ step.rows ∙ edit),
             λ tree other free. ap (λ (a : Trees). a tree) whole ∙ step.others tree other free,
           )
-
--- a row is removed and then added
-pub puts : {X : Type 0} (l : ListOf X) (x : X) (a b c : State) → Alters l (without l.key (l.key x)) a b → Rattle.sqlite.specs.State.Shows b c c.now b.committed true → Adds l x b c → Alters l (put l.key x) a c
-puts l x a b c p on q = record {
-  inside = record { was_open = p.inside.was_open; is_open = on.is_open; now_is = refl; committed_is = on.committed_is ∙ p.inside.committed_is; mode = on.mode };
-  schema = λ has. q.schema (p.schema has);
-  changed = λ has xs held. let mid = p.changed has xs held in q.changed (p.schema has) (without l.key (l.key x) xs) mid (rises_put l.key x xs held.rises);
-  others = λ has tree other free. q.others (p.schema has) tree other free ∙ p.others has tree other free;
-}

@@ -1,28 +1,12 @@
 -- The row of a key, found by a query.
-use Rattle.std.specs.Prelude.{◌≡◌, ℕ, ℤ, pos, negsuc, false, List, [], ◌∷◌, Option, Some, None}
+use Rattle.std.specs.Prelude.{◌≡◌, ℕ, ℤ, false, List, [], ◌∷◌, Option, Some, None}
 use Rattle.sqlite.specs.declared.types.Value.TheVariants.{Int}
 use Rattle.sqlite.specs.Order.{Row}
-use Rattle.sqlite.specs.Term.{Term, lit, col}
-use Rattle.sqlite.specs.Query.{Query, inner, end}
 use Rattle.sqlite.specs.Command.TheVariants.{Select}
 use Rattle.sqlite.specs.Listing.{understood, reads_listing}
 use Rattle.sqlite_sql.specs.Term.{eval_all}
 use Rattle.sqlite.proofs.Callers.{IsPlain, command_of}
-use Rattle.sms_listing.specs.Listing.{ListOf}
-
--- the rows that pass each test, as these terms show them
-abbrev pub rows_where : ℕ → List Term → List Term → Query
-rows_where tree tests shown = record {
-  from = inner tree end;
-  filter = tests;
-  group = None;
-  project = shown;
-  distinct = false;
-  collations = [];
-  order = [];
-  limit = lit (Int (negsuc 0));
-  offset = lit (Int (pos 0));
-}
+use Rattle.sms_listing.specs.Listing.{ListOf, rows_where}
 
 -- What makes a text the one that finds the row of a key. All but the last holds by computation.
 pub record FindsOne {X : Type 0} (l : ListOf X) (text : List ℕ) : Type 0 where

@@ -14,6 +14,11 @@ pub record Ran (sql : List ℕ) (params : Row) (old new : State) : Type 0 where
   pub ran : Executes sql params old new (Ok count)
   pub inside : Shows old new new.now old.committed true
 
+-- it ran on that many rows
+pub record RanOn (sql : List ℕ) (params : Row) (count : ℕ) (old new : State) : Type 0 where
+  pub ran : Executes sql params old new (Ok count)
+  pub inside : Shows old new new.now old.committed true
+
 -- The transaction goes on. In a store of this schema the list changes as told, and every other table stays.
 pub record Alters {X : Type 0} (l : ListOf X) (change : List X → List X) (old new : State) : Type 0 where
   pub inside : Shows old new new.now old.committed true
@@ -25,6 +30,10 @@ module _ {S : Type 0} (g : Ghosts S) (old new : Held S) where
   -- a call inside an open transaction makes the step, where it answers Ok
   abbrev pub Goes : (State → State → Type 0) → Result (Unit {0}) Error → Type 0
   Goes Step result = HasCleanDisk (state g new) → IsTrue (state g old).is_open → IsTrue (state g old).in_transaction → OnOk result (Step (state g old) (state g new))
+
+  -- and so does one that tells a number
+  abbrev pub Counts : (ℕ → State → State → Type 0) → Result ℕ Error → Type 0
+  Counts Step result = HasCleanDisk (state g new) → IsTrue (state g old).is_open → IsTrue (state g old).in_transaction → IfOk result (λ count. Step count (state g old) (state g new))
 
   -- a call that only reads finds the list, where it answers Ok
   abbrev pub Finds : {X Y : Type 0} → ListOf X → (Y → List X) → Result Y Error → Type 0

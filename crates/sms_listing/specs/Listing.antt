@@ -12,7 +12,7 @@ use Rattle.sqlite.specs.Kind.{Kind}
 use Rattle.sqlite.specs.Term.{Term, lit, col, op2, holds}
 use Rattle.sqlite.specs.Query.{Query, inner, end}
 use Rattle.sqlite.specs.Source.TheVariants.{Values}
-use Rattle.sqlite.specs.Command.TheVariants.{Insert, Delete, Select}
+use Rattle.sqlite.specs.Command.TheVariants.{Insert, Update, Delete, Select}
 use Rattle.sqlite.specs.Listing.{understood, reads_listing}
 use Rattle.sqlite_schema.specs.declared.schema.Keys.{Keys}
 use Rattle.sqlite_sql.specs.declared.ops.BinaryOp.TheVariants.{Compare}
@@ -76,12 +76,26 @@ whole_table tree shown = record {
   offset = lit (Int (pos 0));
 }
 
+-- the rows that pass each test, as these terms show them
+abbrev pub rows_where : ℕ → List Term → List Term → Query
+rows_where tree tests shown = record {
+  from = inner tree end;
+  filter = tests;
+  group = None;
+  project = shown;
+  distinct = false;
+  collations = [];
+  order = [];
+  limit = lit (Int (negsuc 0));
+  offset = lit (Int (pos 0));
+}
+
 -- the column has the given value: both are told by their places, a column's from 1 and a value's from 0
 abbrev pub equals : ℕ → ℕ → Term
 equals at given = op2 (Compare Eq Binary) (col 1 at) (col 0 given)
 
--- A list as a table: where the table stands in the schema of its store, the texts that remove the row of a key, add a
--- row and read all rows, and what these texts are compiled to.
+-- A list as a table: where the table stands in the schema of its store, the texts that remove the row of a key, change the
+-- row of a key, add a row and read all rows, and what these texts are compiled to.
 pub record TableOf : Type 0 where
   pub schema : Schema
   -- the place of the table among those of the schema, from 0, and the number of its tree
@@ -93,6 +107,8 @@ pub record TableOf : Type 0 where
   pub key : List ℕ
   pub delete : List ℕ
   pub tests : List Term
+  pub update : List ℕ
+  pub sets : List Term
   pub insert : List ℕ
   pub values : List Term
   pub select : List ℕ
@@ -129,6 +145,9 @@ pub record IsList {X : Type 0} (l : ListOf X) : Type 0 where
   pub there : slice_get l.table.schema.tables l.table.place ≡ Some (table_of l.table)
   pub deletes : command_of (understood l.table.schema l.table.delete) ≡ Delete l.table.place (record { lets = []; body = rowids_where l.table.tree l.table.tests })
   pub deletes_alone : IsPlain (understood l.table.schema l.table.delete)
+  -- it reads the rowid of the row that it finds, and writes that rowid and these columns
+  pub updates : command_of (understood l.table.schema l.table.update) ≡ Update l.table.place (record { lets = []; body = rows_where l.table.tree l.table.tests (col 1 0 ∷ col 1 0 ∷ l.table.sets) })
+  pub updates_alone : IsPlain (understood l.table.schema l.table.update)
   pub inserts : command_of (understood l.table.schema l.table.insert) ≡ Insert l.table.place (Values l.table.values (length l.table.values))
   pub inserts_alone : IsPlain (understood l.table.schema l.table.insert)
   pub selects : command_of (understood l.table.schema l.table.select) ≡ Select (record { lets = []; body = whole_table l.table.tree l.table.shown }) l.table.names
@@ -144,6 +163,10 @@ pub record IsList {X : Type 0} (l : ListOf X) : Type 0 where
   pub stays : (x : X) → cast_row (table_of l.table) (Null ∷ l.columns x) ≡ Null ∷ l.columns x
   -- the columns of a key find the row of that key, and no other
   pub finds : (n : ℕ) (id : ℤ) (x : X) → l.Fits x → list_all (holds (l.key_columns n ∷ (Int id ∷ l.columns x) ∷ [])) l.table.tests ≡ (l.key x == n)
+  -- and so do the columns of a row find the row of its key
+  pub meets : (x : X) (id : ℤ) (y : X) → l.Fits x → l.Fits y → list_all (holds (l.columns x ∷ (Int id ∷ l.columns y) ∷ [])) l.table.tests ≡ (l.key y == l.key x)
+  -- which then has the columns of the one
+  pub sets : (x : X) (id : ℤ) (y : X) → eval_all l.table.sets (l.columns x ∷ (Int id ∷ l.columns y) ∷ []) ≡ l.columns x
   -- a row is told by its columns
   pub told : (x : X) → l.Fits x → l.reads (l.columns x) ≡ x
 

@@ -9,8 +9,7 @@ use Rattle.sqlite.specs.Listing.{understood, reads_listing}
 use Rattle.sqlite_sql.specs.Term.{eval_all}
 use Rattle.sqlite.proofs.Callers.{IsPlain, command_of}
 use Rattle.sms_listing.specs.Columns.{number}
-use Rattle.sms_listing.specs.Finding.{rows_where}
-use Rattle.sms_listing.specs.Listing.{ListOf}
+use Rattle.sms_listing.specs.Listing.{rows_where, ListOf}
 
 -- What makes a text the one that finds the rows of a number. The first three hold by computation.
 pub record SeeksBy {X : Type 0} (l : ListOf X) (mark : X → ℕ) (text : List ℕ) (tests : List Term) : Type 0 where

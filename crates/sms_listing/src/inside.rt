@@ -2,7 +2,7 @@
 ghost use Rattle.std.specs.Prelude.{◌≡◌, IfOk};
 ghost use Rattle.sqlite.specs.Held.{state};
 ghost use Rattle.sqlite.specs.Values.{bound};
-ghost use Rattle.sms_listing.specs.Inside.{Alters, Finds, Goes, Keeps, Ran, Spares, Stays};
+ghost use Rattle.sms_listing.specs.Inside.{Alters, Counts, Goes, Keeps, Ran, RanOn, Spares};
 ghost use Rattle.sms_table.specs.Table.{all_applied, applied, put as put_row, without};
 
 use crate::list::StoredRow;
@@ -24,6 +24,20 @@ pub fn run<S: Alter>(
 {
     tx.execute(sql, params)?;
     Ok(())
+}
+
+/// Runs one statement inside the transaction, and tells how many rows it was on.
+pub fn run_counted<S: Alter>(
+    tx: &mut Transaction<'_, S>,
+    sql: &str,
+    params: &[ValueRef<'_>],
+) -> Result<usize, Error>
+    ensures same_reference { tx.new.conn.ghost_name ≡ tx.old.conn.ghost_name }
+    ensures done { Counts S.Store tx.old.conn.now tx.new.conn.now (RanOn sql.now (bound params.now)) result }
+    ensures kept { Keeps S.Store tx.old.conn.now tx.new.conn.now }
+    ensures survives { Spares S.Store tx.old.conn.now tx.new.conn.now }
+{
+    tx.execute(sql, params)
 }
 
 /// Removes the row of the key, if there is one.
@@ -50,9 +64,13 @@ pub fn put<K, T: Drop + StoredRow<K>, S: Alter>(
     ensures kept { Keeps S.Store tx.old.conn.now tx.new.conn.now }
     ensures survives { Spares S.Store tx.old.conn.now tx.new.conn.now }
 {
-    let key = row.key();
-    remove::<K, T, S>(tx, key)?;
-    row.insert(alloc, tx)
+    // A row that stands is changed under the rowid that it has: that writes its page alone, where a row that goes and
+    // comes again writes the page that it leaves, the last page of the table, and a page of the index of its key.
+    let changed = row.write(alloc, tx, T::update_text())?;
+    if changed == 0 {
+        row.write(alloc, tx, T::insert_text())?;
+    }
+    Ok(())
 }
 
 /// Makes the change.

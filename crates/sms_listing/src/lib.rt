@@ -20,7 +20,7 @@ mod transaction;
 
 pub use cause::{load_cause_of, write_cause_of};
 pub use finding::{FoundRow, find};
-pub use inside::{change, put, remove, run, write};
+pub use inside::{change, put, remove, run, run_counted, write};
 pub use list::StoredRow;
 pub use loading::load;
 pub use meta::{Meta, StoreKind, kind_at};

@@ -1,7 +1,7 @@
 //! What a list says of its table.
-ghost use Rattle.std.specs.Prelude.{◌≡◌, ℕ, IfOk, OnOk};
+ghost use Rattle.std.specs.Prelude.{◌≡◌, IfOk};
 ghost use Rattle.sqlite.specs.Held.{state};
-ghost use Rattle.sms_listing.specs.Inside.{Goes, Keeps, Ran, Spares};
+ghost use Rattle.sms_listing.specs.Inside.{Counts, Goes, Keeps, Ran, RanOn, Spares};
 ghost use Rattle.sms_listing.specs.Listing.{IsList, ListOf};
 
 use sms_table::{Key, Row};
@@ -20,13 +20,26 @@ pub trait StoredRow<K>: Row {
         ensures kept { Keeps S.Store tx.old.conn.now tx.new.conn.now }
         ensures survives { Spares S.Store tx.old.conn.now tx.new.conn.now };
 
-    /// Runs the text that adds the row.
-    fn insert<S: Alter>(&self, alloc: Global, tx: &mut Transaction<'_, S>) -> Result<(), Error>
+    /// The text that changes the row of a key. Its values are those of the text that adds one.
+    fn update_text() -> &'static str
+        ensures { result.now ≡ list.table.update };
+
+    /// The text that adds a row.
+    fn insert_text() -> &'static str
+        ensures { result.now ≡ list.table.insert };
+
+    /// Runs such a text with the columns of the row as its values, and tells how many rows it was on.
+    fn write<S: Alter>(
+        &self,
+        alloc: Global,
+        tx: &mut Transaction<'_, S>,
+        text: &str,
+    ) -> Result<usize, Error>
         ensures same_reference { tx.new.conn.ghost_name ≡ tx.old.conn.ghost_name }
-        ensures done { Goes S.Store tx.old.conn.now tx.new.conn.now (Ran list.table.insert (list.columns self.now)) result }
+        ensures done { Counts S.Store tx.old.conn.now tx.new.conn.now (RanOn text.now (list.columns self.now)) result }
         ensures kept { Keeps S.Store tx.old.conn.now tx.new.conn.now }
         ensures survives { Spares S.Store tx.old.conn.now tx.new.conn.now }
-        ensures fits { OnOk result (list.Fits self.now) };
+        ensures fits { IfOk result (λ _. list.Fits self.now) };
 
     /// The text that reads all rows.
     fn select() -> &'static str

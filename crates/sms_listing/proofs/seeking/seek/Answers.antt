@@ -1,4 +1,4 @@
-use Rattle.std.proofs.Common.{inl, [], ◌∷◌, filter, sym, subst, ◌∙◌, IsPermutation}
+use Rattle.std.proofs.Common.{inl, [], ◌∷◌, filter, sym, subst, IsPermutation}
 use Rattle.sqlite.proofs.Callers.{IsPlain}
 use Rattle.sqlite.specs.Listing.{understood}
 use Rattle.sms_listing.specs.Columns.{number}
