@@ -1,13 +1,18 @@
-//! A machine that counts what seats ask, and answers each request and each frame.
-ghost use Rattle.std.specs.Prelude.{◌≡◌, ◌∷◌, []};
+//! A machine that counts what seats ask, answers each request, and sends a frame where a link comes up and for each frame.
+ghost use Rattle.std.specs.Prelude.{◌≡◌, ◌∷◌, [], IfOk};
 ghost use Rattle.sms_centre_rules.specs.declared.answer.CentreAnswer.TheVariants.{Refused};
-ghost use Rattle.sms_jobs.specs.declared.reply.Reply.TheVariants.{Answer};
+ghost use Rattle.sms_jobs.specs.declared.reply.Reply.TheVariants.{Answer, Frame};
 
 use smpp_pdu::CommandStatus;
-use sms_base::Moment;
+use sms_base::{Moment, Octets};
 use sms_centre_rules::CentreAnswer;
 use sms_jobs::{Job, Reply};
 use sms_keeper::{Broken, Clock, Fate, Gate, Machine, Out, Outs, Step, Stimulus};
+use std::alloc::{AllocError, Global};
+
+/// The frame that a link is sent: CP-DATA with an RP-DATA of `hello`. Its octets are not looked at.
+pub(crate) const FRAME: &[u8] =
+    b"\x09\x01\x24\x01\x00\x07\x91\x44\x77\x00\x09\x00\x00\x00\x18\x24\x0C\x91\x44\x77\x00\x09\x10\x00\x00\x00\x42\x20\x92\x32\x95\x85\x00\x05\xE8\x32\x9B\xFD\x06";
 
 /// What was asked at a seat, by kind.
 #[derive(Drop)]
@@ -22,6 +27,7 @@ pub(crate) struct Tally {
 /// It promises nothing of what it gives: tests look at its counts.
 #[derive(Drop)]
 pub(crate) struct Counter {
+    alloc: Global,
     pub(crate) first: Tally,
     pub(crate) second: Tally,
 }
@@ -78,9 +84,45 @@ fn silent() -> Step<Reply>
     }
 }
 
+fn frame(seat: usize, octets: Octets) -> Outs<Reply>
+    ensures { result ≡ record { seat = seat; out = Frame octets } ∷ [] }
+{
+    Outs::one(Out {
+        seat,
+        out: Reply::Frame(octets),
+    })
+}
+
+fn framed(alloc: Global, seat: usize) -> Result<Step<Reply>, AllocError>
+    ensures { IfOk result (λ step. step.to_seats ≡ step.to_history) }
+{
+    let sent = Octets::copy_of(alloc, FRAME)?;
+    let told = Octets::copy_of(alloc, sent.as_slice())?;
+    Ok(Step {
+        fate: Fate::Done,
+        to_seats: frame(seat, sent),
+        to_history: frame(seat, told),
+    })
+}
+
+// What becomes of a job. Without memory no frame goes.
+fn done(alloc: Global, seat: usize, job: &Job) -> Step<Reply>
+    ensures { result.to_seats ≡ result.to_history }
+{
+    match job {
+        Job::LinkUp { .. } | Job::Frame { .. } => match framed(alloc, seat) {
+            Ok(step) => step,
+            Err(_) => silent(),
+        },
+        job if job.is_request() => answered(seat, CommandStatus::ESME_RSYSERR),
+        _ => silent(),
+    }
+}
+
 impl Counter {
-    pub(crate) fn new() -> Counter {
+    pub(crate) fn new(alloc: Global) -> Counter {
         Counter {
+            alloc,
             first: Tally::new(),
             second: Tally::new(),
         }
@@ -117,11 +159,7 @@ impl Machine<Job, Reply> for Counter {
             Stimulus::Tick(_) => silent(),
             Stimulus::Job(seat, job) => {
                 self.count(*seat, job);
-                if job.is_request() {
-                    answered(*seat, CommandStatus::ESME_RSYSERR)
-                } else {
-                    silent()
-                }
+                done(self.alloc, *seat, job)
             }
         }
     }

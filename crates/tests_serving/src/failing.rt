@@ -3,7 +3,7 @@ ghost use Rattle.std.specs.Prelude.{◌≡◌, false};
 ghost use Rattle.sms_keeper.specs.Jobs.{has_end};
 ghost use Rattle.sms_keeper.specs.Seating.{put_by};
 
-use crate::answering::{Counter, Open, Still, Tally};
+use crate::answering::{Counter, FRAME, Open, Still, Tally};
 use crate::rows::holds;
 use crate::wire::Script;
 use smpp_session::{Account, Accounts};
@@ -40,6 +40,9 @@ const FRAMES: [u8; 22] = [
     0x00, 0x0C, 0x34, 0x34, 0x37, 0x37, 0x30, 0x30, 0x39, 0x30, 0x30, 0x34, 0x35, 0x36, 0x00, 0x02,
     0x89, 0x04, 0x00, 0x02, 0x89, 0x04,
 ];
+
+// A frame when the link comes up and one for each CP-ACK, each behind its length of two octets.
+const SENT: usize = 3 * (FRAME.len() + 2);
 
 struct Nobody;
 
@@ -216,6 +219,14 @@ fn is_even(tally: &Tally) -> Result<(), Fail> {
     holds(tally.up == tally.down, "a link that is up goes down once")
 }
 
+// Nothing is written to a guest that has not come.
+fn has_come(tally: &Tally, refused: Refused) -> Result<(), Fail> {
+    match refused {
+        Refused::Reads => Ok(()),
+        Refused::Writes => holds(tally.bound == 1 || tally.up == 1, "it has come"),
+    }
+}
+
 // The second guest is as if nobody sat beside it.
 fn is_whole(tally: &Tally, taken: usize) -> Result<(), Fail> {
     holds(taken == ANSWERS, "it has all its answers")?;
@@ -236,7 +247,7 @@ fn refuses<R: Threads + Wait + Sync>(
     };
     let wanted = match table.side {
         Side::Application => ANSWERS,
-        Side::Handset => 0,
+        Side::Handset => SENT,
     };
     let mut failing = Script::well(octets, wanted);
     match refused {
@@ -244,7 +255,7 @@ fn refuses<R: Threads + Wait + Sync>(
         Refused::Writes => failing.writes = call,
     }
     let mut well = Script::well(&REQUESTS, ANSWERS);
-    let mut counter = Counter::new();
+    let mut counter = Counter::new(table.alloc);
     let clock = Still(Moment::from_seconds(1_709_251_198)?);
     let room = make_room(table.alloc)?;
     let ended = run(
@@ -258,6 +269,7 @@ fn refuses<R: Threads + Wait + Sync>(
     );
     holds(ended, "the keeper ends with the seats")?;
     is_even(&counter.first)?;
+    has_come(&counter.first, refused)?;
     is_whole(&counter.second, well.taken)?;
     if !failing.has_failed {
         holds(
@@ -305,4 +317,10 @@ fn a_session_that_cannot_be_written(rt: HostRuntime) -> Result<(), Fail> {
 #[test]
 fn a_link_that_cannot_be_read(rt: HostRuntime) -> Result<(), Fail> {
     each_call(&rt, rt.alloc(), Side::Handset, Refused::Reads, 2)
+}
+
+// 123 octets go, 20 at most at once.
+#[test]
+fn a_link_that_cannot_be_written(rt: HostRuntime) -> Result<(), Fail> {
+    each_call(&rt, rt.alloc(), Side::Handset, Refused::Writes, 7)
 }
