@@ -1,1 +1,7 @@
 pub mod Played
+pub mod Places
+pub mod Courses
+pub mod Playing
+pub mod Reporting
+pub mod Begun
+pub mod RunEnd

@@ -1,10 +1,25 @@
 //! The events of a script.
-ghost use Rattle.std.specs.Prelude.{◌≡◌, ◌<◌, true, length, IfSome};
-ghost use Rattle.std.specs.Str.{is_utf8};
+ghost use Rattle.std.specs.Prelude.{◌≡◌, ◌<◌, ◌≤◌, ◌^◌, ℕ, true, false, length, string_bytes, Err, IfOk, IfSome, OnOk};
+ghost use Rattle.std.specs.Str.{chars, is_utf8};
 ghost use Rattle.sms_base.specs.Address.{IsAddress};
+ghost use Rattle.sms_base.specs.Among.{Among};
 ghost use Rattle.sms_base.specs.HandsetNumber.{own_address};
+ghost use Rattle.sms_centre_rules.specs.declared.event.CentreEvent.TheVariants.{Submit as CentreSubmit, Frame as CentreFrame};
+ghost use Rattle.sms_handset.specs.HandsetEvent.{deleted as deleted_of, discarded as discarded_of};
+ghost use Rattle.sms_handset.specs.declared.refusal.Refusal.TheVariants.{NoEntry};
+ghost use Rattle.sms_handset.specs.declared.event.HandsetEvent.TheVariants.{Frame as HandsetFrame, Write as HandsetWrite, Delete as HandsetDelete, Discard as HandsetDiscard};
+ghost use Rattle.sms_play.specs.Course.{Course, Party, frame_at as frame_at_number};
+ghost use Rattle.sms_play.specs.Meeting.{AtCentre, AtHandset, account_from, handed_over, is_answered as is_answered_act, submit_of as submit_of_submission, tag_in as tag_in_of};
+ghost use Rattle.sms_play.specs.PlayedEvent.{played, restart as restart_of};
+ghost use Rattle.sms_playing.specs.Courses.{Shows};
+ghost use Rattle.sms_playing.specs.Places.{IsFirstAt, place_from};
+ghost use Rattle.sms_playing.specs.Playing.{Hands, IsFrame, LeadsTo, acted, goes, met_as, or_no_memory as or_no_memory_of};
+ghost use Rattle.sms_report.specs.declared.rows.FrameRow.{FrameRow as FrameRowOf};
+ghost use Rattle.sms_script.specs.declared.event.Act.{Act as ActOf};
+ghost use Rattle.sms_script.specs.declared.event.Act.TheVariants.{Submit as ActSubmit, Query as ActQuery, Cancel as ActCancel, Write as ActWrite, Delete as ActDelete, Discard as ActDiscard, Deliver as ActDeliver, Tick as ActTick};
+ghost use Rattle.sms_script.specs.declared.event.Side.TheVariants.{Handset as SideHandset};
 
-use crate::places::{account_place, digits_place, number_at, party_place};
+use crate::places::{account_place, digits_place, number_at, numbers_entries, party_place};
 use crate::playing::Playing;
 use sms_base::{Carried, Digits, Holder, Moment, OctetView, Octets};
 use sms_handset::{HandsetEvent, TextView};
@@ -17,14 +32,18 @@ use std::alloc::{AllocError, Global};
 use std::str::from_utf8;
 
 /// Want of memory at an event.
-pub(crate) fn or_no_memory<T>(event: u64, done: Result<T, AllocError>) -> Result<T, PlayFault> {
+pub(crate) fn or_no_memory<T>(event: u64, done: Result<T, AllocError>) -> Result<T, PlayFault>
+    ensures { result ≡ or_no_memory_of event done }
+{
     match done {
         Ok(done) => Ok(done),
         Err(_) => Err(PlayFault::NoMemory { event }),
     }
 }
 
-fn tag_in(carried: Option<Carried>) -> Option<Holder> {
+fn tag_in(carried: Option<Carried>) -> Option<Holder>
+    ensures { result ≡ tag_in_of carried }
+{
     carried.map(|carried| carried.tag)
 }
 
@@ -38,7 +57,9 @@ struct Handed {
 }
 
 // A character for each octet.
-fn text_of(alloc: Global, octets: &[u8]) -> Result<String, AllocError> {
+fn text_of(alloc: Global, octets: &[u8]) -> Result<String, AllocError>
+    ensures { IfOk result (λ text. chars (string_bytes text) ≡ octets.now) }
+{
     let mut text = String::new(alloc);
     for octet in octets {
         text.push(char::from(*octet))?;
@@ -60,27 +81,41 @@ fn text_in(octets: &Octets) -> &str
 impl<'a> Playing<'a> {
     // ---- whom an act concerns
 
-    fn account(&self, name: &[u8]) -> Option<u8> {
+    fn account(&self, name: &[u8]) -> Option<u8>
+        ensures { result ≡ account_from 0 name.now self.now.centre.rows.setup.accounts }
+    {
         account_place(name, self.centre.accounts())
     }
 
     fn party(&self, number: &[u8]) -> Option<usize>
-        ensures { IfSome result (λ place. place < length self.now.parties) }
+        ensures place { result ≡ place_from 0 number.now self.now.parties }
+        ensures within { IfSome result (λ place. place < length self.now.parties) }
     {
         party_place(number, self.parties)
     }
 
     fn party_of(&self, number: &Digits) -> Option<usize>
-        ensures { IfSome result (λ place. place < length self.now.parties) }
+        ensures place { result ≡ place_from 0 number.now self.now.parties }
+        ensures within { IfSome result (λ place. place < length self.now.parties) }
     {
         digits_place(number, self.parties)
     }
 
     pub(crate) fn number_at(&self, place: usize) -> Digits
         requires { place < length self.now.parties }
-        ensures { IsAddress (own_address result) }
+        ensures number { (party : Party) → IsFirstAt place party self.now.parties → result ≡ party.number }
+        ensures address { IsAddress (own_address result) }
     {
         number_at(self.parties, place)
+    }
+
+    // No entry of the handset at that place has a number of more than 32 bits.
+    fn numbers_its_entries(&self, place: usize)
+        requires { place < length self.now.parties }
+        ensures delete { (party : Party) → IsFirstAt place party self.now.parties → (entry : ℕ) → 2 ^ 32 ≤ entry → deleted_of entry party.core ≡ Err NoEntry }
+        ensures discard { (party : Party) → IsFirstAt place party self.now.parties → (entry : ℕ) → 2 ^ 32 ≤ entry → discarded_of entry party.core ≡ Err NoEntry }
+    {
+        numbers_entries(self.parties, place);
     }
 
     // ---- requests of applications
@@ -91,7 +126,9 @@ impl<'a> Playing<'a> {
         stop: Option<Stop>,
         account: u8,
         submission: &Submission<'_>,
-    ) -> Result<(), AllocError> {
+    ) -> Result<(), AllocError>
+        ensures { (c : Course) → Shows c self.old → OnOk result (Shows (met_as stop event (ActSubmit submission.now) (AtCentre (CentreSubmit account (submit_of_submission submission.now))) c) self.new) }
+    {
         let octets = submission.message.octets(self.alloc)?;
         let happening = CentreEvent::Submit {
             account,
@@ -110,7 +147,9 @@ impl<'a> Playing<'a> {
         event: u64,
         stop: Option<Stop>,
         submission: &Submission<'_>,
-    ) -> Result<(), PlayFault> {
+    ) -> Result<(), PlayFault>
+        ensures { (c : Course) → Shows c self.old → LeadsTo result self.new (acted stop event (ActSubmit submission.now) c) }
+    {
         match self.account(submission.name.as_slice()) {
             Some(account) => or_no_memory(event, self.submit(event, stop, account, submission)),
             None => Err(PlayFault::NoSuchAccount { event }),
@@ -123,7 +162,9 @@ impl<'a> Playing<'a> {
         stop: Option<Stop>,
         name: &[u8],
         id: &[u8],
-    ) -> Result<(), PlayFault> {
+    ) -> Result<(), PlayFault>
+        ensures { (c : Course) → Shows c self.old → LeadsTo result self.new (acted stop event (ActQuery name.now id.now) c) }
+    {
         match self.account(name) {
             Some(account) => {
                 let query = query_of(id);
@@ -140,7 +181,9 @@ impl<'a> Playing<'a> {
         stop: Option<Stop>,
         name: &[u8],
         id: &[u8],
-    ) -> Result<(), PlayFault> {
+    ) -> Result<(), PlayFault>
+        ensures { (c : Course) → Shows c self.old → LeadsTo result self.new (acted stop event (ActCancel name.now id.now) c) }
+    {
         match self.account(name) {
             Some(account) => {
                 let cancel = cancel_of(id);
@@ -163,6 +206,7 @@ impl<'a> Playing<'a> {
         text: &str,
     ) -> Result<(), AllocError>
         requires { place < length self.old.parties }
+        ensures { (c : Course) (party : Party) (act : ActOf) → Shows c self.old → IsFirstAt place party c.parties → is_answered_act act ≡ true → OnOk result (Shows (met_as stop event act (AtHandset party (HandsetWrite (chars text.now) (chars to.now) report)) c) self.new) }
     {
         let happening = HandsetEvent::Write {
             text: TextView::of(text),
@@ -182,6 +226,7 @@ impl<'a> Playing<'a> {
         text: &TextWord<'_>,
     ) -> Result<(), AllocError>
         requires { place < length self.old.parties }
+        ensures { (c : Course) (party : Party) (act : ActOf) → Shows c self.old → IsFirstAt place party c.parties → is_answered_act act ≡ true → OnOk result (Shows (met_as stop event act (AtHandset party (HandsetWrite (chars text.now) to.now report)) c) self.new) }
     {
         let to = text_of(self.alloc, to)?;
         let octets = text.octets(self.alloc)?;
@@ -196,10 +241,14 @@ impl<'a> Playing<'a> {
         entry: u64,
     ) -> Result<(), AllocError>
         requires { place < length self.old.parties }
+        ensures { (c : Course) (party : Party) (act : ActOf) → Shows c self.old → IsFirstAt place party c.parties → is_answered_act act ≡ true → OnOk result (Shows (met_as stop event act (AtHandset party (HandsetDelete entry)) c) self.new) }
     {
         match u32::try_from(entry) {
             Ok(entry) => self.at_handset(event, stop, place, &HandsetEvent::Delete { entry }),
-            Err(_) => self.no_entry(event, stop, place),
+            Err(_) => {
+                self.numbers_its_entries(place);
+                self.no_entry(event, stop, place)
+            }
         }
     }
 
@@ -211,10 +260,14 @@ impl<'a> Playing<'a> {
         entry: u64,
     ) -> Result<(), AllocError>
         requires { place < length self.old.parties }
+        ensures { (c : Course) (party : Party) (act : ActOf) → Shows c self.old → IsFirstAt place party c.parties → is_answered_act act ≡ true → OnOk result (Shows (met_as stop event act (AtHandset party (HandsetDiscard entry)) c) self.new) }
     {
         match u32::try_from(entry) {
             Ok(entry) => self.at_handset(event, stop, place, &HandsetEvent::Discard { entry }),
-            Err(_) => self.no_entry(event, stop, place),
+            Err(_) => {
+                self.numbers_its_entries(place);
+                self.no_entry(event, stop, place)
+            }
         }
     }
 
@@ -226,7 +279,9 @@ impl<'a> Playing<'a> {
         to: &[u8],
         report: bool,
         text: &TextWord<'_>,
-    ) -> Result<(), PlayFault> {
+    ) -> Result<(), PlayFault>
+        ensures { (c : Course) → Shows c self.old → LeadsTo result self.new (acted stop event (ActWrite handset.now to.now report text.now) c) }
+    {
         let Some(place) = self.party(handset) else {
             return Err(PlayFault::NoSuchSide { event });
         };
@@ -239,7 +294,9 @@ impl<'a> Playing<'a> {
         stop: Option<Stop>,
         handset: &[u8],
         entry: u64,
-    ) -> Result<(), PlayFault> {
+    ) -> Result<(), PlayFault>
+        ensures { (c : Course) → Shows c self.old → LeadsTo result self.new (acted stop event (ActDelete handset.now entry) c) }
+    {
         let Some(place) = self.party(handset) else {
             return Err(PlayFault::NoSuchSide { event });
         };
@@ -252,7 +309,9 @@ impl<'a> Playing<'a> {
         stop: Option<Stop>,
         handset: &[u8],
         entry: u64,
-    ) -> Result<(), PlayFault> {
+    ) -> Result<(), PlayFault>
+        ensures { (c : Course) → Shows c self.old → LeadsTo result self.new (acted stop event (ActDiscard handset.now entry) c) }
+    {
         let Some(place) = self.party(handset) else {
             return Err(PlayFault::NoSuchSide { event });
         };
@@ -261,7 +320,9 @@ impl<'a> Playing<'a> {
 
     // ---- frames
 
-    fn handed(&self, number: u64) -> Result<Option<Handed>, AllocError> {
+    fn handed(&self, number: u64) -> Result<Option<Handed>, AllocError>
+        ensures { (c : Course) → Shows c self.now → IfOk result (λ handed. Hands handed (frame_at_number number c.bag)) }
+    {
         match frame_at(number, &self.bag) {
             None => Ok(None),
             Some(frame) => {
@@ -285,6 +346,7 @@ impl<'a> Playing<'a> {
         handed: &Handed,
     ) -> Result<(), AllocError>
         requires { place < length self.old.parties }
+        ensures { (c : Course) (party : Party) (act : ActOf) → Shows c self.old → IsFirstAt place party c.parties → is_answered_act act ≡ false → OnOk result (Shows (met_as stop event act (AtCentre (CentreFrame party.number handed.now.octets handed.now.tag)) c) self.new) }
     {
         let handset = self.number_at(place);
         let happening = CentreEvent::Frame {
@@ -303,6 +365,7 @@ impl<'a> Playing<'a> {
         handed: &Handed,
     ) -> Result<(), AllocError>
         requires { place < length self.old.parties }
+        ensures { (c : Course) (party : Party) (act : ActOf) → Shows c self.old → IsFirstAt place party c.parties → is_answered_act act ≡ false → OnOk result (Shows (met_as stop event act (AtHandset party (HandsetFrame handed.now.octets handed.now.tag)) c) self.new) }
     {
         let happening = HandsetEvent::Frame {
             octets: OctetView::of(handed.octets.as_slice()),
@@ -316,18 +379,21 @@ impl<'a> Playing<'a> {
         event: u64,
         stop: Option<Stop>,
         handed: &Handed,
-    ) -> Result<(), PlayFault> {
+    ) -> Result<(), PlayFault>
+        ensures { (c : Course) (f : FrameRowOf) (number : ℕ) → Shows c self.old → Among f c.bag → IsFrame handed.now f → LeadsTo result self.new (goes stop event (ActDeliver number) (handed_over event f.direction f c) c) }
+    {
         let Some(place) = self.party_of(&handed.handset) else {
             return Err(PlayFault::NoSuchSide { event });
         };
-        let done = match handed.direction {
-            Direction::Up => self.hand_up(event, stop, place, handed),
-            Direction::Down => self.hand_down(event, stop, place, handed),
-        };
-        or_no_memory(event, done)
+        match handed.direction {
+            Direction::Up => or_no_memory(event, self.hand_up(event, stop, place, handed)),
+            Direction::Down => or_no_memory(event, self.hand_down(event, stop, place, handed)),
+        }
     }
 
-    fn delivered(&mut self, event: u64, stop: Option<Stop>, number: u64) -> Result<(), PlayFault> {
+    fn delivered(&mut self, event: u64, stop: Option<Stop>, number: u64) -> Result<(), PlayFault>
+        ensures { (c : Course) → Shows c self.old → LeadsTo result self.new (acted stop event (ActDeliver number) c) }
+    {
         match self.handed(number) {
             Ok(Some(handed)) => self.hand_over(event, stop, &handed),
             Ok(None) => Err(PlayFault::NoSuchFrame { event }),
@@ -343,7 +409,9 @@ impl<'a> Playing<'a> {
         stop: Option<Stop>,
         number: &[u8],
         now: Moment,
-    ) -> Result<(), PlayFault> {
+    ) -> Result<(), PlayFault>
+        ensures { (c : Course) → Shows c self.old → LeadsTo result self.new (acted stop event (ActTick (SideHandset number.now) now) c) }
+    {
         let Some(place) = self.party(number) else {
             return Err(PlayFault::NoSuchSide { event });
         };
@@ -357,7 +425,9 @@ impl<'a> Playing<'a> {
         stop: Option<Stop>,
         side: &Side<'_>,
         now: Moment,
-    ) -> Result<(), PlayFault> {
+    ) -> Result<(), PlayFault>
+        ensures { (c : Course) → Shows c self.old → LeadsTo result self.new (acted stop event (ActTick side.now now) c) }
+    {
         match side {
             Side::Centre => {
                 let happening = CentreEvent::Tick(now);
@@ -369,7 +439,9 @@ impl<'a> Playing<'a> {
 
     // ---- every event
 
-    fn act(&mut self, event: u64, stop: Option<Stop>, act: &Act<'_>) -> Result<(), PlayFault> {
+    fn act(&mut self, event: u64, stop: Option<Stop>, act: &Act<'_>) -> Result<(), PlayFault>
+        ensures { (c : Course) → Shows c self.old → LeadsTo result self.new (acted stop event (act.now) c) }
+    {
         match act {
             Act::Submit(submission) => self.submitted(event, stop, submission),
             Act::Query { name, id } => self.queried(event, stop, name.as_slice(), id.as_slice()),
@@ -398,7 +470,9 @@ impl<'a> Playing<'a> {
         }
     }
 
-    fn restart(&mut self, event: u64, side: &Side<'_>) -> Result<(), PlayFault> {
+    fn restart(&mut self, event: u64, side: &Side<'_>) -> Result<(), PlayFault>
+        ensures { (c : Course) → Shows c self.old → LeadsTo result self.new (restart_of event side.now c) }
+    {
         match side {
             Side::Centre => or_no_memory(event, self.restart_centre()),
             Side::Handset(number) => match self.party(number.as_slice()) {
@@ -409,7 +483,9 @@ impl<'a> Playing<'a> {
     }
 
     /// The event of that number is played.
-    pub(crate) fn play(&mut self, number: u64, event: &WorldEvent<'_>) -> Result<(), PlayFault> {
+    pub(crate) fn play(&mut self, number: u64, event: &WorldEvent<'_>) -> Result<(), PlayFault>
+        ensures { (c : Course) → Shows c self.old → LeadsTo result self.new (played number event.now c) }
+    {
         match event {
             WorldEvent::Whole(act) => self.act(number, None, act),
             WorldEvent::Stopped(stop, act) => self.act(number, Some(*stop), act),

@@ -1,13 +1,17 @@
 //! How a script begins: who takes part in it is made, and lent to it.
 ghost use Rattle.std.specs.Prelude.{◌≡◌, ◌≤◌, length, IfOk, true};
+ghost use Rattle.sms_play.specs.Course.{numbers_of as numbers_of_parties};
+ghost use Rattle.sms_play.specs.Playing.{play_of};
+ghost use Rattle.sms_playing.specs.Begun.{IsBegun};
+ghost use Rattle.sms_playing.specs.Reporting.{Reports, report_on};
+ghost use Rattle.sms_script.specs.declared.setup.Setup.{Setup as SetupOf};
 ghost use Rattle.sms_centre_rules.specs.CentreEvent.{started};
 ghost use Rattle.sms_centre_rules.specs.SoundRows.{IsSetup, first_rows as first_rows_of};
 ghost use Rattle.sms_play.specs.PlayedEvent.{sessions_from};
-ghost use Rattle.sms_play.specs.Setups.{can_be_played, parties_of as parties_of_head};
+ghost use Rattle.sms_play.specs.Setups.{beginning, can_be_played, centre_setup as centre_setup_of, parties_of as parties_of_head};
 ghost use Rattle.sms_played_centre.specs.FromBelow.{rows_in, AreHandsets, IsStanding};
 ghost use Rattle.sms_played_centre.specs.Shown.{Stands};
 
-use crate::acts::or_no_memory;
 use crate::playing::Playing;
 use crate::watching::{all, report_of};
 use sms_base::{Digits, Moment};
@@ -37,6 +41,8 @@ fn opening_of(
     requires setup { can_be_played setup.now ≡ true }
     requires start { start ≡ setup.now.start }
     requires parties { parties.now ≡ parties_of_head setup.now setup.now.handsets }
+    ensures made { IfOk result (λ opening. opening.setup ≡ centre_setup_of setup.now) }
+    ensures numbers { IfOk result (λ opening. opening.handsets.items ≡ numbers_of_parties parties.now) }
     ensures setup { IfOk result (λ opening. IsSetup opening.setup) }
     ensures few { IfOk result (λ opening. length opening.setup.accounts ≤ 32) }
     ensures handsets { IfOk result (λ opening. AreHandsets opening.handsets.items) }
@@ -59,11 +65,14 @@ fn play_by<W: Watcher>(
 ) -> Result<Report, PlayFault>
     requires stands { Stands centre.old (rows_in keep.old) }
     requires handsets { AreHandsets handsets.now }
+    ensures { (s : SetupOf) → IsBegun s centre.old (rows_in keep.old) handsets.now parties.old → Reports result (report_on events.now (beginning s)) }
 {
     let centre = PlayedCentre::new(alloc, centre, keep, handsets);
     let mut playing = Playing::new(alloc, centre, parties);
-    all(&mut playing, watcher, events)?;
-    report_of(playing, events.len())
+    match all(&mut playing, watcher, events) {
+        Ok(()) => report_of(playing, events.len()),
+        Err(fault) => Err(fault),
+    }
 }
 
 // The centre's rows are kept in memory.
@@ -79,11 +88,15 @@ fn play_at<W: Watcher>(
     requires few { length setup.now.accounts ≤ 32 }
     requires handsets { AreHandsets handsets.now }
     requires standing { IsStanding (started (first_rows_of setup.now) handsets.now (sessions_from 0 setup.now.accounts)) centre.old }
+    ensures { (s : SetupOf) → setup.now ≡ centre_setup_of s → handsets.now ≡ numbers_of_parties (parties_of_head s s.handsets) → parties.old ≡ parties_of_head s s.handsets → Reports result (report_on events.now (beginning s)) }
 {
     let played = with_first_keep(alloc, setup, |keep| {
         play_by(alloc, centre, keep, handsets, parties, events, watcher)
     });
-    or_no_memory(0, played)?
+    match played {
+        Ok(played) => played,
+        Err(_) => Err(PlayFault::NoMemory { event: 0 }),
+    }
 }
 
 // The centre starts.
@@ -98,11 +111,15 @@ fn play_from<W: Watcher>(
     requires setup { IsSetup setup.now }
     requires few { length setup.now.accounts ≤ 32 }
     requires handsets { AreHandsets handsets.now }
+    ensures { (s : SetupOf) → setup.now ≡ centre_setup_of s → handsets.now ≡ numbers_of_parties (parties_of_head s s.handsets) → parties.old ≡ parties_of_head s s.handsets → Reports result (report_on events.now (beginning s)) }
 {
     let played = with_first_centre(alloc, setup, handsets, |centre| {
         play_at(alloc, setup, centre, handsets, parties, events, watcher)
     });
-    or_no_memory(0, played)?
+    match played {
+        Ok(played) => played,
+        Err(_) => Err(PlayFault::NoMemory { event: 0 }),
+    }
 }
 
 // The handsets of the head take part.
@@ -117,6 +134,7 @@ fn play_among<W: Watcher>(
     requires setup { can_be_played setup.now ≡ true }
     requires start { start ≡ setup.now.start }
     requires parties { parties.old.items ≡ parties_of_head setup.now setup.now.handsets }
+    ensures { Reports result (report_on events.now (beginning setup.now)) }
 {
     match opening_of(alloc, setup, start, parties.as_slice()) {
         Ok(opening) => play_from(
@@ -140,11 +158,15 @@ fn play_head<W: Watcher>(
 ) -> Result<Report, PlayFault>
     requires setup { can_be_played setup.now ≡ true }
     requires start { start ≡ setup.now.start }
+    ensures { Reports result (report_on events.now (beginning setup.now)) }
 {
     let played = with_parties(alloc, setup, start, |parties| {
         play_among(alloc, setup, start, parties, events, watcher)
     });
-    or_no_memory(0, played)?
+    match played {
+        Ok(played) => played,
+        Err(_) => Err(PlayFault::NoMemory { event: 0 }),
+    }
 }
 
 /// What the script leads to, or why it is not played to its end. Somebody looks on.
@@ -153,7 +175,9 @@ pub(crate) fn play_before<W: Watcher>(
     setup: &Setup<'_>,
     events: &[WorldEvent<'_>],
     watcher: &mut W,
-) -> Result<Report, PlayFault> {
+) -> Result<Report, PlayFault>
+    ensures { Reports result (play_of setup.now events.now) }
+{
     match judge(setup) {
         Some(start) => play_head(alloc, setup, start, events, watcher),
         None => Err(PlayFault::BadSetup),

@@ -1,9 +1,13 @@
 //! Where accounts and handsets stand among those of a script.
-ghost use Rattle.std.specs.Prelude.{◌≡◌, ◌≤◌, ◌<◌, length, IfSome};
+ghost use Rattle.std.specs.Prelude.{◌≡◌, ◌≤◌, ◌<◌, ◌^◌, ℕ, length, Err, IfSome};
 ghost use Rattle.std.specs.Str.{bytes_eq};
 ghost use Rattle.sms_base.specs.Address.{IsAddress};
 ghost use Rattle.sms_base.specs.HandsetNumber.{own_address};
+ghost use Rattle.sms_handset.specs.HandsetEvent.{deleted, discarded};
+ghost use Rattle.sms_handset.specs.declared.refusal.Refusal.TheVariants.{NoEntry};
+ghost use Rattle.sms_play.specs.Course.{Party};
 ghost use Rattle.sms_play.specs.Meeting.{account_from};
+ghost use Rattle.sms_playing.specs.Places.{IsFirstAt, place_from};
 
 use sms_base::Digits;
 use sms_intake::Account;
@@ -27,7 +31,8 @@ pub(crate) fn account_place(name: &[u8], accounts: &[Account]) -> Option<u8>
 
 /// The place of the handset of that number.
 pub(crate) fn party_place(number: &[u8], parties: &[PlayedHandset]) -> Option<usize>
-    ensures { IfSome result (λ place. place < length parties.now) }
+    ensures place { result ≡ place_from 0 number.now parties.now }
+    ensures within { IfSome result (λ place. place < length parties.now) }
 {
     for place in 0..parties.len() {
         if spell(number, &parties[place].number()) {
@@ -45,7 +50,8 @@ fn is_same(a: &Digits, b: &Digits) -> bool
 
 /// The place of the handset of those digits.
 pub(crate) fn digits_place(number: &Digits, parties: &[PlayedHandset]) -> Option<usize>
-    ensures { IfSome result (λ place. place < length parties.now) }
+    ensures place { result ≡ place_from 0 number.now parties.now }
+    ensures within { IfSome result (λ place. place < length parties.now) }
 {
     for place in 0..parties.len() {
         if is_same(&parties[place].number(), number) {
@@ -58,7 +64,17 @@ pub(crate) fn digits_place(number: &Digits, parties: &[PlayedHandset]) -> Option
 /// The number of the handset at that place.
 pub(crate) fn number_at(parties: &[PlayedHandset], place: usize) -> Digits
     requires { place < length parties.now }
-    ensures { IsAddress (own_address result) }
+    ensures number { (party : Party) → IsFirstAt place party parties.now → result ≡ party.number }
+    ensures address { IsAddress (own_address result) }
 {
     parties[place].number()
+}
+
+/// No entry of the handset at that place has a number of more than 32 bits.
+pub(crate) fn numbers_entries(parties: &[PlayedHandset], place: usize)
+    requires { place < length parties.now }
+    ensures delete { (party : Party) → IsFirstAt place party parties.now → (entry : ℕ) → 2 ^ 32 ≤ entry → deleted entry party.core ≡ Err NoEntry }
+    ensures discard { (party : Party) → IsFirstAt place party parties.now → (entry : ℕ) → 2 ^ 32 ≤ entry → discarded entry party.core ≡ Err NoEntry }
+{
+    parties[place].numbers_its_entries();
 }

@@ -1,6 +1,8 @@
 //! What a script led to.
 ghost use Rattle.std.specs.Prelude.{◌≡◌, IfOk};
-ghost use Rattle.sms_play.specs.Playing.{accepted_lines as accepted_lines_of, all_outbox_lines, joined_lines as joined_lines_of};
+ghost use Rattle.sms_play.specs.Course.{Course};
+ghost use Rattle.sms_play.specs.Playing.{accepted_lines as accepted_lines_of, all_outbox_lines, joined_lines as joined_lines_of, message_lines, receipt_lines, report_of};
+ghost use Rattle.sms_playing.specs.Courses.{Shows};
 
 use crate::playing::Playing;
 use sms_base::Listed;
@@ -20,6 +22,8 @@ struct Read {
 
 impl<'a> Playing<'a> {
     fn read(&self) -> Result<Read, AllocError>
+        ensures table { (c : Course) → Shows c self.now → IfOk result (λ read. read.table ≡ message_lines c.centre.rows.messages) }
+        ensures receipts { (c : Course) → Shows c self.now → IfOk result (λ read. read.receipts ≡ receipt_lines c.centre.rows.messages c.centre.rows.reports) }
         ensures accepted { IfOk result (λ read. read.accepted ≡ accepted_lines_of self.now.parties) }
         ensures joined { IfOk result (λ read. read.joined ≡ joined_lines_of self.now.parties) }
         ensures outboxes { IfOk result (λ read. read.outboxes ≡ all_outbox_lines self.now.parties) }
@@ -41,12 +45,7 @@ impl<'a> Playing<'a> {
 
     /// The report.
     pub(crate) fn report(self) -> Result<Report, AllocError>
-        ensures answers { IfOk result (λ report. report.answers ≡ self.entry.answers) }
-        ensures accepted { IfOk result (λ report. report.accepted ≡ accepted_lines_of self.entry.parties) }
-        ensures joined { IfOk result (λ report. report.joined ≡ joined_lines_of self.entry.parties) }
-        ensures outboxes { IfOk result (λ report. report.outboxes ≡ all_outbox_lines self.entry.parties) }
-        ensures given { IfOk result (λ report. report.given ≡ self.entry.given) }
-        ensures bag { IfOk result (λ report. report.bag ≡ self.entry.bag) }
+        ensures { (c : Course) → Shows c self.entry → IfOk result (λ report. report ≡ report_of c) }
     {
         let read = self.read()?;
         Ok(Report {

@@ -1,4 +1,13 @@
 //! A run over a script.
+ghost use Rattle.std.specs.Prelude.{◌≡◌, Option, IfOk, IfSome, Ok};
+ghost use Rattle.std.specs.Io.KnownBytes.{Appends};
+ghost use Rattle.sms_play.specs.Playing.{play_of};
+ghost use Rattle.sms_play.specs.Running.{Ran, Wrote};
+ghost use Rattle.sms_playing.specs.Reporting.{Reports};
+ghost use Rattle.sms_playing.specs.RunEnd.{EndsFor, Outputs, error_in, error_of, ran_with, run_with, text_with};
+ghost use Rattle.sms_playing.specs.declared.run.Wanted.TheVariants.{Report as WantedReport};
+ghost use Rattle.sms_report.specs.declared.report.Broken.{Broken};
+
 use crate::acts::or_no_memory;
 use crate::opening::play_before;
 use crate::whole::judge;
@@ -46,7 +55,9 @@ enum Wanted {
 }
 
 // The error that a fault is.
-fn of_fault(fault: PlayFault) -> SimError {
+fn of_fault(fault: PlayFault) -> SimError
+    ensures { result ≡ error_of fault }
+{
     match fault {
         PlayFault::NoSuchFrame { event } => SimError::NoSuchFrame(event),
         PlayFault::NoSuchSide { event } => SimError::NoSuchSide(event),
@@ -56,14 +67,28 @@ fn of_fault(fault: PlayFault) -> SimError {
     }
 }
 
+// The error that a text is which is no script.
+fn of_script_fault(fault: ScriptFault) -> SimError
+    ensures { result ≡ error_in fault }
+{
+    match fault {
+        ScriptFault::BadLine(line) => SimError::BadLine(line),
+        ScriptFault::NoMemory => SimError::NoMemory,
+    }
+}
+
 // The text of the script's report.
-fn report(alloc: Global, script: &Script<'_>) -> Result<Octets, PlayFault> {
+fn report(alloc: Global, script: &Script<'_>) -> Result<Octets, PlayFault>
+    ensures { (broken : Option Broken) × Reports result (text_with broken (play_of script.now.setup script.now.events)) }
+{
     let events = script.events.as_slice();
-    let judged = judge(alloc, &script.setup, events)?;
-    or_no_memory(
-        events.len() as u64,
-        report_text(alloc, &judged.report, judged.broken),
-    )
+    match judge(alloc, &script.setup, events) {
+        Ok(judged) => or_no_memory(
+            events.len() as u64,
+            report_text(alloc, &judged.report, judged.broken),
+        ),
+        Err(fault) => Err(fault),
+    }
 }
 
 // The script is played, and somebody looks on. Gives how many frames were sent.
@@ -103,7 +128,9 @@ fn output_for(
     wanted: Wanted,
     input: &[u8],
     script: &Script<'_>,
-) -> Result<Octets, PlayFault> {
+) -> Result<Octets, PlayFault>
+    ensures { wanted ≡ WantedReport → (broken : Option Broken) × Reports result (text_with broken (play_of script.now.setup script.now.events)) }
+{
     match wanted {
         Wanted::Report => report(alloc, script),
         Wanted::Ladder => ladder(alloc, input, script),
@@ -116,7 +143,9 @@ fn text_of(
     wanted: Wanted,
     input: &[u8],
     script: &Script<'_>,
-) -> Result<Octets, SimError> {
+) -> Result<Octets, SimError>
+    ensures { wanted ≡ WantedReport → (broken : Option Broken) × Outputs result (ran_with broken (Ok script.now)) }
+{
     match output_for(alloc, wanted, input, script) {
         Ok(text) => Ok(text),
         Err(fault) => Err(of_fault(fault)),
@@ -124,38 +153,47 @@ fn text_of(
 }
 
 // What is written for an input.
-fn output(alloc: Global, wanted: Wanted, input: &[u8]) -> Result<Octets, SimError> {
+fn output(alloc: Global, wanted: Wanted, input: &[u8]) -> Result<Octets, SimError>
+    ensures { wanted ≡ WantedReport → (broken : Option Broken) × Outputs result (run_with broken input.now) }
+{
     match read_script(alloc, input) {
         Ok(script) => text_of(alloc, wanted, input, &script),
-        Err(ScriptFault::BadLine(line)) => Err(SimError::BadLine(line)),
-        Err(ScriptFault::NoMemory) => Err(SimError::NoMemory),
+        Err(fault) => Err(of_script_fault(fault)),
     }
 }
 
 // Reads the input to its end.
-fn read_all<R: Read>(alloc: Global, reader: &mut R) -> Result<Vec<u8>, SimError> {
+fn read_all<R: Read>(alloc: Global, reader: &mut R) -> io::Result<Vec<u8>>
+    ensures { IfOk result (λ input. IfSome (R.remaining reader.old) (λ octets. input.items ≡ octets)) }
+{
     let mut input = Vec::new(alloc);
     match reader.read_to_end(&mut input) {
         Ok(_) => Ok(input),
-        Err(error) => Err(SimError::Io(error)),
+        Err(error) => Err(error),
     }
 }
 
-fn write_all<W: Write>(writer: &mut W, text: &Octets) -> Result<(), SimError> {
-    match writer.write_all(text.as_slice()) {
+// That text, written.
+fn write_text<W: Write>(writer: &mut W, text: &[u8]) -> Result<(), SimError>
+    ensures { (ran : Ran) → ran ≡ Wrote text.now → EndsFor result (λ text. Appends (W.contents writer.old) (W.contents writer.new) text) (writer.new ≡ writer.old) ran }
+{
+    match writer.write_all(text) {
         Ok(()) => Ok(()),
         Err(error) => Err(SimError::Io(error)),
     }
 }
 
+// What is written for an input, written.
 fn write_output<W: Write>(
     alloc: Global,
     wanted: Wanted,
     input: &[u8],
     writer: &mut W,
-) -> Result<(), SimError> {
+) -> Result<(), SimError>
+    ensures { wanted ≡ WantedReport → (broken : Option Broken) × EndsFor result (λ text. Appends (W.contents writer.old) (W.contents writer.new) text) (writer.new ≡ writer.old) (run_with broken input.now) }
+{
     match output(alloc, wanted, input) {
-        Ok(text) => write_all(writer, &text),
+        Ok(text) => write_text(writer, text.as_slice()),
         Err(error) => Err(error),
     }
 }
@@ -165,10 +203,12 @@ fn run<R: Read, W: Write>(
     wanted: Wanted,
     reader: &mut R,
     writer: &mut W,
-) -> Result<(), SimError> {
+) -> Result<(), SimError>
+    ensures { wanted ≡ WantedReport → IfSome (R.remaining reader.old) (λ input. (broken : Option Broken) × EndsFor result (λ text. Appends (W.contents writer.old) (W.contents writer.new) text) (writer.new ≡ writer.old) (run_with broken input)) }
+{
     match read_all(alloc, reader) {
         Ok(input) => write_output(alloc, wanted, input.as_slice(), writer),
-        Err(error) => Err(error),
+        Err(error) => Err(SimError::Io(error)),
     }
 }
 
@@ -177,7 +217,10 @@ pub fn run_sim<R: Read, W: Write>(
     alloc: Global,
     reader: &mut R,
     writer: &mut W,
-) -> Result<(), SimError> {
+) -> Result<(), SimError>
+    // Where what the reader and the writer hold is known, the text of the report is written and nothing else.
+    ensures { IfSome (R.remaining reader.old) (λ input. (broken : Option Broken) × EndsFor result (λ text. Appends (W.contents writer.old) (W.contents writer.new) text) (writer.new ≡ writer.old) (run_with broken input)) }
+{
     run(alloc, Wanted::Report, reader, writer)
 }
 

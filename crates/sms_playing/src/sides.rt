@@ -1,10 +1,24 @@
 //! What an event of a side leads to.
-ghost use Rattle.std.specs.Prelude.{◌≡◌, ◌<◌, ◌++◌, length, OnOk};
+ghost use Rattle.std.specs.Prelude.{◌≡◌, ◌<◌, ◌++◌, ℕ, length, slice_set, true, Err, IfOk, OnOk, if◌then◌else◌};
+ghost use Rattle.sms_centre_rules.specs.CentreEvent.{happened};
+ghost use Rattle.sms_centre_rules.specs.Draft.{Draft as DraftOf};
 ghost use Rattle.sms_centre_rules.specs.SoundCore.{HasNumber};
+ghost use Rattle.sms_centre_rules.specs.declared.event.CentreEvent.TheVariants.{DeliverAnswered};
 ghost use Rattle.sms_handset.specs.FaultCodes.{refusal_code};
-ghost use Rattle.sms_play.specs.CentreSide.{answered_as as answered_as_of, state_of as state_of_message};
-ghost use Rattle.sms_play.specs.HandsetSide.{is_owners as is_owners_of};
-ghost use Rattle.sms_report.specs.declared.answers.Answered.TheVariants.{Refused as AnsweredRefused};
+ghost use Rattle.sms_handset.specs.declared.event.HandsetEvent.{HandsetEvent as HandsetEventOf};
+ghost use Rattle.sms_handset.specs.declared.refusal.Refusal.TheVariants.{NoEntry};
+ghost use Rattle.sms_handset_draft.specs.Draft.{Draft as HandsetDraftOf, recovered as handset_recovered};
+ghost use Rattle.sms_play.specs.CentreSide.{accepted_after, answered_as as answered_as_of, centre_meets as centre_meets_of, committed, done as done_of, state_of as state_of_message, told as told_of};
+ghost use Rattle.sms_play.specs.Course.{Course, Party, answer as answer_of};
+ghost use Rattle.sms_play.specs.HandsetSide.{all_sent as all_sent_up, committed as handset_committed, done as handset_done, handset_meets as handset_meets_of, happened as handset_happened, is_owners as is_owners_of};
+ghost use Rattle.sms_play.specs.Meeting.{AtCentre, AtHandset, is_answered as is_answered_act};
+ghost use Rattle.sms_play.specs.PlayedEvent.{centre_restarted, kept, party_restarted, restarted};
+ghost use Rattle.sms_played_handset.specs.Meeting.{Meets};
+ghost use Rattle.sms_playing.specs.Courses.{Shows};
+ghost use Rattle.sms_playing.specs.Places.{IsFirstAt};
+ghost use Rattle.sms_playing.specs.Playing.{MeetsAs, Tells, met_as};
+ghost use Rattle.sms_report.specs.declared.answers.Answered.TheVariants.{Done as AnsweredDone, Refused as AnsweredRefused, Stopped as AnsweredStopped};
+ghost use Rattle.sms_script.specs.declared.event.Act.{Act as ActOf};
 
 use crate::playing::Playing;
 use smpp_pdu::CommandStatus;
@@ -80,7 +94,8 @@ fn meet_at(
     given: &mut Listed<GivenRow>,
 ) -> Result<Met, AllocError>
     requires { place < length parties.old }
-    ensures { length parties.new ≡ length parties.old }
+    ensures length { length parties.new ≡ length parties.old }
+    ensures meets { (party : Party) → IsFirstAt place party parties.old → (now : Party) × ((parties.new ≡ slice_set parties.old place now) × Meets result party now given.old given.new (handset_happened happening.now party.core)) }
 {
     parties[place].meet(happening, given)
 }
@@ -88,7 +103,8 @@ fn meet_at(
 // The handset at that place starts again on its rows.
 fn restart_at(parties: &mut [PlayedHandset], place: usize) -> Result<(), AllocError>
     requires { place < length parties.old }
-    ensures { length parties.new ≡ length parties.old }
+    ensures length { length parties.new ≡ length parties.old }
+    ensures again { (party : Party) → IsFirstAt place party parties.old → (now : Party) × ((parties.new ≡ slice_set parties.old place now) × OnOk result (now ≡ record party { core = handset_recovered party.core.rows })) }
 {
     parties[place].restart()
 }
@@ -97,7 +113,11 @@ impl<'a> Playing<'a> {
     // ---- the centre
 
     // The frames of the centre go out.
-    fn send(&mut self, told: Told) -> Result<Heard, AllocError> {
+    fn send(&mut self, told: Told) -> Result<Heard, AllocError>
+        ensures shows { (c : Course) (d : DraftOf) → Shows (committed d c) self.old → told.frames ≡ d.air.frames → OnOk result (Shows (done_of d c) self.new) }
+        ensures deliveries { IfOk result (λ heard. heard.deliveries ≡ told.deliveries) }
+        ensures answer { IfOk result (λ heard. heard.answer ≡ told.answer) }
+    {
         let Told {
             frames,
             answer,
@@ -110,20 +130,30 @@ impl<'a> Playing<'a> {
     // The centre meets an event, and its rows change; its frames are to go out.
     fn commit_centre(&mut self, happening: &CentreEvent<'_>) -> Result<Told, AllocError>
         requires { HasNumber happening.now }
+        ensures shows { (c : Course) → Shows c self.old → OnOk result (Shows (committed (happened happening.now c.centre) c) self.new) }
+        ensures told { (c : Course) → Shows c self.old → IfOk result (λ told. Tells (happened happening.now c.centre) told.frames told.answer told.deliveries) }
     {
-        self.centre.meet(happening, &mut self.given)
+        let told = self.centre.meet(happening, &mut self.given)?;
+        Ok(told)
     }
 
     // The same, and its frames go out.
     fn hear(&mut self, happening: &CentreEvent<'_>) -> Result<Heard, AllocError>
         requires { HasNumber happening.now }
+        ensures shows { (c : Course) → Shows c self.old → OnOk result (Shows (done_of (happened happening.now c.centre) c) self.new) }
+        ensures deliveries { (c : Course) → Shows c self.old → IfOk result (λ heard. heard.deliveries ≡ (happened happening.now c.centre).desk.deliveries) }
+        ensures answer { (c : Course) → Shows c self.old → IfOk result (λ heard. heard.answer ≡ (happened happening.now c.centre).answer) }
     {
         let told = self.commit_centre(happening)?;
-        self.send(told)
+        let heard = self.send(told)?;
+        Ok(heard)
     }
 
     // The application accepts the receipt at once. Gives the receipts that this lets go.
-    fn accept(&mut self, delivery: Delivery) -> Result<Listed<Delivery>, AllocError> {
+    fn accept(&mut self, delivery: Delivery) -> Result<Listed<Delivery>, AllocError>
+        ensures shows { (c : Course) → Shows c self.old → OnOk result (Shows (done_of (happened (DeliverAnswered delivery.session delivery.id true) c.centre) c) self.new) }
+        ensures more { (c : Course) → Shows c self.old → IfOk result (λ more. more ≡ (happened (DeliverAnswered delivery.session delivery.id true) c.centre).desk.deliveries) }
+    {
         let event = CentreEvent::DeliverAnswered {
             session: delivery.session,
             id: delivery.id,
@@ -135,7 +165,9 @@ impl<'a> Playing<'a> {
     }
 
     // Receipts are accepted one after another, as many as there are at most.
-    fn accept_all(&mut self, deliveries: Listed<Delivery>) -> Result<(), AllocError> {
+    fn accept_all(&mut self, deliveries: Listed<Delivery>) -> Result<(), AllocError>
+        ensures { (c : Course) (d : DraftOf) → Shows c self.old → OnOk result (Shows (accepted_after d (length c.centre.rows.reports) deliveries c) self.new) }
+    {
         let mut waiting = deliveries.into_vec();
         let most = self.centre.count_reports();
         for place in 0..most {
@@ -148,7 +180,9 @@ impl<'a> Playing<'a> {
         Ok(())
     }
 
-    fn tell(&mut self, event: u64, answer: Option<CentreAnswer>) -> Result<(), AllocError> {
+    fn tell(&mut self, event: u64, answer: Option<CentreAnswer>) -> Result<(), AllocError>
+        ensures { (c : Course) → Shows c self.old → OnOk result (Shows (told_of event answer c) self.new) }
+    {
         match answer {
             Some(answer) => self.answer(event, answered_as(answer)),
             None => Ok(()),
@@ -158,6 +192,7 @@ impl<'a> Playing<'a> {
     // The centre meets an event, and nothing stops it.
     fn centre_meets(&mut self, event: u64, happening: &CentreEvent<'_>) -> Result<(), AllocError>
         requires { HasNumber happening.now }
+        ensures { (c : Course) → Shows c self.old → OnOk result (Shows (centre_meets_of event happening.now c) self.new) }
     {
         let heard = self.hear(happening)?;
         let Heard { answer, deliveries } = heard;
@@ -166,13 +201,16 @@ impl<'a> Playing<'a> {
     }
 
     /// The centre starts again on its rows.
-    pub(crate) fn restart_centre(&mut self) -> Result<(), AllocError> {
+    pub(crate) fn restart_centre(&mut self) -> Result<(), AllocError>
+        ensures { (c : Course) → Shows c self.old → OnOk result (Shows (centre_restarted c) self.new) }
+    {
         self.centre.restart()
     }
 
     // The centre is stopped at an event, and starts again.
     fn stop_centre(&mut self, stop: Stop, happening: &CentreEvent<'_>) -> Result<(), AllocError>
         requires { HasNumber happening.now }
+        ensures { (c : Course) → Shows c self.old → OnOk result (Shows (centre_restarted (kept stop (AtCentre happening.now) c)) self.new) }
     {
         match stop {
             Stop::Before => self.restart_centre(),
@@ -183,7 +221,9 @@ impl<'a> Playing<'a> {
         }
     }
 
-    fn answer_stop(&mut self, event: u64, is_answered: bool) -> Result<(), AllocError> {
+    fn answer_stop(&mut self, event: u64, is_answered: bool) -> Result<(), AllocError>
+        ensures { (c : Course) → Shows c self.old → OnOk result (Shows (if is_answered then answer_of event AnsweredStopped c else c) self.new) }
+    {
         if is_answered {
             self.answer(event, Answered::Stopped)
         } else {
@@ -200,6 +240,7 @@ impl<'a> Playing<'a> {
         happening: &CentreEvent<'_>,
     ) -> Result<(), AllocError>
         requires { HasNumber happening.now }
+        ensures { (c : Course) (act : ActOf) → Shows c self.old → is_answered_act act ≡ is_answered → OnOk result (Shows (met_as stop event act (AtCentre happening.now) c) self.new) }
     {
         match stop {
             None => self.centre_meets(event, happening),
@@ -219,7 +260,8 @@ impl<'a> Playing<'a> {
         happening: &HandsetEvent<'_>,
     ) -> Result<Met, AllocError>
         requires { place < length self.old.parties }
-        ensures { length self.new.parties ≡ length self.old.parties }
+        ensures as_many { length self.new.parties ≡ length self.old.parties }
+        ensures meets { (c : Course) (party : Party) → Shows c self.old → IsFirstAt place party c.parties → IfOk result (λ met. MeetsAs met party c self.new (handset_happened happening.now party.core)) }
     {
         meet_at(self.parties, place, happening, &mut self.given)
     }
@@ -227,12 +269,15 @@ impl<'a> Playing<'a> {
     /// The handset at that place starts again on its rows.
     pub(crate) fn restart_handset(&mut self, place: usize) -> Result<(), AllocError>
         requires { place < length self.old.parties }
+        ensures { (c : Course) (party : Party) → Shows c self.old → IsFirstAt place party c.parties → OnOk result (Shows (party_restarted party c) self.new) }
     {
         restart_at(self.parties, place)
     }
 
     // Its frames go out.
-    fn sent_up(&mut self, number: Digits, frames: Listed<Outgoing>) -> Result<(), AllocError> {
+    fn sent_up(&mut self, number: Digits, frames: Listed<Outgoing>) -> Result<(), AllocError>
+        ensures { OnOk result (self.new ≡ record self.old { bag = all_sent_up number frames self.old.bag }) }
+    {
         send_up(number, frames, &mut self.bag)
     }
 
@@ -243,7 +288,9 @@ impl<'a> Playing<'a> {
         number: Digits,
         frames: Listed<Outgoing>,
         is_owners: bool,
-    ) -> Result<(), AllocError> {
+    ) -> Result<(), AllocError>
+        ensures { (c : Course) (party : Party) (d : HandsetDraftOf) (place : ℕ) → IsFirstAt place party c.parties → Shows (handset_committed party d c) self.old → number ≡ party.number → frames ≡ d.frames → OnOk result (Shows (if is_owners then answer_of event AnsweredDone (handset_done party d c) else handset_done party d c) self.new) }
+    {
         self.sent_up(number, frames)?;
         if is_owners {
             self.answer(event, Answered::Done)
@@ -259,6 +306,7 @@ impl<'a> Playing<'a> {
         happening: &HandsetEvent<'_>,
     ) -> Result<(), AllocError>
         requires { place < length self.old.parties }
+        ensures { (c : Course) (party : Party) → Shows c self.old → IsFirstAt place party c.parties → OnOk result (Shows (handset_meets_of event party happening.now c) self.new) }
     {
         let number = self.number_at(place);
         let met = self.commit_handset(place, happening)?;
@@ -275,6 +323,7 @@ impl<'a> Playing<'a> {
         happening: &HandsetEvent<'_>,
     ) -> Result<(), AllocError>
         requires { place < length self.old.parties }
+        ensures { (c : Course) (party : Party) → Shows c self.old → IsFirstAt place party c.parties → OnOk result (Shows (restarted (AtHandset party happening.now) (kept stop (AtHandset party happening.now) c)) self.new) }
     {
         match stop {
             Stop::Before => self.restart_handset(place),
@@ -294,6 +343,7 @@ impl<'a> Playing<'a> {
         happening: &HandsetEvent<'_>,
     ) -> Result<(), AllocError>
         requires { place < length self.old.parties }
+        ensures { (c : Course) (party : Party) (act : ActOf) → Shows c self.old → IsFirstAt place party c.parties → is_answered_act act ≡ is_owners_of happening.now → OnOk result (Shows (met_as stop event act (AtHandset party happening.now) c) self.new) }
     {
         match stop {
             None => self.handset_meets(event, place, happening),
@@ -312,6 +362,7 @@ impl<'a> Playing<'a> {
         place: usize,
     ) -> Result<(), AllocError>
         requires { place < length self.old.parties }
+        ensures { (c : Course) (party : Party) (act : ActOf) (e : HandsetEventOf) → Shows c self.old → IsFirstAt place party c.parties → is_answered_act act ≡ true → is_owners_of e ≡ true → handset_happened e party.core ≡ Err NoEntry → OnOk result (Shows (met_as stop event act (AtHandset party e) c) self.new) }
     {
         match stop {
             None => self.answer(event, refused_as(Refusal::NoEntry)),

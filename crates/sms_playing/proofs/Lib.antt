@@ -1,0 +1,10 @@
+pub mod Placed
+pub mod Bags
+pub mod Lines
+pub mod Showing
+pub mod Halting
+pub mod Going
+pub mod LatinTexts
+pub mod Handing
+pub mod Turning
+pub mod Ending

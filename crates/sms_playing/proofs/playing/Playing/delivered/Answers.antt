@@ -1,0 +1,19 @@
+use Rattle.std.proofs.Common.{ap, Option, sym, subst}
+use Rattle.sms_play.specs.Course.{frame_at}
+use Rattle.sms_play.specs.Meeting.{delivered}
+use Rattle.sms_playing.specs.Playing.{Hands, LeadsTo, goes}
+use Rattle.sms_playing.specs.declared.acts.Handed.{Handed}
+use Rattle.sms_playing.proofs.Handing.{among_at, handed_is, none_handed}
+use Rattle.sms_report.specs.declared.rows.FrameRow.{FrameRow}
+use Rattle.sms_script.specs.declared.event.Act.TheVariants.{Deliver}
+use Rattle.sms_playing.proofs.playing.Playing.delivered.Goals as goal
+
+pub returns-in-Ok-Some : goal.returns-in-Ok-Some
+returns-in-Ok-Some c = λ course shown.
+    let is = handed_is (frame_at c.args.number course.bag) c.in-Ok-Some.handed (subst (λ (o : Option Handed). Hands o (frame_at c.args.number course.bag)) c.in-Ok-Some.field-0-is (c.in-Ok-Some.ensures course shown)) in
+    subst (λ (o : Option FrameRow). LeadsTo c.hand_over.result c.hand_over.new.self (goes c.args.stop c.args.event (Deliver c.args.number) (delivered c.args.event o course) course)) (sym is.1.0)
+    (c.hand_over.ensures course is.0 c.args.number shown (among_at c.args.number course.bag is.0 is.1.0) is.1.1)
+
+pub returns-in-Ok-None : goal.returns-in-Ok-None
+returns-in-Ok-None c = λ course shown.
+    ap (λ (o : Option FrameRow). goes c.args.stop c.args.event (Deliver c.args.number) (delivered c.args.event o course) course) (none_handed (frame_at c.args.number course.bag) (subst (λ (o : Option Handed). Hands o (frame_at c.args.number course.bag)) c.in-Ok-None.field-0-is (c.in-Ok-None.ensures course shown)))
