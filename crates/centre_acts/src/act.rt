@@ -6,10 +6,9 @@ use crate::kind::{Kind, kind_named};
 use crate::known::{Known, id_of, known_in};
 use crate::octets::octets_in;
 use centre_lines::{
-    Air, Asked, Trouble, asked_in, cancel, handset, is_so, message, moment, query, read_number,
-    session, value, word,
+    Asked, Trouble, asked_in, cancel, handset, is_so, message, moment, query, read_number, session,
+    value, word,
 };
-use plain_centre::Plain;
 use sms_base::{Holder, OctetView};
 use sms_centre_rules::CentreEvent;
 use std::alloc::Global;
@@ -24,22 +23,17 @@ pub struct Act<'a> {
     octets: Vec<u8>,
 }
 
-/// What the line says happens, where the plain centre and the handsets have come to this. An answer is heard by that, once.
-pub fn act_in<'a>(
-    alloc: Global,
-    line: &'a str,
-    plain: &Plain,
-    air: &mut Air,
-) -> Result<Act<'a>, Trouble> {
+/// What the line says happens.
+pub fn act_in(alloc: Global, line: &str) -> Result<Act<'_>, Trouble> {
     let kind = kind_named(word(line, 0)?)?;
     let asked = asked_in(line)?;
-    let known = known_in(kind, line, plain, air)?;
+    let known = known_in(kind, line)?;
     Ok(Act {
         line,
         kind,
         asked,
         known,
-        octets: octets_in(alloc, kind, line, known.place, air)?,
+        octets: octets_in(alloc, kind, line)?,
     })
 }
 
@@ -73,7 +67,7 @@ impl<'a> Act<'a> {
             Kind::Bound => self.bound(),
             Kind::Unbound => self.unbound(),
             Kind::Receipt => self.receipt(),
-            Kind::Frame | Kind::Answer => self.frame(),
+            Kind::Frame => self.frame(),
             Kind::LinkUp => self.link_up(),
             Kind::LinkDown => self.link_down(),
             Kind::Tick => self.tick(),

@@ -1,7 +1,7 @@
 //! Kinds of events, as lines call them.
 use centre_lines::Trouble;
 
-/// The kind of an event. An answer is a frame that answers what its handset heard last.
+/// The kind of an event.
 #[derive(Clone, Copy)]
 pub(crate) enum Kind {
     Submit,
@@ -11,7 +11,6 @@ pub(crate) enum Kind {
     Unbound,
     Receipt,
     Frame,
-    Answer,
     LinkUp,
     LinkDown,
     Tick,
@@ -20,7 +19,6 @@ pub(crate) enum Kind {
 fn kind_of_handsets(name: &str) -> Result<Kind, Trouble> {
     match name {
         "frame" => Ok(Kind::Frame),
-        "answer" => Ok(Kind::Answer),
         "link_up" => Ok(Kind::LinkUp),
         "link_down" => Ok(Kind::LinkDown),
         "tick" => Ok(Kind::Tick),

@@ -15,4 +15,4 @@ mod setting;
 pub use act::{Act, act_in};
 pub use looking::{tell_receipts, tell_rows, tell_table};
 pub use measured::{Offered, Seen, cancelling, hello, link_coming, link_going, querying, sent};
-pub use setting::{accounts, centre_address, setup};
+pub use setting::setup;

@@ -1,6 +1,6 @@
 //! The octets of a line.
 use crate::kind::Kind;
-use centre_lines::{Air, Trouble, number, value, word};
+use centre_lines::{Trouble, number, value, word};
 use std::alloc::Global;
 
 fn put_octets(alloc: Global, line: &str, octets: &mut Vec<u8>) -> Result<(), Trouble> {
@@ -33,29 +33,11 @@ fn frame_octets(alloc: Global, line: &str) -> Result<Vec<u8>, Trouble> {
     Ok(hex::decode(alloc, word(line, 2)?)?)
 }
 
-fn answer_octets(
-    alloc: Global,
-    line: &str,
-    place: usize,
-    air: &mut Air,
-) -> Result<Vec<u8>, Trouble> {
-    let mut octets = frame_octets(alloc, line)?;
-    air.address(place, line, octets.as_mut_slice())?;
-    Ok(octets)
-}
-
 /// The octets of the submission or frame that the line says.
-pub(crate) fn octets_in(
-    alloc: Global,
-    kind: Kind,
-    line: &str,
-    place: usize,
-    air: &mut Air,
-) -> Result<Vec<u8>, Trouble> {
+pub(crate) fn octets_in(alloc: Global, kind: Kind, line: &str) -> Result<Vec<u8>, Trouble> {
     match kind {
         Kind::Submit => text_octets(alloc, line),
         Kind::Frame => frame_octets(alloc, line),
-        Kind::Answer => answer_octets(alloc, line, place, air),
         _ => Ok(Vec::new(alloc)),
     }
 }

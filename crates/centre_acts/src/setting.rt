@@ -30,15 +30,14 @@ fn add_both(alloc: Global, accounts: &mut Vec<Account>) -> Result<(), Trouble> {
     add(alloc, accounts, b"app2", "447700900002")
 }
 
-/// The accounts of a run, `app1` and `app2`, in this order.
-pub fn accounts(alloc: Global) -> Result<Vec<Account>, Trouble> {
+// `app1` and `app2`, in this order.
+fn accounts(alloc: Global) -> Result<Vec<Account>, Trouble> {
     let mut accounts = Vec::new(alloc);
     add_both(alloc, &mut accounts)?;
     Ok(accounts)
 }
 
-/// The centre's address.
-pub fn centre_address() -> Result<Address, Trouble> {
+fn centre_address() -> Result<Address, Trouble> {
     Ok(Address::new(1, 1, "447700900000")?)
 }
 

@@ -2,8 +2,8 @@
 ghost use Rattle.std.specs.Prelude.{IfOk};
 ghost use Rattle.sms_waiting.specs.SoundGivings.{IsNumber};
 
+use crate::numbers::number_of;
 use crate::trouble::Trouble;
-use plain_rows::number_of;
 use sms_base::Digits;
 use std::alloc::{AllocError, Global};
 

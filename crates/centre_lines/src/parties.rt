@@ -2,8 +2,8 @@
 ghost use Rattle.std.specs.Prelude.{IfOk};
 ghost use Rattle.sms_waiting.specs.SoundGivings.{IsNumber};
 
+use crate::numbers::number_of;
 use crate::trouble::Trouble;
-use plain_rows::number_of;
 use sms_base::{Digits, Moment};
 
 /// 2024-02-29 23:59:58.

@@ -1,121 +1,93 @@
-//! How a new centre begins. It is lent, as its store and the plain centre are, so that this program proves of none how it is let go.
+//! How a new centre begins. It is lent, as its store is, so that this program proves of neither how it is let go.
 ghost use Rattle.std.specs.Prelude.{ℕ, List};
 ghost use Rattle.sms_base.specs.Among.{Among};
 ghost use Rattle.sms_waiting.specs.SoundGivings.{IsNumber};
 ghost use Rattle.sms_centre_rules.specs.SoundCore.{AreDifferent};
 
+use crate::course::{Course, Telling, alone_at, trouble_of};
 use crate::lines::play_lines;
-use crate::pair::{Pair, alone_at, trouble_of};
-use centre_acts::{accounts, centre_address, link_coming, setup};
-use centre_lines::{Air, Tally, Trouble, moment, place_named, word};
-use plain_centre::Plain;
+use centre_acts::setup;
+use centre_lines::{Trouble, place_named, word};
 use sms_base::Digits;
 use sms_centre::{Centre, first_rows, with_centre};
 use sms_centre_memory::MemoryKeep;
 use sms_lending::lend;
 use sms_table::Table;
-use std::alloc::Global;
 use std::io::Print;
 
-/// Plays the lines with a new centre, begun as the first of them says.
+/// Plays the lines with a new centre, begun as the first of them says. What is told of a centre that begins with a link up is what is told of
+/// the one before it.
 pub(crate) fn play_section(
     rt: &HostRuntime,
-    tally: &mut Tally,
+    telling: &mut Telling,
     section: &[&str],
 ) -> Result<(), Trouble> {
     match section.split_first() {
-        Some((head, lines)) => play_headed(rt, tally, section, head, lines),
+        Some((head, lines)) => play_headed(rt, telling, head, lines),
         None => Ok(()),
     }
 }
 
-// The lines before the first that begins a centre stand alone.
+// The lines before the first that begins a centre say nothing.
 fn play_headed(
     rt: &HostRuntime,
-    tally: &mut Tally,
-    section: &[&str],
+    telling: &mut Telling,
     head: &str,
     lines: &[&str],
 ) -> Result<(), Trouble> {
     match word(head, 0)? {
-        "row" => play_named(rt, tally, head, true, lines),
-        "course" => play_named(rt, tally, head, false, lines),
-        "start" => play_started(rt, tally, head, lines),
-        _ => play_over(rt, tally, &[], section),
+        "row" => play_named(rt, telling, Telling::Row, head, lines),
+        "course" => play_named(rt, telling, Telling::Course, head, lines),
+        "start" => play_started(rt, *telling, head, lines),
+        _ => Ok(()),
     }
 }
 
 fn play_named(
     rt: &HostRuntime,
-    tally: &mut Tally,
+    telling: &mut Telling,
+    named: Telling,
     head: &str,
-    is_told: bool,
     lines: &[&str],
 ) -> Result<(), Trouble> {
     println!(rt; "{head}")?;
-    tally.begin(is_told);
-    play_over(rt, tally, &[], lines)
+    *telling = named;
+    play_over(rt, named, &[], lines)
 }
 
 fn play_started(
     rt: &HostRuntime,
-    tally: &mut Tally,
+    telling: Telling,
     head: &str,
     lines: &[&str],
 ) -> Result<(), Trouble> {
-    if tally.is_told {
+    if telling == Telling::Row {
         println!(rt; "{head}")?;
     }
-    tally.count("start");
     let handsets = alone_at(place_named(word(head, 1)?)?)?;
-    play_over(rt, tally, &handsets, lines)
+    play_over(rt, telling, &handsets, lines)
 }
 
-fn plain(alloc: Global) -> Result<Plain, Trouble> {
-    let centre = centre_address()?;
-    let start = moment(0)?;
-    Ok(Plain::new(alloc, centre, start, accounts(alloc)?))
-}
-
-// A new centre whose links to these handsets are up at once, and a plain one to which they come up.
+// A new centre whose links to these handsets are up at once.
 fn play_over(
     rt: &HostRuntime,
-    tally: &mut Tally,
+    telling: Telling,
     handsets: &[Digits],
     lines: &[&str],
 ) -> Result<(), Trouble>
     requires numbers { (number : List ℕ) → Among number handsets.now → IsNumber number }
     requires apart { AreDifferent handsets.now }
 {
-    lend(plain(rt.alloc())?, |plain| {
-        play_beside(rt, tally, handsets, lines, plain)
-    })
-}
-
-fn play_beside(
-    rt: &HostRuntime,
-    tally: &mut Tally,
-    handsets: &[Digits],
-    lines: &[&str],
-    plain: &mut Plain,
-) -> Result<(), Trouble>
-    requires numbers { (number : List ℕ) → Among number handsets.now → IsNumber number }
-    requires apart { AreDifferent handsets.now }
-{
-    if let Some(handset) = handsets.first() {
-        plain.event(&link_coming(*handset))?;
-    }
     lend(MemoryKeep::new(rt.alloc(), setup(rt.alloc())?), |keep| {
-        play_kept(rt, tally, handsets, lines, plain, keep)
+        play_kept(rt, telling, handsets, lines, keep)
     })
 }
 
 fn play_kept(
     rt: &HostRuntime,
-    tally: &mut Tally,
+    telling: Telling,
     handsets: &[Digits],
     lines: &[&str],
-    plain: &mut Plain,
     keep: &mut MemoryKeep,
 ) -> Result<(), Trouble>
     requires numbers { (number : List ℕ) → Among number handsets.now → IsNumber number }
@@ -124,7 +96,7 @@ fn play_kept(
     let alloc = rt.alloc();
     let rows = first_rows(alloc, setup(alloc)?);
     let played = with_centre(alloc, rows, handsets, Table::new(alloc), |centre| {
-        play_with(rt, tally, lines, plain, keep, centre)
+        play_with(rt, telling, lines, keep, centre)
     });
     match played {
         Ok(done) => done,
@@ -134,19 +106,17 @@ fn play_kept(
 
 fn play_with(
     rt: &HostRuntime,
-    tally: &mut Tally,
+    telling: Telling,
     lines: &[&str],
-    plain: &mut Plain,
     keep: &mut MemoryKeep,
     centre: &mut Centre,
 ) -> Result<(), Trouble> {
-    let mut pair = Pair {
+    let mut course = Course {
         alloc: rt.alloc(),
         centre,
         keep,
-        plain,
-        tally,
-        air: Air::new(),
+        telling,
+        is_unread: false,
     };
-    play_lines(rt, &mut pair, lines)
+    play_lines(rt, &mut course, lines)
 }

@@ -1,6 +1,6 @@
 //! Lines that are played with a centre.
+use crate::course::{Course, Telling};
 use crate::measuring::measure;
-use crate::pair::Pair;
 use centre_acts::{tell_receipts, tell_rows, tell_table};
 use centre_lines::{Trouble, place_named, read_number, session, value, word};
 use std::io::Print;
@@ -8,69 +8,71 @@ use std::io::Print;
 /// Plays the lines, each with what the lines before it left.
 pub(crate) fn play_lines(
     rt: &HostRuntime,
-    pair: &mut Pair<'_>,
+    course: &mut Course<'_>,
     lines: &[&str],
 ) -> Result<(), Trouble> {
     for line in lines {
-        play_line(rt, pair, line)?;
+        play_line(rt, course, line)?;
     }
     Ok(())
 }
 
-fn play_line(rt: &HostRuntime, pair: &mut Pair<'_>, line: &str) -> Result<(), Trouble> {
-    if line.is_empty() || line.starts_with('#') || pair.tally.has_differed {
+fn play_line(rt: &HostRuntime, course: &mut Course<'_>, line: &str) -> Result<(), Trouble> {
+    if line.is_empty() || line.starts_with('#') {
         return Ok(());
     }
-    if pair.tally.is_told {
+    if course.telling == Telling::Row {
         println!(rt; "{line}")?;
     }
     match word(line, 0)? {
-        "repeat" => repeat(rt, pair, line),
-        "unread" => unread(rt, pair, line),
-        "measure" => measure(rt, pair.alloc, pair.centre, line),
-        kind => look_or_act(rt, pair, kind, line),
+        "repeat" => repeat(rt, course, line),
+        "unread" => unread(rt, course, line),
+        "measure" => measure(rt, course.alloc, course.centre, line),
+        kind => look_or_act(rt, course, kind, line),
     }
 }
 
 fn look_or_act(
     rt: &HostRuntime,
-    pair: &mut Pair<'_>,
+    course: &mut Course<'_>,
     kind: &str,
     line: &str,
 ) -> Result<(), Trouble> {
     match kind {
-        "table" => tell_centre_table(rt, pair),
-        "receipts" => tell_centre_receipts(rt, pair),
-        "rows" => tell_rows(rt, pair.keep),
-        _ => act(rt, pair, kind, line),
+        "table" => tell_centre_table(rt, course),
+        "receipts" => tell_centre_receipts(rt, course),
+        "rows" => tell_rows(rt, course.keep),
+        _ => act(rt, course, kind, line),
     }
 }
 
-fn tell_centre_table(rt: &HostRuntime, pair: &Pair<'_>) -> Result<(), Trouble> {
-    let table = pair.centre.table()?;
+fn tell_centre_table(rt: &HostRuntime, course: &Course<'_>) -> Result<(), Trouble> {
+    let table = course.centre.table()?;
     tell_table(rt, table.as_slice())
 }
 
-fn tell_centre_receipts(rt: &HostRuntime, pair: &Pair<'_>) -> Result<(), Trouble> {
-    let receipts = pair.centre.receipts()?;
+fn tell_centre_receipts(rt: &HostRuntime, course: &Course<'_>) -> Result<(), Trouble> {
+    let receipts = course.centre.receipts()?;
     tell_receipts(rt, receipts.as_slice())
 }
 
-fn act(rt: &HostRuntime, pair: &mut Pair<'_>, kind: &str, line: &str) -> Result<(), Trouble> {
-    pair.tally.count(kind);
+fn act(rt: &HostRuntime, course: &mut Course<'_>, kind: &str, line: &str) -> Result<(), Trouble> {
     match kind {
-        "restart" => start_again(pair, line),
-        _ => pair.happen(rt, line),
+        "restart" => {
+            start_again(course, line)?;
+            course.tell_nothing(rt)
+        }
+        _ => course.happen(rt, line),
     }
 }
 
-fn start_again(pair: &mut Pair<'_>, line: &str) -> Result<(), Trouble> {
+fn start_again(course: &mut Course<'_>, line: &str) -> Result<(), Trouble> {
     if let Some(name) = value(line, "up") {
-        return pair.restart_awaiting(place_named(name)?);
+        return course.restart_awaiting(place_named(name)?);
     }
     match value(line, "session") {
-        Some(_) => pair.restart_seated(session(line)?),
-        None => pair.restart(&[]),
+        Some(_) => course.restart_seated(session(line)?),
+        None => course.restart(&[]),
     }
 }
 
@@ -83,23 +85,23 @@ fn rest(line: &str) -> &str {
 }
 
 // `repeat COUNT LINE`: the line so many times, of which nothing is told.
-fn repeat(rt: &HostRuntime, pair: &mut Pair<'_>, line: &str) -> Result<(), Trouble> {
+fn repeat(rt: &HostRuntime, course: &mut Course<'_>, line: &str) -> Result<(), Trouble> {
     let count = read_number(word(line, 1)?)?;
     let line = rest(rest(line));
-    let is_told = pair.tally.is_told;
-    pair.tally.is_told = false;
+    let telling = course.telling;
+    course.telling = Telling::Nothing;
     for _ in 0..count {
-        act(rt, pair, word(line, 0)?, line)?;
+        act(rt, course, word(line, 0)?, line)?;
     }
-    pair.tally.is_told = is_told;
-    Ok(())
+    course.telling = telling;
+    course.tell_nothing(rt)
 }
 
 // `unread LINE`: what is planned of it with a store that can't be read.
-fn unread(rt: &HostRuntime, pair: &mut Pair<'_>, line: &str) -> Result<(), Trouble> {
+fn unread(rt: &HostRuntime, course: &mut Course<'_>, line: &str) -> Result<(), Trouble> {
     let line = rest(line);
-    pair.tally.is_unread = true;
-    act(rt, pair, word(line, 0)?, line)?;
-    pair.tally.is_unread = false;
+    course.is_unread = true;
+    act(rt, course, word(line, 0)?, line)?;
+    course.is_unread = false;
     Ok(())
 }

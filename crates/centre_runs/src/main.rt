@@ -1,20 +1,24 @@
-//! Runs the centre over lines of text, and beside it a centre that is written once more, as plainly as can be (`plain_centre`): after
-//! each event both have stored, sent and answered the same, or a line says where they differ.
+//! Runs the centre over lines of text, and tells what comes of them.
 //!
-//! A line `row NAME` begins a new centre, of which is told what comes of each event; a line `course NAME` one of which nothing is told
-//! but where it differed; a line `start HANDSET`, told as what happens is, one whose link to that handset is up at once. The other lines
-//! say what happens, and are told as they stand. Lines that are empty or begin with `#` say nothing. Standard input has rows as they
-//! were worked out from the standards and from docs/BEHAVIOUR.md, without our code, with what is to come of them in the file `stdout`;
-//! and courses of random events (`vectors/courses.py`).
+//! A line `row NAME` begins a new centre, of which each line is told with what comes of it; a line `course NAME` one of which a checksum is
+//! told after each line, of what came of it and of all rows; a line `start HANDSET` one whose link to that handset is up at once, of which is
+//! told as of the one before. The other lines say what happens, `repeat COUNT LINE` so many times, of which nothing is told; `unread LINE`
+//! whether it can be planned with a store that can't be read; `table`, `receipts` and `rows` ask for what a centre tells of itself. Lines that
+//! are empty or begin with `#` say nothing.
+//!
+//! Standard input has rows as they were worked out from the standards and from docs/BEHAVIOUR.md, without our code; these as courses, and
+//! courses of random events. The file `stdout` has what a centre does that is written once more, apart from this code and in another language
+//! (`tests/plain`, `vectors/courses.py`).
 #![tactic(auto)]
 
 mod beginning;
+mod course;
 mod lines;
 mod measuring;
-mod pair;
 
 use crate::beginning::play_section;
-use centre_lines::{Tally, Trouble};
+use crate::course::Telling;
+use centre_lines::Trouble;
 use std::io::{Print, Read};
 use std::process::ExitCode;
 
@@ -82,9 +86,9 @@ fn begins(line: &str) -> bool {
 }
 
 fn run_lines(rt: &HostRuntime, lines: &[&str]) -> Result<(), Trouble> {
-    let mut tally = Tally::new();
+    let mut telling = Telling::Row;
     for section in lines.chunk_by(|_, line| !begins(line)) {
-        play_section(rt, &mut tally, section)?;
+        play_section(rt, &mut telling, section)?;
     }
-    tally.tell(rt)
+    Ok(())
 }

@@ -3,7 +3,7 @@
 ghost use Rattle.sms_centre_rules.specs.SoundCore.{HasNumber};
 ghost use Rattle.sms_centre.specs.Planning.{Fits};
 
-use crate::pair::restart_with;
+use crate::course::restart_with;
 use centre_acts::{
     Offered, Seen, cancelling, hello, link_coming, link_going, querying, sent, setup,
 };

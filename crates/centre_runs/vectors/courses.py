@@ -1,18 +1,218 @@
 #!/usr/bin/env python3
 """Writes the courses of random events: what stands in ../stdin from the first line `course` on, and what is to come of it in ../stdout.
 
-What comes of a course is that the two centres never differ, so ../stdout has its name alone; behind the last one stand how often each
-kind of event happens, rows included, and that there were no differences. With a number as its argument it writes other courses, from
-that seed, to standard output, to be run by hand: `python3 vectors/courses.py 7 > /tmp/lines; rt try < /tmp/lines`.
+What is to come of them is what the plain centre does (tests/plain), which also does the rows before them, to see that it has what was worked
+out by hand. With two files as its arguments behind a number it writes other courses, from that seed, and what is to come of them:
+`python3 vectors/courses.py 7 /tmp/lines /tmp/told; rt try < /tmp/lines | diff - /tmp/told`.
 """
+import copy
 import os
 import random
+import subprocess
 import sys
 
-KINDS = ['submit', 'query', 'cancel', 'bound', 'unbound', 'receipt', 'frame', 'answer', 'link_up', 'link_down', 'tick', 'restart', 'start']
-NUMBERS = ['10325476', '447700900123', '447700900456', '447700900789']
+sys.dont_write_bytecode = True
+sys.path.insert(0, os.path.join(os.path.dirname(os.path.abspath(__file__)), '../../../tests/plain'))
+from centre import ENDINGS, Centre, SubmitSm
+from formats import START, Sum
+
+PLACES = {'A': '447700900123', 'B': '447700900456', 'C': '447700900789'}
+NAMES = {digits: name for name, digits in PLACES.items()}
+ACCOUNTS = [(b'app1', (1, 1, '447700900001')), (b'app2', (1, 1, '447700900002'))]
+# The statuses that a centre answers (SMPP v3.4 5.1.3).
+STATUSES = {'RINVMSGLEN': 0x01, 'RSYSERR': 0x08, 'RINVSRCADR': 0x0A, 'RINVDSTADR': 0x0B, 'RINVMSGID': 0x0C, 'RCANCELFAIL': 0x11,
+            'RMSGQFUL': 0x14, 'RINVESMCLASS': 0x43, 'RSUBMITFAIL': 0x45, 'RINVSCHED': 0x61, 'RINVEXPIRY': 0x62, 'ROPTPARNOTALLWD': 0xC1,
+            'RINVPARLEN': 0xC2}
+# Lines of rows that are told again as courses.
+AGAIN = ('row', 'submit', 'query', 'cancel', 'bound', 'unbound', 'receipt', 'frame', 'link_up', 'link_down', 'tick', 'restart', 'repeat', 'start')
 PAST, FUTURE = '42209232958500', '42301010000000'
 
+
+# ---- what comes of lines
+
+def fields_of(words):
+    return dict(word.split('=', 1) for word in words if '=' in word)
+
+
+class Play:
+    """A centre, and what a run tells of it."""
+
+    def __init__(self, head):
+        self.told, self.is_told = [head], head.startswith('row ')
+        self.begin([])
+
+    def begin(self, awaited):
+        self.centre = Centre('447700900000', ACCOUNTS)
+        for handset in awaited:
+            self.centre.meet(self.centre.link_up, handset)
+
+    def line(self, line):
+        if not line or line.startswith('#'):
+            return
+        if self.is_told:
+            self.told.append(line)
+        kind, _, rest = line.partition(' ')
+        centre = self.centre
+        if kind == 'repeat':
+            count, again = rest.split(' ', 1)
+            for _ in range(int(count)):
+                self.act(again)
+            centre.frames, centre.answer, centre.deliveries = [], None, []
+            if not self.is_told:
+                self.told.append(f'  {self.checksum()}')
+        elif kind == 'unread':
+            self.told.append('  ' + self.unread(rest))
+        elif kind == 'table':
+            self.told += [f"  {message['id']} {ending(message)}" for message in centre.messages]
+        elif kind == 'receipts':
+            self.told += [f"  {report['id']} {ending(centre.message(report['id']))}" for report in centre.reports]
+        elif kind == 'rows':
+            self.tell_rows()
+        elif kind == 'start':
+            self.begin([PLACES[rest]])
+        else:
+            self.act(line)
+            self.tell()
+
+    def unread(self, line):
+        """What is planned of a line with a store that can't be read: an offer that the event itself did not submit can't be made."""
+        copied, parts = copy.deepcopy(self), len(self.centre.parts)
+        copied.act(line)
+        for _, frame, carried, is_copy in copied.centre.frames:
+            if carried and carried[0] == 'Data' and not is_copy and not is_new(copied.centre, carried[2], parts):
+                return 'NoBody'
+        return 'planned'
+
+    def act(self, line):
+        words = line.split(' ')
+        kind, fields, centre = words[0], fields_of(words), self.centre
+        account, session = int(fields.get('account', 0)), int(fields.get('session', 0))
+        source = int(fields.get('source_type', 1)), fields.get('source', '')
+        if kind == 'submit':
+            centre.meet(centre.submit, account, asked_in(fields))
+        elif kind in ('query', 'cancel'):
+            number = fields['number'] if 'number' in fields else f"{int(fields['id']):010d}"
+            centre.meet(centre.query if kind == 'query' else centre.cancel, account, number, *source)
+        elif kind == 'bound':
+            centre.meet(centre.bound, session, account, 'sends' not in fields)
+        elif kind == 'unbound':
+            centre.meet(centre.unbound, session)
+        elif kind == 'receipt':
+            centre.meet(centre.receipt_answered, session, int(fields['id']), 'refused' not in fields)
+        elif kind == 'frame':
+            centre.meet(centre.frame, PLACES[words[1]], bytes.fromhex(words[2]), tag_in(fields))
+        elif kind == 'tick':
+            centre.meet(centre.tick, START + int(words[1]))
+        elif kind == 'restart':
+            centre.restart([PLACES[fields['up']]] if 'up' in fields else [])
+            centre.frames, centre.answer, centre.deliveries = [], None, []
+            if 'session' in fields:
+                centre.sessions.append({'number': session, 'account': 0, 'receives': True, 'unanswered': []})
+        else:
+            centre.meet(centre.link_up if kind == 'link_up' else centre.link_down, PLACES[words[1]])
+
+    def tell(self):
+        centre = self.centre
+        if not self.is_told:
+            self.told.append(f'  {self.checksum()}')
+            return
+        if centre.answer:
+            self.told.append('  ' + centre.answer)
+        self.told += [f'  {NAMES[handset]} {frame.hex().upper()}' for handset, frame, _, _ in centre.frames]
+        self.told += [f'  receipt of {id} in session {session}' for session, id in centre.deliveries]
+
+    def tell_rows(self):
+        centre = self.centre
+        self.told.append(f'  {len(centre.messages)} messages, {len(centre.parts)} parts')
+        if centre.messages:
+            split = centre.messages[-1]['split']
+            self.told.append('  the last is not split' if split is None else f'  the last is split under {split}')
+        for report in centre.reports:
+            name = {'receipt': 'receipt', 'status': 'status report', 'unsent': 'no reference'}[report['kind']]
+            self.told.append(f"  {name} of {report['id']}, {'done' if report['is_done'] else 'open'}")
+
+    def checksum(self):
+        """Of what an event told, and of all rows."""
+        centre, told = self.centre, Sum()
+        add_answer(told, centre.answer)
+        for handset, frame, carried, is_copy in centre.frames:
+            told.numbers(*map(ord, handset))
+            told.octets(frame)
+            add_carried(told, carried)
+            told.numbers(int(is_copy))
+        for session, id in centre.deliveries:
+            told.numbers(session, id)
+        return centre.checksum(told)
+
+
+def ending(message):
+    return 'enroute' if message['state'] is None else ENDINGS[message['state']]
+
+
+def is_new(centre, tag, parts):
+    """Whether it is a part that came with the event, or the status report of a message that ended in it."""
+    return tag[0] == 'Part' and any((part['id'], part['number']) == tag[1:] for part in centre.parts[parts:])
+
+
+def asked_in(fields):
+    octets = (fields['text'].encode() if 'text' in fields else b'') + bytes.fromhex(fields.get('hex', ''))
+    return SubmitSm(
+        source=fields.get('source', ''), source_type=int(fields.get('source_type', 1)), to=fields.get('to', ''),
+        to_type=int(fields.get('to_type', 1)), esm_class=int(fields.get('esm_class', 0)), priority=int(fields.get('priority', 0)),
+        report=int(fields.get('report', 0)), coding=int(fields.get('coding', 0)), schedule=fields.get('schedule', ''),
+        validity=fields.get('validity', ''), segment=bytes.fromhex(fields['segment']) if 'segment' in fields else None,
+        is_payload='payload' in fields, octets=octets * int(fields.get('times', 1)))
+
+
+def tag_in(fields):
+    if 'entry' in fields:
+        return 'Entry', int(fields['entry'])
+    return ('Memory', int(fields['memory'])) if 'memory' in fields else None
+
+
+def add_answer(told, answer):
+    if answer is None:
+        told.numbers(0)
+    elif answer.startswith('accepted as '):
+        told.numbers(1, int(answer[12:]))
+    elif answer == 'cancelled':
+        told.numbers(3)
+    elif answer.startswith('refused: ESME_'):
+        told.numbers(4, STATUSES[answer[14:]])
+    else:
+        state, _, moment = answer.partition(' at ')
+        told.numbers(2, 4 if state == 'enroute' else ENDINGS.index(state), START + int(moment) if moment else 0)
+
+
+def add_carried(told, carried):
+    if carried is None:
+        told.numbers(0)
+        return
+    kind, reference, tag = carried
+    told.numbers(('Data', 'Ack', 'Error').index(kind) + 1, reference, ('Part', 'Report', 'Entry', 'Memory').index(tag[0]) + 1, *tag[1:])
+
+
+def measured():
+    """What the events of `measure 1000 400 64` tell."""
+    script = os.path.join(os.path.dirname(os.path.abspath(__file__)), 'measured.py')
+    return subprocess.run([sys.executable, script], capture_output=True, text=True, check=True).stdout.split('\n')[:-1]
+
+
+def told_of(lines):
+    """What is to come of lines."""
+    told, play = [], None
+    for line in lines:
+        if line.startswith(('row ', 'course ')):
+            play = Play(line)
+            told.append(play.told)
+        elif play and line.startswith('measure '):
+            play.told += [line] + measured()
+        elif play:
+            play.line(line)
+    return [line for section in told for line in section]
+
+
+# ---- random events
 
 class Course:
     """A course of events: `mixed` has a bit of all; in a `good` one handsets take what they are sent; in a `crowded` one long messages
@@ -20,8 +220,12 @@ class Course:
 
     def __init__(self, seed, mood):
         self.dice, self.mood = random.Random(seed), mood
+        self.lines = [f'course {seed} {mood}']
+        self.play = Play(self.lines[0])
         self.seconds, self.opened = 0, {'A': 0, 'B': 0, 'C': 0}
         self.answered = {'A': '', 'B': '', 'C': ''}
+        # Of each handset the transaction that the centre began last, the reference of its unit, and whether it waits for the answer.
+        self.heard = {'A': [0, 0, False], 'B': [0, 0, False], 'C': [0, 0, False]}
 
     def one_in(self, sides):
         return self.dice.randrange(sides) == 0
@@ -77,7 +281,10 @@ class Course:
 
     def question(self, kind):
         source = self.of((5, ''), (1, ' source_type=0 source=447700900001'), (1, ' source_type=5 source=Bank'), (1, ' source_type=9 source=x'))
-        which = self.of((9, f' back={self.dice.randrange(16)}'), (1, self.of((1, ' number=1'), (1, ' number='))))
+        newest = [message['id'] for message in self.play.centre.messages[::-1]]
+        back = self.dice.randrange(16)
+        id = newest[back] if back < len(newest) else 77
+        which = self.of((9, f' id={id}'), (1, self.of((1, ' number=1'), (1, ' number='))))
         return f'{kind} account={self.dice.randrange(2)}{source}{which}'
 
     def bound(self):
@@ -85,7 +292,10 @@ class Course:
         return f'bound session={session} account={session % 2}' + (' sends=1' if self.one_in(4) else '')
 
     def receipt(self):
-        return f'receipt place={self.dice.randrange(3)}' + (' refused=1' if self.one_in(3) else '')
+        place, sessions = self.dice.randrange(3), self.play.centre.sessions
+        session = sessions[place] if place < len(sessions) else {'number': 3, 'unanswered': []}
+        id = session['unanswered'][0] if session['unanswered'] else 1
+        return f"receipt session={session['number']} id={id}" + (' refused=1' if self.one_in(3) else '')
 
     # ---- handsets
 
@@ -100,14 +310,26 @@ class Course:
             (16, '02FF41020000'), (1, '02FF'), (1, '06FF'), (1, '09FF'), (2, '04FF0116'), (1, '04FF011B'), (1, '04FF0126'), (1, '04FF0129'),
             (1, '04FF012A'), (1, '04FF012F'), (1, '04FF0115'), (1, '04FF016F'), (1, '04FF01C8'), (1, '04FF011641030 0D300'.replace(' ', '')))
 
+    def heard_by(self, handset, frame, off, above):
+        """A frame of the handset in the transaction that the centre began last, or another, under the reference of its unit, or another."""
+        identifier, reference, _ = self.heard[handset]
+        self.heard[handset][2] = False
+        octets = bytearray(frame)
+        octets[0] = (identifier + off) % 7 * 16 + 137
+        if len(octets) > 4:
+            octets[4] = (reference + above) % 256
+        return f'frame {handset} {octets.hex().upper()}{self.tag()}'
+
     def answer(self):
         handset = self.handset()
-        asked = '' if self.one_in(3) else ' asked=1'
+        asked = [name for name in 'ABC' if self.heard[name][2]]
+        if not self.one_in(3) and asked:
+            handset = asked[0]
         if self.one_in(12) and self.answered[handset]:
             return self.answered[handset]
-        unit = self.answering()
-        off = self.of((30, ''), (1, ' off=6'), (1, ' above=1'), (1, ' above=255'))
-        line = f'answer {handset} 8901{len(unit) // 2:02X}{unit}{asked}{off}{self.tag()}'
+        unit = bytes.fromhex(self.answering())
+        off, above = self.of((30, (0, 0)), (1, (6, 0)), (1, (0, 1)), (1, (0, 255)))
+        line = self.heard_by(handset, bytes([0, 1, len(unit)]) + unit, off, above)
         self.answered[handset] = line
         return line
 
@@ -115,7 +337,7 @@ class Course:
         handset = self.handset()
         octets = self.of((6, '04'), (1, '1051'))
         if self.one_in(2):
-            return f'answer {handset} 89{octets}{self.tag()}'
+            return self.heard_by(handset, bytes.fromhex('00' + octets), 0, 0)
         return f'frame {handset} {self.opened[handset]}9{octets}{self.tag()}'
 
     def opening(self, handset, unit):
@@ -165,52 +387,60 @@ class Course:
         return self.of((1, 'restart'), (1, 'restart session=2'), (1, 'restart up=A'), (1, 'restart up=B'), (1, 'restart up=C'))
 
     def event(self):
-        return self.of(
+        line = self.of(
             (14, self.submit), (2, lambda: self.question('query')), (1, lambda: self.question('cancel')), (2, self.bound),
             (1, lambda: f'unbound session={self.dice.randrange(5)}'), (4, self.receipt), (24, self.frame),
             (4, lambda: f'link_up {self.handset()}'), (1, lambda: f'link_down {self.handset()}'), (6, self.tick), (1, self.restart))()
+        self.lines.append(line)
+        self.play.line(line)
+        for handset, frame, carried, _ in self.play.centre.frames:
+            if carried and carried[0] == 'Data':
+                self.heard[NAMES[handset]] = [frame[0] // 16, frame[4], True]
 
 
 def courses(first):
-    lines, seed = [], first
+    """The lines, and what is to come of them."""
+    lines, told, seed = [], [], first
     for mood, count, events in (('mixed', 4, 200), ('good', 3, 150), ('crowded', 2, 120)):
         for _ in range(count):
             course = Course(seed, mood)
-            lines.append(f'course {seed} {mood}')
-            lines += [course.event() for _ in range(events)]
+            for _ in range(events):
+                course.event()
+            lines += course.lines
+            told += course.play.told
             seed += 1
-    return lines
+    return lines, told
 
 
-def counted(lines):
-    counts = dict.fromkeys(KINDS, 0)
-    for line in lines:
-        words, times = line.split(' '), 1
-        if words[0] == 'repeat':
-            times, words = int(words[1]), words[2:]
-        if words[0] == 'unread':
-            words = words[1:]
-        if words[0] in counts:
-            counts[words[0]] += times
-    return [f'{kind} {count}' for kind, count in counts.items()] + ['differences 0']
+# ---- the files
 
-
-def rows_of(path):
+def before_courses(path):
     lines = open(path, encoding='utf-8').read().split('\n')
     first = [place for place, line in enumerate(lines) if line.startswith('course ')]
     return lines[:first[0]] if first else lines[:-1]
 
 
+def write(path, lines):
+    open(path, 'w', encoding='utf-8').write('\n'.join(lines) + '\n')
+
+
 def main():
-    if len(sys.argv) > 1:
-        print('\n'.join(courses(int(sys.argv[1]))))
+    if len(sys.argv) == 4:
+        lines, told = courses(int(sys.argv[1]))
+        write(sys.argv[2], lines)
+        write(sys.argv[3], told)
         return
     here = os.path.join(os.path.dirname(os.path.abspath(__file__)), '..')
-    given, told = rows_of(here + '/stdin'), rows_of(here + '/stdout')
-    lines = courses(1)
-    names = [line for line in lines if line.startswith('course ')]
-    open(here + '/stdin', 'w', encoding='utf-8').write('\n'.join(given + lines) + '\n')
-    open(here + '/stdout', 'w', encoding='utf-8').write('\n'.join(told + names + counted(given + lines)) + '\n')
+    rows, told = before_courses(here + '/stdin'), before_courses(here + '/stdout')
+    found = told_of(rows)
+    for place, (line, other) in enumerate(zip(found + [None], told + [None])):
+        if line != other:
+            sys.exit(f'line {place + 1} of stdout: {other!r}, but the plain centre has {line!r}')
+    again = ['course ' + line[4:] if line.startswith('row ') else line for line in rows if line.split(' ')[0] in AGAIN]
+    lines, to_come = courses(1)
+    write(here + '/stdin', rows + again + lines)
+    write(here + '/stdout', told + told_of(again) + to_come)
 
 
-main()
+if __name__ == '__main__':
+    main()

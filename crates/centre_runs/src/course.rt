@@ -1,4 +1,4 @@
-//! A centre with its store, and the plain centre beside it.
+//! A centre with its store, and what a run tells of it.
 ghost use Rattle.std.specs.Prelude.{ℕ, List, IfOk};
 ghost use Rattle.sms_base.specs.Among.{Among};
 ghost use Rattle.sms_waiting.specs.SoundGivings.{IsNumber};
@@ -7,8 +7,7 @@ ghost use Rattle.sms_centre.specs.FromBelow.{AreNew};
 ghost use Rattle.sms_centre.specs.Planning.{Fits};
 
 use centre_acts::act_in;
-use centre_lines::{Air, StandIn, Tally, Trouble, first_difference, handset, tell};
-use plain_centre::{Plain, alone};
+use centre_lines::{Happened, StandIn, Trouble, alone, handset, sum_of, tell};
 use sms_base::Digits;
 use sms_centre::{Centre, CentreEvent, PlanError, Planned, RecoverError, Rows, Seat, Told};
 use sms_centre_memory::MemoryKeep;
@@ -17,15 +16,25 @@ use sms_table::Table;
 use std::alloc::Global;
 use std::io::Print;
 
-/// A centre with its store, and the plain one, what handsets heard, and what a run has come to.
+/// What is told of each line.
+#[derive(Clone, Copy, PartialEq, Eq)]
+pub(crate) enum Telling {
+    /// The line, and what came of it.
+    Row,
+    /// The checksum of what came of it and of all rows.
+    Course,
+    Nothing,
+}
+
+/// A centre with its store.
 #[derive(Drop)]
-pub(crate) struct Pair<'a> {
+pub(crate) struct Course<'a> {
     pub(crate) alloc: Global,
     pub(crate) centre: &'a mut Centre,
     pub(crate) keep: &'a mut MemoryKeep,
-    pub(crate) plain: &'a mut Plain,
-    pub(crate) tally: &'a mut Tally,
-    pub(crate) air: Air,
+    pub(crate) telling: Telling,
+    /// Whether the store refuses each read, and an event is planned only.
+    pub(crate) is_unread: bool,
 }
 
 /// Why a centre did not start.
@@ -125,7 +134,7 @@ fn refusal(alloc: Global, centre: &Centre, event: &CentreEvent<'_>) -> Option<Pl
     centre.plan(event, &mut store).err()
 }
 
-impl<'a> Pair<'a> {
+impl<'a> Course<'a> {
     fn told(&mut self, event: &CentreEvent<'_>) -> Result<Told, Trouble>
         requires { HasNumber event.now }
     {
@@ -138,26 +147,45 @@ impl<'a> Pair<'a> {
         }
     }
 
-    // What came of an event is watched, compared with what came of it at the plain centre, and told in a row.
-    fn judge(&mut self, rt: &HostRuntime, told: &Told) -> Result<(), Trouble> {
-        let (frames, receipts) = (told.frames.as_slice(), told.deliveries.as_slice());
-        self.air.watch_all(frames)?;
-        if let Some(difference) = first_difference(
-            &told.answer,
-            frames,
-            receipts,
-            self.keep,
-            self.plain,
-        ) {
-            return self.tally.differ(rt, difference);
+    // What came of an event, and the rows.
+    fn tell(&self, rt: &HostRuntime, happened: Happened<'_>) -> Result<(), Trouble> {
+        match self.telling {
+            Telling::Row => tell(
+                rt,
+                self.alloc,
+                happened.answer,
+                happened.frames,
+                happened.receipts,
+            ),
+            Telling::Course => Ok(println!(rt; "  {}", sum_of(happened, self.keep))?),
+            Telling::Nothing => Ok(()),
         }
-        if self.tally.is_told {
-            tell(rt, self.alloc, &told.answer, frames, receipts)?;
-        }
-        Ok(())
     }
 
-    // What comes of it with a store that can't be read is told. Nothing happens to either.
+    fn tell_told(&self, rt: &HostRuntime, told: &Told) -> Result<(), Trouble> {
+        self.tell(
+            rt,
+            Happened {
+                answer: &told.answer,
+                frames: told.frames.as_slice(),
+                receipts: told.deliveries.as_slice(),
+            },
+        )
+    }
+
+    /// Nothing came of it.
+    pub(crate) fn tell_nothing(&self, rt: &HostRuntime) -> Result<(), Trouble> {
+        self.tell(
+            rt,
+            Happened {
+                answer: &None,
+                frames: &[],
+                receipts: &[],
+            },
+        )
+    }
+
+    // What comes of it with a store that can't be read is told. Nothing happens.
     fn tell_unread(&self, rt: &HostRuntime, event: &CentreEvent<'_>) -> Result<(), Trouble>
         requires { HasNumber event.now }
     {
@@ -168,30 +196,28 @@ impl<'a> Pair<'a> {
         Ok(())
     }
 
-    // The event happens to both; or it is planned with a store that can't be read, if the line asked for that.
+    // The event happens; or it is planned with a store that can't be read, if the line asked for that.
     fn event(&mut self, rt: &HostRuntime, event: &CentreEvent<'_>) -> Result<(), Trouble>
         requires { HasNumber event.now }
     {
-        if self.tally.is_unread {
+        if self.is_unread {
             return self.tell_unread(rt, event);
         }
-        self.plain.event(event)?;
         let told = self.told(event)?;
-        self.judge(rt, &told)
+        self.tell_told(rt, &told)
     }
 
-    /// What the line says happens to both.
+    /// What the line says happens.
     pub(crate) fn happen(&mut self, rt: &HostRuntime, line: &str) -> Result<(), Trouble> {
-        let act = act_in(self.alloc, line, self.plain, &mut self.air)?;
+        let act = act_in(self.alloc, line)?;
         self.event(rt, &act.event()?)
     }
 
-    /// Both stop and start again, with nobody bound; links to these handsets are up from the next tick on.
+    /// It stops and starts again, with nobody bound; links to these handsets are up from the next tick on.
     pub(crate) fn restart(&mut self, handsets: &[Digits]) -> Result<(), Trouble>
         requires numbers { (number : List ℕ) → Among number handsets.now → IsNumber number }
         requires apart { AreDifferent handsets.now }
     {
-        self.plain.restart(handsets)?;
         restart_kept(self.alloc, self.centre, self.keep, handsets)
     }
 
@@ -201,10 +227,8 @@ impl<'a> Pair<'a> {
         self.restart(&handsets)
     }
 
-    /// Both stop and start again, with a session of the first account bound.
+    /// It stops and starts again, with a session of the first account bound.
     pub(crate) fn restart_seated(&mut self, session: u32) -> Result<(), Trouble> {
-        self.plain.restart(&[])?;
-        self.plain.seat(session, 0, true)?;
         restart_bound(self.alloc, self.centre, self.keep, session)
     }
 }
