@@ -15,8 +15,7 @@ use crate::failure::{Failure, tell};
 use crate::looking::show_store;
 use crate::running::{Run, run_lines};
 use sms_handset::Setup;
-use smsc_server::WordsFault;
-use smsc_words::{HandsetWords, handset_words};
+use smsc_words::{HandsetWords, WordsFault, handset_words};
 use std::process::ExitCode;
 use std::{env, io};
 

@@ -2,4 +2,4 @@ pub mod FirstLines
 pub mod Frames
 pub mod FrontsJudge
 pub mod Fronting
-pub mod Options
+pub mod Relaying

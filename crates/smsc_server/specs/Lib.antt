@@ -1,8 +1,6 @@
-pub mod Handsets
 pub mod LineReading
 pub mod Lines
-pub mod Relay
 pub mod Run
 pub mod RunEnd
-pub mod SimWords
 pub mod Fronts
+pub mod Sending

@@ -1,7 +1,7 @@
 -- The words of a handset, by clap's matches of them. The first word is the program's name.
 use Rattle.std.specs.Prelude.{◌≡◌, ℕ, List, Bool, false, Option, Some, None, MatchBool, codes, bytes_eq}
 use Rattle.clap.specs.Words.{App, first_of, matches_of, new_app, with_rule}
-use Rattle.smsc_server.specs.SimWords.{Gives, SpellsNumber, required_option}
+use Rattle.smsc_words.specs.SimWords.{Gives, SpellsNumber, required_option}
 use Rattle.smsc_words.specs.Numbers.{SpellsCount, SpellsFrom}
 use Rattle.smsc_words.specs.declared.handset.HandsetWords.{HandsetWords}
 use Rattle.smsc_words.specs.declared.handset.HandsetWords.TheVariants.{Run, Show}

@@ -1,3 +1,5 @@
 pub mod HandsetWords
 pub mod Numbers
+pub mod OwnAddress
 pub mod ServerWords
+pub mod SimWords

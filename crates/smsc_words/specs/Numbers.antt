@@ -2,7 +2,7 @@
 use Rattle.std.specs.Prelude.{◌≡◌, ℕ, ◌≤◌, List, true}
 use Rattle.std.specs.List.{list_all}
 use Rattle.std.specs.Str.Parse.{digits_value}
-use Rattle.smsc_server.specs.Handsets.{is_decimal}
+use Rattle.sms_base.specs.HandsetNumber.{is_decimal}
 
 pub record SpellsCount (text : List ℕ) (count : ℕ) : Type 0 where
   pub digits : list_all is_decimal text ≡ true

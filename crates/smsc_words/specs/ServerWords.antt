@@ -2,7 +2,7 @@
 use Rattle.std.specs.Prelude.{◌≡◌, ℕ, List, Option, Some, MatchBool, codes, option_map}
 use Rattle.clap.specs.Words.{App, Rule, first_of, matches_of, new_app, new_rule, with_rule}
 use Rattle.clap.specs.declared.builder.action.ArgAction.TheVariants.{Append, Set}
-use Rattle.smsc_server.specs.SimWords.{Gives, SpellsNumber, required_option}
+use Rattle.smsc_words.specs.SimWords.{Gives, SpellsNumber, required_option}
 use Rattle.smsc_words.specs.HandsetWords.{is_show, show_value}
 use Rattle.smsc_words.specs.Numbers.{SpellsCount, SpellsFrom}
 use Rattle.smsc_words.specs.declared.server.ServerRun.{ServerRun}

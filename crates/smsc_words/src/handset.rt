@@ -1,14 +1,13 @@
 //! The words of a handset.
-ghost use Rattle.std.specs.Prelude.{◌≡◌, false, map, drop, option_map, slice_get, codes, IfSome, IfOk};
-ghost use Rattle.clap.specs.Words.{app_of, first_value, found_of, rule_of};
-ghost use Rattle.smsc_server.specs.SimWords.{required_option};
+ghost use Rattle.std.specs.Prelude.{◌≡◌, map, drop, option_map, slice_get, codes, IfSome, IfOk};
+ghost use Rattle.clap.specs.Words.{app_of, first_value, found_of};
 ghost use Rattle.smsc_words.specs.HandsetWords.{AsksFor, AsksToRun, AsksToShow, SpelledRun, is_show, link_command, run_command, run_value, show_command, show_value};
 
-use crate::fault::fault_of;
+use crate::fault::{WordsFault, fault_of};
 use crate::number::{address_of, count_of, port_of, slots_of};
-use clap::{Arg, ArgAction, ArgMatches, Command, Error};
+use crate::option::required;
+use clap::{ArgMatches, Command, Error};
 use sms_base::Address;
-use smsc_server::WordsFault;
 use std::alloc::{AllocError, Global};
 
 /// What a run of a handset is to do.
@@ -45,16 +44,6 @@ struct RunOptions<'a> {
     slots: Option<&'a str>,
     store: Option<&'a str>,
     frames: Option<&'a str>,
-}
-
-fn required<'a>(alloc: Global, name: &'a str) -> Arg<'a>
-    ensures rule { rule_of result ≡ required_option name.entry.now }
-    ensures local { result.global ≡ false }
-{
-    Arg::new(alloc, name)
-        .long(name)
-        .required(true)
-        .action(ArgAction::Set)
 }
 
 // The first options of a run.

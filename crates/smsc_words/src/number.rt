@@ -1,14 +1,15 @@
 //! Numbers in words.
 ghost use Rattle.std.specs.Prelude.{◌≡◌, IfSome};
 ghost use Rattle.std.specs.List.{list_all};
-ghost use Rattle.smsc_server.specs.Handsets.{is_decimal};
-ghost use Rattle.smsc_server.specs.SimWords.{SpellsNumber};
+ghost use Rattle.sms_base.specs.HandsetNumber.{is_decimal};
+ghost use Rattle.smsc_words.specs.SimWords.{SpellsNumber};
 ghost use Rattle.smsc_words.specs.Numbers.{SpellsCount, SpellsFrom};
 
+use crate::address::own_address;
 use sms_base::Address;
-use smsc_server::own_address;
 
-fn is_decimal_text(text: &str) -> bool
+/// Whether the text is of digits 0 to 9.
+pub(crate) fn is_decimal_text(text: &str) -> bool
     ensures { result ≡ list_all is_decimal text.now }
 {
     text.as_bytes().iter().all(|digit| digit.is_ascii_digit())

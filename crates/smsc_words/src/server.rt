@@ -1,16 +1,16 @@
 //! The words of the server.
 ghost use Rattle.std.specs.Prelude.{◌≡◌, false, map, drop, option_map, slice_get, codes, IfSome, IfOk};
 ghost use Rattle.clap.specs.Words.{app_of, first_value, found_of, rule_of};
-ghost use Rattle.smsc_server.specs.SimWords.{required_option};
+ghost use Rattle.smsc_words.specs.SimWords.{required_option};
 ghost use Rattle.smsc_words.specs.HandsetWords.{is_show, show_command, show_value};
 ghost use Rattle.smsc_words.specs.ServerWords.{AsksOfServer, AsksToLook, AsksToServe, SpelledRun, SpelledServer, listed_words, needed_command, optional_option, port_command, server_command, server_value};
 
 use crate::account::{AccountWords, account_of};
-use crate::fault::fault_of;
+use crate::fault::{WordsFault, fault_of};
 use crate::number::{address_of, count_of, port_of};
+use crate::option::required;
 use clap::{Arg, ArgAction, ArgMatches, Command, Error};
 use sms_base::Address;
-use smsc_server::WordsFault;
 use std::alloc::{AllocError, Global};
 
 /// How many accounts there may be.
@@ -55,16 +55,6 @@ struct Options<'a> {
     sessions: Option<&'a str>,
     accounts: Option<&'a str>,
     words: Vec<&'a str>,
-}
-
-fn required<'a>(alloc: Global, name: &'a str) -> Arg<'a>
-    ensures rule { rule_of result ≡ required_option name.entry.now }
-    ensures local { result.global ≡ false }
-{
-    Arg::new(alloc, name)
-        .long(name)
-        .required(true)
-        .action(ArgAction::Set)
 }
 
 // The first options of a run.

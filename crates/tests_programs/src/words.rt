@@ -1,7 +1,6 @@
 //! Words of a handset.
 use crate::rows::holds;
-use smsc_server::WordsFault;
-use smsc_words::{HandsetWords, handset_words};
+use smsc_words::{HandsetWords, WordsFault, handset_words};
 use std::alloc::Global;
 use std::test::Fail;
 

@@ -1,5 +1,6 @@
 use sms_base::Moment;
-use smsc_server::{RunError, own_address, run_relay};
+use smsc_server::{RunError, run_relay};
+use smsc_words::own_address;
 use std::alloc::Global;
 use std::test::Fail;
 
@@ -46,6 +47,14 @@ fn a_header_passes_octet_for_octet(rt: HostRuntime) {
     let input = "00030007914477000900001441070C914477000940650000080500032A0201C2\n";
     let output = "447700900123 03034109010042209232958500\n\
         447700900456 01000791447700090000001A440C91447700091032000042209232958500080500032A0201C2\n";
+    assert!(rt; writes(rt.alloc(), input, output));
+}
+
+#[test]
+fn the_destination_may_be_the_sender(rt: HostRuntime) {
+    let input = "00030007914477000900001201070C91447700091032000005E8329BFD06\n";
+    let output = "447700900123 03034109010042209232958500\n\
+        447700900123 010007914477000900000018040C9144770009103200004220923295850005E8329BFD06\n";
     assert!(rt; writes(rt.alloc(), input, output));
 }
 

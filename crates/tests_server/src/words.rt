@@ -1,5 +1,5 @@
 use sms_base::Address;
-use smsc_server::{SimWords, WordsFault, sim_words};
+use smsc_words::{SimWords, WordsFault, sim_words};
 use std::alloc::Global;
 
 fn digits(address: &Address, text: &str) -> bool {

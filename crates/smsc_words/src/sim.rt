@@ -1,13 +1,14 @@
-//! The words of the programs.
-ghost use Rattle.std.specs.Prelude.{◌≡◌, false, map, option_map, codes, IfSome, IfOk};
+//! The words of the simulator.
+ghost use Rattle.std.specs.Prelude.{◌≡◌, map, option_map, codes, IfSome, IfOk};
 ghost use Rattle.std.specs.List.{list_all};
-ghost use Rattle.smsc_server.specs.Handsets.{is_decimal};
-ghost use Rattle.clap.specs.Words.{app_of, first_value, found_of, rule_of};
-ghost use Rattle.smsc_server.specs.SimWords.{AsksFor, Spelled, SpellsNumber, SpellsSeconds, relay_command, required_option, value_of};
+ghost use Rattle.sms_base.specs.HandsetNumber.{is_decimal};
+ghost use Rattle.clap.specs.Words.{app_of, first_value, found_of};
+ghost use Rattle.smsc_words.specs.SimWords.{AsksFor, Spelled, SpellsNumber, SpellsSeconds, relay_command, value_of};
 
-use crate::handset::own_address;
-use clap::error::ErrorKind;
-use clap::{Arg, ArgAction, ArgMatches, Command, Error};
+use crate::fault::{WordsFault, fault_of};
+use crate::number::{address_of, is_decimal_text};
+use crate::option::required;
+use clap::{ArgMatches, Command, Error};
 use sms_base::{Address, Moment};
 use std::alloc::{AllocError, Global};
 
@@ -25,31 +26,12 @@ pub enum SimWords {
     },
 }
 
-/// Why words are no run.
-#[derive(Clone, Copy, Debug, PartialEq, Eq)]
-pub enum WordsFault {
-    /// A word is missing, too many or can't be read.
-    BadWords,
-    /// There was no memory.
-    NoMemory,
-}
-
 // The options of a relay run, as text.
 #[derive(Debug, Drop)]
 struct RelayOptions<'a> {
     centre: Option<&'a str>,
     from: Option<&'a str>,
     now: Option<&'a str>,
-}
-
-fn required<'a>(alloc: Global, name: &'a str) -> Arg<'a>
-    ensures rule { rule_of result ≡ required_option name.entry.now }
-    ensures local { result.global ≡ false }
-{
-    Arg::new(alloc, name)
-        .long(name)
-        .required(true)
-        .action(ArgAction::Set)
 }
 
 // The values of the options in the matches of the words.
@@ -86,12 +68,6 @@ fn relay_options<'a>(alloc: Global, words: &'a [&'a str]) -> Result<RelayOptions
     Ok(options_of(&matches))
 }
 
-fn is_decimal_text(text: &str) -> bool
-    ensures { result ≡ list_all is_decimal text.now }
-{
-    text.as_bytes().iter().all(|digit| digit.is_ascii_digit())
-}
-
 // The moment of a number of seconds, in decimal digits alone.
 fn moment_of(text: &str) -> Option<Moment>
     ensures { IfSome result (λ moment. SpellsSeconds text.now moment) }
@@ -103,17 +79,11 @@ fn moment_of(text: &str) -> Option<Moment>
     Moment::from_seconds(seconds).ok()
 }
 
-fn number_of(text: &str) -> Option<Address>
-    ensures { IfSome result (λ address. SpellsNumber text.now address) }
-{
-    own_address(text)
-}
-
 fn relay_words(options: &RelayOptions<'_>) -> Option<SimWords>
     ensures { IfSome result (λ words. Spelled (option_map (λ s. s.now) options.entry.now.centre) (option_map (λ s. s.now) options.entry.now.from) (option_map (λ s. s.now) options.entry.now.now) words) }
 {
-    let centre = number_of(options.centre?)?;
-    let from = number_of(options.from?)?;
+    let centre = address_of(options.centre?)?;
+    let from = address_of(options.from?)?;
     let now = moment_of(options.now?)?;
     Some(SimWords::Relay { centre, from, now })
 }
@@ -132,13 +102,5 @@ pub fn sim_words(alloc: Global, words: &[&str]) -> Result<SimWords, WordsFault>
             Err(error) => Err(fault_of(&error)),
         },
         _ => Err(WordsFault::BadWords),
-    }
-}
-
-fn fault_of(error: &Error) -> WordsFault {
-    if error.kind() == ErrorKind::OutOfMemory {
-        WordsFault::NoMemory
-    } else {
-        WordsFault::BadWords
     }
 }

@@ -1,14 +1,15 @@
 -- The words of a relay run, `relay --centre NUMBER --from NUMBER --now SECONDS`, by clap's matches of them.
-use Rattle.std.specs.Prelude.{◌≡◌, ℕ, List, Bool, true, Option, Some, codes}
+use Rattle.std.specs.Prelude.{◌≡◌, ℕ, List, true, Option, Some, codes}
 use Rattle.std.specs.List.{list_all}
 use Rattle.std.specs.Str.{chars}
 use Rattle.std.specs.Str.Parse.{digits_value}
 use Rattle.clap.specs.Words.{App, Rule, first_of, matches_of, new_app, new_rule, with_rule}
 use Rattle.clap.specs.declared.builder.action.ArgAction.TheVariants.{Set}
 use Rattle.sms_base.specs.declared.address.Address.{Address}
-use Rattle.smsc_server.specs.Handsets.{IsOwnAddress, is_decimal}
-use Rattle.smsc_server.specs.declared.words.SimWords.{SimWords}
-use Rattle.smsc_server.specs.declared.words.SimWords.TheVariants.{Relay}
+use Rattle.sms_base.specs.HandsetNumber.{is_decimal}
+use Rattle.smsc_words.specs.OwnAddress.{IsOwnAddress}
+use Rattle.smsc_words.specs.declared.sim.SimWords.{SimWords}
+use Rattle.smsc_words.specs.declared.sim.SimWords.TheVariants.{Relay}
 
 -- an option with a value, that must be given
 abbrev pub required_option : List ℕ → Rule

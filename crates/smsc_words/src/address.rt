@@ -1,9 +1,10 @@
-//! Addresses that name a handset.
+//! Addresses in words.
 ghost use Rattle.std.specs.Prelude.{◌≡◌, Some, IfSome};
 ghost use Rattle.std.specs.List.{list_all};
 ghost use Rattle.std.specs.Str.{chars};
 ghost use Rattle.sms_base.specs.declared.address.Address.{Address as AddressOf};
-ghost use Rattle.smsc_server.specs.Handsets.{IsOwnAddress, names_handset, is_decimal};
+ghost use Rattle.sms_base.specs.HandsetNumber.{is_decimal};
+ghost use Rattle.smsc_words.specs.OwnAddress.{IsOwnAddress};
 
 use sms_base::Address;
 
@@ -17,13 +18,6 @@ fn are_decimal(digits: &[char]) -> bool
     ensures { result ≡ list_all is_decimal digits.now }
 {
     digits.iter().all(|digit| is_decimal(*digit))
-}
-
-/// Whether the address names a handset: a number of unknown, international or national type, of digits 0 to 9.
-pub(crate) fn names_handset(address: &Address) -> bool
-    ensures { result ≡ names_handset address.now }
-{
-    address.ton.number() < 3 && are_decimal(address.digits.as_slice())
 }
 
 /// The international number of those digits, if they are 1 to 20 digits 0 to 9.

@@ -1,5 +1,5 @@
 -- What an empty service centre sends for one unit of the relay layer that a handset sends up.
-use Rattle.std.specs.Prelude.{◌≡◌, ℕ, ◌≤◌, List, [], Bool, true, false, nat_le, slice_index, Option, Some, None, Result, Ok, Err, MatchResult, MatchBool}
+use Rattle.std.specs.Prelude.{◌≡◌, ℕ, List, Bool, true, false, nat_le, slice_index, Option, Some, None, Result, Ok, Err, MatchResult, MatchBool}
 use Rattle.sms_base.specs.declared.address.Address.{Address}
 use Rattle.sms_relay.specs.declared.cause.RpCause.{RpCause}
 use Rattle.sms_relay.specs.declared.cause.RpCause.TheVariants.{ShortMessageTransferRejected, InvalidMandatoryInformation, MessageTypeNonExistent}
@@ -22,11 +22,11 @@ use Rattle.sms_tpdu.specs.declared.validity_period.ValidityPeriod.TheVariants.{N
 use Rattle.sms_tpdu.specs.AddressGrammar.{relay_address}
 use Rattle.sms_tpdu.specs.TpduGrammar.{IsWrittenDeliver, IsWrittenSubmitReport}
 use Rattle.sms_tpdu.specs.TpduReading.{up_at as tpdu_up_at}
-use Rattle.smsc_server.specs.Handsets.{names_handset}
-use Rattle.smsc_server.specs.declared.once.Relayed.{Relayed}
-use Rattle.smsc_server.specs.declared.refusal.Refusal.{Refusal}
-use Rattle.smsc_server.specs.declared.refusal.Refusal.TheVariants.{WrongType, WrongValidityFormat, Unreadable, NoHandset, PastLimit}
-use Rattle.smsc_server.specs.declared.refusal.TheConstants.{INVALID_SME_ADDRESS, VALIDITY_PERIOD_FORMAT_NOT_SUPPORTED, UNSPECIFIED_ERROR}
+use Rattle.sms_base.specs.HandsetNumber.{names_handset}
+use Rattle.sms_relaying.specs.declared.relayed.Relayed.{Relayed}
+use Rattle.sms_relaying.specs.declared.refusal.Refusal.{Refusal}
+use Rattle.sms_relaying.specs.declared.refusal.Refusal.TheVariants.{WrongType, WrongValidityFormat, Unreadable, NoHandset, PastLimit}
+use Rattle.sms_relaying.specs.declared.refusal.TheConstants.{INVALID_SME_ADDRESS, VALIDITY_PERIOD_FORMAT_NOT_SUPPORTED, UNSPECIFIED_ERROR}
 
 -- no frame
 abbrev pub IsNothing : Relayed → Type 0

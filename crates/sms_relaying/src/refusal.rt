@@ -1,7 +1,7 @@
 //! Why a SUBMIT is refused.
 ghost use Rattle.std.specs.Prelude.{◌≡◌};
 ghost use Rattle.sms_relay.specs.Cause.{IsRpCause};
-ghost use Rattle.smsc_server.specs.Relay.{refusal_of, cause_of, failure_cause_of, unreadable_cause};
+ghost use Rattle.sms_relaying.specs.Relay.{refusal_of, cause_of, failure_cause_of, unreadable_cause};
 
 use sms_relay::{RelayFault, RpCause};
 use sms_tpdu::TpduFault;

@@ -1,0 +1,14 @@
+use Rattle.std.proofs.Common.{[], None, sym, subst}
+use Rattle.sms_centre.specs.FromBelow.{IsTold, Told}
+use Rattle.sms_centre.specs.Stored.{StoresRows}
+use Rattle.sms_centre_rules.specs.CentreEvent.{happened, started}
+use Rattle.sms_centre_rules.specs.Draft.{Core}
+use Rattle.sms_centre_rules.specs.SoundRows.{first_rows}
+use Rattle.smsc_server.proofs.centre.tell.Goals as goal
+
+pub returns-in-Ok : goal.returns-in-Ok
+returns-in-Ok c = λ setup handsets is.
+    let core : Core = started (first_rows setup) handsets [] in
+    let stores : StoresRows (λ key. None) core.rows = record { parts = λ p among. absurd among; reports = λ r among status. absurd among } in
+    let planned = (c.in-Ok.ensures.goes tt core tt is stores tt).0 in
+    subst (λ (t : Told). IsTold (happened c.args.event.now core) t) (sym c.adopt.ensures.told) planned.told
