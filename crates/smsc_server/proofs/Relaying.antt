@@ -1,6 +1,6 @@
 -- What is told of the event is what an empty centre sends.
 use Rattle.std.specs.declared.alloc.AllocError.{AllocError}
-use Rattle.std.proofs.Common.{◌≡◌, ℕ, List, [], Option, Result, Ok, Err, IfOk, refl, sym, ◌∙◌, ap, subst}
+use Rattle.std.proofs.Common.{◌≡◌, ℕ, List, [], Option, Result, Ok, Err, IfOk, refl, sym, subst}
 use Rattle.sms_base.specs.Address.{IsAddress}
 use Rattle.sms_base.specs.HandsetNumber.{own_address}
 use Rattle.sms_base.specs.declared.address.Address.{Address}

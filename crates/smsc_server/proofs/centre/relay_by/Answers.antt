@@ -10,14 +10,15 @@ use Rattle.smsc_server.proofs.Relaying.{if_ok, relayed_as}
 use Rattle.smsc_server.proofs.centre.relay_by.Goals as goal
 
 pub returns : goal.returns
-returns c = record { is = λ address now unit is same named relays.
-    let core : Core = centre_for address c.args.from now unit in
-    let of_event = c.in_ok-told.ensures (setup_for address now) (handsets_for c.args.from (destination_of (up_at unit))) is in
-    let sent : told c.as_slice.result.now ≡ frames_of c.args.from relays.relayed =
+returns c = record {
+  is = λ address now unit is same named relays.
+      let core : Core = centre_for address c.args.from now unit in
+      let of_event = c.in_ok-told.ensures (setup_for address now) (handsets_for c.args.from (destination_of (up_at unit))) is in
+      let sent : told c.as_slice.result.now ≡ frames_of c.args.from relays.relayed =
       ap (λ (frames : List Sent). told frames) c.as_slice.ensures
       ∙ ap (λ (frames : List Sent). told frames) of_event.frames
       ∙ ap (λ (octets : List ℕ). told (happened (Frame c.args.from octets None) core).air.frames) (c.of.ensures ∙ same)
       ∙ relays.sent in
-    if_ok c.units_in.result _ _ (λ x e. relayed_as address (own_address c.args.from) now unit relays.relayed x relays.is_relayed e)
-    (c.units_in.ensures address c.args.from now unit relays.relayed relays.is_relayed sent named);
+      if_ok c.units_in.result _ _ (λ x e. relayed_as address (own_address c.args.from) now unit relays.relayed x relays.is_relayed e)
+      (c.units_in.ensures address c.args.from now unit relays.relayed relays.is_relayed sent named);
 }

@@ -1,5 +1,4 @@
-use Rattle.std.proofs.Common.{◌≡◌, List, [], refl, rules}
-use Rattle.sms_reports.specs.Receipts.{Session}
+use Rattle.std.proofs.Common.{◌≡◌, [], refl, rules}
 use Rattle.smsc_server.specs.Sending.{SendsFor}
 use Rattle.smsc_server.proofs.Relaying.{sent_as, stands_as}
 use Rattle.smsc_server.proofs.centre.relay_started.Goals as goal

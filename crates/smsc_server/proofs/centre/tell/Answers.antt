@@ -1,4 +1,4 @@
-use Rattle.std.proofs.Common.{List, ℕ, [], None, sym, subst}
+use Rattle.std.proofs.Common.{[], None, sym, subst}
 use Rattle.sms_centre.specs.FromBelow.{IsTold, Told}
 use Rattle.sms_centre.specs.Stored.{StoresRows}
 use Rattle.sms_centre_rules.specs.CentreEvent.{happened, started}

@@ -1,4 +1,4 @@
-use Rattle.std.proofs.Common.{sym, ◌∙◌, ◌+◌, length, drop, arith}
+use Rattle.std.proofs.Common.{sym, ◌∙◌, ◌+◌, arith}
 use Rattle.std.proofs.lemmas.List.{take_all, length-drop}
 use Rattle.smsc_server.proofs.FirstLines.{end_found, no_end_found}
 use Rattle.smsc_server.proofs.lines.cut_line.Goals as goal

@@ -1,4 +1,4 @@
-use Rattle.std.proofs.Common.{rules, ◌≡◌, ◌∙◌, ◌≤◌, ◌<◌, length, sym, ap, arith}
+use Rattle.std.proofs.Common.{rules, ◌∙◌, sym, arith}
 use Rattle.std.proofs.Math.Seq.{take-append_seam}
 use Rattle.smsc_server.proofs.Frames.{Cut, frame_none, frame_long, frame_bad, frame_second, frame_ok, some_octets, no_octets, reads_bad, reads_good}
 use Rattle.smsc_server.proofs.lines.read_frame.Goals as goal

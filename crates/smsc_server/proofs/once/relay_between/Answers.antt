@@ -1,4 +1,4 @@
-use Rattle.std.proofs.Common.{◌≡◌, List, ℕ, Option, sym, ◌∙◌, ap, subst}
+use Rattle.std.proofs.Common.{List, ℕ, Option, sym, ◌∙◌, ap, subst}
 use Rattle.sms_base.specs.Among.{Among}
 use Rattle.sms_base.specs.declared.address.Address.{Address}
 use Rattle.sms_centre_rules.specs.SoundCore.{AreDifferent}

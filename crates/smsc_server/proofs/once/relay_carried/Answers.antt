@@ -1,8 +1,7 @@
-use Rattle.std.proofs.Common.{◌≡◌, List, ℕ, Option, ◌∙◌, ap, subst}
+use Rattle.std.proofs.Common.{List, ℕ, Option, ◌∙◌, ap, subst}
 use Rattle.sms_base.specs.Among.{Among}
 use Rattle.sms_base.specs.declared.address.Address.{Address}
 use Rattle.sms_relaying.specs.Relaying.{handsets_for}
-use Rattle.sms_waiting.specs.SoundGivings.{IsNumber}
 use Rattle.smsc_server.proofs.Relaying.{if_ok, own_number, relayed_from}
 use Rattle.smsc_server.proofs.once.relay_carried.Goals as goal
 
@@ -20,6 +19,6 @@ relay_between-requires-clause-numbers c = λ number among.
 pub returns : goal.returns
 returns c =
     let relays = c.an_empty_centre_relays_a_unit.ensures c.args.centre c.args.from.digits c.args.now c.args.unit.now (own_number c.args.from c.requires.from) c.is_moment.ensures
-      c.are_octets.ensures c.requires.some c.requires.fits in
+    c.are_octets.ensures c.requires.some c.requires.fits in
     if_ok c.relay_between.result _ _ (λ x is. relayed_from c.args.centre c.args.from c.args.now c.args.unit.now x c.requires.from is)
     (c.relay_between.ensures c.args.unit.now (c.as_slice.ensures ∙ c.in_ok-frame.ensures) c.destination_of-to.ensures relays)

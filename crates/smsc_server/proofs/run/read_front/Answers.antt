@@ -1,4 +1,4 @@
-use Rattle.std.proofs.Common.{rules, ◌≡◌, ◌+◌, ◌≤◌, length, take, sym, subst, arith}
+use Rattle.std.proofs.Common.{rules, sym, subst, arith}
 use Rattle.std.specs.Io.KnownBytes.{Consumes}
 use Rattle.smsc_server.proofs.Fronting.{consumes_more, filled_more}
 use Rattle.smsc_server.proofs.run.read_front.Goals as goal

@@ -1,8 +1,6 @@
-use Rattle.std.proofs.Common.{rules, ◌≡◌, ℕ, List, Result, take, sym, subst}
-use Rattle.std.specs.Prelude.{OnOk}
+use Rattle.std.proofs.Common.{◌≡◌, ℕ, List, Result, take, sym, subst}
 use Rattle.std.specs.Io.KnownBytes.{Appends}
 use Rattle.smsc_server.specs.Fronts.{IsFront}
-use Rattle.smsc_server.specs.Lines.{frame_in}
 use Rattle.smsc_server.specs.RunEnd.{EndsFor}
 use Rattle.smsc_server.proofs.FrontsJudge.{front_judges, if_some_of, on_ok, written_for}
 use Rattle.smsc_server.proofs.run.run_relay.Goals as goal
