@@ -42,8 +42,8 @@ pub(crate) enum Opening {
     Stopped(Stopping),
 }
 
-// Each commit but the first copies the log into the database file before it writes, so that it calls both.
-fn options() -> Options {
+/// Each commit but the first copies the log into the database file before it writes, so that it calls both.
+pub(crate) fn options() -> Options {
     Options {
         checkpoint_frames: 1,
         ..Options::new(1)

@@ -27,11 +27,16 @@ fn write(memory: &mut Memory, octets: &[u8]) -> Result<(), AllocError> {
     Ok(())
 }
 
-// A file that has the octets, and stops after so many calls.
-fn file_of(alloc: Global, octets: &[u8], calls: u64) -> Result<Fuse<Memory>, AllocError> {
+/// A file that has the octets.
+pub(crate) fn memory_of(alloc: Global, octets: &[u8]) -> Result<Memory, AllocError> {
     let mut memory = Memory::new(alloc);
     write(&mut memory, octets)?;
-    Ok(Fuse::new(memory, calls))
+    Ok(memory)
+}
+
+// One that stops after so many calls.
+fn file_of(alloc: Global, octets: &[u8], calls: u64) -> Result<Fuse<Memory>, AllocError> {
+    Ok(Fuse::new(memory_of(alloc, octets)?, calls))
 }
 
 impl Image {
@@ -41,6 +46,18 @@ impl Image {
             log: Vec::new(alloc),
             database: Vec::new(alloc),
         }
+    }
+
+    pub(crate) fn from_octets(log: Vec<u8>, database: Vec<u8>) -> Image {
+        Image { log, database }
+    }
+
+    pub(crate) fn log(&self) -> &[u8] {
+        self.log.as_slice()
+    }
+
+    pub(crate) fn database(&self) -> &[u8] {
+        self.database.as_slice()
     }
 
     pub(crate) fn of(alloc: Global, files: &Stopping) -> Result<Image, AllocError> {

@@ -117,15 +117,15 @@ pub struct Wanted<'a> {
     pub after: &'a str,
 }
 
-// The store was stopped by its disk, and by nothing else.
-fn judge_cause(error: KeepError) -> Result<(), StopError> {
+/// The store was stopped by its disk, and by nothing else.
+pub(crate) fn judge_cause(error: KeepError) -> Result<(), StopError> {
     match error {
         KeepError::Disk | KeepError::Closed => Ok(()),
         _ => Err(StopError::OtherCause),
     }
 }
 
-fn judge_rows(holds: bool) -> Result<(), StopError> {
+pub(crate) fn judge_rows(holds: bool) -> Result<(), StopError> {
     if holds {
         Ok(())
     } else {
@@ -187,8 +187,8 @@ fn is_inside<T: Trial>(
     })
 }
 
-// How many calls at most are made of a file.
-const MOST: u64 = 2_048;
+/// How many calls at most are made of a file.
+pub(crate) const MOST: u64 = 2_048;
 
 // How many calls of the file are made before the call begins.
 fn calls_before<T: Trial>(
