@@ -1,7 +1,7 @@
 //! Tests of a centre's keeps, as a program that prints what it found. The keep in memory and the one over a database have the same
 //! rows after each commit; a store whose log or database file stops after any of its calls has the rows before the commit or after it when it
-//! is opened again, and a centre can stand on them; a store of version 1 becomes one of version 2; other stores are refused. Each
-//! call is made with ample memory, so that none may give up.
+//! is opened again, and a centre can stand on them; one that stops as it is made opens with a centre's first rows; a store of version 1
+//! becomes one of version 2; other stores are refused. Each call is made with ample memory, so that none may give up.
 #![tactic(auto)]
 
 mod course;
@@ -64,7 +64,8 @@ fn print_stopped(rt: &HostRuntime) -> io::Result<()> {
         "a commit as the disk stops",
         stopping::refused_commit(alloc),
     )?;
-    print(rt, "a load behind it", stopping::refused_load(alloc))
+    print(rt, "a load behind it", stopping::refused_load(alloc))?;
+    print(rt, "made, stopped anywhere", stopping::stop_making(alloc))
 }
 
 fn print_refused(rt: &HostRuntime) -> io::Result<()> {

@@ -1,4 +1,4 @@
-//! Each commit stopped anywhere, on a store in files. What it makes of the rows, the keep in memory says.
+//! Each commit stopped anywhere, and a store as it is made, in files. What it makes of the rows, the keep in memory says.
 use crate::course::{COMMITS, Commit, changes_of};
 use crate::failure::Failure;
 use crate::found::{Found, text_in};
@@ -9,7 +9,7 @@ use sms_centre_store::CentreKeep;
 use sms_keep::{Keep, KeepError};
 use sqlite::{Alter, Connection};
 use std::alloc::Global;
-use stopping_files::{Image, Made, Trial, Wanted, refusal_at_stop, stop_anywhere};
+use stopping_files::{Image, Made, Trial, Wanted, refusal_at_stop, stop_anywhere, stop_opening};
 
 // A commit of the changes.
 #[derive(Drop)]
@@ -165,6 +165,25 @@ pub(crate) fn stop_commits(alloc: Global) -> Result<&'static str, Failure> {
     let mut image = Image::new(alloc);
     stop_each(alloc, &mut image)?;
     Ok("in each the rows before it, or after it")
+}
+
+fn stop_first(alloc: Global, changes: &Changes, wanted: &str) -> Result<(), Failure> {
+    let empty = Image::new(alloc);
+    stop_opening(alloc, &CommitTrial { changes }, &empty, wanted)?;
+    Ok(())
+}
+
+fn stop_before(alloc: Global, changes: &Changes) -> Result<(), Failure> {
+    let mut first = Found::new(alloc);
+    commit_in_memory(alloc, COMMITS, 0, &mut first)?;
+    stop_first(alloc, changes, first.rows.as_str())
+}
+
+/// Stops the making of a store anywhere.
+pub(crate) fn stop_making(alloc: Global) -> Result<&'static str, Failure> {
+    let changes = changes_of(alloc, Commit::Submitted(3))?;
+    stop_before(alloc, &changes)?;
+    Ok("what is left opens with a centre's first rows")
 }
 
 fn refused<T: Trial>(alloc: Global, trial: &T) -> Result<&'static str, Failure> {
