@@ -1,5 +1,5 @@
 //! What has come since an event began.
-use crate::scene::Scene;
+use sms_judging::Scene;
 use sms_report::{Answer, FrameRow};
 use sms_reports::Delivery;
 

@@ -1,0 +1,4 @@
+pub mod RoundKeys
+pub mod Watching
+pub mod Shown
+pub mod Judging
