@@ -1,11 +1,12 @@
 //! The centre of a script in play.
-ghost use Rattle.std.specs.Prelude.{◌≡◌, ◌≤◌, ◌++◌, length, IfOk, OnOk};
+ghost use Rattle.std.specs.Prelude.{◌≡◌, ◌≤◌, ◌++◌, length, IfOk, OnOk, option_copied, option_map};
 ghost use Rattle.sms_centre.specs.FromBelow.{IsTold, message_lines, receipt_lines};
 ghost use Rattle.sms_centre_memory.specs.Kept.{rows_in};
 ghost use Rattle.sms_centre_rules.specs.CentreEvent.{happened, recovered};
 ghost use Rattle.sms_centre_rules.specs.Draft.{Core, core_of};
 ghost use Rattle.sms_centre_rules.specs.SoundCore.{HasNumber};
 ghost use Rattle.sms_heads.specs.Heads.{AreHandsets};
+ghost use Rattle.sms_messages.specs.Messages.{message_at, part_at};
 ghost use Rattle.sms_play.specs.CentreSide.{given_by};
 ghost use Rattle.sms_play.specs.PlayedEvent.{sessions_from};
 ghost use Rattle.sms_played_centre.specs.Shown.{IsPlayed, Stands};
@@ -78,13 +79,19 @@ impl<'a> PlayedCentre<'a> {
     }
 
     /// The TPDU of a part of its rows.
-    pub fn part_tpdu(&self, id: MessageId, number: u8) -> Option<&[u8]> {
-        let part = self.keep.parts.find(Key::pair(id.number(), number))?;
-        Some(part.tpdu.as_slice())
+    pub fn part_tpdu(&self, id: MessageId, number: u8) -> Option<&[u8]>
+        ensures { option_copied result ≡ option_map (λ p. p.tpdu) (part_at id number self.now.rows.parts) }
+    {
+        match self.keep.parts.find(Key::pair(id.number(), number)) {
+            Some(part) => Some(part.tpdu.as_slice()),
+            None => None,
+        }
     }
 
     /// A message of its rows.
-    pub fn message(&self, id: MessageId) -> Option<&MessageRow> {
+    pub fn message(&self, id: MessageId) -> Option<&MessageRow>
+        ensures { option_copied result ≡ message_at id self.now.rows.messages }
+    {
         self.keep.messages.find(Key::of(id.number()))
     }
 
