@@ -9,6 +9,7 @@
 #![tactic(auto)]
 
 mod answers;
+mod bell;
 mod hub;
 mod hub_fault;
 mod jobs;
@@ -18,6 +19,7 @@ mod outs;
 mod seat;
 mod terms;
 
+pub use bell::Bell;
 pub use hub::Hub;
 pub use hub_fault::HubFault;
 pub use keeper::{End, Keeper, Term};

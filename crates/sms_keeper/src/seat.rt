@@ -21,7 +21,7 @@ pub struct Seat<J, O> {
     pub(crate) pass: JobsPass<J>,
     pub(crate) answers: Arc<AnswersQueue<O>, Global>,
     pub(crate) taker: AnswersPass<O>,
-    // An answer wakes it.
+    // Wakes it: the keeper rings for an answer.
     pub(crate) bell: Arc<Parker, Global>,
     // Wakes the keeper.
     pub(crate) keeper: Arc<Parker, Global>,

@@ -6,8 +6,10 @@ ghost use Rattle.sms_keeper.specs.Seating.{number_of, put_by, taken_by, slots_of
 
 use super::Seat;
 use crate::answers::take;
+use crate::bell::Bell;
 use crate::jobs::{Letter, put};
-use std::sync::Wait;
+use std::alloc::AllocError;
+use std::sync::{Arc, Wait};
 use std::thread::Parker;
 use std::time::Duration;
 
@@ -90,7 +92,13 @@ impl<J: Drop, O: Drop> Seat<J, O> {
         take(rt, &self.answers, &mut self.taker)
     }
 
-    /// Sleeps until the keeper gives an answer, at most so long. It may return early.
+    /// The bell that the keeper rings where it gives an answer, for whoever else has something for the seat.
+    pub fn bell(&self) -> Result<Bell, AllocError> {
+        let parker = Arc::try_clone(&self.bell)?;
+        Ok(Bell { parker })
+    }
+
+    /// Sleeps until the bell rings, at most so long. It may return early.
     pub fn wait<R: Wait>(&self, rt: &R, at_most: Duration) {
         self.bell.park_timeout(rt, at_most);
     }
