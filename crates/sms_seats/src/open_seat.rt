@@ -4,7 +4,8 @@ ghost use Rattle.sms_keeper.specs.Jobs.{has_end};
 ghost use Rattle.sms_keeper.specs.Seating.{put_by};
 
 use sms_jobs::{Job, Reply};
-use sms_keeper::Seat;
+use sms_keeper::{Bell, Seat};
+use std::alloc::AllocError;
 use std::sync::Wait;
 use std::sync::atomic::{AtomicBool, Ordering};
 use std::time::Duration;
@@ -32,7 +33,12 @@ impl OpenSeat {
         self.seat.take_answer(rt)
     }
 
-    /// Sleeps until there is an answer, at most so long.
+    /// What wakes the seat, for whoever else than the keeper has something for it.
+    pub fn bell(&self) -> Result<Bell, AllocError> {
+        self.seat.bell()
+    }
+
+    /// Sleeps until the bell rings, at most so long.
     pub fn wait<R: Wait>(&self, rt: &R, at_most: Duration) {
         self.seat.wait(rt, at_most);
     }

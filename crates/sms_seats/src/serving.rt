@@ -14,18 +14,18 @@ pub trait Teller {
     fn tell(&self, seat: usize, note: Note);
 }
 
-// So many octets are read at once.
-const PIECE: usize = 4096;
-
-// So many turns a guest may be unknown, whatever it sends: half a minute of reads that wait.
+// So many turns a guest may be unknown, whatever it sends: half a minute, where it sends nothing.
 const UNKNOWN_TURNS: u32 = 1500;
 
-// So many turns the other side may take no octets: ten seconds.
-const STALLED_TURNS: u32 = 2000;
+// In each of them it is waited for so many thousandths of a second at most.
+const UNKNOWN_WAIT: u64 = 20;
 
-// So many turns, of a thousandth of a second each, a guest stays lively after something came of it or for it: it is looked at both
-// ways meanwhile, and after them its wire is waited for.
-const LIVELY_TURNS: u32 = 50;
+// So many thousandths of a second a known guest rests at most, unless the bell of its seat rings. Only the end of a run is seen that
+// late.
+const LONGEST_WAIT: u64 = 1000;
+
+// So many turns the other side may take no octets: ten seconds of writes that wait.
+const STALLED_TURNS: u32 = 500;
 
 // So many octets may wait to be sent.
 const MOST_OCTETS: usize = 1_048_576;
@@ -46,8 +46,6 @@ enum Leaves {
 struct Patience {
     unknown: u32,
     stalled: u32,
-    // Turns since something came.
-    quiet: u32,
 }
 
 // Takes what the seat is told, and tells whether there was anything.
@@ -89,7 +87,7 @@ fn send<W: Wire, G: Guest>(wire: &mut W, guest: &mut G) -> Option<usize> {
     if guest.octets().is_empty() {
         return Some(0);
     }
-    let count = wire.write_now(guest.octets())?;
+    let count = wire.write_soon(guest.octets())?;
     guest.sent(count);
     Some(count)
 }
@@ -117,37 +115,31 @@ fn count_unknown<G: Guest>(guest: &G, patience: &mut Patience) -> Leaves {
     }
 }
 
-// Reads, waiting only where there is nothing else to do.
+// Waits until the bell of the seat rings.
+fn rest<R: Wait, G: Guest>(rt: &R, seat: &OpenSeat, guest: &G) {
+    let wait = if guest.is_known() {
+        LONGEST_WAIT
+    } else {
+        UNKNOWN_WAIT
+    };
+    seat.wait(rt, Duration::from_millis(wait));
+}
+
+// Reads, and rests where nothing came and nothing is left to send: then there is nothing to do.
 fn read<R: Wait, W: Wire, G: Guest>(
     rt: &R,
     wire: &mut W,
     seat: &OpenSeat,
     guest: &mut G,
     patience: &mut Patience,
-    buffer: &mut [u8],
-    is_busy: bool,
 ) -> Result<Leaves, AllocError> {
-    let received = if is_busy {
-        wire.read_now(buffer)
-    } else {
-        wire.read_soon(buffer)
-    };
-    match received {
-        Received::Some(count) => {
-            patience.quiet = 0;
-            if count <= buffer.len() {
-                guest.take(&buffer[..count])?;
-            }
-            Ok(count_unknown(guest, patience))
-        }
-        Received::Nothing if is_busy => {
-            patience.quiet = patience.quiet.saturating_add(1);
-            seat.wait(rt, Duration::from_millis(1));
-            Ok(Leaves::Stays)
-        }
-        Received::Nothing => Ok(count_unknown(guest, patience)),
-        Received::Ended => Ok(Leaves::Ended),
+    match wire.read_now(rt) {
+        Received::Some(octets) => guest.take(octets)?,
+        Received::Nothing if guest.octets().is_empty() => rest(rt, seat, guest),
+        Received::Nothing => (),
+        Received::Ended => return Ok(Leaves::Ended),
     }
+    Ok(count_unknown(guest, patience))
 }
 
 // One turn of a guest.
@@ -157,7 +149,6 @@ fn turn<R: Wait, W: Wire, G: Guest>(
     seat: &mut OpenSeat,
     guest: &mut G,
     patience: &mut Patience,
-    buffer: &mut [u8],
 ) -> Result<Leaves, AllocError> {
     let heard = hear(rt, seat, guest)?;
     put_jobs(rt, seat, guest)?;
@@ -175,26 +166,20 @@ fn turn<R: Wait, W: Wire, G: Guest>(
         if patience.stalled > STALLED_TURNS {
             return Ok(Leaves::Stalled);
         }
-        seat.wait(rt, Duration::from_millis(5));
         return Ok(Leaves::Stays);
     }
     if guest.is_over() && guest.octets().is_empty() {
         return Ok(Leaves::Over);
     }
+    // The keeper rings no bell where it makes room.
     if guest.has_jobs() {
         seat.wait(rt, Duration::from_millis(1));
         return Ok(Leaves::Stays);
     }
-    if heard {
-        patience.quiet = 0;
-    }
     if guest.is_over() || heard {
         return Ok(Leaves::Stays);
     }
-    let is_busy = guest.unanswered() > 0
-        || !guest.octets().is_empty()
-        || patience.quiet < LIVELY_TURNS;
-    read(rt, wire, seat, guest, patience, buffer, is_busy)
+    read(rt, wire, seat, guest, patience)
 }
 
 fn note_of(leaves: Leaves) -> Note {
@@ -303,17 +288,15 @@ fn stay<R: Wait, W: Wire, G: Guest, T: Teller>(
     guest: &mut G,
     teller: &T,
 ) -> Leaves {
-    let mut buffer = [0u8; PIECE];
     let mut patience = Patience {
         unknown: 0,
         stalled: 0,
-        quiet: LIVELY_TURNS,
     };
     for _ in rt.forever() {
         if over.load(Ordering::SeqCst) {
             return Leaves::Ended;
         }
-        let leaves = turn(rt, wire, seat, guest, &mut patience, &mut buffer);
+        let leaves = turn(rt, wire, seat, guest, &mut patience);
         tell_notes(teller, seat.number(), guest);
         match leaves {
             Ok(Leaves::Stays) => (),

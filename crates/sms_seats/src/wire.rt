@@ -1,24 +1,23 @@
 //! What octets come and go on.
+use std::sync::Wait;
 
-/// What a read gave.
-#[derive(Clone, Copy, Debug, PartialEq, Eq)]
-pub enum Received {
-    /// So many octets stand at the front of the buffer.
-    Some(usize),
+/// What a look at a connection found.
+#[derive(Clone, Copy)]
+pub enum Received<'a> {
+    /// These octets came.
+    Some(&'a [u8]),
     /// None yet.
     Nothing,
     /// There will be none any more.
     Ended,
 }
 
-/// A connection. No call waits but `read_soon`, which waits a little.
+/// A connection of a seat. Where octets come, or the end, the bell of the seat rings.
 pub trait Wire {
-    /// Takes what came.
-    fn read_now(&mut self, buffer: &mut [u8]) -> Received;
+    /// Takes what came, and does not wait for more.
+    fn read_now<R: Wait>(&mut self, rt: &R) -> Received<'_>;
 
-    /// Takes what came, or what comes in the next hundredths of a second.
-    fn read_soon(&mut self, buffer: &mut [u8]) -> Received;
-
-    /// Gives the first of these octets away, and tells how many; none where the connection takes none any more.
-    fn write_now(&mut self, octets: &[u8]) -> Option<usize>;
+    /// Gives the first of these octets away, and tells how many; where the connection has no room for any, it is waited for some
+    /// hundredths of a second at most. None where the connection takes no octets any more.
+    fn write_soon(&mut self, octets: &[u8]) -> Option<usize>;
 }

@@ -8,10 +8,11 @@ use std::sync::{Arc, Wait};
 use std::thread;
 use std::time::Duration;
 
-// How long a look at the ports that found nobody waits for the next one: less after somebody came, and the longer the longer nobody does.
-const SHORTEST_PAUSE: u64 = 5;
+// So many thousandths of a second are waited for a connection at most: the end of a run is seen that late.
+const LONGEST_WAIT: u64 = 1000;
 
-const LONGEST_PAUSE: u64 = 80;
+// And so many where the doorbell can't be waited for.
+const PAUSE: u64 = 80;
 
 /// How many connections are open at most.
 pub const MOST_OPEN: usize = 32;
@@ -45,14 +46,6 @@ enum Came {
     Nobody,
     Served,
     Refused,
-}
-
-fn longer(pause: u64) -> u64 {
-    if pause < LONGEST_PAUSE {
-        pause.saturating_mul(2)
-    } else {
-        pause
-    }
 }
 
 // Tells the other side that there is no room, as far as it listens. What it sent is read first, since a connection that is closed
@@ -96,10 +89,16 @@ impl<R: Wait> Porter<R> {
         }
     }
 
+    // Waits until somebody comes.
+    fn wait(&mut self) {
+        if !self.ports.bell.wait(Duration::from_millis(LONGEST_WAIT)) {
+            let _ = thread::sleep(&self.host, Duration::from_millis(PAUSE));
+        }
+    }
+
     /// Takes so many connections. Of those beyond the greatest number at once each is told so, and is not counted.
-    pub fn accept_all(&self) {
+    pub fn accept_all(&mut self) {
         let mut left = self.sessions;
-        let mut pause = SHORTEST_PAUSE;
         for _ in 0..u64::MAX {
             if left == 0 || self.over.load(Ordering::SeqCst) {
                 return;
@@ -116,11 +115,8 @@ impl<R: Wait> Porter<R> {
             if second == Came::Served {
                 left -= 1;
             }
-            if first == Came::Nobody && second == Came::Nobody {
-                let _ = thread::sleep(&self.host, Duration::from_millis(pause));
-                pause = longer(pause);
-            } else {
-                pause = SHORTEST_PAUSE;
+            if left > 0 && first == Came::Nobody && second == Came::Nobody {
+                self.wait();
             }
         }
     }

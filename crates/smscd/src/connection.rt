@@ -1,8 +1,13 @@
 //! A connection that was accepted.
+use crate::doorbell::Doorbell;
+use crate::reading::{Piece, Reading};
 use crate::run_fault::RunFault;
-use sms_seats::{Received, Wire};
-use std::io::{self, Read, Write};
-use std::net::{TcpListener, TcpStream};
+use crossbeam_channel::{Receiver, TryRecvError, bounded};
+use sms_seats::{Note, Received, Wire};
+use std::alloc::Global;
+use std::io::{self, Write};
+use std::net::{Shutdown, TcpListener, TcpStream};
+use std::sync::Wait;
 use std::time::Duration;
 
 /// Who is at the other end.
@@ -17,6 +22,8 @@ pub enum Side {
 pub struct Ports {
     pub applications: TcpListener,
     pub links: TcpListener,
+    /// Rings where somebody comes.
+    pub bell: Doorbell,
 }
 
 // Listens on a port of this machine alone. It is not waited for.
@@ -31,9 +38,11 @@ impl Ports {
     pub fn open(rt: &HostRuntime, smpp: u16, links: u16) -> Result<Ports, RunFault> {
         let applications = listen(rt, smpp)?;
         let links = listen(rt, links)?;
+        let bell = Doorbell::of(rt, &applications, &links)?;
         Ok(Ports {
             applications,
             links,
+            bell,
         })
     }
 }
@@ -45,98 +54,68 @@ pub struct Connection {
     pub side: Side,
 }
 
-// A read that waits does so for so many thousandths of a second.
-const SHORT_WAIT: u64 = 20;
+// A write waits so many thousandths of a second for room.
+const WRITE_WAIT: u64 = 20;
 
-// And so long on a connection that rests: what is for it is sent so much later, at most.
-const LONG_WAIT: u64 = 100;
+// So many pieces of what came wait for the seat; then no more is read, and the other side is held back.
+const PIECES: usize = 4;
 
-// A connection rests after so many reads that found nothing, two seconds of them. In its first half a minute none does, since a seat
-// counts reads of somebody who does not say who it is.
-const RESTING_READS: u32 = 100;
-
-const FIRST_READS: u32 = 1500;
-
-/// The socket as a wire. It is not waited for but in `read_soon`.
+/// The wire of a connection. What came is read by the reader of the seat, and only taken here.
 #[derive(Drop)]
 pub struct Socket {
     stream: TcpStream,
-    // A read waits for octets. It is changed only where it has to be, since a connection rests most of the time.
-    waits: bool,
-    // A read that waits does so for the long time.
-    rests: bool,
-    // Reads that waited, and how many of the last ones found nothing.
-    reads: u32,
-    quiet: u32,
+    pieces: Receiver<Piece>,
+    // The one that was taken last.
+    piece: Piece,
 }
 
-// Whether the call can be made again.
-fn is_later(error: &io::Error) -> bool {
-    matches!(
-        error.kind(),
-        io::ErrorKind::WouldBlock | io::ErrorKind::TimedOut | io::ErrorKind::Interrupted
-    )
+// Sets what the connection is to do, and gives it a second time, for its reader.
+fn prepare(stream: &TcpStream) -> io::Result<TcpStream> {
+    stream.set_write_timeout(Some(Duration::from_millis(WRITE_WAIT)))?;
+    stream.set_nodelay(true)?;
+    stream.try_clone()
 }
 
 impl Socket {
-    /// The wire of a socket, if it can be had so.
-    pub fn of(stream: TcpStream) -> io::Result<Socket> {
-        stream.set_read_timeout(Some(Duration::from_millis(SHORT_WAIT)))?;
-        stream.set_nodelay(true)?;
-        stream.set_nonblocking(true)?;
-        Ok(Socket {
+    /// The wire of a connection, and what its reader needs. A connection that can't be had so has ended, or there was no memory.
+    pub fn open(alloc: Global, stream: TcpStream) -> Result<(Socket, Reading), Note> {
+        let Ok(read) = prepare(&stream) else {
+            return Err(Note::Ended);
+        };
+        let Ok((sender, pieces)) = bounded::<Piece, _>(alloc, PIECES) else {
+            return Err(Note::NoMemory);
+        };
+        let socket = Socket {
             stream,
-            waits: false,
-            rests: false,
-            reads: 0,
-            quiet: 0,
-        })
+            pieces,
+            piece: Piece::none(),
+        };
+        let reading = Reading {
+            stream: read,
+            pieces: sender,
+        };
+        Ok((socket, reading))
     }
 
-    // Has reads wait or not, and says whether that could be had.
-    fn let_wait(&mut self, waits: bool) -> bool {
-        if self.waits != waits {
-            if self.stream.set_nonblocking(!waits).is_err() {
-                return false;
+    /// Ends the connection both ways, behind all that was written. Its reader sees the end too.
+    pub fn close(&self) {
+        let _ = self.stream.shutdown(Shutdown::Both);
+    }
+}
+
+impl Wire for Socket {
+    fn read_now<R: Wait>(&mut self, rt: &R) -> Received<'_> {
+        match self.pieces.try_recv(rt) {
+            Ok(piece) => {
+                self.piece = piece;
+                Received::Some(self.piece.as_slice())
             }
-            self.waits = waits;
-        }
-        true
-    }
-
-    // Has reads that wait do so for the long time or the short one, where that can be had.
-    fn let_rest(&mut self, rests: bool) {
-        if self.rests != rests {
-            let wait = if rests { LONG_WAIT } else { SHORT_WAIT };
-            let wait = Some(Duration::from_millis(wait));
-            if self.stream.set_read_timeout(wait).is_ok() {
-                self.rests = rests;
-            }
+            Err(TryRecvError::Empty) => Received::Nothing,
+            Err(TryRecvError::Disconnected) => Received::Ended,
         }
     }
 
-    // Counts a read that waited.
-    fn count(&mut self, received: Received) {
-        self.reads = self.reads.saturating_add(1);
-        if received == Received::Nothing {
-            self.quiet = self.quiet.saturating_add(1);
-        }
-        self.let_rest(self.quiet > RESTING_READS && self.reads > FIRST_READS);
-    }
-
-    fn read(&mut self, buffer: &mut [u8]) -> Received {
-        match self.stream.read(buffer) {
-            Ok(0) => Received::Ended,
-            Ok(count) => {
-                self.quiet = 0;
-                Received::Some(count)
-            }
-            Err(error) if is_later(&error) => Received::Nothing,
-            Err(_) => Received::Ended,
-        }
-    }
-
-    fn write(&mut self, octets: &[u8]) -> Option<usize> {
+    fn write_soon(&mut self, octets: &[u8]) -> Option<usize> {
         match self.stream.write(octets) {
             Ok(count) => Some(count),
             Err(error) if is_later(&error) => Some(0),
@@ -145,30 +124,10 @@ impl Socket {
     }
 }
 
-impl Wire for Socket {
-    fn read_now(&mut self, buffer: &mut [u8]) -> Received {
-        if self.let_wait(false) {
-            self.read(buffer)
-        } else {
-            Received::Ended
-        }
-    }
-
-    fn read_soon(&mut self, buffer: &mut [u8]) -> Received {
-        if self.let_wait(true) {
-            let received = self.read(buffer);
-            self.count(received);
-            received
-        } else {
-            Received::Ended
-        }
-    }
-
-    fn write_now(&mut self, octets: &[u8]) -> Option<usize> {
-        if self.let_wait(false) {
-            self.write(octets)
-        } else {
-            None
-        }
-    }
+// Whether there was no room meanwhile.
+fn is_later(error: &io::Error) -> bool {
+    matches!(
+        error.kind(),
+        io::ErrorKind::WouldBlock | io::ErrorKind::TimedOut | io::ErrorKind::Interrupted
+    )
 }

@@ -1,9 +1,11 @@
 //! The threads of the seats.
 use crate::connection::{Connection, Side, Socket};
+use crate::reading::Reading;
 use crate::telling::ErrorTeller;
-use crossbeam_channel::Receiver;
+use crossbeam_channel::{Receiver, Sender};
 use smpp_session::Accounts;
-use sms_seats::{Application, HandsetLink, OpenSeat, serve};
+use sms_seats::{Application, HandsetLink, Note, OpenSeat, Teller, serve};
+use std::net::TcpStream;
 use std::alloc::Global;
 use std::sync::atomic::{AtomicBool, AtomicUsize, Ordering};
 use std::sync::{Arc, Wait};
@@ -20,6 +22,8 @@ pub struct Desk<R> {
     /// How many connections are open.
     pub open: Arc<AtomicUsize>,
     pub connections: Receiver<Connection>,
+    /// To the thread that reads for the seat.
+    pub readings: Sender<Reading>,
 }
 
 fn serve_application<R: Wait>(
@@ -56,15 +60,30 @@ fn serve_handset<R: Wait>(alloc: Global, desk: &Desk<R>, seat: &mut OpenSeat, so
     );
 }
 
-fn serve_connection<R: Wait>(desk: &Desk<R>, seat: &mut OpenSeat, connection: Connection) {
-    let alloc = desk.alloc;
-    let Connection { stream, side } = connection;
-    let Ok(mut socket) = Socket::of(stream) else {
-        return;
-    };
+fn serve_side<R: Wait>(desk: &Desk<R>, seat: &mut OpenSeat, side: Side, socket: &mut Socket) {
     match side {
-        Side::Application => serve_application(alloc, desk, seat, &mut socket),
-        Side::Handset => serve_handset(alloc, desk, seat, &mut socket),
+        Side::Application => serve_application(desk.alloc, desk, seat, socket),
+        Side::Handset => serve_handset(desk.alloc, desk, seat, socket),
+    }
+}
+
+// The wire of the connection, which is read from now on.
+fn open_socket<R: Wait>(desk: &Desk<R>, stream: TcpStream) -> Result<Socket, Note> {
+    let (socket, reading) = Socket::open(desk.alloc, stream)?;
+    match desk.readings.send(&desk.rt, reading) {
+        Ok(()) => Ok(socket),
+        Err(_) => Err(Note::Ended),
+    }
+}
+
+fn serve_connection<R: Wait>(desk: &Desk<R>, seat: &mut OpenSeat, connection: Connection) {
+    let Connection { stream, side } = connection;
+    match open_socket(desk, stream) {
+        Ok(mut socket) => {
+            serve_side(desk, seat, side, &mut socket);
+            socket.close();
+        }
+        Err(note) => desk.teller.tell(seat.number(), note),
     }
 }
 

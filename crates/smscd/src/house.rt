@@ -3,9 +3,10 @@ use crate::accepting::{MOST_OPEN, Porter};
 use crate::clock::MachineClock;
 use crate::connection::{Connection, Ports};
 use crate::guests::{Desk, sit};
+use crate::reading::{Reader, Reading};
 use crate::run_fault::RunFault;
 use crate::telling::ErrorTeller;
-use crossbeam_channel::{Receiver, Sender};
+use crossbeam_channel::{Receiver, Sender, bounded};
 use smpp_session::Accounts;
 use sms_jobs::{Job, Reply};
 use sms_keeper::{Broken, End, Gate, Keeper, Machine};
@@ -55,6 +56,7 @@ impl Shared {
         host: HostRuntime,
         rt: R,
         connections: &Receiver<Connection>,
+        readings: Sender<Reading>,
     ) -> Result<Desk<R>, AllocError> {
         Ok(Desk {
             rt,
@@ -67,6 +69,7 @@ impl Shared {
             over: Arc::try_clone(&self.over)?,
             open: Arc::try_clone(&self.open)?,
             connections: connections.clone()?,
+            readings,
         })
     }
 
@@ -105,6 +108,17 @@ fn open_seat(alloc: Global, keeper: &mut Keeper<Job, Reply>) -> Result<OpenSeat,
     Ok(OpenSeat { seat })
 }
 
+// The reader of a seat, and the way to it.
+fn open_reader<R: Copy>(
+    alloc: Global,
+    rt: R,
+    seat: &OpenSeat,
+) -> Result<(Sender<Reading>, Reader<R>), AllocError> {
+    let (sender, readings) = bounded::<Reading, _>(alloc, 1)?;
+    let bell = seat.bell()?;
+    Ok((sender, Reader { rt, bell, readings }))
+}
+
 impl House {
     /// A keeper without seats.
     pub fn new(alloc: Global) -> Result<House, AllocError> {
@@ -115,14 +129,27 @@ impl House {
         })
     }
 
-    // Starts the thread of one more seat.
-    fn start_seat<R: Threads + Wait + Copy + Send + 'static>(
+    fn start_reader<R: Wait + Threads + Copy + Send + 'static>(
         &mut self,
-        alloc: Global,
-        desk: Desk<R>,
+        reader: Reader<R>,
     ) -> Result<(), RunFault> {
         self.threads.reserve(1)?;
-        let seat = open_seat(alloc, &mut self.keeper)?;
+        let rt = reader.rt;
+        match thread::spawn(&rt, move || reader.read_all()) {
+            Ok(thread) => {
+                self.threads.push_reserved(thread);
+                Ok(())
+            }
+            Err(_) => Err(RunFault::NoThread),
+        }
+    }
+
+    fn start_guests<R: Threads + Wait + Copy + Send + 'static>(
+        &mut self,
+        desk: Desk<R>,
+        seat: OpenSeat,
+    ) -> Result<(), RunFault> {
+        self.threads.reserve(1)?;
         let rt = desk.rt;
         match thread::spawn(&rt, move || sit(&desk, seat)) {
             Ok(thread) => {
@@ -131,6 +158,21 @@ impl House {
             }
             Err(_) => Err(RunFault::NoThread),
         }
+    }
+
+    // Starts the two threads of one more seat: one reads the connection, and the other serves it.
+    fn start_seat<R: Threads + Wait + Copy + Send + 'static>(
+        &mut self,
+        host: HostRuntime,
+        rt: R,
+        shared: &Shared,
+        connections: &Receiver<Connection>,
+    ) -> Result<(), RunFault> {
+        let seat = open_seat(host.alloc(), &mut self.keeper)?;
+        let (sender, reader) = open_reader(host.alloc(), rt, &seat)?;
+        let desk = shared.desk(host, rt, connections, sender)?;
+        self.start_reader(reader)?;
+        self.start_guests(desk, seat)
     }
 
     /// Starts the threads of all seats.
@@ -142,8 +184,7 @@ impl House {
         connections: &Receiver<Connection>,
     ) -> Result<(), RunFault> {
         for _ in 0..MOST_OPEN {
-            let desk = shared.desk(host, rt, connections)?;
-            self.start_seat(host.alloc(), desk)?;
+            self.start_seat(host, rt, shared, connections)?;
         }
         Ok(())
     }
@@ -155,6 +196,7 @@ impl House {
     ) -> Result<(), RunFault> {
         self.threads.reserve(1)?;
         let rt = porter.rt;
+        let mut porter = porter;
         match thread::spawn(&rt, move || porter.accept_all()) {
             Ok(thread) => {
                 self.threads.push_reserved(thread);

@@ -4,9 +4,11 @@
 mod accepting;
 mod clock;
 mod connection;
+mod doorbell;
 mod guests;
 mod house;
 mod looking;
+mod reading;
 mod run_fault;
 mod running;
 mod setup;

@@ -1,39 +1,13 @@
 //! Each call of a wire refused in turn.
-ghost use Rattle.std.specs.Prelude.{◌≡◌, false};
-ghost use Rattle.sms_keeper.specs.Jobs.{has_end};
-ghost use Rattle.sms_keeper.specs.Seating.{put_by};
-
-use crate::answering::{Counter, FRAME, Open, Still, Tally};
+use crate::answering::{Counter, FRAME, Still, Tally};
 use crate::rows::holds;
+use crate::table::{ANSWERS, REQUESTS, Side, Table, is_even, is_whole, make_room, run};
 use crate::wire::Script;
-use smpp_session::{Account, Accounts};
-use sms_base::{Moment, Octets};
-use sms_jobs::{Job, Reply};
-use sms_keeper::{End, Hub, Keeper};
-use sms_lending::lend;
-use sms_seats::{Application, Guest, HandsetLink, Note, OpenSeat, Teller, serve};
+use sms_base::Moment;
 use std::alloc::Global;
-use std::sync::atomic::AtomicBool;
-use std::sync::{Arc, Wait};
+use std::sync::Wait;
 use std::test::Fail;
-use std::thread::{Threads, join};
-
-// bind_transceiver of app1 with the password secret, sequence number 1 (SMPP v3.4 4.1.5), and two submit_sm of `hello` to
-// 447700900456, numbers 2 and 3 (4.4.1).
-const REQUESTS: [u8; 133] = [
-    0x00, 0x00, 0x00, 0x21, 0x00, 0x00, 0x00, 0x09, 0x00, 0x00, 0x00, 0x00, 0x00, 0x00, 0x00, 0x01,
-    0x61, 0x70, 0x70, 0x31, 0x00, 0x73, 0x65, 0x63, 0x72, 0x65, 0x74, 0x00, 0x00, 0x34, 0x00, 0x00,
-    0x00, 0x00, 0x00, 0x00, 0x32, 0x00, 0x00, 0x00, 0x04, 0x00, 0x00, 0x00, 0x00, 0x00, 0x00, 0x00,
-    0x02, 0x00, 0x00, 0x00, 0x00, 0x01, 0x01, 0x34, 0x34, 0x37, 0x37, 0x30, 0x30, 0x39, 0x30, 0x30,
-    0x34, 0x35, 0x36, 0x00, 0x00, 0x00, 0x00, 0x00, 0x00, 0x00, 0x00, 0x00, 0x00, 0x05, 0x68, 0x65,
-    0x6C, 0x6C, 0x6F, 0x00, 0x00, 0x00, 0x32, 0x00, 0x00, 0x00, 0x04, 0x00, 0x00, 0x00, 0x00, 0x00,
-    0x00, 0x00, 0x03, 0x00, 0x00, 0x00, 0x00, 0x01, 0x01, 0x34, 0x34, 0x37, 0x37, 0x30, 0x30, 0x39,
-    0x30, 0x30, 0x34, 0x35, 0x36, 0x00, 0x00, 0x00, 0x00, 0x00, 0x00, 0x00, 0x00, 0x00, 0x00, 0x05,
-    0x68, 0x65, 0x6C, 0x6C, 0x6F,
-];
-
-// bind_transceiver_resp with `smsc` has 21 octets, and each submit_sm_resp that tells an error its header of 16 alone.
-const ANSWERS: usize = 53;
+use std::thread::Threads;
 
 // The number 447700900456 behind its length, then CP-ACK twice.
 const FRAMES: [u8; 22] = [
@@ -44,179 +18,11 @@ const FRAMES: [u8; 22] = [
 // A frame when the link comes up and one for each CP-ACK, each behind its length of two octets.
 const SENT: usize = 3 * (FRAME.len() + 2);
 
-struct Nobody;
-
-impl Teller for Nobody {
-    fn tell(&self, _seat: usize, _note: Note) {}
-}
-
 // Which calls are refused.
 #[derive(Clone, Copy)]
 enum Refused {
     Reads,
     Writes,
-}
-
-// ---- guests
-
-fn accounts(alloc: Global) -> Result<Arc<Accounts>, Fail> {
-    let mut accounts = Vec::new(alloc);
-    accounts.push(Account {
-        name: Octets::copy_of(alloc, b"app1")?,
-        password: Octets::copy_of(alloc, b"secret")?,
-    })?;
-    Ok(Arc::new(alloc, Accounts::from_vec(accounts))?)
-}
-
-// A guest is served until its wire ends, and then the seat closes.
-fn sits<R: Wait, G: Guest>(
-    rt: &R,
-    alloc: Global,
-    over: &AtomicBool,
-    wire: &mut Script<'_>,
-    seat: OpenSeat,
-    guest: &mut G,
-) {
-    let mut seat = seat;
-    serve(rt, alloc, over, wire, &mut seat, guest, &Nobody);
-    seat.close(rt, over);
-}
-
-fn application_sits<R: Wait>(
-    rt: &R,
-    alloc: Global,
-    over: &AtomicBool,
-    wire: &mut Script<'_>,
-    seat: OpenSeat,
-    accounts: Arc<Accounts>,
-) {
-    lend(Application::new(alloc, accounts), |guest| {
-        sits(rt, alloc, over, wire, seat, guest)
-    })
-}
-
-fn link_sits<R: Wait>(
-    rt: &R,
-    alloc: Global,
-    over: &AtomicBool,
-    wire: &mut Script<'_>,
-    seat: OpenSeat,
-) {
-    lend(HandsetLink::new(alloc), |guest| {
-        sits(rt, alloc, over, wire, seat, guest)
-    })
-}
-
-// ---- a run
-
-// A keeper with two seats.
-#[derive(Drop)]
-struct Room {
-    keeper: Keeper<Job, Reply>,
-    first: OpenSeat,
-    second: OpenSeat,
-}
-
-fn make_room(alloc: Global) -> Result<Room, Fail> {
-    let (keeper, first, second) = Hub::new::<Job, Reply>(alloc, 16)?;
-    Ok(Room {
-        keeper,
-        first: OpenSeat { seat: first },
-        second: OpenSeat { seat: second },
-    })
-}
-
-// Who sits at the first seat.
-#[derive(Clone, Copy)]
-enum Side {
-    Application,
-    Handset,
-}
-
-// What the two guests need beside their seats.
-#[derive(Drop)]
-struct Table {
-    alloc: Global,
-    accounts: Arc<Accounts>,
-    side: Side,
-    over: AtomicBool,
-}
-
-impl Table {
-    fn first_sits<R: Wait>(&self, rt: &R, wire: &mut Script<'_>, seat: OpenSeat) {
-        let Ok(accounts) = Arc::try_clone(&self.accounts) else {
-            return;
-        };
-        match self.side {
-            Side::Application => {
-                application_sits(rt, self.alloc, &self.over, wire, seat, accounts)
-            }
-            Side::Handset => link_sits(rt, self.alloc, &self.over, wire, seat),
-        }
-    }
-
-    fn second_sits<R: Wait>(&self, rt: &R, wire: &mut Script<'_>, seat: OpenSeat) {
-        let Ok(accounts) = Arc::try_clone(&self.accounts) else {
-            return;
-        };
-        application_sits(rt, self.alloc, &self.over, wire, seat, accounts);
-    }
-
-    fn both_sit<R: Threads + Wait + Sync>(
-        &self,
-        rt: &R,
-        first: OpenSeat,
-        second: OpenSeat,
-        failing: &mut Script<'_>,
-        well: &mut Script<'_>,
-    ) {
-        join(
-            rt,
-            || self.first_sits(rt, failing, first),
-            || self.second_sits(rt, well, second),
-        );
-    }
-}
-
-// Whether the keeper has run all that both asked.
-fn keeps<R: Wait>(
-    rt: &R,
-    alloc: Global,
-    keeper: &mut Keeper<Job, Reply>,
-    counter: &mut Counter,
-    clock: &Still,
-) -> bool {
-    keeper.run(rt, alloc, counter, &Open, clock).end == End::AllClosed
-}
-
-fn run<R: Threads + Wait + Sync>(
-    rt: &R,
-    table: &Table,
-    room: Room,
-    counter: &mut Counter,
-    clock: &Still,
-    failing: &mut Script<'_>,
-    well: &mut Script<'_>,
-) -> bool {
-    let Room {
-        mut keeper,
-        first,
-        second,
-    } = room;
-    let (ended, ()) = join(
-        rt,
-        || keeps(rt, table.alloc, &mut keeper, counter, clock),
-        || table.both_sit(rt, first, second, failing, well),
-    );
-    ended
-}
-
-// ---- what came of it
-
-fn is_even(tally: &Tally) -> Result<(), Fail> {
-    holds(tally.bound <= 1 && tally.up <= 1, "it comes once")?;
-    holds(tally.bound == tally.unbound, "a bound one is unbound once")?;
-    holds(tally.up == tally.down, "a link that is up goes down once")
 }
 
 // Nothing is written to a guest that has not come.
@@ -225,13 +31,6 @@ fn has_come(tally: &Tally, refused: Refused) -> Result<(), Fail> {
         Refused::Reads => Ok(()),
         Refused::Writes => holds(tally.bound == 1 || tally.up == 1, "it has come"),
     }
-}
-
-// The second guest is as if nobody sat beside it.
-fn is_whole(tally: &Tally, taken: usize) -> Result<(), Fail> {
-    holds(taken == ANSWERS, "it has all its answers")?;
-    holds(tally.submitted == 2, "its requests were run")?;
-    holds(tally.bound == 1 && tally.unbound == 1, "bound and unbound")
 }
 
 // A run in which the wire refuses its calls from that one on. Gives whether it refused any.
@@ -288,12 +87,7 @@ fn each_call<R: Threads + Wait + Sync>(
     refused: Refused,
     at_least: u32,
 ) -> Result<(), Fail> {
-    let table = Table {
-        alloc,
-        accounts: accounts(alloc)?,
-        side,
-        over: AtomicBool::new(false),
-    };
+    let table = Table::new(alloc, side)?;
     for call in 0..100_000u32 {
         if !refuses(rt, &table, refused, call)? {
             return holds(call >= at_least, "calls were refused");

@@ -1,5 +1,7 @@
 //! A wire that stands in for a socket.
+use sms_keeper::Bell;
 use sms_seats::{Received, Wire};
+use std::sync::Wait;
 
 // So many octets are read at once, and so many written.
 const PIECE: usize = 20;
@@ -17,6 +19,10 @@ pub(crate) struct Script<'a> {
     pub(crate) writes: u32,
     /// A call was refused.
     pub(crate) has_failed: bool,
+    /// It takes octets.
+    pub(crate) has_room: bool,
+    /// Rung where there is nothing to read, so that nobody waits.
+    pub(crate) bell: Option<Bell>,
 }
 
 impl<'a> Script<'a> {
@@ -30,55 +36,55 @@ impl<'a> Script<'a> {
             reads: u32::MAX,
             writes: u32::MAX,
             has_failed: false,
+            has_room: true,
+            bell: None,
         }
     }
 
-    fn give(&mut self, buffer: &mut [u8]) -> Received {
-        let mut count = 0usize;
-        for place in buffer.iter_mut().take(PIECE) {
-            let Some(octet) = self.octets.get(self.given) else {
-                break;
-            };
-            *place = *octet;
-            self.given = self.given.saturating_add(1);
-            count = count.saturating_add(1);
-        }
-        if count > 0 {
-            Received::Some(count)
+    // The next octets, at most a piece of them.
+    fn next(&self) -> &'a [u8] {
+        let left = self.octets.get(self.given..).unwrap_or(&[]);
+        left.get(..PIECE).unwrap_or(left)
+    }
+
+    fn give(&mut self) -> Received<'_> {
+        let piece = self.next();
+        if !piece.is_empty() {
+            self.given = self.given.saturating_add(piece.len());
+            Received::Some(piece)
         } else if self.taken >= self.wanted {
             Received::Ended
         } else {
+            if let Some(bell) = &self.bell {
+                bell.ring();
+            }
             Received::Nothing
         }
     }
+}
 
-    fn read(&mut self, buffer: &mut [u8]) -> Received {
+impl Wire for Script<'_> {
+    fn read_now<R: Wait>(&mut self, _rt: &R) -> Received<'_> {
         if self.reads == 0 {
             self.has_failed = true;
             return Received::Ended;
         }
         // A wire that refuses none is read as often as it may be.
         self.reads = self.reads.saturating_sub(1);
-        self.give(buffer)
-    }
-}
-
-impl Wire for Script<'_> {
-    fn read_now(&mut self, buffer: &mut [u8]) -> Received {
-        self.read(buffer)
+        self.give()
     }
 
-    fn read_soon(&mut self, buffer: &mut [u8]) -> Received {
-        self.read(buffer)
-    }
-
-    fn write_now(&mut self, octets: &[u8]) -> Option<usize> {
+    fn write_soon(&mut self, octets: &[u8]) -> Option<usize> {
         if self.writes == 0 {
             self.has_failed = true;
             return None;
         }
         self.writes = self.writes.saturating_sub(1);
-        let count = octets.len().min(PIECE);
+        let count = if self.has_room {
+            octets.len().min(PIECE)
+        } else {
+            0
+        };
         self.taken = self.taken.saturating_add(count);
         Some(count)
     }
