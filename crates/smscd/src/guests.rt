@@ -5,8 +5,8 @@ use crate::telling::ErrorTeller;
 use crossbeam_channel::{Receiver, Sender};
 use smpp_session::Accounts;
 use sms_seats::{Application, HandsetLink, Note, OpenSeat, Teller, serve};
-use std::net::TcpStream;
 use std::alloc::Global;
+use std::net::TcpStream;
 use std::sync::atomic::{AtomicBool, AtomicUsize, Ordering};
 use std::sync::{Arc, Wait};
 

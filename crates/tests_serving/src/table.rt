@@ -37,9 +37,13 @@ pub(crate) const ANSWERS: usize = 53;
 
 // ---- what is told
 
-/// A note as a number.
+/// The number of the note that the connection has ended.
 pub(crate) const ENDED: u32 = 1;
+
+/// That of the note that nobody said who it is.
 pub(crate) const SILENT: u32 = 2;
+
+/// That of the note that no octets are taken.
 pub(crate) const STALLED: u32 = 3;
 
 /// What the first seat told last.
