@@ -7,7 +7,10 @@
     scripts.py written    texts that handsets write to one another, handed over whole both ways
     scripts.py ticks      a thousand messages that wait, and ticks of the centre
     scripts.py restarts   a hundred messages that wait, and restarts of the centre
-    scripts.py rebuilt    two thousand messages that wait, and restarts of the centre: each reads all rows
+    scripts.py rebuilt    two thousand messages that wait, and restarts of the centre
+    scripts.py refilled   as many messages as sixteen handsets have references for, and restarts of the centre
+    scripts.py aging      as many messages as sixteen handsets have references for, and ticks of the centre
+    scripts.py woken      a handset whose 255 entries are taken, and restarts of it
 """
 import sys
 
@@ -110,8 +113,33 @@ def rebuilt(script):
     restarts(script, 2000)
 
 
+# References are 256 a handset.
+def refilled(script):
+    restarts(script, 16 * 256)
+
+
+def aging(script):
+    while script.events < 16 * 256:
+        script.submit(HANDSETS[script.events % 16])
+    while not script.full():
+        script.put(f"tick centre {START + script.events}")
+
+
+def woken(script):
+    for _ in range(255):
+        script.submit(HANDSETS[0])
+        for step in (1, 2, 3, 4):
+            script.deliver(script.frames + step)
+        script.frames += 4
+    while not script.full():
+        script.put(f"restart {HANDSETS[0]}")
+
+
 def main():
-    kinds = {f.__name__: f for f in (whole, pending, joined, written, ticks, restarts, rebuilt)}
+    kinds = {
+        f.__name__: f
+        for f in (whole, pending, joined, written, ticks, restarts, rebuilt, refilled, aging, woken)
+    }
     if len(sys.argv) != 2 or sys.argv[1] not in kinds:
         sys.exit(__doc__)
     script = Script()

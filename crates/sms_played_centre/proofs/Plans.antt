@@ -79,10 +79,6 @@ started_from rows same handsets sessions alike s r q is = started_as same rows h
 pub recovered_as : (rows : Rows) (handsets : List (List ℕ)) (sessions alike : List Session) (s : StandingOf) → sessions ≡ alike → IsStanding (recovered rows handsets sessions) s → IsStanding (recovered rows handsets alike) s
 recovered_as rows handsets sessions alike s q is = subst (λ (x : List Session). IsStanding (recovered rows handsets x) s) q is
 
--- the same with rows that are alike
-pub again_with : (rows same : Rows) (handsets : List (List ℕ)) (s : StandingOf) → rows ≡ same → IsStanding (recovered rows handsets (sessions_from 0 rows.setup.accounts)) s → IsStanding (recovered same handsets (sessions_from 0 same.setup.accounts)) s
-again_with rows same handsets s r is = subst (λ (x : Rows). IsStanding (recovered x handsets (sessions_from 0 x.setup.accounts)) s) r is
-
 pub again_is : (core : Core) (handsets : List (List ℕ)) (s : StandingOf) (rows : Rows) → IsStanding (recovered core.rows handsets (sessions_from 0 core.rows.setup.accounts)) s → rows ≡ core.rows → length core.rows.setup.accounts ≤ 32
     → IsPlayed (recovered core.rows handsets (sessions_from 0 core.rows.setup.accounts)) s rows
 again_is core handsets s rows standing same few = record { centre = standing; kept = same; accounts = few }

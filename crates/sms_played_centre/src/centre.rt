@@ -134,7 +134,8 @@ impl<'a> PlayedCentre<'a> {
         events::meet(self.centre, self.keep, event, given)
     }
 
-    /// Starts again on its rows. Links to its handsets come up at its first tick.
+    /// Starts again on its rows, which it looks over once for the greatest moment that they have seen, and doesn't copy. Links to its
+    /// handsets come up at its first tick.
     ///
     /// # Errors
     /// A growth was refused.

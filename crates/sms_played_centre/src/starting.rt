@@ -1,9 +1,9 @@
 //! How a centre on rows in memory starts, and starts again.
-ghost use Rattle.std.specs.Prelude.{◌≡◌, ◌≤◌, length, IfOk, OnErr, OnOk};
+ghost use Rattle.std.specs.Prelude.{◌≡◌, ◌≤◌, length, IfOk, OnOk};
 ghost use Rattle.std.specs.Fn.{FnOnceReturnsAtMut};
 ghost use Rattle.sms_centre.specs.FromBelow.{AreNew, IsStanding};
 ghost use Rattle.sms_centre_memory.specs.Kept.{rows_in};
-ghost use Rattle.sms_centre_rules.specs.CentreEvent.{recovered, started};
+ghost use Rattle.sms_centre_rules.specs.CentreEvent.{moment_of as moment_of_rows, recovered, started};
 ghost use Rattle.sms_centre_rules.specs.Draft.{Core};
 ghost use Rattle.sms_centre_rules.specs.SoundRows.{IsSetup, IsSound, first_rows as first_rows_of};
 ghost use Rattle.sms_heads.specs.Heads.{AreHandsets};
@@ -11,13 +11,12 @@ ghost use Rattle.sms_play.specs.PlayedEvent.{sessions_from};
 ghost use Rattle.sms_played_centre.specs.Shown.{IsPlayed, Stands};
 
 use crate::sessions::sessions_of;
-use sms_base::Digits;
-use sms_centre::laws::what_stands_is_known;
+use sms_base::{Digits, Moment};
 use sms_centre::{Centre, RecoverError, Rows, Seat, Setup, first_rows, with_centre};
 use sms_centre_memory::MemoryKeep;
 use sms_centre_rows::copy_of_setup;
-use sms_keep::Keep;
 use sms_lending::lend;
+use sms_starting::moment_among;
 use sms_table::Table;
 use std::alloc::{AllocError, Global};
 
@@ -85,85 +84,33 @@ pub fn with_first_keep<R, W: FnOnce(&mut MemoryKeep) -> R>(
 
 // ---- restarts
 
-fn load(keep: &mut MemoryKeep) -> Result<Rows, AllocError>
-    ensures rows { IfOk result (λ rows. rows ≡ rows_in keep.old) }
-    ensures same { rows_in keep.new ≡ rows_in keep.old }
+// The greatest moment that the rows have seen: each is looked at once.
+fn moment_of(keep: &MemoryKeep) -> Moment
+    ensures { result ≡ moment_of_rows (rows_in keep.now) }
 {
-    match keep.load() {
-        Ok(rows) => Ok(rows),
-        Err(_) => Err(AllocError),
-    }
+    moment_among(
+        keep.setup.start,
+        keep.messages.as_slice(),
+        keep.references.as_slice(),
+        keep.reports.as_slice(),
+    )
 }
 
-// It starts again with sound rows.
-fn recover(
-    centre: &mut Centre,
-    rows: Rows,
-    handsets: &[Digits],
-    sessions: Table<Seat>,
-) -> Result<(), AllocError>
-    requires sound { IsSound rows }
-    requires handsets { AreHandsets handsets.now }
-    requires sessions { AreNew sessions.rows }
-    ensures standing { OnOk result (IsStanding (recovered rows handsets.now sessions.rows) centre.new) }
-    ensures same { OnErr result (centre.new ≡ centre.old) }
-{
-    match centre.restart(rows, handsets, sessions) {
-        Ok(()) => Ok(()),
-        Err(RecoverError::NoMemory) => Err(AllocError),
-        Err(RecoverError::BadRows) => unreachable!(),
-    }
-}
-
-// It starts again with these rows, and a session of each account.
-fn again(
-    alloc: Global,
-    centre: &mut Centre,
-    rows: Rows,
-    handsets: &[Digits],
-) -> Result<(), AllocError>
-    requires sound { IsSound rows }
-    requires few { length rows.setup.accounts ≤ 32 }
-    requires handsets { AreHandsets handsets.now }
-    ensures standing { OnOk result (IsStanding (recovered rows handsets.now (sessions_from 0 rows.setup.accounts)) centre.new) }
-    ensures same { OnErr result (centre.new ≡ centre.old) }
-{
-    let sessions = sessions_of(alloc, rows.setup.accounts.as_slice())?;
-    recover(centre, rows, handsets, sessions)
-}
-
-// It starts again with the rows of its keep.
-fn start_again(
-    alloc: Global,
-    centre: &mut Centre,
-    keep: &mut MemoryKeep,
-    handsets: &[Digits],
-) -> Result<(), AllocError>
-    requires sound { IsSound (rows_in keep.old) }
-    requires few { length (rows_in keep.old).setup.accounts ≤ 32 }
-    requires handsets { AreHandsets handsets.now }
-    ensures standing { OnOk result (IsStanding (recovered (rows_in keep.old) handsets.now (sessions_from 0 (rows_in keep.old).setup.accounts)) centre.new) }
-    ensures same { OnErr result (centre.new ≡ centre.old) }
-    ensures rows { rows_in keep.new ≡ rows_in keep.old }
-{
-    let rows = load(keep)?;
-    again(alloc, centre, rows, handsets)
-}
-
-/// Starts again on its rows. Links to its handsets come up at its first tick.
+/// Starts again on its rows, which stay as they are. Links to its handsets come up at its first tick.
 pub(crate) fn restart(
     alloc: Global,
     centre: &mut Centre,
-    keep: &mut MemoryKeep,
+    keep: &MemoryKeep,
     handsets: &[Digits],
 ) -> Result<(), AllocError>
-    requires stands { Stands centre.old (rows_in keep.old) }
+    requires stands { Stands centre.old (rows_in keep.now) }
     requires handsets { AreHandsets handsets.now }
-    ensures played { (c : Core) → IsPlayed c centre.old (rows_in keep.old) → OnOk result (IsPlayed (recovered c.rows handsets.now (sessions_from 0 c.rows.setup.accounts)) centre.new (rows_in keep.new)) }
-    ensures stands { Stands centre.new (rows_in keep.new) }
+    ensures played { (c : Core) → IsPlayed c centre.old (rows_in keep.now) → OnOk result (IsPlayed (recovered c.rows handsets.now (sessions_from 0 c.rows.setup.accounts)) centre.new (rows_in keep.now)) }
+    ensures stands { Stands centre.new (rows_in keep.now) }
 {
-    what_stands_is_known();
-    match start_again(alloc, centre, keep, handsets) {
+    let moment = moment_of(keep);
+    let sessions = sessions_of(alloc, keep.setup.accounts.as_slice())?;
+    match centre.start_again(moment, handsets, sessions) {
         Ok(()) => Ok(()),
         Err(error) => Err(error),
     }
