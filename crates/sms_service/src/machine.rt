@@ -72,7 +72,10 @@ impl<K: CentreStore + Drop> CentreMachine<K> {
         gate.pass();
         match commit(&mut self.keep, planned.changes()) {
             Ok(()) => Ok(self.centre.adopt(planned)),
-            Err(error) => Err(StepError::Store(error)),
+            Err(error) => {
+                drop(planned);
+                Err(StepError::Store(error))
+            }
         }
     }
 }

@@ -39,6 +39,13 @@ pub struct Service<K: CentreStore + Drop> {
     pub is_broken: bool,
 }
 
+// Puts the value in the place of another, which is let go: as one thing, whatever it is made of, so that little is to be proved of it.
+fn put<T: Drop>(place: &mut T, value: T)
+    ensures { place.new ≡ value }
+{
+    *place = value;
+}
+
 // The plan is carried out: what it changes is committed, and it is adopted.
 fn is_carried_out<K: CentreStore + Drop, G: Gate>(
     machine: &mut CentreMachine<K>,
@@ -158,7 +165,10 @@ impl<K: CentreStore + Drop> Service<K> {
     {
         match self.outs_of(stimulus, &planned) {
             Ok(outs) => self.carry_out(gate, stimulus, planned, outs),
-            Err(_) => unmade(Fate::NoMemory, stimulus),
+            Err(_) => {
+                drop(planned);
+                unmade(Fate::NoMemory, stimulus)
+            }
         }
     }
 
@@ -227,7 +237,7 @@ impl<K: CentreStore + Drop> Service<K> {
         ensures before { K.is_honest self.new.machine.keep → K.is_honest self.old.machine.keep }
     {
         let centre = restarted_from(self.alloc, &mut self.machine.keep, &self.floor)?;
-        self.machine.centre = centre;
+        put(&mut self.machine.centre, centre);
         Ok(())
     }
 }
