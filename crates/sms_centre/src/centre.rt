@@ -3,7 +3,7 @@ ghost use Rattle.std.specs.Prelude.{◌≡◌, ℕ, List, None, IfErr, IfOk, OnE
 ghost use Rattle.sms_base.specs.Among.{Among};
 ghost use Rattle.sms_waiting.specs.SoundGivings.{IsNumber};
 ghost use Rattle.sms_centre_rules.specs.declared.event.CentreEvent.{CentreEvent as CentreEventOf};
-ghost use Rattle.sms_centre_rules.specs.CentreEvent.{happened, recovered, started};
+ghost use Rattle.sms_centre_rules.specs.CentreEvent.{happened, moment_of, recovered, started};
 ghost use Rattle.sms_centre_rules.specs.Draft.{Core, core_of};
 ghost use Rattle.sms_centre_rules.specs.SoundCore.{AreDifferent, HasNumber, IsEvent};
 ghost use Rattle.sms_centre_rules.specs.SoundRows.{IsSetup};
@@ -21,7 +21,7 @@ use crate::adopting::put_in;
 use crate::finishing::plan_of;
 use crate::lending::put;
 use crate::planned::Planned;
-use sms_base::{Digits, Listed, MessageId, Octets};
+use sms_base::{Digits, Listed, MessageId, Moment, Octets};
 use sms_centre_rules::{CentreEvent, PlanError, Rows};
 use sms_keep::BodyKeep;
 use sms_messages::MessageRow as Message;
@@ -114,6 +114,27 @@ impl Centre {
             }
             Err(error) => Err(error),
         }
+    }
+
+    /// This centre starts again on the rows that it has committed, as `recover` would make it of them anew: `moment` is the greatest
+    /// that they have seen. It reads no rows, and costs what handsets and what waits for them do. Where it can't, it stays as it was.
+    ///
+    /// # Errors
+    /// A growth was refused.
+    pub fn start_again(
+        &mut self,
+        moment: Moment,
+        handsets: &[Digits],
+        sessions: Table<Seat>,
+    ) -> Result<(), AllocError>
+        requires numbers { (number : List ℕ) → Among number handsets.now → IsNumber number }
+        requires apart { AreDifferent handsets.now }
+        requires sessions { AreNew sessions.rows }
+        ensures standing { OnOk result ((c : Core) → IsStanding c self.old → moment ≡ moment_of c.rows → IsStanding (recovered c.rows handsets.now sessions.rows) self.new) }
+        ensures same { OnErr result (self.new ≡ self.old) }
+    {
+        self.standing
+            .start_again(self.alloc, moment, handsets, sessions)
     }
 
     fn of(alloc: Global, standing: Standing) -> Result<Centre, AllocError>

@@ -1,5 +1,5 @@
 //! The shelves of a centre that starts.
-ghost use Rattle.std.specs.Prelude.{ℕ, List, [], IfOk};
+ghost use Rattle.std.specs.Prelude.{ℕ, List, [], false, IfOk};
 ghost use Rattle.sms_base.specs.Among.{Among};
 ghost use Rattle.sms_shelves.specs.Adopting.{Fits, IsAdopted};
 ghost use Rattle.sms_shelves.specs.Placing.{ShelvesOf};
@@ -7,6 +7,10 @@ ghost use Rattle.sms_shelves.specs.Shown.{Stands};
 ghost use Rattle.sms_soundness.specs.RowsOf.{rows_of};
 ghost use Rattle.sms_starting.specs.Starting.{lines_of};
 ghost use Rattle.sms_waiting.specs.SoundGivings.{IsNumber};
+ghost use Rattle.sms_waiting.specs.declared.handset.HandsetRow.{HandsetRow};
+ghost use Rattle.sms_waiting.specs.declared.line.Line.{Line};
+ghost use Rattle.sms_waiting.specs.declared.load.Load.{Load};
+ghost use Rattle.sms_waiting.specs.declared.reference.ReferenceRow.{ReferenceRow};
 ghost use Rattle.sms_centre_rules.specs.SoundCore.{AreDifferent};
 ghost use Rattle.sms_centre_rules.specs.SoundRows.{IsSound, all_for};
 
@@ -40,6 +44,27 @@ fn load(
     connect_all(handsets, are_up, &mut pending)?;
     put_parts(tables, parts, &mut pending)?;
     put_reports(tables, reports, &mut pending)?;
+    let plan = pending.settle(now)?;
+    Ok(plan.shelves)
+}
+
+/// The shelves of a centre that starts again, ready made: lines to these handsets alone, each expected to come up at its first tick.
+pub(crate) fn settled_anew(
+    alloc: Global,
+    handsets: &[Digits],
+    now: Moment,
+    shelves: &Shelves,
+) -> Result<SettledShelves, AllocError>
+    requires numbers { (number : List ℕ) → Among number handsets.now → IsNumber number }
+    requires apart { AreDifferent handsets.now }
+    ensures fits { IfOk result Fits }
+    ensures stands { IfOk result (λ settled. (rows : List HandsetRow) (references : List ReferenceRow) (lines : List Line) (waiting : List ℕ → List Load) (new : ShelvesOf) → Stands rows references lines waiting shelves.now → IsAdopted settled new
+        → Stands rows references (lines_of false handsets.now) waiting new) }
+{
+    what_was_left_stands();
+    let mut pending = PendingShelves::of(alloc, shelves)?;
+    pending.forget_lines()?;
+    connect_all(handsets, false, &mut pending)?;
     let plan = pending.settle(now)?;
     Ok(plan.shelves)
 }

@@ -48,11 +48,28 @@ fn after_reports(start: Moment, rows: &[ReportRow]) -> Moment
     moment
 }
 
+/// The greatest moment that these rows have seen, or that one, where they saw none later. It looks at each row once.
+pub fn moment_among(
+    start: Moment,
+    messages: &[MessageRow],
+    references: &[ReferenceRow],
+    reports: &[ReportRow],
+) -> Moment
+    ensures { result ≡ after_reports_of (after_references_of (after_messages_of start messages.now) references.now) reports.now }
+{
+    let submitted = after_messages(start, messages);
+    let given = after_references(submitted, references);
+    after_reports(given, reports)
+}
+
 /// The greatest moment that the rows have seen, or the start of the setup.
 pub fn moment_of(tables: &RowTables) -> Moment
     ensures { result ≡ moment_of_rows (rows_of tables.now) }
 {
-    let submitted = after_messages(tables.setup.start, tables.messages.as_slice());
-    let given = after_references(submitted, tables.references.as_slice());
-    after_reports(given, tables.reports.as_slice())
+    moment_among(
+        tables.setup.start,
+        tables.messages.as_slice(),
+        tables.references.as_slice(),
+        tables.reports.as_slice(),
+    )
 }
