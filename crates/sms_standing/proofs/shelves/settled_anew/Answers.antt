@@ -1,4 +1,4 @@
-use Rattle.std.proofs.Common.{[], false}
+use Rattle.std.proofs.Common.{List, [], false}
 use Rattle.sms_starting.specs.Starting.{lines_of}
 use Rattle.sms_table.specs.Since.{untouched}
 use Rattle.sms_waiting.specs.Lines.{Air}
