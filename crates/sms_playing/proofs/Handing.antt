@@ -5,8 +5,11 @@ use Rattle.std.specs.Str.{bytes_eq}
 use Rattle.std.proofs.lemmas.Bool.{cases_Bool, cond-false, cond-true}
 use Rattle.std.proofs.lemmas.Slice.Eq.{bytes_eq-Decides}
 use Rattle.sms_base.specs.Among.{Among}
+use Rattle.sms_base.specs.Reading.{AreOctets}
 use Rattle.sms_base.specs.declared.holder.Holder.{Holder}
+use Rattle.sms_centre_rules.specs.SoundCore.{IsEvent}
 use Rattle.sms_centre_rules.specs.declared.event.CentreEvent.TheVariants.{Frame as CentreFrame}
+use Rattle.sms_course_growth.specs.Growth.{TellsCentre}
 use Rattle.sms_handset.specs.declared.event.HandsetEvent.TheVariants.{Frame as HandsetFrame}
 use Rattle.sms_play.specs.Course.{Course, Party, frame_at, numbers_of, party_at}
 use Rattle.sms_play.specs.Meeting.{AtCentre, AtHandset, by_handset, handed_over, tag_in}
@@ -17,6 +20,7 @@ use Rattle.sms_playing.specs.Places.{IsFirstAt, place_from}
 use Rattle.sms_playing.specs.Played.{PlayingOf}
 use Rattle.sms_playing.specs.Playing.{Hands, IsFrame, LeadsTo, goes, met_as, or_no_memory}
 use Rattle.sms_playing.specs.declared.acts.Handed.{Handed}
+use Rattle.sms_playing.proofs.Fitting.{anyhow, handsets_fit}
 use Rattle.sms_playing.proofs.Going.{or_none}
 use Rattle.sms_playing.proofs.Placed.{IsThere, none_there, there}
 use Rattle.sms_report.specs.declared.rows.Direction.{Direction}
@@ -24,6 +28,7 @@ use Rattle.sms_report.specs.declared.rows.Direction.TheVariants.{Down, Up}
 use Rattle.sms_report.specs.declared.rows.FrameRow.{FrameRow}
 use Rattle.sms_script.specs.declared.event.Act.TheVariants.{Deliver}
 use Rattle.sms_script.specs.declared.event.Stop.{Stop}
+use Rattle.sms_waiting.specs.SoundGivings.{IsNumber}
 
 -- ---- what the bag has of it
 
@@ -116,3 +121,16 @@ module _ (stop : Option Stop) (event number : ℕ) (c : Course) (p : PlayingOf) 
       → OnOk res (Shows (met_as stop event (Deliver number) (AtHandset party (HandsetFrame h.octets h.tag)) c) q) → LeadsTo told q (goes stop event (Deliver number) (handed_over event f.direction f c) c)
   goes_down res told q party found down e shown =
       or_none res told event q (met_as stop event (Deliver number) (AtHandset party (HandsetFrame h.octets h.tag)) c) (goes stop event (Deliver number) (handed_over event f.direction f c) c) e (down_is party found down) shown
+
+  -- what the centre is told of it is an event
+  pub fits_up : {X : Type 0} (told : Result X PlayFault) (party : Party) → party.number ≡ f.handset → h.direction ≡ Up → IsEvent (CentreFrame party.number h.octets h.tag) → OnOk told (TellsCentre (handed_over event f.direction f c))
+  fits_up told party named up fit =
+      anyhow told (TellsCentre (handed_over event f.direction f c))
+      (subst (λ (d : Direction). TellsCentre (handed_over event d f c)) (sym up ∙ is.direction)
+      (subst (λ (n : List ℕ). IsNumber n) named fit.0, subst (λ (o : List ℕ). AreOctets o) is.octets fit.1))
+
+  pub fits_down : {X : Type 0} (told : Result X PlayFault) → h.direction ≡ Down → OnOk told (TellsCentre (handed_over event f.direction f c))
+  fits_down told down =
+      anyhow told (TellsCentre (handed_over event f.direction f c))
+      (subst (λ (d : Direction). TellsCentre (handed_over event d f c)) (sym down ∙ is.direction)
+      (handsets_fit event (HandsetFrame f.octets (tag_in f.carried)) (party_at f.handset c.parties)))

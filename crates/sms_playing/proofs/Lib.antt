@@ -5,6 +5,8 @@ pub mod Showing
 pub mod Halting
 pub mod Going
 pub mod LatinTexts
+pub mod Fitting
 pub mod Handing
 pub mod Turning
-pub mod Ending
+pub mod LookingOn
+pub mod Scenes

@@ -2,6 +2,4 @@ pub mod Played
 pub mod Places
 pub mod Courses
 pub mod Playing
-pub mod Reporting
-pub mod Begun
-pub mod RunEnd
+pub mod Looked

@@ -4,12 +4,15 @@ ghost use Rattle.std.specs.Str.{chars, is_utf8};
 ghost use Rattle.sms_base.specs.Address.{IsAddress};
 ghost use Rattle.sms_base.specs.Among.{Among};
 ghost use Rattle.sms_base.specs.HandsetNumber.{own_address};
+ghost use Rattle.sms_base.specs.Reading.{AreOctets};
+ghost use Rattle.sms_centre_rules.specs.SoundCore.{HasNumber, IsEvent};
 ghost use Rattle.sms_centre_rules.specs.declared.event.CentreEvent.TheVariants.{Submit as CentreSubmit, Frame as CentreFrame};
+ghost use Rattle.sms_course_growth.specs.Growth.{IsFit, TellsCentre};
 ghost use Rattle.sms_handset.specs.HandsetEvent.{deleted as deleted_of, discarded as discarded_of};
 ghost use Rattle.sms_handset.specs.declared.refusal.Refusal.TheVariants.{NoEntry};
 ghost use Rattle.sms_handset.specs.declared.event.HandsetEvent.TheVariants.{Frame as HandsetFrame, Write as HandsetWrite, Delete as HandsetDelete, Discard as HandsetDiscard};
 ghost use Rattle.sms_play.specs.Course.{Course, Party, frame_at as frame_at_number};
-ghost use Rattle.sms_play.specs.Meeting.{AtCentre, AtHandset, account_from, handed_over, is_answered as is_answered_act, submit_of as submit_of_submission, tag_in as tag_in_of};
+ghost use Rattle.sms_play.specs.Meeting.{AtCentre, AtHandset, account_from, handed_over, is_answered as is_answered_act, meeting_of, submit_of as submit_of_submission, tag_in as tag_in_of};
 ghost use Rattle.sms_play.specs.PlayedEvent.{played, restart as restart_of};
 ghost use Rattle.sms_playing.specs.Courses.{Shows};
 ghost use Rattle.sms_playing.specs.Places.{IsFirstAt, place_from};
@@ -31,8 +34,11 @@ use sms_staging::{cancel_of, frame_at, query_of, submit_of};
 use std::alloc::{AllocError, Global};
 use std::str::from_utf8;
 
-/// Want of memory at an event.
-pub(crate) fn or_no_memory<T>(event: u64, done: Result<T, AllocError>) -> Result<T, PlayFault>
+/// The same, with want of memory told as a fault at that event.
+///
+/// # Errors
+/// `NoMemory` with the event, where there was none.
+pub fn or_no_memory<T>(event: u64, done: Result<T, AllocError>) -> Result<T, PlayFault>
     ensures { result ≡ or_no_memory_of event done }
 {
     match done {
@@ -45,6 +51,26 @@ fn tag_in(carried: Option<Carried>) -> Option<Holder>
     ensures { result ≡ tag_in_of carried }
 {
     carried.map(|carried| carried.tag)
+}
+
+// Octets are below 256.
+fn are_octets(octets: &[u8])
+    ensures { AreOctets octets.now }
+{}
+
+// What the centre is told is an event: its octets are octets, and its moment is one that time stamps can tell.
+fn is_event(event: &CentreEvent<'_>)
+    requires { HasNumber event.now }
+    ensures { IsEvent event.now }
+{
+    match event {
+        CentreEvent::Frame { octets, .. } => are_octets(octets.as_slice()),
+        CentreEvent::Tick(now) => {
+            // The call tells its range.
+            let _seconds = now.seconds();
+        }
+        _ => (),
+    }
 }
 
 // A frame that is handed over.
@@ -346,7 +372,8 @@ impl<'a> Playing<'a> {
         handed: &Handed,
     ) -> Result<(), AllocError>
         requires { place < length self.old.parties }
-        ensures { (c : Course) (party : Party) (act : ActOf) → Shows c self.old → IsFirstAt place party c.parties → is_answered_act act ≡ false → OnOk result (Shows (met_as stop event act (AtCentre (CentreFrame party.number handed.now.octets handed.now.tag)) c) self.new) }
+        ensures shows { (c : Course) (party : Party) (act : ActOf) → Shows c self.old → IsFirstAt place party c.parties → is_answered_act act ≡ false → OnOk result (Shows (met_as stop event act (AtCentre (CentreFrame party.number handed.now.octets handed.now.tag)) c) self.new) }
+        ensures event { (party : Party) → IsFirstAt place party self.old.parties → IsEvent (CentreFrame party.number handed.now.octets handed.now.tag) }
     {
         let handset = self.number_at(place);
         let happening = CentreEvent::Frame {
@@ -354,6 +381,7 @@ impl<'a> Playing<'a> {
             octets: OctetView::of(handed.octets.as_slice()),
             tag: handed.tag,
         };
+        is_event(&happening);
         self.at_centre(event, stop, false, &happening)
     }
 
@@ -380,7 +408,8 @@ impl<'a> Playing<'a> {
         stop: Option<Stop>,
         handed: &Handed,
     ) -> Result<(), PlayFault>
-        ensures { (c : Course) (f : FrameRowOf) (number : ℕ) → Shows c self.old → Among f c.bag → IsFrame handed.now f → LeadsTo result self.new (goes stop event (ActDeliver number) (handed_over event f.direction f c) c) }
+        ensures leads { (c : Course) (f : FrameRowOf) (number : ℕ) → Shows c self.old → Among f c.bag → IsFrame handed.now f → LeadsTo result self.new (goes stop event (ActDeliver number) (handed_over event f.direction f c) c) }
+        ensures fit { (c : Course) (f : FrameRowOf) → Shows c self.old → Among f c.bag → IsFrame handed.now f → OnOk result (TellsCentre (handed_over event f.direction f c)) }
     {
         let Some(place) = self.party_of(&handed.handset) else {
             return Err(PlayFault::NoSuchSide { event });
@@ -392,7 +421,8 @@ impl<'a> Playing<'a> {
     }
 
     fn delivered(&mut self, event: u64, stop: Option<Stop>, number: u64) -> Result<(), PlayFault>
-        ensures { (c : Course) → Shows c self.old → LeadsTo result self.new (acted stop event (ActDeliver number) c) }
+        ensures leads { (c : Course) → Shows c self.old → LeadsTo result self.new (acted stop event (ActDeliver number) c) }
+        ensures fit { (c : Course) → Shows c self.old → OnOk result (TellsCentre (meeting_of event (ActDeliver number) c)) }
     {
         match self.handed(number) {
             Ok(Some(handed)) => self.hand_over(event, stop, &handed),
@@ -426,11 +456,13 @@ impl<'a> Playing<'a> {
         side: &Side<'_>,
         now: Moment,
     ) -> Result<(), PlayFault>
-        ensures { (c : Course) → Shows c self.old → LeadsTo result self.new (acted stop event (ActTick side.now now) c) }
+        ensures leads { (c : Course) → Shows c self.old → LeadsTo result self.new (acted stop event (ActTick side.now now) c) }
+        ensures fit { (c : Course) → TellsCentre (meeting_of event (ActTick side.now now) c) }
     {
         match side {
             Side::Centre => {
                 let happening = CentreEvent::Tick(now);
+                is_event(&happening);
                 or_no_memory(event, self.at_centre(event, stop, false, &happening))
             }
             Side::Handset(number) => self.handset_ticked(event, stop, number.as_slice(), now),
@@ -440,7 +472,8 @@ impl<'a> Playing<'a> {
     // ---- every event
 
     fn act(&mut self, event: u64, stop: Option<Stop>, act: &Act<'_>) -> Result<(), PlayFault>
-        ensures { (c : Course) → Shows c self.old → LeadsTo result self.new (acted stop event (act.now) c) }
+        ensures leads { (c : Course) → Shows c self.old → LeadsTo result self.new (acted stop event act.now c) }
+        ensures fit { (c : Course) → Shows c self.old → OnOk result (TellsCentre (meeting_of event act.now c)) }
     {
         match act {
             Act::Submit(submission) => self.submitted(event, stop, submission),
@@ -484,7 +517,9 @@ impl<'a> Playing<'a> {
 
     /// The event of that number is played.
     pub(crate) fn play(&mut self, number: u64, event: &WorldEvent<'_>) -> Result<(), PlayFault>
-        ensures { (c : Course) → Shows c self.old → LeadsTo result self.new (played number event.now c) }
+        ensures leads { (c : Course) → Shows c self.old → LeadsTo result self.new (played number event.now c) }
+        // What the centre is told of it is an event.
+        ensures fit { (c : Course) → Shows c self.old → OnOk result (IsFit number event.now c) }
     {
         match event {
             WorldEvent::Whole(act) => self.act(number, None, act),

@@ -10,7 +10,7 @@ use std::marker::Model;
 
 /// All that has come of a script so far. Its centre and its handsets are lent to it.
 #[derive(Drop)]
-pub(crate) struct Playing<'a> {
+pub struct Playing<'a> {
     pub(crate) alloc: Global,
     pub(crate) centre: PlayedCentre<'a>,
     // In the order of the script's head.
@@ -32,7 +32,7 @@ impl<'a> Model for Playing<'a> {
 
 impl<'a> Playing<'a> {
     /// The script as it begins.
-    pub(crate) fn new(
+    pub fn new(
         alloc: Global,
         centre: PlayedCentre<'a>,
         parties: &'a mut [PlayedHandset],

@@ -43,8 +43,11 @@ impl<'a> Playing<'a> {
         })
     }
 
-    /// The report.
-    pub(crate) fn report(self) -> Result<Report, AllocError>
+    /// The report of what the script led to.
+    ///
+    /// # Errors
+    /// A growth was refused.
+    pub fn report(self) -> Result<Report, AllocError>
         ensures { (c : Course) → Shows c self.entry → IfOk result (λ report. report ≡ report_of c) }
     {
         let read = self.read()?;

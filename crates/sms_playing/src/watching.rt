@@ -1,23 +1,31 @@
-//! A whole script, with somebody who looks on.
-ghost use Rattle.std.specs.Prelude.{Ok};
+//! Events one after another, with somebody who looks on.
+ghost use Rattle.std.specs.Prelude.{Ok, Option, OnOk};
+ghost use Rattle.sms_judging.specs.Shown.{or_first, untimely};
 ghost use Rattle.sms_play.specs.Course.{Course};
 ghost use Rattle.sms_play.specs.PlayedEvent.{played};
-ghost use Rattle.sms_play.specs.Playing.{played_on, report_of as report_of_course};
+ghost use Rattle.sms_play.specs.Playing.{played_on};
 ghost use Rattle.sms_playing.specs.Courses.{Shows};
+ghost use Rattle.sms_playing.specs.Looked.{FollowsAll, FollowsOne};
 ghost use Rattle.sms_playing.specs.Playing.{LeadsTo};
-ghost use Rattle.sms_playing.specs.Reporting.{Reports};
+ghost use Rattle.sms_report.specs.declared.report.Broken.{Broken};
 
 use crate::acts::or_no_memory;
 use crate::playing::Playing;
 use sms_base::{Listed, MessageId};
+use sms_centre::laws::what_stands_is_known;
+use sms_course_growth::laws::an_event_goes_on;
+use sms_judging::{Scene, Watcher};
 use sms_messages::MessageRow;
 use sms_play::PlayFault;
-use sms_report::{AcceptedRow, Answer, FrameRow, GivenRow, Report};
+use sms_report::{AcceptedRow, Answer, FrameRow, GivenRow};
 use sms_reports::Delivery;
 use sms_script::WorldEvent;
-use sms_watching::{Scene, Watcher};
 
 impl<'a> Scene for Playing<'a> {
+    ghost use Rattle.sms_playing.specs.Courses.{Shows};
+
+    ghost shows = { λ playing c. Shows c playing };
+
     fn answers(&self) -> &[Answer] {
         self.answers.as_slice()
     }
@@ -54,15 +62,19 @@ impl<'a> Scene for Playing<'a> {
     }
 }
 
-// The event is played, and is looked at.
+// The event is played, and is looked at. Who looks on has seen what stood before it.
 fn play_one<W: Watcher>(
     playing: &mut Playing<'_>,
     watcher: &mut W,
     number: u64,
     event: &WorldEvent<'_>,
 ) -> Result<(), PlayFault>
-    ensures { (c : Course) → Shows c playing.old → LeadsTo result playing.new (played number event.now c) }
+    ensures leads { (c : Course) → Shows c playing.old → LeadsTo result playing.new (played number event.now c) }
+    ensures seen { (c : Course) (broken : Option Broken) → Shows c playing.old → W.has_seen watcher.old (or_first broken (untimely number event.now c)) c
+        → OnOk result (FollowsOne (W.has_seen watcher.new) playing.new broken number event.now c) }
 {
+    what_stands_is_known();
+    an_event_goes_on();
     match playing.play(number, event) {
         Ok(()) => or_no_memory(number, watcher.after(number, event, playing)),
         Err(fault) => Err(fault),
@@ -75,7 +87,9 @@ fn one<W: Watcher>(
     number: u64,
     event: &WorldEvent<'_>,
 ) -> Result<(), PlayFault>
-    ensures { (c : Course) → Shows c playing.old → LeadsTo result playing.new (played number event.now c) }
+    ensures leads { (c : Course) → Shows c playing.old → LeadsTo result playing.new (played number event.now c) }
+    ensures seen { (c : Course) (broken : Option Broken) → Shows c playing.old → W.has_seen watcher.old broken c
+        → OnOk result (FollowsOne (W.has_seen watcher.new) playing.new broken number event.now c) }
 {
     match watcher.before(number, event, playing) {
         Ok(()) => play_one(playing, watcher, number, event),
@@ -83,13 +97,19 @@ fn one<W: Watcher>(
     }
 }
 
-/// All events, numbered from 1.
-pub(crate) fn all<W: Watcher>(
+/// Plays all events, numbered from 1, and somebody looks on.
+///
+/// # Errors
+/// The fault of the first event that can't be played. `NoMemory` with the event at which a growth was refused.
+pub fn play_all<W: Watcher>(
     playing: &mut Playing<'_>,
     watcher: &mut W,
     events: &[WorldEvent<'_>],
 ) -> Result<(), PlayFault>
-    ensures { (c : Course) → Shows c playing.old → LeadsTo result playing.new (played_on 1 events.now c) }
+    ensures leads { (c : Course) → Shows c playing.old → LeadsTo result playing.new (played_on 1 events.now c) }
+    // Who looks on has seen what the definition decides of them.
+    ensures seen { (c : Course) (broken : Option Broken) → Shows c playing.old → W.has_seen watcher.old broken c
+        → OnOk result (FollowsAll (W.has_seen watcher.new) playing.new broken events.now c) }
 {
     for place in 0..events.len() {
         match one(playing, watcher, place as u64 + 1, &events[place]) {
@@ -98,11 +118,4 @@ pub(crate) fn all<W: Watcher>(
         }
     }
     Ok(())
-}
-
-/// What the script that was played to its end led to.
-pub(crate) fn report_of(playing: Playing<'_>, events: usize) -> Result<Report, PlayFault>
-    ensures { (c : Course) → Shows c playing.entry → Reports result (Ok (report_of_course c)) }
-{
-    or_no_memory(events as u64, playing.report())
 }
