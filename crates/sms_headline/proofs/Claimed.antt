@@ -44,7 +44,7 @@ use Rattle.sms_headline.proofs.SentClaims.{Sends, all_send, none_tell, sent_subm
 use Rattle.sms_headline.proofs.TimelyClaims.{Reaches, all_reach, delivered_once}
 use Rattle.sms_headline.proofs.Tables.{line_of, line_stays, line_there, one_line}
 
-abbrev unplayed : Result Course PlayFault
+abbrev pub unplayed : Result Course PlayFault
 unplayed = Err BadSetup
 
 -- a head that leads anywhere can be played

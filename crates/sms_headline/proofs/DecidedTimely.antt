@@ -118,7 +118,7 @@ module _ (c : Course) (w : World) (s : CourseSees c w) (u : Frame) (line : u.lin
 
 -- ---- the row of a frame
 
-row_from : (newest : List Sent) (fs : List FrameRow) (x : Sent) → Among x (all_seen newest fs) → Among x newest ⊎ ((f : FrameRow) × (Among f fs × (sent_row f ≡ x)))
+pub row_from : (newest : List Sent) (fs : List FrameRow) (x : Sent) → Among x (all_seen newest fs) → Among x newest ⊎ ((f : FrameRow) × (Among f fs × (sent_row f ≡ x)))
 row_from newest [] x i = inl i
 row_from newest (f ∷ fs) x i = ⊎_elim
     (λ (j : Among x (sent_row f ∷ newest)). ⊎_elim (λ (e : x ≡ sent_row f). inr (f, (inl refl, sym e))) (λ (k : Among x newest). inl k) j)

@@ -15,7 +15,7 @@ use Rattle.sms_headline.proofs.ExactPremises.{none_is}
 use Rattle.sms_headline.proofs.PremisesHold.{premises_hold}
 use Rattle.sms_headline.proofs.SplitClaimed.{split_joined_is, split_long_is}
 
-nothing_more : (es : List WorldEvent) → es ≡ es ++ []
+pub nothing_more : (es : List WorldEvent) → es ≡ es ++ []
 nothing_more [] = refl
 nothing_more (e ∷ es) = ap (λ (z : List WorldEvent). e ∷ z) (nothing_more es)
 
@@ -26,7 +26,7 @@ same_report : (a b : Report) → ok_report a ≡ ok_report b → a ≡ b
 same_report a b e = cc
 
 -- the course that the report is of
-of_course : (r : Result Course PlayFault) (report : Report) → (r >>= λ (c : Course). ok_report (report_of c)) ≡ ok_report report → (c : Course) × ((r ≡ ok_course c) × (report ≡ report_of c))
+pub of_course : (r : Result Course PlayFault) (report : Report) → (r >>= λ (c : Course). ok_report (report_of c)) ≡ ok_report report → (c : Course) × ((r ≡ ok_course c) × (report ≡ report_of c))
 of_course (Ok c) report e = (c, (refl, sym (same_report (report_of c) report e)))
 of_course (Err fault) report e = absurd cc
 
@@ -63,4 +63,4 @@ module _ (text : List ℕ) (script : Script) (reads : script_in text ≡ Ok scri
 pub played_is : PlayedLaw
 played_is text script report reads plays =
     let x = of_course (course_of script.setup script.events) report plays in
-    (x.0, (x.1.1, always text script reads x.0 x.1.0, λ hold. in_time text script reads x.0 x.1.0 hold))
+    (x.0, (x.1.0, x.1.1, always text script reads x.0 x.1.0, λ hold. in_time text script reads x.0 x.1.0 hold))

@@ -45,15 +45,15 @@ use Rattle.sms_headline.proofs.SplitCourses.{accepted_kept, all_kept, centre_tol
 use Rattle.sms_headline.proofs.SplitJoins.{split_long, splits_joined}
 
 -- what a course leads from and to
-record Between (some others : List WorldEvent) (c d : Course) : Type 0 where
-  first_world : World
-  first_sees : CourseSees c first_world
-  goods : AreGood others
-  octets : AllHandOctets (1 + length some) others c
-  leads : played_on (1 + length some) others c ≡ ok_course d
-  stands : SplitsStand c.centre.rows.messages c.centre.rows.parts
+pub record Between (some others : List WorldEvent) (c d : Course) : Type 0 where
+  pub first_world : World
+  pub first_sees : CourseSees c first_world
+  pub goods : AreGood others
+  pub octets : AllHandOctets (1 + length some) others c
+  pub leads : played_on (1 + length some) others c ≡ ok_course d
+  pub stands : SplitsStand c.centre.rows.messages c.centre.rows.parts
 
-between : (text : List ℕ) (script : Script) (some others : List WorldEvent) (c d : Course) → IsScript text script some others → LeadsOn script some c d → Between some others c d
+pub between : (text : List ℕ) (script : Script) (some others : List WorldEvent) (c d : Course) → IsScript text script some others → LeadsOn script some c d → Between some others c d
 between text script some others c d is on =
     let s : Setup = script.setup in
     let start : Course = beginning s in
@@ -102,13 +102,13 @@ split_stays_is text script some others c d is on m content reference at k =
 -- ---- it becomes so
 
 -- what comes of the first event, and then of the others
-record First (n : ℕ) (e : WorldEvent) (c d : Course) (others : List WorldEvent) : Type 0 where
-  next : Course
-  is : played n e c ≡ ok_course next
-  octets : AllHandOctets (n + 1) others next
-  leads : played_on (n + 1) others next ≡ ok_course d
+pub record First (n : ℕ) (e : WorldEvent) (c d : Course) (others : List WorldEvent) : Type 0 where
+  pub next : Course
+  pub is : played n e c ≡ ok_course next
+  pub octets : AllHandOctets (n + 1) others next
+  pub leads : played_on (n + 1) others next ≡ ok_course d
 
-first_of : (n : ℕ) (e : WorldEvent) (c d : Course) (others : List WorldEvent) (r : Result Course PlayFault) → played n e c ≡ r → IfPlayed r (λ x. AllHandOctets (n + 1) others x)
+pub first_of : (n : ℕ) (e : WorldEvent) (c d : Course) (others : List WorldEvent) (r : Result Course PlayFault) → played n e c ≡ r → IfPlayed r (λ x. AllHandOctets (n + 1) others x)
     → (r >>= λ (x : Course). played_on (n + 1) others x) ≡ ok_course d → First n e c d others
 first_of n e c d others (Ok x) is octets q = record { next = x; is = is; octets = octets; leads = q }
 first_of n e c d others (Err fault) is octets q = absurd cc

@@ -152,8 +152,9 @@ pub record HoldsInTime (c : Course) : Type 0 where
   pub whole : JoinedWhole c
   pub split : SplitsJoined c
 
--- The report of a script that reads and plays is that of such a course; and where it is decided that the premises hold, of such a one.
+-- The report of a script that reads and plays is that of the course that it leads to; of this holds what holds whatever happens, and where
+-- it is decided that the premises hold, the rest too.
 abbrev pub PlayedLaw : Type 0
 PlayedLaw =
     (text : List ℕ) (script : Script) (report : Report) → script_in text ≡ Ok script → play_of script.setup script.events ≡ Ok report
-    → (c : Course) × ((report ≡ report_of c) × AlwaysHolds c × (premises_of script.setup script.events ≡ Ok None → HoldsInTime c))
+    → (c : Course) × ((course_of script.setup script.events ≡ Ok c) × (report ≡ report_of c) × AlwaysHolds c × (premises_of script.setup script.events ≡ Ok None → HoldsInTime c))

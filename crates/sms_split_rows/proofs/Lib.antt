@@ -1,8 +1,8 @@
-mod MadeParts
-mod Places
-mod SameParts
+pub mod MadeParts
+pub mod Places
+pub mod SameParts
 pub mod SplitEvents
-mod SplitParts
-mod SplitSteady
+pub mod SplitParts
+pub mod SplitSteady
 pub mod SplitTexts
-mod TextContents
+pub mod TextContents

@@ -37,7 +37,7 @@ use Rattle.sms_split_rows.proofs.MadeParts.{body_at}
 
 -- ---- a DELIVER as it was made
 
-deliver_reads : (moment : ℕ) (u : Submission) (b : SinglePart) → IsMoment moment → IsAddress u.source → IsBody u b → down_at InData (deliver_octets moment u b) ≡ Ok (Deliver (deliver_of moment u b))
+pub deliver_reads : (moment : ℕ) (u : Submission) (b : SinglePart) → IsMoment moment → IsAddress u.source → IsBody u b → down_at InData (deliver_octets moment u b) ≡ Ok (Deliver (deliver_of moment u b))
 deliver_reads moment u b now source body =
     let p : PartRow = record {
       id = 0;

@@ -40,7 +40,7 @@ all_at P [] all i x e = absurd cc
 all_at P (y ∷ ys) all zero x e = let same : y ≡ x = cc in subst P same (All-head P y ys all)
 all_at P (y ∷ ys) all (suc i) x e = all_at P ys (All-tail P y ys all) i x e
 
-among_body : (n : ℕ) (bs : List SinglePart) (b : SinglePart) → body_at n bs ≡ Some b → Among b bs
+pub among_body : (n : ℕ) (bs : List SinglePart) (b : SinglePart) → body_at n bs ≡ Some b → Among b bs
 among_body zero bs b e = absurd cc
 among_body (suc n) bs b e = among_slice bs n b e
 

@@ -1,0 +1,4 @@
+mod CentreAnswers
+mod Checks
+mod CourseAnswers
+mod Unanswered

@@ -1,0 +1,7 @@
+mod DeliveredClaims
+mod Entered
+mod EventsMake
+mod HandsetMessages
+mod OriginClaims
+mod PlayedClaims
+mod Unmoved

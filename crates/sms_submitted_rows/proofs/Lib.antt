@@ -1,0 +1,4 @@
+mod AloneParts
+pub mod Delivers
+pub mod NewMessages
+pub mod StaysSubmitted

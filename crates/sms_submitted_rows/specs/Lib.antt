@@ -1,0 +1,2 @@
+pub mod SubmittedLaws
+pub mod SubmittedRows
