@@ -14,27 +14,29 @@ enum { NOW = 1709251198, DAYS = 172800, SHELF = 200, LEFT = 56, TOGETHER = 1000 
 
 enum statement {
 	BEGIN, COMMIT,
-	DELETE_MESSAGE, INSERT_MESSAGE, DELETE_PART, INSERT_PART, UPDATE_PART,
-	DELETE_REFERENCE, INSERT_REFERENCE, DELETE_HANDSET, INSERT_HANDSET,
-	DELETE_PRIORITY, INSERT_PRIORITY, DELETE_REPORT, INSERT_REPORT, FIND_PART,
+	/* how a row is put: each UPDATE is followed by the INSERT for where it changes none */
+	UPDATE_MESSAGE, INSERT_MESSAGE, UPDATE_PART, INSERT_PART,
+	UPDATE_REFERENCE, INSERT_REFERENCE, UPDATE_HANDSET, INSERT_HANDSET,
+	UPDATE_PRIORITY, INSERT_PRIORITY, UPDATE_REPORT, INSERT_REPORT,
+	AMEND_PART, FIND_PART,
 	STATEMENTS
 };
 
 static const char *const texts[STATEMENTS] = {
 	"BEGIN", "COMMIT",
-	"DELETE FROM message WHERE id = ?1",
+	"UPDATE message SET id = ?1, account = ?2, message_reference = NULL, source_ton = 1, source_npi = 1, source = '447700900123', handset = ?3, data_coding_scheme = 0, protocol_identifier = 0, wish = 'always', submitted = ?4, expires = ?5, split_reference = NULL, state = ?6, done = ?7 WHERE id = ?1",
 	"INSERT INTO message (id, account, message_reference, source_ton, source_npi, source, handset, data_coding_scheme, protocol_identifier, wish, submitted, expires, split_reference, state, done) VALUES (?1, ?2, NULL, 1, 1, '447700900123', ?3, 0, 0, 'always', ?4, ?5, NULL, ?6, ?7)",
-	"DELETE FROM part WHERE message = ?1 AND number = 1",
+	"UPDATE part SET message = ?1, number = 1, reference = ?2, tpdu = ?3, concat_bits = NULL, concat_reference = NULL, concat_total = NULL, concat_number = NULL, is_done = ?4, attempts = 0, due = ?5 WHERE message = ?1 AND number = 1",
 	"INSERT INTO part (message, number, reference, tpdu, concat_bits, concat_reference, concat_total, concat_number, is_done, attempts, due) VALUES (?1, 1, ?2, ?3, NULL, NULL, NULL, NULL, ?4, 0, ?5)",
-	"UPDATE part SET is_done = 1, attempts = 0, due = ?2 WHERE message = ?1 AND number = 1",
-	"DELETE FROM given_reference WHERE place = ?1 AND reference = ?2",
+	"UPDATE given_reference SET place = ?1, reference = ?2, last_given = ?3 WHERE place = ?1 AND reference = ?2",
 	"INSERT INTO given_reference (place, reference, last_given) VALUES (?1, ?2, ?3)",
-	"DELETE FROM handset WHERE place = ?1",
+	"UPDATE handset SET place = ?1, number = ?2, last_reference = ?3 WHERE place = ?1",
 	"INSERT INTO handset (place, number, last_reference) VALUES (?1, ?2, ?3)",
-	"DELETE FROM priority WHERE message = ?1",
+	"UPDATE priority SET message = ?1, priority = 1 WHERE message = ?1",
 	"INSERT INTO priority (message, priority) VALUES (?1, 1)",
-	"DELETE FROM report WHERE place = ?1",
+	"UPDATE report SET place = ?1, message = ?1, kind = 'receipt', reference = NULL, tpdu = NULL, made = ?2, is_done = 0, attempts = 0, due = ?2 WHERE place = ?1",
 	"INSERT INTO report (place, message, kind, reference, tpdu, made, is_done, attempts, due) VALUES (?1, ?1, 'receipt', NULL, NULL, ?2, 0, 0, ?2)",
+	"UPDATE part SET is_done = 1, attempts = 0, due = ?2 WHERE message = ?1 AND number = 1",
 	"SELECT message, number, reference, tpdu, concat_bits, concat_reference, concat_total, concat_number, is_done, attempts, due FROM part WHERE message = ?1 AND number = 1",
 };
 
@@ -87,12 +89,6 @@ static void text(enum statement which, int place, const char *value)
 	check(sqlite3_bind_text(at(which), place, value, -1, SQLITE_STATIC), SQLITE_OK);
 }
 
-static void run_at(enum statement which, int64_t key)
-{
-	number(which, 1, key);
-	run(which);
-}
-
 struct turn {
 	int64_t id;
 	int64_t place;
@@ -104,84 +100,99 @@ static int64_t place_of(uint64_t turn)
 	return (int64_t)(turn % handsets) + 1;
 }
 
-static void put_message(struct turn turn, int is_over)
+/* Puts a row as the keep does: an UPDATE of the row of its key, and an INSERT where that changes none. */
+static void put(enum statement update, void (*bind)(enum statement, struct turn, int), struct turn turn, int is_over)
 {
-	char handset[32];
+	bind(update, turn, is_over);
+	run(update);
+	if (sqlite3_changes(db) == 0) {
+		bind(update + 1, turn, is_over);
+		run(update + 1);
+	}
+}
+
+static const char *handset_of(struct turn turn)
+{
+	static char handset[32];
 	snprintf(handset, sizeof handset, "44%010ld", (long)turn.place);
-	run_at(DELETE_MESSAGE, turn.id);
-	number(INSERT_MESSAGE, 1, turn.id);
-	check(sqlite3_bind_blob(at(INSERT_MESSAGE), 2, "bank", 4, SQLITE_STATIC), SQLITE_OK);
-	text(INSERT_MESSAGE, 3, handset);
-	number(INSERT_MESSAGE, 4, NOW);
-	number(INSERT_MESSAGE, 5, NOW + DAYS);
-	text(INSERT_MESSAGE, 6, is_over ? "delivered" : "pending");
+	return handset;
+}
+
+static void bind_message(enum statement which, struct turn turn, int is_over)
+{
+	number(which, 1, turn.id);
+	check(sqlite3_bind_blob(at(which), 2, "bank", 4, SQLITE_STATIC), SQLITE_OK);
+	text(which, 3, handset_of(turn));
+	number(which, 4, NOW);
+	number(which, 5, NOW + DAYS);
+	text(which, 6, is_over ? "delivered" : "pending");
 	if (is_over)
-		number(INSERT_MESSAGE, 7, NOW);
+		number(which, 7, NOW);
 	else
-		check(sqlite3_bind_null(at(INSERT_MESSAGE), 7), SQLITE_OK);
-	run(INSERT_MESSAGE);
+		check(sqlite3_bind_null(at(which), 7), SQLITE_OK);
 }
 
-static void put_part(struct turn turn, int is_done)
+static void bind_part(enum statement which, struct turn turn, int is_over)
 {
-	run_at(DELETE_PART, turn.id);
-	number(INSERT_PART, 1, turn.id);
-	number(INSERT_PART, 2, turn.reference);
-	check(sqlite3_bind_blob(at(INSERT_PART), 3, tpdu, sizeof tpdu, SQLITE_STATIC), SQLITE_OK);
-	number(INSERT_PART, 4, is_done);
-	number(INSERT_PART, 5, NOW);
-	run(INSERT_PART);
+	number(which, 1, turn.id);
+	number(which, 2, turn.reference);
+	check(sqlite3_bind_blob(at(which), 3, tpdu, sizeof tpdu, SQLITE_STATIC), SQLITE_OK);
+	number(which, 4, is_over);
+	number(which, 5, NOW);
 }
 
-static void give(struct turn turn)
+static void bind_reference(enum statement which, struct turn turn, int is_over)
 {
-	char handset[32];
-	snprintf(handset, sizeof handset, "44%010ld", (long)turn.place);
-	number(DELETE_REFERENCE, 1, turn.place);
-	number(DELETE_REFERENCE, 2, turn.reference);
-	run(DELETE_REFERENCE);
-	number(INSERT_REFERENCE, 1, turn.place);
-	number(INSERT_REFERENCE, 2, turn.reference);
-	number(INSERT_REFERENCE, 3, NOW);
-	run(INSERT_REFERENCE);
-	run_at(DELETE_HANDSET, turn.place);
-	number(INSERT_HANDSET, 1, turn.place);
-	text(INSERT_HANDSET, 2, handset);
-	number(INSERT_HANDSET, 3, turn.reference);
-	run(INSERT_HANDSET);
+	(void)is_over;
+	number(which, 1, turn.place);
+	number(which, 2, turn.reference);
+	number(which, 3, NOW);
 }
 
-static void put_priority(struct turn turn)
+static void bind_handset(enum statement which, struct turn turn, int is_over)
 {
-	run_at(DELETE_PRIORITY, turn.id);
-	run_at(INSERT_PRIORITY, turn.id);
+	(void)is_over;
+	number(which, 1, turn.place);
+	text(which, 2, handset_of(turn));
+	number(which, 3, turn.reference);
+}
+
+static void bind_priority(enum statement which, struct turn turn, int is_over)
+{
+	(void)is_over;
+	number(which, 1, turn.id);
+}
+
+static void bind_report(enum statement which, struct turn turn, int is_over)
+{
+	(void)is_over;
+	number(which, 1, turn.id);
+	number(which, 2, NOW);
 }
 
 static void put_finished(struct turn turn)
 {
-	put_message(turn, 1);
-	put_part(turn, 1);
-	put_priority(turn);
+	put(UPDATE_MESSAGE, bind_message, turn, 1);
+	put(UPDATE_PART, bind_part, turn, 1);
+	put(UPDATE_PRIORITY, bind_priority, turn, 1);
 }
 
 static void put_open(struct turn turn)
 {
-	put_message(turn, 0);
-	put_part(turn, 0);
-	give(turn);
-	put_priority(turn);
+	put(UPDATE_MESSAGE, bind_message, turn, 0);
+	put(UPDATE_PART, bind_part, turn, 0);
+	put(UPDATE_REFERENCE, bind_reference, turn, 0);
+	put(UPDATE_HANDSET, bind_handset, turn, 0);
+	put(UPDATE_PRIORITY, bind_priority, turn, 0);
 }
 
 static void acknowledge(struct turn turn)
 {
-	put_message(turn, 1);
-	number(UPDATE_PART, 1, turn.id);
-	number(UPDATE_PART, 2, NOW);
-	run(UPDATE_PART);
-	run_at(DELETE_REPORT, turn.id);
-	number(INSERT_REPORT, 1, turn.id);
-	number(INSERT_REPORT, 2, NOW);
-	run(INSERT_REPORT);
+	put(UPDATE_MESSAGE, bind_message, turn, 1);
+	number(AMEND_PART, 1, turn.id);
+	number(AMEND_PART, 2, NOW);
+	run(AMEND_PART);
+	put(UPDATE_REPORT, bind_report, turn, 1);
 }
 
 static int offer(struct turn turn)

@@ -1,4 +1,4 @@
-//! How long the store of a centre takes, beside statements by hand over the same port, where a put is a DELETE and an INSERT: it is filled
+//! How long the store of a centre takes, beside statements by hand over the same port, which puts rows as the store does: it is filled
 //! with messages that are over and that wait; then what a submission, an offer and an acknowledgement ask of a store is done so many times by
 //! each of both, and then all rows are loaded and a centre recovers on them. Checksums of what was read go to standard output, times to
 //! standard error. docs/PERFORMANCE.md says what each kind is.
