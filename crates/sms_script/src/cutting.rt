@@ -50,7 +50,7 @@ fn first_piece(line: &[u8]) -> (&[u8], Option<&[u8]>)
 }
 
 /// The lines that are left of a text.
-#[derive(Debug, Drop)]
+#[derive(Drop)]
 pub struct Lines<'a> {
     rest: Option<&'a [u8]>,
 }
@@ -83,7 +83,7 @@ impl<'a> Lines<'a> {
 }
 
 /// The words that are left of a line.
-#[derive(Debug, Drop)]
+#[derive(Drop)]
 pub struct Words<'a> {
     rest: Option<&'a [u8]>,
 }

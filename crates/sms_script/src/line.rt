@@ -15,7 +15,7 @@ use sms_base::OctetView;
 const LONGEST_LINE: usize = 16_384;
 
 /// What a line of a script says.
-#[derive(Debug, Drop)]
+#[derive(Drop)]
 pub(crate) enum Line<'a> {
     Start(u64),
     Centre(OctetView<'a>),

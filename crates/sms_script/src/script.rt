@@ -14,7 +14,7 @@ use sms_base::{Listed, OctetView};
 use std::alloc::{AllocError, Global};
 
 /// A script: what it begins with, and its events, which are numbered from 1.
-#[derive(Debug, Drop)]
+#[derive(Drop)]
 pub struct Script<'a> {
     pub setup: Setup<'a>,
     pub events: Listed<WorldEvent<'a>>,

@@ -1,8 +1,9 @@
 //! What a script begins with.
 use sms_base::{Listed, OctetView};
 
-/// An application: the name and the password that it binds with, and the digits of its number.
-#[derive(Debug, Drop)]
+/// An application: the name and the password that it binds with, and the digits of its number. Neither it nor what holds it has a debug
+/// text, which would show the password.
+#[derive(Drop)]
 pub struct Account<'a> {
     pub name: OctetView<'a>,
     pub password: OctetView<'a>,
@@ -17,7 +18,7 @@ pub struct HandsetSetup<'a> {
 }
 
 /// The head of a script, as it was written: its limits are judged where it is played.
-#[derive(Debug, Drop)]
+#[derive(Drop)]
 pub struct Setup<'a> {
     /// The moment at which all sides begin, in seconds after 1970 began.
     pub start: u64,

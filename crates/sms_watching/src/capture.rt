@@ -1,11 +1,10 @@
 //! A run over a script, written as a capture file: what comes to the centre, and what leaves it.
 use crate::heads::{Places, act_of};
-use crate::pdus::{absolute_time, message_state};
-use crate::sessions::SessionSoFar;
 use crate::since::Since;
 use smpp_pdu::{Body, CommandStatus, MessageResp, QuerySmResp};
 use sms_base::{MessageId, Moment, OctetView, Octets, Originator};
 use sms_capture::{CapturedFrame, put_file_head, put_frame};
+use sms_captured_sessions::{SessionSoFar, absolute_time, message_state};
 use sms_judging::{Scene, Watcher};
 use sms_messages::MessageRow;
 use sms_receipt::{Final, receipt_of};

@@ -10,8 +10,6 @@ mod heads;
 mod ladder;
 mod lanes;
 mod notes;
-mod pdus;
-mod sessions;
 mod since;
 mod text;
 

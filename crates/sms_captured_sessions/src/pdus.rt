@@ -4,7 +4,7 @@ ghost use Rattle.std.specs.List.{list_all};
 ghost use Rattle.smpp_pdu.specs.BodyGrammar.{IsAddressText, IsCancelValue, IsMessageValue, IsQueryRespValue, IsQueryValue};
 ghost use Rattle.smpp_pdu.specs.Fields.{IsText, IsTimeText};
 ghost use Rattle.smpp_pdu.specs.Writing.{IfThere, IsMessageRespValue, written_len};
-ghost use Rattle.sms_watching.specs.Writable.{AreShort, CanBeWritten};
+ghost use Rattle.sms_captured_sessions.specs.Writable.{AreShort, CanBeWritten};
 
 use smpp_pdu::{Body, CancelSm, Message, MessageResp, Pdu, QuerySm, QuerySmResp, SmeAddress, Tlvs};
 use sms_base::{FinalState, Moment, OctetView, Octets};
@@ -136,7 +136,7 @@ pub(crate) fn octets_of(alloc: Global, pdu: &Pdu<'_>) -> Result<Option<Octets>, 
 }
 
 /// message_state (SMPP v3.4 5.2.28).
-pub(crate) fn message_state(state: Option<FinalState>) -> u8 {
+pub fn message_state(state: Option<FinalState>) -> u8 {
     match state {
         None => 1,
         Some(FinalState::Delivered) => 2,
@@ -153,7 +153,7 @@ fn put_pair(octet: u8, text: &mut Octets) -> Result<(), AllocError> {
 }
 
 /// The moment as an absolute time, in sixteen octets at UTC (SMPP v3.4 7.1.1); none where there is none.
-pub(crate) fn absolute_time(alloc: Global, done: Option<Moment>) -> Result<Octets, AllocError> {
+pub fn absolute_time(alloc: Global, done: Option<Moment>) -> Result<Octets, AllocError> {
     let mut text = Octets::new(alloc);
     let Some(done) = done else {
         return Ok(text);

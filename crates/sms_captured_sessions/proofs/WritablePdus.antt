@@ -16,7 +16,7 @@ use Rattle.smpp_pdu.specs.declared.query.QuerySm.{QuerySm as QuerySmOf}
 use Rattle.smpp_pdu.specs.declared.query.QuerySmResp.{QuerySmResp as QuerySmRespOf}
 use Rattle.smpp_pdu.specs.declared.tlv.Tlvs.{Tlvs}
 use Rattle.smpp_pdu.proofs.Lengths.{address_length, cancel_length, message_length, message_resp_length, query_length, query_resp_length, tlvs_length}
-use Rattle.sms_watching.specs.Writable.{AreShort, CanBeWritten}
+use Rattle.sms_captured_sessions.specs.Writable.{AreShort, CanBeWritten}
 
 -- ---- texts
 

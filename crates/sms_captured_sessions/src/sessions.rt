@@ -9,7 +9,7 @@ use std::alloc::{AllocError, Global};
 
 /// How far the session of an application is.
 #[derive(Clone, Copy)]
-pub(crate) struct SessionSoFar {
+pub struct SessionSoFar {
     application: u16,
     // How many octets went up and down.
     up: u32,
@@ -32,7 +32,7 @@ fn length_of(octets: &[u8]) -> Option<u32>
 
 impl SessionSoFar {
     /// The session of the application at that place, before its first PDU.
-    pub(crate) fn of(application: u16) -> SessionSoFar {
+    pub fn of(application: u16) -> SessionSoFar {
         SessionSoFar {
             application,
             up: 0,
@@ -84,7 +84,7 @@ impl SessionSoFar {
     }
 
     /// The application asks.
-    pub(crate) fn ask(
+    pub fn ask(
         &mut self,
         alloc: Global,
         out: &mut Octets,
@@ -101,7 +101,7 @@ impl SessionSoFar {
     }
 
     /// It is answered.
-    pub(crate) fn answer(
+    pub fn answer(
         &mut self,
         alloc: Global,
         out: &mut Octets,
@@ -118,7 +118,7 @@ impl SessionSoFar {
     }
 
     /// The centre tells it something.
-    pub(crate) fn tell(
+    pub fn tell(
         &mut self,
         alloc: Global,
         out: &mut Octets,
@@ -135,7 +135,7 @@ impl SessionSoFar {
     }
 
     /// It accepts what it was told.
-    pub(crate) fn accept(
+    pub fn accept(
         &mut self,
         alloc: Global,
         out: &mut Octets,

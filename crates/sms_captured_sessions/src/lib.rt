@@ -1,0 +1,12 @@
+//! The sessions of a script's applications, as a capture file has them.
+//!
+//! `SessionSoFar` counts what an application and the centre said to one another, and writes each PDU behind those before: its sequence
+//! number, and how many octets went up and down before it. What is written is a PDU that can be written; a body whose texts are too long
+//! for their fields is none. `message_state` and `absolute_time` are fields of an answer to a query.
+#![tactic(auto)]
+
+mod pdus;
+mod sessions;
+
+pub use pdus::{absolute_time, message_state};
+pub use sessions::SessionSoFar;
