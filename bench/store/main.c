@@ -2,7 +2,8 @@
  *
  *   peer [FINISHED OPEN TURNS [FILE]]
  *
- * Statements are prepared once. A file has a write-ahead log and a sync at each commit, as the port has. */
+ * A store that has tables already is taken as filled so; with no turns nothing is measured. Statements are prepared once. A file has a
+ * write-ahead log and a sync at each commit, as the port has. */
 #include <sqlite3.h>
 #include <stdint.h>
 #include <stdio.h>
@@ -48,7 +49,8 @@ static const char tables[] =
 	"CREATE TABLE handset (place INTEGER NOT NULL, number TEXT NOT NULL, last_reference INTEGER NOT NULL, UNIQUE (place)) STRICT;"
 	"CREATE TABLE report (place INTEGER NOT NULL, message INTEGER NOT NULL, kind TEXT NOT NULL, reference INTEGER, tpdu BLOB, made INTEGER NOT NULL, is_done INTEGER NOT NULL, attempts INTEGER NOT NULL, due INTEGER NOT NULL, UNIQUE (place)) STRICT;"
 	"CREATE TABLE priority (message INTEGER NOT NULL, priority INTEGER NOT NULL, UNIQUE (message)) STRICT;"
-	"CREATE INDEX report_message ON report (message);";
+	"CREATE INDEX report_message ON report (message);"
+	"INSERT INTO meta (version, kind) VALUES (2, 'centre');";
 
 static sqlite3 *db;
 static sqlite3_stmt *prepared[STATEMENTS];
@@ -288,29 +290,110 @@ static void measure(uint64_t before, uint64_t turns)
 	tell(&acknowledgement);
 }
 
-/* All rows of the six tables, each column looked at. */
+/* A list as it is read: a letter a column, n a number, o one that may be NULL, t a text, b octets. */
+struct list {
+	const char *query;
+	const char *columns;
+};
+
+static const struct list lists[] = {
+	{ "SELECT id, account, message_reference, source_ton, source_npi, source, handset, data_coding_scheme, protocol_identifier, wish, submitted, expires, split_reference, state, done FROM message", "nbonnttnntnnoto" },
+	{ "SELECT message, number, reference, tpdu, concat_bits, concat_reference, concat_total, concat_number, is_done, attempts, due FROM part", "nnnboooonnn" },
+	{ "SELECT place, reference, last_given FROM given_reference", "nnn" },
+	{ "SELECT place, number, last_reference FROM handset", "ntn" },
+	{ "SELECT place, message, kind, reference, tpdu, made, is_done, attempts, due FROM report", "nntobnnnn" },
+	{ "SELECT message, priority FROM priority", "nn" },
+};
+
+/* What was read: octets behind octets. */
+struct read {
+	unsigned char *octets;
+	size_t length, room;
+};
+
+static void keep(struct read *read, const void *octets, size_t length)
+{
+	if (read->room - read->length < length) {
+		read->room = 2 * read->room + length;
+		read->octets = realloc(read->octets, read->room);
+		if (!read->octets)
+			exit(1);
+	}
+	if (length)
+		memcpy(read->octets + read->length, octets, length);
+	read->length += length;
+}
+
+static void keep_column(struct read *read, sqlite3_stmt *statement, int column, char kind)
+{
+	int64_t value;
+	const void *octets;
+	switch (kind) {
+	case 'o':
+		if (sqlite3_column_type(statement, column) == SQLITE_NULL)
+			return;
+		/* fall through */
+	case 'n':
+		value = sqlite3_column_int64(statement, column);
+		keep(read, &value, sizeof value);
+		return;
+	case 't':
+		octets = sqlite3_column_text(statement, column);
+		break;
+	default:
+		octets = sqlite3_column_blob(statement, column);
+	}
+	keep(read, octets, (size_t)sqlite3_column_bytes(statement, column));
+}
+
+static void read_list(struct read *read, const struct list *list)
+{
+	sqlite3_stmt *statement;
+	int code;
+	check(sqlite3_prepare_v2(db, list->query, -1, &statement, NULL), SQLITE_OK);
+	while ((code = sqlite3_step(statement)) == SQLITE_ROW)
+		for (int column = 0; list->columns[column]; column++)
+			keep_column(read, statement, column, list->columns[column]);
+	check(code, SQLITE_DONE);
+	check(sqlite3_finalize(statement), SQLITE_OK);
+}
+
+/* All rows of the six tables into memory, each column by its type, in the order in which they lie in the file. */
 static void load(void)
 {
-	static const char *const all[] = {
-		"SELECT * FROM message ORDER BY id", "SELECT * FROM part ORDER BY message, number",
-		"SELECT * FROM given_reference ORDER BY place, reference", "SELECT * FROM handset ORDER BY place",
-		"SELECT * FROM report ORDER BY place", "SELECT * FROM priority ORDER BY message",
-	};
 	struct meter meter = { "load", 0, 0, UINT64_MAX };
-	uint64_t start = nanoseconds(), octets = 0;
-	for (size_t i = 0; i < sizeof all / sizeof *all; i++) {
-		sqlite3_stmt *statement;
-		int code;
-		check(sqlite3_prepare_v2(db, all[i], -1, &statement, NULL), SQLITE_OK);
-		while ((code = sqlite3_step(statement)) == SQLITE_ROW)
-			for (int column = 0; column < sqlite3_column_count(statement); column++)
-				octets += (uint64_t)sqlite3_column_bytes(statement, column);
-		check(code, SQLITE_DONE);
-		sqlite3_finalize(statement);
-	}
+	struct read read = { NULL, 0, 0 };
+	uint64_t start = nanoseconds();
+	for (size_t i = 0; i < sizeof lists / sizeof *lists; i++)
+		read_list(&read, &lists[i]);
 	add(&meter, start);
 	tell(&meter);
-	printf("octets %lu\n", (unsigned long)octets);
+	printf("octets %lu\n", (unsigned long)read.length);
+	free(read.octets);
+}
+
+/* Whether the store is new: it has no tables. */
+static int is_new(void)
+{
+	sqlite3_stmt *statement;
+	check(sqlite3_prepare_v2(db, "SELECT count(*) FROM sqlite_schema", -1, &statement, NULL), SQLITE_OK);
+	check(sqlite3_step(statement), SQLITE_ROW);
+	int count = sqlite3_column_int(statement, 0);
+	check(sqlite3_finalize(statement), SQLITE_OK);
+	return count == 0;
+}
+
+static void prepare(void)
+{
+	for (int i = 0; i < STATEMENTS; i++)
+		check(sqlite3_prepare_v2(db, texts[i], -1, &prepared[i], NULL), SQLITE_OK);
+}
+
+static void close_store(void)
+{
+	for (int i = 0; i < STATEMENTS; i++)
+		check(sqlite3_finalize(prepared[i]), SQLITE_OK);
+	check(sqlite3_close(db), SQLITE_OK);
 }
 
 int main(int argc, char **argv)
@@ -324,13 +407,20 @@ int main(int argc, char **argv)
 	for (int i = 0; i < 10; i++)
 		memcpy(tpdu + sizeof front + i * sizeof part, part, sizeof part);
 	handsets = open / SHELF + 1;
-	check(sqlite3_open(argc > 4 ? argv[4] : ":memory:", &db), SQLITE_OK);
+	/* no locks: one thread has the store, as with the port */
+	int flags = SQLITE_OPEN_READWRITE | SQLITE_OPEN_CREATE | SQLITE_OPEN_NOMUTEX;
+	check(sqlite3_open_v2(argc > 4 ? argv[4] : ":memory:", &db, flags, NULL), SQLITE_OK);
 	batch("PRAGMA journal_mode = WAL; PRAGMA synchronous = FULL;");
-	batch(tables);
-	for (int i = 0; i < STATEMENTS; i++)
-		check(sqlite3_prepare_v2(db, texts[i], -1, &prepared[i], NULL), SQLITE_OK);
-	fill(finished, open);
-	measure(finished + open, turns);
-	load();
+	int is_empty = is_new();
+	if (is_empty)
+		batch(tables);
+	prepare();
+	if (is_empty)
+		fill(finished, open);
+	if (turns > 0) {
+		measure(finished + open, turns);
+		load();
+	}
+	close_store();
 	return 0;
 }

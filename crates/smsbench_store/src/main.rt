@@ -30,7 +30,7 @@ use words::{Words, words_of};
 const USAGE: &str = "usage: smsbench_store [FINISHED OPEN TURNS [FILE]]\n\
 FINISHED messages are over and OPEN ones wait, 1000 and 400 by themselves;\n\
 TURNS is how often each kind of work is done, 64 by itself;\n\
-FILE is where the store is made, in memory by itself\n";
+FILE is where the store is made, in memory by itself; one that has messages is taken as filled so\n";
 
 fn main(rt: HostRuntime) -> ExitCode {
     let done = match words_of(&rt) {
