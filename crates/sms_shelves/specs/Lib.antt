@@ -6,3 +6,4 @@ pub mod Shown
 pub mod Adopting
 pub mod Recovering
 pub mod Walks
+pub mod Unlined

@@ -4,7 +4,8 @@
 //! touches. Each call's contract is one over the centre's definition: whatever rows of handsets and references, lines, frames and
 //! waiting loads the shelves show before it (`specs/Shown.antt`), they show what the definition makes of them after it; each question
 //! is the definition's. `settle` gives what is to be committed and sent, with the memory that it takes to put it in, and
-//! `Shelves::adopt` puts it in and takes none (`laws`: the next event then begins with the rows as they were changed).
+//! `Shelves::adopt` puts it in and takes none (`laws`: the next event then begins with the rows as they were changed). `forget_lines` is
+//! for a centre that starts again: all stays but the lines.
 //!
 //! An event costs what it touches. What isn't a handset's own event (an offer, a timer, a line that comes up after a recovery) goes
 //! over handsets in a given order (`Wanted`, `Stop`), and finds those that it concerns by an index of the lines that are up, are
@@ -22,6 +23,7 @@ mod settled;
 mod shelves;
 mod spare;
 mod stop;
+mod unlined;
 
 pub use pending::PendingShelves;
 pub use settled::{SettledShelves, ShelvesPlan};

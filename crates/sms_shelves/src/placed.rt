@@ -2,6 +2,7 @@
 ghost use Rattle.std.specs.Prelude.{◌≡◌, IfOk, Some, None};
 ghost use Rattle.sms_shelves.specs.Placing.{new_placed};
 ghost use Rattle.sms_shelves.specs.Stops.{is_active, is_wanted as is_wanted_of, order_of, stop_at};
+ghost use Rattle.sms_shelves.specs.Unlined.{unlined as unlined_of};
 
 use crate::stop::{Stop, Wanted};
 use sms_base::Digits;
@@ -35,6 +36,16 @@ impl Placed {
             shelf: self.shelf.copy()?,
             came: self.came,
         })
+    }
+
+    /// The same without its line, in memory of its own.
+    pub(crate) fn unlined(&self) -> Result<Placed, AllocError>
+        ensures { IfOk result (λ placed. placed ≡ unlined_of self.now) }
+    {
+        let mut shelf = self.shelf.copy()?;
+        shelf.lower();
+        shelf.empty();
+        Ok(Placed { shelf, came: 0 })
     }
 
     /// Whether an event that isn't the handset's own can concern it.
