@@ -2,7 +2,8 @@
  *
  *   peer [FINISHED OPEN TURNS [FILE]]
  *
- * Statements are prepared once. A file has a write-ahead log and a sync at each commit, as the port has. */
+ * A store that has tables already is taken as filled so; with no turns nothing is measured. Statements are prepared once. A file has a
+ * write-ahead log and a sync at each commit, as the port has. */
 #include <sqlite3.h>
 #include <stdint.h>
 #include <stdio.h>
@@ -14,27 +15,29 @@ enum { NOW = 1709251198, DAYS = 172800, SHELF = 200, LEFT = 56, TOGETHER = 1000 
 
 enum statement {
 	BEGIN, COMMIT,
-	DELETE_MESSAGE, INSERT_MESSAGE, DELETE_PART, INSERT_PART, UPDATE_PART,
-	DELETE_REFERENCE, INSERT_REFERENCE, DELETE_HANDSET, INSERT_HANDSET,
-	DELETE_PRIORITY, INSERT_PRIORITY, DELETE_REPORT, INSERT_REPORT, FIND_PART,
+	/* how a row is put: each UPDATE is followed by the INSERT for where it changes none */
+	UPDATE_MESSAGE, INSERT_MESSAGE, UPDATE_PART, INSERT_PART,
+	UPDATE_REFERENCE, INSERT_REFERENCE, UPDATE_HANDSET, INSERT_HANDSET,
+	UPDATE_PRIORITY, INSERT_PRIORITY, UPDATE_REPORT, INSERT_REPORT,
+	AMEND_PART, FIND_PART,
 	STATEMENTS
 };
 
 static const char *const texts[STATEMENTS] = {
 	"BEGIN", "COMMIT",
-	"DELETE FROM message WHERE id = ?1",
+	"UPDATE message SET id = ?1, account = ?2, message_reference = NULL, source_ton = 1, source_npi = 1, source = '447700900123', handset = ?3, data_coding_scheme = 0, protocol_identifier = 0, wish = 'always', submitted = ?4, expires = ?5, split_reference = NULL, state = ?6, done = ?7 WHERE id = ?1",
 	"INSERT INTO message (id, account, message_reference, source_ton, source_npi, source, handset, data_coding_scheme, protocol_identifier, wish, submitted, expires, split_reference, state, done) VALUES (?1, ?2, NULL, 1, 1, '447700900123', ?3, 0, 0, 'always', ?4, ?5, NULL, ?6, ?7)",
-	"DELETE FROM part WHERE message = ?1 AND number = 1",
+	"UPDATE part SET message = ?1, number = 1, reference = ?2, tpdu = ?3, concat_bits = NULL, concat_reference = NULL, concat_total = NULL, concat_number = NULL, is_done = ?4, attempts = 0, due = ?5 WHERE message = ?1 AND number = 1",
 	"INSERT INTO part (message, number, reference, tpdu, concat_bits, concat_reference, concat_total, concat_number, is_done, attempts, due) VALUES (?1, 1, ?2, ?3, NULL, NULL, NULL, NULL, ?4, 0, ?5)",
-	"UPDATE part SET is_done = 1, attempts = 0, due = ?2 WHERE message = ?1 AND number = 1",
-	"DELETE FROM given_reference WHERE place = ?1 AND reference = ?2",
+	"UPDATE given_reference SET place = ?1, reference = ?2, last_given = ?3 WHERE place = ?1 AND reference = ?2",
 	"INSERT INTO given_reference (place, reference, last_given) VALUES (?1, ?2, ?3)",
-	"DELETE FROM handset WHERE place = ?1",
+	"UPDATE handset SET place = ?1, number = ?2, last_reference = ?3 WHERE place = ?1",
 	"INSERT INTO handset (place, number, last_reference) VALUES (?1, ?2, ?3)",
-	"DELETE FROM priority WHERE message = ?1",
+	"UPDATE priority SET message = ?1, priority = 1 WHERE message = ?1",
 	"INSERT INTO priority (message, priority) VALUES (?1, 1)",
-	"DELETE FROM report WHERE place = ?1",
+	"UPDATE report SET place = ?1, message = ?1, kind = 'receipt', reference = NULL, tpdu = NULL, made = ?2, is_done = 0, attempts = 0, due = ?2 WHERE place = ?1",
 	"INSERT INTO report (place, message, kind, reference, tpdu, made, is_done, attempts, due) VALUES (?1, ?1, 'receipt', NULL, NULL, ?2, 0, 0, ?2)",
+	"UPDATE part SET is_done = 1, attempts = 0, due = ?2 WHERE message = ?1 AND number = 1",
 	"SELECT message, number, reference, tpdu, concat_bits, concat_reference, concat_total, concat_number, is_done, attempts, due FROM part WHERE message = ?1 AND number = 1",
 };
 
@@ -46,7 +49,8 @@ static const char tables[] =
 	"CREATE TABLE handset (place INTEGER NOT NULL, number TEXT NOT NULL, last_reference INTEGER NOT NULL, UNIQUE (place)) STRICT;"
 	"CREATE TABLE report (place INTEGER NOT NULL, message INTEGER NOT NULL, kind TEXT NOT NULL, reference INTEGER, tpdu BLOB, made INTEGER NOT NULL, is_done INTEGER NOT NULL, attempts INTEGER NOT NULL, due INTEGER NOT NULL, UNIQUE (place)) STRICT;"
 	"CREATE TABLE priority (message INTEGER NOT NULL, priority INTEGER NOT NULL, UNIQUE (message)) STRICT;"
-	"CREATE INDEX report_message ON report (message);";
+	"CREATE INDEX report_message ON report (message);"
+	"INSERT INTO meta (version, kind) VALUES (2, 'centre');";
 
 static sqlite3 *db;
 static sqlite3_stmt *prepared[STATEMENTS];
@@ -87,12 +91,6 @@ static void text(enum statement which, int place, const char *value)
 	check(sqlite3_bind_text(at(which), place, value, -1, SQLITE_STATIC), SQLITE_OK);
 }
 
-static void run_at(enum statement which, int64_t key)
-{
-	number(which, 1, key);
-	run(which);
-}
-
 struct turn {
 	int64_t id;
 	int64_t place;
@@ -104,84 +102,99 @@ static int64_t place_of(uint64_t turn)
 	return (int64_t)(turn % handsets) + 1;
 }
 
-static void put_message(struct turn turn, int is_over)
+/* Puts a row as the keep does: an UPDATE of the row of its key, and an INSERT where that changes none. */
+static void put(enum statement update, void (*bind)(enum statement, struct turn, int), struct turn turn, int is_over)
 {
-	char handset[32];
+	bind(update, turn, is_over);
+	run(update);
+	if (sqlite3_changes(db) == 0) {
+		bind(update + 1, turn, is_over);
+		run(update + 1);
+	}
+}
+
+static const char *handset_of(struct turn turn)
+{
+	static char handset[32];
 	snprintf(handset, sizeof handset, "44%010ld", (long)turn.place);
-	run_at(DELETE_MESSAGE, turn.id);
-	number(INSERT_MESSAGE, 1, turn.id);
-	check(sqlite3_bind_blob(at(INSERT_MESSAGE), 2, "bank", 4, SQLITE_STATIC), SQLITE_OK);
-	text(INSERT_MESSAGE, 3, handset);
-	number(INSERT_MESSAGE, 4, NOW);
-	number(INSERT_MESSAGE, 5, NOW + DAYS);
-	text(INSERT_MESSAGE, 6, is_over ? "delivered" : "pending");
+	return handset;
+}
+
+static void bind_message(enum statement which, struct turn turn, int is_over)
+{
+	number(which, 1, turn.id);
+	check(sqlite3_bind_blob(at(which), 2, "bank", 4, SQLITE_STATIC), SQLITE_OK);
+	text(which, 3, handset_of(turn));
+	number(which, 4, NOW);
+	number(which, 5, NOW + DAYS);
+	text(which, 6, is_over ? "delivered" : "pending");
 	if (is_over)
-		number(INSERT_MESSAGE, 7, NOW);
+		number(which, 7, NOW);
 	else
-		check(sqlite3_bind_null(at(INSERT_MESSAGE), 7), SQLITE_OK);
-	run(INSERT_MESSAGE);
+		check(sqlite3_bind_null(at(which), 7), SQLITE_OK);
 }
 
-static void put_part(struct turn turn, int is_done)
+static void bind_part(enum statement which, struct turn turn, int is_over)
 {
-	run_at(DELETE_PART, turn.id);
-	number(INSERT_PART, 1, turn.id);
-	number(INSERT_PART, 2, turn.reference);
-	check(sqlite3_bind_blob(at(INSERT_PART), 3, tpdu, sizeof tpdu, SQLITE_STATIC), SQLITE_OK);
-	number(INSERT_PART, 4, is_done);
-	number(INSERT_PART, 5, NOW);
-	run(INSERT_PART);
+	number(which, 1, turn.id);
+	number(which, 2, turn.reference);
+	check(sqlite3_bind_blob(at(which), 3, tpdu, sizeof tpdu, SQLITE_STATIC), SQLITE_OK);
+	number(which, 4, is_over);
+	number(which, 5, NOW);
 }
 
-static void give(struct turn turn)
+static void bind_reference(enum statement which, struct turn turn, int is_over)
 {
-	char handset[32];
-	snprintf(handset, sizeof handset, "44%010ld", (long)turn.place);
-	number(DELETE_REFERENCE, 1, turn.place);
-	number(DELETE_REFERENCE, 2, turn.reference);
-	run(DELETE_REFERENCE);
-	number(INSERT_REFERENCE, 1, turn.place);
-	number(INSERT_REFERENCE, 2, turn.reference);
-	number(INSERT_REFERENCE, 3, NOW);
-	run(INSERT_REFERENCE);
-	run_at(DELETE_HANDSET, turn.place);
-	number(INSERT_HANDSET, 1, turn.place);
-	text(INSERT_HANDSET, 2, handset);
-	number(INSERT_HANDSET, 3, turn.reference);
-	run(INSERT_HANDSET);
+	(void)is_over;
+	number(which, 1, turn.place);
+	number(which, 2, turn.reference);
+	number(which, 3, NOW);
 }
 
-static void put_priority(struct turn turn)
+static void bind_handset(enum statement which, struct turn turn, int is_over)
 {
-	run_at(DELETE_PRIORITY, turn.id);
-	run_at(INSERT_PRIORITY, turn.id);
+	(void)is_over;
+	number(which, 1, turn.place);
+	text(which, 2, handset_of(turn));
+	number(which, 3, turn.reference);
+}
+
+static void bind_priority(enum statement which, struct turn turn, int is_over)
+{
+	(void)is_over;
+	number(which, 1, turn.id);
+}
+
+static void bind_report(enum statement which, struct turn turn, int is_over)
+{
+	(void)is_over;
+	number(which, 1, turn.id);
+	number(which, 2, NOW);
 }
 
 static void put_finished(struct turn turn)
 {
-	put_message(turn, 1);
-	put_part(turn, 1);
-	put_priority(turn);
+	put(UPDATE_MESSAGE, bind_message, turn, 1);
+	put(UPDATE_PART, bind_part, turn, 1);
+	put(UPDATE_PRIORITY, bind_priority, turn, 1);
 }
 
 static void put_open(struct turn turn)
 {
-	put_message(turn, 0);
-	put_part(turn, 0);
-	give(turn);
-	put_priority(turn);
+	put(UPDATE_MESSAGE, bind_message, turn, 0);
+	put(UPDATE_PART, bind_part, turn, 0);
+	put(UPDATE_REFERENCE, bind_reference, turn, 0);
+	put(UPDATE_HANDSET, bind_handset, turn, 0);
+	put(UPDATE_PRIORITY, bind_priority, turn, 0);
 }
 
 static void acknowledge(struct turn turn)
 {
-	put_message(turn, 1);
-	number(UPDATE_PART, 1, turn.id);
-	number(UPDATE_PART, 2, NOW);
-	run(UPDATE_PART);
-	run_at(DELETE_REPORT, turn.id);
-	number(INSERT_REPORT, 1, turn.id);
-	number(INSERT_REPORT, 2, NOW);
-	run(INSERT_REPORT);
+	put(UPDATE_MESSAGE, bind_message, turn, 1);
+	number(AMEND_PART, 1, turn.id);
+	number(AMEND_PART, 2, NOW);
+	run(AMEND_PART);
+	put(UPDATE_REPORT, bind_report, turn, 1);
 }
 
 static int offer(struct turn turn)
@@ -277,29 +290,110 @@ static void measure(uint64_t before, uint64_t turns)
 	tell(&acknowledgement);
 }
 
-/* All rows of the six tables, each column looked at. */
+/* A list as it is read: a letter a column, n a number, o one that may be NULL, t a text, b octets. */
+struct list {
+	const char *query;
+	const char *columns;
+};
+
+static const struct list lists[] = {
+	{ "SELECT id, account, message_reference, source_ton, source_npi, source, handset, data_coding_scheme, protocol_identifier, wish, submitted, expires, split_reference, state, done FROM message", "nbonnttnntnnoto" },
+	{ "SELECT message, number, reference, tpdu, concat_bits, concat_reference, concat_total, concat_number, is_done, attempts, due FROM part", "nnnboooonnn" },
+	{ "SELECT place, reference, last_given FROM given_reference", "nnn" },
+	{ "SELECT place, number, last_reference FROM handset", "ntn" },
+	{ "SELECT place, message, kind, reference, tpdu, made, is_done, attempts, due FROM report", "nntobnnnn" },
+	{ "SELECT message, priority FROM priority", "nn" },
+};
+
+/* What was read: octets behind octets. */
+struct read {
+	unsigned char *octets;
+	size_t length, room;
+};
+
+static void keep(struct read *read, const void *octets, size_t length)
+{
+	if (read->room - read->length < length) {
+		read->room = 2 * read->room + length;
+		read->octets = realloc(read->octets, read->room);
+		if (!read->octets)
+			exit(1);
+	}
+	if (length)
+		memcpy(read->octets + read->length, octets, length);
+	read->length += length;
+}
+
+static void keep_column(struct read *read, sqlite3_stmt *statement, int column, char kind)
+{
+	int64_t value;
+	const void *octets;
+	switch (kind) {
+	case 'o':
+		if (sqlite3_column_type(statement, column) == SQLITE_NULL)
+			return;
+		/* fall through */
+	case 'n':
+		value = sqlite3_column_int64(statement, column);
+		keep(read, &value, sizeof value);
+		return;
+	case 't':
+		octets = sqlite3_column_text(statement, column);
+		break;
+	default:
+		octets = sqlite3_column_blob(statement, column);
+	}
+	keep(read, octets, (size_t)sqlite3_column_bytes(statement, column));
+}
+
+static void read_list(struct read *read, const struct list *list)
+{
+	sqlite3_stmt *statement;
+	int code;
+	check(sqlite3_prepare_v2(db, list->query, -1, &statement, NULL), SQLITE_OK);
+	while ((code = sqlite3_step(statement)) == SQLITE_ROW)
+		for (int column = 0; list->columns[column]; column++)
+			keep_column(read, statement, column, list->columns[column]);
+	check(code, SQLITE_DONE);
+	check(sqlite3_finalize(statement), SQLITE_OK);
+}
+
+/* All rows of the six tables into memory, each column by its type, in the order in which they lie in the file. */
 static void load(void)
 {
-	static const char *const all[] = {
-		"SELECT * FROM message ORDER BY id", "SELECT * FROM part ORDER BY message, number",
-		"SELECT * FROM given_reference ORDER BY place, reference", "SELECT * FROM handset ORDER BY place",
-		"SELECT * FROM report ORDER BY place", "SELECT * FROM priority ORDER BY message",
-	};
 	struct meter meter = { "load", 0, 0, UINT64_MAX };
-	uint64_t start = nanoseconds(), octets = 0;
-	for (size_t i = 0; i < sizeof all / sizeof *all; i++) {
-		sqlite3_stmt *statement;
-		int code;
-		check(sqlite3_prepare_v2(db, all[i], -1, &statement, NULL), SQLITE_OK);
-		while ((code = sqlite3_step(statement)) == SQLITE_ROW)
-			for (int column = 0; column < sqlite3_column_count(statement); column++)
-				octets += (uint64_t)sqlite3_column_bytes(statement, column);
-		check(code, SQLITE_DONE);
-		sqlite3_finalize(statement);
-	}
+	struct read read = { NULL, 0, 0 };
+	uint64_t start = nanoseconds();
+	for (size_t i = 0; i < sizeof lists / sizeof *lists; i++)
+		read_list(&read, &lists[i]);
 	add(&meter, start);
 	tell(&meter);
-	printf("octets %lu\n", (unsigned long)octets);
+	printf("octets %lu\n", (unsigned long)read.length);
+	free(read.octets);
+}
+
+/* Whether the store is new: it has no tables. */
+static int is_new(void)
+{
+	sqlite3_stmt *statement;
+	check(sqlite3_prepare_v2(db, "SELECT count(*) FROM sqlite_schema", -1, &statement, NULL), SQLITE_OK);
+	check(sqlite3_step(statement), SQLITE_ROW);
+	int count = sqlite3_column_int(statement, 0);
+	check(sqlite3_finalize(statement), SQLITE_OK);
+	return count == 0;
+}
+
+static void prepare(void)
+{
+	for (int i = 0; i < STATEMENTS; i++)
+		check(sqlite3_prepare_v2(db, texts[i], -1, &prepared[i], NULL), SQLITE_OK);
+}
+
+static void close_store(void)
+{
+	for (int i = 0; i < STATEMENTS; i++)
+		check(sqlite3_finalize(prepared[i]), SQLITE_OK);
+	check(sqlite3_close(db), SQLITE_OK);
 }
 
 int main(int argc, char **argv)
@@ -313,13 +407,20 @@ int main(int argc, char **argv)
 	for (int i = 0; i < 10; i++)
 		memcpy(tpdu + sizeof front + i * sizeof part, part, sizeof part);
 	handsets = open / SHELF + 1;
-	check(sqlite3_open(argc > 4 ? argv[4] : ":memory:", &db), SQLITE_OK);
+	/* no locks: one thread has the store, as with the port */
+	int flags = SQLITE_OPEN_READWRITE | SQLITE_OPEN_CREATE | SQLITE_OPEN_NOMUTEX;
+	check(sqlite3_open_v2(argc > 4 ? argv[4] : ":memory:", &db, flags, NULL), SQLITE_OK);
 	batch("PRAGMA journal_mode = WAL; PRAGMA synchronous = FULL;");
-	batch(tables);
-	for (int i = 0; i < STATEMENTS; i++)
-		check(sqlite3_prepare_v2(db, texts[i], -1, &prepared[i], NULL), SQLITE_OK);
-	fill(finished, open);
-	measure(finished + open, turns);
-	load();
+	int is_empty = is_new();
+	if (is_empty)
+		batch(tables);
+	prepare();
+	if (is_empty)
+		fill(finished, open);
+	if (turns > 0) {
+		measure(finished + open, turns);
+		load();
+	}
+	close_store();
 	return 0;
 }

@@ -3,7 +3,8 @@ use crate::changes::{no_changes, put_finished, put_open};
 use crate::error::BenchError;
 use crate::words::Words;
 use sms_centre_store::CentreKeep;
-use sms_keep::Keep;
+use sms_keep::{BodyKeep, Keep};
+use sms_table::Key;
 use sqlite::Alter;
 
 /// How many messages come in one transaction.
@@ -41,8 +42,7 @@ fn commit_open<S: Alter>(
     Ok(())
 }
 
-/// As many messages are over and wait as the words say.
-pub(crate) fn fill<S: Alter>(
+fn commit_all<S: Alter>(
     rt: &HostRuntime,
     words: &Words,
     keep: &mut CentreKeep<S>,
@@ -54,4 +54,22 @@ pub(crate) fn fill<S: Alter>(
         commit_open(rt, words, keep, start)?;
     }
     Ok(())
+}
+
+// Whether the store has a first message.
+fn is_filled<S: Alter>(keep: &mut CentreKeep<S>) -> Result<bool, BenchError> {
+    let body = keep.body(Key::pair(1, 1))?;
+    Ok(body.is_some())
+}
+
+/// As many messages are over and wait as the words say. A store that has messages already is taken as filled so.
+pub(crate) fn fill<S: Alter>(
+    rt: &HostRuntime,
+    words: &Words,
+    keep: &mut CentreKeep<S>,
+) -> Result<(), BenchError> {
+    if is_filled(keep)? {
+        return Ok(());
+    }
+    commit_all(rt, words, keep)
 }

@@ -1,6 +1,6 @@
-//! How long the store of a centre takes, beside statements by hand over the same port, where a put is a DELETE and an INSERT: it is filled
-//! with messages that are over and that wait; then what a submission, an offer and an acknowledgement ask of a store is done so many times by
-//! each of both, and then all rows are loaded and a centre recovers on them. Checksums of what was read go to standard output, times to
+//! How long the store of a centre takes, beside statements by hand over the same port, which puts rows as the store does: it is opened
+//! and filled with messages that are over and that wait; then what a submission, an offer and an acknowledgement ask of a store is done so many
+//! times by each of both, and then all rows are loaded and a centre recovers on them. Checksums of what was read go to standard output, times to
 //! standard error. docs/PERFORMANCE.md says what each kind is.
 #![tactic(auto)]
 
@@ -19,6 +19,7 @@ mod words;
 use error::BenchError;
 use filling::fill;
 use loading::measure_load;
+use meter::{Meter, Stopwatch};
 use rows::setup;
 use sms_centre_store::{CentreKeep, in_memory};
 use sqlite::Alter;
@@ -30,7 +31,7 @@ use words::{Words, words_of};
 const USAGE: &str = "usage: smsbench_store [FINISHED OPEN TURNS [FILE]]\n\
 FINISHED messages are over and OPEN ones wait, 1000 and 400 by themselves;\n\
 TURNS is how often each kind of work is done, 64 by itself;\n\
-FILE is where the store is made, in memory by itself\n";
+FILE is where the store is made, in memory by itself; one that has messages is taken as filled so\n";
 
 fn main(rt: HostRuntime) -> ExitCode {
     let done = match words_of(&rt) {
@@ -66,17 +67,19 @@ fn run(rt: &HostRuntime, words: &Words) -> Result<(), BenchError> {
 }
 
 fn on_file(rt: &HostRuntime, words: &Words, path: &str) -> Result<(), BenchError> {
+    let watch = Stopwatch::start(rt)?;
     let setup = setup(rt.alloc())?;
     match CentreKeep::open(rt, path, setup) {
-        Ok(keep) => work(rt, words, keep),
+        Ok(keep) => work(rt, words, keep, watch),
         Err(error) => Err(BenchError::from(error)),
     }
 }
 
 fn within_memory(rt: &HostRuntime, words: &Words) -> Result<(), BenchError> {
+    let watch = Stopwatch::start(rt)?;
     let setup = setup(rt.alloc())?;
     match in_memory(rt.alloc(), setup) {
-        Ok(keep) => work(rt, words, keep),
+        Ok(keep) => work(rt, words, keep, watch),
         Err(error) => Err(BenchError::from(error)),
     }
 }
@@ -85,16 +88,26 @@ fn work<S: Alter + Drop>(
     rt: &HostRuntime,
     words: &Words,
     keep: CentreKeep<S>,
+    watch: Stopwatch,
 ) -> Result<(), BenchError> {
     let mut keep = keep;
-    measure_all(rt, words, &mut keep)
+    measure_all(rt, words, &mut keep, watch)
+}
+
+// The store is open.
+fn measure_open(rt: &HostRuntime, watch: Stopwatch) -> Result<(), BenchError> {
+    let mut meter = Meter::new("open");
+    meter.add(watch.stop(rt)?);
+    meter.tell(rt)
 }
 
 fn measure_all<S: Alter>(
     rt: &HostRuntime,
     words: &Words,
     keep: &mut CentreKeep<S>,
+    watch: Stopwatch,
 ) -> Result<(), BenchError> {
+    measure_open(rt, watch)?;
     fill(rt, words, keep)?;
     measure(rt, words, keep)?;
     measure_load(rt, keep)

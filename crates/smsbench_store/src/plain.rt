@@ -3,9 +3,8 @@ use crate::error::BenchError;
 use crate::meter::{Meter, Stopwatch};
 use crate::rows::{DAYS, NOW, deliver, number_text};
 use crate::statements::{
-    Values, delete_handset, delete_message, delete_part, delete_priority, delete_reference,
-    delete_report, insert_handset, insert_message, insert_part, insert_priority, insert_reference,
-    insert_report, part_octets, update_part,
+    Values, amend_part, part_octets, put_handset, put_message, put_part, put_priority,
+    put_reference, put_report,
 };
 use crate::words::Turn;
 use sqlite::{Alter, Connection, Transaction};
@@ -30,39 +29,28 @@ fn values(alloc: Global, turn: Turn) -> Result<Values, AllocError> {
     })
 }
 
-fn put_message<S: Alter>(tx: &mut Transaction<'_, S>, values: &Values) -> Result<(), BenchError> {
-    delete_message(tx, values)?;
-    insert_message(tx, values, "pending", None)?;
-    delete_part(tx, values)?;
-    insert_part(tx, values)
-}
-
 fn give<S: Alter>(tx: &mut Transaction<'_, S>, values: &Values) -> Result<(), BenchError> {
-    delete_reference(tx, values)?;
-    insert_reference(tx, values)?;
-    delete_handset(tx, values)?;
-    insert_handset(tx, values)
+    put_reference(tx, values)?;
+    put_handset(tx, values)
 }
 
 fn write_submission<S: Alter>(
     tx: &mut Transaction<'_, S>,
     values: &Values,
 ) -> Result<(), BenchError> {
-    put_message(tx, values)?;
+    put_message(tx, values, "pending", None)?;
+    put_part(tx, values)?;
     give(tx, values)?;
-    delete_priority(tx, values)?;
-    insert_priority(tx, values)
+    put_priority(tx, values)
 }
 
 fn write_acknowledgement<S: Alter>(
     tx: &mut Transaction<'_, S>,
     values: &Values,
 ) -> Result<(), BenchError> {
-    delete_message(tx, values)?;
-    insert_message(tx, values, "delivered", Some(values.now))?;
-    update_part(tx, values)?;
-    delete_report(tx, values)?;
-    insert_report(tx, values)
+    put_message(tx, values, "delivered", Some(values.now))?;
+    amend_part(tx, values)?;
+    put_report(tx, values)
 }
 
 fn commit_submission<S: Alter>(

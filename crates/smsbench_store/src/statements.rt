@@ -1,4 +1,5 @@
-//! The statements of the keep's tables, written by hand.
+//! The statements of the keep's tables, written by hand. A row is put as the keep puts it: by an UPDATE, and by an INSERT where that
+//! changes none.
 use crate::error::BenchError;
 use crate::rows::{ACCOUNT, SOURCE};
 use sms_base::Octets;
@@ -17,32 +18,60 @@ pub(crate) struct Values {
     pub(crate) tpdu: Octets,
 }
 
+const UPDATE_MESSAGE: &str =
+    "UPDATE message SET id = ?1, account = ?2, message_reference = ?3, source_ton = ?4, source_npi = ?5, source = ?6, handset = ?7, data_coding_scheme = ?8, protocol_identifier = ?9, wish = ?10, submitted = ?11, expires = ?12, split_reference = ?13, state = ?14, done = ?15 WHERE id = ?1";
+
+const INSERT_MESSAGE: &str =
+    "INSERT INTO message (id, account, message_reference, source_ton, source_npi, source, handset, data_coding_scheme, protocol_identifier, wish, submitted, expires, split_reference, state, done) VALUES (?1, ?2, ?3, ?4, ?5, ?6, ?7, ?8, ?9, ?10, ?11, ?12, ?13, ?14, ?15)";
+
+const UPDATE_PART: &str =
+    "UPDATE part SET message = ?1, number = ?2, reference = ?3, tpdu = ?4, concat_bits = ?5, concat_reference = ?6, concat_total = ?7, concat_number = ?8, is_done = ?9, attempts = ?10, due = ?11 WHERE message = ?1 AND number = ?2";
+
+const INSERT_PART: &str =
+    "INSERT INTO part (message, number, reference, tpdu, concat_bits, concat_reference, concat_total, concat_number, is_done, attempts, due) VALUES (?1, ?2, ?3, ?4, ?5, ?6, ?7, ?8, ?9, ?10, ?11)";
+
+const UPDATE_REFERENCE: &str =
+    "UPDATE given_reference SET place = ?1, reference = ?2, last_given = ?3 WHERE place = ?1 AND reference = ?2";
+
+const INSERT_REFERENCE: &str =
+    "INSERT INTO given_reference (place, reference, last_given) VALUES (?1, ?2, ?3)";
+
+const UPDATE_HANDSET: &str =
+    "UPDATE handset SET place = ?1, number = ?2, last_reference = ?3 WHERE place = ?1";
+
+const INSERT_HANDSET: &str =
+    "INSERT INTO handset (place, number, last_reference) VALUES (?1, ?2, ?3)";
+
+const UPDATE_PRIORITY: &str = "UPDATE priority SET message = ?1, priority = ?2 WHERE message = ?1";
+
+const INSERT_PRIORITY: &str = "INSERT INTO priority (message, priority) VALUES (?1, ?2)";
+
+const UPDATE_REPORT: &str =
+    "UPDATE report SET place = ?1, message = ?2, kind = ?3, reference = ?4, tpdu = ?5, made = ?6, is_done = ?7, attempts = ?8, due = ?9 WHERE place = ?1";
+
+const INSERT_REPORT: &str =
+    "INSERT INTO report (place, message, kind, reference, tpdu, made, is_done, attempts, due) VALUES (?1, ?2, ?3, ?4, ?5, ?6, ?7, ?8, ?9)";
+
+// How many rows the statement changed.
 fn run<S: Alter>(
     tx: &mut Transaction<'_, S>,
     sql: &str,
     params: &[ValueRef<'_>],
-) -> Result<(), BenchError> {
-    let _count = tx.execute(sql, params)?;
-    Ok(())
+) -> Result<usize, BenchError> {
+    Ok(tx.execute(sql, params)?)
 }
 
-pub(crate) fn delete_message<S: Alter>(
+fn write_message<S: Alter>(
     tx: &mut Transaction<'_, S>,
-    values: &Values,
-) -> Result<(), BenchError> {
-    run(tx, "DELETE FROM message WHERE id = ?1", params![values.id])
-}
-
-pub(crate) fn insert_message<S: Alter>(
-    tx: &mut Transaction<'_, S>,
+    sql: &str,
     values: &Values,
     state: &str,
     done: Option<i64>,
-) -> Result<(), BenchError> {
+) -> Result<usize, BenchError> {
     let none: Option<u32> = None;
     run(
         tx,
-        "INSERT INTO message (id, account, message_reference, source_ton, source_npi, source, handset, data_coding_scheme, protocol_identifier, wish, submitted, expires, split_reference, state, done) VALUES (?1, ?2, ?3, ?4, ?5, ?6, ?7, ?8, ?9, ?10, ?11, ?12, ?13, ?14, ?15)",
+        sql,
         params![
             values.id,
             ACCOUNT,
@@ -63,25 +92,28 @@ pub(crate) fn insert_message<S: Alter>(
     )
 }
 
-pub(crate) fn delete_part<S: Alter>(
+/// Changes the row of the message, or adds it where none has its key.
+pub(crate) fn put_message<S: Alter>(
     tx: &mut Transaction<'_, S>,
     values: &Values,
+    state: &str,
+    done: Option<i64>,
 ) -> Result<(), BenchError> {
-    run(
-        tx,
-        "DELETE FROM part WHERE message = ?1 AND number = ?2",
-        params![values.id, 1i64],
-    )
+    if write_message(tx, UPDATE_MESSAGE, values, state, done)? == 0 {
+        write_message(tx, INSERT_MESSAGE, values, state, done)?;
+    }
+    Ok(())
 }
 
-pub(crate) fn insert_part<S: Alter>(
+fn write_part<S: Alter>(
     tx: &mut Transaction<'_, S>,
+    sql: &str,
     values: &Values,
-) -> Result<(), BenchError> {
+) -> Result<usize, BenchError> {
     let none: Option<u32> = None;
     run(
         tx,
-        "INSERT INTO part (message, number, reference, tpdu, concat_bits, concat_reference, concat_total, concat_number, is_done, attempts, due) VALUES (?1, ?2, ?3, ?4, ?5, ?6, ?7, ?8, ?9, ?10, ?11)",
+        sql,
         params![
             values.id,
             1u32,
@@ -98,7 +130,19 @@ pub(crate) fn insert_part<S: Alter>(
     )
 }
 
-pub(crate) fn update_part<S: Alter>(
+/// The same of its part.
+pub(crate) fn put_part<S: Alter>(
+    tx: &mut Transaction<'_, S>,
+    values: &Values,
+) -> Result<(), BenchError> {
+    if write_part(tx, UPDATE_PART, values)? == 0 {
+        write_part(tx, INSERT_PART, values)?;
+    }
+    Ok(())
+}
+
+/// Its part is done; what it carries stays.
+pub(crate) fn amend_part<S: Alter>(
     tx: &mut Transaction<'_, S>,
     values: &Values,
 ) -> Result<(), BenchError> {
@@ -106,98 +150,95 @@ pub(crate) fn update_part<S: Alter>(
         tx,
         "UPDATE part SET is_done = ?3, attempts = ?4, due = ?5 WHERE message = ?1 AND number = ?2",
         params![values.id, 1i64, true, 0u32, values.now],
-    )
+    )?;
+    Ok(())
 }
 
-pub(crate) fn delete_reference<S: Alter>(
+fn write_reference<S: Alter>(
+    tx: &mut Transaction<'_, S>,
+    sql: &str,
+    values: &Values,
+) -> Result<usize, BenchError> {
+    run(tx, sql, params![values.place, values.reference, values.now])
+}
+
+/// The same of its reference.
+pub(crate) fn put_reference<S: Alter>(
     tx: &mut Transaction<'_, S>,
     values: &Values,
 ) -> Result<(), BenchError> {
-    run(
-        tx,
-        "DELETE FROM given_reference WHERE place = ?1 AND reference = ?2",
-        params![values.place, values.reference],
-    )
+    if write_reference(tx, UPDATE_REFERENCE, values)? == 0 {
+        write_reference(tx, INSERT_REFERENCE, values)?;
+    }
+    Ok(())
 }
 
-pub(crate) fn insert_reference<S: Alter>(
+fn write_handset<S: Alter>(
     tx: &mut Transaction<'_, S>,
+    sql: &str,
     values: &Values,
-) -> Result<(), BenchError> {
+) -> Result<usize, BenchError> {
     run(
         tx,
-        "INSERT INTO given_reference (place, reference, last_given) VALUES (?1, ?2, ?3)",
-        params![values.place, values.reference, values.now],
-    )
-}
-
-pub(crate) fn delete_handset<S: Alter>(
-    tx: &mut Transaction<'_, S>,
-    values: &Values,
-) -> Result<(), BenchError> {
-    run(
-        tx,
-        "DELETE FROM handset WHERE place = ?1",
-        params![values.place],
-    )
-}
-
-pub(crate) fn insert_handset<S: Alter>(
-    tx: &mut Transaction<'_, S>,
-    values: &Values,
-) -> Result<(), BenchError> {
-    run(
-        tx,
-        "INSERT INTO handset (place, number, last_reference) VALUES (?1, ?2, ?3)",
+        sql,
         params![values.place, &values.handset, values.reference],
     )
 }
 
-pub(crate) fn delete_priority<S: Alter>(
+/// The same of its handset.
+pub(crate) fn put_handset<S: Alter>(
     tx: &mut Transaction<'_, S>,
     values: &Values,
 ) -> Result<(), BenchError> {
-    run(
-        tx,
-        "DELETE FROM priority WHERE message = ?1",
-        params![values.id],
-    )
+    if write_handset(tx, UPDATE_HANDSET, values)? == 0 {
+        write_handset(tx, INSERT_HANDSET, values)?;
+    }
+    Ok(())
 }
 
-pub(crate) fn insert_priority<S: Alter>(
+fn write_priority<S: Alter>(
     tx: &mut Transaction<'_, S>,
+    sql: &str,
     values: &Values,
-) -> Result<(), BenchError> {
-    run(
-        tx,
-        "INSERT INTO priority (message, priority) VALUES (?1, ?2)",
-        params![values.id, 1u32],
-    )
+) -> Result<usize, BenchError> {
+    run(tx, sql, params![values.id, 1u32])
 }
 
-pub(crate) fn delete_report<S: Alter>(
+/// The same of its priority.
+pub(crate) fn put_priority<S: Alter>(
     tx: &mut Transaction<'_, S>,
     values: &Values,
 ) -> Result<(), BenchError> {
-    run(
-        tx,
-        "DELETE FROM report WHERE place = ?1",
-        params![values.id],
-    )
+    if write_priority(tx, UPDATE_PRIORITY, values)? == 0 {
+        write_priority(tx, INSERT_PRIORITY, values)?;
+    }
+    Ok(())
 }
 
-pub(crate) fn insert_report<S: Alter>(
+fn write_report<S: Alter>(
     tx: &mut Transaction<'_, S>,
+    sql: &str,
     values: &Values,
-) -> Result<(), BenchError> {
+) -> Result<usize, BenchError> {
     let none: Option<u32> = None;
     run(
         tx,
-        "INSERT INTO report (place, message, kind, reference, tpdu, made, is_done, attempts, due) VALUES (?1, ?2, ?3, ?4, ?5, ?6, ?7, ?8, ?9)",
+        sql,
         params![
             values.id, values.id, "receipt", none, none, values.now, false, 0u32, values.now
         ],
     )
+}
+
+/// The same of its receipt.
+pub(crate) fn put_report<S: Alter>(
+    tx: &mut Transaction<'_, S>,
+    values: &Values,
+) -> Result<(), BenchError> {
+    if write_report(tx, UPDATE_REPORT, values)? == 0 {
+        write_report(tx, INSERT_REPORT, values)?;
+    }
+    Ok(())
 }
 
 /// The octets of its part.
