@@ -1,5 +1,6 @@
 #!/usr/bin/env python3
-"""Writes the courses of random events: what stands in ../stdin from the first line `course` on, and what is to come of it in ../stdout.
+"""Writes the courses: what stands in ../stdin from the first line `course` on, and what is to come of it in ../stdout. They are the rows once
+more; four of the rows stopped after each event, where the rows of the centre that starts again are those of before; and random events.
 
 What is to come of them is what the plain centre does (tests/plain), which also does the rows before them, to see that it has what was worked
 out by hand. With two files as its arguments behind a number it writes other courses, from that seed, and what is to come of them:
@@ -23,6 +24,10 @@ ACCOUNTS = [(b'app1', (1, 1, '447700900001')), (b'app2', (1, 1, '447700900002'))
 STATUSES = {'RINVMSGLEN': 0x01, 'RSYSERR': 0x08, 'RINVSRCADR': 0x0A, 'RINVDSTADR': 0x0B, 'RINVMSGID': 0x0C, 'RCANCELFAIL': 0x11,
             'RMSGQFUL': 0x14, 'RINVESMCLASS': 0x43, 'RSUBMITFAIL': 0x45, 'RINVSCHED': 0x61, 'RINVEXPIRY': 0x62, 'ROPTPARNOTALLWD': 0xC1,
             'RINVPARLEN': 0xC2}
+# The rows that are stopped after each of their events. Their links are to B, their messages of the first account.
+STOPPED = ('a lost answer is asked for again', 'a restarted centre offers again', 'a full handset is waited for', 'a late answer changes nothing')
+# What is asked of a centre before it stops, and once it has started again. What `query` tells is of its answer and of all rows.
+ASKED = ('query id=1', 'query id=2', 'rows', 'table', 'receipts')
 # Lines of rows that are told again as courses.
 AGAIN = ('row', 'submit', 'query', 'cancel', 'bound', 'unbound', 'receipt', 'frame', 'link_up', 'link_down', 'tick', 'restart', 'repeat', 'start')
 PAST, FUTURE = '42209232958500', '42301010000000'
@@ -210,6 +215,38 @@ def told_of(lines):
         elif play:
             play.line(line)
     return [line for section in told for line in section]
+
+
+# ---- a stop after each event
+
+def stopped(rows):
+    """The rows of STOPPED up to each of their events, a stop behind it: the lines, and what is to come of them."""
+    lines, told = [], []
+    for name in STOPPED:
+        first = rows.index('row ' + name) + 1
+        events = []
+        for line in rows[first:]:
+            if line.startswith(('row ', '#')):
+                break
+            events.append(line)
+            course = Play(f'course {name}, stopped after event {len(events)}')
+            lines += course.told + events + [*ASKED, 'restart up=B', *ASKED]
+            for event in events:
+                course.line(event)
+            before = answers_of(course)
+            course.line('restart up=B')
+            if before != answers_of(course):
+                sys.exit(f'{course.told[0]}: the rows are others')
+            told += course.told
+    return lines, told
+
+
+def answers_of(course):
+    """What it tells of ASKED."""
+    first = len(course.told)
+    for line in ASKED:
+        course.line(line)
+    return course.told[first:]
 
 
 # ---- random events
@@ -437,9 +474,10 @@ def main():
         if line != other:
             sys.exit(f'line {place + 1} of stdout: {other!r}, but the plain centre has {line!r}')
     again = ['course ' + line[4:] if line.startswith('row ') else line for line in rows if line.split(' ')[0] in AGAIN]
+    stops, to_stop = stopped(rows)
     lines, to_come = courses(1)
-    write(here + '/stdin', rows + again + lines)
-    write(here + '/stdout', told + told_of(again) + to_come)
+    write(here + '/stdin', rows + again + stops + lines)
+    write(here + '/stdout', told + told_of(again) + to_stop + to_come)
 
 
 if __name__ == '__main__':

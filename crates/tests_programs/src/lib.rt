@@ -10,4 +10,6 @@ mod owners;
 #[cfg(test)]
 mod rows;
 #[cfg(test)]
+mod server_words;
+#[cfg(test)]
 mod words;
