@@ -55,7 +55,8 @@ fn numbers_of(alloc: Global, rows: &Rows) -> Result<String, Failure> {
     ).map_err(|_| Failure::NoMemory)
 }
 
-fn text_of(alloc: Global, rows: &Rows) -> Result<String, KeepError> {
+/// Rows as text.
+pub(crate) fn text_of(alloc: Global, rows: &Rows) -> Result<String, KeepError> {
     format!(in alloc; "{rows:?}").map_err(|_| KeepError::NoMemory)
 }
 

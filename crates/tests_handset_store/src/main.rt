@@ -1,13 +1,14 @@
 //! Tests of a handset's keeps, as a program that prints what it found. What handsets meet is committed, event by event, by the
 //! keep in memory and by the one over a database, which have the same rows, and a handset that starts with them has what the
 //! running one has; a store whose log or database file stops after any of its calls has the rows before the commit or after it
-//! when it is opened again, and a handset can stand on them; other stores are refused. Each call is made with ample memory, so
-//! that none may give up.
+//! when it is opened again, and a handset can stand on them; one that stops as it is made or opened is opened again with a
+//! handset's first rows; other stores are refused. Each call is made with ample memory, so that none may give up.
 #![tactic(auto)]
 
 mod failure;
 mod found;
 mod keeps;
+mod making;
 mod plays;
 mod refusing;
 mod run;
@@ -68,12 +69,21 @@ fn print_stops(rt: &HostRuntime) -> io::Result<()> {
         "a commit as the disk stops",
         stopping::refused_commit(alloc),
     )?;
-    print(rt, "a load behind it", stopping::refused_load(alloc))
+    print(rt, "a load behind it", stopping::refused_load(alloc))?;
+    print(
+        rt,
+        "made and opened, stopped anywhere",
+        making::stop_openings(rt),
+    )
 }
 
 fn print_refused(rt: &HostRuntime) -> io::Result<()> {
     for store in WRITTEN {
         print(rt, store.name, refusing::open(rt.alloc(), *store))?;
     }
-    Ok(())
+    print(
+        rt,
+        "a key past its integers",
+        refusing::remove_far(rt.alloc()),
+    )
 }

@@ -59,6 +59,10 @@ const FIRST_OF_TWO: &[u8] =
 const SECOND_OF_TWO: &[u8] =
     b"\x29\x01\x26\x01\x02\x07\x91\x44\x77\x00\x09\x00\x00\x00\x1A\x44\x0C\x91\x44\x77\x00\x09\x00\x10\x00\x00\x42\x20\x92\x32\x95\x85\x00\x08\x05\x00\x03\x2A\x02\x02\xC4";
 
+// The octet 62, the second part in another coding, under 02: the two do not join.
+const OCTETS_OF_TWO: &[u8] =
+    b"\x29\x01\x26\x01\x02\x07\x91\x44\x77\x00\x09\x00\x00\x00\x1A\x44\x0C\x91\x44\x77\x00\x09\x00\x10\x00\x04\x42\x20\x92\x32\x95\x85\x00\x07\x05\x00\x03\x2A\x02\x02\x62";
+
 // `x` and `y`, two parts under the same concatenation reference, under 03 and 04.
 const NEW_FIRST_OF_TWO: &[u8] =
     b"\x39\x01\x26\x01\x03\x07\x91\x44\x77\x00\x09\x00\x00\x00\x1A\x44\x0C\x91\x44\x77\x00\x09\x00\x10\x00\x00\x42\x20\x92\x32\x95\x85\x00\x08\x05\x00\x03\x2A\x02\x01\xF0";
@@ -139,6 +143,12 @@ const IN_DISORDER: &[(&str, Event)] = &[
     ("part 2 comes", Event::Comes(SECOND_OF_THREE)),
 ];
 
+// Each becomes an entry of its own: the one that stands is put anew.
+const NOT_JOINED: &[(&str, Event)] = &[
+    ("part 1 of 2 comes", Event::Comes(FIRST_OF_TWO)),
+    ("part 2 comes in octets", Event::Comes(OCTETS_OF_TWO)),
+];
+
 const DISCARDED: &[(&str, Event)] = &[
     ("hello comes", Event::Comes(HELLO)),
     ("part 1 of 2 comes", Event::Comes(FIRST_OF_TWO)),
@@ -178,6 +188,11 @@ pub(crate) const PLAYS: &[Play] = &[
         name: "parts in disorder",
         slots: 3,
         events: IN_DISORDER,
+    },
+    Play {
+        name: "parts that do not join",
+        slots: 3,
+        events: NOT_JOINED,
     },
     Play {
         name: "a discarded group",

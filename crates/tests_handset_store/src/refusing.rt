@@ -1,12 +1,14 @@
-//! Stores that a handset does not open, and why.
-use crate::failure::{Failure, Finding};
-use crate::found::Found;
+//! Stores that a handset does not open, a change that its store does not take, and why.
+use crate::failure::{Failure, Finding, holds};
+use crate::found::{Found, text_in};
 use crate::plays::Play;
 use crate::run::{run, setup};
-use sms_handset::Setup;
-use sms_handset_store::HandsetKeep;
+use sms_handset::{Changes, DiscardedGroup, Entry, LastAccepted, OutEntry, Rows, Setup};
+use sms_handset_store::{HandsetKeep, in_memory};
+use sms_keep::Keep;
+use sms_table::{Key, Pending, Row, Settled, Table};
 use sqlite::{Alter, Connection};
-use std::alloc::Global;
+use std::alloc::{AllocError, Global};
 
 // The tables of a handset's store.
 const TABLES: &str =
@@ -134,5 +136,63 @@ pub(crate) fn open(alloc: Global, store: Written) -> Result<&'static str, Failur
     match Connection::open_in_memory(alloc) {
         Ok(conn) => open_written(alloc, conn, store, setup),
         Err(_) => Err(Failure::Wrong(Finding::NoDatabase)),
+    }
+}
+
+// No change of a list.
+fn nothing<T: Row + Drop>(alloc: Global) -> Result<Settled<T>, AllocError> {
+    let table: Table<T> = Table::new(alloc);
+    Pending::of(alloc, &table).settle(alloc)
+}
+
+// A removal under a key that is no integer of SQLite's.
+fn removal<T: Row + Drop>(alloc: Global) -> Result<Settled<T>, AllocError> {
+    let table: Table<T> = Table::new(alloc);
+    let mut pending = Pending::of(alloc, &table);
+    pending.remove(Key::of(u64::MAX))?;
+    pending.settle(alloc)
+}
+
+fn changes(alloc: Global) -> Result<Changes, AllocError> {
+    Ok(Changes {
+        entries: removal::<Entry>(alloc)?,
+        last: nothing::<LastAccepted>(alloc)?,
+        outbox: nothing::<OutEntry>(alloc)?,
+        marks: nothing::<DiscardedGroup>(alloc)?,
+        counters: None,
+    })
+}
+
+// Why the keep does not take the changes. Its rows are as before.
+fn refusal<K: Keep<Rows = Rows, Changes = Changes>>(
+    alloc: Global,
+    keep: &mut K,
+    changes: &Changes,
+) -> Result<&'static str, Failure> {
+    let before = text_in(alloc, keep)?;
+    match keep.commit(changes) {
+        Ok(()) => Ok("committed"),
+        Err(error) => {
+            holds(text_in(alloc, keep)? == before, Finding::OtherRows)?;
+            Ok(error.code())
+        }
+    }
+}
+
+fn refusal_of<K: Keep<Rows = Rows, Changes = Changes> + Drop>(
+    alloc: Global,
+    keep: K,
+) -> Result<&'static str, Failure> {
+    let mut keep = keep;
+    let changes = changes(alloc)?;
+    refusal(alloc, &mut keep, &changes)
+}
+
+/// Removes an entry under a key past the store's integers.
+pub(crate) fn remove_far(alloc: Global) -> Result<&'static str, Failure> {
+    let setup = setup(NO_EVENT.slots)?;
+    match in_memory(alloc, setup) {
+        Ok(keep) => refusal_of(alloc, keep),
+        Err(error) => Err(Failure::Store(error)),
     }
 }

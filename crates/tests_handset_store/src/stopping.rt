@@ -63,7 +63,8 @@ fn text_of<K: Keep<Rows = Rows, Changes = Changes> + Drop>(
     text_in(alloc, &mut keep)
 }
 
-fn text_over<S: Alter + Drop>(
+/// The rows of the store that the connection is to, as text.
+pub(crate) fn text_over<S: Alter + Drop>(
     alloc: Global,
     conn: Connection<S>,
     setup: Setup,
