@@ -143,6 +143,41 @@ fn another_one_waits_beside(rt: HostRuntime) -> Result<(), Fail> {
     wait_beside(&mut schedule, id)
 }
 
+// Parts of one moment, in the order in which they go: by message, and then by number.
+const ORDER: &[(u64, u8)] = &[(1, 1), (1, 2), (2, 1), (10, 0)];
+
+fn part_at(message: u64, number: u8) -> Result<PartId, Fail> {
+    let id = MessageId::new(message).ok_or("no identity")?;
+    Ok(PartId::new(id, number))
+}
+
+fn set_backwards(schedule: &mut Schedule, due: Moment) -> Result<(), Fail> {
+    for (message, number) in ORDER.iter().rev() {
+        schedule.set(part_at(*message, *number)?, due, Priority::lowest())?;
+    }
+    Ok(())
+}
+
+// Nothing is next a second before they are due; then each is in its turn.
+fn go_in_order(schedule: &mut Schedule, due: Moment) -> Result<(), Fail> {
+    let before = Moment::from_seconds(due.seconds().saturating_sub(1))?;
+    holds(schedule.next(before).is_none(), "a second before")?;
+    for (message, number) in ORDER {
+        let part = part_at(*message, *number)?;
+        holds(schedule.next(due) == Some(part), "in its turn")?;
+        schedule.remove(part);
+    }
+    holds(schedule.next(due).is_none(), "all have gone")
+}
+
+#[test]
+fn parts_of_one_moment_go_in_order(rt: HostRuntime) -> Result<(), Fail> {
+    let due = Moment::from_seconds(START)?;
+    let mut schedule = Schedule::new(rt.alloc());
+    set_backwards(&mut schedule, due)?;
+    go_in_order(&mut schedule, due)
+}
+
 const WAITS: &[(u8, u64)] = &[(1, 60), (2, 300), (3, 900), (4, 3_600), (5, 3_600)];
 
 #[test]
