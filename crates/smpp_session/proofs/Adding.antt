@@ -32,12 +32,12 @@ use Rattle.smpp_session.specs.SessionRun.{Course, fronted, one_more, stream}
 
 -- a turn that gave these actions before
 abbrev pub behind : List Action → Turn → Turn
-behind before turn = record { standing = turn.standing; actions = before ++ turn.actions }
+behind before turn = record { conversation = turn.conversation; actions = before ++ turn.actions }
 
 given_behind : (before : List Action) (action : Action) (turn : Turn) → given action (behind before turn) ≡ behind before (given action turn)
 given_behind before action turn = ap (λ (acts : List Action). with_actions acts) (append_assoc before turn.actions (action ∷ [])) where
   with_actions : List Action → Turn
-  with_actions acts = record { standing = turn.standing; actions = acts }
+  with_actions acts = record { conversation = turn.conversation; actions = acts }
 
 sent_behind : (before : List Action) (body : Body) (status : CommandStatus) (n : ℕ) (turn : Turn) → sent body status n (behind before turn) ≡ behind before (sent body status n turn)
 unfolding sent
@@ -59,8 +59,8 @@ unbound_behind before n turn =
     ∙ ap closed (given_behind before Unbound (sent UnbindResp ESME_ROK n turn))
 
 delivered_behind : (before : List Action) (n : ℕ) (accepted : Bool) (turn : Turn) → delivered n accepted (behind before turn) ≡ behind before (delivered n accepted turn)
-delivered_behind before n accepted turn = by_test (is_among n turn.standing.unanswered) refl where
-  by_test : (b : Bool) → is_among n turn.standing.unanswered ≡ b → delivered n accepted (behind before turn) ≡ behind before (delivered n accepted turn)
+delivered_behind before n accepted turn = by_test (is_among n turn.conversation.unanswered) refl where
+  by_test : (b : Bool) → is_among n turn.conversation.unanswered ≡ b → delivered n accepted (behind before turn) ≡ behind before (delivered n accepted turn)
   by_test true e = rw e (rw append_assoc refl)
   by_test false e = rw e refl
 
@@ -92,7 +92,7 @@ judging_behind before accounts octets c n (Refused status) turn = refused_behind
 judging_behind before accounts octets c n Ignored turn = refl
 
 command_behind : (before : List Action) (accounts : List Account) (octets : List ℕ) (h : Header) (c : Option CommandId) (turn : Turn) → by_command accounts octets h c (behind before turn) ≡ behind before (by_command accounts octets h c turn)
-command_behind before accounts octets h (Some c) turn = judging_behind before accounts octets c h.sequence_number (judged c turn.standing.state) turn
+command_behind before accounts octets h (Some c) turn = judging_behind before accounts octets c h.sequence_number (judged c turn.conversation.state) turn
 command_behind before accounts octets h None turn = by_test (ltb h.command_id 0x80000000) where
   by_test : (b : Bool) → cond b (sent GenericNack ESME_RINVCMDID h.sequence_number (behind before turn)) (behind before turn) ≡ behind before (cond b (sent GenericNack ESME_RINVCMDID h.sequence_number turn) turn)
   by_test true = sent_behind before GenericNack ESME_RINVCMDID h.sequence_number turn
@@ -123,7 +123,7 @@ fronted_behind before accounts Dropped turn octets = refl
 
 more_behind : (before : List Action) (accounts : List Account) (c : Course) (x : ℕ) → one_more accounts (course_behind before c) x ≡ course_behind before (one_more accounts c x)
 unfolding one_more
-more_behind before accounts c x = fronted_behind before accounts (front_of c.0.standing.state (c.1 ++ x ∷ [])) c.0 (c.1 ++ x ∷ [])
+more_behind before accounts c x = fronted_behind before accounts (front_of c.0.conversation.state (c.1 ++ x ∷ [])) c.0 (c.1 ++ x ∷ [])
 
 pub stream_behind : (before : List Action) (accounts : List Account) (c : Course) (xs : List ℕ) → stream accounts (course_behind before c) xs ≡ course_behind before (stream accounts c xs)
 unfolding stream

@@ -11,7 +11,7 @@ use Rattle.smpp_session.specs.declared.calling.Call.TheVariants.{Feed, Answer, D
 use Rattle.smpp_session.specs.declared.fault.DeliverFault.{DeliverFault}
 use Rattle.smpp_session.specs.declared.front.Front.{Front}
 use Rattle.smpp_session.specs.declared.front.Front.TheVariants.{Waiting, Whole, BadLength, Dropped}
-use Rattle.smpp_session.specs.declared.standing.SessionState.{SessionState}
+use Rattle.smpp_session.specs.declared.conversation.SessionState.{SessionState}
 use Rattle.smpp_session.specs.declared.turn.Turn.{Turn}
 use Rattle.smpp_session.specs.Stream.{front_of}
 use Rattle.smpp_session.specs.SessionRun.{Course, fronted, one_more, stream}
@@ -29,24 +29,24 @@ abbrev pub Kept : SessionState → List ℕ → Type 0
 Kept state buffered = (front_of state buffered ≡ Waiting) ⊎ (buffered ≡ [])
 
 abbrev pub IsKept : SessionView → Type 0
-IsKept session = Kept session.standing.state session.buffered
+IsKept session = Kept session.conversation.state session.buffered
 
-fronted_kept : (accounts : List Account) (f : Front) (turn : Turn) (xs : List ℕ) → front_of turn.standing.state xs ≡ f → Kept (fronted accounts f turn xs).0.standing.state (fronted accounts f turn xs).1
+fronted_kept : (accounts : List Account) (f : Front) (turn : Turn) (xs : List ℕ) → front_of turn.conversation.state xs ≡ f → Kept (fronted accounts f turn xs).0.conversation.state (fronted accounts f turn xs).1
 fronted_kept accounts Waiting turn xs e = inl e
 fronted_kept accounts (Whole len) turn xs e = inr refl
 fronted_kept accounts BadLength turn xs e = inr refl
 fronted_kept accounts Dropped turn xs e = inr refl
 
-more_kept : (accounts : List Account) (c : Course) (x : ℕ) → Kept (one_more accounts c x).0.standing.state (one_more accounts c x).1
+more_kept : (accounts : List Account) (c : Course) (x : ℕ) → Kept (one_more accounts c x).0.conversation.state (one_more accounts c x).1
 unfolding one_more
-more_kept accounts c x = fronted_kept accounts (front_of c.0.standing.state (c.1 ++ x ∷ [])) c.0 (c.1 ++ x ∷ []) refl
+more_kept accounts c x = fronted_kept accounts (front_of c.0.conversation.state (c.1 ++ x ∷ [])) c.0 (c.1 ++ x ∷ []) refl
 
-stream_kept : (accounts : List Account) (c : Course) (xs : List ℕ) → Kept c.0.standing.state c.1 → Kept (stream accounts c xs).0.standing.state (stream accounts c xs).1
+stream_kept : (accounts : List Account) (c : Course) (xs : List ℕ) → Kept c.0.conversation.state c.1 → Kept (stream accounts c xs).0.conversation.state (stream accounts c xs).1
 unfolding stream
 stream_kept accounts c [] h = h
 stream_kept accounts c (x ∷ xs) h = stream_kept accounts (one_more accounts c x) xs (more_kept accounts c x)
 
-kept_again : (accounts : List Account) (turn : Turn) (xs : List ℕ) → Kept turn.standing.state xs → stream accounts (turn, []) xs ≡ (turn, xs)
+kept_again : (accounts : List Account) (turn : Turn) (xs : List ℕ) → Kept turn.conversation.state xs → stream accounts (turn, []) xs ≡ (turn, xs)
 unfolding stream
 kept_again accounts turn xs (inl e) = waiting_kept accounts turn xs e
 kept_again accounts turn xs (inr e) = nothing xs e where
@@ -65,11 +65,11 @@ feed_none s h = ap (after_course s) (ap (stream s.accounts (turn_of s, [])) (app
 pub feed_joins : (s : SessionView) (xs ys : List ℕ) → fed s (xs ++ ys) ≡ and_then (fed s xs) (fed (fed s xs).0 ys)
 feed_joins s xs ys = from (stream s.accounts (turn_of s, []) (s.buffered ++ xs)) refl where
   with_actions : Course → List Action → Course
-  with_actions c acts = (record { standing = c.0.standing; actions = acts }, c.1)
+  with_actions c acts = (record { conversation = c.0.conversation; actions = acts }, c.1)
 
   from : (c : Course) → stream s.accounts (turn_of s, []) (s.buffered ++ xs) ≡ c → fed s (xs ++ ys) ≡ and_then (fed s xs) (fed (fed s xs).0 ys)
   from c is =
-      let kept : Kept c.0.standing.state c.1 = subst (λ (d : Course). Kept d.0.standing.state d.1) is (stream_kept s.accounts (turn_of s, []) (s.buffered ++ xs) (inr refl)) in
+      let kept : Kept c.0.conversation.state c.1 = subst (λ (d : Course). Kept d.0.conversation.state d.1) is (stream_kept s.accounts (turn_of s, []) (s.buffered ++ xs) (inr refl)) in
       let again : stream s.accounts (turn_of (after_course s c).0, []) (c.1 ++ ys) ≡ stream s.accounts (turn_of (after_course s c).0, c.1) ys =
       stream-append s.accounts (turn_of (after_course s c).0, []) c.1 ys
       ∙ ap (λ (d : Course). stream s.accounts d ys) (kept_again s.accounts (turn_of (after_course s c).0) c.1 kept)
@@ -92,7 +92,7 @@ feed_joins s xs ys = from (stream s.accounts (turn_of s, []) (s.buffered ++ xs))
       in
       left ∙ (middle ∙ (sym right ∙ same))
 
-pub feed_waits : (s next : SessionView) (xs : List ℕ) (actions : List Action) → next ≡ with_more xs s → Waiting ≡ front_of next.standing.state next.buffered → actions ≡ []
+pub feed_waits : (s next : SessionView) (xs : List ℕ) (actions : List Action) → next ≡ with_more xs s → Waiting ≡ front_of next.conversation.state next.buffered → actions ≡ []
     → (let given : Given = (next, actions) in fed s xs ≡ given)
 feed_waits s next xs actions is e none =
     ap treated_input (sym is)
@@ -114,7 +114,7 @@ delivering_kept s message (Some fault) h = h
 called_kept : (s : SessionView) (call : Call) → IsKept s → IsKept (called s call).0
 called_kept s (Feed xs) h = fed_kept s xs
 called_kept s (Answer number answer) h = h
-called_kept s (Deliver message) h = delivering_kept s message (delivery_fault s.standing) h
+called_kept s (Deliver message) h = delivering_kept s message (delivery_fault s.conversation) h
 called_kept s Close h = inr refl
 
 regroup : (s : SessionView) (acts : List Action) (r q t : SessionView × List Action) → t ≡ and_then r q → and_then (r.0, acts ++ r.1) q ≡ and_then (s, acts) t
@@ -156,10 +156,10 @@ pub ran_one : (start c d : SessionView × List Action) (calls : List Call) (call
 ran_one start c d calls call is next =
     ran-append start calls (call ∷ []) ∙ (ap (λ (q : SessionView × List Action). ran q (call ∷ [])) is ∙ sym next)
 
-pub deliver_called : (s next : SessionView) (acts more : List Action) (message : Message) (octets : List ℕ) (number : ℕ) → delivery_fault s.standing ≡ None → number ≡ number_to_send s.standing → octets ≡ written (deliver_pdu number message) → next ≡ after_delivery s → more ≡ acts ++ Send octets ∷ []
+pub deliver_called : (s next : SessionView) (acts more : List Action) (message : Message) (octets : List ℕ) (number : ℕ) → delivery_fault s.conversation ≡ None → number ≡ number_to_send s.conversation → octets ≡ written (deliver_pdu number message) → next ≡ after_delivery s → more ≡ acts ++ Send octets ∷ []
     → (let given : SessionView × List Action = (next, more) in given ≡ and_then (s, acts) (called s (Deliver message)))
 deliver_called s next acts more message octets number room number_is octets_is next_is more_is =
-    let octets_here : octets ≡ written (deliver_pdu (number_to_send s.standing) message) = octets_is ∙ ap (λ (n : ℕ). written (deliver_pdu n message)) number_is in
+    let octets_here : octets ≡ written (deliver_pdu (number_to_send s.conversation) message) = octets_is ∙ ap (λ (n : ℕ). written (deliver_pdu n message)) number_is in
     let gives : and_then (s, acts) (called s (Deliver message)) ≡ and_then (s, acts) (delivering s message None) = ap (λ (f : Option DeliverFault). and_then (s, acts) (delivering s message f)) room in
     ap (λ (q : SessionView). pair q more) next_is
     ∙ (ap (λ (m : List Action). pair (after_delivery s) m) (more_is ∙ ap (λ (o : List ℕ). acts ++ Send o ∷ []) octets_here) ∙ sym gives) where

@@ -8,8 +8,8 @@ use Rattle.std.proofs.lemmas.List.{append-nil, take-append-drop, length-append, 
 use Rattle.smpp_session.specs.declared.account.Account.{Account}
 use Rattle.smpp_session.specs.declared.front.Front.{Front}
 use Rattle.smpp_session.specs.declared.front.Front.TheVariants.{Waiting, Whole, BadLength, Dropped}
-use Rattle.smpp_session.specs.declared.standing.SessionState.{SessionState}
-use Rattle.smpp_session.specs.declared.standing.SessionState.TheVariants.{Opened, BoundTx, BoundRx, BoundTrx, Closed}
+use Rattle.smpp_session.specs.declared.conversation.SessionState.{SessionState}
+use Rattle.smpp_session.specs.declared.conversation.SessionState.TheVariants.{Opened, BoundTx, BoundRx, BoundTrx, Closed}
 use Rattle.smpp_session.specs.declared.turn.Turn.{Turn}
 use Rattle.smpp_session.specs.Stream.{number_at, front_at, front_of}
 use Rattle.smpp_pdu.specs.declared.body.Body.TheVariants.{GenericNack}
@@ -131,38 +131,38 @@ unfolding stream
 stream-append accounts c [] ys = refl
 stream-append accounts c (x ∷ xs) ys = stream-append accounts (one_more accounts c x) xs ys
 
-pub step_is : (accounts : List Account) (turn : Turn) (before : List ℕ) (octet : ℕ) (f : Front) → front_of turn.standing.state (before ++ octet ∷ []) ≡ f → one_more accounts (turn, before) octet ≡ fronted accounts f turn (before ++ octet ∷ [])
+pub step_is : (accounts : List Account) (turn : Turn) (before : List ℕ) (octet : ℕ) (f : Front) → front_of turn.conversation.state (before ++ octet ∷ []) ≡ f → one_more accounts (turn, before) octet ≡ fronted accounts f turn (before ++ octet ∷ [])
 unfolding one_more
 step_is accounts turn before octet f e = ap (λ (g : Front). fronted accounts g turn (before ++ octet ∷ [])) e
 
 -- octets that are waited for are kept
-pub walks : (accounts : List Account) (turn : Turn) (before more : List ℕ) → IsOpen turn.standing.state → front_at (before ++ more) ≡ Waiting → stream accounts (turn, before) more ≡ (turn, before ++ more)
+pub walks : (accounts : List Account) (turn : Turn) (before more : List ℕ) → IsOpen turn.conversation.state → front_at (before ++ more) ≡ Waiting → stream accounts (turn, before) more ≡ (turn, before ++ more)
 unfolding stream
 walks accounts turn before [] o h = ap (λ (ys : List ℕ). (turn, ys)) (sym (append-nil before))
 walks accounts turn before (x ∷ xs) o h =
     let same : (before ++ x ∷ []) ++ xs ≡ before ++ x ∷ xs = append_assoc before (x ∷ []) xs in
     let later : front_at ((before ++ x ∷ []) ++ xs) ≡ Waiting = subst (λ (ys : List ℕ). front_at ys ≡ Waiting) (sym same) h in
-    let now : front_of turn.standing.state (before ++ x ∷ []) ≡ Waiting = o (before ++ x ∷ []) ∙ waits_front (before ++ x ∷ []) xs later in
+    let now : front_of turn.conversation.state (before ++ x ∷ []) ≡ Waiting = o (before ++ x ∷ []) ∙ waits_front (before ++ x ∷ []) xs later in
     ap (λ (c : Course). stream accounts c xs) (step_is accounts turn before x Waiting now)
     ∙ (walks accounts turn (before ++ x ∷ []) xs o later ∙ ap (λ (ys : List ℕ). (turn, ys)) same)
 
 -- a closed session drops what comes
-pub dropped : (accounts : List Account) (turn : Turn) (more : List ℕ) → turn.standing.state ≡ Closed → stream accounts (turn, []) more ≡ (turn, [])
+pub dropped : (accounts : List Account) (turn : Turn) (more : List ℕ) → turn.conversation.state ≡ Closed → stream accounts (turn, []) more ≡ (turn, [])
 unfolding stream
 dropped accounts turn [] e = refl
 dropped accounts turn (x ∷ xs) e =
-    let now : front_of turn.standing.state (x ∷ []) ≡ Dropped = ap (λ (s : SessionState). front_of s (x ∷ [])) e in
+    let now : front_of turn.conversation.state (x ∷ []) ≡ Dropped = ap (λ (s : SessionState). front_of s (x ∷ [])) e in
     ap (λ (c : Course). stream accounts c xs) (step_is accounts turn [] x Dropped now) ∙ dropped accounts turn xs e
 
 -- the last octet of a PDU
-piece_at : (accounts : List Account) (turn : Turn) (front : List ℕ) (x : ℕ) (more : List ℕ) → IsOpen turn.standing.state → 16 ≤ length front + 1 → length front + 1 ≤ 65536 → number_at 0 (front ++ x ∷ []) ≡ length front + 1
+piece_at : (accounts : List Account) (turn : Turn) (front : List ℕ) (x : ℕ) (more : List ℕ) → IsOpen turn.conversation.state → 16 ≤ length front + 1 → length front + 1 ≤ 65536 → number_at 0 (front ++ x ∷ []) ≡ length front + 1
     → stream accounts (turn, []) (front ++ x ∷ more) ≡ stream accounts (treated accounts (front ++ x ∷ []) turn, []) more
 unfolding stream
 piece_at accounts turn front x more o low high stated =
     let len : length (front ++ x ∷ []) ≡ length front + 1 = length-append front (x ∷ []) in
     let same : number_at 0 (front ++ x ∷ []) ≡ number_at 0 front = number_front 0 front (x ∷ []) (omega arith) in
     let before : front_at front ≡ Waiting = waits (length front) (number_at 0 front) (short (leb_tells 16 (length front)) (sym same ∙ stated)) in
-    let now : front_of turn.standing.state (front ++ x ∷ []) ≡ Whole (number_at 0 (front ++ x ∷ [])) =
+    let now : front_of turn.conversation.state (front ++ x ∷ []) ≡ Whole (number_at 0 (front ++ x ∷ [])) =
     o (front ++ x ∷ []) ∙ whole (length (front ++ x ∷ [])) (number_at 0 (front ++ x ∷ [])) (omega arith) (omega arith) (omega arith)
     in
     stream-append accounts (turn, []) front (x ∷ more)
@@ -173,13 +173,13 @@ piece_at accounts turn front x more o low high stated =
       short (inr t) e = inl t.1
 
 -- the last octet of a header that states no good length
-bad_at : (accounts : List Account) (turn : Turn) (front : List ℕ) (x : ℕ) (more : List ℕ) → IsOpen turn.standing.state → length front ≡ 15 → (number_at 0 (front ++ x ∷ []) < 16) ⊎ (65536 < number_at 0 (front ++ x ∷ []))
+bad_at : (accounts : List Account) (turn : Turn) (front : List ℕ) (x : ℕ) (more : List ℕ) → IsOpen turn.conversation.state → length front ≡ 15 → (number_at 0 (front ++ x ∷ []) < 16) ⊎ (65536 < number_at 0 (front ++ x ∷ []))
     → stream accounts (turn, []) (front ++ x ∷ more) ≡ (bad_length (front ++ x ∷ []) turn, [])
 unfolding stream bad_length
 bad_at accounts turn front x more o len out =
     let long : length (front ++ x ∷ []) ≡ length front + 1 = length-append front (x ∷ []) in
     let before : front_at front ≡ Waiting = waits (length front) (number_at 0 front) (inl (omega arith)) in
-    let now : front_of turn.standing.state (front ++ x ∷ []) ≡ BadLength =
+    let now : front_of turn.conversation.state (front ++ x ∷ []) ≡ BadLength =
     o (front ++ x ∷ []) ∙ bad (length (front ++ x ∷ [])) (number_at 0 (front ++ x ∷ [])) (omega arith) out
     in
     stream-append accounts (turn, []) front (x ∷ more)
@@ -192,10 +192,10 @@ bad_at accounts turn front x more o len out =
 split_at : (xs : List ℕ) (k : ℕ) → k < length xs → xs ≡ take k xs ++ get_or xs k 0 ∷ drop (suc k) xs
 split_at xs k fits = sym (take-append-drop k xs) ∙ ap (λ (ys : List ℕ). take k xs ++ ys) (drop-cons xs k 0 fits)
 
-pub piece_treated : (accounts : List Account) (turn : Turn) (xs : List ℕ) (len : ℕ) → front_of turn.standing.state xs ≡ Whole len
+pub piece_treated : (accounts : List Account) (turn : Turn) (xs : List ℕ) (len : ℕ) → front_of turn.conversation.state xs ≡ Whole len
     → stream accounts (turn, []) xs ≡ stream accounts (treated accounts (take len xs) turn, []) (drop len xs)
-piece_treated accounts turn xs len e = by_state (open_or_closed turn.standing.state) where
-  at_last : (k : ℕ) → len ≡ suc k → IsOpen turn.standing.state → Facts (length xs) (number_at 0 xs) (Whole len) → stream accounts (turn, []) xs ≡ stream accounts (treated accounts (take len xs) turn, []) (drop len xs)
+piece_treated accounts turn xs len e = by_state (open_or_closed turn.conversation.state) where
+  at_last : (k : ℕ) → len ≡ suc k → IsOpen turn.conversation.state → Facts (length xs) (number_at 0 xs) (Whole len) → stream accounts (turn, []) xs ≡ stream accounts (treated accounts (take len xs) turn, []) (drop len xs)
   at_last k is o h =
       let fits : k < length xs = omega (arith, is, h.0, h.3) in
       let parts = split_at xs k fits in
@@ -213,20 +213,20 @@ piece_treated accounts turn xs len e = by_state (open_or_closed turn.standing.st
       ∙ (ap (λ (ys : List ℕ). stream accounts (treated accounts ys turn, []) (drop (suc k) xs)) (sym last)
       ∙ ap (λ (n : ℕ). stream accounts (treated accounts (take n xs) turn, []) (drop n xs)) (sym is)))
 
-  at_len : (n : ℕ) → len ≡ n → IsOpen turn.standing.state → Facts (length xs) (number_at 0 xs) (Whole len) → stream accounts (turn, []) xs ≡ stream accounts (treated accounts (take len xs) turn, []) (drop len xs)
+  at_len : (n : ℕ) → len ≡ n → IsOpen turn.conversation.state → Facts (length xs) (number_at 0 xs) (Whole len) → stream accounts (turn, []) xs ≡ stream accounts (treated accounts (take len xs) turn, []) (drop len xs)
   at_len zero is o h = absurd (omega (arith, is, h.0, h.1))
   at_len (suc k) is o h = at_last k is o h
 
-  by_state : IsOpen turn.standing.state ⊎ (turn.standing.state ≡ Closed) → stream accounts (turn, []) xs ≡ stream accounts (treated accounts (take len xs) turn, []) (drop len xs)
+  by_state : IsOpen turn.conversation.state ⊎ (turn.conversation.state ≡ Closed) → stream accounts (turn, []) xs ≡ stream accounts (treated accounts (take len xs) turn, []) (drop len xs)
   by_state (inl o) = at_len len refl o (facts_at xs (Whole len) (sym (o xs) ∙ e))
   by_state (inr c) =
       let never : front_of Closed xs ≡ Whole len = ap (λ (s : SessionState). front_of s xs) (sym c) ∙ e in
       absurd cc
 
-pub bad_ends : (accounts : List Account) (turn : Turn) (xs : List ℕ) → front_of turn.standing.state xs ≡ BadLength → stream accounts (turn, []) xs ≡ (bad_length xs turn, [])
+pub bad_ends : (accounts : List Account) (turn : Turn) (xs : List ℕ) → front_of turn.conversation.state xs ≡ BadLength → stream accounts (turn, []) xs ≡ (bad_length xs turn, [])
 unfolding bad_length
-bad_ends accounts turn xs e = by_state (open_or_closed turn.standing.state) where
-  at_header : IsOpen turn.standing.state → Facts (length xs) (number_at 0 xs) BadLength → stream accounts (turn, []) xs ≡ (bad_length xs turn, [])
+bad_ends accounts turn xs e = by_state (open_or_closed turn.conversation.state) where
+  at_header : IsOpen turn.conversation.state → Facts (length xs) (number_at 0 xs) BadLength → stream accounts (turn, []) xs ≡ (bad_length xs turn, [])
   at_header o h =
       let fits : 15 < length xs = omega (arith, h.0) in
       let parts = split_at xs 15 fits in
@@ -250,23 +250,23 @@ bad_ends accounts turn xs e = by_state (open_or_closed turn.standing.state) wher
         ended : ℕ → Turn
         ended n = closed (sent GenericNack ESME_RINVCMDLEN n turn)
 
-  by_state : IsOpen turn.standing.state ⊎ (turn.standing.state ≡ Closed) → stream accounts (turn, []) xs ≡ (bad_length xs turn, [])
+  by_state : IsOpen turn.conversation.state ⊎ (turn.conversation.state ≡ Closed) → stream accounts (turn, []) xs ≡ (bad_length xs turn, [])
   by_state (inl o) = at_header o (facts_at xs BadLength (sym (o xs) ∙ e))
   by_state (inr c) =
       let never : front_of Closed xs ≡ BadLength = ap (λ (s : SessionState). front_of s xs) (sym c) ∙ e in
       absurd cc
 
-pub waiting_kept : (accounts : List Account) (turn : Turn) (xs : List ℕ) → front_of turn.standing.state xs ≡ Waiting → stream accounts (turn, []) xs ≡ (turn, xs)
-waiting_kept accounts turn xs e = by_state (open_or_closed turn.standing.state) where
-  by_state : IsOpen turn.standing.state ⊎ (turn.standing.state ≡ Closed) → stream accounts (turn, []) xs ≡ (turn, xs)
+pub waiting_kept : (accounts : List Account) (turn : Turn) (xs : List ℕ) → front_of turn.conversation.state xs ≡ Waiting → stream accounts (turn, []) xs ≡ (turn, xs)
+waiting_kept accounts turn xs e = by_state (open_or_closed turn.conversation.state) where
+  by_state : IsOpen turn.conversation.state ⊎ (turn.conversation.state ≡ Closed) → stream accounts (turn, []) xs ≡ (turn, xs)
   by_state (inl o) = walks accounts turn [] xs o (sym (o xs) ∙ e)
   by_state (inr c) =
       let never : front_of Closed xs ≡ Waiting = ap (λ (s : SessionState). front_of s xs) (sym c) ∙ e in
       absurd cc
 
-pub closed_drops : (accounts : List Account) (turn : Turn) (xs : List ℕ) → front_of turn.standing.state xs ≡ Dropped → stream accounts (turn, []) xs ≡ (turn, [])
-closed_drops accounts turn xs e = by_state (open_or_closed turn.standing.state) where
-  by_state : IsOpen turn.standing.state ⊎ (turn.standing.state ≡ Closed) → stream accounts (turn, []) xs ≡ (turn, [])
+pub closed_drops : (accounts : List Account) (turn : Turn) (xs : List ℕ) → front_of turn.conversation.state xs ≡ Dropped → stream accounts (turn, []) xs ≡ (turn, [])
+closed_drops accounts turn xs e = by_state (open_or_closed turn.conversation.state) where
+  by_state : IsOpen turn.conversation.state ⊎ (turn.conversation.state ≡ Closed) → stream accounts (turn, []) xs ≡ (turn, [])
   by_state (inl o) = absurd (facts_at xs Dropped (sym (o xs) ∙ e))
   by_state (inr c) = dropped accounts turn xs c
 
@@ -294,7 +294,7 @@ bad_long state xs e = by_state (open_or_closed state) where
       let never : BadLength ≡ front_of Closed xs = e ∙ ap (λ (s : SessionState). front_of s xs) c in
       absurd cc
 
-pub walks_on : (accounts : List Account) (turn next : Turn) (xs piece rest : List ℕ) (len : ℕ) → Whole len ≡ front_of turn.standing.state xs → piece ≡ take len xs → rest ≡ drop len xs → next ≡ treated accounts piece turn
+pub walks_on : (accounts : List Account) (turn next : Turn) (xs piece rest : List ℕ) (len : ℕ) → Whole len ≡ front_of turn.conversation.state xs → piece ≡ take len xs → rest ≡ drop len xs → next ≡ treated accounts piece turn
     → stream accounts (turn, []) xs ≡ stream accounts (next, []) rest
 walks_on accounts turn next xs piece rest len e is_piece is_rest is_next =
     piece_treated accounts turn xs len (sym e)
@@ -302,33 +302,33 @@ walks_on accounts turn next xs piece rest len e is_piece is_rest is_next =
     ∙ (ap (λ (t : Turn). stream accounts (t, []) (drop len xs)) (sym is_next)
     ∙ ap (λ (ys : List ℕ). stream accounts (next, []) ys) (sym is_rest)))
 
-pub ends_bad : (accounts : List Account) (turn next : Turn) (xs : List ℕ) → BadLength ≡ front_of turn.standing.state xs → next ≡ bad_length xs turn → stream accounts (turn, []) xs ≡ (next, [])
+pub ends_bad : (accounts : List Account) (turn next : Turn) (xs : List ℕ) → BadLength ≡ front_of turn.conversation.state xs → next ≡ bad_length xs turn → stream accounts (turn, []) xs ≡ (next, [])
 ends_bad accounts turn next xs e is_next = bad_ends accounts turn xs (sym e) ∙ ap (λ (t : Turn). with_none t) (sym is_next) where
   with_none : Turn → Course
   with_none t = (t, [])
 
 -- ---- in a list of which the front is done with
 
-pub waits_behind : (accounts : List Account) (turn : Turn) (xs rest : List ℕ) (done : ℕ) → rest ≡ drop done xs → Waiting ≡ front_of turn.standing.state rest
+pub waits_behind : (accounts : List Account) (turn : Turn) (xs rest : List ℕ) (done : ℕ) → rest ≡ drop done xs → Waiting ≡ front_of turn.conversation.state rest
     → stream accounts (turn, []) (drop done xs) ≡ (turn, drop done xs)
-waits_behind accounts turn xs rest done is e = waiting_kept accounts turn (drop done xs) (ap (front_of turn.standing.state) (sym is) ∙ sym e)
+waits_behind accounts turn xs rest done is e = waiting_kept accounts turn (drop done xs) (ap (front_of turn.conversation.state) (sym is) ∙ sym e)
 
 none_left : (turn : Turn) (xs : List ℕ) → (let c : Course = (turn, []) in let d : Course = (turn, drop (length xs) xs) in c ≡ d)
 none_left turn xs = ap (λ (ys : List ℕ). with_rest ys) (sym (drop_all (length xs) xs (omega arith))) where
   with_rest : List ℕ → Course
   with_rest ys = (turn, ys)
 
-pub drops_behind : (accounts : List Account) (turn : Turn) (xs rest : List ℕ) (done : ℕ) → rest ≡ drop done xs → Dropped ≡ front_of turn.standing.state rest
+pub drops_behind : (accounts : List Account) (turn : Turn) (xs rest : List ℕ) (done : ℕ) → rest ≡ drop done xs → Dropped ≡ front_of turn.conversation.state rest
     → stream accounts (turn, []) (drop done xs) ≡ (turn, drop (length xs) xs)
-drops_behind accounts turn xs rest done is e = closed_drops accounts turn (drop done xs) (ap (front_of turn.standing.state) (sym is) ∙ sym e) ∙ none_left turn xs
+drops_behind accounts turn xs rest done is e = closed_drops accounts turn (drop done xs) (ap (front_of turn.conversation.state) (sym is) ∙ sym e) ∙ none_left turn xs
 
-pub ends_behind : (accounts : List Account) (turn next : Turn) (xs rest : List ℕ) (done : ℕ) → rest ≡ drop done xs → BadLength ≡ front_of turn.standing.state rest → next ≡ bad_length rest turn
+pub ends_behind : (accounts : List Account) (turn next : Turn) (xs rest : List ℕ) (done : ℕ) → rest ≡ drop done xs → BadLength ≡ front_of turn.conversation.state rest → next ≡ bad_length rest turn
     → stream accounts (turn, []) (drop done xs) ≡ (next, drop (length xs) xs)
 ends_behind accounts turn next xs rest done is e is_next =
-    ends_bad accounts turn next (drop done xs) (e ∙ ap (front_of turn.standing.state) is) (is_next ∙ ap (λ (ys : List ℕ). bad_length ys turn) is) ∙ none_left next xs
+    ends_bad accounts turn next (drop done xs) (e ∙ ap (front_of turn.conversation.state) is) (is_next ∙ ap (λ (ys : List ℕ). bad_length ys turn) is) ∙ none_left next xs
 
-pub goes_on : (accounts : List Account) (turn next : Turn) (xs rest piece : List ℕ) (done len : ℕ) → rest ≡ drop done xs → Whole len ≡ front_of turn.standing.state rest → piece ≡ take len rest → next ≡ treated accounts piece turn
+pub goes_on : (accounts : List Account) (turn next : Turn) (xs rest piece : List ℕ) (done len : ℕ) → rest ≡ drop done xs → Whole len ≡ front_of turn.conversation.state rest → piece ≡ take len rest → next ≡ treated accounts piece turn
     → stream accounts (turn, []) (drop done xs) ≡ stream accounts (next, []) (drop (done + len) xs)
 goes_on accounts turn next xs rest piece done len is e is_piece is_next =
-    walks_on accounts turn next (drop done xs) piece (drop len (drop done xs)) len (e ∙ ap (front_of turn.standing.state) is) (is_piece ∙ ap (take len) is) refl is_next
+    walks_on accounts turn next (drop done xs) piece (drop len (drop done xs)) len (e ∙ ap (front_of turn.conversation.state) is) (is_piece ∙ ap (take len) is) refl is_next
     ∙ ap (λ (ys : List ℕ). stream accounts (next, []) ys) (drop-drop len done xs)

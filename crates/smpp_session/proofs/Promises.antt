@@ -29,9 +29,9 @@ use Rattle.smpp_session.specs.declared.fault.DeliverFault.{DeliverFault}
 use Rattle.smpp_session.specs.declared.fault.DeliverFault.TheVariants.{WindowFull, NotBound}
 use Rattle.smpp_session.specs.declared.front.Front.{Front}
 use Rattle.smpp_session.specs.declared.front.Front.TheVariants.{Waiting, Whole, BadLength, Dropped}
-use Rattle.smpp_session.specs.declared.standing.SessionState.{SessionState}
-use Rattle.smpp_session.specs.declared.standing.SessionState.TheVariants.{Opened, BoundTx, BoundRx, BoundTrx, Closed}
-use Rattle.smpp_session.specs.declared.standing.Standing.{Standing}
+use Rattle.smpp_session.specs.declared.conversation.SessionState.{SessionState}
+use Rattle.smpp_session.specs.declared.conversation.SessionState.TheVariants.{Opened, BoundTx, BoundRx, BoundTrx, Closed}
+use Rattle.smpp_session.specs.declared.conversation.Conversation.{Conversation}
 use Rattle.smpp_session.specs.declared.table.Judgement.{Judgement}
 use Rattle.smpp_session.specs.declared.table.Judgement.TheVariants.{Read, Refused, Ignored}
 use Rattle.smpp_session.specs.declared.turn.Turn.{Turn}
@@ -50,10 +50,10 @@ use Rattle.smpp_session.proofs.FreeNumbers.{all_append, after_is_number, free_is
 
 -- what the actions of a turn told, where an account was bound before them or not
 record IsSound (before : Bool) (turn : Turn) : Type 0 where
-  waiting : IsWindow turn.standing.unanswered
-  number : IsSequenceNumber turn.standing.next_number
+  waiting : IsWindow turn.conversation.unanswered
+  number : IsSequenceNumber turn.conversation.next_number
   reads : AllByRecursion ReadsAsItsCommand turn.actions
-  bound : (turn.standing.state ≡ Closed) ⊎ (is_bound turn.standing.state ≡ bound_behind before turn.actions)
+  bound : (turn.conversation.state ≡ Closed) ⊎ (is_bound turn.conversation.state ≡ bound_behind before turn.actions)
 
 bound_end : (before : Bool) (acts : List Action) (action : Action) → bound_behind before (acts ++ action ∷ []) ≡ bound_after (bound_behind before acts) action
 bound_end before [] action = refl
@@ -70,7 +70,7 @@ given_sound before action turn h r same = record {
   reads = reads_end turn.actions action h.reads r;
   bound = still h.bound;
 } where
-  still : (turn.standing.state ≡ Closed) ⊎ (is_bound turn.standing.state ≡ bound_behind before turn.actions) → (turn.standing.state ≡ Closed) ⊎ (is_bound turn.standing.state ≡ bound_behind before (turn.actions ++ action ∷ []))
+  still : (turn.conversation.state ≡ Closed) ⊎ (is_bound turn.conversation.state ≡ bound_behind before turn.actions) → (turn.conversation.state ≡ Closed) ⊎ (is_bound turn.conversation.state ≡ bound_behind before (turn.actions ++ action ∷ []))
   still (inl c) = inl c
   still (inr e) = inr (e ∙ (sym (same (bound_behind before turn.actions)) ∙ sym (bound_end before turn.actions action)))
 
@@ -113,7 +113,7 @@ unbound_sound before n turn h = record {
   first = sent_sound before UnbindResp ESME_ROK n turn h
 
 delivered_sound : (before : Bool) (n : ℕ) (accepted : Bool) (turn : Turn) → IsSound before turn → IsSound before (delivered n accepted turn)
-delivered_sound before n accepted turn h = by_test (is_among n turn.standing.unanswered) where
+delivered_sound before n accepted turn h = by_test (is_among n turn.conversation.unanswered) where
   told : Turn
   told = given (DeliverAnswered n accepted) turn
 
@@ -122,12 +122,12 @@ delivered_sound before n accepted turn h = by_test (is_among n turn.standing.una
 
   answered_turn : Turn
   answered_turn = record {
-    standing = record { state = turn.standing.state; unanswered = without n turn.standing.unanswered; next_number = turn.standing.next_number };
+    conversation = record { state = turn.conversation.state; unanswered = without n turn.conversation.unanswered; next_number = turn.conversation.next_number };
     actions = turn.actions ++ DeliverAnswered n accepted ∷ [];
   }
 
   by_test : (b : Bool) → IsSound before (cond b answered_turn turn)
-  by_test true = record { waiting = window_taken n turn.standing.unanswered h.waiting; number = h.number; reads = told_sound.reads; bound = told_sound.bound }
+  by_test true = record { waiting = window_taken n turn.conversation.unanswered h.waiting; number = h.number; reads = told_sound.reads; bound = told_sound.bound }
   by_test false = h
 
 taken_sound : (before : Bool) (accounts : List Account) (octets : List ℕ) (pdu : Pdu) (body : Body) (turn : Turn) → pdu_at octets ≡ Ok pdu → pdu.body ≡ body → IsSound before turn → IsSound before (taken accounts octets pdu body turn)
@@ -158,7 +158,7 @@ judging_sound before accounts octets c n (Refused status) turn h = refused_sound
 judging_sound before accounts octets c n Ignored turn h = h
 
 command_sound : (before : Bool) (accounts : List Account) (octets : List ℕ) (header : Header) (c : Option CommandId) (turn : Turn) → IsSound before turn → IsSound before (by_command accounts octets header c turn)
-command_sound before accounts octets header (Some c) turn h = judging_sound before accounts octets c header.sequence_number (judged c turn.standing.state) turn h
+command_sound before accounts octets header (Some c) turn h = judging_sound before accounts octets c header.sequence_number (judged c turn.conversation.state) turn h
 command_sound before accounts octets header None turn h = by_test (ltb header.command_id 0x80000000) where
   by_test : (b : Bool) → IsSound before (cond b (sent GenericNack ESME_RINVCMDID header.sequence_number turn) turn)
   by_test true = sent_sound before GenericNack ESME_RINVCMDID header.sequence_number turn h
@@ -181,7 +181,7 @@ fronted_sound before accounts Dropped turn octets h = h
 
 more_sound : (before : Bool) (accounts : List Account) (c : Course) (x : ℕ) → IsSound before c.0 → IsSound before (one_more accounts c x).0
 unfolding one_more
-more_sound before accounts c x h = fronted_sound before accounts (front_of c.0.standing.state (c.1 ++ x ∷ [])) c.0 (c.1 ++ x ∷ []) h
+more_sound before accounts c x h = fronted_sound before accounts (front_of c.0.conversation.state (c.1 ++ x ∷ [])) c.0 (c.1 ++ x ∷ []) h
 
 stream_sound : (before : Bool) (accounts : List Account) (c : Course) (xs : List ℕ) → IsSound before c.0 → IsSound before (stream accounts c xs).0
 unfolding stream
@@ -190,12 +190,12 @@ stream_sound before accounts c (x ∷ xs) h = stream_sound before accounts (one_
 
 -- ---- feed
 
-fed_sound : (s : SessionView) (xs : List ℕ) → IsWindow s.standing.unanswered → IsSequenceNumber s.standing.next_number → IsSound (is_bound s.standing.state) (stream s.accounts (turn_of s, []) (s.buffered ++ xs)).0
+fed_sound : (s : SessionView) (xs : List ℕ) → IsWindow s.conversation.unanswered → IsSequenceNumber s.conversation.next_number → IsSound (is_bound s.conversation.state) (stream s.accounts (turn_of s, []) (s.buffered ++ xs)).0
 fed_sound s xs waiting number =
-    stream_sound (is_bound s.standing.state) s.accounts (turn_of s, []) (s.buffered ++ xs) (record { waiting = waiting; number = number; reads = tt; bound = inr refl })
+    stream_sound (is_bound s.conversation.state) s.accounts (turn_of s, []) (s.buffered ++ xs) (record { waiting = waiting; number = number; reads = tt; bound = inr refl })
 
-pub told : (s : SessionView) (xs : List ℕ) → IsWindow s.standing.unanswered → IsSequenceNumber s.standing.next_number → is_bound (fed s xs).0.standing.state ≡ bound_as_told s xs
-told s xs waiting number = by_state (fed s xs).0.standing.state refl (fed_sound s xs waiting number).bound where
+pub told : (s : SessionView) (xs : List ℕ) → IsWindow s.conversation.unanswered → IsSequenceNumber s.conversation.next_number → is_bound (fed s xs).0.conversation.state ≡ bound_as_told s xs
+told s xs waiting number = by_state (fed s xs).0.conversation.state refl (fed_sound s xs waiting number).bound where
   acts : List Action
   acts = (fed s xs).1
 
@@ -203,9 +203,9 @@ told s xs waiting number = by_state (fed s xs).0.standing.state refl (fed_sound 
   by_closed true = refl
   by_closed false = refl
 
-  by_state : (state : SessionState) → (fed s xs).0.standing.state ≡ state → (state ≡ Closed) ⊎ (is_bound state ≡ bound_behind (is_bound s.standing.state) acts)
-      → is_bound state ≡ cond (is_bind_lost s.standing.state acts state) false (bound_behind (is_bound s.standing.state) acts)
-  by_state Closed e h = by_closed (bound_behind (is_bound s.standing.state) acts)
+  by_state : (state : SessionState) → (fed s xs).0.conversation.state ≡ state → (state ≡ Closed) ⊎ (is_bound state ≡ bound_behind (is_bound s.conversation.state) acts)
+      → is_bound state ≡ cond (is_bind_lost s.conversation.state acts state) false (bound_behind (is_bound s.conversation.state) acts)
+  by_state Closed e h = by_closed (bound_behind (is_bound s.conversation.state) acts)
   by_state Opened e (inl c) = absurd cc
   by_state Opened e (inr h) = h
   by_state BoundTx e (inl c) = absurd cc
@@ -218,31 +218,31 @@ told s xs waiting number = by_state (fed s xs).0.standing.state refl (fed_sound 
 -- ---- lists of calls
 
 pub record IsKept (c : SessionView × List Action) : Type 0 where
-  pub waiting : IsWindow c.0.standing.unanswered
-  pub number : IsSequenceNumber c.0.standing.next_number
+  pub waiting : IsWindow c.0.conversation.unanswered
+  pub number : IsSequenceNumber c.0.conversation.next_number
   pub reads : AllByRecursion ReadsAsItsCommand c.1
 
-in_window : (standing : Standing) → if_room standing ≡ None → length standing.unanswered < 10
-in_window standing e = by_test (ltb (length standing.unanswered) 10) refl e where
-  by_test : (b : Bool) → ltb (length standing.unanswered) 10 ≡ b → cond b None (Some WindowFull) ≡ None → length standing.unanswered < 10
-  by_test true t h = ltb-true (length standing.unanswered) 10 t
+in_window : (conversation : Conversation) → if_room conversation ≡ None → length conversation.unanswered < 10
+in_window conversation e = by_test (ltb (length conversation.unanswered) 10) refl e where
+  by_test : (b : Bool) → ltb (length conversation.unanswered) 10 ≡ b → cond b None (Some WindowFull) ≡ None → length conversation.unanswered < 10
+  by_test true t h = ltb-true (length conversation.unanswered) 10 t
   by_test false t h = absurd cc
 
-room : (state : SessionState) (standing : Standing) → fault_in state standing ≡ None → length standing.unanswered < 10
-room Opened standing e = absurd cc
-room BoundTx standing e = absurd cc
-room BoundRx standing e = in_window standing e
-room BoundTrx standing e = in_window standing e
-room Closed standing e = absurd cc
+room : (state : SessionState) (conversation : Conversation) → fault_in state conversation ≡ None → length conversation.unanswered < 10
+room Opened conversation e = absurd cc
+room BoundTx conversation e = absurd cc
+room BoundRx conversation e = in_window conversation e
+room BoundTrx conversation e = in_window conversation e
+room Closed conversation e = absurd cc
 
-delivering_kept : (s : SessionView) (message : Message) (f : Option DeliverFault) → delivery_fault s.standing ≡ f → IsWindow s.standing.unanswered → IsSequenceNumber s.standing.next_number → IsKept (delivering s message f)
+delivering_kept : (s : SessionView) (message : Message) (f : Option DeliverFault) → delivery_fault s.conversation ≡ f → IsWindow s.conversation.unanswered → IsSequenceNumber s.conversation.next_number → IsKept (delivering s message f)
 delivering_kept s message (Some fault) e waiting number = record { waiting = waiting; number = number; reads = tt }
 delivering_kept s message None e waiting number =
-    let few = room s.standing.state s.standing e in
-    let own = free_is_number s.standing.next_number s.standing.unanswered number in
+    let few = room s.conversation.state s.conversation e in
+    let own = free_is_number s.conversation.next_number s.conversation.unanswered number in
     record {
-      waiting = window_added (number_to_send s.standing) s.standing.unanswered waiting few (free_is_free s.standing.next_number s.standing.unanswered few) own;
-      number = after_is_number (number_to_send s.standing) own;
+      waiting = window_added (number_to_send s.conversation) s.conversation.unanswered waiting few (free_is_free s.conversation.next_number s.conversation.unanswered few) own;
+      number = after_is_number (number_to_send s.conversation) own;
       reads = (tt, tt);
     }
 
@@ -250,10 +250,10 @@ sending_reads : (o : Option (List ℕ)) → AllByRecursion ReadsAsItsCommand (se
 sending_reads None = tt
 sending_reads (Some octets) = (tt, tt)
 
-called_kept : (s : SessionView) (call : Call) → IsWindow s.standing.unanswered → IsSequenceNumber s.standing.next_number → IsKept (called s call)
+called_kept : (s : SessionView) (call : Call) → IsWindow s.conversation.unanswered → IsSequenceNumber s.conversation.next_number → IsKept (called s call)
 called_kept s (Feed xs) waiting number = let h = fed_sound s xs waiting number in record { waiting = h.waiting; number = h.number; reads = h.reads }
-called_kept s (Answer n answer) waiting number = record { waiting = waiting; number = number; reads = sending_reads (answered s.standing.state n answer) }
-called_kept s (Deliver message) waiting number = delivering_kept s message (delivery_fault s.standing) refl waiting number
+called_kept s (Answer n answer) waiting number = record { waiting = waiting; number = number; reads = sending_reads (answered s.conversation.state n answer) }
+called_kept s (Deliver message) waiting number = delivering_kept s message (delivery_fault s.conversation) refl waiting number
 called_kept s Close waiting number = record { waiting = no_window; number = number; reads = tt }
 
 ran_kept : (c : SessionView × List Action) (calls : List Call) → IsKept c → IsKept (ran c calls)
@@ -265,34 +265,34 @@ ran_kept c (call ∷ calls) h =
 pub opened_kept : (accounts : List Account) (calls : List Call) → IsKept (ran (opened accounts, []) calls)
 opened_kept accounts calls = ran_kept (opened accounts, []) calls (record { waiting = no_window; number = (omega arith, omega arith); reads = tt })
 
-pub number_is_kept : (accounts : List Account) (calls : List Call) → IsSequenceNumber (number_to_send (ran (opened accounts, []) calls).0.standing)
+pub number_is_kept : (accounts : List Account) (calls : List Call) → IsSequenceNumber (number_to_send (ran (opened accounts, []) calls).0.conversation)
 number_is_kept accounts calls =
-    let standing = (ran (opened accounts, []) calls).0.standing in
-    free_is_number standing.next_number standing.unanswered (opened_kept accounts calls).number
+    let conversation = (ran (opened accounts, []) calls).0.conversation in
+    free_is_number conversation.next_number conversation.unanswered (opened_kept accounts calls).number
 
-pub told_over : (accounts : List Account) (calls : List Call) (xs : List ℕ) → is_bound (fed (ran (opened accounts, []) calls).0 xs).0.standing.state ≡ bound_as_told (ran (opened accounts, []) calls).0 xs
+pub told_over : (accounts : List Account) (calls : List Call) (xs : List ℕ) → is_bound (fed (ran (opened accounts, []) calls).0 xs).0.conversation.state ≡ bound_as_told (ran (opened accounts, []) calls).0 xs
 told_over accounts calls xs = let h = opened_kept accounts calls in told (ran (opened accounts, []) calls).0 xs h.waiting h.number
 
 -- ---- a closed session
 
 record IsQuiet (c : SessionView × List Action) : Type 0 where
-  closed : c.0.standing.state ≡ Closed
+  closed : c.0.conversation.state ≡ Closed
   nothing : c.1 ≡ []
 
-feed_quiet : (s : SessionView) (xs : List ℕ) → s.standing.state ≡ Closed → IsQuiet (fed s xs)
+feed_quiet : (s : SessionView) (xs : List ℕ) → s.conversation.state ≡ Closed → IsQuiet (fed s xs)
 feed_quiet s xs e =
     let none : stream s.accounts (turn_of s, []) (s.buffered ++ xs) ≡ (turn_of s, []) = dropped s.accounts (turn_of s) (s.buffered ++ xs) e in
-    record { closed = ap (λ (c : Course). c.0.standing.state) none ∙ e; nothing = ap (λ (c : Course). c.0.actions) none }
+    record { closed = ap (λ (c : Course). c.0.conversation.state) none ∙ e; nothing = ap (λ (c : Course). c.0.actions) none }
 
-call_quiet : (s : SessionView) (call : Call) → s.standing.state ≡ Closed → IsQuiet (called s call)
+call_quiet : (s : SessionView) (call : Call) → s.conversation.state ≡ Closed → IsQuiet (called s call)
 call_quiet s (Feed xs) e = feed_quiet s xs e
 call_quiet s (Answer n answer) e = record { closed = e; nothing = ap (λ (state : SessionState). sending (answered state n answer)) e }
 call_quiet s (Deliver message) e =
-    let none : delivery_fault s.standing ≡ Some NotBound = ap (λ (state : SessionState). fault_in state s.standing) e in
+    let none : delivery_fault s.conversation ≡ Some NotBound = ap (λ (state : SessionState). fault_in state s.conversation) e in
     subst (λ (f : Option DeliverFault). IsQuiet (delivering s message f)) (sym none) (record { closed = e; nothing = refl })
 call_quiet s Close e = record { closed = refl; nothing = refl }
 
-pub closed_is_quiet : (s : SessionView) (before : List Action) (calls : List Call) → s.standing.state ≡ Closed → ((ran (s, before) calls).0.standing.state ≡ Closed) × ((ran (s, before) calls).1 ≡ before)
+pub closed_is_quiet : (s : SessionView) (before : List Action) (calls : List Call) → s.conversation.state ≡ Closed → ((ran (s, before) calls).0.conversation.state ≡ Closed) × ((ran (s, before) calls).1 ≡ before)
 closed_is_quiet s before [] e = (e, refl)
 closed_is_quiet s before (call ∷ calls) e =
     let q = call_quiet s call e in

@@ -11,8 +11,8 @@ use Rattle.smpp_session.specs.declared.answer.Answer.{Answer}
 use Rattle.smpp_session.specs.declared.answer.Answer.TheVariants.{Submitted, Queried, Cancelled, Refused}
 use Rattle.smpp_session.specs.declared.answer.Request.{Request}
 use Rattle.smpp_session.specs.declared.answer.Request.TheVariants.{Submit, Query, Cancel}
-use Rattle.smpp_session.specs.declared.standing.SessionState.{SessionState}
-use Rattle.smpp_session.specs.declared.standing.SessionState.TheVariants.{Opened, BoundTx, BoundRx, BoundTrx, Closed}
+use Rattle.smpp_session.specs.declared.conversation.SessionState.{SessionState}
+use Rattle.smpp_session.specs.declared.conversation.SessionState.TheVariants.{Opened, BoundTx, BoundRx, BoundTrx, Closed}
 use Rattle.smpp_session.specs.SessionTable.{response}
 
 -- each field is within its limit, and a refusal has a status of its own

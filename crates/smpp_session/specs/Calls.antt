@@ -23,14 +23,14 @@ sending (Some octets) = Send octets ∷ []
 
 -- a refused deliver_sm gives nothing and changes nothing
 abbrev pub delivering : SessionView → Message → Option DeliverFault → SessionView × List Action
-delivering session message None = (after_delivery session, Send (written (deliver_pdu (number_to_send session.standing) message)) ∷ [])
+delivering session message None = (after_delivery session, Send (written (deliver_pdu (number_to_send session.conversation) message)) ∷ [])
 delivering session message (Some fault) = (session, [])
 
 -- the session after a call, and the actions of the call
 abbrev pub called : SessionView → Call → SessionView × List Action
 called session (Feed octets) = fed session octets
-called session (Answer number answer) = (session, sending (answered session.standing.state number answer))
-called session (Deliver message) = delivering session message (delivery_fault session.standing)
+called session (Answer number answer) = (session, sending (answered session.conversation.state number answer))
+called session (Deliver message) = delivering session message (delivery_fault session.conversation)
 called session Close = (after_close session, [])
 
 abbrev pub and_then : SessionView × List Action → SessionView × List Action → SessionView × List Action

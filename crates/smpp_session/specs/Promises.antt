@@ -24,6 +24,6 @@ ReadsAsItsCommand action = Unit {0}
 -- Whether an account is bound behind octets that were fed, by what the owner was told: the actions, and a lost bind.
 abbrev pub bound_as_told : SessionView → List ℕ → Bool
 bound_as_told session octets =
-    if is_bind_lost session.standing.state (fed session octets).1 (fed session octets).0.standing.state
+    if is_bind_lost session.conversation.state (fed session octets).1 (fed session octets).0.conversation.state
     then false
-    else bound_behind (is_bound session.standing.state) (fed session octets).1
+    else bound_behind (is_bound session.conversation.state) (fed session octets).1

@@ -3,8 +3,8 @@ use Rattle.std.specs.Prelude.{ℕ, List, [], ◌∷◌, ◌++◌}
 use Rattle.smpp_session.specs.declared.account.Account.{Account}
 use Rattle.smpp_session.specs.declared.front.Front.{Front}
 use Rattle.smpp_session.specs.declared.front.Front.TheVariants.{Waiting, Whole, BadLength, Dropped}
-use Rattle.smpp_session.specs.declared.standing.SessionState.{SessionState}
-use Rattle.smpp_session.specs.declared.standing.SessionState.TheVariants.{Opened, BoundTx, BoundRx, BoundTrx, Closed}
+use Rattle.smpp_session.specs.declared.conversation.SessionState.{SessionState}
+use Rattle.smpp_session.specs.declared.conversation.SessionState.TheVariants.{Opened, BoundTx, BoundRx, BoundTrx, Closed}
 use Rattle.smpp_session.specs.declared.turn.Turn.{Turn}
 use Rattle.smpp_session.specs.Stream.{front_of}
 use Rattle.smpp_session.specs.SessionTable.{treated, bad_length}
@@ -23,7 +23,7 @@ fronted accounts Dropped turn octets = (turn, [])
 -- One octet more. A PDU is treated when its last octet comes, a bad length when the last octet of its header comes.
 unfoldable pub one_more : List Account → Course → ℕ → Course
 one_more accounts course octet =
-    fronted accounts (front_of course.0.standing.state (course.1 ++ octet ∷ [])) course.0 (course.1 ++ octet ∷ [])
+    fronted accounts (front_of course.0.conversation.state (course.1 ++ octet ∷ [])) course.0 (course.1 ++ octet ∷ [])
 
 -- Octets one after the other.
 unfoldable pub stream : List Account → Course → List ℕ → Course
@@ -42,5 +42,5 @@ piece_in accounts BoundTrx piece turn = treated accounts piece turn
 
 -- the pieces of a stream one after the other, and then its rest
 abbrev pub by_pieces : List Account → Turn → List (List ℕ) → List ℕ → Course
-by_pieces accounts turn [] rest = fronted accounts (front_of turn.standing.state rest) turn rest
-by_pieces accounts turn (piece ∷ pieces) rest = by_pieces accounts (piece_in accounts turn.standing.state piece turn) pieces rest
+by_pieces accounts turn [] rest = fronted accounts (front_of turn.conversation.state rest) turn rest
+by_pieces accounts turn (piece ∷ pieces) rest = by_pieces accounts (piece_in accounts turn.conversation.state piece turn) pieces rest

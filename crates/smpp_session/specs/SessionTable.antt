@@ -24,9 +24,9 @@ use Rattle.smpp_session.specs.declared.action.Action.{Action}
 use Rattle.smpp_session.specs.declared.action.Action.TheVariants.{Send, Bound, Submit, Query, Cancel, DeliverAnswered, Unbound}
 use Rattle.smpp_session.specs.declared.action.BindKind.{BindKind}
 use Rattle.smpp_session.specs.declared.action.BindKind.TheVariants.{Transmitter, Receiver, Transceiver}
-use Rattle.smpp_session.specs.declared.standing.SessionState.{SessionState}
-use Rattle.smpp_session.specs.declared.standing.SessionState.TheVariants.{Opened, BoundTx, BoundRx, BoundTrx, Closed}
-use Rattle.smpp_session.specs.declared.standing.Standing.{Standing}
+use Rattle.smpp_session.specs.declared.conversation.SessionState.{SessionState}
+use Rattle.smpp_session.specs.declared.conversation.SessionState.TheVariants.{Opened, BoundTx, BoundRx, BoundTrx, Closed}
+use Rattle.smpp_session.specs.declared.conversation.Conversation.{Conversation}
 use Rattle.smpp_session.specs.declared.table.Judgement.{Judgement}
 use Rattle.smpp_session.specs.declared.table.Judgement.TheVariants.{Read, Refused, Ignored}
 use Rattle.smpp_session.specs.declared.turn.Turn.{Turn}
@@ -128,21 +128,21 @@ response body status number = record { command_status = status_number status; se
 -- ---- stages: what a session is and what it has given so far
 
 abbrev pub given : Action → Turn → Turn
-given action turn = record { standing = turn.standing; actions = turn.actions ++ action ∷ [] }
+given action turn = record { conversation = turn.conversation; actions = turn.actions ++ action ∷ [] }
 
 unfoldable pub sent : Body → CommandStatus → ℕ → Turn → Turn
 sent body status number turn = given (Send (written (response body status number))) turn
 
 -- a closed session waits for no answer
-abbrev pub closed_standing : Standing → Standing
-closed_standing standing = record { state = Closed; unanswered = []; next_number = standing.next_number }
+abbrev pub closed_conversation : Conversation → Conversation
+closed_conversation conversation = record { state = Closed; unanswered = []; next_number = conversation.next_number }
 
 abbrev pub closed : Turn → Turn
-closed turn = record { standing = closed_standing turn.standing; actions = turn.actions }
+closed turn = record { conversation = closed_conversation turn.conversation; actions = turn.actions }
 
 abbrev pub in_state : SessionState → Turn → Turn
 in_state state turn = record {
-  standing = record { state = state; unanswered = turn.standing.unanswered; next_number = turn.standing.next_number };
+  conversation = record { state = state; unanswered = turn.conversation.unanswered; next_number = turn.conversation.next_number };
   actions = turn.actions;
 }
 
@@ -162,12 +162,12 @@ unbound number turn = closed (given Unbound (sent UnbindResp ESME_ROK number tur
 -- the answer to a deliver_sm, if it waits for one
 abbrev pub delivered : ℕ → Bool → Turn → Turn
 delivered number accepted turn =
-    if is_among number turn.standing.unanswered
+    if is_among number turn.conversation.unanswered
     then record {
-      standing = record {
-        state = turn.standing.state;
-        unanswered = without number turn.standing.unanswered;
-        next_number = turn.standing.next_number;
+      conversation = record {
+        state = turn.conversation.state;
+        unanswered = without number turn.conversation.unanswered;
+        next_number = turn.conversation.next_number;
       };
       actions = turn.actions ++ DeliverAnswered number accepted ∷ [];
     }
@@ -210,7 +210,7 @@ judging accounts octets command number Ignored turn = turn
 -- a request of an unknown command is refused; a response, whose command_id has bit 31 set, is ignored
 abbrev pub by_command : List Account → List ℕ → Header → Option CommandId → Turn → Turn
 by_command accounts octets header (Some command) turn =
-    judging accounts octets command header.sequence_number (judged command turn.standing.state) turn
+    judging accounts octets command header.sequence_number (judged command turn.conversation.state) turn
 by_command accounts octets header None turn =
     if nat_lt header.command_id 0x80000000 then sent GenericNack ESME_RINVCMDID header.sequence_number turn else turn
 

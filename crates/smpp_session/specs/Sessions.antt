@@ -10,18 +10,18 @@ use Rattle.smpp_session.specs.declared.account.Account.{Account}
 use Rattle.smpp_session.specs.declared.action.Action.{Action}
 use Rattle.smpp_session.specs.declared.fault.DeliverFault.{DeliverFault}
 use Rattle.smpp_session.specs.declared.fault.DeliverFault.TheVariants.{WindowFull, NotBound, NoMemory}
-use Rattle.smpp_session.specs.declared.standing.SessionState.{SessionState}
-use Rattle.smpp_session.specs.declared.standing.SessionState.TheVariants.{Opened, BoundRx, BoundTrx}
-use Rattle.smpp_session.specs.declared.standing.Standing.{Standing}
+use Rattle.smpp_session.specs.declared.conversation.SessionState.{SessionState}
+use Rattle.smpp_session.specs.declared.conversation.SessionState.TheVariants.{Opened, BoundRx, BoundTrx}
+use Rattle.smpp_session.specs.declared.conversation.Conversation.{Conversation}
 use Rattle.smpp_session.specs.declared.turn.Turn.{Turn}
 use Rattle.smpp_session.specs.Windows.{window, number_after, free_number}
-use Rattle.smpp_session.specs.SessionTable.{response, closed_standing}
+use Rattle.smpp_session.specs.SessionTable.{response, closed_conversation}
 use Rattle.smpp_session.specs.SessionRun.{Course, stream}
 
 -- Who may bind, what the session remembers, and the octets that aren't treated yet.
 pub record SessionView : Type 0 where
   pub accounts : List Account
-  pub standing : Standing
+  pub conversation : Conversation
   pub buffered : List ℕ
 
 -- ---- new
@@ -29,25 +29,25 @@ pub record SessionView : Type 0 where
 abbrev pub opened : List Account → SessionView
 opened accounts = record {
   accounts = accounts;
-  standing = record { state = Opened; unanswered = []; next_number = 1 };
+  conversation = record { state = Opened; unanswered = []; next_number = 1 };
   buffered = [];
 }
 
 -- ---- feed
 
 abbrev pub turn_of : SessionView → Turn
-turn_of session = record { standing = session.standing; actions = [] }
+turn_of session = record { conversation = session.conversation; actions = [] }
 
 abbrev pub after_course : SessionView → Course → SessionView × List Action
 after_course session course =
-    (record { accounts = session.accounts; standing = course.0.standing; buffered = course.1 }, course.0.actions)
+    (record { accounts = session.accounts; conversation = course.0.conversation; buffered = course.1 }, course.0.actions)
 
 -- the session with octets that came, and with the first of its octets alone
 abbrev pub with_more : List ℕ → SessionView → SessionView
-with_more octets session = record { accounts = session.accounts; standing = session.standing; buffered = session.buffered ++ octets }
+with_more octets session = record { accounts = session.accounts; conversation = session.conversation; buffered = session.buffered ++ octets }
 
 abbrev pub with_first : ℕ → SessionView → SessionView
-with_first count session = record { accounts = session.accounts; standing = session.standing; buffered = take count session.buffered }
+with_first count session = record { accounts = session.accounts; conversation = session.conversation; buffered = take count session.buffered }
 
 -- its octets one after the other
 abbrev pub treated_input : SessionView → SessionView × List Action
@@ -65,16 +65,16 @@ pub record IsDeliverable (message : Message) : Type 0 where
   pub short : 16 + length (written_message message) ≤ 65536
 
 -- Only receivers and transceivers take a deliver_sm; so many may wait for their answers.
-abbrev pub if_room : Standing → Option DeliverFault
-if_room standing = if nat_lt (length standing.unanswered) window then None else Some WindowFull
+abbrev pub if_room : Conversation → Option DeliverFault
+if_room conversation = if nat_lt (length conversation.unanswered) window then None else Some WindowFull
 
-abbrev pub fault_in : SessionState → Standing → Option DeliverFault
-fault_in BoundRx standing = if_room standing
-fault_in BoundTrx standing = if_room standing
-fault_in state standing = Some NotBound
+abbrev pub fault_in : SessionState → Conversation → Option DeliverFault
+fault_in BoundRx conversation = if_room conversation
+fault_in BoundTrx conversation = if_room conversation
+fault_in state conversation = Some NotBound
 
-abbrev pub delivery_fault : Standing → Option DeliverFault
-delivery_fault standing = fault_in standing.state standing
+abbrev pub delivery_fault : Conversation → Option DeliverFault
+delivery_fault conversation = fault_in conversation.state conversation
 
 -- a refusal is the one that the session's state says, and want of memory where it says none
 abbrev pub IsRefused : Option DeliverFault → DeliverFault → Type 0
@@ -84,25 +84,25 @@ IsRefused None error = error ≡ NoMemory
 abbrev pub deliver_pdu : ℕ → Message → Pdu
 deliver_pdu number message = response (DeliverSm message) ESME_ROK number
 
-abbrev pub number_to_send : Standing → ℕ
-number_to_send standing = free_number standing.next_number standing.unanswered
+abbrev pub number_to_send : Conversation → ℕ
+number_to_send conversation = free_number conversation.next_number conversation.unanswered
 
 -- the deliver_sm of that number waits for its answer
-abbrev pub awaiting_under : ℕ → Standing → Standing
-awaiting_under number standing = record {
-  state = standing.state;
-  unanswered = standing.unanswered ++ number ∷ [];
+abbrev pub awaiting_under : ℕ → Conversation → Conversation
+awaiting_under number conversation = record {
+  state = conversation.state;
+  unanswered = conversation.unanswered ++ number ∷ [];
   next_number = number_after number;
 }
 
 -- one more waits for its answer
-abbrev pub awaiting : Standing → Standing
-awaiting standing = awaiting_under (number_to_send standing) standing
+abbrev pub awaiting : Conversation → Conversation
+awaiting conversation = awaiting_under (number_to_send conversation) conversation
 
 abbrev pub after_delivery : SessionView → SessionView
-after_delivery session = record { accounts = session.accounts; standing = awaiting session.standing; buffered = session.buffered }
+after_delivery session = record { accounts = session.accounts; conversation = awaiting session.conversation; buffered = session.buffered }
 
 -- ---- close
 
 abbrev pub after_close : SessionView → SessionView
-after_close session = record { accounts = session.accounts; standing = closed_standing session.standing; buffered = [] }
+after_close session = record { accounts = session.accounts; conversation = closed_conversation session.conversation; buffered = [] }

@@ -4,8 +4,8 @@ use Rattle.std.specs.List.{AllByRecursion}
 use Rattle.smpp_pdu.specs.declared.header.Header.{Header}
 use Rattle.smpp_session.specs.declared.front.Front.{Front}
 use Rattle.smpp_session.specs.declared.front.Front.TheVariants.{Waiting, Whole, BadLength, Dropped}
-use Rattle.smpp_session.specs.declared.standing.SessionState.{SessionState}
-use Rattle.smpp_session.specs.declared.standing.SessionState.TheVariants.{Opened, BoundTx, BoundRx, BoundTrx, Closed}
+use Rattle.smpp_session.specs.declared.conversation.SessionState.{SessionState}
+use Rattle.smpp_session.specs.declared.conversation.SessionState.TheVariants.{Opened, BoundTx, BoundRx, BoundTrx, Closed}
 
 -- an integer of four octets, the most significant first, at a place
 abbrev pub number_at : ℕ → List ℕ → ℕ

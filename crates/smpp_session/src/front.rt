@@ -2,7 +2,7 @@
 ghost use Rattle.std.specs.Prelude.{◌≡◌, ◌≤◌, length, nat_lt, if◌then◌else◌};
 ghost use Rattle.smpp_session.specs.Stream.{number_at, header_at, front_of as front_of_state};
 
-use crate::standing::SessionState;
+use crate::conversation::SessionState;
 use smpp_pdu::Header;
 
 // What octets begin with.

@@ -4,7 +4,7 @@ ghost use Rattle.std.specs.List.{AllByRecursion};
 ghost use Rattle.smpp_session.specs.declared.account.Account.{Account as AccountOf};
 ghost use Rattle.smpp_session.specs.declared.action.Action.{Action as ActionOf};
 ghost use Rattle.smpp_session.specs.declared.calling.Call.{Call as CallOf};
-ghost use Rattle.smpp_session.specs.declared.standing.SessionState.TheVariants.{Closed};
+ghost use Rattle.smpp_session.specs.declared.conversation.SessionState.TheVariants.{Closed};
 ghost use Rattle.smpp_session.specs.declared.turn.Turn.{Turn as TurnOf};
 ghost use Rattle.smpp_session.specs.Stream.{IsStream};
 ghost use Rattle.smpp_session.specs.SessionRun.{stream, by_pieces};
@@ -36,21 +36,21 @@ pub fn passed_up_reads_as_its_command()
 
 /// Over any calls, at most ten deliver_sm wait for their answers, under different numbers of 1 to 7FFFFFFF.
 pub fn few_wait_under_different_numbers()
-    ensures { (accounts : List AccountOf) (calls : List CallOf) → IsWindow (ran (opened accounts, []) calls).0.standing.unanswered }
+    ensures { (accounts : List AccountOf) (calls : List CallOf) → IsWindow (ran (opened accounts, []) calls).0.conversation.unanswered }
 {}
 
 /// Over any calls, the next deliver_sm has a number of 1 to 7FFFFFFF.
 pub fn numbers_stay_in_range()
-    ensures { (accounts : List AccountOf) (calls : List CallOf) → IsSequenceNumber (number_to_send (ran (opened accounts, []) calls).0.standing) }
+    ensures { (accounts : List AccountOf) (calls : List CallOf) → IsSequenceNumber (number_to_send (ran (opened accounts, []) calls).0.conversation) }
 {}
 
 /// A closed session stays closed and gives nothing, whatever is called.
 pub fn nothing_after_closed()
-    ensures { (session : SessionView) (before : List ActionOf) (calls : List CallOf) → session.standing.state ≡ Closed → ((ran (session, before) calls).0.standing.state ≡ Closed) × ((ran (session, before) calls).1 ≡ before) }
+    ensures { (session : SessionView) (before : List ActionOf) (calls : List CallOf) → session.conversation.state ≡ Closed → ((ran (session, before) calls).0.conversation.state ≡ Closed) × ((ran (session, before) calls).1 ≡ before) }
 {}
 
 /// Over any calls, an account is bound behind octets that are fed then exactly where the owner was told so: by the actions,
 /// and by the word of a lost bind.
 pub fn owner_knows_whether_an_account_is_bound()
-    ensures { (accounts : List AccountOf) (calls : List CallOf) (octets : List ℕ) → is_bound (fed (ran (opened accounts, []) calls).0 octets).0.standing.state ≡ bound_as_told (ran (opened accounts, []) calls).0 octets }
+    ensures { (accounts : List AccountOf) (calls : List CallOf) (octets : List ℕ) → is_bound (fed (ran (opened accounts, []) calls).0 octets).0.conversation.state ≡ bound_as_told (ran (opened accounts, []) calls).0 octets }
 {}

@@ -9,10 +9,10 @@ ghost use Rattle.smpp_session.specs.Sessions.{SessionView, opened, with_more, wi
 use crate::account::Accounts;
 use crate::action::{Actions, Fed};
 use crate::answer::Answer;
+use crate::conversation::{Conversation, SessionState};
 use crate::fault::DeliverFault;
 use crate::front::{Front, front_of};
 use crate::numbers::Numbers;
-use crate::standing::{SessionState, Standing};
 use crate::turn::Turn;
 use bytes::BytesMut;
 use smpp_pdu::{Body, CommandStatus, Message, Pdu};
@@ -29,21 +29,21 @@ use std::sync::Arc;
 pub struct Session {
     alloc: Global,
     accounts: Arc<Accounts, Global>,
-    standing: Standing,
+    conversation: Conversation,
     input: BytesMut,
 }
 
 impl Model for Session {
     ghost Value = { SessionView };
 
-    ghost view = { λ s. record { accounts = arc_value s.accounts; standing = s.standing; buffered = s.input.items } };
+    ghost view = { λ s. record { accounts = arc_value s.accounts; conversation = s.conversation; buffered = s.input.items } };
 }
 
 // The accounts and the octets of a bind hold passwords, so they are not shown.
 impl fmt::Debug for Session {
     fn fmt<W: fmt::Write>(&self, f: &mut fmt::Formatter<W>) -> fmt::Result {
         f.debug_struct("Session")
-            .field("standing", &self.standing)
+            .field("conversation", &self.conversation)
             .field("waiting_octets", &self.input.len())
             .finish_non_exhaustive()
     }
@@ -66,7 +66,7 @@ impl Session {
         Session {
             alloc,
             accounts,
-            standing: Standing {
+            conversation: Conversation {
                 state: SessionState::Opened,
                 unanswered: Numbers::new(alloc),
                 next_number: 1,
@@ -77,9 +77,9 @@ impl Session {
 
     /// The state.
     pub fn state(&self) -> SessionState
-        ensures { result ≡ self.now.standing.state }
+        ensures { result ≡ self.now.conversation.state }
     {
-        self.standing.state
+        self.conversation.state
     }
 
     /// Takes octets that came, and answers what is to be done.
@@ -88,12 +88,12 @@ impl Session {
     pub fn feed(&mut self, octets: &[u8]) -> Result<Fed, AllocError>
         ensures actions { IfOk result (λ given. fed self.old octets.now ≡ (self.new, given.actions)) }
         // The call that closed the session tells whether an account was bound, where no action tells it.
-        ensures bind_lost { IfOk result (λ given. given.bind_lost ≡ is_bind_lost self.old.standing.state given.actions self.new.standing.state) }
+        ensures bind_lost { IfOk result (λ given. given.bind_lost ≡ is_bind_lost self.old.conversation.state given.actions self.new.conversation.state) }
         ensures err { OnErr result (self.new ≡ self.old) }
     {
         let waiting = self.input.len();
         self.take_in(octets)?;
-        if let Front::Waiting = front_of(self.standing.state, self.input.as_slice()) {
+        if let Front::Waiting = front_of(self.conversation.state, self.input.as_slice()) {
             return Ok(Fed {
                 actions: Actions::new(self.alloc),
                 bind_lost: false,
@@ -120,13 +120,13 @@ impl Session {
     #[inline(never)]
     fn treat_input(&mut self, waiting: usize) -> Result<Fed, AllocError>
         ensures actions { IfOk result (λ given. treated_input self.old ≡ (self.new, given.actions)) }
-        ensures bind_lost { IfOk result (λ given. given.bind_lost ≡ is_bind_lost self.old.standing.state given.actions self.new.standing.state) }
+        ensures bind_lost { IfOk result (λ given. given.bind_lost ≡ is_bind_lost self.old.conversation.state given.actions self.new.conversation.state) }
         ensures err { OnErr result (self.new ≡ with_first waiting self.old) }
     {
-        let before = self.standing.state;
+        let before = self.conversation.state;
         match self.cut_input() {
             Ok(actions) => {
-                let closed = self.standing.state == SessionState::Closed;
+                let closed = self.conversation.state == SessionState::Closed;
                 let bind_lost = closed && actions.bound_behind(before.is_bound());
                 Ok(Fed { actions, bind_lost })
             }
@@ -143,12 +143,15 @@ impl Session {
         ensures err { OnErr result (self.new ≡ self.old) }
     {
         let mut turn = Turn {
-            standing: self.standing.copy(self.alloc)?,
+            conversation: self.conversation.copy(self.alloc)?,
             actions: Actions::new(self.alloc),
         };
         let done = turn.walk(self.alloc, &self.accounts, self.input.as_slice())?;
-        let Turn { standing, actions } = turn;
-        self.standing = standing;
+        let Turn {
+            conversation,
+            actions,
+        } = turn;
+        self.conversation = conversation;
         self.input.advance(done);
         Ok(actions)
     }
@@ -162,9 +165,9 @@ impl Session {
         answer: Answer<'_>,
     ) -> Result<Option<Octets>, AllocError>
         requires { IsAnswer answer }
-        ensures { IfOk result (λ octets. octets ≡ answered self.now.standing.state sequence_number answer.entry) }
+        ensures { IfOk result (λ octets. octets ≡ answered self.now.conversation.state sequence_number answer.entry) }
     {
-        if self.standing.state == SessionState::Closed {
+        if self.conversation.state == SessionState::Closed {
             return Ok(None);
         }
         let octets = answer.write(self.alloc, sequence_number)?;
@@ -179,18 +182,18 @@ impl Session {
         requires { IsDeliverable message }
         // The deliver_sm, under the next number that is free.
         ensures octets { IfOk result (λ sent. sent.octets ≡ written (deliver_pdu sent.sequence_number message.entry)) }
-        ensures number { IfOk result (λ sent. sent.sequence_number ≡ number_to_send self.old.standing) }
+        ensures number { IfOk result (λ sent. sent.sequence_number ≡ number_to_send self.old.conversation) }
         // It waits for its answer.
         ensures ok { OnOk result (self.new ≡ after_delivery self.old) }
         // Only where nothing stands against it.
-        ensures nothing_against { OnOk result (delivery_fault self.old.standing ≡ None) }
-        ensures fault { IfErr result (λ e. IsRefused (delivery_fault self.old.standing) e) }
+        ensures nothing_against { OnOk result (delivery_fault self.old.conversation ≡ None) }
+        ensures fault { IfErr result (λ e. IsRefused (delivery_fault self.old.conversation) e) }
         ensures err { OnErr result (self.new ≡ self.old) }
     {
-        self.standing.check()?;
-        let sequence_number = self.standing.free_number();
+        self.conversation.check()?;
+        let sequence_number = self.conversation.free_number();
         let octets = deliver_octets(self.alloc, sequence_number, message)?;
-        self.standing.await_answer(sequence_number)?;
+        self.conversation.await_answer(sequence_number)?;
         Ok(Outgoing {
             sequence_number,
             octets,
@@ -199,11 +202,11 @@ impl Session {
 
     /// Ends the session, whose connection is gone, and tells whether an account was bound until now.
     pub fn close(&mut self) -> bool
-        ensures bind_lost { result ≡ is_bound self.old.standing.state }
+        ensures bind_lost { result ≡ is_bound self.old.conversation.state }
         ensures closed { self.new ≡ after_close self.old }
     {
-        let bind_lost = self.standing.state.is_bound();
-        self.standing.close();
+        let bind_lost = self.conversation.state.is_bound();
+        self.conversation.close();
         self.input = BytesMut::new(self.alloc);
         bind_lost
     }

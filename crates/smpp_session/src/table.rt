@@ -4,7 +4,7 @@ ghost use Rattle.smpp_session.specs.SessionTable.{judged, judged_fault, refusal,
 ghost use Rattle.smpp_session.specs.SessionTable.{with_bind_resp, without_bind_resp, priority_of};
 
 use crate::action::BindKind;
-use crate::standing::SessionState;
+use crate::conversation::SessionState;
 use smpp_pdu::{BindResp, Body, CommandId, CommandStatus, PduFault};
 
 // What becomes of a command, before its body is looked at or where the body can't be read.

@@ -8,8 +8,8 @@ ghost use Rattle.smpp_session.specs.declared.table.Judgement.TheVariants.{Read};
 
 use crate::account::{Accounts, Login};
 use crate::action::{Action, Actions, BindKind};
+use crate::conversation::Conversation;
 use crate::front::{Front, front_of, header_of};
-use crate::standing::Standing;
 use crate::table::{
     Judgement, bind_answer, bind_refusal, judge, judge_fault, priority_of, refusal_of, state_of,
 };
@@ -20,7 +20,7 @@ use std::alloc::{AllocError, Global};
 // What a session is, and what it has given so far.
 #[derive(Drop)]
 pub(crate) struct Turn {
-    pub standing: Standing,
+    pub conversation: Conversation,
     pub actions: Actions,
 }
 
@@ -86,7 +86,7 @@ impl Turn {
     fn close(&mut self)
         ensures { self.new ≡ closed self.old }
     {
-        self.standing.close();
+        self.conversation.close();
     }
 
     // Takes a bind.
@@ -113,7 +113,7 @@ impl Turn {
                     number,
                 )?;
                 self.give(Action::Bound(place, kind))?;
-                self.standing.state = state_of(kind);
+                self.conversation.state = state_of(kind);
                 Ok(())
             }
             Login::UnknownName => {
@@ -151,7 +151,7 @@ impl Turn {
     fn delivered(&mut self, number: u32, accepted: bool) -> Result<(), AllocError>
         ensures { OnOk result (self.new ≡ delivered number accepted self.old) }
     {
-        if self.standing.unanswered.take(number) {
+        if self.conversation.unanswered.take(number) {
             self.give(Action::DeliverAnswered(number, accepted))?;
         }
         Ok(())
@@ -232,9 +232,9 @@ impl Turn {
         command: CommandId,
         number: u32,
     ) -> Result<(), AllocError>
-        ensures { OnOk result (self.new ≡ judging accounts.now octets.now command number (judged command self.old.standing.state) self.old) }
+        ensures { OnOk result (self.new ≡ judging accounts.now octets.now command number (judged command self.old.conversation.state) self.old) }
     {
-        match judge(command, self.standing.state) {
+        match judge(command, self.conversation.state) {
             Judgement::Read => {
                 self.read(alloc, accounts, octets, command, number)?;
                 Ok(())
@@ -298,7 +298,7 @@ impl Turn {
         let mut done = 0;
         loop {
             let (_, rest) = octets.split_at(done);
-            match front_of(self.standing.state, rest) {
+            match front_of(self.conversation.state, rest) {
                 Front::Waiting => return Ok(done),
                 Front::Dropped => return Ok(octets.len()),
                 Front::BadLength => {

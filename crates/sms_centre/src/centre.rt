@@ -141,12 +141,17 @@ impl Centre {
         requires { IsSetup standing.setup }
         ensures { IfOk result (λ centre. centre ≡ standing) }
     {
-        let address = write_relay_address(alloc, &standing.setup.centre)?;
-        Ok(Centre {
-            alloc,
-            standing,
-            address,
-        })
+        match write_relay_address(alloc, &standing.setup.centre) {
+            Ok(address) => Ok(Centre {
+                alloc,
+                standing,
+                address,
+            }),
+            Err(error) => {
+                drop(standing);
+                Err(error)
+            }
+        }
     }
 
     /// What the event leads to, with a store that gives the TPDUs of the rows as they stand. Nothing has changed yet.

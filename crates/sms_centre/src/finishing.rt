@@ -181,7 +181,10 @@ fn plan_anew<B: BodyKeep>(
 {
     match run_anew(&mut working, event, reference, bodies, centre) {
         Ok(()) => plan(alloc, standing, working),
-        Err(error) => Err(error),
+        Err(error) => {
+            drop(working);
+            Err(error)
+        }
     }
 }
 
@@ -246,7 +249,10 @@ fn plan_begun<B: BodyKeep>(
 {
     match run(&mut working, standing, event, bodies, centre) {
         Ok(()) => plan(alloc, standing, working),
-        Err(stop) => stopped(alloc, standing, event, stop, bodies, centre),
+        Err(stop) => {
+            drop(working);
+            stopped(alloc, standing, event, stop, bodies, centre)
+        }
     }
 }
 

@@ -9,7 +9,7 @@ use Rattle.sms_control.specs.declared.transaction.TransactionFlag.{TransactionFl
 use Rattle.sms_control.specs.declared.transaction.TransactionFlag.TheVariants.{FromOriginator, ToOriginator}
 use Rattle.sms_centre_rules.specs.Draft.{Draft, draft_of, handsets_in, messages_in, parts_in, references_in, reports_in}
 use Rattle.sms_messages.specs.declared.message.MessageRow.{MessageRow}
-use Rattle.sms_world.specs.KeptGivings.{Kept, SeesGivings}
+use Rattle.sms_world.specs.KeptGivings.{LastGivings, SeesGivings}
 use Rattle.sms_centre_sight.specs.SeesGiven.{SeesHolders, seconds_by}
 use Rattle.sms_centre_sight.specs.SeesMessages.{PartSeen, SeesTable, messages_by, parts_by}
 use Rattle.sms_centre_sight.specs.SeesReports.{ReportSeen, SeesReports, reports_by}
@@ -67,7 +67,7 @@ module _ (d : Draft) where
   abbrev rs : ℕ → Option ReportSeen
   rs = reports_by (reports_in d.store)
 
-  abbrev ks : Kept
+  abbrev ks : LastGivings
   ks = seconds_by (handsets_in d.store) (references_in d.store)
 
   pub rows_still : (w v : World) → LeavesCentre w v → RowsSee d w → RowsSee d v

@@ -2,7 +2,7 @@
 use Rattle.std.specs.Prelude.{◌≡◌, ℕ, Option}
 use Rattle.sms_centre_rules.specs.Draft.{Draft, Store, handsets_in, messages_in, parts_in, references_in, reports_in}
 use Rattle.sms_messages.specs.declared.message.MessageRow.{MessageRow}
-use Rattle.sms_world.specs.KeptGivings.{Kept, SeesGivings}
+use Rattle.sms_world.specs.KeptGivings.{LastGivings, SeesGivings}
 use Rattle.sms_world.specs.World.{World}
 use Rattle.sms_centre_sight.specs.FramesOut.{AreWholeDown, stacked_down}
 use Rattle.sms_centre_sight.specs.SeesGiven.{SeesHolders, seconds_by}
@@ -11,7 +11,7 @@ use Rattle.sms_centre_sight.specs.SeesMessages.{PartSeen, SeesTable, messages_by
 use Rattle.sms_centre_sight.specs.SeesReports.{ReportSeen, SeesReports, reports_by}
 
 -- rows, by what the world knows of them
-pub record SeesRows (ms : ℕ → Option MessageRow) (ps : ℕ → ℕ → Option PartSeen) (rs : ℕ → Option ReportSeen) (kept : Kept) (now : ℕ) (w : World) : Type 0 where
+pub record SeesRows (ms : ℕ → Option MessageRow) (ps : ℕ → ℕ → Option PartSeen) (rs : ℕ → Option ReportSeen) (kept : LastGivings) (now : ℕ) (w : World) : Type 0 where
   pub table : SeesTable ms ps w.table
   pub reports : SeesReports rs w.receipts w.reports
   pub holders : SeesHolders ms ps rs w.down

@@ -12,7 +12,7 @@ use Rattle.sms_reports.specs.Reports.{amend_report, is_open_status, report_key}
 use Rattle.sms_desk.specs.declared.entry.StatusEntry.{StatusEntry}
 use Rattle.sms_desk.specs.Dropping.{drop_old, is_old}
 use Rattle.sms_desk.specs.Entries.{status_entry, status_key, status_limit, status_until}
-use Rattle.sms_desk.specs.Kept.{Kept, Shows}
+use Rattle.sms_desk.specs.Kept.{ReportsOf, Shows}
 use Rattle.sms_desk.proofs.Amended.{amend_each, amends_end, amends_on}
 use Rattle.sms_desk.proofs.Keeping.{kept_where, status_place}
 use Rattle.sms_desk.proofs.Serving.{among_kept, kept_among}
@@ -73,7 +73,7 @@ module _ (test : StatusEntry → Bool) where
 abbrev kept_of : ReportRow → StatusEntry
 kept_of r = record { place = r.place; id = r.id; until = later r.made status_limit }
 
-module _ (first moment : ℕ) (ms : List MessageRow) (kept : Kept) (rows : List ReportRow) (shows : Shows ms kept rows) where
+module _ (first moment : ℕ) (ms : List MessageRow) (kept : ReportsOf) (rows : List ReportRow) (shows : Shows ms kept rows) where
   statuses_rise : Rises status_key kept.statuses
   statuses_rise = subst (λ (es : List StatusEntry). Rises status_key es) (sym shows.statuses) (picked_rises report_key status_key status_entry status_place rows shows.keys)
 

@@ -19,7 +19,7 @@ use Rattle.sms_desk.specs.declared.entry.ReceiptEntry.{ReceiptEntry}
 use Rattle.sms_desk.specs.declared.entry.ReportEntry.{ReportEntry}
 use Rattle.sms_desk.specs.declared.entry.StatusEntry.{StatusEntry}
 use Rattle.sms_desk.specs.Entries.{account_in, entry_key, is_named, is_open, open_entry, receipt_entry, receipt_key, report_entry, status_entry, status_key, status_limit}
-use Rattle.sms_desk.specs.Kept.{AccountOf, IsWithReceipt, Kept, Shows, receipts_at}
+use Rattle.sms_desk.specs.Kept.{AccountOf, IsWithReceipt, ReportsOf, Shows, receipts_at}
 use Rattle.sms_desk.proofs.Becoming.{none_of}
 use Rattle.sms_waiting.specs.Trying.{later}
 
@@ -111,7 +111,7 @@ module _ (rows after : List ReportRow) (r : ReportRow) (keys : Rises report_key 
       (cases_eq r.id id)
 
   -- a receipt
-  pub kept_receipt : (ms : List MessageRow) (name : List ℕ) (kept : Kept) (accounts : List AccountOf) (next : ℕ) → Shows ms kept rows → is_receipt r.kind ≡ true
+  pub kept_receipt : (ms : List MessageRow) (name : List ℕ) (kept : ReportsOf) (accounts : List AccountOf) (next : ℕ) → Shows ms kept rows → is_receipt r.kind ≡ true
       → ((other : List ℕ) → ¬ (other ≡ name) → is_named other (account_in (message_at r.id ms)) ≡ false) → IsWithReceipt name r.place (receipt_entry name ms r) kept.accounts accounts → next ≡ next_place after
       → Shows ms (record { open_reports = set_at entry_key r.id (open_entry r) kept.open_reports; statuses = kept.statuses; accounts = accounts; next = next }) after
   kept_receipt ms name kept accounts next shows is_one foreign with is_next = record {
@@ -140,7 +140,7 @@ module _ (rows after : List ReportRow) (r : ReportRow) (keys : Rises report_key 
         (λ b e. not_of other ne b (became.was b e).0))
 
   -- a status report
-  pub kept_status : (ms : List MessageRow) (kept : Kept) (next : ℕ) → Shows ms kept rows → is_status r.kind ≡ true → next ≡ next_place after
+  pub kept_status : (ms : List MessageRow) (kept : ReportsOf) (next : ℕ) → Shows ms kept rows → is_status r.kind ≡ true → next ≡ next_place after
       → Shows ms (record { open_reports = set_at entry_key r.id (open_entry r) kept.open_reports; statuses = set_at status_key r.place (status_entry r) kept.statuses; accounts = kept.accounts; next = next }) after
   kept_status ms kept next shows is_one is_next = record {
     keys = became.keys;
@@ -153,7 +153,7 @@ module _ (rows after : List ReportRow) (r : ReportRow) (keys : Rises report_key 
   }
 
   -- one that is closed, of a message that had none
-  pub kept_closed : (ms : List MessageRow) (kept : Kept) (next : ℕ) → Shows ms kept rows → is_open_receipt r ≡ false → is_open_status r ≡ false → report_of r.id rows ≡ None
+  pub kept_closed : (ms : List MessageRow) (kept : ReportsOf) (next : ℕ) → Shows ms kept rows → is_open_receipt r ≡ false → is_open_status r ≡ false → report_of r.id rows ≡ None
       → ((b : ReportRow) → row_at report_key r.place rows ≡ Some b → ⊥) → next ≡ next_place after
       → Shows ms (record { open_reports = kept.open_reports; statuses = kept.statuses; accounts = kept.accounts; next = next }) after
   kept_closed ms kept next shows neither nor none there is_next = record {
@@ -186,7 +186,7 @@ picked_alike one two [] f = refl
 picked_alike one two (r ∷ rows) f =
     ap (λ (o : Option _). before_all o (picked one rows)) (f r (inl refl)) ∙ ap (λ (es : List _). before_all (two r) es) (picked_alike one two rows (λ s m. f s (inr m)))
 
-pub other_messages : (ms others : List MessageRow) (kept : Kept) (rows : List ReportRow) → Shows ms kept rows
+pub other_messages : (ms others : List MessageRow) (kept : ReportsOf) (rows : List ReportRow) → Shows ms kept rows
     → ((r : ReportRow) → report_of r.id rows ≡ Some r → account_in (message_at r.id others) ≡ account_in (message_at r.id ms)) → Shows others kept rows
 other_messages ms others kept rows shows same = record {
   keys = shows.keys;

@@ -17,7 +17,7 @@ use Rattle.sms_desk.specs.declared.entry.ReceiptEntry.{ReceiptEntry}
 use Rattle.sms_desk.specs.declared.entry.ReportEntry.{ReportEntry}
 use Rattle.sms_desk.specs.declared.entry.StatusEntry.{StatusEntry}
 use Rattle.sms_desk.specs.Entries.{account_in, entry_key, is_named, is_open, open_entry, receipt_entry, receipt_key, report_entry, status_entry, status_key, status_limit}
-use Rattle.sms_desk.specs.Kept.{AccountOf, IsWithReceipt, Kept, Shows, receipts_at}
+use Rattle.sms_desk.specs.Kept.{AccountOf, IsWithReceipt, ReportsOf, Shows, receipts_at}
 use Rattle.sms_desk.specs.Pending.{PendingOf, Tells, amending, made_row, noting, putting}
 use Rattle.sms_desk.specs.Updates.{entry_reaching, keeping, keeping_of, keeping_receipt, keeping_status, receipt_of, status_of, unless_done, with_receipt}
 use Rattle.sms_desk.proofs.Becoming.{became_added, became_far, became_made, below_next, next_added, next_far, next_made, nothing_there}
@@ -108,7 +108,7 @@ status_is r one =
 
 -- ---- what is kept, as the entry tells
 
-shows_receipt : (ms : List MessageRow) (name : List ℕ) (r : ReportRow) (kept : Kept) (next : ℕ) (rows : List ReportRow) → is_receipt r.kind ≡ true → is_named name (account_in (message_at r.id ms)) ≡ true
+shows_receipt : (ms : List MessageRow) (name : List ℕ) (r : ReportRow) (kept : ReportsOf) (next : ℕ) (rows : List ReportRow) → is_receipt r.kind ≡ true → is_named name (account_in (message_at r.id ms)) ≡ true
     → Shows ms (record { open_reports = set_at entry_key r.id (open_entry r) kept.open_reports; statuses = kept.statuses; accounts = with_receipt name r.place (receipt_entry name ms r) kept.accounts; next = next }) rows
     → Shows ms (record { open_reports = set_at entry_key r.id (unless_done (report_entry r)) kept.open_reports; statuses = kept.statuses; accounts = with_receipt name r.place (receipt_of (report_entry r)) kept.accounts; next = next }) rows
 shows_receipt ms name r kept next rows one named shows =
@@ -117,7 +117,7 @@ shows_receipt ms name r kept next rows one named shows =
     subst (λ (o : Option ReceiptEntry). Shows ms (record { open_reports = set_at entry_key r.id (unless_done (report_entry r)) kept.open_reports; statuses = kept.statuses; accounts = with_receipt name r.place o kept.accounts; next = next }) rows) received
     (subst (λ (o : Option ReportEntry). Shows ms (record { open_reports = set_at entry_key r.id o kept.open_reports; statuses = kept.statuses; accounts = with_receipt name r.place (receipt_entry name ms r) kept.accounts; next = next }) rows) opened shows)
 
-shows_status : (ms : List MessageRow) (r : ReportRow) (kept : Kept) (next : ℕ) (rows : List ReportRow) → is_status r.kind ≡ true
+shows_status : (ms : List MessageRow) (r : ReportRow) (kept : ReportsOf) (next : ℕ) (rows : List ReportRow) → is_status r.kind ≡ true
     → Shows ms (record { open_reports = set_at entry_key r.id (open_entry r) kept.open_reports; statuses = set_at status_key r.place (status_entry r) kept.statuses; accounts = kept.accounts; next = next }) rows
     → Shows ms (record { open_reports = set_at entry_key r.id (unless_done (report_entry r)) kept.open_reports; statuses = set_at status_key r.place (status_of (report_entry r)) kept.statuses; accounts = kept.accounts; next = next }) rows
 shows_status ms r kept next rows one shows =
@@ -220,7 +220,7 @@ far_status ms p t r q tells there one =
 
 -- ---- rows that are read
 
-pub shows_added : (ms : List MessageRow) (kept : Kept) (rows : List ReportRow) (r : ReportRow) (name : List ℕ) → Shows ms kept rows → ((s : ReportRow) → Among s rows → s.place < r.place) → report_of r.id rows ≡ None
+pub shows_added : (ms : List MessageRow) (kept : ReportsOf) (rows : List ReportRow) (r : ReportRow) (name : List ℕ) → Shows ms kept rows → ((s : ReportRow) → Among s rows → s.place < r.place) → report_of r.id rows ≡ None
     → (is_receipt r.kind ≡ true → account_in (message_at r.id ms) ≡ Some name) → Shows ms (record (keeping name r kept) { next = r.place + 1 }) (rows ++ r ∷ [])
 shows_added ms kept rows r name shows lower none account =
     let after : List ReportRow = rows ++ r ∷ [] in
@@ -230,10 +230,10 @@ shows_added ms kept rows r name shows lower none account =
     λ one two. kept_closed rows after r shows.keys became ms kept (r.place + 1) shows one two none (λ b e. nothing_there r b rows lower e) next in
     ⊎_elim
     (λ (d : r.progress.is_done ≡ true).
-    subst (λ (k : Kept). Shows ms (record k { next = r.place + 1 }) after) (sym (cond-true r.progress.is_done kept (keeping_of r.kind name r kept) d))
+    subst (λ (k : ReportsOf). Shows ms (record k { next = r.place + 1 }) after) (sym (cond-true r.progress.is_done kept (keeping_of r.kind name r kept) d))
     (closed (ap (λ (x : Bool). is_receipt r.kind && not x) d ∙ and_false (is_receipt r.kind)) (ap (λ (x : Bool). is_status r.kind && not x) d ∙ and_false (is_status r.kind))))
     (λ (d : r.progress.is_done ≡ false).
-    subst (λ (k : Kept). Shows ms (record k { next = r.place + 1 }) after) (sym (cond-false r.progress.is_done kept (keeping_of r.kind name r kept) d))
+    subst (λ (k : ReportsOf). Shows ms (record k { next = r.place + 1 }) after) (sym (cond-false r.progress.is_done kept (keeping_of r.kind name r kept) d))
     (by r.kind refl closed))
     (cases_Bool r.progress.is_done)
   where
@@ -258,58 +258,58 @@ shows_added ms kept rows r name shows lower none account =
 both : (ms : List MessageRow) (t : Revised ReportRow) (p q : PendingOf) → q ≡ p → Tells ms p t → Tells ms q t
 both ms t p q e tells = subst (λ (x : PendingOf). Tells ms x t) (sym e) tells
 
-pub receipt_made : (ms : List MessageRow) (p q : PendingOf) (t : Revised ReportRow) (id made : ℕ) (name : List ℕ) (n : ℕ) (row : ReportRow) (entry : ReportEntry) (before kept : Kept)
+pub receipt_made : (ms : List MessageRow) (p q : PendingOf) (t : Revised ReportRow) (id made : ℕ) (name : List ℕ) (n : ℕ) (row : ReportRow) (entry : ReportEntry) (before kept : ReportsOf)
     → n ≡ p.kept.next → row ≡ made_row n id Receipt false made → entry ≡ record (report_entry row) { reference = None } → before ≡ record p.kept { next = p.kept.next + 1 } → kept ≡ keeping_receipt name entry before
     → q ≡ record (noting row p) { kept = kept } → Tells ms p t → report_of id (reports_of t) ≡ None → account_in (message_at id ms) ≡ Some name → Tells ms q (report_made id Receipt false made t)
 receipt_made ms p q t id made name n row entry before kept place is short later so news tells none account =
     let whole : row ≡ made_row p.kept.next id Receipt false made = is ∙ ap (λ (k : ℕ). made_row k id Receipt false made) place in
     let same : entry ≡ report_entry (made_row p.kept.next id Receipt false made) = short ∙ ap (λ (r : ReportRow). record (report_entry r) { reference = None }) whole in
     let all : kept ≡ record (keeping_receipt name (report_entry (made_row p.kept.next id Receipt false made)) p.kept) { next = p.kept.next + 1 } =
-    so ∙ ap (λ (k : Kept). keeping_receipt name entry k) later ∙ ap (λ (e : ReportEntry). keeping_receipt name e (record p.kept { next = p.kept.next + 1 })) same in
+    so ∙ ap (λ (k : ReportsOf). keeping_receipt name entry k) later ∙ ap (λ (e : ReportEntry). keeping_receipt name e (record p.kept { next = p.kept.next + 1 })) same in
     both ms (report_made id Receipt false made t) (putting (made_row p.kept.next id Receipt false made) (keeping_receipt name (report_entry (made_row p.kept.next id Receipt false made)) p.kept) p) q
-    (news ∙ ap (λ (r : ReportRow). record (noting r p) { kept = kept }) whole ∙ ap (λ (k : Kept). record (noting (made_row p.kept.next id Receipt false made) p) { kept = k }) all)
+    (news ∙ ap (λ (r : ReportRow). record (noting r p) { kept = kept }) whole ∙ ap (λ (k : ReportsOf). record (noting (made_row p.kept.next id Receipt false made) p) { kept = k }) all)
     (tells_receipt ms p t id made name tells none account)
 
-pub status_made : (ms : List MessageRow) (p q : PendingOf) (t : Revised ReportRow) (id made reference : ℕ) (tpdu : List ℕ) (n : ℕ) (row : ReportRow) (entry : ReportEntry) (before kept : Kept)
+pub status_made : (ms : List MessageRow) (p q : PendingOf) (t : Revised ReportRow) (id made reference : ℕ) (tpdu : List ℕ) (n : ℕ) (row : ReportRow) (entry : ReportEntry) (before kept : ReportsOf)
     → n ≡ p.kept.next → row ≡ made_row n id (Status reference tpdu) false made → entry ≡ record (report_entry row) { reference = Some reference } → before ≡ record p.kept { next = p.kept.next + 1 } → kept ≡ keeping_status entry before
     → q ≡ record (noting row p) { kept = kept } → Tells ms p t → report_of id (reports_of t) ≡ None → Tells ms q (report_made id (Status reference tpdu) false made t)
 status_made ms p q t id made reference tpdu n row entry before kept place is short later so news tells none =
     let whole : row ≡ made_row p.kept.next id (Status reference tpdu) false made = is ∙ ap (λ (k : ℕ). made_row k id (Status reference tpdu) false made) place in
     let same : entry ≡ report_entry (made_row p.kept.next id (Status reference tpdu) false made) = short ∙ ap (λ (r : ReportRow). record (report_entry r) { reference = Some reference }) whole in
     let all : kept ≡ record (keeping_status (report_entry (made_row p.kept.next id (Status reference tpdu) false made)) p.kept) { next = p.kept.next + 1 } =
-    so ∙ ap (λ (k : Kept). keeping_status entry k) later ∙ ap (λ (e : ReportEntry). keeping_status e (record p.kept { next = p.kept.next + 1 })) same in
+    so ∙ ap (λ (k : ReportsOf). keeping_status entry k) later ∙ ap (λ (e : ReportEntry). keeping_status e (record p.kept { next = p.kept.next + 1 })) same in
     both ms (report_made id (Status reference tpdu) false made t) (putting (made_row p.kept.next id (Status reference tpdu) false made) (keeping_status (report_entry (made_row p.kept.next id (Status reference tpdu) false made)) p.kept) p) q
-    (news ∙ ap (λ (r : ReportRow). record (noting r p) { kept = kept }) whole ∙ ap (λ (k : Kept). record (noting (made_row p.kept.next id (Status reference tpdu) false made) p) { kept = k }) all)
+    (news ∙ ap (λ (r : ReportRow). record (noting r p) { kept = kept }) whole ∙ ap (λ (k : ReportsOf). record (noting (made_row p.kept.next id (Status reference tpdu) false made) p) { kept = k }) all)
     (tells_status ms p t id made reference tpdu tells none)
 
-pub unsent_made : (ms : List MessageRow) (p q : PendingOf) (t : Revised ReportRow) (id made : ℕ) (n : ℕ) (row : ReportRow) (kept : Kept)
+pub unsent_made : (ms : List MessageRow) (p q : PendingOf) (t : Revised ReportRow) (id made : ℕ) (n : ℕ) (row : ReportRow) (kept : ReportsOf)
     → n ≡ p.kept.next → row ≡ made_row n id Unsent true made → kept ≡ record p.kept { next = p.kept.next + 1 }
     → q ≡ record (noting row p) { kept = kept } → Tells ms p t → report_of id (reports_of t) ≡ None → Tells ms q (report_made id Unsent true made t)
 unsent_made ms p q t id made n row kept place is so news tells none =
     let whole : row ≡ made_row p.kept.next id Unsent true made = is ∙ ap (λ (k : ℕ). made_row k id Unsent true made) place in
     both ms (report_made id Unsent true made t) (putting (made_row p.kept.next id Unsent true made) p.kept p) q
-    (news ∙ ap (λ (r : ReportRow). record (noting r p) { kept = kept }) whole ∙ ap (λ (k : Kept). record (noting (made_row p.kept.next id Unsent true made) p) { kept = k }) so)
+    (news ∙ ap (λ (r : ReportRow). record (noting r p) { kept = kept }) whole ∙ ap (λ (k : ReportsOf). record (noting (made_row p.kept.next id Unsent true made) p) { kept = k }) so)
     (tells_unsent ms p t id made tells none)
 
-pub receipt_far : (ms : List MessageRow) (p q : PendingOf) (t : Revised ReportRow) (r : ReportRow) (far : Progress) (name : List ℕ) (entry reached : ReportEntry) (n : ℕ) (kept : Kept)
+pub receipt_far : (ms : List MessageRow) (p q : PendingOf) (t : Revised ReportRow) (r : ReportRow) (far : Progress) (name : List ℕ) (entry reached : ReportEntry) (n : ℕ) (kept : ReportsOf)
     → entry ≡ report_entry r → reached ≡ entry_reaching far entry → n ≡ entry.place → kept ≡ keeping_receipt name reached p.kept → q ≡ amending n far kept p
     → Tells ms p t → report_of r.id (reports_of t) ≡ Some r → is_receipt r.kind ≡ true → account_in (message_at r.id ms) ≡ Some name → Tells ms q (amend_report r far t)
 receipt_far ms p q t r far name entry reached n kept is reaches place so news tells there one account =
     both ms (amend_report r far t) (amending r.place far (keeping_receipt name (report_entry (report_reaching far r)) p.kept) p) q
     (news ∙ ap (λ (k : ℕ). amending k far kept p) (place ∙ ap (λ (e : ReportEntry). e.place) is)
-    ∙ ap (λ (k : Kept). amending r.place far k p) (so ∙ ap (λ (e : ReportEntry). keeping_receipt name e p.kept) (reaches ∙ ap (λ (e : ReportEntry). entry_reaching far e) is)))
+    ∙ ap (λ (k : ReportsOf). amending r.place far k p) (so ∙ ap (λ (e : ReportEntry). keeping_receipt name e p.kept) (reaches ∙ ap (λ (e : ReportEntry). entry_reaching far e) is)))
     (far_receipt ms p t r far name tells there one account)
 
-pub status_far : (ms : List MessageRow) (p q : PendingOf) (t : Revised ReportRow) (r : ReportRow) (far : Progress) (entry reached : ReportEntry) (n : ℕ) (kept : Kept)
+pub status_far : (ms : List MessageRow) (p q : PendingOf) (t : Revised ReportRow) (r : ReportRow) (far : Progress) (entry reached : ReportEntry) (n : ℕ) (kept : ReportsOf)
     → entry ≡ report_entry r → reached ≡ entry_reaching far entry → n ≡ entry.place → kept ≡ keeping_status reached p.kept → q ≡ amending n far kept p
     → Tells ms p t → report_of r.id (reports_of t) ≡ Some r → is_status r.kind ≡ true → Tells ms q (amend_report r far t)
 status_far ms p q t r far entry reached n kept is reaches place so news tells there one =
     both ms (amend_report r far t) (amending r.place far (keeping_status (report_entry (report_reaching far r)) p.kept) p) q
     (news ∙ ap (λ (k : ℕ). amending k far kept p) (place ∙ ap (λ (e : ReportEntry). e.place) is)
-    ∙ ap (λ (k : Kept). amending r.place far k p) (so ∙ ap (λ (e : ReportEntry). keeping_status e p.kept) (reaches ∙ ap (λ (e : ReportEntry). entry_reaching far e) is)))
+    ∙ ap (λ (k : ReportsOf). amending r.place far k p) (so ∙ ap (λ (e : ReportEntry). keeping_status e p.kept) (reaches ∙ ap (λ (e : ReportEntry). entry_reaching far e) is)))
     (far_status ms p t r far tells there one)
 
-pub row_added : (ms : List MessageRow) (kept one two : Kept) (rows : List ReportRow) (r : ReportRow) (name : List ℕ) → one ≡ keeping name r kept → two ≡ record one { next = r.place + 1 } → Shows ms kept rows
+pub row_added : (ms : List MessageRow) (kept one two : ReportsOf) (rows : List ReportRow) (r : ReportRow) (name : List ℕ) → one ≡ keeping name r kept → two ≡ record one { next = r.place + 1 } → Shows ms kept rows
     → ((s : ReportRow) → Among s rows → s.place < r.place) → report_of r.id rows ≡ None → (is_receipt r.kind ≡ true → account_in (message_at r.id ms) ≡ Some name) → Shows ms two (rows ++ r ∷ [])
 row_added ms kept one two rows r name e f shows lower none account =
-    subst (λ (k : Kept). Shows ms k (rows ++ r ∷ [])) (sym (f ∙ ap (λ (k : Kept). record k { next = r.place + 1 }) e)) (shows_added ms kept rows r name shows lower none account)
+    subst (λ (k : ReportsOf). Shows ms k (rows ++ r ∷ [])) (sym (f ∙ ap (λ (k : ReportsOf). record k { next = r.place + 1 }) e)) (shows_added ms kept rows r name shows lower none account)

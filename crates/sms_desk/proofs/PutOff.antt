@@ -16,7 +16,7 @@ use Rattle.sms_reports.specs.Receipts.{is_account, is_put_off, receipts_due}
 use Rattle.sms_reports.specs.Reports.{amend_report, is_open_receipt, report_key, report_of, reports_of}
 use Rattle.sms_desk.specs.declared.entry.ReceiptEntry.{ReceiptEntry}
 use Rattle.sms_desk.specs.Entries.{account_in, account_of, is_named, receipt_due, receipt_entry, receipt_key}
-use Rattle.sms_desk.specs.Kept.{Kept, Shows, receipts_at}
+use Rattle.sms_desk.specs.Kept.{ReportsOf, Shows, receipts_at}
 use Rattle.sms_desk.specs.Pending.{PendingOf, Tells}
 use Rattle.sms_desk.proofs.Amended.{amend_each, amends_end, amends_on, from_amended, from_first}
 use Rattle.sms_desk.proofs.Keeping.{alone_found, kept_where, receipt_place}
@@ -79,7 +79,7 @@ module _ (moment : ℕ) (name : List ℕ) (ms : List MessageRow) where
       (λ (l : nat_le first e.place ≡ false). let bad : false ≡ true = sym (cond-false (nat_le first e.place) (nat_lt moment e.due) false l) ∙ t in absurd cc)
       (cases_Bool (nat_le first e.place))
 
-  module _ (first : ℕ) (kept : Kept) (rows : List ReportRow) (shows : Shows ms kept rows) where
+  module _ (first : ℕ) (kept : ReportsOf) (rows : List ReportRow) (shows : Shows ms kept rows) where
     receipts_rise : Rises receipt_key (receipts_at name kept.accounts)
     receipts_rise = subst (λ (es : List ReceiptEntry). Rises receipt_key es) (sym (shows.receipts name)) (picked_rises report_key receipt_key (receipt_entry name ms) (receipt_place name ms) rows shows.keys)
 

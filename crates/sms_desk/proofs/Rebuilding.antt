@@ -13,7 +13,7 @@ use Rattle.sms_reports.specs.Reports.{is_receipt, report_key, report_of}
 use Rattle.sms_reports.specs.SoundReports.{FitsOriginator, SoundReports}
 use Rattle.sms_reports.proofs.AllWaiting.{report_found}
 use Rattle.sms_desk.specs.Entries.{account_in, account_of}
-use Rattle.sms_desk.specs.Kept.{Kept, Shows}
+use Rattle.sms_desk.specs.Kept.{ReportsOf, Shows}
 use Rattle.sms_desk.proofs.Walking.{above_one}
 
 -- ---- rows before one stand lower
@@ -62,7 +62,7 @@ module _ (ms : List MessageRow) (r : ReportRow) (done rest : List ReportRow) (so
       (own.0, ap (λ (o : Option MessageRow). account_in o) is.1.0 ∙ own.1)
 
   -- one more row is read
-  pub read_on : (name : List ℕ) (before after : Kept) → ((other : List ℕ) → account_in (message_at r.id ms) ≡ Some other → name ≡ other) → Shows ms before done
+  pub read_on : (name : List ℕ) (before after : ReportsOf) → ((other : List ℕ) → account_in (message_at r.id ms) ≡ Some other → name ≡ other) → Shows ms before done
       → (((s : ReportRow) → Among s done → s.place < r.place) → report_of r.id done ≡ None → (is_receipt r.kind ≡ true → account_in (message_at r.id ms) ≡ Some name) → Shows ms after (done ++ r ∷ []))
       → Shows ms after (done ++ r ∷ [])
   read_on name before after own shows adds =

@@ -19,7 +19,7 @@ use Rattle.sms_reports.specs.Receipts.{Desk, Session, is_account, is_unanswered,
 use Rattle.sms_reports.specs.Reports.{is_open_receipt, report_key}
 use Rattle.sms_desk.specs.declared.entry.ReceiptEntry.{ReceiptEntry}
 use Rattle.sms_desk.specs.Entries.{account_in, account_of, is_named, receipt_due, receipt_entry, receipt_key}
-use Rattle.sms_desk.specs.Kept.{Kept, Shows, receipts_at}
+use Rattle.sms_desk.specs.Kept.{ReportsOf, Shows, receipts_at}
 use Rattle.sms_desk.specs.Serving.{Next, earlier, is_ready, is_session, next_among, next_from, next_in, serving}
 use Rattle.sms_desk.specs.Going.{goes_in, with_room}
 use Rattle.sms_desk.proofs.Keeping.{kept_where, receipt_place}
@@ -261,7 +261,7 @@ so_past first moment e l d = cond-true (nat_le first e.place) (nat_le e.due mome
 abbrev pub kept_of : ReportRow → ReceiptEntry
 kept_of r = record { place = r.place; id = r.id; due = r.progress.due }
 
-module _ (first moment : ℕ) (ms : List MessageRow) (kept : Kept) (rows : List ReportRow) (shows : Shows ms kept rows) (ss : List Session) where
+module _ (first moment : ℕ) (ms : List MessageRow) (kept : ReportsOf) (rows : List ReportRow) (shows : Shows ms kept rows) (ss : List Session) where
   pub receipts_rise : (name : List ℕ) → Rises receipt_key (receipts_at name kept.accounts)
   receipts_rise name = subst (λ (es : List ReceiptEntry). Rises receipt_key es) (sym (shows.receipts name)) (picked_rises report_key receipt_key (receipt_entry name ms) (receipt_place name ms) rows shows.keys)
 

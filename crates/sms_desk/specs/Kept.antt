@@ -21,7 +21,7 @@ abbrev pub receipts_at : List ℕ → List AccountOf → List ReceiptEntry
 receipts_at name [] = []
 receipts_at name (a ∷ accounts) = if bytes_eq a.name name then a.receipts else receipts_at name accounts
 
-pub record Kept : Type 0 where
+pub record ReportsOf : Type 0 where
   -- the open reports, by messages
   pub open_reports : List ReportEntry
   -- the open status reports, in the order in which they were made
@@ -31,7 +31,7 @@ pub record Kept : Type 0 where
   pub next : ℕ
 
 -- It is kept of these rows, whose messages are those.
-pub record Shows (messages : List MessageRow) (kept : Kept) (rows : List ReportRow) : Type 0 where
+pub record Shows (messages : List MessageRow) (kept : ReportsOf) (rows : List ReportRow) : Type 0 where
   pub keys : Rises report_key rows
   pub alone : Alone rows
   pub by_message : (id : ℕ) → row_at entry_key id kept.open_reports ≡ pick_of open_entry (report_of id rows)

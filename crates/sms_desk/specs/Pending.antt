@@ -6,7 +6,7 @@ use Rattle.sms_reports.specs.declared.report.ReportKind.{ReportKind}
 use Rattle.sms_reports.specs.declared.report.ReportRow.{ReportRow}
 use Rattle.sms_reports.specs.Reports.{report_of, reports_of, status_tpdu}
 use Rattle.sms_desk.specs.declared.made.MadeEntry.{MadeEntry}
-use Rattle.sms_desk.specs.Kept.{Kept, Shows}
+use Rattle.sms_desk.specs.Kept.{ReportsOf, Shows}
 use Rattle.sms_waiting.specs.declared.revision.Revision.{Revision}
 use Rattle.sms_waiting.specs.declared.revision.Revision.TheVariants.{Put, Amend, Remove}
 use Rattle.sms_waiting.specs.declared.progress.Progress.{Progress}
@@ -65,7 +65,7 @@ Stays (Some r) there = (x : ReportRow) × ((there ≡ Some x) × (x.kind ≡ r.k
 -- ---- in the middle of an event
 
 pub record PendingOf : Type 0 where
-  pub kept : Kept
+  pub kept : ReportsOf
   -- what the event changed, the oldest first
   pub changes : List (Revision ReportRow)
   -- at which of the changes the reports come that it made, by messages
@@ -91,9 +91,9 @@ noting row p = record {
 }
 
 -- the row comes, behind all others
-abbrev pub putting : ReportRow → Kept → PendingOf → PendingOf
+abbrev pub putting : ReportRow → ReportsOf → PendingOf → PendingOf
 putting row kept p = record (noting row p) { kept = record kept { next = p.kept.next + 1 } }
 
 -- the row of that place is so far
-abbrev pub amending : ℕ → Progress → Kept → PendingOf → PendingOf
+abbrev pub amending : ℕ → Progress → ReportsOf → PendingOf → PendingOf
 amending place progress kept p = record { kept = kept; changes = p.changes ++ Amend place progress ∷ []; made = p.made }

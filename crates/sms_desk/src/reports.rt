@@ -77,9 +77,9 @@ pub struct Reports {
 }
 
 impl Model for Reports {
-    ghost use Rattle.sms_desk.specs.Kept.{Kept};
+    ghost use Rattle.sms_desk.specs.Kept.{ReportsOf};
 
-    ghost Value = { Kept };
+    ghost Value = { ReportsOf };
 
     ghost view = { λ r. record { open_reports = r.open_reports; statuses = r.statuses; accounts = r.accounts; next = r.next } };
 }

@@ -4,7 +4,7 @@ use Rattle.std.specs.Prelude.{IfSome, false, nat_le, if◌then◌else◌}
 use Rattle.std.proofs.lemmas.Bool.{leb-true}
 use Rattle.sms_index.specs.First.{first_such, is_past_from}
 use Rattle.sms_desk.specs.Entries.{status_key, status_until}
-use Rattle.sms_desk.specs.Kept.{Kept, Shows as ShowsReports}
+use Rattle.sms_desk.specs.Kept.{ReportsOf, Shows as ShowsReports}
 use Rattle.sms_desk.specs.declared.entry.StatusEntry.{StatusEntry}
 use Rattle.sms_reports.specs.declared.report.ReportRow.{ReportRow}
 use Rattle.sms_reports.specs.Reports.{is_open_status, report_of}
@@ -47,11 +47,11 @@ found_at d w s first o shows is = ap (λ (n : ℕ). first_such (is_past_from sta
 
 -- the laws of the walk
 abbrev pub NextLaw : Type 0
-NextLaw = (s : Store) (kept : Kept) (first : ℕ) (e : StatusEntry) → ShowsReports (messages_in s) kept (reports_in s) → first_such (is_past_from status_key status_until first s.moment) kept.statuses ≡ Some e
+NextLaw = (s : Store) (kept : ReportsOf) (first : ℕ) (e : StatusEntry) → ShowsReports (messages_in s) kept (reports_in s) → first_such (is_past_from status_key status_until first s.moment) kept.statuses ≡ Some e
     → (r : ReportRow) × ((report_of e.id (reports_in s) ≡ Some r) × (is_open_status r ≡ true) × (drop_from first s ≡ drop_from (e.place + 1) (report_closed r s)))
 
 abbrev pub NoneLaw : Type 0
-NoneLaw = (s : Store) (kept : Kept) (first : ℕ) → ShowsReports (messages_in s) kept (reports_in s) → first_such (is_past_from status_key status_until first s.moment) kept.statuses ≡ None → drop_from first s ≡ s
+NoneLaw = (s : Store) (kept : ReportsOf) (first : ℕ) → ShowsReports (messages_in s) kept (reports_in s) → first_such (is_past_from status_key status_until first s.moment) kept.statuses ≡ None → drop_from first s ≡ s
 
 pub left_next : NextLaw → (d : Draft) (first : ℕ) (e : StatusEntry) (w new : WorkingOf) → IsLeft d first w → Some e ≡ first_in first w
     → ((x : Draft) (r : ReportRow) → Shows x w → report_of e.id (reports_in x.store) ≡ Some r → is_open_status r ≡ true → Shows (in_store (report_closed r x.store) x) new)

@@ -17,7 +17,7 @@ ghost use Rattle.sms_inbox.specs.OpenGroups.{open_at as open_at_of, stored_parts
 use crate::counters::Counters;
 use crate::finished::Finished;
 use crate::no_memory::NoMemory;
-use crate::rows::Changes;
+use crate::settling::settle;
 use crate::stored::Stored;
 use sms_base::{Address, Holder, Kind, Listed, Moment};
 use sms_inbox::{DiscardedGroup, Entry, Group, LastAccepted, Members, OpenGroup};
@@ -125,22 +125,32 @@ impl<'a> Draft<'a> {
         ensures slots { IfOk result (λ finished. finished.taken ≡ slots_taken self.entry.rows.entries) }
         ensures side { IfOk result (λ finished. finished.link.side ≡ HandsetSide) }
     {
-        let changes = Changes {
-            entries: self.entries.settle_for(self.alloc, &stored.entries)?,
-            last: self.last.settle_for(self.alloc, &stored.last)?,
-            outbox: self.outbox.settle_for(self.alloc, &stored.outbox)?,
-            marks: self.marks.settle_for(self.alloc, &stored.marks)?,
-            counters: self.counters,
-        };
+        let Draft {
+            alloc,
+            base: _,
+            moment,
+            link,
+            notices_wanted,
+            notices,
+            is_recovered,
+            entries,
+            last,
+            outbox,
+            marks,
+            counters,
+            taken,
+            frames,
+        } = self;
+        let changes = settle(alloc, entries, last, outbox, marks, counters, stored)?;
         Ok(Finished {
             changes,
-            frames: self.frames,
-            moment: self.moment,
-            link: self.link,
-            notices_wanted: self.notices_wanted,
-            notices: self.notices,
-            is_recovered: self.is_recovered,
-            taken: self.taken,
+            frames,
+            moment,
+            link,
+            notices_wanted,
+            notices,
+            is_recovered,
+            taken,
         })
     }
 

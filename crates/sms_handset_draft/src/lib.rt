@@ -17,6 +17,7 @@ mod notices;
 mod receiving;
 mod rows;
 mod sending;
+mod settling;
 mod setup;
 mod stored;
 mod storing;

@@ -17,7 +17,7 @@ use Rattle.sms_world.specs.World.{World, empty}
 use Rattle.sms_world.specs.WorldStep.{Step}
 use Rattle.sms_handset_sight.specs.Course.{AreOthers, CourseLaw, Episode, FirstCourseLaw, IsSteps, MayLead, MayPlan, Others, Restart, Stopped, Whole}
 use Rattle.sms_handset_sight.specs.PlanLaws.{IsPlanned, event_seen}
-use Rattle.sms_handset_sight.specs.PutInOrder.{Kept}
+use Rattle.sms_handset_sight.specs.PutInOrder.{AreNoted}
 use Rattle.sms_handset_sight.specs.Sight.{Sees}
 use Rattle.sms_handset_sight.proofs.Others.{centre_event, other_event}
 use Rattle.sms_handset_sight.proofs.Plans.{event_happens, event_planned}
@@ -99,7 +99,7 @@ module _ (h : List ℕ) (s z : HandsetOf) (w : World) (sound : IsSoundCore s.cor
       let same : plan.outcome.changes ≡ d.changes = ap (λ (o : Outcome). o.changes) x.1.0 in
       let rows : d.rows ≡ rows_after plan.outcome.changes s.core.rows = x.1.1 ∙ ap (λ (c : Changes). rows_after c s.core.rows) (sym same) in
       let left : Core = recovered (record (rows_after plan.outcome.changes s.core.rows) { setup = setup }) in
-      becomes (Stopped m number event plan setup) left v q (y.0, (y.1.0, y.1.1, refl, subst (λ (c : Changes). Kept h c w v) (sym same) y.1.3))
+      becomes (Stopped m number event plan setup) left v q (y.0, (y.1.0, y.1.1, refl, subst (λ (c : Changes). AreNoted h c w v) (sym same) y.1.3))
       (recovered_sound (record (rows_after plan.outcome.changes s.core.rows) { setup = setup })
       (other_setup (rows_after plan.outcome.changes s.core.rows) setup (adopts_sound event s plan p.0 sound).rows t))
       (subst (λ (r : Rows). Sees h v (draft_of (recovered (record r { setup = setup }))) v) rows y.1.2)

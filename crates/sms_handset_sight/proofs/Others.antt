@@ -18,7 +18,7 @@ use Rattle.sms_world.specs.World.{World, Sent}
 use Rattle.sms_world.proofs.Apart.{centre_leaves_handset, handset_leaves_handset}
 use Rattle.sms_world.proofs.Runs.{bag_grows}
 use Rattle.sms_handset_sight.proofs.Putting.{centre_stays, others_stay}
-use Rattle.sms_handset_sight.specs.PutInOrder.{Kept}
+use Rattle.sms_handset_sight.specs.PutInOrder.{AreNoted}
 use Rattle.sms_handset_sight.specs.SeesInbox.{Matches, key_seen}
 use Rattle.sms_handset_sight.specs.SeesLink.{SeesAnswer, SeesBegun, SeesOpened, WasSent}
 use Rattle.sms_handset_sight.specs.Sight.{Sees}
@@ -76,14 +76,14 @@ module _ (h : List ℕ) (w v : World) (l : LeavesHandset h w v) (more : (x : Sen
 
 -- a handset sees the world that another's event leads to, whole or stopped
 pub other_event : (h g : List ℕ) (c : Core) (w : World) (m : ℕ) (b : Bool) (ss : List Step) → ¬ (g ≡ h) → AllOfHandset g ss → Sees h w (draft_of c) w
-    → Sees h (end w (items m b ss)) (draft_of c) (end w (items m b ss)) × Kept h no_changes w (end w (items m b ss))
+    → Sees h (end w (items m b ss)) (draft_of c) (end w (items m b ss)) × AreNoted h no_changes w (end w (items m b ss))
 other_event h g c w m b ss ne o s =
     let y = others_stay h g w m b ss ne o in
     (still_seen h w (end w (items m b ss)) (handset_leaves_handset g h w m b ss ne o) (items_grow w m b ss) c s, record { accepted = y.0; joined = y.1 })
 
 -- and that an event of the centre leads to
 pub centre_event : (h : List ℕ) (c : Core) (w : World) (m : ℕ) (b : Bool) (ss : List Step) → AllOfCentre ss → Sees h w (draft_of c) w
-    → Sees h (end w (items m b ss)) (draft_of c) (end w (items m b ss)) × Kept h no_changes w (end w (items m b ss))
+    → Sees h (end w (items m b ss)) (draft_of c) (end w (items m b ss)) × AreNoted h no_changes w (end w (items m b ss))
 centre_event h c w m b ss o s =
     let y = centre_stays h w m b ss o in
     (still_seen h w (end w (items m b ss)) (centre_leaves_handset h w m b ss o) (items_grow w m b ss) c s, record { accepted = y.0; joined = y.1 })

@@ -16,7 +16,7 @@ use Rattle.sms_world.specs.World.{World}
 use Rattle.sms_handset_sight.specs.EventLaws.{IfDone}
 use Rattle.sms_frame_sight.specs.FramesUp.{stacked}
 use Rattle.sms_handset_sight.specs.PlanLaws.{IsPlanned, LeadsOn, PlanLaw, event_seen}
-use Rattle.sms_handset_sight.specs.PutInOrder.{Kept}
+use Rattle.sms_handset_sight.specs.PutInOrder.{AreNoted}
 use Rattle.sms_handset_sight.specs.Sight.{Sees}
 use Rattle.sms_handset_sight.specs.Stages.{Happens}
 use Rattle.sms_handset_sight.proofs.HandsetEvents.{adopted_seen, frame_event}
@@ -37,13 +37,13 @@ leads : (m : ℕ) (event : Event) (h : List ℕ) (s : HandsetOf) (plan : Plan) (
 leads m event h s plan w (d, (o, q, y)) =
     let v : World = end w (items m false y.0) in
     let seen : Sees h w d v = y.1.2 in
-    let kept : Kept h d.changes w v = record { accepted = seen.accepted; joined = seen.joined } in (
+    let kept : AreNoted h d.changes w v = record { accepted = seen.accepted; joined = seen.joined } in (
       y.0,
       (
         y.1.0,
         y.1.1,
         seen.frames ∙ ap (λ (z : Outcome). stacked h z.frames w.bag) (sym o),
-        subst (λ (z : Outcome). Kept h z.changes w v) (sym o) kept,
+        subst (λ (z : Outcome). AreNoted h z.changes w v) (sym o) kept,
         adopted_seen h w plan.outcome s.core d v o q seen,
       ),
     )

@@ -7,7 +7,7 @@ use Rattle.sms_handset_draft.specs.declared.counters.Counters.{Counters}
 use Rattle.sms_world.specs.ScriptRun.{items, Restarted}
 use Rattle.sms_world.specs.Run.{end}
 use Rattle.sms_world.proofs.Stops.{stopped_so}
-use Rattle.sms_handset_sight.specs.PutInOrder.{Kept}
+use Rattle.sms_handset_sight.specs.PutInOrder.{AreNoted}
 use Rattle.sms_handset_sight.specs.Sight.{Sees}
 use Rattle.sms_handset_sight.specs.Stages.{Happens}
 use Rattle.sms_handset_sight.specs.StopLaws.{StopLaw}
@@ -57,7 +57,7 @@ stop_event m event h d setup w (steps, (whose, run, sees)) =
         y.1.0,
         y.1.1,
         subst (λ (v : World). Sees h v (draft_of (recovered (record d.rows { setup = setup }))) v) (sym y.1.2) (stopped_seen h w w.bag d setup x sees),
-        subst (λ (v : World). Kept h d.changes w v) (sym y.1.2) (record { accepted = sees.accepted; joined = sees.joined }),
+        subst (λ (v : World). AreNoted h d.changes w v) (sym y.1.2) (record { accepted = sees.accepted; joined = sees.joined }),
       ),
     )
 

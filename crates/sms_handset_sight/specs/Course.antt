@@ -17,7 +17,7 @@ use Rattle.sms_world.specs.WorldStep.{Step}
 use Rattle.sms_frame_sight.specs.FramesDown.{IsHanded}
 use Rattle.sms_frame_sight.specs.FramesUp.{stacked}
 use Rattle.sms_handset_sight.specs.PlanLaws.{IsPlanned, event_seen}
-use Rattle.sms_handset_sight.specs.PutInOrder.{Kept}
+use Rattle.sms_handset_sight.specs.PutInOrder.{AreNoted}
 use Rattle.sms_handset_sight.specs.Sight.{Sees}
 
 pub data Episode : Type 0 where
@@ -51,11 +51,11 @@ abbrev pub IsSteps : List ℕ → Episode → World → World → Type 0
 IsSteps h (Whole m number event plan) w v =
     (steps : List Step)
     × ((IsPlayed w (event_seen number event) steps × AllOfHandset h steps) × Run w (items m false steps) × (v ≡ end w (items m false steps))
-    × (v.bag ≡ stacked h plan.outcome.frames w.bag) × Kept h plan.outcome.changes w v)
+    × (v.bag ≡ stacked h plan.outcome.frames w.bag) × AreNoted h plan.outcome.changes w v)
 IsSteps h (Stopped m number event plan setup) w v =
     (steps : List Step)
     × ((IsPlayed w (event_seen number event) steps × AllOfHandset h steps) × Run w (items m true steps) × (v ≡ end w (items m true steps))
-    × Kept h plan.outcome.changes w v)
+    × AreNoted h plan.outcome.changes w v)
 IsSteps h (Restart setup) w v = v ≡ w
 IsSteps h (Others m b steps) w v = v ≡ end w (items m b steps)
 

@@ -6,15 +6,15 @@ use Rattle.sms_world.specs.Sides.{AllOfHandset, AllOfCentre}
 use Rattle.sms_world.specs.WorldStep.{Step}
 use Rattle.sms_world.specs.Run.{end}
 use Rattle.sms_handset_draft.specs.Draft.{Core, draft_of, no_changes}
-use Rattle.sms_handset_sight.specs.PutInOrder.{Kept}
+use Rattle.sms_handset_sight.specs.PutInOrder.{AreNoted}
 use Rattle.sms_handset_sight.specs.Sight.{Sees}
 
 abbrev pub OtherLaw : Type 0
 OtherLaw =
     (h g : List ℕ) (c : Core) (w : World) (m : ℕ) (b : Bool) (ss : List Step) → ¬ (g ≡ h) → AllOfHandset g ss → Sees h w (draft_of c) w
-    → Sees h (end w (items m b ss)) (draft_of c) (end w (items m b ss)) × Kept h no_changes w (end w (items m b ss))
+    → Sees h (end w (items m b ss)) (draft_of c) (end w (items m b ss)) × AreNoted h no_changes w (end w (items m b ss))
 
 abbrev pub CentreLaw : Type 0
 CentreLaw =
     (h : List ℕ) (c : Core) (w : World) (m : ℕ) (b : Bool) (ss : List Step) → AllOfCentre ss → Sees h w (draft_of c) w
-    → Sees h (end w (items m b ss)) (draft_of c) (end w (items m b ss)) × Kept h no_changes w (end w (items m b ss))
+    → Sees h (end w (items m b ss)) (draft_of c) (end w (items m b ss)) × AreNoted h no_changes w (end w (items m b ss))

@@ -14,7 +14,7 @@ use Rattle.sms_handset.specs.declared.event.HandsetEvent.{HandsetEvent}
 use Rattle.sms_handset.specs.declared.event.HandsetEvent.TheVariants.{Frame, Tick, Write, Delete, Discard}
 use Rattle.sms_frame_sight.specs.FramesUp.{stacked}
 use Rattle.sms_frame_sight.specs.FramesDown.{IsHanded}
-use Rattle.sms_handset_sight.specs.PutInOrder.{Kept}
+use Rattle.sms_handset_sight.specs.PutInOrder.{AreNoted}
 use Rattle.sms_handset_sight.specs.Sight.{Sees}
 
 -- The plan leads on: its event is steps of the world, all of them the handset's own; the frames that it hands out go on top of the
@@ -23,7 +23,7 @@ abbrev pub LeadsOn : ℕ → Event → List ℕ → HandsetOf → Plan → World
 LeadsOn m event h s plan w =
     (steps : List Step)
     × ((IsPlayed w event steps × AllOfHandset h steps) × Run w (items m false steps) × ((end w (items m false steps)).bag ≡ stacked h plan.outcome.frames w.bag)
-    × Kept h plan.outcome.changes w (end w (items m false steps)) × Sees h (end w (items m false steps)) (draft_of (adopted plan.outcome s.core)) (end w (items m false steps)))
+    × AreNoted h plan.outcome.changes w (end w (items m false steps)) × Sees h (end w (items m false steps)) (draft_of (adopted plan.outcome s.core)) (end w (items m false steps)))
 
 -- what `Handset::plan` says of the plan of an event
 pub record IsPlanned (plan : Plan) (s : HandsetOf) (event : HandsetEvent) : Type 0 where

@@ -59,6 +59,6 @@ joined_by [] js = js
 joined_by (c ∷ cs) js = joined_by cs (joined_one c js)
 
 -- what the changes put is accepted and joined, on top of what was
-pub record Kept (h : List ℕ) (changes : Changes) (w v : World) : Type 0 where
+pub record AreNoted (h : List ℕ) (changes : Changes) (w v : World) : Type 0 where
   pub accepted : accepted_at h v.accepted ≡ taken_by h changes.last (accepted_at h w.accepted)
   pub joined : joined_at h v.joined ≡ joined_by changes.entries (joined_at h w.joined)

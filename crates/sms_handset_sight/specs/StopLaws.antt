@@ -8,7 +8,7 @@ use Rattle.sms_world.specs.WorldStep.{Step}
 use Rattle.sms_world.specs.Run.{Run, end}
 use Rattle.sms_handset_draft.specs.declared.counters.Counters.{Counters}
 use Rattle.sms_handset_draft.specs.declared.setup.Setup.{Setup}
-use Rattle.sms_handset_sight.specs.PutInOrder.{Kept}
+use Rattle.sms_handset_sight.specs.PutInOrder.{AreNoted}
 use Rattle.sms_handset_sight.specs.Sight.{Sees}
 use Rattle.sms_handset_sight.specs.Stages.{Happens}
 
@@ -25,7 +25,7 @@ StopLaw =
     (m : ℕ) (event : Event) (h : List ℕ) (d : Draft) (setup : Setup) (w : World) → Happens m event h w d w
     → (steps : List Step)
     × ((IsPlayed w event steps × AllOfHandset h steps) × Run w (items m true steps)
-    × Sees h (end w (items m true steps)) (draft_of (recovered (record d.rows { setup = setup }))) (end w (items m true steps)) × Kept h d.changes w (end w (items m true steps)))
+    × Sees h (end w (items m true steps)) (draft_of (recovered (record d.rows { setup = setup }))) (end w (items m true steps)) × AreNoted h d.changes w (end w (items m true steps)))
 
 -- a handset without rows sees the empty world
 abbrev pub StartLaw : Type 0

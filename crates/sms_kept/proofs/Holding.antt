@@ -8,7 +8,7 @@ use Rattle.sms_base.specs.declared.final_state.FinalState.{FinalState}
 use Rattle.sms_expiry.specs.Deadlines.{DeadlinesOf, first_of}
 use Rattle.sms_expiry.specs.declared.deadline.Deadline.{Deadline}
 use Rattle.sms_table.specs.declared.change.Change.TheVariants.{Put, Remove}
-use Rattle.sms_table.specs.Table.{Kept, all_applied, put, row_at, without}
+use Rattle.sms_table.specs.Table.{RowsInMemory, all_applied, put, row_at, without}
 use Rattle.sms_table.proofs.Tables.{among_found, among_put, among_without, length_applied, rises_put, rises_without}
 use Rattle.sms_messages.specs.declared.message.MessageRow.{MessageRow}
 use Rattle.sms_messages.specs.declared.part.PartRow.{PartRow}
@@ -21,15 +21,15 @@ use Rattle.sms_kept.specs.Kept.{Applies, Fits, HasRoomFor, Holds, IsStaleFirst, 
 use Rattle.sms_kept.proofs.Entries.{found_as, kept_entries, put_entries, same_key, without_entries}
 
 -- a message comes: its deadline was noted, its names are kept, and its entry stands there
-pub holds_put : (row : MessageRow) (e : MessageEntry) (names : NamesOf) (messages : Kept MessageEntry) (old noted : KeptOf) → Notes row old noted → NamesKept noted.names names → IsEntry names e row
+pub holds_put : (row : MessageRow) (e : MessageEntry) (names : NamesOf) (messages : RowsInMemory MessageEntry) (old noted : KeptOf) → Notes row old noted → NamesKept noted.names names → IsEntry names e row
     → messages.rows ≡ put message_entry_key e noted.messages.rows → (ms : List MessageRow) (ps : List PartRow) → Holds old ms ps
     → Holds (record { names = names; messages = messages; parts = noted.parts; deadlines = noted.deadlines }) (put message_key row ms) ps
 holds_put row e names messages old noted notes keeps is there ms ps h = record {
   messages = subst (λ (es : List MessageEntry). AreEntries names es (put message_key row ms)) (sym there)
       (put_entries names e row noted.messages.rows ms is
       (kept_entries noted.names names keeps noted.messages.rows ms
-      (subst (λ (t : Kept MessageEntry). AreEntries noted.names t.rows ms) (sym notes.messages) (subst (λ (n : NamesOf). AreEntries n old.messages.rows ms) (sym notes.names) h.messages))));
-  parts = ap (λ (t : Kept PartEntry). t.rows) notes.parts ∙ h.parts;
+      (subst (λ (t : RowsInMemory MessageEntry). AreEntries noted.names t.rows ms) (sym notes.messages) (subst (λ (n : NamesOf). AreEntries n old.messages.rows ms) (sym notes.names) h.messages))));
+  parts = ap (λ (t : RowsInMemory PartEntry). t.rows) notes.parts ∙ h.parts;
   deadlines = λ m a p. ⊎_elim
       (λ (q : m ≡ row). subst (λ (r : MessageRow). Among (deadline_of r) noted.deadlines.items) (sym q) (notes.own (ap (λ (r : MessageRow). is_pending r) (sym q) ∙ p)))
       (λ (k : Among m ms × ¬ (message_key m ≡ message_key row)). notes.others (deadline_of m) (h.deadlines m k.0 p))
@@ -46,8 +46,8 @@ puts_in row e names old noted notes keeps uses is = record {
   room = λ n room.
       let l = length_applied message_entry_key (Put e) noted.messages.rows in
       let r = room.messages in
-      let a : length noted.messages.rows ≡ length old.messages.rows = ap (λ (t : Kept MessageEntry). length t.rows) notes.messages in
-      let b : noted.messages.capacity ≡ old.messages.capacity = ap (λ (t : Kept MessageEntry). t.capacity) notes.messages in
+      let a : length noted.messages.rows ≡ length old.messages.rows = ap (λ (t : RowsInMemory MessageEntry). length t.rows) notes.messages in
+      let b : noted.messages.capacity ≡ old.messages.capacity = ap (λ (t : RowsInMemory MessageEntry). t.capacity) notes.messages in
       let numbers : noted.names.numbers.room ≡ old.names.numbers.room = ap (λ (t : NamesOf). t.numbers.room) notes.names in
       let accounts : noted.names.accounts.room ≡ old.names.accounts.room = ap (λ (t : NamesOf). t.accounts.room) notes.names in
       record {

@@ -2,7 +2,7 @@
 use Rattle.std.proofs.Common.{◌≡◌, ℕ, zero, suc, ◌+◌, ◌<◌, List, [], ◌∷◌, ◌++◌, length, take, get_or, map, refl, sym, ◌∙◌, ap, arith}
 use Rattle.std.specs.List.{AllByRecursion}
 use Rattle.std.proofs.lemmas.List.{take_more}
-use Rattle.sms_table.specs.Table.{AllAbove, Kept, Rises, insert, put, without}
+use Rattle.sms_table.specs.Table.{AllAbove, RowsInMemory, Rises, insert, put, without}
 use Rattle.sms_table.proofs.Tables.{insert_behind, without_behind}
 use Rattle.sms_messages.specs.declared.part.PartRow.{PartRow}
 use Rattle.sms_messages.specs.declared.parts.PartEntry.{PartEntry}
@@ -42,7 +42,7 @@ module _ {A : Type 0} (key : A → ℕ) where
       ∙ insert_below (get_or xs i d) (take i xs) below ∙ sym (take_more xs i d l)
 
 -- parts alone are held where no messages are
-pub holds_parts : (k : KeptOf) (parts : Kept PartEntry) (ps : List PartRow) → Holds k [] [] → parts.rows ≡ map part_entry ps → Rises part_key ps
+pub holds_parts : (k : KeptOf) (parts : RowsInMemory PartEntry) (ps : List PartRow) → Holds k [] [] → parts.rows ≡ map part_entry ps → Rises part_key ps
     → Holds (record { names = k.names; messages = k.messages; parts = parts; deadlines = k.deadlines }) [] ps
 holds_parts k parts ps h are rises = record {
   messages = h.messages;

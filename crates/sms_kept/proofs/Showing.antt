@@ -3,7 +3,7 @@ use Rattle.std.proofs.Common.{◌≡◌, ℕ, List, [], ◌∷◌, ◌++◌, map
 use Rattle.sms_table.specs.declared.change.Change.{Change}
 use Rattle.sms_table.specs.declared.change.Change.TheVariants.{Put}
 use Rattle.sms_table.specs.Since.{oldest_first}
-use Rattle.sms_table.specs.Table.{Kept, all_applied, left_by, newest_of}
+use Rattle.sms_table.specs.Table.{RowsInMemory, all_applied, left_by, newest_of}
 use Rattle.sms_table.proofs.SinceLaws.{commits}
 use Rattle.sms_table.proofs.Tables.{rises_put, row_at_all_applied}
 use Rattle.sms_messages.specs.declared.message.MessageRow.{MessageRow}
@@ -17,7 +17,7 @@ use Rattle.sms_waiting.specs.declared.progress.Progress.{Progress}
 use Rattle.sms_waiting.proofs.Amending.{rises_amended}
 use Rattle.sms_kept.specs.Kept.{Holds, PendingOf, Shows, opened}
 
-pub shows_opened : (p : PendingOf) (base : Kept PartEntry) (ms : List MessageRow) (ps : List PartRow) (qs : List PriorityRow) → p.messages ≡ [] → p.parts ≡ record { entries = record { base = base; changes = [] }; changes = [] } → base ≡ p.kept.parts → p.priorities ≡ []
+pub shows_opened : (p : PendingOf) (base : RowsInMemory PartEntry) (ms : List MessageRow) (ps : List PartRow) (qs : List PriorityRow) → p.messages ≡ [] → p.parts ≡ record { entries = record { base = base; changes = [] }; changes = [] } → base ≡ p.kept.parts → p.priorities ≡ []
     → Holds p.kept ms ps → Shows p (opened ms ps qs)
 shows_opened p base ms ps qs no_messages parts is no_priorities h =
     let parts_base : p.parts.entries.base ≡ p.kept.parts = ap (λ (q : PartsOf). q.entries.base) parts ∙ is in
@@ -25,7 +25,7 @@ shows_opened p base ms ps qs no_messages parts is no_priorities h =
       kept = h;
       messages = no_messages;
       parts = record {
-        entries = ap (λ (q : PartsOf). all_applied entry_key q.entries.changes q.entries.base.rows) parts ∙ ap (λ (t : Kept PartEntry). t.rows) is ∙ h.parts;
+        entries = ap (λ (q : PartsOf). all_applied entry_key q.entries.changes q.entries.base.rows) parts ∙ ap (λ (t : RowsInMemory PartEntry). t.rows) is ∙ h.parts;
         changes = ap (λ (q : PartsOf). q.changes) parts;
       };
       parts_base = parts_base;
@@ -84,5 +84,5 @@ shows_amended entry progress row p m s there is = subst (λ (e : PartEntry). Sho
 -- the changes of parts lead from the parts that stood there to those as they stand
 pub parts_match : (p : PendingOf) (m : Messages) → Shows p m → all_applied entry_key p.parts.entries.changes (map part_entry m.parts.base) ≡ map part_entry (parts_of m)
 parts_match p m s =
-    ap (λ (es : List PartEntry). all_applied entry_key p.parts.entries.changes es) (sym s.kept.parts ∙ ap (λ (t : Kept PartEntry). t.rows) (sym s.parts_base))
+    ap (λ (es : List PartEntry). all_applied entry_key p.parts.entries.changes es) (sym s.kept.parts ∙ ap (λ (t : RowsInMemory PartEntry). t.rows) (sym s.parts_base))
     ∙ s.parts.entries

@@ -9,7 +9,7 @@ use Rattle.sms_table.specs.declared.change.Change.{Change}
 use Rattle.sms_table.specs.declared.change.Change.TheVariants.{Put}
 use Rattle.sms_table.specs.Pending.{FitsIn, SettledOf}
 use Rattle.sms_table.specs.Since.{oldest_first, untouched}
-use Rattle.sms_table.specs.Table.{HasRoom, Kept, Rises, all_applied, applied}
+use Rattle.sms_table.specs.Table.{HasRoom, RowsInMemory, Rises, all_applied, applied}
 use Rattle.sms_messages.specs.declared.message.MessageRow.{MessageRow}
 use Rattle.sms_messages.specs.declared.part.PartRow.{PartRow}
 use Rattle.sms_messages.specs.declared.parts.PartEntry.{PartEntry}
@@ -24,8 +24,8 @@ use Rattle.sms_kept.specs.Entries.{AreEntries, NamesOf}
 
 pub record KeptOf : Type 0 where
   pub names : NamesOf
-  pub messages : Kept MessageEntry
-  pub parts : Kept PartEntry
+  pub messages : RowsInMemory MessageEntry
+  pub parts : RowsInMemory PartEntry
   pub deadlines : DeadlinesOf
 
 abbrev pub deadline_of : MessageRow → Deadline

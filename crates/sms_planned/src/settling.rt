@@ -70,8 +70,13 @@ fn settle_stored(
     ensures fits { IfOk result (λ settled. FitsShelves settled.plan.shelves) }
 {
     let rows = settle_rows(alloc, messages, kept, claims)?;
-    let plan = shelves.settle(now)?;
-    Ok(Settled { rows, plan })
+    match shelves.settle(now) {
+        Ok(plan) => Ok(Settled { rows, plan }),
+        Err(error) => {
+            drop(rows);
+            Err(error)
+        }
+    }
 }
 
 // What was settled, as the plan.

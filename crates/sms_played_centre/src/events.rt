@@ -112,7 +112,10 @@ fn carry_out(
     what_is_adopted_is_what_happened();
     match commit(keep, planned.changes()) {
         Ok(()) => put_in(centre, keep, planned, given),
-        Err(error) => Err(error),
+        Err(error) => {
+            drop(planned);
+            Err(error)
+        }
     }
 }
 

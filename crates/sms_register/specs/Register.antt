@@ -2,7 +2,7 @@
 use Rattle.std.specs.Prelude.{◌≡◌, ℕ, List, map}
 use Rattle.sms_reports.specs.declared.report.ReportRow.{ReportRow}
 use Rattle.sms_register.specs.declared.register.MadeReport.{MadeReport}
-use Rattle.sms_table.specs.Table.{Kept}
+use Rattle.sms_table.specs.Table.{RowsInMemory}
 
 abbrev pub made_key : MadeReport → ℕ
 made_key r = r.place
@@ -11,5 +11,5 @@ abbrev pub made_report : ReportRow → MadeReport
 made_report r = record { place = r.place; id = r.id }
 
 -- it is the register of these reports
-abbrev pub Holds : Kept MadeReport → List ReportRow → Type 0
+abbrev pub Holds : RowsInMemory MadeReport → List ReportRow → Type 0
 Holds register rows = register.rows ≡ map made_report rows

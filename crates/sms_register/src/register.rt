@@ -38,9 +38,9 @@ pub struct Register {
 
 impl Model for Register {
     ghost use Rattle.sms_register.specs.declared.register.MadeReport.{MadeReport as MadeReportOf};
-    ghost use Rattle.sms_table.specs.Table.{Kept};
+    ghost use Rattle.sms_table.specs.Table.{RowsInMemory};
 
-    ghost Value = { Kept MadeReportOf };
+    ghost Value = { RowsInMemory MadeReportOf };
 
     ghost view = { λ r. r.reports };
 }

@@ -2,7 +2,7 @@
 use Rattle.std.proofs.Common.{◌≡◌, ℕ, List, Option, Some, None, sym, ap, ap₂, subst, ◌∙◌, ⊎_elim}
 use Rattle.std.specs.Option.{option_map}
 use Rattle.std.proofs.lemmas.Bool.{cases_eq}
-use Rattle.sms_table.specs.Table.{Kept, Rises, row_at, put, without}
+use Rattle.sms_table.specs.Table.{RowsInMemory, Rises, row_at, put, without}
 use Rattle.sms_table.proofs.Tables.{row_at_put, row_at_put_other, row_at_without, row_at_without_other, rises_put, rises_without, found_key}
 use Rattle.sms_waiting.specs.declared.progress.Progress.{Progress}
 use Rattle.sms_waiting.specs.Revisions.{amended}
@@ -33,15 +33,15 @@ module _ {A : Type 0} (key : A → ℕ) (reaching : Progress → A → A) (keeps
           (λ (ne : n ≡ k → ⊥). row_at_put_other key k (reaching q row) _ (λ e. ne (sym at ∙ e)) ∙ row_at_without_other key n k xs ne ∙ sym (row_at_amended_other key reaching keeps k n q xs ne))
           (cases_eq n k)
 
-module _ {A : Type 0} (key : A → ℕ) (reaching : Progress → A → A) (keeps : (q : Progress) (x : A) → key (reaching q x) ≡ key x) (n : ℕ) (q : Progress) (t gone : Kept A) (removed : gone ≡ record t { rows = without key n t.rows }) (rises : Rises key t.rows) where
-  pub put_back : (after : Kept A) (row r : A) → row_at key n t.rows ≡ Some row → r ≡ reaching q row → after ≡ record gone { rows = put key r gone.rows } → after ≡ record t { rows = amended key reaching n q t.rows }
+module _ {A : Type 0} (key : A → ℕ) (reaching : Progress → A → A) (keeps : (q : Progress) (x : A) → key (reaching q x) ≡ key x) (n : ℕ) (q : Progress) (t gone : RowsInMemory A) (removed : gone ≡ record t { rows = without key n t.rows }) (rises : Rises key t.rows) where
+  pub put_back : (after : RowsInMemory A) (row r : A) → row_at key n t.rows ≡ Some row → r ≡ reaching q row → after ≡ record gone { rows = put key r gone.rows } → after ≡ record t { rows = amended key reaching n q t.rows }
   put_back after row r found same made =
-      let rows : after.rows ≡ amended key reaching n q t.rows = ap (λ (k : Kept A). k.rows) made ∙ ap₂ (λ x l. put key x l) same (ap (λ (k : Kept A). k.rows) removed) ∙ amended_some key reaching keeps n q t.rows rises row found in
-      let capacity : after.capacity ≡ t.capacity = ap (λ (k : Kept A). k.capacity) made ∙ ap (λ (k : Kept A). k.capacity) removed in
+      let rows : after.rows ≡ amended key reaching n q t.rows = ap (λ (k : RowsInMemory A). k.rows) made ∙ ap₂ (λ x l. put key x l) same (ap (λ (k : RowsInMemory A). k.rows) removed) ∙ amended_some key reaching keeps n q t.rows rises row found in
+      let capacity : after.capacity ≡ t.capacity = ap (λ (k : RowsInMemory A). k.capacity) made ∙ ap (λ (k : RowsInMemory A). k.capacity) removed in
       λ i. record { rows = rows i; capacity = capacity i }
 
   pub left_alone : row_at key n t.rows ≡ None → gone ≡ record t { rows = amended key reaching n q t.rows }
   left_alone none =
-      let rows : gone.rows ≡ amended key reaching n q t.rows = ap (λ (k : Kept A). k.rows) removed ∙ amended_none key reaching keeps n q t.rows rises none in
-      let capacity : gone.capacity ≡ t.capacity = ap (λ (k : Kept A). k.capacity) removed in
+      let rows : gone.rows ≡ amended key reaching n q t.rows = ap (λ (k : RowsInMemory A). k.rows) removed ∙ amended_none key reaching keeps n q t.rows rises none in
+      let capacity : gone.capacity ≡ t.capacity = ap (λ (k : RowsInMemory A). k.capacity) removed in
       λ i. record { rows = rows i; capacity = capacity i }

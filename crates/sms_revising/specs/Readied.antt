@@ -1,6 +1,6 @@
 -- Changes of rows that keep a TPDU, with memory for the rows that they bring.
 use Rattle.std.specs.Prelude.{ℕ, ◌+◌, ◌≤◌, List, length, max}
-use Rattle.sms_table.specs.Table.{Kept}
+use Rattle.sms_table.specs.Table.{RowsInMemory}
 use Rattle.sms_waiting.specs.declared.revision.Revision.{Revision}
 
 -- the changes, and how many rows the memory holds that comes with them
@@ -9,5 +9,5 @@ pub record ReadyOf (A : Type 0) : Type 0 where
   pub spare : ℕ
 
 -- they can be made without taking memory
-abbrev pub FitsIn : {A : Type 0} → ReadyOf A → Kept A → Type 0
+abbrev pub FitsIn : {A : Type 0} → ReadyOf A → RowsInMemory A → Type 0
 FitsIn r table = length table.rows + length r.revisions ≤ max table.capacity r.spare

@@ -6,7 +6,7 @@ ghost use Rattle.sms_shelves.specs.Unlined.{unlined as unlined_of};
 
 use crate::stop::{Stop, Wanted};
 use sms_base::Digits;
-use sms_waiting::Shelf;
+use sms_shelf::Shelf;
 use std::alloc::{AllocError, Global};
 
 /// A shelf, and its place among the others.

@@ -11,8 +11,9 @@ use crate::ground::Ground;
 use crate::placed::Placed;
 use crate::shelves::Shelves;
 use indexmap::IndexMap;
+use sms_shelf::Shelf;
 use sms_table::{Key, Table};
-use sms_waiting::{HandsetRow, ReferenceRow, Shelf};
+use sms_waiting::{HandsetRow, ReferenceRow};
 use std::alloc::{AllocError, Global};
 use std::sync::Arc;
 

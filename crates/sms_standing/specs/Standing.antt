@@ -1,14 +1,14 @@
 -- All that a centre keeps in memory between two events, and the centre of the definition that it is.
 use Rattle.std.specs.Prelude.{ℕ}
 use Rattle.sms_claims.specs.Claims.{ClaimsOf, Holds as HoldsClaims}
-use Rattle.sms_desk.specs.Kept.{Kept as ReportsOf}
+use Rattle.sms_desk.specs.Kept.{ReportsOf}
 use Rattle.sms_kept.specs.Kept.{KeptOf as MessagesOf}
 use Rattle.sms_register.specs.declared.register.MadeReport.{MadeReport}
 use Rattle.sms_register.specs.Register.{Holds as HoldsRegister}
 use Rattle.sms_reports.specs.Receipts.{Session}
 use Rattle.sms_sessions.specs.Awaited.{AreAwaited}
 use Rattle.sms_shelves.specs.Placing.{ShelvesOf}
-use Rattle.sms_table.specs.Table.{Kept}
+use Rattle.sms_table.specs.Table.{RowsInMemory}
 use Rattle.sms_centre_rules.specs.declared.setup.Setup.{Setup}
 use Rattle.sms_centre_rules.specs.Draft.{Core}
 use Rattle.sms_working.specs.Beginning.{IsCentre}
@@ -26,9 +26,9 @@ pub record StandingOf : Type 0 where
   -- the reports that are open
   pub reports : ReportsOf
   -- all reports that were made
-  pub register : Kept MadeReport
+  pub register : RowsInMemory MadeReport
   -- the sessions that are bound
-  pub sessions : Kept Session
+  pub sessions : RowsInMemory Session
 
 -- It is that centre: a sound one, whose sessions wait for open receipts of their accounts alone.
 pub record IsStanding (c : Core) (s : StandingOf) : Type 0 where

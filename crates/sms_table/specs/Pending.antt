@@ -1,11 +1,11 @@
 -- A table in the middle of an event, and what an event leaves of it.
 use Rattle.std.specs.Prelude.{ℕ, ◌+◌, ◌≤◌, List, [], ◌∷◌, ◌++◌, length, max}
 use Rattle.sms_table.specs.declared.change.Change.{Change}
-use Rattle.sms_table.specs.Table.{Kept, all_applied}
+use Rattle.sms_table.specs.Table.{RowsInMemory, all_applied}
 
 -- the table as the event began, and what the event changed
 pub record PendingOf (A : Type 0) : Type 0 where
-  pub base : Kept A
+  pub base : RowsInMemory A
   pub changes : List (Change A)
 
 -- the rows as they stand
@@ -21,5 +21,5 @@ pub record SettledOf (A : Type 0) : Type 0 where
   pub spare : ℕ
 
 -- they can be put in without taking memory
-abbrev pub FitsIn : {A : Type 0} → SettledOf A → Kept A → Type 0
+abbrev pub FitsIn : {A : Type 0} → SettledOf A → RowsInMemory A → Type 0
 FitsIn s table = length table.rows + length s.changes ≤ max table.capacity s.spare

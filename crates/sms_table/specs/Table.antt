@@ -63,17 +63,17 @@ IsGap key n (suc place) (row ∷ rows) = (key row < n) × IsGap key n place rows
 -- ---- memory
 
 -- what a table keeps: its rows, and how many rows its memory holds
-pub record Kept (A : Type 0) : Type 0 where
+pub record RowsInMemory (A : Type 0) : Type 0 where
   pub rows : List A
   pub capacity : ℕ
 
 -- that many rows can come before memory is taken
-abbrev pub HasRoom : {A : Type 0} → ℕ → Kept A → Type 0
+abbrev pub HasRoom : {A : Type 0} → ℕ → RowsInMemory A → Type 0
 HasRoom extra table = length table.rows + extra ≤ table.capacity
 
 -- memory to be taken beside a table's for that many rows more: none where the table has room, else enough for twice
 -- its rows and the others, so that a row that comes costs the same however many stand there
-abbrev pub spare_for : {A : Type 0} → ℕ → Kept A → ℕ
+abbrev pub spare_for : {A : Type 0} → ℕ → RowsInMemory A → ℕ
 spare_for extra table = if nat_le (length table.rows + extra) table.capacity then 0 else 2 * length table.rows + extra
 
 -- ---- changes

@@ -28,9 +28,9 @@ pub struct Table<T: Drop + Row> {
 
 impl<T: Drop + Row> Model for Table<T> {
     ghost use Rattle.std.specs.Prelude.{vec_capacity};
-    ghost use Rattle.sms_table.specs.Table.{Kept, Rises};
+    ghost use Rattle.sms_table.specs.Table.{RowsInMemory, Rises};
 
-    ghost Value = { Kept T };
+    ghost Value = { RowsInMemory T };
 
     ghost view = { λ t. record { rows = t.items.items; capacity = vec_capacity t.items } };
 

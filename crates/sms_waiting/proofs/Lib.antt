@@ -2,7 +2,6 @@ pub mod Alike
 pub mod Amending
 pub mod Dues
 pub mod GivingsSound
-pub mod Held
 pub mod LinesShown
 pub mod Mentions
 pub mod Passing

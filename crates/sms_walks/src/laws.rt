@@ -2,7 +2,7 @@
 ghost use Rattle.std.specs.Prelude.{◌≡◌, ◌+◌, ◌++◌, ◌∷◌, [], ℕ, List, None, Some, true};
 ghost use Rattle.std.specs.List.Sorted.{IsNonDecreasing};
 ghost use Rattle.sms_desk.specs.Entries.{status_key, status_until};
-ghost use Rattle.sms_desk.specs.Kept.{Kept, Shows};
+ghost use Rattle.sms_desk.specs.Kept.{ReportsOf, Shows};
 ghost use Rattle.sms_desk.specs.declared.entry.StatusEntry.{StatusEntry};
 ghost use Rattle.sms_index.specs.First.{first_such, is_past_from};
 ghost use Rattle.sms_messages.specs.Messages.{message_key};
@@ -57,9 +57,9 @@ pub fn messages_expire_by_numbers()
 /// it; where it tells none, none is dropped any more.
 pub fn old_reports_are_dropped_where_found()
     ensures begins { (s : Store) → dropped s ≡ drop_from 0 s }
-    ensures next { (s : Store) (kept : Kept) (first : ℕ) (e : StatusEntry) → Shows (messages_in s) kept (reports_in s) → first_such (is_past_from status_key status_until first s.moment) kept.statuses ≡ Some e
+    ensures next { (s : Store) (kept : ReportsOf) (first : ℕ) (e : StatusEntry) → Shows (messages_in s) kept (reports_in s) → first_such (is_past_from status_key status_until first s.moment) kept.statuses ≡ Some e
         → (r : ReportRow) × ((report_of e.id (reports_in s) ≡ Some r) × (is_open_status r ≡ true) × (drop_from first s ≡ drop_from (e.place + 1) (report_closed r s))) }
-    ensures none { (s : Store) (kept : Kept) (first : ℕ) → Shows (messages_in s) kept (reports_in s) → first_such (is_past_from status_key status_until first s.moment) kept.statuses ≡ None → drop_from first s ≡ s }
+    ensures none { (s : Store) (kept : ReportsOf) (first : ℕ) → Shows (messages_in s) kept (reports_in s) → first_such (is_past_from status_key status_until first s.moment) kept.statuses ≡ None → drop_from first s ≡ s }
 {
     old_reports_are_dropped_by_what_is_kept();
 }

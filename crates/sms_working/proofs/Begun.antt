@@ -1,8 +1,8 @@
 -- An event begins.
 use Rattle.std.proofs.Common.{◌≡◌, ℕ, [], None, refl, sym, ◌∙◌, ap, subst}
 use Rattle.sms_kept.specs.Kept.{KeptOf, PendingOf as MessagesOf, Shows as ShowsMessages, opened}
-use Rattle.sms_desk.specs.Kept.{Kept}
-use Rattle.sms_desk.specs.Pending.{PendingOf as ReportsOf, Tells}
+use Rattle.sms_desk.specs.Kept.{ReportsOf}
+use Rattle.sms_desk.specs.Pending.{PendingOf as ReportsNow, Tells}
 use Rattle.sms_reports.specs.Receipts.{Desk, Session}
 use Rattle.sms_shelves.specs.Placing.{PendingOf as ShelvesNow, ShelvesOf}
 use Rattle.sms_shelves.specs.Shown.{Shows as ShowsShelves}
@@ -14,7 +14,7 @@ use Rattle.std.specs.Prelude.{List}
 use Rattle.sms_working.specs.Beginning.{IsCentre}
 use Rattle.sms_working.specs.Working.{Shows, all_waiting}
 
-pub begun_shown : (c : Core) (setup : Setup) (moment : ℕ) (kept : KeptOf) (base : ShelvesOf) (known : Kept) (sessions : List Session) (messages : MessagesOf) (shelves : ShelvesNow) (reports : ReportsOf) (desk : Desk)
+pub begun_shown : (c : Core) (setup : Setup) (moment : ℕ) (kept : KeptOf) (base : ShelvesOf) (known : ReportsOf) (sessions : List Session) (messages : MessagesOf) (shelves : ShelvesNow) (reports : ReportsNow) (desk : Desk)
     → IsCentre c setup moment kept base known sessions
     → ShowsMessages messages (opened c.rows.messages c.rows.parts c.rows.priorities) → ShowsShelves (draft_of c).store.givings (draft_of c).air (all_waiting (draft_of c).store) shelves → Tells c.rows.messages reports (unrevised c.rows.reports) → desk ≡ record { sessions = sessions; deliveries = [] }
     → Shows (draft_of c) (record { setup = setup; moment = moment; messages = messages; shelves = shelves; reports = reports; desk = desk; answer = None })

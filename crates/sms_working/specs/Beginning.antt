@@ -1,6 +1,6 @@
 -- What a centre keeps in memory between two events, and what it shows of the definition's.
 use Rattle.std.specs.Prelude.{◌≡◌, ℕ, List}
-use Rattle.sms_desk.specs.Kept.{Kept, Shows as ShowsReports}
+use Rattle.sms_desk.specs.Kept.{ReportsOf, Shows as ShowsReports}
 use Rattle.sms_kept.specs.Kept.{Holds, KeptOf}
 use Rattle.sms_reports.specs.Receipts.{Session}
 use Rattle.sms_shelves.specs.Placing.{ShelvesOf}
@@ -17,7 +17,7 @@ abbrev pub all_of : Rows → List ℕ → List Load
 all_of rows number = all_for number rows
 
 -- It is that centre, which is sound.
-pub record IsCentre (c : Core) (setup : Setup) (moment : ℕ) (messages : KeptOf) (shelves : ShelvesOf) (reports : Kept) (sessions : List Session) : Type 0 where
+pub record IsCentre (c : Core) (setup : Setup) (moment : ℕ) (messages : KeptOf) (shelves : ShelvesOf) (reports : ReportsOf) (sessions : List Session) : Type 0 where
   pub sound : IsSoundCore c
   pub setup_is : setup ≡ c.rows.setup
   pub moment_is : moment ≡ c.moment

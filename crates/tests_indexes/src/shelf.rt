@@ -1,7 +1,8 @@
 //! What waits for a handset, and its line.
 use crate::rows::{at, digits, holds, message};
 use sms_base::{Holder, Kind};
-use sms_waiting::{Load, Shelf};
+use sms_shelf::Shelf;
+use sms_waiting::Load;
 use std::test::Fail;
 
 fn load(id: u32, number: u8, priority: u8, seconds: u32) -> Result<Load, Fail> {

@@ -1,7 +1,7 @@
 use Rattle.std.proofs.Common.{◌∙◌, ap, List, sym, subst}
 use Rattle.sms_reports.specs.Receipts.{Session, session_key}
 use Rattle.sms_centre.specs.FromBelow.{AreNew}
-use Rattle.sms_table.specs.Table.{Kept, Rises}
+use Rattle.sms_table.specs.Table.{RowsInMemory, Rises}
 use Rattle.sms_played_centre.proofs.NewSessions.{are_new, sessions_rise}
 use Rattle.sms_played_centre.proofs.sessions.sessions_of.Goals as goal
 
@@ -9,4 +9,4 @@ pub from_vec-requires : goal.from_vec-requires
 from_vec-requires c = subst (λ (s : List Session). Rises session_key s) (sym c.in_ok-seats.ensures) (sessions_rise 0 c.args.accounts.now)
 
 pub returns-clause-new : goal.returns-clause-new
-returns-clause-new c = subst (λ (s : List Session). AreNew s) (sym (ap (λ (t : Kept Session). t.rows) c.from_vec.ensures ∙ c.in_ok-seats.ensures)) (are_new c.args.accounts.now)
+returns-clause-new c = subst (λ (s : List Session). AreNew s) (sym (ap (λ (t : RowsInMemory Session). t.rows) c.from_vec.ensures ∙ c.in_ok-seats.ensures)) (are_new c.args.accounts.now)

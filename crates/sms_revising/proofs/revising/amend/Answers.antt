@@ -1,13 +1,13 @@
 use Rattle.std.proofs.Common.{arith, ap, length, sym, ◌∙◌}
-use Rattle.sms_table.specs.Table.{Kept}
+use Rattle.sms_table.specs.Table.{RowsInMemory}
 use Rattle.sms_table.proofs.Tables.{length_without}
 use Rattle.sms_revising.proofs.AsPut.{put_back, left_alone}
 use Rattle.sms_revising.proofs.revising.amend.Goals as goal
 
 pub put_ready-requires : goal.put_ready-requires
 put_ready-requires g c =
-    let rows = ap (λ (t : Kept _). length t.rows) c.remove.ensures.rows in
-    let capacity = ap (λ (t : Kept _). t.capacity) c.remove.ensures.rows in
+    let rows = ap (λ (t : RowsInMemory _). length t.rows) c.remove.ensures.rows in
+    let capacity = ap (λ (t : RowsInMemory _). t.capacity) c.remove.ensures.rows in
     omega (arith, rows, capacity, length_without g.T.Row.key c.args.key c.args.table.now.rows, c.requires)
 
 pub returns-in-Some : goal.returns-in-Some

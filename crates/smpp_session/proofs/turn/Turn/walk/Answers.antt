@@ -17,7 +17,7 @@ returns-in-BadLength-clause-stream c =
 
 pub loop-self-preserved : goal.loop-self-preserved
 loop-self-preserved c =
-    let fits = whole_fits c.loop-self.self.standing.state c.split_at.result.1.now c.in-Whole.len c.in-Whole.ensures in
+    let fits = whole_fits c.loop-self.self.conversation.state c.split_at.result.1.now c.in-Whole.len c.in-Whole.ensures in
     record {
       within = omega (arith, fits.1, c.split_at.ensures.back_len);
       left =

@@ -1,6 +1,6 @@
 use Rattle.std.proofs.Common.{◌≡◌, ◌<◌, List, sym, ◌∙◌, ap, subst}
 use Rattle.std.specs.List.{AllByRecursion}
-use Rattle.sms_table.specs.Table.{Kept}
+use Rattle.sms_table.specs.Table.{RowsInMemory}
 use Rattle.sms_inbox.specs.declared.entry.Entry.{Entry}
 use Rattle.sms_inbox.specs.Slots.{slots_taken}
 use Rattle.sms_inbox.specs.OpenIndex.{Indexes}
@@ -9,7 +9,7 @@ use Rattle.sms_handset.proofs.handset.Handset.standing_on.Goals as goal
 
 pub invariant_of-result : goal.invariant_of-result
 invariant_of-result c =
-    let rows : c.from_vec-entries.result.rows ≡ c.args.rows.entries = ap (λ (t : Kept Entry). t.rows) c.from_vec-entries.ensures ∙ c.into_vec.ensures in (
+    let rows : c.from_vec-entries.result.rows ≡ c.args.rows.entries = ap (λ (t : RowsInMemory Entry). t.rows) c.from_vec-entries.ensures ∙ c.into_vec.ensures in (
       record {
         centre = c.requires.centre;
         index = subst (λ (es : List Entry). Indexes c.in_ok-groups.groups es) (c.as_slice.ensures ∙ sym rows) c.in_ok-groups.ensures;

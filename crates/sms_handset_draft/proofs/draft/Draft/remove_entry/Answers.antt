@@ -1,6 +1,6 @@
 use Rattle.std.proofs.Common.{◌≡◌, ℕ, [], ◌∷◌, ◌++◌, sym, subst, ◌∙◌, ap, arith}
 use Rattle.sms_table.specs.Pending.{PendingOf}
-use Rattle.sms_table.specs.Table.{Kept, all_applied, row_at}
+use Rattle.sms_table.specs.Table.{RowsInMemory, all_applied, row_at}
 use Rattle.sms_table.specs.declared.change.Change.TheVariants.{Remove}
 use Rattle.sms_inbox.specs.declared.entry.Entry.{Entry}
 use Rattle.sms_inbox.specs.Keys.{entry_key}
@@ -9,8 +9,8 @@ use Rattle.sms_inbox.proofs.CountedSlots.{no_more, one_removed}
 use Rattle.sms_handset_draft.proofs.draft.Draft.remove_entry.Goals as goal
 
 -- what the entry takes that stands there
-freed : (n : ℕ) (p : PendingOf Entry) (t : Kept Entry) (k : ℕ) → p.base ≡ t → k ≡ slots_of (row_at entry_key n (all_applied entry_key p.changes p.base.rows)) → k ≡ slots_of (row_at entry_key n (all_applied entry_key p.changes t.rows))
-freed n p t k e f = f ∙ ap (λ (b : Kept Entry). slots_of (row_at entry_key n (all_applied entry_key p.changes b.rows))) e
+freed : (n : ℕ) (p : PendingOf Entry) (t : RowsInMemory Entry) (k : ℕ) → p.base ≡ t → k ≡ slots_of (row_at entry_key n (all_applied entry_key p.changes p.base.rows)) → k ≡ slots_of (row_at entry_key n (all_applied entry_key p.changes t.rows))
+freed n p t k e f = f ∙ ap (λ (b : RowsInMemory Entry). slots_of (row_at entry_key n (all_applied entry_key p.changes b.rows))) e
 
 pub retaken-requires : goal.retaken-requires
 retaken-requires c =

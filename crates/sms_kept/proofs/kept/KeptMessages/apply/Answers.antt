@@ -2,7 +2,7 @@ use Rattle.std.proofs.Common.{sym, subst}
 use Rattle.sms_messages.specs.declared.message.MessageRow.{MessageRow}
 use Rattle.sms_table.specs.declared.change.Change.{Change}
 use Rattle.sms_table.specs.declared.change.Change.TheVariants.{Remove}
-use Rattle.sms_table.specs.Table.{Kept}
+use Rattle.sms_table.specs.Table.{RowsInMemory}
 use Rattle.sms_kept.specs.declared.message_entry.MessageEntry.{MessageEntry}
 use Rattle.sms_kept.specs.Kept.{Applies, KeptOf}
 use Rattle.sms_kept.proofs.Holding.{takes_out}
@@ -12,5 +12,5 @@ pub returns-in-Remove : goal.returns-in-Remove
 returns-in-Remove c =
     subst (λ (change : Change MessageRow). Applies change c.args.self.now (record { names = c.self.inside.names; messages = c.remove.new.self; parts = c.self.inside.parts; deadlines = c.self.inside.deadlines })) (sym c.in-Remove.is)
     (subst (λ (k : KeptOf). Applies (Remove c.in-Remove.key) k (record { names = c.self.inside.names; messages = c.remove.new.self; parts = c.self.inside.parts; deadlines = c.self.inside.deadlines })) c.self.view_is
-    (subst (λ (t : Kept MessageEntry). Applies (Remove c.in-Remove.key) (record { names = c.self.inside.names; messages = c.self.inside.messages; parts = c.self.inside.parts; deadlines = c.self.inside.deadlines }) (record { names = c.self.inside.names; messages = t; parts = c.self.inside.parts; deadlines = c.self.inside.deadlines })) (sym c.remove.ensures.rows)
+    (subst (λ (t : RowsInMemory MessageEntry). Applies (Remove c.in-Remove.key) (record { names = c.self.inside.names; messages = c.self.inside.messages; parts = c.self.inside.parts; deadlines = c.self.inside.deadlines }) (record { names = c.self.inside.names; messages = t; parts = c.self.inside.parts; deadlines = c.self.inside.deadlines })) (sym c.remove.ensures.rows)
     (takes_out c.in-Remove.key (record { names = c.self.inside.names; messages = c.self.inside.messages; parts = c.self.inside.parts; deadlines = c.self.inside.deadlines }))))

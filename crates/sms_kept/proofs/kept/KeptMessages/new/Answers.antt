@@ -1,5 +1,5 @@
 use Rattle.std.proofs.Common.{ap}
-use Rattle.sms_table.specs.Table.{Kept}
+use Rattle.sms_table.specs.Table.{RowsInMemory}
 use Rattle.sms_kept.specs.declared.message_entry.MessageEntry.{MessageEntry}
 use Rattle.sms_messages.specs.declared.parts.PartEntry.{PartEntry}
 use Rattle.sms_kept.proofs.Holding.{holds_nothing}
@@ -8,4 +8,4 @@ use Rattle.sms_kept.proofs.kept.KeptMessages.new.Goals as goal
 pub returns : goal.returns
 returns c =
     holds_nothing (record { names = c.new-names.result; messages = c.new-messages.result; parts = c.new-parts.result; deadlines = c.new-deadlines.result })
-    (ap (λ (t : Kept MessageEntry). t.rows) c.new-messages.ensures) (ap (λ (t : Kept PartEntry). t.rows) c.new-parts.ensures)
+    (ap (λ (t : RowsInMemory MessageEntry). t.rows) c.new-messages.ensures) (ap (λ (t : RowsInMemory PartEntry). t.rows) c.new-parts.ensures)

@@ -1,6 +1,6 @@
 use Rattle.std.proofs.Common.{sym, subst}
 use Rattle.sms_table.specs.declared.change.Change.TheVariants.{Put}
-use Rattle.sms_table.specs.Table.{Kept}
+use Rattle.sms_table.specs.Table.{RowsInMemory}
 use Rattle.sms_kept.specs.declared.message_entry.MessageEntry.{MessageEntry}
 use Rattle.sms_kept.specs.Kept.{Applies, KeptOf, Notes}
 use Rattle.sms_kept.proofs.Holding.{puts_in}
@@ -8,7 +8,7 @@ use Rattle.sms_kept.proofs.kept.KeptMessages.put.Goals as goal
 
 pub returns : goal.returns
 returns c =
-    subst (λ (t : Kept MessageEntry). Applies (Put c.args.row) c.args.self.now (record { names = c.entry_ready-entry.new.self; messages = t; parts = c.self.inside.parts; deadlines = c.self.inside.deadlines })) (sym c.put_ready.ensures)
+    subst (λ (t : RowsInMemory MessageEntry). Applies (Put c.args.row) c.args.self.now (record { names = c.entry_ready-entry.new.self; messages = t; parts = c.self.inside.parts; deadlines = c.self.inside.deadlines })) (sym c.put_ready.ensures)
     (puts_in c.args.row c.entry_ready-entry.result c.entry_ready-entry.new.self c.args.self.now (record { names = c.self.inside.names; messages = c.self.inside.messages; parts = c.self.inside.parts; deadlines = c.self.inside.deadlines })
     (subst (λ (k : KeptOf). Notes c.args.row c.args.self.now k) (sym c.self.view_is) c.note.ensures)
     c.entry_ready-entry.ensures.others c.entry_ready-entry.ensures.room c.entry_ready-entry.ensures.own)

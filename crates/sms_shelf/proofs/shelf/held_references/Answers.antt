@@ -4,8 +4,8 @@ use Rattle.std.proofs.lemmas.Bool.Decides.{nat_tests}
 use Rattle.std.proofs.lemmas.List.{take_more}
 use Rattle.sms_waiting.specs.References.{is_held}
 use Rattle.sms_waiting.specs.declared.load.Load.{Load}
-use Rattle.sms_waiting.proofs.Held.{is_held_push}
-use Rattle.sms_waiting.proofs.shelf.held_references.Goals as goal
+use Rattle.sms_shelf.proofs.Held.{is_held_push}
+use Rattle.sms_shelf.proofs.shelf.held_references.Goals as goal
 
 pub loop-load-preserved : goal.loop-load-preserved
 loop-load-preserved c r low =

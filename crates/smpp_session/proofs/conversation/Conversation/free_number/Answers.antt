@@ -1,7 +1,7 @@
 use Rattle.std.proofs.Common.{◌≡◌, ◌<◌, true, false, refl, sym, ◌∙◌, arith}
 use Rattle.smpp_session.specs.Windows.{is_among, free_number}
 use Rattle.smpp_session.proofs.FreeNumbers.{found_free, passed_over}
-use Rattle.smpp_session.proofs.standing.Standing.free_number.Goals as goal
+use Rattle.smpp_session.proofs.conversation.Conversation.free_number.Goals as goal
 
 pub loop-passed-init : goal.loop-passed-init
 unfolding free_number

@@ -1,6 +1,6 @@
 use Rattle.std.proofs.Common.{◌≡◌, ◌-◌}
 use Rattle.sms_waiting.specs.References.{first_passing, is_free, next_reference}
-use Rattle.sms_waiting.proofs.shelf.Shelf.next_reference.Given as goal
+use Rattle.sms_shelf.proofs.shelf.Shelf.next_reference.Given as goal
 
 abbrev pub invariant-loop-turn : goal.invariant-loop-turn
 invariant-loop-turn l =

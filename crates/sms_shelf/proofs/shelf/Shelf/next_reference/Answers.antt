@@ -1,7 +1,7 @@
 use Rattle.std.proofs.Common.{◌≡◌, ℕ, ◌+◌, ◌-◌, Bool, false, sym, ◌∙◌, ap, arith}
 use Rattle.sms_waiting.specs.References.{first_passing, is_free}
 use Rattle.sms_waiting.proofs.Passing.{passing_later}
-use Rattle.sms_waiting.proofs.shelf.Shelf.next_reference.Goals as goal
+use Rattle.sms_shelf.proofs.shelf.Shelf.next_reference.Goals as goal
 
 pub loop-turn-preserved : goal.loop-turn-preserved
 loop-turn-preserved c =

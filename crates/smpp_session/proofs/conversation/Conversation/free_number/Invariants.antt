@@ -1,6 +1,6 @@
 use Rattle.std.proofs.Common.{◌≡◌, ◌-◌}
 use Rattle.smpp_session.specs.Windows.{numbers_from, first_free, free_number}
-use Rattle.smpp_session.proofs.standing.Standing.free_number.Given as goal
+use Rattle.smpp_session.proofs.conversation.Conversation.free_number.Given as goal
 
 abbrev pub invariant-loop-passed : goal.invariant-loop-passed
 invariant-loop-passed l =

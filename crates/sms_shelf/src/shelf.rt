@@ -9,13 +9,10 @@ ghost use Rattle.sms_waiting.specs.References.{AreHeld, following as following_o
 ghost use Rattle.sms_waiting.specs.Shelves.{shelf_at_once, shelf_given, shelf_on, shelf_turned, shelf_with, shelf_withdrawn, shelf_without};
 ghost use Rattle.sms_waiting.specs.Waiting.{all_at_once, if_due, is_part_of as is_part_of_message, is_same as is_same_of, next as next_of, preceding, waits_beside as waits_beside_of, withdrawn};
 
-use crate::handset::HandsetRow;
-use crate::line::Line;
-use crate::load::Load;
-use crate::reference::ReferenceRow;
 use sms_base::{Digits, Holder, Kind, Listed, MessageId, Moment};
 use sms_link::{Link, LinkOut, Outgoing, Side};
 use sms_table::{Key, Row, Table};
+use sms_waiting::{HandsetRow, Line, Load, ReferenceRow};
 use std::alloc::{AllocError, Global};
 use std::marker::Model;
 
@@ -142,7 +139,7 @@ impl Shelf {
     }
 
     /// No part of that message waits any more.
-    #[tactic(auto, using(crate::proofs::Withdrawing::rises_withdrawn))]
+    #[tactic(auto, using(sms_waiting::proofs::Withdrawing::rises_withdrawn))]
     pub fn withdraw(&mut self, id: MessageId) -> Result<(), AllocError>
         ensures { OnOk result (self.new ≡ shelf_withdrawn id self.old) }
     {
@@ -152,7 +149,7 @@ impl Shelf {
     }
 
     /// All that waits is due at that moment.
-    #[tactic(auto, using(crate::proofs::Dues::rises_at_once))]
+    #[tactic(auto, using(sms_waiting::proofs::Dues::rises_at_once))]
     pub fn due_at(&mut self, now: Moment) -> Result<(), AllocError>
         ensures { OnOk result (self.new ≡ shelf_at_once now self.old) }
     {
@@ -178,7 +175,7 @@ impl Shelf {
 
 impl Shelf {
     /// The next reference that may be given to the handset of that row, which is this shelf's or its first one.
-    #[tactic(auto, using(crate::proofs::Passing::passing_there, crate::proofs::Passing::passing_later, crate::proofs::Passing::passing_none))]
+    #[tactic(auto, using(sms_waiting::proofs::Passing::passing_there, sms_waiting::proofs::Passing::passing_later, sms_waiting::proofs::Passing::passing_none))]
     pub fn next_reference(&self, row: &HandsetRow, now: Moment) -> Option<u8>
         ensures { result ≡ next_reference_of row.now self.now.waiting self.now.given now }
     {

@@ -1,6 +1,6 @@
 //! What a session remembers beside its accounts and the octets that aren't treated yet.
 ghost use Rattle.std.specs.Prelude.{◌≡◌, IfOk, OnOk, OnErr, IfErr};
-ghost use Rattle.smpp_session.specs.SessionTable.{closed_standing};
+ghost use Rattle.smpp_session.specs.SessionTable.{closed_conversation};
 ghost use Rattle.smpp_session.specs.Bindings.{is_bound};
 ghost use Rattle.smpp_session.specs.Windows.{number_after, free_number};
 ghost use Rattle.smpp_session.specs.Sessions.{awaiting_under, delivery_fault};
@@ -44,7 +44,7 @@ impl SessionState {
 
 // The state, and the deliver_sm that wait for their answers.
 #[derive(Debug, Drop)]
-pub(crate) struct Standing {
+pub(crate) struct Conversation {
     pub state: SessionState,
     // The sequence numbers of the deliver_sm that were sent and aren't answered, at most ten.
     pub unanswered: Numbers,
@@ -52,13 +52,13 @@ pub(crate) struct Standing {
     pub next_number: u32,
 }
 
-impl Standing {
+impl Conversation {
     // The same.
-    pub(crate) fn copy(&self, alloc: Global) -> Result<Standing, AllocError>
-        ensures { IfOk result (λ standing. standing ≡ self.now) }
+    pub(crate) fn copy(&self, alloc: Global) -> Result<Conversation, AllocError>
+        ensures { IfOk result (λ conversation. conversation ≡ self.now) }
     {
         let unanswered = self.unanswered.copy(alloc)?;
-        Ok(Standing {
+        Ok(Conversation {
             state: self.state,
             unanswered,
             next_number: self.next_number,
@@ -108,7 +108,7 @@ impl Standing {
 
     // Nothing is taken or given any more.
     pub(crate) fn close(&mut self)
-        ensures { self.new ≡ closed_standing self.old }
+        ensures { self.new ≡ closed_conversation self.old }
     {
         self.state = SessionState::Closed;
         self.unanswered.clear();

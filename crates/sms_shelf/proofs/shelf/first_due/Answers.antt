@@ -2,7 +2,7 @@ use Rattle.std.proofs.Common.{◌≡◌, ℕ, suc, ◌+◌, ◌-◌, length, dro
 use Rattle.sms_waiting.specs.declared.load.Load.{Load}
 use Rattle.sms_waiting.specs.Waiting.{if_due, next, preceding}
 use Rattle.sms_waiting.proofs.Dues.{next_from}
-use Rattle.sms_waiting.proofs.shelf.first_due.Goals as goal
+use Rattle.sms_shelf.proofs.shelf.first_due.Goals as goal
 
 pub loop-i-preserved : goal.loop-i-preserved
 loop-i-preserved c =
