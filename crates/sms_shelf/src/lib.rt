@@ -6,6 +6,8 @@
 //! A call that finds no memory leaves a shelf in no stated state: plan on a copy, and install it when all is done.
 #![tactic(auto)]
 
+mod base;
+mod given;
 mod shelf;
 
 pub use shelf::Shelf;
