@@ -6,6 +6,7 @@
 //! A call that finds no memory leaves a shelf in no stated state: plan on a copy, and install it when all is done.
 #![tactic(auto)]
 
+pub mod laws;
 mod shelf;
 
 pub use shelf::Shelf;
