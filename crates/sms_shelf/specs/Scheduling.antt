@@ -1,5 +1,5 @@
 -- What waits for a handset, as a schedule of what is to be offered has it.
-use Rattle.std.specs.Prelude.{◌<◌, ℕ, List, map, Option, Some, None}
+use Rattle.std.specs.Prelude.{◌<◌, List, map, Option, Some, None}
 use Rattle.sms_base.specs.Among.{Among}
 use Rattle.sms_schedule.specs.declared.scheduled.Scheduled.{Scheduled}
 use Rattle.sms_waiting.specs.declared.load.Load.{Load}
