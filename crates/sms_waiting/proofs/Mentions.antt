@@ -4,7 +4,7 @@ use Rattle.std.proofs.lemmas.Bool.{cases_Bool, cond-true, cond-false, cases_eq, 
 use Rattle.std.proofs.lemmas.Slice.Eq.{bytes_eq-Decides}
 use Rattle.sms_base.specs.Among.{Among}
 use Rattle.sms_table.specs.Table.{AllAbove, Rises, insert, put, row_at, without}
-use Rattle.sms_table.proofs.Tables.{among_found, among_without, insert_behind, insert_here}
+use Rattle.sms_table.proofs.Tables.{among_found, among_without, insert_behind, insert_here, without_among}
 use Rattle.sms_waiting.specs.declared.handset.HandsetRow.{HandsetRow}
 use Rattle.sms_waiting.specs.Keys.{handset_key}
 use Rattle.sms_waiting.specs.References.{handset_at, or_new_handset, place_after}
