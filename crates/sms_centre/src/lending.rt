@@ -17,13 +17,6 @@ use sms_standing::RecoverError;
 use sms_table::Table;
 use std::alloc::Global;
 
-/// Puts the value in the place of another, which is let go.
-pub(crate) fn put<T: Drop>(place: &mut T, value: T)
-    ensures { place.new ≡ value }
-{
-    *place = value;
-}
-
 /// Starts a centre as `Centre::start` does, lends it to the work, and gives what the work gives. Who calls this owns no centre.
 ///
 /// # Errors

@@ -1,5 +1,5 @@
-//! Values that are lent: who owns a large value makes it, lends it to a piece of work, and lets it go in one place, so that no crate
-//! above proves how it is let go.
+//! Large values that are lent, and that take the place of others: who owns one makes it, lends it to a piece of work, and lets it go
+//! in one place, so that no crate above proves how it is let go.
 #![tactic(auto)]
 
 ghost use Rattle.std.specs.Prelude.{◌≡◌};
@@ -12,4 +12,11 @@ pub fn lend<T: Drop, R, W: FnOnce(&mut T) -> R>(value: T, work: W) -> R
 {
     let mut value = value;
     work(&mut value)
+}
+
+/// Puts the value in the place of another, which is let go: as one thing, whatever it is made of.
+pub fn put<T: Drop>(place: &mut T, value: T)
+    ensures { place.new ≡ value }
+{
+    *place = value;
 }

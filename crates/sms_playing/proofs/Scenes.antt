@@ -1,8 +1,7 @@
 -- What there is to see of a script in play is what its course has.
-use Rattle.std.proofs.Common.{◌≡◌, ℕ, zero, suc, ◌≤◌, List, [], ◌∷◌, get_or, length, arith, refl, sym, ap}
+use Rattle.std.proofs.Common.{◌≡◌, ℕ, zero, suc, ◌≤◌, List, [], ◌∷◌, get_or, length, arith, refl, ap}
 use Rattle.sms_judging.specs.Shown.{accepted_at}
 use Rattle.sms_play.specs.Course.{Party}
-use Rattle.sms_report.specs.declared.rows.AcceptedRow.{AcceptedRow}
 
 -- the handset that stands at a place has accepted what is accepted there
 pub accepted_is : (place : ℕ) (ps : List Party) (p : Party) → ((d : Party) → p ≡ get_or ps place d) → p.accepted ≡ accepted_at place ps

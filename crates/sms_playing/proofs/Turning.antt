@@ -1,5 +1,5 @@
 -- Events of a script, one after another.
-use Rattle.std.proofs.Common.{◌≡◌, ℕ, suc, ◌+◌, ◌<◌, ◌≤◌, List, [], ◌∷◌, length, drop, drop-cons, get_or, arith, refl, sym, ◌∙◌, subst, ap, Result, Ok, Err}
+use Rattle.std.proofs.Common.{◌≡◌, ℕ, suc, ◌+◌, ◌<◌, ◌≤◌, List, [], ◌∷◌, length, drop, drop-cons, get_or, arith, refl, sym, ◌∙◌, ap, Result, Ok, Err}
 use Rattle.sms_base.specs.Reading.{◌>>=◌}
 use Rattle.sms_play.specs.Course.{Course}
 use Rattle.sms_play.specs.PlayedEvent.{played}

@@ -1,5 +1,5 @@
 -- How a run over the text of a script ends, by how its calls end.
-use Rattle.std.proofs.Common.{◌≡◌, ℕ, List, sym, subst, ap, ◌∙◌, Option, Some, None, Result, Ok, Err}
+use Rattle.std.proofs.Common.{◌≡◌, ℕ, List, sym, subst, ap, ◌∙◌, Option, Result, Ok, Err}
 use Rattle.std.specs.Prelude.{IfOk, IsOk}
 use Rattle.sms_base.specs.Reading.{◌>>=◌}
 use Rattle.sms_play.specs.Playing.{play_of, premises_of}

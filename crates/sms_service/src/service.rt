@@ -27,6 +27,7 @@ use sms_bodies::CentreStore;
 use sms_centre::{Centre, CentreEvent, Planned};
 use sms_jobs::{Job, Reply};
 use sms_keeper::{Broken, Fate, Gate, Machine, Step, Stimulus};
+use sms_lending::put;
 use std::alloc::{AllocError, Global};
 
 /// The centre over its store, with who sits where.
@@ -37,13 +38,6 @@ pub struct Service<K: CentreStore + Drop> {
     pub floor: Floor,
     /// The rows could not be read when they were last to be.
     pub is_broken: bool,
-}
-
-// Puts the value in the place of another, which is let go: as one thing, whatever it is made of, so that little is to be proved of it.
-fn put<T: Drop>(place: &mut T, value: T)
-    ensures { place.new ≡ value }
-{
-    *place = value;
 }
 
 // The plan is carried out: what it changes is committed, and it is adopted.

@@ -1,2 +1,3 @@
 pub mod Held
 pub mod Putting
+pub mod Scheduling

@@ -8,6 +8,7 @@
 
 mod base;
 mod given;
+pub mod laws;
 mod shelf;
 
 pub use shelf::Shelf;

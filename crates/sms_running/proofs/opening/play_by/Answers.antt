@@ -1,10 +1,9 @@
-use Rattle.std.proofs.Common.{[], None, Option, ◌∙◌, ap}
+use Rattle.std.proofs.Common.{[], None, ◌∙◌, ap}
 use Rattle.sms_play.specs.Playing.{broken_on, played_on}
 use Rattle.sms_play.specs.Setups.{beginning}
 use Rattle.sms_played_centre.specs.FromBelow.{rows_in}
 use Rattle.sms_played_centre.specs.Shown.{PlayedOf}
 use Rattle.sms_playing.specs.Played.{PlayingOf}
-use Rattle.sms_report.specs.declared.report.Broken.{Broken}
 use Rattle.sms_running.proofs.Beginning.{begun}
 use Rattle.sms_running.proofs.Telling.{decided_there, no_report, report_there}
 use Rattle.sms_running.specs.declared.ending.Judged.{Judged}

@@ -1,4 +1,4 @@
-use Rattle.std.proofs.Common.{Bool, sym, subst, true, false}
+use Rattle.std.proofs.Common.{Bool, sym, subst}
 use Rattle.std.specs.Prelude.{OnOk, if◌then◌else◌}
 use Rattle.sms_play.specs.Course.{answer}
 use Rattle.sms_playing.specs.Courses.{Shows}

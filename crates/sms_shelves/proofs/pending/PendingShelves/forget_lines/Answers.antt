@@ -1,8 +1,5 @@
 use Rattle.std.proofs.Common.{◌≡◌, List, ℕ, refl, sym, subst}
 use Rattle.std.specs.Prelude.{option_map}
-use Rattle.sms_waiting.specs.declared.load.Load.{Load}
-use Rattle.sms_waiting.specs.Lines.{Air}
-use Rattle.sms_waiting.specs.References.{Givings}
 use Rattle.sms_shelves.specs.Placing.{PendingOf, at, under}
 use Rattle.sms_shelves.specs.Shown.{Shows}
 use Rattle.sms_shelves.specs.Unlined.{unlined}
