@@ -8,7 +8,10 @@
 
 mod base;
 mod given;
+mod held;
 pub mod laws;
+mod loads;
 mod shelf;
+mod waiting;
 
 pub use shelf::Shelf;
