@@ -71,7 +71,8 @@ impl Waiting {
 
     /// All of it, in memory of its own.
     pub(crate) fn loads(&self) -> Result<Vec<Load>, AllocError>
-        ensures { IfOk result (λ loads. loads.items ≡ loads_of self.now) }
+        ensures all { IfOk result (λ loads. loads.items ≡ loads_of self.now) }
+        ensures order { Rises load_key (loads_of self.now) }
     {
         joined(self.alloc, self.base.as_slice(), self.newer.as_slice())
     }
