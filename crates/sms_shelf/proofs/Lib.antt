@@ -1,2 +1,4 @@
 pub mod Held
+pub mod Parted
+pub mod Putting
 pub mod Scheduling

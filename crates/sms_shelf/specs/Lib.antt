@@ -1,1 +1,4 @@
+pub mod Base
+pub mod Given
 pub mod Scheduling
+pub mod Waiting

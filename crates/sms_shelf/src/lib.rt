@@ -6,7 +6,12 @@
 //! A call that finds no memory leaves a shelf in no stated state: plan on a copy, and install it when all is done.
 #![tactic(auto)]
 
+mod base;
+mod given;
+mod held;
 pub mod laws;
+mod loads;
 mod shelf;
+mod waiting;
 
 pub use shelf::Shelf;

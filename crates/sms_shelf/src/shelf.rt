@@ -1,5 +1,5 @@
 //! All that concerns one handset.
-ghost use Rattle.std.specs.Prelude.{◌≡◌, ◌≢◌, ◌<◌, ◌≤◌, ℕ, [], length, slice_get, true, Some, None, IfOk, OnOk};
+ghost use Rattle.std.specs.Prelude.{◌≡◌, ◌<◌, ◌≤◌, [], length, Some, None, IfOk, OnOk};
 ghost use Rattle.sms_link.specs.LinkTurn.{begun, fired, replied, taken};
 ghost use Rattle.sms_table.specs.Keys.{pair_key};
 ghost use Rattle.sms_table.specs.Table.{row_at};
@@ -7,11 +7,13 @@ ghost use Rattle.sms_waiting.specs.Keys.{load_key};
 ghost use Rattle.sms_waiting.specs.Lines.{emptied, filled, lowered, new_line, raised};
 ghost use Rattle.sms_waiting.specs.References.{AreHeld, following as following_of, is_free as is_free_of, next_reference as next_reference_of, or_new_handset};
 ghost use Rattle.sms_waiting.specs.Shelves.{shelf_at_once, shelf_given, shelf_on, shelf_turned, shelf_with, shelf_withdrawn, shelf_without};
-ghost use Rattle.sms_waiting.specs.Waiting.{all_at_once, if_due, is_part_of as is_part_of_message, is_same as is_same_of, next as next_of, preceding, waits_beside as waits_beside_of, withdrawn};
+ghost use Rattle.sms_waiting.specs.Waiting.{next as next_of, waits_beside as waits_beside_of};
 
+use crate::given::Given;
+use crate::waiting::Waiting;
 use sms_base::{Digits, Holder, Kind, Listed, MessageId, Moment};
 use sms_link::{Link, LinkOut, Outgoing, Side};
-use sms_table::{Key, Row, Table};
+use sms_table::{Key, Table};
 use sms_waiting::{HandsetRow, Line, Load, ReferenceRow};
 use std::alloc::{AllocError, Global};
 use std::marker::Model;
@@ -21,17 +23,18 @@ use std::marker::Model;
 pub struct Shelf {
     alloc: Global,
     row: Option<HandsetRow>,
-    given: Table<ReferenceRow>,
-    waiting: Table<Load>,
+    given: Given,
+    waiting: Waiting,
     line: Line,
 }
 
 impl Model for Shelf {
     ghost use Rattle.sms_waiting.specs.Shelves.{ShelfOf};
+    ghost use Rattle.sms_shelf.specs.Waiting.{loads_of};
 
     ghost Value = { ShelfOf };
 
-    ghost view = { λ s. record { row = s.row; given = s.given.rows; waiting = s.waiting.rows; line = s.line } };
+    ghost view = { λ s. record { row = s.row; given = s.given; waiting = loads_of s.waiting; line = s.line } };
 }
 
 impl Shelf {
@@ -42,33 +45,36 @@ impl Shelf {
         Shelf {
             alloc,
             row: None,
-            given: Table::new(alloc),
-            waiting: Table::new(alloc),
+            given: Given::new(alloc),
+            waiting: Waiting::new(alloc),
             line: Line::new(alloc, number),
         }
     }
 
     /// The shelf of the handset of that row, with the references that were given there. Nothing waits, and its line is new.
-    pub fn of_row(alloc: Global, row: HandsetRow, given: Table<ReferenceRow>) -> Shelf
-        ensures { result ≡ record { row = Some row; given = given.rows; waiting = []; line = new_line row.number } }
+    pub fn of_row(
+        alloc: Global,
+        row: HandsetRow,
+        given: Table<ReferenceRow>,
+    ) -> Result<Shelf, AllocError>
+        ensures { IfOk result (λ shelf. shelf ≡ record { row = Some row; given = given.rows; waiting = []; line = new_line row.number }) }
     {
-        let waiting = Table::new(alloc);
-        let line = Line::new(alloc, row.number);
-        Shelf {
+        let given = Given::of(alloc, given)?;
+        Ok(Shelf {
             alloc,
             row: Some(row),
             given,
-            waiting,
-            line,
-        }
+            waiting: Waiting::new(alloc),
+            line: Line::new(alloc, row.number),
+        })
     }
 
-    /// The same, in memory of its own.
+    /// The same. Most of what waits and of the references that were given is in the same memory, so that a copy costs little.
     pub fn copy(&self) -> Result<Shelf, AllocError>
         ensures { IfOk result (λ shelf. shelf ≡ self.now) }
     {
-        let given = table_copy(self.alloc, &self.given)?;
-        let waiting = table_copy(self.alloc, &self.waiting)?;
+        let given = self.given.copy()?;
+        let waiting = self.waiting.copy()?;
         let line = self.line.copy()?;
         Ok(Shelf {
             alloc: self.alloc,
@@ -93,11 +99,11 @@ impl Shelf {
         self.row
     }
 
-    /// What waits, in the order of messages and numbers.
-    pub fn waiting(&self) -> &[Load]
-        ensures { result.now ≡ self.now.waiting }
+    /// What waits, in the order of messages and numbers, in memory of its own.
+    pub fn waiting(&self) -> Result<Vec<Load>, AllocError>
+        ensures { IfOk result (λ loads. loads.items ≡ self.now.waiting) }
     {
-        self.waiting.as_slice()
+        self.waiting.loads()
     }
 
     /// The row of the handset, which takes that place if it was given no reference.
@@ -120,7 +126,7 @@ impl Shelf {
     pub fn load(&self, id: MessageId, number: u8) -> Option<Load>
         ensures { result ≡ row_at load_key (pair_key id number) self.now.waiting }
     {
-        self.waiting.find(Key::pair(id.number(), number)).copied()
+        self.waiting.find(Key::pair(id.number(), number))
     }
 
     /// One more waits, or the one of that message and number waits otherwise.
@@ -132,29 +138,26 @@ impl Shelf {
     }
 
     /// That one waits no more.
-    pub fn remove(&mut self, id: MessageId, number: u8)
-        ensures { self.new ≡ shelf_without (pair_key id number) self.old }
+    pub fn remove(&mut self, id: MessageId, number: u8) -> Result<(), AllocError>
+        ensures { OnOk result (self.new ≡ shelf_without (pair_key id number) self.old) }
     {
-        self.waiting.remove(Key::pair(id.number(), number));
+        self.waiting.remove(Key::pair(id.number(), number))?;
+        Ok(())
     }
 
     /// No part of that message waits any more.
-    #[tactic(auto, using(sms_waiting::proofs::Withdrawing::rises_withdrawn))]
     pub fn withdraw(&mut self, id: MessageId) -> Result<(), AllocError>
         ensures { OnOk result (self.new ≡ shelf_withdrawn id self.old) }
     {
-        let loads = loads_but(self.alloc, self.waiting.as_slice(), id)?;
-        self.waiting = Table::from_vec(loads);
+        self.waiting.withdraw(id)?;
         Ok(())
     }
 
     /// All that waits is due at that moment.
-    #[tactic(auto, using(sms_waiting::proofs::Dues::rises_at_once))]
     pub fn due_at(&mut self, now: Moment) -> Result<(), AllocError>
         ensures { OnOk result (self.new ≡ shelf_at_once now self.old) }
     {
-        let loads = loads_due_at(self.alloc, self.waiting.as_slice(), now)?;
-        self.waiting = Table::from_vec(loads);
+        self.waiting.due_at(now)?;
         Ok(())
     }
 
@@ -162,14 +165,14 @@ impl Shelf {
     pub fn next(&self, now: Moment) -> Option<Load>
         ensures { result ≡ next_of now self.now.waiting }
     {
-        first_due(self.waiting.as_slice(), now)
+        self.waiting.next(now)
     }
 
     /// Whether another one is due beside it.
     pub fn waits_beside(&self, now: Moment, chosen: &Load) -> bool
         ensures { result ≡ waits_beside_of now chosen.now self.now.waiting }
     {
-        is_due_beside(self.waiting.as_slice(), now, chosen)
+        self.waiting.waits_beside(now, chosen)
     }
 }
 
@@ -179,7 +182,7 @@ impl Shelf {
     pub fn next_reference(&self, row: &HandsetRow, now: Moment) -> Option<u8>
         ensures { result ≡ next_reference_of row.now self.now.waiting self.now.given now }
     {
-        let held = held_references(self.waiting.as_slice());
+        let held = self.waiting.held_references();
         let mut reference = following(row.last_reference);
         for turn in 0u16..256 {
             if self.is_free(row, now, &held, reference) {
@@ -308,111 +311,9 @@ impl Shelf {
     }
 }
 
-fn table_copy<T: Copy + Drop + Row>(alloc: Global, table: &Table<T>) -> Result<Table<T>, AllocError>
-    ensures { IfOk result (λ copy. copy.rows ≡ table.now.rows) }
-{
-    let rows = Vec::from_slice(alloc, table.as_slice())?;
-    Ok(Table::from_vec(rows))
-}
-
 // The reference behind that one, 0 behind 255.
 fn following(reference: u8) -> u8
     ensures { result ≡ following_of reference }
 {
     reference.wrapping_add(1)
-}
-
-// No reference is held.
-fn none_held() -> [bool; 256]
-    ensures { AreHeld result [] }
-{
-    [false; 256]
-}
-
-fn hold(held: &mut [bool; 256], reference: u8)
-    ensures this { slice_get held.new reference ≡ Some true }
-    ensures others { (r : ℕ) → r ≢ reference → slice_get held.new r ≡ slice_get held.old r }
-{
-    held[usize::from(reference)] = true;
-}
-
-// For each reference whether something that waits holds it. So a reference is found in one walk through what waits, also where the
-// handset holds nearly all of them.
-fn held_references(waiting: &[Load]) -> [bool; 256]
-    ensures { AreHeld result waiting.now }
-{
-    let mut held = none_held();
-    for load in waiting {
-        hold(&mut held, load.reference);
-    }
-    held
-}
-
-fn loads_due_at(alloc: Global, waiting: &[Load], now: Moment) -> Result<Vec<Load>, AllocError>
-    ensures { IfOk result (λ loads. loads.items ≡ all_at_once now waiting.now) }
-{
-    waiting
-        .iter()
-        .map(|load| Load { due: now, ..*load })
-        .collect(alloc)
-}
-
-// All but the parts of that message.
-fn loads_but(alloc: Global, waiting: &[Load], id: MessageId) -> Result<Vec<Load>, AllocError>
-    ensures { IfOk result (λ loads. loads.items ≡ withdrawn id waiting.now) }
-{
-    let mut loads = Vec::with_capacity(alloc, waiting.len())?;
-    for load in waiting {
-        if !is_part_of(load, id) {
-            loads.push(*load)?;
-        }
-    }
-    Ok(loads)
-}
-
-fn is_part_of(load: &Load, id: MessageId) -> bool
-    ensures { result ≡ is_part_of_message id load.now }
-{
-    load.id.number() == id.number() && load.number != 0
-}
-
-// Looked through from the end, so that what is left is what the definition has behind it.
-fn first_due(waiting: &[Load], now: Moment) -> Option<Load>
-    ensures { result ≡ next_of now waiting.now }
-{
-    let mut first: Option<Load> = None;
-    for i in 0..waiting.len() {
-        first = first_of_both(waiting[waiting.len() - 1 - i], now, first);
-    }
-    first
-}
-
-// Of the load, if it is due, and the other the one that goes first; the load, where they are told apart by nothing.
-fn first_of_both(load: Load, now: Moment, other: Option<Load>) -> Option<Load>
-    ensures { result ≡ preceding (if_due now load) other }
-{
-    if !load.is_due(now) {
-        return other;
-    }
-    match other {
-        Some(other) if other.precedes(&load) => Some(other),
-        _ => Some(load),
-    }
-}
-
-fn is_due_beside(waiting: &[Load], now: Moment, chosen: &Load) -> bool
-    ensures { result ≡ waits_beside_of now chosen.now waiting.now }
-{
-    for load in waiting {
-        if load.is_due(now) && !is_same(load, chosen) {
-            return true;
-        }
-    }
-    false
-}
-
-fn is_same(load: &Load, other: &Load) -> bool
-    ensures { result ≡ is_same_of load.now other.now }
-{
-    load.id.number() == other.id.number() && load.number == other.number
 }

@@ -40,7 +40,7 @@ impl PendingShelves {
             → Waits number (without load_key (pair_key id load)) waiting after → Shows g air after self.new) }
     {
         let mut placed = self.take_out(number)?;
-        placed.shelf.remove(id, load);
+        placed.shelf.remove(id, load)?;
         self.put_back(number, placed)
     }
 

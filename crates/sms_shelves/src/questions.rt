@@ -20,14 +20,15 @@ use sms_waiting::Load;
 use std::alloc::AllocError;
 
 impl PendingShelves {
-    /// What waits for the handset, in the order of messages and numbers.
-    pub fn waiting(&self, number: &Digits) -> &[Load]
+    /// What waits for the handset, in the order of messages and numbers, in memory of its own.
+    pub fn waiting(&self, number: &Digits) -> Result<Vec<Load>, AllocError>
         requires digits { AllDigits number.now }
-        ensures { (g : Givings) (air : Air) (waiting : List ℕ → List LoadOf) → Shows g air waiting self.now → result.now ≡ waiting number.now }
+        ensures { (g : Givings) (air : Air) (waiting : List ℕ → List LoadOf) → Shows g air waiting self.now
+            → IfOk result (λ loads. loads.items ≡ waiting number.now) }
     {
         match self.placed(Key::digits(number).number()) {
             Some(placed) => placed.shelf.waiting(),
-            None => &[],
+            None => Ok(Vec::new(self.alloc)),
         }
     }
 

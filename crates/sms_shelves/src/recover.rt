@@ -97,7 +97,7 @@ fn restore(
 {
     let given = given_there(alloc, handset, references)?;
     let placed = Placed {
-        shelf: Shelf::of_row(alloc, *handset, given),
+        shelf: Shelf::of_row(alloc, *handset, given)?,
         came: 0,
     };
     match shelves.insert(Key::digits(&handset.number).number(), placed) {

@@ -94,7 +94,7 @@ impl<'a> Working<'a> {
         requires digits { AllDigits handset }
         ensures { (d : Draft) → Shows d self.now → IfOk result (λ loads. loads.items ≡ waiting_in handset d.store) }
     {
-        let loads = Vec::from_slice(self.alloc, self.shelves.waiting(&handset))?;
+        let loads = self.shelves.waiting(&handset)?;
         Ok(loads)
     }
 

@@ -47,12 +47,12 @@ fn waits_in_order(shelf: &mut Shelf) -> Result<(), Fail> {
 }
 
 fn goes_on(shelf: &mut Shelf) -> Result<(), Fail> {
-    shelf.remove(message(2)?, 1);
+    shelf.remove(message(2)?, 1)?;
     shelf.due_at(at(90)?)?;
     holds(goes_next(shelf, 90, 1, 1)?, "all is due")?;
     holds(shelf.load(message(1)?, 2).is_some(), "the second part")?;
     shelf.withdraw(message(1)?)?;
-    holds(shelf.waiting().is_empty(), "nothing")
+    holds(shelf.waiting()?.is_empty(), "nothing")
 }
 
 #[test]

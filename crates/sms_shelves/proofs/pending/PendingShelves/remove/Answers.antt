@@ -7,4 +7,4 @@ use Rattle.sms_shelves.proofs.pending.PendingShelves.remove.Goals as goal
 pub returns : goal.returns
 returns c =
     waits_ok c.args.number (without load_key (pair_key c.args.id c.args.load)) c.in_ok-placed.placed c.remove.new.self c.args.self.now c.take_out.new.self c.put_back.new.self c.put_back.result c.requires.digits
-    c.in_ok-placed.ensures c.remove.ensures c.put_back.ensures
+    c.in_ok-placed.ensures c.in_ok-remove.ensures c.put_back.ensures

@@ -1,7 +1,7 @@
 use Rattle.std.proofs.Common.{◌<◌, false, Some, replicate, ap, sym, subst, ◌∙◌}
 use Rattle.std.proofs.lemmas.List.{get_or-replicate, length-replicate}
 use Rattle.std.proofs.lemmas.Option.{slice_get-get_or}
-use Rattle.sms_shelf.proofs.shelf.none_held.Goals as goal
+use Rattle.sms_shelf.proofs.held.none_held.Goals as goal
 
 pub returns : goal.returns
 returns c r low =

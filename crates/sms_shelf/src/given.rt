@@ -1,0 +1,140 @@
+//! The references that were given at a handset.
+ghost use Rattle.std.specs.Prelude.{◌≡◌, [], IfOk, OnOk, option_copied};
+ghost use Rattle.sms_table.specs.Table.{put, row_at};
+ghost use Rattle.sms_waiting.specs.Keys.{reference_key};
+ghost use Rattle.sms_shelf.specs.Given.{all_put, newest as newest_of};
+
+use crate::base::Base;
+use sms_table::{Key, Row, Table};
+use sms_waiting::ReferenceRow;
+use std::alloc::{AllocError, Global};
+use std::marker::Model;
+
+// So many stand beside the shared ones at most: few to copy, and seldom are all of them copied.
+const MOST_NEWER: usize = 16;
+
+/// The references that were given at a handset, in their order. Copies share all but those that were given last, since a copy of
+/// all of them would cost an event more than all else that it does.
+#[derive(Drop)]
+pub(crate) struct Given {
+    alloc: Global,
+    base: Base<ReferenceRow>,
+    // Those that were given since, the oldest first.
+    newer: Vec<ReferenceRow>,
+}
+
+impl Model for Given {
+    ghost use Rattle.std.specs.Prelude.{List};
+    ghost use Rattle.sms_waiting.specs.Keys.{reference_key};
+    ghost use Rattle.sms_waiting.specs.declared.reference.ReferenceRow.{ReferenceRow as ReferenceRowOf};
+    ghost use Rattle.sms_shelf.specs.Given.{all_put};
+
+    ghost Value = { List ReferenceRowOf };
+
+    ghost view = { λ g. all_put reference_key g.newer.items g.base };
+}
+
+impl Given {
+    /// None was given.
+    pub(crate) fn new(alloc: Global) -> Given
+        ensures { result ≡ [] }
+    {
+        Given {
+            alloc,
+            base: Base::new(),
+            newer: Vec::new(alloc),
+        }
+    }
+
+    /// The rows of the table.
+    pub(crate) fn of(alloc: Global, rows: Table<ReferenceRow>) -> Result<Given, AllocError>
+        ensures { IfOk result (λ given. given ≡ rows.rows) }
+    {
+        let base = Base::of(alloc, rows)?;
+        Ok(Given {
+            alloc,
+            base,
+            newer: Vec::new(alloc),
+        })
+    }
+
+    /// The same, with the shared ones in the same memory.
+    pub(crate) fn copy(&self) -> Result<Given, AllocError>
+        ensures { IfOk result (λ given. given ≡ self.now) }
+    {
+        let base = self.base.share()?;
+        let newer = Vec::from_slice(self.alloc, self.newer.as_slice())?;
+        Ok(Given {
+            alloc: self.alloc,
+            base,
+            newer,
+        })
+    }
+
+    /// The row of that key, if there is one.
+    #[tactic(auto, using(crate::proofs::Putting::row_at_all_put))]
+    pub(crate) fn find(&self, key: Key) -> Option<&ReferenceRow>
+        ensures { option_copied result ≡ row_at reference_key key self.now }
+    {
+        match newest(self.newer.as_slice(), key) {
+            Some(row) => Some(row),
+            None => self.base.find(key),
+        }
+    }
+
+    /// Puts a row in the place of that of its key, or where its key belongs.
+    #[tactic(auto, using(crate::proofs::Putting::all_put_push))]
+    pub(crate) fn put(&mut self, row: ReferenceRow) -> Result<(), AllocError>
+        ensures { OnOk result (self.new ≡ put reference_key row self.old) }
+    {
+        if self.newer.len() >= MOST_NEWER {
+            self.share_all()?;
+        }
+        self.newer.push(row)?;
+        Ok(())
+    }
+
+    // All of them stand where copies share them.
+    fn share_all(&mut self) -> Result<(), AllocError>
+        ensures { OnOk result (self.new ≡ self.old) }
+    {
+        let rows = self.rows()?;
+        let base = Base::of(self.alloc, rows)?;
+        let newer = Vec::new(self.alloc);
+        self.base = base;
+        self.newer = newer;
+        Ok(())
+    }
+
+    // All rows, in memory of their own.
+    fn rows(&self) -> Result<Table<ReferenceRow>, AllocError>
+        ensures { IfOk result (λ rows. rows.rows ≡ self.now) }
+    {
+        let rows = Vec::from_slice(self.alloc, self.base.as_slice())?;
+        let mut rows = Table::from_vec(rows);
+        put_all(&mut rows, self.newer.as_slice())?;
+        Ok(rows)
+    }
+}
+
+// The last of the rows that has that key.
+fn newest(rows: &[ReferenceRow], key: Key) -> Option<&ReferenceRow>
+    ensures { option_copied result ≡ newest_of reference_key key rows.now }
+{
+    for i in 0..rows.len() {
+        let row = &rows[rows.len() - 1 - i];
+        if row.key().number() == key.number() {
+            return Some(row);
+        }
+    }
+    None
+}
+
+fn put_all(table: &mut Table<ReferenceRow>, rows: &[ReferenceRow]) -> Result<(), AllocError>
+    ensures { OnOk result (table.new.rows ≡ all_put reference_key rows.now table.old.rows) }
+{
+    for row in rows {
+        table.put(*row)?;
+    }
+    Ok(())
+}
