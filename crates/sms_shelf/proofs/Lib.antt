@@ -1,4 +1,4 @@
-pub mod Held
+pub mod Holding
 pub mod Parted
 pub mod Putting
 pub mod Scheduling

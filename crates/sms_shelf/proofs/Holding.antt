@@ -17,7 +17,7 @@ is_held_push r [] l = or_false (l.reference == r)
 is_held_push r (x ∷ ls) l = ap (λ b. x.reference == r || b) (is_held_push r ls l) ∙ or_both (x.reference == r) (is_held r ls) (l.reference == r)
 
 -- one more behind others
-pub is_held_behind : (r : ℕ) (others ls : List Load) (l : Load) → is_held r (others ++ ls ++ l ∷ []) ≡ (is_held r (others ++ ls) || l.reference == r)
+pub is_held_behind : (r : ℕ) (others ls : List Load) (l : Load) → is_held r (others ++ (ls ++ l ∷ [])) ≡ (is_held r (others ++ ls) || l.reference == r)
 is_held_behind r [] ls l = is_held_push r ls l
 is_held_behind r (x ∷ others) ls l =
     ap (λ b. x.reference == r || b) (is_held_behind r others ls l) ∙ or_both (x.reference == r) (is_held r (others ++ ls)) (l.reference == r)
