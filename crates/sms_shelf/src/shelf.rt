@@ -1,5 +1,5 @@
 //! All that concerns one handset.
-ghost use Rattle.std.specs.Prelude.{◌≡◌, ◌<◌, ◌≤◌, [], length, Some, None, IfOk, OnOk};
+ghost use Rattle.std.specs.Prelude.{◌≡◌, ◌<◌, ◌≤◌, [], length, true, Some, None, IfOk, OnOk};
 ghost use Rattle.sms_link.specs.LinkTurn.{begun, fired, replied, taken};
 ghost use Rattle.sms_table.specs.Keys.{pair_key};
 ghost use Rattle.sms_table.specs.Table.{row_at};
@@ -60,12 +60,14 @@ impl Shelf {
         ensures { IfOk result (λ shelf. shelf ≡ record { row = Some row; given = given.rows; waiting = []; line = new_line row.number }) }
     {
         let given = Given::of(alloc, given)?;
+        let waiting = Waiting::new(alloc);
+        let line = Line::new(alloc, row.number);
         Ok(Shelf {
             alloc,
             row: Some(row),
             given,
-            waiting: Waiting::new(alloc),
-            line: Line::new(alloc, row.number),
+            waiting,
+            line,
         })
     }
 

@@ -74,13 +74,14 @@ impl Waiting {
         ensures all { IfOk result (λ loads. loads.items ≡ loads_of self.now) }
         ensures order { Rises load_key (loads_of self.now) }
     {
-        joined(self.alloc, self.base.as_slice(), self.newer.as_slice())
+        let table = self.table()?;
+        Ok(table.into_vec())
     }
 
     fn table(&self) -> Result<Table<Load>, AllocError>
         ensures { IfOk result (λ table. table.rows ≡ loads_of self.now) }
     {
-        let loads = self.loads()?;
+        let loads = joined(self.alloc, self.base.as_slice(), self.newer.as_slice())?;
         Ok(Table::from_vec(loads))
     }
 }
@@ -218,6 +219,7 @@ impl Waiting {
         Ok(())
     }
 
+    #[tactic(auto, using(crate::proofs::Parted::without_parted, crate::proofs::Parted::rises_without_parted))]
     fn remove_newer(&mut self, key: Key)
         requires { AllBelow load_key key self.old.base }
         ensures { loads_of self.new ≡ without load_key key (loads_of self.old) }

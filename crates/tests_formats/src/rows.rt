@@ -10,11 +10,3 @@ pub(crate) fn holds(row: bool, name: &str) -> Result<(), Fail> {
 pub(crate) fn are(octets: &[u8], others: &[u8]) -> bool {
     octets == others
 }
-
-/// Whether a code, if there is one, is that.
-pub(crate) fn is_code(code: Option<&str>, wanted: &str) -> bool {
-    match code {
-        Some(code) => code == wanted,
-        None => false,
-    }
-}
