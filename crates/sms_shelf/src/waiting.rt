@@ -71,8 +71,7 @@ impl Waiting {
 
     /// All of it, in memory of its own.
     pub(crate) fn loads(&self) -> Result<Vec<Load>, AllocError>
-        ensures all { IfOk result (λ loads. loads.items ≡ loads_of self.now) }
-        ensures order { Rises load_key (loads_of self.now) }
+        ensures { IfOk result (λ loads. loads.items ≡ loads_of self.now) }
     {
         let table = self.table()?;
         Ok(table.into_vec())
