@@ -1,10 +1,9 @@
 -- An answer that was taken is acknowledged alone, as the links below acknowledge it.
-use Rattle.std.proofs.Common.{◌≡◌, ℕ, ◌==◌, ◌<◌, eqb, Bool, List, [], ◌∷◌, true, false, refl, sym, ◌∙◌, ap, subst, Option, Some, None, Result, Ok, Err}
+use Rattle.std.proofs.Common.{◌≡◌, ℕ, ◌==◌, ◌<◌, Bool, List, [], ◌∷◌, true, false, refl, sym, ◌∙◌, ap, subst, Option, Some, None, Result, Ok, Err}
 use Rattle.std.specs.Prelude.{if◌then◌else◌}
 use Rattle.std.specs.Option.{option_map}
 use Rattle.std.proofs.lemmas.Bool.{eqb-true}
 use Rattle.sms_base.specs.declared.carried.Carried.{Carried}
-use Rattle.sms_control.specs.declared.fault.CpFault.{CpFault}
 use Rattle.sms_control.specs.declared.link_state.Begun.{Begun}
 use Rattle.sms_control.specs.declared.link_state.LinkState.{LinkState}
 use Rattle.sms_control.specs.declared.message.Cp.{Cp}
@@ -14,8 +13,8 @@ use Rattle.sms_control.specs.declared.out.Up.TheVariants.{Unit as UnitUp, Failed
 use Rattle.sms_control.specs.declared.transaction.TransactionFlag.TheVariants.{FromOriginator, ToOriginator}
 use Rattle.sms_control.specs.ControlGrammar.{spelled}
 use Rattle.sms_control.specs.ControlReading.{cp_at}
-use Rattle.sms_control.specs.LinkRuns.{step, run as links_run, IsNoAnswer as LinksNoAnswer, NoneAnswered as LinksNoneAnswered}
-use Rattle.sms_control.specs.LinkStep.{Step, quiet, in_transaction, is_busy, started as links_started, begin_step, reply_step, is_same, has_begun, answer_taken, take_step, fire_step}
+use Rattle.sms_control.specs.LinkRuns.{step, IsNoAnswer as LinksNoAnswer, NoneAnswered as LinksNoneAnswered}
+use Rattle.sms_control.specs.LinkStep.{Step, quiet, in_transaction, is_busy, started as links_started, begin_step, is_same, has_begun, answer_taken, take_step, fire_step}
 use Rattle.sms_control.proofs.AnswerLaws.{acknowledged_alone}
 use Rattle.sms_control.proofs.ControlFrames.{spelled_again}
 use Rattle.sms_control.proofs.LinkLaws.{either}
@@ -24,19 +23,18 @@ use Rattle.sms_relay.specs.declared.fault.RelayFault.{RelayFault}
 use Rattle.sms_relay.specs.declared.frame.Rp.{Rp}
 use Rattle.sms_relay.specs.declared.frame.Rp.TheVariants.{DataUnit as RpData, AckUnit as RpAck, ErrorUnit as RpError, Smma}
 use Rattle.sms_link.specs.declared.ending.Ending.{Ending}
-use Rattle.sms_link.specs.declared.ending.Ending.TheVariants.{Acknowledged, Refused, Wrong, Lost}
+use Rattle.sms_link.specs.declared.ending.Ending.TheVariants.{Acknowledged, Refused, Wrong}
 use Rattle.sms_link.specs.declared.ending.Side.{Side}
-use Rattle.sms_link.specs.declared.ending.Upward.{Upward}
 use Rattle.sms_link.specs.declared.ending.Upward.TheVariants.{Ended}
 use Rattle.sms_link.specs.declared.outgoing.Outgoing.{Outgoing}
 use Rattle.sms_link.specs.Ending.{unit_at, ended_by}
 use Rattle.sms_link.specs.LinkCalls.{LinkCall, Begin, Reply, Take, Fire, turn, run}
-use Rattle.sms_link.specs.LinkTurn.{LinkOf, new_link, carried_in, from_links, came_up, taken}
+use Rattle.sms_link.specs.LinkTurn.{LinkOf, new_link, from_links, came_up, taken}
 use Rattle.sms_link_runs.specs.AnswersTaken.{Answers, IsLost, IsNoAnswer, NoneAnswered, acknowledgement_of}
 use Rattle.sms_link_runs.specs.UnderWay.{under_way_by, under_way_after}
 use Rattle.sms_link_runs.proofs.LinksBelow.{call_of, calls_of, turn_follows, run_follows}
 use Rattle.sms_link_runs.proofs.OwnSteps.{Moves, FitsFrame, FitsTimer, take_goes, fire_goes, reply_leaves}
-use Rattle.sms_link_runs.proofs.BegunTold.{Began, Told, Tells, ended_told, turn_tells, calls_tell}
+use Rattle.sms_link_runs.proofs.BegunTold.{Told, Tells, ended_told, turn_tells, calls_tell}
 use Rattle.sms_link_runs.proofs.Endings.{answer_is}
 
 -- ---- an answer that is taken below comes up as one

@@ -1,5 +1,5 @@
 -- What is under way at one end of a link is what its links have begun, under the same identifier.
-use Rattle.std.proofs.Common.{◌≡◌, ℕ, ◌+◌, ◌%◌, ◌<◌, arith, List, [], ◌∷◌, true, false, refl, sym, ◌∙◌, ap, subst, Option, Some, None}
+use Rattle.std.proofs.Common.{◌≡◌, ℕ, ◌<◌, arith, List, [], ◌∷◌, refl, sym, ap, subst, Option, Some, None}
 use Rattle.std.specs.Option.{option_map}
 use Rattle.sms_base.specs.declared.carried.Carried.{Carried}
 use Rattle.sms_base.specs.declared.carried.Kind.{Kind}
@@ -25,7 +25,7 @@ use Rattle.sms_link.specs.LinkCalls.{LinkCall, Begin, Reply, Take, Fire, turn, r
 use Rattle.sms_link.specs.LinkTurn.{LinkOf, Turn, new_link, still, carrying, of_kind, started, begun, answering, replied, came_up, still_under_way, heard}
 use Rattle.sms_link.proofs.Known.{by_test, begin_is}
 use Rattle.sms_link_runs.specs.UnderWay.{if_begun, if_ended, under_way_by, under_way_over, under_way_after}
-use Rattle.sms_link_runs.proofs.OwnSteps.{Stays, Ends, Moves, Goes, FitsFrame, FitsTimer, Untouched, take_goes, fire_goes, reply_leaves}
+use Rattle.sms_link_runs.proofs.OwnSteps.{Stays, Ends, Moves, Goes, FitsFrame, FitsTimer, take_goes, fire_goes, reply_leaves}
 
 -- ---- what holds between calls
 

@@ -1,14 +1,13 @@
 -- What ends at one end of a link is what is under way, and an answer comes up where its identifier is that.
-use Rattle.std.proofs.Common.{◌≡◌, ◌⊎◌, ℕ, ◌+◌, ◌*◌, arith, eqb, List, [], ◌∷◌, true, false, inl, inr, refl, sym, ◌∙◌, ap, subst, Option, Some, None, Result, Ok, Err}
+use Rattle.std.proofs.Common.{◌≡◌, ℕ, ◌+◌, ◌*◌, arith, List, [], true, inl, inr, refl, sym, ◌∙◌, ap, subst, Option, Some, None, Result, Ok, get_or}
 use Rattle.std.specs.Option.{option_map}
 use Rattle.std.proofs.lemmas.Bool.{eqb-true, eq-eqb}
 use Rattle.sms_base.specs.declared.carried.Carried.{Carried}
-use Rattle.sms_control.specs.declared.cause.CpCause.{CpCause}
 use Rattle.sms_control.specs.declared.fault.CpFault.{CpFault}
 use Rattle.sms_control.specs.declared.link_state.Begun.{Begun}
 use Rattle.sms_control.specs.declared.link_state.LinkState.{LinkState}
 use Rattle.sms_control.specs.declared.message.Cp.{Cp}
-use Rattle.sms_control.specs.declared.message.Cp.TheVariants.{DataUnit, ErrorUnit}
+use Rattle.sms_control.specs.declared.message.Cp.TheVariants.{DataUnit}
 use Rattle.sms_control.specs.declared.out.Up.{Up}
 use Rattle.sms_control.specs.declared.out.Up.TheVariants.{Unit as UnitUp, Failed}
 use Rattle.sms_control.specs.declared.transaction.TransactionFlag.TheVariants.{FromOriginator, ToOriginator}
@@ -20,15 +19,14 @@ use Rattle.sms_control.proofs.TurnLaws.{by_test}
 use Rattle.sms_link.specs.declared.ending.Ending.{Ending}
 use Rattle.sms_link.specs.declared.ending.Ending.TheVariants.{Lost}
 use Rattle.sms_link.specs.declared.ending.Side.{Side}
-use Rattle.sms_link.specs.declared.ending.Upward.{Upward}
 use Rattle.sms_link.specs.declared.ending.Upward.TheVariants.{Ended}
 use Rattle.sms_link.specs.declared.outgoing.Outgoing.{Outgoing}
 use Rattle.sms_link.specs.Ending.{unit_at, ended_by}
 use Rattle.sms_link.specs.LinkCalls.{LinkCall, run, first_sending}
 use Rattle.sms_link.specs.LinkTurn.{LinkOf, new_link, came_up, taken, fired}
-use Rattle.sms_link_runs.specs.UnderWay.{under_way_after, IsUnderWay, EndsAsAnswered, EndsAsFailed, EndsByFrame, EndsAlone}
-use Rattle.sms_link_runs.proofs.OwnSteps.{Ends, Moves, FitsFrame, FitsTimer, take_goes, fire_goes}
-use Rattle.sms_link_runs.proofs.BegunTold.{Began, Told, Tells, ended_told, calls_tell}
+use Rattle.sms_link_runs.specs.UnderWay.{under_way_after, IsUnderWay, EndsByFrame, EndsByTimer}
+use Rattle.sms_link_runs.proofs.OwnSteps.{Moves, FitsFrame, FitsTimer, take_goes, fire_goes}
+use Rattle.sms_link_runs.proofs.BegunTold.{Began, Told, ended_told, calls_tell}
 
 -- ---- what ends
 
@@ -63,7 +61,7 @@ module _ (side : Side) (frame : Result Cp CpFault) (before after : Option Begun)
         ends = inr (record { cause = m.fits.0; is_error = m.fits.1; is_lost = sym is.1 });
       }
 
-  by_timer : (up : Option Up) → Moves FitsTimer before after up → came_up side c up ≡ Some (Ended transfer ending) → EndsAlone w transfer ending
+  by_timer : (up : Option Up) → Moves FitsTimer before after up → came_up side c up ≡ Some (Ended transfer ending) → EndsByTimer w transfer ending
   by_timer None m e = absurd cc
   by_timer (Some (UnitUp FromOriginator unit)) m e = absurd cc
   by_timer (Some (UnitUp ToOriginator unit)) m e = absurd m.fits
@@ -87,8 +85,10 @@ same_identifier : (i j : ℕ) (c : Option Carried) (w : Option Outgoing) (transf
 same_identifier i j c w transfer u b =
     let both : Some (first_sending (spelled (DataUnit (in_transaction FromOriginator i) u.unit)) transfer) ≡ Some (first_sending (spelled (DataUnit (in_transaction FromOriginator j) b.unit)) b.transfer) =
     sym u.began ∙ b.is_first in
-    let heads : 9 + 16 * i + 0 ≡ 9 + 16 * j + 0 = cc in
-    (omega (arith, heads), cc)
+    let one : first_sending (spelled (DataUnit (in_transaction FromOriginator i) u.unit)) transfer ≡ first_sending (spelled (DataUnit (in_transaction FromOriginator j) b.unit)) b.transfer = cc in
+    let heads : 9 + 16 * i + 0 ≡ 9 + 16 * j + 0 = ap (λ (f : Outgoing). get_or f.octets 0 0) one in
+    let carried : Some transfer ≡ Some b.transfer = ap (λ (f : Outgoing). f.carried) one in
+    (omega (arith, heads), let same : transfer ≡ b.transfer = cc in sym same)
 
 own_comes_up : (l : LinkOf) (w : Option Outgoing) (frame unit : List ℕ) (i : ℕ) (transfer : Carried) (b : Option Begun) → l.links.begun ≡ b → Told b l.under_way w → IsUnderWay i transfer w
     → (let t = answer_taken frame unit (in_transaction ToOriginator i) l.links in came_up l.side l.under_way t.out.up ≡ Some (Ended transfer (ended_by transfer.reference (unit_at l.side unit))))
@@ -126,7 +126,7 @@ ends_by_frame side calls frame transfer ending up =
     (ap (λ (s : Side). came_up s l.under_way t.out.up) (sym h.side_is) ∙ up)
 
 pub ends_by_timer : (side : Side) (calls : List LinkCall) (now : ℕ) (transfer : Carried) (ending : Ending) → (fired now (run calls (new_link side))).out.up ≡ Some (Ended transfer ending)
-    → EndsAlone (under_way_after calls side) transfer ending
+    → EndsByTimer (under_way_after calls side) transfer ending
 ends_by_timer side calls now transfer ending up =
     let l = run calls (new_link side) in
     let t = fire_step now l.links in

@@ -3,8 +3,7 @@ use Rattle.std.proofs.Common.{◌≡◌, ℕ, zero, suc, ◌+◌, ◌*◌, ◌-�
 use Rattle.std.specs.Prelude.{if◌then◌else◌}
 use Rattle.std.specs.Str.{bytes_eq}
 use Rattle.sms_control.specs.declared.link_state.LinkState.{LinkState}
-use Rattle.sms_control.specs.LinkRuns.{step, run as links_run, times as links_times, sent_by as links_sent_by, repeated_by as links_repeated_by, sendings as links_sendings, repeats as links_repeats}
-use Rattle.sms_control.specs.LinkStep.{fresh}
+use Rattle.sms_control.specs.LinkRuns.{step, times as links_times, sent_by as links_sent_by, repeated_by as links_repeated_by, sendings as links_sendings, repeats as links_repeats}
 use Rattle.sms_control.proofs.RepetitionLaws.{repeats_at_most_twice}
 use Rattle.sms_link.specs.declared.ending.Side.{Side}
 use Rattle.sms_link.specs.declared.outgoing.Outgoing.{Outgoing}
@@ -86,12 +85,12 @@ call_bounded frame c cs l most zero e lasting bounded rest =
     let again : ℕ = repeated_by frame c (turn c l).out in
     let top : again + 0 ≤ most = bounded (c ∷ []) (omega (arith, e)) in
     let less : Bounded frame (most - again) (turn c l).link = λ after none. let all = bounded (c ∷ after) (omega (arith, e, none)) in omega (arith, all) in
-    let then = rest (most - again) less in
-    omega (arith, e, top, then)
+    let others = rest (most - again) less in
+    omega (arith, e, top, others)
 call_bounded frame c cs l most (suc n) e lasting bounded rest =
     let none = no_timer frame c l n e in
-    let then = rest 2 (λ after z. lasting (c ∷ []) after z) in
-    omega (arith, e, none, then)
+    let others = rest 2 (λ after z. lasting (c ∷ []) after z) in
+    omega (arith, e, none, others)
 
 calls_bounded : (frame : List ℕ) (cs : List LinkCall) (l : LinkOf) (most : ℕ) → Lasting frame l → Bounded frame most l → repeats frame cs l ≤ most + 2 * sendings frame cs l
 calls_bounded frame [] l most lasting bounded = omega arith

@@ -1,5 +1,5 @@
 -- What the layer above never has sent, the links never send again.
-use Rattle.std.proofs.Common.{◌≡◌, ℕ, ◌+◌, ◌≤◌, arith, ◌&&◌, Bool, true, false, cond, List, [], ◌∷◌, ◌++◌, Result, Ok, Err, Option, Some, None, refl, is_some, is_none}
+use Rattle.std.proofs.Common.{◌≡◌, ℕ, ◌+◌, arith, ◌&&◌, Bool, true, false, cond, List, [], ◌∷◌, ◌++◌, Result, Ok, Err, Option, Some, None, refl, is_some, is_none}
 use Rattle.std.specs.Option.{option_map}
 use Rattle.std.specs.Str.{bytes_eq}
 use Rattle.sms_control.specs.declared.fault.CpFault.{CpFault}
@@ -9,17 +9,16 @@ use Rattle.sms_control.specs.declared.link_state.LinkState.{LinkState}
 use Rattle.sms_control.specs.declared.link_state.Opened.{Opened}
 use Rattle.sms_control.specs.declared.message.Cp.{Cp}
 use Rattle.sms_control.specs.declared.message.Cp.TheVariants.{DataUnit, AckUnit, ErrorUnit}
-use Rattle.sms_control.specs.declared.timers.Firing.{Firing}
 use Rattle.sms_control.specs.declared.transaction.Transaction.{Transaction}
 use Rattle.sms_control.specs.declared.transaction.TransactionFlag.{TransactionFlag}
 use Rattle.sms_control.specs.declared.transaction.TransactionFlag.TheVariants.{FromOriginator, ToOriginator}
 use Rattle.sms_control.specs.ControlGrammar.{spelled}
 use Rattle.sms_control.specs.ControlReading.{cp_at}
 use Rattle.sms_control.specs.LinkRuns.{Call, Begin, Reply, Take, Fire, step, times, sent_by, repeated_by, sendings, repeats}
-use Rattle.sms_control.specs.LinkStep.{Step, fresh, quiet, in_transaction, begin_step, reply_in, reply_step, is_same, has_begun, has_opened, answer_of, opening_of, frames_of, answer_frames, answer_taken, opening_taken, data_taken, ack_taken, error_taken, frame_taken, take_step, begun_fired, opened_fired, begun_frames, if_again, fire_step}
+use Rattle.sms_control.specs.LinkStep.{Step, fresh, quiet, in_transaction, begin_step, reply_in, reply_step, is_same, has_begun, has_opened, answer_of, opening_of, frames_of, answer_frames, data_taken, ack_taken, error_taken, frame_taken, take_step, begun_fired, opened_fired, begun_frames, if_again, fire_step}
 use Rattle.sms_control.specs.Timers.{sent_again, begun_firing, opened_firing}
 use Rattle.sms_control.proofs.FiringCases.{firing_cases}
-use Rattle.sms_control.proofs.LinkLaws.{either, state_of}
+use Rattle.sms_control.proofs.LinkLaws.{either}
 
 -- ---- it is not among the frames that the links may send again
 

@@ -1,5 +1,5 @@
 -- What the links do of their own accord to the transaction that this side began: it stays, or it ends by what comes up.
-use Rattle.std.proofs.Common.{◌≡◌, ℕ, ◌&&◌, List, true, false, eqb, Result, Ok, Err, Option, Some, None, refl, ap, subst, ◌∙◌, is_some, is_none}
+use Rattle.std.proofs.Common.{◌≡◌, ℕ, ◌&&◌, List, eqb, Result, Ok, Err, Option, Some, None, refl, ap, subst, ◌∙◌, is_some, is_none}
 use Rattle.std.specs.Option.{option_map}
 use Rattle.std.proofs.lemmas.Bool.{eqb-true}
 use Rattle.sms_control.specs.declared.cause.CpCause.{CpCause}
@@ -11,7 +11,6 @@ use Rattle.sms_control.specs.declared.message.Cp.{Cp}
 use Rattle.sms_control.specs.declared.message.Cp.TheVariants.{DataUnit, AckUnit, ErrorUnit}
 use Rattle.sms_control.specs.declared.out.Up.{Up}
 use Rattle.sms_control.specs.declared.out.Up.TheVariants.{Unit as UnitUp, Failed}
-use Rattle.sms_control.specs.declared.timers.Firing.{Firing}
 use Rattle.sms_control.specs.declared.transaction.Transaction.{Transaction}
 use Rattle.sms_control.specs.declared.transaction.TransactionFlag.{TransactionFlag}
 use Rattle.sms_control.specs.declared.transaction.TransactionFlag.TheVariants.{FromOriginator, ToOriginator}

@@ -74,7 +74,7 @@ pub record EndsByFrame (side : Side) (frame : Result Cp CpFault) (under_way : Op
   pub ends : EndsAsAnswered side identifier frame transfer ending ⊎ EndsAsFailed identifier frame ending
 
 -- a timer ends it
-pub record EndsAlone (under_way : Option Outgoing) (transfer : Carried) (ending : Ending) : Type 0 where
+pub record EndsByTimer (under_way : Option Outgoing) (transfer : Carried) (ending : Ending) : Type 0 where
   pub identifier : ℕ
   pub is_under_way : IsUnderWay identifier transfer under_way
   pub is_lost : ending ≡ Lost

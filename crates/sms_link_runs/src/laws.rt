@@ -14,7 +14,7 @@ ghost use Rattle.sms_link.specs.declared.ending.Side.{Side};
 ghost use Rattle.sms_link.specs.declared.ending.Upward.TheVariants.{Ended};
 ghost use Rattle.sms_link_runs.specs.AnswersTaken.{Answers, NoneAnswered, acknowledgement_of};
 ghost use Rattle.sms_link_runs.specs.FramesSent.{repeats, sendings};
-ghost use Rattle.sms_link_runs.specs.UnderWay.{EndsAlone, EndsByFrame, IsUnderWay, under_way_after};
+ghost use Rattle.sms_link_runs.specs.UnderWay.{EndsByTimer, EndsByFrame, IsUnderWay, under_way_after};
 
 /// A frame is sent three times at most: once as the layer above has it sent, and twice more by TC1* (3GPP TS 24.011
 /// 5.3.2.1). Wherever calls have led, timers send the same octets at most twice until the layer above has them sent anew
@@ -48,7 +48,7 @@ pub fn only_what_is_under_way_ends()
         → EndsByFrame side (cp_at frame) (under_way_after calls side) transfer ending }
     ensures timer { (side : Side) (calls : List LinkCall) (now : ℕ) (transfer : Carried) (ending : Ending)
         → (fired now (run calls (new_link side))).out.up ≡ Some (Ended transfer ending)
-        → EndsAlone (under_way_after calls side) transfer ending }
+        → EndsByTimer (under_way_after calls side) transfer ending }
 {}
 
 /// An answer that was taken is acknowledged alone until another answer is taken (3GPP TS 24.011 5.3.2.2): whatever else is
