@@ -85,7 +85,6 @@ fn shelves_of(
     Ok(shelves)
 }
 
-#[tactic(auto, using(crate::proofs::Listing::placed_as))]
 fn restore(
     alloc: Global,
     shelves: &mut IndexMap<u128, Placed>,
@@ -95,15 +94,31 @@ fn restore(
     ensures { OnOk result ((key : ℕ) → under key shelves.new.entries
         ≡ (if nat_eq key (digits_key handset.now.number) then Some (restored handset.now references.now.rows) else under key shelves.old.entries)) }
 {
-    let given = given_there(alloc, handset, references)?;
-    let placed = Placed {
-        shelf: Shelf::of_row(alloc, *handset, given)?,
-        came: 0,
-    };
-    match shelves.insert(Key::digits(&handset.number).number(), placed) {
+    let placed = restored_there(alloc, handset, references)?;
+    insert(shelves, Key::digits(&handset.number).number(), placed)
+}
+
+#[tactic(auto, using(crate::proofs::Listing::placed_as))]
+fn insert(shelves: &mut IndexMap<u128, Placed>, key: u128, placed: Placed) -> Result<(), AllocError>
+    ensures { OnOk result ((k : ℕ) → under k shelves.new.entries ≡ (if nat_eq k key then Some placed else under k shelves.old.entries)) }
+{
+    match shelves.insert(key, placed) {
         Ok(_) => Ok(()),
         Err(_) => Err(AllocError),
     }
+}
+
+// The shelf of the handset, with the references that were given there.
+fn restored_there(
+    alloc: Global,
+    handset: &HandsetRow,
+    references: &Table<ReferenceRow>,
+) -> Result<Placed, AllocError>
+    ensures { IfOk result (λ placed. placed ≡ restored handset.now references.now.rows) }
+{
+    let given = given_there(alloc, handset, references)?;
+    let shelf = Shelf::of_row(alloc, *handset, given)?;
+    Ok(Placed { shelf, came: 0 })
 }
 
 // The references that were given at the handset.

@@ -1,0 +1,3 @@
+pub mod FramesSent
+pub mod UnderWay
+pub mod AnswersTaken
