@@ -1,7 +1,8 @@
 //! Connections that come in.
 use crate::connection::{Connection, Ports, Side};
+use crate::refusing::refuse;
 use crossbeam_channel::Sender;
-use std::io::{Print, Read, Write};
+use std::io::Print;
 use std::net::TcpStream;
 use std::sync::atomic::{AtomicBool, AtomicUsize, Ordering};
 use std::sync::{Arc, Wait};
@@ -16,14 +17,6 @@ const PAUSE: u64 = 80;
 
 /// How many connections are open at most.
 pub const MOST_OPEN: usize = 32;
-
-// generic_nack with ESME_RBINDFAIL (SMPP v3.4 4.3 and 5.1.3).
-const NO_ROOM: [u8; 16] = [
-    0x00, 0x00, 0x00, 0x10, 0x80, 0x00, 0x00, 0x00, 0x00, 0x00, 0x00, 0x0D, 0x00, 0x00, 0x00, 0x00,
-];
-
-// CP-ERROR with the cause "congestion" behind its length (3GPP TS 24.011 7.2.3 and 8.1.4.2).
-const CONGESTION: [u8; 5] = [0x00, 0x03, 0x09, 0x10, 0x16];
 
 /// Who takes connections, and what it shares with the seats.
 #[derive(Drop)]
@@ -46,21 +39,6 @@ enum Came {
     Nobody,
     Served,
     Refused,
-}
-
-// Tells the other side that there is no room, as far as it listens. What it sent is read first, since a connection that is closed
-// over octets that nobody read loses what it was told.
-fn refuse(stream: TcpStream, side: Side) {
-    let mut stream = stream;
-    if stream.set_nonblocking(true).is_err() {
-        return;
-    }
-    let mut came = [0u8; 1024];
-    let _ = stream.read(&mut came);
-    let _ = match side {
-        Side::Application => stream.write(&NO_ROOM),
-        Side::Handset => stream.write(&CONGESTION),
-    };
 }
 
 impl<R: Wait> Porter<R> {

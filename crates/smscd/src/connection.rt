@@ -1,6 +1,7 @@
 //! A connection that was accepted.
 use crate::doorbell::Doorbell;
 use crate::reading::{Piece, Reading};
+use crate::refusing::refuse;
 use crate::run_fault::RunFault;
 use crossbeam_channel::{Receiver, TryRecvError, bounded};
 use sms_seats::{Note, Received, Wire};
@@ -76,25 +77,37 @@ fn prepare(stream: &TcpStream) -> io::Result<TcpStream> {
     stream.try_clone()
 }
 
+// What a connection is read by, and where what came is taken.
+fn open_reading(alloc: Global, stream: &TcpStream) -> Result<(Reading, Receiver<Piece>), Note> {
+    let Ok(stream) = prepare(stream) else {
+        return Err(Note::Ended);
+    };
+    match bounded::<Piece, _>(alloc, PIECES) {
+        Ok((pieces, taken)) => Ok((Reading { stream, pieces }, taken)),
+        Err(_) => Err(Note::NoMemory),
+    }
+}
+
 impl Socket {
-    /// The wire of a connection, and what its reader needs. A connection that can't be had so has ended, or there was no memory.
-    pub fn open(alloc: Global, stream: TcpStream) -> Result<(Socket, Reading), Note> {
-        let Ok(read) = prepare(&stream) else {
-            return Err(Note::Ended);
-        };
-        let Ok((sender, pieces)) = bounded::<Piece, _>(alloc, PIECES) else {
-            return Err(Note::NoMemory);
-        };
-        let socket = Socket {
-            stream,
-            pieces,
-            piece: Piece::none(),
-        };
-        let reading = Reading {
-            stream: read,
-            pieces: sender,
-        };
-        Ok((socket, reading))
+    /// The wire of a connection, and what its reader needs. Where they can't be had the other side is told that there is no room: the
+    /// system gave the connection no second time, as it has ended or too many files are open, or there was no memory.
+    pub fn open(alloc: Global, connection: Connection) -> Result<(Socket, Reading), Note> {
+        let Connection { stream, side } = connection;
+        match open_reading(alloc, &stream) {
+            Ok((reading, pieces)) => {
+                let piece = Piece::none();
+                let socket = Socket {
+                    stream,
+                    pieces,
+                    piece,
+                };
+                Ok((socket, reading))
+            }
+            Err(note) => {
+                refuse(stream, side);
+                Err(note)
+            }
+        }
     }
 
     /// Ends the connection both ways, behind all that was written. Its reader sees the end too.

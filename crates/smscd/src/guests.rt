@@ -1,12 +1,12 @@
 //! The threads of the seats.
 use crate::connection::{Connection, Side, Socket};
 use crate::reading::Reading;
+use crate::refusing::no_room;
 use crate::telling::ErrorTeller;
 use crossbeam_channel::{Receiver, Sender};
 use smpp_session::Accounts;
-use sms_seats::{Application, HandsetLink, Note, OpenSeat, Teller, serve};
+use sms_seats::{Application, HandsetLink, Note, OpenSeat, Teller, Wire, serve};
 use std::alloc::Global;
-use std::net::TcpStream;
 use std::sync::atomic::{AtomicBool, AtomicUsize, Ordering};
 use std::sync::{Arc, Wait};
 
@@ -33,6 +33,8 @@ fn serve_application<R: Wait>(
     socket: &mut Socket,
 ) {
     let Ok(accounts) = Arc::try_clone(&desk.accounts) else {
+        let _ = socket.write_soon(no_room(Side::Application));
+        desk.teller.tell(seat.number(), Note::NoMemory);
         return;
     };
     let mut guest = Application::new(alloc, accounts);
@@ -68,8 +70,8 @@ fn serve_side<R: Wait>(desk: &Desk<R>, seat: &mut OpenSeat, side: Side, socket: 
 }
 
 // The wire of the connection, which is read from now on.
-fn open_socket<R: Wait>(desk: &Desk<R>, stream: TcpStream) -> Result<Socket, Note> {
-    let (socket, reading) = Socket::open(desk.alloc, stream)?;
+fn open_socket<R: Wait>(desk: &Desk<R>, connection: Connection) -> Result<Socket, Note> {
+    let (socket, reading) = Socket::open(desk.alloc, connection)?;
     match desk.readings.send(&desk.rt, reading) {
         Ok(()) => Ok(socket),
         Err(_) => Err(Note::Ended),
@@ -77,8 +79,8 @@ fn open_socket<R: Wait>(desk: &Desk<R>, stream: TcpStream) -> Result<Socket, Not
 }
 
 fn serve_connection<R: Wait>(desk: &Desk<R>, seat: &mut OpenSeat, connection: Connection) {
-    let Connection { stream, side } = connection;
-    match open_socket(desk, stream) {
+    let side = connection.side;
+    match open_socket(desk, connection) {
         Ok(mut socket) => {
             serve_side(desk, seat, side, &mut socket);
             socket.close();

@@ -1,16 +1,17 @@
 //! A look at a store, which changes nothing in it.
 use crate::run_fault::RunFault;
 use sms_centre_look::rows_at;
-use sms_centre_rules::Rows;
 use sms_centre_show::{ShowError, show};
+use sms_soundness::RowTables;
+use std::alloc::Global;
 
-fn print_rows(rt: &HostRuntime, rows: Rows) -> Result<(), RunFault> {
+fn print_tables(rt: &HostRuntime, tables: RowTables) -> Result<(), RunFault> {
     let mut stdout = rt.stdout();
-    let Rows {
+    let RowTables {
         messages,
         parts,
         ..
-    } = rows;
+    } = tables;
     match show(
         rt.alloc(),
         messages.as_slice(),
@@ -24,8 +25,30 @@ fn print_rows(rt: &HostRuntime, rows: Rows) -> Result<(), RunFault> {
     }
 }
 
-/// Prints the messages of the store at the path, and how many are in each state.
+// Whether a run could start on them.
+fn judge(alloc: Global, tables: &RowTables) -> Result<(), RunFault> {
+    if tables.is_sound(alloc)? {
+        Ok(())
+    } else {
+        Err(RunFault::BadRows)
+    }
+}
+
+fn show_tables(rt: &HostRuntime, tables: RowTables) -> Result<(), RunFault> {
+    match judge(rt.alloc(), &tables) {
+        Ok(()) => print_tables(rt, tables),
+        Err(fault) => {
+            drop(tables);
+            Err(fault)
+        }
+    }
+}
+
+/// Prints the messages of the store at the path, and how many are in each state. Rows on which no run would start are refused.
 pub fn show_store(rt: &HostRuntime, path: &str) -> Result<(), RunFault> {
     let rows = rows_at(rt, path)?;
-    print_rows(rt, rows)
+    match RowTables::of(rows) {
+        Some(tables) => show_tables(rt, tables),
+        None => Err(RunFault::BadRows),
+    }
 }

@@ -9,6 +9,7 @@ mod guests;
 mod house;
 mod looking;
 mod reading;
+mod refusing;
 mod run_fault;
 mod running;
 mod setup;

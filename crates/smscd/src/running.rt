@@ -15,7 +15,7 @@ use sms_service::{CentreStore, Setup, StartError, serve_with};
 use smsc_words::{AccountWords, ServerRun, WordsFault, add_lines};
 use std::alloc::Global;
 use std::fs;
-use std::io::Print;
+use std::io::{self, Print};
 use std::sync::Wait;
 use std::thread::Threads;
 
@@ -69,10 +69,17 @@ fn fill(
     }
 }
 
+fn reading_fault(error: &io::Error) -> RunFault {
+    match error.kind() {
+        io::ErrorKind::OutOfMemory => RunFault::NoMemory,
+        _ => RunFault::NoAccounts,
+    }
+}
+
 fn add_file(host: &HostRuntime, path: &str, book: &mut Book) -> Result<(), RunFault> {
     match fs::read_to_string(host, path) {
         Ok(file) => add_text(host.alloc(), file.as_str(), book),
-        Err(_) => Err(RunFault::NoAccounts),
+        Err(error) => Err(reading_fault(&error)),
     }
 }
 

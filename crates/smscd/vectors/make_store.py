@@ -52,9 +52,10 @@ parts = [
     (2, 1, 1, deliver(HANDSET), None, None, None, None, 0, 2, T0 + 302),
     (3, 1, 0, deliver(BANK), None, None, None, None, 0, 1, T0 + 60),
 ]
-given = [(0, 0, T0), (0, 1, T0), (1, 0, T0)]
-handsets = [(0, "447700900456", 1), (1, "447700900777", 0)]
-reports = [(0, 1, "receipt", None, None, T0 + 2, 1, 0, T0 + 2)]
+# Places go from 1.
+given = [(1, 0, T0), (1, 1, T0), (2, 0, T0)]
+handsets = [(1, "447700900456", 1), (2, "447700900777", 0)]
+reports = [(1, 1, "receipt", None, None, T0 + 2, 1, 0, T0 + 2)]
 priorities = [(1, 0), (2, 0), (3, 0)]
 
 last = (4, b"bank", None, 1, 1, "447700900001", "447700900456", 0, 0, "on_failure", T0 + 60, T0 + 172860, 0, "pending", None)
@@ -92,8 +93,8 @@ def main(folder):
         store.execute("BEGIN")
         put(store, "message", [last])
         put(store, "part", last_parts)
-        put(store, "given_reference", [(0, 2, T0 + 60), (0, 3, T0 + 60)])
-        store.execute("UPDATE handset SET last_reference = 3 WHERE place = 0")
+        put(store, "given_reference", [(1, 2, T0 + 60), (1, 3, T0 + 60)])
+        store.execute("UPDATE handset SET last_reference = 3 WHERE place = 1")
         put(store, "priority", [(4, 0)])
         store.execute("COMMIT")
         # While it is open: sqlite3 would put the log into the file as it closes.
