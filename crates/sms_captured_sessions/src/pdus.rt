@@ -108,8 +108,8 @@ fn is_query_resp(resp: &Option<QuerySmResp<'_>>) -> bool
     }
 }
 
-// Whether the fields of a body that a script's run has are within their limits.
-fn can_be_written(body: &Body<'_>) -> bool
+/// Whether there is a PDU with that body, one that a script's run has: its fields are within their limits.
+pub fn can_be_written(body: &Body<'_>) -> bool
     ensures { result ≡ true → CanBeWritten body.now }
 {
     match body {

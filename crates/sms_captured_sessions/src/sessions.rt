@@ -1,6 +1,7 @@
 //! The sessions of a script's applications, as a capture has them.
 ghost use Rattle.std.specs.Prelude.{◌≤◌, length, IfSome};
 
+use crate::numbers::SequenceNumbers;
 use crate::pdus::octets_of;
 use smpp_pdu::{Body, Pdu};
 use sms_base::{Moment, OctetView, Octets};
@@ -14,9 +15,9 @@ pub struct SessionSoFar {
     // How many octets went up and down.
     up: u32,
     down: u32,
-    // The last sequence numbers of the application and of the centre.
-    asked: u32,
-    told: u32,
+    numbers: SequenceNumbers,
+    // Whether the application's last request stands in the capture.
+    is_asked: bool,
 }
 
 // A PDU that a packet has room for. Octets are counted modulo 2^32, as TCP does (RFC 9293 3.4).
@@ -37,8 +38,8 @@ impl SessionSoFar {
             application,
             up: 0,
             down: 0,
-            asked: 0,
-            told: 0,
+            numbers: SequenceNumbers::new(),
+            is_asked: false,
         }
     }
 
@@ -69,6 +70,7 @@ impl SessionSoFar {
         Ok(())
     }
 
+    // Whether there is such a PDU, and it stands in the capture.
     fn put_body(
         &mut self,
         alloc: Global,
@@ -76,14 +78,17 @@ impl SessionSoFar {
         moment: Moment,
         is_up: bool,
         pdu: &Pdu<'_>,
-    ) -> Result<(), AllocError> {
+    ) -> Result<bool, AllocError> {
         match octets_of(alloc, pdu)? {
-            Some(octets) => self.put(out, moment, is_up, octets.as_slice()),
-            None => Ok(()),
+            Some(octets) => {
+                self.put(out, moment, is_up, octets.as_slice())?;
+                Ok(true)
+            }
+            None => Ok(false),
         }
     }
 
-    /// The application asks.
+    /// The application asks. Where no PDU says that, nothing is written.
     pub fn ask(
         &mut self,
         alloc: Global,
@@ -91,16 +96,16 @@ impl SessionSoFar {
         moment: Moment,
         body: Body<'_>,
     ) -> Result<(), AllocError> {
-        self.asked = self.asked.wrapping_add(1);
         let pdu = Pdu {
             command_status: 0,
-            sequence_number: self.asked,
+            sequence_number: self.numbers.ask(),
             body,
         };
-        self.put_body(alloc, out, moment, true, &pdu)
+        self.is_asked = self.put_body(alloc, out, moment, true, &pdu)?;
+        Ok(())
     }
 
-    /// It is answered.
+    /// It is answered. Where the request does not stand in the capture, nothing is written.
     pub fn answer(
         &mut self,
         alloc: Global,
@@ -109,12 +114,16 @@ impl SessionSoFar {
         status: u32,
         body: Body<'_>,
     ) -> Result<(), AllocError> {
+        if !self.is_asked {
+            return Ok(());
+        }
         let pdu = Pdu {
             command_status: status,
-            sequence_number: self.asked,
+            sequence_number: self.numbers.asked,
             body,
         };
-        self.put_body(alloc, out, moment, false, &pdu)
+        self.put_body(alloc, out, moment, false, &pdu)?;
+        Ok(())
     }
 
     /// The centre tells it something.
@@ -125,13 +134,13 @@ impl SessionSoFar {
         moment: Moment,
         body: Body<'_>,
     ) -> Result<(), AllocError> {
-        self.told = self.told.wrapping_add(1);
         let pdu = Pdu {
             command_status: 0,
-            sequence_number: self.told,
+            sequence_number: self.numbers.tell(),
             body,
         };
-        self.put_body(alloc, out, moment, false, &pdu)
+        self.put_body(alloc, out, moment, false, &pdu)?;
+        Ok(())
     }
 
     /// It accepts what it was told.
@@ -144,9 +153,10 @@ impl SessionSoFar {
     ) -> Result<(), AllocError> {
         let pdu = Pdu {
             command_status: 0,
-            sequence_number: self.told,
+            sequence_number: self.numbers.told,
             body,
         };
-        self.put_body(alloc, out, moment, true, &pdu)
+        self.put_body(alloc, out, moment, true, &pdu)?;
+        Ok(())
     }
 }

@@ -26,13 +26,15 @@ use Rattle.sms_centre_course.specs.Course.{Episode, IsSteps, MayBe}
 abbrev pub pair_in_row : MessageRow → PartRow → Accepted
 pair_in_row m p = record { handset = m.handset; reference = p.reference; tpdu = compared p.tpdu }
 
--- the octets are a DELIVER (3GPP TS 23.040 9.2.2.1) of that part of the message, as it was submitted
+-- The octets of the part's row are a DELIVER (3GPP TS 23.040 9.2.2.1) that says what the message's row says: its source, protocol identifier
+-- and data coding. Its user data are the row's own. That they are those which were submitted is said of the rows (`sms_submitted_rows`) and
+-- of scripts (`sms_origins`).
 abbrev pub IsAsSubmitted : MessageRow → ℕ → PartRow → Type 0
 IsAsSubmitted m number p = (u : Submission) × (part : UserData) × (moment : ℕ) × (IsRowOf m u × HasPart u number part × IsDeliverOf u part moment (compared p.tpdu))
 
 -- ---- rows that tell the truth
 
--- A message counts as delivered only if its handset accepted each of its parts exactly once, as it was submitted.
+-- A message counts as delivered only if its handset accepted each of its parts exactly once, with the octets of the part's row.
 abbrev pub DeliveredRows : Core → World → Type 0
 DeliveredRows c w =
     (id number : ℕ) (m : MessageRow) (p : PartRow) → message_at id c.rows.messages ≡ Some m → m.state ≡ Some Delivered → part_at id number c.rows.parts ≡ Some p → number < 256

@@ -46,7 +46,7 @@ pub fn a_course_is_steps()
 
 /// An episode is a run of the world. And wherever a run led that the centre sees: a receipt or status report is of a message that has
 /// ended, the only one, of the state that its row has; while frames come in time, a message counts as delivered only if its handset
-/// accepted each of its parts exactly once, as it was submitted, and no part was accepted twice.
+/// accepted each of its parts exactly once, with the octets of the part's row, and no part was accepted twice.
 pub fn rows_tell_what_was_accepted()
     ensures runs { EpisodeLaw }
     ensures told { ToldLaw }

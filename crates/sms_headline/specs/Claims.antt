@@ -97,7 +97,7 @@ AllTimely number [] c = Unit {0}
 AllTimely number (e ∷ es) c = (is_timely_event e c ≡ true) × IfPlayed (played number e c) (λ d. AllTimely (number + 1) es d)
 
 -- Its handset is one of the script's, and accepted the part exactly once, under the part's reference and with the octets of its row, which
--- are a DELIVER of that part as it was submitted.
+-- are a DELIVER that says what the message's row says. That the rows are what was submitted is said in `sms_origins`.
 abbrev pub IsAcceptedOnce : Course → MessageRow → PartRow → Type 0
 IsAcceptedOnce c m p =
     (q : Party) × (Among q c.parties × (q.number ≡ m.handset) × StandsOnce (pair_in_row m p) (pairs_of [] q.accepted) × IsAsSubmitted m p.number p)

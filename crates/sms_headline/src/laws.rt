@@ -30,8 +30,8 @@ pub fn no_reference_is_given_twice()
 {}
 
 /// While each frame that is handed over is decided timely, a message counts as delivered only if its handset accepted each of its
-/// parts exactly once, as it was submitted, and a receipt or status report says so only of such a message; and each frame is so
-/// where it is decided that no event breaks a premise.
+/// parts exactly once, with the octets of the part's row, and a receipt or status report says so only of such a message; and each frame
+/// is so where it is decided that no event breaks a premise.
 pub fn delivered_was_accepted()
     ensures delivered { DeliveredLaw }
     ensures told { ToldLaw }

@@ -1,18 +1,21 @@
 //! A run over a script, written as a ladder.
-use crate::drawing::{Stroke, put_arrow, put_mark, put_name};
+use crate::coming::{row_of, row_of_event};
 use crate::heads::act_of;
 use crate::lanes::Lanes;
-use crate::notes::{answered_text, frame_text, receipt_text};
+use crate::requests::{Request, has_pdu, request_of};
 use crate::since::Since;
-use crate::text::Text;
 use sms_base::{FinalState, MessageId, Octets};
+use sms_captured_sessions::SequenceNumbers;
+use sms_drawing::notes::{
+    Asked, Heading, answered_text, event_text, frame_text, receipt_answer_text, receipt_text,
+    response_text,
+};
+use sms_drawing::{Row, SentSoFar, Stroke, Text, put_name, put_row};
 use sms_judging::{Scene, Watcher};
-use sms_report::{Answer, FrameRow};
+use sms_report::{Answer, Answered, FrameRow};
 use sms_reports::Delivery;
 use sms_script::{Act, Setup, WorldEvent};
-use sms_staging::frame_at;
 use std::alloc::{AllocError, Global};
-use std::str::from_utf8;
 
 /// A ladder that is drawn while the script is played: a lane for each application, for the centre and for each handset.
 #[derive(Drop)]
@@ -22,99 +25,10 @@ pub struct Ladder {
     // The script, from the event on that is to come.
     text: Text,
     since: Since,
+    // Of each application's session.
+    numbers: Vec<SequenceNumbers>,
+    sent: SentSoFar,
     out: Octets,
-    // The frames that were handed over.
-    handed: Vec<u64>,
-}
-
-fn put_request(out: &mut Octets, lanes: &Lanes, name: &[u8], note: &str) -> Result<(), AllocError> {
-    put_arrow(out, lanes.count(), lanes.request(name), note)
-}
-
-fn put_owners(
-    out: &mut Octets,
-    lanes: &Lanes,
-    number: &[u8],
-    note: &str,
-) -> Result<(), AllocError> {
-    put_mark(out, lanes.count(), lanes.handset(number), b'*', note)
-}
-
-fn put_handed(
-    out: &mut Octets,
-    lanes: &Lanes,
-    frame: Option<&FrameRow>,
-    note: &str,
-) -> Result<(), AllocError> {
-    match frame {
-        Some(frame) => put_arrow(out, lanes.count(), lanes.way(frame, Stroke::Whole), note),
-        None => Ok(()),
-    }
-}
-
-// What comes to a side, or is done there.
-fn put_act<S: Scene>(
-    out: &mut Octets,
-    lanes: &Lanes,
-    act: &Act<'_>,
-    scene: &S,
-    note: &str,
-) -> Result<(), AllocError> {
-    match act {
-        Act::Submit(submission) => put_request(out, lanes, submission.name.as_slice(), note),
-        Act::Query { name, .. } => put_request(out, lanes, name.as_slice(), note),
-        Act::Cancel { name, .. } => put_request(out, lanes, name.as_slice(), note),
-        Act::Write { handset, .. } => put_owners(out, lanes, handset.as_slice(), note),
-        Act::Delete { handset, .. } => put_owners(out, lanes, handset.as_slice(), note),
-        Act::Discard { handset, .. } => put_owners(out, lanes, handset.as_slice(), note),
-        Act::Deliver(number) => put_handed(out, lanes, frame_at(*number, scene.bag()), note),
-        Act::Tick { side, .. } => put_mark(out, lanes.count(), lanes.side(side), b'o', note),
-    }
-}
-
-fn put_event<S: Scene>(
-    out: &mut Octets,
-    lanes: &Lanes,
-    event: &WorldEvent<'_>,
-    scene: &S,
-    note: &str,
-) -> Result<(), AllocError> {
-    match event {
-        WorldEvent::Whole(act) => put_act(out, lanes, act, scene, note),
-        WorldEvent::Stopped(_, act) => put_act(out, lanes, act, scene, note),
-        WorldEvent::Restart(side) => put_mark(out, lanes.count(), lanes.side(side), b'X', note),
-    }
-}
-
-// An answer goes to the application, or to the handset's owner.
-fn put_answer(
-    out: &mut Octets,
-    lanes: &Lanes,
-    act: &Act<'_>,
-    note: &str,
-) -> Result<(), AllocError> {
-    match act {
-        Act::Submit(submission) => put_told(out, lanes, submission.name.as_slice(), note),
-        Act::Query { name, .. } => put_told(out, lanes, name.as_slice(), note),
-        Act::Cancel { name, .. } => put_told(out, lanes, name.as_slice(), note),
-        Act::Write { handset, .. } => put_owners(out, lanes, handset.as_slice(), note),
-        Act::Delete { handset, .. } => put_owners(out, lanes, handset.as_slice(), note),
-        Act::Discard { handset, .. } => put_owners(out, lanes, handset.as_slice(), note),
-        Act::Deliver(_) => Ok(()),
-        Act::Tick { .. } => Ok(()),
-    }
-}
-
-fn put_told(out: &mut Octets, lanes: &Lanes, name: &[u8], note: &str) -> Result<(), AllocError> {
-    put_arrow(out, lanes.count(), lanes.answer(lanes.account(name)), note)
-}
-
-// The frame that an event hands over.
-fn handed_by(event: &WorldEvent<'_>) -> Option<u64> {
-    match act_of(event) {
-        Some(Act::Deliver(number)) => Some(*number),
-        _ => None,
-    }
 }
 
 // How the message ended.
@@ -139,13 +53,15 @@ impl Ladder {
     pub fn new(alloc: Global, input: &[u8], setup: &Setup<'_>) -> Result<Ladder, AllocError> {
         let lanes = Lanes::of(alloc, setup)?;
         let text = events_of(alloc, input, setup)?;
+        let numbers = numbers_of(alloc, setup.accounts.len())?;
         let mut ladder = Ladder {
             alloc,
             lanes,
             text,
             since: Since::nothing(),
+            numbers,
+            sent: SentSoFar::nothing(alloc),
             out: Octets::new(alloc),
-            handed: Vec::new(alloc),
         };
         put_names(&mut ladder.out, &ladder.lanes)?;
         Ok(ladder)
@@ -157,50 +73,195 @@ impl Ladder {
         Ok(self.out)
     }
 
-    fn put_answers(
+    fn put(&mut self, row: &Row, note: &str) -> Result<(), AllocError> {
+        put_row(&mut self.out, self.lanes.count(), row, note)
+    }
+
+    // The lane of the application that asks.
+    fn account_of(&self, request: &Request<'_>) -> usize {
+        self.lanes.account(request.name)
+    }
+
+    // The application in that lane asks: the sequence number of its request.
+    fn ask(&mut self, account: usize) -> u32 {
+        match self.numbers.get_mut(account) {
+            Some(numbers) => numbers.ask(),
+            None => 0,
+        }
+    }
+
+    // The sequence number of its last request.
+    fn asked(&self, account: usize) -> u32 {
+        self.numbers.get(account).map_or(0, |numbers| numbers.asked)
+    }
+
+    // The centre tells it something: the sequence number of that.
+    fn tell(&mut self, account: usize) -> u32 {
+        match self.numbers.get_mut(account) {
+            Some(numbers) => numbers.tell(),
+            None => 0,
+        }
+    }
+
+    // The request that the act is, under that sequence number.
+    fn asked_as(
+        &self,
+        act: &Act<'_>,
+        request: &Request<'_>,
+        sequence: u32,
+    ) -> Result<Asked, AllocError> {
+        let has_pdu = has_pdu(self.alloc, act)?;
+        Ok(Asked {
+            command: request.command,
+            sequence,
+            has_pdu,
+        })
+    }
+
+    fn request_heading(
+        &mut self,
+        act: &Act<'_>,
+        request: &Request<'_>,
+    ) -> Result<Heading, AllocError> {
+        let account = self.account_of(request);
+        let sequence = self.ask(account);
+        let asked = self.asked_as(act, request, sequence)?;
+        Ok(Heading::Request(asked))
+    }
+
+    // What is said of an act beside its line, which is noted.
+    fn heading_of(&mut self, act: &Act<'_>) -> Result<Heading, AllocError> {
+        if let Act::Deliver(number) = act {
+            let is_again = self.sent.arrive(*number)?;
+            return Ok(if is_again {
+                Heading::Again
+            } else {
+                Heading::None
+            });
+        }
+        match request_of(act) {
+            Some(request) => self.request_heading(act, &request),
+            None => Ok(Heading::None),
+        }
+    }
+
+    // What stands beside the row of the event of that number.
+    fn note_of(&mut self, number: u64, event: &WorldEvent<'_>) -> Result<String, AllocError> {
+        let heading = match act_of(event) {
+            Some(act) => self.heading_of(act)?,
+            None => Heading::None,
+        };
+        let note = event_text(self.alloc, number, heading, self.text.line())?;
+        self.text.skip();
+        Ok(note)
+    }
+
+    // The answer to an application's request, or to an owner's act.
+    fn answer_note(&self, act: &Act<'_>, answered: &Answered) -> Result<String, AllocError> {
+        let said = answered_text(self.alloc, answered)?;
+        match request_of(act) {
+            Some(request) => {
+                let sequence = self.asked(self.account_of(&request));
+                let asked = self.asked_as(act, &request, sequence)?;
+                response_text(self.alloc, &asked, said.as_str())
+            }
+            None => Ok(said),
+        }
+    }
+
+    fn put_answer<S: Scene>(
+        &mut self,
+        act: &Act<'_>,
+        answered: &Answered,
+        scene: &S,
+    ) -> Result<(), AllocError> {
+        let Some(row) = row_of(&self.lanes, act, scene) else {
+            return Ok(());
+        };
+        let note = self.answer_note(act, answered)?;
+        self.put(&row.answer(), note.as_str())
+    }
+
+    fn put_answers<S: Scene>(
+        &mut self,
+        act: &Act<'_>,
+        answers: &[Answer],
+        scene: &S,
+    ) -> Result<(), AllocError> {
+        for answer in answers {
+            self.put_answer(act, &answer.answered, scene)?;
+        }
+        Ok(())
+    }
+
+    // The side stops at the act and starts again: nothing goes out.
+    fn put_stop<S: Scene>(&mut self, act: &Act<'_>, scene: &S) -> Result<(), AllocError> {
+        match row_of(&self.lanes, act, scene) {
+            Some(row) => self.put(&Row::Mark(row.end(), b'X'), "stopped, and it starts again"),
+            None => Ok(()),
+        }
+    }
+
+    fn put_outcome<S: Scene>(
         &mut self,
         event: &WorldEvent<'_>,
         answers: &[Answer],
+        scene: &S,
     ) -> Result<(), AllocError> {
-        let Some(act) = act_of(event) else {
-            return Ok(());
-        };
-        for answer in answers {
-            let note = answered_text(self.alloc, &answer.answered)?;
-            put_answer(&mut self.out, &self.lanes, act, note.as_str())?;
+        match event {
+            WorldEvent::Whole(act) => self.put_answers(act, answers, scene),
+            WorldEvent::Stopped(_, act) => self.put_stop(act, scene),
+            WorldEvent::Restart(_) => Ok(()),
         }
-        Ok(())
+    }
+
+    fn put_frame(&mut self, frame: &FrameRow) -> Result<(), AllocError> {
+        let is_again = self.sent.send(self.lanes.digits(&frame.handset), frame)?;
+        let note = frame_text(self.alloc, frame, is_again)?;
+        let row = Row::Arrow(self.lanes.way(frame, Stroke::Broken));
+        self.put(&row, note.as_str())
     }
 
     fn put_frames(&mut self, frames: &[FrameRow]) -> Result<(), AllocError> {
         for frame in frames {
-            let note = frame_text(self.alloc, frame)?;
-            let arrow = self.lanes.way(frame, Stroke::Broken);
-            put_arrow(&mut self.out, self.lanes.count(), arrow, note.as_str())?;
+            self.put_frame(frame)?;
         }
         Ok(())
     }
 
+    // The receipt goes to the application, which accepts it.
+    fn put_receipt(
+        &mut self,
+        account: usize,
+        id: MessageId,
+        state: Option<FinalState>,
+    ) -> Result<(), AllocError> {
+        let sequence = self.tell(account);
+        let row = Row::Arrow(self.lanes.answer(account));
+        let told = receipt_text(self.alloc, sequence, id, state)?;
+        self.put(&row, told.as_str())?;
+        let accepted = receipt_answer_text(self.alloc, sequence)?;
+        self.put(&row.answer(), accepted.as_str())
+    }
+
     fn put_receipts<S: Scene>(
         &mut self,
-        scene: &S,
         deliveries: &[Delivery],
+        scene: &S,
     ) -> Result<(), AllocError> {
         for delivery in deliveries {
             let state = state_of(scene, delivery.id);
-            let note = receipt_text(self.alloc, delivery.id, state)?;
-            let arrow = self.lanes.answer(delivery.session as usize);
-            put_arrow(&mut self.out, self.lanes.count(), arrow, note.as_str())?;
+            self.put_receipt(delivery.session as usize, delivery.id, state)?;
         }
         Ok(())
     }
 
     // The frames that no event handed over.
     fn put_lost(&mut self, frames: usize) -> Result<(), AllocError> {
-        let arrives = arrivals(self.alloc, frames, self.handed.as_slice())?;
-        for place in 0..arrives.len() {
-            if !arrives[place] {
-                put_never(self.alloc, &mut self.out, place as u64 + 1)?;
+        for place in 0..frames {
+            let number = place as u64 + 1;
+            if !self.sent.has_arrived(number) {
+                put_never(self.alloc, &mut self.out, number)?;
             }
         }
         Ok(())
@@ -216,12 +277,11 @@ impl Watcher for Ladder {
         scene: &S,
     ) -> Result<(), AllocError> {
         self.since = Since::of(scene);
-        if let Some(frame) = handed_by(event) {
-            self.handed.push(frame)?;
+        let note = self.note_of(number, event)?;
+        match row_of_event(&self.lanes, event, scene) {
+            Some(row) => self.put(&row, note.as_str()),
+            None => Ok(()),
         }
-        let note = note_of(self.alloc, number, self.text.line())?;
-        self.text.skip();
-        put_event(&mut self.out, &self.lanes, event, scene, note.as_str())
     }
 
     // What is answered and sent is drawn behind it.
@@ -232,15 +292,10 @@ impl Watcher for Ladder {
         scene: &S,
     ) -> Result<(), AllocError> {
         let since = self.since;
-        self.put_answers(event, since.answers(scene))?;
+        self.put_outcome(event, since.answers(scene), scene)?;
         self.put_frames(since.frames(scene))?;
-        self.put_receipts(scene, since.deliveries(scene))
+        self.put_receipts(since.deliveries(scene), scene)
     }
-}
-
-fn note_of(alloc: Global, number: u64, line: &[u8]) -> Result<String, AllocError> {
-    let line = from_utf8(line).unwrap_or("");
-    format!(in alloc; "{number}. {line}")
 }
 
 fn put_never(alloc: Global, out: &mut Octets, number: u64) -> Result<(), AllocError> {
@@ -248,18 +303,12 @@ fn put_never(alloc: Global, out: &mut Octets, number: u64) -> Result<(), AllocEr
     out.append(note.as_bytes())
 }
 
-// Which frames arrive, by number.
-fn arrivals(alloc: Global, count: usize, handed: &[u64]) -> Result<Vec<bool>, AllocError> {
-    let mut arrives = Vec::new(alloc);
-    for _ in 0..count {
-        arrives.push(false)?;
+fn numbers_of(alloc: Global, accounts: usize) -> Result<Vec<SequenceNumbers>, AllocError> {
+    let mut numbers = Vec::new(alloc);
+    for _ in 0..accounts {
+        numbers.push(SequenceNumbers::new())?;
     }
-    for number in handed {
-        if 0 < *number && *number - 1 < arrives.len() as u64 {
-            arrives[(*number - 1) as usize] = true;
-        }
-    }
-    Ok(arrives)
+    Ok(numbers)
 }
 
 // The script from its first event on.

@@ -1,9 +1,9 @@
 //! The lanes of a ladder: the accounts' and the handsets', in the order of the script's head, with the centre's between them.
 ghost use Rattle.std.specs.Prelude.{◌≤◌};
 
-use crate::drawing::{Arrow, Stroke};
 use crate::heads::Places;
 use sms_base::{Digits, Octets};
+use sms_drawing::{Arrow, Stroke};
 use sms_report::{Direction, FrameRow};
 use sms_script::{Setup, Side};
 use std::alloc::{AllocError, Global};

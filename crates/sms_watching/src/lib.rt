@@ -5,13 +5,12 @@
 #![tactic(auto)]
 
 mod capture;
-mod drawing;
+mod coming;
 mod heads;
 mod ladder;
 mod lanes;
-mod notes;
+mod requests;
 mod since;
-mod text;
 
 pub use capture::Capture;
 pub use ladder::Ladder;

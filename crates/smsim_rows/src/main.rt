@@ -83,6 +83,7 @@ const LADDERS: &[&str] = &[
     "centre_restarts",
     "handset_full",
     "parts_in_disorder",
+    "requests",
 ];
 
 // The script's capture file; none where it can't be taken.

@@ -13,19 +13,46 @@ const LAST: usize = GAP - 1;
 
 /// How a row runs between two lanes.
 #[derive(Clone, Copy)]
-pub(crate) enum Stroke {
+pub enum Stroke {
     /// It arrives.
     Whole,
     /// It was sent, and nothing is said of its arrival.
     Broken,
 }
 
-/// From the one lane to the other.
+/// From the one lane to the other. Lanes are counted from 0.
 #[derive(Clone, Copy)]
-pub(crate) struct Arrow {
+pub struct Arrow {
     pub from: usize,
     pub to: usize,
     pub stroke: Stroke,
+}
+
+/// A row of a ladder.
+#[derive(Clone, Copy)]
+pub enum Row {
+    /// Something goes from a lane to another.
+    Arrow(Arrow),
+    /// Something is done in that lane, and this character stands for it.
+    Mark(usize, u8),
+}
+
+impl Row {
+    /// The lane of the side that it comes to.
+    pub fn end(&self) -> usize {
+        match self {
+            Row::Arrow(arrow) => arrow.to,
+            Row::Mark(lane, _) => *lane,
+        }
+    }
+
+    /// The row of an answer to it.
+    pub fn answer(&self) -> Row {
+        match self {
+            Row::Arrow(arrow) => Row::Arrow(arrow.back()),
+            Row::Mark(lane, mark) => Row::Mark(*lane, *mark),
+        }
+    }
 }
 
 fn stroke_at(stroke: Stroke, place: usize) -> u8 {
@@ -51,6 +78,15 @@ impl Arrow {
         }
         stroke_at(self.stroke, place)
     }
+
+    // The same way back.
+    fn back(&self) -> Arrow {
+        Arrow {
+            from: self.to,
+            to: self.from,
+            stroke: self.stroke,
+        }
+    }
 }
 
 fn put_note(out: &mut Octets, note: &str) -> Result<(), AllocError> {
@@ -68,17 +104,12 @@ fn put_gap(out: &mut Octets, arrow: &Arrow, lane: usize) -> Result<(), AllocErro
     Ok(())
 }
 
-/// A row with an arrow.
-pub(crate) fn put_arrow(
-    out: &mut Octets,
-    lanes: usize,
-    arrow: Arrow,
-    note: &str,
-) -> Result<(), AllocError> {
+// A row with an arrow.
+fn put_arrow(out: &mut Octets, lanes: usize, arrow: &Arrow, note: &str) -> Result<(), AllocError> {
     for lane in 0..lanes {
         out.push(b'|')?;
         if lane + 1 < lanes {
-            put_gap(out, &arrow, lane)?;
+            put_gap(out, arrow, lane)?;
         }
     }
     put_note(out, note)
@@ -91,8 +122,8 @@ fn put_blanks(out: &mut Octets) -> Result<(), AllocError> {
     Ok(())
 }
 
-/// A row with a mark in one lane.
-pub(crate) fn put_mark(
+// A row with a mark in one lane.
+fn put_mark(
     out: &mut Octets,
     lanes: usize,
     at: usize,
@@ -108,8 +139,16 @@ pub(crate) fn put_mark(
     put_note(out, note)
 }
 
+/// A row of that many lanes, with a note beside it.
+pub fn put_row(out: &mut Octets, lanes: usize, row: &Row, note: &str) -> Result<(), AllocError> {
+    match row {
+        Row::Arrow(arrow) => put_arrow(out, lanes, arrow, note),
+        Row::Mark(lane, mark) => put_mark(out, lanes, *lane, *mark, note),
+    }
+}
+
 /// The name of a lane, in as many characters as lanes are apart where another follows.
-pub(crate) fn put_name(out: &mut Octets, name: &[u8], is_last: bool) -> Result<(), AllocError> {
+pub fn put_name(out: &mut Octets, name: &[u8], is_last: bool) -> Result<(), AllocError> {
     let shown = name.len().min(GAP);
     out.append(&name[..shown])?;
     if is_last {

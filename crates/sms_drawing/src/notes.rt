@@ -15,7 +15,7 @@ fn holder_text(alloc: Global, holder: Holder) -> Result<String, AllocError> {
             format!(in alloc; "the status report of message {id}")
         }
         Holder::Entry(number) => format!(in alloc; "entry {number}"),
-        Holder::Memory(number) => format!(in alloc; "memory again, {number}"),
+        Holder::Memory(number) => format!(in alloc; "memory available, {number}"),
     }
 }
 
@@ -42,19 +42,81 @@ fn bare_word(octets: &[u8]) -> &'static str {
     }
 }
 
-/// What a frame carries.
-pub(crate) fn frame_text(alloc: Global, frame: &FrameRow) -> Result<String, AllocError> {
+fn again_word(is_again: bool) -> &'static str {
+    if is_again { ", again" } else { "" }
+}
+
+/// What a frame carries, and whether it goes out again.
+pub fn frame_text(alloc: Global, frame: &FrameRow, is_again: bool) -> Result<String, AllocError> {
     let number = frame.number;
+    let again = again_word(is_again);
     match &frame.carried {
         Some(carried) => {
             let carried = carried_text(alloc, carried)?;
-            format!(in alloc; "frame {number}: {carried}")
+            format!(in alloc; "frame {number}{again}: {carried}")
         }
         None => {
             let word = bare_word(frame.octets.as_slice());
-            format!(in alloc; "frame {number}: {word}")
+            format!(in alloc; "frame {number}{again}: {word}")
         }
     }
+}
+
+// A request that no PDU has stands in no capture, and its answer neither.
+fn stands_word(has_pdu: bool) -> &'static str {
+    if has_pdu { "" } else { ", in no PDU" }
+}
+
+/// A request of an application.
+#[derive(Clone, Copy)]
+pub struct Asked {
+    /// The name of its command.
+    pub command: &'static str,
+    /// Its sequence number, which its answer bears, too.
+    pub sequence: u32,
+    /// Whether there is a PDU of it.
+    pub has_pdu: bool,
+}
+
+/// What is said of an event beside its line.
+#[derive(Clone, Copy)]
+pub enum Heading {
+    None,
+    /// The frame arrived before.
+    Again,
+    /// It is a request.
+    Request(Asked),
+}
+
+/// The event of that number.
+pub fn event_text(
+    alloc: Global,
+    number: u64,
+    heading: Heading,
+    line: &[u8],
+) -> Result<String, AllocError> {
+    let line = from_utf8(line).unwrap_or("");
+    match heading {
+        Heading::None => format!(in alloc; "{number}. {line}"),
+        Heading::Again => format!(in alloc; "{number}. {line}, again"),
+        Heading::Request(asked) => {
+            let Asked {
+                command,
+                sequence,
+                has_pdu,
+            } = asked;
+            let stands = stands_word(has_pdu);
+            format!(in alloc; "{number}. {command} {sequence}{stands}: {line}")
+        }
+    }
+}
+
+/// The answer to a request.
+pub fn response_text(alloc: Global, asked: &Asked, answered: &str) -> Result<String, AllocError> {
+    let command = asked.command;
+    let sequence = asked.sequence;
+    let stands = stands_word(asked.has_pdu);
+    format!(in alloc; "{command}_resp {sequence}{stands}: {answered}")
 }
 
 // The word of a receipt for a state.
@@ -75,7 +137,7 @@ fn found_word(state: MessageState) -> &'static str {
 }
 
 /// What a request or an act of an owner is answered.
-pub(crate) fn answered_text(alloc: Global, answered: &Answered) -> Result<String, AllocError> {
+pub fn answered_text(alloc: Global, answered: &Answered) -> Result<String, AllocError> {
     match answered {
         Answered::Accepted(id) => {
             let id = id.number();
@@ -95,13 +157,19 @@ pub(crate) fn answered_text(alloc: Global, answered: &Answered) -> Result<String
     }
 }
 
-/// What a receipt tells.
-pub(crate) fn receipt_text(
+/// What a receipt tells, in a deliver_sm of that sequence number.
+pub fn receipt_text(
     alloc: Global,
+    sequence: u32,
     id: MessageId,
     state: Option<FinalState>,
 ) -> Result<String, AllocError> {
     let id = id.number();
     let state = state.map_or("ENROUTE", state_word);
-    format!(in alloc; "receipt of message {id}: {state}")
+    format!(in alloc; "deliver_sm {sequence}: receipt of message {id}, {state}")
+}
+
+/// The application accepts the deliver_sm of that sequence number.
+pub fn receipt_answer_text(alloc: Global, sequence: u32) -> Result<String, AllocError> {
+    format!(in alloc; "deliver_sm_resp {sequence}")
 }
