@@ -63,6 +63,35 @@ fn what_waits_goes_in_order(rt: HostRuntime) -> Result<(), Fail> {
     goes_on(&mut shelf)
 }
 
+fn put_many(shelf: &mut Shelf) -> Result<(), Fail> {
+    for id in 1u32..41 {
+        shelf.put(load(id, 1, 0, 0)?)?;
+    }
+    Ok(())
+}
+
+fn waits(shelf: &Shelf, count: usize, id: u64) -> Result<bool, Fail> {
+    Ok(shelf.waiting()?.len() == count && goes_next(shelf, 0, id, 1)?)
+}
+
+// One more comes behind the others, and the first, which the shelf has too, goes.
+fn changes_a_copy(shelf: &Shelf) -> Result<(), Fail> {
+    let mut copy = shelf.copy()?;
+    copy.put(load(41, 1, 0, 0)?)?;
+    holds(waits(&copy, 41, 1)?, "one more")?;
+    copy.remove(message(1)?, 1)?;
+    holds(waits(&copy, 40, 2)?, "without the first")
+}
+
+#[test]
+fn a_copy_is_changed_alone(rt: HostRuntime) -> Result<(), Fail> {
+    let number = digits("447700900456")?;
+    let mut shelf = Shelf::new(rt.alloc(), number);
+    put_many(&mut shelf)?;
+    changes_a_copy(&shelf)?;
+    holds(waits(&shelf, 40, 1)?, "the shelf as it was")
+}
+
 // The reference that comes next at that time.
 fn next_reference(shelf: &Shelf, seconds: u32) -> Result<Option<u8>, Fail> {
     Ok(shelf.next_reference(&shelf.row_or_new(1), at(seconds)?))
@@ -75,11 +104,19 @@ fn gives(shelf: &mut Shelf) -> Result<(), Fail> {
     holds(shelf.row().is_some(), "the handset's row")
 }
 
+fn gives_many(shelf: &mut Shelf) -> Result<(), Fail> {
+    for reference in 1u8..41 {
+        shelf.give(shelf.row_or_new(1), reference, at(0)?)?;
+    }
+    holds(next_reference(shelf, 0)? == Some(41), "the next")
+}
+
 #[test]
 fn references_are_given_in_turn(rt: HostRuntime) -> Result<(), Fail> {
     let number = digits("447700900456")?;
     let mut shelf = Shelf::new(rt.alloc(), number);
-    gives(&mut shelf)
+    gives(&mut shelf)?;
+    gives_many(&mut shelf)
 }
 
 // How many frames go out as a transaction begins.
