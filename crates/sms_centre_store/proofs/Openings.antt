@@ -1,5 +1,5 @@
 -- What is kept of a database that was opened.
-use Rattle.std.proofs.Common.{◌≡◌, ◌≢◌, refl, inl, inr, false, ℕ, List, sym, ap, subst, ◌∙◌, Result, Ok, Err, OnOk, IfOk, IfErr}
+use Rattle.std.proofs.Common.{◌≡◌, ◌≢◌, refl, inl, inr, false, ℕ, List, sym, ap, subst, ◌∙◌, Result, Ok, Err, OnOk, OnErr, IfOk, IfErr}
 use Rattle.sqlite.specs.Schema.{Schema}
 use Rattle.sqlite.specs.Effect.{Database}
 use Rattle.sqlite.specs.State.{State, Shows}
@@ -17,7 +17,7 @@ use Rattle.sms_centre_store.specs.CentreRows.{IsStoreWith}
 use Rattle.sms_centre_store.specs.Opened.{Opened, Says, SaysNow, FindsSaid, Refused, Refuses}
 use Rattle.sms_centre_store.specs.Types.{Rows, Setup, Meta, first_rows}
 
-tables_differ : no_tables ≡ centre_schema → ⊥
+pub tables_differ : no_tables ≡ centre_schema → ⊥
 tables_differ same = let named = ap (λ (s : Schema). s.tables) (same ∙ schema_is) in cc
 
 pub first_differs : no_tables ≡ first_schema → ⊥
@@ -99,3 +99,8 @@ if_ok_both (Err e) f p q = tt
 pub if_err : {X E : Type 0} {P Q : E → Type 0} (r : Result X E) → ((e : E) → P e → Q e) → IfErr r P → IfErr r Q
 if_err (Ok x) f h = tt
 if_err (Err e) f h = f e h
+
+-- what an answer says, and what is so where it is a refusal
+pub err_both : {X E : Type 0} {P Q : E → Type 0} {A : Type 0} (r : Result X E) → ((e : E) → P e → A → Q e) → IfErr r P → OnErr r A → IfErr r Q
+err_both (Ok x) f p a = tt
+err_both (Err e) f p a = f e p a

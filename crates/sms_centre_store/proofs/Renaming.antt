@@ -19,7 +19,7 @@ raised_then a b c shows made = record {
   changed = λ rows is. made.changed rows (subst (λ (d : Database). IsFirstStore d rows) (sym shows.now_is) is);
 }
 
-schemas_differ : centre_schema ≡ first_schema → ⊥
+pub schemas_differ : centre_schema ≡ first_schema → ⊥
 schemas_differ same =
     let count : 7 ≡ 6 = ap (λ (s : Schema). length s.tables) (sym schema_is ∙ same ∙ first_schema_is) in
     omega (arith, count)

@@ -1,5 +1,5 @@
 -- A transaction that changes nothing.
-use Rattle.std.proofs.Common.{◌≡◌, false, true, IsTrue, sym, subst, ◌∙◌}
+use Rattle.std.proofs.Common.{◌≡◌, false, true, sym, subst, ◌∙◌}
 use Rattle.sqlite.specs.Effect.{Database}
 use Rattle.sqlite.specs.State.{State}
 use Rattle.sms_listing.proofs.Keeping.{committed_keeps}

@@ -3,4 +3,5 @@ pub mod Founding
 pub mod Migrating
 pub mod Opened
 pub mod Reading
+pub mod Stopping
 pub mod Types

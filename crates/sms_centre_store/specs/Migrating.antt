@@ -19,3 +19,7 @@ pub record Migrated (setup : Setup) (old : Database) (new : State) : Type 0 wher
   pub kept : (rows : Rows) → IsStoreWith setup old rows → IsKept (IsStoreWith setup) new rows
   pub raised : (rows : Rows) → IsFirstStoreWith setup old rows → IsKept (IsStoreWith setup) new (migrated rows)
   pub ours : (old.schema ≡ no_tables) ⊎ (SaysNow 2 (Ok tt) old ⊎ SaysFirst 1 (Ok tt) old)
+
+-- the same, whatever the setup
+abbrev pub IsMigrated : Database → State → Type 0
+IsMigrated old new = (setup : Setup) → Migrated setup old new

@@ -31,6 +31,10 @@ SaysNow version judgement db = Says centre_schema meta_list version judgement db
 abbrev pub SaysFirst : ℕ → Result (Unit {0}) KeepError → Database → Type 0
 SaysFirst version judgement db = Says first_schema first_list version judgement db
 
+-- it has become the store of a centre's first rows, whatever the setup
+abbrev pub IsFounded : State → Type 0
+IsFounded new = (setup : Setup) → IsKept (IsStoreWith setup) new (first_rows setup)
+
 pub record Opened (setup : Setup) (old : Database) (new : State) : Type 0 where
   -- a database without tables became the store of a centre's first rows
   pub founded : old.schema ≡ no_tables → IsKept (IsStoreWith setup) new (first_rows setup)
@@ -38,6 +42,10 @@ pub record Opened (setup : Setup) (old : Database) (new : State) : Type 0 where
   pub kept : (rows : Rows) → IsStoreWith setup old rows → IsKept (IsStoreWith setup) new rows
   -- nothing else is opened
   pub ours : (old.schema ≡ no_tables) ⊎ SaysNow 2 (Ok tt) old
+
+-- the same, whatever the setup
+abbrev pub IsOpened : Database → State → Type 0
+IsOpened old new = (setup : Setup) → Opened setup old new
 
 -- the database that the contents of the files hold, if they hold one
 abbrev pub IsIn : Image → Database → Type 0

@@ -13,6 +13,7 @@ mod gathering;
 mod keep;
 mod migrating;
 mod opening;
+mod readying;
 mod said;
 mod tables;
 

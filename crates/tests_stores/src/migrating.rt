@@ -4,7 +4,7 @@ use crate::failure::{Failure, Finding, holds};
 use crate::found::{Found, text_in};
 use crate::keeps::commit_in_memory;
 use crate::rows::setup;
-use sms_centre_rules::{Changes, Rows};
+use sms_centre_rules::{Changes, Rows, Setup};
 use sms_centre_store::{CentreKeep, raise};
 use sms_keep::{Keep, KeepError};
 use sqlite::{Alter, Connection};
@@ -40,12 +40,23 @@ pub(crate) fn write<S: Alter>(conn: &mut Connection<S>, texts: &[&str]) -> bool 
     true
 }
 
+fn migrated_with<S: Alter + Drop>(
+    alloc: Global,
+    conn: Connection<S>,
+    setup: Setup,
+) -> Result<CentreKeep<S>, KeepError> {
+    match CentreKeep::migrate_over(alloc, conn, setup) {
+        Ok(keep) => Ok(keep),
+        Err((error, _)) => Err(error),
+    }
+}
+
 fn migrated<S: Alter + Drop>(
     alloc: Global,
     conn: Connection<S>,
 ) -> Result<CentreKeep<S>, KeepError> {
     match setup(alloc) {
-        Ok(setup) => CentreKeep::migrate_over(alloc, conn, setup),
+        Ok(setup) => migrated_with(alloc, conn, setup),
         Err(_) => Err(KeepError::NoMemory),
     }
 }
