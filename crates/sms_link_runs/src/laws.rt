@@ -51,7 +51,7 @@ pub fn only_what_is_under_way_ends()
         → EndsByTimer (under_way_after calls side) transfer ending }
 {}
 
-/// An answer that was taken is acknowledged alone until another answer is taken (3GPP TS 24.011 5.3.2.2): whatever else is
+/// An answer that was taken is acknowledged alone until another answer is taken (3GPP TS 24.011 5.3.2): whatever else is
 /// called, the frame that comes again brings out CP-ACK of its transaction and nothing else. Whether it comes up again
 /// `an_answer_comes_up_under_its_own_identifier` says: only where a transaction of its identifier is under way again.
 pub fn a_taken_answer_is_acknowledged_alone()
