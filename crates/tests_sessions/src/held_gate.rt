@@ -208,8 +208,10 @@ fn runs<R: Threads + Wait + Clock + Copy + Send + 'static, M: Machine<Job, Reply
     machine: &mut M,
     others: u32,
 ) -> Result<(), Fail> {
-    let house = House::new(alloc, others)?;
-    lend(house, |house| run(house, rt, machine))
+    let mut house = House::new(alloc, others)?;
+    let done = run(&mut house, rt, machine);
+    drop(house);
+    done
 }
 
 fn serves<R: Threads + Wait + Clock + Copy + Send + 'static>(
