@@ -2,6 +2,7 @@
 use crate::failure::Failure;
 use crate::kinds::fill_kinds;
 use crate::rows::{delivered, given, id, mentioned, part, pending, progress, report};
+use crate::script;
 use sms_base::Listed;
 use sms_centre_rules::Changes;
 use sms_messages::PriorityRow;
@@ -36,6 +37,12 @@ pub(crate) enum Commit {
     Removed,
     /// Rows of each other kind come.
     Kinds,
+    /// An application's text is accepted and offered.
+    Text,
+    /// It is acknowledged, and its receipt is made.
+    Taken,
+    /// The receipt is answered.
+    Answered,
 }
 
 /// The commits. Those of the course, which come first, lead to rows on which a centre can stand; no centre makes the others.
@@ -48,8 +55,12 @@ pub(crate) const COMMITS: &[(&str, Commit)] = &[
     ("rows of each other kind come", Commit::Kinds),
 ];
 
-/// How many commits the course has.
-pub(crate) const COURSE: usize = 4;
+/// Those of a worked script, each of which leads to rows on which a centre can stand.
+pub(crate) const SCRIPT: &[(&str, Commit)] = &[
+    ("a text is submitted", Commit::Text),
+    ("it is acknowledged", Commit::Taken),
+    ("its receipt is answered", Commit::Answered),
+];
 
 /// Changes nothing.
 pub(crate) fn no_changes(alloc: Global) -> Changes {
@@ -84,6 +95,9 @@ fn fill(alloc: Global, changes: &mut Changes, commit: Commit) -> Result<(), Fail
         Commit::Told => tell(changes),
         Commit::Removed => Ok(changes.parts.push(Revision::Remove(Key::pair(1, 1)))?),
         Commit::Kinds => fill_kinds(alloc, changes),
+        Commit::Text => script::submit(alloc, changes),
+        Commit::Taken => script::deliver(alloc, changes),
+        Commit::Answered => script::take(changes),
     }
 }
 

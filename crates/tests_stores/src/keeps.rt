@@ -1,6 +1,6 @@
 //! What is committed is loaded, commit by commit: over a database the rows are those that the keep in memory has. What they are is
 //! printed.
-use crate::course::{COMMITS, Commit};
+use crate::course::Commit;
 use crate::failure::{Failure, Finding, holds};
 use crate::found::Found;
 use crate::rows::setup;
@@ -21,17 +21,27 @@ pub(crate) fn commit_in_memory(
     run(alloc, MemoryKeep::new(alloc, setup), commits, count, found)
 }
 
-fn commit_over_database(alloc: Global, count: usize, found: &mut Found) -> Result<(), Failure> {
+fn commit_over_database(
+    alloc: Global,
+    commits: &[(&str, Commit)],
+    count: usize,
+    found: &mut Found,
+) -> Result<(), Failure> {
     let setup = setup(alloc)?;
     match in_memory(alloc, setup) {
-        Ok(keep) => run(alloc, keep, COMMITS, count, found),
+        Ok(keep) => run(alloc, keep, commits, count, found),
         Err(error) => Err(Failure::Store(error)),
     }
 }
 
-fn is_kept_in_memory(alloc: Global, count: usize, found: &Found) -> Result<(), Failure> {
+fn is_kept_in_memory(
+    alloc: Global,
+    commits: &[(&str, Commit)],
+    count: usize,
+    found: &Found,
+) -> Result<(), Failure> {
     let mut other = Found::new(alloc);
-    commit_in_memory(alloc, COMMITS, count, &mut other)?;
+    commit_in_memory(alloc, commits, count, &mut other)?;
     holds(found.is(&other), Finding::OtherRows)
 }
 
@@ -40,22 +50,26 @@ fn print_numbers(rt: &HostRuntime, what: &str, found: &Found) -> Result<(), Fail
     Ok(println!(rt; "  {what}: {numbers}")?)
 }
 
-fn commit_to(rt: &HostRuntime, what: &str, count: usize, found: &mut Found) -> Result<(), Failure> {
-    commit_over_database(rt.alloc(), count, found)?;
-    is_kept_in_memory(rt.alloc(), count, found)?;
-    print_numbers(rt, what, found)
-}
-
-fn commit_all(rt: &HostRuntime, found: &mut Found) -> Result<(), Failure> {
-    for (at, (what, _)) in COMMITS.iter().enumerate() {
-        commit_to(rt, what, at.saturating_add(1), found)?;
+fn commit_all(
+    rt: &HostRuntime,
+    commits: &[(&str, Commit)],
+    found: &mut Found,
+) -> Result<(), Failure> {
+    for (at, (what, _)) in commits.iter().enumerate() {
+        let count = at.saturating_add(1);
+        commit_over_database(rt.alloc(), commits, count, found)?;
+        is_kept_in_memory(rt.alloc(), commits, count, found)?;
+        print_numbers(rt, what, found)?;
     }
     Ok(())
 }
 
-/// Commits over a database, and prints what it has after each commit.
-pub(crate) fn database_keeps(rt: &HostRuntime) -> Result<&'static str, Failure> {
+/// Makes the commits over a database, and prints what it has after each.
+pub(crate) fn database_keeps(
+    rt: &HostRuntime,
+    commits: &[(&str, Commit)],
+) -> Result<&'static str, Failure> {
     let mut found = Found::new(rt.alloc());
-    commit_all(rt, &mut found)?;
+    commit_all(rt, commits, &mut found)?;
     Ok("what was committed is loaded, and read by its key")
 }

@@ -1,22 +1,21 @@
 //! Tests of a centre's keeps, as a program that prints what it found. The keep in memory and the one over a database have the same
 //! rows after each commit; a store whose log or database file stops after any of its calls has the rows before the commit or after it when it
-//! is opened again, and a centre can stand on them; one that stops as it is made opens with a centre's first rows; a store of version 1
-//! becomes one of version 2; other stores are refused. Each call is made with ample memory, so that none may give up.
+//! is opened again, and a centre can stand on them. Each call is made with ample memory, so that none may give up.
 #![tactic(auto)]
 
 mod course;
 mod failure;
+mod foreign;
 mod found;
 mod keeps;
 mod kinds;
-mod migrating;
-mod refusing;
 mod rows;
 mod run;
+mod script;
 mod stopping;
 
+use crate::course::{COMMITS, SCRIPT};
 use crate::failure::Failure;
-use crate::refusing::WRITTEN;
 use std::io::{self, Print};
 use std::process::ExitCode;
 
@@ -29,8 +28,6 @@ fn main(rt: HostRuntime) -> ExitCode {
 
 fn print_all(rt: &HostRuntime) -> io::Result<()> {
     print_kept(rt)?;
-    print_refused(rt)?;
-    print_migrated(rt)?;
     print_stopped(rt)
 }
 
@@ -44,37 +41,32 @@ fn print(rt: &HostRuntime, what: &str, found: Result<&str, Failure>) -> io::Resu
 
 fn print_kept(rt: &HostRuntime) -> io::Result<()> {
     println!(rt; "commits")?;
-    print(rt, "database", keeps::database_keeps(rt))
-}
-
-fn print_migrated(rt: &HostRuntime) -> io::Result<()> {
-    print(rt, "migration", migrating::migrates(rt.alloc()))?;
+    print(rt, "database", keeps::database_keeps(rt, COMMITS))?;
+    println!(rt; "a worked script")?;
+    print(rt, "database", keeps::database_keeps(rt, SCRIPT))?;
     print(
         rt,
-        "migration stopped",
-        migrating::stop_migration(rt.alloc()),
+        "a key past its integers",
+        foreign::foreign_key(rt.alloc()),
     )
 }
 
 fn print_stopped(rt: &HostRuntime) -> io::Result<()> {
     let alloc = rt.alloc();
-    print(rt, "commits stopped", stopping::stop_commits(alloc))?;
+    print(
+        rt,
+        "commits stopped",
+        stopping::stop_commits(alloc, COMMITS),
+    )?;
+    print(
+        rt,
+        "a worked script's commits stopped",
+        stopping::stop_commits(alloc, SCRIPT),
+    )?;
     print(
         rt,
         "a commit as the disk stops",
         stopping::refused_commit(alloc),
     )?;
-    print(rt, "a load behind it", stopping::refused_load(alloc))?;
-    print(rt, "made, stopped anywhere", stopping::stop_making(alloc))
-}
-
-fn print_refused(rt: &HostRuntime) -> io::Result<()> {
-    for store in WRITTEN {
-        print(rt, store.name, refusing::open(rt.alloc(), *store))?;
-    }
-    print(
-        rt,
-        "a key past its integers",
-        refusing::foreign_key(rt.alloc()),
-    )
+    print(rt, "a load behind it", stopping::refused_load(alloc))
 }

@@ -1,8 +1,9 @@
 //! Commits over a keep, and what it finds there.
-use crate::course::{COURSE, Commit, HELLO, NOTHING, RECEIVED, changes_of};
+use crate::course::{Commit, HELLO, NOTHING, RECEIVED, changes_of};
 use crate::failure::{Failure, Finding, holds};
 use crate::found::{Found, describe, stands_on};
 use crate::rows::progress;
+use crate::script;
 use sms_base::{FinalState, Octets};
 use sms_centre_rules::{Changes, Rows};
 use sms_keep::{BodyKeep, Keep};
@@ -106,24 +107,49 @@ fn reads_all<K: BodyKeep<Rows = Rows, Changes = Changes>>(keep: &mut K) -> Resul
 }
 
 // What stands after the course, as the commits say.
-fn is_at_its_end<K: BodyKeep<Rows = Rows, Changes = Changes>>(keep: &mut K) -> Result<(), Failure> {
+fn is_told<K: BodyKeep<Rows = Rows, Changes = Changes>>(keep: &mut K) -> Result<(), Failure> {
     has_rows(keep)?;
     reads_all(keep)
 }
 
-// A centre can stand on what each commit of the course leaves.
+// What stands after the worked script.
+fn is_answered<K: BodyKeep<Rows = Rows, Changes = Changes>>(keep: &mut K) -> Result<(), Failure> {
+    let rows = keep.load()?;
+    script::has_ended(&rows)?;
+    reads(keep, 1, script::HELLO)
+}
+
+// What stands after that commit, where it is the last of its course.
+fn is_at_end<K: BodyKeep<Rows = Rows, Changes = Changes>>(
+    keep: &mut K,
+    last: Option<Commit>,
+) -> Result<(), Failure> {
+    match last {
+        Some(Commit::Told) => is_told(keep),
+        Some(Commit::Answered) => is_answered(keep),
+        _ => Ok(()),
+    }
+}
+
+// A centre can stand on what each commit leaves that a centre makes.
 fn judge<K: BodyKeep<Rows = Rows, Changes = Changes>>(
     alloc: Global,
     keep: &mut K,
-    count: usize,
+    last: Option<Commit>,
 ) -> Result<(), Failure> {
-    if count <= COURSE {
-        stands_on(alloc, keep)?;
+    if matches!(last, Some(Commit::Removed | Commit::Kinds)) {
+        return Ok(());
     }
-    if count == COURSE {
-        is_at_its_end(keep)?;
+    stands_on(alloc, keep)?;
+    is_at_end(keep, last)
+}
+
+fn last_of(commits: &[(&str, Commit)], count: usize) -> Option<Commit> {
+    let at = count.checked_sub(1)?;
+    match commits.get(at) {
+        Some((_, commit)) => Some(*commit),
+        None => None,
     }
-    Ok(())
 }
 
 fn work<K: BodyKeep<Rows = Rows, Changes = Changes>>(
@@ -134,7 +160,7 @@ fn work<K: BodyKeep<Rows = Rows, Changes = Changes>>(
     found: &mut Found,
 ) -> Result<(), Failure> {
     commit_first(alloc, keep, commits, count)?;
-    judge(alloc, keep, count)?;
+    judge(alloc, keep, last_of(commits, count))?;
     describe(alloc, keep, found)
 }
 

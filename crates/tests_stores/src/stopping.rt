@@ -1,4 +1,4 @@
-//! Each commit stopped anywhere, and a store as it is made, in files. What it makes of the rows, the keep in memory says.
+//! Each commit stopped anywhere, in files. What it makes of the rows, the keep in memory says.
 use crate::course::{COMMITS, Commit, changes_of};
 use crate::failure::Failure;
 use crate::found::{Found, text_in};
@@ -9,7 +9,7 @@ use sms_centre_store::CentreKeep;
 use sms_keep::{Keep, KeepError};
 use sqlite::{Alter, Connection};
 use std::alloc::Global;
-use stopping_files::{Image, Made, Trial, Wanted, refusal_at_stop, stop_anywhere, stop_opening};
+use stopping_files::{Image, Made, Trial, Wanted, refusal_at_stop, stop_anywhere};
 
 // A commit of the changes.
 #[derive(Drop)]
@@ -119,9 +119,14 @@ struct Sides {
     after: Found,
 }
 
-fn fill_sides(alloc: Global, sides: &mut Sides, at: usize) -> Result<(), Failure> {
-    commit_in_memory(alloc, COMMITS, at, &mut sides.before)?;
-    commit_in_memory(alloc, COMMITS, at.saturating_add(1), &mut sides.after)
+fn fill_sides(
+    alloc: Global,
+    commits: &[(&str, Commit)],
+    at: usize,
+    sides: &mut Sides,
+) -> Result<(), Failure> {
+    commit_in_memory(alloc, commits, at, &mut sides.before)?;
+    commit_in_memory(alloc, commits, at.saturating_add(1), &mut sides.after)
 }
 
 fn stop_between(
@@ -140,6 +145,7 @@ fn stop_between(
 
 fn stop_commit(
     alloc: Global,
+    commits: &[(&str, Commit)],
     changes: &Changes,
     at: usize,
     image: &mut Image,
@@ -148,42 +154,26 @@ fn stop_commit(
         before: Found::new(alloc),
         after: Found::new(alloc),
     };
-    fill_sides(alloc, &mut sides, at)?;
+    fill_sides(alloc, commits, at, &mut sides)?;
     stop_between(alloc, changes, &sides, image)
 }
 
-fn stop_each(alloc: Global, image: &mut Image) -> Result<(), Failure> {
-    for (at, (_, commit)) in COMMITS.iter().enumerate() {
+fn stop_each(alloc: Global, commits: &[(&str, Commit)], image: &mut Image) -> Result<(), Failure> {
+    for (at, (_, commit)) in commits.iter().enumerate() {
         let changes = changes_of(alloc, *commit)?;
-        stop_commit(alloc, &changes, at, image)?;
+        stop_commit(alloc, commits, &changes, at, image)?;
     }
     Ok(())
 }
 
-/// Stops each commit anywhere.
-pub(crate) fn stop_commits(alloc: Global) -> Result<&'static str, Failure> {
+/// Stops each of the commits anywhere.
+pub(crate) fn stop_commits(
+    alloc: Global,
+    commits: &[(&str, Commit)],
+) -> Result<&'static str, Failure> {
     let mut image = Image::new(alloc);
-    stop_each(alloc, &mut image)?;
+    stop_each(alloc, commits, &mut image)?;
     Ok("in each the rows before it, or after it")
-}
-
-fn stop_first(alloc: Global, changes: &Changes, wanted: &str) -> Result<(), Failure> {
-    let empty = Image::new(alloc);
-    stop_opening(alloc, &CommitTrial { changes }, &empty, wanted)?;
-    Ok(())
-}
-
-fn stop_before(alloc: Global, changes: &Changes) -> Result<(), Failure> {
-    let mut first = Found::new(alloc);
-    commit_in_memory(alloc, COMMITS, 0, &mut first)?;
-    stop_first(alloc, changes, first.rows.as_str())
-}
-
-/// Stops the making of a store anywhere.
-pub(crate) fn stop_making(alloc: Global) -> Result<&'static str, Failure> {
-    let changes = changes_of(alloc, Commit::Submitted(3))?;
-    stop_before(alloc, &changes)?;
-    Ok("what is left opens with a centre's first rows")
 }
 
 fn refused<T: Trial>(alloc: Global, trial: &T) -> Result<&'static str, Failure> {

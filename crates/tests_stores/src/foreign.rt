@@ -1,0 +1,36 @@
+//! A change that the store has no integer for.
+use crate::course::no_changes;
+use crate::failure::Failure;
+use crate::rows::setup;
+use sms_centre_rules::Changes;
+use sms_centre_store::{CentreKeep, in_memory};
+use sms_keep::Keep;
+use sms_table::{Change, Key};
+use sqlite::Alter;
+use std::alloc::Global;
+
+// A removal by a key that is none of SQLite's integers.
+fn foreign(alloc: Global) -> Result<Changes, Failure> {
+    let mut changes = no_changes(alloc);
+    changes.handsets.push(Change::Remove(Key::of(u64::MAX)))?;
+    Ok(changes)
+}
+
+fn commit_foreign<S: Alter + Drop>(
+    alloc: Global,
+    keep: CentreKeep<S>,
+) -> Result<&'static str, Failure> {
+    let mut keep = keep;
+    let changes = foreign(alloc)?;
+    keep.commit(&changes)?;
+    Ok("committed")
+}
+
+/// Commits what the store has no integer for.
+pub(crate) fn foreign_key(alloc: Global) -> Result<&'static str, Failure> {
+    let setup = setup(alloc)?;
+    match in_memory(alloc, setup) {
+        Ok(keep) => commit_foreign(alloc, keep),
+        Err(error) => Err(Failure::Store(error)),
+    }
+}
