@@ -1,5 +1,5 @@
 //! The deadlines of all messages that are pending.
-ghost use Rattle.std.specs.Prelude.{◌≡◌, ◌⊎◌, ◌+◌, ◌≤◌, ℕ, [], ◌∷◌, length, max, Some, OnOk, IfOk, IsOk};
+ghost use Rattle.std.specs.Prelude.{◌≡◌, ◌⊎◌, ◌+◌, ◌-◌, ◌≤◌, ℕ, [], ◌∷◌, length, max, Some, OnErr, OnOk, IfOk, IsOk};
 ghost use Rattle.std.specs.BinaryHeap.{IsHeap};
 ghost use Rattle.std.specs.List.Sorted.{IsNonDecreasing};
 ghost use Rattle.sms_base.specs.Among.{Among};
@@ -63,6 +63,7 @@ impl Deadlines {
         ensures own { OnOk result (Among deadline self.new.items) }
         ensures others { (other : DeadlineOf) → Among other self.old.items → Among other self.new.items }
         ensures len { OnOk result (length self.new.items ≡ length self.old.items + 1) }
+        ensures err { OnErr result (self.new.items ≡ self.old.items) }
         ensures capacity { self.old.capacity ≤ self.new.capacity }
         ensures ready { length self.old.items + 1 ≤ self.old.capacity → IsOk result }
     {
@@ -98,6 +99,7 @@ impl Deadlines {
     pub fn drop_first(&mut self)
         ensures others { (other : DeadlineOf) → Among other self.old.items → (Some other ≡ first_of self.old.items) ⊎ Among other self.new.items }
         ensures len { length self.new.items ≤ length self.old.items }
+        ensures less { length self.new.items ≡ length self.old.items - 1 }
         ensures capacity { self.new.capacity ≡ self.old.capacity }
     {
         self.heap.pop();

@@ -1,12 +1,15 @@
 -- Rows in two parts: what is found, offered and held in both, and what is put or removed behind the first.
-use Rattle.std.proofs.Common.{◌≡◌, ℕ, suc, ◌-◌, ◌<◌, List, [], ◌∷◌, ◌++◌, length, Option, Some, None, Bool, true, false, refl, sym, ◌∙◌, ap, subst, arith, ⊎_elim}
-use Rattle.std.specs.Prelude.{◌&&◌, ◌||◌, not, slice_get}
+use Rattle.std.proofs.Common.{◌≡◌, ℕ, suc, ◌-◌, ◌<◌, List, [], ◌∷◌, ◌++◌, length, Option, Some, Bool, true, false, refl, sym, ◌∙◌, ap, subst, arith, ⊎_elim}
+use Rattle.std.specs.Prelude.{◌==◌, ◌&&◌, ◌||◌, not, slice_get}
 use Rattle.std.specs.Option.{option_or}
-use Rattle.std.proofs.lemmas.Bool.{cases_eq}
+use Rattle.std.proofs.lemmas.Bool.{cases_eq, cond-false, ne_eqb}
+use Rattle.sms_table.specs.Keys.{pair_key}
 use Rattle.sms_table.specs.Table.{Rises, insert, put, row_at, without}
 use Rattle.sms_table.proofs.Tables.{insert_behind, rises_put, rises_without, row_behind, row_here, without_behind}
 use Rattle.sms_waiting.specs.declared.load.Load.{Load}
-use Rattle.sms_waiting.specs.Waiting.{is_due, is_same, waits_beside}
+use Rattle.sms_waiting.specs.Keys.{load_key}
+use Rattle.sms_waiting.specs.Waiting.{is_due, is_part_of, is_same, waits_beside, withdrawn}
+use Rattle.sms_waiting.proofs.Withdrawing.{rises_withdrawn}
 use Rattle.sms_shelf.specs.Base.{AllBelow}
 
 module _ {A : Type 0} (key : A → ℕ) where
@@ -70,3 +73,17 @@ beside_parted now chosen [] ks = refl
 beside_parted now chosen (l ∷ ls) ks =
     ap (λ b. (is_due now l && not (is_same l chosen)) || b) (beside_parted now chosen ls ks)
     ∙ or_assoc (is_due now l && not (is_same l chosen)) (waits_beside now chosen ls) (waits_beside now chosen ks)
+
+-- ---- the parts of a message wait no more
+
+pub withdrawn_parted : (id : ℕ) (ls ks : List Load) → AllBelow load_key (pair_key id 0) ls → withdrawn id (ls ++ ks) ≡ ls ++ withdrawn id ks
+withdrawn_parted id [] ks below = refl
+withdrawn_parted id (l ∷ ls) ks below =
+    let another : ¬ (l.id ≡ id) = λ e. absurd (omega (arith, e, below.0)) in
+    let other : is_part_of id l ≡ false = ap (λ (b : Bool). b && not (l.number == 0)) (ne_eqb l.id id another) in
+    cond-false (is_part_of id l) (withdrawn id (ls ++ ks)) (l ∷ withdrawn id (ls ++ ks)) other
+    ∙ ap (λ (r : List Load). l ∷ r) (withdrawn_parted id ls ks below.1)
+
+pub rises_withdrawn_parted : (id : ℕ) (ls ks : List Load) → AllBelow load_key (pair_key id 0) ls → Rises load_key (ls ++ ks) → Rises load_key (ls ++ withdrawn id ks)
+rises_withdrawn_parted id ls ks below rises =
+    subst (λ (r : List Load). Rises load_key r) (withdrawn_parted id ls ks below) (rises_withdrawn id (ls ++ ks) rises)

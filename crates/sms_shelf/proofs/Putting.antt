@@ -1,5 +1,5 @@
 -- Rows that were put one after the other: one more, and what is found.
-use Rattle.std.proofs.Common.{◌≡◌, ℕ, zero, suc, ◌<◌, List, [], ◌∷◌, ◌++◌, length, drop, get_or, Option, Some, None, cond, refl, sym, ◌∙◌, ap, arith, ⊎_elim, eq-eqb}
+use Rattle.std.proofs.Common.{◌≡◌, ℕ, zero, suc, ◌<◌, List, [], ◌∷◌, ◌++◌, length, drop, get_or, Option, Some, None, cond, refl, sym, ◌∙◌, ap, subst, arith, ⊎_elim, eq-eqb}
 use Rattle.std.specs.Prelude.{◌==◌}
 use Rattle.std.specs.Option.{option_or}
 use Rattle.std.proofs.lemmas.Bool.{cases_eq, cond-true, cond-false, ne_eqb}
@@ -20,7 +20,7 @@ module _ {A : Type 0} (key : A → ℕ) where
   one_put : (n : ℕ) (x : A) (rows : List A) → row_at key n (put key x rows) ≡ option_or (cond (key x == n) (Some x) None) (row_at key n rows)
   one_put n x rows = ⊎_elim
       (λ (e : key x ≡ n).
-      Rattle.std.proofs.Common.subst (λ (m : ℕ). row_at key m (put key x rows) ≡ Some x) e (row_at_put key x rows)
+      subst (λ (m : ℕ). row_at key m (put key x rows) ≡ Some x) e (row_at_put key x rows)
       ∙ ap (λ (o : Option A). option_or o (row_at key n rows)) (sym (cond-true (key x == n) (Some x) None (eq-eqb (key x) n e))))
       (λ (e : key x ≡ n → ⊥).
       row_at_put_other key n x rows e
@@ -43,11 +43,3 @@ module _ {A : Type 0} (key : A → ℕ) where
       ∙ cond-true (key x == n) (Some x) None (eq-eqb (key x) n e)
   newest_at n (suc j) (x ∷ xs) d l none e =
       ap (λ (o : Option A). option_or o (cond (key x == n) (Some x) None)) (newest_at n j xs d (omega arith) none e)
-
-  -- a row of another key
-  pub newest_before : (n j : ℕ) (xs : List A) (d : A) → j < length xs → newest key n (drop (suc j) xs) ≡ None → ¬ (key (get_or xs j d) ≡ n) → newest key n (drop j xs) ≡ None
-  newest_before n j [] d l none e = absurd (omega arith)
-  newest_before n zero (x ∷ xs) d l none e =
-      ap (λ (o : Option A). option_or o (cond (key x == n) (Some x) None)) none
-      ∙ cond-false (key x == n) (Some x) None (ne_eqb (key x) n e)
-  newest_before n (suc j) (x ∷ xs) d l none e = newest_before n j xs d (omega arith) none e

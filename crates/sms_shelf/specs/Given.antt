@@ -1,7 +1,9 @@
 -- Rows that were put one after the other.
-use Rattle.std.specs.Prelude.{ℕ, ◌==◌, if◌then◌else◌, List, [], ◌∷◌, Option, Some, None}
+use Rattle.std.specs.Prelude.{ℕ, ◌≤◌, ◌==◌, if◌then◌else◌, List, [], ◌∷◌, Option, Some, None}
+use Rattle.std.specs.List.{AllByRecursion}
 use Rattle.std.specs.Option.{option_or}
 use Rattle.sms_table.specs.Table.{put}
+use Rattle.sms_waiting.specs.declared.reference.ReferenceRow.{ReferenceRow}
 
 -- the rows once these were put, the first one first
 abbrev pub all_put : {A : Type 0} → (A → ℕ) → List A → List A → List A
@@ -12,3 +14,7 @@ all_put key (x ∷ xs) rows = all_put key xs (put key x rows)
 abbrev pub newest : {A : Type 0} → (A → ℕ) → ℕ → List A → Option A
 newest key n [] = None
 newest key n (x ∷ xs) = option_or (newest key n xs) (if key x == n then Some x else None)
+
+-- none was given after that moment
+abbrev pub AllGivenBy : ℕ → List ReferenceRow → Type 0
+AllGivenBy moment rows = AllByRecursion (λ row. row.last ≤ moment) rows

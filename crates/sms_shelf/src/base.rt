@@ -73,13 +73,6 @@ impl<T: Drop + Row> Base<T> {
             None => None,
         }
     }
-
-    /// Whether all rows have lower keys.
-    pub(crate) fn is_below(&self, key: Key) -> bool
-        ensures { (result ≡ true) ↔ AllBelow T.key key self.now }
-    {
-        is_below(self.as_slice(), key)
-    }
 }
 
 /// Whether all of these rows, which stand in order, have lower keys.

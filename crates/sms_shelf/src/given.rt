@@ -2,9 +2,11 @@
 ghost use Rattle.std.specs.Prelude.{◌≡◌, [], IfOk, OnOk, option_copied};
 ghost use Rattle.sms_table.specs.Table.{put, row_at};
 ghost use Rattle.sms_waiting.specs.Keys.{reference_key};
+ghost use Rattle.sms_waiting.specs.References.{is_late as is_late_of};
 ghost use Rattle.sms_shelf.specs.Given.{all_put, newest as newest_of};
 
-use crate::base::Base;
+use crate::earlier::Earlier;
+use sms_base::Moment;
 use sms_table::{Key, Row, Table};
 use sms_waiting::ReferenceRow;
 use std::alloc::{AllocError, Global};
@@ -18,7 +20,7 @@ const MOST_NEWER: usize = 16;
 #[derive(Drop)]
 pub(crate) struct Given {
     alloc: Global,
-    base: Base<ReferenceRow>,
+    base: Earlier,
     // Those that were given since, the oldest first.
     newer: Vec<ReferenceRow>,
 }
@@ -41,7 +43,7 @@ impl Given {
     {
         Given {
             alloc,
-            base: Base::new(),
+            base: Earlier::new(),
             newer: Vec::new(alloc),
         }
     }
@@ -50,7 +52,7 @@ impl Given {
     pub(crate) fn of(alloc: Global, rows: Table<ReferenceRow>) -> Result<Given, AllocError>
         ensures { IfOk result (λ given. given ≡ rows.rows) }
     {
-        let base = Base::of(alloc, rows)?;
+        let base = Earlier::of(alloc, rows)?;
         Ok(Given {
             alloc,
             base,
@@ -71,14 +73,14 @@ impl Given {
         })
     }
 
-    /// The row of that key, if there is one.
+    /// Whether the reference of that key was given last at that moment or later.
     #[tactic(auto, using(crate::proofs::Putting::row_at_all_put))]
-    pub(crate) fn find(&self, key: Key) -> Option<&ReferenceRow>
-        ensures { option_copied result ≡ row_at reference_key key self.now }
+    pub(crate) fn is_late(&self, key: Key, now: Moment) -> bool
+        ensures { result ≡ is_late_of now (row_at reference_key key self.now) }
     {
         match newest(self.newer.as_slice(), key) {
-            Some(row) => Some(row),
-            None => self.base.find(key),
+            Some(row) => now.seconds() <= row.last.seconds(),
+            None => self.base.is_late(key, now),
         }
     }
 
@@ -99,7 +101,7 @@ impl Given {
         ensures { OnOk result (self.new ≡ self.old) }
     {
         let rows = self.rows()?;
-        let base = Base::of(self.alloc, rows)?;
+        let base = Earlier::of(self.alloc, rows)?;
         let newer = Vec::new(self.alloc);
         self.base = base;
         self.newer = newer;

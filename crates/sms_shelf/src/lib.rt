@@ -7,10 +7,12 @@
 #![tactic(auto)]
 
 mod base;
+mod earlier;
 mod given;
 mod held;
 pub mod laws;
 mod loads;
+mod shared;
 mod shelf;
 mod waiting;
 

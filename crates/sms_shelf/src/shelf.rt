@@ -203,10 +203,8 @@ impl Shelf {
         if held[usize::from(reference)] {
             return false;
         }
-        match self.given.find(Key::pair(u64::from(row.place), reference)) {
-            Some(given) => given.last.seconds() < now.seconds(),
-            None => true,
-        }
+        let key = Key::pair(u64::from(row.place), reference);
+        !self.given.is_late(key, now)
     }
 
     /// The reference is given to the handset, whose row is that.

@@ -1,5 +1,6 @@
 //! What waits for a handset.
-ghost use Rattle.std.specs.Prelude.{◌≡◌, [], IfOk, OnOk, true};
+ghost use Rattle.std.specs.Prelude.{◌≡◌, [], IfOk, OnOk};
+ghost use Rattle.sms_table.specs.Keys.{pair_key};
 ghost use Rattle.sms_table.specs.Table.{Rises, put, row_at, without};
 ghost use Rattle.sms_waiting.specs.Keys.{load_key};
 ghost use Rattle.sms_waiting.specs.References.{AreHeld};
@@ -7,9 +8,10 @@ ghost use Rattle.sms_waiting.specs.Waiting.{all_at_once, next as next_of, waits_
 ghost use Rattle.sms_shelf.specs.Base.{AllBelow};
 ghost use Rattle.sms_shelf.specs.Waiting.{loads_of};
 
-use crate::base::{Base, is_below, joined};
-use crate::held::{held_with, none_held};
+use crate::base::{is_below, joined};
+use crate::held::held_with;
 use crate::loads::{first_due, is_due_beside, loads_but, loads_due_at};
+use crate::shared::SharedLoads;
 use sms_base::{MessageId, Moment};
 use sms_table::{Key, Row, Table};
 use sms_waiting::Load;
@@ -26,7 +28,7 @@ const MOST_NEWER: usize = 16;
 #[derive(Drop)]
 pub(crate) struct Waiting {
     alloc: Global,
-    base: Base<Load>,
+    base: SharedLoads,
     // Behind the base.
     newer: Table<Load>,
 }
@@ -51,7 +53,7 @@ impl Waiting {
     {
         Waiting {
             alloc,
-            base: Base::new(),
+            base: SharedLoads::new(),
             newer: Table::new(alloc),
         }
     }
@@ -118,8 +120,7 @@ impl Waiting {
     pub(crate) fn held_references(&self) -> [bool; 256]
         ensures { AreHeld result (loads_of self.now) }
     {
-        let held = held_with(none_held(), self.base.as_slice());
-        held_with(held, self.newer.as_slice())
+        held_with(self.base.held(), self.newer.as_slice())
     }
 }
 
@@ -143,14 +144,11 @@ impl Waiting {
     }
 
     /// No part of that message waits any more.
-    #[tactic(auto, using(sms_waiting::proofs::Withdrawing::rises_withdrawn))]
     pub(crate) fn withdraw(&mut self, id: MessageId) -> Result<(), AllocError>
         ensures { OnOk result (loads_of self.new ≡ withdrawn id (loads_of self.old)) }
     {
-        let table = self.table()?;
-        let loads = loads_but(self.alloc, table.as_slice(), id)?;
-        self.replace(Table::from_vec(loads));
-        Ok(())
+        self.make_own(Key::pair(id.number(), 0))?;
+        self.withdraw_newer(id)
     }
 
     /// All that waits is due at that moment.
@@ -170,7 +168,7 @@ impl Waiting {
     fn replace(&mut self, loads: Table<Load>)
         ensures { self.new ≡ record { base = []; newer = loads.rows } }
     {
-        self.base = Base::new();
+        self.base = SharedLoads::new();
         self.newer = loads;
     }
 
@@ -191,7 +189,7 @@ impl Waiting {
         ensures { OnOk result (loads_of self.new ≡ loads_of self.old) }
     {
         let table = self.table()?;
-        let base = Base::of(self.alloc, table)?;
+        let base = SharedLoads::of(self.alloc, table)?;
         self.base = base;
         self.newer = Table::new(self.alloc);
         Ok(())
@@ -224,5 +222,15 @@ impl Waiting {
         ensures { loads_of self.new ≡ without load_key key (loads_of self.old) }
     {
         self.newer.remove(key);
+    }
+
+    #[tactic(auto, using(sms_waiting::proofs::Withdrawing::rises_withdrawn))]
+    fn withdraw_newer(&mut self, id: MessageId) -> Result<(), AllocError>
+        requires { AllBelow load_key (pair_key id 0) self.old.base }
+        ensures { OnOk result (loads_of self.new ≡ withdrawn id (loads_of self.old)) }
+    {
+        let loads = loads_but(self.alloc, self.newer.as_slice(), id)?;
+        self.newer = Table::from_vec(loads);
+        Ok(())
     }
 }

@@ -2,7 +2,7 @@ use Rattle.std.proofs.Common.{◌≡◌, ℕ, suc, ◌-◌, Some, None, length, 
 use Rattle.sms_waiting.specs.declared.reference.ReferenceRow.{ReferenceRow}
 use Rattle.sms_waiting.specs.Keys.{reference_key}
 use Rattle.sms_shelf.specs.Given.{newest}
-use Rattle.sms_shelf.proofs.Putting.{newest_at, newest_before}
+use Rattle.sms_shelf.proofs.Putting.{newest_at}
 use Rattle.sms_shelf.proofs.given.newest.Goals as goal
 
 pub returns-then-number : goal.returns-then-number

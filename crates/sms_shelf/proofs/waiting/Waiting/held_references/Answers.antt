@@ -1,10 +1,11 @@
-use Rattle.std.proofs.Common.{◌≡◌, List, [], ◌++◌, subst}
+use Rattle.std.proofs.Common.{◌≡◌, List, ◌++◌, subst}
 use Rattle.sms_waiting.specs.References.{AreHeld}
 use Rattle.sms_waiting.specs.declared.load.Load.{Load}
-use Rattle.sms_shelf.specs.Waiting.{WaitingOf, loads_of}
+use Rattle.sms_shelf.specs.Waiting.{loads_of}
 use Rattle.sms_shelf.proofs.waiting.Waiting.held_references.Goals as goal
 
 pub returns : goal.returns
 returns c =
-    let all : c.as_slice.result.now ++ c.as_slice-2.result.now ≡ loads_of c.args.self.now = cc in
-    subst (λ (ls : List Load). AreHeld c.held_with.result ls) all (c.held_with.ensures c.as_slice.result.now (c.held_with-held.ensures [] c.none_held.ensures))
+    let base = c.self.inside.base in
+    let all : base ++ c.as_slice.result.now ≡ loads_of c.args.self.now = cc in
+    subst (λ (ls : List Load). AreHeld c.held_with.result ls) all (c.held_with.ensures base c.held.ensures)

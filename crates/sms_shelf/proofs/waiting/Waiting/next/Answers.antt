@@ -1,7 +1,7 @@
-use Rattle.std.proofs.Common.{◌≡◌, List, [], ◌++◌, append-nil, refl, ap, sym, ◌∙◌}
+use Rattle.std.proofs.Common.{◌≡◌, List, [], ◌++◌, append-nil, refl, ap, ◌∙◌}
 use Rattle.sms_waiting.specs.Waiting.{next}
 use Rattle.sms_waiting.specs.declared.load.Load.{Load}
-use Rattle.sms_shelf.specs.Waiting.{WaitingOf, loads_of}
+use Rattle.sms_shelf.specs.Waiting.{loads_of}
 use Rattle.sms_shelf.proofs.waiting.Waiting.next.Goals as goal
 
 pub returns : goal.returns
