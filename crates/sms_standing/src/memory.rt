@@ -34,6 +34,14 @@ struct ReportMemory {
     register: Register,
 }
 
+// All but what is kept of messages.
+#[derive(Drop)]
+struct OtherMemory {
+    shelves: Shelves,
+    reports: Reports,
+    register: Register,
+}
+
 /// What is kept of rows.
 #[derive(Drop)]
 pub(crate) struct Memory {
@@ -51,8 +59,13 @@ fn message_memory(alloc: Global, tables: &RowTables) -> Result<MessageMemory, Al
     let rows = tables.messages.as_slice();
     let parts = tables.parts.as_slice();
     let messages = KeptMessages::recover(alloc, rows, parts)?;
-    let claims = KeptClaims::recover(alloc, &tables.messages, parts)?;
-    Ok(MessageMemory { messages, claims })
+    match KeptClaims::recover(alloc, &tables.messages, parts) {
+        Ok(claims) => Ok(MessageMemory { messages, claims }),
+        Err(error) => {
+            drop(messages);
+            Err(error)
+        }
+    }
 }
 
 fn report_memory(alloc: Global, tables: &RowTables) -> Result<ReportMemory, AllocError>
@@ -63,8 +76,41 @@ fn report_memory(alloc: Global, tables: &RowTables) -> Result<ReportMemory, Allo
     let messages = tables.messages.as_slice();
     let rows = tables.reports.as_slice();
     let reports = Reports::recover(alloc, messages, rows)?;
-    let register = Register::recover(alloc, rows)?;
-    Ok(ReportMemory { reports, register })
+    match Register::recover(alloc, rows) {
+        Ok(register) => Ok(ReportMemory { reports, register }),
+        Err(error) => {
+            drop(reports);
+            Err(error)
+        }
+    }
+}
+
+fn other_memory(
+    alloc: Global,
+    tables: &RowTables,
+    handsets: &[Digits],
+    are_up: bool,
+    now: Moment,
+) -> Result<OtherMemory, AllocError>
+    requires sound { IsSound (rows_of tables.now) }
+    requires numbers { (number : List ℕ) → Among number handsets.now → IsNumber number }
+    requires apart { AreDifferent handsets.now }
+    ensures shelves { IfOk result (λ memory. Stands tables.now.handsets.rows tables.now.references.rows (lines_of are_up handsets.now) (λ number. all_for number (rows_of tables.now)) memory.shelves) }
+    ensures reports { IfOk result (λ memory. ShowsReports tables.now.messages.rows memory.reports tables.now.reports.rows) }
+    ensures register { IfOk result (λ memory. HoldsRegister memory.register tables.now.reports.rows) }
+{
+    let of_reports = report_memory(alloc, tables)?;
+    match shelves_of(alloc, tables, handsets, are_up, now) {
+        Ok(shelves) => Ok(OtherMemory {
+            shelves,
+            reports: of_reports.reports,
+            register: of_reports.register,
+        }),
+        Err(error) => {
+            drop(of_reports);
+            Err(error)
+        }
+    }
 }
 
 /// What a centre keeps of sound rows that starts on them at that moment, with lines to these handsets.
@@ -85,13 +131,17 @@ pub(crate) fn memory_of(
     ensures register { IfOk result (λ memory. HoldsRegister memory.register tables.now.reports.rows) }
 {
     let of_messages = message_memory(alloc, tables)?;
-    let of_reports = report_memory(alloc, tables)?;
-    let shelves = shelves_of(alloc, tables, handsets, are_up, now)?;
-    Ok(Memory {
-        messages: of_messages.messages,
-        claims: of_messages.claims,
-        shelves,
-        reports: of_reports.reports,
-        register: of_reports.register,
-    })
+    match other_memory(alloc, tables, handsets, are_up, now) {
+        Ok(other) => Ok(Memory {
+            messages: of_messages.messages,
+            claims: of_messages.claims,
+            shelves: other.shelves,
+            reports: other.reports,
+            register: other.register,
+        }),
+        Err(error) => {
+            drop(of_messages);
+            Err(error)
+        }
+    }
 }

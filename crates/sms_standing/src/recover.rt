@@ -13,7 +13,7 @@ use crate::memory::memory_of;
 use crate::recover_error::RecoverError;
 use crate::standing::Standing;
 use sms_base::Digits;
-use sms_centre_rules::Rows;
+use sms_centre_rules::{Rows, Setup};
 use sms_sessions::Seat;
 use sms_soundness::RowTables;
 use sms_starting::moment_of;
@@ -91,17 +91,23 @@ impl Standing {
         // The call tells that the sessions stand in order.
         let _seats = sessions.as_slice();
         let moment = moment_of(&tables);
-        let memory = memory_of(alloc, &tables, handsets, are_up, moment)?;
-        Ok(Standing {
-            setup: tables.setup,
-            moment,
-            messages: memory.messages,
-            claims: memory.claims,
-            shelves: memory.shelves,
-            reports: memory.reports,
-            register: memory.register,
-            sessions,
-        })
+        match memory_of(alloc, &tables, handsets, are_up, moment) {
+            Ok(memory) => Ok(Standing {
+                setup: setup_of(tables),
+                moment,
+                messages: memory.messages,
+                claims: memory.claims,
+                shelves: memory.shelves,
+                reports: memory.reports,
+                register: memory.register,
+                sessions,
+            }),
+            Err(error) => {
+                drop(sessions);
+                drop(tables);
+                Err(error)
+            }
+        }
     }
 }
 
@@ -114,8 +120,21 @@ fn sound_tables(alloc: Global, rows: Rows) -> Result<RowTables, RecoverError>
     let Some(tables) = RowTables::of(rows) else {
         return Err(RecoverError::BadRows);
     };
-    if !tables.is_sound(alloc)? {
-        return Err(RecoverError::BadRows);
+    match tables.is_sound(alloc) {
+        Ok(true) => Ok(tables),
+        Ok(false) => {
+            drop(tables);
+            Err(RecoverError::BadRows)
+        }
+        Err(error) => {
+            drop(tables);
+            Err(RecoverError::from(error))
+        }
     }
-    Ok(tables)
+}
+
+fn setup_of(tables: RowTables) -> Setup
+    ensures { result ≡ tables.setup }
+{
+    tables.setup
 }

@@ -1,11 +1,12 @@
 //! The shelves of a centre that starts.
-ghost use Rattle.std.specs.Prelude.{ℕ, List, [], false, IfOk};
+ghost use Rattle.std.specs.Prelude.{ℕ, List, [], false, IfOk, OnOk};
 ghost use Rattle.sms_base.specs.Among.{Among};
-ghost use Rattle.sms_shelves.specs.Adopting.{Fits, IsAdopted};
+ghost use Rattle.sms_shelves.specs.Adopting.{Fits, IsAdopted, IsSettled};
 ghost use Rattle.sms_shelves.specs.Placing.{ShelvesOf};
-ghost use Rattle.sms_shelves.specs.Shown.{Stands};
+ghost use Rattle.sms_shelves.specs.Shown.{Shows, Stands};
 ghost use Rattle.sms_soundness.specs.RowsOf.{rows_of};
 ghost use Rattle.sms_starting.specs.Starting.{lines_of};
+ghost use Rattle.sms_waiting.specs.References.{Givings};
 ghost use Rattle.sms_waiting.specs.SoundGivings.{IsNumber};
 ghost use Rattle.sms_waiting.specs.declared.handset.HandsetRow.{HandsetRow};
 ghost use Rattle.sms_waiting.specs.declared.line.Line.{Line};
@@ -20,6 +21,48 @@ use sms_shelves::{PendingShelves, SettledShelves, Shelves};
 use sms_soundness::RowTables;
 use sms_starting::{connect_all, put_parts, put_reports};
 use std::alloc::{AllocError, Global};
+
+// Lines to these handsets, and what waits for them, on empty shelves.
+fn fill(
+    tables: &RowTables,
+    handsets: &[Digits],
+    are_up: bool,
+    shelves: &mut PendingShelves,
+) -> Result<(), AllocError>
+    requires sound { IsSound (rows_of tables.now) }
+    requires numbers { (number : List ℕ) → Among number handsets.now → IsNumber number }
+    requires apart { AreDifferent handsets.now }
+    ensures { OnOk result ((g : Givings) → Shows g (record { lines = []; frames = []; read = [] }) (λ number. []) shelves.old
+        → Shows g (record { lines = lines_of are_up handsets.now; frames = []; read = [] }) (λ number. all_for number (rows_of tables.now)) shelves.new) }
+{
+    let parts = tables.parts.as_slice();
+    let reports = tables.reports.as_slice();
+    connect_all(handsets, are_up, shelves)?;
+    put_parts(tables, parts, shelves)?;
+    put_reports(tables, reports, shelves)?;
+    Ok(())
+}
+
+// All lines go, and lines to these handsets come, down as yet.
+fn line_anew(handsets: &[Digits], shelves: &mut PendingShelves) -> Result<(), AllocError>
+    requires numbers { (number : List ℕ) → Among number handsets.now → IsNumber number }
+    requires apart { AreDifferent handsets.now }
+    ensures { OnOk result ((g : Givings) (lines : List Line) (waiting : List ℕ → List Load) → Shows g (record { lines = lines; frames = []; read = [] }) waiting shelves.old
+        → Shows g (record { lines = lines_of false handsets.now; frames = []; read = [] }) waiting shelves.new) }
+{
+    shelves.forget_lines()?;
+    connect_all(handsets, false, shelves)?;
+    Ok(())
+}
+
+// These shelves, ready made.
+fn settled(pending: PendingShelves, now: Moment) -> Result<SettledShelves, AllocError>
+    ensures fits { IfOk result Fits }
+    ensures shelves { IfOk result (IsSettled pending) }
+{
+    let plan = pending.settle(now)?;
+    Ok(plan.shelves)
+}
 
 // What comes on the empty shelves, ready made.
 fn load(
@@ -38,14 +81,14 @@ fn load(
         → Stands tables.now.handsets.rows tables.now.references.rows (lines_of are_up handsets.now) (λ number. all_for number (rows_of tables.now)) new) }
 {
     what_was_left_stands();
-    let parts = tables.parts.as_slice();
-    let reports = tables.reports.as_slice();
     let mut pending = PendingShelves::of(alloc, shelves)?;
-    connect_all(handsets, are_up, &mut pending)?;
-    put_parts(tables, parts, &mut pending)?;
-    put_reports(tables, reports, &mut pending)?;
-    let plan = pending.settle(now)?;
-    Ok(plan.shelves)
+    match fill(tables, handsets, are_up, &mut pending) {
+        Ok(()) => settled(pending, now),
+        Err(error) => {
+            drop(pending);
+            Err(error)
+        }
+    }
 }
 
 /// The shelves of a centre that starts again, ready made: lines to these handsets alone, each expected to come up at its first tick.
@@ -63,10 +106,13 @@ pub(crate) fn settled_anew(
 {
     what_was_left_stands();
     let mut pending = PendingShelves::of(alloc, shelves)?;
-    pending.forget_lines()?;
-    connect_all(handsets, false, &mut pending)?;
-    let plan = pending.settle(now)?;
-    Ok(plan.shelves)
+    match line_anew(handsets, &mut pending) {
+        Ok(()) => settled(pending, now),
+        Err(error) => {
+            drop(pending);
+            Err(error)
+        }
+    }
 }
 
 /// The shelves of a centre that starts on these rows at that moment, with lines to these handsets: up at once, or expected to come up

@@ -72,6 +72,8 @@ fn fill(
 fn reading_fault(error: &io::Error) -> RunFault {
     match error.kind() {
         io::ErrorKind::OutOfMemory => RunFault::NoMemory,
+        // Octets that are no text.
+        io::ErrorKind::InvalidData => RunFault::Accounts,
         _ => RunFault::NoAccounts,
     }
 }

@@ -1,18 +1,26 @@
-use Rattle.std.proofs.Common.{List, [], false}
+use Rattle.std.proofs.Common.{ℕ, List, [], false}
+use Rattle.core.proofs.result.Match.{if_ok_then}
+use Rattle.sms_shelves.specs.Adopting.{IsAdopted, IsSettled, SettledOf}
+use Rattle.sms_shelves.specs.Placing.{ShelvesOf}
+use Rattle.sms_shelves.specs.Shown.{Stands}
 use Rattle.sms_starting.specs.Starting.{lines_of}
 use Rattle.sms_table.specs.Since.{untouched}
 use Rattle.sms_waiting.specs.Lines.{Air}
 use Rattle.sms_waiting.specs.References.{Givings}
+use Rattle.sms_waiting.specs.declared.handset.HandsetRow.{HandsetRow}
+use Rattle.sms_waiting.specs.declared.line.Line.{Line}
+use Rattle.sms_waiting.specs.declared.load.Load.{Load}
+use Rattle.sms_waiting.specs.declared.reference.ReferenceRow.{ReferenceRow}
 use Rattle.sms_standing.proofs.shelves.settled_anew.Goals as goal
 
-pub returns : goal.returns
-returns c = record {
-  fits = c.in_ok-plan.ensures.fits;
-  stands = λ rows references lines waiting new stood adopted.
-      let g : Givings = record { handsets = untouched rows; references = untouched references } in
-      let air : Air = record { lines = lines_of false c.args.handsets.now; frames = []; read = [] } in
-      let begun = c.in_ok-pending.ensures rows references lines waiting stood in
-      let bare = c.in_ok-forget_lines.ensures g (record { lines = lines; frames = []; read = [] }) waiting begun in
-      let lined = c.in_ok-connect_all.ensures g waiting bare in
-      c.what_was_left_stands.ensures g air waiting c.connect_all.new.shelves c.in_ok-plan.plan.shelves new lined c.in_ok-plan.ensures.shelves adopted;
-}
+pub returns-in-Ok-clause-stands : goal.returns-in-Ok-clause-stands
+returns-in-Ok-clause-stands c =
+    let air : Air = record { lines = lines_of false c.args.handsets.now; frames = []; read = [] } in
+    if_ok_then c.settled.result (λ (s : SettledOf). IsSettled c.line_anew.new.shelves s)
+    (λ (s : SettledOf). (rows : List HandsetRow) (references : List ReferenceRow) (lines : List Line) (waiting : List ℕ → List Load) (new : ShelvesOf) → Stands rows references lines waiting c.args.shelves.now → IsAdopted s new
+    → Stands rows references (lines_of false c.args.handsets.now) waiting new)
+    (λ s settled rows references lines waiting new stood adopted.
+    let g : Givings = record { handsets = untouched rows; references = untouched references } in
+    let begun = c.in_ok-pending.ensures rows references lines waiting stood in
+    c.what_was_left_stands.ensures g air waiting c.line_anew.new.shelves s new (c.in-Ok.ensures g lines waiting begun) settled adopted)
+    c.settled.ensures.shelves

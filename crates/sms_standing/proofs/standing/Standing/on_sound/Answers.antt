@@ -4,13 +4,13 @@ use Rattle.sms_standing.specs.Standing.{StandingOf}
 use Rattle.sms_standing.proofs.Begun.{stands}
 use Rattle.sms_standing.proofs.standing.Standing.on_sound.Goals as goal
 
-pub returns : goal.returns
-returns c =
+pub returns-in-Ok : goal.returns-in-Ok
+returns-in-Ok c =
     let rows = rows_of c.args.tables in
-    let memory = c.in_ok-memory.memory in
-    let holds = c.in_ok-memory.ensures in
+    let memory = c.in-Ok.memory in
+    let holds = c.in-Ok.ensures in
     let standing : StandingOf = record {
-      setup = c.args.tables.setup;
+      setup = c.setup_of.result;
       moment = c.moment_of-moment.result;
       messages = memory.messages;
       claims = memory.claims;
@@ -20,4 +20,4 @@ returns c =
       sessions = c.args.sessions;
     } in
     stands c.args.are_up rows c.args.handsets.now c.args.sessions.rows c.requires.sound c.requires.numbers c.requires.apart c.requires.sessions c.as_slice-seats.ensures.order
-    standing refl c.moment_of-moment.ensures holds.messages holds.claims holds.shelves holds.reports holds.register refl
+    standing c.setup_of.ensures c.moment_of-moment.ensures holds.messages holds.claims holds.shelves holds.reports holds.register refl
