@@ -1,5 +1,5 @@
 use Rattle.std.proofs.Common.{ℕ, List, []}
-use Rattle.core.proofs.result.Match.{if_ok_then}
+use Rattle.sms_standing.proofs.Results.{if_ok_then}
 use Rattle.sms_shelves.specs.Adopting.{IsAdopted, IsSettled, SettledOf}
 use Rattle.sms_shelves.specs.Placing.{ShelvesOf}
 use Rattle.sms_shelves.specs.Shown.{Stands}
