@@ -1,4 +1,4 @@
-//! Tests of PDUs and sessions over their public calls: what no clause says.
+//! Tests of SMPP sessions over their public calls: what no clause says.
 #![tactic(auto)]
 
 #[cfg(test)]
@@ -8,12 +8,8 @@ mod exchanges;
 #[cfg(test)]
 mod limits;
 #[cfg(test)]
-mod pdus;
-#[cfg(test)]
 mod rows;
 #[cfg(test)]
 mod secrets;
 #[cfg(test)]
 mod sessions;
-#[cfg(test)]
-mod vectors;

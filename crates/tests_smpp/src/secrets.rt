@@ -2,7 +2,6 @@
 use crate::exchanges::BIND;
 use crate::rows::holds;
 use crate::sessions::{accounts, session, silent};
-use smpp_pdu::{Bind, Body, Pdu};
 use smpp_session::{Account, Call};
 use sms_base::{OctetView, Octets};
 use std::alloc::Global;
@@ -22,21 +21,6 @@ fn hides(alloc: Global, value: &impl Debug, shown: &str) -> Result<bool, Fail> {
 
 // How the octets app1 are printed.
 const NAME: &str = "97, 112, 112, 49";
-
-fn bind_of<'a>(pdu: &'a Pdu<'a>) -> Result<&'a Bind<'a>, Fail> {
-    match &pdu.body {
-        Body::BindTransceiver(bind) => Ok(bind),
-        _ => Err(Fail::new("no bind_transceiver")),
-    }
-}
-
-#[test]
-fn pdus_hide_the_password(rt: HostRuntime) -> Result<(), Fail> {
-    let pdu = Pdu::read(&BIND)?;
-    holds(hides(rt.alloc(), &pdu, NAME)?, "a PDU")?;
-    holds(hides(rt.alloc(), &pdu.body, NAME)?, "its body")?;
-    holds(hides(rt.alloc(), bind_of(&pdu)?, NAME)?, "its bind")
-}
 
 fn account(alloc: Global) -> Result<Account, Fail> {
     Ok(Account {

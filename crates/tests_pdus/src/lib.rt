@@ -1,0 +1,14 @@
+//! Tests of PDUs over their public calls: what no clause says. The longest one is read and written where sessions are tested
+//! (`tests_smpp`), which take it too.
+#![tactic(auto)]
+
+#[cfg(test)]
+mod exchanges;
+#[cfg(test)]
+mod pdus;
+#[cfg(test)]
+mod rows;
+#[cfg(test)]
+mod secrets;
+#[cfg(test)]
+mod vectors;
