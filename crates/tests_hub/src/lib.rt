@@ -10,6 +10,8 @@ pub mod gates;
 #[cfg(test)]
 mod outs;
 #[cfg(test)]
+mod rows;
+#[cfg(test)]
 mod runs;
 #[cfg(test)]
 mod seats;

@@ -1,27 +1,45 @@
 //! Outs and the codes of faults.
 use crate::counter::Reply;
+use crate::rows::holds;
 use sms_hub::{HubFault, Out, Outs};
 use std::alloc::Global;
 use std::test::Fail;
 
+const FIRST: Out<Reply> = Out {
+    seat: 3,
+    out: Reply::Sum(1),
+};
+
+const SECOND: Out<Reply> = Out {
+    seat: 4,
+    out: Reply::Sum(2),
+};
+
+fn is_from(outs: &Outs<Reply>, place: usize, seat: usize) -> bool {
+    match outs.get(place) {
+        Some(out) => out.seat == seat,
+        None => false,
+    }
+}
+
+fn are_two(outs: &Outs<Reply>) -> bool {
+    outs.len() == 2 && is_from(outs, 0, 3) && is_from(outs, 1, 4) && outs.get(2).is_none()
+}
+
+fn reads_two(alloc: Global) -> Result<bool, Fail> {
+    let outs = Outs::from_vec(vec![in alloc; FIRST, SECOND]?);
+    Ok(are_two(&outs))
+}
+
+fn reads_none() -> bool {
+    let none = Outs::<Reply>::none();
+    none.is_empty() && none.get(0).is_none()
+}
+
 #[test]
 fn outs_are_read_in_order(rt: HostRuntime) -> Result<(), Fail> {
-    let pair = vec![in rt.alloc();
-        Out {
-            seat: 3,
-            out: Reply::Sum(1)
-        },
-        Out {
-            seat: 4,
-            out: Reply::Sum(2)
-        },
-    ]?;
-    let outs = Outs::from_vec(pair);
-    assert_eq!(rt; (outs.len(), outs.get(1).map(|out| out.seat)), (2, Some(4)));
-    assert!(rt; outs.get(2).is_none());
-    let none = Outs::<Reply>::none();
-    assert!(rt; none.is_empty() && none.get(0).is_none());
-    Ok(())
+    holds(reads_two(rt.alloc())?, "two outs")?;
+    holds(reads_none(), "no outs")
 }
 
 fn is_told(alloc: Global, fault: HubFault, code: &str, text: &str) -> Result<bool, Fail> {
@@ -29,14 +47,25 @@ fn is_told(alloc: Global, fault: HubFault, code: &str, text: &str) -> Result<boo
     Ok(fault.code() == code && told.as_str() == text)
 }
 
+const FAULTS: &[(HubFault, &str, &str)] = &[
+    (HubFault::NoThread, "B1", "no thread"),
+    (HubFault::NoMemory, "B2", "out of memory"),
+    (
+        HubFault::MachineFailed,
+        "B3",
+        "the machine could not be opened again",
+    ),
+    (
+        HubFault::TooManySessions,
+        "B4",
+        "no session, or more than 32",
+    ),
+];
+
 #[test]
 fn faults_have_codes(rt: HostRuntime) -> Result<(), Fail> {
-    let alloc = rt.alloc();
-    assert!(rt; is_told(alloc, HubFault::NoThread, "B1", "no thread")?);
-    assert!(rt; is_told(alloc, HubFault::NoMemory, "B2", "out of memory")?);
-    let failed = "the machine could not be opened again";
-    assert!(rt; is_told(alloc, HubFault::MachineFailed, "B3", failed)?);
-    let many = "no session, or more than 32";
-    assert!(rt; is_told(alloc, HubFault::TooManySessions, "B4", many)?);
+    for (fault, code, text) in FAULTS {
+        holds(is_told(rt.alloc(), *fault, code, text)?, code)?;
+    }
     Ok(())
 }

@@ -55,12 +55,18 @@ fn goes_on(shelf: &mut Shelf) -> Result<(), Fail> {
     holds(shelf.waiting()?.is_empty(), "nothing")
 }
 
+fn waits_and_goes_on(shelf: &mut Shelf) -> Result<(), Fail> {
+    waits_in_order(shelf)?;
+    goes_on(shelf)
+}
+
 #[test]
 fn what_waits_goes_in_order(rt: HostRuntime) -> Result<(), Fail> {
     let number = digits("447700900456")?;
     let mut shelf = Shelf::new(rt.alloc(), number);
-    waits_in_order(&mut shelf)?;
-    goes_on(&mut shelf)
+    let waited = waits_and_goes_on(&mut shelf);
+    drop(shelf);
+    waited
 }
 
 fn put_many(shelf: &mut Shelf) -> Result<(), Fail> {
@@ -75,21 +81,33 @@ fn waits(shelf: &Shelf, count: usize, id: u64) -> Result<bool, Fail> {
 }
 
 // One more comes behind the others, and the first, which the shelf has too, goes.
+fn changes(copy: &mut Shelf) -> Result<(), Fail> {
+    copy.put(load(41, 1, 0, 0)?)?;
+    holds(waits(copy, 41, 1)?, "one more")?;
+    copy.remove(message(1)?, 1)?;
+    holds(waits(copy, 40, 2)?, "without the first")
+}
+
 fn changes_a_copy(shelf: &Shelf) -> Result<(), Fail> {
     let mut copy = shelf.copy()?;
-    copy.put(load(41, 1, 0, 0)?)?;
-    holds(waits(&copy, 41, 1)?, "one more")?;
-    copy.remove(message(1)?, 1)?;
-    holds(waits(&copy, 40, 2)?, "without the first")
+    let changed = changes(&mut copy);
+    drop(copy);
+    changed
+}
+
+fn stays_beside_a_copy(shelf: &mut Shelf) -> Result<(), Fail> {
+    put_many(shelf)?;
+    changes_a_copy(shelf)?;
+    holds(waits(shelf, 40, 1)?, "the shelf as it was")
 }
 
 #[test]
 fn a_copy_is_changed_alone(rt: HostRuntime) -> Result<(), Fail> {
     let number = digits("447700900456")?;
     let mut shelf = Shelf::new(rt.alloc(), number);
-    put_many(&mut shelf)?;
-    changes_a_copy(&shelf)?;
-    holds(waits(&shelf, 40, 1)?, "the shelf as it was")
+    let stayed = stays_beside_a_copy(&mut shelf);
+    drop(shelf);
+    stayed
 }
 
 // The reference that comes next at that time.
@@ -111,12 +129,18 @@ fn gives_many(shelf: &mut Shelf) -> Result<(), Fail> {
     holds(next_reference(shelf, 0)? == Some(41), "the next")
 }
 
+fn gives_in_turn(shelf: &mut Shelf) -> Result<(), Fail> {
+    gives(shelf)?;
+    gives_many(shelf)
+}
+
 #[test]
 fn references_are_given_in_turn(rt: HostRuntime) -> Result<(), Fail> {
     let number = digits("447700900456")?;
     let mut shelf = Shelf::new(rt.alloc(), number);
-    gives(&mut shelf)?;
-    gives_many(&mut shelf)
+    let given = gives_in_turn(&mut shelf);
+    drop(shelf);
+    given
 }
 
 // How many frames go out as a transaction begins.
@@ -154,7 +178,9 @@ fn goes_both_ways(shelf: &mut Shelf) -> Result<(), Fail> {
 
 fn copy_fires(shelf: &Shelf) -> Result<usize, Fail> {
     let mut copy = shelf.copy()?;
-    fires(&mut copy, 20)
+    let fired = fires(&mut copy, 20);
+    drop(copy);
+    fired
 }
 
 fn goes_in_a_copy(shelf: &mut Shelf) -> Result<(), Fail> {
@@ -168,5 +194,7 @@ fn goes_in_a_copy(shelf: &mut Shelf) -> Result<(), Fail> {
 fn a_line_carries_both_ways(rt: HostRuntime) -> Result<(), Fail> {
     let number = digits("447700900456")?;
     let mut shelf = Shelf::new(rt.alloc(), number);
-    goes_in_a_copy(&mut shelf)
+    let gone = goes_in_a_copy(&mut shelf);
+    drop(shelf);
+    gone
 }
