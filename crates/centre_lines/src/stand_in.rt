@@ -3,7 +3,7 @@ ghost use Rattle.std.specs.Prelude.{None};
 
 use sms_base::Octets;
 use sms_centre_rules::{Changes, Rows};
-use sms_keep::{BodyKeep, Keep, KeepError};
+use sms_keep::{BodyKeep, Keep, KeepError, Refusals};
 use sms_table::Key;
 use std::alloc::Global;
 
@@ -19,7 +19,7 @@ const HELLO: &[u8] = &[
 pub struct StandIn {
     alloc: Global,
     gives: bool,
-    refused: Option<Key>,
+    refusals: Refusals,
 }
 
 impl StandIn {
@@ -28,7 +28,7 @@ impl StandIn {
         StandIn {
             alloc,
             gives,
-            refused: None,
+            refusals: Refusals::none(),
         }
     }
 }
@@ -48,11 +48,15 @@ impl Keep for StandIn {
 
     ghost may_leave = { λ keep left. ⊥ };
 
+    ghost refusals = { λ keep. keep.refusals };
+
     fn commit(&mut self, _changes: &Changes) -> Result<(), KeepError> {
+        self.refusals.call();
         Err(KeepError::Disk)
     }
 
     fn load(&mut self) -> Result<Rows, KeepError> {
+        self.refusals.call();
         Err(KeepError::Disk)
     }
 }
@@ -60,19 +64,20 @@ impl Keep for StandIn {
 impl BodyKeep for StandIn {
     ghost body_of = { λ rows key. None };
 
-    ghost refused = { λ keep. keep.refused };
-
     fn body(&mut self, key: Key) -> Result<Option<Octets>, KeepError> {
-        self.refused = Some(key);
         if !self.gives {
+            self.refusals.read(key);
             return Err(KeepError::Disk);
         }
         match Octets::copy_of(self.alloc, HELLO) {
             Ok(octets) => {
-                self.refused = None;
+                self.refusals.answer();
                 Ok(Some(octets))
             }
-            Err(_) => Err(KeepError::NoMemory),
+            Err(_) => {
+                self.refusals.read(key);
+                Err(KeepError::NoMemory)
+            }
         }
     }
 }

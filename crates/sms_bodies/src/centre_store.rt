@@ -1,6 +1,7 @@
 //! The store of a centre.
 ghost use Rattle.std.specs.Prelude.{◌≡◌, ◌⊎◌, IfOk, OnErr, OnOk};
 ghost use Rattle.sms_centre_rules.specs.declared.rows.Rows.{Rows as RowsOf};
+ghost use Rattle.sms_keep.specs.Refusing.{Counts};
 ghost use Rattle.sms_bodies.specs.Storing.{GivesBodies, MakesTheChanges};
 
 use sms_centre_rules::{Changes, Rows};
@@ -13,7 +14,8 @@ pub trait CentreStore: BodyKeep<Rows = Rows, Changes = Changes> {
         ensures ok { Self.is_honest self.new → (rows : RowsOf) → Self.holds self.old rows → IfOk result (λ found. (found ≡ rows) × Self.holds self.new rows) }
         ensures err { Self.is_honest self.new → (rows : RowsOf) → Self.holds self.old rows → OnErr result (Self.holds self.new rows ⊎ Self.is_closed self.new) }
         ensures closed { Self.is_honest self.new → Self.is_closed self.old → OnOk result ⊥ }
-        ensures before { Self.is_honest self.new → Self.is_honest self.old };
+        ensures before { Self.is_honest self.new → Self.is_honest self.old }
+        ensures counted { Counts result (Self.refusals self.old) (Self.refusals self.new) };
 
     /// A commit makes of the rows what a centre's changes make of them.
     ghost makes: { MakesTheChanges Self.after };

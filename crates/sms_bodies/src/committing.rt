@@ -2,6 +2,7 @@
 ghost use Rattle.std.specs.Prelude.{◌≡◌, ◌⊎◌, IsTrue, OnErr, OnOk};
 ghost use Rattle.sms_centre_rules.specs.Draft.{rows_after};
 ghost use Rattle.sms_centre_rules.specs.declared.rows.Rows.{Rows as RowsOf};
+ghost use Rattle.sms_keep.specs.Refusing.{Counts};
 
 use crate::CentreStore;
 use sms_centre_rules::Changes;
@@ -26,6 +27,7 @@ pub fn commit<K: CentreStore>(keep: &mut K, changes: &Changes) -> Result<(), Kee
     // A stop inside it leaves the rows, or the rows with the changes, if one before it leaves the rows.
     ensures stop { K.is_honest keep.new → (rows : RowsOf) → K.holds keep.old rows → ((left : RowsOf) → K.may_leave keep.old left → left ≡ rows) → (left : RowsOf) → K.may_leave keep.new left → (left ≡ rows) ⊎ (left ≡ rows_after changes.now rows) }
     ensures before { K.is_honest keep.new → K.is_honest keep.old }
+    ensures counted { Counts result (K.refusals keep.old) (K.refusals keep.new) }
 {
     if is_empty(changes) {
         return Ok(());

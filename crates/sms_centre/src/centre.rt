@@ -165,10 +165,10 @@ impl Centre {
     ) -> Result<Planned, PlanError>
         requires number { HasNumber event.now }
         ensures goes { B.is_honest bodies.new → (c : Core) (rows : B.Rows) → IsStanding c self.now → StoresRows (B.body_of rows) c.rows → B.holds bodies.old rows
-            → Goes (λ p. IsPlanned (happened event.now c) p.plan) (happened event.now c).air.read (B.holds bodies.new rows) (B.is_closed bodies.new) (B.refused bodies.old) (B.refused bodies.new) result }
+            → Goes (λ p. IsPlanned (happened event.now c) p.plan) (happened event.now c).air.read (B.holds bodies.new rows) (B.is_closed bodies.new) (B.refusals bodies.old) (B.refusals bodies.new) result }
         // So it is what the definition plans with a store that answers all that the event reads but what it refused.
-        ensures definition { B.is_honest bodies.new → (c : Core) (rows : B.Rows) → IsStanding c self.now → StoresRows (B.body_of rows) c.rows → B.holds bodies.old rows → B.refused bodies.old ≡ None
-            → PlansEvent (answers_but (B.refused bodies.new)) event.now c result }
+        ensures definition { B.is_honest bodies.new → (c : Core) (rows : B.Rows) → IsStanding c self.now → StoresRows (B.body_of rows) c.rows → B.holds bodies.old rows → (B.refusals bodies.old).read ≡ None
+            → PlansEvent (answers_but (B.refusals bodies.new).read) event.now c result }
         ensures fits { IfOk result (Fits self.now) }
         ensures event { IsEvent event.now }
         ensures before { B.is_honest bodies.new → B.is_honest bodies.old }

@@ -1,5 +1,5 @@
 //! What follows an event, and the plan of it.
-ghost use Rattle.std.specs.Prelude.{◌≡◌, ℕ, Err, Ok, Option, IfOk};
+ghost use Rattle.std.specs.Prelude.{◌≡◌, ℕ, Err, Ok, IfOk};
 ghost use Rattle.sms_centre_rules.specs.CentreEvent.{follow as follow_of};
 ghost use Rattle.sms_centre_rules.specs.Draft.{Core, Draft, draft_of};
 ghost use Rattle.sms_centre_rules.specs.SoundCore.{HasNumber};
@@ -7,6 +7,7 @@ ghost use Rattle.sms_centre_rules.specs.SoundRows.{IsSetup};
 ghost use Rattle.sms_centre.specs.Acting.{Acts, acted, congested};
 ghost use Rattle.sms_centre.specs.Stopping.{Stops, stop_of as stop_of_error};
 ghost use Rattle.sms_centre.specs.Planning.{Fits};
+ghost use Rattle.sms_keep.specs.declared.refusals.Refusals.{Refusals};
 ghost use Rattle.sms_offering.specs.Going.{Goes, UnlessMemory};
 ghost use Rattle.sms_offering.specs.Stored.{CanOffer};
 ghost use Rattle.sms_planned.specs.Planned.{IsPlanned};
@@ -95,7 +96,7 @@ fn followed<B: BodyKeep>(
     centre: &[u8],
 ) -> Result<(), Stop>
     ensures goes { B.is_honest bodies.new → (d : Draft) (rows : B.Rows) → Shows d working.old → CanOffer B.body_of rows centre.now d.store → B.holds bodies.old rows
-        → Stops (Shows (follow_of d) working.new) (λ reference. ⊥) (follow_of d).air.read (B.holds bodies.new rows) (B.is_closed bodies.new) (B.refused bodies.old) (B.refused bodies.new) result }
+        → Stops (Shows (follow_of d) working.new) (λ reference. ⊥) (follow_of d).air.read (B.holds bodies.new rows) (B.is_closed bodies.new) (B.refusals bodies.old) (B.refusals bodies.new) result }
     ensures before { B.is_honest bodies.new → B.is_honest bodies.old }
 {
     match follow(working, bodies, centre) {
@@ -112,7 +113,7 @@ fn run_on<B: BodyKeep>(
     centre: &[u8],
 ) -> Result<(), Stop>
     ensures goes { B.is_honest bodies.new → (c : Core) (rows : B.Rows) → Acts event.now c working.old came → CanOffer B.body_of rows centre.now (acted event.now c).store → B.holds bodies.old rows
-        → Stops (Shows (follow_of (acted event.now c)) working.new) (λ reference. acted event.now c ≡ congested event.now reference c) (follow_of (acted event.now c)).air.read (B.holds bodies.new rows) (B.is_closed bodies.new) (B.refused bodies.old) (B.refused bodies.new) result }
+        → Stops (Shows (follow_of (acted event.now c)) working.new) (λ reference. acted event.now c ≡ congested event.now reference c) (follow_of (acted event.now c)).air.read (B.holds bodies.new rows) (B.is_closed bodies.new) (B.refusals bodies.old) (B.refusals bodies.new) result }
     ensures before { B.is_honest bodies.new → B.is_honest bodies.old }
 {
     // The clause speaks of it.
@@ -134,7 +135,7 @@ fn run<B: BodyKeep>(
     requires number { HasNumber event.now }
     requires setup { IsSetup working.old.setup }
     ensures goes { B.is_honest bodies.new → (c : Core) (rows : B.Rows) → Shows (draft_of c) working.old → IsStanding c standing.now → CanOffer B.body_of rows centre.now (acted event.now c).store → B.holds bodies.old rows
-        → Stops (Shows (follow_of (acted event.now c)) working.new) (λ reference. acted event.now c ≡ congested event.now reference c) (follow_of (acted event.now c)).air.read (B.holds bodies.new rows) (B.is_closed bodies.new) (B.refused bodies.old) (B.refused bodies.new) result }
+        → Stops (Shows (follow_of (acted event.now c)) working.new) (λ reference. acted event.now c ≡ congested event.now reference c) (follow_of (acted event.now c)).air.read (B.holds bodies.new rows) (B.is_closed bodies.new) (B.refusals bodies.old) (B.refusals bodies.new) result }
     ensures before { B.is_honest bodies.new → B.is_honest bodies.old }
 {
     match act(working, standing, event) {
@@ -153,7 +154,7 @@ fn run_anew<B: BodyKeep>(
 ) -> Result<(), PlanError>
     requires number { HasNumber event.now }
     ensures goes { B.is_honest bodies.new → (c : Core) (rows : B.Rows) → Shows (draft_of c) working.old → CanOffer B.body_of rows centre.now (congested event.now reference c).store → B.holds bodies.old rows
-        → Goes (λ _. Shows (follow_of (congested event.now reference c)) working.new) (follow_of (congested event.now reference c)).air.read (B.holds bodies.new rows) (B.is_closed bodies.new) (B.refused bodies.old) (B.refused bodies.new) result }
+        → Goes (λ _. Shows (follow_of (congested event.now reference c)) working.new) (follow_of (congested event.now reference c)).air.read (B.holds bodies.new rows) (B.is_closed bodies.new) (B.refusals bodies.old) (B.refusals bodies.new) result }
     ensures before { B.is_honest bodies.new → B.is_honest bodies.old }
 {
     match refuse(working, event, reference) {
@@ -175,7 +176,7 @@ fn plan_anew<B: BodyKeep>(
 ) -> Result<Planned, PlanError>
     requires number { HasNumber event.now }
     ensures goes { B.is_honest bodies.new → (c : Core) (rows : B.Rows) → Shows (draft_of c) working.entry → CanOffer B.body_of rows centre.now (congested event.now reference c).store → B.holds bodies.old rows
-        → Goes (λ p. IsPlanned (follow_of (congested event.now reference c)) p.plan) (follow_of (congested event.now reference c)).air.read (B.holds bodies.new rows) (B.is_closed bodies.new) (B.refused bodies.old) (B.refused bodies.new) result }
+        → Goes (λ p. IsPlanned (follow_of (congested event.now reference c)) p.plan) (follow_of (congested event.now reference c)).air.read (B.holds bodies.new rows) (B.is_closed bodies.new) (B.refusals bodies.old) (B.refusals bodies.new) result }
     ensures fits { IfOk result (Fits standing.now) }
     ensures before { B.is_honest bodies.new → B.is_honest bodies.old }
 {
@@ -199,7 +200,7 @@ fn begin_anew<B: BodyKeep>(
 ) -> Result<Planned, PlanError>
     requires number { HasNumber event.now }
     ensures goes { B.is_honest bodies.new → (c : Core) (rows : B.Rows) → IsStanding c standing.now → CanOffer B.body_of rows centre.now (congested event.now reference c).store → B.holds bodies.old rows
-        → Goes (λ p. IsPlanned (follow_of (congested event.now reference c)) p.plan) (follow_of (congested event.now reference c)).air.read (B.holds bodies.new rows) (B.is_closed bodies.new) (B.refused bodies.old) (B.refused bodies.new) result }
+        → Goes (λ p. IsPlanned (follow_of (congested event.now reference c)) p.plan) (follow_of (congested event.now reference c)).air.read (B.holds bodies.new rows) (B.is_closed bodies.new) (B.refusals bodies.old) (B.refusals bodies.new) result }
     ensures fits { IfOk result (Fits standing.now) }
     ensures before { B.is_honest bodies.new → B.is_honest bodies.old }
 {
@@ -219,9 +220,9 @@ fn stopped<B: BodyKeep>(
     centre: &[u8],
 ) -> Result<Planned, PlanError>
     requires number { HasNumber event.now }
-    ensures goes { B.is_honest bodies.new → (c : Core) (rows : B.Rows) (first : Option ℕ) → IsStanding c standing.now → CanOffer B.body_of rows centre.now (acted event.now c).store
-        → Stops (Unit {0}) (λ reference. acted event.now c ≡ congested event.now reference c) (follow_of (acted event.now c)).air.read (B.holds bodies.old rows) (B.is_closed bodies.old) first (B.refused bodies.old) (Err stop)
-        → Goes (λ p. IsPlanned (follow_of (acted event.now c)) p.plan) (follow_of (acted event.now c)).air.read (B.holds bodies.new rows) (B.is_closed bodies.new) first (B.refused bodies.new) result }
+    ensures goes { B.is_honest bodies.new → (c : Core) (rows : B.Rows) (first : Refusals) → IsStanding c standing.now → CanOffer B.body_of rows centre.now (acted event.now c).store
+        → Stops (Unit {0}) (λ reference. acted event.now c ≡ congested event.now reference c) (follow_of (acted event.now c)).air.read (B.holds bodies.old rows) (B.is_closed bodies.old) first (B.refusals bodies.old) (Err stop)
+        → Goes (λ p. IsPlanned (follow_of (acted event.now c)) p.plan) (follow_of (acted event.now c)).air.read (B.holds bodies.new rows) (B.is_closed bodies.new) first (B.refusals bodies.new) result }
     ensures fits { IfOk result (Fits standing.now) }
     ensures before { B.is_honest bodies.new → B.is_honest bodies.old }
 {
@@ -243,7 +244,7 @@ fn plan_begun<B: BodyKeep>(
     requires number { HasNumber event.now }
     requires setup { IsSetup working.setup }
     ensures goes { B.is_honest bodies.new → (c : Core) (rows : B.Rows) → Shows (draft_of c) working.entry → IsStanding c standing.now → CanOffer B.body_of rows centre.now (acted event.now c).store → B.holds bodies.old rows
-        → Goes (λ p. IsPlanned (follow_of (acted event.now c)) p.plan) (follow_of (acted event.now c)).air.read (B.holds bodies.new rows) (B.is_closed bodies.new) (B.refused bodies.old) (B.refused bodies.new) result }
+        → Goes (λ p. IsPlanned (follow_of (acted event.now c)) p.plan) (follow_of (acted event.now c)).air.read (B.holds bodies.new rows) (B.is_closed bodies.new) (B.refusals bodies.old) (B.refusals bodies.new) result }
     ensures fits { IfOk result (Fits standing.now) }
     ensures before { B.is_honest bodies.new → B.is_honest bodies.old }
 {
@@ -267,7 +268,7 @@ pub(crate) fn plan_of<B: BodyKeep>(
     requires number { HasNumber event.now }
     requires setup { IsSetup standing.now.setup }
     ensures goes { B.is_honest bodies.new → (c : Core) (rows : B.Rows) → IsStanding c standing.now → CanOffer B.body_of rows centre.now (acted event.now c).store → B.holds bodies.old rows
-        → Goes (λ p. IsPlanned (follow_of (acted event.now c)) p.plan) (follow_of (acted event.now c)).air.read (B.holds bodies.new rows) (B.is_closed bodies.new) (B.refused bodies.old) (B.refused bodies.new) result }
+        → Goes (λ p. IsPlanned (follow_of (acted event.now c)) p.plan) (follow_of (acted event.now c)).air.read (B.holds bodies.new rows) (B.is_closed bodies.new) (B.refusals bodies.old) (B.refusals bodies.new) result }
     ensures fits { IfOk result (Fits standing.now) }
     ensures before { B.is_honest bodies.new → B.is_honest bodies.old }
 {

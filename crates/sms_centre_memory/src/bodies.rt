@@ -4,7 +4,7 @@ ghost use Rattle.sms_centre_rows.specs.OctetsAt.{kind_octets, octets_at, part_oc
 ghost use Rattle.sms_messages.specs.Messages.{part_key};
 ghost use Rattle.sms_table.specs.Table.{row_at};
 ghost use Rattle.sms_reports.specs.Reports.{report_of};
-ghost use Rattle.sms_centre_memory.specs.Kept.{rows_in};
+ghost use Rattle.sms_centre_memory.specs.RowsInKeep.{rows_in};
 
 use crate::keep::MemoryKeep;
 use sms_base::Octets;
@@ -73,16 +73,14 @@ impl MemoryKeep {
 impl BodyKeep for MemoryKeep {
     ghost body_of = { octets_at };
 
-    ghost refused = { λ keep. keep.refused };
-
     fn body(&mut self, key: Key) -> Result<Option<Octets>, KeepError> {
         match self.octets_under(key) {
             Ok(octets) => {
-                self.refused = None;
+                self.refusals.answer();
                 Ok(octets)
             }
             Err(_) => {
-                self.refused = Some(key);
+                self.refusals.read(key);
                 Err(KeepError::NoMemory)
             }
         }

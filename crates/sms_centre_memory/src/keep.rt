@@ -2,18 +2,18 @@
 ghost use Rattle.std.specs.Prelude.{◌≡◌, ⊤, IfOk};
 ghost use Rattle.sms_centre_rules.specs.Draft.{rows_after};
 ghost use Rattle.sms_centre_rules.specs.SoundRows.{first_rows};
-ghost use Rattle.sms_centre_memory.specs.Kept.{AreReady, changes_of, rows_in};
+ghost use Rattle.sms_centre_memory.specs.RowsInKeep.{AreReady, changes_of, rows_in};
 
 use crate::revisions::ready_copy;
 use sms_base::Listed;
 use sms_centre_rows::copy_of_setup;
 use sms_centre_rules::{Changes, Rows, Setup};
-use sms_keep::{Keep, KeepError};
+use sms_keep::{Keep, KeepError, Refusals};
 use sms_memory::{copy_of_rows, settled_copy};
 use sms_messages::{MessageRow, PartRow, PriorityRow};
 use sms_reports::ReportRow;
 use sms_revising::{Ready, adopt_revisions};
-use sms_table::{Key, Settled, Table, adopt};
+use sms_table::{Settled, Table, adopt};
 use sms_waiting::{HandsetRow, ReferenceRow};
 use std::alloc::{AllocError, Global};
 
@@ -29,8 +29,7 @@ pub struct MemoryKeep {
     /// Handed in at the start.
     pub setup: Setup,
     pub alloc: Global,
-    // The key of the last read of a body, where that was refused.
-    pub(crate) refused: Option<Key>,
+    pub(crate) refusals: Refusals,
 }
 
 // The changes of an event, copied, with the memory for them.
@@ -58,7 +57,7 @@ impl MemoryKeep {
             priorities: Table::new(alloc),
             setup,
             alloc,
-            refused: None,
+            refusals: Refusals::none(),
         }
     }
 
@@ -101,7 +100,8 @@ impl MemoryKeep {
 
     fn take(&mut self, readied: Readied)
         requires { AreReady readied self.old }
-        ensures { rows_in self.new ≡ rows_after (changes_of readied) (rows_in self.old) }
+        ensures rows { rows_in self.new ≡ rows_after (changes_of readied) (rows_in self.old) }
+        ensures refusals { self.new.refusals ≡ self.old.refusals }
     {
         adopt(&mut self.messages, readied.messages);
         adopt_revisions::<MemoryKeep, PartRow>(&mut self.parts, readied.parts);
@@ -155,20 +155,28 @@ impl Keep for MemoryKeep {
 
     ghost may_leave = { λ keep left. rows_in keep ≡ left };
 
+    ghost refusals = { λ keep. keep.refusals };
+
     fn commit(&mut self, changes: &Changes) -> Result<(), KeepError> {
         match self.readied(changes) {
             Ok(readied) => {
                 self.take(readied);
                 Ok(())
             }
-            Err(_) => Err(KeepError::NoMemory),
+            Err(_) => {
+                self.refusals.call();
+                Err(KeepError::NoMemory)
+            }
         }
     }
 
     fn load(&mut self) -> Result<Rows, KeepError> {
         match self.copy_of_all() {
             Ok(rows) => Ok(rows),
-            Err(_) => Err(KeepError::NoMemory),
+            Err(_) => {
+                self.refusals.call();
+                Err(KeepError::NoMemory)
+            }
         }
     }
 }

@@ -1,8 +1,7 @@
 //! A centre's rows in memory, for runs without a store.
 //!
 //! `MemoryKeep` is a keep like the one over a database: a commit makes all changes or none. It is refused only where a growth
-//! was refused, and never closed. It reads bodies too, and tells which read it refused, so it is the
-//! store of a centre.
+//! was refused, and never closed. It reads bodies too, so it is the store of a centre.
 #![tactic(auto)]
 
 mod bodies;

@@ -99,6 +99,7 @@ impl<S: Alter> CentreKeep<S> {
         ensures err { HasCleanDisk (state S.Store self.new.conn) → (rows : RowsOf) → IsKept (IsStoreWith self.old.setup) (state S.Store self.old.conn) rows
             → OnErr result (IsKept (IsStoreWith self.new.setup) (state S.Store self.new.conn) rows ⊎ ((state S.Store self.new.conn).is_open ≡ false)) }
         ensures before { HasCleanDisk (state S.Store self.new.conn) → HasCleanDisk (state S.Store self.old.conn) }
+        ensures same { self.new.refusals ≡ self.old.refusals }
     {
         match look(self.alloc, &mut self.conn, &PartAt { key }) {
             Ok(part) => Ok(octets_of_part(part)),
@@ -112,6 +113,7 @@ impl<S: Alter> CentreKeep<S> {
         ensures err { HasCleanDisk (state S.Store self.new.conn) → (rows : RowsOf) → IsKept (IsStoreWith self.old.setup) (state S.Store self.old.conn) rows
             → OnErr result (IsKept (IsStoreWith self.new.setup) (state S.Store self.new.conn) rows ⊎ ((state S.Store self.new.conn).is_open ≡ false)) }
         ensures before { HasCleanDisk (state S.Store self.new.conn) → HasCleanDisk (state S.Store self.old.conn) }
+        ensures same { self.new.refusals ≡ self.old.refusals }
     {
         let lookup = ReportsOf {
             id: key.number() / 256,
@@ -128,6 +130,7 @@ impl<S: Alter> CentreKeep<S> {
         ensures err { HasCleanDisk (state S.Store self.new.conn) → (rows : RowsOf) → IsKept (IsStoreWith self.old.setup) (state S.Store self.old.conn) rows
             → OnErr result (IsKept (IsStoreWith self.new.setup) (state S.Store self.new.conn) rows ⊎ ((state S.Store self.new.conn).is_open ≡ false)) }
         ensures before { HasCleanDisk (state S.Store self.new.conn) → HasCleanDisk (state S.Store self.old.conn) }
+        ensures same { self.new.refusals ≡ self.old.refusals }
     {
         if key.number() % 256 == 0 {
             self.report_octets(key)
@@ -140,16 +143,14 @@ impl<S: Alter> CentreKeep<S> {
 impl<S: Alter> BodyKeep for CentreKeep<S> {
     ghost body_of = { octets_at };
 
-    ghost refused = { λ keep. keep.refused };
-
     fn body(&mut self, key: Key) -> Result<Option<Octets>, KeepError> {
         match self.octets_under(key) {
             Ok(octets) => {
-                self.refused = None;
+                self.refusals.answer();
                 Ok(octets)
             }
             Err(error) => {
-                self.refused = Some(key);
+                self.refusals.read(key);
                 Err(error)
             }
         }

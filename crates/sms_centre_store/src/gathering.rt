@@ -27,7 +27,10 @@ impl<S: Alter> CentreStore for CentreKeep<S> {
     fn gather(&mut self) -> Result<Rows, KeepError> {
         match transact(self.alloc, &mut self.conn, &Rest) {
             Ok(()) => self.load(),
-            Err(error) => Err(load_cause_of(error)),
+            Err(error) => {
+                self.refusals.call();
+                Err(load_cause_of(error))
+            }
         }
     }
 

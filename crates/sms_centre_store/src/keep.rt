@@ -9,9 +9,8 @@ ghost use Rattle.sms_centre_store.specs.Types.{rows_after};
 use crate::all::All;
 use crate::commit::Commit;
 use sms_centre_rules::{Changes, Rows, Setup};
-use sms_keep::{Keep, KeepError};
+use sms_keep::{Keep, KeepError, Refusals};
 use sms_listing::{load_cause_of, look, transact, write_cause_of};
-use sms_table::Key;
 use sqlite::{Alter, Connection};
 use std::alloc::Global;
 
@@ -22,8 +21,7 @@ pub struct CentreKeep<S: Alter> {
     /// Handed in at the opening, not stored.
     pub setup: Setup,
     pub(crate) alloc: Global,
-    // The key of the last read of a body, where that was refused.
-    pub(crate) refused: Option<Key>,
+    pub(crate) refusals: Refusals,
 }
 
 impl<S: Alter> CentreKeep<S> {
@@ -35,7 +33,7 @@ impl<S: Alter> CentreKeep<S> {
             conn,
             setup: _,
             alloc: _,
-            refused: _,
+            refusals: _,
         } = self;
         conn
     }
@@ -56,11 +54,16 @@ impl<S: Alter> Keep for CentreKeep<S> {
 
     ghost may_leave = { λ keep left. MayLeave (IsStoreWith keep.setup) (state S.Store keep.conn) left };
 
+    ghost refusals = { λ keep. keep.refusals };
+
     fn commit(&mut self, changes: &Changes) -> Result<(), KeepError> {
         let work = Commit { changes };
         match transact(self.alloc, &mut self.conn, &work) {
             Ok(()) => Ok(()),
-            Err(error) => Err(write_cause_of(error)),
+            Err(error) => {
+                self.refusals.call();
+                Err(write_cause_of(error))
+            }
         }
     }
 
@@ -68,7 +71,10 @@ impl<S: Alter> Keep for CentreKeep<S> {
         let all = All { setup: &self.setup };
         match look(self.alloc, &mut self.conn, &all) {
             Ok(rows) => Ok(rows),
-            Err(error) => Err(load_cause_of(error)),
+            Err(error) => {
+                self.refusals.call();
+                Err(load_cause_of(error))
+            }
         }
     }
 }

@@ -18,7 +18,7 @@ use crate::readying::{judge_first, ready_current};
 use sms_centre_migration::raise;
 use sms_centre_rules::Setup;
 use sms_centre_tables::is_first_schema;
-use sms_keep::KeepError;
+use sms_keep::{KeepError, Refusals};
 use sms_listing::write_cause_of;
 use sqlite::{Alter, Connection, File, FileFrom, FileStore, Start, Unknown};
 use std::alloc::Global;
@@ -75,7 +75,7 @@ impl<S: Alter + Drop> CentreKeep<S> {
                 conn,
                 setup,
                 alloc,
-                refused: None,
+                refusals: Refusals::none(),
             }),
             Err(error) => Err((error, conn)),
         }

@@ -14,7 +14,7 @@ ghost use Rattle.sms_centre_store.specs.Types.{first_rows};
 use crate::keep::CentreKeep;
 use crate::readying::{found, ready};
 use sms_centre_rules::Setup;
-use sms_keep::KeepError;
+use sms_keep::{KeepError, Refusals};
 use sms_listing::write_cause_of;
 use sqlite::{Alter, Connection, File, FileFrom, FileStore, MemStore, Start, Unknown};
 use std::alloc::Global;
@@ -38,7 +38,7 @@ impl<S: Alter + Drop> CentreKeep<S> {
                 conn,
                 setup,
                 alloc,
-                refused: None,
+                refusals: Refusals::none(),
             }),
             Err(error) => Err(error),
         }
@@ -92,7 +92,7 @@ pub fn in_memory(alloc: Global, setup: Setup) -> Result<CentreKeep<MemStore>, Ke
             conn,
             setup,
             alloc,
-            refused: None,
+            refusals: Refusals::none(),
         }),
         Err(error) => Err(error),
     }

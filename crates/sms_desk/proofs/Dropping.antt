@@ -12,7 +12,7 @@ use Rattle.sms_reports.specs.Reports.{amend_report, is_open_status, report_key}
 use Rattle.sms_desk.specs.declared.entry.StatusEntry.{StatusEntry}
 use Rattle.sms_desk.specs.Dropping.{drop_old, is_old}
 use Rattle.sms_desk.specs.Entries.{status_entry, status_key, status_limit, status_until}
-use Rattle.sms_desk.specs.Kept.{ReportsOf, Shows}
+use Rattle.sms_desk.specs.ReportsInMemory.{ReportsOf, Shows}
 use Rattle.sms_desk.proofs.Amended.{amend_each, amends_end, amends_on}
 use Rattle.sms_desk.proofs.Keeping.{kept_where, status_place}
 use Rattle.sms_desk.proofs.Serving.{among_kept, kept_among}

@@ -19,7 +19,7 @@ use Rattle.sms_desk.specs.declared.entry.ReceiptEntry.{ReceiptEntry}
 use Rattle.sms_desk.specs.declared.entry.ReportEntry.{ReportEntry}
 use Rattle.sms_desk.specs.declared.entry.StatusEntry.{StatusEntry}
 use Rattle.sms_desk.specs.Entries.{account_in, entry_key, is_named, is_open, open_entry, receipt_entry, receipt_key, report_entry, status_entry, status_key, status_limit}
-use Rattle.sms_desk.specs.Kept.{AccountOf, IsWithReceipt, ReportsOf, Shows, receipts_at}
+use Rattle.sms_desk.specs.ReportsInMemory.{AccountOf, IsWithReceipt, ReportsOf, Shows, receipts_at}
 use Rattle.sms_desk.proofs.Becoming.{none_of}
 use Rattle.sms_waiting.specs.Trying.{later}
 

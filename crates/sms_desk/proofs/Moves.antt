@@ -17,7 +17,7 @@ use Rattle.sms_desk.specs.declared.entry.ReceiptEntry.{ReceiptEntry}
 use Rattle.sms_desk.specs.declared.entry.ReportEntry.{ReportEntry}
 use Rattle.sms_desk.specs.declared.entry.StatusEntry.{StatusEntry}
 use Rattle.sms_desk.specs.Entries.{account_in, entry_key, is_named, is_open, open_entry, receipt_entry, receipt_key, report_entry, status_entry, status_key, status_limit}
-use Rattle.sms_desk.specs.Kept.{AccountOf, IsWithReceipt, ReportsOf, Shows, receipts_at}
+use Rattle.sms_desk.specs.ReportsInMemory.{AccountOf, IsWithReceipt, ReportsOf, Shows, receipts_at}
 use Rattle.sms_desk.specs.Pending.{PendingOf, Tells, amending, made_row, noting, putting}
 use Rattle.sms_desk.specs.Updates.{entry_reaching, keeping, keeping_of, keeping_receipt, keeping_status, receipt_of, status_of, unless_done, with_receipt}
 use Rattle.sms_desk.proofs.Becoming.{became_added, became_far, became_made, below_next, next_added, next_far, next_made, nothing_there}

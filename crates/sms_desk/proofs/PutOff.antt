@@ -16,7 +16,7 @@ use Rattle.sms_reports.specs.Receipts.{is_account, is_put_off, receipts_due}
 use Rattle.sms_reports.specs.Reports.{amend_report, is_open_receipt, report_key, report_of, reports_of}
 use Rattle.sms_desk.specs.declared.entry.ReceiptEntry.{ReceiptEntry}
 use Rattle.sms_desk.specs.Entries.{account_in, account_of, is_named, receipt_due, receipt_entry, receipt_key}
-use Rattle.sms_desk.specs.Kept.{ReportsOf, Shows, receipts_at}
+use Rattle.sms_desk.specs.ReportsInMemory.{ReportsOf, Shows, receipts_at}
 use Rattle.sms_desk.specs.Pending.{PendingOf, Tells}
 use Rattle.sms_desk.proofs.Amended.{amend_each, amends_end, amends_on, from_amended, from_first}
 use Rattle.sms_desk.proofs.Keeping.{alone_found, kept_where, receipt_place}

@@ -13,7 +13,7 @@ use Rattle.sms_reports.specs.Reports.{is_receipt, report_key, report_of}
 use Rattle.sms_reports.specs.SoundReports.{FitsOriginator, SoundReports}
 use Rattle.sms_reports.proofs.AllWaiting.{report_found}
 use Rattle.sms_desk.specs.Entries.{account_in, account_of}
-use Rattle.sms_desk.specs.Kept.{ReportsOf, Shows}
+use Rattle.sms_desk.specs.ReportsInMemory.{ReportsOf, Shows}
 use Rattle.sms_desk.proofs.Walking.{above_one}
 
 -- ---- rows before one stand lower

@@ -19,7 +19,7 @@ use Rattle.sms_reports.specs.Receipts.{Desk, Session, is_account, is_unanswered,
 use Rattle.sms_reports.specs.Reports.{is_open_receipt, report_key}
 use Rattle.sms_desk.specs.declared.entry.ReceiptEntry.{ReceiptEntry}
 use Rattle.sms_desk.specs.Entries.{account_in, account_of, is_named, receipt_due, receipt_entry, receipt_key}
-use Rattle.sms_desk.specs.Kept.{ReportsOf, Shows, receipts_at}
+use Rattle.sms_desk.specs.ReportsInMemory.{ReportsOf, Shows, receipts_at}
 use Rattle.sms_desk.specs.Serving.{Next, earlier, is_ready, is_session, next_among, next_from, next_in, serving}
 use Rattle.sms_desk.specs.Going.{goes_in, with_room}
 use Rattle.sms_desk.proofs.Keeping.{kept_where, receipt_place}

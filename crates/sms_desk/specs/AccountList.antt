@@ -3,7 +3,7 @@ use Rattle.std.specs.Prelude.{List, [], ◌∷◌, Option, Some, None}
 use Rattle.std.specs.declared.alloc.Global.{Global}
 use Rattle.std.specs.declared.sync.Arc.{Arc}
 use Rattle.sms_desk.specs.declared.accounts.Account.{Account}
-use Rattle.sms_desk.specs.Kept.{AccountOf}
+use Rattle.sms_desk.specs.ReportsInMemory.{AccountOf}
 
 abbrev pub accounts_of : Option (Arc Account Global) → List AccountOf
 accounts_of None = []

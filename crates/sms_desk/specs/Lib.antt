@@ -4,7 +4,7 @@ pub mod Became
 pub mod Dropping
 pub mod Entries
 pub mod Going
-pub mod Kept
+pub mod ReportsInMemory
 pub mod Pending
 pub mod ReceiptMoves
 pub mod Serving

@@ -6,7 +6,7 @@ use Rattle.sms_reports.specs.declared.report.ReportKind.{ReportKind}
 use Rattle.sms_reports.specs.declared.report.ReportRow.{ReportRow}
 use Rattle.sms_reports.specs.Reports.{report_of, reports_of, status_tpdu}
 use Rattle.sms_desk.specs.declared.made.MadeEntry.{MadeEntry}
-use Rattle.sms_desk.specs.Kept.{ReportsOf, Shows}
+use Rattle.sms_desk.specs.ReportsInMemory.{ReportsOf, Shows}
 use Rattle.sms_waiting.specs.declared.revision.Revision.{Revision}
 use Rattle.sms_waiting.specs.declared.revision.Revision.TheVariants.{Put, Amend, Remove}
 use Rattle.sms_waiting.specs.declared.progress.Progress.{Progress}

@@ -5,7 +5,7 @@ use Rattle.sms_index.specs.First.{first_such, is_past_from}
 use Rattle.sms_reports.specs.Receipts.{Session, is_unanswered, window}
 use Rattle.sms_desk.specs.declared.entry.ReceiptEntry.{ReceiptEntry}
 use Rattle.sms_desk.specs.Entries.{receipt_due, receipt_key}
-use Rattle.sms_desk.specs.Kept.{AccountOf, receipts_at}
+use Rattle.sms_desk.specs.ReportsInMemory.{AccountOf, receipts_at}
 
 -- the first session that receives for the account
 abbrev pub serving : List ℕ → List Session → Option Session

@@ -9,7 +9,7 @@ use Rattle.sms_desk.specs.declared.entry.ReceiptEntry.{ReceiptEntry}
 use Rattle.sms_desk.specs.declared.entry.ReportEntry.{ReportEntry}
 use Rattle.sms_desk.specs.declared.entry.StatusEntry.{StatusEntry}
 use Rattle.sms_desk.specs.Entries.{entry_key, receipt_key, report_entry, status_key, status_limit}
-use Rattle.sms_desk.specs.Kept.{AccountOf, ReportsOf}
+use Rattle.sms_desk.specs.ReportsInMemory.{AccountOf, ReportsOf}
 use Rattle.sms_waiting.specs.declared.progress.Progress.{Progress}
 use Rattle.sms_waiting.specs.Trying.{later}
 

@@ -1,6 +1,6 @@
 //! The open receipts of accounts.
 ghost use Rattle.std.specs.Prelude.{◌≡◌, [], ◌∷◌, IfOk};
-ghost use Rattle.sms_desk.specs.Kept.{receipts_at};
+ghost use Rattle.sms_desk.specs.ReportsInMemory.{receipts_at};
 ghost use Rattle.sms_desk.specs.Updates.{with_receipt};
 ghost use Rattle.sms_index.specs.First.{first_such, is_ahead_from, is_past_from};
 ghost use Rattle.sms_desk.specs.Entries.{receipt_due, receipt_key};
@@ -31,7 +31,7 @@ pub(crate) struct Account {
 
 impl Model for Accounts {
     ghost use Rattle.std.specs.Prelude.{List, length};
-    ghost use Rattle.sms_desk.specs.Kept.{AccountOf};
+    ghost use Rattle.sms_desk.specs.ReportsInMemory.{AccountOf};
 
     ghost Value = { List AccountOf };
 

@@ -3,7 +3,7 @@ ghost use Rattle.std.specs.Prelude.{◌≡◌, ◌+◌, ℕ, List, None, Some};
 ghost use Rattle.sms_base.specs.Among.{Among};
 ghost use Rattle.sms_desk.specs.Dropping.{drop_old};
 ghost use Rattle.sms_desk.specs.Entries.{account_in, status_entry, status_key, status_until};
-ghost use Rattle.sms_desk.specs.Kept.{ReportsOf, Shows};
+ghost use Rattle.sms_desk.specs.ReportsInMemory.{ReportsOf, Shows};
 ghost use Rattle.sms_desk.specs.Pending.{PendingOf, Tells};
 ghost use Rattle.sms_desk.specs.Serving.{Next, next_among};
 ghost use Rattle.sms_desk.specs.declared.entry.StatusEntry.{StatusEntry};

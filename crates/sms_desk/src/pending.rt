@@ -2,7 +2,7 @@
 ghost use Rattle.std.specs.Prelude.{◌≡◌, List, None, OnOk, IfOk, Some, true, false, option_copied};
 ghost use Rattle.sms_index.specs.Picked.{pick_of};
 ghost use Rattle.sms_desk.specs.Entries.{account_in, open_entry, receipt_due, receipt_key, report_entry, status_key, status_until};
-ghost use Rattle.sms_desk.specs.Kept.{Shows, receipts_at};
+ghost use Rattle.sms_desk.specs.ReportsInMemory.{Shows, receipts_at};
 ghost use Rattle.sms_desk.specs.Pending.{Tells, made_row as made_row_of, noting, put_at, tpdu_made};
 ghost use Rattle.sms_index.specs.First.{first_such, is_ahead_from, is_past_from};
 ghost use Rattle.sms_desk.specs.Updates.{entry_reaching};

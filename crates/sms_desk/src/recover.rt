@@ -1,7 +1,7 @@
 //! What is kept as the rows of a store tell of it.
 ghost use Rattle.std.specs.Prelude.{◌≡◌, ℕ, List, Some, IfOk, nat_lt, option_copied};
 ghost use Rattle.sms_desk.specs.Entries.{account_in};
-ghost use Rattle.sms_desk.specs.Kept.{Shows};
+ghost use Rattle.sms_desk.specs.ReportsInMemory.{Shows};
 ghost use Rattle.sms_messages.specs.Messages.{message_at, message_key};
 ghost use Rattle.sms_reports.specs.SoundReports.{SoundReports};
 ghost use Rattle.sms_table.specs.Table.{Rises};

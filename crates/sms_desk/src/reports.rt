@@ -4,7 +4,7 @@ ghost use Rattle.sms_index.specs.First.{first_such, is_ahead_from, is_past_from}
 ghost use Rattle.sms_index.specs.Picked.{pick_of};
 ghost use Rattle.sms_base.specs.Among.{Among};
 ghost use Rattle.sms_desk.specs.Entries.{account_in, entry_key, open_entry, receipt_due, receipt_key, report_entry, status_key, status_until};
-ghost use Rattle.sms_desk.specs.Kept.{Shows, receipts_at};
+ghost use Rattle.sms_desk.specs.ReportsInMemory.{Shows, receipts_at};
 ghost use Rattle.sms_desk.specs.Updates.{keeping, keeping_receipt, keeping_status, receipt_of, status_of, unless_done};
 ghost use Rattle.sms_messages.specs.declared.message.MessageRow.{MessageRow as MessageRowOf};
 ghost use Rattle.sms_messages.specs.Messages.{message_at};
@@ -77,7 +77,7 @@ pub struct Reports {
 }
 
 impl Model for Reports {
-    ghost use Rattle.sms_desk.specs.Kept.{ReportsOf};
+    ghost use Rattle.sms_desk.specs.ReportsInMemory.{ReportsOf};
 
     ghost Value = { ReportsOf };
 

@@ -4,7 +4,7 @@ use Rattle.std.specs.Prelude.{IfSome, false, nat_le, if◌then◌else◌}
 use Rattle.std.proofs.lemmas.Bool.{leb-true}
 use Rattle.sms_index.specs.First.{first_such, is_past_from}
 use Rattle.sms_desk.specs.Entries.{status_key, status_until}
-use Rattle.sms_desk.specs.Kept.{ReportsOf, Shows as ShowsReports}
+use Rattle.sms_desk.specs.ReportsInMemory.{ReportsOf, Shows as ShowsReports}
 use Rattle.sms_desk.specs.declared.entry.StatusEntry.{StatusEntry}
 use Rattle.sms_reports.specs.declared.report.ReportRow.{ReportRow}
 use Rattle.sms_reports.specs.Reports.{is_open_status, report_of}

@@ -6,7 +6,7 @@ use Rattle.sms_base.specs.Among.{Among}
 use Rattle.sms_table.specs.Table.{AllAbove, Rises}
 use Rattle.sms_messages.specs.declared.message.MessageRow.{MessageRow}
 use Rattle.sms_messages.specs.Messages.{message_key}
-use Rattle.sms_kept.specs.Kept.{is_past, past_ids}
+use Rattle.sms_kept.specs.MessagesInMemory.{is_past, past_ids}
 use Rattle.sms_walks.specs.Expiring.{CoversOver, expire_at, expire_numbers}
 use Rattle.sms_centre_rules.specs.Draft.{Draft, Store, in_store, messages_in}
 use Rattle.sms_working.specs.Working.{Shows, WorkingOf}

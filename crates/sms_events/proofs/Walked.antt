@@ -5,8 +5,8 @@ use Rattle.sms_table.specs.Keys.{AllDigits}
 use Rattle.sms_waiting.specs.declared.handset.HandsetRow.{HandsetRow}
 use Rattle.sms_waiting.specs.declared.line.Line.{Line}
 use Rattle.sms_shelves.specs.declared.stop.Stop.{Stop}
-use Rattle.sms_shelves.specs.declared.stop.Wanted.{Wanted}
-use Rattle.sms_shelves.specs.declared.stop.Wanted.TheVariants.{Offer, Fire, FireUnmentioned, Awaited}
+use Rattle.sms_shelves.specs.declared.stop.Purpose.{Purpose}
+use Rattle.sms_shelves.specs.declared.stop.Purpose.TheVariants.{Offer, Fire, FireUnmentioned, Awaited}
 use Rattle.sms_shelves.specs.Stops.{is_stop, line_stops, mention_stops, stops_of}
 use Rattle.sms_shelves.specs.Walks.{walk}
 use Rattle.sms_shelves.proofs.Giving.{number_digits}
@@ -53,21 +53,21 @@ line_digits n (l ∷ ls) each s among = ⊎_elim
     (λ (a : Among s (line_stops (n + 1) ls)). line_digits (n + 1) ls (λ x b. each x (inr b)) s a)
     among
 
-all_digits : (wanted : Wanted) (d : Draft) (w : WorkingOf) → Shows d w → AreDigits (stops_of wanted (handsets_in d.store) d.air.lines)
-all_digits wanted d w shows = by wanted where
+all_digits : (purpose : Purpose) (d : Draft) (w : WorkingOf) → Shows d w → AreDigits (stops_of purpose (handsets_in d.store) d.air.lines)
+all_digits purpose d w shows = by purpose where
   handsets : AreDigits (mention_stops (handsets_in d.store))
   handsets = mentioned_digits (handsets_in d.store) (λ h among. number_digits h.number (shows.stands.held.givings.mentioned h among).number)
 
   lines : AreDigits (line_stops 1 d.air.lines)
   lines = line_digits 1 d.air.lines shows.shelves.digits
 
-  by : (x : Wanted) → AreDigits (stops_of x (handsets_in d.store) d.air.lines)
+  by : (x : Purpose) → AreDigits (stops_of x (handsets_in d.store) d.air.lines)
   by (Offer now) = handsets
   by (Fire now) = handsets
   by (FireUnmentioned now) = lines
   by Awaited = lines
 
-pub found_digits : (wanted : Wanted) (d : Draft) (w : WorkingOf) → Shows d w → AreDigits (stops_in wanted d)
-found_digits wanted d w shows s among =
-    all_digits wanted d w shows s
-    (among_filter (is_stop wanted (handsets_in d.store) d.air.lines (all_waiting d.store)) s (stops_of wanted (handsets_in d.store) d.air.lines) among).0
+pub found_digits : (purpose : Purpose) (d : Draft) (w : WorkingOf) → Shows d w → AreDigits (stops_in purpose d)
+found_digits purpose d w shows s among =
+    all_digits purpose d w shows s
+    (among_filter (is_stop purpose (handsets_in d.store) d.air.lines (all_waiting d.store)) s (stops_of purpose (handsets_in d.store) d.air.lines) among).0

@@ -1,6 +1,6 @@
 -- What is kept of messages between two events, and tells what a submission is compared with.
 use Rattle.sms_claims.specs.Claims.{ClaimsOf, Holds as HoldsClaims}
-use Rattle.sms_kept.specs.Kept.{Holds as HoldsMessages, KeptOf}
+use Rattle.sms_kept.specs.MessagesInMemory.{Holds as HoldsMessages, KeptOf}
 use Rattle.sms_centre_rules.specs.Draft.{Store, messages_in, parts_in}
 
 -- no message or part has changed since

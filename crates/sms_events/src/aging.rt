@@ -2,7 +2,7 @@
 ghost use Rattle.std.specs.Prelude.{◌≡◌, ◌≤◌, IfSome, OnOk};
 ghost use Rattle.sms_desk.specs.Entries.{status_key, status_until};
 ghost use Rattle.sms_index.specs.First.{first_such, is_past_from};
-ghost use Rattle.sms_kept.specs.Kept.{Holds};
+ghost use Rattle.sms_kept.specs.MessagesInMemory.{Holds};
 ghost use Rattle.sms_walks.specs.Expiring.{expire_at as expire_at_of, expire_numbers};
 ghost use Rattle.sms_centre_rules.specs.CentreEvent.{dropped, expired};
 ghost use Rattle.sms_centre_rules.specs.Draft.{Draft, in_store, messages_in, parts_in};

@@ -1,7 +1,7 @@
 //! What a submission is compared with, and the number that its message takes.
 ghost use Rattle.std.specs.Prelude.{◌≡◌, ◌&&◌, List, Some, None, if◌then◌else◌, nat_le};
 ghost use Rattle.sms_claims.specs.Claims.{Holds};
-ghost use Rattle.sms_kept.specs.Kept.{Holds as HoldsMessages};
+ghost use Rattle.sms_kept.specs.MessagesInMemory.{Holds as HoldsMessages};
 ghost use Rattle.sms_messages.specs.Messages.{next_id as next_id_of};
 ghost use Rattle.sms_messages.specs.SplitReferences.{held_splits, is_taken, wide_in};
 ghost use Rattle.sms_messages.specs.declared.message.MessageRow.{MessageRow as MessageRowOf};

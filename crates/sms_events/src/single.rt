@@ -1,6 +1,6 @@
 //! A SUBMIT that passed all checks becomes a message of one part.
 ghost use Rattle.std.specs.Prelude.{IfOk};
-ghost use Rattle.sms_kept.specs.Kept.{Holds};
+ghost use Rattle.sms_kept.specs.MessagesInMemory.{Holds};
 ghost use Rattle.sms_centre_rules.specs.Draft.{Draft, messages_in, parts_in};
 ghost use Rattle.sms_centre_rules.specs.Standing.{IsSubmission};
 ghost use Rattle.sms_centre_rules.specs.Submitting.{accept as accept_of, accept_as};

@@ -1,6 +1,6 @@
 //! A tick.
 ghost use Rattle.std.specs.Prelude.{◌≡◌, OnOk};
-ghost use Rattle.sms_kept.specs.Kept.{Holds};
+ghost use Rattle.sms_kept.specs.MessagesInMemory.{Holds};
 ghost use Rattle.sms_centre_rules.specs.CentreEvent.{aged, at_moment, fired, raised};
 ghost use Rattle.sms_centre_rules.specs.Draft.{Draft, messages_in, parts_in};
 ghost use Rattle.sms_working.specs.Working.{Shows};

@@ -5,7 +5,7 @@ ghost use Rattle.sms_relay.specs.RelayReading.{up_at};
 ghost use Rattle.sms_tpdu.specs.TpduReading.{up_at as tpdu_up_at};
 ghost use Rattle.sms_tpdu.specs.declared.carrier.Carrier.TheVariants.{InData};
 ghost use Rattle.sms_intake.specs.HandsetIntake.{from_read};
-ghost use Rattle.sms_kept.specs.Kept.{Holds};
+ghost use Rattle.sms_kept.specs.MessagesInMemory.{Holds};
 ghost use Rattle.sms_waiting.specs.SoundGivings.{IsNumber};
 ghost use Rattle.sms_centre_rules.specs.Draft.{Draft, messages_in, parts_in};
 ghost use Rattle.sms_centre_rules.specs.Receiving.{data_came as data_came_of, fault_cause as fault_cause_of, memory_came as memory_came_of, refuse as refuse_of, reject as reject_of, reference_octet as reference_octet_of, submit_accepted as submit_accepted_of, submit_came as submit_came_of, unit_came as unit_came_of};

@@ -9,7 +9,7 @@ ghost use Rattle.sms_events.specs.Walking.{AreDigits};
 ghost use Rattle.sms_working.specs.Working.{Shows};
 
 use sms_base::Digits;
-use sms_shelves::{Stop, Wanted};
+use sms_shelves::{Purpose, Stop};
 use sms_walks::laws::{lines_come_up_where_found, timers_fire_at_those_found};
 use sms_working::{Working, are_digits};
 use std::alloc::AllocError;
@@ -40,8 +40,8 @@ pub(crate) fn fire(working: &mut Working<'_>) -> Result<(), AllocError>
 {
     timers_fire_at_those_found();
     let now = working.now();
-    let mentioned = working.stops(&Wanted::Fire(now))?;
-    let others = working.stops(&Wanted::FireUnmentioned(now))?;
+    let mentioned = working.stops(&Purpose::Fire(now))?;
+    let others = working.stops(&Purpose::FireUnmentioned(now))?;
     fire_each(working, mentioned.as_slice())?;
     fire_each(working, others.as_slice())
 }
@@ -71,6 +71,6 @@ pub(crate) fn raise(working: &mut Working<'_>) -> Result<(), AllocError>
     ensures { (d : Draft) → Shows d working.old → OnOk result (Shows (raised d) working.new) }
 {
     lines_come_up_where_found();
-    let awaited = working.stops(&Wanted::Awaited)?;
+    let awaited = working.stops(&Purpose::Awaited)?;
     raise_each(working, awaited.as_slice())
 }

@@ -3,12 +3,12 @@ ghost use Rattle.std.specs.Prelude.{◌≡◌, ⊤, IfOk};
 ghost use Rattle.sms_handset_draft.specs.Draft.{rows_after};
 ghost use Rattle.sms_handset_draft.specs.Outcome.{changes_in};
 ghost use Rattle.sms_handset_draft.specs.FirstRows.{first_rows};
-ghost use Rattle.sms_handset_memory.specs.Kept.{AreReady, rows_in};
+ghost use Rattle.sms_handset_memory.specs.RowsInKeep.{AreReady, rows_in};
 
 use sms_base::Listed;
 use sms_handset::{Changes, Counters, Rows, Setup};
 use sms_inbox::{DiscardedGroup, Entry, LastAccepted};
-use sms_keep::{Keep, KeepError};
+use sms_keep::{Keep, KeepError, Refusals};
 use sms_memory::{copy_of_rows, settled_copy};
 use sms_outbox::OutEntry;
 use sms_table::{Table, adopt};
@@ -25,6 +25,7 @@ pub struct MemoryKeep {
     /// Handed in at the start.
     pub setup: Setup,
     pub alloc: Global,
+    refusals: Refusals,
 }
 
 impl MemoryKeep {
@@ -47,6 +48,7 @@ impl MemoryKeep {
             },
             setup,
             alloc,
+            refusals: Refusals::none(),
         }
     }
 
@@ -87,7 +89,8 @@ impl MemoryKeep {
 
     fn take(&mut self, changes: Changes)
         requires { AreReady changes self.old }
-        ensures { rows_in self.new ≡ rows_after (changes_in changes) (rows_in self.old) }
+        ensures rows { rows_in self.new ≡ rows_after (changes_in changes) (rows_in self.old) }
+        ensures refusals { self.new.refusals ≡ self.old.refusals }
     {
         adopt(&mut self.entries, changes.entries);
         adopt(&mut self.last, changes.last);
@@ -130,20 +133,28 @@ impl Keep for MemoryKeep {
 
     ghost may_leave = { λ keep left. rows_in keep ≡ left };
 
+    ghost refusals = { λ keep. keep.refusals };
+
     fn commit(&mut self, changes: &Changes) -> Result<(), KeepError> {
         match self.settled(changes) {
             Ok(settled) => {
                 self.take(settled);
                 Ok(())
             }
-            Err(_) => Err(KeepError::NoMemory),
+            Err(_) => {
+                self.refusals.call();
+                Err(KeepError::NoMemory)
+            }
         }
     }
 
     fn load(&mut self) -> Result<Rows, KeepError> {
         match self.copy_of_all() {
             Ok(rows) => Ok(rows),
-            Err(_) => Err(KeepError::NoMemory),
+            Err(_) => {
+                self.refusals.call();
+                Err(KeepError::NoMemory)
+            }
         }
     }
 }

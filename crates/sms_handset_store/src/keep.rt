@@ -9,7 +9,7 @@ ghost use Rattle.sms_handset_store.specs.Types.{changes_in, rows_after};
 use crate::all::All;
 use crate::commit::Commit;
 use sms_handset::{Changes, Rows, Setup};
-use sms_keep::{Keep, KeepError};
+use sms_keep::{Keep, KeepError, Refusals};
 use sms_listing::{load_cause_of, look, transact, write_cause_of};
 use sqlite::{Alter, Connection};
 use std::alloc::Global;
@@ -21,6 +21,7 @@ pub struct HandsetKeep<S: Alter> {
     /// Handed in at the opening, not stored.
     pub setup: Setup,
     pub(crate) alloc: Global,
+    pub(crate) refusals: Refusals,
 }
 
 impl<S: Alter> HandsetKeep<S> {
@@ -32,6 +33,7 @@ impl<S: Alter> HandsetKeep<S> {
             conn,
             setup: _,
             alloc: _,
+            refusals: _,
         } = self;
         conn
     }
@@ -52,11 +54,16 @@ impl<S: Alter> Keep for HandsetKeep<S> {
 
     ghost may_leave = { λ keep left. MayLeave (IsStoreWith keep.setup) (state S.Store keep.conn) left };
 
+    ghost refusals = { λ keep. keep.refusals };
+
     fn commit(&mut self, changes: &Changes) -> Result<(), KeepError> {
         let work = Commit { changes };
         match transact(self.alloc, &mut self.conn, &work) {
             Ok(()) => Ok(()),
-            Err(error) => Err(write_cause_of(error)),
+            Err(error) => {
+                self.refusals.call();
+                Err(write_cause_of(error))
+            }
         }
     }
 
@@ -64,7 +71,10 @@ impl<S: Alter> Keep for HandsetKeep<S> {
         let all = All { setup: self.setup };
         match look(self.alloc, &mut self.conn, &all) {
             Ok(rows) => Ok(rows),
-            Err(error) => Err(load_cause_of(error)),
+            Err(error) => {
+                self.refusals.call();
+                Err(load_cause_of(error))
+            }
         }
     }
 }

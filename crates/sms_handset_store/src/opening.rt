@@ -18,7 +18,7 @@ use crate::keep::HandsetKeep;
 use crate::said::Said;
 use sms_handset::Setup;
 use sms_handset_tables::is_handset_schema;
-use sms_keep::KeepError;
+use sms_keep::{KeepError, Refusals};
 use sms_listing::{StoreKind, load_cause_of, look, transact, write_cause_of};
 use sms_schema::{is_blank, judge};
 use sqlite::{Alter, Connection, File, FileFrom, FileStore, MemStore, Start, Unknown};
@@ -34,7 +34,12 @@ impl<S: Alter + Drop> HandsetKeep<S> {
     {
         let mut conn = conn;
         match transact(alloc, &mut conn, &Founding) {
-            Ok(()) => Ok(HandsetKeep { conn, setup, alloc }),
+            Ok(()) => Ok(HandsetKeep {
+                conn,
+                setup,
+                alloc,
+                refusals: Refusals::none(),
+            }),
             Err(error) => Err(write_cause_of(error)),
         }
     }
@@ -59,7 +64,12 @@ impl<S: Alter + Drop> HandsetKeep<S> {
         }
         let mut conn = conn;
         match judge_store(alloc, &mut conn) {
-            Ok(()) => Ok(HandsetKeep { conn, setup, alloc }),
+            Ok(()) => Ok(HandsetKeep {
+                conn,
+                setup,
+                alloc,
+                refusals: Refusals::none(),
+            }),
             Err(error) => Err(error),
         }
     }

@@ -1,1 +1,2 @@
 pub mod FaultCodes
+pub mod Refusing

@@ -1,5 +1,6 @@
 //! Keeps that give bodies.
-ghost use Rattle.std.specs.Prelude.{◌≡◌, ◌⊎◌, ℕ, List, None, Option, Some, IfOk, OnErr, OnOk};
+ghost use Rattle.std.specs.Prelude.{◌≡◌, ◌⊎◌, ℕ, List, Option, IfOk, OnErr};
+ghost use Rattle.sms_keep.specs.Refusing.{CountsRead};
 
 use crate::error::KeepError;
 use crate::keep::Keep;
@@ -11,15 +12,11 @@ pub trait BodyKeep: Keep {
     /// The octets of the row of each key, where there is one.
     ghost body_of: { Self.Rows → ℕ → Option (List ℕ) };
 
-    /// The key of the last read of a body, where that was refused.
-    ghost refused: { Self → Option ℕ };
-
     /// The octets of the committed row of that key, if there is one. Reading changes none. Whatever the cause of a refusal, want of
     /// memory too, the key is then the one that was refused.
     fn body(&mut self, key: Key) -> Result<Option<Octets>, KeepError>
         ensures ok { Self.is_honest self.new → (rows : Self.Rows) → Self.holds self.old rows → IfOk result (λ body. (body ≡ body_of rows key) × Self.holds self.new rows) }
         ensures err { Self.is_honest self.new → (rows : Self.Rows) → Self.holds self.old rows → OnErr result (Self.holds self.new rows ⊎ Self.is_closed self.new) }
         ensures before { Self.is_honest self.new → Self.is_honest self.old }
-        ensures answered { OnOk result (refused self.new ≡ None) }
-        ensures refusal { OnErr result (refused self.new ≡ Some key) };
+        ensures counted { CountsRead key result (Self.refusals self.old) (Self.refusals self.new) };
 }

@@ -1,6 +1,8 @@
 //! Keeps.
 ghost use Rattle.std.specs.Prelude.{◌≡◌, ◌≢◌, ◌⊎◌, IfErr, IfOk, OnErr, OnOk};
+ghost use Rattle.sms_keep.specs.Refusing.{Counts};
 ghost use Rattle.sms_keep.specs.declared.error.KeepError.TheVariants.{NotThisStore, OldVersion};
+ghost use Rattle.sms_keep.specs.declared.refusals.Refusals.{Refusals};
 
 use crate::error::KeepError;
 
@@ -30,13 +32,17 @@ pub trait Keep {
     /// The rows that may be there if the machine stops at this moment.
     ghost may_leave: { Self → Self.Rows → Type 0 };
 
+    /// What it tells of the calls that it refused.
+    ghost refusals: { Self → Refusals };
+
     /// Makes the changes, all of them or none.
     fn commit(&mut self, changes: &Self::Changes) -> Result<(), KeepError>
         ensures ok { is_honest self.new → (rows : Self.Rows) → holds self.old rows → OnOk result (holds self.new (after changes.now rows)) }
         ensures err { is_honest self.new → (rows : Self.Rows) → holds self.old rows → OnErr result (holds self.new rows ⊎ is_closed self.new) }
         ensures stop { is_honest self.new → (rows : Self.Rows) → holds self.old rows → (left : Self.Rows) → may_leave self.new left → (left ≡ rows) ⊎ (left ≡ after changes.now rows) }
         ensures named { IfErr result (λ error. (error ≢ OldVersion) × (error ≢ NotThisStore)) }
-        ensures before { is_honest self.new → is_honest self.old };
+        ensures before { is_honest self.new → is_honest self.old }
+        ensures counted { Counts result (refusals self.old) (refusals self.new) };
 
     /// The rows after all commits, each list in the order of its keys.
     fn load(&mut self) -> Result<Self::Rows, KeepError>
@@ -44,5 +50,6 @@ pub trait Keep {
         ensures err { is_honest self.new → (rows : Self.Rows) → holds self.old rows → OnErr result (holds self.new rows ⊎ is_closed self.new) }
         ensures stop { is_honest self.new → (rows : Self.Rows) → holds self.old rows → (left : Self.Rows) → may_leave self.new left → left ≡ rows }
         ensures named { IfErr result (λ error. error ≢ OldVersion) }
-        ensures before { is_honest self.new → is_honest self.old };
+        ensures before { is_honest self.new → is_honest self.old }
+        ensures counted { Counts result (refusals self.old) (refusals self.new) };
 }

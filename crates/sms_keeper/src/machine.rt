@@ -2,6 +2,7 @@
 ghost use Rattle.std.specs.Prelude.{◌≡◌, ℕ, List, OnOk, OnErr};
 ghost use Rattle.sms_keeper.specs.declared.machine.Stimulus.{Stimulus};
 ghost use Rattle.sms_keeper.specs.declared.machine.Fate.{Fate};
+ghost use Rattle.sms_keeper.specs.declared.machine.Fate.TheVariants.{Refused};
 ghost use Rattle.sms_keeper.specs.declared.outs.Out.{Out};
 ghost use Rattle.sms_keeper.specs.Fates.{MatchFate};
 
@@ -80,6 +81,9 @@ pub trait Machine<J, O> {
     /// Its rows could not be read when it was last to be opened again.
     ghost is_broken: { Self → Type 0 };
 
+    /// Between these two states its store refused a call.
+    ghost refuses: { Self → Self → Type 0 };
+
     ghost gives: { Self.State → Stimulus J → Fate → List (Out O) };
 
     ghost after: { Self.State → Stimulus J → Fate → Self.State };
@@ -91,7 +95,8 @@ pub trait Machine<J, O> {
         ensures gives { is_honest self.new → (s : Self.State) → stands self.old s → (result.to_history ≡ gives s stimulus.now result.fate)
             × MatchFate result.fate
             (stands self.new (after s stimulus.now result.fate))
-            (resumes self.new (after s stimulus.now result.fate)) };
+            (resumes self.new (after s stimulus.now result.fate)) }
+        ensures refused { is_honest self.new → (s : Self.State) → stands self.old s → result.fate ≡ Refused → refuses self.old self.new };
 
     /// Recovers the machine from its rows, after a step that was refused.
     fn reopen(&mut self) -> Result<(), Broken>

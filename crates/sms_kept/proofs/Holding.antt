@@ -17,7 +17,7 @@ use Rattle.sms_messages.specs.Messages.{id_after, is_pending, message_at, messag
 use Rattle.sms_messages.specs.PartEntries.{entry_key}
 use Rattle.sms_kept.specs.declared.message_entry.MessageEntry.{MessageEntry}
 use Rattle.sms_kept.specs.Entries.{AreEntries, FoundAs, IsEntry, NamesKept, NamesOf, UsesNames, message_entry_key}
-use Rattle.sms_kept.specs.Kept.{Applies, Fits, HasRoomFor, Holds, IsStaleFirst, KeptOf, Matches, Notes, PutsIn, SpareOf, Takes, deadline_of, is_ended, past_entry_id, past_id}
+use Rattle.sms_kept.specs.MessagesInMemory.{Applies, Fits, HasRoomFor, Holds, IsStaleFirst, KeptOf, Matches, Notes, PutsIn, SpareOf, Takes, deadline_of, is_ended, past_entry_id, past_id}
 use Rattle.sms_kept.proofs.Entries.{found_as, kept_entries, put_entries, same_key, without_entries}
 
 -- a message comes: its deadline was noted, its names are kept, and its entry stands there

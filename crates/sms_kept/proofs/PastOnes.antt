@@ -12,7 +12,7 @@ use Rattle.sms_table.proofs.Tables.{above_lower, among_found, found_among, found
 use Rattle.sms_waiting.proofs.Alike.{rises_alike}
 use Rattle.sms_messages.specs.declared.message.MessageRow.{MessageRow}
 use Rattle.sms_messages.specs.Messages.{message_at, message_key}
-use Rattle.sms_kept.specs.Kept.{CoversPast, is_past, past_id, past_ids}
+use Rattle.sms_kept.specs.MessagesInMemory.{CoversPast, is_past, past_id, past_ids}
 use Rattle.sms_kept.specs.Expiring.{all_past, confirmed, confirmed_one, each_numbered, is_repeated, step_at}
 
 abbrev own : ℕ → ℕ

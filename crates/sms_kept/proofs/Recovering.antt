@@ -8,7 +8,7 @@ use Rattle.sms_messages.specs.declared.part.PartRow.{PartRow}
 use Rattle.sms_messages.specs.declared.parts.PartEntry.{PartEntry}
 use Rattle.sms_messages.specs.Messages.{part_key}
 use Rattle.sms_messages.specs.PartEntries.{part_entry}
-use Rattle.sms_kept.specs.Kept.{Holds, KeptOf}
+use Rattle.sms_kept.specs.MessagesInMemory.{Holds, KeptOf}
 
 module _ {A : Type 0} (key : A → ℕ) where
   abbrev AllBelow : ℕ → List A → Type 0

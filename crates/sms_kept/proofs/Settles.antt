@@ -6,7 +6,7 @@ use Rattle.sms_messages.specs.declared.parts.PartEntry.{PartEntry}
 use Rattle.sms_messages.specs.Messages.{Messages}
 use Rattle.sms_messages.specs.PartEntries.{entry_key, part_entry}
 use Rattle.sms_kept.specs.declared.pending.SettledMessages.{SettledMessages}
-use Rattle.sms_kept.specs.Kept.{PendingOf, Shows}
+use Rattle.sms_kept.specs.MessagesInMemory.{PendingOf, Shows}
 use Rattle.sms_kept.specs.Settling.{IsSettled}
 use Rattle.sms_kept.proofs.Showing.{parts_match}
 

@@ -15,7 +15,7 @@ use Rattle.sms_messages.specs.PartEntries.{PartsOf, amending, entry_key, part_en
 use Rattle.sms_messages.proofs.Entries.{amending_tells, putting_tells}
 use Rattle.sms_waiting.specs.declared.progress.Progress.{Progress}
 use Rattle.sms_waiting.proofs.Amending.{rises_amended}
-use Rattle.sms_kept.specs.Kept.{Holds, PendingOf, Shows, opened}
+use Rattle.sms_kept.specs.MessagesInMemory.{Holds, PendingOf, Shows, opened}
 
 pub shows_opened : (p : PendingOf) (base : RowsInMemory PartEntry) (ms : List MessageRow) (ps : List PartRow) (qs : List PriorityRow) → p.messages ≡ [] → p.parts ≡ record { entries = record { base = base; changes = [] }; changes = [] } → base ≡ p.kept.parts → p.priorities ≡ []
     → Holds p.kept ms ps → Shows p (opened ms ps qs)

@@ -3,7 +3,7 @@ use Rattle.std.specs.Prelude.{ℕ, ◌==◌, List, [], ◌∷◌, ◌++◌, Bool
 use Rattle.std.specs.Option.{option_to_list}
 use Rattle.sms_messages.specs.declared.message.MessageRow.{MessageRow}
 use Rattle.sms_messages.specs.Messages.{message_at}
-use Rattle.sms_kept.specs.Kept.{is_past, past_id}
+use Rattle.sms_kept.specs.MessagesInMemory.{is_past, past_id}
 
 -- ---- numbers that are looked up
 

@@ -1,6 +1,6 @@
 pub mod Entries
 pub mod Expiring
-pub mod Kept
+pub mod MessagesInMemory
 pub mod Newest
 pub mod Puts
 pub mod Settling

@@ -4,7 +4,7 @@ use Rattle.sms_table.specs.Since.{oldest_first}
 use Rattle.sms_messages.specs.Messages.{Messages, parts_of}
 use Rattle.sms_waiting.specs.Revisions.{oldest_first as revisions_of}
 use Rattle.sms_kept.specs.declared.pending.SettledMessages.{SettledMessages}
-use Rattle.sms_kept.specs.Kept.{Matches}
+use Rattle.sms_kept.specs.MessagesInMemory.{Matches}
 
 -- the changes are those of the messages, of each list the oldest first, and the memory is for them
 pub record IsSettled (m : Messages) (s : SettledMessages) : Type 0 where

@@ -1,7 +1,7 @@
 //! Which messages expire.
 ghost use Rattle.std.specs.Prelude.{◌≡◌, ◌++◌, List, IfOk, OnOk};
 ghost use Rattle.sms_kept.specs.Expiring.{confirmed_one};
-ghost use Rattle.sms_kept.specs.Kept.{Holds, past_ids};
+ghost use Rattle.sms_kept.specs.MessagesInMemory.{Holds, past_ids};
 ghost use Rattle.sms_messages.specs.declared.message.MessageRow.{MessageRow as MessageRowOf};
 ghost use Rattle.sms_messages.specs.declared.part.PartRow.{PartRow as PartRowOf};
 

@@ -1,7 +1,7 @@
 //! What is kept of messages and parts between two events.
 ghost use Rattle.std.specs.Prelude.{◌≡◌, [], ℕ, ◌+◌, ◌≤◌, true, List, IfOk, length};
 ghost use Rattle.std.specs.List.Sorted.{IsNonDecreasing};
-ghost use Rattle.sms_kept.specs.Kept.{Applies, CoversPast, Fits, HasRoomFor, Holds, IsStaleFirst, Matches, Notes, PutsIn, Takes, is_ended, past_entry_id, past_id};
+ghost use Rattle.sms_kept.specs.MessagesInMemory.{Applies, CoversPast, Fits, HasRoomFor, Holds, IsStaleFirst, Matches, Notes, PutsIn, Takes, is_ended, past_entry_id, past_id};
 ghost use Rattle.sms_messages.specs.Messages.{message_at, message_key, next_id};
 ghost use Rattle.sms_messages.specs.declared.message.MessageRow.{MessageRow as MessageRowOf};
 ghost use Rattle.sms_messages.specs.declared.part.PartRow.{PartRow as PartRowOf};
@@ -29,7 +29,7 @@ pub struct KeptMessages {
 }
 
 impl Model for KeptMessages {
-    ghost use Rattle.sms_kept.specs.Kept.{KeptOf};
+    ghost use Rattle.sms_kept.specs.MessagesInMemory.{KeptOf};
 
     ghost Value = { KeptOf };
 
@@ -47,7 +47,7 @@ pub struct SpareMessages {
 }
 
 impl Model for SpareMessages {
-    ghost use Rattle.sms_kept.specs.Kept.{SpareOf};
+    ghost use Rattle.sms_kept.specs.MessagesInMemory.{SpareOf};
 
     ghost Value = { SpareOf };
 

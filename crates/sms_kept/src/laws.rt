@@ -2,7 +2,7 @@
 ghost use Rattle.std.specs.Prelude.{◌≡◌, ℕ, List, None};
 ghost use Rattle.std.specs.List.Sorted.{IsNonDecreasing};
 ghost use Rattle.sms_kept.specs.Expiring.{all_past, confirmed, each_numbered};
-ghost use Rattle.sms_kept.specs.Kept.{CoversPast, past_ids};
+ghost use Rattle.sms_kept.specs.MessagesInMemory.{CoversPast, past_ids};
 ghost use Rattle.sms_messages.specs.Messages.{message_key};
 ghost use Rattle.sms_messages.specs.declared.message.MessageRow.{MessageRow};
 ghost use Rattle.sms_table.specs.Table.{Rises};

@@ -1,6 +1,6 @@
 //! Messages, parts and priorities in the middle of an event.
 ghost use Rattle.std.specs.Prelude.{◌≡◌, [], ℕ, List, Some, OnOk, IfOk, length, option_copied};
-ghost use Rattle.sms_kept.specs.Kept.{Fits, Holds, Shows, found_part, opened};
+ghost use Rattle.sms_kept.specs.MessagesInMemory.{Fits, Holds, Shows, found_part, opened};
 ghost use Rattle.sms_kept.specs.Puts.{tpdu_put};
 ghost use Rattle.sms_kept.specs.Settling.{IsSettled};
 ghost use Rattle.sms_table.specs.Keys.{pair_key};
@@ -32,7 +32,7 @@ pub struct PendingMessages<'a> {
 }
 
 impl<'a> Model for PendingMessages<'a> {
-    ghost use Rattle.sms_kept.specs.Kept.{PendingOf};
+    ghost use Rattle.sms_kept.specs.MessagesInMemory.{PendingOf};
 
     ghost Value = { PendingOf };
 

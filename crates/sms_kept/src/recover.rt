@@ -1,6 +1,6 @@
 //! What is kept as the rows of a store tell of it.
 ghost use Rattle.std.specs.Prelude.{◌≡◌, [], List, map, IfOk, OnOk};
-ghost use Rattle.sms_kept.specs.Kept.{Holds, Notes};
+ghost use Rattle.sms_kept.specs.MessagesInMemory.{Holds, Notes};
 ghost use Rattle.sms_messages.specs.Messages.{message_key, part_key};
 ghost use Rattle.sms_messages.specs.PartEntries.{part_entry};
 ghost use Rattle.sms_messages.specs.declared.message.MessageRow.{MessageRow as MessageRowOf};

@@ -1,7 +1,7 @@
 //! What a centre tells of its messages, one by one.
 ghost use Rattle.std.specs.Prelude.{◌≡◌, List, length, slice_get};
 ghost use Rattle.std.specs.Option.{option_map};
-ghost use Rattle.sms_kept.specs.Kept.{Holds};
+ghost use Rattle.sms_kept.specs.MessagesInMemory.{Holds};
 ghost use Rattle.sms_kept.specs.Summaries.{summary_of};
 ghost use Rattle.sms_messages.specs.declared.message.MessageRow.{MessageRow as MessageRowOf};
 ghost use Rattle.sms_messages.specs.declared.part.PartRow.{PartRow as PartRowOf};

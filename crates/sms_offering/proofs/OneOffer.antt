@@ -2,6 +2,8 @@
 use Rattle.std.proofs.Common.{◌≡◌, ℕ, List, [], ◌∷◌, ◌++◌, Bool, true, false, Option, Some, None, Result, Ok, Err, refl, sym, ◌∙◌, ap, subst, cond, inl, inr, ⊎_elim}
 use Rattle.std.proofs.lemmas.Bool.{cond_both}
 use Rattle.sms_base.specs.Among.{Among}
+use Rattle.sms_keep.specs.Refusing.{with_answer, with_read}
+use Rattle.sms_keep.specs.declared.refusals.Refusals.{Refusals}
 use Rattle.sms_base.specs.declared.holder.Holder.{Holder}
 use Rattle.sms_shelves.specs.Placing.{PendingOf as ShelvesOf}
 use Rattle.sms_shelves.specs.Shown.{Shows as ShowsShelves}
@@ -119,28 +121,32 @@ read_shown l s g air waiting p shows = shown_by (is_made l s) (load_key l) g air
 -- ---- how steps end
 
 -- what the store told before, and then, is what it tells in the end
-pub none_since : (first before after : Option ℕ) → NoneRefused first before → NoneRefused before after → NoneRefused first after
+pub none_since : (first before after : Refusals) → NoneRefused first before → NoneRefused before after → NoneRefused first after
 none_since first before after none then = ⊎_elim
-    (λ (e : after ≡ None). inl e)
-    (λ (e : after ≡ before). ⊎_elim (λ (n : before ≡ None). inl (e ∙ n)) (λ (s : before ≡ first). inr (e ∙ s)) none)
+    (λ (e : after ≡ with_answer before). ⊎_elim (λ (n : before ≡ with_answer first). inl (e ∙ ap with_answer n)) (λ (s : before ≡ first). inl (e ∙ ap with_answer s)) none)
+    (λ (e : after ≡ before). ⊎_elim (λ (n : before ≡ with_answer first). inl (e ∙ n)) (λ (s : before ≡ first). inr (e ∙ s)) none)
     then
 
-pub goes_on : {A : Type 0} (ok : A → Type 0) (keys : List ℕ) (held closed : Type 0) (before refused : Option ℕ) (r : Result A PlanError) → UnlessMemory ok r → held → NoneRefused before refused → Goes ok keys held closed before refused r
+-- the read that was refused is the first that was
+pub read_since : (key : ℕ) (first before after : Refusals) → NoneRefused first before → after ≡ with_read key before → after ≡ with_read key first
+read_since key first before after none is = ⊎_elim (λ (n : before ≡ with_answer first). is ∙ ap (λ (r : Refusals). with_read key r) n) (λ (s : before ≡ first). is ∙ ap (λ (r : Refusals). with_read key r) s) none
+
+pub goes_on : {A : Type 0} (ok : A → Type 0) (keys : List ℕ) (held closed : Type 0) (before refused : Refusals) (r : Result A PlanError) → UnlessMemory ok r → held → NoneRefused before refused → Goes ok keys held closed before refused r
 goes_on ok keys held closed before refused (Ok x) is holds none = (is, (holds, none))
 goes_on ok keys held closed before refused (Err NoBody) is holds none = absurd is
 goes_on ok keys held closed before refused (Err NoMemory) is holds none = (holds, none)
 
-pub goes_off : {A B : Type 0} (ok : A → Type 0) (then : B → Type 0) (keys more : List ℕ) (held closed : Type 0) (first before refused : Option ℕ) (e : PlanError) → NoneRefused first before → ((k : ℕ) → Among k keys → Among k more)
+pub goes_off : {A B : Type 0} (ok : A → Type 0) (then : B → Type 0) (keys more : List ℕ) (held closed : Type 0) (first before refused : Refusals) (e : PlanError) → NoneRefused first before → ((k : ℕ) → Among k keys → Among k more)
     → Goes ok keys held closed before refused (Err e) → Goes then more held closed first refused (Err e)
-goes_off ok then keys more held closed first before refused NoBody none into goes = let n = goes.0 in ((n.0, (into n.0 n.1.0, n.1.1)), goes.1)
+goes_off ok then keys more held closed first before refused NoBody none into goes = let n = goes.0 in ((n.0, (into n.0 n.1.0, read_since n.0 first before refused none n.1.1)), goes.1)
 goes_off ok then keys more held closed first before refused NoMemory none into goes = (goes.0, none_since first before refused none goes.1)
 
-pub short_off : {A B : Type 0} (ok : A → Type 0) (then : B → Type 0) (keys : List ℕ) (held closed : Type 0) (refused : Option ℕ) (e : PlanError) → UnlessMemory ok (Err e) → held
+pub short_off : {A B : Type 0} (ok : A → Type 0) (then : B → Type 0) (keys : List ℕ) (held closed : Type 0) (refused : Refusals) (e : PlanError) → UnlessMemory ok (Err e) → held
     → Goes then keys held closed refused refused (Err e)
 short_off ok then keys held closed refused NoBody is holds = absurd is
 short_off ok then keys held closed refused NoMemory is holds = (holds, inr refl)
 
-pub goes_wide : {A : Type 0} (ok : A → Type 0) (keys more : List ℕ) (held closed : Type 0) (before refused : Option ℕ) (r : Result A PlanError) → ((k : ℕ) → Among k keys → Among k more)
+pub goes_wide : {A : Type 0} (ok : A → Type 0) (keys more : List ℕ) (held closed : Type 0) (before refused : Refusals) (r : Result A PlanError) → ((k : ℕ) → Among k keys → Among k more)
     → Goes ok keys held closed before refused r → Goes ok more held closed before refused r
 goes_wide ok keys more held closed before refused (Ok x) into goes = goes
 goes_wide ok keys more held closed before refused (Err NoBody) into goes = let n = goes.0 in ((n.0, (into n.0 n.1.0, n.1.1)), goes.1)

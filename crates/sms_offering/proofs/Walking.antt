@@ -1,8 +1,9 @@
 -- Offers to handsets, one after the other.
-use Rattle.std.proofs.Common.{◌≡◌, ℕ, ◌∷◌, List, [], Option, refl, sym, ◌∙◌, ap, subst, inl, inr, ⊎_elim}
+use Rattle.std.proofs.Common.{◌≡◌, ℕ, ◌∷◌, List, [], refl, sym, ◌∙◌, ap, subst, inl, inr, ⊎_elim}
 use Rattle.sms_base.specs.Among.{Among}
+use Rattle.sms_keep.specs.declared.refusals.Refusals.{Refusals}
 use Rattle.sms_shelves.specs.declared.stop.Stop.{Stop}
-use Rattle.sms_shelves.specs.declared.stop.Wanted.TheVariants.{Offer}
+use Rattle.sms_shelves.specs.declared.stop.Purpose.TheVariants.{Offer}
 use Rattle.sms_shelves.specs.Stops.{is_stop, mention_stops}
 use Rattle.sms_shelves.specs.Walks.{walk}
 use Rattle.sms_shelves.proofs.Giving.{number_digits}
@@ -18,7 +19,7 @@ use Rattle.sms_offering.specs.Going.{NoneRefused}
 use Rattle.sms_offering.proofs.OneOffer.{none_since, offer_reads}
 
 -- what is left of a walk, where the store holds what it held, and refused nothing since that read
-pub record IsLeft (d : Draft) (stops rest : List Stop) (held : Type 0) (first refused : Option ℕ) (w : WorkingOf) : Type 0 where
+pub record IsLeft (d : Draft) (stops rest : List Stop) (held : Type 0) (first refused : Refusals) (w : WorkingOf) : Type 0 where
   pub draft : Draft
   pub shows : Shows draft w
   pub same : draft.store ≡ d.store
@@ -27,7 +28,7 @@ pub record IsLeft (d : Draft) (stops rest : List Stop) (held : Type 0) (first re
   pub holds : held
   pub none : NoneRefused first refused
 
-pub left_next : (d : Draft) (stops rest : List Stop) (s : Stop) (behind : List Stop) (held then : Type 0) (first refused now : Option ℕ) (w new : WorkingOf) → rest ≡ s ∷ behind → (left : IsLeft d stops rest held first refused w)
+pub left_next : (d : Draft) (stops rest : List Stop) (s : Stop) (behind : List Stop) (held then : Type 0) (first refused now : Refusals) (w new : WorkingOf) → rest ≡ s ∷ behind → (left : IsLeft d stops rest held first refused w)
     → Shows (offer_at s.number left.draft) new → then → NoneRefused refused now → IsLeft d stops behind then first now new
 left_next d stops rest s behind held then first refused now w new split left shows holds none = record {
   draft = offer_at s.number left.draft;
@@ -39,15 +40,15 @@ left_next d stops rest s behind held then first refused now w new split left sho
   none = none_since first refused now left.none none;
 }
 
-pub first_digits : (d : Draft) (stops rest : List Stop) (s : Stop) (behind : List Stop) (held : Type 0) (first refused : Option ℕ) (w : WorkingOf) → rest ≡ s ∷ behind → IsLeft d stops rest held first refused w → AllDigits s.number
+pub first_digits : (d : Draft) (stops rest : List Stop) (s : Stop) (behind : List Stop) (held : Type 0) (first refused : Refusals) (w : WorkingOf) → rest ≡ s ∷ behind → IsLeft d stops rest held first refused w → AllDigits s.number
 first_digits d stops rest s behind held first refused w split left = left.digits s (subst (λ (ss : List Stop). Among s ss) (sym split) (inl refl))
 
-pub left_none : (d : Draft) (stops rest : List Stop) (held : Type 0) (first refused : Option ℕ) (w : WorkingOf) → rest ≡ [] → IsLeft d stops rest held first refused w → Shows (walk offer_at stops d) w
+pub left_none : (d : Draft) (stops rest : List Stop) (held : Type 0) (first refused : Refusals) (w : WorkingOf) → rest ≡ [] → IsLeft d stops rest held first refused w → Shows (walk offer_at stops d) w
 left_none d stops rest held first refused w none left =
     subst (λ (e : Draft). Shows e w) (sym (ap (λ (ss : List Stop). walk offer_at ss left.draft) none) ∙ left.goes) left.shows
 
 -- what was read on the way is read in the end
-pub reads_last : (d : Draft) (stops rest : List Stop) (s : Stop) (behind : List Stop) (held : Type 0) (first refused : Option ℕ) (w : WorkingOf) (k : ℕ) → rest ≡ s ∷ behind → (left : IsLeft d stops rest held first refused w)
+pub reads_last : (d : Draft) (stops rest : List Stop) (s : Stop) (behind : List Stop) (held : Type 0) (first refused : Refusals) (w : WorkingOf) (k : ℕ) → rest ≡ s ∷ behind → (left : IsLeft d stops rest held first refused w)
     → Among k (offer_at s.number left.draft).air.read → Among k (walk offer_at stops d).air.read
 reads_last d stops rest s behind held first refused w k split left among =
     subst (λ (e : Draft). Among k e.air.read) (sym (ap (λ (ss : List Stop). walk offer_at ss left.draft) split) ∙ left.goes)

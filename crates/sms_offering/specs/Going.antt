@@ -1,5 +1,7 @@
 -- How steps end whose reads the store may refuse.
 use Rattle.std.specs.Prelude.{◌≡◌, ◌⊎◌, ℕ, ◌==◌, not, List, Bool, true, Option, Some, None, Result, Ok, Err}
+use Rattle.sms_keep.specs.Refusing.{with_answer, with_read}
+use Rattle.sms_keep.specs.declared.refusals.Refusals.{Refusals}
 use Rattle.sms_base.specs.Among.{Among}
 use Rattle.sms_centre_rules.specs.declared.plan_error.PlanError.{PlanError}
 use Rattle.sms_centre_rules.specs.declared.plan_error.PlanError.TheVariants.{NoBody, NoMemory}
@@ -10,15 +12,15 @@ UnlessMemory ok (Ok value) = ok value
 UnlessMemory ok (Err NoBody) = ⊥
 UnlessMemory ok (Err NoMemory) = Unit {0}
 
--- What the store tells of its last read: it answered that, or none was made since.
-abbrev pub NoneRefused : Option ℕ → Option ℕ → Type 0
-NoneRefused before after = (after ≡ None) ⊎ (after ≡ before)
+-- The store refused nothing: it answered a read since, or it was asked for none.
+abbrev pub NoneRefused : Refusals → Refusals → Type 0
+NoneRefused before after = (after ≡ with_answer before) ⊎ (after ≡ before)
 
--- It went well; or the store refused to read the body of a key that is among these; or there was no memory, and the store refused
--- nothing. Only after a refusal may the store be closed; else it holds what it held.
-abbrev pub Goes : {A : Type 0} → (A → Type 0) → List ℕ → Type 0 → Type 0 → Option ℕ → Option ℕ → Result A PlanError → Type 0
+-- It went well; or the store refused to read the body of a key that is among these, and nothing besides; or there was no memory, and the
+-- store refused nothing. Only after a refusal may the store be closed; else it holds what it held.
+abbrev pub Goes : {A : Type 0} → (A → Type 0) → List ℕ → Type 0 → Type 0 → Refusals → Refusals → Result A PlanError → Type 0
 Goes ok keys held closed before refused (Ok value) = ok value × (held × NoneRefused before refused)
-Goes ok keys held closed before refused (Err NoBody) = ((key : ℕ) × (Among key keys × (refused ≡ Some key))) × (held ⊎ closed)
+Goes ok keys held closed before refused (Err NoBody) = ((key : ℕ) × (Among key keys × (refused ≡ with_read key before))) × (held ⊎ closed)
 Goes ok keys held closed before refused (Err NoMemory) = held × NoneRefused before refused
 
 -- the store answers every read but that which it refused

@@ -13,7 +13,7 @@ ghost use Rattle.sms_working.specs.Working.{Shows};
 use crate::offers::offer_at;
 use sms_centre_rules::PlanError;
 use sms_keep::BodyKeep;
-use sms_shelves::{Stop, Wanted};
+use sms_shelves::{Purpose, Stop};
 use sms_walks::laws::offers_go_to_those_found;
 use sms_working::Working;
 
@@ -25,7 +25,7 @@ fn offer_each<B: BodyKeep>(
     stops: &[Stop],
 ) -> Result<(), PlanError>
     ensures goes { B.is_honest bodies.new → (d : Draft) (rows : B.Rows) → Shows d working.old → AreDigits stops.now → CanOffer B.body_of rows centre.now d.store → B.holds bodies.old rows
-        → Goes (λ _. Shows (walk offer_at_of stops.now d) working.new) (walk offer_at_of stops.now d).air.read (B.holds bodies.new rows) (B.is_closed bodies.new) (B.refused bodies.old) (B.refused bodies.new) result }
+        → Goes (λ _. Shows (walk offer_at_of stops.now d) working.new) (walk offer_at_of stops.now d).air.read (B.holds bodies.new rows) (B.is_closed bodies.new) (B.refusals bodies.old) (B.refusals bodies.new) result }
     ensures before { B.is_honest bodies.new → B.is_honest bodies.old }
 {
     for stop in stops {
@@ -44,12 +44,12 @@ fn offer<B: BodyKeep>(
     centre: &[u8],
 ) -> Result<(), PlanError>
     ensures goes { B.is_honest bodies.new → (d : Draft) (rows : B.Rows) → Shows d working.old → CanOffer B.body_of rows centre.now d.store → B.holds bodies.old rows
-        → Goes (λ _. Shows (offer_of d) working.new) (offer_of d).air.read (B.holds bodies.new rows) (B.is_closed bodies.new) (B.refused bodies.old) (B.refused bodies.new) result }
+        → Goes (λ _. Shows (offer_of d) working.new) (offer_of d).air.read (B.holds bodies.new rows) (B.is_closed bodies.new) (B.refusals bodies.old) (B.refusals bodies.new) result }
     ensures before { B.is_honest bodies.new → B.is_honest bodies.old }
 {
     offers_go_to_those_found();
     let now = working.now();
-    match working.stops(&Wanted::Offer(now)) {
+    match working.stops(&Purpose::Offer(now)) {
         Ok(stops) => offer_each(working, bodies, centre, stops.as_slice()),
         Err(_) => Err(PlanError::NoMemory),
     }
@@ -78,7 +78,7 @@ pub fn follow<B: BodyKeep>(
     centre: &[u8],
 ) -> Result<(), PlanError>
     ensures goes { B.is_honest bodies.new → (d : Draft) (rows : B.Rows) → Shows d working.old → CanOffer B.body_of rows centre.now d.store → B.holds bodies.old rows
-        → Goes (λ _. Shows (follow_of d) working.new) (follow_of d).air.read (B.holds bodies.new rows) (B.is_closed bodies.new) (B.refused bodies.old) (B.refused bodies.new) result }
+        → Goes (λ _. Shows (follow_of d) working.new) (follow_of d).air.read (B.holds bodies.new rows) (B.is_closed bodies.new) (B.refusals bodies.old) (B.refusals bodies.new) result }
     ensures before { B.is_honest bodies.new → B.is_honest bodies.old }
 {
     match send_receipts(working) {

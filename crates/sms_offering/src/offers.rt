@@ -48,7 +48,7 @@ fn offer_load<B: BodyKeep>(
     requires digits { AllDigits handset }
     ensures goes { B.is_honest bodies.new → (d : Draft) (rows : B.Rows) → Shows d working.old → CanOffer B.body_of rows centre.now d.store → Among load.now (waiting_in handset d.store)
         → B.holds bodies.old rows
-        → Goes (λ _. Shows (offer_next handset (Some load.now) d) working.new) (offer_next handset (Some load.now) d).air.read (B.holds bodies.new rows) (B.is_closed bodies.new) (B.refused bodies.old) (B.refused bodies.new) result }
+        → Goes (λ _. Shows (offer_next handset (Some load.now) d) working.new) (offer_next handset (Some load.now) d).air.read (B.holds bodies.new rows) (B.is_closed bodies.new) (B.refusals bodies.old) (B.refusals bodies.new) result }
     ensures before { B.is_honest bodies.new → B.is_honest bodies.old }
 {
     let more = has_more(working, &handset, load);
@@ -67,7 +67,7 @@ fn offer_to<B: BodyKeep>(
 ) -> Result<(), PlanError>
     requires digits { AllDigits handset }
     ensures goes { B.is_honest bodies.new → (d : Draft) (rows : B.Rows) → Shows d working.old → CanOffer B.body_of rows centre.now d.store → B.holds bodies.old rows
-        → Goes (λ _. Shows (offer_at_of handset d) working.new) (offer_at_of handset d).air.read (B.holds bodies.new rows) (B.is_closed bodies.new) (B.refused bodies.old) (B.refused bodies.new) result }
+        → Goes (λ _. Shows (offer_at_of handset d) working.new) (offer_at_of handset d).air.read (B.holds bodies.new rows) (B.is_closed bodies.new) (B.refusals bodies.old) (B.refusals bodies.new) result }
     ensures before { B.is_honest bodies.new → B.is_honest bodies.old }
 {
     match next_for(working, &handset) {
@@ -84,7 +84,7 @@ pub(crate) fn offer_at<B: BodyKeep>(
     handset: Digits,
 ) -> Result<(), PlanError>
     ensures goes { B.is_honest bodies.new → (d : Draft) (rows : B.Rows) → Shows d working.old → AllDigits handset → CanOffer B.body_of rows centre.now d.store → B.holds bodies.old rows
-        → Goes (λ _. Shows (offer_at_of handset d) working.new) (offer_at_of handset d).air.read (B.holds bodies.new rows) (B.is_closed bodies.new) (B.refused bodies.old) (B.refused bodies.new) result }
+        → Goes (λ _. Shows (offer_at_of handset d) working.new) (offer_at_of handset d).air.read (B.holds bodies.new rows) (B.is_closed bodies.new) (B.refusals bodies.old) (B.refusals bodies.new) result }
     ensures before { B.is_honest bodies.new → B.is_honest bodies.old }
 {
     if !are_digits(handset.as_slice()) {

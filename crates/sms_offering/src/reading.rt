@@ -17,7 +17,7 @@ use sms_working::Working;
 // The body of that key, which stands in the store.
 fn read<B: BodyKeep>(bodies: &mut B, key: Key) -> Result<Octets, PlanError>
     ensures goes { B.is_honest bodies.new → (rows : B.Rows) (tpdu : List ℕ) → B.holds bodies.old rows → B.body_of rows key ≡ Some tpdu
-        → Goes (λ octets. octets ≡ tpdu) (key ∷ []) (B.holds bodies.new rows) (B.is_closed bodies.new) (B.refused bodies.old) (B.refused bodies.new) result }
+        → Goes (λ octets. octets ≡ tpdu) (key ∷ []) (B.holds bodies.new rows) (B.is_closed bodies.new) (B.refusals bodies.old) (B.refusals bodies.new) result }
     ensures before { B.is_honest bodies.new → B.is_honest bodies.old }
 {
     match bodies.body(key) {
@@ -45,7 +45,7 @@ pub(crate) fn tpdu<B: BodyKeep>(
 ) -> Result<Octets, PlanError>
     ensures goes { B.is_honest bodies.new → (d : Draft) (rows : B.Rows) (centre handset : List ℕ) → Shows d working.now → Among load.now (waiting_in handset d.store) → CanOffer B.body_of rows centre d.store
         → B.holds bodies.old rows
-        → Goes (λ octets. octets ≡ tpdu_of load.now d.store) (read_of load.now d.store d.air).read (B.holds bodies.new rows) (B.is_closed bodies.new) (B.refused bodies.old) (B.refused bodies.new) result }
+        → Goes (λ octets. octets ≡ tpdu_of load.now d.store) (read_of load.now d.store d.air).read (B.holds bodies.new rows) (B.is_closed bodies.new) (B.refusals bodies.old) (B.refusals bodies.new) result }
     ensures before { B.is_honest bodies.new → B.is_honest bodies.old }
 {
     match made(working, load) {

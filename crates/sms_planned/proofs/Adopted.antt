@@ -5,8 +5,8 @@ use Rattle.sms_claims.specs.Claims.{ClaimsOf, Holds as HoldsClaims}
 use Rattle.sms_claims.specs.Moves.{AreMoves, ArePartMoves}
 use Rattle.sms_claim_moves.specs.ClaimMoves.{MoveClaims}
 use Rattle.sms_claim_moves.proofs.EventMoves.{event_moves}
-use Rattle.sms_desk.specs.Kept.{ReportsOf, Shows as ShowsReports}
-use Rattle.sms_kept.specs.Kept.{Holds, KeptOf, Matches}
+use Rattle.sms_desk.specs.ReportsInMemory.{ReportsOf, Shows as ShowsReports}
+use Rattle.sms_kept.specs.MessagesInMemory.{Holds, KeptOf, Matches}
 use Rattle.sms_messages.specs.declared.message.MessageRow.{MessageRow}
 use Rattle.sms_messages.specs.declared.part.PartRow.{PartRow}
 use Rattle.sms_messages.specs.Messages.{message_key, part_key, part_reaching}

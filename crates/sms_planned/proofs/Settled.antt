@@ -2,7 +2,7 @@
 use Rattle.std.proofs.Common.{◌≡◌, ℕ, List, Option, sym, ◌∙◌, ap, subst}
 use Rattle.sms_table.specs.declared.change.Change.{Change}
 use Rattle.sms_claims.specs.Moves.{SpareOf as ClaimsSpare}
-use Rattle.sms_desk.specs.Kept.{ReportsOf, Shows as ShowsReports}
+use Rattle.sms_desk.specs.ReportsInMemory.{ReportsOf, Shows as ShowsReports}
 use Rattle.sms_kept.specs.declared.pending.SettledMessages.{SettledMessages}
 use Rattle.sms_kept.specs.Settling.{IsSettled}
 use Rattle.sms_reports.specs.declared.delivery.Delivery.{Delivery}

@@ -1,8 +1,8 @@
 -- What is kept after an event, ready made.
 use Rattle.std.specs.Prelude.{ℕ, List}
 use Rattle.sms_claims.specs.Moves.{SpareOf as ClaimsSpare}
-use Rattle.sms_desk.specs.Kept.{ReportsOf}
-use Rattle.sms_kept.specs.Kept.{SpareOf as MessagesSpare}
+use Rattle.sms_desk.specs.ReportsInMemory.{ReportsOf}
+use Rattle.sms_kept.specs.MessagesInMemory.{SpareOf as MessagesSpare}
 use Rattle.sms_reports.specs.Receipts.{Session}
 use Rattle.sms_shelves.specs.Adopting.{SettledOf}
 

@@ -2,8 +2,8 @@
 use Rattle.std.specs.Prelude.{◌≡◌, length}
 use Rattle.sms_claims.specs.Claims.{ClaimsOf}
 use Rattle.sms_claims.specs.Moves.{Fits as FitsClaims}
-use Rattle.sms_desk.specs.Kept.{Shows as ShowsReports}
-use Rattle.sms_kept.specs.Kept.{Fits as FitsMessages, KeptOf, Matches}
+use Rattle.sms_desk.specs.ReportsInMemory.{Shows as ShowsReports}
+use Rattle.sms_kept.specs.MessagesInMemory.{Fits as FitsMessages, KeptOf, Matches}
 use Rattle.sms_shelves.specs.Adopting.{Fits as FitsShelves, IsAdopted}
 use Rattle.sms_shelves.specs.Placing.{ShelvesOf}
 use Rattle.sms_shelves.specs.Shown.{Stands}

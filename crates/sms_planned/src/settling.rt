@@ -2,7 +2,7 @@
 ghost use Rattle.std.specs.Prelude.{◌≡◌, length, IfOk};
 ghost use Rattle.sms_centre_rules.specs.Draft.{Draft};
 ghost use Rattle.sms_claims.specs.Moves.{Fits as FitsClaims};
-ghost use Rattle.sms_kept.specs.Kept.{Fits as FitsMessages, Shows as ShowsMessages};
+ghost use Rattle.sms_kept.specs.MessagesInMemory.{Fits as FitsMessages, Shows as ShowsMessages};
 ghost use Rattle.sms_kept.specs.Settling.{IsSettled};
 ghost use Rattle.sms_messages.specs.Messages.{Messages};
 ghost use Rattle.sms_planned.specs.Planned.{FitsIn, IsPlanned};

@@ -1,6 +1,7 @@
 -- What a plan of the centre leads to, once it is committed and put in.
-use Rattle.std.proofs.Common.{◌≡◌, ℕ, ◌≤◌, List, ◌++◌, Option, length, Result, Ok, Err, sym, ◌∙◌, ap, subst, append_assoc, ⊎_elim}
+use Rattle.std.proofs.Common.{◌≡◌, ℕ, ◌≤◌, List, ◌++◌, length, Result, Ok, Err, sym, ◌∙◌, ap, subst, append_assoc, ⊎_elim}
 use Rattle.std.specs.Prelude.{◌⊎◌, IfOk, OnOk}
+use Rattle.sms_keep.specs.declared.refusals.Refusals.{Refusals}
 use Rattle.sms_centre_rules.specs.CentreEvent.{recovered, started}
 use Rattle.sms_centre_rules.specs.Draft.{Core, Draft, changes_in, core_of, messages_in, rows_after}
 use Rattle.sms_centre_rules.specs.Planning.{adopted, outcome_of}
@@ -22,7 +23,7 @@ use Rattle.sms_reports.specs.Receipts.{Session}
 only_held : (held : Type 0) → held ⊎ ⊥ → held
 only_held held h = ⊎_elim (λ (p : held). p) (λ (n : ⊥). absurd n) h
 
-pub kept_after : (d : Draft) (keys : List ℕ) (held : Type 0) (before refused : Option ℕ) (e : PlanError) → Goes {A = PlannedOf} (λ (p : PlannedOf). IsPlanned d p.plan) keys held ⊥ before refused (Err e) → held
+pub kept_after : (d : Draft) (keys : List ℕ) (held : Type 0) (before refused : Refusals) (e : PlanError) → Goes {A = PlannedOf} (λ (p : PlannedOf). IsPlanned d p.plan) keys held ⊥ before refused (Err e) → held
 kept_after d keys held before refused NoBody g = only_held held g.1
 kept_after d keys held before refused NoMemory g = g.0
 

@@ -1,7 +1,7 @@
 //! The centre of a script in play.
 ghost use Rattle.std.specs.Prelude.{◌≡◌, ◌≤◌, ◌++◌, length, IfOk, OnOk, option_copied, option_map};
 ghost use Rattle.sms_centre.specs.FromBelow.{IsTold, message_lines, receipt_lines};
-ghost use Rattle.sms_centre_memory.specs.Kept.{rows_in};
+ghost use Rattle.sms_centre_memory.specs.RowsInKeep.{rows_in};
 ghost use Rattle.sms_centre_rules.specs.CentreEvent.{happened, recovered};
 ghost use Rattle.sms_centre_rules.specs.Draft.{Core, core_of};
 ghost use Rattle.sms_centre_rules.specs.SoundCore.{HasNumber};
@@ -32,7 +32,7 @@ pub struct PlayedCentre<'a> {
 }
 
 impl<'a> Model for PlayedCentre<'a> {
-    ghost use Rattle.sms_centre_memory.specs.Kept.{rows_in};
+    ghost use Rattle.sms_centre_memory.specs.RowsInKeep.{rows_in};
     ghost use Rattle.sms_heads.specs.Heads.{AreHandsets};
     ghost use Rattle.sms_played_centre.specs.Shown.{PlayedOf, Stands};
 

@@ -2,7 +2,7 @@
 ghost use Rattle.std.specs.Prelude.{◌≡◌, ◌++◌, IfOk, OnErr, OnOk};
 ghost use Rattle.sms_centre.specs.FromBelow.{IsPlanned, IsStanding, IsTold};
 ghost use Rattle.sms_centre.specs.Planning.{Fits};
-ghost use Rattle.sms_centre_memory.specs.Kept.{rows_in};
+ghost use Rattle.sms_centre_memory.specs.RowsInKeep.{rows_in};
 ghost use Rattle.sms_centre_rules.specs.CentreEvent.{happened};
 ghost use Rattle.sms_centre_rules.specs.Draft.{Core, core_of, rows_after};
 ghost use Rattle.sms_centre_rules.specs.SoundCore.{HasNumber, IsEvent};

@@ -2,7 +2,7 @@
 ghost use Rattle.std.specs.Prelude.{◌≡◌, ◌≤◌, length, IfOk, OnOk};
 ghost use Rattle.std.specs.Fn.{FnOnceReturnsAtMut};
 ghost use Rattle.sms_centre.specs.FromBelow.{AreNew, IsStanding};
-ghost use Rattle.sms_centre_memory.specs.Kept.{rows_in};
+ghost use Rattle.sms_centre_memory.specs.RowsInKeep.{rows_in};
 ghost use Rattle.sms_centre_rules.specs.CentreEvent.{moment_of as moment_of_rows, recovered, started};
 ghost use Rattle.sms_centre_rules.specs.Draft.{Core};
 ghost use Rattle.sms_centre_rules.specs.SoundRows.{IsSetup, IsSound, first_rows as first_rows_of};

@@ -6,7 +6,7 @@ ghost use Rattle.sms_handset_draft.specs.FirstRows.{first_rows};
 ghost use Rattle.sms_handset.specs.Planning.{Fits, Plans, adopted};
 ghost use Rattle.sms_handset.specs.SoundCore.{IsSoundCore};
 ghost use Rattle.sms_handset.specs.SoundRows.{IsSetup, IsSound};
-ghost use Rattle.sms_handset_memory.specs.Kept.{rows_in};
+ghost use Rattle.sms_handset_memory.specs.RowsInKeep.{rows_in};
 ghost use Rattle.sms_play.specs.HandsetSide.{happened};
 ghost use Rattle.sms_played_handset.specs.Meeting.{moment_after as moment_after_of};
 
@@ -35,7 +35,7 @@ impl Model for KeptHandset {
     ghost use Rattle.std.specs.Prelude.{◌≡◌};
     ghost use Rattle.sms_handset_draft.specs.Draft.{HandsetOf};
     ghost use Rattle.sms_handset.specs.SoundCore.{IsSoundCore};
-    ghost use Rattle.sms_handset_memory.specs.Kept.{rows_in};
+    ghost use Rattle.sms_handset_memory.specs.RowsInKeep.{rows_in};
 
     ghost Value = { HandsetOf };
 

@@ -1,7 +1,7 @@
 //! Columns.
 ghost use Rattle.std.specs.Prelude.{◌≡◌, IsTrue, map};
 ghost use Rattle.sms_listing.specs.Listing.{given as given_column, optional as optional_column};
-ghost use Rattle.sms_schema.specs.Wanted.{column_of};
+ghost use Rattle.sms_schema.specs.ColumnPlan.{column_of};
 
 use sqlite_schema::schema::{Column, Kind};
 use sqlite_value::keys::Collation;
@@ -9,7 +9,7 @@ use sqlite_value::value::Value;
 
 /// A column that a table is to have.
 #[derive(Clone, Copy)]
-pub struct Wanted {
+pub struct ColumnPlan {
     pub name: &'static str,
     pub kind: Kind,
     /// Whether it may hold NULL.
@@ -17,10 +17,10 @@ pub struct Wanted {
 }
 
 /// A column that holds no NULL.
-pub fn given(name: &'static str, kind: Kind) -> Wanted
+pub fn given(name: &'static str, kind: Kind) -> ColumnPlan
     ensures { column_of result ≡ given_column name.now kind }
 {
-    Wanted {
+    ColumnPlan {
         name,
         kind,
         is_optional: false,
@@ -28,38 +28,38 @@ pub fn given(name: &'static str, kind: Kind) -> Wanted
 }
 
 /// A column that may hold NULL.
-pub fn optional(name: &'static str, kind: Kind) -> Wanted
+pub fn optional(name: &'static str, kind: Kind) -> ColumnPlan
     ensures { column_of result ≡ optional_column name.now kind }
 {
-    Wanted {
+    ColumnPlan {
         name,
         kind,
         is_optional: true,
     }
 }
 
-fn is_column(column: &Column, wanted: &Wanted) -> bool
-    ensures { IsTrue result → column.now ≡ column_of wanted.now }
+fn is_column(column: &Column, plan: &ColumnPlan) -> bool
+    ensures { IsTrue result → column.now ≡ column_of plan.now }
 {
-    if column.name.as_slice() != wanted.name.as_bytes() || column.kind != wanted.kind {
+    if column.name.as_slice() != plan.name.as_bytes() || column.kind != plan.kind {
         return false;
     }
-    if !column.is_strict || column.not_null == wanted.is_optional {
+    if !column.is_strict || column.not_null == plan.is_optional {
         return false;
     }
     matches!(&column.default, Value::Null) && column.collation == Collation::Binary
 }
 
 /// Whether the columns are these, in this order.
-pub(crate) fn are_columns(columns: &[Column], wanted: &[Wanted]) -> bool
-    ensures { IsTrue result → columns.now ≡ map column_of wanted.now }
+pub(crate) fn are_columns(columns: &[Column], plan: &[ColumnPlan]) -> bool
+    ensures { IsTrue result → columns.now ≡ map column_of plan.now }
 {
-    if columns.len() != wanted.len() {
+    if columns.len() != plan.len() {
         return false;
     }
-    for i in 0..wanted.len() {
+    for i in 0..plan.len() {
         let column = &columns[i];
-        let wish = &wanted[i];
+        let wish = &plan[i];
         if !is_column(column, wish) {
             return false;
         }

@@ -2,9 +2,9 @@
 ghost use Rattle.std.specs.Prelude.{◌≡◌, IsTrue, true, [], ◌∷◌, map};
 ghost use Rattle.sqlite_value.specs.Keys.{plain};
 ghost use Rattle.sms_listing.specs.Listing.{keyed_table};
-ghost use Rattle.sms_schema.specs.Wanted.{column_of};
+ghost use Rattle.sms_schema.specs.ColumnPlan.{column_of};
 
-use crate::columns::{Wanted, are_columns};
+use crate::columns::{ColumnPlan, are_columns};
 use sqlite_items::Items;
 use sqlite_schema::code::Terms;
 use sqlite_schema::schema::{Index, Stamps, Table};
@@ -64,7 +64,7 @@ fn is_keyed(table: &Table, name: &str, tree: u32, key: &[usize]) -> bool
 }
 
 /// Whether it is the table of that name and tree, with these columns and this key: their places from 1.
-pub fn is_table(table: &Table, name: &str, tree: u32, columns: &[Wanted], key: &[usize]) -> bool
+pub fn is_table(table: &Table, name: &str, tree: u32, columns: &[ColumnPlan], key: &[usize]) -> bool
     ensures { IsTrue result → table.now ≡ keyed_table name.now tree (map column_of columns.now) key.now }
 {
     is_keyed(table, name, tree, key) && are_columns(table.columns.as_slice(), columns)

@@ -1,7 +1,8 @@
 -- What comes of a stimulus, by what befell it.
 use Rattle.std.proofs.Common.{◌≡◌, ◌⊎◌, ⊎_elim, refl, sym, subst, ap, ◌∙◌, List, Err}
 use Rattle.sms_centre.specs.FromBelow.{IsStanding, StandingOf}
-use Rattle.sms_service.specs.Stepping.{PlansStep}
+use Rattle.sms_keep.specs.declared.refusals.Refusals.{Refusals}
+use Rattle.sms_service.specs.Stepping.{OneRefused, PlansStep}
 use Rattle.sms_service.specs.declared.step_error.StepError.{StepError}
 use Rattle.sms_service.specs.declared.step_error.StepError.TheVariants.{NoMemory as NoPlan, NoBody, Store}
 use Rattle.sms_centre_rules.specs.CentreEvent.{happened}
@@ -20,6 +21,23 @@ use Rattle.sms_service.specs.declared.floor.Floor.{Floor}
 use Rattle.sms_service.specs.Seats.{Seats, nobody, seats_in}
 use Rattle.sms_service.specs.Serving.{GivesUp, IsServing, IsWaiting, Serves, Serving, followed_by, restarted}
 use Rattle.sms_service.specs.Telling.{failed_by, told_by}
+
+-- ---- nothing was refused
+
+pub was_done : (fate : Fate) (wanted : Type 0) → fate ≡ Done → fate ≡ Refused → wanted
+was_done fate wanted is e = absurd cc
+
+pub was_undone : (fate : Fate) (wanted : Type 0) → fate ≡ NoMemory → fate ≡ Refused → wanted
+was_undone fate wanted is e = absurd cc
+
+-- where a plan's failure is a refusal, the store refused a read
+pub was_refused : (held : Rows → Type 0) (closed : Type 0) (first last : Refusals) (s : Serving) (event : CentreEvent) (error : StepError) (fate : Fate) (seats before followed : Seats)
+    → GivesUp error fate seats before followed → PlansStep (held s.core.rows) closed first last (happened event s.core) (Err error) → fate ≡ Refused → OneRefused first last
+was_refused held closed first last s event NoPlan fate seats before followed gives left e = was_undone fate (OneRefused first last) gives.0 e
+was_refused held closed first last s event NoBody fate seats before followed gives left e = left.1
+was_refused held closed first last s event (Store error) fate seats before followed gives left e = absurd left
+
+-- ---- what is served
 
 module _ (held : Rows → Type 0) (closed : Type 0) (centre : StandingOf) (floor : Floor) (s : Serving) (stimulus : Stimulus Job) where
   pub with_fate : (asked : Asked) (fate wanted : Fate) (outs : List (Out Reply)) → fate ≡ wanted → Serves held closed centre floor asked s stimulus wanted outs → Serves held closed centre floor asked s stimulus fate outs
@@ -40,11 +58,11 @@ module _ (held : Rows → Type 0) (closed : Type 0) (centre : StandingOf) (floor
     is_refused is told rows seats = with_fate (Event event) fate Refused outs is (told, record { rows = rows; again = refl; seats = seats })
 
     -- nothing was planned
-    pub gave_up : (error : StepError) (before followed : Seats) → GivesUp error fate (seats_in floor) before followed → before ≡ s.seats → followed ≡ followed_by stimulus s.seats
-        → outs ≡ failed_by stimulus → IsStanding s.core centre → PlansStep (held s.core.rows) closed (happened event s.core) (Err error) → Serves held closed centre floor (Event event) s stimulus fate outs
-    gave_up NoPlan before followed gives same after told standing left = is_undone gives.0 told (record { rows = left; centre = standing; seats = gives.1 ∙ same })
-    gave_up NoBody before followed gives same after told standing left = is_refused gives.0 told left (gives.1 ∙ after)
-    gave_up (Store error) before followed gives same after told standing left = absurd left
+    pub gave_up : (first last : Refusals) (error : StepError) (before followed : Seats) → GivesUp error fate (seats_in floor) before followed → before ≡ s.seats → followed ≡ followed_by stimulus s.seats
+        → outs ≡ failed_by stimulus → IsStanding s.core centre → PlansStep (held s.core.rows) closed first last (happened event s.core) (Err error) → Serves held closed centre floor (Event event) s stimulus fate outs
+    gave_up first last NoPlan before followed gives same after told standing left = is_undone gives.0 told (record { rows = left.0; centre = standing; seats = gives.1 ∙ same })
+    gave_up first last NoBody before followed gives same after told standing left = is_refused gives.0 told left.0 (gives.1 ∙ after)
+    gave_up first last (Store error) before followed gives same after told standing left = absurd left
 
 -- a service that starts with the rows of a store, with nobody at any seat
 pub starts_as : {A : Type 0} (honest : A → Type 0) (holds : A → Rows → Type 0) (keep kept : A) (centre given : StandingOf) (floor empty : Floor) (rows : Rows)

@@ -1,5 +1,7 @@
 -- What a plan of the centre comes to in a step.
-use Rattle.std.proofs.Common.{◌≡◌, ◌⊎◌, inl, inr, ℕ, List, Option, Ok, Err, ap, ◌∙◌}
+use Rattle.std.proofs.Common.{◌≡◌, ◌⊎◌, inl, inr, ⊎_elim, ℕ, List, Option, Ok, Err, ap, ◌∙◌}
+use Rattle.sms_keep.specs.Refusing.{with_answer}
+use Rattle.sms_keep.specs.declared.refusals.Refusals.{Refusals}
 use Rattle.sms_centre_rules.specs.declared.event.CentreEvent.{CentreEvent}
 use Rattle.sms_centre_rules.specs.declared.plan_error.PlanError.{PlanError}
 use Rattle.sms_centre_rules.specs.declared.plan_error.PlanError.TheVariants.{NoBody, NoMemory}
@@ -10,7 +12,7 @@ use Rattle.sms_centre_rules.specs.Draft.{Core, Draft, core_of, rows_after}
 use Rattle.sms_centre_rules.specs.SoundRows.{IsSound}
 use Rattle.sms_centre_rules.proofs.Resting.{happened_rests}
 use Rattle.sms_bodies.specs.Storing.{GivesBodies}
-use Rattle.sms_centre.specs.FromBelow.{Goes, IsPlanned, Planned}
+use Rattle.sms_centre.specs.FromBelow.{Goes, IsPlanned, NoneRefused, Planned}
 use Rattle.sms_centre.specs.Planning.{PlannedOf}
 use Rattle.sms_centre.specs.Stored.{StoresRows}
 use Rattle.sms_service.specs.Stepping.{PlansStep, step_error_of}
@@ -19,12 +21,15 @@ use Rattle.sms_service.specs.Stepping.{PlansStep, step_error_of}
 pub stored : (body_of : Rows → ℕ → Option (List ℕ)) → GivesBodies body_of → (rows : Rows) → IsSound rows → StoresRows (body_of rows) rows
 stored body_of gives rows sound = record { parts = gives.parts rows sound; reports = gives.reports rows sound }
 
-pub goes_on : (d : Draft) (keys : List ℕ) (held closed : Type 0) (before refused : Option ℕ) (p : PlannedOf) → Goes (λ (x : PlannedOf). IsPlanned d x.plan) keys held closed before refused (Ok p) → PlansStep held closed d (Ok p)
-goes_on d keys held closed before refused p goes = (goes.0, goes.1.0)
+none_counted : (before after : Refusals) → NoneRefused before after → after.calls ≡ before.calls
+none_counted before after none = ⊎_elim (λ (e : after ≡ with_answer before). ap (λ (r : Refusals). r.calls) e) (λ (e : after ≡ before). ap (λ (r : Refusals). r.calls) e) none
 
-pub goes_back : (d : Draft) (keys : List ℕ) (held closed : Type 0) (before refused : Option ℕ) (e : PlanError) → Goes (λ (x : PlannedOf). IsPlanned d x.plan) keys held closed before refused (Err e) → PlansStep held closed d (Err (step_error_of e))
-goes_back d keys held closed before refused NoBody goes = goes.1
-goes_back d keys held closed before refused NoMemory goes = goes.0
+pub goes_on : (d : Draft) (keys : List ℕ) (held closed : Type 0) (before refused : Refusals) (p : PlannedOf) → Goes (λ (x : PlannedOf). IsPlanned d x.plan) keys held closed before refused (Ok p) → PlansStep held closed before refused d (Ok p)
+goes_on d keys held closed before refused p goes = (goes.0, (goes.1.0, none_counted before refused goes.1.1))
+
+pub goes_back : (d : Draft) (keys : List ℕ) (held closed : Type 0) (before refused : Refusals) (e : PlanError) → Goes (λ (x : PlannedOf). IsPlanned d x.plan) keys held closed before refused (Err e) → PlansStep held closed before refused d (Err (step_error_of e))
+goes_back d keys held closed before refused NoBody goes = (goes.1, ap (λ (r : Refusals). r.calls) goes.0.1.1)
+goes_back d keys held closed before refused NoMemory goes = (goes.0, none_counted before refused goes.1)
 
 -- the rows with the changes are those after the event
 pub rows_then : (event : CentreEvent) (c : Core) (p : Planned) → IsPlanned (happened event c) p → rows_after p.changes c.rows ≡ (core_of (happened event c)).rows

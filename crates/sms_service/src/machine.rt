@@ -7,7 +7,7 @@ ghost use Rattle.sms_centre_rules.specs.Draft.{Core, core_of};
 ghost use Rattle.sms_centre_rules.specs.SoundCore.{HasNumber, IsEvent};
 ghost use Rattle.sms_centre_rules.specs.declared.event.CentreEvent.{CentreEvent as CentreEventOf};
 ghost use Rattle.sms_centre_rules.specs.declared.rows.Rows.{Rows as RowsOf};
-ghost use Rattle.sms_service.specs.Stepping.{PlansStep, step_error_of as step_error_of_plan};
+ghost use Rattle.sms_service.specs.Stepping.{OneRefused, PlansStep, step_error_of as step_error_of_plan};
 
 use crate::step_error::StepError;
 use sms_bodies::{CentreStore, commit};
@@ -42,7 +42,7 @@ impl<K: CentreStore + Drop> CentreMachine<K> {
     /// What the event leads to. Nothing has changed yet, but that bodies were read. A handset that the event names has a number.
     pub fn plan(&mut self, event: &CentreEvent<'_>) -> Result<Planned, StepError>
         requires { HasNumber event.now }
-        ensures plan { K.is_honest self.new.keep → (c : Core) → IsStanding c self.old.centre → K.holds self.old.keep c.rows → PlansStep (K.holds self.new.keep c.rows) (K.is_closed self.new.keep) (happened event.now c) result }
+        ensures plan { K.is_honest self.new.keep → (c : Core) → IsStanding c self.old.centre → K.holds self.old.keep c.rows → PlansStep (K.holds self.new.keep c.rows) (K.is_closed self.new.keep) (K.refusals self.old.keep) (K.refusals self.new.keep) (happened event.now c) result }
         ensures fits { IfOk result (Fits self.new.centre) }
         ensures event { IsEvent event.now }
         ensures same { self.new.centre ≡ self.old.centre }
@@ -61,9 +61,10 @@ impl<K: CentreStore + Drop> CentreMachine<K> {
         // What leaves was committed, and the centre is that after the event.
         ensures committed { K.is_honest self.new.keep → (event : CentreEventOf) (c : Core) → IsEvent event → IsStanding c self.old.centre → IsPlanned (happened event c) planned.plan → K.holds self.old.keep c.rows
             → OnOk result (K.holds self.new.keep (core_of (happened event c)).rows × IsStanding (core_of (happened event c)) self.new.centre) }
-        // A refused commit leaves the centre, and the rows or a closed keep.
+        // A refused commit leaves the centre, and the rows or a closed keep: a call of the keep was refused, and one alone.
         ensures err { K.is_honest self.new.keep → (rows : RowsOf) → K.holds self.old.keep rows → OnErr result (K.holds self.new.keep rows ⊎ K.is_closed self.new.keep) }
         ensures same { OnErr result (self.new.centre ≡ self.old.centre) }
+        ensures refused { OnErr result (OneRefused (K.refusals self.old.keep) (K.refusals self.new.keep)) }
         // A stop inside the commit leaves the rows from before the event or those after it, if one before it leaves the rows.
         ensures stop { K.is_honest self.new.keep → (event : CentreEventOf) (c : Core) → IsPlanned (happened event c) planned.plan → K.holds self.old.keep c.rows → ((left : RowsOf) → K.may_leave self.old.keep left → left ≡ c.rows)
             → (left : RowsOf) → K.may_leave self.new.keep left → (left ≡ c.rows) ⊎ (left ≡ (core_of (happened event c)).rows) }

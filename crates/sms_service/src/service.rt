@@ -11,6 +11,8 @@ ghost use Rattle.sms_service.specs.declared.asking.Asked.TheVariants.{Event};
 ghost use Rattle.sms_service.specs.Asking.{IfEvent};
 ghost use Rattle.sms_service.specs.Room.{IsReady};
 ghost use Rattle.sms_service.specs.Seats.{nobody, seats_in};
+ghost use Rattle.sms_keeper.specs.declared.machine.Fate.TheVariants.{Refused};
+ghost use Rattle.sms_service.specs.Stepping.{OneRefused};
 ghost use Rattle.sms_service.specs.Serving.{GivesUp, IsServing, IsWaiting, Serves, Serving, after, followed_by, gives, restarted};
 ghost use Rattle.sms_service.specs.Telling.{failed_by, told_by};
 
@@ -51,6 +53,7 @@ fn is_carried_out<K: CentreStore + Drop, G: Gate>(
         → result ≡ true → K.holds machine.new.keep (core_of (happened event c)).rows × IsStanding (core_of (happened event c)) machine.new.centre }
     ensures err { K.is_honest machine.new.keep → (rows : RowsOf) → K.holds machine.old.keep rows → result ≡ false → K.holds machine.new.keep rows ⊎ K.is_closed machine.new.keep }
     ensures before { K.is_honest machine.new.keep → K.is_honest machine.old.keep }
+    ensures refused { result ≡ false → OneRefused (K.refusals machine.old.keep) (K.refusals machine.new.keep) }
 {
     match machine.carry_out(gate, planned) {
         Ok(_told) => true,
@@ -131,6 +134,7 @@ impl<K: CentreStore + Drop> Service<K> {
         requires same { outs.to_seats.items ≡ outs.to_history.items }
         ensures alike { result.to_seats ≡ result.to_history }
         ensures before { K.is_honest self.new.machine.keep → K.is_honest self.old.machine.keep }
+        ensures refused { result.fate ≡ Refused → OneRefused (K.refusals self.old.machine.keep) (K.refusals self.new.machine.keep) }
         ensures gives { K.is_honest self.new.machine.keep → (event : CentreEventOf) (s : Serving) → IsServing (K.holds self.old.machine.keep) self.old.machine.centre self.old.floor s → IsEvent event → IsPlanned (happened event s.core) planned.plan
             → outs.to_history.items ≡ told_by s.seats stimulus.now (happened event s.core)
             → Serves (K.holds self.new.machine.keep) (K.is_closed self.new.machine.keep) self.new.machine.centre self.new.floor (Event event) s stimulus.now result.fate result.to_history }
@@ -154,6 +158,7 @@ impl<K: CentreStore + Drop> Service<K> {
         requires room { IsReady self.old.floor }
         ensures alike { result.to_seats ≡ result.to_history }
         ensures before { K.is_honest self.new.machine.keep → K.is_honest self.old.machine.keep }
+        ensures refused { result.fate ≡ Refused → OneRefused (K.refusals self.old.machine.keep) (K.refusals self.new.machine.keep) }
         ensures gives { K.is_honest self.new.machine.keep → (event : CentreEventOf) (s : Serving) → IsServing (K.holds self.old.machine.keep) self.old.machine.centre self.old.floor s → IsEvent event → IsPlanned (happened event s.core) planned.plan
             → Serves (K.holds self.new.machine.keep) (K.is_closed self.new.machine.keep) self.new.machine.centre self.new.floor (Event event) s stimulus.now result.fate result.to_history }
     {
@@ -177,6 +182,7 @@ impl<K: CentreStore + Drop> Service<K> {
         requires room { IsReady self.old.floor }
         ensures alike { result.to_seats ≡ result.to_history }
         ensures before { K.is_honest self.new.machine.keep → K.is_honest self.old.machine.keep }
+        ensures refused { K.is_honest self.new.machine.keep → (s : Serving) → IsServing (K.holds self.old.machine.keep) self.old.machine.centre self.old.floor s → result.fate ≡ Refused → OneRefused (K.refusals self.old.machine.keep) (K.refusals self.new.machine.keep) }
         ensures gives { K.is_honest self.new.machine.keep → (s : Serving) → IsServing (K.holds self.old.machine.keep) self.old.machine.centre self.old.floor s
             → Serves (K.holds self.new.machine.keep) (K.is_closed self.new.machine.keep) self.new.machine.centre self.new.floor (Event event.now) s stimulus.now result.fate result.to_history }
     {
@@ -196,6 +202,7 @@ impl<K: CentreStore + Drop> Service<K> {
         requires { HasNumber event.now }
         ensures alike { result.to_seats ≡ result.to_history }
         ensures before { K.is_honest self.new.machine.keep → K.is_honest self.old.machine.keep }
+        ensures refused { K.is_honest self.new.machine.keep → (s : Serving) → IsServing (K.holds self.old.machine.keep) self.old.machine.centre self.old.floor s → result.fate ≡ Refused → OneRefused (K.refusals self.old.machine.keep) (K.refusals self.new.machine.keep) }
         ensures gives { K.is_honest self.new.machine.keep → (s : Serving) → IsServing (K.holds self.old.machine.keep) self.old.machine.centre self.old.floor s
             → Serves (K.holds self.new.machine.keep) (K.is_closed self.new.machine.keep) self.new.machine.centre self.new.floor (Event event.now) s stimulus.now result.fate result.to_history }
     {
@@ -215,6 +222,7 @@ impl<K: CentreStore + Drop> Service<K> {
         requires { IfEvent HasNumber asked.now }
         ensures alike { result.to_seats ≡ result.to_history }
         ensures before { K.is_honest self.new.machine.keep → K.is_honest self.old.machine.keep }
+        ensures refused { K.is_honest self.new.machine.keep → (s : Serving) → IsServing (K.holds self.old.machine.keep) self.old.machine.centre self.old.floor s → result.fate ≡ Refused → OneRefused (K.refusals self.old.machine.keep) (K.refusals self.new.machine.keep) }
         ensures gives { K.is_honest self.new.machine.keep → (s : Serving) → IsServing (K.holds self.old.machine.keep) self.old.machine.centre self.old.floor s
             → Serves (K.holds self.new.machine.keep) (K.is_closed self.new.machine.keep) self.new.machine.centre self.new.floor asked.now s stimulus.now result.fate result.to_history }
     {
@@ -246,6 +254,8 @@ impl<K: CentreStore + Drop> Machine<Job, Reply> for Service<K> {
     ghost is_honest = { λ m. K.is_honest m.machine.keep };
 
     ghost is_broken = { λ m. m.is_broken ≡ true };
+
+    ghost refuses = { λ before after. OneRefused (K.refusals before.machine.keep) (K.refusals after.machine.keep) };
 
     ghost gives = { λ s stimulus fate. gives s stimulus fate };
 

@@ -13,7 +13,7 @@ use Rattle.sms_reports.specs.declared.delivery.Delivery.{Delivery}
 use Rattle.sms_reports.specs.Reports.{report_key, reports_of}
 use Rattle.sms_desk.specs.Pending.{PendingOf, Tells}
 use Rattle.sms_desk.specs.Serving.{Next, is_ready, is_session, next_among, next_from, next_in, serving}
-use Rattle.sms_desk.specs.Kept.{AccountOf, receipts_at}
+use Rattle.sms_desk.specs.ReportsInMemory.{AccountOf, receipts_at}
 use Rattle.sms_desk.specs.declared.entry.ReceiptEntry.{ReceiptEntry}
 use Rattle.sms_desk.proofs.Amended.{from_first}
 use Rattle.sms_desk.proofs.Serving.{next_is, sends_end, sends_on}

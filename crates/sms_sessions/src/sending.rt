@@ -1,7 +1,7 @@
 //! Receipts go: the oldest first, each in the session that serves its account.
 ghost use Rattle.std.specs.Prelude.{◌≡◌, ◌≤◌, List, Some, IfOk, IfSome, OnOk, option_map};
 ghost use Rattle.sms_desk.specs.Entries.{receipt_key};
-ghost use Rattle.sms_desk.specs.Kept.{receipts_at};
+ghost use Rattle.sms_desk.specs.ReportsInMemory.{receipts_at};
 ghost use Rattle.sms_desk.specs.Pending.{Tells};
 ghost use Rattle.sms_desk.specs.Serving.{is_ready, is_session, next_among, next_from, next_in, serving};
 ghost use Rattle.sms_index.specs.First.{first_such};

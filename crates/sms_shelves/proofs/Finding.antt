@@ -22,8 +22,8 @@ use Rattle.sms_waiting.specs.Waiting.{if_due, next, preceding}
 use Rattle.sms_waiting.proofs.Mentions.{number_found, number_none}
 use Rattle.sms_shelves.specs.declared.placed.Placed.{Placed}
 use Rattle.sms_shelves.specs.declared.stop.Stop.{Stop}
-use Rattle.sms_shelves.specs.declared.stop.Wanted.{Wanted}
-use Rattle.sms_shelves.specs.declared.stop.Wanted.TheVariants.{Offer, Fire, FireUnmentioned, Awaited}
+use Rattle.sms_shelves.specs.declared.stop.Purpose.{Purpose}
+use Rattle.sms_shelves.specs.declared.stop.Purpose.TheVariants.{Offer, Fire, FireUnmentioned, Awaited}
 use Rattle.sms_shelves.specs.Keys.{stop_key}
 use Rattle.sms_shelves.specs.LineOrder.{came_in}
 use Rattle.sms_shelves.specs.Placing.{PendingOf, at, is_listed, new_placed, or_new, placed_of, under}
@@ -37,12 +37,12 @@ use Rattle.sms_shelves.proofs.StopOrder.{among_line_stop, among_mention, line_st
 -- ---- the stop at one shelf
 
 -- it is wanted, and stands in the order
-record IsStopAt (purpose : Wanted) (q : Placed) (x : Stop) : Type 0 where
+record IsStopAt (purpose : Purpose) (q : Placed) (x : Stop) : Type 0 where
   is : is_wanted purpose q.shelf.row q.shelf.line q.shelf.waiting ≡ true
   order : order_of purpose q ≡ Some x.order
   number : x.number ≡ q.shelf.line.handset
 
-stop_seen : (purpose : Wanted) (q : Placed) (x : Stop) → stop_at purpose q ≡ Some x → IsStopAt purpose q x
+stop_seen : (purpose : Purpose) (q : Placed) (x : Stop) → stop_at purpose q ≡ Some x → IsStopAt purpose q x
 stop_seen purpose q x e = ⊎_elim
     (λ (t : is_wanted purpose q.shelf.row q.shelf.line q.shelf.waiting ≡ true).
     by t (order_of purpose q) refl (sym (cond-true (is_wanted purpose q.shelf.row q.shelf.line q.shelf.waiting) (stop_in q (order_of purpose q)) None t) ∙ e))
@@ -57,13 +57,13 @@ stop_seen purpose q x e = ⊎_elim
         let one : record { order = n; number = q.shelf.line.handset } ≡ x = cc in
         record { is = t; order = is ∙ ap (λ (y : Stop). Some y.order) one; number = sym (ap (λ (y : Stop). y.number) one) }
 
-stop_made : (purpose : Wanted) (q : Placed) (x : Stop) → IsStopAt purpose q x → stop_at purpose q ≡ Some x
+stop_made : (purpose : Purpose) (q : Placed) (x : Stop) → IsStopAt purpose q x → stop_at purpose q ≡ Some x
 stop_made purpose q x s =
     cond-true (is_wanted purpose q.shelf.row q.shelf.line q.shelf.waiting) (stop_in q (order_of purpose q)) None s.is
     ∙ ap (λ (o : Option ℕ). stop_in q o) s.order ∙ ap (λ (n : List ℕ). Some (record { order = x.order; number = n })) (sym s.number)
 
 -- nothing was heard of it
-no_order : (purpose : Wanted) (number : List ℕ) → order_of purpose (new_placed number) ≡ None
+no_order : (purpose : Purpose) (number : List ℕ) → order_of purpose (new_placed number) ≡ None
 no_order (Offer now) number = refl
 no_order (Fire now) number = refl
 no_order (FireUnmentioned now) number = refl
@@ -93,7 +93,7 @@ active_awaited l a = ⊎_elim
     ∙ cond-true l.is_awaited true (is_timed l.link.links) a)
     (cases_Bool l.is_up)
 
-wanted_active : (purpose : Wanted) (row : Option HandsetRow) (l : Line) (ls : List Load) → is_wanted purpose row l ls ≡ true → is_active l ≡ true
+wanted_active : (purpose : Purpose) (row : Option HandsetRow) (l : Line) (ls : List Load) → is_wanted purpose row l ls ≡ true → is_active l ≡ true
 wanted_active (Offer now) row l ls e = active_up l (ready_up l (and_parts (is_ready l) (is_some (next now ls)) e).0)
 wanted_active (Fire now) row l ls e = active_timed l (due_is_timed now l.link.links e)
 wanted_active (FireUnmentioned now) row l ls e = active_timed l (due_is_timed now l.link.links (and_parts (is_none row) (is_due now l.link.links) e).1)
@@ -141,10 +141,10 @@ offer_later now moment q x later e =
 -- ---- the shelf of a stop
 
 -- the handset stands in the order, and the event concerns it
-abbrev IsFound : Wanted → Givings → Air → (List ℕ → List Load) → Stop → Type 0
+abbrev IsFound : Purpose → Givings → Air → (List ℕ → List Load) → Stop → Type 0
 IsFound purpose g air w x = Among x (stops_of purpose (handsets_of g) air.lines) × (is_stop purpose (handsets_of g) air.lines w x ≡ true)
 
-stops_rise : (purpose : Wanted) (g : Givings) (air : Air) (w : List ℕ → List Load) (p : PendingOf) → Shows g air w p → Rises stop_key (stops_of purpose (handsets_of g) air.lines)
+stops_rise : (purpose : Purpose) (g : Givings) (air : Air) (w : List ℕ → List Load) (p : PendingOf) → Shows g air w p → Rises stop_key (stops_of purpose (handsets_of g) air.lines)
 stops_rise (Offer now) g air w p shows = mentions_rise (handsets_of g) shows.sound.handset_keys
 stops_rise (Fire now) g air w p shows = mentions_rise (handsets_of g) shows.sound.handset_keys
 stops_rise (FireUnmentioned now) g air w p shows = lines_rise 1 air.lines
@@ -187,7 +187,7 @@ line_some number ls came k is e = ⊎_elim
         (cases_eq n 0)
 
 -- a shelf that shows a handset has a stop only in the handset's place
-stop_placed : (purpose : Wanted) (number : List ℕ) (hs : List HandsetRow) (rs : List ReferenceRow) (ls : List Load) (lines : List Line) (q : Placed) (k : ℕ)
+stop_placed : (purpose : Purpose) (number : List ℕ) (hs : List HandsetRow) (rs : List ReferenceRow) (ls : List Load) (lines : List Line) (q : Placed) (k : ℕ)
     → ShowsPlaced number hs rs ls lines q → order_of purpose q ≡ Some k → Among (record { order = k; number = number }) (stops_of purpose hs lines)
 stop_placed (Offer now) number hs rs ls lines q k shows e = place_some number hs q.shelf.row k (sym shows.shelf.row) e
 stop_placed (Fire now) number hs rs ls lines q k shows e = place_some number hs q.shelf.row k (sym shows.shelf.row) e
@@ -195,7 +195,7 @@ stop_placed (FireUnmentioned now) number hs rs ls lines q k shows e = line_some 
 stop_placed Awaited number hs rs ls lines q k shows e = line_some number lines q.came k (sym shows.came) e
 
 -- whether it is wanted is told by what it shows
-wanted_shown : (purpose : Wanted) (number : List ℕ) (g : Givings) (air : Air) (w : List ℕ → List Load) (q : Placed) → ShowsPlaced number (handsets_of g) (references_of g) (w number) air.lines q
+wanted_shown : (purpose : Purpose) (number : List ℕ) (g : Givings) (air : Air) (w : List ℕ → List Load) (q : Placed) → ShowsPlaced number (handsets_of g) (references_of g) (w number) air.lines q
     → is_wanted purpose q.shelf.row q.shelf.line q.shelf.waiting ≡ is_wanted purpose (handset_at number (handsets_of g)) (line_of number air.lines) (w number)
 wanted_shown purpose number g air w q shows =
     ap (λ (o : Option HandsetRow). is_wanted purpose o q.shelf.line q.shelf.waiting) shows.shelf.row
@@ -204,7 +204,7 @@ wanted_shown purpose number g air w q shows =
 
 -- ---- what is seen is found
 
-seen_found : (purpose : Wanted) (g : Givings) (air : Air) (w : List ℕ → List Load) (p : PendingOf) (x : Stop) (key : ℕ) (o : Option Placed) → Shows g air w p → at key p ≡ o → stop_if purpose o ≡ Some x
+seen_found : (purpose : Purpose) (g : Givings) (air : Air) (w : List ℕ → List Load) (p : PendingOf) (x : Stop) (key : ℕ) (o : Option Placed) → Shows g air w p → at key p ≡ o → stop_if purpose o ≡ Some x
     → IsFound purpose g air w x
 seen_found purpose g air w p x key None shows is e = absurd cc
 seen_found purpose g air w p x key (Some q) shows is e =
@@ -221,10 +221,10 @@ seen_found purpose g air w p x key (Some q) shows is e =
 
 -- ---- what is to be found has its shelf
 
-abbrev IsPlaced : Wanted → Placed → Stop → Type 0
+abbrev IsPlaced : Purpose → Placed → Stop → Type 0
 IsPlaced purpose q x = order_of purpose q ≡ Some x.order
 
-digits_stop : (purpose : Wanted) (g : Givings) (air : Air) (w : List ℕ → List Load) (p : PendingOf) (x : Stop) → Shows g air w p → Among x (stops_of purpose (handsets_of g) air.lines)
+digits_stop : (purpose : Purpose) (g : Givings) (air : Air) (w : List ℕ → List Load) (p : PendingOf) (x : Stop) → Shows g air w p → Among x (stops_of purpose (handsets_of g) air.lines)
     → AllDigits x.number × ((q : Placed) → ShowsPlaced x.number (handsets_of g) (references_of g) (w x.number) air.lines q → IsPlaced purpose q x)
 digits_stop purpose g air w p x shows m = by purpose m where
   mention : Among x (mention_stops (handsets_of g))
@@ -253,7 +253,7 @@ digits_stop purpose g air w p x shows m = by purpose m where
             cond-false (q.came == 0) None (Some q.came) some ∙ ap (λ (n : ℕ). Some n) came,
       )
 
-  by : (purpose : Wanted) → Among x (stops_of purpose (handsets_of g) air.lines)
+  by : (purpose : Purpose) → Among x (stops_of purpose (handsets_of g) air.lines)
       → AllDigits x.number × ((q : Placed) → ShowsPlaced x.number (handsets_of g) (references_of g) (w x.number) air.lines q → IsPlaced purpose q x)
   by (Offer now) m = mention m
   by (Fire now) m = mention m
@@ -263,7 +263,7 @@ digits_stop purpose g air w p x shows m = by purpose m where
 -- ---- where it is looked for
 
 -- a stop is among those that are looked at: touched, or in the index where it is looked through
-looked_at : (purpose : Wanted) (p : PendingOf) (key : ℕ) (x : Stop) (touched base : Option Placed) → Indexed p.base → ((s : Stop) → ((k : ℕ) × (stop_if purpose (at k p) ≡ Some s)) → stop_key x ≡ stop_key s → x ≡ s)
+looked_at : (purpose : Purpose) (p : PendingOf) (key : ℕ) (x : Stop) (touched base : Option Placed) → Indexed p.base → ((s : Stop) → ((k : ℕ) × (stop_if purpose (at k p) ≡ Some s)) → stop_key x ≡ stop_key s → x ≡ s)
     → under key p.touched ≡ touched → under key p.base.shelves ≡ base → stop_if purpose (option_or touched base) ≡ Some x → Among x (scanned purpose p)
 looked_at purpose p key x (Some q) base indexed alone there below e =
     let is : at key p ≡ Some q = ap (λ (o : Option Placed). option_or o (under key p.base.shelves)) there in
@@ -295,7 +295,7 @@ looked_at purpose p key x None (Some q) indexed alone there below e =
     some_there None i t = absurd cc
     some_there (Some v) i t = (v, i)
 
-    resting : (purpose : Wanted) (m : Option ℕ) → p.base.rested ≡ m → rests_for purpose m ≡ true → stop_at purpose q ≡ Some x → ⊥
+    resting : (purpose : Purpose) (m : Option ℕ) → p.base.rested ≡ m → rests_for purpose m ≡ true → stop_at purpose q ≡ Some x → ⊥
     resting (Offer now) None i t s = absurd cc
     resting (Offer now) (Some moment) i t s =
         let later = leb-true now moment t in
@@ -306,7 +306,7 @@ looked_at purpose p key x None (Some q) indexed alone there below e =
 
 -- ---- both
 
-scan_rises : (purpose : Wanted) (p : PendingOf) → Rises stop_key (scanned purpose p)
+scan_rises : (purpose : Purpose) (p : PendingOf) → Rises stop_key (scanned purpose p)
 scan_rises purpose p = by (rests_for purpose p.base.rested) where
   early : Rises stop_key (all_noted purpose p p.touched [])
   early = rises_noted purpose p p.touched [] tt
@@ -315,7 +315,7 @@ scan_rises purpose p = by (rests_for purpose p.base.rested) where
   by true = early
   by false = rises_noted purpose p p.base.index (all_noted purpose p p.touched []) early
 
-scan_seen : (purpose : Wanted) (p : PendingOf) (x : Stop) → Among x (scanned purpose p) → (key : ℕ) × (stop_if purpose (at key p) ≡ Some x)
+scan_seen : (purpose : Purpose) (p : PendingOf) (x : Stop) → Among x (scanned purpose p) → (key : ℕ) × (stop_if purpose (at key p) ≡ Some x)
 scan_seen purpose p x m = by (rests_for purpose p.base.rested) m where
   early : Among x (all_noted purpose p p.touched []) → (key : ℕ) × (stop_if purpose (at key p) ≡ Some x)
   early m = ⊎_elim
@@ -327,7 +327,7 @@ scan_seen purpose p x m = by (rests_for purpose p.base.rested) m where
   by true m = early m
   by false m = ⊎_elim early (λ (s : (key : ℕ) × (stop_if purpose (at key p) ≡ Some x)). s) (seen_noted purpose p x p.base.index (all_noted purpose p p.touched []) m)
 
-pub scan_finds : (purpose : Wanted) (g : Givings) (air : Air) (w : List ℕ → List Load) (p : PendingOf) → Shows g air w p → scanned purpose p ≡ found purpose (handsets_of g) air.lines w
+pub scan_finds : (purpose : Purpose) (g : Givings) (air : Air) (w : List ℕ → List Load) (p : PendingOf) → Shows g air w p → scanned purpose p ≡ found purpose (handsets_of g) air.lines w
 scan_finds purpose g air w p shows =
     let rises = stops_rise purpose g air w p shows in
     same_rows stop_key (scanned purpose p) (found purpose (handsets_of g) air.lines w) (scan_rises purpose p)
@@ -359,14 +359,14 @@ scan_finds purpose g air w p shows =
         cc
 
     -- the shelf of a stop is there
-    there : (purpose : Wanted) (number : List ℕ) (o : Option Placed) (x : Stop) → stop_at purpose (or_new number o) ≡ Some x → stop_if purpose o ≡ Some x
+    there : (purpose : Purpose) (number : List ℕ) (o : Option Placed) (x : Stop) → stop_at purpose (or_new number o) ≡ Some x → stop_if purpose o ≡ Some x
     there purpose number None x e =
         let s = stop_seen purpose (new_placed number) x e in
         let bad : None ≡ Some x.order = sym (no_order purpose number) ∙ s.order in absurd cc
     there purpose number (Some q) x e = e
 
 -- where nothing was found, nothing is left
-pub nothing_left : (purpose : Wanted) (p : PendingOf) (key : ℕ) (touched base : Option Placed) → Indexed p.base → scanned purpose p ≡ [] → under key p.touched ≡ touched → under key p.base.shelves ≡ base
+pub nothing_left : (purpose : Purpose) (p : PendingOf) (key : ℕ) (touched base : Option Placed) → Indexed p.base → scanned purpose p ≡ [] → under key p.touched ≡ touched → under key p.base.shelves ≡ base
     → stop_if purpose (option_or touched base) ≡ None
 nothing_left purpose p key (Some q) base indexed none there below =
     let is : at key p ≡ Some q = ap (λ (o : Option Placed). option_or o (under key p.base.shelves)) there in
@@ -384,7 +384,7 @@ nothing_left purpose p key None (Some q) indexed none there below = by (stop_at 
   some_there None i t = absurd cc
   some_there (Some v) i t = (v, i)
 
-  resting : (purpose : Wanted) (m : Option ℕ) (x : Stop) → p.base.rested ≡ m → rests_for purpose m ≡ true → stop_at purpose q ≡ Some x → ⊥
+  resting : (purpose : Purpose) (m : Option ℕ) (x : Stop) → p.base.rested ≡ m → rests_for purpose m ≡ true → stop_at purpose q ≡ Some x → ⊥
   resting (Offer now) None x i t s = absurd cc
   resting (Offer now) (Some moment) x i t s =
       let later = leb-true now moment t in

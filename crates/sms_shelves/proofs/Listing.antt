@@ -4,7 +4,7 @@ use Rattle.std.specs.Map.{lookup}
 use Rattle.std.proofs.lemmas.Bool.{cases_eq, ne_eqb}
 use Rattle.sms_shelves.specs.declared.placed.Placed.{Placed}
 use Rattle.sms_shelves.specs.declared.stop.Stop.{Stop}
-use Rattle.sms_shelves.specs.declared.stop.Wanted.TheVariants.{Offer}
+use Rattle.sms_shelves.specs.declared.stop.Purpose.TheVariants.{Offer}
 use Rattle.sms_shelves.specs.Placing.{PendingOf, is_listed, under}
 use Rattle.sms_shelves.specs.Stops.{scanned}
 

@@ -8,7 +8,7 @@ use Rattle.sms_table.specs.Table.{AllAbove, Rises, put, row_at}
 use Rattle.sms_table.proofs.Tables.{among_found, among_put, found_among, found_key, put_among, rises_put}
 use Rattle.sms_waiting.proofs.Alike.{rises_alike}
 use Rattle.sms_shelves.specs.declared.stop.Stop.{Stop}
-use Rattle.sms_shelves.specs.declared.stop.Wanted.{Wanted}
+use Rattle.sms_shelves.specs.declared.stop.Purpose.{Purpose}
 use Rattle.sms_shelves.specs.Keys.{stop_key}
 use Rattle.sms_shelves.specs.Placing.{PendingOf, at}
 use Rattle.sms_shelves.specs.Stops.{all_noted, noted, stop_if}
@@ -66,7 +66,7 @@ module _ {A : Type 0} (test : A → Bool) where
 
 -- ---- what is noted
 
-module _ (purpose : Wanted) (p : PendingOf) where
+module _ (purpose : Purpose) (p : PendingOf) where
   -- it is the stop at a shelf
   abbrev Seen : Stop → Type 0
   Seen x = (key : ℕ) × (stop_if purpose (at key p) ≡ Some x)
@@ -89,7 +89,7 @@ noted_empty : (o : Option Stop) (stops : List Stop) → noted o stops ≡ [] →
 noted_empty None stops e = (refl, e)
 noted_empty (Some s) stops e = absurd (never_empty s stops e)
 
-module _ {A : Type 0} (purpose : Wanted) (p : PendingOf) where
+module _ {A : Type 0} (purpose : Purpose) (p : PendingOf) where
   pub rises_noted : (es : List (ℕ × A)) (stops : List Stop) → Rises stop_key stops → Rises stop_key (all_noted purpose p es stops)
   rises_noted [] stops r = r
   rises_noted (e ∷ es) stops r = rises_noted es (noted (stop_if purpose (at e.0 p)) stops) (one (stop_if purpose (at e.0 p))) where

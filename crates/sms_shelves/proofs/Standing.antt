@@ -9,7 +9,7 @@ use Rattle.sms_waiting.specs.declared.reference.ReferenceRow.{ReferenceRow}
 use Rattle.sms_waiting.specs.Lines.{Air}
 use Rattle.sms_waiting.specs.References.{Givings, handsets_of, references_of}
 use Rattle.sms_shelves.specs.declared.placed.Placed.{Placed}
-use Rattle.sms_shelves.specs.declared.stop.Wanted.TheVariants.{Offer}
+use Rattle.sms_shelves.specs.declared.stop.Purpose.TheVariants.{Offer}
 use Rattle.sms_shelves.specs.Adopting.{IsAdopted, IsInstalled, IsSettled, SettledOf, relisted}
 use Rattle.sms_shelves.specs.Placing.{Continues, GroundOf, PendingOf, ShelvesOf, at, is_listed, or_new, pending_of, under}
 use Rattle.sms_shelves.specs.Shown.{Begins, Indexed, Shows, ShowsPlaced, Stands}

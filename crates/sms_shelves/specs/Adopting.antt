@@ -2,7 +2,7 @@
 use Rattle.std.specs.Prelude.{◌≡◌, ◌⊎◌, ℕ, ◌+◌, ◌≤◌, List, [], ◌∷◌, nat_eq, if◌then◌else◌, length, max, Bool, Option, Some, None}
 use Rattle.std.specs.Option.{option_or}
 use Rattle.sms_shelves.specs.declared.placed.Placed.{Placed}
-use Rattle.sms_shelves.specs.declared.stop.Wanted.TheVariants.{Offer}
+use Rattle.sms_shelves.specs.declared.stop.Purpose.TheVariants.{Offer}
 use Rattle.sms_shelves.specs.Placing.{GroundOf, PendingOf, ShelvesOf, is_listed, under}
 use Rattle.sms_shelves.specs.Stops.{is_active, scanned}
 

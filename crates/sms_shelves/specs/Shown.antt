@@ -13,7 +13,7 @@ use Rattle.sms_waiting.specs.References.{Givings, handsets_of, place_after, refe
 use Rattle.sms_waiting.specs.Shelved.{Shows as ShowsOne}
 use Rattle.sms_waiting.specs.SoundGivings.{SoundGivings}
 use Rattle.sms_shelves.specs.declared.placed.Placed.{Placed}
-use Rattle.sms_shelves.specs.declared.stop.Wanted.TheVariants.{Offer}
+use Rattle.sms_shelves.specs.declared.stop.Purpose.TheVariants.{Offer}
 use Rattle.sms_shelves.specs.LineOrder.{AreLines, came_in}
 use Rattle.sms_shelves.specs.Placing.{GroundOf, PendingOf, ShelvesOf, at, is_listed, pending_of, placed_of, under}
 use Rattle.sms_shelves.specs.Stops.{is_active, stop_at}

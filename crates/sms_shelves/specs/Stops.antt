@@ -11,8 +11,8 @@ use Rattle.sms_waiting.specs.References.{handset_at}
 use Rattle.sms_waiting.specs.Waiting.{next}
 use Rattle.sms_shelves.specs.declared.placed.Placed.{Placed}
 use Rattle.sms_shelves.specs.declared.stop.Stop.{Stop}
-use Rattle.sms_shelves.specs.declared.stop.Wanted.{Wanted}
-use Rattle.sms_shelves.specs.declared.stop.Wanted.TheVariants.{Offer, Fire, FireUnmentioned, Awaited}
+use Rattle.sms_shelves.specs.declared.stop.Purpose.{Purpose}
+use Rattle.sms_shelves.specs.declared.stop.Purpose.TheVariants.{Offer, Fire, FireUnmentioned, Awaited}
 use Rattle.sms_shelves.specs.Keys.{stop_key}
 use Rattle.sms_shelves.specs.Placing.{PendingOf, at}
 
@@ -22,7 +22,7 @@ use Rattle.sms_shelves.specs.Placing.{PendingOf, at}
 abbrev pub is_offered : ℕ → Line → List Load → Bool
 is_offered now line waiting = is_ready line && is_some (next now waiting)
 
-abbrev pub is_wanted : Wanted → Option HandsetRow → Line → List Load → Bool
+abbrev pub is_wanted : Purpose → Option HandsetRow → Line → List Load → Bool
 is_wanted (Offer now) row line waiting = is_offered now line waiting
 is_wanted (Fire now) row line waiting = is_due now line.link.links
 is_wanted (FireUnmentioned now) row line waiting = is_none row && is_due now line.link.links
@@ -39,7 +39,7 @@ abbrev pub line_stops : ℕ → List Line → List Stop
 line_stops place [] = []
 line_stops place (l ∷ ls) = record { order = place; number = l.handset } ∷ line_stops (place + 1) ls
 
-abbrev pub stops_of : Wanted → List HandsetRow → List Line → List Stop
+abbrev pub stops_of : Purpose → List HandsetRow → List Line → List Stop
 stops_of (Offer now) handsets lines = mention_stops handsets
 stops_of (Fire now) handsets lines = mention_stops handsets
 stops_of (FireUnmentioned now) handsets lines = line_stops 1 lines
@@ -47,11 +47,11 @@ stops_of Awaited handsets lines = line_stops 1 lines
 
 -- ---- those that it concerns
 
-abbrev pub is_stop : Wanted → List HandsetRow → List Line → (List ℕ → List Load) → Stop → Bool
-is_stop wanted handsets lines waiting s = is_wanted wanted (handset_at s.number handsets) (line_of s.number lines) (waiting s.number)
+abbrev pub is_stop : Purpose → List HandsetRow → List Line → (List ℕ → List Load) → Stop → Bool
+is_stop purpose handsets lines waiting s = is_wanted purpose (handset_at s.number handsets) (line_of s.number lines) (waiting s.number)
 
-abbrev pub found : Wanted → List HandsetRow → List Line → (List ℕ → List Load) → List Stop
-found wanted handsets lines waiting = filter (is_stop wanted handsets lines waiting) (stops_of wanted handsets lines)
+abbrev pub found : Purpose → List HandsetRow → List Line → (List ℕ → List Load) → List Stop
+found purpose handsets lines waiting = filter (is_stop purpose handsets lines waiting) (stops_of purpose handsets lines)
 
 -- ---- found by looking at few shelves
 
@@ -67,7 +67,7 @@ place_of (Some h) = Some h.place
 abbrev pub line_place : ℕ → Option ℕ
 line_place came = if came == 0 then None else Some came
 
-abbrev pub order_of : Wanted → Placed → Option ℕ
+abbrev pub order_of : Purpose → Placed → Option ℕ
 order_of (Offer now) placed = place_of placed.shelf.row
 order_of (Fire now) placed = place_of placed.shelf.row
 order_of (FireUnmentioned now) placed = line_place placed.came
@@ -78,11 +78,11 @@ stop_in placed None = None
 stop_in placed (Some order) = Some (record { order = order; number = placed.shelf.line.handset })
 
 -- the stop at a shelf, if it is one
-abbrev pub stop_at : Wanted → Placed → Option Stop
-stop_at wanted placed =
-    if is_wanted wanted placed.shelf.row placed.shelf.line placed.shelf.waiting then stop_in placed (order_of wanted placed) else None
+abbrev pub stop_at : Purpose → Placed → Option Stop
+stop_at purpose placed =
+    if is_wanted purpose placed.shelf.row placed.shelf.line placed.shelf.waiting then stop_in placed (order_of purpose placed) else None
 
-abbrev pub stop_if : Wanted → Option Placed → Option Stop
+abbrev pub stop_if : Purpose → Option Placed → Option Stop
 stop_if purpose None = None
 stop_if purpose (Some placed) = stop_at purpose placed
 
@@ -91,14 +91,14 @@ noted None stops = stops
 noted (Some s) stops = put stop_key s stops
 
 -- the stops among the shelves of these keys, beside others
-abbrev pub all_noted : {A : Type 0} → Wanted → PendingOf → List (ℕ × A) → List Stop → List Stop
+abbrev pub all_noted : {A : Type 0} → Purpose → PendingOf → List (ℕ × A) → List Stop → List Stop
 all_noted purpose p [] stops = stops
 all_noted purpose p (e ∷ es) stops = all_noted purpose p es (noted (stop_if purpose (at e.0 p)) stops)
 
 -- ---- a moment at which nothing was left to offer
 
 -- nothing is left at an earlier one either
-abbrev pub rests_for : Wanted → Option ℕ → Bool
+abbrev pub rests_for : Purpose → Option ℕ → Bool
 rests_for (Offer now) None = false
 rests_for (Offer now) (Some moment) = nat_le now moment
 rests_for (Fire now) moment = false
@@ -106,7 +106,7 @@ rests_for (FireUnmentioned now) moment = false
 rests_for Awaited moment = false
 
 -- the shelves that the event touched, and those of the index where they have to be looked at
-abbrev pub scanned : Wanted → PendingOf → List Stop
+abbrev pub scanned : Purpose → PendingOf → List Stop
 scanned purpose p =
     let touched : List Stop = all_noted purpose p p.touched [] in
     if rests_for purpose p.base.rested then touched else all_noted purpose p p.base.index touched

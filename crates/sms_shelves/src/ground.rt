@@ -8,7 +8,7 @@ ghost use Rattle.sms_shelves.specs.Stops.{is_active, rests_for};
 
 use crate::placed::Placed;
 use crate::spare::{SpareMap, make_spare, use_spare};
-use crate::stop::Wanted;
+use crate::stop::Purpose;
 use indexmap::IndexMap;
 use sms_base::Moment;
 use std::alloc::{AllocError, Global};
@@ -49,11 +49,11 @@ impl Ground {
     }
 
     /// Whether the event has to look at no shelf that it did not touch.
-    pub(crate) fn rests(&self, wanted: &Wanted) -> bool
-        ensures { result ≡ rests_for wanted.now self.now.rested }
+    pub(crate) fn rests(&self, purpose: &Purpose) -> bool
+        ensures { result ≡ rests_for purpose.now self.now.rested }
     {
-        match wanted {
-            Wanted::Offer(now) => match self.rested {
+        match purpose {
+            Purpose::Offer(now) => match self.rested {
                 Some(moment) => now.seconds() <= moment.seconds(),
                 None => false,
             },

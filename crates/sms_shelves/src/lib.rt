@@ -8,7 +8,7 @@
 //! for a centre that starts again: all stays but the lines.
 //!
 //! An event costs what it touches. What isn't a handset's own event (an offer, a timer, a line that comes up after a recovery) goes
-//! over handsets in a given order (`Wanted`, `Stop`), and finds those that it concerns by an index of the lines that are up, are
+//! over handsets in a given order (`Purpose`, `Stop`), and finds those that it concerns by an index of the lines that are up, are
 //! awaited or have a timer that runs; at a moment at which nothing was left to offer, by the shelves that the event touched alone.
 #![tactic(auto)]
 
@@ -28,4 +28,4 @@ mod unlined;
 pub use pending::PendingShelves;
 pub use settled::{SettledShelves, ShelvesPlan};
 pub use shelves::Shelves;
-pub use stop::{Stop, Wanted};
+pub use stop::{Purpose, Stop};

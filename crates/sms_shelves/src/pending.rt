@@ -13,7 +13,7 @@ ghost use Rattle.sms_shelves.specs.Stops.{all_noted, noted, scanned, stop_if};
 use crate::ground::Ground;
 use crate::placed::Placed;
 use crate::shelves::Shelves;
-use crate::stop::{Stop, Wanted};
+use crate::stop::{Purpose, Stop};
 use indexmap::IndexMap;
 use sms_base::{Digits, Listed};
 use sms_link::Outgoing;
@@ -146,44 +146,44 @@ impl PendingShelves {
     }
 
     // The stop at the shelf under that key is one of them, if it is a stop.
-    fn note(&self, wanted: &Wanted, key: u128, found: &mut Table<Stop>) -> Result<(), AllocError>
-        ensures { OnOk result (found.new.rows ≡ noted (stop_if wanted.now (at key self.now)) found.old.rows) }
+    fn note(&self, purpose: &Purpose, key: u128, found: &mut Table<Stop>) -> Result<(), AllocError>
+        ensures { OnOk result (found.new.rows ≡ noted (stop_if purpose.now (at key self.now)) found.old.rows) }
     {
         if let Some(placed) = self.placed(key) {
-            if let Some(stop) = placed.stop(wanted) {
+            if let Some(stop) = placed.stop(purpose) {
                 found.put(stop)?;
             }
         }
         Ok(())
     }
 
-    fn note_touched(&self, wanted: &Wanted, found: &mut Table<Stop>) -> Result<(), AllocError>
-        ensures { OnOk result (found.new.rows ≡ all_noted wanted.now self.now self.now.touched found.old.rows) }
+    fn note_touched(&self, purpose: &Purpose, found: &mut Table<Stop>) -> Result<(), AllocError>
+        ensures { OnOk result (found.new.rows ≡ all_noted purpose.now self.now self.now.touched found.old.rows) }
     {
         for (key, _) in self.touched.iter() {
-            self.note(wanted, *key, found)?;
+            self.note(purpose, *key, found)?;
         }
         Ok(())
     }
 
-    fn note_index(&self, wanted: &Wanted, found: &mut Table<Stop>) -> Result<(), AllocError>
-        ensures { OnOk result (found.new.rows ≡ all_noted wanted.now self.now self.now.base.index found.old.rows) }
+    fn note_index(&self, purpose: &Purpose, found: &mut Table<Stop>) -> Result<(), AllocError>
+        ensures { OnOk result (found.new.rows ≡ all_noted purpose.now self.now self.now.base.index found.old.rows) }
     {
         let ground: &Ground = &self.ground;
         for (key, _) in ground.index.iter() {
-            self.note(wanted, *key, found)?;
+            self.note(purpose, *key, found)?;
         }
         Ok(())
     }
 
     /// The stops among the shelves that the event touched and those of the index.
-    pub(crate) fn scan(&self, wanted: &Wanted) -> Result<Vec<Stop>, AllocError>
-        ensures { IfOk result (λ stops. stops.items ≡ scanned wanted.now self.now) }
+    pub(crate) fn scan(&self, purpose: &Purpose) -> Result<Vec<Stop>, AllocError>
+        ensures { IfOk result (λ stops. stops.items ≡ scanned purpose.now self.now) }
     {
         let mut found = Table::new(self.alloc);
-        self.note_touched(wanted, &mut found)?;
-        if !self.ground.rests(wanted) {
-            self.note_index(wanted, &mut found)?;
+        self.note_touched(purpose, &mut found)?;
+        if !self.ground.rests(purpose) {
+            self.note_index(purpose, &mut found)?;
         }
         Ok(found.into_vec())
     }

@@ -4,7 +4,7 @@ ghost use Rattle.sms_shelves.specs.Placing.{new_placed};
 ghost use Rattle.sms_shelves.specs.Stops.{is_active, is_wanted as is_wanted_of, order_of, stop_at};
 ghost use Rattle.sms_shelves.specs.Unlined.{unlined as unlined_of};
 
-use crate::stop::{Stop, Wanted};
+use crate::stop::{Purpose, Stop};
 use sms_base::Digits;
 use sms_shelf::Shelf;
 use std::alloc::{AllocError, Global};
@@ -62,28 +62,28 @@ impl Placed {
         line.link.is_timed()
     }
 
-    fn is_wanted(&self, wanted: &Wanted) -> bool
-        ensures { result ≡ is_wanted_of wanted.now self.now.shelf.row self.now.shelf.line self.now.shelf.waiting }
+    fn is_wanted(&self, purpose: &Purpose) -> bool
+        ensures { result ≡ is_wanted_of purpose.now self.now.shelf.row self.now.shelf.line self.now.shelf.waiting }
     {
         let line = self.shelf.line();
-        match wanted {
-            Wanted::Offer(now) => line.is_ready() && self.shelf.next(*now).is_some(),
-            Wanted::Fire(now) => line.link.is_due(*now),
-            Wanted::FireUnmentioned(now) => self.shelf.row().is_none() && line.link.is_due(*now),
-            Wanted::Awaited => line.is_awaited,
+        match purpose {
+            Purpose::Offer(now) => line.is_ready() && self.shelf.next(*now).is_some(),
+            Purpose::Fire(now) => line.link.is_due(*now),
+            Purpose::FireUnmentioned(now) => self.shelf.row().is_none() && line.link.is_due(*now),
+            Purpose::Awaited => line.is_awaited,
         }
     }
 
     // Its place in the order in which such an event goes over handsets.
-    fn order(&self, wanted: &Wanted) -> Option<u64>
-        ensures { result ≡ order_of wanted.now self.now }
+    fn order(&self, purpose: &Purpose) -> Option<u64>
+        ensures { result ≡ order_of purpose.now self.now }
     {
-        match wanted {
-            Wanted::Offer(_) | Wanted::Fire(_) => match self.shelf.row() {
+        match purpose {
+            Purpose::Offer(_) | Purpose::Fire(_) => match self.shelf.row() {
                 Some(row) => Some(u64::from(row.place)),
                 None => None,
             },
-            Wanted::FireUnmentioned(_) | Wanted::Awaited => match self.came {
+            Purpose::FireUnmentioned(_) | Purpose::Awaited => match self.came {
                 0 => None,
                 came => Some(came),
             },
@@ -91,13 +91,13 @@ impl Placed {
     }
 
     /// The stop at this shelf, if it is one.
-    pub(crate) fn stop(&self, wanted: &Wanted) -> Option<Stop>
-        ensures { result ≡ stop_at wanted.now self.now }
+    pub(crate) fn stop(&self, purpose: &Purpose) -> Option<Stop>
+        ensures { result ≡ stop_at purpose.now self.now }
     {
-        if !self.is_wanted(wanted) {
+        if !self.is_wanted(purpose) {
             return None;
         }
-        match self.order(wanted) {
+        match self.order(purpose) {
             Some(order) => Some(Stop {
                 order,
                 number: self.shelf.line().handset,

@@ -13,7 +13,7 @@ ghost use Rattle.sms_shelves.specs.Stops.{found};
 
 use crate::pending::PendingShelves;
 use crate::placed::Placed;
-use crate::stop::{Stop, Wanted};
+use crate::stop::{Purpose, Stop};
 use sms_base::{Carried, Digits, MessageId, Moment};
 use sms_table::Key;
 use sms_waiting::Load;
@@ -125,11 +125,11 @@ impl PendingShelves {
 
     /// The handsets that such an event concerns, in the order in which it goes over them. It looks at the shelves that
     /// were touched, and at those of the index where something may have become due since they were looked at last.
-    pub fn stops(&self, wanted: &Wanted) -> Result<Vec<Stop>, AllocError>
+    pub fn stops(&self, purpose: &Purpose) -> Result<Vec<Stop>, AllocError>
         ensures { IfOk result (λ stops. (g : Givings) (air : Air) (waiting : List ℕ → List LoadOf) → Shows g air waiting self.now
-            → stops.items ≡ found wanted.now (handsets_of g) air.lines waiting) }
+            → stops.items ≡ found purpose.now (handsets_of g) air.lines waiting) }
     {
-        let stops = self.scan(wanted)?;
+        let stops = self.scan(purpose)?;
         Ok(stops)
     }
 }

@@ -2,14 +2,14 @@
 ghost use Rattle.std.specs.Prelude.{◌≡◌, ℕ, [], Some, IfOk};
 ghost use Rattle.sms_shelves.specs.Adopting.{Fits, IsAdopted, IsSettled};
 ghost use Rattle.sms_shelves.specs.Stops.{scanned};
-ghost use Rattle.sms_shelves.specs.declared.stop.Wanted.TheVariants.{Offer};
+ghost use Rattle.sms_shelves.specs.declared.stop.Purpose.TheVariants.{Offer};
 
 use crate::ground::Ground;
 use crate::pending::PendingShelves;
 use crate::placed::Placed;
 use crate::shelves::Shelves;
 use crate::spare::SpareMap;
-use crate::stop::Wanted;
+use crate::stop::Purpose;
 use indexmap::IndexMap;
 use sms_base::{Listed, Moment};
 use sms_table::Change;
@@ -91,7 +91,7 @@ impl PendingShelves {
     fn rested_at(&self, now: Moment) -> Result<Option<Moment>, AllocError>
         ensures { IfOk result (λ rested. (moment : ℕ) → rested ≡ Some moment → scanned (Offer moment) self.now ≡ []) }
     {
-        let left = self.scan(&Wanted::Offer(now))?;
+        let left = self.scan(&Purpose::Offer(now))?;
         if left.is_empty() {
             Ok(Some(now))
         } else {

@@ -24,7 +24,7 @@ impl Row for Stop {
 
 /// Why an event stops at a handset.
 #[derive(Clone, Copy, Debug, PartialEq, Eq)]
-pub enum Wanted {
+pub enum Purpose {
     /// Its line is ready and something is due for it; of those that were given a reference.
     Offer(Moment),
     /// A timer of its line fires; of those that were given a reference.

@@ -2,8 +2,8 @@
 use Rattle.std.proofs.Common.{◌≡◌, ℕ, List, Bool, true, false, subst}
 use Rattle.sms_base.specs.Among.{Among}
 use Rattle.sms_claims.specs.Claims.{Holds as HoldsClaims}
-use Rattle.sms_desk.specs.Kept.{Shows as ShowsReports}
-use Rattle.sms_kept.specs.Kept.{Holds as HoldsMessages}
+use Rattle.sms_desk.specs.ReportsInMemory.{Shows as ShowsReports}
+use Rattle.sms_kept.specs.MessagesInMemory.{Holds as HoldsMessages}
 use Rattle.sms_messages.specs.declared.message.MessageRow.{MessageRow}
 use Rattle.sms_register.specs.Register.{Holds as HoldsRegister}
 use Rattle.sms_reports.specs.declared.report.ReportRow.{ReportRow}

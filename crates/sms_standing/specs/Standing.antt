@@ -1,8 +1,8 @@
 -- All that a centre keeps in memory between two events, and the centre of the definition that it is.
 use Rattle.std.specs.Prelude.{ℕ}
 use Rattle.sms_claims.specs.Claims.{ClaimsOf, Holds as HoldsClaims}
-use Rattle.sms_desk.specs.Kept.{ReportsOf}
-use Rattle.sms_kept.specs.Kept.{KeptOf as MessagesOf}
+use Rattle.sms_desk.specs.ReportsInMemory.{ReportsOf}
+use Rattle.sms_kept.specs.MessagesInMemory.{KeptOf as MessagesOf}
 use Rattle.sms_register.specs.declared.register.MadeReport.{MadeReport}
 use Rattle.sms_register.specs.Register.{Holds as HoldsRegister}
 use Rattle.sms_reports.specs.Receipts.{Session}

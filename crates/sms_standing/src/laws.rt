@@ -1,6 +1,6 @@
 //! Laws of the centre between two events, over its definitions alone.
 ghost use Rattle.sms_claims.specs.Claims.{Holds as HoldsClaims};
-ghost use Rattle.sms_kept.specs.Kept.{Holds as HoldsMessages};
+ghost use Rattle.sms_kept.specs.MessagesInMemory.{Holds as HoldsMessages};
 ghost use Rattle.sms_messages.specs.Messages.{message_key, part_key};
 ghost use Rattle.sms_sessions.specs.Awaited.{AreAwaited};
 ghost use Rattle.sms_table.specs.Table.{Rises};

@@ -2,8 +2,8 @@
 ghost use Rattle.std.specs.Prelude.{ℕ, List, IfOk};
 ghost use Rattle.sms_base.specs.Among.{Among};
 ghost use Rattle.sms_claims.specs.Claims.{Holds as HoldsClaims};
-ghost use Rattle.sms_desk.specs.Kept.{Shows as ShowsReports};
-ghost use Rattle.sms_kept.specs.Kept.{Holds as HoldsMessages};
+ghost use Rattle.sms_desk.specs.ReportsInMemory.{Shows as ShowsReports};
+ghost use Rattle.sms_kept.specs.MessagesInMemory.{Holds as HoldsMessages};
 ghost use Rattle.sms_register.specs.Register.{Holds as HoldsRegister};
 ghost use Rattle.sms_shelves.specs.Shown.{Stands};
 ghost use Rattle.sms_soundness.specs.RowsOf.{rows_of};

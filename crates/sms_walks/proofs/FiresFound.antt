@@ -16,7 +16,7 @@ use Rattle.sms_waiting.specs.SoundGivings.{SoundGivings}
 use Rattle.sms_waiting.proofs.LinesShown.{line_put_other}
 use Rattle.sms_waiting.proofs.Mentions.{cases_number, number_behind, number_here}
 use Rattle.sms_shelves.specs.declared.stop.Stop.{Stop}
-use Rattle.sms_shelves.specs.declared.stop.Wanted.TheVariants.{Fire, FireUnmentioned}
+use Rattle.sms_shelves.specs.declared.stop.Purpose.TheVariants.{Fire, FireUnmentioned}
 use Rattle.sms_shelves.specs.LineOrder.{AreLines}
 use Rattle.sms_shelves.specs.Stops.{is_stop, line_stops, mention_stops}
 use Rattle.sms_shelves.specs.Walks.{walk}

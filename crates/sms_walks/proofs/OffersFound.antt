@@ -11,7 +11,7 @@ use Rattle.sms_waiting.specs.Lines.{Air, is_ready, line_of, read_for, turned}
 use Rattle.sms_waiting.specs.SoundGivings.{SoundGivings}
 use Rattle.sms_waiting.specs.Waiting.{next, waits_beside}
 use Rattle.sms_waiting.proofs.LinesShown.{line_put_other}
-use Rattle.sms_shelves.specs.declared.stop.Wanted.TheVariants.{Offer}
+use Rattle.sms_shelves.specs.declared.stop.Purpose.TheVariants.{Offer}
 use Rattle.sms_shelves.specs.Stops.{is_offered, is_stop, mention_stops}
 use Rattle.sms_shelves.specs.Walks.{walk}
 use Rattle.sms_shelves.proofs.LinesCome.{line_handset}

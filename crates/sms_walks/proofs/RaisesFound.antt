@@ -6,7 +6,7 @@ use Rattle.sms_base.specs.Among.{Among}
 use Rattle.sms_waiting.specs.declared.line.Line.{Line}
 use Rattle.sms_waiting.specs.Lines.{line_of}
 use Rattle.sms_shelves.specs.declared.stop.Stop.{Stop}
-use Rattle.sms_shelves.specs.declared.stop.Wanted.TheVariants.{Awaited}
+use Rattle.sms_shelves.specs.declared.stop.Purpose.TheVariants.{Awaited}
 use Rattle.sms_shelves.specs.LineOrder.{AreLines}
 use Rattle.sms_shelves.specs.Stops.{line_stops}
 use Rattle.sms_shelves.specs.Walks.{walk}

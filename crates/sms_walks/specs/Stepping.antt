@@ -2,14 +2,14 @@
 use Rattle.std.specs.Prelude.{ℕ, List}
 use Rattle.sms_waiting.specs.Lines.{line_of}
 use Rattle.sms_shelves.specs.declared.stop.Stop.{Stop}
-use Rattle.sms_shelves.specs.declared.stop.Wanted.{Wanted}
+use Rattle.sms_shelves.specs.declared.stop.Purpose.{Purpose}
 use Rattle.sms_shelves.specs.Stops.{found}
 use Rattle.sms_centre_rules.specs.CentreEvent.{fire_line}
 use Rattle.sms_centre_rules.specs.Draft.{Draft, handsets_in, on_air, waiting_in}
 use Rattle.sms_centre_rules.specs.Offering.{offer_to}
 
 -- the handsets that it concerns as it begins
-abbrev pub stops_in : Wanted → Draft → List Stop
+abbrev pub stops_in : Purpose → Draft → List Stop
 stops_in wanted d = found wanted (handsets_in d.store) d.air.lines (λ (number : List ℕ). waiting_in number d.store)
 
 -- what waits for the handset is offered there

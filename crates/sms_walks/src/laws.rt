@@ -2,7 +2,7 @@
 ghost use Rattle.std.specs.Prelude.{◌≡◌, ◌+◌, ◌++◌, ◌∷◌, [], ℕ, List, None, Some, true};
 ghost use Rattle.std.specs.List.Sorted.{IsNonDecreasing};
 ghost use Rattle.sms_desk.specs.Entries.{status_key, status_until};
-ghost use Rattle.sms_desk.specs.Kept.{ReportsOf, Shows};
+ghost use Rattle.sms_desk.specs.ReportsInMemory.{ReportsOf, Shows};
 ghost use Rattle.sms_desk.specs.declared.entry.StatusEntry.{StatusEntry};
 ghost use Rattle.sms_index.specs.First.{first_such, is_past_from};
 ghost use Rattle.sms_messages.specs.Messages.{message_key};
@@ -13,7 +13,7 @@ ghost use Rattle.sms_waiting.specs.SoundGivings.{SoundGivings};
 ghost use Rattle.sms_shelves.specs.LineOrder.{AreLines};
 ghost use Rattle.sms_shelves.specs.Walks.{walk};
 ghost use Rattle.sms_shelves.specs.declared.stop.Stop.{Stop};
-ghost use Rattle.sms_shelves.specs.declared.stop.Wanted.TheVariants.{Awaited, Fire, FireUnmentioned, Offer};
+ghost use Rattle.sms_shelves.specs.declared.stop.Purpose.TheVariants.{Awaited, Fire, FireUnmentioned, Offer};
 ghost use Rattle.sms_centre_rules.specs.CentreEvent.{dropped, expired, fired, raise, raised};
 ghost use Rattle.sms_centre_rules.specs.Draft.{Draft, Store, handsets_in, messages_in, references_in, reports_in};
 ghost use Rattle.sms_centre_rules.specs.Offering.{offer};

@@ -1,7 +1,7 @@
 -- An event begins.
 use Rattle.std.proofs.Common.{◌≡◌, ℕ, [], None, refl, sym, ◌∙◌, ap, subst}
-use Rattle.sms_kept.specs.Kept.{KeptOf, PendingOf as MessagesOf, Shows as ShowsMessages, opened}
-use Rattle.sms_desk.specs.Kept.{ReportsOf}
+use Rattle.sms_kept.specs.MessagesInMemory.{KeptOf, PendingOf as MessagesOf, Shows as ShowsMessages, opened}
+use Rattle.sms_desk.specs.ReportsInMemory.{ReportsOf}
 use Rattle.sms_desk.specs.Pending.{PendingOf as ReportsNow, Tells}
 use Rattle.sms_reports.specs.Receipts.{Desk, Session}
 use Rattle.sms_shelves.specs.Placing.{PendingOf as ShelvesNow, ShelvesOf}

@@ -9,7 +9,7 @@ use Rattle.sms_messages.specs.declared.message.MessageRow.{MessageRow}
 use Rattle.sms_messages.specs.declared.part.PartRow.{PartRow}
 use Rattle.sms_messages.specs.declared.priority.PriorityRow.{PriorityRow}
 use Rattle.sms_messages.specs.Messages.{message_at, message_key, part_at, part_key, priority_in, priority_key, put_message, put_part, put_priority}
-use Rattle.sms_kept.specs.Kept.{PendingOf as MessagesOf, Shows as ShowsMessages}
+use Rattle.sms_kept.specs.MessagesInMemory.{PendingOf as MessagesOf, Shows as ShowsMessages}
 use Rattle.sms_reports.specs.declared.report.ReportRow.{ReportRow}
 use Rattle.sms_reports.specs.Reports.{report_of}
 use Rattle.sms_waiting.specs.Keys.{load_key}

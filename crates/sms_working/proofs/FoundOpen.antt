@@ -12,7 +12,7 @@ use Rattle.sms_messages.specs.declared.parts.PartEntry.{PartEntry}
 use Rattle.sms_messages.specs.Messages.{is_pending, message_at, part_at}
 use Rattle.sms_messages.specs.OpenParts.{is_open_part}
 use Rattle.sms_messages.specs.PartEntries.{part_entry}
-use Rattle.sms_kept.specs.Kept.{found_part}
+use Rattle.sms_kept.specs.MessagesInMemory.{found_part}
 use Rattle.sms_reports.specs.declared.report.ReportKind.{ReportKind}
 use Rattle.sms_reports.specs.declared.report.ReportKind.TheVariants.{Receipt, Status, Unsent}
 use Rattle.sms_reports.specs.declared.report.ReportRow.{ReportRow}

@@ -11,7 +11,7 @@ use Rattle.sms_messages.specs.declared.message.MessageRow.{MessageRow}
 use Rattle.sms_messages.specs.declared.part.PartRow.{PartRow}
 use Rattle.sms_messages.specs.Messages.{amend_part, ended, is_pending, message_at, message_key, part_key, part_reaching, put_message}
 use Rattle.sms_messages.specs.PartEntries.{Few}
-use Rattle.sms_kept.specs.Kept.{PendingOf as MessagesOf, Shows as ShowsMessages}
+use Rattle.sms_kept.specs.MessagesInMemory.{PendingOf as MessagesOf, Shows as ShowsMessages}
 use Rattle.sms_reports.specs.declared.report.ReportKind.{ReportKind}
 use Rattle.sms_reports.specs.declared.report.ReportKind.TheVariants.{Status}
 use Rattle.sms_reports.specs.declared.report.ReportRow.{ReportRow}

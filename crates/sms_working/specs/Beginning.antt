@@ -1,7 +1,7 @@
 -- What a centre keeps in memory between two events, and what it shows of the definition's.
 use Rattle.std.specs.Prelude.{◌≡◌, ℕ, List}
-use Rattle.sms_desk.specs.Kept.{ReportsOf, Shows as ShowsReports}
-use Rattle.sms_kept.specs.Kept.{Holds, KeptOf}
+use Rattle.sms_desk.specs.ReportsInMemory.{ReportsOf, Shows as ShowsReports}
+use Rattle.sms_kept.specs.MessagesInMemory.{Holds, KeptOf}
 use Rattle.sms_reports.specs.Receipts.{Session}
 use Rattle.sms_shelves.specs.Placing.{ShelvesOf}
 use Rattle.sms_shelves.specs.Shown.{Stands as StandsOnShelves}

@@ -3,7 +3,7 @@
 use Rattle.std.specs.Prelude.{◌≡◌, ℕ, ◌≤◌, List, Option}
 use Rattle.sms_base.specs.Among.{Among}
 use Rattle.sms_desk.specs.Pending.{PendingOf as ReportsOf, Tells}
-use Rattle.sms_kept.specs.Kept.{PendingOf as MessagesOf, Shows as ShowsMessages}
+use Rattle.sms_kept.specs.MessagesInMemory.{PendingOf as MessagesOf, Shows as ShowsMessages}
 use Rattle.sms_messages.specs.declared.part.PartRow.{PartRow}
 use Rattle.sms_reports.specs.Receipts.{Desk}
 use Rattle.sms_shelves.specs.Placing.{PendingOf as ShelvesOf}

@@ -9,15 +9,15 @@ ghost use Rattle.sms_working.specs.Working.{Shows, all_waiting};
 
 use crate::working::Working;
 use sms_desk::StatusEntry;
-use sms_shelves::{Stop, Wanted};
+use sms_shelves::{Purpose, Stop};
 use std::alloc::AllocError;
 
 impl<'a> Working<'a> {
     /// The handsets that such a walk concerns as the draft stands, in the order in which it goes over them.
-    pub fn stops(&self, wanted: &Wanted) -> Result<Vec<Stop>, AllocError>
-        ensures { (d : Draft) → Shows d self.now → IfOk result (λ stops. stops.items ≡ found wanted.now (handsets_in d.store) d.air.lines (all_waiting d.store)) }
+    pub fn stops(&self, purpose: &Purpose) -> Result<Vec<Stop>, AllocError>
+        ensures { (d : Draft) → Shows d self.now → IfOk result (λ stops. stops.items ≡ found purpose.now (handsets_in d.store) d.air.lines (all_waiting d.store)) }
     {
-        let stops = self.shelves.stops(wanted)?;
+        let stops = self.shelves.stops(purpose)?;
         Ok(stops)
     }
 

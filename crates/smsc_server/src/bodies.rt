@@ -1,5 +1,6 @@
 //! A store that holds nothing.
 ghost use Rattle.std.specs.Prelude.{None, ⊤};
+ghost use Rattle.sms_keep.specs.Refusing.{no_refusals};
 
 use sms_base::Octets;
 use sms_keep::{BodyKeep, Keep, KeepError};
@@ -24,6 +25,8 @@ impl Keep for NoBodies {
 
     ghost may_leave = { λ keep left. ⊤ };
 
+    ghost refusals = { λ keep. no_refusals };
+
     fn commit(&mut self, _changes: &()) -> Result<(), KeepError> {
         Ok(())
     }
@@ -35,8 +38,6 @@ impl Keep for NoBodies {
 
 impl BodyKeep for NoBodies {
     ghost body_of = { λ rows key. None };
-
-    ghost refused = { λ keep. None };
 
     fn body(&mut self, _key: Key) -> Result<Option<Octets>, KeepError> {
         Ok(None)

@@ -11,5 +11,5 @@ returns-in-Ok-clause-goes g c = λ honest d rows shows can holds. c.in-Ok.ensure
 
 pub returns-in-Err-clause-goes : goal.returns-in-Err-clause-goes
 returns-in-Err-clause-goes g c = λ honest d rows shows can holds.
-    subst (λ (s : Stop). Stops (Shows (follow d) c.follow.new.working) (λ (n : ℕ). ⊥) (follow d).air.read (g.B.Keep.holds c.follow.new.bodies rows) (g.B.Keep.is_closed c.follow.new.bodies) (g.B.BodyKeep.refused c.args.bodies.now) (g.B.BodyKeep.refused c.follow.new.bodies) (Err s)) (sym c.stop_of.ensures)
-    (goes_stops (Shows (follow d) c.follow.new.working) (λ (n : ℕ). ⊥) (follow d).air.read (g.B.Keep.holds c.follow.new.bodies rows) (g.B.Keep.is_closed c.follow.new.bodies) (g.B.BodyKeep.refused c.args.bodies.now) (g.B.BodyKeep.refused c.follow.new.bodies) c.in-Err.error (c.in-Err.ensures.goes honest d rows shows can holds))
+    subst (λ (s : Stop). Stops (Shows (follow d) c.follow.new.working) (λ (n : ℕ). ⊥) (follow d).air.read (g.B.Keep.holds c.follow.new.bodies rows) (g.B.Keep.is_closed c.follow.new.bodies) (g.B.Keep.refusals c.args.bodies.now) (g.B.Keep.refusals c.follow.new.bodies) (Err s)) (sym c.stop_of.ensures)
+    (goes_stops (Shows (follow d) c.follow.new.working) (λ (n : ℕ). ⊥) (follow d).air.read (g.B.Keep.holds c.follow.new.bodies rows) (g.B.Keep.is_closed c.follow.new.bodies) (g.B.Keep.refusals c.args.bodies.now) (g.B.Keep.refusals c.follow.new.bodies) c.in-Err.error (c.in-Err.ensures.goes honest d rows shows can holds))

@@ -11,10 +11,10 @@ pub returns-in-Ok-clause-goes : goal.returns-in-Ok-clause-goes
 returns-in-Ok-clause-goes g c = λ honest core rows shows can holds.
     let d = congested c.args.event.now c.args.reference core in
     let goes = c.in-Ok.ensures.goes honest core rows shows can holds in
-    goes_on (λ (p : PlannedOf). IsPlanned (follow d) p.plan) (follow d).air.read (g.B.Keep.holds c.run_anew.new.bodies rows) (g.B.Keep.is_closed c.run_anew.new.bodies) (g.B.BodyKeep.refused c.args.bodies.now) (g.B.BodyKeep.refused c.run_anew.new.bodies) c.plan.result (c.plan.ensures.plan (follow d) goes.0) goes.1.0 goes.1.1
+    goes_on (λ (p : PlannedOf). IsPlanned (follow d) p.plan) (follow d).air.read (g.B.Keep.holds c.run_anew.new.bodies rows) (g.B.Keep.is_closed c.run_anew.new.bodies) (g.B.Keep.refusals c.args.bodies.now) (g.B.Keep.refusals c.run_anew.new.bodies) c.plan.result (c.plan.ensures.plan (follow d) goes.0) goes.1.0 goes.1.1
 
 pub returns-in-Err-clause-goes : goal.returns-in-Err-clause-goes
 returns-in-Err-clause-goes g c = λ honest core rows shows can holds.
     let d = congested c.args.event.now c.args.reference core in
     goes_off (λ (u : Unit {0}). Shows (follow d) c.run_anew.new.working) (λ (p : PlannedOf). IsPlanned (follow d) p.plan) (follow d).air.read (follow d).air.read (g.B.Keep.holds c.run_anew.new.bodies rows) (g.B.Keep.is_closed c.run_anew.new.bodies)
-    (g.B.BodyKeep.refused c.args.bodies.now) (g.B.BodyKeep.refused c.args.bodies.now) (g.B.BodyKeep.refused c.run_anew.new.bodies) c.in-Err.error (inr refl) (λ k a. a) (c.in-Err.ensures.goes honest core rows shows can holds)
+    (g.B.Keep.refusals c.args.bodies.now) (g.B.Keep.refusals c.args.bodies.now) (g.B.Keep.refusals c.run_anew.new.bodies) c.in-Err.error (inr refl) (λ k a. a) (c.in-Err.ensures.goes honest core rows shows can holds)

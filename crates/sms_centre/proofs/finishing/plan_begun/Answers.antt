@@ -12,12 +12,12 @@ pub returns-in-Ok-clause-goes : goal.returns-in-Ok-clause-goes
 returns-in-Ok-clause-goes g c = λ honest core rows shows standing can holds.
     let d = acted c.args.event.now core in
     let goes = c.in-Ok.ensures.goes honest core rows shows standing can holds in
-    goes_on (λ (p : PlannedOf). IsPlanned (follow d) p.plan) (follow d).air.read (g.B.Keep.holds c.run.new.bodies rows) (g.B.Keep.is_closed c.run.new.bodies) (g.B.BodyKeep.refused c.args.bodies.now) (g.B.BodyKeep.refused c.run.new.bodies) c.plan.result (c.plan.ensures.plan (follow d) goes.0) goes.1.0 goes.1.1
+    goes_on (λ (p : PlannedOf). IsPlanned (follow d) p.plan) (follow d).air.read (g.B.Keep.holds c.run.new.bodies rows) (g.B.Keep.is_closed c.run.new.bodies) (g.B.Keep.refusals c.args.bodies.now) (g.B.Keep.refusals c.run.new.bodies) c.plan.result (c.plan.ensures.plan (follow d) goes.0) goes.1.0 goes.1.1
 
 pub returns-in-Err-clause-goes : goal.returns-in-Err-clause-goes
 returns-in-Err-clause-goes g c = λ honest core rows shows standing can holds.
     let d = acted c.args.event.now core in
     let back = c.stopped.ensures.before honest in
-    c.stopped.ensures.goes honest core rows (g.B.BodyKeep.refused c.args.bodies.now) standing can
-    (stops_alike (Shows (follow d) c.run.new.working) (Unit {0}) (λ (n : ℕ). d ≡ congested c.args.event.now n core) (λ (n : ℕ). d ≡ congested c.args.event.now n core) (follow d).air.read (g.B.Keep.holds c.run.new.bodies rows) (g.B.Keep.is_closed c.run.new.bodies) (g.B.BodyKeep.refused c.args.bodies.now) (g.B.BodyKeep.refused c.run.new.bodies) (Err c.in-Err.stop) (λ x. tt) (λ n x. x)
+    c.stopped.ensures.goes honest core rows (g.B.Keep.refusals c.args.bodies.now) standing can
+    (stops_alike (Shows (follow d) c.run.new.working) (Unit {0}) (λ (n : ℕ). d ≡ congested c.args.event.now n core) (λ (n : ℕ). d ≡ congested c.args.event.now n core) (follow d).air.read (g.B.Keep.holds c.run.new.bodies rows) (g.B.Keep.is_closed c.run.new.bodies) (g.B.Keep.refusals c.args.bodies.now) (g.B.Keep.refusals c.run.new.bodies) (Err c.in-Err.stop) (λ x. tt) (λ n x. x)
     (c.in-Err.ensures.goes back core rows shows standing can holds))

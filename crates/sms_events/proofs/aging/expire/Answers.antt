@@ -1,5 +1,5 @@
 use Rattle.std.proofs.Common.{◌≡◌, ℕ, List, OnOk, sym, ◌∙◌, ap, subst}
-use Rattle.sms_kept.specs.Kept.{past_ids}
+use Rattle.sms_kept.specs.MessagesInMemory.{past_ids}
 use Rattle.sms_walks.specs.Expiring.{expire_numbers}
 use Rattle.sms_centre_rules.specs.Draft.{Store, in_store, messages_in, parts_in}
 use Rattle.sms_working.specs.Working.{Shows}

@@ -1,6 +1,6 @@
 use Rattle.std.proofs.Common.{ℕ, List, OnOk, sym, ◌∙◌, ap, subst}
 use Rattle.sms_shelves.specs.declared.stop.Stop.{Stop}
-use Rattle.sms_shelves.specs.declared.stop.Wanted.TheVariants.{Fire, FireUnmentioned}
+use Rattle.sms_shelves.specs.declared.stop.Purpose.TheVariants.{Fire, FireUnmentioned}
 use Rattle.sms_shelves.specs.Walks.{walk}
 use Rattle.sms_centre_rules.specs.Draft.{Draft}
 use Rattle.sms_walks.specs.Stepping.{fire_on, stops_in}

@@ -1,6 +1,6 @@
 use Rattle.std.proofs.Common.{List, OnOk, sym, ◌∙◌, ap, subst}
 use Rattle.sms_shelves.specs.declared.stop.Stop.{Stop}
-use Rattle.sms_shelves.specs.declared.stop.Wanted.TheVariants.{Awaited}
+use Rattle.sms_shelves.specs.declared.stop.Purpose.TheVariants.{Awaited}
 use Rattle.sms_shelves.specs.Walks.{walk}
 use Rattle.sms_centre_rules.specs.CentreEvent.{raise}
 use Rattle.sms_centre_rules.specs.Draft.{Draft}

@@ -10,4 +10,4 @@ returns-in-Ok-clause-goes g c = λ honest d rows shows can holds. c.offer.ensure
 pub returns-in-Err-clause-goes : goal.returns-in-Err-clause-goes
 returns-in-Err-clause-goes g c = λ honest d rows shows can holds.
     short_off (λ (u : Unit {0}). Shows (send d) c.send_receipts.new.working) (λ (u : Unit {0}). Shows (follow d) c.send_receipts.new.working) (follow d).air.read
-    (g.B.Keep.holds c.args.bodies.now rows) (g.B.Keep.is_closed c.args.bodies.now) (g.B.BodyKeep.refused c.args.bodies.now) c.in-Err.error (c.in-Err.ensures d shows) holds
+    (g.B.Keep.holds c.args.bodies.now rows) (g.B.Keep.is_closed c.args.bodies.now) (g.B.Keep.refusals c.args.bodies.now) c.in-Err.error (c.in-Err.ensures d shows) holds

@@ -1,6 +1,6 @@
 use Rattle.std.proofs.Common.{ℕ, List, ◌∙◌, sym, ap, subst, refl, inr}
 use Rattle.sms_shelves.specs.declared.stop.Stop.{Stop}
-use Rattle.sms_shelves.specs.declared.stop.Wanted.TheVariants.{Offer}
+use Rattle.sms_shelves.specs.declared.stop.Purpose.TheVariants.{Offer}
 use Rattle.sms_shelves.specs.Walks.{walk}
 use Rattle.sms_centre_rules.specs.Draft.{Draft}
 use Rattle.sms_walks.specs.Stepping.{offer_at, stops_in}
@@ -13,7 +13,7 @@ use Rattle.sms_offering.proofs.following.offer.Goals as goal
 pub returns-in-Ok-clause-goes : goal.returns-in-Ok-clause-goes
 returns-in-Ok-clause-goes g c = λ honest d rows shows can holds.
     let found = c.as_slice.ensures.value ∙ c.in-Ok.ensures d shows ∙ ap (λ (n : ℕ). stops_in (Offer n) d) (c.now-now.ensures d shows) in
-    subst (λ (x : Draft). Goes (λ (u : Unit {0}). Shows x c.offer_each.new.working) x.air.read (g.B.Keep.holds c.offer_each.new.bodies rows) (g.B.Keep.is_closed c.offer_each.new.bodies) (g.B.BodyKeep.refused c.args.bodies.now) (g.B.BodyKeep.refused c.offer_each.new.bodies) c.offer_each.result)
+    subst (λ (x : Draft). Goes (λ (u : Unit {0}). Shows x c.offer_each.new.working) x.air.read (g.B.Keep.holds c.offer_each.new.bodies rows) (g.B.Keep.is_closed c.offer_each.new.bodies) (g.B.Keep.refusals c.args.bodies.now) (g.B.Keep.refusals c.offer_each.new.bodies) c.offer_each.result)
     (ap (λ (ss : List Stop). walk offer_at ss d) found ∙ sym (c.offers_go_to_those_found.ensures d shows.stands.held.givings))
     (c.offer_each.ensures.goes honest d rows shows (subst (λ (ss : List Stop). AreDigits ss) (sym found) (found_digits d.store.moment d c.args.working.now shows)) can holds)
 

@@ -19,10 +19,10 @@ loop-stop-preserved g c = (
       let i = c.loop-stop.stop-index in
       let left = c.loop-stop.invariant.1 (c.in-Ok.ensures.before honest) d rows shows digits can holds in
       let split = drop_one c.args.stops.now i c.stop-item.result (omega (arith, c.loop-stop-test.true)) c.stop-item.is in
-      let goes = c.in-Ok.ensures.goes honest left.draft rows left.shows (first_digits d c.args.stops.now (drop i c.args.stops.now) c.stop-item.result (drop (i + 1) c.args.stops.now) (g.B.Keep.holds c.loop-stop.bodies rows) (g.B.BodyKeep.refused c.args.bodies.now) (g.B.BodyKeep.refused c.loop-stop.bodies) c.loop-stop.working split left)
+      let goes = c.in-Ok.ensures.goes honest left.draft rows left.shows (first_digits d c.args.stops.now (drop i c.args.stops.now) c.stop-item.result (drop (i + 1) c.args.stops.now) (g.B.Keep.holds c.loop-stop.bodies rows) (g.B.Keep.refusals c.args.bodies.now) (g.B.Keep.refusals c.loop-stop.bodies) c.loop-stop.working split left)
       (subst (λ (s : Store). CanOffer g.B.BodyKeep.body_of rows c.args.centre.now s) (sym left.same) can) left.holds in
       left_next d c.args.stops.now (drop i c.args.stops.now) c.stop-item.result (drop (i + 1) c.args.stops.now) (g.B.Keep.holds c.loop-stop.bodies rows) (g.B.Keep.holds c.offer_at.new.bodies rows)
-      (g.B.BodyKeep.refused c.args.bodies.now) (g.B.BodyKeep.refused c.loop-stop.bodies) (g.B.BodyKeep.refused c.offer_at.new.bodies) c.loop-stop.working c.offer_at.new.working split left goes.0 goes.1.0 goes.1.1,
+      (g.B.Keep.refusals c.args.bodies.now) (g.B.Keep.refusals c.loop-stop.bodies) (g.B.Keep.refusals c.offer_at.new.bodies) c.loop-stop.working c.offer_at.new.working split left goes.0 goes.1.0 goes.1.1,
 )
 
 pub returns-in-Err-clause-goes : goal.returns-in-Err-clause-goes
@@ -30,8 +30,8 @@ returns-in-Err-clause-goes g c = λ honest d rows shows digits can holds.
     let i = c.loop-stop.stop-index in
     let left = c.loop-stop.invariant.1 (c.in-Err.ensures.before honest) d rows shows digits can holds in
     let split = drop_one c.args.stops.now i c.stop-item.result (omega (arith, c.loop-stop-test.true)) c.stop-item.is in
-    let own = first_digits d c.args.stops.now (drop i c.args.stops.now) c.stop-item.result (drop (i + 1) c.args.stops.now) (g.B.Keep.holds c.loop-stop.bodies rows) (g.B.BodyKeep.refused c.args.bodies.now) (g.B.BodyKeep.refused c.loop-stop.bodies) c.loop-stop.working split left in
+    let own = first_digits d c.args.stops.now (drop i c.args.stops.now) c.stop-item.result (drop (i + 1) c.args.stops.now) (g.B.Keep.holds c.loop-stop.bodies rows) (g.B.Keep.refusals c.args.bodies.now) (g.B.Keep.refusals c.loop-stop.bodies) c.loop-stop.working split left in
     let goes = c.in-Err.ensures.goes honest left.draft rows left.shows own (subst (λ (s : Store). CanOffer g.B.BodyKeep.body_of rows c.args.centre.now s) (sym left.same) can) left.holds in
     goes_off (λ (u : Unit {0}). Shows (offer_at c.stop-item.result.number left.draft) c.offer_at.new.working) (λ (u : Unit {0}). Shows (walk offer_at c.args.stops.now d) c.offer_at.new.working)
-    (offer_at c.stop-item.result.number left.draft).air.read (walk offer_at c.args.stops.now d).air.read (g.B.Keep.holds c.offer_at.new.bodies rows) (g.B.Keep.is_closed c.offer_at.new.bodies) (g.B.BodyKeep.refused c.args.bodies.now) (g.B.BodyKeep.refused c.loop-stop.bodies) (g.B.BodyKeep.refused c.offer_at.new.bodies) c.in-Err.error left.none
-    (λ k a. reads_last d c.args.stops.now (drop i c.args.stops.now) c.stop-item.result (drop (i + 1) c.args.stops.now) (g.B.Keep.holds c.loop-stop.bodies rows) (g.B.BodyKeep.refused c.args.bodies.now) (g.B.BodyKeep.refused c.loop-stop.bodies) c.loop-stop.working k split left a) goes
+    (offer_at c.stop-item.result.number left.draft).air.read (walk offer_at c.args.stops.now d).air.read (g.B.Keep.holds c.offer_at.new.bodies rows) (g.B.Keep.is_closed c.offer_at.new.bodies) (g.B.Keep.refusals c.args.bodies.now) (g.B.Keep.refusals c.loop-stop.bodies) (g.B.Keep.refusals c.offer_at.new.bodies) c.in-Err.error left.none
+    (λ k a. reads_last d c.args.stops.now (drop i c.args.stops.now) c.stop-item.result (drop (i + 1) c.args.stops.now) (g.B.Keep.holds c.loop-stop.bodies rows) (g.B.Keep.refusals c.args.bodies.now) (g.B.Keep.refusals c.loop-stop.bodies) c.loop-stop.working k split left a) goes

@@ -9,4 +9,4 @@ abbrev pub invariant-loop-stop : goal.invariant-loop-stop
 invariant-loop-stop g l =
     (g.B.Keep.is_honest l.bodies → g.B.Keep.is_honest l.initial.bodies)
     × (g.B.Keep.is_honest l.bodies → (d : Draft) (rows : _) → Shows d l.initial.working → AreDigits l.stops → CanOffer g.B.BodyKeep.body_of rows l.centre d.store → g.B.Keep.holds l.initial.bodies rows
-    → IsLeft d l.stops (drop l.stop-index l.stops) (g.B.Keep.holds l.bodies rows) (g.B.BodyKeep.refused l.initial.bodies) (g.B.BodyKeep.refused l.bodies) l.working)
+    → IsLeft d l.stops (drop l.stop-index l.stops) (g.B.Keep.holds l.bodies rows) (g.B.Keep.refusals l.initial.bodies) (g.B.Keep.refusals l.bodies) l.working)

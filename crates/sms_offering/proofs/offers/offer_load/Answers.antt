@@ -18,7 +18,7 @@ returns-in-Ok-clause-goes g c = λ honest d rows shows can among holds.
     let is = centre_is s.setup.centre can.sound.setup.centre in
     let unit : data_down l.reference c.args.centre.now (telling c.has_more-more.result c.in-Ok.tpdu) ≡ unit_of l c.has_more-more.result s =
     ap (λ (o : List ℕ). data_down l.reference o (telling c.has_more-more.result c.in-Ok.tpdu)) can.centre_is ∙ ap (λ (o : List ℕ). data_down l.reference (relay_address s.setup.centre) (telling c.has_more-more.result o)) t.0 in
-    goes_on (λ (u : Unit {0}). Shows (offer_next c.args.handset (Some l) d) c.send.new.working) (read_of l s d.air).read (g.B.Keep.holds c.tpdu.new.bodies rows) (g.B.Keep.is_closed c.tpdu.new.bodies) (g.B.BodyKeep.refused c.args.bodies.now) (g.B.BodyKeep.refused c.tpdu.new.bodies) c.send.result
+    goes_on (λ (u : Unit {0}). Shows (offer_next c.args.handset (Some l) d) c.send.new.working) (read_of l s d.air).read (g.B.Keep.holds c.tpdu.new.bodies rows) (g.B.Keep.is_closed c.tpdu.new.bodies) (g.B.Keep.refusals c.args.bodies.now) (g.B.Keep.refusals c.tpdu.new.bodies) c.send.result
     (unless_alike (λ (u : Unit {0}). Shows (offer_in c.args.handset (data_down l.reference c.args.centre.now (telling c.has_more-more.result c.in-Ok.tpdu)) l d) c.send.new.working)
     (λ (u : Unit {0}). Shows (offer_next c.args.handset (Some l) d) c.send.new.working) c.send.result
     (λ u shown. subst (λ (o : List ℕ). Shows (offer_in c.args.handset o l d) c.send.new.working) (unit ∙ ap (λ (b : Bool). unit_of l b s) (c.has_more-more.ensures d shows)) shown)
@@ -29,5 +29,5 @@ returns-in-Ok-clause-goes g c = λ honest d rows shows can among holds.
 pub returns-in-Err-clause-goes : goal.returns-in-Err-clause-goes
 returns-in-Err-clause-goes g c = λ honest d rows shows can among holds.
     goes_off (λ octets. octets ≡ tpdu_of c.args.load.now d.store) (λ (u : Unit {0}). Shows (offer_next c.args.handset (Some c.args.load.now) d) c.args.working.now) (read_of c.args.load.now d.store d.air).read (read_of c.args.load.now d.store d.air).read
-    (g.B.Keep.holds c.tpdu.new.bodies rows) (g.B.Keep.is_closed c.tpdu.new.bodies) (g.B.BodyKeep.refused c.args.bodies.now) (g.B.BodyKeep.refused c.args.bodies.now) (g.B.BodyKeep.refused c.tpdu.new.bodies) c.in-Err.error (inr refl) (λ k a. a)
+    (g.B.Keep.holds c.tpdu.new.bodies rows) (g.B.Keep.is_closed c.tpdu.new.bodies) (g.B.Keep.refusals c.args.bodies.now) (g.B.Keep.refusals c.args.bodies.now) (g.B.Keep.refusals c.tpdu.new.bodies) c.in-Err.error (inr refl) (λ k a. a)
     (c.in-Err.ensures.goes honest d rows c.args.centre.now c.args.handset shows among can holds)

@@ -10,7 +10,7 @@ use Rattle.sms_offering.proofs.offers.offer_to.Goals as goal
 pub returns-in-Some-clause-goes : goal.returns-in-Some-clause-goes
 returns-in-Some-clause-goes g c = λ honest d rows shows can holds.
     let next = c.in-Some.ensures d shows in
-    subst (λ (x : Draft). Goes (λ (u : Unit {0}). Shows x c.offer_load.new.working) x.air.read (g.B.Keep.holds c.offer_load.new.bodies rows) (g.B.Keep.is_closed c.offer_load.new.bodies) (g.B.BodyKeep.refused c.args.bodies.now) (g.B.BodyKeep.refused c.offer_load.new.bodies) c.offer_load.result)
+    subst (λ (x : Draft). Goes (λ (u : Unit {0}). Shows x c.offer_load.new.working) x.air.read (g.B.Keep.holds c.offer_load.new.bodies rows) (g.B.Keep.is_closed c.offer_load.new.bodies) (g.B.Keep.refusals c.args.bodies.now) (g.B.Keep.refusals c.offer_load.new.bodies) c.offer_load.result)
     (sym (offer_is_next c.args.handset d ∙ ap (λ (o : Option Load). offer_next c.args.handset o d) (sym next)))
     (c.offer_load.ensures.goes honest d rows shows can (next_among c.args.handset c.in-Some.load d (sym next)) holds)
 

@@ -1,5 +1,5 @@
 use Rattle.std.proofs.Common.{◌∙◌, ap}
-use Rattle.sms_centre_memory.specs.Kept.{rows_in}
+use Rattle.sms_centre_memory.specs.RowsInKeep.{rows_in}
 use Rattle.sms_centre_rules.specs.CentreEvent.{happened}
 use Rattle.sms_centre_rules.specs.Draft.{core_of, rows_after}
 use Rattle.sms_centre_rules.specs.declared.rows.Changes.{Changes}

@@ -1,5 +1,5 @@
 use Rattle.std.proofs.Common.{sym, subst}
-use Rattle.sms_centre_memory.specs.Kept.{rows_in}
+use Rattle.sms_centre_memory.specs.RowsInKeep.{rows_in}
 use Rattle.sms_centre_rules.specs.CentreEvent.{happened}
 use Rattle.sms_centre.specs.FromBelow.{IsTold, Told}
 use Rattle.sms_played_centre.specs.Shown.{IsPlayed}

@@ -1,6 +1,6 @@
 use Rattle.std.proofs.Common.{◌≡◌}
 use Rattle.sms_centre.specs.Stored.{StoresRows}
-use Rattle.sms_centre_memory.specs.Kept.{rows_in}
+use Rattle.sms_centre_memory.specs.RowsInKeep.{rows_in}
 use Rattle.sms_centre_rows.specs.OctetsAt.{octets_at}
 use Rattle.sms_centre_rules.specs.CentreEvent.{happened}
 use Rattle.sms_centre_rules.specs.SoundRows.{IsSound}

@@ -1,5 +1,5 @@
 use Rattle.std.proofs.Common.{◌≤◌, ◌∙◌, ap, length, List, sym, subst}
-use Rattle.sms_centre_memory.specs.Kept.{rows_in}
+use Rattle.sms_centre_memory.specs.RowsInKeep.{rows_in}
 use Rattle.sms_centre_rules.specs.CentreEvent.{moment_of, recovered}
 use Rattle.sms_centre_rules.specs.declared.rows.Rows.{Rows}
 use Rattle.sms_centre.specs.FromBelow.{IsStanding, StandingOf}

@@ -1,5 +1,5 @@
 use Rattle.std.proofs.Common.{◌∙◌, ap}
-use Rattle.sms_centre_memory.specs.Kept.{rows_in}
+use Rattle.sms_centre_memory.specs.RowsInKeep.{rows_in}
 use Rattle.sms_centre_memory.specs.declared.keep.MemoryKeep.{MemoryKeep}
 use Rattle.sms_centre_rules.specs.SoundRows.{first_rows}
 use Rattle.sms_centre_rules.specs.declared.setup.Setup.{Setup}

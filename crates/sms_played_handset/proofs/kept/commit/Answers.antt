@@ -1,5 +1,5 @@
 use Rattle.std.proofs.Common.{refl}
-use Rattle.sms_handset_memory.specs.Kept.{rows_in}
+use Rattle.sms_handset_memory.specs.RowsInKeep.{rows_in}
 use Rattle.sms_played_handset.proofs.kept.commit.Goals as goal
 
 pub returns-in-Ok-clause-ok : goal.returns-in-Ok-clause-ok

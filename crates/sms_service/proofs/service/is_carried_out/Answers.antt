@@ -5,3 +5,6 @@ returns-in-Ok-clause-committed g c = λ honest event core is standing plan holds
 
 pub returns-in-Err-clause-err : goal.returns-in-Err-clause-err
 returns-in-Err-clause-err g c = λ honest rows holds no. c.in-Err.ensures.err honest rows holds
+
+pub returns-in-Err-clause-refused : goal.returns-in-Err-clause-refused
+returns-in-Err-clause-refused g c = λ no. c.in-Err.ensures.refused

@@ -1,5 +1,5 @@
 use Rattle.std.proofs.Common.{◌≡◌, List, take}
-use Rattle.sms_kept.specs.Kept.{Holds}
+use Rattle.sms_kept.specs.MessagesInMemory.{Holds}
 use Rattle.sms_messages.specs.declared.message.MessageRow.{MessageRow}
 use Rattle.sms_messages.specs.declared.part.PartRow.{PartRow}
 use Rattle.sms_register.specs.Register.{Holds as HoldsRegister}

@@ -13,7 +13,7 @@ pub returns-clause-goes : goal.returns-clause-goes
 returns-clause-goes g c = λ honest core rows standing stores holds.
     let event = c.args.event.now in
     let was : IsStanding core c.self.inside.standing = subst (λ (s : StandingOf). IsStanding core s) (sym c.self.view_is) standing in
-    subst (λ (d : Draft). Goes (λ p. IsPlanned d p.plan) d.air.read (g.B.Keep.holds c.plan_of.new.bodies rows) (g.B.Keep.is_closed c.plan_of.new.bodies) (g.B.BodyKeep.refused c.args.bodies.now) (g.B.BodyKeep.refused c.plan_of.new.bodies) c.plan_of.result)
+    subst (λ (d : Draft). Goes (λ p. IsPlanned d p.plan) d.air.read (g.B.Keep.holds c.plan_of.new.bodies rows) (g.B.Keep.is_closed c.plan_of.new.bodies) (g.B.Keep.refusals c.args.bodies.now) (g.B.Keep.refusals c.plan_of.new.bodies) c.plan_of.result)
     (sym (acts_then_follows event core))
     (c.plan_of.ensures.goes honest core rows was
     (subst (λ (o : List ℕ). CanOffer g.B.BodyKeep.body_of rows o (acted event core).store) (sym c.as_slice.ensures)
@@ -21,5 +21,5 @@ returns-clause-goes g c = λ honest core rows standing stores holds.
 
 pub returns-clause-definition : goal.returns-clause-definition
 returns-clause-definition g c = λ honest core rows standing stores holds none.
-    plans_event c.args.event.now core (g.B.Keep.holds c.plan_of.new.bodies rows) (g.B.Keep.is_closed c.plan_of.new.bodies) (g.B.BodyKeep.refused c.args.bodies.now) (g.B.BodyKeep.refused c.plan_of.new.bodies) c.plan_of.result
+    plans_event c.args.event.now core (g.B.Keep.holds c.plan_of.new.bodies rows) (g.B.Keep.is_closed c.plan_of.new.bodies) (g.B.Keep.refusals c.args.bodies.now) (g.B.Keep.refusals c.plan_of.new.bodies) c.plan_of.result
     (returns-clause-goes g c honest core rows standing stores holds) none

@@ -1,5 +1,5 @@
 use Rattle.std.proofs.Common.{[], subst, sym, ◌≤◌, ℕ, arith}
-use Rattle.sms_desk.specs.Kept.{receipts_at}
+use Rattle.sms_desk.specs.ReportsInMemory.{receipts_at}
 use Rattle.sms_desk.proofs.PutOff.{IsOnTheWay, comes_behind, way_begins, way_ends, way_on}
 use Rattle.sms_desk.proofs.pending.PendingReports.hasten_receipts.Goals as goal
 

@@ -2,7 +2,7 @@ use Rattle.std.proofs.Common.{◌≡◌, ◌∷◌, ◌++◌, ◌+◌, [], ℕ, 
 use Rattle.std.proofs.Math.Seq.{split_at, take-suc}
 use Rattle.sms_reports.specs.declared.report.ReportRow.{ReportRow}
 use Rattle.sms_reports.specs.SoundReports.{SoundReports}
-use Rattle.sms_desk.specs.Kept.{Shows}
+use Rattle.sms_desk.specs.ReportsInMemory.{Shows}
 use Rattle.sms_desk.proofs.Rebuilding.{read_on}
 use Rattle.sms_desk.proofs.reports.Reports.recover.Goals as goal
 

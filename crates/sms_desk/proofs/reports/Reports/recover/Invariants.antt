@@ -1,5 +1,5 @@
 use Rattle.std.proofs.Common.{take}
-use Rattle.sms_desk.specs.Kept.{Shows}
+use Rattle.sms_desk.specs.ReportsInMemory.{Shows}
 use Rattle.sms_desk.proofs.reports.Reports.recover.Given as goal
 
 abbrev pub invariant-loop-row : goal.invariant-loop-row

@@ -3,7 +3,7 @@ use Rattle.sms_messages.specs.declared.message.MessageRow.{MessageRow}
 use Rattle.sms_messages.specs.Messages.{message_key}
 use Rattle.sms_table.specs.declared.change.Change.{Change}
 use Rattle.sms_table.specs.Table.{all_applied}
-use Rattle.sms_kept.specs.Kept.{Holds}
+use Rattle.sms_kept.specs.MessagesInMemory.{Holds}
 use Rattle.sms_kept.proofs.Holding.{holds_taken}
 use Rattle.sms_kept.proofs.kept.KeptMessages.adopt.Goals as goal
 

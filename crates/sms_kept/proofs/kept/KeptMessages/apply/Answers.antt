@@ -4,7 +4,7 @@ use Rattle.sms_table.specs.declared.change.Change.{Change}
 use Rattle.sms_table.specs.declared.change.Change.TheVariants.{Remove}
 use Rattle.sms_table.specs.Table.{RowsInMemory}
 use Rattle.sms_kept.specs.declared.message_entry.MessageEntry.{MessageEntry}
-use Rattle.sms_kept.specs.Kept.{Applies, KeptOf}
+use Rattle.sms_kept.specs.MessagesInMemory.{Applies, KeptOf}
 use Rattle.sms_kept.proofs.Holding.{takes_out}
 use Rattle.sms_kept.proofs.kept.KeptMessages.apply.Goals as goal
 

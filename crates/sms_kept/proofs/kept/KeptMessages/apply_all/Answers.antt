@@ -3,7 +3,7 @@ use Rattle.sms_messages.specs.declared.message.MessageRow.{MessageRow}
 use Rattle.sms_messages.specs.Messages.{message_key}
 use Rattle.sms_table.specs.declared.change.Change.{Change}
 use Rattle.sms_table.specs.Table.{all_applied, applied}
-use Rattle.sms_kept.specs.Kept.{HasRoomFor}
+use Rattle.sms_kept.specs.MessagesInMemory.{HasRoomFor}
 use Rattle.std.specs.Vec.Iter.{into_iter_items}
 use Rattle.sms_kept.proofs.kept.KeptMessages.apply_all.Goals as goal
 

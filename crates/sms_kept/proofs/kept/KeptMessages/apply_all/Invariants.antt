@@ -4,7 +4,7 @@ use Rattle.sms_messages.specs.declared.message.MessageRow.{MessageRow}
 use Rattle.sms_messages.specs.declared.part.PartRow.{PartRow}
 use Rattle.sms_messages.specs.Messages.{message_key}
 use Rattle.sms_table.specs.Table.{all_applied}
-use Rattle.sms_kept.specs.Kept.{HasRoomFor, Holds}
+use Rattle.sms_kept.specs.MessagesInMemory.{HasRoomFor, Holds}
 use Rattle.sms_kept.proofs.kept.KeptMessages.apply_all.Given as goal
 
 abbrev pub invariant-loop-change : goal.invariant-loop-change

@@ -1,5 +1,5 @@
 use Rattle.std.proofs.Common.{sym, subst}
-use Rattle.sms_kept.specs.Kept.{Holds, IsStaleFirst, KeptOf}
+use Rattle.sms_kept.specs.MessagesInMemory.{Holds, IsStaleFirst, KeptOf}
 use Rattle.sms_kept.proofs.Holding.{holds_stale}
 use Rattle.sms_kept.proofs.kept.KeptMessages.drop_stale_first.Goals as goal
 

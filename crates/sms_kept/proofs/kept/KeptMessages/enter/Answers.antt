@@ -1,5 +1,5 @@
 use Rattle.std.proofs.Common.{sym, subst}
-use Rattle.sms_kept.specs.Kept.{KeptOf, Notes}
+use Rattle.sms_kept.specs.MessagesInMemory.{KeptOf, Notes}
 use Rattle.sms_kept.proofs.Holding.{holds_put}
 use Rattle.sms_kept.proofs.kept.KeptMessages.enter.Goals as goal
 

@@ -1,6 +1,6 @@
 use Rattle.std.proofs.Common.{◌≡◌, ◌++◌, List, None, drop}
 use Rattle.sms_kept.specs.Expiring.{confirmed}
-use Rattle.sms_kept.specs.Kept.{Holds}
+use Rattle.sms_kept.specs.MessagesInMemory.{Holds}
 use Rattle.sms_messages.specs.declared.message.MessageRow.{MessageRow}
 use Rattle.sms_messages.specs.declared.part.PartRow.{PartRow}
 use Rattle.sms_kept.proofs.kept.KeptMessages.expired.Given as goal

@@ -2,7 +2,7 @@ use Rattle.std.proofs.Common.{◌≡◌, ℕ, Option, IfOk, sym, ◌∙◌, ap, 
 use Rattle.sms_messages.specs.declared.message.MessageRow.{MessageRow}
 use Rattle.sms_table.specs.Table.{row_at}
 use Rattle.sms_kept.specs.Entries.{message_entry_key}
-use Rattle.sms_kept.specs.Kept.{Holds, KeptOf}
+use Rattle.sms_kept.specs.MessagesInMemory.{Holds, KeptOf}
 use Rattle.sms_kept.proofs.Holding.{found_none, found_row}
 use Rattle.sms_kept.proofs.kept.KeptMessages.find.Goals as goal
 

@@ -2,7 +2,7 @@ use Rattle.std.proofs.Common.{◌≡◌, true, true≢false, Some, sym, ◌∙�
 use Rattle.sms_expiry.specs.declared.deadline.Deadline.{Deadline}
 use Rattle.sms_expiry.specs.Deadlines.{first_of}
 use Rattle.sms_messages.specs.Messages.{message_at}
-use Rattle.sms_kept.specs.Kept.{KeptOf, is_ended}
+use Rattle.sms_kept.specs.MessagesInMemory.{KeptOf, is_ended}
 use Rattle.sms_kept.proofs.kept.KeptMessages.has_stale_first.Goals as goal
 
 pub returns-in-Some : goal.returns-in-Some

@@ -2,7 +2,7 @@ use Rattle.std.proofs.Common.{ℕ, Option, sym, ◌∙◌, ap, subst}
 use Rattle.sms_messages.specs.declared.message.MessageRow.{MessageRow}
 use Rattle.sms_table.specs.Table.{row_at}
 use Rattle.sms_kept.specs.Entries.{message_entry_key}
-use Rattle.sms_kept.specs.Kept.{Holds, KeptOf, is_ended}
+use Rattle.sms_kept.specs.MessagesInMemory.{Holds, KeptOf, is_ended}
 use Rattle.sms_kept.proofs.Holding.{ended_some, found_none, told}
 use Rattle.sms_kept.proofs.kept.KeptMessages.is_stale.Goals as goal
 

@@ -1,6 +1,6 @@
 use Rattle.std.proofs.Common.{List, length, ◌∙◌, ap}
 use Rattle.sms_kept.specs.declared.message_entry.MessageEntry.{MessageEntry}
-use Rattle.sms_kept.specs.Kept.{KeptOf}
+use Rattle.sms_kept.specs.MessagesInMemory.{KeptOf}
 use Rattle.sms_kept.proofs.Holding.{as_many}
 use Rattle.sms_kept.proofs.kept.KeptMessages.len.Goals as goal
 

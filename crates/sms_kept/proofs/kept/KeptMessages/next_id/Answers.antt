@@ -1,7 +1,7 @@
 use Rattle.std.proofs.Common.{◌≡◌, ℕ, ◌+◌, ◌-◌, List, length, Some, None, sym, ◌∙◌, ap, subst}
 use Rattle.std.specs.List.{slice_get}
 use Rattle.sms_kept.specs.declared.message_entry.MessageEntry.{MessageEntry}
-use Rattle.sms_kept.specs.Kept.{Holds, KeptOf}
+use Rattle.sms_kept.specs.MessagesInMemory.{Holds, KeptOf}
 use Rattle.sms_kept.proofs.Holding.{next_none, next_some}
 use Rattle.sms_kept.proofs.kept.KeptMessages.next_id.Goals as goal
 

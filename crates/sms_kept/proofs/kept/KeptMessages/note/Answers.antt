@@ -1,5 +1,5 @@
 use Rattle.std.proofs.Common.{subst}
-use Rattle.sms_kept.specs.Kept.{KeptOf, Notes}
+use Rattle.sms_kept.specs.MessagesInMemory.{KeptOf, Notes}
 use Rattle.sms_kept.proofs.Holding.{noted}
 use Rattle.sms_kept.proofs.kept.KeptMessages.note.Goals as goal
 

@@ -3,7 +3,7 @@ use Rattle.sms_messages.specs.declared.parts.PartEntry.{PartEntry}
 use Rattle.sms_messages.specs.PartEntries.{entry_key}
 use Rattle.sms_messages.proofs.Entries.{rises_entries}
 use Rattle.sms_table.specs.Table.{RowsInMemory, Rises}
-use Rattle.sms_kept.specs.Kept.{Holds, KeptOf}
+use Rattle.sms_kept.specs.MessagesInMemory.{Holds, KeptOf}
 use Rattle.sms_kept.proofs.Recovering.{holds_parts}
 use Rattle.sms_kept.proofs.kept.KeptMessages.of_parts.Goals as goal
 

@@ -3,7 +3,7 @@ use Rattle.std.specs.Prelude.{nat_le}
 use Rattle.std.proofs.lemmas.Bool.{and_parts}
 use Rattle.std.proofs.lemmas.Bool.Decides.{nat_tests}
 use Rattle.sms_messages.specs.Messages.{is_pending}
-use Rattle.sms_kept.specs.Kept.{Holds, KeptOf, deadline_of}
+use Rattle.sms_kept.specs.MessagesInMemory.{Holds, KeptOf, deadline_of}
 use Rattle.sms_kept.proofs.kept.KeptMessages.past.Goals as goal
 
 pub returns-clause-all : goal.returns-clause-all

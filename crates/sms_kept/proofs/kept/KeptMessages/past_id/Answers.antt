@@ -2,8 +2,8 @@ use Rattle.std.proofs.Common.{ℕ, Option, sym, ◌∙◌, ap, subst}
 use Rattle.sms_messages.specs.declared.message.MessageRow.{MessageRow}
 use Rattle.sms_table.specs.Table.{row_at}
 use Rattle.sms_kept.specs.Entries.{message_entry_key}
-use Rattle.sms_kept.specs.Kept.{Holds, KeptOf}
-use Rattle.sms_kept.specs.Kept.{past_id}
+use Rattle.sms_kept.specs.MessagesInMemory.{Holds, KeptOf}
+use Rattle.sms_kept.specs.MessagesInMemory.{past_id}
 use Rattle.sms_kept.proofs.Holding.{found_none, past_some}
 use Rattle.sms_kept.proofs.kept.KeptMessages.past_id.Goals as goal
 

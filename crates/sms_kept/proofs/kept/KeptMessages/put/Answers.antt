@@ -2,7 +2,7 @@ use Rattle.std.proofs.Common.{sym, subst}
 use Rattle.sms_table.specs.declared.change.Change.TheVariants.{Put}
 use Rattle.sms_table.specs.Table.{RowsInMemory}
 use Rattle.sms_kept.specs.declared.message_entry.MessageEntry.{MessageEntry}
-use Rattle.sms_kept.specs.Kept.{Applies, KeptOf, Notes}
+use Rattle.sms_kept.specs.MessagesInMemory.{Applies, KeptOf, Notes}
 use Rattle.sms_kept.proofs.Holding.{puts_in}
 use Rattle.sms_kept.proofs.kept.KeptMessages.put.Goals as goal
 

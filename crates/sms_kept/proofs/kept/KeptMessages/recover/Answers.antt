@@ -2,7 +2,7 @@ use Rattle.std.proofs.Common.{List, take, ◌∙◌, ap, subst, arith}
 use Rattle.sms_messages.specs.declared.message.MessageRow.{MessageRow}
 use Rattle.sms_messages.specs.Messages.{message_key}
 use Rattle.sms_table.specs.Table.{put}
-use Rattle.sms_kept.specs.Kept.{Holds}
+use Rattle.sms_kept.specs.MessagesInMemory.{Holds}
 use Rattle.sms_kept.proofs.Recovering.{put_next}
 use Rattle.sms_kept.proofs.kept.KeptMessages.recover.Goals as goal
 

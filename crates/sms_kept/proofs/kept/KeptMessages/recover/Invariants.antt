@@ -1,5 +1,5 @@
 use Rattle.std.proofs.Common.{take}
-use Rattle.sms_kept.specs.Kept.{Holds}
+use Rattle.sms_kept.specs.MessagesInMemory.{Holds}
 use Rattle.sms_kept.proofs.kept.KeptMessages.recover.Given as goal
 
 abbrev pub invariant-loop-row : goal.invariant-loop-row

@@ -3,7 +3,7 @@ use Rattle.std.specs.List.{slice_get}
 use Rattle.std.specs.Option.{option_map}
 use Rattle.sms_messages.specs.declared.message.MessageRow.{MessageRow}
 use Rattle.sms_kept.specs.declared.message_entry.MessageEntry.{MessageEntry}
-use Rattle.sms_kept.specs.Kept.{Holds, KeptOf}
+use Rattle.sms_kept.specs.MessagesInMemory.{Holds, KeptOf}
 use Rattle.sms_kept.specs.Summaries.{summary_of}
 use Rattle.std.proofs.lemmas.Option.{slice_get-get_or}
 use Rattle.sms_kept.proofs.Holding.{no_row, placed_row}

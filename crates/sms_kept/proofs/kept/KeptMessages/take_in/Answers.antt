@@ -1,5 +1,5 @@
 use Rattle.std.proofs.Common.{subst}
-use Rattle.sms_kept.specs.Kept.{KeptOf, SpareOf, Takes}
+use Rattle.sms_kept.specs.MessagesInMemory.{KeptOf, SpareOf, Takes}
 use Rattle.sms_kept.proofs.kept.KeptMessages.take_in.Goals as goal
 
 pub returns : goal.returns

@@ -2,7 +2,7 @@ use Rattle.std.proofs.Common.{List, sym, ◌∙◌, ap, subst}
 use Rattle.sms_messages.specs.declared.parts.PartEntry.{PartEntry}
 use Rattle.sms_messages.specs.Messages.{parts_of}
 use Rattle.sms_messages.specs.PartEntries.{done_to}
-use Rattle.sms_kept.specs.Kept.{PendingOf, Shows}
+use Rattle.sms_kept.specs.MessagesInMemory.{PendingOf, Shows}
 use Rattle.sms_messages.proofs.Entries.{done_alike}
 use Rattle.sms_kept.proofs.pending.PendingMessages.all_done.Goals as goal
 

@@ -3,7 +3,7 @@ use Rattle.sms_messages.specs.declared.message.MessageRow.{MessageRow}
 use Rattle.sms_messages.specs.Messages.{message_at, message_key}
 use Rattle.sms_table.specs.declared.change.Change.{Change}
 use Rattle.sms_table.specs.Table.{left_by, newest_of}
-use Rattle.sms_kept.specs.Kept.{PendingOf, Shows}
+use Rattle.sms_kept.specs.MessagesInMemory.{PendingOf, Shows}
 use Rattle.sms_kept.proofs.Showing.{found_shown}
 use Rattle.sms_kept.proofs.pending.PendingMessages.find.Goals as goal
 

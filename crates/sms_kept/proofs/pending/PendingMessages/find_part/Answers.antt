@@ -1,6 +1,6 @@
 use Rattle.std.proofs.Common.{sym, ◌∙◌, subst}
 use Rattle.sms_table.specs.Keys.{pair_key}
-use Rattle.sms_kept.specs.Kept.{PendingOf, Shows}
+use Rattle.sms_kept.specs.MessagesInMemory.{PendingOf, Shows}
 use Rattle.sms_messages.proofs.Entries.{found_tells}
 use Rattle.sms_kept.proofs.pending.PendingMessages.find_part.Goals as goal
 

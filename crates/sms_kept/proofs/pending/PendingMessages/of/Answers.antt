@@ -1,5 +1,5 @@
 use Rattle.std.proofs.Common.{ap}
-use Rattle.sms_kept.specs.Kept.{KeptOf}
+use Rattle.sms_kept.specs.MessagesInMemory.{KeptOf}
 use Rattle.sms_kept.proofs.Showing.{shows_opened}
 use Rattle.sms_kept.proofs.pending.PendingMessages.of.Goals as goal
 

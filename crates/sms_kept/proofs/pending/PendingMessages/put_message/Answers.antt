@@ -2,7 +2,7 @@ use Rattle.std.proofs.Common.{List, sym, subst}
 use Rattle.sms_messages.specs.declared.message.MessageRow.{MessageRow}
 use Rattle.sms_messages.specs.Messages.{put_message}
 use Rattle.sms_table.specs.declared.change.Change.{Change}
-use Rattle.sms_kept.specs.Kept.{PendingOf, Shows}
+use Rattle.sms_kept.specs.MessagesInMemory.{PendingOf, Shows}
 use Rattle.sms_kept.proofs.Showing.{shows_message}
 use Rattle.sms_kept.proofs.pending.PendingMessages.put_message.Goals as goal
 

@@ -1,7 +1,7 @@
 use Rattle.std.proofs.Common.{sym, subst}
 use Rattle.sms_messages.specs.Messages.{put_part}
 use Rattle.sms_messages.specs.PartEntries.{PartsOf}
-use Rattle.sms_kept.specs.Kept.{PendingOf, Shows}
+use Rattle.sms_kept.specs.MessagesInMemory.{PendingOf, Shows}
 use Rattle.sms_kept.proofs.Showing.{shows_part}
 use Rattle.sms_kept.proofs.pending.PendingMessages.put_part.Goals as goal
 

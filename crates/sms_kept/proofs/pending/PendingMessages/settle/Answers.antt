@@ -3,7 +3,7 @@ use Rattle.sms_messages.specs.declared.message.MessageRow.{MessageRow}
 use Rattle.sms_messages.specs.declared.parts.PartEntry.{PartEntry}
 use Rattle.sms_table.specs.declared.change.Change.{Change}
 use Rattle.sms_table.specs.Pending.{FitsIn, SettledOf}
-use Rattle.sms_kept.specs.Kept.{Fits, KeptOf, PendingOf, Shows}
+use Rattle.sms_kept.specs.MessagesInMemory.{Fits, KeptOf, PendingOf, Shows}
 use Rattle.sms_kept.proofs.Settles.{settled}
 use Rattle.sms_kept.proofs.pending.PendingMessages.settle.Goals as goal
 

@@ -1,6 +1,6 @@
 use Rattle.std.proofs.Common.{sym, ◌∙◌, subst}
 use Rattle.sms_table.specs.Keys.{pair_key}
-use Rattle.sms_kept.specs.Kept.{PendingOf, Shows}
+use Rattle.sms_kept.specs.MessagesInMemory.{PendingOf, Shows}
 use Rattle.sms_kept.proofs.PutPlaces.{tpdu_of_news}
 use Rattle.sms_kept.proofs.pending.PendingMessages.tpdu_put.Goals as goal
 

@@ -1,7 +1,7 @@
 use Rattle.std.proofs.Common.{List, ap, subst}
 use Rattle.sms_claims.specs.Claims.{Holds as HoldsClaims}
 use Rattle.sms_claims.specs.Moves.{AreMoves, ArePartMoves}
-use Rattle.sms_kept.specs.Kept.{Holds, Matches}
+use Rattle.sms_kept.specs.MessagesInMemory.{Holds, Matches}
 use Rattle.sms_messages.specs.declared.message.MessageRow.{MessageRow}
 use Rattle.sms_messages.specs.declared.part.PartRow.{PartRow}
 use Rattle.sms_messages.specs.Messages.{message_key, part_key, part_reaching}

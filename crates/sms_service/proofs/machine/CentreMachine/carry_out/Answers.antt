@@ -1,4 +1,5 @@
 use Rattle.std.proofs.Common.{ap, ◌∙◌, subst}
+use Rattle.sms_keep.specs.declared.refusals.Refusals.{Refusals}
 use Rattle.sms_centre_rules.specs.Draft.{rows_after}
 use Rattle.sms_centre_rules.specs.declared.rows.Changes.{Changes}
 use Rattle.sms_centre_rules.specs.declared.rows.Rows.{Rows}
@@ -20,3 +21,6 @@ returns-in-Ok-clause-stop g c = λ honest event core plans holds before left may
 pub returns-in-Err-clause-stop : goal.returns-in-Err-clause-stop
 returns-in-Err-clause-stop g c = λ honest event core plans holds before left may.
     stopped event core c.args.planned.plan c.changes.result.now left c.changes.ensures plans (c.commit.ensures.stop honest core.rows holds before left may)
+
+pub returns-in-Err-clause-refused : goal.returns-in-Err-clause-refused
+returns-in-Err-clause-refused g c = ap (λ (r : Refusals). r.calls) c.in-Err.ensures.counted

@@ -12,6 +12,6 @@ returns-in-Ok-clause-plan g c = λ honest core standing holds.
 
 pub returns-in-Err-clause-plan : goal.returns-in-Err-clause-plan
 returns-in-Err-clause-plan g c = λ honest core standing holds.
-    subst (λ (e : StepError). PlansStep (g.K.Keep.holds c.plan.new.bodies core.rows) (g.K.Keep.is_closed c.plan.new.bodies) (happened c.args.event.now core) (Err e)) (sym c.step_error_of.ensures)
+    subst (λ (e : StepError). PlansStep (g.K.Keep.holds c.plan.new.bodies core.rows) (g.K.Keep.is_closed c.plan.new.bodies) (g.K.Keep.refusals c.args.self.now.keep) (g.K.Keep.refusals c.plan.new.bodies) (happened c.args.event.now core) (Err e)) (sym c.step_error_of.ensures)
     (goes_back (happened c.args.event.now core) (happened c.args.event.now core).air.read (g.K.Keep.holds c.plan.new.bodies core.rows) (g.K.Keep.is_closed c.plan.new.bodies) _ _ c.in-Err.error
     (c.in-Err.ensures.goes honest core core.rows standing (stored g.K.BodyKeep.body_of g.met.K.CentreStore.stores core.rows standing.centre.sound.rows) holds))

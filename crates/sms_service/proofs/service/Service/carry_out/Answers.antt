@@ -1,7 +1,7 @@
 use Rattle.std.proofs.Common.{◌∙◌, ap}
 use Rattle.sms_service.specs.Seats.{Seats}
 use Rattle.sms_service.specs.Serving.{followed_by}
-use Rattle.sms_service.proofs.ByFate.{is_done, is_refused}
+use Rattle.sms_service.proofs.ByFate.{is_done, is_refused, was_done}
 use Rattle.sms_service.proofs.service.Service.carry_out.Goals as goal
 
 pub returns-then-is_carried_out-clause-gives : goal.returns-then-is_carried_out-clause-gives
@@ -14,3 +14,9 @@ pub returns-else-is_carried_out-clause-gives : goal.returns-else-is_carried_out-
 returns-else-is_carried_out-clause-gives g c = λ honest event s serving is plan told.
     is_refused (g.K.Keep.holds c.is_carried_out.new.machine.keep) (g.K.Keep.is_closed c.is_carried_out.new.machine.keep) c.is_carried_out.new.machine.centre c.follow.new.floor s c.args.stimulus.now event c.unmade.result.fate _
     c.unmade.ensures.fate c.unmade.ensures.history (c.is_carried_out.ensures.err honest s.core.rows serving.rows c.if-is_carried_out.false) (c.follow.ensures ∙ ap (λ (x : Seats). followed_by c.args.stimulus.now x) serving.seats)
+
+pub returns-then-is_carried_out-clause-refused : goal.returns-then-is_carried_out-clause-refused
+returns-then-is_carried_out-clause-refused g c = λ e. was_done _ _ c.done.ensures.fate e
+
+pub returns-else-is_carried_out-clause-refused : goal.returns-else-is_carried_out-clause-refused
+returns-else-is_carried_out-clause-refused g c = λ e. c.is_carried_out.ensures.refused c.if-is_carried_out.false

@@ -3,7 +3,7 @@ use Rattle.sms_keeper.specs.declared.machine.Fate.TheVariants.{Done}
 use Rattle.sms_service.specs.declared.asking.Asked.{Asked}
 use Rattle.sms_service.specs.declared.asking.Asked.TheVariants.{Nothing, Taken}
 use Rattle.sms_service.specs.Serving.{Serves}
-use Rattle.sms_service.proofs.ByFate.{with_fate}
+use Rattle.sms_service.proofs.ByFate.{was_done, with_fate}
 use Rattle.sms_service.proofs.service.Service.serve.Goals as goal
 
 pub returns-in-Event-clause-gives : goal.returns-in-Event-clause-gives
@@ -24,3 +24,12 @@ returns-in-Taken-clause-gives g c = λ honest s serving.
     (sym c.in-Taken.is)
     (with_fate (g.K.Keep.holds c.args.self.now.machine.keep) (g.K.Keep.is_closed c.args.self.now.machine.keep) c.args.self.now.machine.centre c.args.self.now.floor s c.args.stimulus.now Taken c.turned_away.result.fate Done c.turned_away.result.to_history
     c.turned_away.ensures.fate (c.turned_away.ensures.history, serving))
+
+pub returns-in-Event-clause-refused : goal.returns-in-Event-clause-refused
+returns-in-Event-clause-refused g c = λ honest s serving e. c.happen.ensures.refused honest s serving e
+
+pub returns-in-Nothing-clause-refused : goal.returns-in-Nothing-clause-refused
+returns-in-Nothing-clause-refused g c = λ honest s serving e. was_done _ _ c.unmade.ensures.fate e
+
+pub returns-in-Taken-clause-refused : goal.returns-in-Taken-clause-refused
+returns-in-Taken-clause-refused g c = λ honest s serving e. was_done _ _ c.turned_away.ensures.fate e

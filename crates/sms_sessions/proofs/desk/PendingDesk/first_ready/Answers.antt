@@ -1,7 +1,7 @@
 use Rattle.std.proofs.Common.{◌≤◌, ℕ, [], sym, ◌∙◌, ap, arith}
 use Rattle.sms_index.specs.First.{first_such}
 use Rattle.sms_reports.specs.Reports.{reports_of}
-use Rattle.sms_desk.specs.Kept.{receipts_at}
+use Rattle.sms_desk.specs.ReportsInMemory.{receipts_at}
 use Rattle.sms_desk.specs.Serving.{is_ready}
 use Rattle.sms_desk.proofs.Serving.{due_behind, none_ready, one_ready, passed_over, receipts_rise}
 use Rattle.sms_sessions.proofs.desk.PendingDesk.first_ready.Goals as goal

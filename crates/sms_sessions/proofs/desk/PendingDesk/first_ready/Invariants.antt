@@ -4,7 +4,7 @@ use Rattle.sms_index.specs.First.{first_such}
 use Rattle.sms_messages.specs.declared.message.MessageRow.{MessageRow as MessageRowOf}
 use Rattle.sms_reports.specs.declared.report.ReportRow.{ReportRow as ReportRowOf}
 use Rattle.sms_waiting.specs.Revisions.{Revised}
-use Rattle.sms_desk.specs.Kept.{receipts_at}
+use Rattle.sms_desk.specs.ReportsInMemory.{receipts_at}
 use Rattle.sms_desk.specs.Pending.{Tells}
 use Rattle.sms_desk.specs.Serving.{is_ready}
 use Rattle.sms_sessions.proofs.desk.PendingDesk.first_ready.Given as goal

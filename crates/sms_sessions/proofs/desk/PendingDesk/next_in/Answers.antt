@@ -1,6 +1,6 @@
 use Rattle.std.proofs.Common.{ℕ, ◌<◌, List, length, subst, sym, ◌∙◌, ap}
 use Rattle.sms_index.specs.First.{first_such}
-use Rattle.sms_desk.specs.Kept.{receipts_at}
+use Rattle.sms_desk.specs.ReportsInMemory.{receipts_at}
 use Rattle.sms_desk.specs.Serving.{is_ready}
 use Rattle.sms_sessions.proofs.AllSent.{none_first, one_first}
 use Rattle.sms_sessions.proofs.desk.PendingDesk.next_in.Goals as goal

@@ -3,4 +3,4 @@ use Rattle.sms_shelves.proofs.Finding.{scan_finds}
 use Rattle.sms_shelves.proofs.pending.PendingShelves.stops.Goals as goal
 
 pub returns : goal.returns
-returns c g air w shows = c.in_ok-stops.ensures ∙ scan_finds c.args.wanted.now g air w c.args.self.now shows
+returns c g air w shows = c.in_ok-stops.ensures ∙ scan_finds c.args.purpose.now g air w c.args.self.now shows

@@ -1,7 +1,7 @@
 use Rattle.std.proofs.Common.{ℕ, sym, subst}
 use Rattle.sms_messages.specs.declared.message.MessageRow.{MessageRow}
 use Rattle.sms_messages.specs.Messages.{put_message, put_priority}
-use Rattle.sms_kept.specs.Kept.{Shows as ShowsMessages}
+use Rattle.sms_kept.specs.MessagesInMemory.{Shows as ShowsMessages}
 use Rattle.sms_centre_rules.specs.Submitting.{message_of}
 use Rattle.sms_working.specs.Working.{Shows, WorkingOf}
 use Rattle.sms_working.proofs.Entering.{entered_shown}

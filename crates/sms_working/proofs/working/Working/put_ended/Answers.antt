@@ -1,7 +1,7 @@
 use Rattle.std.proofs.Common.{sym, subst}
 use Rattle.sms_messages.specs.declared.message.MessageRow.{MessageRow}
 use Rattle.sms_messages.specs.Messages.{ended, put_message}
-use Rattle.sms_kept.specs.Kept.{Shows as ShowsMessages}
+use Rattle.sms_kept.specs.MessagesInMemory.{Shows as ShowsMessages}
 use Rattle.sms_centre_rules.specs.Draft.{with_message}
 use Rattle.sms_working.specs.Working.{Shows, WorkingOf, all_waiting}
 use Rattle.sms_working.proofs.OthersWaiting.{ended_waits}

@@ -2,7 +2,7 @@ use Rattle.std.proofs.Common.{ℕ, List, false, sym, ◌∙◌, ap, subst}
 use Rattle.sms_table.specs.Table.{put}
 use Rattle.sms_messages.specs.declared.part.PartRow.{PartRow}
 use Rattle.sms_messages.specs.Messages.{put_part}
-use Rattle.sms_kept.specs.Kept.{Shows as ShowsMessages}
+use Rattle.sms_kept.specs.MessagesInMemory.{Shows as ShowsMessages}
 use Rattle.sms_waiting.specs.Keys.{load_key}
 use Rattle.sms_waiting.specs.References.{give, handset_of}
 use Rattle.sms_shelves.specs.Shown.{Waits}

@@ -3,8 +3,8 @@ use Rattle.std.specs.Prelude.{true, not}
 use Rattle.sqlite.specs.Collation.TheVariants.{Binary}
 use Rattle.sqlite.specs.declared.types.Value.TheVariants.{Null}
 use Rattle.sqlite_schema.specs.declared.schema.Column.{Column}
-use Rattle.sms_schema.specs.declared.columns.Wanted.{Wanted}
+use Rattle.sms_schema.specs.declared.columns.ColumnPlan.{ColumnPlan}
 
 -- the column of a STRICT table
-abbrev pub column_of : Wanted → Column
+abbrev pub column_of : ColumnPlan → Column
 column_of w = record { name = w.name.now; kind = w.kind; is_strict = true; not_null = not w.is_optional; default = Null; collation = Binary }
