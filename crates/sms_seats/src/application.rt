@@ -6,6 +6,7 @@ ghost use Rattle.sms_receipt.specs.Receipts.{receipt_of};
 use crate::addresses::is_address;
 use crate::guest::{Guest, Note};
 use crate::outbox::Outbox;
+use crate::refusing::NO_ROOM;
 use crate::texts::{is_id_text, is_time_text};
 use smpp_pdu::{CommandStatus, Header, MessageResp, QuerySmResp};
 use smpp_session::{Accounts, Action, Answer, BindKind, Request, Session, SessionState};
@@ -358,6 +359,10 @@ impl Guest for Application {
             Reply::Frame(_octets) => Ok(()),
             Reply::Taken => Ok(()),
         }
+    }
+
+    fn give_up(&mut self) -> Result<(), AllocError> {
+        self.outbox.send(&NO_ROOM)
     }
 
     fn note(&mut self) -> Option<Note> {

@@ -39,6 +39,9 @@ pub trait Guest {
     /// Takes what the seat is told.
     fn told(&mut self, reply: Reply) -> Result<(), AllocError>;
 
+    /// It has not said who it is for too long: it is to be sent that there is no room for it.
+    fn give_up(&mut self) -> Result<(), AllocError>;
+
     /// What happened that somebody may want to know, one after the other.
     fn note(&mut self) -> Option<Note>;
 

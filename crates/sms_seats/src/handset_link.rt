@@ -3,6 +3,7 @@ ghost use Rattle.std.specs.Prelude.{◌≡◌};
 
 use crate::guest::{Guest, Note};
 use crate::outbox::Outbox;
+use crate::refusing::{CONGESTION, PROTOCOL_ERROR};
 use sms_base::{Digits, Octets};
 use sms_framing::{FrameBuffer, is_frame, push_frame};
 use sms_jobs::{Job, Reply};
@@ -78,8 +79,12 @@ impl HandsetLink {
         Ok(front)
     }
 
-    fn end_with(&mut self, note: Note) -> Result<(), AllocError> {
-        self.is_over = true;
+    // The link is over, and is told why once.
+    fn end_with(&mut self, note: Note, octets: &[u8]) -> Result<(), AllocError> {
+        if !self.is_over {
+            self.is_over = true;
+            self.outbox.send(octets)?;
+        }
         self.notes.push_back(note)?;
         Ok(())
     }
@@ -98,11 +103,11 @@ impl HandsetLink {
                 Ok(true)
             }
             Front::NoNumber => {
-                self.end_with(Note::NoNumber)?;
+                self.end_with(Note::NoNumber, &PROTOCOL_ERROR)?;
                 Ok(false)
             }
             Front::NoFrames => {
-                self.end_with(Note::NoFrames)?;
+                self.end_with(Note::NoFrames, &PROTOCOL_ERROR)?;
                 Ok(false)
             }
             Front::Waiting => Ok(false),
@@ -132,10 +137,14 @@ impl Guest for HandsetLink {
             }
             Reply::Taken => {
                 self.handset = None;
-                self.end_with(Note::Taken)
+                self.end_with(Note::Taken, &CONGESTION)
             }
             _ => Ok(()),
         }
+    }
+
+    fn give_up(&mut self) -> Result<(), AllocError> {
+        self.outbox.send(&CONGESTION)
     }
 
     fn note(&mut self) -> Option<Note> {

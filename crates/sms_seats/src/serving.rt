@@ -92,6 +92,13 @@ fn send<W: Wire, G: Guest>(wire: &mut W, guest: &mut G) -> Option<usize> {
     Some(count)
 }
 
+// Tells a guest that it is given up, as far as it listens.
+fn give_up<W: Wire, G: Guest>(wire: &mut W, guest: &mut G) {
+    if guest.give_up().is_ok() {
+        let _ = send(wire, guest);
+    }
+}
+
 fn tell_notes<G: Guest, T: Teller>(teller: &T, seat: usize, guest: &mut G) {
     for _ in 0..64 {
         match guest.note() {
@@ -318,6 +325,9 @@ pub fn serve<R: Wait, W: Wire, G: Guest, T: Teller>(
     teller: &T,
 ) {
     let leaves = stay(rt, over, wire, seat, guest, teller);
+    if leaves == Leaves::Silent {
+        give_up(wire, guest);
+    }
     leave(rt, alloc, over, seat, guest, teller);
     teller.tell(seat.number(), note_of(leaves));
 }

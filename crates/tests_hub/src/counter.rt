@@ -107,6 +107,8 @@ impl Machine<u32, Reply> for Counter {
 
     ghost is_broken = { λ m. m.broken ≡ true };
 
+    ghost refuses = { λ before after. ⊤ };
+
     ghost gives = { sums_given };
 
     ghost after = { sum_after };

@@ -1,4 +1,6 @@
 //! Tests of what sits at the seats of a hub: sessions of applications and links of handsets, without wire or hub.
+//!
+//! A course is a table: what is done with a guest, turn by turn, and what is to be seen of it.
 #![tactic(auto)]
 
 #[cfg(test)]
@@ -7,3 +9,5 @@ mod applications;
 mod links;
 #[cfg(test)]
 mod rows;
+#[cfg(test)]
+mod turns;

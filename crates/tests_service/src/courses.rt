@@ -1,6 +1,8 @@
 //! Sessions and links at the seats of a hub.
+use crate::asks::Asked;
 use crate::store::MANY;
-use crate::turns::{Happens, Told, Turn, plays};
+use crate::telling::{To, Told};
+use crate::turns::{Turn, plays};
 use sms_keeper::Fate;
 use std::test::Fail;
 
@@ -24,95 +26,101 @@ const DONE: Fate = Fate::Done;
 
 // A session submits; the handset accepts; the receipt goes to the session.
 const RECEIPT: &[Turn] = &[
-    Turn::Step(Happens::Bound(3), DONE, &[]),
-    Turn::Step(Happens::Rises(5), DONE, &[]),
-    Turn::Step(
-        Happens::Submits(3),
+    Turn::Job(3, Asked::Bound, DONE, &[]),
+    Turn::Job(5, Asked::Rises, DONE, &[]),
+    Turn::Job(
+        3,
+        Asked::Submits,
         DONE,
-        &[Told::Accepted(3, 1), Told::Frame(5, DELIVER)],
+        &[To(3, Told::Accepted(1)), To(5, Told::Frame(DELIVER))],
     ),
-    Turn::Step(Happens::Sends(5, CP_ACK), DONE, &[]),
-    Turn::Step(
-        Happens::Sends(5, RP_ACK),
+    Turn::Job(5, Asked::Sends(CP_ACK), DONE, &[]),
+    Turn::Job(
+        5,
+        Asked::Sends(RP_ACK),
         DONE,
-        &[Told::Frame(5, CP_ACK_DOWN), Told::Receipt(3, 1)],
+        &[To(5, Told::Frame(CP_ACK_DOWN)), To(3, Told::Receipt(1))],
     ),
-    Turn::Step(Happens::Takes(3), DONE, &[]),
+    Turn::Job(3, Asked::Takes, DONE, &[]),
 ];
 
 // The session has gone when its message is delivered: the receipt waits until the account is bound again, at any seat.
 const RECEIPT_WAITS: &[Turn] = &[
-    Turn::Step(Happens::Bound(3), DONE, &[]),
-    Turn::Step(Happens::Submits(3), DONE, &[Told::Accepted(3, 1)]),
-    Turn::Step(Happens::Unbound(3), DONE, &[]),
-    Turn::Step(Happens::Rises(31), DONE, &[Told::Frame(31, DELIVER)]),
-    Turn::Step(Happens::Sends(31, CP_ACK), DONE, &[]),
-    Turn::Step(
-        Happens::Sends(31, RP_ACK),
+    Turn::Job(3, Asked::Bound, DONE, &[]),
+    Turn::Job(3, Asked::Submits, DONE, &[To(3, Told::Accepted(1))]),
+    Turn::Job(3, Asked::Unbound, DONE, &[]),
+    Turn::Job(31, Asked::Rises, DONE, &[To(31, Told::Frame(DELIVER))]),
+    Turn::Job(31, Asked::Sends(CP_ACK), DONE, &[]),
+    Turn::Job(
+        31,
+        Asked::Sends(RP_ACK),
         DONE,
-        &[Told::Frame(31, CP_ACK_DOWN)],
+        &[To(31, Told::Frame(CP_ACK_DOWN))],
     ),
-    Turn::Step(Happens::Bound(0), DONE, &[Told::Receipt(0, 1)]),
+    Turn::Job(0, Asked::Bound, DONE, &[To(0, Told::Receipt(1))]),
 ];
 
 // A second link of one handset is turned away, until the first one has gone.
 const ONE_LINK: &[Turn] = &[
-    Turn::Step(Happens::Rises(5), DONE, &[]),
-    Turn::Step(Happens::Rises(6), DONE, &[Told::Taken(6)]),
-    Turn::Step(Happens::Sends(6, CP_ACK), DONE, &[]),
-    Turn::Step(Happens::Falls(5), DONE, &[]),
-    Turn::Step(Happens::Rises(6), DONE, &[]),
-    Turn::Step(
-        Happens::Submits(3),
+    Turn::Job(5, Asked::Rises, DONE, &[]),
+    Turn::Job(6, Asked::Rises, DONE, &[To(6, Told::Taken)]),
+    Turn::Job(6, Asked::Sends(CP_ACK), DONE, &[]),
+    Turn::Job(5, Asked::Falls, DONE, &[]),
+    Turn::Job(6, Asked::Rises, DONE, &[]),
+    Turn::Job(
+        3,
+        Asked::Submits,
         DONE,
-        &[Told::Accepted(3, 1), Told::Frame(6, DELIVER)],
+        &[To(3, Told::Accepted(1)), To(6, Told::Frame(DELIVER))],
     ),
 ];
 
 // The commit of a submission is refused: its session is told so, and nothing is offered. The number is given to the next one; the link
 // comes up again at the first tick.
 const SUBMISSION_REFUSED: &[Turn] = &[
-    Turn::Step(Happens::Rises(5), DONE, &[]),
+    Turn::Job(5, Asked::Rises, DONE, &[]),
     Turn::Commits(0),
-    Turn::Step(Happens::Submits(3), Fate::Refused, &[Told::Failed(3)]),
+    Turn::Job(3, Asked::Submits, Fate::Refused, &[To(3, Told::Failed)]),
     Turn::Commits(MANY),
     Turn::Reopens,
-    Turn::Step(Happens::Submits(3), DONE, &[Told::Accepted(3, 1)]),
-    Turn::Step(Happens::Ticks(1), DONE, &[Told::Frame(5, DELIVER)]),
+    Turn::Job(3, Asked::Submits, DONE, &[To(3, Told::Accepted(1))]),
+    Turn::Tick(1, DONE, &[To(5, Told::Frame(DELIVER))]),
 ];
 
 // The commit of an acknowledgement is refused: nothing is told. The part goes out again as it was, under its reference, and the receipt
 // goes when that is acknowledged.
 const ACKNOWLEDGEMENT_REFUSED: &[Turn] = &[
-    Turn::Step(Happens::Bound(3), DONE, &[]),
-    Turn::Step(Happens::Rises(5), DONE, &[]),
-    Turn::Step(
-        Happens::Submits(3),
+    Turn::Job(3, Asked::Bound, DONE, &[]),
+    Turn::Job(5, Asked::Rises, DONE, &[]),
+    Turn::Job(
+        3,
+        Asked::Submits,
         DONE,
-        &[Told::Accepted(3, 1), Told::Frame(5, DELIVER)],
+        &[To(3, Told::Accepted(1)), To(5, Told::Frame(DELIVER))],
     ),
-    Turn::Step(Happens::Sends(5, CP_ACK), DONE, &[]),
+    Turn::Job(5, Asked::Sends(CP_ACK), DONE, &[]),
     Turn::Commits(0),
-    Turn::Step(Happens::Sends(5, RP_ACK), Fate::Refused, &[]),
+    Turn::Job(5, Asked::Sends(RP_ACK), Fate::Refused, &[]),
     Turn::Commits(MANY),
     Turn::Reopens,
-    Turn::Step(Happens::Ticks(1), DONE, &[Told::Frame(5, DELIVER)]),
-    Turn::Step(Happens::Sends(5, CP_ACK), DONE, &[]),
-    Turn::Step(
-        Happens::Sends(5, RP_ACK),
+    Turn::Tick(1, DONE, &[To(5, Told::Frame(DELIVER))]),
+    Turn::Job(5, Asked::Sends(CP_ACK), DONE, &[]),
+    Turn::Job(
+        5,
+        Asked::Sends(RP_ACK),
         DONE,
-        &[Told::Frame(5, CP_ACK_DOWN), Told::Receipt(3, 1)],
+        &[To(5, Told::Frame(CP_ACK_DOWN)), To(3, Told::Receipt(1))],
     ),
 ];
 
 // The body of the part can't be read as its handset comes up: nothing is told, and it goes out once it can.
 const BODY_REFUSED: &[Turn] = &[
-    Turn::Step(Happens::Submits(3), DONE, &[Told::Accepted(3, 1)]),
+    Turn::Job(3, Asked::Submits, DONE, &[To(3, Told::Accepted(1))]),
     Turn::Bodies(0),
-    Turn::Step(Happens::Rises(5), Fate::Refused, &[]),
+    Turn::Job(5, Asked::Rises, Fate::Refused, &[]),
     Turn::Bodies(MANY),
     Turn::Reopens,
-    Turn::Step(Happens::Ticks(1), DONE, &[Told::Frame(5, DELIVER)]),
+    Turn::Tick(1, DONE, &[To(5, Told::Frame(DELIVER))]),
 ];
 
 #[test]

@@ -6,10 +6,14 @@
 #![tactic(auto)]
 
 #[cfg(test)]
+mod asks;
+#[cfg(test)]
 mod courses;
 #[cfg(test)]
 mod rows;
 #[cfg(test)]
 mod store;
+#[cfg(test)]
+mod telling;
 #[cfg(test)]
 mod turns;

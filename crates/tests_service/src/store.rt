@@ -1,14 +1,15 @@
 //! A store in memory that fails when it is told to.
 ghost use Rattle.std.specs.Prelude.{◌≡◌, ⊤, refl};
 ghost use Rattle.sms_bodies.proofs.Bodies.{bodies_given};
-ghost use Rattle.sms_centre_memory.specs.Kept.{rows_in};
+ghost use Rattle.sms_centre_memory.specs.RowsInKeep.{rows_in};
 ghost use Rattle.sms_centre_rows.specs.OctetsAt.{octets_at};
 ghost use Rattle.sms_centre_rules.specs.Draft.{rows_after};
+ghost use Rattle.sms_keep.specs.Refusing.{Counts, CountsRead};
 
 use sms_base::Octets;
 use sms_centre_memory::MemoryKeep;
 use sms_centre_rules::{Changes, Rows};
-use sms_keep::{BodyKeep, Keep, KeepError};
+use sms_keep::{BodyKeep, Keep, KeepError, Refusals};
 use sms_service::CentreStore;
 use sms_table::Key;
 
@@ -20,8 +21,7 @@ pub(crate) struct Store {
     pub(crate) commits: u32,
     /// How many bodies it will give; it refuses the others.
     pub(crate) bodies: u32,
-    // The key of the last read of a body, where that was refused.
-    refused: Option<Key>,
+    refusals: Refusals,
 }
 
 /// More commits and bodies than any course has.
@@ -34,8 +34,28 @@ impl Store {
             keep,
             commits: MANY,
             bodies: MANY,
-            refused: None,
+            refusals: Refusals::none(),
         }
+    }
+}
+
+// Counts a call that the rows refused.
+fn count<T>(refusals: &mut Refusals, answer: &Result<T, KeepError>)
+    ensures { Counts answer.now refusals.old refusals.new }
+{
+    match answer {
+        Ok(_) => (),
+        Err(_) => refusals.call(),
+    }
+}
+
+// Counts a read of a body that the rows refused.
+fn count_read<T>(refusals: &mut Refusals, key: Key, answer: &Result<T, KeepError>)
+    ensures { CountsRead key answer.now refusals.old refusals.new }
+{
+    match answer {
+        Ok(_) => refusals.answer(),
+        Err(_) => refusals.read(key),
     }
 }
 
@@ -54,46 +74,44 @@ impl Keep for Store {
 
     ghost may_leave = { λ store left. rows_in store.keep ≡ left };
 
+    ghost refusals = { λ store. store.refusals };
+
     fn commit(&mut self, changes: &Changes) -> Result<(), KeepError> {
         if self.commits == 0 {
+            self.refusals.call();
             return Err(KeepError::Disk);
         }
         self.commits -= 1;
-        self.keep.commit(changes)
+        let committed = self.keep.commit(changes);
+        count(&mut self.refusals, &committed);
+        committed
     }
 
     fn load(&mut self) -> Result<Rows, KeepError> {
-        self.keep.load()
+        let rows = self.keep.load();
+        count(&mut self.refusals, &rows);
+        rows
     }
 }
 
 impl BodyKeep for Store {
     ghost body_of = { octets_at };
 
-    ghost refused = { λ store. store.refused };
-
     fn body(&mut self, key: Key) -> Result<Option<Octets>, KeepError> {
         if self.bodies == 0 {
-            self.refused = Some(key);
+            self.refusals.read(key);
             return Err(KeepError::Disk);
         }
         self.bodies -= 1;
-        match self.keep.body(key) {
-            Ok(body) => {
-                self.refused = None;
-                Ok(body)
-            }
-            Err(error) => {
-                self.refused = Some(key);
-                Err(error)
-            }
-        }
+        let body = self.keep.body(key);
+        count_read(&mut self.refusals, key, &body);
+        body
     }
 }
 
 impl CentreStore for Store {
     fn gather(&mut self) -> Result<Rows, KeepError> {
-        self.keep.load()
+        self.load()
     }
 
     ghost makes = { λ changes rows. refl };

@@ -149,6 +149,8 @@ impl Machine<Job, Reply> for Counter {
 
     ghost is_broken = { λ m. ⊤ };
 
+    ghost refuses = { λ before after. ⊤ };
+
     ghost gives = { λ s stimulus fate. [] };
 
     ghost after = { λ s stimulus fate. s };
