@@ -16,5 +16,5 @@ mod witnessed;
 
 pub use image::Image;
 pub use openings::stop_opening;
-pub use stops::{StopError, Wanted, made, refusal_at_stop, rows_of, stop_anywhere};
+pub use stops::{RowsAround, StopError, made, refusal_at_stop, rows_of, stop_anywhere};
 pub use trial::{Made, Trial};

@@ -112,7 +112,7 @@ pub fn rows_of<T: Trial>(alloc: Global, trial: &T, image: &Image) -> Result<Stri
 
 /// The rows before a call and after it, as text.
 #[derive(Clone, Copy)]
-pub struct Wanted<'a> {
+pub struct RowsAround<'a> {
     pub before: &'a str,
     pub after: &'a str,
 }
@@ -134,7 +134,7 @@ pub(crate) fn judge_rows(holds: bool) -> Result<(), StopError> {
 }
 
 // A call that was confirmed left the rows after it; one that was not, those or the rows before it.
-fn judge(found: &str, wanted: Wanted<'_>, stop: Stop) -> Result<(), StopError> {
+fn judge(found: &str, wanted: RowsAround<'_>, stop: Stop) -> Result<(), StopError> {
     match stop {
         Stop::Before => judge_rows(found == wanted.before),
         Stop::Inside(error) => {
@@ -148,7 +148,7 @@ fn judge(found: &str, wanted: Wanted<'_>, stop: Stop) -> Result<(), StopError> {
 fn judge_left<T: Trial>(
     alloc: Global,
     trial: &T,
-    wanted: Wanted<'_>,
+    wanted: RowsAround<'_>,
     left: Left,
 ) -> Result<Stop, StopError> {
     let Left { files, stop } = left;
@@ -161,7 +161,7 @@ fn stop_at<T: Trial>(
     alloc: Global,
     trial: &T,
     image: &Image,
-    wanted: Wanted<'_>,
+    wanted: RowsAround<'_>,
     file: File,
     calls: u64,
 ) -> Result<Stop, StopError> {
@@ -215,7 +215,7 @@ fn stop_file<T: Trial>(
     alloc: Global,
     trial: &T,
     image: &Image,
-    wanted: Wanted<'_>,
+    wanted: RowsAround<'_>,
     file: File,
 ) -> Result<(), StopError> {
     let before = calls_before(alloc, trial, image, file)?;
@@ -285,7 +285,7 @@ pub fn stop_anywhere<T: Trial>(
     alloc: Global,
     trial: &T,
     image: &Image,
-    wanted: Wanted<'_>,
+    wanted: RowsAround<'_>,
 ) -> Result<Image, StopError> {
     stop_file(alloc, trial, image, wanted, File::Log)?;
     stop_file(alloc, trial, image, wanted, File::Database)?;

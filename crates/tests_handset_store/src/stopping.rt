@@ -11,12 +11,12 @@ use sms_base::OctetView;
 use sms_handset::{Changes, Handset, HandsetEvent, Rows, Setup};
 use sms_handset_memory::MemoryKeep;
 use sms_handset_store::HandsetKeep;
-use sms_keep::{Keep, KeepError};
+use sms_keep::{Keep, KeepError, Refusals};
 use sms_lending::lend;
 use sqlite::{Alter, Connection};
 use std::alloc::Global;
 use std::io::Print;
-use stopping_files::{Image, Made, StopError, Trial, Wanted, refusal_at_stop, stop_anywhere};
+use stopping_files::{Image, Made, RowsAround, StopError, Trial, refusal_at_stop, stop_anywhere};
 
 // A commit of the changes.
 #[derive(Drop)]
@@ -122,11 +122,14 @@ pub(crate) struct StoppingKeep<'a> {
     rt: &'a HostRuntime,
     memory: &'a mut MemoryKeep,
     image: Image,
+    refusals: Refusals,
 }
 
 impl<'a> StoppingKeep<'a> {
     // Stops the commit anywhere, and then makes it.
-    fn stop(&mut self, changes: &Changes, wanted: Wanted<'_>) -> Result<(), StopError> {
+    fn stop(&mut self, changes: &Changes, wanted: RowsAround<'_>) -> Result<(), StopError>
+        ensures { self.new.refusals ≡ self.old.refusals }
+    {
         let alloc = self.rt.alloc();
         let trial = CommitTrial {
             setup: self.memory.setup,
@@ -136,13 +139,10 @@ impl<'a> StoppingKeep<'a> {
         Ok(())
     }
 
-    fn stop_between(
-        &mut self,
-        changes: &Changes,
-        before: &str,
-        after: &str,
-    ) -> Result<(), Failure> {
-        match self.stop(changes, Wanted { before, after }) {
+    fn stop_between(&mut self, changes: &Changes, before: &str, after: &str) -> Result<(), Failure>
+        ensures { self.new.refusals ≡ self.old.refusals }
+    {
+        match self.stop(changes, RowsAround { before, after }) {
             Ok(()) => Ok(()),
             Err(error) => {
                 println!(self.rt; "  {}", error.text())?;
@@ -151,7 +151,9 @@ impl<'a> StoppingKeep<'a> {
         }
     }
 
-    fn commit_after_stops(&mut self, changes: &Changes) -> Result<(), Failure> {
+    fn commit_after_stops(&mut self, changes: &Changes) -> Result<(), Failure>
+        ensures { self.new.refusals ≡ self.old.refusals }
+    {
         let alloc = self.rt.alloc();
         let before = text_in(alloc, self.memory)?;
         self.memory.commit(changes)?;
@@ -176,17 +178,25 @@ impl<'a> Keep for StoppingKeep<'a> {
 
     ghost may_leave = { λ keep left. ⊥ };
 
+    ghost refusals = { λ keep. keep.refusals };
+
     fn commit(&mut self, changes: &Changes) -> Result<(), KeepError> {
         match self.commit_after_stops(changes) {
             Ok(()) => Ok(()),
-            Err(_) => Err(KeepError::Disk),
+            Err(_) => {
+                self.refusals.call();
+                Err(KeepError::Disk)
+            }
         }
     }
 
     fn load(&mut self) -> Result<Rows, KeepError> {
         match self.memory.load() {
             Ok(rows) => Ok(rows),
-            Err(_) => Err(KeepError::NoMemory),
+            Err(_) => {
+                self.refusals.call();
+                Err(KeepError::NoMemory)
+            }
         }
     }
 }
@@ -197,6 +207,7 @@ fn stop_over(rt: &HostRuntime, memory: &mut MemoryKeep) -> Result<(), Failure> {
         rt,
         memory,
         image: Image::new(rt.alloc()),
+        refusals: Refusals::none(),
     };
     run(rt.alloc(), keep, COURSE, COURSE.events.len(), &mut found)
 }

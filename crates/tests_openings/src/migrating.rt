@@ -7,7 +7,7 @@ use sms_centre_store::{CentreKeep, raise};
 use sms_keep::{Keep, KeepError};
 use sqlite::{Alter, Connection};
 use std::alloc::Global;
-use stopping_files::{Image, Made, Trial, Wanted, made, rows_of, stop_anywhere};
+use stopping_files::{Image, Made, RowsAround, Trial, made, rows_of, stop_anywhere};
 
 fn text_of<K: Keep<Rows = Rows, Changes = Changes> + Drop>(
     alloc: Global,
@@ -218,7 +218,7 @@ pub(crate) fn migrates(alloc: Global) -> Result<&'static str, Failure> {
 
 fn stop_between<T: Trial>(alloc: Global, trial: &T, versions: &Versions) -> Result<(), Failure> {
     let image = made(alloc, &WriteTrial, &Image::new(alloc))?;
-    let wanted = Wanted {
+    let wanted = RowsAround {
         before: versions.first.as_str(),
         after: versions.second.as_str(),
     };

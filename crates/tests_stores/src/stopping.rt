@@ -9,7 +9,7 @@ use sms_centre_store::CentreKeep;
 use sms_keep::{Keep, KeepError};
 use sqlite::{Alter, Connection};
 use std::alloc::Global;
-use stopping_files::{Image, Made, Trial, Wanted, refusal_at_stop, stop_anywhere};
+use stopping_files::{Image, Made, RowsAround, Trial, refusal_at_stop, stop_anywhere};
 
 // A commit of the changes.
 #[derive(Drop)]
@@ -135,7 +135,7 @@ fn stop_between(
     sides: &Sides,
     image: &mut Image,
 ) -> Result<(), Failure> {
-    let wanted = Wanted {
+    let wanted = RowsAround {
         before: sides.before.rows.as_str(),
         after: sides.after.rows.as_str(),
     };
