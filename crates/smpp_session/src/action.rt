@@ -1,6 +1,5 @@
 //! What a session wants done, and whether it was bound when it closed.
-ghost use Rattle.std.specs.Prelude.{◌≡◌, List, [], ◌∷◌, ◌++◌, OnOk, OnErr};
-ghost use Rattle.smpp_session.specs.declared.action.Action.{Action as ActionOf};
+ghost use Rattle.std.specs.Prelude.{◌≡◌, [], ◌∷◌, ◌++◌, IfOk, OnOk, OnErr};
 ghost use Rattle.smpp_session.specs.Bindings.{bound_after, bound_behind};
 
 use sms_base::Octets;
@@ -50,15 +49,23 @@ impl Action {
 }
 
 /// Actions in order, seen by contracts as a list.
+///
+/// A vector is made for the first. Most octets of a slow line give none, and none is let go without a call.
 #[derive(Debug, Drop)]
 pub struct Actions {
-    items: Vec<Action>,
+    alloc: Global,
+    items: Option<Vec<Action>>,
 }
 
 impl Model for Actions {
+    ghost use Rattle.std.specs.Prelude.{List};
+    ghost use Rattle.std.specs.Option.{option_map};
+    ghost use Rattle.smpp_session.specs.declared.action.Action.{Action as ActionOf};
+    ghost use Rattle.smpp_session.specs.Giving.{all_given};
+
     ghost Value = { List ActionOf };
 
-    ghost view = { λ a. a.items.items };
+    ghost view = { λ a. all_given (option_map (λ given. given.items) a.items) };
 }
 
 /// What a session gives for octets that came.
@@ -76,31 +83,35 @@ impl Actions {
     pub(crate) fn new(alloc: Global) -> Actions
         ensures { result ≡ [] }
     {
-        Actions {
-            items: Vec::new(alloc),
-        }
+        Actions { alloc, items: None }
     }
 
     /// The vector that holds the actions.
     pub fn into_vec(self) -> Vec<Action>
         ensures { result.items ≡ self }
     {
-        let Actions { items } = self;
-        items
+        let Actions { alloc, items } = self;
+        match items {
+            Some(items) => items,
+            None => Vec::new(alloc),
+        }
     }
 
     /// The actions in order.
     pub fn as_slice(&self) -> &[Action]
         ensures { result.now ≡ self.now }
     {
-        self.items.as_slice()
+        match &self.items {
+            Some(items) => items.as_slice(),
+            None => &[],
+        }
     }
 
     // Whether an account is bound behind them, by what they tell, if it was so before them.
     pub(crate) fn bound_behind(&self, before: bool) -> bool
         ensures { result ≡ bound_behind before self.now }
     {
-        let actions = self.items.as_slice();
+        let actions = self.as_slice();
         let mut bound = before;
         for action in actions {
             bound = action.bound_after(bound);
@@ -113,7 +124,10 @@ impl Actions {
         ensures ok { OnOk result (self.new ≡ self.old ++ action ∷ []) }
         ensures err { OnErr result (self.new ≡ self.old) }
     {
-        self.items.push(action)?;
+        match &mut self.items {
+            Some(items) => items.push(action)?,
+            None => self.items = Some(one(self.alloc, action)?),
+        }
         Ok(())
     }
 
@@ -121,9 +135,18 @@ impl Actions {
     pub(crate) fn append(&mut self, more: Actions) -> Result<(), AllocError>
         ensures { OnOk result (self.new ≡ self.old ++ more) }
     {
-        for action in more.items {
-            self.items.push(action)?;
+        for action in more.into_vec() {
+            self.push(action)?;
         }
         Ok(())
     }
+}
+
+// A vector of one action.
+fn one(alloc: Global, action: Action) -> Result<Vec<Action>, AllocError>
+    ensures { IfOk result (λ given. given.items ≡ action ∷ []) }
+{
+    let mut items = Vec::new(alloc);
+    items.push(action)?;
+    Ok(items)
 }

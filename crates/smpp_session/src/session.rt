@@ -103,14 +103,17 @@ impl Session {
         Ok(given)
     }
 
-    // Puts octets at the end of the buffer. A slow line gives them one by one, and one is put without a copy in a loop.
+    // Puts octets at the end of the buffer. A slow line gives them one by one, and one for which there is room is put
+    // without a call.
     #[inline]
     fn take_in(&mut self, octets: &[u8]) -> Result<(), AllocError>
         ensures ok { OnOk result (self.new ≡ with_more octets.now self.old) }
         ensures err { OnErr result (self.new ≡ self.old) }
     {
         match octets {
-            [octet] => self.input.extend_from_slice(&[*octet])?,
+            [octet] if self.input.len() < self.input.capacity() => {
+                self.input.extend_reserved(&[*octet]);
+            }
             _ => self.input.extend_from_slice(octets)?,
         }
         Ok(())
