@@ -10,7 +10,8 @@ use sms_keep::{BodyKeep, Keep};
 use sms_table::Key;
 use sqlite::Alter;
 
-fn commit<S: Alter>(
+/// Commits the changes, and adds what that took.
+pub(crate) fn commit<S: Alter>(
     rt: &HostRuntime,
     keep: &mut CentreKeep<S>,
     meter: &mut Meter,

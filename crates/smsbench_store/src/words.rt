@@ -4,6 +4,20 @@ use std::env;
 
 /// What the words ask for.
 #[derive(Debug, Drop)]
+pub(crate) enum Task {
+    /// Each kind of work is done.
+    Work(Words),
+    /// The rows of a store are committed once more.
+    Again {
+        /// Where it is.
+        from: String,
+        /// Where they are committed to.
+        to: String,
+    },
+}
+
+/// The work, and the store that it is done on.
+#[derive(Debug, Drop)]
 pub(crate) struct Words {
     /// How many messages are over.
     pub(crate) finished: u64,
@@ -85,35 +99,51 @@ fn all_of(
     open: Option<String>,
     turns: Option<String>,
     file: Option<String>,
-) -> Option<Words> {
+) -> Option<Task> {
     let finished = number_of(finished);
     let open = number_of(open);
     let turns = number_of(turns);
     match (finished, open, turns) {
-        (Some(finished), Some(open), Some(turns)) => Some(Words {
+        (Some(finished), Some(open), Some(turns)) => Some(Task::Work(Words {
             finished,
             open,
             turns,
             file,
-        }),
+        })),
+        _ => None,
+    }
+}
+
+// The work that is done where the words say nothing.
+fn few() -> Words {
+    Words {
+        finished: 1_000,
+        open: 400,
+        turns: 64,
+        file: None,
+    }
+}
+
+fn again(from: Option<String>, to: Option<String>) -> Option<Task> {
+    match (from, to) {
+        (Some(from), Some(to)) => Some(Task::Again { from, to }),
         _ => None,
     }
 }
 
 /// What the words behind the program's name ask for, if they are of the right form.
-pub(crate) fn words_of(rt: &HostRuntime) -> Result<Option<Words>, BenchError> {
+pub(crate) fn words_of(rt: &HostRuntime) -> Result<Option<Task>, BenchError> {
     let mut args = env::args(rt)?.skip(1);
-    let Some(finished) = args.next() else {
-        return Ok(Some(Words {
-            finished: 1_000,
-            open: 400,
-            turns: 64,
-            file: None,
-        }));
+    let Some(first) = args.next() else {
+        return Ok(Some(Task::Work(few())));
     };
-    let words = all_of(Some(finished), args.next(), args.next(), args.next());
+    let task = if first.as_str() == "again" {
+        again(args.next(), args.next())
+    } else {
+        all_of(Some(first), args.next(), args.next(), args.next())
+    };
     if args.next().is_some() {
         return Ok(None);
     }
-    Ok(words)
+    Ok(task)
 }
