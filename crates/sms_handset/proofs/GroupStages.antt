@@ -561,9 +561,6 @@ discard_regroups n c = acted_regroups (Closed n) c.rows (discard n (draft_of c))
 
 -- ---- an act that was done on a draft of the handset, and what follows
 
-follows : (w : Result Draft Refusal) (d e : Draft) → w ≡ Ok d → e ≡ follow d → acted w ≡ Ok e
-follows w d e q f = ap (λ (r : Result Draft Refusal). acted r) q ∙ ap (λ (z : Draft). let r : Result Draft Refusal = Ok z in r) (sym f)
-
 -- the draft regroups as is told, and rests on the rows and its changes
 abbrev pub Leads : Regrouping → Rows → Draft → Type 0
 Leads r base d = Regroups r base d.rows × Rests base d
@@ -574,18 +571,15 @@ leads r base w d e h rests = (
   subst (λ (x : Result Draft Refusal). RestsIfDone base x) e rests,
 )
 
-pub write_then : (text to : List ℕ) (report : Bool) (c : Core) (o d e : Draft) → o ≡ draft_of c → write text to report o ≡ Ok d → e ≡ follow d → Leads Unchanged c.rows e
-write_then text to report c o d e p q f =
-    leads Unchanged c.rows (wrote text to report c) e
-    (follows (write text to report (draft_of c)) d e (ap (λ (z : Draft). write text to report z) (sym p) ∙ q) f)
+pub write_then : (text to : List ℕ) (report : Bool) (c : Core) (o e : Draft) → o ≡ draft_of c → acted (write text to report o) ≡ Ok e → Leads Unchanged c.rows e
+write_then text to report c o e p q =
+    leads Unchanged c.rows (wrote text to report c) e (ap (λ (z : Draft). acted (write text to report z)) (sym p) ∙ q)
     (write_regroups text to report c) (write_rests text to report c)
 
-pub delete_then : (n : ℕ) (c : Core) (o d e : Draft) → o ≡ draft_of c → delete n o ≡ Ok d → e ≡ follow d → Leads Unchanged c.rows e
-delete_then n c o d e p q f =
-    leads Unchanged c.rows (deleted n c) e (follows (delete n (draft_of c)) d e (ap (λ (z : Draft). delete n z) (sym p) ∙ q) f)
-    (delete_regroups n c) (delete_rests n c)
+pub delete_then : (n : ℕ) (c : Core) (o e : Draft) → o ≡ draft_of c → acted (delete n o) ≡ Ok e → Leads Unchanged c.rows e
+delete_then n c o e p q =
+    leads Unchanged c.rows (deleted n c) e (ap (λ (z : Draft). acted (delete n z)) (sym p) ∙ q) (delete_regroups n c) (delete_rests n c)
 
-pub discard_then : (n : ℕ) (c : Core) (o d e : Draft) → o ≡ draft_of c → discard n o ≡ Ok d → e ≡ follow d → Leads (Closed n) c.rows e
-discard_then n c o d e p q f =
-    leads (Closed n) c.rows (discarded n c) e (follows (discard n (draft_of c)) d e (ap (λ (z : Draft). discard n z) (sym p) ∙ q) f)
-    (discard_regroups n c) (discard_rests n c)
+pub discard_then : (n : ℕ) (c : Core) (o e : Draft) → o ≡ draft_of c → acted (discard n o) ≡ Ok e → Leads (Closed n) c.rows e
+discard_then n c o e p q =
+    leads (Closed n) c.rows (discarded n c) e (ap (λ (z : Draft). acted (discard n z)) (sym p) ∙ q) (discard_regroups n c) (discard_rests n c)

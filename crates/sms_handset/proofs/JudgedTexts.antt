@@ -101,11 +101,11 @@ is_done text to report c destination j =
 pub refuses : (text to : List ℕ) (report : Bool) (c : Core) (refusal : Refusal) → JudgesText (Err refusal) text to (draft_of c) → wrote text to report c ≡ Err refusal
 refuses text to report c refusal j = ap (λ (r : Result Draft Refusal). acted r) (j report)
 
--- the draft that it leads to
-pub is_written : (text to : List ℕ) (report : Bool) (c : Core) (destination : Address) (o d : Draft) → JudgesText (Ok destination) text to (draft_of c) → o ≡ draft_of c
-    → ((parts : List Part) → split_of (content_of_text text) o.rows.counters.concat_reference ≡ Ok parts → d ≡ written destination report parts o)
-    → write text to report o ≡ Ok d
-is_written text to report c destination o d j e w =
-    let at : split_of (content_of_text text) o.rows.counters.concat_reference ≡ Ok j.1.0 = ap (λ (z : Draft). split_of (content_of_text text) z.rows.counters.concat_reference) e ∙ j.1.1.0 in
-    let done : d ≡ written destination report j.1.0 (draft_of c) = w j.1.0 at ∙ ap (λ (z : Draft). written destination report j.1.0 z) e in
-    ap (λ (z : Draft). write text to report z) e ∙ j.1.1.1.1 report ∙ ap (λ (z : Draft). let r : Result Draft Refusal = Ok z in r) (sym done)
+-- the draft that it leads to, with what follows
+pub is_written : (text to : List ℕ) (report : Bool) (c : Core) (destination : Address) (o e : Draft) → JudgesText (Ok destination) text to (draft_of c) → o ≡ draft_of c
+    → ((parts : List Part) → split_of (content_of_text text) o.rows.counters.concat_reference ≡ Ok parts → e ≡ follow (written destination report parts o))
+    → acted (write text to report o) ≡ Ok e
+is_written text to report c destination o e j p w =
+    let at : split_of (content_of_text text) o.rows.counters.concat_reference ≡ Ok j.1.0 = ap (λ (z : Draft). split_of (content_of_text text) z.rows.counters.concat_reference) p ∙ j.1.1.0 in
+    let done : e ≡ follow (written destination report j.1.0 (draft_of c)) = w j.1.0 at ∙ ap (λ (z : Draft). follow (written destination report j.1.0 z)) p in
+    ap (λ (z : Draft). acted (write text to report z)) p ∙ ap (λ (r : Result Draft Refusal). acted r) (j.1.1.1.1 report) ∙ ap (λ (z : Draft). let r : Result Draft Refusal = Ok z in r) (sym done)

@@ -3,6 +3,7 @@ ghost use Rattle.std.specs.Prelude.{◌≡◌};
 ghost use Rattle.sms_table.specs.Table.{row_at};
 ghost use Rattle.sms_handset_draft.specs.Draft.{no_changes};
 ghost use Rattle.sms_outbox.specs.Keys.{out_key};
+ghost use Rattle.sms_handset.specs.HandsetEvent.{acted};
 ghost use Rattle.sms_handset.specs.OwnersActs.{delete as delete_of, delete_out as delete_out_of, discard as discard_of};
 ghost use Rattle.sms_handset.specs.Planning.{Acts};
 
@@ -24,8 +25,7 @@ fn delete_out(draft: &mut Draft<'_>, number: u32) -> Result<(), PlanError>
     Ok(())
 }
 
-/// The owner deletes an entry.
-pub(crate) fn delete(draft: &mut Draft<'_>, number: u32) -> Result<(), PlanError>
+fn delete(draft: &mut Draft<'_>, number: u32) -> Result<(), PlanError>
     requires untouched { draft.old.changes ≡ no_changes }
     ensures { Acts result draft.new (delete_of number draft.old) }
 {
@@ -40,8 +40,7 @@ pub(crate) fn delete(draft: &mut Draft<'_>, number: u32) -> Result<(), PlanError
     Ok(())
 }
 
-/// The owner discards an open group.
-pub(crate) fn discard(draft: &mut Draft<'_>, number: u32) -> Result<(), PlanError>
+fn discard(draft: &mut Draft<'_>, number: u32) -> Result<(), PlanError>
     requires untouched { draft.old.changes ≡ no_changes }
     ensures { Acts result draft.new (discard_of number draft.old) }
 {
@@ -60,5 +59,25 @@ pub(crate) fn discard(draft: &mut Draft<'_>, number: u32) -> Result<(), PlanErro
         seen,
     })?;
     draft.free_slot();
+    Ok(())
+}
+
+/// The owner deletes an entry, and what follows every event.
+pub(crate) fn delete_and_follow(draft: &mut Draft<'_>, number: u32) -> Result<(), PlanError>
+    requires untouched { draft.old.changes ≡ no_changes }
+    ensures { Acts result draft.new (acted (delete_of number draft.old)) }
+{
+    delete(draft, number)?;
+    draft.follow()?;
+    Ok(())
+}
+
+/// The owner discards an open group, and what follows every event.
+pub(crate) fn discard_and_follow(draft: &mut Draft<'_>, number: u32) -> Result<(), PlanError>
+    requires untouched { draft.old.changes ≡ no_changes }
+    ensures { Acts result draft.new (acted (discard_of number draft.old)) }
+{
+    discard(draft, number)?;
+    draft.follow()?;
     Ok(())
 }

@@ -14,13 +14,14 @@ ghost use Rattle.sms_handset.specs.OwnersActs.{JudgesText, delete as delete_of, 
 ghost use Rattle.sms_handset.specs.SoundCore.{IsSoundCore};
 ghost use Rattle.sms_handset.specs.SoundRows.{IsSetup, IsSound, RefusesRows};
 
-use crate::deleting::{delete, discard};
+use crate::coming::{frame_and_follow, tick_and_follow};
+use crate::deleting::{delete_and_follow, discard_and_follow};
 use crate::event::HandsetEvent;
 use crate::planned::Planned;
 use crate::recover_error::RecoverError;
 use crate::refusal::{PlanError, Refusal};
 use crate::sound_rows::are_sound;
-use crate::writing::write;
+use crate::writing::write_and_follow;
 use sms_base::{Address, Holder, Listed, Moment};
 use sms_concat::count_text_parts;
 use sms_handset_draft::{Draft, Finished, NoMemory, Rows, Stored};
@@ -246,7 +247,13 @@ impl Handset {
     {
         // The call tells that the entries stand in order.
         let _in_order = self.stored.entries.as_slice();
-        let spare_groups = self.spare_groups(&regrouping)?;
+        let spare_groups = match self.spare_groups(&regrouping) {
+            Ok(spare_groups) => spare_groups,
+            Err(error) => {
+                drop(draft);
+                return Err(error);
+            }
+        };
         let finished = draft.finish(&self.stored)?;
         Ok(Planned {
             finished,
@@ -269,9 +276,13 @@ impl Handset {
     {
         let mut draft = self.draft()?;
         let tag = tag.unwrap_or(Holder::Entry(0));
-        let regrouping = draft.frame_came(octets, tag)?;
-        draft.follow()?;
-        Ok(self.planned(draft, regrouping)?)
+        match frame_and_follow(&mut draft, octets, tag) {
+            Ok(regrouping) => Ok(self.planned(draft, regrouping)?),
+            Err(error) => {
+                drop(draft);
+                Err(PlanError::from(error))
+            }
+        }
     }
 
     #[tactic(auto, using(crate::proofs::GroupStages::tick_regroups, crate::proofs::Resting::tick_rests))]
@@ -280,9 +291,13 @@ impl Handset {
         ensures fits { IfOk result (λ planned. Fits planned self.now) }
     {
         let mut draft = self.draft()?;
-        draft.tick(now)?;
-        draft.follow()?;
-        Ok(self.planned(draft, Regrouping::Unchanged)?)
+        match tick_and_follow(&mut draft, now) {
+            Ok(()) => Ok(self.planned(draft, Regrouping::Unchanged)?),
+            Err(error) => {
+                drop(draft);
+                Err(PlanError::from(error))
+            }
+        }
     }
 
     // Whether the outbox has room for so many parts, and numbers are left.
@@ -324,9 +339,13 @@ impl Handset {
             Err(refusal) => return Err(PlanError::Refused(refusal)),
         };
         let mut draft = self.draft()?;
-        write(&mut draft, text, &destination, report)?;
-        draft.follow()?;
-        Ok(self.planned(draft, Regrouping::Unchanged)?)
+        match write_and_follow(&mut draft, text, &destination, report) {
+            Ok(()) => Ok(self.planned(draft, Regrouping::Unchanged)?),
+            Err(error) => {
+                drop(draft);
+                Err(PlanError::from(error))
+            }
+        }
     }
 
     // Why the owner's act is refused, before memory is asked for.
@@ -374,9 +393,13 @@ impl Handset {
             return Err(PlanError::Refused(refusal));
         }
         let mut draft = self.draft()?;
-        delete(&mut draft, entry)?;
-        draft.follow()?;
-        Ok(self.planned(draft, Regrouping::Unchanged)?)
+        match delete_and_follow(&mut draft, entry) {
+            Ok(()) => Ok(self.planned(draft, Regrouping::Unchanged)?),
+            Err(error) => {
+                drop(draft);
+                Err(error)
+            }
+        }
     }
 
     fn plan_discard(&self, entry: u32) -> Result<Planned, PlanError>
@@ -387,8 +410,12 @@ impl Handset {
             return Err(PlanError::Refused(refusal));
         }
         let mut draft = self.draft()?;
-        discard(&mut draft, entry)?;
-        draft.follow()?;
-        Ok(self.planned(draft, Regrouping::Closed { first: entry })?)
+        match discard_and_follow(&mut draft, entry) {
+            Ok(()) => Ok(self.planned(draft, Regrouping::Closed { first: entry })?),
+            Err(error) => {
+                drop(draft);
+                Err(error)
+            }
+        }
     }
 }

@@ -7,6 +7,7 @@
 //! What its rows are of is `sms_inbox`'s and `sms_outbox`'s, the stages of its events are `sms_handset_draft`'s.
 #![tactic(auto)]
 
+mod coming;
 mod deleting;
 mod event;
 mod handset;

@@ -7,6 +7,7 @@ ghost use Rattle.sms_concat.specs.declared.content.Part.{Part as PartOf};
 ghost use Rattle.sms_concat.specs.Splitting.{split_of};
 ghost use Rattle.sms_concat.specs.TextContent.{content_of_text};
 ghost use Rattle.sms_concat.specs.UserData.{HasRoom, IsPart};
+ghost use Rattle.sms_handset_draft.specs.Outbox.{follow};
 ghost use Rattle.sms_handset.specs.OwnersActs.{count_split as count_split_of, write_part as write_part_of, write_parts as write_parts_of, written as written_of};
 
 use sms_base::Address;
@@ -114,8 +115,8 @@ fn write_all(
     write_parts(draft, destination, report, is_long, parts)
 }
 
-/// The owner writes a text, which was judged: it takes at most 20 parts, and numbers are left for them.
-pub(crate) fn write(
+// The owner writes a text, which was judged.
+fn write(
     draft: &mut Draft<'_>,
     text: &str,
     destination: &Address,
@@ -130,4 +131,19 @@ pub(crate) fn write(
         Ok(parts) => write_all(draft, destination, report, parts.as_slice()),
         Err(_) => Err(NoMemory),
     }
+}
+
+/// The owner writes a text, which was judged: it takes at most 20 parts, and numbers are left for them. And what follows every event.
+pub(crate) fn write_and_follow(
+    draft: &mut Draft<'_>,
+    text: &str,
+    destination: &Address,
+    report: bool,
+) -> Result<(), NoMemory>
+    requires address { IsAddress destination.now }
+    requires numbers { (parts : List PartOf) → split_of (content_of_text (chars text.now)) draft.old.rows.counters.concat_reference ≡ Ok parts → draft.old.rows.counters.entry + length parts ≤ 4294967295 }
+    ensures { (parts : List PartOf) → split_of (content_of_text (chars text.now)) draft.old.rows.counters.concat_reference ≡ Ok parts → OnOk result (draft.new ≡ follow (written_of destination.now report parts draft.old)) }
+{
+    write(draft, text, destination, report)?;
+    draft.follow()
 }

@@ -3,10 +3,8 @@ use Rattle.sms_handset.proofs.handset.Handset.plan_delete.Goals as goal
 
 pub planned-requires-clause-groups : goal.planned-requires-clause-groups
 planned-requires-clause-groups c =
-    (delete_then c.args.entry c.args.self.now.core c.in_ok-draft.draft c.delete.new.draft c.follow.new.self c.in_ok-draft.ensures c.in_ok-delete.ensures
-    c.in_ok-follow.ensures).0
+    (delete_then c.args.entry c.args.self.now.core c.in_ok-draft.draft c.delete_and_follow.new.draft c.in_ok-draft.ensures c.in-Ok.ensures).0
 
 pub planned-requires-clause-rests : goal.planned-requires-clause-rests
 planned-requires-clause-rests c =
-    (delete_then c.args.entry c.args.self.now.core c.in_ok-draft.draft c.delete.new.draft c.follow.new.self c.in_ok-draft.ensures c.in_ok-delete.ensures
-    c.in_ok-follow.ensures).1
+    (delete_then c.args.entry c.args.self.now.core c.in_ok-draft.draft c.delete_and_follow.new.draft c.in_ok-draft.ensures c.in-Ok.ensures).1

@@ -8,15 +8,13 @@ planned-requires-clause-groups c =
     let text = chars c.args.text.now in
     let to = chars c.args.to.now in
     let core = c.args.self.now.core in
-    (write_then text to c.args.report core c.in_ok-draft.draft c.write.new.draft c.follow.new.self c.in_ok-draft.ensures
-    (is_written text to c.args.report core c.in-Ok.destination c.in_ok-draft.draft c.write.new.draft c.in-Ok.ensures c.in_ok-draft.ensures c.in_ok-write.ensures)
-    c.in_ok-follow.ensures).0
+    (write_then text to c.args.report core c.in_ok-draft.draft c.write_and_follow.new.draft c.in_ok-draft.ensures
+    (is_written text to c.args.report core c.in-Ok.destination c.in_ok-draft.draft c.write_and_follow.new.draft c.in-Ok.ensures c.in_ok-draft.ensures c.in-Ok-write_and_follow.ensures)).0
 
 pub planned-requires-clause-rests : goal.planned-requires-clause-rests
 planned-requires-clause-rests c =
     let text = chars c.args.text.now in
     let to = chars c.args.to.now in
     let core = c.args.self.now.core in
-    (write_then text to c.args.report core c.in_ok-draft.draft c.write.new.draft c.follow.new.self c.in_ok-draft.ensures
-    (is_written text to c.args.report core c.in-Ok.destination c.in_ok-draft.draft c.write.new.draft c.in-Ok.ensures c.in_ok-draft.ensures c.in_ok-write.ensures)
-    c.in_ok-follow.ensures).1
+    (write_then text to c.args.report core c.in_ok-draft.draft c.write_and_follow.new.draft c.in_ok-draft.ensures
+    (is_written text to c.args.report core c.in-Ok.destination c.in_ok-draft.draft c.write_and_follow.new.draft c.in-Ok.ensures c.in_ok-draft.ensures c.in-Ok-write_and_follow.ensures)).1

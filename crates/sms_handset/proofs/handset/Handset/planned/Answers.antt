@@ -23,7 +23,7 @@ returns c =
         last = room.last;
         outbox = room.outbox;
         marks = room.marks;
-        groups = c.in_ok-spare_groups.ensures;
+        groups = c.in-Ok.ensures;
         index = subst (λ (r : Rows). IsRegrouped c.args.regrouping s.core.rows r) rows (c.requires.groups order numbers);
         slots = finished.slots ∙ ap (λ (r : Rows). slots_taken r.entries) rows;
       };
