@@ -5,7 +5,7 @@ ghost use Rattle.sms_play.specs.Playing.{play_of, premises_of};
 ghost use Rattle.sms_play.specs.Running.{Ran, Wrote, ran as ran_of, run_of};
 ghost use Rattle.sms_running.specs.Reporting.{Reports};
 ghost use Rattle.sms_running.specs.RunEnd.{EndsFor, Outputs, error_in, error_of, text_told};
-ghost use Rattle.sms_running.specs.declared.run.Output.TheVariants.{Report as ReportOutput};
+ghost use Rattle.sms_running.specs.declared.run.Form.TheVariants.{Report as ReportForm};
 
 use crate::opening::play_before;
 use crate::verdict::Finder;
@@ -48,7 +48,7 @@ pub enum SimError {
 
 // What is written of a run.
 #[derive(Clone, Copy, Debug)]
-enum Output {
+enum Form {
     Report,
     Ladder,
     Capture,
@@ -125,26 +125,26 @@ fn capture(alloc: Global, script: &Script<'_>) -> Result<Octets, PlayFault> {
 // What is written of a script.
 fn output_for(
     alloc: Global,
-    wanted: Output,
+    wanted: Form,
     input: &[u8],
     script: &Script<'_>,
 ) -> Result<Octets, PlayFault>
-    ensures { wanted ≡ ReportOutput → Reports result (text_told (play_of script.now.setup script.now.events) (premises_of script.now.setup script.now.events)) }
+    ensures { wanted ≡ ReportForm → Reports result (text_told (play_of script.now.setup script.now.events) (premises_of script.now.setup script.now.events)) }
 {
     match wanted {
-        Output::Report => report(alloc, script),
-        Output::Ladder => ladder(alloc, input, script),
-        Output::Capture => capture(alloc, script),
+        Form::Report => report(alloc, script),
+        Form::Ladder => ladder(alloc, input, script),
+        Form::Capture => capture(alloc, script),
     }
 }
 
 fn text_of(
     alloc: Global,
-    wanted: Output,
+    wanted: Form,
     input: &[u8],
     script: &Script<'_>,
 ) -> Result<Octets, SimError>
-    ensures { wanted ≡ ReportOutput → Outputs result (ran_of (Ok script.now)) }
+    ensures { wanted ≡ ReportForm → Outputs result (ran_of (Ok script.now)) }
 {
     match output_for(alloc, wanted, input, script) {
         Ok(text) => Ok(text),
@@ -153,8 +153,8 @@ fn text_of(
 }
 
 // What is written for an input.
-fn output(alloc: Global, wanted: Output, input: &[u8]) -> Result<Octets, SimError>
-    ensures { wanted ≡ ReportOutput → Outputs result (run_of input.now) }
+fn output(alloc: Global, wanted: Form, input: &[u8]) -> Result<Octets, SimError>
+    ensures { wanted ≡ ReportForm → Outputs result (run_of input.now) }
 {
     match read_script(alloc, input) {
         Ok(script) => text_of(alloc, wanted, input, &script),
@@ -186,11 +186,11 @@ fn write_text<W: Write>(writer: &mut W, text: &[u8]) -> Result<(), SimError>
 // What is written for an input, written.
 fn write_output<W: Write>(
     alloc: Global,
-    wanted: Output,
+    wanted: Form,
     input: &[u8],
     writer: &mut W,
 ) -> Result<(), SimError>
-    ensures { wanted ≡ ReportOutput → EndsFor result (λ text. Appends (W.contents writer.old) (W.contents writer.new) text) (writer.new ≡ writer.old) (run_of input.now) }
+    ensures { wanted ≡ ReportForm → EndsFor result (λ text. Appends (W.contents writer.old) (W.contents writer.new) text) (writer.new ≡ writer.old) (run_of input.now) }
 {
     match output(alloc, wanted, input) {
         Ok(text) => write_text(writer, text.as_slice()),
@@ -200,11 +200,11 @@ fn write_output<W: Write>(
 
 fn run<R: Read, W: Write>(
     alloc: Global,
-    wanted: Output,
+    wanted: Form,
     reader: &mut R,
     writer: &mut W,
 ) -> Result<(), SimError>
-    ensures { wanted ≡ ReportOutput → IfSome (R.remaining reader.old) (λ input. EndsFor result (λ text. Appends (W.contents writer.old) (W.contents writer.new) text) (writer.new ≡ writer.old) (run_of input)) }
+    ensures { wanted ≡ ReportForm → IfSome (R.remaining reader.old) (λ input. EndsFor result (λ text. Appends (W.contents writer.old) (W.contents writer.new) text) (writer.new ≡ writer.old) (run_of input)) }
 {
     match read_all(alloc, reader) {
         Ok(input) => write_output(alloc, wanted, input.as_slice(), writer),
@@ -221,7 +221,7 @@ pub fn run_sim<R: Read, W: Write>(
     // Where what the reader and the writer hold is known, the definition's text is written and nothing else.
     ensures { IfSome (R.remaining reader.old) (λ input. EndsFor result (λ text. Appends (W.contents writer.old) (W.contents writer.new) text) (writer.new ≡ writer.old) (run_of input)) }
 {
-    run(alloc, Output::Report, reader, writer)
+    run(alloc, Form::Report, reader, writer)
 }
 
 /// Reads the text of a script to its end, and writes the run as a ladder: a lane for each application, for the centre and for each
@@ -232,7 +232,7 @@ pub fn run_ladder<R: Read, W: Write>(
     reader: &mut R,
     writer: &mut W,
 ) -> Result<(), SimError> {
-    run(alloc, Output::Ladder, reader, writer)
+    run(alloc, Form::Ladder, reader, writer)
 }
 
 /// Reads the text of a script to its end, and writes what crosses the links of the centre as a capture file: what comes to it, and what
@@ -242,5 +242,5 @@ pub fn run_capture<R: Read, W: Write>(
     reader: &mut R,
     writer: &mut W,
 ) -> Result<(), SimError> {
-    run(alloc, Output::Capture, reader, writer)
+    run(alloc, Form::Capture, reader, writer)
 }
