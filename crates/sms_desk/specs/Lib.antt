@@ -4,8 +4,8 @@ pub mod Became
 pub mod Dropping
 pub mod Entries
 pub mod Going
-pub mod ReportsInMemory
 pub mod Pending
 pub mod ReceiptMoves
+pub mod ReportsInMemory
 pub mod Serving
 pub mod Updates

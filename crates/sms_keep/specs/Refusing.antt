@@ -1,5 +1,5 @@
 -- What a store tells of the calls that it refused.
-use Rattle.std.specs.Prelude.{◌≡◌, ◌+◌, ◌%◌, ◌^◌, ℕ, Option, Some, None, Result, Ok, Err}
+use Rattle.std.specs.Prelude.{◌≡◌, ◌+◌, ◌%◌, ◌^◌, ℕ, Some, None, Result, Ok, Err}
 use Rattle.sms_keep.specs.declared.refusals.Refusals.{Refusals}
 
 abbrev pub no_refusals : Refusals

@@ -9,6 +9,7 @@
 mod body_keep;
 mod error;
 mod keep;
+pub mod laws;
 mod refusals;
 
 pub use body_keep::BodyKeep;

@@ -1,3 +1,3 @@
 pub mod Blank
-pub mod Judged
 pub mod ColumnPlan
+pub mod Judged

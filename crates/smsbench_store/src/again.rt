@@ -16,7 +16,13 @@ use std::alloc::Global;
 
 fn rows_in<S: Alter + Drop>(keep: CentreKeep<S>) -> Result<Rows, BenchError> {
     let mut keep = keep;
-    Ok(keep.load()?)
+    let rows = keep.load()?;
+    let messages = rows.messages.len();
+    if rows.parts.len() == messages && rows.priorities.len() == messages {
+        Ok(rows)
+    } else {
+        Err(BenchError::Refused)
+    }
 }
 
 fn rows_of(rt: &HostRuntime, path: &str) -> Result<Rows, BenchError> {
@@ -26,9 +32,18 @@ fn rows_of(rt: &HostRuntime, path: &str) -> Result<Rows, BenchError> {
     }
 }
 
-// The message has one part, and this is it.
-fn is_whole(message: MessageId, part: &PartRow) -> Result<(), BenchError> {
+// This is the first part of the message.
+fn check_part(message: MessageId, part: &PartRow) -> Result<(), BenchError> {
     if part.id == message && part.number == 1 {
+        Ok(())
+    } else {
+        Err(BenchError::Refused)
+    }
+}
+
+// This is the priority of the message.
+fn check_priority(message: MessageId, priority: &PriorityRow) -> Result<(), BenchError> {
+    if priority.id == message {
         Ok(())
     } else {
         Err(BenchError::Refused)
@@ -53,7 +68,8 @@ fn submission(
     part: PartRow,
     priority: PriorityRow,
 ) -> Result<Changes, BenchError> {
-    is_whole(message.id, &part)?;
+    check_part(message.id, &part)?;
+    check_priority(message.id, &priority)?;
     let handset = handset_of(handsets, message.handset)?;
     let (reference, submitted) = (part.reference, message.submitted);
     let mut message = message;
@@ -80,7 +96,7 @@ fn submission(
 
 // What its delivery put: the message, and how far its part is.
 fn delivery(alloc: Global, message: MessageRow, part: &PartRow) -> Result<Changes, BenchError> {
-    is_whole(message.id, part)?;
+    check_part(message.id, part)?;
     let key = Key::pair(message.id.number(), 1);
     let mut changes = no_changes(alloc);
     changes.messages.push(Change::Put(message))?;
@@ -138,7 +154,8 @@ fn commit_to<S: Alter + Drop>(
     deliveries(rt, &mut keep, rows_of(rt, from)?)
 }
 
-/// Commits the rows of the store at `from` to one that is made at `to`. Each of its messages has one part.
+/// Commits the rows of the store at `from` to one that is made at `to`. Each of its messages has one part and a priority, or nothing is
+/// committed.
 pub(crate) fn commit_again(rt: &HostRuntime, from: &str, to: &str) -> Result<(), BenchError> {
     match CentreKeep::open(rt, to, setup(rt.alloc())?) {
         Ok(keep) => commit_to(rt, keep, from),
