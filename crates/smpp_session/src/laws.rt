@@ -5,7 +5,7 @@ ghost use Rattle.smpp_session.specs.declared.account.Account.{Account as Account
 ghost use Rattle.smpp_session.specs.declared.action.Action.{Action as ActionOf};
 ghost use Rattle.smpp_session.specs.declared.calling.Call.{Call as CallOf};
 ghost use Rattle.smpp_session.specs.declared.conversation.SessionState.TheVariants.{Closed};
-ghost use Rattle.smpp_session.specs.declared.turn.Turn.{Turn as TurnOf};
+ghost use Rattle.smpp_session.specs.declared.turn.SessionStep.{SessionStep as TurnOf};
 ghost use Rattle.smpp_session.specs.Stream.{IsStream};
 ghost use Rattle.smpp_session.specs.SessionRun.{stream, by_pieces};
 ghost use Rattle.smpp_session.specs.Sessions.{SessionView, opened, number_to_send, fed};
@@ -49,8 +49,8 @@ pub fn nothing_after_closed()
     ensures { (session : SessionView) (before : List ActionOf) (calls : List CallOf) → session.conversation.state ≡ Closed → ((ran (session, before) calls).0.conversation.state ≡ Closed) × ((ran (session, before) calls).1 ≡ before) }
 {}
 
-/// Over any calls, an account is bound behind octets that are fed then exactly where the owner was told so: by the actions,
-/// and by the word of a lost bind.
+/// Over any calls the owner knows whether an account is bound after the octets that were fed. The actions and the mark
+/// of a lost bind say so exactly.
 pub fn owner_knows_whether_an_account_is_bound()
     ensures { (accounts : List AccountOf) (calls : List CallOf) (octets : List ℕ) → is_bound (fed (ran (opened accounts, []) calls).0 octets).0.conversation.state ≡ bound_as_told (ran (opened accounts, []) calls).0 octets }
 {}

@@ -1,5 +1,6 @@
 pub mod Answering
-pub mod Coming
+pub mod SubmitOutcomes
 pub mod Found
 pub mod Knowing
 pub mod Walking
+pub mod offering

@@ -1,13 +1,13 @@
-//! What a centre is told when it starts.
+//! What a centre is given when it starts.
 use sms_base::{Address, Listed, Moment};
-use sms_intake::Account;
+use sms_intake::CentreAccount;
 
-/// What a centre is told when it starts, and does not store.
+/// What a centre is given when it starts, and does not store.
 #[derive(Debug, Drop)]
 pub struct Setup {
     /// Its own address.
     pub centre: Address,
     /// Its first moment.
     pub start: Moment,
-    pub accounts: Listed<Account>,
+    pub accounts: Listed<CentreAccount>,
 }

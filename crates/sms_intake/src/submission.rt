@@ -4,7 +4,7 @@ use sms_concat::{ConcatKey, Content};
 
 /// An application's account.
 #[derive(Debug, Drop)]
-pub struct Account {
+pub struct CentreAccount {
     /// Its name, the system_id of its sessions.
     pub name: Octets,
     /// The source of messages that name none.
@@ -41,7 +41,7 @@ pub struct Submission {
     pub originator: Originator,
     /// TP-OA of its parts.
     pub source: Address,
-    /// The digits 0 to 9 of the handset to which it goes.
+    /// The digits 0 to 9 of its handset.
     pub handset: Digits,
     /// TP-PID.
     pub protocol_identifier: u8,

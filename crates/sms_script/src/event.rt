@@ -33,7 +33,7 @@ pub struct Submission<'a> {
 #[derive(Debug, Drop)]
 pub enum Act<'a> {
     Submit(Submission<'a>),
-    /// The text of the message's id stands as it was written.
+    /// The text of the message's id, as it was written.
     Query {
         name: OctetView<'a>,
         id: OctetView<'a>,
@@ -67,7 +67,7 @@ pub enum Act<'a> {
 
 /// Where an act was stopped: before its store call, or after it.
 #[derive(Clone, Copy, Debug, PartialEq, Eq)]
-pub enum Stop {
+pub enum StopPoint {
     Before,
     After,
 }
@@ -76,6 +76,6 @@ pub enum Stop {
 #[derive(Debug, Drop)]
 pub enum WorldEvent<'a> {
     Whole(Act<'a>),
-    Stopped(Stop, Act<'a>),
+    Stopped(StopPoint, Act<'a>),
     Restart(Side<'a>),
 }

@@ -1,13 +1,14 @@
-//! What a service stands for.
+//! What a service represents.
 
-use crate::floor::Floor;
+use crate::seat_map::SeatMap;
 use sms_centre_spec::Rows;
 use std::marker::Model;
 
-/// What a service stands for, as contracts see it: a centre between two events, and who sits where. No value of it is made.
+/// What a service represents, as contracts see it: a centre between events, and which handset and session is at which
+/// seat. No value of it is made.
 pub struct Served {
     pub rows: Rows,
-    pub floor: Floor,
+    pub seat_map: SeatMap,
 }
 
 impl Model for Served {
@@ -16,5 +17,5 @@ impl Model for Served {
 
     ghost Value = { Serving };
 
-    ghost view = { λ s. restarted s.rows (seats_in s.floor) };
+    ghost view = { λ s. restarted s.rows (seats_in s.seat_map) };
 }

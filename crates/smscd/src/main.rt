@@ -1,19 +1,36 @@
 //! The centre's server: applications by SMPP and handsets by links, on this machine; or a look at its store.
+//!
+//! It gives sockets, threads, a clock and files to `smsc_service` and `smsc_endpoint`, which do the work. What its
+//! threads and sockets carry is not proved.
+//!
+//! - `accepting`: connections, accepted at both ports
+//! - `clock`: the time of this machine
+//! - `connection`: a connection that was accepted
+//! - `poller`: what wakes the thread that accepts connections
+//! - `seat_context`: the threads of the seats
+//! - `server`: the seats of a run with their threads, and the keeper
+//! - `looking`: a look at a store, which changes nothing
+//! - `reading`: the threads that read connections
+//! - `refusing`: a connection that is refused
+//! - `run_fault`: why a run ended early
+//! - `running`: a run of the server
+//! - `setup`: the accounts of a run, as each part of it wants them
+//! - `observing`: the lines of standard error
 #![tactic(auto)]
 
 mod accepting;
 mod clock;
 mod connection;
-mod doorbell;
-mod guests;
-mod house;
 mod looking;
+mod observing;
+mod poller;
 mod reading;
 mod refusing;
 mod run_fault;
 mod running;
+mod seat_context;
+mod server;
 mod setup;
-mod telling;
 
 use crate::looking::show_store;
 use crate::run_fault::RunFault;

@@ -1,11 +1,11 @@
 //! Plays scripts, and compares each with the files beside it: `NAME.report` is its report or what is written on standard error,
-//! `NAME.lines` are lines of its report, `NAME.ladder` is its ladder, `NAME.pcap` its capture. Some scripts are played again with each event
-//! stopped in turn.
+//! `NAME.lines` are lines of its report, `NAME.ladder` is its ladder, `NAME.svg` its picture, `NAME.pcap` its capture. Some scripts are
+//! played again with each event stopped in turn.
 
 mod stops;
 
 use crate::scripts::stops::holds_with_stops;
-use sms_world::running::{run_capture, run_ladder, run_sim};
+use sms_world::{run_capture, run_ladder, run_picture, run_sim};
 use std::alloc::{AllocError, Global};
 use std::fs;
 use std::io::{self, Print};
@@ -39,7 +39,7 @@ const LINES: &[&str] = &[
 ];
 
 // What a script leads to: its report, or what is told of it on standard error.
-fn told(alloc: Global, script: &str) -> Result<String, AllocError> {
+fn outputs(alloc: Global, script: &str) -> Result<String, AllocError> {
     let mut input = script.as_bytes();
     let mut report: Vec<u8> = Vec::new(alloc);
     match run_sim(alloc, &mut input, &mut report) {
@@ -85,6 +85,18 @@ const LADDERS: &[&str] = &[
     "requests",
 ];
 
+// The script's picture; none where it can't be drawn.
+fn pictured(alloc: Global, script: &str) -> Vec<u8> {
+    let mut input = script.as_bytes();
+    let mut picture: Vec<u8> = Vec::new(alloc);
+    match run_picture(alloc, &mut input, &mut picture) {
+        Ok(()) => picture,
+        Err(_) => Vec::new(alloc),
+    }
+}
+
+const PICTURES: &[&str] = &["answer_lost"];
+
 // The script's capture file; none where it can't be taken.
 fn captured(alloc: Global, script: &str) -> Vec<u8> {
     let mut input = script.as_bytes();
@@ -99,11 +111,11 @@ const CAPTURES: &[&str] = &["answer_lost"];
 
 const STOPPED: &[&str] = &["one_message", "answer_lost", "late_answer"];
 
-fn judge(rt: &HostRuntime, name: &str, kind: &str, holds: bool, told: &str) -> io::Result<()> {
+fn judge(rt: &HostRuntime, name: &str, kind: &str, holds: bool, outputs: &str) -> io::Result<()> {
     if holds {
         println!(rt; "{name}.{kind}: as expected")
     } else {
-        println!(rt; "{name}.{kind}: DIFFERS\n{told}")
+        println!(rt; "{name}.{kind}: DIFFERS\n{outputs}")
     }
 }
 
@@ -120,26 +132,26 @@ fn read(rt: &HostRuntime, name: &str, kind: &str) -> io::Result<String> {
 fn judge_report(rt: &HostRuntime, name: &str) -> io::Result<()> {
     let script = read(rt, name, "script")?;
     let report = read(rt, name, "report")?;
-    let told = told(rt.alloc(), script.as_str())?;
+    let outputs = outputs(rt.alloc(), script.as_str())?;
     judge(
         rt,
         name,
         "report",
-        told.as_str() == report.as_str(),
-        told.as_str(),
+        outputs.as_str() == report.as_str(),
+        outputs.as_str(),
     )
 }
 
 fn judge_lines(rt: &HostRuntime, name: &str) -> io::Result<()> {
     let script = read(rt, name, "script")?;
     let lines = read(rt, name, "lines")?;
-    let told = told(rt.alloc(), script.as_str())?;
+    let outputs = outputs(rt.alloc(), script.as_str())?;
     judge(
         rt,
         name,
         "lines",
-        has_lines(told.as_str(), lines.as_str()),
-        told.as_str(),
+        has_lines(outputs.as_str(), lines.as_str()),
+        outputs.as_str(),
     )
 }
 
@@ -153,6 +165,20 @@ fn judge_ladder(rt: &HostRuntime, name: &str) -> io::Result<()> {
         "ladder",
         drawn.as_str() == ladder.as_str(),
         drawn.as_str(),
+    )
+}
+
+fn judge_picture(rt: &HostRuntime, name: &str) -> io::Result<()> {
+    let script = read(rt, name, "script")?;
+    let path = path_of(rt, name, "svg")?;
+    let picture = fs::read(rt, path.as_str())?;
+    let pictured = pictured(rt.alloc(), script.as_str());
+    judge(
+        rt,
+        name,
+        "svg",
+        pictured.as_slice() == picture.as_slice(),
+        "",
     )
 }
 
@@ -186,6 +212,9 @@ pub(crate) fn run(rt: &HostRuntime) -> io::Result<()> {
     }
     for name in LADDERS {
         judge_ladder(rt, name)?;
+    }
+    for name in PICTURES {
+        judge_picture(rt, name)?;
     }
     for name in CAPTURES {
         judge_capture(rt, name)?;

@@ -6,10 +6,11 @@ ghost use Rattle.sms_handset.specs.declared.event.HandsetEvent.TheVariants.{Writ
 ghost use Rattle.std.specs.Io.KnownBytes.{Appends};
 ghost use Rattle.sms_handset.specs.machine.Stepping.{MakesTheChanges, happened};
 ghost use Rattle.handset.specs.link_run.Asking.{answer_to, entry_of, event_of};
-ghost use Rattle.handset.specs.link_run.Course.{Does, Sends};
+ghost use Rattle.handset.specs.link_run.Run.{Does, Sends};
+ghost use Rattle.sms_handset.specs.machine.InMachine.{core_in, handset_in};
 
 use crate::link_run::link::send;
-use crate::link_run::run_error::{RunError, Stop};
+use crate::link_run::run_error::{LinkStop, RunError};
 use sms_base::{Listed, OctetView};
 use sms_handset::machine::{HandsetMachine, StepError};
 use sms_handset::{Changes, HandsetEvent, Rows, TextView};
@@ -46,7 +47,7 @@ fn write<K: Keep<Rows = Rows, Changes = Changes> + Drop>(
     text: &sms_script::TextView<'_>,
 ) -> Result<Listed<Outgoing>, StepError>
     requires { MakesTheChanges K.after }
-    ensures { Does result machine.old.handset machine.new.handset (happened (WriteOf (chars text.now) (chars (encode_utf8_all to.now)) report) machine.old.handset.core) }
+    ensures { Does result (handset_in machine.old) (handset_in machine.new) (happened (WriteOf (chars text.now) (chars (encode_utf8_all to.now)) report) (core_in machine.old)) }
 {
     let to = match text_of(alloc, to.as_slice()) {
         Ok(to) => to,
@@ -73,7 +74,7 @@ fn meet<K: Keep<Rows = Rows, Changes = Changes> + Drop>(
     act: &OwnersAct<'_>,
 ) -> Result<Listed<Outgoing>, StepError>
     requires { MakesTheChanges K.after }
-    ensures { Does result machine.old.handset machine.new.handset (happened (event_of act.now) machine.old.handset.core) }
+    ensures { Does result (handset_in machine.old) (handset_in machine.new) (happened (event_of act.now) (core_in machine.old)) }
 {
     match act {
         OwnersAct::Write { to, report, text } => write(alloc, machine, to, *report, text),
@@ -86,16 +87,16 @@ fn meet<K: Keep<Rows = Rows, Changes = Changes> + Drop>(
     }
 }
 
-fn put<A: Write>(answers: &mut A, octets: &[u8]) -> Result<(), Stop>
+fn put<A: Write>(answers: &mut A, octets: &[u8]) -> Result<(), LinkStop>
     ensures { OnOk result (Appends (A.contents answers.old) (A.contents answers.new) octets.now) }
 {
     match answers.write_all(octets) {
         Ok(()) => Ok(()),
-        Err(error) => Err(Stop::Error(RunError::Answers(error))),
+        Err(error) => Err(LinkStop::Error(RunError::Answers(error))),
     }
 }
 
-fn answer<A: Write>(answers: &mut A, code: &str) -> Result<(), Stop>
+fn answer<A: Write>(answers: &mut A, code: &str) -> Result<(), LinkStop>
     ensures { OnOk result (Appends (A.contents answers.old) (A.contents answers.new) (code.now ++ 10 ∷ [])) }
 {
     put(answers, code.as_bytes())?;
@@ -109,10 +110,11 @@ pub(crate) fn act<K: Keep<Rows = Rows, Changes = Changes> + Drop, W: Write, A: W
     act: &OwnersAct<'_>,
     link: &mut W,
     answers: &mut A,
-) -> Result<(), Stop>
+) -> Result<(), LinkStop>
     requires { MakesTheChanges K.after }
-    ensures sends { OnOk result ((out : List ℕ) × (Sends (event_of act.now) machine.old.handset.core machine.new.handset.core out × Appends (W.contents link.old) (W.contents link.new) out)) }
-    ensures answers { OnOk result (Appends (A.contents answers.old) (A.contents answers.new) (answer_to (event_of act.now) machine.old.handset.core)) }
+    ensures sends { OnOk result ((out : List ℕ) × (Sends (event_of act.now) (core_in machine.old) (core_in machine.new) out
+        × Appends (W.contents link.old) (W.contents link.new) out)) }
+    ensures answers { OnOk result (Appends (A.contents answers.old) (A.contents answers.new) (answer_to (event_of act.now) (core_in machine.old))) }
 {
     match meet(alloc, machine, act) {
         Ok(frames) => {
@@ -120,6 +122,6 @@ pub(crate) fn act<K: Keep<Rows = Rows, Changes = Changes> + Drop, W: Write, A: W
             send(alloc, link, frames.as_slice())
         }
         Err(StepError::Refused(refusal)) => answer(answers, refusal.code()),
-        Err(error) => Err(Stop::from(error)),
+        Err(error) => Err(LinkStop::from(error)),
     }
 }

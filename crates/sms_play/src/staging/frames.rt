@@ -1,7 +1,7 @@
 //! The frames that were sent, by number.
 ghost use Rattle.std.specs.Prelude.{◌≡◌, OnOk, option_copied};
 ghost use Rattle.sms_play.specs.CentreSide.{all_sent as all_sent_down};
-ghost use Rattle.sms_play.specs.Course.{frame_at as frame_at_number, sent as sent_of};
+ghost use Rattle.sms_play.specs.PlayState.{frame_at as frame_at_number, sent as sent_of};
 ghost use Rattle.sms_play.specs.HandsetSide.{all_sent as all_sent_up};
 ghost use Rattle.sms_play.specs.staging.Numbering.{AreNumbered};
 
@@ -33,7 +33,7 @@ fn send(
     })
 }
 
-/// The frames of a handset go out.
+/// Adds the frames of a handset, under the next numbers.
 pub fn send_up(
     handset: Digits,
     frames: Listed<Outgoing>,
@@ -47,7 +47,7 @@ pub fn send_up(
     Ok(())
 }
 
-/// The frames of the centre go out.
+/// Adds the frames of the centre, under the next numbers.
 pub fn send_down(frames: Listed<Sent>, bag: &mut Listed<FrameRow>) -> Result<(), AllocError>
     ensures { OnOk result (bag.new ≡ all_sent_down frames bag.old) }
 {

@@ -3,8 +3,8 @@ ghost use Rattle.sms_player.specs.handset.Meeting.{KeepsMomentsLaw, RestsLaw};
 
 use sms_handset::laws::rows_are_the_changes;
 
-/// Time goes on by ticks alone, and never back.
-pub fn moments_come_by_ticks()
+/// Only ticks change the moment, and it never decreases.
+pub fn only_ticks_advance_time()
     ensures { KeepsMomentsLaw }
 {}
 

@@ -1,9 +1,9 @@
 //! The deadlines of all messages that are pending.
-ghost use Rattle.std.specs.Prelude.{◌≡◌, ◌⊎◌, ◌+◌, ◌-◌, ◌≤◌, ℕ, [], ◌∷◌, length, max, Some, OnErr, OnOk, IfOk, IsOk};
+ghost use Rattle.std.specs.Prelude.{◌≡◌, ◌⊎◌, ◌+◌, ◌-◌, ◌≤◌, ℕ, [], ◌∷◌, length, max, IfSome, Some, OnErr, OnOk, IfOk, IsOk};
 ghost use Rattle.std.specs.BinaryHeap.{IsHeap};
-ghost use Rattle.std.specs.List.Sorted.{IsNonDecreasing};
+ghost use Rattle.std.specs.List.Sorted.{IsNonDecreasing, IsPermutation};
 ghost use Rattle.sms_base.specs.Among.{Among};
-ghost use Rattle.sms_rows.specs.expiry.Deadlines.{HasPast, IsCollected, first_of, heap_cmp};
+ghost use Rattle.sms_rows.specs.expiry.Deadlines.{HasOnlyPast, HasPast, IsCollected, IsPastIn, first_of, heap_cmp};
 ghost use Rattle.sms_rows.specs.declared.expiry.deadline.Deadline.{Deadline as DeadlineOf};
 
 use crate::expiry::deadline::Deadline;
@@ -33,11 +33,11 @@ impl Model for Deadlines {
 
 /// Memory for deadlines that no heap uses yet, seen by contracts as how many it holds.
 #[derive(Drop)]
-pub struct SpareDeadlines {
+pub struct DeadlinesReserve {
     heap: BinaryHeap<Reverse<Deadline>>,
 }
 
-impl Model for SpareDeadlines {
+impl Model for DeadlinesReserve {
     ghost use Rattle.std.specs.Prelude.{◌≡◌, ℕ, []};
     ghost use Rattle.std.specs.BinaryHeap.{heap_capacity, heap_items};
 
@@ -63,6 +63,7 @@ impl Deadlines {
         ensures own { OnOk result (Among deadline self.new.items) }
         ensures others { (other : DeadlineOf) → Among other self.old.items → Among other self.new.items }
         ensures len { OnOk result (length self.new.items ≡ length self.old.items + 1) }
+        ensures exact { OnOk result (IsPermutation (deadline ∷ self.old.items) self.new.items) }
         ensures err { OnErr result (self.new.items ≡ self.old.items) }
         ensures capacity { self.old.capacity ≤ self.new.capacity }
         ensures ready { length self.old.items + 1 ≤ self.old.capacity → IsOk result }
@@ -77,6 +78,7 @@ impl Deadlines {
         ensures own { Among deadline self.new.items }
         ensures others { (other : DeadlineOf) → Among other self.old.items → Among other self.new.items }
         ensures len { length self.new.items ≡ length self.old.items + 1 }
+        ensures exact { IsPermutation (deadline ∷ self.old.items) self.new.items }
         ensures capacity { self.old.capacity ≤ self.new.capacity }
     {
         match self.push(deadline) {
@@ -85,7 +87,7 @@ impl Deadlines {
         }
     }
 
-    /// The one that stands first, if there is one.
+    /// The first deadline of the heap, if there is one.
     pub fn first(&self) -> Option<Deadline>
         ensures { result ≡ first_of self.now.items }
     {
@@ -95,24 +97,25 @@ impl Deadlines {
         }
     }
 
-    /// The one that stands first goes.
+    /// Removes the first deadline of the heap.
     pub fn drop_first(&mut self)
         ensures others { (other : DeadlineOf) → Among other self.old.items → (Some other ≡ first_of self.old.items) ⊎ Among other self.new.items }
         ensures len { length self.new.items ≤ length self.old.items }
         ensures less { length self.new.items ≡ length self.old.items - 1 }
+        ensures exact { IfSome (first_of self.old.items) (λ first. IsPermutation self.old.items (first ∷ self.new.items)) }
         ensures capacity { self.new.capacity ≡ self.old.capacity }
     {
         self.heap.pop();
     }
 
     /// Memory for that many deadlines more where the own is too small for them, else none.
-    pub fn make_spare(&self, alloc: Global, extra: usize) -> Result<SpareDeadlines, AllocError>
-        ensures { IfOk result (λ spare. length self.now.items + extra ≤ max self.now.capacity spare) }
+    pub fn make_reserve(&self, alloc: Global, extra: usize) -> Result<DeadlinesReserve, AllocError>
+        ensures { IfOk result (λ reserve. length self.now.items + extra ≤ max self.now.capacity reserve) }
     {
         let len = self.heap.len();
         if extra <= self.heap.capacity() - len {
             let heap = BinaryHeap::new(alloc);
-            return Ok(SpareDeadlines { heap });
+            return Ok(DeadlinesReserve { heap });
         }
         let Some(wanted) = len.checked_add(extra) else {
             return Err(AllocError);
@@ -121,16 +124,17 @@ impl Deadlines {
             return Err(AllocError);
         };
         let heap = BinaryHeap::with_capacity(alloc, capacity)?;
-        Ok(SpareDeadlines { heap })
+        Ok(DeadlinesReserve { heap })
     }
 
     /// Moves the deadlines into the memory where it is larger than the own, without taking memory.
-    pub fn use_spare(&mut self, spare: SpareDeadlines)
+    pub fn use_reserve(&mut self, reserve: DeadlinesReserve)
         ensures items { (deadline : DeadlineOf) → Among deadline self.old.items → Among deadline self.new.items }
         ensures len { length self.new.items ≡ length self.old.items }
-        ensures capacity { max self.old.capacity spare ≤ self.new.capacity }
+        ensures exact { IsPermutation self.old.items self.new.items }
+        ensures capacity { max self.old.capacity reserve ≤ self.new.capacity }
     {
-        let mut heap = spare.heap;
+        let mut heap = reserve.heap;
         if self.heap.capacity() < heap.capacity() {
             match heap.append(&mut self.heap) {
                 Ok(()) => self.heap = heap,
@@ -139,10 +143,11 @@ impl Deadlines {
         }
     }
 
-    /// The numbers of messages whose moment has come, none of them missing, in order; a number may stand there twice. It
-    /// costs a logarithm for each.
+    /// The numbers of messages whose moment is reached, none of them missing and no other, in order. A number may be
+    /// there twice. It costs a logarithm for each.
     pub fn past(&self, alloc: Global, now: Moment) -> Result<Vec<u64>, AllocError>
         ensures all { IfOk result (λ ids. HasPast now self.now.items ids.items) }
+        ensures only { IfOk result (λ ids. HasOnlyPast now self.now.items ids.items) }
         ensures order { IfOk result (λ ids. IsNonDecreasing ids.items) }
     {
         let mut ids = Vec::new(alloc);
@@ -163,6 +168,7 @@ fn collect(
     requires { IsHeap heap_cmp heap.now }
     ensures kept { OnOk result ((n : ℕ) → Among n ids.old.items → Among n ids.new.items) }
     ensures found { OnOk result (IsCollected now heap.now place ids.new.items) }
+    ensures only { OnOk result ((n : ℕ) → Among n ids.new.items → Among n ids.old.items ⊎ IsPastIn now heap.now n) }
 {
     if place >= heap.len() {
         return Ok(());

@@ -1,13 +1,13 @@
 //! The names of accounts, each kept once.
-ghost use Rattle.std.specs.Prelude.{◌≡◌, [], ◌<◌, IfOk, IfSome, IsOk, OnErr, option_copied, slice_get};
-ghost use Rattle.sms_rows.specs.interning.Interning.{Interned, IsAt, Keeps, Makes, Suffices};
+ghost use Rattle.std.specs.Prelude.{◌≡◌, [], ◌<◌, IfNone, IfOk, IfSome, IsOk, OnErr, option_copied, slice_get};
+ghost use Rattle.sms_rows.specs.interning.Interning.{Interned, IsAt, IsNowhere, Keeps, Makes, Suffices};
 
 use sms_base::Octets;
 use std::alloc::{AllocError, Global};
 use std::marker::Model;
 
-/// The names of accounts, each once, seen by contracts as the list of them and how many more the memory holds. A look-up
-/// goes through them: a centre has 32 accounts at most.
+/// The names of accounts, each once. Contracts see the list of them and how many more the memory holds. A look-up walks
+/// through them: a centre has 32 accounts at most.
 #[derive(Drop)]
 pub struct Accounts {
     names: Vec<Octets>,
@@ -24,11 +24,11 @@ impl Model for Accounts {
 
 /// Memory for names that no list uses yet, seen by contracts as how many it holds.
 #[derive(Drop)]
-pub struct SpareAccounts {
+pub struct AccountsReserve {
     names: Vec<Octets>,
 }
 
-impl Model for SpareAccounts {
+impl Model for AccountsReserve {
     ghost use Rattle.std.specs.Prelude.{◌≡◌, ℕ, [], vec_capacity};
 
     ghost Value = { ℕ };
@@ -50,7 +50,8 @@ impl Accounts {
 
     // The place of the name, if it is there.
     fn place(&self, name: &Octets) -> Option<usize>
-        ensures { IfSome result (λ place. IsAt name.now place self.now.values) }
+        ensures some { IfSome result (λ place. IsAt name.now place self.now.values) }
+        ensures none { IfNone result (IsNowhere name.now self.now.values) }
     {
         for place in 0..self.names.len() {
             if self.names[place].as_slice() == name.as_slice() {
@@ -67,7 +68,7 @@ impl Accounts {
         self.names.as_slice().get(place)
     }
 
-    /// The place of the name, which comes where it is not there. Where memory is wanting, nothing has changed.
+    /// The place of the name, which is added where it is not there. Where memory is wanting, nothing has changed.
     pub fn put(&mut self, name: Octets) -> Result<usize, AllocError>
         ensures ok { IfOk result (λ place. Interned self.old name place self.new) }
         ensures err { OnErr result (self.new.values ≡ self.old.values) }
@@ -81,7 +82,7 @@ impl Accounts {
         Ok(place)
     }
 
-    /// The same without taking memory.
+    /// Puts a name where there is room, without taking memory, and gives its place.
     pub fn put_ready(&mut self, name: Octets) -> usize
         requires { 0 < self.old.room }
         ensures { Interned self.old name result self.new }
@@ -93,13 +94,13 @@ impl Accounts {
     }
 
     /// Memory for that many names more where the own is too small for them, else none.
-    pub fn make_spare(&self, alloc: Global, extra: usize) -> Result<SpareAccounts, AllocError>
-        ensures { IfOk result (λ spare. Suffices extra spare self.now) }
+    pub fn make_reserve(&self, alloc: Global, extra: usize) -> Result<AccountsReserve, AllocError>
+        ensures { IfOk result (λ reserve. Suffices extra reserve self.now) }
     {
         let len = self.names.len();
         if extra <= self.names.capacity() - len {
             let names = Vec::new(alloc);
-            return Ok(SpareAccounts { names });
+            return Ok(AccountsReserve { names });
         }
         let Some(wanted) = len.checked_add(extra) else {
             return Err(AllocError);
@@ -108,15 +109,16 @@ impl Accounts {
             return Err(AllocError);
         };
         let names = Vec::with_capacity(alloc, capacity)?;
-        Ok(SpareAccounts { names })
+        Ok(AccountsReserve { names })
     }
 
     /// Moves the names into the memory where it is larger than the own, without taking memory.
-    pub fn use_spare(&mut self, spare: SpareAccounts)
+    pub fn use_reserve(&mut self, reserve: AccountsReserve)
         ensures values { Keeps self.old.values self.new.values }
-        ensures room { Makes spare self.old self.new }
+        ensures same { self.new.values ≡ self.old.values }
+        ensures room { Makes reserve self.old self.new }
     {
-        let mut names = spare.names;
+        let mut names = reserve.names;
         if self.names.capacity() < names.capacity() {
             match names.append(&mut self.names) {
                 Ok(()) => self.names = names,

@@ -27,11 +27,11 @@ impl Model for Numbers {
 
 /// Memory for numbers that no set uses yet, seen by contracts as how many it holds.
 #[derive(Drop)]
-pub struct SpareNumbers {
+pub struct NumbersReserve {
     set: IndexSet<Number>,
 }
 
-impl Model for SpareNumbers {
+impl Model for NumbersReserve {
     ghost use Rattle.std.specs.Prelude.{◌≡◌, ℕ, []};
     ghost use Rattle.indexmap.specs.IndexSet.{spare};
 
@@ -73,7 +73,7 @@ impl Numbers {
         }
     }
 
-    /// The place of the number, which comes where it is not there. Where memory is wanting, nothing has changed.
+    /// The place of the number, which is added where it is not there. Where memory is wanting, nothing has changed.
     pub fn put(&mut self, digits: Digits) -> Result<usize, AllocError>
         ensures ok { IfOk result (λ place. Interned self.old digits place self.new) }
         ensures err { OnErr result (self.new.values ≡ self.old.values) }
@@ -83,7 +83,7 @@ impl Numbers {
         Ok(place)
     }
 
-    /// The same without taking memory.
+    /// Puts digits where there is room, without taking memory, and gives their place.
     pub fn put_ready(&mut self, digits: Digits) -> usize
         requires { 0 < self.old.room }
         ensures { Interned self.old digits result self.new }
@@ -95,13 +95,13 @@ impl Numbers {
     }
 
     /// Memory for that many numbers more where the own is too small for them, else none.
-    pub fn make_spare(&self, alloc: Global, extra: usize) -> Result<SpareNumbers, AllocError>
-        ensures { IfOk result (λ spare. Suffices extra spare self.now) }
+    pub fn make_reserve(&self, alloc: Global, extra: usize) -> Result<NumbersReserve, AllocError>
+        ensures { IfOk result (λ reserve. Suffices extra reserve self.now) }
     {
         let len = self.set.len();
         if extra <= self.set.capacity() - len {
             let set = IndexSet::new(alloc);
-            return Ok(SpareNumbers { set });
+            return Ok(NumbersReserve { set });
         }
         let Some(wanted) = len.checked_add(extra) else {
             return Err(AllocError);
@@ -110,15 +110,16 @@ impl Numbers {
             return Err(AllocError);
         };
         let set = IndexSet::with_capacity(alloc, capacity)?;
-        Ok(SpareNumbers { set })
+        Ok(NumbersReserve { set })
     }
 
     /// Moves the numbers into the memory where it is larger than the own, without taking memory.
-    pub fn use_spare(&mut self, spare: SpareNumbers)
+    pub fn use_reserve(&mut self, reserve: NumbersReserve)
         ensures values { Keeps self.old.values self.new.values }
-        ensures room { Makes spare self.old self.new }
+        ensures same { self.new.values ≡ self.old.values }
+        ensures room { Makes reserve self.old self.new }
     {
-        let mut set = spare.set;
+        let mut set = reserve.set;
         // The call tells that no number stands twice.
         let _len = self.set.len();
         if self.set.capacity() < set.capacity() {

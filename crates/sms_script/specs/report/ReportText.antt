@@ -11,9 +11,9 @@ use Rattle.sms_script.specs.declared.report.answers.Answered.{Answered}
 use Rattle.sms_script.specs.declared.report.answers.Answered.TheVariants.{Accepted, Found, Status, Done, Refused, Stopped}
 use Rattle.sms_script.specs.declared.report.answers.MessageState.{MessageState}
 use Rattle.sms_script.specs.declared.report.answers.MessageState.TheVariants.{Enroute, Final}
-use Rattle.sms_script.specs.declared.report.report.Broken.{Broken}
-use Rattle.sms_script.specs.declared.report.report.Broken.TheVariants.{Timely, Reused}
-use Rattle.sms_script.specs.declared.report.report.Report.{Report}
+use Rattle.sms_script.specs.declared.report.Broken.{Broken}
+use Rattle.sms_script.specs.declared.report.Broken.TheVariants.{Timely, Reused}
+use Rattle.sms_script.specs.declared.report.Report.{Report}
 use Rattle.sms_script.specs.declared.report.rows.AcceptedRow.{AcceptedRow}
 use Rattle.sms_script.specs.declared.report.rows.Direction.{Direction}
 use Rattle.sms_script.specs.declared.report.rows.Direction.TheVariants.{Up, Down}
@@ -23,7 +23,7 @@ use Rattle.sms_script.specs.declared.report.rows.FrameRow.{FrameRow}
 use Rattle.sms_script.specs.declared.report.rows.JoinedCoding.{JoinedCoding}
 use Rattle.sms_script.specs.declared.report.rows.JoinedCoding.TheVariants.{Septets, Octets, Ucs2}
 use Rattle.sms_script.specs.declared.report.rows.JoinedRow.{JoinedRow}
-use Rattle.sms_script.specs.declared.report.rows.MessageRow.{MessageRow}
+use Rattle.sms_script.specs.declared.report.rows.ReportedMessage.{ReportedMessage}
 use Rattle.sms_script.specs.declared.report.rows.OutboxRow.{OutboxRow}
 use Rattle.sms_script.specs.declared.report.rows.ReceiptRow.{ReceiptRow}
 
@@ -109,7 +109,7 @@ answered_text Stopped = codes "STOPPED"
 abbrev pub answer_line : Answer → List ℕ
 answer_line a = codes "answer " ++ decimal a.event ++ codes " " ++ answered_text a.answered ++ codes "\n"
 
-abbrev pub message_line : MessageRow → List ℕ
+abbrev pub message_line : ReportedMessage → List ℕ
 message_line m =
     codes "message " ++ id_text m.id ++ codes " " ++ encode_utf8_all m.from ++ codes " " ++ encode_utf8_all m.to ++ codes " " ++ state_text m.state ++ codes "\n"
 

@@ -10,21 +10,21 @@ use sms_handset::{Changes, Counters, Rows, Setup};
 use sms_handset_rows::inbox::{DiscardedGroup, Entry, LastAccepted};
 use sms_handset_rows::outbox::OutEntry;
 use sms_rows::keep::{Keep, KeepError, Refusals};
-use sms_rows::memory::{copy_of_rows, settled_copy};
+use sms_rows::memory::{copy_of_rows, prepared_copy};
 use sms_rows::table::{Table, adopt};
 use std::alloc::{AllocError, Global};
 
 /// The rows of a handset, in memory.
 #[derive(Drop)]
 pub struct MemoryKeep {
-    pub entries: Table<Entry>,
-    pub last: Table<LastAccepted>,
-    pub outbox: Table<OutEntry>,
-    pub marks: Table<DiscardedGroup>,
-    pub counters: Counters,
-    /// Handed in at the start.
-    pub setup: Setup,
-    pub alloc: Global,
+    entries: Table<Entry>,
+    last: Table<LastAccepted>,
+    outbox: Table<OutEntry>,
+    marks: Table<DiscardedGroup>,
+    counters: Counters,
+    // Handed in at the start.
+    setup: Setup,
+    alloc: Global,
     refusals: Refusals,
 }
 
@@ -52,28 +52,49 @@ impl MemoryKeep {
         }
     }
 
+    /// The entries of the outbox, by number.
+    pub fn outbox(&self) -> &Table<OutEntry>
+        ensures { result.now.rows ≡ (rows_in self.now).outbox }
+    {
+        &self.outbox
+    }
+
+    /// What the handset counts.
+    pub fn counters(&self) -> Counters
+        ensures { result ≡ (rows_in self.now).counters }
+    {
+        self.counters
+    }
+
+    /// The setup that was handed in at the start.
+    pub fn setup(&self) -> Setup
+        ensures { result ≡ (rows_in self.now).setup }
+    {
+        self.setup
+    }
+
     // The changes, copied, with the memory for them.
     fn settled(&self, changes: &Changes) -> Result<Changes, AllocError>
         ensures same { IfOk result (λ settled. changes_in settled ≡ changes_in changes.now) }
         ensures ready { IfOk result (λ settled. AreReady settled self.now) }
     {
         let alloc = self.alloc;
-        let entries = settled_copy::<MemoryKeep, Entry>(
+        let entries = prepared_copy::<MemoryKeep, Entry>(
             alloc,
             &self.entries,
             changes.entries.changes(),
         )?;
-        let last = settled_copy::<MemoryKeep, LastAccepted>(
+        let last = prepared_copy::<MemoryKeep, LastAccepted>(
             alloc,
             &self.last,
             changes.last.changes(),
         )?;
-        let outbox = settled_copy::<MemoryKeep, OutEntry>(
+        let outbox = prepared_copy::<MemoryKeep, OutEntry>(
             alloc,
             &self.outbox,
             changes.outbox.changes(),
         )?;
-        let marks = settled_copy::<MemoryKeep, DiscardedGroup>(
+        let marks = prepared_copy::<MemoryKeep, DiscardedGroup>(
             alloc,
             &self.marks,
             changes.marks.changes(),

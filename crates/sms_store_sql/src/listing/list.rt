@@ -1,7 +1,7 @@
 //! What a list says of its table.
 ghost use Rattle.std.specs.Prelude.{◌≡◌, IfOk};
 ghost use Rattle.sqlite.specs.Held.{state};
-ghost use Rattle.sms_store_sql.specs.listing.Inside.{Counts, Goes, Keeps, Ran, RanOn, Spares};
+ghost use Rattle.sms_store_sql.specs.listing.Inside.{Counts, MakesStep, Keeps, Ran, RanOn, Spares};
 ghost use Rattle.sms_store_sql.specs.listing.Listing.{IsList, ListOf};
 
 use sms_rows::table::{Key, Row};
@@ -16,7 +16,7 @@ pub trait StoredRow<K>: Row {
     /// Runs the text that removes the row of a key.
     fn delete<S: Alter>(tx: &mut Transaction<'_, S>, key: Key) -> Result<(), Error>
         ensures same_reference { tx.new.conn.ghost_name ≡ tx.old.conn.ghost_name }
-        ensures done { Goes S.Store tx.old.conn.now tx.new.conn.now (Ran list.table.delete (list.key_columns key)) result }
+        ensures done { MakesStep S.Store tx.old.conn.now tx.new.conn.now (Ran list.table.delete (list.key_columns key)) result }
         ensures kept { Keeps S.Store tx.old.conn.now tx.new.conn.now }
         ensures survives { Spares S.Store tx.old.conn.now tx.new.conn.now };
 
@@ -28,7 +28,7 @@ pub trait StoredRow<K>: Row {
     fn insert_text() -> &'static str
         ensures { result.now ≡ list.table.insert };
 
-    /// Runs such a text with the columns of the row as its values, and tells how many rows it was on.
+    /// Runs such a text with the columns of the row as its values, and gives how many rows it was on.
     fn write<S: Alter>(
         &self,
         alloc: Global,
@@ -45,7 +45,7 @@ pub trait StoredRow<K>: Row {
     fn select() -> &'static str
         ensures { result.now ≡ list.table.select };
 
-    /// Reads the columns of a row. An error tells columns that no row of the list has, or want of memory.
+    /// Reads the columns of a row. An error means columns that no row of the list has, or want of memory.
     fn read(alloc: Global, row: &sqlite::Row) -> Result<Self, Error>
         ensures { IfOk result (λ found. found ≡ list.reads row.now) };
 

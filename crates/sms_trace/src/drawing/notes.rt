@@ -46,7 +46,7 @@ fn again_word(is_again: bool) -> &'static str {
     if is_again { ", again" } else { "" }
 }
 
-/// What a frame carries, and whether it goes out again.
+/// What a frame carries, and whether it is sent again.
 pub fn frame_text(alloc: Global, frame: &FrameRow, is_again: bool) -> Result<String, AllocError> {
     let number = frame.number;
     let again = again_word(is_again);
@@ -69,7 +69,7 @@ fn stands_word(has_pdu: bool) -> &'static str {
 
 /// A request of an application.
 #[derive(Clone, Copy)]
-pub struct Asked {
+pub struct RequestNote {
     /// The name of its command.
     pub command: &'static str,
     /// Its sequence number, which its answer bears, too.
@@ -85,7 +85,7 @@ pub enum Heading {
     /// The frame arrived before.
     Again,
     /// It is a request.
-    Request(Asked),
+    Request(RequestNote),
 }
 
 /// The event of that number.
@@ -100,7 +100,7 @@ pub fn event_text(
         Heading::None => format!(in alloc; "{number}. {line}"),
         Heading::Again => format!(in alloc; "{number}. {line}, again"),
         Heading::Request(asked) => {
-            let Asked {
+            let RequestNote {
                 command,
                 sequence,
                 has_pdu,
@@ -112,7 +112,11 @@ pub fn event_text(
 }
 
 /// The answer to a request.
-pub fn response_text(alloc: Global, asked: &Asked, answered: &str) -> Result<String, AllocError> {
+pub fn response_text(
+    alloc: Global,
+    asked: &RequestNote,
+    answered: &str,
+) -> Result<String, AllocError> {
     let command = asked.command;
     let sequence = asked.sequence;
     let stands = stands_word(asked.has_pdu);
@@ -157,7 +161,7 @@ pub fn answered_text(alloc: Global, answered: &Answered) -> Result<String, Alloc
     }
 }
 
-/// What a receipt tells, in a deliver_sm of that sequence number.
+/// What a receipt says, in a deliver_sm of that sequence number.
 pub fn receipt_text(
     alloc: Global,
     sequence: u32,

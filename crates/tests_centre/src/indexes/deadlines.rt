@@ -1,5 +1,6 @@
-//! Deadlines come in any order, and are found when their moment has come.
-use crate::indexes::rows::{at, holds, message};
+//! Deadlines are added in any order, and are found when their moment is reached.
+use crate::indexes::names::{at, message};
+use crate::rows::holds;
 use sms_base::Moment;
 use sms_rows::expiry::{Deadline, Deadlines};
 use std::alloc::Global;
@@ -25,8 +26,8 @@ fn are_past(
 
 // Memory for a thousand more.
 fn grow(deadlines: &mut Deadlines, alloc: Global) -> Result<(), Fail> {
-    let spare = deadlines.make_spare(alloc, 1_000)?;
-    deadlines.use_spare(spare);
+    let reserve = deadlines.make_reserve(alloc, 1_000)?;
+    deadlines.use_reserve(reserve);
     Ok(())
 }
 

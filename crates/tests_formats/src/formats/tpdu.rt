@@ -1,21 +1,14 @@
 //! Whole TPDUs in their octets, each public call once with ample memory, and SUBMITs that another implementation made.
-use crate::formats::rows::{are, holds};
+use crate::examples::{DELIVER, LEAP_DAY, SUBMIT};
+use crate::rows::{are, holds};
 use sms_base::{Address, Moment, Octets};
 use sms_tpdu::{
     Carrier, Deliver, Down, FailureCause, Status, StatusReport, Submit, Up, UserData,
-    ValidityPeriod, read_down, read_up, same_message, tell_more_messages, validity, write_down,
+    ValidityPeriod, read_down, read_up, same_message, set_more_messages, validity, write_down,
     write_relay_address, write_up,
 };
 use std::alloc::Global;
 use std::test::Fail;
-
-// Thursday 29 February 2024, 23:59:58 at UTC.
-const LEAP_DAY: u64 = 1_709_251_198;
-
-const SUBMIT: &[u8] = b"\x01\x07\x0C\x91\x44\x77\x00\x09\x40\x65\x00\x00\x05\xE8\x32\x9B\xFD\x06";
-
-const DELIVER: &[u8] =
-    b"\x04\x0C\x91\x44\x77\x00\x09\x10\x32\x00\x00\x42\x20\x92\x32\x95\x85\x00\x05\xE8\x32\x9B\xFD\x06";
 
 // A header of five octets behind its length, then one septet.
 const WITH_HEADER: &[u8] =
@@ -309,7 +302,7 @@ fn the_longest_go_up(rt: HostRuntime) -> Result<(), Fail> {
 // Whether the first octet is so once the octets tell whether more messages wait, and they are one message still.
 fn tells(alloc: Global, octets: &[u8], more: bool, first: u8) -> Result<bool, Fail> {
     let mut items = Octets::copy_of(alloc, octets)?.into_vec();
-    tell_more_messages(items.as_mut_slice(), more);
+    set_more_messages(items.as_mut_slice(), more);
     Ok(items.first() == Some(&first) && same_message(items.as_slice(), octets))
 }
 

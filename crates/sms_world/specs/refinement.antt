@@ -1,5 +1,0 @@
-pub mod CourseRuns
-pub mod CourseSight
-pub mod Happening
-pub mod TellingLaws
-pub mod ToldGivings

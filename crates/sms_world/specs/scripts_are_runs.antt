@@ -1,0 +1,5 @@
+pub mod PlayRuns
+pub mod PlayRefinement
+pub mod Happening
+pub mod AllocationLaws
+pub mod ReportedAllocations

@@ -1,8 +1,0 @@
-pub mod ByOctet
-pub mod FramesOut
-pub mod SeesLines
-pub mod SeesMessages
-pub mod SeesReports
-pub mod SeesGiven
-pub mod CentreSight
-pub mod CentreLaws

@@ -1,9 +1,0 @@
-pub mod Course
-pub mod CourseEvents
-pub mod FrameLaws
-pub mod Handing
-pub mod Offered
-pub mod OfferedLaws
-pub mod PlanLaws
-pub mod Stages
-pub mod TruthfulRows

@@ -1,0 +1,9 @@
+pub mod Run
+pub mod RunEvents
+pub mod FrameLaws
+pub mod Handing
+pub mod Offered
+pub mod OfferedLaws
+pub mod PlanLaws
+pub mod Stages
+pub mod TruthfulRows

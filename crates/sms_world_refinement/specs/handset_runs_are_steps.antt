@@ -1,0 +1,11 @@
+pub mod RefinesLink
+pub mod RefinesOutbox
+pub mod RefinesInbox
+pub mod PutInOrder
+pub mod Refinement
+pub mod Stages
+pub mod EventLaws
+pub mod StopLaws
+pub mod PlanLaws
+pub mod OthersLaws
+pub mod Run
