@@ -1,18 +1,18 @@
 //! How a new centre begins. It is lent, as its store is, so that this program proves of neither how it is let go.
 ghost use Rattle.std.specs.Prelude.{ℕ, List};
 ghost use Rattle.sms_base.specs.Among.{Among};
-ghost use Rattle.sms_waiting.specs.SoundGivings.{IsNumber};
-ghost use Rattle.sms_centre_rules.specs.SoundCore.{AreDifferent};
+ghost use Rattle.sms_centre_rows.specs.waiting.SoundGivings.{IsNumber};
+ghost use Rattle.sms_centre_spec.specs.SoundCore.{AreDifferent};
 
 use crate::course::{Course, Telling, alone_at, trouble_of};
 use crate::lines::play_lines;
-use centre_acts::setup;
-use centre_lines::{Trouble, place_named, word};
 use sms_base::Digits;
+use sms_base::lending::lend;
 use sms_centre::{Centre, first_rows, with_centre};
-use sms_centre_memory::MemoryKeep;
-use sms_lending::lend;
-use sms_table::Table;
+use sms_rows::table::Table;
+use sms_store_memory::centre::MemoryKeep;
+use smslab_lines::acts::setup;
+use smslab_lines::lines::{Trouble, place_named, word};
 use std::io::Print;
 
 /// Plays the lines with a new centre, begun as the first of them says. What is told of a centre that begins with a link up is what is told of

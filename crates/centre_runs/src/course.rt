@@ -1,18 +1,18 @@
 //! A centre with its store, and what a run tells of it.
 ghost use Rattle.std.specs.Prelude.{ℕ, List, IfOk};
 ghost use Rattle.sms_base.specs.Among.{Among};
-ghost use Rattle.sms_waiting.specs.SoundGivings.{IsNumber};
-ghost use Rattle.sms_centre_rules.specs.SoundCore.{AreDifferent, HasNumber};
+ghost use Rattle.sms_centre_rows.specs.waiting.SoundGivings.{IsNumber};
+ghost use Rattle.sms_centre_spec.specs.SoundCore.{AreDifferent, HasNumber};
 ghost use Rattle.sms_centre.specs.FromBelow.{AreNew};
 ghost use Rattle.sms_centre.specs.Planning.{Fits};
 
-use centre_acts::act_in;
-use centre_lines::{Happened, StandIn, Trouble, alone, handset, sum_of, tell};
 use sms_base::Digits;
 use sms_centre::{Centre, CentreEvent, PlanError, Planned, RecoverError, Rows, Seat, Told};
-use sms_centre_memory::MemoryKeep;
-use sms_keep::Keep;
-use sms_table::Table;
+use sms_rows::keep::Keep;
+use sms_rows::table::Table;
+use sms_store_memory::centre::MemoryKeep;
+use smslab_lines::acts::act_in;
+use smslab_lines::lines::{Happened, StandIn, Trouble, alone, handset, sum_of, tell};
 use std::alloc::Global;
 use std::io::Print;
 

@@ -1,8 +1,8 @@
 //! Lines that are played with a centre.
 use crate::course::{Course, Telling};
 use crate::measuring::measure;
-use centre_acts::{tell_receipts, tell_rows, tell_table};
-use centre_lines::{Trouble, place_named, read_number, session, value, word};
+use smslab_lines::acts::{tell_receipts, tell_rows, tell_table};
+use smslab_lines::lines::{Trouble, place_named, read_number, session, value, word};
 use std::io::Print;
 
 /// Plays the lines, each with what the lines before it left.

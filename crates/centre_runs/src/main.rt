@@ -18,7 +18,7 @@ mod measuring;
 
 use crate::beginning::play_section;
 use crate::course::Telling;
-use centre_lines::Trouble;
+use smslab_lines::lines::Trouble;
 use std::io::{Print, Read};
 use std::process::ExitCode;
 

@@ -1,18 +1,18 @@
 //! How long each kind of event takes, and how that grows with what a centre holds: it is filled with messages that are over and messages
 //! that wait for handsets that are away; then each kind of event happens so many times. docs/PERFORMANCE.md says what each kind is.
-ghost use Rattle.sms_centre_rules.specs.SoundCore.{HasNumber};
+ghost use Rattle.sms_centre_spec.specs.SoundCore.{HasNumber};
 ghost use Rattle.sms_centre.specs.Planning.{Fits};
 
 use crate::course::restart_with;
-use centre_acts::{
+use sms_centre::{Centre, CentreEvent, Planned, Told, first_rows};
+use sms_rows::table::Table;
+use smslab_lines::acts::{
     Offered, Seen, cancelling, hello, link_coming, link_going, querying, sent, setup,
 };
-use centre_lines::{
+use smslab_lines::lines::{
     Amount, Asked, Meter, StandIn, Trouble, handset_at, moment, read_number, text_at, word,
 };
-use sms_centre::{Centre, CentreEvent, Planned, Told, first_rows};
-use sms_measuring::Stopwatch;
-use sms_table::Table;
+use smslab_lines::measuring::Stopwatch;
 use std::alloc::Global;
 
 /// The place of the handset that is up. The others are away.

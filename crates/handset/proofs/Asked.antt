@@ -1,9 +1,9 @@
 -- What words spell is fit for a handset that runs.
 use Rattle.std.proofs.Common.{ℕ, List, Bool, true, false, Option}
 use Rattle.std.specs.Prelude.{MatchBool}
-use Rattle.smsc_words.specs.HandsetWords.{AsksFor, AsksToRun, AsksToShow, is_show}
-use Rattle.smsc_words.specs.declared.handset.HandsetWords.{HandsetWords}
-use Rattle.smsc_words.specs.declared.handset.HandsetWords.TheVariants.{Run, Show}
+use Rattle.smsc_cli.specs.words.HandsetWords.{AsksFor, AsksToRun, AsksToShow, is_show}
+use Rattle.smsc_cli.specs.declared.words.handset.HandsetWords.{HandsetWords}
+use Rattle.smsc_cli.specs.declared.words.handset.HandsetWords.TheVariants.{Run, Show}
 use Rattle.handset.specs.Setups.{AreWords}
 
 of_run : (words : List (List ℕ)) (asked : HandsetWords) → AsksToRun words asked → AreWords asked

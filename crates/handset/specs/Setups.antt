@@ -1,8 +1,8 @@
 -- What a handset that runs is given.
 use Rattle.std.specs.Prelude.{◌<◌}
 use Rattle.sms_base.specs.Address.{IsAddress}
-use Rattle.smsc_words.specs.declared.handset.HandsetWords.{HandsetWords}
-use Rattle.smsc_words.specs.declared.handset.HandsetWords.TheVariants.{Run, Show}
+use Rattle.smsc_cli.specs.declared.words.handset.HandsetWords.{HandsetWords}
+use Rattle.smsc_cli.specs.declared.words.handset.HandsetWords.TheVariants.{Run, Show}
 
 -- Its numbers are addresses, and it has a slot at least.
 abbrev pub AreWords : HandsetWords → Type 0

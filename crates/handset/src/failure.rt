@@ -1,6 +1,6 @@
 //! Why the work was not done, and how that is told.
-use sms_handset_machine::StartError;
-use sms_keep::KeepError;
+use sms_handset::machine::StartError;
+use sms_rows::keep::KeepError;
 use std::io::{self, Print};
 
 const USAGE: &str =

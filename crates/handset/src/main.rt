@@ -7,6 +7,7 @@ ghost use Rattle.handset.specs.Setups.{AreWords};
 
 mod clock;
 mod failure;
+mod link_run;
 mod looking;
 mod running;
 
@@ -15,7 +16,7 @@ use crate::failure::{Failure, tell};
 use crate::looking::show_store;
 use crate::running::{Run, run_lines};
 use sms_handset::Setup;
-use smsc_words::{HandsetWords, WordsFault, handset_words};
+use smsc_cli::words::{HandsetWords, WordsFault, handset_words};
 use std::process::ExitCode;
 use std::{env, io};
 

@@ -1,16 +1,16 @@
 //! A run over a link to the centre.
 ghost use Rattle.sms_handset.specs.SoundRows.{IsSetup};
-ghost use Rattle.sms_handset_machine.specs.Stepping.{MakesTheChanges};
+ghost use Rattle.sms_handset.specs.machine.Stepping.{MakesTheChanges};
 
 use crate::clock::SystemClock;
 use crate::failure::Failure;
+use crate::link_run::{RunEnd, RunError, run_handset};
+use sms_handset::machine::{HandsetMachine, StartError, recover_from};
 use sms_handset::{Changes, Rows, Setup};
-use sms_handset_machine::{HandsetMachine, StartError, recover_from};
-use sms_handset_run::{RunEnd, RunError, run_handset};
-use sms_handset_store::HandsetKeep;
-use sms_keep::Keep;
-use sms_owner::{OwnersAct, read_acts};
+use sms_rows::keep::Keep;
 use sms_script::ScriptFault;
+use sms_script::owner::{OwnersAct, read_acts};
+use sms_store::handset::HandsetKeep;
 use std::alloc::Global;
 use std::io::{self, Print, Read};
 use std::net::{Ipv4Addr, TcpStream};

@@ -5,8 +5,8 @@ use crate::summing::tell_rows;
 use crate::telling::{show, tell};
 use crate::trouble::Trouble;
 use sms_base::{Holder, OctetView};
+use sms_handset::machine::StepError;
 use sms_handset::{HandsetEvent, TextView};
-use sms_handset_machine::StepError;
 use std::io::Print;
 
 /// Plays the lines, each with what the lines before it left.

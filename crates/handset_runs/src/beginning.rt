@@ -3,7 +3,7 @@ use crate::acts::play_lines;
 use crate::machine::{Machine, machine};
 use crate::rows::tell_start;
 use crate::trouble::Trouble;
-use sms_lending::lend;
+use sms_base::lending::lend;
 use std::io::Print;
 
 /// The number that the text spells.

@@ -5,9 +5,9 @@ ghost use Rattle.sms_handset.specs.SoundRows.{IsSetup};
 
 use crate::trouble::Trouble;
 use sms_base::{Address, Moment};
+use sms_handset::machine::HandsetMachine;
 use sms_handset::{Handset, Rows, Setup};
-use sms_handset_machine::HandsetMachine;
-use sms_handset_memory::MemoryKeep;
+use sms_store_memory::handset::MemoryKeep;
 use std::alloc::Global;
 
 /// A handset, and the keep of its rows.

@@ -8,8 +8,8 @@ use sms_handset::{
     Counters, DiscardedGroup, Entry, EntryState, Group, Handset, LastAccepted, Message, OutEntry,
     Rows,
 };
-use sms_keep::Keep;
-use sms_measuring::Sum;
+use sms_rows::keep::Keep;
+use smslab_lines::measuring::Sum;
 use std::io::Print;
 
 /// Writes a checksum of the rows that the handset committed, and of the inbox and the outbox that it has.

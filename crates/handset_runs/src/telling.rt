@@ -2,8 +2,8 @@
 use crate::machine::Machine;
 use crate::trouble::Trouble;
 use sms_base::Carried;
-use sms_handset_show::handset_table;
 use sms_link::Outgoing;
+use smsc_cli::handset_table::handset_table;
 use std::io::{Print, Write};
 
 /// Writes the frames; in a course also what they carry.

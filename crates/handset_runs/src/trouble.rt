@@ -2,7 +2,7 @@
 use hex::FromHexError;
 use sms_base::{AddressError, MomentError};
 use sms_handset::RecoverError;
-use sms_keep::KeepError;
+use sms_rows::keep::KeepError;
 use std::alloc::AllocError;
 use std::io;
 

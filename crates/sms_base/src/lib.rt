@@ -21,6 +21,7 @@ mod digits;
 mod final_state;
 mod holder;
 pub mod laws;
+pub mod lending;
 mod listed;
 mod message_id;
 mod moment;

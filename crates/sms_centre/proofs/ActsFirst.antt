@@ -1,17 +1,17 @@
 -- An event acts, then receipts and offers follow; and what follows rests on what the event left.
 use Rattle.std.proofs.Common.{◌≡◌, ℕ, List, Option, refl, sym, ◌∙◌, subst, ap}
-use Rattle.sms_centre_rules.specs.declared.event.CentreEvent.{CentreEvent}
-use Rattle.sms_centre_rules.specs.declared.event.CentreEvent.TheVariants.{Submit, Query, Cancel, Bound, Unbound, DeliverAnswered, Frame, LinkUp, LinkDown, Tick}
-use Rattle.sms_centre_rules.specs.declared.rows.Rows.{Rows}
-use Rattle.sms_centre_rules.specs.declared.setup.Setup.{Setup}
-use Rattle.sms_centre_rules.specs.CentreEvent.{follow, happened}
-use Rattle.sms_centre_rules.specs.Draft.{Core, Draft, Store, rows_of}
-use Rattle.sms_centre_rules.specs.SoundCore.{IsEvent, IsSoundCore}
-use Rattle.sms_centre_rules.specs.SoundRows.{IsSetup, IsSound}
-use Rattle.sms_centre_rules.proofs.EventLaws.{stays_sound}
-use Rattle.sms_centre_rules.proofs.Resting.{base_of, happened_stands}
-use Rattle.sms_offering.specs.Stored.{CanOffer, Stores}
-use Rattle.sms_standing.specs.Standing.{IsStanding, StandingOf}
+use Rattle.sms_centre_spec.specs.declared.event.CentreEvent.{CentreEvent}
+use Rattle.sms_centre_spec.specs.declared.event.CentreEvent.TheVariants.{Submit, Query, Cancel, Bound, Unbound, DeliverAnswered, Frame, LinkUp, LinkDown, Tick}
+use Rattle.sms_centre_spec.specs.declared.rows.Rows.{Rows}
+use Rattle.sms_centre_spec.specs.declared.setup.Setup.{Setup}
+use Rattle.sms_centre_spec.specs.CentreEvent.{follow, happened}
+use Rattle.sms_centre_spec.specs.Draft.{Core, Draft, Store, rows_of}
+use Rattle.sms_centre_spec.specs.SoundCore.{IsEvent, IsSoundCore}
+use Rattle.sms_centre_spec.specs.SoundRows.{IsSetup, IsSound}
+use Rattle.sms_centre_spec.proofs.EventLaws.{stays_sound}
+use Rattle.sms_centre_spec.proofs.Resting.{base_of, happened_stands}
+use Rattle.sms_centre_offers.specs.Stored.{CanOffer, Stores}
+use Rattle.sms_centre.specs.state.Standing.{IsStanding, StandingOf}
 use Rattle.sms_tpdu.specs.AddressGrammar.{relay_address}
 use Rattle.sms_centre.specs.Acting.{acted}
 use Rattle.sms_centre.specs.Stored.{StoresRows}

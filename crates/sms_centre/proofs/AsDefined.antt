@@ -1,16 +1,16 @@
 -- What comes of planning an event is what the definition plans with the store's answers.
 use Rattle.std.proofs.Common.{◌≡◌, None, Result, Ok, Err, ◌∙◌, ap, ⊎_elim}
-use Rattle.sms_keep.specs.Refusing.{with_answer}
-use Rattle.sms_keep.specs.declared.refusals.Refusals.{Refusals}
-use Rattle.sms_centre_rules.specs.declared.event.CentreEvent.{CentreEvent}
-use Rattle.sms_centre_rules.specs.declared.plan_error.PlanError.{PlanError}
-use Rattle.sms_centre_rules.specs.declared.plan_error.PlanError.TheVariants.{NoBody, NoMemory}
-use Rattle.sms_centre_rules.specs.CentreEvent.{happened}
-use Rattle.sms_centre_rules.specs.Draft.{Core}
+use Rattle.sms_rows.specs.keep.Refusing.{with_answer}
+use Rattle.sms_rows.specs.declared.keep.refusals.Refusals.{Refusals}
+use Rattle.sms_centre_spec.specs.declared.event.CentreEvent.{CentreEvent}
+use Rattle.sms_centre_spec.specs.declared.plan_error.PlanError.{PlanError}
+use Rattle.sms_centre_spec.specs.declared.plan_error.PlanError.TheVariants.{NoBody, NoMemory}
+use Rattle.sms_centre_spec.specs.CentreEvent.{happened}
+use Rattle.sms_centre_spec.specs.Draft.{Core}
 use Rattle.sms_centre.specs.Planning.{PlannedOf, PlansEvent}
-use Rattle.sms_offering.specs.Going.{Goes, NoneRefused, answers_but}
-use Rattle.sms_offering.proofs.Planned.{answered_is, refused_is}
-use Rattle.sms_planned.specs.Planned.{IsPlanned}
+use Rattle.sms_centre_offers.specs.Going.{Goes, NoneRefused, answers_but}
+use Rattle.sms_centre_offers.proofs.Planned.{answered_is, refused_is}
+use Rattle.sms_centre.specs.plans.Planned.{IsPlanned}
 
 none_then : (before refused : Refusals) → before.read ≡ None → NoneRefused before refused → refused.read ≡ None
 none_then before refused none since = ⊎_elim (λ (e : refused ≡ with_answer before). ap (λ (r : Refusals). r.read) e) (λ (e : refused ≡ before). ap (λ (r : Refusals). r.read) e ∙ none) since

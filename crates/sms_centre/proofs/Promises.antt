@@ -2,25 +2,25 @@
 use Rattle.std.proofs.Common.{◌≡◌, ℕ, List, Some, sym, ◌∙◌, subst, ap}
 use Rattle.sms_base.specs.Among.{Among}
 use Rattle.smpp_pdu.specs.declared.message.Message.{Message}
-use Rattle.sms_messages.specs.declared.message.MessageRow.{MessageRow}
-use Rattle.sms_messages.specs.Messages.{message_at}
-use Rattle.sms_reports.specs.declared.delivery.Delivery.{Delivery}
-use Rattle.sms_waiting.specs.declared.line.Sent.{Sent}
-use Rattle.sms_centre_rules.specs.declared.answer.CentreAnswer.TheVariants.{Submitted}
-use Rattle.sms_centre_rules.specs.declared.event.CentreEvent.{CentreEvent}
-use Rattle.sms_centre_rules.specs.declared.event.CentreEvent.TheVariants.{Submit}
-use Rattle.sms_centre_rules.specs.declared.rows.Changes.{Changes}
-use Rattle.sms_centre_rules.specs.declared.rows.Rows.{Rows}
-use Rattle.sms_centre_rules.specs.CentreEvent.{happened}
-use Rattle.sms_centre_rules.specs.Draft.{Core, rows_after, rows_of}
-use Rattle.sms_centre_rules.specs.Keeping.{Keeps}
-use Rattle.sms_centre_rules.specs.SoundCore.{Brings, IsEvent, IsReceiptRow, IsSoundCore}
-use Rattle.sms_centre_rules.specs.SoundRows.{IsSound}
-use Rattle.sms_centre_rules.proofs.Answered.{answer_names}
-use Rattle.sms_centre_rules.proofs.EventLaws.{keeps_rows, sends_frames, sends_receipts, stays_sound}
-use Rattle.sms_centre_rules.proofs.Resting.{happened_rests}
-use Rattle.sms_planned.specs.declared.planned.Planned.{Planned}
-use Rattle.sms_planned.specs.Planned.{IsPlanned}
+use Rattle.sms_centre_rows.specs.declared.messages.message.MessageRow.{MessageRow}
+use Rattle.sms_centre_rows.specs.messages.Messages.{message_at}
+use Rattle.sms_centre_rows.specs.declared.reports.delivery.Delivery.{Delivery}
+use Rattle.sms_centre_rows.specs.declared.waiting.line.Sent.{Sent}
+use Rattle.sms_centre_spec.specs.declared.answer.CentreAnswer.TheVariants.{Submitted}
+use Rattle.sms_centre_spec.specs.declared.event.CentreEvent.{CentreEvent}
+use Rattle.sms_centre_spec.specs.declared.event.CentreEvent.TheVariants.{Submit}
+use Rattle.sms_centre_spec.specs.declared.rows.Changes.{Changes}
+use Rattle.sms_centre_spec.specs.declared.rows.Rows.{Rows}
+use Rattle.sms_centre_spec.specs.CentreEvent.{happened}
+use Rattle.sms_centre_spec.specs.Draft.{Core, rows_after, rows_of}
+use Rattle.sms_centre_spec.specs.Keeping.{Keeps}
+use Rattle.sms_centre_spec.specs.SoundCore.{Brings, IsEvent, IsReceiptRow, IsSoundCore}
+use Rattle.sms_centre_spec.specs.SoundRows.{IsSound}
+use Rattle.sms_centre_spec.proofs.Answered.{answer_names}
+use Rattle.sms_centre_spec.proofs.EventLaws.{keeps_rows, sends_frames, sends_receipts, stays_sound}
+use Rattle.sms_centre_spec.proofs.Resting.{happened_rests}
+use Rattle.sms_centre.specs.declared.plans.planned.Planned.{Planned}
+use Rattle.sms_centre.specs.plans.Planned.{IsPlanned}
 
 module _ (event : CentreEvent) (c : Core) (p : Planned) (k : IsPlanned (happened event c) p) where
   -- the rows with the changes are those after the event

@@ -2,10 +2,10 @@
 use Rattle.std.proofs.Common.{◌≡◌, ℕ, ◌+◌, ◌≤◌, length, Result, Ok, Err, sym, subst}
 use Rattle.std.specs.Prelude.{IfOk, max}
 use Rattle.std.specs.declared.alloc.AllocError.{AllocError}
-use Rattle.sms_centre_rules.specs.Draft.{Draft}
-use Rattle.sms_planned.specs.declared.planned.Planned.{Planned}
-use Rattle.sms_planned.specs.Planned.{FitsIn, IsPlanned}
-use Rattle.sms_standing.specs.Standing.{StandingOf}
+use Rattle.sms_centre_spec.specs.Draft.{Draft}
+use Rattle.sms_centre.specs.declared.plans.planned.Planned.{Planned}
+use Rattle.sms_centre.specs.plans.Planned.{FitsIn, IsPlanned}
+use Rattle.sms_centre.specs.state.Standing.{StandingOf}
 use Rattle.sms_centre.specs.Planning.{Fits, PlannedOf}
 
 pub with_plan : (d : Draft) (plan : Planned) (r : Result PlannedOf AllocError) → IsPlanned d plan → IfOk r (λ (p : PlannedOf). p.plan ≡ plan) → IfOk r (λ (p : PlannedOf). IsPlanned d p.plan)

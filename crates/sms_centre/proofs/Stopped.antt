@@ -1,13 +1,13 @@
 -- How an event ends before its plan is made.
 use Rattle.std.proofs.Common.{ℕ, List, Result, Ok, Err}
-use Rattle.sms_keep.specs.declared.refusals.Refusals.{Refusals}
-use Rattle.sms_centre_rules.specs.declared.plan_error.PlanError.{PlanError}
-use Rattle.sms_centre_rules.specs.declared.plan_error.PlanError.TheVariants.{NoBody, NoMemory}
+use Rattle.sms_rows.specs.declared.keep.refusals.Refusals.{Refusals}
+use Rattle.sms_centre_spec.specs.declared.plan_error.PlanError.{PlanError}
+use Rattle.sms_centre_spec.specs.declared.plan_error.PlanError.TheVariants.{NoBody, NoMemory}
 use Rattle.sms_centre.specs.declared.finishing.Stop.{Stop}
 use Rattle.sms_centre.specs.declared.finishing.Stop.TheVariants.{NoBody as StopNoBody, NoMemory as StopNoMemory, Congested}
 use Rattle.sms_centre.specs.Stopping.{Stops, stop_of}
-use Rattle.sms_offering.specs.Going.{Goes, NoneRefused}
-use Rattle.sms_offering.proofs.OneOffer.{none_since, read_since}
+use Rattle.sms_centre_offers.specs.Going.{Goes, NoneRefused}
+use Rattle.sms_centre_offers.proofs.OneOffer.{none_since, read_since}
 
 pub goes_stops : (ok : Type 0) (none : ℕ → Type 0) (keys : List ℕ) (held closed : Type 0) (before refused : Refusals) (e : PlanError) → Goes (λ (u : Unit {0}). ok) keys held closed before refused (Err e)
     → Stops ok none keys held closed before refused (Err (stop_of e))

@@ -2,18 +2,18 @@
 use Rattle.std.specs.Prelude.{◌≡◌, ℕ, List}
 use Rattle.smpp_pdu.specs.declared.status.CommandStatus.TheVariants.{ESME_RMSGQFUL}
 use Rattle.sms_intake.specs.declared.refusal.SubmitRefusal.TheVariants.{Congested as NoneFree}
-use Rattle.sms_centre_rules.specs.declared.event.CentreEvent.{CentreEvent}
-use Rattle.sms_centre_rules.specs.declared.event.CentreEvent.TheVariants.{Submit, Query, Cancel, Bound, Unbound, DeliverAnswered, Frame, LinkUp, LinkDown, Tick}
+use Rattle.sms_centre_spec.specs.declared.event.CentreEvent.{CentreEvent}
+use Rattle.sms_centre_spec.specs.declared.event.CentreEvent.TheVariants.{Submit, Query, Cancel, Bound, Unbound, DeliverAnswered, Frame, LinkUp, LinkDown, Tick}
 use Rattle.sms_link.specs.LinkTurn.{taken}
-use Rattle.sms_waiting.specs.Lines.{line_of, turn_line}
-use Rattle.sms_centre_rules.specs.CentreEvent.{aged, at_moment, fired, frame_taken, lower, raise, raised, tag_of}
-use Rattle.sms_centre_rules.specs.Draft.{Core, Draft, draft_of, on_air}
-use Rattle.sms_centre_rules.specs.Requests.{submit, query, cancel, refused}
-use Rattle.sms_centre_rules.specs.Receiving.{refuse}
+use Rattle.sms_centre_rows.specs.waiting.Lines.{line_of, turn_line}
+use Rattle.sms_centre_spec.specs.CentreEvent.{aged, at_moment, fired, frame_taken, lower, raise, raised, tag_of}
+use Rattle.sms_centre_spec.specs.Draft.{Core, Draft, draft_of, on_air}
+use Rattle.sms_centre_spec.specs.Requests.{submit, query, cancel, refused}
+use Rattle.sms_centre_spec.specs.Receiving.{refuse}
 use Rattle.sms_centre.specs.declared.acting.Acted.{Acted}
 use Rattle.sms_centre.specs.declared.acting.Acted.TheVariants.{Done, Congested}
-use Rattle.sms_working.specs.Working.{Shows, WorkingOf}
-use Rattle.sms_centre_rules.specs.Sessions.{bind, unbind, deliver_answered}
+use Rattle.sms_centre_draft.specs.Working.{Shows, WorkingOf}
+use Rattle.sms_centre_spec.specs.Sessions.{bind, unbind, deliver_answered}
 
 abbrev pub acted : CentreEvent → Core → Draft
 acted (Submit account message) c = submit account message (draft_of c)

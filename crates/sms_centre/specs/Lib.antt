@@ -3,3 +3,5 @@ pub mod FromBelow
 pub mod Planning
 pub mod Stopping
 pub mod Stored
+pub mod plans
+pub mod state

@@ -1,14 +1,14 @@
 -- A plan as it stands in memory, and the memory that it brings.
 use Rattle.std.specs.Prelude.{◌≡◌, ℕ, ◌+◌, ◌≤◌, length, max, Bool, Result, Ok, Err}
-use Rattle.sms_centre_rules.specs.declared.event.CentreEvent.{CentreEvent}
-use Rattle.sms_centre_rules.specs.declared.plan_error.PlanError.{PlanError}
-use Rattle.sms_centre_rules.specs.declared.plan_error.PlanError.TheVariants.{NoBody, NoMemory}
-use Rattle.sms_centre_rules.specs.CentreEvent.{happened}
-use Rattle.sms_centre_rules.specs.Draft.{Core}
-use Rattle.sms_centre_rules.specs.Planning.{outcome_of, plan_of}
-use Rattle.sms_planned.specs.declared.planned.Planned.{Planned}
-use Rattle.sms_planned.specs.Planned.{FitsIn, IsPlanned}
-use Rattle.sms_standing.specs.Standing.{StandingOf}
+use Rattle.sms_centre_spec.specs.declared.event.CentreEvent.{CentreEvent}
+use Rattle.sms_centre_spec.specs.declared.plan_error.PlanError.{PlanError}
+use Rattle.sms_centre_spec.specs.declared.plan_error.PlanError.TheVariants.{NoBody, NoMemory}
+use Rattle.sms_centre_spec.specs.CentreEvent.{happened}
+use Rattle.sms_centre_spec.specs.Draft.{Core}
+use Rattle.sms_centre_spec.specs.Planning.{outcome_of, plan_of}
+use Rattle.sms_centre.specs.declared.plans.planned.Planned.{Planned}
+use Rattle.sms_centre.specs.plans.Planned.{FitsIn, IsPlanned}
+use Rattle.sms_centre.specs.state.Standing.{StandingOf}
 
 pub record PlannedOf : Type 0 where
   -- what is changed, told and left

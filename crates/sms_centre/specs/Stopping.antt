@@ -1,13 +1,13 @@
 -- How an event ends before its plan is made.
 use Rattle.std.specs.Prelude.{◌≡◌, ◌⊎◌, ℕ, List, Result, Ok, Err}
 use Rattle.sms_base.specs.Among.{Among}
-use Rattle.sms_keep.specs.Refusing.{with_read}
-use Rattle.sms_keep.specs.declared.refusals.Refusals.{Refusals}
-use Rattle.sms_centre_rules.specs.declared.plan_error.PlanError.{PlanError}
-use Rattle.sms_centre_rules.specs.declared.plan_error.PlanError.TheVariants.{NoBody as NoBodyOf, NoMemory as NoMemoryOf}
+use Rattle.sms_rows.specs.keep.Refusing.{with_read}
+use Rattle.sms_rows.specs.declared.keep.refusals.Refusals.{Refusals}
+use Rattle.sms_centre_spec.specs.declared.plan_error.PlanError.{PlanError}
+use Rattle.sms_centre_spec.specs.declared.plan_error.PlanError.TheVariants.{NoBody as NoBodyOf, NoMemory as NoMemoryOf}
 use Rattle.sms_centre.specs.declared.finishing.Stop.{Stop}
 use Rattle.sms_centre.specs.declared.finishing.Stop.TheVariants.{NoBody, NoMemory, Congested}
-use Rattle.sms_offering.specs.Going.{NoneRefused}
+use Rattle.sms_centre_offers.specs.Going.{NoneRefused}
 
 abbrev pub stop_of : PlanError → Stop
 stop_of NoBodyOf = NoBody

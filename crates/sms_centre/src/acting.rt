@@ -2,24 +2,24 @@
 ghost use Rattle.std.specs.Prelude.{◌≡◌, ℕ, IfOk, OnOk};
 ghost use Rattle.smpp_pdu.specs.declared.message.Message.{Message as MessageOf};
 ghost use Rattle.sms_base.specs.Reading.{AreOctets};
-ghost use Rattle.sms_waiting.specs.SoundGivings.{IsNumber};
-ghost use Rattle.sms_centre_rules.specs.CentreEvent.{tag_of as tag_or_none};
-ghost use Rattle.sms_centre_rules.specs.Draft.{Core, draft_of};
-ghost use Rattle.sms_centre_rules.specs.SoundCore.{HasNumber, IsEvent};
-ghost use Rattle.sms_centre_rules.specs.SoundRows.{IsSetup};
-ghost use Rattle.sms_centre_rules.specs.declared.event.CentreEvent.TheVariants.{Submit, Query, Cancel, Bound, Unbound, DeliverAnswered, Frame, LinkUp, LinkDown, Tick};
+ghost use Rattle.sms_centre_rows.specs.waiting.SoundGivings.{IsNumber};
+ghost use Rattle.sms_centre_spec.specs.CentreEvent.{tag_of as tag_or_none};
+ghost use Rattle.sms_centre_spec.specs.Draft.{Core, draft_of};
+ghost use Rattle.sms_centre_spec.specs.SoundCore.{HasNumber, IsEvent};
+ghost use Rattle.sms_centre_spec.specs.SoundRows.{IsSetup};
+ghost use Rattle.sms_centre_spec.specs.declared.event.CentreEvent.TheVariants.{Submit, Query, Cancel, Bound, Unbound, DeliverAnswered, Frame, LinkUp, LinkDown, Tick};
 ghost use Rattle.sms_centre.specs.Acting.{Acts, congested};
-ghost use Rattle.sms_standing.specs.Standing.{IsStanding};
-ghost use Rattle.sms_working.specs.Working.{Shows};
+ghost use Rattle.sms_centre.specs.state.Standing.{IsStanding};
+ghost use Rattle.sms_centre_draft.specs.Working.{Shows};
 
+use crate::state::Standing;
 use smpp_pdu::{CancelSm, Message, QuerySm};
 use sms_base::{Digits, Holder, MessageId, Moment};
-use sms_centre_rules::CentreEvent;
-use sms_events::{
+use sms_centre_draft::Working;
+use sms_centre_events::{
     Asked, Came, bind, cancel, frame_refused, frame_taken, query, submit, submit_refused, tick,
 };
-use sms_standing::Standing;
-use sms_working::Working;
+use sms_centre_spec::CentreEvent;
 use std::alloc::AllocError;
 
 /// What came of an event.

@@ -1,17 +1,17 @@
 //! Putting a plan in.
 ghost use Rattle.std.specs.Prelude.{◌≡◌};
-ghost use Rattle.sms_centre_rules.specs.CentreEvent.{happened};
-ghost use Rattle.sms_centre_rules.specs.Draft.{Core, core_of};
-ghost use Rattle.sms_centre_rules.specs.SoundCore.{IsEvent};
-ghost use Rattle.sms_centre_rules.specs.declared.event.CentreEvent.{CentreEvent as CentreEventOf};
+ghost use Rattle.sms_centre_spec.specs.CentreEvent.{happened};
+ghost use Rattle.sms_centre_spec.specs.Draft.{Core, core_of};
+ghost use Rattle.sms_centre_spec.specs.SoundCore.{IsEvent};
+ghost use Rattle.sms_centre_spec.specs.declared.event.CentreEvent.{CentreEvent as CentreEventOf};
 ghost use Rattle.sms_centre.specs.Planning.{Fits};
-ghost use Rattle.sms_planned.specs.Planned.{IsPlanned};
-ghost use Rattle.sms_standing.specs.Standing.{IsStanding};
+ghost use Rattle.sms_centre.specs.plans.Planned.{IsPlanned};
+ghost use Rattle.sms_centre.specs.state.Standing.{IsStanding};
 
 use crate::planned::Planned;
-use sms_awaited::laws::every_event_keeps_what_is_awaited;
-use sms_planned::Told;
-use sms_standing::Standing;
+use crate::plans::Told;
+use crate::state::Standing;
+use sms_centre_reports::awaited::laws::every_event_keeps_what_is_awaited;
 
 /// Puts the plan into what the centre keeps, without taking memory, and gives what is told.
 pub(crate) fn put_in(standing: &mut Standing, planned: Planned) -> Told

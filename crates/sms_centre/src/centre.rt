@@ -1,35 +1,35 @@
 //! The centre.
 ghost use Rattle.std.specs.Prelude.{◌≡◌, ℕ, List, None, IfErr, IfOk, OnErr, OnOk};
 ghost use Rattle.sms_base.specs.Among.{Among};
-ghost use Rattle.sms_waiting.specs.SoundGivings.{IsNumber};
-ghost use Rattle.sms_centre_rules.specs.declared.event.CentreEvent.{CentreEvent as CentreEventOf};
-ghost use Rattle.sms_centre_rules.specs.CentreEvent.{happened, moment_of, recovered, started};
-ghost use Rattle.sms_centre_rules.specs.Draft.{Core, core_of};
-ghost use Rattle.sms_centre_rules.specs.SoundCore.{AreDifferent, HasNumber, IsEvent};
-ghost use Rattle.sms_centre_rules.specs.SoundRows.{IsSetup};
+ghost use Rattle.sms_centre_rows.specs.waiting.SoundGivings.{IsNumber};
+ghost use Rattle.sms_centre_spec.specs.declared.event.CentreEvent.{CentreEvent as CentreEventOf};
+ghost use Rattle.sms_centre_spec.specs.CentreEvent.{happened, moment_of, recovered, started};
+ghost use Rattle.sms_centre_spec.specs.Draft.{Core, core_of};
+ghost use Rattle.sms_centre_spec.specs.SoundCore.{AreDifferent, HasNumber, IsEvent};
+ghost use Rattle.sms_centre_spec.specs.SoundRows.{IsSetup};
 ghost use Rattle.sms_centre.specs.Planning.{Fits, PlansEvent};
 ghost use Rattle.sms_centre.specs.Stored.{StoresRows};
-ghost use Rattle.sms_messages.specs.Messages.{message_at};
-ghost use Rattle.sms_offering.specs.Going.{Goes, answers_but};
-ghost use Rattle.sms_planned.specs.Planned.{IsPlanned};
-ghost use Rattle.sms_register.specs.Telling.{message_lines, receipt_lines};
-ghost use Rattle.sms_standing.specs.Recovering.{AreNew, RefusesRows};
-ghost use Rattle.sms_standing.specs.Standing.{IsStanding};
+ghost use Rattle.sms_centre_rows.specs.messages.Messages.{message_at};
+ghost use Rattle.sms_centre_offers.specs.Going.{Goes, answers_but};
+ghost use Rattle.sms_centre.specs.plans.Planned.{IsPlanned};
+ghost use Rattle.sms_centre_reports.specs.report_log.Telling.{message_lines, receipt_lines};
+ghost use Rattle.sms_centre.specs.state.Recovering.{AreNew, RefusesRows};
+ghost use Rattle.sms_centre.specs.state.Standing.{IsStanding};
 
 use crate::acting::is_event;
 use crate::adopting::put_in;
 use crate::finishing::plan_of;
 use crate::planned::Planned;
+use crate::plans::Told;
+use crate::state::{RecoverError, Standing};
+use sms_base::lending::put;
 use sms_base::{Digits, Listed, MessageId, Moment, Octets};
-use sms_centre_rules::{CentreEvent, PlanError, Rows};
-use sms_keep::BodyKeep;
-use sms_lending::put;
-use sms_messages::MessageRow as Message;
-use sms_planned::Told;
-use sms_report::{MessageRow, ReceiptRow};
-use sms_sessions::Seat;
-use sms_standing::{RecoverError, Standing};
-use sms_table::Table;
+use sms_centre_reports::sessions::Seat;
+use sms_centre_rows::messages::MessageRow as Message;
+use sms_centre_spec::{CentreEvent, PlanError, Rows};
+use sms_rows::keep::BodyKeep;
+use sms_rows::table::Table;
+use sms_script::report::{MessageRow, ReceiptRow};
 use sms_tpdu::write_relay_address;
 use std::alloc::{AllocError, Global};
 use std::marker::Model;
@@ -46,8 +46,8 @@ pub struct Centre {
 impl Model for Centre {
     ghost use Rattle.std.specs.Prelude.{◌≡◌};
     ghost use Rattle.sms_tpdu.specs.AddressGrammar.{relay_address};
-    ghost use Rattle.sms_centre_rules.specs.SoundRows.{IsSetup};
-    ghost use Rattle.sms_standing.specs.Standing.{StandingOf};
+    ghost use Rattle.sms_centre_spec.specs.SoundRows.{IsSetup};
+    ghost use Rattle.sms_centre.specs.state.Standing.{StandingOf};
 
     ghost Value = { StandingOf };
 

@@ -1,28 +1,28 @@
 //! What follows an event, and the plan of it.
 ghost use Rattle.std.specs.Prelude.{◌≡◌, ℕ, Err, Ok, IfOk};
-ghost use Rattle.sms_centre_rules.specs.CentreEvent.{follow as follow_of};
-ghost use Rattle.sms_centre_rules.specs.Draft.{Core, Draft, draft_of};
-ghost use Rattle.sms_centre_rules.specs.SoundCore.{HasNumber};
-ghost use Rattle.sms_centre_rules.specs.SoundRows.{IsSetup};
+ghost use Rattle.sms_centre_spec.specs.CentreEvent.{follow as follow_of};
+ghost use Rattle.sms_centre_spec.specs.Draft.{Core, Draft, draft_of};
+ghost use Rattle.sms_centre_spec.specs.SoundCore.{HasNumber};
+ghost use Rattle.sms_centre_spec.specs.SoundRows.{IsSetup};
 ghost use Rattle.sms_centre.specs.Acting.{Acts, acted, congested};
 ghost use Rattle.sms_centre.specs.Stopping.{Stops, stop_of as stop_of_error};
 ghost use Rattle.sms_centre.specs.Planning.{Fits};
-ghost use Rattle.sms_keep.specs.declared.refusals.Refusals.{Refusals};
-ghost use Rattle.sms_offering.specs.Going.{Goes, UnlessMemory};
-ghost use Rattle.sms_offering.specs.Stored.{CanOffer};
-ghost use Rattle.sms_planned.specs.Planned.{IsPlanned};
-ghost use Rattle.sms_standing.specs.Standing.{IsStanding};
-ghost use Rattle.sms_working.specs.Working.{Shows};
+ghost use Rattle.sms_rows.specs.declared.keep.refusals.Refusals.{Refusals};
+ghost use Rattle.sms_centre_offers.specs.Going.{Goes, UnlessMemory};
+ghost use Rattle.sms_centre_offers.specs.Stored.{CanOffer};
+ghost use Rattle.sms_centre.specs.plans.Planned.{IsPlanned};
+ghost use Rattle.sms_centre.specs.state.Standing.{IsStanding};
+ghost use Rattle.sms_centre_draft.specs.Working.{Shows};
 
 use crate::acting::{Acted, act, refuse};
 use crate::planned::Planned;
-use sms_centre_rules::{CentreEvent, PlanError};
-use sms_keep::BodyKeep;
-use sms_offering::follow;
-use sms_planned::{Planned as Plan, settle};
-use sms_register::SpareRegister;
-use sms_standing::Standing;
-use sms_working::Working;
+use crate::plans::{Planned as Plan, settle};
+use crate::state::Standing;
+use sms_centre_draft::Working;
+use sms_centre_offers::follow;
+use sms_centre_reports::report_log::SpareRegister;
+use sms_centre_spec::{CentreEvent, PlanError};
+use sms_rows::keep::BodyKeep;
 use std::alloc::{AllocError, Global};
 
 // A plan, if there is memory for its reports.

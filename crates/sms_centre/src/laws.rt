@@ -5,22 +5,22 @@ ghost use Rattle.smpp_pdu.specs.declared.message.Message.{Message};
 ghost use Rattle.smpp_pdu.specs.declared.query.QuerySm.{QuerySm};
 ghost use Rattle.sms_base.specs.Among.{Among};
 ghost use Rattle.sms_base.specs.declared.holder.Holder.{Holder};
-ghost use Rattle.sms_messages.specs.Messages.{message_at};
-ghost use Rattle.sms_messages.specs.declared.message.MessageRow.{MessageRow};
-ghost use Rattle.sms_reports.specs.declared.delivery.Delivery.{Delivery};
-ghost use Rattle.sms_waiting.specs.declared.line.Sent.{Sent};
-ghost use Rattle.sms_centre_rules.specs.CentreEvent.{answered, bound, cancel_came, frame_came, happened, link_down, link_up, query_came, submit_came, tag_of, ticked, unbound};
-ghost use Rattle.sms_centre_rules.specs.Draft.{Core, rows_after};
-ghost use Rattle.sms_centre_rules.specs.Keeping.{Keeps};
-ghost use Rattle.sms_centre_rules.specs.SoundCore.{Brings, IsEvent, IsReceiptRow, IsSoundCore};
-ghost use Rattle.sms_centre_rules.specs.SoundRows.{IsSound};
-ghost use Rattle.sms_centre_rules.specs.declared.answer.CentreAnswer.TheVariants.{Submitted};
-ghost use Rattle.sms_centre_rules.specs.declared.event.CentreEvent.{CentreEvent};
-ghost use Rattle.sms_centre_rules.specs.declared.event.CentreEvent.TheVariants.{Submit, Query, Cancel, Bound, Unbound, DeliverAnswered, Frame, LinkUp, LinkDown, Tick};
-ghost use Rattle.sms_planned.specs.declared.planned.Planned.{Planned};
-ghost use Rattle.sms_planned.specs.Planned.{IsPlanned};
+ghost use Rattle.sms_centre_rows.specs.messages.Messages.{message_at};
+ghost use Rattle.sms_centre_rows.specs.declared.messages.message.MessageRow.{MessageRow};
+ghost use Rattle.sms_centre_rows.specs.declared.reports.delivery.Delivery.{Delivery};
+ghost use Rattle.sms_centre_rows.specs.declared.waiting.line.Sent.{Sent};
+ghost use Rattle.sms_centre_spec.specs.CentreEvent.{answered, bound, cancel_came, frame_came, happened, link_down, link_up, query_came, submit_came, tag_of, ticked, unbound};
+ghost use Rattle.sms_centre_spec.specs.Draft.{Core, rows_after};
+ghost use Rattle.sms_centre_spec.specs.Keeping.{Keeps};
+ghost use Rattle.sms_centre_spec.specs.SoundCore.{Brings, IsEvent, IsReceiptRow, IsSoundCore};
+ghost use Rattle.sms_centre_spec.specs.SoundRows.{IsSound};
+ghost use Rattle.sms_centre_spec.specs.declared.answer.CentreAnswer.TheVariants.{Submitted};
+ghost use Rattle.sms_centre_spec.specs.declared.event.CentreEvent.{CentreEvent};
+ghost use Rattle.sms_centre_spec.specs.declared.event.CentreEvent.TheVariants.{Submit, Query, Cancel, Bound, Unbound, DeliverAnswered, Frame, LinkUp, LinkDown, Tick};
+ghost use Rattle.sms_centre.specs.declared.plans.planned.Planned.{Planned};
+ghost use Rattle.sms_centre.specs.plans.Planned.{IsPlanned};
 
-pub use sms_standing::laws::what_stands_is_known;
+pub use crate::state::laws::what_stands_is_known;
 
 /// What happens to a centre at each kind of event, by the definition's own name for it.
 pub fn each_event_is_of_a_kind()

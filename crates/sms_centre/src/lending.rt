@@ -2,19 +2,19 @@
 ghost use Rattle.std.specs.Prelude.{◌≡◌, ℕ, List, IfErr, IfOk};
 ghost use Rattle.std.specs.Fn.{FnOnceReturnsAtMut};
 ghost use Rattle.sms_base.specs.Among.{Among};
-ghost use Rattle.sms_waiting.specs.SoundGivings.{IsNumber};
-ghost use Rattle.sms_centre_rules.specs.CentreEvent.{started};
-ghost use Rattle.sms_centre_rules.specs.SoundCore.{AreDifferent};
-ghost use Rattle.sms_standing.specs.Recovering.{AreNew, RefusesRows};
-ghost use Rattle.sms_standing.specs.Standing.{IsStanding};
+ghost use Rattle.sms_centre_rows.specs.waiting.SoundGivings.{IsNumber};
+ghost use Rattle.sms_centre_spec.specs.CentreEvent.{started};
+ghost use Rattle.sms_centre_spec.specs.SoundCore.{AreDifferent};
+ghost use Rattle.sms_centre.specs.state.Recovering.{AreNew, RefusesRows};
+ghost use Rattle.sms_centre.specs.state.Standing.{IsStanding};
 
 use crate::centre::Centre;
+use crate::state::RecoverError;
 use sms_base::Digits;
-use sms_centre_rules::Rows;
-use sms_lending::lend;
-use sms_sessions::Seat;
-use sms_standing::RecoverError;
-use sms_table::Table;
+use sms_base::lending::lend;
+use sms_centre_reports::sessions::Seat;
+use sms_centre_spec::Rows;
+use sms_rows::table::Table;
 use std::alloc::Global;
 
 /// Starts a centre as `Centre::start` does, lends it to the work, and gives what the work gives. Who calls this owns no centre.

@@ -1,10 +1,10 @@
 //! A plan.
 ghost use Rattle.std.specs.Prelude.{◌≡◌};
 
+use crate::plans::{Planned as Plan, Told};
 use sms_base::Moment;
-use sms_centre_rules::Changes;
-use sms_planned::{Planned as Plan, Told};
-use sms_register::SpareRegister;
+use sms_centre_reports::report_log::SpareRegister;
+use sms_centre_spec::Changes;
 use std::marker::Model;
 
 /// What an event leads to, with the memory to put it in. Its changes are to be committed before it is adopted.

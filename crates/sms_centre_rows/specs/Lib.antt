@@ -1,1 +1,3 @@
-pub mod OctetsAt
+pub mod messages
+pub mod reports
+pub mod waiting

@@ -1,9 +1,10 @@
-//! What the keeps of a centre share.
+//! sms_centre_rows, of modules:
 //!
-//! `copy_of_setup` gives each load a setup of its own, since a setup is handed in and not stored. `specs/` says which octets the
-//! rows have under a key: those of a part, or of the status report of a message.
+//! - `messages`: The messages that a service centre accepted, and their parts.
+//! - `reports`: Who is told how a message ended.
+//! - `waiting`: What waits at a service centre for one handset, and how the centre reaches it: the rows and the definitions.
 #![tactic(auto)]
 
-mod copying;
-
-pub use copying::{copy_of_octets, copy_of_setup};
+pub mod messages;
+pub mod reports;
+pub mod waiting;

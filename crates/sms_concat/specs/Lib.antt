@@ -7,3 +7,4 @@ pub mod Splitting
 pub mod TextContent
 pub mod UserData
 pub mod WholeUnits
+pub mod joiner

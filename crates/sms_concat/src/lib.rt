@@ -13,6 +13,7 @@ mod counting;
 mod element;
 mod header;
 mod header_error;
+pub mod joiner;
 mod joining;
 pub mod laws;
 mod lengths;

@@ -9,10 +9,10 @@ use Rattle.sms_base.specs.declared.holder.Holder.TheVariants.{Part as PartHolder
 use Rattle.sms_base.specs.declared.address.Address.{Address}
 use Rattle.sms_base.specs.declared.address_error.AddressError.{AddressError}
 use Rattle.sms_base.specs.Address.{address_of}
-use Rattle.sms_table.proofs.Tables.{put_among}
-use Rattle.sms_table.specs.declared.change.Change.TheVariants.{Put}
-use Rattle.sms_table.specs.declared.change.Change.{Change}
-use Rattle.sms_table.specs.Table.{row_at}
+use Rattle.sms_rows.proofs.table.Tables.{put_among}
+use Rattle.sms_rows.specs.declared.table.change.Change.TheVariants.{Put}
+use Rattle.sms_rows.specs.declared.table.change.Change.{Change}
+use Rattle.sms_rows.specs.table.Table.{row_at}
 use Rattle.sms_concat.specs.declared.content.Part.{Part as PartOf}
 use Rattle.sms_concat.specs.declared.content.Content.{Content}
 use Rattle.sms_concat.specs.Joining.{content_joined}
@@ -44,22 +44,22 @@ use Rattle.sms_tpdu.specs.declared.down.Down.TheVariants.{Deliver, StatusReport,
 use Rattle.sms_tpdu.specs.TpduReading.{down_at}
 use Rattle.sms_tpdu.specs.declared.down.Down.{Down}
 use Rattle.sms_tpdu.specs.declared.fault.TpduFault.{TpduFault}
-use Rattle.sms_inbox.specs.Groups.{with_part, entry_part, part_with, parts_to, is_among, part_number, part_numbers, joined_parts, alone, joined_content, joined_entry, part_entry, all_numbers, single_entry, group_of, key_of, mark_of, members, is_open_part, first_number}
-use Rattle.sms_inbox.specs.declared.entry.Entry.{Entry}
-use Rattle.sms_inbox.specs.Keys.{entry_key, last_key}
-use Rattle.sms_inbox.specs.declared.entry.Group.{Group}
-use Rattle.sms_inbox.specs.declared.discarded_group.DiscardedGroup.{DiscardedGroup}
-use Rattle.sms_inbox.specs.declared.last_accepted.LastAccepted.{LastAccepted}
-use Rattle.sms_inbox.specs.Doubles.{is_double}
-use Rattle.sms_inbox.specs.declared.entry.Message.{Message}
-use Rattle.sms_inbox.specs.declared.entry.Message.TheVariants.{Single, Part, Joined}
-use Rattle.sms_outbox.specs.declared.out_entry.OutEntry.{OutEntry}
-use Rattle.sms_outbox.specs.Reports.{reported}
-use Rattle.sms_outbox.specs.Settling.{is_sending, lost}
-use Rattle.sms_outbox.specs.Offers.{first_due, first_fired}
-use Rattle.sms_outbox.specs.References.{held_references, next_free, is_unfinished}
-use Rattle.sms_outbox.specs.declared.notice.Notice.{Notice}
-use Rattle.sms_outbox.specs.Keys.{notice_key, out_key}
+use Rattle.sms_handset_rows.specs.inbox.Groups.{with_part, entry_part, part_with, parts_to, is_among, part_number, part_numbers, joined_parts, alone, joined_content, joined_entry, part_entry, all_numbers, single_entry, group_of, key_of, mark_of, members, is_open_part, first_number}
+use Rattle.sms_handset_rows.specs.declared.inbox.entry.Entry.{Entry}
+use Rattle.sms_handset_rows.specs.inbox.Keys.{entry_key, last_key}
+use Rattle.sms_handset_rows.specs.declared.inbox.entry.Group.{Group}
+use Rattle.sms_handset_rows.specs.declared.inbox.discarded_group.DiscardedGroup.{DiscardedGroup}
+use Rattle.sms_handset_rows.specs.declared.inbox.last_accepted.LastAccepted.{LastAccepted}
+use Rattle.sms_handset_rows.specs.inbox.Doubles.{is_double}
+use Rattle.sms_handset_rows.specs.declared.inbox.entry.Message.{Message}
+use Rattle.sms_handset_rows.specs.declared.inbox.entry.Message.TheVariants.{Single, Part, Joined}
+use Rattle.sms_handset_rows.specs.declared.outbox.out_entry.OutEntry.{OutEntry}
+use Rattle.sms_handset_rows.specs.outbox.Reports.{reported}
+use Rattle.sms_handset_rows.specs.outbox.Settling.{is_sending, lost}
+use Rattle.sms_handset_rows.specs.outbox.Offers.{first_due, first_fired}
+use Rattle.sms_handset_rows.specs.outbox.References.{held_references, next_free, is_unfinished}
+use Rattle.sms_handset_rows.specs.declared.outbox.notice.Notice.{Notice}
+use Rattle.sms_handset_rows.specs.outbox.Keys.{notice_key, out_key}
 use Rattle.sms_concat.specs.TextContent.{content_of_text}
 use Rattle.sms_handset.specs.Accepted.{Holds, IsPut, StoresAccepted, IsOfDiscarded}
 use Rattle.sms_handset_draft.specs.Draft.{Draft, put_entry, remove_entry, put_mark, remove_mark, put_out, Core, draft_of, link_of, with_turn, remove_out, put_counters}

@@ -9,8 +9,8 @@ use Rattle.sms_base.specs.declared.holder.Holder.TheVariants.{Part as PartHolder
 use Rattle.sms_base.specs.declared.address.Address.{Address}
 use Rattle.sms_base.specs.declared.address_error.AddressError.{AddressError}
 use Rattle.sms_base.specs.Address.{address_of}
-use Rattle.sms_table.specs.Table.{without, insert, put, Rises, row_at}
-use Rattle.sms_table.proofs.Tables.{insert_behind, without_behind, rises_without, rises_put, found_among, found_key}
+use Rattle.sms_rows.specs.table.Table.{without, insert, put, Rises, row_at}
+use Rattle.sms_rows.proofs.table.Tables.{insert_behind, without_behind, rises_without, rises_put, found_among, found_key}
 use Rattle.sms_concat.specs.declared.content.Content.{Content}
 use Rattle.sms_concat.specs.declared.concat_key.ConcatKey.{ConcatKey}
 use Rattle.sms_concat.specs.declared.content.Part.{Part as PartOf}
@@ -33,25 +33,25 @@ use Rattle.sms_tpdu.specs.declared.down.Down.TheVariants.{Deliver, StatusReport,
 use Rattle.sms_tpdu.specs.declared.fault.TpduFault.{TpduFault}
 use Rattle.sms_tpdu.specs.declared.carrier.Carrier.TheVariants.{InData}
 use Rattle.sms_tpdu.specs.TpduReading.{down_at}
-use Rattle.sms_inbox.specs.declared.entry.Entry.{Entry}
-use Rattle.sms_inbox.specs.Keys.{entry_key, last_key}
-use Rattle.sms_inbox.specs.SoundInbox.{AreEntries}
-use Rattle.sms_inbox.proofs.GroupMembers.{all_without, members_put, all_without_self, others_stay, members_all_without, apart_groups, without_apart, members_append, one_group, other_group, members_among, members_without, same_entry, among_members}
-use Rattle.sms_inbox.specs.declared.entry.Group.{Group}
-use Rattle.sms_inbox.specs.Groups.{alone, members, is_part_of, first_number, joined_entry, single_entry, all_numbers, is_same_group, joined_content, part_entry, part_numbers, is_among, group_of, mark_of, key_of, is_open_part}
-use Rattle.sms_inbox.specs.declared.open_group.Regrouping.TheVariants.{Unchanged, Closed}
-use Rattle.sms_inbox.proofs.Indexing.{all_stay, one_grows, one_closes}
-use Rattle.sms_inbox.specs.declared.open_group.Regrouping.{Regrouping}
-use Rattle.sms_inbox.specs.OpenGroups.{one_more, open_at}
-use Rattle.sms_inbox.specs.declared.discarded_group.DiscardedGroup.{DiscardedGroup}
-use Rattle.sms_inbox.specs.Doubles.{is_double}
-use Rattle.sms_inbox.specs.declared.entry.Message.{Message}
-use Rattle.sms_inbox.specs.declared.entry.Message.TheVariants.{Single, Part, Joined}
-use Rattle.sms_outbox.specs.declared.out_entry.OutEntry.{OutEntry}
-use Rattle.sms_outbox.specs.Reports.{reported}
-use Rattle.sms_outbox.specs.declared.notice.Notice.{Notice}
-use Rattle.sms_outbox.specs.Keys.{notice_key, out_key}
-use Rattle.sms_outbox.specs.References.{is_unfinished}
+use Rattle.sms_handset_rows.specs.declared.inbox.entry.Entry.{Entry}
+use Rattle.sms_handset_rows.specs.inbox.Keys.{entry_key, last_key}
+use Rattle.sms_handset_rows.specs.inbox.SoundInbox.{AreEntries}
+use Rattle.sms_handset_rows.proofs.inbox.GroupMembers.{all_without, members_put, all_without_self, others_stay, members_all_without, apart_groups, without_apart, members_append, one_group, other_group, members_among, members_without, same_entry, among_members}
+use Rattle.sms_handset_rows.specs.declared.inbox.entry.Group.{Group}
+use Rattle.sms_handset_rows.specs.inbox.Groups.{alone, members, is_part_of, first_number, joined_entry, single_entry, all_numbers, is_same_group, joined_content, part_entry, part_numbers, is_among, group_of, mark_of, key_of, is_open_part}
+use Rattle.sms_handset_rows.specs.declared.inbox.open_group.Regrouping.TheVariants.{Unchanged, Closed}
+use Rattle.sms_handset_rows.proofs.inbox.Indexing.{all_stay, one_grows, one_closes}
+use Rattle.sms_handset_rows.specs.declared.inbox.open_group.Regrouping.{Regrouping}
+use Rattle.sms_handset_rows.specs.inbox.OpenGroups.{one_more, open_at}
+use Rattle.sms_handset_rows.specs.declared.inbox.discarded_group.DiscardedGroup.{DiscardedGroup}
+use Rattle.sms_handset_rows.specs.inbox.Doubles.{is_double}
+use Rattle.sms_handset_rows.specs.declared.inbox.entry.Message.{Message}
+use Rattle.sms_handset_rows.specs.declared.inbox.entry.Message.TheVariants.{Single, Part, Joined}
+use Rattle.sms_handset_rows.specs.declared.outbox.out_entry.OutEntry.{OutEntry}
+use Rattle.sms_handset_rows.specs.outbox.Reports.{reported}
+use Rattle.sms_handset_rows.specs.declared.outbox.notice.Notice.{Notice}
+use Rattle.sms_handset_rows.specs.outbox.Keys.{notice_key, out_key}
+use Rattle.sms_handset_rows.specs.outbox.References.{is_unfinished}
 use Rattle.sms_concat.specs.TextContent.{content_of_text}
 use Rattle.sms_handset_draft.specs.declared.rows.Rows.{Rows}
 use Rattle.sms_handset_draft.specs.Regrouping.{Numbered, Regroups, IsRegrouped}

@@ -1,10 +1,10 @@
 -- The index with a change put in.
 use Rattle.std.proofs.Common.{◌≡◌, ℕ, Option, sym, ◌∙◌, ap}
-use Rattle.sms_inbox.specs.declared.open_group.OpenGroup.{OpenGroup}
-use Rattle.sms_inbox.specs.declared.open_group.Regrouping.{Regrouping}
-use Rattle.sms_inbox.specs.declared.open_groups.OpenGroups.{OpenGroups}
-use Rattle.sms_inbox.specs.OpenGroups.{regrouped}
-use Rattle.sms_inbox.specs.OpenIndex.{Indexes, under}
+use Rattle.sms_handset_rows.specs.declared.inbox.open_group.OpenGroup.{OpenGroup}
+use Rattle.sms_handset_rows.specs.declared.inbox.open_group.Regrouping.{Regrouping}
+use Rattle.sms_handset_rows.specs.declared.inbox.open_groups.OpenGroups.{OpenGroups}
+use Rattle.sms_handset_rows.specs.inbox.OpenGroups.{regrouped}
+use Rattle.sms_handset_rows.specs.inbox.OpenIndex.{Indexes, under}
 use Rattle.sms_handset_draft.specs.declared.rows.Rows.{Rows}
 use Rattle.sms_handset_draft.specs.Regrouping.{IsRegrouped}
 

@@ -2,17 +2,17 @@
 use Rattle.std.proofs.Common.{◌≡◌, ℕ, false, Option, Some, Result, Ok, Err, ◌∙◌, ap, ⊎_elim, List, None, sym, eq-eqb, length, cond, refl, ◌<◌, ◌≤◌, true, true≢false, is_some, option_copied, Bor}
 use Rattle.std.proofs.lemmas.Bool.{cond-false, cases_eq, cond-true, ne_eqb, lt-ltb, le-ltb}
 use Rattle.std.specs.Prelude.{◌==◌, nat_lt}
-use Rattle.sms_table.specs.Table.{row_at}
-use Rattle.sms_inbox.specs.declared.entry.Entry.{Entry}
-use Rattle.sms_inbox.specs.Groups.{is_open_part, first_number, members}
-use Rattle.sms_inbox.specs.declared.entry.Group.{Group}
-use Rattle.sms_inbox.specs.declared.open_group.OpenGroup.{OpenGroup}
-use Rattle.sms_inbox.specs.OpenGroups.{open_first, open_group, open_under, open_of, open_at}
-use Rattle.sms_inbox.specs.declared.entry.Message.{Message}
-use Rattle.sms_inbox.specs.declared.entry.Message.TheVariants.{Single, Part, Joined}
-use Rattle.sms_inbox.specs.Keys.{entry_key}
-use Rattle.sms_outbox.specs.declared.out_entry.OutEntry.{OutEntry}
-use Rattle.sms_outbox.specs.References.{is_unfinished}
+use Rattle.sms_rows.specs.table.Table.{row_at}
+use Rattle.sms_handset_rows.specs.declared.inbox.entry.Entry.{Entry}
+use Rattle.sms_handset_rows.specs.inbox.Groups.{is_open_part, first_number, members}
+use Rattle.sms_handset_rows.specs.declared.inbox.entry.Group.{Group}
+use Rattle.sms_handset_rows.specs.declared.inbox.open_group.OpenGroup.{OpenGroup}
+use Rattle.sms_handset_rows.specs.inbox.OpenGroups.{open_first, open_group, open_under, open_of, open_at}
+use Rattle.sms_handset_rows.specs.declared.inbox.entry.Message.{Message}
+use Rattle.sms_handset_rows.specs.declared.inbox.entry.Message.TheVariants.{Single, Part, Joined}
+use Rattle.sms_handset_rows.specs.inbox.Keys.{entry_key}
+use Rattle.sms_handset_rows.specs.declared.outbox.out_entry.OutEntry.{OutEntry}
+use Rattle.sms_handset_rows.specs.outbox.References.{is_unfinished}
 use Rattle.sms_handset.specs.declared.refusal.Refusal.{Refusal}
 use Rattle.sms_handset.specs.declared.refusal.Refusal.TheVariants.{StillOpen, TooManyDiscarded, NoEntry}
 use Rattle.sms_handset_draft.specs.Draft.{Draft, remove_out, remove_entry}

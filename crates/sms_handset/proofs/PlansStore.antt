@@ -1,6 +1,6 @@
 -- What a plan accepts is stored, whatever the event.
 use Rattle.std.proofs.Common.{◌≡◌, sym, ap, subst, List, Result, Ok, Err, IfOk}
-use Rattle.sms_inbox.specs.declared.discarded_group.DiscardedGroup.{DiscardedGroup}
+use Rattle.sms_handset_rows.specs.declared.inbox.discarded_group.DiscardedGroup.{DiscardedGroup}
 use Rattle.sms_handset_draft.specs.declared.rows.Rows.{Rows}
 use Rattle.sms_handset.specs.Accepted.{StoresAccepted}
 use Rattle.sms_handset_draft.specs.Draft.{Changes, Draft, HandsetOf, rows_after}

@@ -7,9 +7,9 @@ use Rattle.sms_base.specs.declared.holder.Holder.TheVariants.{Part as PartHolder
 use Rattle.sms_base.specs.declared.address.Address.{Address}
 use Rattle.sms_base.specs.declared.address_error.AddressError.{AddressError}
 use Rattle.sms_base.specs.Address.{address_of}
-use Rattle.sms_table.proofs.Tables.{all_applied_push}
-use Rattle.sms_table.specs.Table.{put, without, row_at}
-use Rattle.sms_table.specs.declared.change.Change.TheVariants.{Put, Remove}
+use Rattle.sms_rows.proofs.table.Tables.{all_applied_push}
+use Rattle.sms_rows.specs.table.Table.{put, without, row_at}
+use Rattle.sms_rows.specs.declared.table.change.Change.TheVariants.{Put, Remove}
 use Rattle.sms_concat.specs.declared.content.Content.{Content}
 use Rattle.sms_concat.specs.declared.concat_key.ConcatKey.{ConcatKey}
 use Rattle.sms_concat.specs.declared.content.Part.{Part as PartOf}
@@ -31,23 +31,23 @@ use Rattle.sms_tpdu.specs.declared.down.Down.TheVariants.{Deliver, StatusReport,
 use Rattle.sms_tpdu.specs.declared.fault.TpduFault.{TpduFault}
 use Rattle.sms_tpdu.specs.declared.carrier.Carrier.TheVariants.{InData}
 use Rattle.sms_tpdu.specs.TpduReading.{down_at}
-use Rattle.sms_inbox.specs.declared.entry.Entry.{Entry}
-use Rattle.sms_inbox.specs.Keys.{entry_key, last_key, mark_key}
-use Rattle.sms_inbox.specs.declared.last_accepted.LastAccepted.{LastAccepted}
-use Rattle.sms_inbox.specs.declared.discarded_group.DiscardedGroup.{DiscardedGroup}
-use Rattle.sms_inbox.specs.Groups.{alone, joined_entry, all_numbers, joined_content, part_numbers, single_entry, part_entry, is_among, members, group_of, mark_of, key_of, is_open_part, first_number}
-use Rattle.sms_inbox.specs.declared.entry.Group.{Group}
-use Rattle.sms_inbox.specs.Doubles.{is_double}
-use Rattle.sms_inbox.specs.declared.entry.Message.{Message}
-use Rattle.sms_inbox.specs.declared.entry.Message.TheVariants.{Single, Part, Joined}
-use Rattle.sms_outbox.specs.declared.out_entry.OutEntry.{OutEntry}
-use Rattle.sms_outbox.specs.Keys.{out_key, notice_key}
-use Rattle.sms_outbox.specs.Reports.{reported}
-use Rattle.sms_outbox.specs.declared.notice.Notice.{Notice}
-use Rattle.sms_outbox.specs.Answers.{verdict_of}
-use Rattle.sms_outbox.specs.Settling.{settled, is_sending, lost}
-use Rattle.sms_outbox.specs.Offers.{first_due, first_fired}
-use Rattle.sms_outbox.specs.References.{held_references, next_free, is_unfinished}
+use Rattle.sms_handset_rows.specs.declared.inbox.entry.Entry.{Entry}
+use Rattle.sms_handset_rows.specs.inbox.Keys.{entry_key, last_key, mark_key}
+use Rattle.sms_handset_rows.specs.declared.inbox.last_accepted.LastAccepted.{LastAccepted}
+use Rattle.sms_handset_rows.specs.declared.inbox.discarded_group.DiscardedGroup.{DiscardedGroup}
+use Rattle.sms_handset_rows.specs.inbox.Groups.{alone, joined_entry, all_numbers, joined_content, part_numbers, single_entry, part_entry, is_among, members, group_of, mark_of, key_of, is_open_part, first_number}
+use Rattle.sms_handset_rows.specs.declared.inbox.entry.Group.{Group}
+use Rattle.sms_handset_rows.specs.inbox.Doubles.{is_double}
+use Rattle.sms_handset_rows.specs.declared.inbox.entry.Message.{Message}
+use Rattle.sms_handset_rows.specs.declared.inbox.entry.Message.TheVariants.{Single, Part, Joined}
+use Rattle.sms_handset_rows.specs.declared.outbox.out_entry.OutEntry.{OutEntry}
+use Rattle.sms_handset_rows.specs.outbox.Keys.{out_key, notice_key}
+use Rattle.sms_handset_rows.specs.outbox.Reports.{reported}
+use Rattle.sms_handset_rows.specs.declared.outbox.notice.Notice.{Notice}
+use Rattle.sms_handset_rows.specs.outbox.Answers.{verdict_of}
+use Rattle.sms_handset_rows.specs.outbox.Settling.{settled, is_sending, lost}
+use Rattle.sms_handset_rows.specs.outbox.Offers.{first_due, first_fired}
+use Rattle.sms_handset_rows.specs.outbox.References.{held_references, next_free, is_unfinished}
 use Rattle.sms_concat.specs.TextContent.{content_of_text}
 use Rattle.sms_handset_draft.specs.declared.rows.Rows.{Rows}
 use Rattle.sms_handset_draft.specs.Draft.{Draft, rows_after, put_entry, remove_entry, put_last, put_out, remove_out, put_mark, remove_mark, put_counters, Core, draft_of, link_of, with_turn}

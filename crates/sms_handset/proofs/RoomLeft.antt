@@ -2,8 +2,8 @@
 use Rattle.std.proofs.Common.{◌≡◌, ◌<◌, arith, length, true}
 use Rattle.std.specs.Prelude.{nat_lt}
 use Rattle.std.proofs.lemmas.Bool.{ltb-true}
-use Rattle.sms_inbox.proofs.SoundRoom.{slot, no_fewer_slots, tested}
-use Rattle.sms_inbox.specs.Slots.{slots_taken}
+use Rattle.sms_handset_rows.proofs.inbox.SoundRoom.{slot, no_fewer_slots, tested}
+use Rattle.sms_handset_rows.specs.inbox.Slots.{slots_taken}
 use Rattle.sms_handset_draft.specs.Draft.{Draft}
 use Rattle.sms_handset_draft.specs.MemoryAvailable.{has_room}
 use Rattle.sms_handset.proofs.SoundDrafts.{SoundAt}

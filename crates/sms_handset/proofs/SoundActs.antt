@@ -8,33 +8,33 @@ use Rattle.sms_base.specs.Address.{IsAddress, address_of}
 use Rattle.sms_base.specs.declared.address.Address.{Address}
 use Rattle.sms_base.proofs.Addresses.{address_found}
 use Rattle.sms_base.specs.declared.address_error.AddressError.{AddressError}
-use Rattle.sms_table.specs.Table.{put, row_at, without}
-use Rattle.sms_table.proofs.Tables.{found_among, found_key, length_put, length_without}
+use Rattle.sms_rows.specs.table.Table.{put, row_at, without}
+use Rattle.sms_rows.proofs.table.Tables.{found_among, found_key, length_put, length_without}
 use Rattle.sms_concat.specs.declared.content.Part.{Part as PartOf}
 use Rattle.sms_concat.specs.declared.split_error.SplitError.{SplitError}
 use Rattle.sms_concat.specs.Splitting.{split_of}
-use Rattle.sms_inbox.specs.Groups.{is_among, is_open_part, members, part_numbers, first_number, is_part_of}
-use Rattle.sms_inbox.specs.SoundInbox.{IsGiven}
-use Rattle.sms_inbox.proofs.SoundEntries.{is_apart, new_apart, removed, without_free}
-use Rattle.sms_inbox.specs.declared.entry.Entry.{Entry}
-use Rattle.sms_inbox.specs.Keys.{entry_key, mark_key}
-use Rattle.sms_inbox.specs.declared.entry.Group.{Group}
-use Rattle.sms_inbox.specs.declared.discarded_group.DiscardedGroup.{DiscardedGroup}
-use Rattle.sms_inbox.proofs.GroupMembers.{all_without, among_members, one_group}
-use Rattle.sms_inbox.proofs.SoundGroups.{group_leaves, left_free, number_free}
-use Rattle.sms_inbox.proofs.SoundMarks.{IsKept, mark_new, new_none}
-use Rattle.sms_inbox.proofs.SoundRoom.{length_left}
-use Rattle.sms_inbox.specs.declared.entry.Message.{Message}
-use Rattle.sms_inbox.specs.declared.entry.Message.TheVariants.{Single, Part, Joined}
-use Rattle.sms_outbox.specs.declared.out_entry.OutEntry.{OutEntry}
-use Rattle.sms_outbox.specs.References.{held_message_references, held_by_entries, held_references, next_free, is_unfinished}
-use Rattle.sms_outbox.proofs.SoundOutbox.{held_few, held_messages, held_entries, IsSoundOut, added, deleted_out}
-use Rattle.sms_outbox.specs.declared.notice.Notice.{Notice}
-use Rattle.sms_outbox.specs.Keys.{out_key}
+use Rattle.sms_handset_rows.specs.inbox.Groups.{is_among, is_open_part, members, part_numbers, first_number, is_part_of}
+use Rattle.sms_handset_rows.specs.inbox.SoundInbox.{IsGiven}
+use Rattle.sms_handset_rows.proofs.inbox.SoundEntries.{is_apart, new_apart, removed, without_free}
+use Rattle.sms_handset_rows.specs.declared.inbox.entry.Entry.{Entry}
+use Rattle.sms_handset_rows.specs.inbox.Keys.{entry_key, mark_key}
+use Rattle.sms_handset_rows.specs.declared.inbox.entry.Group.{Group}
+use Rattle.sms_handset_rows.specs.declared.inbox.discarded_group.DiscardedGroup.{DiscardedGroup}
+use Rattle.sms_handset_rows.proofs.inbox.GroupMembers.{all_without, among_members, one_group}
+use Rattle.sms_handset_rows.proofs.inbox.SoundGroups.{group_leaves, left_free, number_free}
+use Rattle.sms_handset_rows.proofs.inbox.SoundMarks.{IsKept, mark_new, new_none}
+use Rattle.sms_handset_rows.proofs.inbox.SoundRoom.{length_left}
+use Rattle.sms_handset_rows.specs.declared.inbox.entry.Message.{Message}
+use Rattle.sms_handset_rows.specs.declared.inbox.entry.Message.TheVariants.{Single, Part, Joined}
+use Rattle.sms_handset_rows.specs.declared.outbox.out_entry.OutEntry.{OutEntry}
+use Rattle.sms_handset_rows.specs.outbox.References.{held_message_references, held_by_entries, held_references, next_free, is_unfinished}
+use Rattle.sms_handset_rows.proofs.outbox.SoundOutbox.{held_few, held_messages, held_entries, IsSoundOut, added, deleted_out}
+use Rattle.sms_handset_rows.specs.declared.outbox.notice.Notice.{Notice}
+use Rattle.sms_handset_rows.specs.outbox.Keys.{out_key}
 use Rattle.sms_concat.specs.TextContent.{content_of_text}
-use Rattle.sms_outbox.specs.Submits.{written_entry}
-use Rattle.sms_outbox.proofs.SoundReferences.{next_is_free}
-use Rattle.sms_outbox.proofs.SoundWriting.{IsWritable, written_is_submitted, split_is_writable}
+use Rattle.sms_handset_rows.specs.outbox.Submits.{written_entry}
+use Rattle.sms_handset_rows.proofs.outbox.SoundReferences.{next_is_free}
+use Rattle.sms_handset_rows.proofs.outbox.SoundWriting.{IsWritable, written_is_submitted, split_is_writable}
 use Rattle.sms_handset.specs.declared.refusal.Refusal.{Refusal}
 use Rattle.sms_handset_draft.specs.Draft.{Draft, put_counters, remove_out, remove_entry, put_mark}
 use Rattle.sms_handset.proofs.SoundDrafts.{SoundAt, counters_move, outbox_moves, entries_move, group_moves, sound_as}

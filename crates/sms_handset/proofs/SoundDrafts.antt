@@ -2,18 +2,18 @@
 use Rattle.std.proofs.Common.{◌≡◌, ◌<◌, ◌≤◌, List, length, Bool, true, Option, None, sym, subst, Some, arith, ⊎_elim}
 use Rattle.sms_base.specs.Among.{Among}
 use Rattle.sms_base.specs.declared.carried.Carried.{Carried}
-use Rattle.sms_table.specs.Table.{Rises, put}
-use Rattle.sms_table.proofs.Tables.{among_put, rises_put}
-use Rattle.sms_inbox.specs.declared.last_accepted.LastAccepted.{LastAccepted}
-use Rattle.sms_inbox.specs.Keys.{last_key}
-use Rattle.sms_inbox.specs.SoundInbox.{IsLast}
-use Rattle.sms_inbox.proofs.SoundEntries.{Inbox, all_at, inbox_from, all_from, entries_are, groups_are, StaysFree, inbox_more}
-use Rattle.sms_inbox.proofs.SoundMarks.{Discarded, discarded_from, marks_are, discarded_entries}
-use Rattle.sms_inbox.specs.declared.entry.Entry.{Entry}
-use Rattle.sms_inbox.specs.declared.discarded_group.DiscardedGroup.{DiscardedGroup}
-use Rattle.sms_outbox.specs.declared.notice.Notice.{Notice}
-use Rattle.sms_outbox.proofs.SoundOutbox.{Outbox, outbox_from, message_references_differ, out_entries_are, references_differ, outbox_entries}
-use Rattle.sms_outbox.specs.declared.out_entry.OutEntry.{OutEntry}
+use Rattle.sms_rows.specs.table.Table.{Rises, put}
+use Rattle.sms_rows.proofs.table.Tables.{among_put, rises_put}
+use Rattle.sms_handset_rows.specs.declared.inbox.last_accepted.LastAccepted.{LastAccepted}
+use Rattle.sms_handset_rows.specs.inbox.Keys.{last_key}
+use Rattle.sms_handset_rows.specs.inbox.SoundInbox.{IsLast}
+use Rattle.sms_handset_rows.proofs.inbox.SoundEntries.{Inbox, all_at, inbox_from, all_from, entries_are, groups_are, StaysFree, inbox_more}
+use Rattle.sms_handset_rows.proofs.inbox.SoundMarks.{Discarded, discarded_from, marks_are, discarded_entries}
+use Rattle.sms_handset_rows.specs.declared.inbox.entry.Entry.{Entry}
+use Rattle.sms_handset_rows.specs.declared.inbox.discarded_group.DiscardedGroup.{DiscardedGroup}
+use Rattle.sms_handset_rows.specs.declared.outbox.notice.Notice.{Notice}
+use Rattle.sms_handset_rows.proofs.outbox.SoundOutbox.{Outbox, outbox_from, message_references_differ, out_entries_are, references_differ, outbox_entries}
+use Rattle.sms_handset_rows.specs.declared.outbox.out_entry.OutEntry.{OutEntry}
 use Rattle.sms_handset_draft.specs.declared.rows.Rows.{Rows}
 use Rattle.sms_handset_draft.specs.MemoryAvailable.{most_notices}
 use Rattle.sms_handset.specs.SoundCore.{IsUnderWay, IsSoundCore}

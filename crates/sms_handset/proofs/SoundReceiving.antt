@@ -7,8 +7,8 @@ use Rattle.sms_base.specs.declared.carried.Kind.TheVariants.{Ack, Error}
 use Rattle.sms_base.specs.Among.{Among}
 use Rattle.sms_base.specs.declared.carried.Carried.{Carried}
 use Rattle.sms_base.specs.declared.holder.Holder.TheVariants.{Part as PartHolder, Report, Entry as EntryHolder, Memory}
-use Rattle.sms_table.specs.Table.{put, latest, row_at}
-use Rattle.sms_table.proofs.Tables.{length_put}
+use Rattle.sms_rows.specs.table.Table.{put, latest, row_at}
+use Rattle.sms_rows.proofs.table.Tables.{length_put}
 use Rattle.sms_concat.specs.declared.content.Content.{Content}
 use Rattle.sms_concat.specs.declared.concat_key.ConcatKey.{ConcatKey}
 use Rattle.sms_control.specs.LinkStep.{awaits_reply, reply_step}
@@ -26,22 +26,22 @@ use Rattle.sms_tpdu.specs.TpduReading.{down_at}
 use Rattle.sms_tpdu.specs.declared.status_report.StatusReport.{StatusReport as StatusReportOf}
 use Rattle.sms_tpdu.specs.declared.down.Down.{Down}
 use Rattle.sms_tpdu.specs.declared.fault.TpduFault.{TpduFault}
-use Rattle.sms_inbox.specs.declared.entry.Entry.{Entry}
-use Rattle.sms_inbox.proofs.GroupMembers.{all_without}
-use Rattle.sms_inbox.specs.Groups.{alone, joined_entry, single_entry, is_among, mark_of, members, part_numbers, all_numbers, joined_content, part_entry, group_of, key_of}
-use Rattle.sms_inbox.proofs.SoundGroups.{all_freed, ended_entries, arrives, closed_free, part_closes, part_opens}
-use Rattle.sms_inbox.specs.declared.entry.Group.{Group}
-use Rattle.sms_inbox.specs.Keys.{entry_key, last_key}
-use Rattle.sms_inbox.specs.SoundInbox.{IsDelivered, IsPartOf, IsLast}
-use Rattle.sms_inbox.proofs.SoundEntries.{put_free, single_put, inbox_marks}
-use Rattle.sms_inbox.proofs.SoundRoom.{closed_few}
-use Rattle.sms_inbox.specs.declared.discarded_group.DiscardedGroup.{DiscardedGroup}
-use Rattle.sms_inbox.proofs.SoundMarks.{gone_none, mark_found, mark_gone, mark_more, more_none, seen_too}
-use Rattle.sms_inbox.specs.Doubles.{is_double}
-use Rattle.sms_outbox.specs.declared.out_entry.OutEntry.{OutEntry}
-use Rattle.sms_outbox.specs.Reports.{is_reported, reported}
-use Rattle.sms_outbox.specs.Keys.{out_key}
-use Rattle.sms_outbox.proofs.SoundOutbox.{replaced}
+use Rattle.sms_handset_rows.specs.declared.inbox.entry.Entry.{Entry}
+use Rattle.sms_handset_rows.proofs.inbox.GroupMembers.{all_without}
+use Rattle.sms_handset_rows.specs.inbox.Groups.{alone, joined_entry, single_entry, is_among, mark_of, members, part_numbers, all_numbers, joined_content, part_entry, group_of, key_of}
+use Rattle.sms_handset_rows.proofs.inbox.SoundGroups.{all_freed, ended_entries, arrives, closed_free, part_closes, part_opens}
+use Rattle.sms_handset_rows.specs.declared.inbox.entry.Group.{Group}
+use Rattle.sms_handset_rows.specs.inbox.Keys.{entry_key, last_key}
+use Rattle.sms_handset_rows.specs.inbox.SoundInbox.{IsDelivered, IsPartOf, IsLast}
+use Rattle.sms_handset_rows.proofs.inbox.SoundEntries.{put_free, single_put, inbox_marks}
+use Rattle.sms_handset_rows.proofs.inbox.SoundRoom.{closed_few}
+use Rattle.sms_handset_rows.specs.declared.inbox.discarded_group.DiscardedGroup.{DiscardedGroup}
+use Rattle.sms_handset_rows.proofs.inbox.SoundMarks.{gone_none, mark_found, mark_gone, mark_more, more_none, seen_too}
+use Rattle.sms_handset_rows.specs.inbox.Doubles.{is_double}
+use Rattle.sms_handset_rows.specs.declared.outbox.out_entry.OutEntry.{OutEntry}
+use Rattle.sms_handset_rows.specs.outbox.Reports.{is_reported, reported}
+use Rattle.sms_handset_rows.specs.outbox.Keys.{out_key}
+use Rattle.sms_handset_rows.proofs.outbox.SoundOutbox.{replaced}
 use Rattle.sms_handset_draft.specs.Draft.{Draft, remove_entry, put_entry, put_mark, remove_mark, link_of, reply, with_turn, put_last}
 use Rattle.sms_handset.proofs.SoundDrafts.{Sound, SoundAt, sound_as, entries_move, marks_move, counters_move, last_moves, outbox_moves}
 use Rattle.sms_handset_draft.specs.Storing.{drop_all, free_all, ended, store_single, keep, store_part, marked}

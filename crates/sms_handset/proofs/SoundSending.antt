@@ -2,13 +2,13 @@
 use Rattle.std.proofs.Common.{◌≡◌, ℕ, List, Some, ◌∙◌, subst, ⊎_elim, sym, ap, true, false}
 use Rattle.std.proofs.lemmas.Bool.{cases_eq}
 use Rattle.sms_base.specs.Among.{Among}
-use Rattle.sms_table.specs.Table.{put, row_at, Rises, without}
-use Rattle.sms_table.proofs.Tables.{row_at_put, row_at_put_other, among_found, row_at_without_other}
-use Rattle.sms_outbox.specs.declared.out_entry.EntryState.TheVariants.{Sending}
-use Rattle.sms_outbox.specs.declared.out_entry.OutEntry.{OutEntry}
-use Rattle.sms_outbox.specs.Keys.{out_key}
-use Rattle.sms_outbox.specs.declared.out_entry.EntryState.{EntryState}
-use Rattle.sms_outbox.specs.References.{is_unfinished}
+use Rattle.sms_rows.specs.table.Table.{put, row_at, Rises, without}
+use Rattle.sms_rows.proofs.table.Tables.{row_at_put, row_at_put_other, among_found, row_at_without_other}
+use Rattle.sms_handset_rows.specs.declared.outbox.out_entry.EntryState.TheVariants.{Sending}
+use Rattle.sms_handset_rows.specs.declared.outbox.out_entry.OutEntry.{OutEntry}
+use Rattle.sms_handset_rows.specs.outbox.Keys.{out_key}
+use Rattle.sms_handset_rows.specs.declared.outbox.out_entry.EntryState.{EntryState}
+use Rattle.sms_handset_rows.specs.outbox.References.{is_unfinished}
 use Rattle.sms_handset.specs.SoundCore.{IsSendingEntry}
 
 -- ---- what is under way

@@ -7,8 +7,8 @@ use Rattle.sms_base.specs.declared.holder.Holder.{Holder}
 use Rattle.sms_base.specs.declared.holder.Holder.TheVariants.{Part as PartHolder, Report, Entry as EntryHolder, Memory}
 use Rattle.sms_base.specs.declared.carried.Carried.{Carried}
 use Rattle.sms_base.specs.declared.carried.Kind.TheVariants.{Data}
-use Rattle.sms_table.specs.Table.{put, row_at, Rises}
-use Rattle.sms_table.proofs.Tables.{length_without, found_among, put_among, row_at_put, length_put}
+use Rattle.sms_rows.specs.table.Table.{put, row_at, Rises}
+use Rattle.sms_rows.proofs.table.Tables.{length_without, found_among, put_among, row_at_put, length_put}
 use Rattle.sms_control.specs.Timers.{later}
 use Rattle.sms_control.specs.LinkStep.{begin_step, is_busy}
 use Rattle.sms_relay.specs.RelayGrammar.{data_up, smma_up}
@@ -17,21 +17,21 @@ use Rattle.sms_link.specs.Timers.{tram}
 use Rattle.sms_link.specs.declared.ending.Ending.TheVariants.{Acknowledged as AcknowledgedEnd, Refused as RefusedEnd, Wrong as WrongEnd, Lost as LostEnd}
 use Rattle.sms_link.specs.LinkTurn.{Turn, of_kind, started, still}
 use Rattle.sms_tpdu.specs.AddressGrammar.{relay_address}
-use Rattle.sms_inbox.specs.declared.entry.Entry.{Entry}
-use Rattle.sms_inbox.proofs.SoundMarks.{length_replaced, above_at}
-use Rattle.sms_outbox.specs.declared.out_entry.OutEntry.{OutEntry}
-use Rattle.sms_outbox.proofs.SoundOutbox.{IsSoundOut, Replaces, replaced}
-use Rattle.sms_outbox.specs.declared.out_entry.EntryState.{EntryState}
-use Rattle.sms_outbox.specs.References.{is_unfinished, held_references, next_free}
-use Rattle.sms_outbox.specs.SoundOutbox.{AreTries, WasSent}
-use Rattle.sms_outbox.specs.declared.out_entry.EntryState.TheVariants.{Sending, Queued, Unsure, Sent, Failed}
-use Rattle.sms_outbox.specs.Settling.{lost, most_tries, retry_delay, settled, is_sending}
-use Rattle.sms_outbox.specs.declared.answers.Verdict.{Verdict}
-use Rattle.sms_outbox.specs.declared.answers.Verdict.TheVariants.{Acknowledged, Temporary, Duplicate, Refused, Lost}
-use Rattle.sms_outbox.specs.Keys.{out_key, notice_key}
-use Rattle.sms_outbox.specs.Answers.{verdict_of}
-use Rattle.sms_outbox.specs.declared.notice.Notice.{Notice}
-use Rattle.sms_outbox.specs.Offers.{is_queued, first_due, is_due, is_past, submit_of, first_fired, is_fired}
+use Rattle.sms_handset_rows.specs.declared.inbox.entry.Entry.{Entry}
+use Rattle.sms_handset_rows.proofs.inbox.SoundMarks.{length_replaced, above_at}
+use Rattle.sms_handset_rows.specs.declared.outbox.out_entry.OutEntry.{OutEntry}
+use Rattle.sms_handset_rows.proofs.outbox.SoundOutbox.{IsSoundOut, Replaces, replaced}
+use Rattle.sms_handset_rows.specs.declared.outbox.out_entry.EntryState.{EntryState}
+use Rattle.sms_handset_rows.specs.outbox.References.{is_unfinished, held_references, next_free}
+use Rattle.sms_handset_rows.specs.outbox.SoundOutbox.{AreTries, WasSent}
+use Rattle.sms_handset_rows.specs.declared.outbox.out_entry.EntryState.TheVariants.{Sending, Queued, Unsure, Sent, Failed}
+use Rattle.sms_handset_rows.specs.outbox.Settling.{lost, most_tries, retry_delay, settled, is_sending}
+use Rattle.sms_handset_rows.specs.declared.outbox.answers.Verdict.{Verdict}
+use Rattle.sms_handset_rows.specs.declared.outbox.answers.Verdict.TheVariants.{Acknowledged, Temporary, Duplicate, Refused, Lost}
+use Rattle.sms_handset_rows.specs.outbox.Keys.{out_key, notice_key}
+use Rattle.sms_handset_rows.specs.outbox.Answers.{verdict_of}
+use Rattle.sms_handset_rows.specs.declared.outbox.notice.Notice.{Notice}
+use Rattle.sms_handset_rows.specs.outbox.Offers.{is_queued, first_due, is_due, is_past, submit_of, first_fired, is_fired}
 use Rattle.sms_handset_draft.specs.Draft.{Draft, put_out, begin, link_of, with_turn}
 use Rattle.sms_handset.proofs.SoundDrafts.{SoundAt, none_under_way, outbox_moves, notices_move, Sound, counters_move}
 use Rattle.sms_handset_draft.specs.Outbox.{entry_concluded, holder_concluded, transfer_ended, lapse_rows, lapse, offer_entry, offer_message, is_notice_next, offer_wanted, offer_after, offer, follow}

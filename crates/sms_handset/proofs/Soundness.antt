@@ -3,16 +3,16 @@ use Rattle.std.proofs.Common.{◌≡◌, true, sym, ◌∙◌, true≢false, ◌
 use Rattle.std.specs.Prelude.{◌&&◌, nat_le, nat_lt, ◌↔◌}
 use Rattle.std.proofs.lemmas.Bool.{and_from, and_parts}
 use Rattle.std.specs.List.{AllByRecursion}
-use Rattle.sms_inbox.proofs.InboxTold.{Tells, both, at_most, less, entries_tell, groups_tell, last_tells, differ_tells, marks_tell}
-use Rattle.sms_inbox.specs.declared.entry.Entry.{Entry}
-use Rattle.sms_inbox.specs.SoundInbox.{AreEntries, AreOpenGroups, IsLast, AreMarks, Differ}
-use Rattle.sms_inbox.specs.InboxTest.{is_of_open_group, each_passes, is_entry, is_last, are_marks, differ}
-use Rattle.sms_inbox.specs.declared.last_accepted.LastAccepted.{LastAccepted}
-use Rattle.sms_outbox.specs.References.{held_by_entries, held_message_references}
-use Rattle.sms_outbox.specs.SoundOutbox.{AreOutEntries}
-use Rattle.sms_outbox.proofs.OutboxTold.{outbox_tells}
-use Rattle.sms_outbox.specs.declared.out_entry.OutEntry.{OutEntry}
-use Rattle.sms_outbox.specs.OutboxTest.{is_out_entry}
+use Rattle.sms_handset_rows.proofs.inbox.InboxTold.{Tells, both, at_most, less, entries_tell, groups_tell, last_tells, differ_tells, marks_tell}
+use Rattle.sms_handset_rows.specs.declared.inbox.entry.Entry.{Entry}
+use Rattle.sms_handset_rows.specs.inbox.SoundInbox.{AreEntries, AreOpenGroups, IsLast, AreMarks, Differ}
+use Rattle.sms_handset_rows.specs.inbox.InboxTest.{is_of_open_group, each_passes, is_entry, is_last, are_marks, differ}
+use Rattle.sms_handset_rows.specs.declared.inbox.last_accepted.LastAccepted.{LastAccepted}
+use Rattle.sms_handset_rows.specs.outbox.References.{held_by_entries, held_message_references}
+use Rattle.sms_handset_rows.specs.outbox.SoundOutbox.{AreOutEntries}
+use Rattle.sms_handset_rows.proofs.outbox.OutboxTold.{outbox_tells}
+use Rattle.sms_handset_rows.specs.declared.outbox.out_entry.OutEntry.{OutEntry}
+use Rattle.sms_handset_rows.specs.outbox.OutboxTest.{is_out_entry}
 use Rattle.sms_handset_draft.specs.declared.rows.Rows.{Rows}
 use Rattle.sms_handset.specs.SoundRows.{IsSound, IsSetup}
 use Rattle.sms_handset.specs.SoundnessTest.{KeysRise, are_few, inbox_passes, outbox_passes}

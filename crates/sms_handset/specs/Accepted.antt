@@ -1,7 +1,7 @@
 -- What an accepted message leaves: a DELIVER of no discarded group that is accepted stands in the inbox, alone or joined.
 use Rattle.std.specs.Prelude.{◌≡◌, ℕ, List, Some, ◌⊎◌, Ok}
 use Rattle.sms_base.specs.Among.{Among}
-use Rattle.sms_table.specs.declared.change.Change.TheVariants.{Put}
+use Rattle.sms_rows.specs.declared.table.change.Change.TheVariants.{Put}
 use Rattle.sms_concat.specs.declared.content.Part.{Part as PartOf}
 use Rattle.sms_concat.specs.Joining.{content_joined}
 use Rattle.sms_concat.specs.declared.concat_key.ConcatKey.{ConcatKey}
@@ -9,12 +9,12 @@ use Rattle.sms_tpdu.specs.declared.carrier.Carrier.TheVariants.{InData}
 use Rattle.sms_tpdu.specs.declared.deliver.Deliver.{Deliver as DeliverOf}
 use Rattle.sms_tpdu.specs.TpduReading.{down_at}
 use Rattle.sms_tpdu.specs.declared.down.Down.TheVariants.{Deliver}
-use Rattle.sms_inbox.specs.declared.entry.Message.{Message}
-use Rattle.sms_inbox.specs.declared.entry.Message.TheVariants.{Single, Part, Joined}
-use Rattle.sms_inbox.specs.Groups.{carried_part, group_of, key_of, mark_of}
-use Rattle.sms_inbox.specs.declared.discarded_group.DiscardedGroup.{DiscardedGroup}
-use Rattle.sms_inbox.specs.declared.entry.Entry.{Entry}
-use Rattle.sms_inbox.specs.declared.last_accepted.LastAccepted.{LastAccepted}
+use Rattle.sms_handset_rows.specs.declared.inbox.entry.Message.{Message}
+use Rattle.sms_handset_rows.specs.declared.inbox.entry.Message.TheVariants.{Single, Part, Joined}
+use Rattle.sms_handset_rows.specs.inbox.Groups.{carried_part, group_of, key_of, mark_of}
+use Rattle.sms_handset_rows.specs.declared.inbox.discarded_group.DiscardedGroup.{DiscardedGroup}
+use Rattle.sms_handset_rows.specs.declared.inbox.entry.Entry.{Entry}
+use Rattle.sms_handset_rows.specs.declared.inbox.last_accepted.LastAccepted.{LastAccepted}
 use Rattle.sms_handset_draft.specs.declared.rows.Rows.{Rows}
 use Rattle.sms_handset_draft.specs.Draft.{Changes}
 

@@ -6,3 +6,4 @@ pub mod SoundRows
 pub mod SoundnessTest
 pub mod SoundCore
 pub mod FaultCodes
+pub mod machine

@@ -1,9 +1,9 @@
 -- A plan: what an event changes and sends, and all that a restart forgets as it will be. Adopting it puts it in.
 use Rattle.std.specs.Prelude.{ℕ, List, Bool, Option, ◌≡◌, ◌+◌, ◌≤◌, max, length, Result, Ok, Err, Some, None}
 use Rattle.sms_base.specs.declared.holder.Holder.{Holder}
-use Rattle.sms_inbox.specs.declared.open_group.Regrouping.{Regrouping}
-use Rattle.sms_inbox.specs.Slots.{slots_taken}
-use Rattle.sms_inbox.specs.OpenIndex.{opening}
+use Rattle.sms_handset_rows.specs.declared.inbox.open_group.Regrouping.{Regrouping}
+use Rattle.sms_handset_rows.specs.inbox.Slots.{slots_taken}
+use Rattle.sms_handset_rows.specs.inbox.OpenIndex.{opening}
 use Rattle.sms_handset_draft.specs.Draft.{Room, Draft, Core, rows_after, HandsetOf}
 use Rattle.sms_handset_draft.specs.Outcome.{Outcome, outcome_of}
 use Rattle.sms_handset_draft.specs.Regrouping.{IsRegrouped}

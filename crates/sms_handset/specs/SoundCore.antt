@@ -3,10 +3,10 @@ use Rattle.std.specs.Prelude.{◌≡◌, ℕ, List, Some, Option, None, ◌≤�
 use Rattle.sms_base.specs.declared.holder.Holder.{Holder}
 use Rattle.sms_base.specs.declared.holder.Holder.TheVariants.{Part, Report, Entry, Memory}
 use Rattle.sms_base.specs.declared.carried.Carried.{Carried}
-use Rattle.sms_table.specs.Table.{row_at}
-use Rattle.sms_outbox.specs.declared.out_entry.EntryState.TheVariants.{Sending}
-use Rattle.sms_outbox.specs.declared.out_entry.OutEntry.{OutEntry}
-use Rattle.sms_outbox.specs.Keys.{out_key}
+use Rattle.sms_rows.specs.table.Table.{row_at}
+use Rattle.sms_handset_rows.specs.declared.outbox.out_entry.EntryState.TheVariants.{Sending}
+use Rattle.sms_handset_rows.specs.declared.outbox.out_entry.OutEntry.{OutEntry}
+use Rattle.sms_handset_rows.specs.outbox.Keys.{out_key}
 use Rattle.sms_handset_draft.specs.Draft.{Core}
 use Rattle.sms_handset_draft.specs.MemoryAvailable.{most_notices}
 use Rattle.sms_handset.specs.SoundRows.{IsSound}

@@ -2,12 +2,12 @@
 use Rattle.std.specs.Prelude.{◌<◌, ◌≤◌, length}
 use Rattle.std.specs.List.{AllByRecursion}
 use Rattle.sms_base.specs.Address.{IsAddress}
-use Rattle.sms_table.specs.Table.{Rises}
-use Rattle.sms_inbox.specs.SoundInbox.{AreEntries, Differ, AreOpenGroups, IsLast, AreMarks}
-use Rattle.sms_inbox.specs.Keys.{entry_key, last_key, mark_key}
-use Rattle.sms_outbox.specs.SoundOutbox.{AreOutEntries}
-use Rattle.sms_outbox.specs.References.{held_message_references, held_by_entries}
-use Rattle.sms_outbox.specs.Keys.{out_key}
+use Rattle.sms_rows.specs.table.Table.{Rises}
+use Rattle.sms_handset_rows.specs.inbox.SoundInbox.{AreEntries, Differ, AreOpenGroups, IsLast, AreMarks}
+use Rattle.sms_handset_rows.specs.inbox.Keys.{entry_key, last_key, mark_key}
+use Rattle.sms_handset_rows.specs.outbox.SoundOutbox.{AreOutEntries}
+use Rattle.sms_handset_rows.specs.outbox.References.{held_message_references, held_by_entries}
+use Rattle.sms_handset_rows.specs.outbox.Keys.{out_key}
 use Rattle.sms_handset_draft.specs.declared.setup.Setup.{Setup}
 use Rattle.sms_handset_draft.specs.declared.rows.Rows.{Rows}
 use Rattle.sms_handset.specs.declared.recover_error.RecoverError.{RecoverError}

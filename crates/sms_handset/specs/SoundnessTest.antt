@@ -1,14 +1,14 @@
 -- The test whether rows are sound, over the lists as they stand.
 use Rattle.std.specs.Prelude.{◌&&◌, nat_le, length, Bool, nat_lt}
-use Rattle.sms_table.specs.Table.{Rises}
-use Rattle.sms_inbox.specs.Keys.{entry_key, last_key, mark_key}
-use Rattle.sms_inbox.specs.InboxTest.{each_passes, is_entry, is_of_open_group, is_last, differ, are_marks}
-use Rattle.sms_inbox.specs.declared.entry.Entry.{Entry}
-use Rattle.sms_inbox.specs.declared.last_accepted.LastAccepted.{LastAccepted}
-use Rattle.sms_outbox.specs.Keys.{out_key}
-use Rattle.sms_outbox.specs.OutboxTest.{is_out_entry}
-use Rattle.sms_outbox.specs.declared.out_entry.OutEntry.{OutEntry}
-use Rattle.sms_outbox.specs.References.{held_by_entries, held_message_references}
+use Rattle.sms_rows.specs.table.Table.{Rises}
+use Rattle.sms_handset_rows.specs.inbox.Keys.{entry_key, last_key, mark_key}
+use Rattle.sms_handset_rows.specs.inbox.InboxTest.{each_passes, is_entry, is_of_open_group, is_last, differ, are_marks}
+use Rattle.sms_handset_rows.specs.declared.inbox.entry.Entry.{Entry}
+use Rattle.sms_handset_rows.specs.declared.inbox.last_accepted.LastAccepted.{LastAccepted}
+use Rattle.sms_handset_rows.specs.outbox.Keys.{out_key}
+use Rattle.sms_handset_rows.specs.outbox.OutboxTest.{is_out_entry}
+use Rattle.sms_handset_rows.specs.declared.outbox.out_entry.OutEntry.{OutEntry}
+use Rattle.sms_handset_rows.specs.outbox.References.{held_by_entries, held_message_references}
 use Rattle.sms_handset_draft.specs.declared.rows.Rows.{Rows}
 
 -- the keys of each list rise

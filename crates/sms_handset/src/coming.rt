@@ -8,7 +8,7 @@ ghost use Rattle.sms_link.specs.LinkTurn.{fired, taken};
 
 use sms_base::{Holder, Moment};
 use sms_handset_draft::{Draft, NoMemory};
-use sms_inbox::Regrouping;
+use sms_handset_rows::inbox::Regrouping;
 
 /// A frame comes.
 pub(crate) fn frame_and_follow(

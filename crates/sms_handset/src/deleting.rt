@@ -1,15 +1,15 @@
 //! Deleting and discarding.
 ghost use Rattle.std.specs.Prelude.{◌≡◌};
-ghost use Rattle.sms_table.specs.Table.{row_at};
+ghost use Rattle.sms_rows.specs.table.Table.{row_at};
 ghost use Rattle.sms_handset_draft.specs.Draft.{no_changes};
-ghost use Rattle.sms_outbox.specs.Keys.{out_key};
+ghost use Rattle.sms_handset_rows.specs.outbox.Keys.{out_key};
 ghost use Rattle.sms_handset.specs.HandsetEvent.{acted};
 ghost use Rattle.sms_handset.specs.OwnersActs.{delete as delete_of, delete_out as delete_out_of, discard as discard_of};
 ghost use Rattle.sms_handset.specs.Planning.{Acts};
 
 use crate::refusal::{PlanError, Refusal};
 use sms_handset_draft::Draft;
-use sms_inbox::DiscardedGroup;
+use sms_handset_rows::inbox::DiscardedGroup;
 
 fn delete_out(draft: &mut Draft<'_>, number: u32) -> Result<(), PlanError>
     requires untouched { draft.old.changes ≡ no_changes }

@@ -4,7 +4,7 @@
 //! `Handset` is a machine over rows, which it judges when it starts. `plan` takes an event and hands out the changes of
 //! the rows; nothing has changed yet. Its caller commits them and calls `adopt`, which can't fail: only then do the
 //! frames come out. A handset that was sound is so after each event, and starts again from the rows that were committed.
-//! What its rows are of is `sms_inbox`'s and `sms_outbox`'s, the stages of its events are `sms_handset_draft`'s.
+//! What its rows are of is `sms_handset_rows::inbox`'s and `sms_handset_rows::outbox`'s, the stages of its events are `sms_handset_draft`'s.
 #![tactic(auto)]
 
 mod coming;
@@ -12,6 +12,7 @@ mod deleting;
 mod event;
 mod handset;
 pub mod laws;
+pub mod machine;
 mod planned;
 mod recover_error;
 mod refusal;
@@ -25,6 +26,6 @@ pub use planned::Planned;
 pub use recover_error::RecoverError;
 pub use refusal::{PlanError, Refusal};
 pub use sms_handset_draft::{Changes, Counters, NoMemory, Rows, Setup};
-pub use sms_inbox::{DiscardedGroup, Entry, Group, LastAccepted, Message};
-pub use sms_outbox::{EntryState, Notice, OutEntry, SubmitTpdu, Verdict};
+pub use sms_handset_rows::inbox::{DiscardedGroup, Entry, Group, LastAccepted, Message};
+pub use sms_handset_rows::outbox::{EntryState, Notice, OutEntry, SubmitTpdu, Verdict};
 pub use text_view::TextView;

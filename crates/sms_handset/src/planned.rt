@@ -3,7 +3,7 @@ ghost use Rattle.std.specs.Prelude.{◌≡◌};
 ghost use Rattle.sms_handset_draft.specs.Outcome.{changes_in};
 
 use sms_handset_draft::{Changes, Finished};
-use sms_inbox::{Regrouping, SpareGroups};
+use sms_handset_rows::inbox::{Regrouping, SpareGroups};
 use std::marker::Model;
 
 /// What an event changes and sends, and the handset's state after it, ready made.

@@ -4,9 +4,9 @@ ghost use Rattle.sms_handset.specs.SoundRows.{IsSetup, IsSound};
 ghost use Rattle.sms_handset.specs.SoundnessTest.{KeysRise, are_few as are_few_of, inbox_passes as inbox_passes_of, outbox_passes as outbox_passes_of};
 
 use sms_handset_draft::Rows;
-use sms_inbox::{are_entries, are_last, are_marks, are_of_open_groups};
-use sms_outbox::{are_out_entries, message_references_differ, references_differ};
-use sms_table::rises;
+use sms_handset_rows::inbox::{are_entries, are_last, are_marks, are_of_open_groups};
+use sms_handset_rows::outbox::{are_out_entries, message_references_differ, references_differ};
+use sms_rows::table::rises;
 
 fn keys_rise(rows: &Rows) -> bool
     ensures { (result ≡ true) ↔ KeysRise rows.now }

@@ -1,6 +1,6 @@
 //! Writing: a text becomes SUBMITs in the outbox.
 ghost use Rattle.std.specs.Prelude.{◌≡◌, ◌+◌, ◌<◌, ◌≤◌, List, Ok, length, All, IfOk, OnOk};
-ghost use Rattle.sms_outbox.specs.References.{held_message_references as held_message_references_of, next_free as next_free_of};
+ghost use Rattle.sms_handset_rows.specs.outbox.References.{held_message_references as held_message_references_of, next_free as next_free_of};
 ghost use Rattle.std.specs.Str.{chars};
 ghost use Rattle.sms_base.specs.Address.{IsAddress};
 ghost use Rattle.sms_concat.specs.declared.content.Part.{Part as PartOf};
@@ -13,7 +13,7 @@ ghost use Rattle.sms_handset.specs.OwnersActs.{count_split as count_split_of, wr
 use sms_base::Address;
 use sms_concat::{Part, content_of_text, split};
 use sms_handset_draft::{Counters, Draft, NoMemory};
-use sms_outbox::{
+use sms_handset_rows::outbox::{
     EntryState, OutEntry, following, held_message_references, next_free, submit_of_part,
 };
 

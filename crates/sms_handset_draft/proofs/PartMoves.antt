@@ -1,11 +1,11 @@
 -- Moves of stored parts are moves of their entries.
 use Rattle.std.proofs.Common.{◌≡◌, List, [], ◌∷◌, refl, ◌∙◌, ap, ◌++◌, Option, Some, None}
-use Rattle.sms_table.specs.Table.{row_at}
-use Rattle.sms_inbox.specs.declared.entry.Entry.{Entry}
-use Rattle.sms_inbox.specs.OpenGroups.{entries_of, found_then, stored_parts}
-use Rattle.sms_inbox.specs.declared.open_group.StoredPart.{StoredPart}
-use Rattle.sms_inbox.specs.Keys.{entry_key}
-use Rattle.sms_inbox.specs.Groups.{alone}
+use Rattle.sms_rows.specs.table.Table.{row_at}
+use Rattle.sms_handset_rows.specs.declared.inbox.entry.Entry.{Entry}
+use Rattle.sms_handset_rows.specs.inbox.OpenGroups.{entries_of, found_then, stored_parts}
+use Rattle.sms_handset_rows.specs.declared.inbox.open_group.StoredPart.{StoredPart}
+use Rattle.sms_handset_rows.specs.inbox.Keys.{entry_key}
+use Rattle.sms_handset_rows.specs.inbox.Groups.{alone}
 use Rattle.sms_handset_draft.specs.Draft.{Draft, remove_entry, put_entry}
 use Rattle.sms_handset_draft.specs.Storing.{drop_all, drop_parts, free_all, free_found, free_parts}
 

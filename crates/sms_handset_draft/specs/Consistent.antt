@@ -1,8 +1,8 @@
 -- What holds of the rows of a handset between its events.
 use Rattle.std.specs.Prelude.{◌≡◌}
 use Rattle.sms_base.specs.Address.{IsAddress}
-use Rattle.sms_inbox.specs.Slots.{slots_taken}
-use Rattle.sms_inbox.specs.OpenIndex.{Indexes}
+use Rattle.sms_handset_rows.specs.inbox.Slots.{slots_taken}
+use Rattle.sms_handset_rows.specs.inbox.OpenIndex.{Indexes}
 use Rattle.sms_handset_draft.specs.declared.stored.Stored.{Stored}
 use Rattle.sms_handset_draft.specs.Draft.{rows_of}
 use Rattle.sms_handset_draft.specs.Regrouping.{Numbered}

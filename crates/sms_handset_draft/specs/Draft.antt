@@ -4,21 +4,21 @@ use Rattle.std.specs.Prelude.{length, ℕ, List, Bool, Option, [], true, None, u
 use Rattle.sms_base.specs.declared.carried.Carried.{Carried}
 use Rattle.sms_base.specs.declared.holder.Holder.{Holder}
 use Rattle.sms_base.specs.declared.carried.Kind.{Kind}
-use Rattle.sms_table.specs.declared.change.Change.{Change}
-use Rattle.sms_table.specs.Table.{all_applied, put, without}
-use Rattle.sms_table.specs.declared.change.Change.TheVariants.{Put, Remove}
+use Rattle.sms_rows.specs.declared.table.change.Change.{Change}
+use Rattle.sms_rows.specs.table.Table.{all_applied, put, without}
+use Rattle.sms_rows.specs.declared.table.change.Change.TheVariants.{Put, Remove}
 use Rattle.sms_control.specs.declared.link_state.LinkState.{LinkState}
 use Rattle.sms_control.specs.LinkStep.{fresh}
 use Rattle.sms_link.specs.declared.outgoing.Outgoing.{Outgoing}
 use Rattle.sms_link.specs.declared.ending.Side.TheVariants.{Handset as HandsetSide}
 use Rattle.sms_link.specs.LinkTurn.{LinkOf, Turn, replied, begun}
-use Rattle.sms_inbox.specs.declared.entry.Entry.{Entry}
-use Rattle.sms_inbox.specs.declared.last_accepted.LastAccepted.{LastAccepted}
-use Rattle.sms_inbox.specs.declared.discarded_group.DiscardedGroup.{DiscardedGroup}
-use Rattle.sms_inbox.specs.Keys.{entry_key, last_key, mark_key}
-use Rattle.sms_outbox.specs.declared.notice.Notice.{Notice}
-use Rattle.sms_outbox.specs.declared.out_entry.OutEntry.{OutEntry}
-use Rattle.sms_outbox.specs.Keys.{out_key}
+use Rattle.sms_handset_rows.specs.declared.inbox.entry.Entry.{Entry}
+use Rattle.sms_handset_rows.specs.declared.inbox.last_accepted.LastAccepted.{LastAccepted}
+use Rattle.sms_handset_rows.specs.declared.inbox.discarded_group.DiscardedGroup.{DiscardedGroup}
+use Rattle.sms_handset_rows.specs.inbox.Keys.{entry_key, last_key, mark_key}
+use Rattle.sms_handset_rows.specs.declared.outbox.notice.Notice.{Notice}
+use Rattle.sms_handset_rows.specs.declared.outbox.out_entry.OutEntry.{OutEntry}
+use Rattle.sms_handset_rows.specs.outbox.Keys.{out_key}
 use Rattle.sms_handset_draft.specs.declared.rows.Rows.{Rows}
 use Rattle.sms_handset_draft.specs.declared.stored.Stored.{Stored}
 use Rattle.sms_handset_draft.specs.declared.counters.Counters.{Counters}

@@ -1,7 +1,7 @@
 -- What an event changes in the open groups, told by the cases of the event: a part that comes opens its group or joins
 -- it, the last part ends it, and nothing else that comes touches a group.
 use Rattle.std.specs.Prelude.{ℕ, List, if◌then◌else◌, Option, Some, None, Result, Ok, Err}
-use Rattle.sms_table.specs.Table.{row_at}
+use Rattle.sms_rows.specs.table.Table.{row_at}
 use Rattle.sms_concat.specs.declared.concat_key.ConcatKey.{ConcatKey}
 use Rattle.sms_relay.specs.declared.fault.RelayFault.{RelayFault}
 use Rattle.sms_relay.specs.declared.frame.Rp.{Rp}
@@ -16,15 +16,15 @@ use Rattle.sms_tpdu.specs.declared.down.Down.TheVariants.{Deliver, StatusReport,
 use Rattle.sms_tpdu.specs.declared.fault.TpduFault.{TpduFault}
 use Rattle.sms_tpdu.specs.declared.carrier.Carrier.TheVariants.{InData}
 use Rattle.sms_tpdu.specs.TpduReading.{down_at}
-use Rattle.sms_inbox.specs.declared.entry.Entry.{Entry}
-use Rattle.sms_inbox.specs.declared.entry.Group.{Group}
-use Rattle.sms_inbox.specs.declared.open_group.Regrouping.{Regrouping}
-use Rattle.sms_inbox.specs.Groups.{part_entry, is_among, part_numbers, members, group_of, mark_of, key_of}
-use Rattle.sms_inbox.specs.OpenGroups.{grouped}
-use Rattle.sms_inbox.specs.declared.open_group.Regrouping.TheVariants.{Unchanged}
-use Rattle.sms_inbox.specs.declared.discarded_group.DiscardedGroup.{DiscardedGroup}
-use Rattle.sms_inbox.specs.Keys.{last_key}
-use Rattle.sms_inbox.specs.Doubles.{is_double}
+use Rattle.sms_handset_rows.specs.declared.inbox.entry.Entry.{Entry}
+use Rattle.sms_handset_rows.specs.declared.inbox.entry.Group.{Group}
+use Rattle.sms_handset_rows.specs.declared.inbox.open_group.Regrouping.{Regrouping}
+use Rattle.sms_handset_rows.specs.inbox.Groups.{part_entry, is_among, part_numbers, members, group_of, mark_of, key_of}
+use Rattle.sms_handset_rows.specs.inbox.OpenGroups.{grouped}
+use Rattle.sms_handset_rows.specs.declared.inbox.open_group.Regrouping.TheVariants.{Unchanged}
+use Rattle.sms_handset_rows.specs.declared.inbox.discarded_group.DiscardedGroup.{DiscardedGroup}
+use Rattle.sms_handset_rows.specs.inbox.Keys.{last_key}
+use Rattle.sms_handset_rows.specs.inbox.Doubles.{is_double}
 use Rattle.sms_handset_draft.specs.Draft.{Draft, with_turn}
 use Rattle.sms_handset_draft.specs.MemoryAvailable.{has_room}
 

@@ -2,15 +2,15 @@
 -- so by RP-SMMA once a slot has become free.
 use Rattle.std.specs.Prelude.{nat_lt, Bool, false, if◌then◌else◌, true, ◌+◌, min, ℕ, None, ◌-◌, ◌%◌, Some, Option}
 use Rattle.sms_base.specs.declared.holder.Holder.TheVariants.{Memory}
-use Rattle.sms_table.specs.Table.{put, without}
+use Rattle.sms_rows.specs.table.Table.{put, without}
 use Rattle.sms_control.specs.Timers.{later}
 use Rattle.sms_relay.specs.RelayGrammar.{smma_up}
 use Rattle.sms_link.specs.Timers.{tram}
 use Rattle.sms_link.specs.declared.ending.Ending.{Ending}
 use Rattle.sms_link.specs.declared.ending.Ending.TheVariants.{Acknowledged, Refused, Wrong, Lost}
-use Rattle.sms_inbox.specs.Slots.{slots_taken}
-use Rattle.sms_outbox.specs.declared.notice.Notice.{Notice}
-use Rattle.sms_outbox.specs.Keys.{notice_key}
+use Rattle.sms_handset_rows.specs.inbox.Slots.{slots_taken}
+use Rattle.sms_handset_rows.specs.declared.outbox.notice.Notice.{Notice}
+use Rattle.sms_handset_rows.specs.outbox.Keys.{notice_key}
 use Rattle.sms_handset_draft.specs.Draft.{Draft, put_counters, begin}
 
 -- a slot is free, and an entry number is left

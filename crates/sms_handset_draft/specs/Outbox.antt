@@ -3,19 +3,19 @@ use Rattle.std.specs.Prelude.{Option, Some, None, List, [], ◌∷◌, if◌then
 use Rattle.sms_base.specs.declared.holder.Holder.{Holder}
 use Rattle.sms_base.specs.declared.holder.Holder.TheVariants.{Part, Report, Entry, Memory}
 use Rattle.sms_base.specs.declared.carried.Carried.{Carried}
-use Rattle.sms_table.specs.Table.{row_at}
+use Rattle.sms_rows.specs.table.Table.{row_at}
 use Rattle.sms_control.specs.LinkStep.{is_busy}
 use Rattle.sms_relay.specs.RelayGrammar.{data_up}
 use Rattle.sms_link.specs.declared.ending.Ending.{Ending}
 use Rattle.sms_tpdu.specs.AddressGrammar.{relay_address}
-use Rattle.sms_outbox.specs.Settling.{settled, lost, is_sending}
-use Rattle.sms_outbox.specs.declared.out_entry.OutEntry.{OutEntry}
-use Rattle.sms_outbox.specs.Answers.{verdict_of}
-use Rattle.sms_outbox.specs.Keys.{notice_key, out_key}
-use Rattle.sms_outbox.specs.Offers.{submit_of, first_due, first_fired}
-use Rattle.sms_outbox.specs.declared.out_entry.EntryState.TheVariants.{Sending}
-use Rattle.sms_outbox.specs.References.{held_references, next_free}
-use Rattle.sms_outbox.specs.declared.notice.Notice.{Notice}
+use Rattle.sms_handset_rows.specs.outbox.Settling.{settled, lost, is_sending}
+use Rattle.sms_handset_rows.specs.declared.outbox.out_entry.OutEntry.{OutEntry}
+use Rattle.sms_handset_rows.specs.outbox.Answers.{verdict_of}
+use Rattle.sms_handset_rows.specs.outbox.Keys.{notice_key, out_key}
+use Rattle.sms_handset_rows.specs.outbox.Offers.{submit_of, first_due, first_fired}
+use Rattle.sms_handset_rows.specs.declared.outbox.out_entry.EntryState.TheVariants.{Sending}
+use Rattle.sms_handset_rows.specs.outbox.References.{held_references, next_free}
+use Rattle.sms_handset_rows.specs.declared.outbox.notice.Notice.{Notice}
 use Rattle.sms_handset_draft.specs.Draft.{Draft, put_out, begin}
 use Rattle.sms_handset_draft.specs.MemoryAvailable.{notice_concluded, most_notices, first_notice, send_notice}
 

@@ -1,10 +1,10 @@
 -- What came of an event: what it changes and sends, and all that a restart forgets as it will be.
 use Rattle.std.specs.Prelude.{ℕ, List, Bool, Option}
 use Rattle.sms_base.specs.declared.carried.Carried.{Carried}
-use Rattle.sms_table.specs.Pending.{FitsIn}
+use Rattle.sms_rows.specs.table.Pending.{FitsIn}
 use Rattle.sms_control.specs.declared.link_state.LinkState.{LinkState}
 use Rattle.sms_link.specs.declared.outgoing.Outgoing.{Outgoing}
-use Rattle.sms_outbox.specs.declared.notice.Notice.{Notice}
+use Rattle.sms_handset_rows.specs.declared.outbox.notice.Notice.{Notice}
 use Rattle.sms_handset_draft.specs.declared.finished.Finished.{Finished}
 use Rattle.sms_handset_draft.specs.declared.rows.Changes.{Changes as SettledChanges}
 use Rattle.sms_handset_draft.specs.declared.rows.Rows.{Rows}

@@ -2,7 +2,7 @@
 use Rattle.std.specs.Prelude.{ℕ, [], ◌∷◌, Some, None, List, if◌then◌else◌, Option, Result, Ok, Err}
 use Rattle.sms_base.specs.declared.holder.Holder.{Holder}
 use Rattle.sms_base.specs.declared.carried.Kind.TheVariants.{Ack, Error}
-use Rattle.sms_table.specs.Table.{row_at}
+use Rattle.sms_rows.specs.table.Table.{row_at}
 use Rattle.sms_concat.specs.declared.concat_key.ConcatKey.{ConcatKey}
 use Rattle.sms_relay.specs.RelayGrammar.{ack_up, error_up}
 use Rattle.sms_relay.specs.declared.cause.RpCause.{RpCause}
@@ -17,14 +17,14 @@ use Rattle.sms_tpdu.specs.declared.down.Down.TheVariants.{Deliver, StatusReport,
 use Rattle.sms_tpdu.specs.declared.fault.TpduFault.{TpduFault}
 use Rattle.sms_tpdu.specs.declared.carrier.Carrier.TheVariants.{InData}
 use Rattle.sms_tpdu.specs.TpduReading.{down_at}
-use Rattle.sms_inbox.specs.declared.entry.Entry.{Entry}
-use Rattle.sms_inbox.specs.declared.entry.Group.{Group}
-use Rattle.sms_inbox.specs.Groups.{is_among, part_numbers, members, group_of, mark_of, key_of}
-use Rattle.sms_inbox.specs.declared.discarded_group.DiscardedGroup.{DiscardedGroup}
-use Rattle.sms_inbox.specs.Doubles.{is_double}
-use Rattle.sms_inbox.specs.Keys.{last_key}
-use Rattle.sms_outbox.specs.declared.out_entry.OutEntry.{OutEntry}
-use Rattle.sms_outbox.specs.Reports.{reported}
+use Rattle.sms_handset_rows.specs.declared.inbox.entry.Entry.{Entry}
+use Rattle.sms_handset_rows.specs.declared.inbox.entry.Group.{Group}
+use Rattle.sms_handset_rows.specs.inbox.Groups.{is_among, part_numbers, members, group_of, mark_of, key_of}
+use Rattle.sms_handset_rows.specs.declared.inbox.discarded_group.DiscardedGroup.{DiscardedGroup}
+use Rattle.sms_handset_rows.specs.inbox.Doubles.{is_double}
+use Rattle.sms_handset_rows.specs.inbox.Keys.{last_key}
+use Rattle.sms_handset_rows.specs.declared.outbox.out_entry.OutEntry.{OutEntry}
+use Rattle.sms_handset_rows.specs.outbox.Reports.{reported}
 use Rattle.sms_handset_draft.specs.Draft.{Draft, reply, put_last, put_out}
 use Rattle.sms_handset_draft.specs.MemoryAvailable.{flag, has_room}
 use Rattle.sms_handset_draft.specs.Storing.{store_single, store_part, marked}

@@ -1,11 +1,11 @@
 -- A change of the open groups that an event's changes of the rows make.
 use Rattle.std.specs.Prelude.{◌<◌, ◌≡◌, ℕ}
 use Rattle.std.specs.List.{AllByRecursion}
-use Rattle.sms_table.specs.Table.{Rises}
-use Rattle.sms_inbox.specs.declared.entry.Entry.{Entry}
-use Rattle.sms_inbox.specs.OpenGroups.{open_at, regrouped}
-use Rattle.sms_inbox.specs.declared.open_group.Regrouping.{Regrouping}
-use Rattle.sms_inbox.specs.Keys.{entry_key}
+use Rattle.sms_rows.specs.table.Table.{Rises}
+use Rattle.sms_handset_rows.specs.declared.inbox.entry.Entry.{Entry}
+use Rattle.sms_handset_rows.specs.inbox.OpenGroups.{open_at, regrouped}
+use Rattle.sms_handset_rows.specs.declared.inbox.open_group.Regrouping.{Regrouping}
+use Rattle.sms_handset_rows.specs.inbox.Keys.{entry_key}
 use Rattle.sms_handset_draft.specs.declared.rows.Rows.{Rows}
 
 -- each entry has a number that was given

@@ -1,13 +1,13 @@
 -- Storing messages and parts in the middle of an event, and what becomes of a group.
 use Rattle.std.specs.Prelude.{List, [], ◌∷◌, Option, Some, None, if◌then◌else◌, ◌+◌, ℕ, ◌++◌}
-use Rattle.sms_table.specs.Table.{row_at}
+use Rattle.sms_rows.specs.table.Table.{row_at}
 use Rattle.sms_concat.specs.declared.content.Content.{Content}
-use Rattle.sms_inbox.specs.declared.entry.Entry.{Entry}
-use Rattle.sms_inbox.specs.Groups.{alone, joined_entry, all_numbers, part_numbers, joined_content, single_entry, part_entry}
-use Rattle.sms_inbox.specs.declared.entry.Group.{Group}
-use Rattle.sms_inbox.specs.declared.discarded_group.DiscardedGroup.{DiscardedGroup}
-use Rattle.sms_inbox.specs.declared.open_group.StoredPart.{StoredPart}
-use Rattle.sms_inbox.specs.Keys.{entry_key}
+use Rattle.sms_handset_rows.specs.declared.inbox.entry.Entry.{Entry}
+use Rattle.sms_handset_rows.specs.inbox.Groups.{alone, joined_entry, all_numbers, part_numbers, joined_content, single_entry, part_entry}
+use Rattle.sms_handset_rows.specs.declared.inbox.entry.Group.{Group}
+use Rattle.sms_handset_rows.specs.declared.inbox.discarded_group.DiscardedGroup.{DiscardedGroup}
+use Rattle.sms_handset_rows.specs.declared.inbox.open_group.StoredPart.{StoredPart}
+use Rattle.sms_handset_rows.specs.inbox.Keys.{entry_key}
 use Rattle.sms_handset_draft.specs.Draft.{Draft, remove_entry, put_entry, put_counters, put_mark, remove_mark}
 
 -- ---- the entries of a group

@@ -3,16 +3,16 @@ ghost use Rattle.std.specs.Prelude.{◌≡◌, ◌++◌, ◌<◌, ◌≤◌, ◌
 ghost use Rattle.sms_base.specs.Address.{IsAddress};
 ghost use Rattle.sms_link.specs.declared.ending.Side.TheVariants.{Handset as HandsetSide};
 ghost use Rattle.sms_link.specs.LinkTurn.{fired, taken};
-ghost use Rattle.sms_table.specs.Pending.{rows_in};
-ghost use Rattle.sms_table.specs.Table.{row_at};
-ghost use Rattle.sms_inbox.specs.Keys.{entry_key, last_key};
+ghost use Rattle.sms_rows.specs.table.Pending.{rows_in};
+ghost use Rattle.sms_rows.specs.table.Table.{row_at};
+ghost use Rattle.sms_handset_rows.specs.inbox.Keys.{entry_key, last_key};
 ghost use Rattle.sms_handset_draft.specs.Draft.{begin as begin_of, draft_of, link_of, no_changes, put_counters as put_counters_of, put_entry as put_entry_of, put_last as put_last_of, put_mark as put_mark_of, put_out as put_out_of, remove_entry as remove_entry_of, remove_mark as remove_mark_of, remove_out as remove_out_of, reply as reply_of, room_of, rows_of, with_turn};
 ghost use Rattle.sms_handset_draft.specs.Consistent.{IsConsistent};
 ghost use Rattle.sms_handset_draft.specs.Outcome.{HaveRoom, outcome_in, outcome_of};
-ghost use Rattle.sms_inbox.specs.Groups.{members as members_of};
-ghost use Rattle.sms_inbox.specs.Slots.{slots_of, slots_taken};
-ghost use Rattle.sms_outbox.specs.Keys.{out_key};
-ghost use Rattle.sms_inbox.specs.OpenGroups.{open_at as open_at_of, stored_parts};
+ghost use Rattle.sms_handset_rows.specs.inbox.Groups.{members as members_of};
+ghost use Rattle.sms_handset_rows.specs.inbox.Slots.{slots_of, slots_taken};
+ghost use Rattle.sms_handset_rows.specs.outbox.Keys.{out_key};
+ghost use Rattle.sms_handset_rows.specs.inbox.OpenGroups.{open_at as open_at_of, stored_parts};
 
 use crate::counters::Counters;
 use crate::finished::Finished;
@@ -20,10 +20,10 @@ use crate::no_memory::NoMemory;
 use crate::settling::settle;
 use crate::stored::Stored;
 use sms_base::{Address, Holder, Kind, Listed, Moment};
-use sms_inbox::{DiscardedGroup, Entry, Group, LastAccepted, Members, OpenGroup};
+use sms_handset_rows::inbox::{DiscardedGroup, Entry, Group, LastAccepted, Members, OpenGroup};
+use sms_handset_rows::outbox::{Notice, OutEntry};
 use sms_link::{Link, Outgoing, Upward};
-use sms_outbox::{Notice, OutEntry};
-use sms_table::{Key, Pending, Table};
+use sms_rows::table::{Key, Pending, Table};
 use std::alloc::Global;
 use std::marker::Model;
 
@@ -49,11 +49,11 @@ pub struct Draft<'a> {
 
 impl<'a> Model for Draft<'a> {
     ghost use Rattle.sms_handset_draft.specs.Draft.{Draft as DraftOf, rows_after, rows_of};
-    ghost use Rattle.sms_inbox.specs.Keys.{entry_key};
-    ghost use Rattle.sms_inbox.specs.Slots.{slots_taken};
+    ghost use Rattle.sms_handset_rows.specs.inbox.Keys.{entry_key};
+    ghost use Rattle.sms_handset_rows.specs.inbox.Slots.{slots_taken};
     ghost use Rattle.sms_handset_draft.specs.Consistent.{IsConsistent};
     ghost use Rattle.sms_link.specs.declared.ending.Side.TheVariants.{Handset as HandsetSide};
-    ghost use Rattle.sms_table.specs.Table.{all_applied};
+    ghost use Rattle.sms_rows.specs.table.Table.{all_applied};
     ghost use Rattle.std.specs.Prelude.{◌≡◌};
 
     ghost Value = { DraftOf };
@@ -155,7 +155,7 @@ impl<'a> Draft<'a> {
     }
 
     /// An entry of the inbox comes, or takes the place of that of its number.
-    #[tactic(auto, using(sms_table::proofs::Tables::all_applied_push))]
+    #[tactic(auto, using(sms_rows::proofs::table::Tables::all_applied_push))]
     pub(crate) fn put_entry(&mut self, entry: Entry) -> Result<(), NoMemory>
         ensures { OnOk result (self.new ≡ put_entry_of entry self.old) }
     {
@@ -168,7 +168,7 @@ impl<'a> Draft<'a> {
         Ok(())
     }
 
-    #[tactic(auto, using(sms_table::proofs::Tables::all_applied_push))]
+    #[tactic(auto, using(sms_rows::proofs::table::Tables::all_applied_push))]
     pub fn remove_entry(&mut self, number: u32) -> Result<(), NoMemory>
         ensures { OnOk result (self.new ≡ remove_entry_of number self.old) }
     {
@@ -181,7 +181,7 @@ impl<'a> Draft<'a> {
         Ok(())
     }
 
-    #[tactic(auto, using(sms_table::proofs::Tables::all_applied_push))]
+    #[tactic(auto, using(sms_rows::proofs::table::Tables::all_applied_push))]
     pub(crate) fn put_last(&mut self, last: LastAccepted) -> Result<(), NoMemory>
         ensures { OnOk result (self.new ≡ put_last_of last self.old) }
     {
@@ -189,7 +189,7 @@ impl<'a> Draft<'a> {
         Ok(())
     }
 
-    #[tactic(auto, using(sms_table::proofs::Tables::all_applied_push))]
+    #[tactic(auto, using(sms_rows::proofs::table::Tables::all_applied_push))]
     pub fn put_out(&mut self, entry: OutEntry) -> Result<(), NoMemory>
         ensures { OnOk result (self.new ≡ put_out_of entry self.old) }
     {
@@ -197,7 +197,7 @@ impl<'a> Draft<'a> {
         Ok(())
     }
 
-    #[tactic(auto, using(sms_table::proofs::Tables::all_applied_push))]
+    #[tactic(auto, using(sms_rows::proofs::table::Tables::all_applied_push))]
     pub fn remove_out(&mut self, number: u32) -> Result<(), NoMemory>
         ensures { OnOk result (self.new ≡ remove_out_of number self.old) }
     {
@@ -205,7 +205,7 @@ impl<'a> Draft<'a> {
         Ok(())
     }
 
-    #[tactic(auto, using(sms_table::proofs::Tables::all_applied_push))]
+    #[tactic(auto, using(sms_rows::proofs::table::Tables::all_applied_push))]
     pub fn put_mark(&mut self, mark: DiscardedGroup) -> Result<(), NoMemory>
         ensures { OnOk result (self.new ≡ put_mark_of mark self.old) }
     {
@@ -213,7 +213,7 @@ impl<'a> Draft<'a> {
         Ok(())
     }
 
-    #[tactic(auto, using(sms_table::proofs::Tables::all_applied_push))]
+    #[tactic(auto, using(sms_rows::proofs::table::Tables::all_applied_push))]
     pub(crate) fn remove_mark(&mut self, number: u32) -> Result<(), NoMemory>
         ensures { OnOk result (self.new ≡ remove_mark_of number self.old) }
     {

@@ -2,9 +2,9 @@
 
 use crate::rows::Changes;
 use sms_base::{Listed, Moment};
+use sms_handset_rows::outbox::Notice;
 use sms_link::{Link, Outgoing};
-use sms_outbox::Notice;
-use sms_table::Table;
+use sms_rows::table::Table;
 
 /// What an event changes and sends, and all that a restart forgets as it will be, ready made.
 #[derive(Drop)]

@@ -8,7 +8,7 @@ ghost use Rattle.sms_handset_draft.specs.FramesAndTicks.{at_moment, frame_heard,
 use crate::draft::Draft;
 use crate::no_memory::NoMemory;
 use sms_base::{Holder, Moment};
-use sms_inbox::Regrouping;
+use sms_handset_rows::inbox::Regrouping;
 use sms_link::Upward;
 
 impl<'a> Draft<'a> {

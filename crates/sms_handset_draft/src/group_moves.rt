@@ -1,12 +1,12 @@
 //! The parts of a group, moved together.
 ghost use Rattle.std.specs.Prelude.{◌≡◌, ◌++◌, List, OnOk};
-ghost use Rattle.sms_inbox.specs.declared.entry.Entry.{Entry as EntryOf};
+ghost use Rattle.sms_handset_rows.specs.declared.inbox.entry.Entry.{Entry as EntryOf};
 ghost use Rattle.sms_handset_draft.specs.Storing.{drop_all, drop_parts as drop_parts_of, free_all, free_parts as free_parts_of};
 
 use crate::draft::Draft;
 use crate::no_memory::NoMemory;
-use sms_inbox::{Entry, Members, StoredPart};
-use sms_table::{Key, Table};
+use sms_handset_rows::inbox::{Entry, Members, StoredPart};
+use sms_rows::table::{Key, Table};
 
 impl<'a> Draft<'a> {
     /// The parts of a group leave.

@@ -1,16 +1,16 @@
 //! Memory available: RP-SMMA once a slot has become free (3GPP TS 23.040 10.3, 3GPP TS 24.011 6.3.3).
 ghost use Rattle.std.specs.Prelude.{◌≡◌, ◌<◌, OnOk};
-ghost use Rattle.sms_table.specs.Table.{row_at};
-ghost use Rattle.sms_outbox.specs.Keys.{notice_key};
+ghost use Rattle.sms_rows.specs.table.Table.{row_at};
+ghost use Rattle.sms_handset_rows.specs.outbox.Keys.{notice_key};
 ghost use Rattle.sms_handset_draft.specs.MemoryAvailable.{first_notice as first_notice_of, notice_concluded as notice_concluded_of, notice_failed as notice_failed_of, put_notice as put_notice_of, remove_notice as remove_notice_of, send_notice as send_notice_of};
 
 use crate::counters::Counters;
 use crate::draft::Draft;
 use crate::no_memory::NoMemory;
 use sms_base::Holder;
+use sms_handset_rows::outbox::{Notice, following, smma};
 use sms_link::{Ending, TRAM};
-use sms_outbox::{Notice, following, smma};
-use sms_table::Key;
+use sms_rows::table::Key;
 
 impl<'a> Draft<'a> {
     fn put_notice(&mut self, notice: Notice) -> Result<(), NoMemory>

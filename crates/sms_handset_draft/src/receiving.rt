@@ -6,18 +6,18 @@ ghost use Rattle.sms_tpdu.specs.TpduReading.{down_at};
 ghost use Rattle.sms_tpdu.specs.declared.carrier.Carrier.TheVariants.{InData as Data};
 ghost use Rattle.sms_handset_draft.specs.Draft.{no_changes};
 ghost use Rattle.sms_handset_draft.specs.GroupChanges.{data_groups, deliver_groups, member_groups, new_part_groups, part_groups, tpdu_groups, unit_groups};
-ghost use Rattle.sms_inbox.specs.Groups.{key_of as key_of_deliver, mark_of, members as members_of};
+ghost use Rattle.sms_handset_rows.specs.inbox.Groups.{key_of as key_of_deliver, mark_of, members as members_of};
 ghost use Rattle.sms_handset_draft.specs.Receiving.{accept as accept_of, acknowledge as acknowledge_of, data_came as data_came_of, deliver_came as deliver_came_of, fault_cause as fault_cause_of, member_came as member_came_of, new_part_came as new_part_came_of, no_room as no_room_of, note as note_of, part_came as part_came_of, reference_octet as reference_octet_of, refuse as refuse_of, reject as reject_of, single_came as single_came_of, tpdu_came as tpdu_came_of, unit_came as unit_came_of};
-ghost use Rattle.sms_outbox.specs.Reports.{reported as reported_of};
+ghost use Rattle.sms_handset_rows.specs.outbox.Reports.{reported as reported_of};
 
 use crate::draft::Draft;
 use crate::no_memory::NoMemory;
 use sms_base::{Holder, Kind, OctetView, Octets};
-use sms_inbox::{
+use sms_handset_rows::inbox::{
     DiscardedGroup, Group, LastAccepted, Members, Regrouping, find_mark, is_among, is_double,
     key_of,
 };
-use sms_outbox::{OutEntry, reported};
+use sms_handset_rows::outbox::{OutEntry, reported};
 use sms_relay::{RelayFault, Rp, RpCause, read_down as read_unit, write_up};
 use sms_tpdu::{Carrier, Deliver, Down, StatusReport, read_down};
 

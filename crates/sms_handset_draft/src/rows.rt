@@ -5,9 +5,9 @@ ghost use Rattle.sms_handset_draft.specs.FirstRows.{first_rows};
 use crate::counters::Counters;
 use crate::setup::Setup;
 use sms_base::Listed;
-use sms_inbox::{DiscardedGroup, Entry, LastAccepted};
-use sms_outbox::OutEntry;
-use sms_table::Settled;
+use sms_handset_rows::inbox::{DiscardedGroup, Entry, LastAccepted};
+use sms_handset_rows::outbox::OutEntry;
+use sms_rows::table::Settled;
 use std::alloc::Global;
 
 /// All that a handset stores, and its setup, which is handed in.

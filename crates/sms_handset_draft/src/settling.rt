@@ -1,16 +1,16 @@
 //! The changes of an event, with memory for the rows that they bring. Each function here holds few values where a growth may be refused:
 //! what is let go there is dear to prove.
 ghost use Rattle.std.specs.Prelude.{◌≡◌, IfOk};
-ghost use Rattle.sms_table.specs.Pending.{FitsIn};
+ghost use Rattle.sms_rows.specs.table.Pending.{FitsIn};
 ghost use Rattle.sms_handset_draft.specs.Draft.{room_of, rows_of};
 ghost use Rattle.sms_handset_draft.specs.Outcome.{HaveRoom, changes_in};
 
 use crate::counters::Counters;
 use crate::rows::Changes;
 use crate::stored::Stored;
-use sms_inbox::{DiscardedGroup, Entry, LastAccepted};
-use sms_outbox::OutEntry;
-use sms_table::{Pending, Row, Settled, Table};
+use sms_handset_rows::inbox::{DiscardedGroup, Entry, LastAccepted};
+use sms_handset_rows::outbox::OutEntry;
+use sms_rows::table::{Pending, Row, Settled, Table};
 use std::alloc::{AllocError, Global};
 
 // The changes of two lists.

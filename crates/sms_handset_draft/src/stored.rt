@@ -2,9 +2,9 @@
 
 use crate::counters::Counters;
 use crate::setup::Setup;
-use sms_inbox::{DiscardedGroup, Entry, LastAccepted, OpenGroups};
-use sms_outbox::OutEntry;
-use sms_table::Table;
+use sms_handset_rows::inbox::{DiscardedGroup, Entry, LastAccepted, OpenGroups};
+use sms_handset_rows::outbox::OutEntry;
+use sms_rows::table::Table;
 
 /// The rows that a handset keeps, each list by its keys, and what is kept of the entries beside them.
 #[derive(Drop)]

@@ -1,17 +1,17 @@
 //! Storing messages and parts, and what becomes of a group.
 ghost use Rattle.std.specs.Prelude.{◌≡◌, ◌++◌, ◌+◌, ◌∷◌, ◌<◌, [], true, IfOk, OnOk, Some, None};
 ghost use Rattle.sms_handset_draft.specs.Draft.{put_entry as put_entry_of};
-ghost use Rattle.sms_inbox.specs.Groups.{alone, part_entry};
+ghost use Rattle.sms_handset_rows.specs.inbox.Groups.{alone, part_entry};
 ghost use Rattle.sms_handset_draft.specs.Storing.{completed, count_entry as count_entry_of, ended, free_all, marked as marked_of, store_part as store_part_of, store_single as store_single_of};
 ghost use Rattle.sms_handset_draft.specs.GroupChanges.{stored_groups};
-ghost use Rattle.sms_inbox.specs.OpenGroups.{grouped};
+ghost use Rattle.sms_handset_rows.specs.inbox.OpenGroups.{grouped};
 ghost use Rattle.sms_handset_draft.specs.MemoryAvailable.{flag as flag_of, freed as freed_of, has_room as has_room_of};
 
 use crate::draft::Draft;
 use crate::no_memory::NoMemory;
 use sms_base::Octets;
 use sms_concat::Content;
-use sms_inbox::{
+use sms_handset_rows::inbox::{
     DiscardedGroup, Entry, Group, Members, Message, Regrouping, has_every, is_full, joined_content,
 };
 

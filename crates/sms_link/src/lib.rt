@@ -12,8 +12,10 @@
 #![tactic(auto)]
 
 mod ending;
+pub mod framing;
 pub mod laws;
 mod link;
+pub mod link_runs;
 mod outgoing;
 mod timers;
 

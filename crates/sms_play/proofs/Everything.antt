@@ -56,9 +56,9 @@ unfolding
     Rattle.sms_intake.specs.SmppIntake.headed_text
     Rattle.sms_intake.specs.SmppIntake.judged_in
     Rattle.sms_intake.specs.SmppIntake.plain_text
-    Rattle.sms_messages.specs.PartEntries.done_to
-    Rattle.sms_messages.specs.SplitReferences.first_free_split
-    Rattle.sms_outbox.specs.References.free_from
+    Rattle.sms_centre_rows.specs.messages.PartEntries.done_to
+    Rattle.sms_centre_rows.specs.messages.SplitReferences.first_free_split
+    Rattle.sms_handset_rows.specs.outbox.References.free_from
     Rattle.sms_relay.specs.Cause.cause_of
     Rattle.sms_relay.specs.MessageType.type_of
     Rattle.sms_relay.specs.RelayReading.ack_in
@@ -75,8 +75,8 @@ unfolding
     Rattle.sms_relay.specs.RelayReading.up_at
     Rattle.sms_relay.specs.RelayReading.up_in
     Rattle.sms_relay.specs.RelayReading.user_data_in
-    Rattle.sms_report.specs.ReportText.id_text
-    Rattle.sms_report.specs.ReportText.report_text
+    Rattle.sms_script.specs.report.ReportText.id_text
+    Rattle.sms_script.specs.report.ReportText.report_text
     Rattle.sms_script.specs.Keywords.keyword_of
     Rattle.sms_script.specs.Lines.lines_of
     Rattle.sms_script.specs.Lines.words_of
@@ -135,7 +135,7 @@ unfolding
     Rattle.sms_tpdu.specs.UserDataReading.text_in
     Rattle.sms_tpdu.specs.UserDataReading.text_test
     Rattle.sms_tpdu.specs.UserDataReading.user_data_in
-    Rattle.sms_waiting.specs.References.first_passing
-    Rattle.sms_world.specs.Carrying.carried_in
-    Rattle.sms_world.specs.Place.place_in
+    Rattle.sms_centre_rows.specs.waiting.References.first_passing
+    Rattle.sms_world_model.specs.Carrying.carried_in
+    Rattle.sms_world_model.specs.Place.place_in
 everything = tt

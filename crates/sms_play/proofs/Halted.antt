@@ -1,8 +1,8 @@
 -- Events that are stopped before or after their store call, and events that can not be played.
 use Rattle.std.proofs.Common.{◌≡◌, [], ◌∷◌, None, refl}
 use Rattle.std.specs.Prelude.{codes}
-use Rattle.sms_report.specs.declared.answers.Answered.TheVariants.{Stopped}
-use Rattle.sms_report.specs.declared.answers.MessageState.TheVariants.{Enroute}
+use Rattle.sms_script.specs.declared.report.answers.Answered.TheVariants.{Stopped}
+use Rattle.sms_script.specs.declared.report.answers.MessageState.TheVariants.{Enroute}
 use Rattle.sms_play.specs.declared.fault.PlayFault.TheVariants.{NoSuchFrame, BadSetup}
 use Rattle.sms_play.proofs.Everything.{everything}
 use Rattle.sms_play.proofs.Worked.{told, Tells, Fails}

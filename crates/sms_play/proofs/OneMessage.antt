@@ -2,8 +2,8 @@
 use Rattle.std.proofs.Common.{◌≡◌, [], ◌∷◌, None, refl}
 use Rattle.std.specs.Prelude.{codes}
 use Rattle.sms_base.specs.declared.final_state.FinalState.TheVariants.{Delivered}
-use Rattle.sms_report.specs.declared.answers.Answered.TheVariants.{Accepted}
-use Rattle.sms_report.specs.declared.answers.MessageState.TheVariants.{Final}
+use Rattle.sms_script.specs.declared.report.answers.Answered.TheVariants.{Accepted}
+use Rattle.sms_script.specs.declared.report.answers.MessageState.TheVariants.{Final}
 use Rattle.sms_play.proofs.Everything.{everything}
 use Rattle.sms_play.proofs.Worked.{told, Tells, all_hex}
 

@@ -4,29 +4,29 @@ use Rattle.std.specs.Prelude.{ℕ, List, [], ◌∷◌, ◌++◌, length, zero, 
 use Rattle.sms_base.specs.declared.final_state.FinalState.{FinalState}
 use Rattle.sms_base.specs.declared.holder.Holder.TheVariants.{Part, Report}
 use Rattle.smpp_pdu.specs.declared.status.CommandStatus.TheVariants.{ESME_ROK}
-use Rattle.sms_centre_rules.specs.declared.answer.CentreAnswer.{CentreAnswer}
-use Rattle.sms_centre_rules.specs.declared.answer.CentreAnswer.TheVariants.{Submitted, Queried, Cancelled, Refused}
-use Rattle.sms_centre_rules.specs.declared.event.CentreEvent.{CentreEvent}
-use Rattle.sms_centre_rules.specs.declared.event.CentreEvent.TheVariants.{DeliverAnswered}
-use Rattle.sms_messages.specs.declared.message.MessageRow.{MessageRow}
-use Rattle.sms_messages.specs.declared.part.PartRow.{PartRow}
-use Rattle.sms_messages.specs.Messages.{message_at}
-use Rattle.sms_reports.specs.declared.delivery.Delivery.{Delivery}
-use Rattle.sms_reports.specs.declared.report.ReportKind.{ReportKind}
-use Rattle.sms_reports.specs.declared.report.ReportKind.TheVariants.{Receipt, Status as StatusReport, Unsent}
-use Rattle.sms_reports.specs.declared.report.ReportRow.{ReportRow}
-use Rattle.sms_waiting.specs.declared.line.Sent.{Sent}
-use Rattle.sms_waiting.specs.declared.revision.Revision.{Revision}
-use Rattle.sms_waiting.specs.declared.revision.Revision.TheVariants.{Put, Amend, Remove}
-use Rattle.sms_report.specs.declared.answers.Answered.{Answered}
-use Rattle.sms_report.specs.declared.answers.Answered.TheVariants.{Accepted, Found, Status}
-use Rattle.sms_report.specs.declared.answers.MessageState.{MessageState}
-use Rattle.sms_report.specs.declared.answers.MessageState.TheVariants.{Enroute, Final}
-use Rattle.sms_report.specs.declared.rows.Direction.TheVariants.{Down}
-use Rattle.sms_report.specs.declared.rows.FrameRow.{FrameRow}
-use Rattle.sms_report.specs.declared.rows.GivenRow.{GivenRow}
-use Rattle.sms_centre_rules.specs.CentreEvent.{happened}
-use Rattle.sms_centre_rules.specs.Draft.{Draft, core_of, changes_in, messages_in}
+use Rattle.sms_centre_spec.specs.declared.answer.CentreAnswer.{CentreAnswer}
+use Rattle.sms_centre_spec.specs.declared.answer.CentreAnswer.TheVariants.{Submitted, Queried, Cancelled, Refused}
+use Rattle.sms_centre_spec.specs.declared.event.CentreEvent.{CentreEvent}
+use Rattle.sms_centre_spec.specs.declared.event.CentreEvent.TheVariants.{DeliverAnswered}
+use Rattle.sms_centre_rows.specs.declared.messages.message.MessageRow.{MessageRow}
+use Rattle.sms_centre_rows.specs.declared.messages.part.PartRow.{PartRow}
+use Rattle.sms_centre_rows.specs.messages.Messages.{message_at}
+use Rattle.sms_centre_rows.specs.declared.reports.delivery.Delivery.{Delivery}
+use Rattle.sms_centre_rows.specs.declared.reports.report.ReportKind.{ReportKind}
+use Rattle.sms_centre_rows.specs.declared.reports.report.ReportKind.TheVariants.{Receipt, Status as StatusReport, Unsent}
+use Rattle.sms_centre_rows.specs.declared.reports.report.ReportRow.{ReportRow}
+use Rattle.sms_centre_rows.specs.declared.waiting.line.Sent.{Sent}
+use Rattle.sms_centre_rows.specs.declared.waiting.revision.Revision.{Revision}
+use Rattle.sms_centre_rows.specs.declared.waiting.revision.Revision.TheVariants.{Put, Amend, Remove}
+use Rattle.sms_script.specs.declared.report.answers.Answered.{Answered}
+use Rattle.sms_script.specs.declared.report.answers.Answered.TheVariants.{Accepted, Found, Status}
+use Rattle.sms_script.specs.declared.report.answers.MessageState.{MessageState}
+use Rattle.sms_script.specs.declared.report.answers.MessageState.TheVariants.{Enroute, Final}
+use Rattle.sms_script.specs.declared.report.rows.Direction.TheVariants.{Down}
+use Rattle.sms_script.specs.declared.report.rows.FrameRow.{FrameRow}
+use Rattle.sms_script.specs.declared.report.rows.GivenRow.{GivenRow}
+use Rattle.sms_centre_spec.specs.CentreEvent.{happened}
+use Rattle.sms_centre_spec.specs.Draft.{Draft, core_of, changes_in, messages_in}
 use Rattle.sms_play.specs.Course.{Course, sent, answer}
 
 -- ---- the references that the changes give: a part's and a status report's row is put once, at its giving

@@ -2,14 +2,14 @@
 use Rattle.std.specs.Prelude.{ℕ, ◌+◌, ◌==◌, List, [], ◌∷◌, ◌++◌, length, Option, Some, None, if◌then◌else◌}
 use Rattle.std.specs.Str.{bytes_eq}
 use Rattle.sms_link.specs.declared.outgoing.Outgoing.{Outgoing}
-use Rattle.sms_report.specs.declared.answers.Answer.{Answer}
-use Rattle.sms_report.specs.declared.answers.Answered.{Answered}
-use Rattle.sms_report.specs.declared.rows.AcceptedRow.{AcceptedRow}
-use Rattle.sms_report.specs.declared.rows.Direction.{Direction}
-use Rattle.sms_report.specs.declared.rows.FrameRow.{FrameRow}
-use Rattle.sms_report.specs.declared.rows.GivenRow.{GivenRow}
-use Rattle.sms_report.specs.declared.rows.JoinedRow.{JoinedRow}
-use Rattle.sms_centre_rules.specs.Draft.{Core as CentreCore}
+use Rattle.sms_script.specs.declared.report.answers.Answer.{Answer}
+use Rattle.sms_script.specs.declared.report.answers.Answered.{Answered}
+use Rattle.sms_script.specs.declared.report.rows.AcceptedRow.{AcceptedRow}
+use Rattle.sms_script.specs.declared.report.rows.Direction.{Direction}
+use Rattle.sms_script.specs.declared.report.rows.FrameRow.{FrameRow}
+use Rattle.sms_script.specs.declared.report.rows.GivenRow.{GivenRow}
+use Rattle.sms_script.specs.declared.report.rows.JoinedRow.{JoinedRow}
+use Rattle.sms_centre_spec.specs.Draft.{Core as CentreCore}
 use Rattle.sms_handset_draft.specs.Draft.{Core as HandsetCore}
 
 -- a handset of the script

@@ -8,30 +8,30 @@ use Rattle.sms_base.specs.declared.holder.Holder.TheVariants.{Part, Report, Entr
 use Rattle.sms_concat.specs.declared.content.Content.{Content}
 use Rattle.sms_alphabet.specs.declared.scheme.Coding.{Coding}
 use Rattle.sms_alphabet.specs.declared.scheme.Coding.TheVariants.{Septets, Octets, Ucs2, Compressed}
-use Rattle.sms_inbox.specs.declared.entry.Entry.{Entry}
-use Rattle.sms_inbox.specs.declared.entry.Message.{Message}
-use Rattle.sms_inbox.specs.declared.entry.Message.TheVariants.{Single, Part as PartOf, Joined}
+use Rattle.sms_handset_rows.specs.declared.inbox.entry.Entry.{Entry}
+use Rattle.sms_handset_rows.specs.declared.inbox.entry.Message.{Message}
+use Rattle.sms_handset_rows.specs.declared.inbox.entry.Message.TheVariants.{Single, Part as PartOf, Joined}
 use Rattle.sms_handset.specs.declared.event.HandsetEvent.{HandsetEvent}
 use Rattle.sms_handset.specs.declared.event.HandsetEvent.TheVariants.{Frame, Tick, Write, Delete, Discard}
-use Rattle.sms_inbox.specs.declared.last_accepted.LastAccepted.{LastAccepted}
-use Rattle.sms_outbox.specs.declared.out_entry.OutEntry.{OutEntry}
+use Rattle.sms_handset_rows.specs.declared.inbox.last_accepted.LastAccepted.{LastAccepted}
+use Rattle.sms_handset_rows.specs.declared.outbox.out_entry.OutEntry.{OutEntry}
 use Rattle.sms_handset.specs.declared.refusal.Refusal.{Refusal}
 use Rattle.sms_handset_draft.specs.Draft.{Core, Draft, core_of}
 use Rattle.sms_handset.specs.FaultCodes.{refusal_code}
 use Rattle.sms_handset.specs.HandsetEvent.{frame_came, tag_of, ticked, wrote, deleted, discarded}
-use Rattle.sms_outbox.specs.Keys.{out_key}
+use Rattle.sms_handset_rows.specs.outbox.Keys.{out_key}
 use Rattle.sms_link.specs.declared.outgoing.Outgoing.{Outgoing}
-use Rattle.sms_report.specs.declared.answers.Answered.TheVariants.{Done, Refused}
-use Rattle.sms_report.specs.declared.rows.AcceptedRow.{AcceptedRow}
-use Rattle.sms_report.specs.declared.rows.Direction.TheVariants.{Up}
-use Rattle.sms_report.specs.declared.rows.FrameRow.{FrameRow}
-use Rattle.sms_report.specs.declared.rows.GivenRow.{GivenRow}
-use Rattle.sms_report.specs.declared.rows.JoinedCoding.{JoinedCoding}
-use Rattle.sms_report.specs.declared.rows.JoinedCoding.TheVariants.{Septets as InSeptets, Octets as InOctets, Ucs2 as InUcs2}
-use Rattle.sms_report.specs.declared.rows.JoinedRow.{JoinedRow}
-use Rattle.sms_table.specs.declared.change.Change.{Change}
-use Rattle.sms_table.specs.declared.change.Change.TheVariants.{Put, Remove}
-use Rattle.sms_table.specs.Table.{put, row_at, without}
+use Rattle.sms_script.specs.declared.report.answers.Answered.TheVariants.{Done, Refused}
+use Rattle.sms_script.specs.declared.report.rows.AcceptedRow.{AcceptedRow}
+use Rattle.sms_script.specs.declared.report.rows.Direction.TheVariants.{Up}
+use Rattle.sms_script.specs.declared.report.rows.FrameRow.{FrameRow}
+use Rattle.sms_script.specs.declared.report.rows.GivenRow.{GivenRow}
+use Rattle.sms_script.specs.declared.report.rows.JoinedCoding.{JoinedCoding}
+use Rattle.sms_script.specs.declared.report.rows.JoinedCoding.TheVariants.{Septets as InSeptets, Octets as InOctets, Ucs2 as InUcs2}
+use Rattle.sms_script.specs.declared.report.rows.JoinedRow.{JoinedRow}
+use Rattle.sms_rows.specs.declared.table.change.Change.{Change}
+use Rattle.sms_rows.specs.declared.table.change.Change.TheVariants.{Put, Remove}
+use Rattle.sms_rows.specs.table.Table.{put, row_at, without}
 use Rattle.sms_play.specs.Course.{Course, Party, sent, answer, with_party}
 
 -- ---- every event

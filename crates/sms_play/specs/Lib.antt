@@ -7,3 +7,7 @@ pub mod Setups
 pub mod Premises
 pub mod Playing
 pub mod Running
+pub mod answers
+pub mod growth
+pub mod judging
+pub mod staging

@@ -1,12 +1,12 @@
 -- An event of a script: an act that is done, an act that is stopped with its side, and a side that restarts.
 use Rattle.std.specs.Prelude.{ℕ, ◌+◌, List, [], ◌∷◌, Bool, true, if◌then◌else◌, Option, Some, None, Result, Ok, Err}
 use Rattle.sms_base.specs.Reading.{◌>>=◌}
-use Rattle.sms_centre_rules.specs.declared.event.CentreEvent.{CentreEvent}
+use Rattle.sms_centre_spec.specs.declared.event.CentreEvent.{CentreEvent}
 use Rattle.sms_intake.specs.declared.submission.Account.{Account}
 use Rattle.sms_handset.specs.declared.event.HandsetEvent.{HandsetEvent}
 use Rattle.sms_handset.specs.declared.refusal.Refusal.{Refusal}
-use Rattle.sms_report.specs.declared.answers.Answered.TheVariants.{Stopped as AnsweredStopped}
-use Rattle.sms_reports.specs.Receipts.{Session}
+use Rattle.sms_script.specs.declared.report.answers.Answered.TheVariants.{Stopped as AnsweredStopped}
+use Rattle.sms_centre_rows.specs.reports.Receipts.{Session}
 use Rattle.sms_script.specs.declared.event.Act.{Act}
 use Rattle.sms_script.specs.declared.event.Side.{Side}
 use Rattle.sms_script.specs.declared.event.Side.TheVariants.{Centre, Handset}
@@ -14,7 +14,7 @@ use Rattle.sms_script.specs.declared.event.Stop.{Stop}
 use Rattle.sms_script.specs.declared.event.Stop.TheVariants.{Before, After}
 use Rattle.sms_script.specs.declared.event.WorldEvent.{WorldEvent}
 use Rattle.sms_script.specs.declared.event.WorldEvent.TheVariants.{Whole, Stopped, Restart}
-use Rattle.sms_centre_rules.specs.CentreEvent.{happened, recovered}
+use Rattle.sms_centre_spec.specs.CentreEvent.{happened, recovered}
 use Rattle.sms_handset_draft.specs.Draft.{Draft as HandsetDraft, recovered as handset_recovered}
 use Rattle.sms_play.specs.declared.fault.PlayFault.{PlayFault}
 use Rattle.sms_play.specs.declared.fault.PlayFault.TheVariants.{NoSuchSide}

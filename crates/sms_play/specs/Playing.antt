@@ -2,21 +2,21 @@
 use Rattle.std.specs.Prelude.{ℕ, ◌+◌, List, [], ◌∷◌, ◌++◌, if◌then◌else◌, Option, Some, None, Result, Ok, Err}
 use Rattle.sms_base.specs.Reading.{◌>>=◌}
 use Rattle.sms_base.specs.declared.final_state.FinalState.{FinalState}
-use Rattle.sms_outbox.specs.declared.out_entry.EntryState.{EntryState as OwnState}
-use Rattle.sms_outbox.specs.declared.out_entry.EntryState.TheVariants.{Queued as OwnQueued, Sending as OwnSending, Sent as OwnSent, Failed as OwnFailed, Unsure as OwnUnsure}
-use Rattle.sms_outbox.specs.declared.out_entry.OutEntry.{OutEntry}
-use Rattle.sms_messages.specs.declared.message.MessageRow.{MessageRow}
-use Rattle.sms_messages.specs.Messages.{message_at}
-use Rattle.sms_reports.specs.declared.report.ReportRow.{ReportRow}
-use Rattle.sms_report.specs.declared.report.Broken.{Broken}
-use Rattle.sms_report.specs.declared.report.Report.{Report}
-use Rattle.sms_report.specs.declared.rows.AcceptedRow.{AcceptedRow}
-use Rattle.sms_report.specs.declared.rows.EntryState.{EntryState}
-use Rattle.sms_report.specs.declared.rows.EntryState.TheVariants.{Queued, Sending, Sent, Failed, Unsure}
-use Rattle.sms_report.specs.declared.rows.JoinedRow.{JoinedRow}
-use Rattle.sms_report.specs.declared.rows.MessageRow.{MessageRow as MessageLine}
-use Rattle.sms_report.specs.declared.rows.OutboxRow.{OutboxRow}
-use Rattle.sms_report.specs.declared.rows.ReceiptRow.{ReceiptRow}
+use Rattle.sms_handset_rows.specs.declared.outbox.out_entry.EntryState.{EntryState as OwnState}
+use Rattle.sms_handset_rows.specs.declared.outbox.out_entry.EntryState.TheVariants.{Queued as OwnQueued, Sending as OwnSending, Sent as OwnSent, Failed as OwnFailed, Unsure as OwnUnsure}
+use Rattle.sms_handset_rows.specs.declared.outbox.out_entry.OutEntry.{OutEntry}
+use Rattle.sms_centre_rows.specs.declared.messages.message.MessageRow.{MessageRow}
+use Rattle.sms_centre_rows.specs.messages.Messages.{message_at}
+use Rattle.sms_centre_rows.specs.declared.reports.report.ReportRow.{ReportRow}
+use Rattle.sms_script.specs.declared.report.report.Broken.{Broken}
+use Rattle.sms_script.specs.declared.report.report.Report.{Report}
+use Rattle.sms_script.specs.declared.report.rows.AcceptedRow.{AcceptedRow}
+use Rattle.sms_script.specs.declared.report.rows.EntryState.{EntryState}
+use Rattle.sms_script.specs.declared.report.rows.EntryState.TheVariants.{Queued, Sending, Sent, Failed, Unsure}
+use Rattle.sms_script.specs.declared.report.rows.JoinedRow.{JoinedRow}
+use Rattle.sms_script.specs.declared.report.rows.MessageRow.{MessageRow as MessageLine}
+use Rattle.sms_script.specs.declared.report.rows.OutboxRow.{OutboxRow}
+use Rattle.sms_script.specs.declared.report.rows.ReceiptRow.{ReceiptRow}
 use Rattle.sms_script.specs.declared.event.WorldEvent.{WorldEvent}
 use Rattle.sms_script.specs.declared.setup.Setup.{Setup}
 use Rattle.sms_play.specs.declared.fault.PlayFault.{PlayFault}

@@ -8,25 +8,25 @@ use Rattle.sms_base.specs.declared.carried.Kind.{Kind}
 use Rattle.sms_base.specs.declared.carried.Kind.TheVariants.{Data, Ack, Error}
 use Rattle.sms_base.specs.declared.holder.Holder.{Holder}
 use Rattle.sms_base.specs.declared.holder.Holder.TheVariants.{Part, Report, Entry, Memory}
-use Rattle.sms_messages.specs.declared.part.PartRow.{PartRow}
-use Rattle.sms_messages.specs.Messages.{part_at}
-use Rattle.sms_report.specs.declared.report.Broken.{Broken}
-use Rattle.sms_report.specs.declared.report.Broken.TheVariants.{Timely, Reused}
-use Rattle.sms_report.specs.declared.rows.AcceptedRow.{AcceptedRow}
-use Rattle.sms_report.specs.declared.rows.Direction.{Direction}
-use Rattle.sms_report.specs.declared.rows.Direction.TheVariants.{Up, Down}
-use Rattle.sms_report.specs.declared.rows.FrameRow.{FrameRow}
-use Rattle.sms_report.specs.declared.rows.GivenRow.{GivenRow}
+use Rattle.sms_centre_rows.specs.declared.messages.part.PartRow.{PartRow}
+use Rattle.sms_centre_rows.specs.messages.Messages.{part_at}
+use Rattle.sms_script.specs.declared.report.report.Broken.{Broken}
+use Rattle.sms_script.specs.declared.report.report.Broken.TheVariants.{Timely, Reused}
+use Rattle.sms_script.specs.declared.report.rows.AcceptedRow.{AcceptedRow}
+use Rattle.sms_script.specs.declared.report.rows.Direction.{Direction}
+use Rattle.sms_script.specs.declared.report.rows.Direction.TheVariants.{Up, Down}
+use Rattle.sms_script.specs.declared.report.rows.FrameRow.{FrameRow}
+use Rattle.sms_script.specs.declared.report.rows.GivenRow.{GivenRow}
 use Rattle.sms_script.specs.declared.event.Act.{Act}
 use Rattle.sms_script.specs.declared.event.Act.TheVariants.{Submit, Query, Cancel, Write, Delete, Discard, Deliver, Tick}
 use Rattle.sms_script.specs.declared.event.WorldEvent.{WorldEvent}
 use Rattle.sms_script.specs.declared.event.WorldEvent.TheVariants.{Whole, Stopped, Restart}
 use Rattle.sms_tpdu.specs.MoreMessages.{compared}
-use Rattle.sms_world.specs.Lists.{is_among}
-use Rattle.sms_world.specs.PartsOfKey.{number_in, numbers, of_key}
-use Rattle.sms_world.specs.Place.{Key, Place, place_in}
-use Rattle.sms_world.specs.Rounds.{rounds_of}
-use Rattle.sms_world.specs.World.{Accepted, Giving, pair_given}
+use Rattle.sms_world_model.specs.Lists.{is_among}
+use Rattle.sms_world_model.specs.PartsOfKey.{number_in, numbers, of_key}
+use Rattle.sms_world_model.specs.Place.{Key, Place, place_in}
+use Rattle.sms_world_model.specs.Rounds.{rounds_of}
+use Rattle.sms_world_model.specs.World.{Accepted, Giving, pair_given}
 use Rattle.sms_play.specs.Course.{Course, Party, frame_at}
 
 -- ---- timely: the latest giving of the frame's reference is to the holder for which the frame was made

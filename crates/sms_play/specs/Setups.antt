@@ -4,13 +4,13 @@ use Rattle.std.specs.List.{list_all}
 use Rattle.std.specs.Str.{bytes_eq}
 use Rattle.sms_base.specs.HandsetNumber.{is_decimal, own_address}
 use Rattle.sms_intake.specs.declared.submission.Account.{Account as CentreAccount}
-use Rattle.sms_centre_rules.specs.declared.setup.Setup.{Setup as CentreSetup}
-use Rattle.sms_centre_rules.specs.declared.rows.Rows.{Rows as CentreRows}
+use Rattle.sms_centre_spec.specs.declared.setup.Setup.{Setup as CentreSetup}
+use Rattle.sms_centre_spec.specs.declared.rows.Rows.{Rows as CentreRows}
 use Rattle.sms_handset_draft.specs.declared.setup.Setup.{Setup as OwnSetup}
 use Rattle.sms_script.specs.declared.setup.Account.{Account}
 use Rattle.sms_script.specs.declared.setup.HandsetSetup.{HandsetSetup}
 use Rattle.sms_script.specs.declared.setup.Setup.{Setup}
-use Rattle.sms_centre_rules.specs.CentreEvent.{started}
+use Rattle.sms_centre_spec.specs.CentreEvent.{started}
 use Rattle.sms_handset_draft.specs.Draft.{recovered as handset_recovered}
 use Rattle.sms_handset_draft.specs.FirstRows.{first_rows}
 use Rattle.sms_play.specs.Course.{Course, Party, numbers_of}

@@ -7,6 +7,10 @@
 //! that the definition names.
 #![tactic(auto)]
 
+pub mod answers;
 mod fault;
+pub mod growth;
+pub mod judging;
+pub mod staging;
 
 pub use fault::PlayFault;

@@ -8,9 +8,9 @@ use Rattle.std.specs.Map.{lookup, remove_entry}
 use Rattle.std.specs.BTreeMap.{is_at, insert_entry}
 use Rattle.std.proofs.lemmas.Bool.{eqb-true, eqb-false, eq-eqb, ne_eqb}
 use Rattle.std.proofs.lemmas.Bool.Decides.{nat_tests}
-use Rattle.sms_table.specs.Table.{Rises, AllAbove, put, insert, without, row_at}
-use Rattle.sms_table.proofs.Tables.{without_here, without_behind, insert_here, insert_behind, above_lower}
-use Rattle.sms_table.proofs.Places.{without_gap}
+use Rattle.sms_rows.specs.table.Table.{Rises, AllAbove, put, insert, without, row_at}
+use Rattle.sms_rows.proofs.table.Tables.{without_here, without_behind, insert_here, insert_behind, above_lower}
+use Rattle.sms_rows.proofs.table.Places.{without_gap}
 use Rattle.sms_schedule.specs.declared.due.Due.{Due}
 use Rattle.sms_schedule.specs.declared.scheduled.Scheduled.{Scheduled}
 use Rattle.sms_schedule.specs.Index.{row_with, rows_of}

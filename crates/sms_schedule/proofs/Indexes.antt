@@ -5,8 +5,8 @@ use Rattle.std.specs.Ordering.{is_eq}
 use Rattle.std.proofs.lemmas.Bool.{eqb-true, eqb-false, ltb-true, ltb-false}
 use Rattle.std.proofs.lemmas.Bool.Decides.{nat_tests}
 use Rattle.sms_base.specs.Among.{Among}
-use Rattle.sms_table.specs.Table.{put, without, row_at}
-use Rattle.sms_table.proofs.Tables.{found_key, found_among, among_found, among_without, without_among, row_at_put, row_at_put_other, row_at_without, row_at_without_other, rises_put, rises_without}
+use Rattle.sms_rows.specs.table.Table.{put, without, row_at}
+use Rattle.sms_rows.proofs.table.Tables.{found_key, found_among, among_found, among_without, without_among, row_at_put, row_at_put_other, row_at_without, row_at_without_other, rises_put, rises_without}
 use Rattle.sms_schedule.specs.declared.place.Place.{Place}
 use Rattle.sms_schedule.specs.declared.scheduled.Scheduled.{Scheduled}
 use Rattle.sms_schedule.specs.Index.{IsIndexed}

@@ -1,6 +1,6 @@
 -- Worked examples: 1709251198 is 2024-02-29 23:59:58.
 use Rattle.std.proofs.Common.{◌≡◌, ℕ, List, [], ◌∷◌, Some, None, refl}
-use Rattle.sms_table.specs.Keys.{pair_key}
+use Rattle.sms_rows.specs.table.Keys.{pair_key}
 use Rattle.sms_schedule.specs.declared.scheduled.Scheduled.{Scheduled}
 use Rattle.sms_schedule.specs.Precedence.{next}
 use Rattle.sms_schedule.specs.Retry.{retry_after}

@@ -1,6 +1,6 @@
 -- How a schedule keeps its rows: by their keys, and their places in order.
 use Rattle.std.specs.Prelude.{◌≡◌, ℕ, List, [], ◌∷◌}
-use Rattle.sms_table.specs.Table.{Rises, row_at}
+use Rattle.sms_rows.specs.table.Table.{Rises, row_at}
 use Rattle.sms_schedule.specs.declared.place.Place.{Place}
 use Rattle.sms_schedule.specs.declared.scheduled.Scheduled.{Scheduled}
 use Rattle.sms_schedule.specs.declared.due.Due.{Due}

@@ -1,6 +1,6 @@
 //! What is offered to a handset.
 ghost use Rattle.std.specs.Prelude.{◌≡◌, ◌/◌, ◌%◌};
-ghost use Rattle.sms_table.specs.Keys.{pair_key};
+ghost use Rattle.sms_rows.specs.table.Keys.{pair_key};
 
 use sms_base::MessageId;
 use std::marker::Model;
@@ -17,7 +17,7 @@ pub struct PartId {
 
 impl Model for PartId {
     ghost use Rattle.std.specs.Prelude.{ℕ, ◌<◌, ◌/◌, ◌%◌};
-    ghost use Rattle.sms_table.specs.Keys.{pair_key};
+    ghost use Rattle.sms_rows.specs.table.Keys.{pair_key};
 
     ghost Value = { ℕ };
 

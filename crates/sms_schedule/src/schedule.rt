@@ -1,6 +1,6 @@
 //! What is to be offered, and when.
 ghost use Rattle.std.specs.Prelude.{◌≡◌, ◌∷◌, [], is_some, option_map, OnOk, OnErr, IfOk};
-ghost use Rattle.sms_table.specs.Table.{Rises, put, row_at, without};
+ghost use Rattle.sms_rows.specs.table.Table.{Rises, put, row_at, without};
 ghost use Rattle.sms_schedule.specs.Precedence.{next, scheduled_key};
 
 use crate::due::Due;

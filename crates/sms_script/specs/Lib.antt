@@ -6,3 +6,5 @@ pub mod Numbers
 pub mod ScriptReading
 pub mod WholeScript
 pub mod ScriptGrammar
+pub mod owner
+pub mod report

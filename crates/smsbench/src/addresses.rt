@@ -1,8 +1,8 @@
 //! Addresses: written for the relay layer, and read in a SUBMIT without user data.
 use crate::error::BenchError;
 use sms_base::{Address, Octets};
-use sms_measuring::{Measured, Stopwatch, Sum};
 use sms_tpdu::{Carrier, Up, read_up, write_relay_address};
+use smslab_lines::measuring::{Measured, Stopwatch, Sum};
 use std::alloc::Global;
 
 const NUMBER: &str = "447700900123";

@@ -5,7 +5,7 @@ use crate::words::Words;
 use sms_alphabet::{Coding, septets_of};
 use sms_base::Octets;
 use sms_concat::{Content, split};
-use sms_measuring::{Measured, Stopwatch, Sum};
+use smslab_lines::measuring::{Measured, Stopwatch, Sum};
 use std::alloc::{AllocError, Global};
 use std::io::Print;
 

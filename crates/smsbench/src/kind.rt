@@ -1,7 +1,7 @@
 //! The kinds of work.
 use crate::error::BenchError;
 use crate::{addresses, pdus, septets, stamps, streams, texts, tpdus};
-use sms_measuring::Measured;
+use smslab_lines::measuring::Measured;
 
 /// A kind of work.
 #[derive(Clone, Copy, Debug, PartialEq, Eq)]

@@ -8,7 +8,7 @@ use crate::error::BenchError;
 use crate::inputs::{PLAIN, text};
 use smpp_pdu::{Body, Message, Pdu, SmeAddress, Tlvs};
 use sms_base::{OctetView, Octets};
-use sms_measuring::{Measured, Stopwatch, Sum};
+use smslab_lines::measuring::{Measured, Stopwatch, Sum};
 use std::alloc::Global;
 
 /// Up to when a submit_sm is kept: a day.

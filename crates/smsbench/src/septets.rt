@@ -2,7 +2,7 @@
 use crate::error::BenchError;
 use crate::inputs::{ESCAPED, PLAIN, text};
 use sms_alphabet::{pack, septets_of, text_of, unpack};
-use sms_measuring::{Measured, Stopwatch, Sum};
+use smslab_lines::measuring::{Measured, Stopwatch, Sum};
 
 /// 160 septets packed.
 pub(crate) fn packing(rt: &HostRuntime, turns: u64) -> Result<Measured, BenchError> {

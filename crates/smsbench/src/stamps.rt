@@ -1,7 +1,7 @@
 //! Time stamps of the service centre.
 use crate::error::BenchError;
 use sms_base::Moment;
-use sms_measuring::{Measured, Stopwatch, Sum};
+use smslab_lines::measuring::{Measured, Stopwatch, Sum};
 
 /// Thursday 29 February 2024, 23:59:58 at UTC.
 const START: u64 = 1_709_251_198;

@@ -6,7 +6,7 @@ use crate::pdus::submit_octets;
 use crate::words::Words;
 use smpp_session::{Account, Accounts, Action, Actions, Session};
 use sms_base::Octets;
-use sms_measuring::{Measured, Stopwatch, Sum};
+use smslab_lines::measuring::{Measured, Stopwatch, Sum};
 use std::alloc::{AllocError, Global};
 use std::io::Print;
 use std::sync::Arc;

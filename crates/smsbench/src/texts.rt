@@ -3,7 +3,7 @@ use crate::error::BenchError;
 use crate::inputs::{ESCAPED, text};
 use sms_alphabet::{pack, septets_of, text_of, ucs2_of, ucs2_text, unpack};
 use sms_base::Octets;
-use sms_measuring::{Measured, Stopwatch, Sum};
+use smslab_lines::measuring::{Measured, Stopwatch, Sum};
 use std::alloc::Global;
 
 // The packed septets of a text.

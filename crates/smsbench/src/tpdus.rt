@@ -1,8 +1,8 @@
 //! TPDUs of 160 septets.
 use crate::error::BenchError;
 use crate::inputs::with_packed_septets;
-use sms_measuring::{Measured, Stopwatch, Sum};
 use sms_tpdu::{Carrier, Submit, Up, read_down, read_up, write_down};
+use smslab_lines::measuring::{Measured, Stopwatch, Sum};
 
 /// A SUBMIT to 447700900123 with a relative validity period, up to its length of user data.
 const SUBMIT: [u8; 14] = [

@@ -6,11 +6,11 @@ use crate::meter::Meter;
 use crate::rows::setup;
 use sms_base::{Digits, FinalState, MessageId};
 use sms_centre::{Changes, Rows};
-use sms_centre_store::CentreKeep;
-use sms_keep::Keep;
-use sms_messages::{MessageRow, PartRow, PriorityRow};
-use sms_table::{Change, Key};
-use sms_waiting::{HandsetRow, Progress, Revision};
+use sms_centre_rows::messages::{MessageRow, PartRow, PriorityRow};
+use sms_centre_rows::waiting::{HandsetRow, Progress, Revision};
+use sms_rows::keep::Keep;
+use sms_rows::table::{Change, Key};
+use sms_store::centre::CentreKeep;
 use sqlite::Alter;
 use std::alloc::Global;
 

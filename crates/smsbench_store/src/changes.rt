@@ -4,8 +4,8 @@ use crate::rows::{given, handset, message, part, priority, progress, receipt};
 use crate::words::Turn;
 use sms_base::{FinalState, Listed};
 use sms_centre::Changes;
-use sms_table::{Change, Key};
-use sms_waiting::Revision;
+use sms_centre_rows::waiting::Revision;
+use sms_rows::table::{Change, Key};
 use std::alloc::Global;
 
 /// No change.

@@ -1,7 +1,7 @@
 //! Why a measurement failed.
 use sms_base::{AddressError, MomentError};
 use sms_centre::RecoverError;
-use sms_keep::KeepError;
+use sms_rows::keep::KeepError;
 use sqlite::Error;
 use std::alloc::AllocError;
 use std::io;

@@ -2,9 +2,9 @@
 use crate::changes::{no_changes, put_finished, put_open};
 use crate::error::BenchError;
 use crate::words::Words;
-use sms_centre_store::CentreKeep;
-use sms_keep::{BodyKeep, Keep};
-use sms_table::Key;
+use sms_rows::keep::{BodyKeep, Keep};
+use sms_rows::table::Key;
+use sms_store::centre::CentreKeep;
 use sqlite::Alter;
 
 /// How many messages come in one transaction.

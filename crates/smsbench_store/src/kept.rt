@@ -5,9 +5,9 @@ use crate::meter::{Meter, Stopwatch};
 use crate::words::Turn;
 use sms_base::Octets;
 use sms_centre::Changes;
-use sms_centre_store::CentreKeep;
-use sms_keep::{BodyKeep, Keep};
-use sms_table::Key;
+use sms_rows::keep::{BodyKeep, Keep};
+use sms_rows::table::Key;
+use sms_store::centre::CentreKeep;
 use sqlite::Alter;
 
 /// Commits the changes, and adds what that took.

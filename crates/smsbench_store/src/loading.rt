@@ -2,9 +2,9 @@
 use crate::error::BenchError;
 use crate::meter::{Meter, Stopwatch};
 use sms_centre::{Centre, Rows, with_centre};
-use sms_centre_store::CentreKeep;
-use sms_keep::Keep;
-use sms_table::Table;
+use sms_rows::keep::Keep;
+use sms_rows::table::Table;
+use sms_store::centre::CentreKeep;
 use sqlite::Alter;
 
 // Of each list how much the checksum of a load must see: what became of every message, and the octets of every part.

@@ -24,7 +24,7 @@ use filling::fill;
 use loading::measure_load;
 use meter::{Meter, Stopwatch};
 use rows::setup;
-use sms_centre_store::{CentreKeep, in_memory};
+use sms_store::centre::{CentreKeep, in_memory};
 use sqlite::Alter;
 use std::io::Print;
 use std::process::ExitCode;

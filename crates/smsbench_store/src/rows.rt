@@ -3,9 +3,9 @@ use crate::error::BenchError;
 use crate::words::Turn;
 use sms_base::{Address, Digits, FinalState, Listed, MessageId, Moment, Octets, Originator, Wish};
 use sms_centre::Setup;
-use sms_messages::{MessageRow, PartRow, PriorityRow};
-use sms_reports::{ReportKind, ReportRow};
-use sms_waiting::{HandsetRow, Progress, ReferenceRow};
+use sms_centre_rows::messages::{MessageRow, PartRow, PriorityRow};
+use sms_centre_rows::reports::{ReportKind, ReportRow};
+use sms_centre_rows::waiting::{HandsetRow, Progress, ReferenceRow};
 use std::alloc::{AllocError, Global};
 
 /// 2024-02-29 23:59:58.

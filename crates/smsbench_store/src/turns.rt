@@ -4,7 +4,7 @@ use crate::kept::{acknowledge_kept, offer_kept, submit_kept};
 use crate::meter::Meter;
 use crate::plain::{acknowledge_by_hand, offer_by_hand, submit_by_hand};
 use crate::words::{Turn, Words};
-use sms_centre_store::CentreKeep;
+use sms_store::centre::CentreKeep;
 use sqlite::Alter;
 
 // The keep's message of a turn, and the one beside it.

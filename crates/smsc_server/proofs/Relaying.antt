@@ -5,17 +5,17 @@ use Rattle.sms_base.specs.Address.{IsAddress}
 use Rattle.sms_base.specs.HandsetNumber.{own_address}
 use Rattle.sms_base.specs.declared.address.Address.{Address}
 use Rattle.sms_centre.specs.FromBelow.{IsStanding, StandingOf}
-use Rattle.sms_centre_rules.specs.CentreEvent.{started}
-use Rattle.sms_centre_rules.specs.Draft.{Core}
-use Rattle.sms_centre_rules.specs.SoundRows.{first_rows}
-use Rattle.sms_centre_rules.specs.declared.rows.Rows.{Rows}
+use Rattle.sms_centre_spec.specs.CentreEvent.{started}
+use Rattle.sms_centre_spec.specs.Draft.{Core}
+use Rattle.sms_centre_spec.specs.SoundRows.{first_rows}
+use Rattle.sms_centre_spec.specs.declared.rows.Rows.{Rows}
 use Rattle.sms_relay.specs.RelayReading.{up_at}
-use Rattle.sms_relaying.specs.Relay.{IsRelayed}
-use Rattle.sms_relaying.specs.Relaying.{Relays, centre_for, destination_of, frame_for, handsets_for, setup_for}
-use Rattle.sms_relaying.specs.declared.relayed.Relayed.{Relayed}
-use Rattle.sms_reports.specs.Receipts.{Session}
-use Rattle.sms_waiting.specs.SoundGivings.{IsNumber}
-use Rattle.smsc_words.specs.OwnAddress.{IsOwnAddress}
+use Rattle.smsc_server.specs.relay_laws.Relay.{IsRelayed}
+use Rattle.smsc_server.specs.relay_laws.Relaying.{Relays, centre_for, destination_of, frame_for, handsets_for, setup_for}
+use Rattle.smsc_server.specs.declared.relay_laws.relayed.Relayed.{Relayed}
+use Rattle.sms_centre_rows.specs.reports.Receipts.{Session}
+use Rattle.sms_centre_rows.specs.waiting.SoundGivings.{IsNumber}
+use Rattle.smsc_cli.specs.words.OwnAddress.{IsOwnAddress}
 use Rattle.smsc_server.specs.Sending.{SendsFor}
 
 -- ---- the sender

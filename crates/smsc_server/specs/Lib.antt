@@ -4,3 +4,4 @@ pub mod Run
 pub mod RunEnd
 pub mod Fronts
 pub mod Sending
+pub mod relay_laws

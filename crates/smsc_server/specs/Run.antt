@@ -4,8 +4,8 @@ use Rattle.std.specs.Result.{IsOk}
 use Rattle.sms_base.specs.declared.address.Address.{Address}
 use Rattle.smsc_server.specs.declared.run.LineFault.{LineFault}
 use Rattle.smsc_server.specs.declared.run.LineFault.TheVariants.{BadLine, NoMemory}
-use Rattle.sms_relaying.specs.declared.relayed.Relayed.{Relayed}
-use Rattle.sms_relaying.specs.Relay.{IsRelayed}
+use Rattle.smsc_server.specs.declared.relay_laws.relayed.Relayed.{Relayed}
+use Rattle.smsc_server.specs.relay_laws.Relay.{IsRelayed}
 use Rattle.smsc_server.specs.Lines.{frame_in, line_of}
 
 abbrev pub answer_line : Address → Option (List ℕ) → List ℕ

@@ -5,9 +5,9 @@ use Rattle.sms_base.specs.HandsetNumber.{own_address}
 use Rattle.sms_base.specs.declared.address.Address.{Address}
 use Rattle.sms_centre.specs.FromBelow.{IsStanding, StandingOf}
 use Rattle.sms_relay.specs.RelayReading.{up_at}
-use Rattle.sms_relaying.specs.Relay.{IsRelayed}
-use Rattle.sms_relaying.specs.Relaying.{Relays, centre_for, destination_of, frame_for}
-use Rattle.sms_relaying.specs.declared.relayed.Relayed.{Relayed}
+use Rattle.smsc_server.specs.relay_laws.Relay.{IsRelayed}
+use Rattle.smsc_server.specs.relay_laws.Relaying.{Relays, centre_for, destination_of, frame_for}
+use Rattle.smsc_server.specs.declared.relay_laws.relayed.Relayed.{Relayed}
 
 -- Where the centre stands as the one for a unit, the frame brings that unit, and the destination is its, what is sent is what an empty
 -- centre sends for the unit.

@@ -1,10 +1,10 @@
 //! A store that holds nothing.
 ghost use Rattle.std.specs.Prelude.{None, ⊤};
-ghost use Rattle.sms_keep.specs.Refusing.{no_refusals};
+ghost use Rattle.sms_rows.specs.keep.Refusing.{no_refusals};
 
 use sms_base::Octets;
-use sms_keep::{BodyKeep, Keep, KeepError};
-use sms_table::Key;
+use sms_rows::keep::{BodyKeep, Keep, KeepError};
+use sms_rows::table::Key;
 
 /// A store without rows, which a centre without rows asks for nothing.
 #[derive(Drop)]

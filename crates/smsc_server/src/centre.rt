@@ -4,23 +4,23 @@ ghost use Rattle.sms_base.specs.Among.{Among};
 ghost use Rattle.sms_base.specs.HandsetNumber.{own_address};
 ghost use Rattle.sms_base.specs.declared.address.Address.{Address as AddressOf};
 ghost use Rattle.sms_centre.specs.FromBelow.{IsStanding, IsTold};
-ghost use Rattle.sms_centre_rules.specs.CentreEvent.{happened, started};
-ghost use Rattle.sms_centre_rules.specs.SoundCore.{AreDifferent, HasNumber};
-ghost use Rattle.sms_centre_rules.specs.SoundRows.{IsSound, first_rows as first_rows_of};
+ghost use Rattle.sms_centre_spec.specs.CentreEvent.{happened, started};
+ghost use Rattle.sms_centre_spec.specs.SoundCore.{AreDifferent, HasNumber};
+ghost use Rattle.sms_centre_spec.specs.SoundRows.{IsSound, first_rows as first_rows_of};
 ghost use Rattle.sms_base.specs.Address.{IsAddress};
 ghost use Rattle.sms_base.specs.TimeStamp.{IsMoment};
 ghost use Rattle.smsc_server.specs.Sending.{SendsFor};
-ghost use Rattle.sms_centre_rules.specs.declared.setup.Setup.{Setup as SetupOf};
+ghost use Rattle.sms_centre_spec.specs.declared.setup.Setup.{Setup as SetupOf};
 ghost use Rattle.sms_relay.specs.RelayReading.{up_at};
-ghost use Rattle.sms_relaying.specs.Relay.{IsRelayed};
-ghost use Rattle.sms_relaying.specs.Relaying.{Relays, destination_of, frame_for, handsets_for, setup_for};
-ghost use Rattle.sms_waiting.specs.SoundGivings.{IsNumber};
+ghost use Rattle.smsc_server.specs.relay_laws.Relay.{IsRelayed};
+ghost use Rattle.smsc_server.specs.relay_laws.Relaying.{Relays, destination_of, frame_for, handsets_for, setup_for};
+ghost use Rattle.sms_centre_rows.specs.waiting.SoundGivings.{IsNumber};
 
 use crate::bodies::NoBodies;
+use crate::relay_laws::{Relayed, setup_for, units_in};
 use sms_base::{Address, Digits, Moment, OctetView};
 use sms_centre::{Centre, CentreEvent, RecoverError, Rows, Told, first_rows, with_centre};
-use sms_relaying::{Relayed, setup_for, units_in};
-use sms_table::Table;
+use sms_rows::table::Table;
 use std::alloc::{AllocError, Global};
 
 // What the centre tells of the event. Its store refuses nothing, so that only memory can be wanting.

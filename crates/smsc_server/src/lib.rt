@@ -5,8 +5,9 @@ mod bodies;
 mod centre;
 mod lines;
 mod once;
+pub mod relay_laws;
 mod run;
 
+pub use crate::relay_laws::Relayed;
 pub use once::relay_once;
 pub use run::{RunError, run_relay};
-pub use sms_relaying::Relayed;

@@ -6,18 +6,18 @@ ghost use Rattle.sms_base.specs.HandsetNumber.{own_address};
 ghost use Rattle.sms_base.specs.Reading.{AreOctets};
 ghost use Rattle.sms_base.specs.TimeStamp.{IsMoment};
 ghost use Rattle.sms_relay.specs.RelayReading.{up_at};
-ghost use Rattle.sms_relaying.specs.Relay.{IsAnswerUnit, IsRelayed};
-ghost use Rattle.sms_relaying.specs.Relaying.{Relays, destination_of, frame_for, handsets_for};
-ghost use Rattle.sms_waiting.specs.SoundGivings.{IsNumber};
-ghost use Rattle.smsc_words.specs.OwnAddress.{IsOwnAddress};
+ghost use Rattle.smsc_server.specs.relay_laws.Relay.{IsAnswerUnit, IsRelayed};
+ghost use Rattle.smsc_server.specs.relay_laws.Relaying.{Relays, destination_of, frame_for, handsets_for};
+ghost use Rattle.sms_centre_rows.specs.waiting.SoundGivings.{IsNumber};
+ghost use Rattle.smsc_cli.specs.words.OwnAddress.{IsOwnAddress};
 
 use crate::centre::relay_started;
-use sms_base::{Address, Digits, Moment};
-use sms_relay::{Rp, read_up};
-use sms_relaying::laws::{an_empty_centre_relays_a_unit, handsets_can_have_links};
-use sms_relaying::{
+use crate::relay_laws::laws::{an_empty_centre_relays_a_unit, handsets_can_have_links};
+use crate::relay_laws::{
     LONGEST_UNIT, Relayed, destination_of, frame_for, handsets_for, nothing, relay_uncarried,
 };
+use sms_base::{Address, Digits, Moment};
+use sms_relay::{Rp, read_up};
 use std::alloc::{AllocError, Global};
 
 // A moment is of the years that time stamps write.

@@ -1,7 +1,7 @@
 //! A relay run: a line of hexadecimal in, a line for each frame out.
 ghost use Rattle.std.specs.Prelude.{◌≡◌, ◌≤◌, ℕ, List, length, take, IfOk, IfSome, OnOk};
 ghost use Rattle.std.specs.Io.KnownBytes.{Appends};
-ghost use Rattle.smsc_words.specs.OwnAddress.{IsOwnAddress};
+ghost use Rattle.smsc_cli.specs.words.OwnAddress.{IsOwnAddress};
 ghost use Rattle.smsc_server.specs.Run.{IsOutput, IsTextFor, Outputs, text_of};
 ghost use Rattle.smsc_server.specs.Fronts.{IsFront};
 ghost use Rattle.smsc_server.specs.Lines.{frame_in};
@@ -9,8 +9,8 @@ ghost use Rattle.smsc_server.specs.RunEnd.{EndsFor};
 
 use crate::lines::{LONGEST_LINE, MOST_OCTETS, push_line, read_frame};
 use crate::once::relay_once;
+use crate::relay_laws::Relayed;
 use sms_base::{Address, Moment, Octets};
-use sms_relaying::Relayed;
 use std::alloc::{AllocError, Global};
 use std::io::{self, Read, Write};
 use thiserror::Error;

@@ -4,7 +4,7 @@ use crate::reading::{Piece, Reading};
 use crate::refusing::refuse;
 use crate::run_fault::RunFault;
 use crossbeam_channel::{Receiver, TryRecvError, bounded};
-use sms_seats::{Note, Received, Wire};
+use smsc_endpoint::{Note, Received, Wire};
 use std::alloc::Global;
 use std::io::{self, Write};
 use std::net::{Shutdown, TcpListener, TcpStream};

@@ -5,7 +5,7 @@ use crate::refusing::no_room;
 use crate::telling::ErrorTeller;
 use crossbeam_channel::{Receiver, Sender};
 use smpp_session::Accounts;
-use sms_seats::{Application, HandsetLink, Note, OpenSeat, Teller, Wire, serve};
+use smsc_endpoint::{Application, HandsetLink, Note, OpenSeat, Teller, Wire, serve};
 use std::alloc::Global;
 use std::sync::atomic::{AtomicBool, AtomicUsize, Ordering};
 use std::sync::{Arc, Wait};

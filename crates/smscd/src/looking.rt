@@ -1,8 +1,8 @@
 //! A look at a store, which changes nothing in it.
 use crate::run_fault::RunFault;
-use sms_centre_look::rows_at;
-use sms_centre_show::{ShowError, show};
-use sms_soundness::RowTables;
+use sms_centre_recovery::soundness::RowTables;
+use sms_store::look::rows_at;
+use smsc_cli::centre_table::{ShowError, show};
 use std::alloc::Global;
 
 fn print_tables(rt: &HostRuntime, tables: RowTables) -> Result<(), RunFault> {

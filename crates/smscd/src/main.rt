@@ -18,7 +18,7 @@ mod telling;
 use crate::looking::show_store;
 use crate::run_fault::RunFault;
 use crate::running::run_words;
-use smsc_words::{ServerWords, server_words};
+use smsc_cli::words::{ServerWords, server_words};
 use std::env;
 use std::io::{self, Print};
 use std::process::ExitCode;

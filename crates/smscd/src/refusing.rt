@@ -1,6 +1,6 @@
 //! What a connection that is not served is told.
 use crate::connection::Side;
-use sms_seats::{CONGESTION, NO_ROOM};
+use smsc_endpoint::{CONGESTION, NO_ROOM};
 use std::io::{Read, Write};
 use std::net::TcpStream;
 

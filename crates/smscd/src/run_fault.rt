@@ -1,6 +1,6 @@
 //! Why a run ended before its time.
-use sms_keep::KeepError;
-use smsc_words::WordsFault;
+use sms_rows::keep::KeepError;
+use smsc_cli::words::WordsFault;
 use std::alloc::AllocError;
 
 /// Why a run ended before its time.

@@ -1,8 +1,8 @@
 //! What a run begins with.
 use smpp_session::Account as Login;
 use sms_base::{Listed, Moment, Octets};
-use sms_service::{CentreAccount, Setup};
-use smsc_words::{AccountWords, ServerRun};
+use smsc_cli::words::{AccountWords, ServerRun};
+use smsc_service::{CentreAccount, Setup};
 use std::alloc::{AllocError, Global};
 
 /// The accounts of a run, as each part of it wants them.

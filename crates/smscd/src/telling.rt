@@ -1,7 +1,7 @@
 //! What an operator is told, a line for each thing.
 use smpp_session::BindKind;
 use sms_base::Digits;
-use sms_seats::{Note, Teller};
+use smsc_endpoint::{Note, Teller};
 use std::alloc::{AllocError, Global};
 use std::io::Print;
 use std::sync::Arc;

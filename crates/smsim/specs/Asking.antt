@@ -1,5 +1,5 @@
 -- What a run is asked, and well asked: the words of a relay run spell what they are to spell.
-use Rattle.smsc_words.specs.SimWords.{AreSimWords}
+use Rattle.smsc_cli.specs.words.SimWords.{AreSimWords}
 use Rattle.smsim.specs.declared.Asked.{Asked}
 use Rattle.smsim.specs.declared.Asked.TheVariants.{Relay, Play, Ladder, Capture}
 

@@ -4,7 +4,7 @@ use crate::image::{Image, memory_of};
 use crate::stops::{MOST, StopError, judge_cause, judge_rows, rows_of};
 use crate::trial::Trial;
 use crate::witnessed::Witnessed;
-use sms_keep::KeepError;
+use sms_rows::keep::KeepError;
 use sqlite::{Connection, Files};
 use sqlite_disk::{Fuse, Memory};
 use std::alloc::{AllocError, Global};

@@ -2,7 +2,7 @@
 use crate::files::{File, Opening, Stopping, Store, after_crash, open, opened};
 use crate::image::Image;
 use crate::trial::{Made, Trial};
-use sms_keep::KeepError;
+use sms_rows::keep::KeepError;
 use sqlite::Connection;
 use std::alloc::{AllocError, Global};
 

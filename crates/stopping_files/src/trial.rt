@@ -1,5 +1,5 @@
 //! A call on a store that is tried.
-use sms_keep::KeepError;
+use sms_rows::keep::KeepError;
 use sqlite::{Alter, Connection};
 use std::alloc::Global;
 

@@ -1,6 +1,7 @@
 //! Tests of the crates below the centre core, over their public calls.
 #![tactic(auto)]
 
+pub mod indexes;
 #[cfg(test)]
 mod intake;
 #[cfg(test)]
@@ -11,3 +12,4 @@ mod rows;
 mod schedules;
 #[cfg(test)]
 mod submissions;
+pub mod world;

@@ -1,11 +1,14 @@
-//! Tests of the words and formats below the layers of a link, over their public calls: moments, addresses and tables, and TPDUs.
+//! tests_formats, of modules:
+//!
+//! - `formats`: Tests of the words and formats below the layers of a link, over their public calls: moments, addresses and tables, and
+//!   TPDUs.
+//! - `frames`: Tests of the two lower layers of a link over their public calls: units of the relay layer, and frames and transactions of
+//!   the control layer.
+//! - `pdus`: Tests of PDUs over their public calls: what no clause says.
+//! - `texts`: Tests of texts over their public calls: the alphabet, the header and parts of a long text, and joining them.
 #![tactic(auto)]
 
-#[cfg(test)]
-mod base;
-#[cfg(test)]
-mod rows;
-#[cfg(test)]
-mod table;
-#[cfg(test)]
-mod tpdu;
+pub mod formats;
+pub mod frames;
+pub mod pdus;
+pub mod texts;

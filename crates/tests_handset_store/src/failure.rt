@@ -1,6 +1,6 @@
 //! Why a test did not come out.
-use sms_handset_machine::{StartError, StepError};
-use sms_keep::KeepError;
+use sms_handset::machine::{StartError, StepError};
+use sms_rows::keep::KeepError;
 use std::alloc::AllocError;
 use std::io;
 

@@ -2,8 +2,8 @@
 use crate::failure::Failure;
 use sms_base::Octets;
 use sms_handset::{Changes, Handset, Rows};
-use sms_handset_show::handset_table;
-use sms_keep::{Keep, KeepError};
+use sms_rows::keep::{Keep, KeepError};
+use smsc_cli::handset_table::handset_table;
 use std::alloc::Global;
 
 /// What stands in a keep.

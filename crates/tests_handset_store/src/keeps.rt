@@ -4,8 +4,8 @@ use crate::failure::{Failure, Finding, holds};
 use crate::found::Found;
 use crate::plays::Play;
 use crate::run::{run, setup};
-use sms_handset_memory::MemoryKeep;
-use sms_handset_store::in_memory;
+use sms_store::handset::in_memory;
+use sms_store_memory::handset::MemoryKeep;
 use std::alloc::Global;
 use std::io::{Print, Write};
 

@@ -4,9 +4,9 @@ use crate::found::{Found, text_in};
 use crate::plays::Play;
 use crate::run::{run, setup};
 use sms_handset::{Changes, DiscardedGroup, Entry, LastAccepted, OutEntry, Rows, Setup};
-use sms_handset_store::{HandsetKeep, in_memory};
-use sms_keep::Keep;
-use sms_table::{Key, Pending, Row, Settled, Table};
+use sms_rows::keep::Keep;
+use sms_rows::table::{Key, Pending, Row, Settled, Table};
+use sms_store::handset::{HandsetKeep, in_memory};
 use sqlite::{Alter, Connection};
 use std::alloc::{AllocError, Global};
 

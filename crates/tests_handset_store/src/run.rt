@@ -2,15 +2,15 @@
 ghost use Rattle.std.specs.Prelude.{IfOk};
 ghost use Rattle.sms_base.specs.Address.{IsAddress};
 ghost use Rattle.sms_handset.specs.SoundRows.{IsSetup};
-ghost use Rattle.sms_handset_machine.specs.Stepping.{MakesTheChanges};
+ghost use Rattle.sms_handset.specs.machine.Stepping.{MakesTheChanges};
 
 use crate::failure::{Failure, Finding, holds};
 use crate::found::{Found, describe};
 use crate::plays::{Event, Play};
 use sms_base::{Address, Moment, OctetView};
+use sms_handset::machine::{HandsetMachine, recover_from};
 use sms_handset::{Changes, Handset, HandsetEvent, Rows, Setup, TextView};
-use sms_handset_machine::{HandsetMachine, recover_from};
-use sms_keep::Keep;
+use sms_rows::keep::Keep;
 use std::alloc::Global;
 
 fn address(text: &str) -> Result<Address, Failure>

@@ -1,5 +1,5 @@
 //! Why a test did not come out.
-use sms_keep::KeepError;
+use sms_rows::keep::KeepError;
 use std::alloc::AllocError;
 use stopping_files::StopError;
 

@@ -1,10 +1,10 @@
 //! A store as it is made, stopped anywhere.
 use crate::failure::Failure;
 use crate::rows::{setup, text_in};
-use sms_centre_memory::MemoryKeep;
-use sms_centre_rules::{Changes, Rows};
-use sms_centre_store::CentreKeep;
-use sms_keep::{Keep, KeepError};
+use sms_centre_spec::{Changes, Rows};
+use sms_rows::keep::{Keep, KeepError};
+use sms_store::centre::CentreKeep;
+use sms_store_memory::centre::MemoryKeep;
 use sqlite::{Alter, Connection};
 use std::alloc::Global;
 use stopping_files::{Image, Made, Trial, stop_opening};

@@ -2,9 +2,9 @@
 use crate::failure::{Failure, holds};
 use crate::rows::{has_written, setup, text_in};
 use crate::written::{PRIORITIES, RANKED, ROWS, TABLES, write};
-use sms_centre_rules::{Changes, Rows, Setup};
-use sms_centre_store::{CentreKeep, raise};
-use sms_keep::{Keep, KeepError};
+use sms_centre_spec::{Changes, Rows, Setup};
+use sms_rows::keep::{Keep, KeepError};
+use sms_store::centre::{CentreKeep, raise};
 use sqlite::{Alter, Connection};
 use std::alloc::Global;
 use stopping_files::{Image, Made, RowsAround, Trial, made, rows_of, stop_anywhere};

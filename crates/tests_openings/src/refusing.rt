@@ -2,8 +2,8 @@
 use crate::failure::Failure;
 use crate::rows::{setup, stands_on};
 use crate::written::{HANDSET, NOTES, PRIORITIES, RANKED, ROWS, TABLES, write};
-use sms_centre_rules::Setup;
-use sms_centre_store::CentreKeep;
+use sms_centre_spec::Setup;
+use sms_store::centre::CentreKeep;
 use sqlite::{Alter, Connection};
 use std::alloc::Global;
 

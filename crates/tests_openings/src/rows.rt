@@ -1,10 +1,10 @@
 //! The rows of a store, and what was written of them.
 use crate::failure::{Failure, holds};
 use sms_base::{Address, Digits, Listed, Moment, Originator, Wish};
-use sms_centre_rules::{Changes, Rows, Setup};
-use sms_keep::{Keep, KeepError};
-use sms_messages::{MessageRow, PartRow};
-use sms_soundness::RowTables;
+use sms_centre_recovery::soundness::RowTables;
+use sms_centre_rows::messages::{MessageRow, PartRow};
+use sms_centre_spec::{Changes, Rows, Setup};
+use sms_rows::keep::{Keep, KeepError};
 use std::alloc::Global;
 
 /// The second in which the message was submitted: 2024-02-29 23:59:58.

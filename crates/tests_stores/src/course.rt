@@ -4,10 +4,10 @@ use crate::kinds::fill_kinds;
 use crate::rows::{delivered, given, id, mentioned, part, pending, progress, report};
 use crate::script;
 use sms_base::Listed;
-use sms_centre_rules::Changes;
-use sms_messages::PriorityRow;
-use sms_table::{Change, Key};
-use sms_waiting::Revision;
+use sms_centre_rows::messages::PriorityRow;
+use sms_centre_rows::waiting::Revision;
+use sms_centre_spec::Changes;
+use sms_rows::table::{Change, Key};
 use std::alloc::Global;
 
 /// A DELIVER of `hello` from 447700900123 (3GPP TS 23.040 9.2.2.1).

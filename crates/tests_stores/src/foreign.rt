@@ -2,10 +2,10 @@
 use crate::course::no_changes;
 use crate::failure::Failure;
 use crate::rows::setup;
-use sms_centre_rules::Changes;
-use sms_centre_store::{CentreKeep, in_memory};
-use sms_keep::Keep;
-use sms_table::{Change, Key};
+use sms_centre_spec::Changes;
+use sms_rows::keep::Keep;
+use sms_rows::table::{Change, Key};
+use sms_store::centre::{CentreKeep, in_memory};
 use sqlite::Alter;
 use std::alloc::Global;
 

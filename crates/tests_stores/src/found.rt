@@ -1,8 +1,8 @@
 //! What stands in a keep.
 use crate::failure::Failure;
-use sms_centre_rules::{Changes, Rows};
-use sms_keep::{Keep, KeepError};
-use sms_soundness::RowTables;
+use sms_centre_recovery::soundness::RowTables;
+use sms_centre_spec::{Changes, Rows};
+use sms_rows::keep::{Keep, KeepError};
 use std::alloc::Global;
 
 /// What stands in a keep.

@@ -5,8 +5,8 @@ use crate::failure::{Failure, Finding, holds};
 use crate::found::Found;
 use crate::rows::setup;
 use crate::run::run;
-use sms_centre_memory::MemoryKeep;
-use sms_centre_store::in_memory;
+use sms_store::centre::in_memory;
+use sms_store_memory::centre::MemoryKeep;
 use std::alloc::Global;
 use std::io::Print;
 

@@ -3,12 +3,12 @@
 use crate::failure::Failure;
 use crate::rows::{address, at, id, progress};
 use sms_base::{FinalState, Octets, Originator, Wish};
-use sms_centre_rules::Changes;
+use sms_centre_rows::messages::{MessageRow, PartRow, PriorityRow};
+use sms_centre_rows::reports::{ReportKind, ReportRow};
+use sms_centre_rows::waiting::Revision;
+use sms_centre_spec::Changes;
 use sms_concat::{ConcatKey, ConcatReference};
-use sms_messages::{MessageRow, PartRow, PriorityRow};
-use sms_reports::{ReportKind, ReportRow};
-use sms_table::Change;
-use sms_waiting::Revision;
+use sms_rows::table::Change;
 use std::alloc::Global;
 
 // Messages by number, with wish, state and priority.

@@ -1,11 +1,11 @@
 //! What the rows of a test are made of.
 use crate::failure::{Failure, Finding};
 use sms_base::{Address, FinalState, Listed, MessageId, Moment, Octets, Originator, Wish};
-use sms_centre_rules::Setup;
-use sms_messages::{MessageRow, PartRow};
-use sms_reports::{ReportKind, ReportRow};
-use sms_table::Change;
-use sms_waiting::{HandsetRow, Progress, ReferenceRow, Revision};
+use sms_centre_rows::messages::{MessageRow, PartRow};
+use sms_centre_rows::reports::{ReportKind, ReportRow};
+use sms_centre_rows::waiting::{HandsetRow, Progress, ReferenceRow, Revision};
+use sms_centre_spec::Setup;
+use sms_rows::table::Change;
 use std::alloc::Global;
 
 /// So many seconds behind 2024-02-29 23:59:58.

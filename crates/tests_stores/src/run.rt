@@ -5,9 +5,9 @@ use crate::found::{Found, describe, stands_on};
 use crate::rows::progress;
 use crate::script;
 use sms_base::{FinalState, Octets};
-use sms_centre_rules::{Changes, Rows};
-use sms_keep::{BodyKeep, Keep};
-use sms_table::Key;
+use sms_centre_spec::{Changes, Rows};
+use sms_rows::keep::{BodyKeep, Keep};
+use sms_rows::table::Key;
 use std::alloc::Global;
 
 fn commit<K: Keep<Rows = Rows, Changes = Changes>>(

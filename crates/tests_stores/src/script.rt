@@ -2,11 +2,11 @@
 use crate::failure::{Failure, Finding, holds};
 use crate::rows::{address, at, given, id, mentioned, progress};
 use sms_base::{FinalState, Moment, Octets, Originator, Wish};
-use sms_centre_rules::{Changes, Rows};
-use sms_messages::{MessageRow, PartRow, PriorityRow};
-use sms_reports::{ReportKind, ReportRow};
-use sms_table::{Change, Key};
-use sms_waiting::Revision;
+use sms_centre_rows::messages::{MessageRow, PartRow, PriorityRow};
+use sms_centre_rows::reports::{ReportKind, ReportRow};
+use sms_centre_rows::waiting::Revision;
+use sms_centre_spec::{Changes, Rows};
+use sms_rows::table::{Change, Key};
 use std::alloc::Global;
 
 /// A DELIVER of `hello` from 447700900001, whose sender wants a report (3GPP TS 23.040 9.2.2.1).

@@ -1,4 +1,4 @@
-use Rattle.sms_centre_rules.specs.Draft.{draft_of}
+use Rattle.sms_centre_spec.specs.Draft.{draft_of}
 use Rattle.sms_centre.proofs.acting.answered.Goals as goal
 
 pub returns : goal.returns

@@ -1,13 +1,13 @@
 use Rattle.std.proofs.Common.{sym, subst}
 use Rattle.sms_base.specs.declared.holder.Holder.{Holder}
-use Rattle.sms_centre_rules.specs.CentreEvent.{frame_taken}
-use Rattle.sms_centre_rules.specs.Draft.{draft_of}
-use Rattle.sms_waiting.specs.Lines.{line_of}
-use Rattle.sms_events.specs.Answering.{Comes}
-use Rattle.sms_events.specs.declared.units.Came.{Came}
-use Rattle.sms_events.specs.declared.units.Came.TheVariants.{Done, Congested}
+use Rattle.sms_centre_spec.specs.CentreEvent.{frame_taken}
+use Rattle.sms_centre_spec.specs.Draft.{draft_of}
+use Rattle.sms_centre_rows.specs.waiting.Lines.{line_of}
+use Rattle.sms_centre_events.specs.Answering.{Comes}
+use Rattle.sms_centre_events.specs.declared.units.Came.{Came}
+use Rattle.sms_centre_events.specs.declared.units.Came.TheVariants.{Done, Congested}
 use Rattle.sms_centre.specs.Acting.{heard}
-use Rattle.sms_standing.specs.Standing.{IsStanding, StandingOf}
+use Rattle.sms_centre.specs.state.Standing.{IsStanding, StandingOf}
 use Rattle.sms_centre.proofs.acting.frame_came.Goals as goal
 
 pub returns-in-Done : goal.returns-in-Done

@@ -1,8 +1,8 @@
 use Rattle.std.proofs.Common.{ℕ, List, OnOk, sym, subst}
-use Rattle.sms_centre_rules.specs.declared.event.CentreEvent.{CentreEvent}
-use Rattle.sms_centre_rules.specs.declared.event.CentreEvent.TheVariants.{Frame}
+use Rattle.sms_centre_spec.specs.declared.event.CentreEvent.{CentreEvent}
+use Rattle.sms_centre_spec.specs.declared.event.CentreEvent.TheVariants.{Frame}
 use Rattle.sms_centre.specs.Acting.{congested}
-use Rattle.sms_working.specs.Working.{Shows}
+use Rattle.sms_centre_draft.specs.Working.{Shows}
 use Rattle.sms_centre.proofs.acting.refuse.Goals as goal
 
 pub returns-in-Submit : goal.returns-in-Submit

@@ -1,10 +1,10 @@
 use Rattle.std.proofs.Common.{OnOk, subst}
 use Rattle.sms_base.specs.declared.holder.Holder.{Holder}
 use Rattle.sms_intake.specs.declared.refusal.SubmitRefusal.TheVariants.{Congested}
-use Rattle.sms_centre_rules.specs.Draft.{draft_of}
-use Rattle.sms_centre_rules.specs.Receiving.{refuse}
+use Rattle.sms_centre_spec.specs.Draft.{draft_of}
+use Rattle.sms_centre_spec.specs.Receiving.{refuse}
 use Rattle.sms_centre.specs.Acting.{heard}
-use Rattle.sms_working.specs.Working.{Shows}
+use Rattle.sms_centre_draft.specs.Working.{Shows}
 use Rattle.sms_centre.proofs.acting.refuse_frame.Goals as goal
 
 pub returns : goal.returns

@@ -1,9 +1,9 @@
 use Rattle.std.proofs.Common.{sym, subst}
-use Rattle.sms_centre_rules.specs.Draft.{draft_of}
-use Rattle.sms_centre_rules.specs.Requests.{submit}
-use Rattle.sms_events.specs.Coming.{Comes}
-use Rattle.sms_events.specs.declared.submitting.Asked.{Asked}
-use Rattle.sms_standing.specs.Standing.{IsStanding, StandingOf}
+use Rattle.sms_centre_spec.specs.Draft.{draft_of}
+use Rattle.sms_centre_spec.specs.Requests.{submit}
+use Rattle.sms_centre_events.specs.Coming.{Comes}
+use Rattle.sms_centre_events.specs.declared.submitting.Asked.{Asked}
+use Rattle.sms_centre.specs.state.Standing.{IsStanding, StandingOf}
 use Rattle.sms_centre.proofs.acting.submitted.Goals as goal
 
 pub returns-in-Answered : goal.returns-in-Answered

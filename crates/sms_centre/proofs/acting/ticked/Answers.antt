@@ -1,6 +1,6 @@
 use Rattle.std.proofs.Common.{sym, subst}
-use Rattle.sms_centre_rules.specs.Draft.{draft_of}
-use Rattle.sms_standing.specs.Standing.{IsStanding, StandingOf}
+use Rattle.sms_centre_spec.specs.Draft.{draft_of}
+use Rattle.sms_centre.specs.state.Standing.{IsStanding, StandingOf}
 use Rattle.sms_centre.proofs.acting.ticked.Goals as goal
 
 pub returns : goal.returns

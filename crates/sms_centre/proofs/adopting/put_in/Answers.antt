@@ -1,13 +1,13 @@
 use Rattle.std.proofs.Common.{List, sym, subst}
-use Rattle.sms_register.specs.Register.{Holds}
-use Rattle.sms_reports.specs.declared.report.ReportRow.{ReportRow}
-use Rattle.sms_reports.specs.Reports.{report_key, report_reaching}
-use Rattle.sms_waiting.specs.declared.revision.Revision.{Revision}
-use Rattle.sms_waiting.specs.Revisions.{all_revised}
-use Rattle.sms_centre_rules.specs.declared.rows.Rows.{Rows}
-use Rattle.sms_centre_rules.specs.CentreEvent.{happened}
-use Rattle.sms_planned.specs.Planned.{IsPlanned}
-use Rattle.sms_standing.specs.Standing.{IsStanding, StandingOf}
+use Rattle.sms_centre_reports.specs.report_log.Register.{Holds}
+use Rattle.sms_centre_rows.specs.declared.reports.report.ReportRow.{ReportRow}
+use Rattle.sms_centre_rows.specs.reports.Reports.{report_key, report_reaching}
+use Rattle.sms_centre_rows.specs.declared.waiting.revision.Revision.{Revision}
+use Rattle.sms_centre_rows.specs.waiting.Revisions.{all_revised}
+use Rattle.sms_centre_spec.specs.declared.rows.Rows.{Rows}
+use Rattle.sms_centre_spec.specs.CentreEvent.{happened}
+use Rattle.sms_centre.specs.plans.Planned.{IsPlanned}
+use Rattle.sms_centre.specs.state.Standing.{IsStanding, StandingOf}
 use Rattle.sms_centre.specs.Planning.{PlannedOf}
 use Rattle.sms_centre.proofs.Promises.{planned_rows}
 use Rattle.sms_centre.proofs.adopting.put_in.Goals as goal

@@ -1,9 +1,9 @@
 use Rattle.std.proofs.Common.{ℕ, Err, sym, subst}
-use Rattle.sms_centre_rules.specs.CentreEvent.{follow}
+use Rattle.sms_centre_spec.specs.CentreEvent.{follow}
 use Rattle.sms_centre.specs.declared.finishing.Stop.{Stop}
 use Rattle.sms_centre.specs.Stopping.{Stops}
 use Rattle.sms_centre.proofs.Stopped.{goes_stops}
-use Rattle.sms_working.specs.Working.{Shows}
+use Rattle.sms_centre_draft.specs.Working.{Shows}
 use Rattle.sms_centre.proofs.finishing.followed.Goals as goal
 
 pub returns-in-Ok-clause-goes : goal.returns-in-Ok-clause-goes

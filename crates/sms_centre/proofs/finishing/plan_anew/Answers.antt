@@ -1,10 +1,10 @@
 use Rattle.std.proofs.Common.{inr, refl}
-use Rattle.sms_centre_rules.specs.CentreEvent.{follow}
+use Rattle.sms_centre_spec.specs.CentreEvent.{follow}
 use Rattle.sms_centre.specs.Acting.{congested}
 use Rattle.sms_centre.specs.Planning.{PlannedOf}
-use Rattle.sms_offering.proofs.OneOffer.{goes_off, goes_on}
-use Rattle.sms_planned.specs.Planned.{IsPlanned}
-use Rattle.sms_working.specs.Working.{Shows}
+use Rattle.sms_centre_offers.proofs.OneOffer.{goes_off, goes_on}
+use Rattle.sms_centre.specs.plans.Planned.{IsPlanned}
+use Rattle.sms_centre_draft.specs.Working.{Shows}
 use Rattle.sms_centre.proofs.finishing.plan_anew.Goals as goal
 
 pub returns-in-Ok-clause-goes : goal.returns-in-Ok-clause-goes

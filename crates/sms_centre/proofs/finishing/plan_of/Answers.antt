@@ -1,5 +1,5 @@
 use Rattle.std.proofs.Common.{inr, refl, sym, subst}
-use Rattle.sms_centre_rules.specs.SoundRows.{IsSetup}
+use Rattle.sms_centre_spec.specs.SoundRows.{IsSetup}
 use Rattle.sms_centre.proofs.finishing.plan_of.Goals as goal
 
 pub plan_begun-requires-clause-setup : goal.plan_begun-requires-clause-setup

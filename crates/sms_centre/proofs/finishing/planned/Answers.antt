@@ -1,6 +1,6 @@
 use Rattle.std.proofs.Common.{subst}
 use Rattle.std.specs.Prelude.{IfOk}
-use Rattle.sms_standing.specs.Standing.{StandingOf}
+use Rattle.sms_centre.specs.state.Standing.{StandingOf}
 use Rattle.sms_centre.specs.Planning.{Fits, PlannedOf}
 use Rattle.sms_centre.proofs.Registered.{with_plan, with_room}
 use Rattle.sms_centre.proofs.finishing.planned.Goals as goal

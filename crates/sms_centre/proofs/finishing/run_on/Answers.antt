@@ -1,9 +1,9 @@
 use Rattle.std.proofs.Common.{◌≡◌, ℕ, inr, refl, subst}
-use Rattle.sms_centre_rules.specs.CentreEvent.{follow}
+use Rattle.sms_centre_spec.specs.CentreEvent.{follow}
 use Rattle.sms_centre.specs.Acting.{Acts, acted, congested}
 use Rattle.sms_centre.specs.declared.acting.Acted.{Acted}
 use Rattle.sms_centre.proofs.Stopped.{stops_alike}
-use Rattle.sms_working.specs.Working.{Shows}
+use Rattle.sms_centre_draft.specs.Working.{Shows}
 use Rattle.sms_centre.proofs.finishing.run_on.Goals as goal
 
 pub returns-in-Done-clause-goes : goal.returns-in-Done-clause-goes

@@ -1,14 +1,14 @@
 use Rattle.std.proofs.Common.{◌≡◌, ℕ, Err, sym, subst}
-use Rattle.sms_centre_rules.specs.CentreEvent.{follow}
-use Rattle.sms_centre_rules.specs.Draft.{Draft}
+use Rattle.sms_centre_spec.specs.CentreEvent.{follow}
+use Rattle.sms_centre_spec.specs.Draft.{Draft}
 use Rattle.sms_centre.specs.Acting.{acted, congested}
 use Rattle.sms_centre.specs.Planning.{PlannedOf}
 use Rattle.sms_centre.specs.Stopping.{Stops}
 use Rattle.sms_centre.specs.declared.finishing.Stop.{Stop}
 use Rattle.sms_centre.proofs.Stopped.{goes_since}
-use Rattle.sms_offering.specs.Going.{Goes}
-use Rattle.sms_offering.specs.Stored.{CanOffer}
-use Rattle.sms_planned.specs.Planned.{IsPlanned}
+use Rattle.sms_centre_offers.specs.Going.{Goes}
+use Rattle.sms_centre_offers.specs.Stored.{CanOffer}
+use Rattle.sms_centre.specs.plans.Planned.{IsPlanned}
 use Rattle.sms_centre.proofs.finishing.stopped.Goals as goal
 
 pub returns-in-NoBody-clause-goes : goal.returns-in-NoBody-clause-goes

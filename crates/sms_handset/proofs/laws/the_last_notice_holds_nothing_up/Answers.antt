@@ -4,7 +4,7 @@ use Rattle.std.proofs.lemmas.Bool.{cond-false, le-ltb}
 use Rattle.sms_handset_draft.specs.Draft.{Draft}
 use Rattle.sms_handset_draft.specs.MemoryAvailable.{first_notice, most_notices}
 use Rattle.sms_handset_draft.specs.Outbox.{is_notice_next, offer_message, offer_wanted}
-use Rattle.sms_outbox.specs.References.{held_references, next_free}
+use Rattle.sms_handset_rows.specs.outbox.References.{held_references, next_free}
 use Rattle.sms_handset.proofs.laws.the_last_notice_holds_nothing_up.Goals as goal
 
 none_after : (a b : Bool) → (a && (false && b)) ≡ false

@@ -1,11 +1,11 @@
 use Rattle.std.proofs.Common.{◌≡◌, List, ℕ, None, ap, ◌∙◌}
 use Rattle.sms_base.specs.HandsetNumber.{own_address}
-use Rattle.sms_centre_rules.specs.CentreEvent.{happened}
-use Rattle.sms_centre_rules.specs.Draft.{Core}
-use Rattle.sms_centre_rules.specs.declared.event.CentreEvent.TheVariants.{Frame}
+use Rattle.sms_centre_spec.specs.CentreEvent.{happened}
+use Rattle.sms_centre_spec.specs.Draft.{Core}
+use Rattle.sms_centre_spec.specs.declared.event.CentreEvent.TheVariants.{Frame}
 use Rattle.sms_relay.specs.RelayReading.{up_at}
-use Rattle.sms_relaying.specs.Relaying.{centre_for, destination_of, frames_of, handsets_for, setup_for, told}
-use Rattle.sms_waiting.specs.declared.line.Sent.{Sent}
+use Rattle.smsc_server.specs.relay_laws.Relaying.{centre_for, destination_of, frames_of, handsets_for, setup_for, told}
+use Rattle.sms_centre_rows.specs.declared.waiting.line.Sent.{Sent}
 use Rattle.smsc_server.proofs.Relaying.{if_ok, relayed_as}
 use Rattle.smsc_server.proofs.centre.relay_by.Goals as goal
 

@@ -1,7 +1,7 @@
 use Rattle.std.proofs.Common.{sym, ap, ◌∙◌, subst}
-use Rattle.sms_centre_rules.specs.SoundRows.{IsSetup, first_rows}
-use Rattle.sms_centre_rules.specs.declared.setup.Setup.{Setup}
-use Rattle.sms_relaying.specs.Relaying.{setup_for}
+use Rattle.sms_centre_spec.specs.SoundRows.{IsSetup, first_rows}
+use Rattle.sms_centre_spec.specs.declared.setup.Setup.{Setup}
+use Rattle.smsc_server.specs.relay_laws.Relaying.{setup_for}
 use Rattle.smsc_server.proofs.centre.rows_for.Goals as goal
 
 pub returns-clause-rows : goal.returns-clause-rows

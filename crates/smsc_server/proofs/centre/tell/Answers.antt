@@ -1,9 +1,9 @@
 use Rattle.std.proofs.Common.{[], None, sym, subst}
 use Rattle.sms_centre.specs.FromBelow.{IsTold, Told}
 use Rattle.sms_centre.specs.Stored.{StoresRows}
-use Rattle.sms_centre_rules.specs.CentreEvent.{happened, started}
-use Rattle.sms_centre_rules.specs.Draft.{Core}
-use Rattle.sms_centre_rules.specs.SoundRows.{first_rows}
+use Rattle.sms_centre_spec.specs.CentreEvent.{happened, started}
+use Rattle.sms_centre_spec.specs.Draft.{Core}
+use Rattle.sms_centre_spec.specs.SoundRows.{first_rows}
 use Rattle.smsc_server.proofs.centre.tell.Goals as goal
 
 pub returns-in-Ok : goal.returns-in-Ok

@@ -1,8 +1,8 @@
 use Rattle.std.proofs.Common.{List, ℕ, Option, sym, ◌∙◌, ap, subst}
 use Rattle.sms_base.specs.Among.{Among}
 use Rattle.sms_base.specs.declared.address.Address.{Address}
-use Rattle.sms_centre_rules.specs.SoundCore.{AreDifferent}
-use Rattle.sms_relaying.specs.Relaying.{handsets_for}
+use Rattle.sms_centre_spec.specs.SoundCore.{AreDifferent}
+use Rattle.smsc_server.specs.relay_laws.Relaying.{handsets_for}
 use Rattle.smsc_server.proofs.once.relay_between.Goals as goal
 
 pub relay_started-requires-clause-numbers : goal.relay_started-requires-clause-numbers

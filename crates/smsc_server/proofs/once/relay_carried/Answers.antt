@@ -1,7 +1,7 @@
 use Rattle.std.proofs.Common.{List, ℕ, Option, ◌∙◌, ap, subst}
 use Rattle.sms_base.specs.Among.{Among}
 use Rattle.sms_base.specs.declared.address.Address.{Address}
-use Rattle.sms_relaying.specs.Relaying.{handsets_for}
+use Rattle.smsc_server.specs.relay_laws.Relaying.{handsets_for}
 use Rattle.smsc_server.proofs.Relaying.{if_ok, own_number, relayed_from}
 use Rattle.smsc_server.proofs.once.relay_carried.Goals as goal
 

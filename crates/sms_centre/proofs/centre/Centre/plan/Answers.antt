@@ -1,9 +1,9 @@
 use Rattle.std.proofs.Common.{ℕ, List, sym, subst}
-use Rattle.sms_centre_rules.specs.Draft.{Draft}
-use Rattle.sms_offering.specs.Going.{Goes}
-use Rattle.sms_offering.specs.Stored.{CanOffer}
-use Rattle.sms_planned.specs.Planned.{IsPlanned}
-use Rattle.sms_standing.specs.Standing.{IsStanding, StandingOf}
+use Rattle.sms_centre_spec.specs.Draft.{Draft}
+use Rattle.sms_centre_offers.specs.Going.{Goes}
+use Rattle.sms_centre_offers.specs.Stored.{CanOffer}
+use Rattle.sms_centre.specs.plans.Planned.{IsPlanned}
+use Rattle.sms_centre.specs.state.Standing.{IsStanding, StandingOf}
 use Rattle.sms_centre.specs.Acting.{acted}
 use Rattle.sms_centre.proofs.ActsFirst.{acts_then_follows, can_offer}
 use Rattle.sms_centre.proofs.AsDefined.{plans_event}

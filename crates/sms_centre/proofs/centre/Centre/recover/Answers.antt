@@ -1,4 +1,4 @@
-use Rattle.sms_centre_rules.specs.CentreEvent.{recovered}
+use Rattle.sms_centre_spec.specs.CentreEvent.{recovered}
 use Rattle.sms_centre.proofs.ActsFirst.{setup_stands}
 use Rattle.sms_centre.proofs.centre.Centre.recover.Goals as goal
 

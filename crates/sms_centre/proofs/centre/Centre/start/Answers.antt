@@ -1,4 +1,4 @@
-use Rattle.sms_centre_rules.specs.CentreEvent.{started}
+use Rattle.sms_centre_spec.specs.CentreEvent.{started}
 use Rattle.sms_centre.proofs.ActsFirst.{setup_stands}
 use Rattle.sms_centre.proofs.centre.Centre.start.Goals as goal
 

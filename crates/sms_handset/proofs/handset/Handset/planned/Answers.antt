@@ -1,10 +1,10 @@
 use Rattle.std.proofs.Common.{sym, ◌∙◌, ap, subst}
-use Rattle.sms_table.specs.Table.{Rises}
+use Rattle.sms_rows.specs.table.Table.{Rises}
 use Rattle.sms_handset_draft.specs.declared.rows.Rows.{Rows}
 use Rattle.sms_handset_draft.specs.Draft.{HandsetOf, rows_after}
 use Rattle.sms_handset_draft.specs.Outcome.{HaveRoom, Outcome}
-use Rattle.sms_inbox.specs.Keys.{entry_key}
-use Rattle.sms_inbox.specs.Slots.{slots_taken}
+use Rattle.sms_handset_rows.specs.inbox.Keys.{entry_key}
+use Rattle.sms_handset_rows.specs.inbox.Slots.{slots_taken}
 use Rattle.sms_handset_draft.specs.Regrouping.{IsRegrouped, Numbered}
 use Rattle.sms_handset.proofs.handset.Handset.planned.Goals as goal
 

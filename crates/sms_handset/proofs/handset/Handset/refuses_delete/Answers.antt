@@ -1,7 +1,7 @@
 use Rattle.std.proofs.Common.{ℕ, sym, ◌∙◌, ap, Option, option_copied, Bor}
-use Rattle.sms_table.specs.Table.{row_at}
-use Rattle.sms_inbox.specs.declared.entry.Entry.{Entry}
-use Rattle.sms_inbox.specs.Keys.{entry_key}
+use Rattle.sms_rows.specs.table.Table.{row_at}
+use Rattle.sms_handset_rows.specs.declared.inbox.entry.Entry.{Entry}
+use Rattle.sms_handset_rows.specs.inbox.Keys.{entry_key}
 use Rattle.sms_handset_draft.specs.Draft.{HandsetOf, draft_of}
 use Rattle.sms_handset.proofs.Judging.{deletes_in}
 use Rattle.sms_handset.proofs.handset.Handset.refuses_delete.Goals as goal

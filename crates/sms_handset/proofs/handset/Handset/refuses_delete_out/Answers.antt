@@ -1,7 +1,7 @@
 use Rattle.std.proofs.Common.{ℕ, sym, ◌∙◌, ap, Option, option_copied, Bor}
-use Rattle.sms_table.specs.Table.{row_at}
-use Rattle.sms_outbox.specs.declared.out_entry.OutEntry.{OutEntry}
-use Rattle.sms_outbox.specs.Keys.{out_key}
+use Rattle.sms_rows.specs.table.Table.{row_at}
+use Rattle.sms_handset_rows.specs.declared.outbox.out_entry.OutEntry.{OutEntry}
+use Rattle.sms_handset_rows.specs.outbox.Keys.{out_key}
 use Rattle.sms_handset_draft.specs.Draft.{HandsetOf, draft_of}
 use Rattle.sms_handset.proofs.Judging.{deletes_out}
 use Rattle.sms_handset.proofs.handset.Handset.refuses_delete_out.Goals as goal

@@ -1,9 +1,9 @@
 use Rattle.std.proofs.Common.{◌≡◌, ◌<◌, sym, ◌∙◌, ap, subst, true, not, is_some, List, Option, length, Bool}
-use Rattle.sms_inbox.specs.declared.discarded_group.DiscardedGroup.{DiscardedGroup}
-use Rattle.sms_inbox.specs.declared.open_group.OpenGroup.{OpenGroup}
+use Rattle.sms_handset_rows.specs.declared.inbox.discarded_group.DiscardedGroup.{DiscardedGroup}
+use Rattle.sms_handset_rows.specs.declared.inbox.open_group.OpenGroup.{OpenGroup}
 use Rattle.sms_handset_draft.specs.Draft.{HandsetOf, draft_of}
-use Rattle.sms_inbox.specs.OpenGroups.{open_at}
-use Rattle.sms_inbox.specs.OpenIndex.{under}
+use Rattle.sms_handset_rows.specs.inbox.OpenGroups.{open_at}
+use Rattle.sms_handset_rows.specs.inbox.OpenIndex.{under}
 use Rattle.sms_handset.proofs.Judging.{copied_some, discards_some}
 use Rattle.sms_handset.proofs.handset.Handset.refuses_discard.Goals as goal
 

@@ -1,9 +1,9 @@
 use Rattle.std.proofs.Common.{◌≡◌, ◌<◌, List, sym, ◌∙◌, ap, subst}
 use Rattle.std.specs.List.{AllByRecursion}
-use Rattle.sms_table.specs.Table.{RowsInMemory}
-use Rattle.sms_inbox.specs.declared.entry.Entry.{Entry}
-use Rattle.sms_inbox.specs.Slots.{slots_taken}
-use Rattle.sms_inbox.specs.OpenIndex.{Indexes}
+use Rattle.sms_rows.specs.table.Table.{RowsInMemory}
+use Rattle.sms_handset_rows.specs.declared.inbox.entry.Entry.{Entry}
+use Rattle.sms_handset_rows.specs.inbox.Slots.{slots_taken}
+use Rattle.sms_handset_rows.specs.inbox.OpenIndex.{Indexes}
 use Rattle.sms_link.specs.LinkTurn.{LinkOf}
 use Rattle.sms_handset.proofs.handset.Handset.standing_on.Goals as goal
 

@@ -1,6 +1,6 @@
 use Rattle.std.proofs.Common.{◌≡◌, List, OnOk, ◌∙◌, ap, subst}
-use Rattle.sms_inbox.specs.declared.open_group.StoredPart.{StoredPart}
-use Rattle.sms_inbox.proofs.PartsFound.{done}
+use Rattle.sms_handset_rows.specs.declared.inbox.open_group.StoredPart.{StoredPart}
+use Rattle.sms_handset_rows.proofs.inbox.PartsFound.{done}
 use Rattle.sms_handset_draft.specs.Draft.{Draft}
 use Rattle.sms_handset_draft.specs.Storing.{drop_all, drop_parts}
 use Rattle.sms_handset_draft.proofs.PartMoves.{drop_more, drops}

@@ -1,8 +1,8 @@
 use Rattle.std.proofs.Common.{List, ◌++◌, ◌∙◌, ap}
-use Rattle.sms_inbox.specs.declared.entry.Entry.{Entry}
-use Rattle.sms_inbox.specs.declared.open_group.StoredPart.{StoredPart}
-use Rattle.sms_inbox.specs.OpenGroups.{entries_of}
-use Rattle.sms_inbox.proofs.PartsFound.{done}
+use Rattle.sms_handset_rows.specs.declared.inbox.entry.Entry.{Entry}
+use Rattle.sms_handset_rows.specs.declared.inbox.open_group.StoredPart.{StoredPart}
+use Rattle.sms_handset_rows.specs.inbox.OpenGroups.{entries_of}
+use Rattle.sms_handset_rows.proofs.inbox.PartsFound.{done}
 use Rattle.sms_handset_draft.specs.Draft.{Draft}
 use Rattle.sms_handset_draft.specs.Storing.{free_all}
 use Rattle.sms_handset_draft.proofs.PartMoves.{frees}

@@ -1,10 +1,10 @@
 use Rattle.std.proofs.Common.{◌≡◌, ℕ, sym, ◌∙◌, ap, arith}
-use Rattle.sms_table.specs.Pending.{PendingOf}
-use Rattle.sms_table.specs.Table.{RowsInMemory, all_applied, row_at}
-use Rattle.sms_inbox.specs.declared.entry.Entry.{Entry}
-use Rattle.sms_inbox.specs.Keys.{entry_key}
-use Rattle.sms_inbox.specs.Slots.{slots_of, slots_taken}
-use Rattle.sms_inbox.proofs.CountedSlots.{no_more, one_put}
+use Rattle.sms_rows.specs.table.Pending.{PendingOf}
+use Rattle.sms_rows.specs.table.Table.{RowsInMemory, all_applied, row_at}
+use Rattle.sms_handset_rows.specs.declared.inbox.entry.Entry.{Entry}
+use Rattle.sms_handset_rows.specs.inbox.Keys.{entry_key}
+use Rattle.sms_handset_rows.specs.inbox.Slots.{slots_of, slots_taken}
+use Rattle.sms_handset_rows.proofs.inbox.CountedSlots.{no_more, one_put}
 use Rattle.sms_handset_draft.proofs.draft.Draft.put_entry.Goals as goal
 
 -- what the entry takes that stands there

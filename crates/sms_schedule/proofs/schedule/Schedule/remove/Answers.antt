@@ -1,7 +1,7 @@
 use Rattle.std.proofs.Common.{◌≡◌, ◌∙◌, ap, sym, subst, cond, false, List, Some}
 use Rattle.std.specs.Prelude.{option_map}
 use Rattle.std.specs.Ordering.{is_eq}
-use Rattle.sms_table.specs.Table.{row_at, without}
+use Rattle.sms_rows.specs.table.Table.{row_at, without}
 use Rattle.sms_schedule.specs.declared.place.Place.{Place}
 use Rattle.sms_schedule.specs.declared.scheduled.Scheduled.{Scheduled}
 use Rattle.sms_schedule.specs.Index.{IsIndexed, row_with, rows_of}

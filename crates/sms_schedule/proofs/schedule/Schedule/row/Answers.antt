@@ -1,6 +1,6 @@
 use Rattle.std.proofs.Common.{◌∙◌, ap, List}
 use Rattle.std.specs.Prelude.{option_map}
-use Rattle.sms_table.specs.Table.{row_at}
+use Rattle.sms_rows.specs.table.Table.{row_at}
 use Rattle.sms_schedule.specs.declared.scheduled.Scheduled.{Scheduled}
 use Rattle.sms_schedule.specs.Index.{row_with}
 use Rattle.sms_schedule.specs.Precedence.{scheduled_key}

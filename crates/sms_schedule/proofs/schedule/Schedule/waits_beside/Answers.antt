@@ -1,6 +1,6 @@
 use Rattle.std.proofs.Common.{◌≡◌, ◌∙◌, ap, sym, List, Some}
 use Rattle.std.specs.Prelude.{option_map, is_some}
-use Rattle.sms_table.specs.Table.{row_at, without}
+use Rattle.sms_rows.specs.table.Table.{row_at, without}
 use Rattle.sms_schedule.specs.declared.scheduled.Scheduled.{Scheduled}
 use Rattle.sms_schedule.specs.Index.{rows_of}
 use Rattle.sms_schedule.specs.Places.{place_of}

@@ -1,5 +1,0 @@
-use Rattle.sms_answers.proofs.CourseAnswers.{no_system_error}
-use Rattle.sms_answers.proofs.laws.no_request_meets_a_system_error.Goals as goal
-
-pub returns : goal.returns
-returns c = no_system_error

@@ -1,7 +1,0 @@
-//! What is never answered.
-ghost use Rattle.sms_answers.specs.AnswerLaws.{NoSystemErrorLaw};
-
-/// No answer in the report of a script that plays is ESME_RSYSERR.
-pub fn no_request_meets_a_system_error()
-    ensures { NoSystemErrorLaw }
-{}

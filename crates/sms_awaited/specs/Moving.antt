@@ -1,8 +1,0 @@
--- A draft whose reports and sessions are moved; all else is as it was.
-use Rattle.sms_reports.specs.declared.report.ReportRow.{ReportRow}
-use Rattle.sms_reports.specs.Receipts.{Desk}
-use Rattle.sms_waiting.specs.Revisions.{Revised}
-use Rattle.sms_centre_rules.specs.Draft.{Draft, with_reports}
-
-abbrev pub moved_to : Revised ReportRow → Desk → Draft → Draft
-moved_to reports desk d = record d { store = with_reports reports d.store; desk = desk }

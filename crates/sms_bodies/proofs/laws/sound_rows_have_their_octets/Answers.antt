@@ -1,8 +1,0 @@
-use Rattle.sms_bodies.proofs.Bodies.{part_body, report_body}
-use Rattle.sms_bodies.proofs.laws.sound_rows_have_their_octets.Goals as goal
-
-pub returns-clause-parts : goal.returns-clause-parts
-returns-clause-parts c = part_body
-
-pub returns-clause-reports : goal.returns-clause-reports
-returns-clause-reports c = report_body

@@ -1,6 +1,0 @@
-use Rattle.std.proofs.Common.{rules}
-use Rattle.sms_captured_sessions.proofs.WritablePdus.{is_writable}
-use Rattle.sms_captured_sessions.proofs.pdus.octets_of.Goals as goal
-
-pub write-requires : goal.write-requires
-write-requires c = is_writable c.args.pdu.now (c.can_be_written.ensures (search rules))

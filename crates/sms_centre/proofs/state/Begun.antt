@@ -1,0 +1,58 @@
+-- A centre that starts on sound rows stands.
+use Rattle.std.proofs.Common.{◌≡◌, ℕ, List, Bool, true, false, subst}
+use Rattle.sms_base.specs.Among.{Among}
+use Rattle.sms_centre_messages.specs.references.Claims.{Holds as HoldsClaims}
+use Rattle.sms_centre_reports.specs.open_reports.ReportsInMemory.{Shows as ShowsReports}
+use Rattle.sms_centre_messages.specs.held.MessagesInMemory.{Holds as HoldsMessages}
+use Rattle.sms_centre_rows.specs.declared.messages.message.MessageRow.{MessageRow}
+use Rattle.sms_centre_reports.specs.report_log.Register.{Holds as HoldsRegister}
+use Rattle.sms_centre_rows.specs.declared.reports.report.ReportRow.{ReportRow}
+use Rattle.sms_centre_rows.specs.reports.Receipts.{Session, session_key}
+use Rattle.sms_centre_reports.specs.sessions.Awaited.{AreAwaited}
+use Rattle.sms_centre_queue.specs.queues.Shown.{Stands}
+use Rattle.sms_centre_recovery.specs.starting.Starting.{lines_of}
+use Rattle.sms_rows.specs.table.Table.{Rises}
+use Rattle.sms_centre_rows.specs.waiting.SoundGivings.{IsNumber}
+use Rattle.sms_centre_spec.specs.declared.rows.Rows.{Rows}
+use Rattle.sms_centre_spec.specs.CentreEvent.{moment_of}
+use Rattle.sms_centre_spec.specs.SoundCore.{AreDifferent, IsSession, IsSoundCore}
+use Rattle.sms_centre_spec.specs.SoundRows.{IsSound, all_for}
+use Rattle.sms_centre_spec.proofs.SoundBegins.{recovered_sound, started_sound}
+use Rattle.sms_centre.specs.state.Recovering.{AreNew, begun}
+use Rattle.sms_centre.specs.state.Standing.{IsStanding, StandingOf}
+
+-- nothing waits in new sessions
+nothing_sent : (ss : List Session) → AreNew ss → (s : Session) → Among s ss → (id : ℕ) → Among id s.unanswered → ⊥
+nothing_sent ss new s a id b = elim (subst (λ (ids : List ℕ). Among id ids) (new s a) b) [ ]
+
+awaits_nothing : (ms : List MessageRow) (rs : List ReportRow) (ss : List Session) → AreNew ss → AreAwaited ms rs ss
+awaits_nothing ms rs ss new = record {
+  each = λ s a id b. absurd (nothing_sent ss new s a id b);
+  apart = λ s other a o id b d. absurd (nothing_sent ss new s a id b);
+}
+
+new_session : (rows : Rows) (ss : List Session) → AreNew ss → (s : Session) → Among s ss → IsSession rows s
+new_session rows ss new s a = record { unanswered = λ id b. absurd (nothing_sent ss new s a id b) }
+
+module _ (up : Bool) (rows : Rows) (ns : List (List ℕ)) (ss : List Session) (sound : IsSound rows) (are : (n : List ℕ) → Among n ns → IsNumber n) (apart : AreDifferent ns) (new : AreNew ss) (keys : Rises session_key ss) where
+  begins_sound : (b : Bool) → IsSoundCore (begun b rows ns ss)
+  begins_sound true = started_sound rows ns ss sound are apart keys (new_session rows ss new)
+  begins_sound false = recovered_sound rows ns ss sound are apart keys (new_session rows ss new)
+
+  pub stands : (s : StandingOf) → s.setup ≡ rows.setup → s.moment ≡ moment_of rows → HoldsMessages s.messages rows.messages rows.parts → HoldsClaims s.claims rows.messages rows.parts
+      → Stands rows.handsets rows.references (lines_of up ns) (λ (n : List ℕ). all_for n rows) s.shelves → ShowsReports rows.messages s.reports rows.reports → HoldsRegister s.register rows.reports
+      → s.sessions.rows ≡ ss → IsStanding (begun up rows ns ss) s
+  stands s setup moment messages claims shelves reports register sessions = record {
+    centre = record {
+      sound = begins_sound up;
+      setup_is = setup;
+      moment_is = moment;
+      messages_are = messages;
+      shelves_are = shelves;
+      reports_are = reports;
+      sessions_are = sessions;
+    };
+    claims = claims;
+    register = register;
+    awaited = awaits_nothing rows.messages rows.reports ss new;
+  }

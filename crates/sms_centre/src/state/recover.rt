@@ -1,0 +1,140 @@
+//! A centre that starts on the rows of a store.
+ghost use Rattle.std.specs.Prelude.{◌≡◌, ℕ, List, IfErr, IfOk};
+ghost use Rattle.sms_base.specs.Among.{Among};
+ghost use Rattle.sms_centre_recovery.specs.soundness.RowsOf.{rows_of};
+ghost use Rattle.sms_centre.specs.state.Recovering.{AreNew, RefusesRows, begun};
+ghost use Rattle.sms_centre.specs.state.Standing.{IsStanding};
+ghost use Rattle.sms_centre_rows.specs.waiting.SoundGivings.{IsNumber};
+ghost use Rattle.sms_centre_spec.specs.CentreEvent.{recovered, started};
+ghost use Rattle.sms_centre_spec.specs.SoundCore.{AreDifferent};
+ghost use Rattle.sms_centre_spec.specs.SoundRows.{IsSound};
+
+use crate::state::memory::memory_of;
+use crate::state::recover_error::RecoverError;
+use crate::state::standing::Standing;
+use sms_base::Digits;
+use sms_centre_recovery::soundness::RowTables;
+use sms_centre_recovery::starting::moment_of;
+use sms_centre_reports::sessions::Seat;
+use sms_centre_spec::{Rows, Setup};
+use sms_rows::table::Table;
+use std::alloc::{AllocError, Global};
+
+impl Standing {
+    /// The centre that starts again with these rows, if it can: `BadRows` only where they are not sound, and no centre of such rows.
+    /// Want of memory may be told before all of them is judged. Links to these handsets come
+    /// up at its first tick; these sessions are bound, in which nothing was sent yet.
+    pub fn recover(
+        alloc: Global,
+        rows: Rows,
+        handsets: &[Digits],
+        sessions: Table<Seat>,
+    ) -> Result<Standing, RecoverError>
+        requires numbers { (number : List ℕ) → Among number handsets.now → IsNumber number }
+        requires apart { AreDifferent handsets.now }
+        requires sessions { AreNew sessions.rows }
+        ensures standing { IfOk result (IsStanding (recovered rows handsets.now sessions.rows)) }
+        ensures refused { IfErr result (λ error. RefusesRows error rows) }
+    {
+        let standing = Standing::on(alloc, rows, handsets, false, sessions)?;
+        Ok(standing)
+    }
+
+    /// The same, where links to these handsets are up at once.
+    pub fn start(
+        alloc: Global,
+        rows: Rows,
+        handsets: &[Digits],
+        sessions: Table<Seat>,
+    ) -> Result<Standing, RecoverError>
+        requires numbers { (number : List ℕ) → Among number handsets.now → IsNumber number }
+        requires apart { AreDifferent handsets.now }
+        requires sessions { AreNew sessions.rows }
+        ensures standing { IfOk result (IsStanding (started rows handsets.now sessions.rows)) }
+        ensures refused { IfErr result (λ error. RefusesRows error rows) }
+    {
+        let standing = Standing::on(alloc, rows, handsets, true, sessions)?;
+        Ok(standing)
+    }
+
+    fn on(
+        alloc: Global,
+        rows: Rows,
+        handsets: &[Digits],
+        are_up: bool,
+        sessions: Table<Seat>,
+    ) -> Result<Standing, RecoverError>
+        requires numbers { (number : List ℕ) → Among number handsets.now → IsNumber number }
+        requires apart { AreDifferent handsets.now }
+        requires sessions { AreNew sessions.rows }
+        ensures standing { IfOk result (IsStanding (begun are_up rows handsets.now sessions.rows)) }
+        ensures refused { IfErr result (λ error. RefusesRows error rows) }
+    {
+        let tables = sound_tables(alloc, rows)?;
+        let standing = Standing::on_sound(alloc, tables, handsets, are_up, sessions)?;
+        Ok(standing)
+    }
+
+    fn on_sound(
+        alloc: Global,
+        tables: RowTables,
+        handsets: &[Digits],
+        are_up: bool,
+        sessions: Table<Seat>,
+    ) -> Result<Standing, AllocError>
+        requires sound { IsSound (rows_of tables) }
+        requires numbers { (number : List ℕ) → Among number handsets.now → IsNumber number }
+        requires apart { AreDifferent handsets.now }
+        requires sessions { AreNew sessions.rows }
+        ensures { IfOk result (IsStanding (begun are_up (rows_of tables) handsets.now sessions.rows)) }
+    {
+        // The call tells that the sessions stand in order.
+        let _seats = sessions.as_slice();
+        let moment = moment_of(&tables);
+        match memory_of(alloc, &tables, handsets, are_up, moment) {
+            Ok(memory) => Ok(Standing {
+                setup: setup_of(tables),
+                moment,
+                messages: memory.messages,
+                claims: memory.claims,
+                shelves: memory.shelves,
+                reports: memory.reports,
+                register: memory.register,
+                sessions,
+            }),
+            Err(error) => {
+                drop(sessions);
+                drop(tables);
+                Err(error)
+            }
+        }
+    }
+}
+
+// The rows as tables, if they are sound.
+fn sound_tables(alloc: Global, rows: Rows) -> Result<RowTables, RecoverError>
+    ensures rows { IfOk result (λ tables. rows_of tables ≡ rows) }
+    ensures sound { IfOk result (λ tables. IsSound (rows_of tables)) }
+    ensures refused { IfErr result (λ error. RefusesRows error rows) }
+{
+    let Some(tables) = RowTables::of(rows) else {
+        return Err(RecoverError::BadRows);
+    };
+    match tables.is_sound(alloc) {
+        Ok(true) => Ok(tables),
+        Ok(false) => {
+            drop(tables);
+            Err(RecoverError::BadRows)
+        }
+        Err(error) => {
+            drop(tables);
+            Err(RecoverError::from(error))
+        }
+    }
+}
+
+fn setup_of(tables: RowTables) -> Setup
+    ensures { result ≡ tables.setup }
+{
+    tables.setup
+}

@@ -1,0 +1,52 @@
+-- What is kept of reports stays where a message changes in all but who submitted it.
+use Rattle.std.proofs.Common.{◌≡◌, ℕ, List, [], ◌∷◌, Option, Some, None, refl, sym, ◌∙◌, ap, inl, inr, ⊎_elim}
+use Rattle.std.specs.Prelude.{◌&&◌, if◌then◌else◌}
+use Rattle.std.proofs.lemmas.Bool.{cases_eq}
+use Rattle.sms_base.specs.Among.{Among}
+use Rattle.sms_base.specs.declared.final_state.FinalState.{FinalState}
+use Rattle.sms_rows.specs.index.Picked.{before_all, picked}
+use Rattle.sms_rows.specs.table.Table.{put}
+use Rattle.sms_rows.proofs.table.Tables.{row_at_put, row_at_put_other}
+use Rattle.sms_centre_rows.specs.declared.messages.message.MessageRow.{MessageRow}
+use Rattle.sms_centre_rows.specs.messages.Messages.{ended, message_at, message_key}
+use Rattle.sms_centre_rows.specs.declared.reports.report.ReportRow.{ReportRow}
+use Rattle.sms_centre_rows.specs.reports.Reports.{is_open_receipt, reports_of}
+use Rattle.sms_centre_reports.specs.open_reports.Entries.{account_in, is_named, receipt_entry}
+use Rattle.sms_centre_reports.specs.open_reports.Pending.{PendingOf, Tells}
+use Rattle.sms_centre_rows.specs.waiting.Revisions.{Revised}
+
+picked_alike : {B : Type 0} (one two : ReportRow → Option B) (rows : List ReportRow) → ((r : ReportRow) → Among r rows → one r ≡ two r) → picked one rows ≡ picked two rows
+picked_alike one two [] f = refl
+picked_alike one two (r ∷ rows) f =
+    ap (λ (o : Option _). before_all o (picked one rows)) (f r (inl refl)) ∙ ap (λ (es : List _). before_all (two r) es) (picked_alike one two rows (λ s m. f s (inr m)))
+
+pub told_still : (ms others : List MessageRow) (p : PendingOf) (t : Revised ReportRow) → Tells ms p t → ((r : ReportRow) → Among r (reports_of t) → account_in (message_at r.id others) ≡ account_in (message_at r.id ms)) → Tells others p t
+told_still ms others p t tells same = record {
+  kept = record {
+    keys = tells.kept.keys;
+    alone = tells.kept.alone;
+    by_message = tells.kept.by_message;
+    statuses = tells.kept.statuses;
+    receipts = λ name. tells.kept.receipts name ∙ picked_alike (receipt_entry name ms) (receipt_entry name others) (reports_of t) (λ r m.
+        ap (λ (o : Option (List ℕ)). if is_open_receipt r && is_named name o then Some (record { place = r.place; id = r.id; due = r.progress.due }) else None)
+        (sym (same r m)));
+    next = tells.kept.next;
+  };
+  changes = tells.changes;
+  noted = tells.noted;
+  stay = tells.stay;
+}
+
+pub ended_told : (ms : List MessageRow) (m : MessageRow) (f : FinalState) (moment : ℕ) (p : PendingOf) (t : Revised ReportRow) → message_at m.id ms ≡ Some m → Tells ms p t → Tells (put message_key (ended f moment m) ms) p t
+ended_told ms m f moment p t there tells = told_still ms (put message_key (ended f moment m) ms) p t tells (λ r among. ⊎_elim
+    (λ (e : m.id ≡ r.id).
+    let now : message_at r.id (put message_key (ended f moment m) ms) ≡ Some (ended f moment m) = ap (λ (k : ℕ). message_at k (put message_key (ended f moment m) ms)) (sym e) ∙ row_at_put message_key (ended f moment m) ms in
+    let was : message_at r.id ms ≡ Some m = ap (λ (k : ℕ). message_at k ms) (sym e) ∙ there in
+    ap (λ (o : Option MessageRow). account_in o) now ∙ sym (ap (λ (o : Option MessageRow). account_in o) was))
+    (λ (e : m.id ≡ r.id → ⊥). ap (λ (o : Option MessageRow). account_in o) (row_at_put_other message_key r.id (ended f moment m) ms e))
+    (cases_eq m.id r.id))
+
+-- a message comes of which there is no report
+pub entered_told : (ms : List MessageRow) (m : MessageRow) (p : PendingOf) (t : Revised ReportRow) → ((r : ReportRow) → Among r (reports_of t) → ¬ (m.id ≡ r.id)) → Tells ms p t → Tells (put message_key m ms) p t
+entered_told ms m p t none tells = told_still ms (put message_key m ms) p t tells (λ r among.
+    ap (λ (o : Option MessageRow). account_in o) (row_at_put_other message_key r.id m ms (none r among)))

@@ -1,0 +1,11 @@
+use Rattle.std.proofs.Common.{sym, subst}
+use Rattle.sms_centre_rows.specs.waiting.Lines.{emptied, line_of, put_line}
+use Rattle.sms_centre_draft.specs.Working.{Shows, WorkingOf, all_waiting}
+use Rattle.sms_centre_draft.proofs.Shown.{aired_shown}
+use Rattle.sms_centre_draft.proofs.working.Working.empty.Goals as goal
+
+pub returns : goal.returns
+returns c = λ d shows.
+    let w : WorkingOf = record { setup = c.self.inside.setup.now; moment = c.self.inside.moment; messages = c.self.inside.messages; shelves = c.self.inside.shelves; reports = c.self.inside.reports; desk = c.self.inside.desk; answer = c.self.inside.answer } in
+    let was : Shows d w = subst (λ (x : WorkingOf). Shows d x) (sym c.self.view_is) shows in
+    aired_shown d w (put_line (emptied (line_of c.args.handset d.air.lines)) d.air) c.empty.new.self was (c.in_ok-empty.ensures d.store.givings d.air (all_waiting d.store) was.shelves)

@@ -1,0 +1,13 @@
+use Rattle.std.proofs.Common.{true, refl, sym, subst}
+use Rattle.sms_centre_rows.specs.declared.reports.report.ReportKind.TheVariants.{Unsent}
+use Rattle.sms_centre_spec.specs.Draft.{messages_in}
+use Rattle.sms_centre_draft.specs.Working.{Shows, WorkingOf}
+use Rattle.sms_centre_draft.proofs.Shown.{quiet_shown}
+use Rattle.sms_centre_draft.proofs.working.Working.make_unsent.Goals as goal
+
+pub returns : goal.returns
+returns c = λ d state shows can.
+    let w : WorkingOf = record { setup = c.self.inside.setup.now; moment = c.self.inside.moment; messages = c.self.inside.messages; shelves = c.self.inside.shelves; reports = c.self.inside.reports; desk = c.self.inside.desk; answer = c.self.inside.answer } in
+    let was : Shows d w = subst (λ (x : WorkingOf). Shows d x) (sym c.self.view_is) shows in
+    quiet_shown d w c.args.message.now state Unsent true c.make_unsent.new.self was can refl
+    (c.in_ok-make_unsent.ensures (messages_in d.store) d.store.reports was.reports can.none)

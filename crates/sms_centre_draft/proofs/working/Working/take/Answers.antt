@@ -1,0 +1,19 @@
+use Rattle.std.proofs.Common.{sym, subst}
+use Rattle.sms_link.specs.LinkTurn.{taken}
+use Rattle.sms_centre_rows.specs.waiting.Lines.{line_of, turn_line}
+use Rattle.sms_centre_draft.specs.Working.{Shows, WorkingOf, all_waiting}
+use Rattle.sms_centre_draft.proofs.Shown.{aired_shown}
+use Rattle.sms_centre_draft.proofs.working.Working.take.Goals as goal
+
+pub returns-clause-up : goal.returns-clause-up
+returns-clause-up c = λ d shows.
+    let w : WorkingOf = record { setup = c.self.inside.setup.now; moment = c.self.inside.moment; messages = c.self.inside.messages; shelves = c.self.inside.shelves; reports = c.self.inside.reports; desk = c.self.inside.desk; answer = c.self.inside.answer } in
+    let was : Shows d w = subst (λ (x : WorkingOf). Shows d x) (sym c.self.view_is) shows in
+    c.in_ok-up.ensures.up d.store.givings d.air (all_waiting d.store) was.shelves
+
+pub returns-clause-state : goal.returns-clause-state
+returns-clause-state c = λ d shows.
+    let w : WorkingOf = record { setup = c.self.inside.setup.now; moment = c.self.inside.moment; messages = c.self.inside.messages; shelves = c.self.inside.shelves; reports = c.self.inside.reports; desk = c.self.inside.desk; answer = c.self.inside.answer } in
+    let was : Shows d w = subst (λ (x : WorkingOf). Shows d x) (sym c.self.view_is) shows in
+    let l = line_of c.args.handset d.air.lines in
+    aired_shown d w (turn_line l (taken c.args.frame.now l.link) d.air) c.take.new.self was (c.in_ok-up.ensures.state d.store.givings d.air (all_waiting d.store) was.shelves)

@@ -1,0 +1,211 @@
+//! Answers to what handsets send up (3GPP TS 24.011 6).
+ghost use Rattle.std.specs.Prelude.{◌≡◌, ◌<◌, ◌≤◌, None, Some, length, IfOk, OnOk};
+ghost use Rattle.sms_base.specs.declared.carried.Kind.TheVariants.{Ack, Error};
+ghost use Rattle.sms_rows.specs.table.Keys.{AllDigits};
+ghost use Rattle.sms_link.specs.LinkTurn.{taken};
+ghost use Rattle.sms_relay.specs.Cause.{IsRpCause};
+ghost use Rattle.sms_relay.specs.RelayGrammar.{ack_down, error_down};
+ghost use Rattle.sms_centre_rows.specs.waiting.Lines.{line_of, turn_line};
+ghost use Rattle.sms_intake.specs.Refusals.{cause_of};
+ghost use Rattle.sms_intake.specs.SubmitReports.{accepting_report as accepting_report_of, refusing_report as refusing_report_of};
+ghost use Rattle.sms_centre_spec.specs.Draft.{Draft, answer_with, on_air};
+ghost use Rattle.sms_centre_spec.specs.Receiving.{confirm as confirm_of, memory_came as memory_came_of, refuse as refuse_of, reject as reject_of, reply as reply_of};
+ghost use Rattle.sms_centre_draft.specs.Working.{Shows};
+
+use crate::working::Working;
+use sms_base::{Digits, Holder, Kind, OctetView, Octets};
+use sms_centre_spec::CentreAnswer;
+use sms_intake::{SubmitRefusal, accepting_report, refusing_report};
+use sms_link::Upward;
+use sms_relay::{Rp, RpCause, write_down};
+use std::alloc::{AllocError, Global};
+
+// RP-ACK, with a TPDU.
+fn ack_unit(alloc: Global, reference: u8, report: &[u8]) -> Result<Octets, AllocError>
+    requires { length report.now < 256 }
+    ensures { IfOk result (λ unit. unit ≡ ack_down reference (Some report.now)) }
+{
+    write_down(
+        alloc,
+        &Rp::AckUnit {
+            reference,
+            unit: Some(OctetView::of(report)),
+        },
+    )
+}
+
+// RP-ACK.
+fn bare_ack(alloc: Global, reference: u8) -> Result<Octets, AllocError>
+    ensures { IfOk result (λ unit. unit ≡ ack_down reference None) }
+{
+    write_down(
+        alloc,
+        &Rp::AckUnit {
+            reference,
+            unit: None,
+        },
+    )
+}
+
+// RP-ERROR, with a TPDU.
+fn error_unit(
+    alloc: Global,
+    reference: u8,
+    cause: RpCause,
+    report: &[u8],
+) -> Result<Octets, AllocError>
+    requires cause { IsRpCause cause }
+    requires report { length report.now < 256 }
+    ensures { IfOk result (λ unit. unit ≡ error_down reference cause (Some report.now)) }
+{
+    write_down(
+        alloc,
+        &Rp::ErrorUnit {
+            reference,
+            cause,
+            unit: Some(OctetView::of(report)),
+        },
+    )
+}
+
+// RP-ERROR.
+fn bare_error(alloc: Global, reference: u8, cause: RpCause) -> Result<Octets, AllocError>
+    requires { IsRpCause cause }
+    ensures { IfOk result (λ unit. unit ≡ error_down reference cause None) }
+{
+    write_down(
+        alloc,
+        &Rp::ErrorUnit {
+            reference,
+            cause,
+            unit: None,
+        },
+    )
+}
+
+impl<'a> Working<'a> {
+    /// The answer in the transaction that the handset began, if one waits for it: a unit of 1 to 248 octets.
+    pub fn reply(
+        &mut self,
+        handset: Digits,
+        kind: Kind,
+        reference: u8,
+        tag: Holder,
+        unit: &[u8],
+    ) -> Result<(), AllocError>
+        requires digits { AllDigits handset }
+        requires some { 0 < length unit.now }
+        requires fits { length unit.now ≤ 248 }
+        ensures { (d : Draft) → Shows d self.old → OnOk result (Shows (reply_of handset kind reference tag unit.now d) self.new) }
+    {
+        self.shelves
+            .reply(handset, self.moment, kind, reference, tag, unit)?;
+        Ok(())
+    }
+
+    /// Takes a frame of the handset, whatever its octets: gives what goes up.
+    pub fn take(&mut self, handset: Digits, frame: &[u8]) -> Result<Option<Upward>, AllocError>
+        requires digits { AllDigits handset }
+        ensures up { (d : Draft) → Shows d self.old → IfOk result (λ up. up ≡ (taken frame.now (line_of handset d.air.lines).link).out.up) }
+        ensures state { (d : Draft) → Shows d self.old
+            → OnOk result (Shows (on_air (turn_line (line_of handset d.air.lines) (taken frame.now (line_of handset d.air.lines).link) d.air) d) self.new) }
+    {
+        let up = self.shelves.take(handset, frame)?;
+        Ok(up)
+    }
+
+    /// The application is answered.
+    pub fn answer(&mut self, answer: CentreAnswer)
+        ensures { (d : Draft) → Shows d self.old → Shows (answer_with answer d) self.new }
+    {
+        self.answer = Some(answer);
+    }
+
+    // RP-ACK with the SUBMIT-REPORT of one that was accepted now.
+    fn confirming(&self, reference: u8) -> Result<Octets, AllocError>
+        ensures is { (d : Draft) → Shows d self.now → IfOk result (λ unit. unit ≡ ack_down reference (Some (accepting_report_of d.store.moment))) }
+        ensures len { IfOk result (λ unit. length unit ≡ 13) }
+    {
+        let report = accepting_report(self.alloc, self.moment)?;
+        let unit = ack_unit(self.alloc, reference, report.as_slice())?;
+        Ok(unit)
+    }
+
+    // RP-ERROR with the SUBMIT-REPORT of one that was refused now.
+    fn refusing(&self, reference: u8, refusal: SubmitRefusal) -> Result<Octets, AllocError>
+        ensures is { (d : Draft) → Shows d self.now → IfOk result (λ unit. unit ≡ error_down reference (cause_of refusal) (Some (refusing_report_of refusal d.store.moment))) }
+        ensures len { IfOk result (λ unit. length unit ≡ 16) }
+    {
+        let report = refusing_report(self.alloc, refusal, self.moment)?;
+        let unit = error_unit(self.alloc, reference, refusal.cause(), report.as_slice())?;
+        Ok(unit)
+    }
+
+    /// A SUBMIT is accepted.
+    pub fn confirm(&mut self, handset: Digits, reference: u8, tag: Holder) -> Result<(), AllocError>
+        requires digits { AllDigits handset }
+        ensures { (d : Draft) → Shows d self.old → OnOk result (Shows (confirm_of handset reference tag d) self.new) }
+    {
+        let unit = self.confirming(reference)?;
+        self.reply(handset, Kind::Ack, reference, tag, unit.as_slice())
+    }
+
+    /// A SUBMIT is refused.
+    pub fn refuse(
+        &mut self,
+        handset: Digits,
+        reference: u8,
+        tag: Holder,
+        refusal: SubmitRefusal,
+    ) -> Result<(), AllocError>
+        requires digits { AllDigits handset }
+        ensures { (d : Draft) → Shows d self.old → OnOk result (Shows (refuse_of handset reference tag refusal d) self.new) }
+    {
+        let unit = self.refusing(reference, refusal)?;
+        self.reply(handset, Kind::Error, reference, tag, unit.as_slice())
+    }
+
+    /// A unit that can't be read is rejected.
+    pub fn reject(
+        &mut self,
+        handset: Digits,
+        reference: u8,
+        tag: Holder,
+        cause: RpCause,
+    ) -> Result<(), AllocError>
+        requires digits { AllDigits handset }
+        requires cause { IsRpCause cause }
+        ensures { (d : Draft) → Shows d self.old → OnOk result (Shows (reject_of handset reference tag cause d) self.new) }
+    {
+        let unit = bare_error(self.alloc(), reference, cause)?;
+        self.reply(handset, Kind::Error, reference, tag, unit.as_slice())
+    }
+
+    /// Where its memory comes from.
+    pub fn alloc(&self) -> Global {
+        self.alloc
+    }
+
+    // RP-SMMA is acknowledged.
+    fn acknowledge(&mut self, handset: Digits, reference: u8, tag: Holder) -> Result<(), AllocError>
+        requires digits { AllDigits handset }
+        ensures { (d : Draft) → Shows d self.old → OnOk result (Shows (reply_of handset Ack reference tag (ack_down reference None) d) self.new) }
+    {
+        let unit = bare_ack(self.alloc(), reference)?;
+        self.reply(handset, Kind::Ack, reference, tag, unit.as_slice())
+    }
+
+    /// RP-SMMA came: the handset has memory.
+    pub fn memory_came(
+        &mut self,
+        handset: Digits,
+        reference: u8,
+        tag: Holder,
+    ) -> Result<(), AllocError>
+        requires digits { AllDigits handset }
+        ensures { (d : Draft) → Shows d self.old → OnOk result (Shows (memory_came_of handset reference tag d) self.new) }
+    {
+        self.acknowledge(handset, reference, tag)?;
+        self.has_memory(handset)
+    }
+}

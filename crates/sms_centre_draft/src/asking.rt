@@ -1,0 +1,38 @@
+//! What an event asks that goes over many handsets or reports, and the receipts that it sends.
+ghost use Rattle.std.specs.Prelude.{◌≡◌, IfOk, OnOk};
+ghost use Rattle.sms_centre_reports.specs.open_reports.Entries.{status_key, status_until};
+ghost use Rattle.sms_rows.specs.index.First.{first_such, is_past_from};
+ghost use Rattle.sms_centre_queue.specs.queues.Stops.{found};
+ghost use Rattle.sms_centre_spec.specs.Draft.{Draft, handsets_in};
+ghost use Rattle.sms_centre_spec.specs.Sessions.{send as send_of};
+ghost use Rattle.sms_centre_draft.specs.Working.{Shows, all_waiting};
+
+use crate::working::Working;
+use sms_centre_queue::queues::{Purpose, Stop};
+use sms_centre_reports::open_reports::StatusEntry;
+use std::alloc::AllocError;
+
+impl<'a> Working<'a> {
+    /// The handsets that such a walk concerns as the draft stands, in the order in which it goes over them.
+    pub fn stops(&self, purpose: &Purpose) -> Result<Vec<Stop>, AllocError>
+        ensures { (d : Draft) → Shows d self.now → IfOk result (λ stops. stops.items ≡ found purpose.now (handsets_in d.store) d.air.lines (all_waiting d.store)) }
+    {
+        let stops = self.shelves.stops(purpose)?;
+        Ok(stops)
+    }
+
+    /// The first open status report from that place on that is dropped by now.
+    pub fn first_old(&self, first: u64) -> Option<StatusEntry>
+        ensures { result ≡ first_such (is_past_from status_key status_until first self.now.moment) self.now.reports.kept.statuses }
+    {
+        self.reports.first_old(first, self.moment)
+    }
+
+    /// Receipts that are due go, the oldest first, each in the first session that receives for its account, if that has room.
+    pub fn send(&mut self) -> Result<(), AllocError>
+        ensures { (d : Draft) → Shows d self.old → OnOk result (Shows (send_of d) self.new) }
+    {
+        self.desk.send(&self.reports, self.moment)?;
+        Ok(())
+    }
+}

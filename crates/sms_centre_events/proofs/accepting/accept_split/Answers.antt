@@ -1,0 +1,22 @@
+use Rattle.std.proofs.Common.{Option, sym, ◌∙◌, subst}
+use Rattle.std.specs.Prelude.{IfOk, false}
+use Rattle.sms_centre_rows.specs.messages.SplitReferences.{next_split}
+use Rattle.sms_centre_spec.specs.Draft.{Store, messages_in, parts_in}
+use Rattle.sms_centre_draft.specs.Submitting.{Accepts}
+use Rattle.sms_centre_events.proofs.Accepted.{none_split, some_split}
+use Rattle.sms_centre_events.proofs.accepting.accept_split.Goals as goal
+
+pub returns-in-Some : goal.returns-in-Some
+returns-in-Some c = λ d shows holds fresh.
+    let u = c.args.submission.now in
+    let o = next_split u.source u.handset (messages_in d.store) (parts_in d.store) in
+    subst (λ (x : Option Store). IfOk c.accept_content.result (Accepts x d c.accept_content.new.working))
+    (sym (some_split c.args.id c.in-Some.reference u o d.store (sym (c.next_split-free.ensures (messages_in d.store) (parts_in d.store) holds) ∙ c.in-Some.is)))
+    (c.accept_content.ensures d shows fresh)
+
+pub returns-in-None : goal.returns-in-None
+returns-in-None c = λ d shows holds fresh.
+    let u = c.args.submission.now in
+    let o = next_split u.source u.handset (messages_in d.store) (parts_in d.store) in
+    subst (λ (x : Option Store). Accepts x d c.args.working.now false)
+    (sym (none_split c.args.id u o d.store (sym (c.next_split-free.ensures (messages_in d.store) (parts_in d.store) holds) ∙ c.in-None.is))) tt

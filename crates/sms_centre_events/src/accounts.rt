@@ -1,0 +1,62 @@
+//! The accounts of applications.
+ghost use Rattle.std.specs.Prelude.{◌≡◌, ◌&&◌, option_copied};
+ghost use Rattle.sms_centre_spec.specs.Requests.{account_at as account_at_of, is_from as is_from_of};
+ghost use Rattle.sms_centre_rows.specs.messages.SplitReferences.{is_same_address as is_same_address_of};
+ghost use Rattle.sms_centre_rows.specs.reports.Receipts.{is_account as is_account_of};
+
+use sms_base::{Address, Originator};
+use sms_centre_draft::Working;
+use sms_centre_rows::messages::MessageRow;
+use sms_centre_spec::Setup;
+use sms_intake::Account;
+
+/// The account at that place of the setup, from place 0 on.
+pub fn account_at(setup: &Setup, place: u8) -> Option<&Account>
+    ensures { option_copied result ≡ account_at_of place setup.now.accounts }
+{
+    let accounts = setup.accounts.as_slice();
+    let place = usize::from(place);
+    if place >= accounts.len() {
+        return None;
+    }
+    Some(&accounts[place])
+}
+
+/// The account at that place of the centre's setup.
+pub(crate) fn account_of<'a>(working: &Working<'a>, place: u8) -> Option<&'a Account>
+    ensures { option_copied result ≡ account_at_of place working.now.setup.accounts }
+{
+    account_at(working.setup, place)
+}
+
+fn is_account(name: &[u8], originator: &Originator) -> bool
+    ensures { result ≡ is_account_of name.now originator.now }
+{
+    match originator {
+        Originator::Application { account } => account.as_slice() == name,
+        Originator::Handset { .. } => false,
+    }
+}
+
+fn is_same_address(one: &Address, other: &Address) -> bool
+    ensures { result ≡ is_same_address_of one.now other.now }
+{
+    one.ton.number() == other.ton.number()
+        && (one.npi == other.npi && one.digits.as_slice() == other.digits.as_slice())
+}
+
+fn is_from(source: &Option<Address>, message: &MessageRow) -> bool
+    ensures { result ≡ is_from_of source.now message.now }
+{
+    match source {
+        Some(source) => is_same_address(source, &message.source),
+        None => false,
+    }
+}
+
+/// Whether it is a message of the account with that name, from that source.
+pub(crate) fn is_own(name: &[u8], source: &Option<Address>, message: &MessageRow) -> bool
+    ensures { result ≡ (is_account_of name.now message.now.originator && is_from_of source.now message.now) }
+{
+    is_account(name, &message.originator) && is_from(source, message)
+}

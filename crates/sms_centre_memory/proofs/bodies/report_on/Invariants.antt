@@ -1,6 +1,0 @@
-use Rattle.std.proofs.Common.{◌≡◌, drop}
-use Rattle.sms_reports.specs.Reports.{report_of}
-use Rattle.sms_centre_memory.proofs.bodies.report_on.Given as goal
-
-abbrev pub invariant-loop-report : goal.invariant-loop-report
-invariant-loop-report l = report_of l.id (drop l.report-index l.reports) ≡ report_of l.id l.reports

@@ -1,0 +1,3 @@
+pub mod held
+pub mod reference_moves
+pub mod references

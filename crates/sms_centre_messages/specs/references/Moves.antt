@@ -1,0 +1,82 @@
+-- What an event changes of messages and parts, as moves of what they lay claim to, and the memory for it.
+use Rattle.std.specs.Prelude.{◌≡◌, ℕ, ◌+◌, ◌≤◌, List, [], ◌∷◌, true, Option, Some, None}
+use Rattle.sms_base.specs.declared.final_state.FinalState.{FinalState}
+use Rattle.sms_rows.specs.declared.table.change.Change.{Change}
+use Rattle.sms_rows.specs.declared.table.change.Change.TheVariants.{Put, Remove}
+use Rattle.sms_rows.specs.table.Table.{applied, newest_of, row_at}
+use Rattle.sms_centre_rows.specs.declared.messages.message.MessageRow.{MessageRow}
+use Rattle.sms_centre_rows.specs.declared.messages.part.PartRow.{PartRow}
+use Rattle.sms_centre_rows.specs.messages.Messages.{ended, is_pending, message_at, message_key, part_key, part_reaching}
+use Rattle.sms_centre_rows.specs.declared.waiting.revision.Revision.{Revision}
+use Rattle.sms_centre_rows.specs.declared.waiting.revision.Revision.TheVariants.{Put as PutPart, Amend, Remove as RemovePart}
+use Rattle.sms_centre_rows.specs.waiting.Revisions.{revised}
+use Rattle.sms_centre_messages.specs.declared.references.between.Between.{Between}
+use Rattle.sms_centre_messages.specs.references.Claims.{AreFew, ClaimsOf, ComesBehind}
+use Rattle.sms_centre_messages.specs.references.Counts.{Makes, Suffices, counted}
+
+-- ---- changes of messages
+
+-- it comes behind all others, or a message that was pending has ended
+abbrev pub IsMoveTo : Option FinalState → MessageRow → List MessageRow → List PartRow → Type 0
+IsMoveTo None row ms ps = ComesBehind row ms ps × AreFew ms ps
+IsMoveTo (Some state) row ms ps =
+    (m : MessageRow) × ((moment : ℕ) × ((message_at m.id ms ≡ Some m) × ((is_pending m ≡ true) × (row ≡ ended state moment m))))
+
+abbrev pub IsMove : Change MessageRow → List MessageRow → List PartRow → Type 0
+IsMove (Put row) ms ps = IsMoveTo row.state row ms ps
+IsMove (Remove n) ms ps = ⊥
+
+abbrev pub AreMoves : List (Change MessageRow) → List MessageRow → List PartRow → Type 0
+AreMoves [] ms ps = Unit {0}
+AreMoves (c ∷ cs) ms ps = IsMove c ms ps × AreMoves cs (applied message_key c ms) ps
+
+-- ---- changes of parts
+
+-- a part comes whose message is one of the changes, and that wasn't there; a part that is so far stays what it is
+abbrev pub IsPartMove : List (Change MessageRow) → Revision PartRow → List MessageRow → List PartRow → Type 0
+IsPartMove changes (PutPart p) ms ps =
+    (m : MessageRow) × ((newest_of message_key p.id changes ≡ Some (Put m)) × ((row_at part_key (part_key p) ps ≡ None) × AreFew ms ps))
+IsPartMove changes (Amend n progress) ms ps = Unit {0}
+IsPartMove changes (RemovePart n) ms ps = ⊥
+
+abbrev pub ArePartMoves : List (Change MessageRow) → List (Revision PartRow) → List MessageRow → List PartRow → Type 0
+ArePartMoves changes [] ms ps = Unit {0}
+ArePartMoves changes (r ∷ rs) ms ps = IsPartMove changes r ms ps × ArePartMoves changes rs ms (revised part_key part_reaching r ps)
+
+-- ---- memory
+
+pub record SpareOf : Type 0 where
+  pub held : ℕ
+  pub own : ℕ
+  pub barred : ℕ
+  pub last : ℕ
+  pub pending : ℕ
+
+-- it is memory for so many changes of messages and of parts
+pub record Fits (s : SpareOf) (messages parts : ℕ) (k : ClaimsOf) : Type 0 where
+  pub held : Suffices messages s.held k.held
+  pub own : Suffices parts s.own k.own
+  pub barred : Suffices (messages + parts) s.barred k.barred
+  pub last : Suffices messages s.last k.last
+  pub pending : Suffices messages s.pending k.pending
+
+-- so many changes take no memory
+pub record HasRoomFor (messages parts : ℕ) (k : ClaimsOf) : Type 0 where
+  pub held : messages ≤ k.held.room
+  pub own : parts ≤ k.own.room
+  pub barred : messages + parts ≤ k.barred.room
+  pub last : messages ≤ k.last.room
+  pub pending : messages ≤ k.pending.room
+
+-- the memory was taken in
+pub record Takes (s : SpareOf) (old new : ClaimsOf) : Type 0 where
+  pub held : (key : Between) → counted key new.held ≡ counted key old.held
+  pub held_room : Makes s.held old.held new.held
+  pub own : (key : Between) → counted key new.own ≡ counted key old.own
+  pub own_room : Makes s.own old.own new.own
+  pub barred : (key : Between) → counted key new.barred ≡ counted key old.barred
+  pub barred_room : Makes s.barred old.barred new.barred
+  pub last : (key : Between) → counted key new.last ≡ counted key old.last
+  pub last_room : Makes s.last old.last new.last
+  pub pending : (key : Between) → counted key new.pending ≡ counted key old.pending
+  pub pending_room : Makes s.pending old.pending new.pending

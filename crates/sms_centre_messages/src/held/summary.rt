@@ -1,0 +1,41 @@
+//! What a centre tells of its messages, one by one.
+ghost use Rattle.std.specs.Prelude.{◌≡◌, List, length, slice_get};
+ghost use Rattle.std.specs.Option.{option_map};
+ghost use Rattle.sms_centre_messages.specs.held.MessagesInMemory.{Holds};
+ghost use Rattle.sms_centre_messages.specs.held.Summaries.{summary_of};
+ghost use Rattle.sms_centre_rows.specs.declared.messages.message.MessageRow.{MessageRow as MessageRowOf};
+ghost use Rattle.sms_centre_rows.specs.declared.messages.part.PartRow.{PartRow as PartRowOf};
+
+use crate::held::kept::KeptMessages;
+use sms_base::{Address, Digits, FinalState, MessageId};
+
+/// Between whom a message goes, and how it ended.
+#[derive(Clone, Copy, Debug, PartialEq, Eq)]
+pub struct MessageSummary {
+    pub id: MessageId,
+    /// TP-OA of its parts.
+    pub source: Address,
+    /// The digits 0 to 9 of its destination.
+    pub handset: Digits,
+    /// How it ended; a message without an end is pending.
+    pub state: Option<FinalState>,
+}
+
+impl KeptMessages {
+    /// How many messages there are.
+    pub fn len(&self) -> usize
+        ensures { (ms : List MessageRowOf) (ps : List PartRowOf) → Holds self.now ms ps → result ≡ length ms }
+    {
+        self.messages.as_slice().len()
+    }
+
+    /// The message at that place, in the order of numbers, from place 0 on.
+    pub fn summary(&self, place: usize) -> Option<MessageSummary>
+        ensures { (ms : List MessageRowOf) (ps : List PartRowOf) → Holds self.now ms ps → result ≡ option_map summary_of (slice_get ms place) }
+    {
+        match self.messages.as_slice().get(place) {
+            Some(entry) => self.names.summary(entry),
+            None => None,
+        }
+    }
+}

@@ -1,0 +1,139 @@
+//! What an event leaves, put in without taking memory.
+ghost use Rattle.std.specs.Prelude.{◌≡◌, ◌+◌, ℕ, List, Some, None, length, option_copied};
+ghost use Rattle.sms_centre_messages.specs.references.Claims.{AreFew, ComesBehind, Holds};
+ghost use Rattle.sms_centre_messages.specs.references.Moves.{AreMoves, ArePartMoves, Fits, HasRoomFor, IsMove, IsMoveTo, IsPartMove};
+ghost use Rattle.sms_centre_rows.specs.messages.Messages.{message_at, message_key, part_key, part_reaching};
+ghost use Rattle.sms_centre_rows.specs.declared.messages.message.MessageRow.{MessageRow as MessageRowOf};
+ghost use Rattle.sms_centre_rows.specs.declared.messages.part.PartRow.{PartRow as PartRowOf};
+ghost use Rattle.sms_rows.specs.table.Table.{Rises, all_applied, applied, newest_of, put, row_at};
+ghost use Rattle.sms_centre_rows.specs.waiting.Revisions.{all_revised, revised};
+ghost use Rattle.sms_centre_rows.specs.declared.waiting.revision.Revision.TheVariants.{Put as PutPart};
+
+use crate::references::claims::KeptClaims;
+use crate::references::spare::SpareClaims;
+use sms_centre_rows::messages::{MessageRow, PartRow};
+use sms_centre_rows::waiting::Revision;
+use sms_rows::table::{Change, Key};
+
+impl KeptClaims {
+    /// Puts the changes of messages and of parts in, without taking memory: a message that is pending comes behind all others, one
+    /// that has an end was pending before, and a part comes with its message.
+    pub fn adopt(
+        &mut self,
+        spare: SpareClaims,
+        messages: &[Change<MessageRow>],
+        parts: &[Revision<PartRow>],
+    )
+        requires { Fits spare (length messages.now) (length parts.now) self.old }
+        ensures { (ms : List MessageRowOf) (ps : List PartRowOf) → Holds self.old ms ps → Rises message_key ms → Rises part_key ps → AreMoves messages.now ms ps
+            → ArePartMoves messages.now parts.now (all_applied message_key messages.now ms) ps
+            → Holds self.new (all_applied message_key messages.now ms) (all_revised part_key part_reaching parts.now ps) }
+    {
+        self.take_in(spare);
+        self.apply_all(messages, parts.len());
+        self.apply_parts(parts, messages);
+    }
+
+    // The changes of messages, where so many of parts are to come.
+    fn apply_all(&mut self, messages: &[Change<MessageRow>], parts: usize)
+        requires { HasRoomFor (length messages.now) parts self.old }
+        ensures holds { (ms : List MessageRowOf) (ps : List PartRowOf) → Holds self.old ms ps → Rises message_key ms → AreMoves messages.now ms ps → Holds self.new (all_applied message_key messages.now ms) ps }
+        ensures room { HasRoomFor 0 parts self.new }
+    {
+        for change in messages {
+            self.apply(change);
+        }
+    }
+
+    fn apply(&mut self, change: &Change<MessageRow>)
+        requires { HasRoomFor 1 0 self.old }
+        ensures holds { (ms : List MessageRowOf) (ps : List PartRowOf) → Holds self.old ms ps → Rises message_key ms → IsMove change.now ms ps → Holds self.new (applied message_key change.now ms) ps }
+        ensures room { (n p : ℕ) → HasRoomFor (n + 1) p self.old → HasRoomFor n p self.new }
+    {
+        if let Change::Put(row) = change {
+            self.put(row);
+        }
+    }
+
+    fn put(&mut self, row: &MessageRow)
+        requires { HasRoomFor 1 0 self.old }
+        ensures holds { (ms : List MessageRowOf) (ps : List PartRowOf) → Holds self.old ms ps → Rises message_key ms → IsMoveTo row.now.state row.now ms ps → Holds self.new (put message_key row.now ms) ps }
+        ensures room { (n p : ℕ) → HasRoomFor (n + 1) p self.old → HasRoomFor n p self.new }
+    {
+        match row.state {
+            None => self.enter_ready(row),
+            Some(state) => self.end(row, state),
+        }
+    }
+
+    fn enter_ready(&mut self, row: &MessageRow)
+        requires { HasRoomFor 1 0 self.old }
+        ensures holds { (ms : List MessageRowOf) (ps : List PartRowOf) → Holds self.old ms ps → ComesBehind row.now ms ps → AreFew ms ps → Holds self.new (put message_key row.now ms) ps }
+        ensures room { (n p : ℕ) → HasRoomFor (n + 1) p self.old → HasRoomFor n p self.new }
+    {
+        match self.enter(row) {
+            Ok(()) => (),
+            Err(_) => (),
+        }
+    }
+
+    // The changes of parts, whose messages came by the others.
+    fn apply_parts(&mut self, parts: &[Revision<PartRow>], messages: &[Change<MessageRow>])
+        requires { HasRoomFor 0 (length parts.now) self.old }
+        ensures { (base ms : List MessageRowOf) (ps : List PartRowOf) → ms ≡ all_applied message_key messages.now base → Holds self.old ms ps → Rises part_key ps → ArePartMoves messages.now parts.now ms ps
+            → Holds self.new ms (all_revised part_key part_reaching parts.now ps) }
+    {
+        for revision in parts {
+            self.apply_part(revision, messages);
+        }
+    }
+
+    fn apply_part(&mut self, revision: &Revision<PartRow>, messages: &[Change<MessageRow>])
+        requires { HasRoomFor 0 1 self.old }
+        ensures holds { (base ms : List MessageRowOf) (ps : List PartRowOf) → ms ≡ all_applied message_key messages.now base → Holds self.old ms ps → Rises part_key ps
+            → IsPartMove messages.now revision.now ms ps → Holds self.new ms (revised part_key part_reaching revision.now ps) }
+        ensures room { (n : ℕ) → HasRoomFor 0 (n + 1) self.old → HasRoomFor 0 n self.new }
+    {
+        match revision {
+            Revision::Put(part) => self.put_part(part, messages),
+            Revision::Amend { .. } => (),
+            Revision::Remove(_) => (),
+        }
+    }
+
+    fn put_part(&mut self, part: &PartRow, messages: &[Change<MessageRow>])
+        requires { HasRoomFor 0 1 self.old }
+        ensures holds { (base ms : List MessageRowOf) (ps : List PartRowOf) → ms ≡ all_applied message_key messages.now base → Holds self.old ms ps → Rises part_key ps
+            → IsPartMove messages.now (PutPart part.now) ms ps → Holds self.new ms (put part_key part.now ps) }
+        ensures room { (n : ℕ) → HasRoomFor 0 (n + 1) self.old → HasRoomFor 0 n self.new }
+    {
+        if let Some(Change::Put(message)) = newest(messages, Key::of(part.id.number())) {
+            self.bring_ready(message, part);
+        }
+    }
+
+    fn bring_ready(&mut self, message: &MessageRow, part: &PartRow)
+        requires { HasRoomFor 0 1 self.old }
+        ensures holds { (ms : List MessageRowOf) (ps : List PartRowOf) → Holds self.old ms ps → Rises part_key ps → message_at part.now.id ms ≡ Some message.now
+            → row_at part_key (part_key part.now) ps ≡ None → AreFew ms ps → Holds self.new ms (put part_key part.now ps) }
+        ensures room { (n : ℕ) → HasRoomFor 0 (n + 1) self.old → HasRoomFor 0 n self.new }
+    {
+        match self.bring(message, &part.key) {
+            Ok(()) => (),
+            Err(_) => (),
+        }
+    }
+}
+
+// The newest change of the message of that key.
+fn newest(changes: &[Change<MessageRow>], key: Key) -> Option<&Change<MessageRow>>
+    ensures { option_copied result ≡ newest_of message_key key changes.now }
+{
+    for i in 0..changes.len() {
+        let change = &changes[changes.len() - 1 - i];
+        if change.key().number() == key.number() {
+            return Some(change);
+        }
+    }
+    None
+}

@@ -1,0 +1,72 @@
+//! What rows of a store lay claim to.
+ghost use Rattle.std.specs.Prelude.{◌≡◌, ◌<◌, [], List, None, IfOk, OnOk, length};
+ghost use Rattle.sms_centre_messages.specs.references.Claims.{AreFew, Holds};
+ghost use Rattle.sms_centre_rows.specs.messages.Messages.{message_key, part_key};
+ghost use Rattle.sms_centre_rows.specs.declared.messages.part.PartRow.{PartRow as PartRowOf};
+ghost use Rattle.sms_rows.specs.table.Table.{Rises, put, row_at};
+
+use crate::references::claims::KeptClaims;
+use sms_centre_rows::messages::{MessageRow, PartRow};
+use sms_rows::table::{Key, Table};
+use std::alloc::{AllocError, Global};
+
+impl KeptClaims {
+    /// What the messages and the parts, which stand in the order of their keys, lay claim to. It costs a logarithm for each.
+    pub fn recover(
+        alloc: Global,
+        messages: &Table<MessageRow>,
+        parts: &[PartRow],
+    ) -> Result<KeptClaims, AllocError>
+        requires { Rises part_key parts.now }
+        ensures { IfOk result (λ kept. Holds kept messages.now.rows parts.now) }
+    {
+        let rows = messages.as_slice();
+        let Some(all) = rows.len().checked_add(parts.len()) else {
+            return Err(AllocError);
+        };
+        if all == usize::MAX {
+            return Err(AllocError);
+        }
+        let mut kept = KeptClaims::new(alloc);
+        kept.enter_each(rows)?;
+        kept.bring_each(parts, messages)?;
+        Ok(kept)
+    }
+
+    fn enter_each(&mut self, rows: &[MessageRow]) -> Result<(), AllocError>
+        ensures { Holds self.old [] [] → Rises message_key rows.now → length rows.now < 18446744073709551615 → OnOk result (Holds self.new rows.now []) }
+    {
+        for row in rows {
+            self.enter(row)?;
+        }
+        Ok(())
+    }
+
+    fn bring_each(
+        &mut self,
+        parts: &[PartRow],
+        messages: &Table<MessageRow>,
+    ) -> Result<(), AllocError>
+        ensures { Holds self.old messages.now.rows [] → Rises part_key parts.now → AreFew messages.now.rows parts.now → OnOk result (Holds self.new messages.now.rows parts.now) }
+    {
+        for part in parts {
+            self.bring_found(part, messages)?;
+        }
+        Ok(())
+    }
+
+    // A part comes; without its message it lays claim to nothing.
+    fn bring_found(
+        &mut self,
+        part: &PartRow,
+        messages: &Table<MessageRow>,
+    ) -> Result<(), AllocError>
+        ensures { (ps : List PartRowOf) → Holds self.old messages.now.rows ps → Rises part_key ps → row_at part_key (part_key part.now) ps ≡ None → AreFew messages.now.rows ps
+            → OnOk result (Holds self.new messages.now.rows (put part_key part.now ps)) }
+    {
+        match messages.find(Key::of(part.id.number())) {
+            Some(message) => self.bring(message, &part.key),
+            None => Ok(()),
+        }
+    }
+}

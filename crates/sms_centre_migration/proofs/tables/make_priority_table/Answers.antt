@@ -1,9 +1,0 @@
-use Rattle.std.proofs.Common.{[]}
-use Rattle.sms_listing.proofs.Steps.{ok_then}
-use Rattle.sms_centre_tables.specs.CentreSchema.{create_priority}
-use Rattle.sms_centre_migration.specs.Migrating.{MakesPriority}
-use Rattle.sms_centre_migration.proofs.Completing.{ran_leads, priority_table_made}
-use Rattle.sms_centre_migration.proofs.tables.make_priority_table.Goals as goal
-
-pub returns-clause-done : goal.returns-clause-done
-returns-clause-done g c clean live inside = ok_then c.run.result (ran_leads MakesPriority create_priority [] _ _ (priority_table_made _ _)) (c.run.ensures.done clean live inside)

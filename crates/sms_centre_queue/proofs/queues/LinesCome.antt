@@ -1,0 +1,131 @@
+-- A line that is put keeps its place in the order in which lines came, or comes behind all others; no other changes its place.
+use Rattle.std.proofs.Common.{◌≡◌, ℕ, ◌+◌, ◌<◌, List, [], ◌∷◌, length, true, false, Option, None, refl, sym, ◌∙◌, ap, subst, inl, inr, ⊎_elim, cond, arith, bytes_eq}
+use Rattle.std.specs.Prelude.{◌==◌}
+use Rattle.std.proofs.lemmas.Bool.{cases_Bool, cond-true, cond-false, ne_eqb}
+use Rattle.std.proofs.lemmas.Slice.Eq.{bytes_eq-Decides}
+use Rattle.sms_base.specs.Among.{Among}
+use Rattle.sms_rows.specs.table.Keys.{AllDigits}
+use Rattle.sms_centre_rows.specs.declared.waiting.line.Line.{Line}
+use Rattle.sms_centre_rows.specs.waiting.Lines.{line_at, line_of, or_new_line, with_line}
+use Rattle.sms_centre_rows.proofs.waiting.LinesShown.{line_behind, line_here, put_at_other}
+use Rattle.sms_centre_rows.proofs.waiting.Mentions.{cases_number}
+use Rattle.sms_centre_queue.specs.queues.LineOrder.{AreLines, came_from}
+use Rattle.sms_centre_queue.specs.queues.Placing.{lines_now}
+
+-- ---- one line
+
+pub differ : (a b : List ℕ) → ¬ (a ≡ b) → bytes_eq a b ≡ false
+differ a b ne = ⊎_elim
+    (λ (t : bytes_eq a b ≡ true). absurd (ne ((bytes_eq-Decides a b).0 t)))
+    (λ (t : bytes_eq a b ≡ false). t)
+    (cases_Bool (bytes_eq a b))
+
+pub put_here : (line l : Line) (ls : List Line) → l.handset ≡ line.handset → with_line line (l ∷ ls) ≡ line ∷ ls
+put_here line l ls e = cond-true (bytes_eq l.handset line.handset) (line ∷ ls) (l ∷ with_line line ls) ((bytes_eq-Decides l.handset line.handset).1 e)
+
+pub put_behind : (line l : Line) (ls : List Line) → ¬ (l.handset ≡ line.handset) → with_line line (l ∷ ls) ≡ l ∷ with_line line ls
+put_behind line l ls ne = cond-false (bytes_eq l.handset line.handset) (line ∷ ls) (l ∷ with_line line ls) (differ l.handset line.handset ne)
+
+pub came_here : (place : ℕ) (number : List ℕ) (l : Line) (ls : List Line) → l.handset ≡ number → came_from place number (l ∷ ls) ≡ place
+came_here place number l ls e = cond-true (bytes_eq l.handset number) place (came_from (place + 1) number ls) ((bytes_eq-Decides l.handset number).1 e)
+
+pub came_behind : (place : ℕ) (number : List ℕ) (l : Line) (ls : List Line) → ¬ (l.handset ≡ number) → came_from place number (l ∷ ls) ≡ came_from (place + 1) number ls
+came_behind place number l ls ne = cond-false (bytes_eq l.handset number) place (came_from (place + 1) number ls) (differ l.handset number ne)
+
+-- ---- the places
+
+pub came_other : (place : ℕ) (number : List ℕ) (line : Line) (ls : List Line) → ¬ (line.handset ≡ number) → came_from place number (with_line line ls) ≡ came_from place number ls
+came_other place number line [] ne = came_behind place number line [] ne
+came_other place number line (l ∷ ls) ne = ⊎_elim
+    (λ (e : l.handset ≡ line.handset).
+    ap (λ (r : List Line). came_from place number r) (put_here line l ls e) ∙ came_behind place number line ls ne
+    ∙ sym (came_behind place number l ls (λ q. ne (sym e ∙ q))))
+    (λ (e : l.handset ≡ line.handset → ⊥).
+    ap (λ (r : List Line). came_from place number r) (put_behind line l ls e) ∙ ⊎_elim
+    (λ (t : l.handset ≡ number). came_here place number l (with_line line ls) t ∙ sym (came_here place number l ls t))
+    (λ (t : l.handset ≡ number → ⊥).
+    came_behind place number l (with_line line ls) t ∙ came_other (place + 1) number line ls ne ∙ sym (came_behind place number l ls t))
+    (cases_number l.handset number))
+    (cases_number l.handset line.handset)
+
+-- it has a place, or the one behind that many lines
+abbrev place_behind : ℕ → ℕ → ℕ
+place_behind came behind = cond (came == 0) behind came
+
+stays_at : (came behind : ℕ) → 0 < came → place_behind came behind ≡ came
+stays_at came behind some = cond-false (came == 0) behind came (ne_eqb came 0 (λ e. absurd (omega (arith, some))))
+
+pub came_own : (place : ℕ) (line : Line) (ls : List Line) → 0 < place → came_from place line.handset (with_line line ls) ≡ place_behind (came_from place line.handset ls) (length ls + place)
+came_own place line [] some = let behind : place ≡ length {A = Line} [] + place = omega arith in came_here place line.handset line [] refl ∙ behind
+came_own place line (l ∷ ls) some = ⊎_elim
+    (λ (e : l.handset ≡ line.handset).
+    ap (λ (r : List Line). came_from place line.handset r) (put_here line l ls e) ∙ came_here place line.handset line ls refl
+    ∙ sym (ap (λ (n : ℕ). place_behind n (length (l ∷ ls) + place)) (came_here place line.handset l ls e) ∙ stays_at place (length (l ∷ ls) + place) some))
+    (λ (e : l.handset ≡ line.handset → ⊥).
+    let one_more : length ls + (place + 1) ≡ length (l ∷ ls) + place = omega arith in
+    ap (λ (r : List Line). came_from place line.handset r) (put_behind line l ls e) ∙ came_behind place line.handset l (with_line line ls) e
+    ∙ came_own (place + 1) line ls (omega arith)
+    ∙ ap (λ (n : ℕ). place_behind (came_from (place + 1) line.handset ls) n) one_more
+    ∙ sym (ap (λ (n : ℕ). place_behind n (length (l ∷ ls) + place)) (came_behind place line.handset l ls e)))
+    (cases_number l.handset line.handset)
+
+-- ---- how many lines there are
+
+pub line_count : (place : ℕ) (line : Line) (ls : List Line) → 0 < place → length (with_line line ls) ≡ lines_now (came_from place line.handset ls) (length ls)
+line_count place line [] some = refl
+line_count place line (l ∷ ls) some = ⊎_elim
+    (λ (e : l.handset ≡ line.handset).
+    ap (λ (r : List Line). length r) (put_here line l ls e)
+    ∙ sym (ap (λ (n : ℕ). lines_now n (length (l ∷ ls))) (came_here place line.handset l ls e)
+    ∙ cond-false (place == 0) (length (l ∷ ls) + 1) (length (l ∷ ls)) (ne_eqb place 0 (λ z. absurd (omega (arith, some))))))
+    (λ (e : l.handset ≡ line.handset → ⊥).
+    let n : ℕ = came_from (place + 1) line.handset ls in
+    let one_more : length ls + 1 ≡ length (l ∷ ls) = omega arith in
+    let behind : length (l ∷ with_line line ls) ≡ length (with_line line ls) + 1 = omega arith in
+    ap (λ (r : List Line). length r) (put_behind line l ls e) ∙ behind ∙ ap (λ (m : ℕ). m + 1) (line_count (place + 1) line ls (omega arith))
+    ∙ grows n (length ls) ∙ ap (λ (m : ℕ). lines_now n m) one_more ∙ sym (ap (λ (m : ℕ). lines_now m (length (l ∷ ls))) (came_behind place line.handset l ls e)))
+    (cases_number l.handset line.handset)
+  where
+    grows : (n m : ℕ) → lines_now n m + 1 ≡ lines_now n (m + 1)
+    grows n m = ⊎_elim
+        (λ (t : (n == 0) ≡ true). ap (λ (k : ℕ). k + 1) (cond-true (n == 0) (m + 1) m t) ∙ sym (cond-true (n == 0) (m + 1 + 1) (m + 1) t))
+        (λ (t : (n == 0) ≡ false). ap (λ (k : ℕ). k + 1) (cond-false (n == 0) (m + 1) m t) ∙ sym (cond-false (n == 0) (m + 1 + 1) (m + 1) t))
+        (cases_Bool (n == 0))
+
+-- ---- what holds of all lines
+
+pub digits_put : (line : Line) (ls : List Line) → AllDigits line.handset → ((l : Line) → Among l ls → AllDigits l.handset) → (l : Line) → Among l (with_line line ls) → AllDigits l.handset
+digits_put line [] d f l m = ⊎_elim
+    (λ (e : l ≡ line). subst (λ (x : Line). AllDigits x.handset) (sym e) d)
+    (λ (r : Among l []). elim r [ ])
+    m
+digits_put line (x ∷ xs) d f l m = ⊎_elim
+    (λ (e : x.handset ≡ line.handset). ⊎_elim
+    (λ (q : l ≡ line). subst (λ (y : Line). AllDigits y.handset) (sym q) d)
+    (λ (r : Among l xs). f l (inr r))
+    (subst (λ (r : List Line). Among l r) (put_here line x xs e) m))
+    (λ (e : x.handset ≡ line.handset → ⊥). ⊎_elim
+    (λ (q : l ≡ x). f l (inl q))
+    (λ (r : Among l (with_line line xs)). digits_put line xs d (λ y n. f y (inr n)) l r)
+    (subst (λ (r : List Line). Among l r) (put_behind line x xs e) m))
+    (cases_number x.handset line.handset)
+
+pub apart_put : (line : Line) (ls : List Line) → AreLines ls → AreLines (with_line line ls)
+apart_put line [] a = (refl, tt)
+apart_put line (l ∷ ls) a = ⊎_elim
+    (λ (e : l.handset ≡ line.handset).
+    let none : line_at line.handset ls ≡ None = subst (λ (n : List ℕ). line_at n ls ≡ None) e a.0 in
+    subst AreLines (sym (put_here line l ls e)) (none, a.1))
+    (λ (e : l.handset ≡ line.handset → ⊥).
+    let none : line_at l.handset (with_line line ls) ≡ None = put_at_other l.handset line ls (λ q. e (sym q)) ∙ a.0 in
+    subst AreLines (sym (put_behind line l ls e)) (none, apart_put line ls a.1))
+    (cases_number l.handset line.handset)
+
+-- ---- a line is that of its handset
+
+pub line_handset : (number : List ℕ) (ls : List Line) → (line_of number ls).handset ≡ number
+line_handset number [] = refl
+line_handset number (l ∷ ls) = ⊎_elim
+    (λ (e : l.handset ≡ number). ap (λ (o : Option Line). (or_new_line number o).handset) (line_here number l ls e) ∙ e)
+    (λ (e : l.handset ≡ number → ⊥). ap (λ (o : Option Line). (or_new_line number o).handset) (line_behind number l ls e) ∙ line_handset number ls)
+    (cases_number l.handset number)

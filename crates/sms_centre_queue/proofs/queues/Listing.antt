@@ -1,0 +1,41 @@
+-- One key comes into the index or goes, and one shelf comes under its key.
+use Rattle.std.proofs.Common.{◌≡◌, ℕ, List, [], ◌∷◌, length, Bool, true, false, nat_eq, Option, Some, refl, sym, ◌∙◌, ap, subst, ⊎_elim, cond, is_some, eq-eqb, arith}
+use Rattle.std.specs.Map.{lookup}
+use Rattle.std.proofs.lemmas.Bool.{cases_eq, ne_eqb}
+use Rattle.sms_centre_queue.specs.declared.queues.placed.Placed.{Placed}
+use Rattle.sms_centre_queue.specs.declared.queues.stop.Stop.{Stop}
+use Rattle.sms_centre_queue.specs.declared.queues.stop.Purpose.TheVariants.{Offer}
+use Rattle.sms_centre_queue.specs.queues.Placing.{PendingOf, is_listed, under}
+use Rattle.sms_centre_queue.specs.queues.Stops.{scanned}
+
+pub swapped : (a b : ℕ) → nat_eq a b ≡ nat_eq b a
+swapped a b = ⊎_elim
+    (λ (e : a ≡ b). eq-eqb a b e ∙ sym (eq-eqb b a (sym e)))
+    (λ (e : a ≡ b → ⊥). ne_eqb a b e ∙ sym (ne_eqb b a (λ q. e (sym q))))
+    (cases_eq a b)
+
+over_cond : (b : Bool) (x y : Option (Unit {0})) → is_some (cond b x y) ≡ cond b (is_some x) (is_some y)
+over_cond true x y = refl
+over_cond false x y = refl
+
+-- what stands under a key after one entry was put or taken out
+abbrev pub Written : {V : Type 0} → ℕ → Option V → List (ℕ × V) → List (ℕ × V) → Type 0
+Written key w old new = (q : ℕ) → lookup (nat_eq q) new ≡ cond (nat_eq key q) w (lookup (nat_eq q) old)
+
+pub listed_as : (key k : ℕ) (w : Option (Unit {0})) (active : Bool) (old new : List (ℕ × Unit {0})) → is_some w ≡ active → Written key w old new → is_listed k new ≡ cond (nat_eq k key) active (is_listed k old)
+listed_as key k w active old new is written =
+    ap is_some (written k) ∙ over_cond (nat_eq key k) w (lookup (nat_eq k) old)
+    ∙ ap (λ (b : Bool). cond b (is_some w) (is_listed k old)) (swapped key k) ∙ ap (λ (b : Bool). cond (nat_eq k key) b (is_listed k old)) is
+
+pub placed_as : (key k : ℕ) (placed : Placed) (old new : List (ℕ × Placed)) → Written key (Some placed) old new → under k new ≡ cond (nat_eq k key) (Some placed) (under k old)
+placed_as key k placed old new written = written k ∙ ap (λ (b : Bool). cond b (Some placed) (under k old)) (swapped key k)
+
+-- a moment at which nothing was found
+no_rows : (stops : List Stop) → length stops ≡ 0 → stops ≡ []
+no_rows [] e = refl
+no_rows (s ∷ ss) e = absurd (omega (arith, e))
+
+pub nothing_at : (now moment : ℕ) (stops : List Stop) (p : PendingOf) → stops ≡ scanned (Offer now) p → length stops ≡ 0 → Some now ≡ Some moment → scanned (Offer moment) p ≡ []
+nothing_at now moment stops p is none same =
+    let e : now ≡ moment = cc in
+    subst (λ (n : ℕ). scanned (Offer n) p ≡ []) e (sym is ∙ no_rows stops none)

@@ -1,0 +1,84 @@
+-- Stops in their order, and where each handset has its own.
+use Rattle.std.proofs.Common.{◌≡◌, ℕ, ◌+◌, ◌<◌, List, [], ◌∷◌, Some, None, refl, sym, ◌∙◌, ap, inl, inr, ⊎_elim, arith}
+use Rattle.sms_base.specs.Among.{Among}
+use Rattle.sms_rows.specs.table.Table.{AllAbove, Rises}
+use Rattle.sms_centre_rows.specs.declared.waiting.handset.HandsetRow.{HandsetRow}
+use Rattle.sms_centre_rows.specs.declared.waiting.line.Line.{Line}
+use Rattle.sms_centre_rows.specs.waiting.Keys.{handset_key}
+use Rattle.sms_centre_rows.specs.waiting.Lines.{line_at}
+use Rattle.sms_centre_rows.proofs.waiting.LinesShown.{line_behind, line_here}
+use Rattle.sms_centre_rows.proofs.waiting.Mentions.{cases_number}
+use Rattle.sms_centre_queue.specs.declared.queues.stop.Stop.{Stop}
+use Rattle.sms_centre_queue.specs.queues.Keys.{stop_key}
+use Rattle.sms_centre_queue.specs.queues.LineOrder.{AreLines, came_from}
+use Rattle.sms_centre_queue.specs.queues.Stops.{line_stops, mention_stops}
+use Rattle.sms_centre_queue.proofs.queues.LinesCome.{came_behind, came_here}
+
+-- ---- handsets
+
+abbrev pub mention_stop : HandsetRow → Stop
+mention_stop h = record { order = h.place; number = h.number }
+
+mention_above : (n : ℕ) (hs : List HandsetRow) → AllAbove handset_key n hs → AllAbove stop_key n (mention_stops hs)
+mention_above n [] a = tt
+mention_above n (h ∷ hs) a = (a.0, mention_above n hs a.1)
+
+pub mentions_rise : (hs : List HandsetRow) → Rises handset_key hs → Rises stop_key (mention_stops hs)
+mentions_rise [] r = tt
+mentions_rise (h ∷ hs) r = (mention_above h.place hs r.0, mentions_rise hs r.1)
+
+pub mention_among : (h : HandsetRow) (hs : List HandsetRow) → Among h hs → Among (mention_stop h) (mention_stops hs)
+mention_among h [] m = elim m [ ]
+mention_among h (g ∷ gs) m = ⊎_elim (λ (e : h ≡ g). inl (ap mention_stop e)) (λ (r : Among h gs). inr (mention_among h gs r)) m
+
+pub among_mention : (s : Stop) (hs : List HandsetRow) → Among s (mention_stops hs) → (h : HandsetRow) × (Among h hs × (s ≡ mention_stop h))
+among_mention s [] m = elim m [ ]
+among_mention s (h ∷ hs) m = ⊎_elim
+    (λ (e : s ≡ mention_stop h). (h, (inl refl, e)))
+    (λ (r : Among s (mention_stops hs)). let q = among_mention s hs r in (q.0, (inr q.1.0, q.1.1)))
+    m
+
+-- ---- lines
+
+lines_above : (m n : ℕ) (ls : List Line) → m < n → AllAbove stop_key m (line_stops n ls)
+lines_above m n [] l = tt
+lines_above m n (x ∷ xs) l = (l, lines_above m (n + 1) xs (omega (arith, l)))
+
+pub lines_rise : (n : ℕ) (ls : List Line) → Rises stop_key (line_stops n ls)
+lines_rise n [] = tt
+lines_rise n (l ∷ ls) = (lines_above n (n + 1) ls (omega arith), lines_rise (n + 1) ls)
+
+-- the place of a line that came is that of its stop
+pub line_stop_among : (n k : ℕ) (number : List ℕ) (ls : List Line) → came_from n number ls ≡ k → 0 < k → Among (record { order = k; number = number }) (line_stops n ls)
+line_stop_among n k number [] e some = absurd (omega (arith, e, some))
+line_stop_among n k number (l ∷ ls) e some = ⊎_elim
+    (λ (t : l.handset ≡ number).
+    let order : k ≡ n = sym e ∙ came_here n number l ls t in
+    let here : record { order = k; number = number } ≡ record { order = n; number = l.handset } = ap (λ (o : ℕ). record { order = o; number = number }) order ∙ ap (λ (x : List ℕ). record { order = n; number = x }) (sym t) in
+    inl here)
+    (λ (t : l.handset ≡ number → ⊥). inr (line_stop_among (n + 1) k number ls (sym (came_behind n number l ls t) ∙ e) some))
+    (cases_number l.handset number)
+
+pub none_later : (n : ℕ) (number : List ℕ) (l : Line) (ls : List Line) → line_at number ls ≡ None → Among l ls → l.handset ≡ number → ⊥
+none_later n number l [] none m e = elim m [ ]
+none_later n number l (x ∷ xs) none m e = ⊎_elim
+    (λ (t : x.handset ≡ number). let bad : Some x ≡ None = sym (line_here number x xs t) ∙ none in absurd cc)
+    (λ (t : x.handset ≡ number → ⊥). ⊎_elim
+    (λ (q : l ≡ x). t (ap (λ (y : Line). y.handset) (sym q) ∙ e))
+    (λ (r : Among l xs). none_later n number l xs (sym (line_behind number x xs t) ∙ none) r e)
+    m)
+    (cases_number x.handset number)
+
+-- each stop of lines is that of one that came in that place
+pub among_line_stop : (n : ℕ) (s : Stop) (ls : List Line) → 0 < n → AreLines ls → Among s (line_stops n ls) → (l : Line) × (Among l ls × (s.number ≡ l.handset) × (came_from n s.number ls ≡ s.order) × (0 < s.order))
+among_line_stop n s [] some apart m = elim m [ ]
+among_line_stop n s (l ∷ ls) some apart m = ⊎_elim
+    (λ (e : s ≡ record { order = n; number = l.handset }).
+    let number : s.number ≡ l.handset = ap (λ (x : Stop). x.number) e in
+    let order : s.order ≡ n = ap (λ (x : Stop). x.order) e in
+    (l, (inl refl, number, came_here n s.number l ls (sym number) ∙ sym order, omega (arith, order, some))))
+    (λ (r : Among s (line_stops (n + 1) ls)).
+    let q = among_line_stop (n + 1) s ls (omega arith) apart.1 r in
+    let ne : ¬ (l.handset ≡ s.number) = λ e. none_later n l.handset q.0 ls apart.0 q.1.0 (sym q.1.1 ∙ sym e) in
+    (q.0, (inr q.1.0, q.1.1, came_behind n s.number l ls ne ∙ q.1.2, q.1.3)))
+    m

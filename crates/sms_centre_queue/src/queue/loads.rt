@@ -1,0 +1,88 @@
+//! Walks through what waits.
+ghost use Rattle.std.specs.Prelude.{◌≡◌, ◌++◌, List, IfOk};
+ghost use Rattle.sms_centre_rows.specs.waiting.Waiting.{all_at_once, if_due, is_part_of as is_part_of_message, is_same as is_same_of, next as next_of, preceding, waits_beside as waits_beside_of, withdrawn};
+ghost use Rattle.sms_centre_rows.specs.declared.waiting.load.Load.{Load as LoadOf};
+
+use sms_base::{MessageId, Moment};
+use sms_centre_rows::waiting::Load;
+use std::alloc::{AllocError, Global};
+
+/// All are due at that moment.
+pub(crate) fn loads_due_at(
+    alloc: Global,
+    waiting: &[Load],
+    now: Moment,
+) -> Result<Vec<Load>, AllocError>
+    ensures { IfOk result (λ loads. loads.items ≡ all_at_once now waiting.now) }
+{
+    waiting
+        .iter()
+        .map(|load| Load { due: now, ..*load })
+        .collect(alloc)
+}
+
+/// All but the parts of that message.
+pub(crate) fn loads_but(
+    alloc: Global,
+    waiting: &[Load],
+    id: MessageId,
+) -> Result<Vec<Load>, AllocError>
+    ensures { IfOk result (λ loads. loads.items ≡ withdrawn id waiting.now) }
+{
+    let mut loads = Vec::with_capacity(alloc, waiting.len())?;
+    for load in waiting {
+        if !is_part_of(load, id) {
+            loads.push(*load)?;
+        }
+    }
+    Ok(loads)
+}
+
+fn is_part_of(load: &Load, id: MessageId) -> bool
+    ensures { result ≡ is_part_of_message id load.now }
+{
+    load.id.number() == id.number() && load.number != 0
+}
+
+/// Of all that is due the one that goes first, where that is the first of what waits behind these. Looked through from the end, so
+/// that what is left is what the definition has behind it.
+pub(crate) fn first_due(waiting: &[Load], now: Moment, behind: Option<Load>) -> Option<Load>
+    ensures { (others : List LoadOf) → behind ≡ next_of now others → result ≡ next_of now (waiting.now ++ others) }
+{
+    let mut first: Option<Load> = behind;
+    for i in 0..waiting.len() {
+        first = first_of_both(waiting[waiting.len() - 1 - i], now, first);
+    }
+    first
+}
+
+// Of the load, if it is due, and the other the one that goes first; the load, where they are told apart by nothing.
+fn first_of_both(load: Load, now: Moment, other: Option<Load>) -> Option<Load>
+    ensures { result ≡ preceding (if_due now load) other }
+{
+    if !load.is_due(now) {
+        return other;
+    }
+    match other {
+        Some(other) if other.precedes(&load) => Some(other),
+        _ => Some(load),
+    }
+}
+
+/// Whether another one is due.
+pub(crate) fn is_due_beside(waiting: &[Load], now: Moment, chosen: &Load) -> bool
+    ensures { result ≡ waits_beside_of now chosen.now waiting.now }
+{
+    for load in waiting {
+        if load.is_due(now) && !is_same(load, chosen) {
+            return true;
+        }
+    }
+    false
+}
+
+fn is_same(load: &Load, other: &Load) -> bool
+    ensures { result ≡ is_same_of load.now other.now }
+{
+    load.id.number() == other.id.number() && load.number == other.number
+}

@@ -1,0 +1,131 @@
+//! What an event leaves of the shelves.
+ghost use Rattle.std.specs.Prelude.{◌≡◌, ℕ, [], Some, IfOk};
+ghost use Rattle.sms_centre_queue.specs.queues.Adopting.{Fits, IsAdopted, IsSettled};
+ghost use Rattle.sms_centre_queue.specs.queues.Stops.{scanned};
+ghost use Rattle.sms_centre_queue.specs.declared.queues.stop.Purpose.TheVariants.{Offer};
+
+use crate::queues::ground::Ground;
+use crate::queues::pending::PendingShelves;
+use crate::queues::placed::Placed;
+use crate::queues::shelves::Shelves;
+use crate::queues::spare::SpareMap;
+use crate::queues::stop::Purpose;
+use indexmap::IndexMap;
+use sms_base::{Listed, Moment};
+use sms_centre_rows::waiting::{HandsetRow, ReferenceRow, Sent};
+use sms_rows::table::Change;
+use std::alloc::{AllocError, Global};
+use std::marker::Model;
+use std::sync::Arc;
+
+/// What an event leaves of the shelves, ready made, with the memory that it takes to put it in.
+#[derive(Drop)]
+pub struct SettledShelves {
+    ground: Arc<Ground>,
+    touched: IndexMap<u128, Placed>,
+    spare: SpareMap<Placed>,
+    index_spare: SpareMap<()>,
+    next_place: u64,
+    lines: u64,
+    rested: Option<Moment>,
+}
+
+impl Model for SettledShelves {
+    ghost use Rattle.sms_centre_queue.specs.queues.Adopting.{SettledOf};
+
+    ghost Value = { SettledOf };
+
+    ghost view = { λ s. record {
+      ground = s.ground.value;
+      touched = s.touched.entries;
+      spare = s.spare;
+      index_spare = s.index_spare;
+      next_place = s.next_place;
+      lines = s.lines;
+      rested = s.rested;
+    } };
+}
+
+/// What an event does with shelves: what is to be committed of handsets and of references, each in order, the frames in
+/// order, and the shelves as it leaves them.
+#[derive(Drop)]
+pub struct ShelvesPlan {
+    pub handsets: Listed<Change<HandsetRow>>,
+    pub references: Listed<Change<ReferenceRow>>,
+    pub frames: Listed<Sent>,
+    pub shelves: SettledShelves,
+}
+
+impl PendingShelves {
+    /// What the event leaves, with the memory for it. The moment is that of the event.
+    pub fn settle(self, now: Moment) -> Result<ShelvesPlan, AllocError>
+        ensures handsets { IfOk result (λ plan. plan.handsets ≡ self.handsets) }
+        ensures references { IfOk result (λ plan. plan.references ≡ self.references) }
+        ensures frames { IfOk result (λ plan. plan.frames ≡ self.frames) }
+        ensures shelves { IfOk result (λ plan. IsSettled self plan.shelves) }
+        ensures fits { IfOk result (λ plan. Fits plan.shelves) }
+    {
+        let rested = self.rested_at(now)?;
+        let next_place = self.next_place;
+        let lines = self.lines;
+        let spare = self.ground.more_shelves(self.alloc, self.touched.len())?;
+        let index_spare = self.ground.more_keys(self.alloc, self.touched.len())?;
+        Ok(ShelvesPlan {
+            handsets: self.handsets,
+            references: self.references,
+            frames: self.frames,
+            shelves: SettledShelves {
+                ground: self.ground,
+                touched: self.touched,
+                spare,
+                index_spare,
+                next_place,
+                lines,
+                rested,
+            },
+        })
+    }
+
+    // That moment, if nothing is left to offer at it.
+    #[tactic(auto, using(crate::proofs::queues::Listing::nothing_at))]
+    fn rested_at(&self, now: Moment) -> Result<Option<Moment>, AllocError>
+        ensures { IfOk result (λ rested. (moment : ℕ) → rested ≡ Some moment → scanned (Offer moment) self.now ≡ []) }
+    {
+        let left = self.scan(&Purpose::Offer(now))?;
+        if left.is_empty() {
+            Ok(Some(now))
+        } else {
+            Ok(None)
+        }
+    }
+}
+
+impl Shelves {
+    /// Puts in what an event left, without taking memory. Where another event still shares the ground, what was touched stands
+    /// beside it until one is adopted that has it alone.
+    pub fn adopt(&mut self, settled: SettledShelves)
+        requires fits { Fits settled }
+        ensures { IsAdopted settled self.new }
+    {
+        let SettledShelves {
+            ground,
+            touched,
+            spare,
+            index_spare,
+            next_place,
+            lines,
+            rested,
+        } = settled;
+        let alloc = self.alloc;
+        self.ground = ground;
+        self.next_place = next_place;
+        self.lines = lines;
+        match Arc::get_mut(&mut self.ground) {
+            Some(ground) => {
+                ground.install(spare, index_spare, touched, rested);
+                self.touched = IndexMap::new(alloc);
+            }
+            None => self.touched = touched,
+        }
+    }
+}

@@ -1,0 +1,95 @@
+-- Tests that hold together.
+use Rattle.std.proofs.Common.{◌≡◌, ℕ, List, Bool, true, false, sym, ◌∙◌}
+use Rattle.std.specs.Prelude.{◌&&◌}
+use Rattle.std.proofs.lemmas.Bool.{and_from, and_parts}
+use Rattle.sms_base.specs.Among.{Among}
+use Rattle.sms_centre_rows.specs.declared.messages.message.MessageRow.{MessageRow}
+use Rattle.sms_centre_rows.specs.messages.SoundMessages.{SoundMessages}
+use Rattle.sms_centre_rows.specs.reports.SoundReports.{SoundReports}
+use Rattle.sms_centre_rows.specs.waiting.References.{handset_at}
+use Rattle.sms_centre_rows.specs.waiting.SoundGivings.{SoundGivings}
+use Rattle.sms_centre_rows.specs.waiting.SoundWaiting.{SoundWaiting}
+use Rattle.sms_centre_spec.specs.declared.rows.Rows.{Rows}
+use Rattle.sms_centre_spec.specs.SoundRows.{AreSplitApart, AreTimes, CanBeTold, IsSetup, IsSound, all_for}
+use Rattle.sms_centre_recovery.specs.soundness.RowsOf.{StandsAlone}
+
+-- ---- two and three
+
+pub record Both (a b : Bool) : Type 0 where
+  pub one : a ≡ true
+  pub other : b ≡ true
+
+pub both_from : (x y out a b : Bool) → x ≡ a → y ≡ b → out ≡ x && y → out ≡ true → Both a b
+both_from x y out a b p q o e = let r = and_parts x y (sym o ∙ e) in record { one = sym p ∙ r.0; other = sym q ∙ r.1 }
+
+pub both_to : (x y out a b : Bool) → x ≡ a → y ≡ b → out ≡ x && y → a ≡ true → b ≡ true → out ≡ true
+both_to x y out a b p q o e f = o ∙ and_from x y (p ∙ e) (q ∙ f)
+
+pub record Three (a b c : Bool) : Type 0 where
+  pub first : a ≡ true
+  pub second : b ≡ true
+  pub third : c ≡ true
+
+pub three_from : (x y z inner out a b c : Bool) → x ≡ a → y ≡ b → z ≡ c → inner ≡ y && z → out ≡ x && inner → out ≡ true → Three a b c
+three_from x y z inner out a b c p q r i o e =
+    let s = and_parts x inner (sym o ∙ e) in
+    let t = and_parts y z (sym i ∙ s.1) in
+    record { first = sym p ∙ s.0; second = sym q ∙ t.0; third = sym r ∙ t.1 }
+
+pub three_to : (x y z inner out a b c : Bool) → x ≡ a → y ≡ b → z ≡ c → inner ≡ y && z → out ≡ x && inner → a ≡ true → b ≡ true → c ≡ true → out ≡ true
+three_to x y z inner out a b c p q r i o e f g = o ∙ and_from x inner (p ∙ e) (i ∙ and_from y z (q ∙ f) (r ∙ g))
+
+-- ---- all conditions of the rows
+
+-- what waits, where all else is sound
+abbrev pub WaitingTold : Rows → Bool → Type 0
+WaitingTold rows b =
+    SoundGivings rows.handsets rows.references → SoundMessages rows.messages rows.parts rows.priorities → SoundReports rows.messages rows.reports
+    → ((m : MessageRow) → Among m rows.messages → CanBeTold m.originator m.source)
+    → (b ≡ true → (number : List ℕ) → SoundWaiting (handset_at number rows.handsets) rows.references (all_for number rows))
+    × (((number : List ℕ) → SoundWaiting (handset_at number rows.handsets) rows.references (all_for number rows)) → b ≡ true)
+
+abbrev pub Tells : Bool → Type 0 → Type 0
+Tells b P = (b ≡ true → P) × (P → b ≡ true)
+
+pub alone_from : (rows : Rows) (setup times told messages one two out : Bool) → Tells setup (IsSetup rows.setup) → Tells times (AreTimes rows.messages rows.references rows.reports)
+    → Tells told ((m : MessageRow) → Among m rows.messages → CanBeTold m.originator m.source) → Tells messages (SoundMessages rows.messages rows.parts rows.priorities)
+    → one ≡ setup && times → two ≡ told && messages → out ≡ one && two → out ≡ true → StandsAlone rows
+alone_from rows setup times told messages one two out s t d m a b o x =
+    let top = and_parts one two (sym o ∙ x) in
+    let x1 = and_parts setup times (sym a ∙ top.0) in
+    let x2 = and_parts told messages (sym b ∙ top.1) in
+    record { setup = s.0 x1.0; times = t.0 x1.1; told = d.0 x2.0; sound = m.0 x2.1 }
+
+pub alone_to : (rows : Rows) (setup times told messages one two out : Bool) → Tells setup (IsSetup rows.setup) → Tells times (AreTimes rows.messages rows.references rows.reports)
+    → Tells told ((m : MessageRow) → Among m rows.messages → CanBeTold m.originator m.source) → Tells messages (SoundMessages rows.messages rows.parts rows.priorities)
+    → one ≡ setup && times → two ≡ told && messages → out ≡ one && two → IsSound rows → out ≡ true
+alone_to rows setup times told messages one two out s t d m a b o sound =
+    o ∙ and_from one two (a ∙ and_from setup times (s.1 sound.setup) (t.1 sound.times)) (b ∙ and_from told messages (d.1 sound.told) (m.1 sound.messages))
+
+pub beside_tells : (rows : Rows) (givings reports splits waiting three four out : Bool)
+    → Tells givings (SoundGivings rows.handsets rows.references) → Tells reports (SoundReports rows.messages rows.reports) → Tells splits (AreSplitApart rows.messages) → WaitingTold rows waiting
+    → three ≡ givings && reports → four ≡ splits && waiting → out ≡ three && four → StandsAlone rows → Tells out (IsSound rows)
+beside_tells rows givings reports splits waiting three four out g r p w e f o alone = (
+  λ x.
+      let top = and_parts three four (sym o ∙ x) in
+      let x3 = and_parts givings reports (sym e ∙ top.0) in
+      let x4 = and_parts splits waiting (sym f ∙ top.1) in
+      record {
+        setup = alone.setup;
+        times = alone.times;
+        messages = alone.sound;
+        told = alone.told;
+        givings = g.0 x3.0;
+        reports = r.0 x3.1;
+        waiting = (w (g.0 x3.0) alone.sound (r.0 x3.1) alone.told).0 x4.1;
+        splits = p.0 x4.0;
+      },
+  λ sound.
+      o ∙ and_from three four (e ∙ and_from givings reports (g.1 sound.givings) (r.1 sound.reports))
+      (f ∙ and_from splits waiting (p.1 sound.splits) ((w sound.givings sound.messages sound.reports sound.told).1 sound.waiting)),
+)
+
+-- what does not stand alone is not sound
+pub not_alone : (rows : Rows) (alone : Bool) → (IsSound rows → alone ≡ true) → alone ≡ false → Tells false (IsSound rows)
+not_alone rows alone only e = (λ x. absurd cc, λ sound. let bad : true ≡ false = sym (only sound) ∙ e in absurd cc)

@@ -1,0 +1,10 @@
+use Rattle.std.proofs.Common.{sym, ◌∙◌, ap, filter_map}
+use Rattle.sms_centre_recovery.specs.soundness.SplitTest.{split_of, splits_differ}
+use Rattle.sms_centre_recovery.proofs.soundness.SplitsTested.{splits_from, splits_to}
+use Rattle.sms_centre_recovery.proofs.soundness.tables.RowTables.has_splits.Goals as goal
+
+pub returns : goal.returns
+returns c =
+    let ms = c.args.self.now.messages.rows in
+    let is = c.in_ok-apart.ensures ∙ ap (λ l. splits_differ (filter_map split_of l)) c.as_slice.ensures.rows in
+    (λ e. splits_from ms (sym is ∙ e), λ apart. is ∙ splits_to ms c.as_slice.ensures.order apart)

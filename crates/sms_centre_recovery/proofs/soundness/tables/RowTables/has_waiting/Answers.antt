@@ -1,0 +1,36 @@
+use Rattle.std.proofs.Common.{◌∙◌, ap, subst}
+use Rattle.std.specs.List.{list_all}
+use Rattle.sms_centre_recovery.specs.soundness.Differing.{differ}
+use Rattle.sms_centre_recovery.specs.soundness.WaitingTest.{Places, holds, part_given, report_given}
+use Rattle.sms_centre_recovery.proofs.soundness.Together.{three_from, three_to}
+use Rattle.sms_centre_recovery.proofs.soundness.WaitingTested.{Stand, waiting_from, waiting_to}
+use Rattle.sms_centre_recovery.proofs.soundness.tables.RowTables.has_waiting.Goals as goal
+
+pub returns : goal.returns
+returns c givings messages reports told =
+    let t = c.args.self.now in
+    let hs = t.handsets.rows in
+    let refs = t.references.rows in
+    let ms = t.messages.rows in
+    let qs = t.priorities.rows in
+    let ps = t.parts.rows in
+    let rs = t.reports.rows in
+    let entries = c.in_ok-places.places.entries in
+    let places = subst (λ l. Places entries l) c.as_slice.ensures.rows c.in_ok-places.ensures in
+    let stand : Stand entries hs refs ms qs ps rs = record { places = places; givings = givings; messages = messages; reports = reports; told = told } in
+    let x = c.are_parts_given-parts in
+    let y = c.are_reports_given-reports in
+    let z = c.in_ok-apart in
+    let a = list_all (part_given entries refs ms) ps in
+    let b = list_all (report_given entries refs ms) rs in
+    let d = differ (holds entries ms ps rs) in
+    let p = x.ensures ∙ ap (λ l. list_all (part_given entries refs ms) l) c.as_slice-2.ensures.rows in
+    let q = y.ensures ∙ ap (λ l. list_all (report_given entries refs ms) l) c.as_slice-3.ensures.rows in
+    let r = z.ensures ∙ ap (λ l. differ (holds entries ms l c.as_slice-5.result.now)) c.as_slice-4.ensures.rows ∙ ap (λ l. differ (holds entries ms ps l)) c.as_slice-5.ensures.rows in (
+      λ e.
+          let h = three_from x.result y.result z.apart c.both.result c.both-2.result a b d p q r c.both.ensures c.both-2.ensures e in
+          waiting_from entries hs refs ms qs ps rs stand (record { each_part = h.first; each_report = h.second; apart = h.third }),
+      λ sound.
+          let h = waiting_to entries hs refs ms qs ps rs stand sound in
+          three_to x.result y.result z.apart c.both.result c.both-2.result a b d p q r c.both.ensures c.both-2.ensures h.each_part h.each_report h.apart,
+    )

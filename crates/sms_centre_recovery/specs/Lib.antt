@@ -1,0 +1,2 @@
+pub mod soundness
+pub mod starting

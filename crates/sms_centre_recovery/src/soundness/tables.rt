@@ -1,0 +1,198 @@
+//! The rows of a centre as tables, and whether a centre can stand on them.
+ghost use Rattle.std.specs.Prelude.{◌≡◌, ◌↔◌, ◌&&◌, ℕ, List, true, IfNone, IfOk, IfSome};
+ghost use Rattle.sms_base.specs.Among.{Among};
+ghost use Rattle.sms_centre_rows.specs.messages.SoundMessages.{SoundMessages};
+ghost use Rattle.sms_centre_rows.specs.declared.messages.message.MessageRow.{MessageRow as MessageRowOf};
+ghost use Rattle.sms_centre_rows.specs.reports.SoundReports.{SoundReports};
+ghost use Rattle.sms_centre_rows.specs.waiting.References.{handset_at};
+ghost use Rattle.sms_centre_rows.specs.waiting.SoundGivings.{SoundGivings};
+ghost use Rattle.sms_centre_rows.specs.waiting.SoundWaiting.{SoundWaiting};
+ghost use Rattle.sms_centre_spec.specs.SoundRows.{AreSplitApart, AreTimes, CanBeTold, IsSetup, IsSound, all_for};
+ghost use Rattle.sms_centre_recovery.specs.soundness.RowsOf.{KeysRise, StandsAlone, rows_of};
+
+use crate::soundness::giving_rows::{are_given, are_mentioned, have_numbers_apart};
+use crate::soundness::message_rows::{are_messages, are_parts, are_priorities};
+use crate::soundness::report_rows::{are_once, are_reports};
+use crate::soundness::setup_and_times::{are_dated, are_made, are_submitted, are_told, is_setup};
+use crate::soundness::splits::are_split_apart;
+use crate::soundness::waiting_rows::{
+    are_parts_given, are_reports_given, have_references_apart, places_of,
+};
+use sms_centre_rows::messages::{MessageRow, PartRow, PriorityRow};
+use sms_centre_rows::reports::ReportRow;
+use sms_centre_rows::waiting::{HandsetRow, ReferenceRow};
+use sms_centre_spec::{Rows, Setup};
+use sms_rows::table::{Table, rises};
+use std::alloc::{AllocError, Global};
+
+/// The rows of a centre, each list in the order of its keys.
+#[derive(Drop)]
+pub struct RowTables {
+    pub messages: Table<MessageRow>,
+    pub parts: Table<PartRow>,
+    pub references: Table<ReferenceRow>,
+    pub handsets: Table<HandsetRow>,
+    pub reports: Table<ReportRow>,
+    pub priorities: Table<PriorityRow>,
+    pub setup: Setup,
+}
+
+// Both hold.
+fn both(one: bool, other: bool) -> bool
+    ensures { result ≡ one && other }
+{
+    one && other
+}
+
+fn keys_rise(rows: &Rows) -> bool
+    ensures { (result ≡ true) ↔ KeysRise rows.now }
+{
+    let messages = rises(rows.messages.as_slice());
+    let parts = rises(rows.parts.as_slice());
+    let references = rises(rows.references.as_slice());
+    let handsets = rises(rows.handsets.as_slice());
+    let reports = rises(rows.reports.as_slice());
+    let priorities = rises(rows.priorities.as_slice());
+    both(
+        both(messages, both(parts, references)),
+        both(handsets, both(reports, priorities)),
+    )
+}
+
+impl RowTables {
+    /// The rows as tables. None where their keys don't rise: no centre can stand on them.
+    pub fn of(rows: Rows) -> Option<RowTables>
+        ensures some { IfSome result (λ tables. rows_of tables ≡ rows) }
+        ensures none { IfNone result (¬ IsSound rows) }
+    {
+        if !keys_rise(&rows) {
+            return None;
+        }
+        Some(RowTables {
+            messages: Table::from_vec(rows.messages.into_vec()),
+            parts: Table::from_vec(rows.parts.into_vec()),
+            references: Table::from_vec(rows.references.into_vec()),
+            handsets: Table::from_vec(rows.handsets.into_vec()),
+            reports: Table::from_vec(rows.reports.into_vec()),
+            priorities: Table::from_vec(rows.priorities.into_vec()),
+            setup: rows.setup,
+        })
+    }
+
+    fn has_times(&self) -> bool
+        ensures { (result ≡ true) ↔ AreTimes self.now.messages.rows self.now.references.rows self.now.reports.rows }
+    {
+        let submitted = are_submitted(self.messages.as_slice());
+        let dated = are_dated(self.references.as_slice());
+        let made = are_made(self.reports.as_slice());
+        both(submitted, both(dated, made))
+    }
+
+    fn has_messages(&self) -> bool
+        ensures { (result ≡ true) ↔ SoundMessages self.now.messages.rows self.now.parts.rows self.now.priorities.rows }
+    {
+        let messages = are_messages(self.messages.as_slice(), &self.parts, &self.priorities);
+        let parts = are_parts(self.parts.as_slice(), &self.messages);
+        let priorities = are_priorities(self.priorities.as_slice(), &self.messages);
+        both(messages, both(parts, priorities))
+    }
+
+    fn has_givings(&self, alloc: Global) -> Result<bool, AllocError>
+        ensures { IfOk result (λ b. (b ≡ true) ↔ SoundGivings self.now.handsets.rows self.now.references.rows) }
+    {
+        let mentioned = are_mentioned(self.handsets.as_slice(), &self.references);
+        let given = are_given(self.references.as_slice(), &self.handsets);
+        let apart = have_numbers_apart(alloc, self.handsets.as_slice())?;
+        Ok(both(mentioned, both(given, apart)))
+    }
+
+    fn has_reports(&self, alloc: Global) -> Result<bool, AllocError>
+        ensures { IfOk result (λ b. (b ≡ true) ↔ SoundReports self.now.messages.rows self.now.reports.rows) }
+    {
+        let each = are_reports(self.reports.as_slice(), &self.messages);
+        let once = are_once(alloc, self.reports.as_slice())?;
+        Ok(both(each, once))
+    }
+
+    // Where a centre can stand on all else.
+    fn has_waiting(&self, alloc: Global) -> Result<bool, AllocError>
+        ensures { IfOk result (λ b. SoundGivings self.now.handsets.rows self.now.references.rows → SoundMessages self.now.messages.rows self.now.parts.rows self.now.priorities.rows
+            → SoundReports self.now.messages.rows self.now.reports.rows → ((m : MessageRowOf) → Among m self.now.messages.rows → CanBeTold m.originator m.source)
+            → (b ≡ true) ↔ ((number : List ℕ) → SoundWaiting (handset_at number self.now.handsets.rows) self.now.references.rows (all_for number (rows_of self.now)))) }
+    {
+        let places = places_of(alloc, self.handsets.as_slice())?;
+        let parts = are_parts_given(
+            &places,
+            &self.references,
+            &self.messages,
+            self.parts.as_slice(),
+        );
+        let reports = are_reports_given(
+            &places,
+            &self.references,
+            &self.messages,
+            self.reports.as_slice(),
+        );
+        let apart = have_references_apart(
+            alloc,
+            &places,
+            &self.messages,
+            self.parts.as_slice(),
+            self.reports.as_slice(),
+        )?;
+        Ok(both(parts, both(reports, apart)))
+    }
+
+    fn has_splits(&self, alloc: Global) -> Result<bool, AllocError>
+        ensures { IfOk result (λ b. (b ≡ true) ↔ AreSplitApart self.now.messages.rows) }
+    {
+        let apart = are_split_apart(alloc, self.messages.as_slice())?;
+        Ok(apart)
+    }
+
+    fn has_tellable(&self) -> bool
+        ensures { (result ≡ true) ↔ ((m : MessageRowOf) → Among m self.now.messages.rows → CanBeTold m.originator m.source) }
+    {
+        are_told(self.messages.as_slice())
+    }
+
+    fn has_setup(&self) -> bool
+        ensures { (result ≡ true) ↔ IsSetup self.now.setup }
+    {
+        is_setup(&self.setup)
+    }
+
+    // What takes no memory to judge.
+    fn stands_alone(&self) -> bool
+        ensures alone { result ≡ true → StandsAlone (rows_of self.now) }
+        ensures only { IsSound (rows_of self.now) → result ≡ true }
+    {
+        let setup = self.has_setup();
+        let times = self.has_times();
+        let told = self.has_tellable();
+        let messages = self.has_messages();
+        both(both(setup, times), both(told, messages))
+    }
+
+    // What takes memory to judge, where all else is sound.
+    fn stands_beside(&self, alloc: Global) -> Result<bool, AllocError>
+        ensures { IfOk result (λ b. StandsAlone (rows_of self.now) → (b ≡ true) ↔ IsSound (rows_of self.now)) }
+    {
+        let givings = self.has_givings(alloc)?;
+        let reports = self.has_reports(alloc)?;
+        let splits = self.has_splits(alloc)?;
+        let waiting = self.has_waiting(alloc)?;
+        Ok(both(both(givings, reports), both(splits, waiting)))
+    }
+
+    /// Whether a centre can stand on the rows. It takes time linear in them, up to a logarithm; what can be judged without memory is
+    /// judged first.
+    pub fn is_sound(&self, alloc: Global) -> Result<bool, AllocError>
+        ensures { IfOk result (λ b. (b ≡ true) ↔ IsSound (rows_of self.now)) }
+    {
+        if !self.stands_alone() {
+            return Ok(false);
+        }
+        self.stands_beside(alloc)
+    }
+}

@@ -1,0 +1,160 @@
+//! What waits for handsets, by rows.
+ghost use Rattle.std.specs.Prelude.{◌≡◌, ℕ, List, [], ◌∷◌, Some, OnOk};
+ghost use Rattle.sms_base.specs.Among.{Among};
+ghost use Rattle.sms_centre_rows.specs.messages.Messages.{part_key, priority_of as priority_of_rows};
+ghost use Rattle.sms_centre_rows.specs.messages.OpenParts.{is_open_part, part_load as part_load_of, parts_waiting};
+ghost use Rattle.sms_centre_rows.specs.declared.messages.part.PartRow.{PartRow as PartRowOf};
+ghost use Rattle.sms_centre_rows.specs.reports.Reports.{is_open_status as is_open_status_of, status_reference as status_reference_of};
+ghost use Rattle.sms_centre_rows.specs.reports.Waiting.{report_load as report_load_of, with_reports};
+ghost use Rattle.sms_centre_rows.specs.declared.reports.report.ReportRow.{ReportRow as ReportRowOf};
+ghost use Rattle.sms_centre_queue.specs.queues.Shown.{Shows};
+ghost use Rattle.sms_centre_recovery.specs.soundness.RowsOf.{rows_of};
+ghost use Rattle.sms_rows.specs.table.Table.{Rises};
+ghost use Rattle.sms_centre_rows.specs.waiting.Lines.{Air};
+ghost use Rattle.sms_centre_rows.specs.waiting.References.{Givings};
+ghost use Rattle.sms_centre_rows.specs.declared.waiting.load.Load.{Load as LoadOf};
+ghost use Rattle.sms_centre_spec.specs.SoundRows.{IsSound};
+
+use crate::soundness::RowTables;
+use sms_base::MessageId;
+use sms_centre_queue::queues::PendingShelves;
+use sms_centre_rows::messages::{MessageRow, PartRow};
+use sms_centre_rows::reports::{ReportKind, ReportRow};
+use sms_centre_rows::waiting::Load;
+use sms_rows::table::Key;
+use std::alloc::AllocError;
+
+// ---- parts
+
+fn waits(part: &PartRow, message: &MessageRow) -> bool
+    ensures { result ≡ is_open_part part.now (Some message.now) }
+{
+    !part.progress.is_done && message.state.is_none()
+}
+
+fn priority_of(tables: &RowTables, id: MessageId) -> u8
+    ensures { result ≡ priority_of_rows id tables.now.priorities.rows }
+{
+    match tables.priorities.find(Key::of(id.number())) {
+        Some(row) => row.priority,
+        None => 0,
+    }
+}
+
+fn part_load(tables: &RowTables, part: &PartRow) -> Load
+    ensures { result ≡ part_load_of part.now tables.now.priorities.rows }
+{
+    Load {
+        id: part.id,
+        number: part.number,
+        reference: part.reference,
+        priority: priority_of(tables, part.id),
+        due: part.progress.due,
+    }
+}
+
+// The part waits, if it does, before those of greater keys.
+fn put_part(
+    tables: &RowTables,
+    part: &PartRow,
+    shelves: &mut PendingShelves,
+) -> Result<(), AllocError>
+    requires { IsSound (rows_of tables.now) }
+    ensures { OnOk result ((g : Givings) (air : Air) (ps : List PartRowOf) → Rises part_key (part.now ∷ ps)
+        → Shows g air (λ number. parts_waiting number tables.now.messages.rows tables.now.priorities.rows ps) shelves.old
+        → Shows g air (λ number. parts_waiting number tables.now.messages.rows tables.now.priorities.rows (part.now ∷ ps)) shelves.new) }
+{
+    let Some(message) = tables.messages.find(Key::of(part.id.number())) else {
+        return Ok(());
+    };
+    if !waits(part, message) {
+        return Ok(());
+    }
+    shelves.put(message.handset, part_load(tables, part))
+}
+
+/// All of these parts that wait, where nothing does: the last comes first, so that each next one stands before the others.
+pub fn put_parts(
+    tables: &RowTables,
+    parts: &[PartRow],
+    shelves: &mut PendingShelves,
+) -> Result<(), AllocError>
+    requires sound { IsSound (rows_of tables.now) }
+    requires order { Rises part_key parts.now }
+    ensures { OnOk result ((g : Givings) (air : Air) → Shows g air (λ number. []) shelves.old
+        → Shows g air (λ number. parts_waiting number tables.now.messages.rows tables.now.priorities.rows parts.now) shelves.new) }
+{
+    for i in 0..parts.len() {
+        let part = &parts[parts.len() - 1 - i];
+        put_part(tables, part, shelves)?;
+    }
+    Ok(())
+}
+
+// ---- status reports
+
+fn is_open_status(report: &ReportRow) -> bool
+    ensures { result ≡ is_open_status_of report.now }
+{
+    matches!(&report.kind, ReportKind::Status { .. }) && !report.progress.is_done
+}
+
+fn status_reference(report: &ReportRow) -> u8
+    ensures { result ≡ status_reference_of report.now.kind }
+{
+    match &report.kind {
+        ReportKind::Status { reference, .. } => *reference,
+        _ => 0,
+    }
+}
+
+fn report_load(report: &ReportRow) -> Load
+    ensures { result ≡ report_load_of report.now }
+{
+    Load {
+        id: report.id,
+        number: 0,
+        reference: status_reference(report),
+        priority: 0,
+        due: report.progress.due,
+    }
+}
+
+// The status report waits, if it does.
+fn put_report(
+    tables: &RowTables,
+    report: &ReportRow,
+    shelves: &mut PendingShelves,
+) -> Result<(), AllocError>
+    requires sound { IsSound (rows_of tables.now) }
+    requires there { Among report.now tables.now.reports.rows }
+    ensures { OnOk result ((g : Givings) (air : Air) (rs : List ReportRowOf) (waiting : List ℕ → List LoadOf)
+        → Shows g air (λ number. with_reports number tables.now.messages.rows rs (waiting number)) shelves.old
+        → Shows g air (λ number. with_reports number tables.now.messages.rows (report.now ∷ rs) (waiting number)) shelves.new) }
+{
+    if !is_open_status(report) {
+        return Ok(());
+    }
+    let Some(message) = tables.messages.find(Key::of(report.id.number())) else {
+        return Ok(());
+    };
+    shelves.put(message.source.digits, report_load(report))
+}
+
+/// All of these status reports that wait, beside what waits already: the last comes first.
+pub fn put_reports(
+    tables: &RowTables,
+    reports: &[ReportRow],
+    shelves: &mut PendingShelves,
+) -> Result<(), AllocError>
+    requires sound { IsSound (rows_of tables.now) }
+    requires there { (r : ReportRowOf) → Among r reports.now → Among r tables.now.reports.rows }
+    ensures { OnOk result ((g : Givings) (air : Air) (waiting : List ℕ → List LoadOf) → Shows g air waiting shelves.old
+        → Shows g air (λ number. with_reports number tables.now.messages.rows reports.now (waiting number)) shelves.new) }
+{
+    for i in 0..reports.len() {
+        let report = &reports[reports.len() - 1 - i];
+        put_report(tables, report, shelves)?;
+    }
+    Ok(())
+}

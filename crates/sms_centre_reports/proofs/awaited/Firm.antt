@@ -1,0 +1,138 @@
+-- What the stages of events keep of a store, but for the answer to a receipt: no stage closes a receipt. Here are the stages of
+-- stores alone.
+use Rattle.std.proofs.Common.{◌≡◌, ℕ, ◌≤◌, List, [], ◌∷◌, Bool, true, false, Option, Some, None, refl, inl, inr, ◌⊎◌}
+use Rattle.std.proofs.lemmas.Bool.{and_parts, cond_both}
+use Rattle.std.specs.Prelude.{not, ◌==◌}
+use Rattle.sms_base.specs.declared.final_state.FinalState.{FinalState}
+use Rattle.sms_base.specs.declared.final_state.FinalState.TheVariants.{Undeliverable}
+use Rattle.sms_base.specs.declared.holder.Holder.{Holder}
+use Rattle.sms_base.specs.declared.holder.Holder.TheVariants.{Part, Report, Entry, Memory}
+use Rattle.sms_base.specs.TimeStamp.{IsMoment}
+use Rattle.sms_rows.specs.table.Keys.{pair_key}
+use Rattle.sms_rows.specs.table.Table.{row_at}
+use Rattle.sms_link.specs.declared.ending.Ending.{Ending}
+use Rattle.sms_centre_rows.specs.declared.messages.message.MessageRow.{MessageRow}
+use Rattle.sms_centre_rows.specs.declared.messages.part.PartRow.{PartRow}
+use Rattle.sms_centre_rows.specs.messages.Messages.{is_pending, message_at, part_at, part_key}
+use Rattle.sms_centre_rows.specs.messages.OpenParts.{is_open_part}
+use Rattle.sms_centre_rows.specs.messages.SplitReferences.{is_delivered}
+use Rattle.sms_centre_rows.specs.declared.reports.report.ReportRow.{ReportRow}
+use Rattle.sms_centre_rows.specs.reports.Reports.{is_open_status, report_of}
+use Rattle.sms_centre_rows.specs.declared.waiting.load.Load.{Load}
+use Rattle.sms_centre_rows.specs.declared.waiting.progress.Progress.{Progress}
+use Rattle.sms_centre_rows.specs.waiting.Trying.{due_at, finished, tried}
+use Rattle.sms_intake.specs.declared.submission.Submission.{Submission}
+use Rattle.sms_centre_spec.specs.declared.verdict.Verdict.{Verdict}
+use Rattle.sms_centre_spec.specs.declared.verdict.Verdict.TheVariants.{Settled, HandsetFull, Again, Refused, Late}
+use Rattle.sms_centre_spec.specs.Draft.{Store, messages_in, parts_in, reports_in, waiting_in, with_part_at, with_report_at}
+use Rattle.sms_centre_spec.specs.Ends.{end}
+use Rattle.sms_centre_spec.specs.Receiving.{all_due, due_now, load_due, part_due, report_due}
+use Rattle.sms_centre_spec.specs.Standing.{IsSubmission, Stands}
+use Rattle.sms_centre_spec.specs.Submitting.{accept}
+use Rattle.sms_centre_spec.specs.Transfers.{complete, holder_ended, is_open, is_open_part_at, is_open_status_at, part_ended, part_ended_at, part_ended_of, report_ended, report_ended_at, verdict_of, verdict_on}
+use Rattle.sms_centre_spec.proofs.Stages.{IfThere}
+use Rattle.sms_centre_spec.proofs.Steady.{message_own, part_own, report_own}
+
+-- a fact of stores that each stage keeps, with what the stage is reached with; a report stays as closed as it is, or is a status
+-- report that is open
+pub record IsFirm (P : Store → Type 0) : Type 0 where
+  pub stands : (s : Store) → P s → Stands s
+  pub accepted : (u : Submission) (s : Store) → P s → IsSubmission u → IfThere P (accept u s)
+  -- a pending message ends without all its parts
+  pub ended : (f : FinalState) (m : MessageRow) (s : Store) → P s → message_at m.id (messages_in s) ≡ Some m → is_pending m ≡ true → is_delivered (Some f) ≡ false → P (end f m s)
+  -- a part that waits was acknowledged
+  pub settled : (p : PartRow) (m : MessageRow) (s : Store) → P s → row_at part_key (part_key p) (parts_in s) ≡ Some p → message_at p.id (messages_in s) ≡ Some m → is_pending m ≡ true
+      → p.progress.is_done ≡ false → P (complete m (with_part_at p (finished p.progress) s))
+  -- a part is put off, or due now
+  pub part_far : (p : PartRow) (q : Progress) (s : Store) → P s → row_at part_key (part_key p) (parts_in s) ≡ Some p → q.is_done ≡ p.progress.is_done → P (with_part_at p q s)
+  pub report_far : (r : ReportRow) (q : Progress) (s : Store) → P s → report_of r.id (reports_in s) ≡ Some r → (q.is_done ≡ r.progress.is_done) ⊎ (is_open_status r ≡ true) → P (with_report_at r q s)
+  pub later : (n : ℕ) (s : Store) → P s → s.moment ≤ n → IsMoment n → P (record s { moment = n })
+
+not_done : (b : Bool) → not b ≡ true → b ≡ false
+not_done true e = absurd cc
+not_done false e = refl
+
+module _ (P : Store → Type 0) (c : IsFirm P) where
+  -- ---- how a transfer ends, of what still waits
+
+  part_ended_firm : (v : Verdict) (p : PartRow) (m : MessageRow) (s : Store) → P s → row_at part_key (part_key p) (parts_in s) ≡ Some p → message_at p.id (messages_in s) ≡ Some m
+      → is_open_part p (Some m) ≡ true → P (part_ended v p m s)
+  part_ended_firm Settled p m s k there of waits =
+      let b = and_parts (not p.progress.is_done) (is_pending m) waits in c.settled p m s k there of b.1 (not_done p.progress.is_done b.0)
+  part_ended_firm HandsetFull p m s k there of waits = k
+  part_ended_firm Again p m s k there of waits = c.part_far p (tried s.moment p.progress) s k there refl
+  part_ended_firm Refused p m s k there of waits =
+      c.ended Undeliverable m s k (message_own p.id m s of) (and_parts (not p.progress.is_done) (is_pending m) waits).1 refl
+  part_ended_firm Late p m s k there of waits = k
+
+  part_ended_of_firm : (v : Verdict) (p : PartRow) (o : Option MessageRow) (s : Store) → P s → row_at part_key (part_key p) (parts_in s) ≡ Some p → message_at p.id (messages_in s) ≡ o
+      → is_open_part p o ≡ true → P (part_ended_of v p o s)
+  part_ended_of_firm v p None s k there of waits = absurd cc
+  part_ended_of_firm v p (Some m) s k there of waits = part_ended_firm v p m s k there of waits
+
+  part_ended_at_firm : (v : Verdict) (key : ℕ) (o : Option PartRow) (s : Store) → P s → row_at part_key key (parts_in s) ≡ o → is_open_part_at o s ≡ true → P (part_ended_at v o s)
+  part_ended_at_firm v key None s k there waits = absurd cc
+  part_ended_at_firm v key (Some p) s k there waits = part_ended_of_firm v p (message_at p.id (messages_in s)) s k (part_own key p s there) refl waits
+
+  report_ended_firm : (v : Verdict) (r : ReportRow) (s : Store) → P s → report_of r.id (reports_in s) ≡ Some r → is_open_status r ≡ true → P (report_ended v r s)
+  report_ended_firm Settled r s k there is = c.report_far r (finished r.progress) s k there (inr is)
+  report_ended_firm HandsetFull r s k there is = k
+  report_ended_firm Again r s k there is = c.report_far r (tried s.moment r.progress) s k there (inl refl)
+  report_ended_firm Refused r s k there is = c.report_far r (finished r.progress) s k there (inr is)
+  report_ended_firm Late r s k there is = k
+
+  report_ended_at_firm : (v : Verdict) (id : ℕ) (o : Option ReportRow) (s : Store) → P s → report_of id (reports_in s) ≡ o → is_open_status_at o ≡ true → P (report_ended_at v o s)
+  report_ended_at_firm v id None s k there is = k
+  report_ended_at_firm v id (Some r) s k there is = report_ended_firm v r s k (report_own id r s there) is
+
+  open_ended_firm : (v : Verdict) (h : Holder) (s : Store) → P s → is_open h s ≡ true → P (holder_ended v h s)
+  open_ended_firm v (Part id number) s k waits = part_ended_at_firm v (pair_key id number) (part_at id number (parts_in s)) s k refl waits
+  open_ended_firm v (Report id) s k waits = report_ended_at_firm v id (report_of id (reports_in s)) s k refl waits
+  open_ended_firm v (Entry n) s k waits = k
+  open_ended_firm v (Memory n) s k waits = k
+
+  -- ---- what waits no more is left as it is
+
+  late_of : (p : PartRow) (o : Option MessageRow) (s : Store) → P s → P (part_ended_of Late p o s)
+  late_of p None s k = k
+  late_of p (Some m) s k = k
+
+  late_part : (o : Option PartRow) (s : Store) → P s → P (part_ended_at Late o s)
+  late_part None s k = k
+  late_part (Some p) s k = late_of p (message_at p.id (messages_in s)) s k
+
+  late_report : (o : Option ReportRow) (s : Store) → P s → P (report_ended_at Late o s)
+  late_report None s k = k
+  late_report (Some r) s k = k
+
+  late_firm : (h : Holder) (s : Store) → P s → P (holder_ended Late h s)
+  late_firm (Part id number) s k = late_part (part_at id number (parts_in s)) s k
+  late_firm (Report id) s k = late_report (report_of id (reports_in s)) s k
+  late_firm (Entry n) s k = k
+  late_firm (Memory n) s k = k
+
+  pub concluded_firm : (h : Holder) (e : Ending) (s : Store) → P s → P (holder_ended (verdict_on h e s) h s)
+  concluded_firm h e s k =
+      cond_both (is_open h s) (verdict_of e) Late (λ v. P (holder_ended v h s)) (λ waits. open_ended_firm (verdict_of e) h s k waits) (λ t. late_firm h s k)
+
+  -- ---- due now
+
+  part_due_firm : (key : ℕ) (o : Option PartRow) (s : Store) → P s → row_at part_key key (parts_in s) ≡ o → P (part_due o s)
+  part_due_firm key None s k there = k
+  part_due_firm key (Some p) s k there = c.part_far p (due_at s.moment p.progress) s k (part_own key p s there) refl
+
+  report_due_firm : (id : ℕ) (o : Option ReportRow) (s : Store) → P s → report_of id (reports_in s) ≡ o → P (report_due o s)
+  report_due_firm id None s k there = k
+  report_due_firm id (Some r) s k there = c.report_far r (due_at s.moment r.progress) s k (report_own id r s there) (inl refl)
+
+  load_due_firm : (l : Load) (s : Store) → P s → P (load_due l s)
+  load_due_firm l s k =
+      cond_both (l.number == 0) (report_due (report_of l.id (reports_in s)) s) (part_due (part_at l.id l.number (parts_in s)) s) P
+      (λ t. report_due_firm l.id (report_of l.id (reports_in s)) s k refl) (λ t. part_due_firm (pair_key l.id l.number) (part_at l.id l.number (parts_in s)) s k refl)
+
+  all_due_firm : (ls : List Load) (s : Store) → P s → P (all_due ls s)
+  all_due_firm [] s k = k
+  all_due_firm (l ∷ ls) s k = all_due_firm ls (load_due l s) (load_due_firm l s k)
+
+  pub due_now_firm : (handset : List ℕ) (s : Store) → P s → P (due_now handset s)
+  due_now_firm handset s k = all_due_firm (waiting_in handset s) s k

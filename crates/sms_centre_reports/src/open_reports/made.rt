@@ -1,0 +1,18 @@
+//! The reports that an event made.
+use sms_base::MessageId;
+use sms_rows::table::{Key, Row};
+
+/// At which of an event's changes the report of a message comes.
+#[derive(Clone, Copy)]
+pub(crate) struct MadeEntry {
+    pub(crate) id: MessageId,
+    pub(crate) at: usize,
+}
+
+impl Row for MadeEntry {
+    ghost key = { λ m. m.id };
+
+    fn key(&self) -> Key {
+        Key::of(self.id.number())
+    }
+}

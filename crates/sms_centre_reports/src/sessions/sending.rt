@@ -1,0 +1,159 @@
+//! Receipts go: the oldest first, each in the session that serves its account.
+ghost use Rattle.std.specs.Prelude.{◌≡◌, ◌≤◌, List, Some, IfOk, IfSome, OnOk, option_map};
+ghost use Rattle.sms_centre_reports.specs.open_reports.Entries.{receipt_key};
+ghost use Rattle.sms_centre_reports.specs.open_reports.ReportsInMemory.{receipts_at};
+ghost use Rattle.sms_centre_reports.specs.open_reports.Pending.{Tells};
+ghost use Rattle.sms_centre_reports.specs.open_reports.Serving.{is_ready, is_session, next_among, next_from, next_in, serving};
+ghost use Rattle.sms_rows.specs.index.First.{first_such};
+ghost use Rattle.sms_centre_rows.specs.declared.messages.message.MessageRow.{MessageRow as MessageRowOf};
+ghost use Rattle.sms_centre_rows.specs.reports.Receipts.{Session, send_all, send_in, session_key};
+ghost use Rattle.sms_centre_rows.specs.reports.Reports.{reports_of};
+ghost use Rattle.sms_centre_rows.specs.declared.reports.report.ReportRow.{ReportRow as ReportRowOf};
+ghost use Rattle.sms_centre_reports.specs.sessions.Going.{earlier_going, going_of};
+ghost use Rattle.sms_rows.specs.table.Table.{Rises, row_at};
+ghost use Rattle.sms_centre_rows.specs.waiting.Revisions.{Revised};
+
+use crate::open_reports::{PendingReports, ReceiptEntry};
+use crate::sessions::desk::PendingDesk;
+use crate::sessions::session::Seat;
+use sms_base::{MessageId, Moment};
+use sms_centre_rows::reports::Delivery;
+use std::alloc::AllocError;
+
+// How many receipts may be unanswered in a session.
+const WINDOW: usize = 10;
+
+/// A receipt that goes, in the session of that number.
+#[derive(Clone, Copy)]
+pub(crate) struct Going {
+    pub(crate) session: u32,
+    pub(crate) receipt: ReceiptEntry,
+}
+
+impl PendingDesk {
+    /// Receipts that are due go, the oldest first, each in the first session that receives for its account, if that has room. It
+    /// costs what goes, and a look at each session.
+    pub fn send(&mut self, reports: &PendingReports, now: Moment) -> Result<(), AllocError>
+        ensures { (messages : List MessageRowOf) (t : Revised ReportRowOf) → Tells messages reports.now t → OnOk result (self.new ≡ send_all now messages (reports_of t) self.old) }
+    {
+        let mut first = 0;
+        'sending: loop {
+            let next = self.next(reports, first, now)?;
+            let Some(going) = next else {
+                return Ok(());
+            };
+            let Going { session, receipt } = going;
+            self.send_in(session, receipt.id)?;
+            first = receipt.place_behind()?;
+        }
+    }
+
+    // The receipt of the message goes in the session.
+    fn send_in(&mut self, number: u32, id: MessageId) -> Result<(), AllocError>
+        ensures { (s : Session) → row_at session_key number self.old.sessions ≡ Some s → OnOk result (self.new ≡ send_in id s self.old) }
+    {
+        let Some(seat) = self.session(number) else {
+            return Ok(());
+        };
+        let sent = seat.with(self.alloc, id)?;
+        self.put(sent)?;
+        self.deliveries.push(Delivery {
+            session: number,
+            id,
+        })?;
+        Ok(())
+    }
+
+    // The receipt from that place on that goes first, and the session in which it goes.
+    fn next(
+        &self,
+        reports: &PendingReports,
+        first: u64,
+        now: Moment,
+    ) -> Result<Option<Going>, AllocError>
+        ensures next { (messages : List MessageRowOf) (t : Revised ReportRowOf) → Tells messages reports.now t → IfOk result (λ going. going ≡ option_map going_of (next_among first now self.now.sessions reports.now.kept.accounts self.now.sessions)) }
+        ensures behind { IfOk result (λ going. IfSome going (λ g. first ≤ g.receipt.place)) }
+        ensures order { Rises session_key self.now.sessions }
+    {
+        let seats = self.sessions.as_slice();
+        let mut best = None;
+        for seat in seats {
+            let going = self.next_in(reports, seat, first, now)?;
+            best = earlier(best, going);
+        }
+        Ok(best)
+    }
+
+    // The receipt from that place on that goes first in the session.
+    fn next_in(
+        &self,
+        reports: &PendingReports,
+        seat: &Seat,
+        first: u64,
+        now: Moment,
+    ) -> Result<Option<Going>, AllocError>
+        ensures behind { IfOk result (λ going. IfSome going (λ g. first ≤ g.receipt.place)) }
+        ensures next { (messages : List MessageRowOf) (t : Revised ReportRowOf) → Tells messages reports.now t → IfOk result (λ going. going ≡ option_map going_of (next_from seat.now (next_in first now self.now.sessions reports.now.kept.accounts seat.now))) }
+    {
+        if !self.serves(seat) || seat.unanswered().len() >= WINDOW {
+            return Ok(None);
+        }
+        match self.first_ready(reports, seat.account(), first, now)? {
+            Some(receipt) => Ok(Some(Going {
+                session: seat.number(),
+                receipt,
+            })),
+            None => Ok(None),
+        }
+    }
+
+    // Whether it is the first session that receives for its account.
+    fn serves(&self, seat: &Seat) -> bool
+        ensures { result ≡ is_session seat.now (serving seat.now.account self.now.sessions) }
+    {
+        match self.serving(seat.account()) {
+            Some(number) => number == seat.number(),
+            None => false,
+        }
+    }
+
+    // The first receipt of the account from that place on that is due and was not sent yet.
+    fn first_ready(
+        &self,
+        reports: &PendingReports,
+        account: &[u8],
+        first: u64,
+        now: Moment,
+    ) -> Result<Option<ReceiptEntry>, AllocError>
+        ensures behind { IfOk result (λ receipt. IfSome receipt (λ r. first ≤ r.place)) }
+        ensures next { (messages : List MessageRowOf) (t : Revised ReportRowOf) → Tells messages reports.now t → IfOk result (λ receipt. receipt ≡ first_such (is_ready first now self.now.sessions) (receipts_at account.now reports.now.kept.accounts)) }
+    {
+        let mut from = first;
+        'passing: loop {
+            let Some(receipt) = reports.first_due(account, from, now) else {
+                return Ok(None);
+            };
+            if !self.is_unanswered(receipt.id) {
+                return Ok(Some(receipt));
+            }
+            from = receipt.place_behind()?;
+        }
+    }
+}
+
+// The one of the two whose receipt was made earlier.
+fn earlier(one: Option<Going>, other: Option<Going>) -> Option<Going>
+    ensures { result ≡ earlier_going one other }
+{
+    let Some(first) = one else {
+        return other;
+    };
+    let Some(second) = other else {
+        return Some(first);
+    };
+    if first.receipt.place <= second.receipt.place {
+        Some(first)
+    } else {
+        Some(second)
+    }
+}

@@ -1,0 +1,105 @@
+-- The references under which the centre splits messages (3GPP TS 23.040 9.2.3.24.8), of each source and handset.
+use Rattle.std.specs.Prelude.{ℕ, zero, suc, ◌+◌, ◌%◌, ◌==◌, ◌&&◌, ◌||◌, not, List, [], ◌∷◌, ◌++◌, length, min, Bool, true, false, if◌then◌else◌, Option, Some, None}
+use Rattle.std.specs.Str.{bytes_eq}
+use Rattle.sms_base.specs.declared.address.Address.{Address}
+use Rattle.sms_base.specs.declared.final_state.FinalState.{FinalState}
+use Rattle.sms_base.specs.declared.final_state.FinalState.TheVariants.{Delivered, Expired, Deleted, Undeliverable}
+use Rattle.sms_concat.specs.declared.concat_key.ConcatKey.{ConcatKey}
+use Rattle.sms_concat.specs.declared.concat_key.ConcatReference.{ConcatReference}
+use Rattle.sms_concat.specs.declared.concat_key.ConcatReference.TheVariants.{EightBit, SixteenBit}
+use Rattle.sms_centre_rows.specs.declared.messages.message.MessageRow.{MessageRow}
+use Rattle.sms_centre_rows.specs.declared.messages.part.PartRow.{PartRow}
+use Rattle.sms_base.specs.AddressKind.{type_number}
+use Rattle.sms_centre_rows.specs.messages.Messages.{message_at}
+
+abbrev pub is_same_address : Address → Address → Bool
+is_same_address a b = (type_number a.ton == type_number b.ton) && ((a.npi == b.npi) && bytes_eq a.digits b.digits)
+
+abbrev pub is_between : Address → List ℕ → MessageRow → Bool
+is_between source handset m = is_same_address m.source source && bytes_eq m.handset handset
+
+abbrev pub is_delivered : Option FinalState → Bool
+is_delivered None = false
+is_delivered (Some Delivered) = true
+is_delivered (Some Expired) = false
+is_delivered (Some Deleted) = false
+is_delivered (Some Undeliverable) = false
+
+abbrev pub is_among : ℕ → List ℕ → Bool
+is_among n [] = false
+is_among n (m ∷ ms) = (m == n) || is_among n ms
+
+abbrev pub optional : Option ℕ → List ℕ → List ℕ
+optional None ns = ns
+optional (Some n) ns = n ∷ ns
+
+-- what messages that are not wholly delivered hold
+abbrev pub held_splits : Address → List ℕ → List MessageRow → List ℕ
+held_splits source handset [] = []
+held_splits source handset (m ∷ ms) =
+    if is_between source handset m && not (is_delivered m.state) then optional m.split_reference (held_splits source handset ms)
+    else held_splits source handset ms
+
+-- the last one that was given; numbers of messages rise
+abbrev pub or_later : Option ℕ → Option ℕ → Option ℕ
+or_later earlier None = earlier
+or_later earlier (Some n) = Some n
+
+abbrev pub last_split : Address → List ℕ → Option ℕ → List MessageRow → Option ℕ
+last_split source handset last [] = last
+last_split source handset last (m ∷ ms) =
+    last_split source handset (if is_between source handset m then or_later last m.split_reference else last) ms
+
+-- ---- the references of headers that came with a submission
+
+abbrev pub wide_reference : ConcatReference → Option ℕ
+wide_reference (EightBit reference) = None
+wide_reference (SixteenBit reference) = Some reference
+
+abbrev pub wide_in : Option ConcatKey → Option ℕ
+wide_in None = None
+wide_in (Some key) = wide_reference key.reference
+
+-- the header came with the message where the message has no split reference
+abbrev pub unless_split : Option ℕ → Option ℕ → Option ℕ
+unless_split None wide = wide
+unless_split (Some split) wide = None
+
+abbrev pub own_wide : Address → List ℕ → PartRow → Option MessageRow → Option ℕ
+own_wide source handset p None = None
+own_wide source handset p (Some m) = if is_between source handset m then unless_split m.split_reference (wide_in p.key) else None
+
+abbrev pub own_splits : Address → List ℕ → List MessageRow → List PartRow → List ℕ
+own_splits source handset messages [] = []
+own_splits source handset messages (p ∷ ps) =
+    optional (own_wide source handset p (message_at p.id messages)) (own_splits source handset messages ps)
+
+-- ---- the next one
+
+abbrev pub start_after : Option ℕ → ℕ
+start_after None = 0
+start_after (Some n) = (n + 1) % 65536
+
+-- the first of so many from that one on, around from 65535 to 0, that is not barred
+unfoldable pub first_free_split : ℕ → ℕ → List ℕ → Option ℕ
+first_free_split zero reference barred = None
+first_free_split (suc turns) reference barred =
+    if is_among reference barred then first_free_split turns ((reference + 1) % 65536) barred else Some reference
+
+-- one more than are barred are enough to be tried, and all that there are
+abbrev pub turns_for : List ℕ → ℕ
+turns_for barred = min 65536 (length barred + 1)
+
+abbrev pub next_among : Option ℕ → List ℕ → Option ℕ
+next_among last barred = first_free_split (turns_for barred) (start_after last) barred
+
+abbrev pub next_split : Address → List ℕ → List MessageRow → List PartRow → Option ℕ
+next_split source handset messages parts =
+    next_among (last_split source handset None messages)
+    (held_splits source handset messages ++ own_splits source handset messages parts)
+
+-- ---- a header that came with a submission: the centre gave its reference to a message that is not wholly delivered
+
+abbrev pub is_taken : Option ℕ → List ℕ → Bool
+is_taken None held = false
+is_taken (Some reference) held = is_among reference held

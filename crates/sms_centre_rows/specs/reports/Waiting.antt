@@ -1,0 +1,55 @@
+-- All that waits for a handset: parts of pending messages that aren't done, and open status reports, in the order of messages and
+-- numbers.
+use Rattle.std.specs.Prelude.{◌≡◌, ℕ, ◌&&◌, List, [], ◌∷◌, Bool, false, if◌then◌else◌, Option, Some, None}
+use Rattle.sms_base.specs.Among.{Among}
+use Rattle.std.specs.Str.{bytes_eq}
+use Rattle.sms_rows.specs.table.Table.{put, without}
+use Rattle.sms_centre_rows.specs.declared.messages.message.MessageRow.{MessageRow}
+use Rattle.sms_centre_rows.specs.declared.messages.part.PartRow.{PartRow}
+use Rattle.sms_centre_rows.specs.declared.messages.priority.PriorityRow.{PriorityRow}
+use Rattle.sms_centre_rows.specs.messages.Messages.{message_at}
+use Rattle.sms_centre_rows.specs.messages.OpenParts.{parts_waiting}
+use Rattle.sms_centre_rows.specs.declared.reports.report.ReportRow.{ReportRow}
+use Rattle.sms_centre_rows.specs.reports.Reports.{is_open_status, status_reference}
+use Rattle.sms_centre_rows.specs.declared.waiting.load.Load.{Load}
+use Rattle.sms_centre_rows.specs.waiting.Keys.{load_key}
+
+-- it goes to the handset that sent the message
+abbrev pub reports_to : List ℕ → ReportRow → Option MessageRow → Bool
+reports_to handset r None = false
+reports_to handset r (Some m) = is_open_status r && bytes_eq m.source.digits handset
+
+-- number 0, and the lowest priority
+abbrev pub report_load : ReportRow → Load
+report_load r = record { id = r.id; number = 0; reference = status_reference r.kind; priority = 0; due = r.progress.due }
+
+abbrev pub with_reports : List ℕ → List MessageRow → List ReportRow → List Load → List Load
+with_reports handset messages [] loads = loads
+with_reports handset messages (r ∷ rs) loads =
+    if reports_to handset r (message_at r.id messages) then put load_key (report_load r) (with_reports handset messages rs loads)
+    else with_reports handset messages rs loads
+
+abbrev pub waiting_for : List ℕ → List MessageRow → List PriorityRow → List PartRow → List ReportRow → List Load
+waiting_for handset messages priorities parts reports =
+    with_reports handset messages reports (parts_waiting handset messages priorities parts)
+
+-- ---- what becomes of it
+
+-- what waits of a status report, if it stands there
+abbrev pub report_wait : List ℕ → List MessageRow → Option ReportRow → Option Load
+report_wait handset messages None = None
+report_wait handset messages (Some r) = if reports_to handset r (message_at r.id messages) then Some (report_load r) else None
+
+-- under the key waits that, or nothing
+abbrev pub waiting_as : ℕ → Option Load → List Load → List Load
+waiting_as key None loads = without load_key key loads
+waiting_as key (Some l) loads = put load_key l loads
+
+-- no message has two reports
+abbrev pub Alone : List ReportRow → Type 0
+Alone reports = (r s : ReportRow) → Among r reports → Among s reports → r.id ≡ s.id → r ≡ s
+
+-- no other report has its place, and no other is of its message
+pub record IsNew (reports : List ReportRow) (r : ReportRow) : Type 0 where
+  pub place : (s : ReportRow) → Among s reports → ¬ (s.place ≡ r.place)
+  pub message : (s : ReportRow) → Among s reports → ¬ (s.id ≡ r.id)

@@ -1,0 +1,37 @@
+//! The messages that were accepted.
+ghost use Rattle.std.specs.Prelude.{◌≡◌};
+ghost use Rattle.sms_centre_rows.specs.messages.Messages.{message_key};
+
+use sms_base::{Address, Digits, FinalState, MessageId, Moment, Originator, Wish};
+use sms_rows::table::{Key, Row};
+
+/// A message that was accepted.
+#[derive(Debug, Drop)]
+pub struct MessageRow {
+    pub id: MessageId,
+    pub originator: Originator,
+    /// TP-OA of its parts.
+    pub source: Address,
+    /// The digits 0 to 9 of its destination.
+    pub handset: Digits,
+    pub data_coding_scheme: u8,
+    pub protocol_identifier: u8,
+    pub wish: Wish,
+    pub submitted: Moment,
+    /// From when on it is not delivered any more.
+    pub limit: Moment,
+    /// The reference of its parts' headers, where the centre split it.
+    pub split_reference: Option<u16>,
+    /// How it ended; a message without an end is pending.
+    pub state: Option<FinalState>,
+    /// When it ended.
+    pub done: Option<Moment>,
+}
+
+impl Row for MessageRow {
+    ghost key = { message_key };
+
+    fn key(&self) -> Key {
+        Key::of(self.id.number())
+    }
+}

@@ -1,5 +1,0 @@
-use Rattle.sms_centre_rules.proofs.Resting.{adopted_is}
-use Rattle.sms_centre_rules.proofs.laws.what_is_adopted_is_what_happened.Goals as goal
-
-pub returns : goal.returns
-returns c = adopted_is

@@ -1,0 +1,70 @@
+-- Through every event the changes lead from the rows as they were to the rows as they stand.
+use Rattle.std.proofs.Common.{◌≡◌, refl, sym, ◌∙◌, ap}
+use Rattle.sms_rows.proofs.table.SinceLaws.{commits}
+use Rattle.sms_centre_rows.specs.messages.Messages.{message_key, part_key, part_reaching, priority_key}
+use Rattle.sms_centre_rows.specs.reports.Reports.{report_key, report_reaching}
+use Rattle.sms_centre_rows.specs.waiting.Keys.{handset_key, reference_key}
+use Rattle.sms_centre_rows.proofs.waiting.Revising.{revisions_commit}
+use Rattle.sms_centre_spec.specs.declared.event.CentreEvent.{CentreEvent}
+use Rattle.sms_centre_spec.specs.declared.rows.Rows.{Rows}
+use Rattle.sms_centre_spec.specs.Draft.{Core, Draft, Store, changes_in, core_of, rows_after, rows_of}
+use Rattle.sms_centre_spec.specs.CentreEvent.{happened}
+use Rattle.sms_centre_spec.specs.Planning.{adopted, outcome_of}
+use Rattle.sms_centre_spec.proofs.Stages.{Closed, happened_keeps}
+
+-- the rows on which the store stands
+abbrev pub base_of : Store → Rows
+base_of s = record {
+  messages = s.messages.messages.base;
+  parts = s.messages.parts.base;
+  references = s.givings.references.base;
+  handsets = s.givings.handsets.base;
+  reports = s.reports.base;
+  priorities = s.messages.priorities.base;
+  setup = s.setup;
+}
+
+abbrev pub StandsOn : Rows → Store → Type 0
+StandsOn base s = base_of s ≡ base
+
+stands_closed : (base : Rows) → Closed (StandsOn base)
+stands_closed base = record {
+  message = λ m s k. k;
+  part = λ p s k. k;
+  progress = λ p q s k. k;
+  priority = λ p s k. k;
+  given = λ h r s k. k;
+  report = λ r s k. k;
+  report_progress = λ r q s k. k;
+  moment = λ n s k. k;
+}
+
+pub happened_stands : (event : CentreEvent) (c : Core) → StandsOn c.rows (happened event c).store
+happened_stands event c = happened_keeps (StandsOn c.rows) (stands_closed c.rows) event c refl
+
+-- what is committed leads to the rows as they stand
+pub store_commits : (s : Store) → rows_after (changes_in s) (base_of s) ≡ rows_of s
+store_commits s =
+    let m = commits message_key s.messages.messages.news s.messages.messages.base in
+    let p = revisions_commit part_key part_reaching s.messages.parts.news s.messages.parts.base in
+    let r = commits reference_key s.givings.references.news s.givings.references.base in
+    let h = commits handset_key s.givings.handsets.news s.givings.handsets.base in
+    let t = revisions_commit report_key report_reaching s.reports.news s.reports.base in
+    let q = commits priority_key s.messages.priorities.news s.messages.priorities.base in
+    ap (λ xs. record (rows_after (changes_in s) (base_of s)) { messages = xs }) m
+    ∙ ap (λ xs. record (rows_after (changes_in s) (base_of s)) { messages = (rows_of s).messages; parts = xs }) p
+    ∙ ap (λ xs. record (rows_after (changes_in s) (base_of s)) { messages = (rows_of s).messages; parts = (rows_of s).parts; references = xs }) r
+    ∙ ap (λ xs. record (rows_of s) { handsets = xs; reports = (rows_after (changes_in s) (base_of s)).reports; priorities = (rows_after (changes_in s) (base_of s)).priorities }) h
+    ∙ ap (λ xs. record (rows_of s) { reports = xs; priorities = (rows_after (changes_in s) (base_of s)).priorities }) t
+    ∙ ap (λ xs. record (rows_of s) { priorities = xs }) q
+
+pub happened_rests : (event : CentreEvent) (c : Core) → rows_after (changes_in (happened event c).store) c.rows ≡ rows_of (happened event c).store
+happened_rests event c =
+    let s : Store = (happened event c).store in
+    ap (λ (base : Rows). rows_after (changes_in s) base) (sym (happened_stands event c)) ∙ store_commits s
+
+-- a centre that adopts what an event leads to is the centre after that event
+pub adopted_is : (event : CentreEvent) (c : Core) → adopted (outcome_of (happened event c)) c ≡ core_of (happened event c)
+adopted_is event c =
+    let d : Draft = happened event c in
+    ap (λ (r : Rows). record { rows = r; moment = d.store.moment; lines = d.air.lines; sessions = d.desk.sessions }) (happened_rests event c)

@@ -1,0 +1,93 @@
+-- What applications ask for: submit_sm, query_sm and cancel_sm (SMPP v3.4 4.4, 4.8, 4.9). Each has one answer.
+use Rattle.std.specs.Prelude.{ℕ, zero, suc, ◌&&◌, List, [], ◌∷◌, Bool, false, if◌then◌else◌, Option, Some, None, Result, Ok, Err}
+use Rattle.sms_base.specs.declared.address.Address.{Address}
+use Rattle.sms_base.specs.declared.final_state.FinalState.TheVariants.{Deleted}
+use Rattle.smpp_pdu.specs.declared.cancel.CancelSm.{CancelSm}
+use Rattle.smpp_pdu.specs.declared.message.Message.{Message}
+use Rattle.smpp_pdu.specs.declared.query.QuerySm.{QuerySm}
+use Rattle.smpp_pdu.specs.declared.status.CommandStatus.{CommandStatus}
+use Rattle.smpp_pdu.specs.declared.status.CommandStatus.TheVariants.{ESME_RSYSERR, ESME_RINVMSGID, ESME_RCANCELFAIL, ESME_RMSGQFUL, ESME_RSUBMITFAIL}
+use Rattle.sms_centre_rows.specs.declared.messages.message.MessageRow.{MessageRow}
+use Rattle.sms_centre_rows.specs.messages.Messages.{is_pending, message_at, next_id}
+use Rattle.sms_centre_rows.specs.messages.SplitReferences.{is_same_address}
+use Rattle.sms_centre_rows.specs.reports.Receipts.{is_account}
+use Rattle.sms_centre_spec.specs.declared.answer.CentreAnswer.TheVariants.{Submitted, Queried, Cancelled, Refused}
+use Rattle.sms_intake.specs.declared.submission.Account.{Account}
+use Rattle.sms_intake.specs.declared.submission.Submission.{Submission}
+use Rattle.sms_centre_spec.specs.Numbers.{id_in}
+use Rattle.sms_intake.specs.SmppIntake.{from_pdu, source_in, is_empty}
+use Rattle.sms_centre_spec.specs.Submitting.{accept, is_reference_taken}
+use Rattle.sms_centre_spec.specs.Ends.{end}
+use Rattle.sms_centre_spec.specs.Draft.{Draft, Store, answer_with, in_store, messages_in}
+
+abbrev pub refused : CommandStatus → Draft → Draft
+refused status d = answer_with (Refused status) d
+
+-- the account at a place
+abbrev pub account_at : ℕ → List Account → Option Account
+account_at place [] = None
+account_at zero (a ∷ others) = Some a
+account_at (suc place) (a ∷ others) = account_at place others
+
+-- ---- submit_sm
+
+abbrev pub accepted : ℕ → Option Store → Draft → Draft
+accepted id None d = refused ESME_RMSGQFUL d
+accepted id (Some s) d = answer_with (Submitted id) (in_store s d)
+
+abbrev pub submission_came : Result Submission CommandStatus → Draft → Draft
+submission_came (Err status) d = refused status d
+submission_came (Ok s) d =
+    if is_reference_taken s d.store then refused ESME_RSUBMITFAIL d
+    else accepted (next_id (messages_in d.store)) (accept s d.store) d
+
+abbrev pub submit_by : Option Account → Message → Draft → Draft
+submit_by None m d = refused ESME_RSYSERR d
+submit_by (Some account) m d = submission_came (from_pdu account d.store.moment m) d
+
+abbrev pub submit : ℕ → Message → Draft → Draft
+submit place m d = submit_by (account_at place d.store.setup.accounts) m d
+
+-- ---- the message that is asked for: of this account and source
+
+abbrev pub is_from : Option Address → MessageRow → Bool
+is_from None m = false
+is_from (Some source) m = is_same_address source m.source
+
+abbrev pub own_message : Account → Option Address → Option MessageRow → Option MessageRow
+own_message account source None = None
+own_message account source (Some m) = if is_account account.name m.originator && is_from source m then Some m else None
+
+abbrev pub message_numbered : Option ℕ → List MessageRow → Option MessageRow
+message_numbered None ms = None
+message_numbered (Some id) ms = message_at id ms
+
+-- ---- query_sm
+
+abbrev pub queried : Option MessageRow → Draft → Draft
+queried None d = refused ESME_RINVMSGID d
+queried (Some m) d = answer_with (Queried m.id m.state m.done) d
+
+abbrev pub query_by : Option Account → QuerySm → Draft → Draft
+query_by None q d = refused ESME_RSYSERR d
+query_by (Some account) q d =
+    queried (own_message account (source_in account.address q.source) (message_numbered (id_in q.message_id) (messages_in d.store))) d
+
+abbrev pub query : ℕ → QuerySm → Draft → Draft
+query place q d = query_by (account_at place d.store.setup.accounts) q d
+
+-- ---- cancel_sm: by its number alone, and not once it has ended
+
+abbrev pub cancelled : Option MessageRow → Draft → Draft
+cancelled None d = refused ESME_RINVMSGID d
+cancelled (Some m) d =
+    if is_pending m then answer_with Cancelled (in_store (end Deleted m d.store) d) else refused ESME_RCANCELFAIL d
+
+abbrev pub cancel_by : Option Account → CancelSm → Draft → Draft
+cancel_by None c d = refused ESME_RSYSERR d
+cancel_by (Some account) c d =
+    if is_empty c.message_id then refused ESME_RCANCELFAIL d
+    else cancelled (own_message account (source_in account.address c.source) (message_numbered (id_in c.message_id) (messages_in d.store))) d
+
+abbrev pub cancel : ℕ → CancelSm → Draft → Draft
+cancel place c d = cancel_by (account_at place d.store.setup.accounts) c d

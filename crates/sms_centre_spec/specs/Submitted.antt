@@ -1,0 +1,56 @@
+-- What an event submits: a submission that comes of it passed all checks that need no rows.
+use Rattle.std.specs.Prelude.{◌≡◌, ℕ, List, Option, Some, None, Result, Ok, Err}
+use Rattle.sms_base.specs.TimeStamp.{IsMoment}
+use Rattle.sms_link.specs.declared.ending.Upward.{Upward}
+use Rattle.sms_link.specs.declared.ending.Upward.TheVariants.{Opened, Ended}
+use Rattle.sms_link.specs.LinkTurn.{taken}
+use Rattle.sms_relay.specs.declared.fault.RelayFault.{RelayFault}
+use Rattle.sms_relay.specs.declared.frame.Rp.{Rp}
+use Rattle.sms_relay.specs.declared.frame.Rp.TheVariants.{DataUnit, AckUnit, ErrorUnit, Smma}
+use Rattle.sms_relay.specs.RelayReading.{up_at}
+use Rattle.sms_tpdu.specs.declared.carrier.Carrier.TheVariants.{InData}
+use Rattle.sms_tpdu.specs.TpduReading.{up_at as tpdu_up_at}
+use Rattle.smpp_pdu.specs.declared.message.Message.{Message}
+use Rattle.sms_centre_rows.specs.declared.waiting.line.Line.{Line}
+use Rattle.sms_centre_rows.specs.waiting.Lines.{line_of}
+use Rattle.sms_intake.specs.HandsetIntake.{from_read}
+use Rattle.sms_centre_spec.specs.declared.event.CentreEvent.{CentreEvent}
+use Rattle.sms_centre_spec.specs.declared.event.CentreEvent.TheVariants.{Submit, Query, Cancel, Bound, Unbound, DeliverAnswered, Frame, LinkUp, LinkDown, Tick}
+use Rattle.sms_intake.specs.declared.submission.Account.{Account}
+use Rattle.sms_intake.specs.declared.submission.Submission.{Submission}
+use Rattle.sms_centre_spec.specs.Draft.{Core}
+use Rattle.sms_centre_spec.specs.Requests.{account_at}
+use Rattle.sms_intake.specs.SmppIntake.{from_pdu}
+use Rattle.sms_centre_spec.specs.Standing.{IsSubmission}
+
+-- what a unit submits
+abbrev pub UnitGives : List ℕ → ℕ → Result Rp RelayFault → Type 0
+UnitGives handset moment (Ok (DataUnit reference centre tpdu)) = (u : Submission) → from_read handset moment (tpdu_up_at InData tpdu) ≡ Ok u → IsSubmission u
+UnitGives handset moment (Ok (AckUnit reference tpdu)) = Unit {0}
+UnitGives handset moment (Ok (ErrorUnit reference cause tpdu)) = Unit {0}
+UnitGives handset moment (Ok (Smma reference)) = Unit {0}
+UnitGives handset moment (Err fault) = Unit {0}
+
+-- the same of what goes up from a link
+abbrev pub UpGives : List ℕ → ℕ → Option Upward → Type 0
+UpGives handset moment None = Unit {0}
+UpGives handset moment (Some (Opened unit)) = UnitGives handset moment (up_at unit)
+UpGives handset moment (Some (Ended transfer ending)) = Unit {0}
+
+-- the same of what an account submits
+abbrev pub AccountGives : Option Account → ℕ → Message → Type 0
+AccountGives None moment m = Unit {0}
+AccountGives (Some account) moment m = (u : Submission) → from_pdu account moment m ≡ Ok u → IsSubmission u
+
+-- the same of an event, and a tick tells a moment
+abbrev pub Gives : CentreEvent → Core → Type 0
+Gives (Submit account m) c = AccountGives (account_at account c.rows.setup.accounts) c.moment m
+Gives (Query account q) c = Unit {0}
+Gives (Cancel account q) c = Unit {0}
+Gives (Bound session account receives) c = Unit {0}
+Gives (Unbound session) c = Unit {0}
+Gives (DeliverAnswered session id b) c = Unit {0}
+Gives (Frame handset octets tag) c = let l : Line = line_of handset c.lines in UpGives l.handset c.moment (taken octets l.link).out.up
+Gives (LinkUp handset) c = Unit {0}
+Gives (LinkDown handset) c = Unit {0}
+Gives (Tick now) c = IsMoment now

@@ -1,0 +1,91 @@
+//! Laws of the centre, over its definitions alone.
+ghost use Rattle.std.specs.Prelude.{◌≡◌, ◌<◌, ℕ, List, true, false, None, Some};
+ghost use Rattle.sms_base.specs.Among.{Among};
+ghost use Rattle.sms_base.specs.declared.final_state.FinalState.{FinalState};
+ghost use Rattle.sms_centre_rows.specs.messages.Messages.{ended, is_pending, message_at, part_at, part_key};
+ghost use Rattle.sms_centre_rows.specs.declared.messages.message.MessageRow.{MessageRow};
+ghost use Rattle.sms_centre_rows.specs.declared.messages.part.PartRow.{PartRow};
+ghost use Rattle.sms_centre_rows.specs.declared.messages.priority.PriorityRow.{PriorityRow};
+ghost use Rattle.sms_centre_rows.specs.reports.Receipts.{Session, session_key};
+ghost use Rattle.sms_centre_rows.specs.reports.Reports.{is_open_status, put_report, report_of, status_reference};
+ghost use Rattle.sms_centre_rows.specs.reports.Waiting.{IsNew};
+ghost use Rattle.sms_centre_rows.specs.declared.reports.delivery.Delivery.{Delivery};
+ghost use Rattle.sms_centre_rows.specs.declared.reports.report.ReportRow.{ReportRow};
+ghost use Rattle.sms_rows.specs.table.Table.{Rises, row_at};
+ghost use Rattle.sms_centre_rows.specs.waiting.References.{handset_of};
+ghost use Rattle.sms_centre_rows.specs.waiting.SoundGivings.{IsNumber};
+ghost use Rattle.sms_centre_rows.specs.declared.waiting.line.Sent.{Sent};
+ghost use Rattle.sms_centre_rows.specs.declared.waiting.progress.Progress.{Progress};
+ghost use Rattle.smpp_pdu.specs.declared.message.Message.{Message};
+ghost use Rattle.sms_centre_spec.specs.declared.answer.CentreAnswer.TheVariants.{Submitted};
+ghost use Rattle.sms_centre_spec.specs.declared.event.CentreEvent.{CentreEvent};
+ghost use Rattle.sms_centre_spec.specs.declared.event.CentreEvent.TheVariants.{Submit};
+ghost use Rattle.sms_centre_spec.specs.declared.rows.Rows.{Rows};
+ghost use Rattle.sms_centre_spec.specs.declared.setup.Setup.{Setup};
+ghost use Rattle.sms_centre_spec.specs.CentreEvent.{happened, recovered, started};
+ghost use Rattle.sms_centre_spec.specs.Draft.{Core, Store, core_of, handsets_in, messages_in, parts_in, reports_in, with_given, with_message, with_part, with_part_at, with_priority, with_report_at, with_reports};
+ghost use Rattle.sms_centre_spec.specs.Held.{SoundHeld};
+ghost use Rattle.sms_centre_spec.specs.Keeping.{Keeps};
+ghost use Rattle.sms_centre_spec.specs.Planning.{adopted, outcome_of};
+ghost use Rattle.sms_centre_spec.specs.SoundCore.{AreDifferent, Brings, IsEvent, IsReceiptRow, IsSession, IsSoundCore};
+ghost use Rattle.sms_centre_spec.specs.SoundRows.{IsSetup, IsSound, first_rows};
+ghost use Rattle.sms_centre_spec.specs.Submitting.{reference_for};
+
+/// A centre that adopts what an event leads to is the centre after that event: the changes say all that became of the rows.
+pub fn what_is_adopted_is_what_happened()
+    ensures { (event : CentreEvent) (c : Core) → adopted (outcome_of (happened event c)) c ≡ core_of (happened event c) }
+{}
+
+/// A sound centre is sound after every event: its rows are, no reference was given later than now, and what is under way on
+/// each line is a part of a message to that handset or the status report of one of its own, under the reference that its row
+/// keeps. A handset that the event names has a number.
+pub fn a_sound_centre_stays_sound()
+    ensures { (event : CentreEvent) (c : Core) → IsSoundCore c → IsEvent event → IsSoundCore (core_of (happened event c)) }
+{}
+
+/// A centre that recovers or starts with sound rows is sound, and the first rows of a new store are.
+pub fn a_centre_begins_sound()
+    ensures recovered { (rows : Rows) (handsets : List (List ℕ)) (sessions : List Session) → IsSound rows → ((number : List ℕ) → Among number handsets → IsNumber number) → AreDifferent handsets
+        → Rises session_key sessions → ((session : Session) → Among session sessions → IsSession rows session) → IsSoundCore (recovered rows handsets sessions) }
+    ensures started { (rows : Rows) (handsets : List (List ℕ)) (sessions : List Session) → IsSound rows → ((number : List ℕ) → Among number handsets → IsNumber number) → AreDifferent handsets
+        → Rises session_key sessions → ((session : Session) → Among session sessions → IsSession rows session) → IsSoundCore (started rows handsets sessions) }
+    ensures first { (setup : Setup) → IsSetup setup → IsSound (first_rows setup) }
+{}
+
+/// After every event no message, part or report is lost, a message that had ended is as it was, and each part and report goes
+/// under its reference and keeps its octets; all that waits for a handset holds references apart; each receipt that goes out is
+/// one of the rows; and each frame that goes out was made for a part of one of the handset's messages, or for the status report
+/// of one of its own, under the reference that its row has, or for an answer, or for nothing.
+pub fn an_event_keeps_its_promises()
+    ensures kept { (event : CentreEvent) (c : Core) → IsSoundCore c → IsEvent event → Keeps c.rows (core_of (happened event c)).rows }
+    ensures apart { (event : CentreEvent) (c : Core) → IsSoundCore c → IsEvent event → SoundHeld (happened event c).store }
+    ensures receipts { (event : CentreEvent) (c : Core) → IsSoundCore c → IsEvent event
+        → (delivery : Delivery) → Among delivery (happened event c).desk.deliveries → IsReceiptRow (core_of (happened event c)).rows delivery.id }
+    ensures frames { (event : CentreEvent) (c : Core) → IsSoundCore c → IsEvent event
+        → (sent : Sent) → Among sent (happened event c).air.frames → Brings sent.handset sent.frame.carried (core_of (happened event c)).rows }
+{}
+
+/// The number that a submission is answered with is that of a message that stands in the rows.
+pub fn an_answered_submission_stands()
+    ensures { (account : ℕ) (message : Message) (c : Core) (id : ℕ) → (happened (Submit account message) c).answer ≡ Some (Submitted id)
+        → (row : MessageRow) × (message_at id (core_of (happened (Submit account message) c)).rows.messages ≡ Some row) }
+{}
+
+/// All that waits for a handset holds references that were given there, no two the same: also once a message was entered, the
+/// next reference was given for a part or a status report, a report was made that waits for no handset, a part or a report is so
+/// far, or a message has ended.
+pub fn references_stay_apart()
+    ensures entered { (s : Store) (m : MessageRow) (q : PriorityRow) → SoundHeld s → q.id ≡ m.id → ((n : ℕ) → part_at m.id n (parts_in s) ≡ None) → report_of m.id (reports_in s) ≡ None → IsNumber m.handset
+        → SoundHeld (with_priority q (with_message m s)) }
+    ensures part_given { (s : Store) (m : MessageRow) (p : PartRow) → SoundHeld s → message_at p.id (messages_in s) ≡ Some m → is_pending m ≡ true → p.progress.is_done ≡ false → 0 < p.number → p.number < 256
+        → reference_for (handset_of m.handset (handsets_in s)) s ≡ Some p.reference → SoundHeld (with_part p (with_given (handset_of m.handset (handsets_in s)) p.reference s)) }
+    ensures report_made { (s : Store) (r : ReportRow) → SoundHeld s → IsNew (reports_in s) r → is_open_status r ≡ false → SoundHeld (with_reports (put_report r s.reports) s) }
+    ensures status_given { (s : Store) (m : MessageRow) (r : ReportRow) → SoundHeld s → IsNew (reports_in s) r → message_at r.id (messages_in s) ≡ Some m → IsNumber m.source.digits → is_open_status r ≡ true
+        → reference_for (handset_of m.source.digits (handsets_in s)) s ≡ Some (status_reference r.kind)
+        → SoundHeld (with_reports (put_report r s.reports) (with_given (handset_of m.source.digits (handsets_in s)) (status_reference r.kind) s)) }
+    ensures part_far { (s : Store) (p : PartRow) (progress : Progress) → SoundHeld s → row_at part_key (part_key p) (parts_in s) ≡ Some p → (progress.is_done ≡ false → p.progress.is_done ≡ false)
+        → SoundHeld (with_part_at p progress s) }
+    ensures report_far { (s : Store) (r : ReportRow) (progress : Progress) → SoundHeld s → report_of r.id (reports_in s) ≡ Some r → (progress.is_done ≡ false → r.progress.is_done ≡ false)
+        → SoundHeld (with_report_at r progress s) }
+    ensures ended { (s : Store) (m : MessageRow) (state : FinalState) (moment : ℕ) → SoundHeld s → message_at m.id (messages_in s) ≡ Some m → SoundHeld (with_message (ended state moment m) s) }
+{}

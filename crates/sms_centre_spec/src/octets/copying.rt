@@ -1,0 +1,46 @@
+//! Copies of what is handed in.
+ghost use Rattle.std.specs.Prelude.{◌≡◌, IfOk};
+
+use crate::Setup;
+use sms_base::{Listed, Octets};
+use sms_intake::Account;
+use std::alloc::{AllocError, Global};
+
+/// The octets, in memory of their own.
+pub fn copy_of_octets(alloc: Global, octets: &Octets) -> Result<Octets, AllocError>
+    ensures { IfOk result (λ copy. copy ≡ octets.now) }
+{
+    Octets::copy_of(alloc, octets.as_slice())
+}
+
+fn copy_of_account(alloc: Global, account: &Account) -> Result<Account, AllocError>
+    ensures { IfOk result (λ copy. copy ≡ account.now) }
+{
+    let name = copy_of_octets(alloc, &account.name)?;
+    Ok(Account {
+        name,
+        address: account.address,
+    })
+}
+
+fn copy_of_accounts(alloc: Global, accounts: &[Account]) -> Result<Vec<Account>, AllocError>
+    ensures { IfOk result (λ copies. copies.items ≡ accounts.now) }
+{
+    let mut copies = Vec::new(alloc);
+    for account in accounts {
+        copies.push(copy_of_account(alloc, account)?)?;
+    }
+    Ok(copies)
+}
+
+/// The setup, in memory of its own.
+pub fn copy_of_setup(alloc: Global, setup: &Setup) -> Result<Setup, AllocError>
+    ensures { IfOk result (λ copy. copy ≡ setup.now) }
+{
+    let accounts = copy_of_accounts(alloc, setup.accounts.as_slice())?;
+    Ok(Setup {
+        centre: setup.centre,
+        start: setup.start,
+        accounts: Listed::from_vec(accounts),
+    })
+}

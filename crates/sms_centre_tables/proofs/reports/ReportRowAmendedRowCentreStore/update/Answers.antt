@@ -1,5 +1,0 @@
-use Rattle.sms_centre_tables.proofs.reports.ReportRowAmendedRowCentreStore.update.Goals as goal
-
-pub returns-clause-done : goal.returns-clause-done
-returns-clause-done g c clean live inside =
-    rw (c.params-to_sql.ensures, c.params-to_sql-2.ensures, c.params-to_sql-3.ensures, c.params-to_sql-4.ensures, c.from.ensures, c.in_ok-place.ensures, c.in_ok-due.ensures) at (c.run.ensures.done clean live inside)

@@ -1,6 +1,0 @@
-use Rattle.std.proofs.Common.{rules}
-use Rattle.sms_centre_tables.specs.CentreSchema.{first_schema_is}
-use Rattle.sms_centre_tables.proofs.schema.is_first_schema.Goals as goal
-
-pub returns : goal.returns
-returns c is = rw first_schema_is (search rules)

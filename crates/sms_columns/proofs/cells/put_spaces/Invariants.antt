@@ -1,5 +1,0 @@
-use Rattle.std.proofs.Common.{◌≡◌, ◌++◌, replicate}
-use Rattle.sms_columns.proofs.cells.put_spaces.Given as goal
-
-abbrev pub invariant-loop : goal.invariant-loop
-invariant-loop l = l.out ≡ l.fn.out ++ replicate l.counter 32

@@ -1,7 +1,0 @@
-//! Laws of how a script's course goes on.
-ghost use Rattle.sms_course_growth.specs.Growth.{GrowthLaw};
-
-/// Every event of a script whose centre is sound keeps what the course tells, where what the centre is told is an event.
-pub fn an_event_goes_on()
-    ensures { GrowthLaw }
-{}

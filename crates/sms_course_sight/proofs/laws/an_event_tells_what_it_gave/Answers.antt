@@ -1,5 +1,0 @@
-use Rattle.sms_course_sight.proofs.Telling.{event_told}
-use Rattle.sms_course_sight.proofs.laws.an_event_tells_what_it_gave.Goals as goal
-
-pub returns : goal.returns
-returns c = record { tells = event_told }

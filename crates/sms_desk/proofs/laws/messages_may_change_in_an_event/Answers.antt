@@ -1,5 +1,0 @@
-use Rattle.sms_desk.proofs.Noting.{told_of_others}
-use Rattle.sms_desk.proofs.laws.messages_may_change_in_an_event.Goals as goal
-
-pub returns : goal.returns
-returns c = told_of_others

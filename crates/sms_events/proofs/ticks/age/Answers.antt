@@ -1,6 +1,0 @@
-use Rattle.sms_centre_rules.specs.CentreEvent.{expired}
-use Rattle.sms_centre_rules.specs.Draft.{in_store}
-use Rattle.sms_events.proofs.ticks.age.Goals as goal
-
-pub returns : goal.returns
-returns c = λ d shows holds. c.drop_old.ensures (in_store (expired d.store) d) (c.in_ok-expire.ensures d shows holds)

@@ -1,5 +1,0 @@
-use Rattle.sms_framing.proofs.Streams.{front_found}
-use Rattle.sms_framing.proofs.laws.front_is_the_frame.Goals as goal
-
-pub returns-clause-found : goal.returns-clause-found
-returns-clause-found c = front_found

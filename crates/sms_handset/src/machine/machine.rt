@@ -1,0 +1,127 @@
+//! A handset and the keep of its rows.
+ghost use Rattle.std.specs.Prelude.{◌≡◌, ◌⊎◌, IfOk, OnOk, OnErr, IsTrue};
+ghost use Rattle.sms_handset_draft.specs.Draft.{recovered, rows_after};
+ghost use Rattle.sms_handset_draft.specs.Outcome.{changes_in};
+ghost use Rattle.sms_handset_draft.specs.declared.rows.Rows.{Rows as RowsOf};
+ghost use Rattle.sms_handset.specs.Planning.{Fits, Plans, adopted};
+ghost use Rattle.sms_handset.specs.SoundCore.{IsSoundCore};
+ghost use Rattle.sms_handset.specs.SoundRows.{IsSetup, IsSound};
+ghost use Rattle.sms_handset.specs.machine.Stepping.{IsBeforeCommit, MakesTheChanges, MayStandAs, Steps, happened};
+ghost use Rattle.sms_handset.specs.machine.Starting.{IsBad};
+
+use crate::machine::start_error::StartError;
+use crate::machine::step_error::StepError;
+use crate::{Changes, Handset, HandsetEvent, PlanError, Planned, Rows, Setup};
+use sms_base::Listed;
+use sms_link::Outgoing;
+use sms_rows::keep::{Keep, KeepError};
+use std::alloc::Global;
+
+/// A handset over the keep of its rows.
+#[derive(Drop)]
+pub struct HandsetMachine<K: Keep<Rows = Rows, Changes = Changes> + Drop> {
+    pub keep: K,
+    pub handset: Handset,
+}
+
+fn is_empty(changes: &Changes) -> bool
+    ensures { IsTrue result → (rows : RowsOf) → rows_after (changes_in changes.now) rows ≡ rows }
+{
+    changes.entries.changes().is_empty()
+        && changes.last.changes().is_empty()
+        && changes.outbox.changes().is_empty()
+        && changes.marks.changes().is_empty()
+        && changes.counters.is_none()
+}
+
+// Commits the changes, if there are any.
+fn commit<K: Keep<Rows = Rows, Changes = Changes>>(
+    keep: &mut K,
+    changes: &Changes,
+) -> Result<(), KeepError>
+    requires { MakesTheChanges K.after }
+    ensures ok { K.is_honest keep.new → (rows : RowsOf) → K.holds keep.old rows → OnOk result (K.holds keep.new (rows_after (changes_in changes.now) rows)) }
+    ensures err { K.is_honest keep.new → (rows : RowsOf) → K.holds keep.old rows → OnErr result (K.holds keep.new rows ⊎ K.is_closed keep.new) }
+    // A stop inside it leaves the rows, or the rows with the changes, if one before it leaves the rows.
+    ensures stop { K.is_honest keep.new → (rows : RowsOf) → K.holds keep.old rows → ((left : RowsOf) → K.may_leave keep.old left → left ≡ rows) → (left : RowsOf) → K.may_leave keep.new left → (left ≡ rows) ⊎ (left ≡ rows_after (changes_in changes.now) rows) }
+{
+    if is_empty(changes) {
+        return Ok(());
+    }
+    keep.commit(changes)
+}
+
+/// The handset that starts with the rows of a keep.
+///
+/// The setup is the one with which the keep was opened. `BadRows` is told exactly where the rows are not sound.
+pub fn recover_from<K: Keep<Rows = Rows, Changes = Changes>>(
+    alloc: Global,
+    keep: &mut K,
+    setup: Setup,
+) -> Result<Handset, StartError>
+    requires { IsSetup setup }
+    ensures state { K.is_honest keep.new → (rows : RowsOf) → K.holds keep.old rows → rows.setup ≡ setup → IfOk result (λ handset. (handset.core ≡ recovered rows) × K.holds keep.new rows) }
+    ensures sound { IfOk result (λ handset. IsSoundCore handset.core) }
+    ensures bad { K.is_honest keep.new → (rows : RowsOf) → K.holds keep.old rows → rows.setup ≡ setup → IsBad result → ¬ IsSound rows }
+    ensures err { K.is_honest keep.new → (rows : RowsOf) → K.holds keep.old rows → OnErr result (K.holds keep.new rows ⊎ K.is_closed keep.new) }
+{
+    let found = keep.load()?;
+    let rows = Rows { setup, ..found };
+    Ok(Handset::recover(alloc, rows)?)
+}
+
+impl<K: Keep<Rows = Rows, Changes = Changes> + Drop> HandsetMachine<K> {
+    /// A machine over a handset that stands on the rows of the keep.
+    pub fn new(keep: K, handset: Handset) -> HandsetMachine<K>
+        ensures keep { result.keep ≡ keep }
+        ensures handset { result.handset ≡ handset }
+    {
+        HandsetMachine { keep, handset }
+    }
+
+    fn plan(&self, event: &HandsetEvent<'_>) -> Result<Planned, PlanError>
+        ensures plan { Plans result self.now.handset (happened event.now self.now.handset.core) }
+        ensures fits { IfOk result (λ planned. Fits planned self.now.handset) }
+        ensures sound { IsSoundCore self.now.handset.core → IfOk result (λ planned. IsSoundCore (adopted planned.outcome self.now.handset.core)) }
+    {
+        self.handset.plan(event)
+    }
+
+    /// Meets an event: plans it, commits what it changes, adopts it, and only then gives the frames to send.
+    ///
+    /// The keep is a handset's: a commit makes of its rows what a handset's changes make of them.
+    pub fn step(&mut self, event: &HandsetEvent<'_>) -> Result<Listed<Outgoing>, StepError>
+        requires { MakesTheChanges K.after }
+        // What the definition does with the event: its frames and the handset after it, or its refusal; the handset is as
+        // it was where there are no frames to send.
+        ensures step { Steps result self.old.handset self.new.handset (happened event.now self.old.handset.core) }
+        ensures sound { IsSoundCore self.old.handset.core → IsSoundCore self.new.handset.core }
+        // What leaves was committed.
+        ensures committed { K.is_honest self.new.keep → K.holds self.old.keep self.old.handset.core.rows → OnOk result (K.holds self.new.keep self.new.handset.core.rows) }
+        // What was refused, or found no memory, did not come to the store.
+        ensures before { IsBeforeCommit result → self.new.keep ≡ self.old.keep }
+        // A refused commit leaves the rows, or a closed keep.
+        ensures err { K.is_honest self.new.keep → K.holds self.old.keep self.old.handset.core.rows → OnErr result (K.holds self.new.keep self.old.handset.core.rows ⊎ K.is_closed self.new.keep) }
+        // A stop inside it leaves the rows from before the event or those after it.
+        ensures stop { K.is_honest self.new.keep → K.holds self.old.keep self.old.handset.core.rows → ((left : RowsOf) → K.may_leave self.old.keep left → left ≡ self.old.handset.core.rows) → (left : RowsOf) → K.may_leave self.new.keep left → MayStandAs left self.old.handset.core.rows (happened event.now self.old.handset.core) }
+    {
+        let planned = self.plan(event)?;
+        match commit(&mut self.keep, planned.changes()) {
+            Ok(()) => Ok(self.handset.adopt(planned)),
+            Err(error) => Err(StepError::Store(error)),
+        }
+    }
+
+    /// Recovers the handset from the rows, after a refused commit that left them. A closed keep has to be opened again
+    /// first.
+    pub fn reopen(&mut self, alloc: Global, setup: Setup) -> Result<(), StartError>
+        requires { IsSetup setup }
+        ensures state { K.is_honest self.new.keep → (rows : RowsOf) → K.holds self.old.keep rows → rows.setup ≡ setup → OnOk result ((self.new.handset.core ≡ recovered rows) × K.holds self.new.keep rows) }
+        ensures sound { OnOk result (IsSoundCore self.new.handset.core) }
+        ensures err { OnErr result (self.new.handset ≡ self.old.handset) }
+    {
+        let handset = recover_from(alloc, &mut self.keep, setup)?;
+        self.handset = handset;
+        Ok(())
+    }
+}

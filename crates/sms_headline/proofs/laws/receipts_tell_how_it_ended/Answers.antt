@@ -1,5 +1,0 @@
-use Rattle.sms_headline.proofs.Claimed.{once_is, receipts_are}
-use Rattle.sms_headline.proofs.laws.receipts_tell_how_it_ended.Goals as goal
-
-pub returns : goal.returns
-returns c = record { tells = receipts_are; once = once_is }

@@ -1,6 +1,0 @@
-use Rattle.std.proofs.Common.{◌≡◌, true}
-use Rattle.sms_inbox.specs.Groups.{all_numbers}
-use Rattle.sms_inbox.proofs.groups.has_every.Given as goal
-
-abbrev pub invariant-loop-below : goal.invariant-loop-below
-invariant-loop-below l = all_numbers l.below l.numbers ≡ true

@@ -1,6 +1,0 @@
-use Rattle.std.proofs.Common.{◌≡◌, ◌++◌, ◌∷◌, [], Some}
-use Rattle.sms_inbox.specs.Groups.{parts_to}
-use Rattle.sms_inbox.proofs.joining.parts_in.Given as goal
-
-abbrev pub invariant-loop-below : goal.invariant-loop-below
-invariant-loop-below l = parts_to l.below (l.members ++ l.part ∷ []) ≡ Some l.parts

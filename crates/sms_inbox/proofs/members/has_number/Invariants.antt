@@ -1,7 +1,0 @@
-use Rattle.std.proofs.Common.{◌≡◌, drop}
-use Rattle.sms_inbox.specs.Groups.{is_among}
-use Rattle.sms_inbox.specs.StoredParts.{numbers_of}
-use Rattle.sms_inbox.proofs.members.has_number.Given as goal
-
-abbrev pub invariant-loop-part : goal.invariant-loop-part
-invariant-loop-part l = is_among l.number (numbers_of (drop l.part-index l.parts)) ≡ is_among l.number (numbers_of l.parts)

@@ -1,6 +1,0 @@
-use Rattle.std.proofs.Common.{◌≡◌, drop}
-use Rattle.sms_judging.specs.Watching.{arrived_in}
-use Rattle.sms_judging.proofs.watch.Watch.has_arrived.Given as goal
-
-abbrev pub invariant-loop-member : goal.invariant-loop-member
-invariant-loop-member l = arrived_in l.number (drop l.member-index l.round) l.self.accepted.entries ≡ arrived_in l.number l.round l.self.accepted.entries

@@ -1,9 +1,0 @@
-use Rattle.sms_judging.proofs.Holding.{holders_on}
-use Rattle.sms_judging.proofs.watch.Watch.note_given.Goals as goal
-
-pub returns : goal.returns
-returns c = λ given down accepted w. record {
-  holders = holders_on given c.args.row.now c.goes_up.result c.args.self.now.holders.entries c.insert.new.self.entries c.goes_up.ensures w.holders c.in_ok-insert.ensures.updates.0;
-  rounds = w.rounds;
-  pairs = w.pairs;
-}

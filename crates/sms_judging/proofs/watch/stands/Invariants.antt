@@ -1,7 +1,0 @@
-use Rattle.std.proofs.Common.{◌≡◌, drop}
-use Rattle.sms_world.specs.Lists.{is_among}
-use Rattle.sms_judging.specs.Watching.{member_numbers}
-use Rattle.sms_judging.proofs.watch.stands.Given as goal
-
-abbrev pub invariant-loop-member : goal.invariant-loop-member
-invariant-loop-member l = is_among l.number (member_numbers (drop l.member-index l.round)) ≡ is_among l.number (member_numbers l.round)

@@ -1,5 +1,0 @@
-use Rattle.sms_link_runs.proofs.AnswerAlone.{acknowledged_bare}
-use Rattle.sms_link_runs.proofs.laws.a_taken_answer_is_acknowledged_alone.Goals as goal
-
-pub returns : goal.returns
-returns c = acknowledged_bare

@@ -1,6 +1,0 @@
-use Rattle.std.proofs.Common.{◌≡◌, drop}
-use Rattle.sms_outbox.specs.Offers.{first_due}
-use Rattle.sms_outbox.proofs.offers.first_due.Given as goal
-
-abbrev pub invariant-loop-view : goal.invariant-loop-view
-invariant-loop-view l = first_due l.moment (drop l.view-index l.outbox) ≡ first_due l.moment l.outbox

@@ -1,7 +1,0 @@
-use Rattle.std.proofs.Common.{◌≡◌, drop}
-use Rattle.sms_table.specs.Table.{all_applied}
-use Rattle.sms_outbox.specs.Keys.{out_key}
-use Rattle.sms_outbox.proofs.out_view.change_all.Given as goal
-
-abbrev pub invariant-loop-change : goal.invariant-loop-change
-invariant-loop-change l = all_applied out_key (drop l.change-index l.changes) l.outbox.rows ≡ all_applied out_key l.changes l.initial.outbox.rows

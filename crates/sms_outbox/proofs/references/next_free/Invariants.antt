@@ -1,6 +1,0 @@
-use Rattle.std.proofs.Common.{◌≡◌, ◌-◌}
-use Rattle.sms_outbox.specs.References.{free_from, next_free}
-use Rattle.sms_outbox.proofs.references.next_free.Given as goal
-
-abbrev pub invariant-loop-turn : goal.invariant-loop-turn
-invariant-loop-turn l = free_from (256 - l.turn) l.free l.held ≡ next_free l.reference l.held

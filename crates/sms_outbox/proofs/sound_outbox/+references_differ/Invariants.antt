@@ -1,5 +1,0 @@
-use Rattle.std.proofs.Common.{length}
-use Rattle.sms_outbox.proofs.sound_outbox.+references_differ.Given as goal
-
-abbrev pub decreases-references_differ : goal.decreases-references_differ
-decreases-references_differ l = length l.outbox.now

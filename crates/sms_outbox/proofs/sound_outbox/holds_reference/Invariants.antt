@@ -1,7 +1,0 @@
-use Rattle.std.proofs.Common.{◌≡◌, drop}
-use Rattle.sms_inbox.specs.Groups.{is_among}
-use Rattle.sms_outbox.specs.References.{held_by_entries}
-use Rattle.sms_outbox.proofs.sound_outbox.holds_reference.Given as goal
-
-abbrev pub invariant-loop-entry : goal.invariant-loop-entry
-invariant-loop-entry l = is_among l.reference (held_by_entries (drop l.entry-index l.outbox)) ≡ is_among l.reference (held_by_entries l.outbox)

@@ -1,9 +1,0 @@
-use Rattle.std.proofs.Common.{◌≡◌, ◌≤◌, length}
-use Rattle.sms_owner.specs.OwnersText.{acts_in, read_lines}
-use Rattle.sms_owner.proofs.reading.build.Given as goal
-
-abbrev pub invariant-loop-octets : goal.invariant-loop-octets
-invariant-loop-octets l = (acts_in l.text ≡ read_lines l.number l.acts l.lines) × (l.number ≤ 10001)
-
-abbrev pub decreases-loop-octets : goal.decreases-loop-octets
-decreases-loop-octets l = length l.lines

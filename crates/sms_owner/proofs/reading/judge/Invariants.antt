@@ -1,9 +1,0 @@
-use Rattle.std.proofs.Common.{◌≡◌, ◌≤◌, length}
-use Rattle.sms_owner.specs.OwnersText.{judge_in, judge_lines}
-use Rattle.sms_owner.proofs.reading.judge.Given as goal
-
-abbrev pub invariant-loop-octets : goal.invariant-loop-octets
-invariant-loop-octets l = (judge_in l.text ≡ judge_lines l.number l.lines) × (l.number ≤ 10001)
-
-abbrev pub decreases-loop-octets : goal.decreases-loop-octets
-decreases-loop-octets l = length l.lines

@@ -1,6 +1,0 @@
-use Rattle.std.proofs.Common.{sym, subst}
-use Rattle.sms_played_centre.specs.Shown.{IsPlayed, PlayedOf}
-use Rattle.sms_played_centre.proofs.centre.PlayedCentre.table.Goals as goal
-
-pub returns : goal.returns
-returns c = λ core played. c.table.ensures core (subst (λ (p : PlayedOf). IsPlayed core p.centre p.rows) (sym c.self.view_is) played).centre

@@ -1,8 +1,0 @@
-use Rattle.std.proofs.Common.{◌≡◌, ◌++◌, drop, take}
-use Rattle.sms_outbox.specs.Keys.{out_key}
-use Rattle.sms_table.specs.Table.{all_applied}
-use Rattle.sms_play.specs.HandsetSide.{entries_given}
-use Rattle.sms_played_handset.proofs.notes.note_entries.Given as goal
-
-abbrev pub invariant-loop-place : goal.invariant-loop-place
-invariant-loop-place l = l.given ++ entries_given l.handset l.moment (all_applied out_key (take l.place l.changes) l.outbox.rows) (drop l.place l.changes) ≡ l.fn.given ++ entries_given l.handset l.moment l.outbox.rows l.changes

@@ -1,0 +1,6 @@
+use Rattle.std.proofs.Common.{◌∙◌, ap}
+use Rattle.sms_player.specs.playing.Played.{PlayingOf}
+use Rattle.sms_player.proofs.playing.watching.PlayingScene.answers.Goals as goal
+
+pub returns : goal.returns
+returns c = λ course shown. c.as_slice.ensures ∙ ap (λ (p : PlayingOf). p.answers) c.self.view_is ∙ shown.answers

@@ -1,0 +1,4 @@
+pub mod centre
+pub mod handset
+pub mod heads
+pub mod playing

@@ -1,0 +1,21 @@
+//! The centre of a script in play, over the centre's code.
+//!
+//! `PlayedCentre` is a centre on rows in memory, both lent to it, and at any time some centre of the definition: `meet` leads from the
+//! one to that after the event, commits its changes and tells the references that it gave; `restart` leads to the one that starts again
+//! on its rows. `with_first_centre` and `with_first_keep` lend what such a centre is made of. Memory is wanted only where a growth was
+//! refused. What a play names of the crates below, heads and handsets among it, it finds here (`specs/FromBelow.antt`).
+
+mod centre;
+mod events;
+mod sessions;
+mod starting;
+
+pub use crate::heads::laws::handsets_can_have_links;
+pub use crate::heads::{
+    Met, PlayedHandset, accepted_lines, centre_setup, joined_lines, judge, numbers_of,
+    outbox_lines, with_parties,
+};
+pub use centre::PlayedCentre;
+pub use sms_centre::{Centre, CentreAnswer, CentreEvent, Setup as CentreSetup, Told};
+pub use sms_store_memory::centre::MemoryKeep;
+pub use starting::{with_first_centre, with_first_keep};

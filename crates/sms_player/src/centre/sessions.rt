@@ -1,0 +1,32 @@
+//! The sessions of a script's accounts.
+ghost use Rattle.std.specs.Prelude.{◌≡◌, ◌≤◌, length, IfOk};
+ghost use Rattle.sms_centre.specs.FromBelow.{AreNew};
+ghost use Rattle.sms_play.specs.PlayedEvent.{sessions_from};
+
+use sms_centre::Seat;
+use sms_intake::Account;
+use sms_rows::table::Table;
+use std::alloc::{AllocError, Global};
+
+fn seats_of(alloc: Global, accounts: &[Account]) -> Result<Vec<Seat>, AllocError>
+    requires { length accounts.now ≤ 32 }
+    ensures { IfOk result (λ seats. seats.items ≡ sessions_from 0 accounts.now) }
+{
+    let mut seats = Vec::new(alloc);
+    let mut place: u32 = 0;
+    for account in accounts {
+        seats.push(Seat::new(alloc, place, account.name.as_slice(), true)?)?;
+        place += 1;
+    }
+    Ok(seats)
+}
+
+/// A session of each account, under the account's place.
+pub(crate) fn sessions_of(alloc: Global, accounts: &[Account]) -> Result<Table<Seat>, AllocError>
+    requires { length accounts.now ≤ 32 }
+    ensures sessions { IfOk result (λ sessions. sessions.rows ≡ sessions_from 0 accounts.now) }
+    ensures new { IfOk result (λ sessions. AreNew sessions.rows) }
+{
+    let seats = seats_of(alloc, accounts)?;
+    Ok(Table::from_vec(seats))
+}

@@ -1,0 +1,16 @@
+//! Laws of a handset's events, over their definitions alone.
+ghost use Rattle.sms_player.specs.handset.Meeting.{KeepsMomentsLaw, RestsLaw};
+
+use sms_handset::laws::rows_are_the_changes;
+
+/// Time goes on by ticks alone, and never back.
+pub fn moments_come_by_ticks()
+    ensures { KeepsMomentsLaw }
+{}
+
+/// The rows that an event leads to are the rows with its changes.
+pub fn rows_rest_on_the_changes()
+    ensures { RestsLaw }
+{
+    rows_are_the_changes();
+}

@@ -1,7 +1,0 @@
-use Rattle.std.proofs.Common.{◌∙◌, ap}
-use Rattle.sms_play.specs.Course.{Party}
-use Rattle.sms_playing.proofs.Placed.{first_is}
-use Rattle.sms_playing.proofs.places.number_at.Goals as goal
-
-pub returns-clause-number : goal.returns-clause-number
-returns-clause-number c = λ party first. c.number.ensures.number ∙ ap (λ (p : Party). p.number) (first_is c.args.place party c.index-parties-place.result c.args.parties.now first c.index-parties-place.is)

@@ -1,5 +1,0 @@
-use Rattle.sms_report.proofs.IdTexts.{id_put}
-use Rattle.sms_report.proofs.writing.put_id.Goals as goal
-
-pub returns : goal.returns
-returns c = id_put c.append.result c.args.out.now c.append.new.self c.digits.result c.args.id c.number-range.ensures.range c.digits.ensures c.append.ensures.ok

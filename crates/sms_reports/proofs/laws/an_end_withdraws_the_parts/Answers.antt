@@ -1,5 +1,0 @@
-use Rattle.sms_reports.proofs.EndsWaiting.{end_waits}
-use Rattle.sms_reports.proofs.laws.an_end_withdraws_the_parts.Goals as goal
-
-pub returns : goal.returns
-returns c = λ h ms qs ps rs m state moment numbered alone there. end_waits h ms qs ps rs m state moment numbered alone there

@@ -1,0 +1,14 @@
+use Rattle.std.proofs.Common.{sym, subst}
+use Rattle.std.specs.BinaryHeap.{heap_items}
+use Rattle.sms_base.specs.Among.{Among}
+use Rattle.sms_rows.specs.expiry.Deadlines.{DeadlinesOf}
+use Rattle.sms_rows.proofs.expiry.Heaps.{pushed_others, pushed_own}
+use Rattle.sms_rows.proofs.expiry.deadlines.Deadlines.push.Goals as goal
+
+pub returns-clause-own : goal.returns-clause-own
+returns-clause-own c = pushed_own c.args.deadline (heap_items c.self.inside.heap) (heap_items c.push.new.self) c.in_ok-push.ensures.permutation
+
+pub returns-clause-others : goal.returns-clause-others
+returns-clause-others c = λ other m.
+    pushed_others c.args.deadline other (heap_items c.self.inside.heap) (heap_items c.push.new.self) c.in_ok-push.ensures.permutation
+    (subst (λ (v : DeadlinesOf). Among other v.items) (sym c.self.view_is) m)

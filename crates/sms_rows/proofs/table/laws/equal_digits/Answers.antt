@@ -1,0 +1,5 @@
+use Rattle.sms_rows.proofs.table.KeyLaws.{digits_equal}
+use Rattle.sms_rows.proofs.table.laws.equal_digits.Goals as goal
+
+pub returns : goal.returns
+returns c = digits_equal

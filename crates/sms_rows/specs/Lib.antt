@@ -1,0 +1,5 @@
+pub mod expiry
+pub mod index
+pub mod interning
+pub mod keep
+pub mod table

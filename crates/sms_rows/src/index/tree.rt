@@ -1,0 +1,392 @@
+//! Balanced trees whose parts are shared.
+ghost use Rattle.std.specs.Prelude.{◌≡◌, ◌≤◌, [], ◌∷◌, ◌++◌, IfOk, IfSome, MatchOption};
+ghost use Rattle.sms_rows.specs.index.Bounds.{IsBounded};
+ghost use Rattle.sms_rows.specs.index.First.{first_such, is_ahead_from, is_past_from};
+ghost use Rattle.sms_rows.specs.index.Trees.{empty, forked};
+ghost use Rattle.sms_rows.specs.table.Table.{Rises, put, row_at, without};
+
+use crate::index::dated::Dated;
+use crate::table::Key;
+use sms_base::Moment;
+use std::alloc::{AllocError, Global};
+use std::marker::Model;
+use std::sync::Arc;
+
+/// Rows in order, as a balanced tree (G. M. Adelson-Velsky and E. M. Landis, 1962) that never changes: a tree with one row
+/// more or less is a new one that shares all sides but those on the way to the row.
+///
+/// Heights are at most one apart beside each fork. No contract says so, since no result hangs on it.
+#[cycle(tree)]
+#[derive(Drop)]
+pub(crate) struct Tree<T: Copy + Dated> {
+    root: Option<Arc<Fork<T>>>,
+}
+
+// A row, with what comes before it and behind it.
+#[cycle(tree)]
+#[derive(Drop)]
+pub(crate) struct Fork<T: Copy + Dated> {
+    pub(crate) left: Tree<T>,
+    pub(crate) row: T,
+    pub(crate) right: Tree<T>,
+    height: u8,
+    // No moment of a row is before the one, in seconds, or behind the other.
+    pub(crate) earliest: u64,
+    pub(crate) latest: u64,
+}
+
+impl<T: Copy + Dated> Model for Tree<T> {
+    ghost use Rattle.std.specs.Prelude.{length};
+    ghost use Rattle.sms_rows.specs.index.Shapes.{TreeOf};
+
+    ghost Value = { TreeOf T };
+
+    ghost use Rattle.sms_rows.specs.index.Bounds.{IsBounded};
+    ghost use Rattle.sms_rows.specs.index.Trees.{tree_of};
+
+    ghost view = { λ t. tree_of t.root };
+
+    ghost invariant = { λ t. IsBounded T.moment (tree_of t.root) };
+
+    ghost size = { λ t. length t.rows };
+
+    ghost use Rattle.std.proofs.Common.{arith, length-append};
+
+    ghost size_decreases = { λ a h. Prim.grind (arith, length-append) };
+}
+
+impl<T: Copy + Dated> Tree<T> {
+    pub(crate) fn new() -> Tree<T>
+        ensures { result ≡ empty }
+    {
+        Tree { root: None }
+    }
+
+    /// The same tree, shared.
+    pub(crate) fn share(&self) -> Result<Tree<T>, AllocError>
+        ensures { IfOk result (λ copy. copy ≡ self.now) }
+    {
+        match &self.root {
+            None => Ok(Tree { root: None }),
+            Some(fork) => {
+                let fork = Arc::try_clone(fork)?;
+                Ok(Tree { root: Some(fork) })
+            }
+        }
+    }
+
+    // How many forks are below one another.
+    fn height(&self) -> u8 {
+        match &self.root {
+            None => 0,
+            Some(fork) => fork.height,
+        }
+    }
+
+    fn earliest(&self) -> u64
+        ensures value { result ≡ self.now.earliest }
+        ensures bounds { IsBounded T.moment self.now }
+    {
+        match &self.root {
+            None => u64::MAX,
+            Some(fork) => fork.earliest,
+        }
+    }
+
+    fn latest(&self) -> u64
+        ensures { result ≡ self.now.latest }
+    {
+        match &self.root {
+            None => 0,
+            Some(fork) => fork.latest,
+        }
+    }
+
+    // The row between both sides.
+    fn fork(alloc: Global, left: Tree<T>, row: T, right: Tree<T>) -> Result<Tree<T>, AllocError>
+        ensures { IfOk result (λ t. t ≡ forked T.moment left row right) }
+    {
+        let height = left.height().max(right.height()).saturating_add(1);
+        let moment = row.moment().seconds();
+        let earliest = moment.min(left.earliest().min(right.earliest()));
+        let latest = moment.max(left.latest().max(right.latest()));
+        let fork = Arc::new(
+            alloc,
+            Fork {
+                left,
+                row,
+                right,
+                height,
+                earliest,
+                latest,
+            },
+        )?;
+        Ok(Tree { root: Some(fork) })
+    }
+}
+
+// ---- balance
+
+impl<T: Copy + Dated> Tree<T> {
+    /// The row between both sides, balanced where one side is higher by one row more or less than it was.
+    pub(crate) fn balanced(
+        alloc: Global,
+        left: Tree<T>,
+        row: T,
+        right: Tree<T>,
+    ) -> Result<Tree<T>, AllocError>
+        ensures { IfOk result (λ t. t.rows ≡ left.rows ++ row ∷ right.rows) }
+    {
+        let (low, high) = (left.height(), right.height());
+        if low > high.saturating_add(1) {
+            lean_left(alloc, &left, row, right)
+        } else if high > low.saturating_add(1) {
+            lean_right(alloc, left, row, &right)
+        } else {
+            Tree::fork(alloc, left, row, right)
+        }
+    }
+}
+
+// Balanced where the left side is higher.
+fn lean_left<T: Copy + Dated>(
+    alloc: Global,
+    left: &Tree<T>,
+    row: T,
+    right: Tree<T>,
+) -> Result<Tree<T>, AllocError>
+    ensures { IfOk result (λ t. t.rows ≡ left.now.rows ++ row ∷ right.rows) }
+{
+    let Some(fork) = &left.root else {
+        let left = left.share()?;
+        return Tree::fork(alloc, left, row, right);
+    };
+    let fork: &Fork<T> = fork;
+    if fork.left.height() < fork.right.height() {
+        return split_left(alloc, &fork.left, fork.row, &fork.right, row, right);
+    }
+    let middle = fork.right.share()?;
+    let right = Tree::fork(alloc, middle, row, right)?;
+    let left = fork.left.share()?;
+    Tree::fork(alloc, left, fork.row, right)
+}
+
+// Balanced where what stands in the middle is higher: it is split, and its row goes to the root.
+fn split_left<T: Copy + Dated>(
+    alloc: Global,
+    left: &Tree<T>,
+    first: T,
+    middle: &Tree<T>,
+    second: T,
+    right: Tree<T>,
+) -> Result<Tree<T>, AllocError>
+    ensures { IfOk result (λ t. t.rows ≡ (left.now.rows ++ first ∷ middle.now.rows) ++ second ∷ right.rows) }
+{
+    let Some(fork) = &middle.root else {
+        let left = left.share()?;
+        let left = Tree::fork(alloc, left, first, Tree::new())?;
+        return Tree::fork(alloc, left, second, right);
+    };
+    let fork: &Fork<T> = fork;
+    let behind = fork.right.share()?;
+    let right = Tree::fork(alloc, behind, second, right)?;
+    let left = left.share()?;
+    let before = fork.left.share()?;
+    let left = Tree::fork(alloc, left, first, before)?;
+    Tree::fork(alloc, left, fork.row, right)
+}
+
+// Balanced where the right side is higher.
+fn lean_right<T: Copy + Dated>(
+    alloc: Global,
+    left: Tree<T>,
+    row: T,
+    right: &Tree<T>,
+) -> Result<Tree<T>, AllocError>
+    ensures { IfOk result (λ t. t.rows ≡ left.rows ++ row ∷ right.now.rows) }
+{
+    let Some(fork) = &right.root else {
+        let right = right.share()?;
+        return Tree::fork(alloc, left, row, right);
+    };
+    let fork: &Fork<T> = fork;
+    if fork.right.height() < fork.left.height() {
+        return split_right(alloc, left, row, &fork.left, fork.row, &fork.right);
+    }
+    let middle = fork.left.share()?;
+    let left = Tree::fork(alloc, left, row, middle)?;
+    let right = fork.right.share()?;
+    Tree::fork(alloc, left, fork.row, right)
+}
+
+// Balanced where what stands in the middle is higher: it is split, and its row goes to the root.
+fn split_right<T: Copy + Dated>(
+    alloc: Global,
+    left: Tree<T>,
+    first: T,
+    middle: &Tree<T>,
+    second: T,
+    right: &Tree<T>,
+) -> Result<Tree<T>, AllocError>
+    ensures { IfOk result (λ t. t.rows ≡ left.rows ++ first ∷ (middle.now.rows ++ second ∷ right.now.rows)) }
+{
+    let Some(fork) = &middle.root else {
+        let right = right.share()?;
+        let right = Tree::fork(alloc, Tree::new(), second, right)?;
+        return Tree::fork(alloc, left, first, right);
+    };
+    let fork: &Fork<T> = fork;
+    let before = fork.left.share()?;
+    let left = Tree::fork(alloc, left, first, before)?;
+    let right = right.share()?;
+    let behind = fork.right.share()?;
+    let right = Tree::fork(alloc, behind, second, right)?;
+    Tree::fork(alloc, left, fork.row, right)
+}
+
+// ---- rows
+
+impl<T: Copy + Dated> Tree<T> {
+    /// The row of that key, if there is one.
+    pub(crate) fn find(&self, key: Key) -> Option<T>
+        ensures { Rises T.key self.now.rows → result ≡ row_at T.key key self.now.rows }
+    {
+        let Some(fork) = &self.root else {
+            return None;
+        };
+        let fork: &Fork<T> = fork;
+        if key.number() < fork.row.key().number() {
+            fork.left.find(key)
+        } else if fork.row.key().number() < key.number() {
+            fork.right.find(key)
+        } else {
+            Some(fork.row)
+        }
+    }
+
+    /// The tree with the row in the place of that of its key, or where its key belongs.
+    pub(crate) fn with(&self, alloc: Global, row: T) -> Result<Tree<T>, AllocError>
+        ensures { IfOk result (λ t. Rises T.key self.now.rows → t.rows ≡ put T.key row self.now.rows) }
+    {
+        let Some(fork) = &self.root else {
+            return Tree::fork(alloc, Tree::new(), row, Tree::new());
+        };
+        let fork: &Fork<T> = fork;
+        let key = row.key().number();
+        if key < fork.row.key().number() {
+            let left = fork.left.with(alloc, row)?;
+            let right = fork.right.share()?;
+            Tree::balanced(alloc, left, fork.row, right)
+        } else if fork.row.key().number() < key {
+            let left = fork.left.share()?;
+            let right = fork.right.with(alloc, row)?;
+            Tree::balanced(alloc, left, fork.row, right)
+        } else {
+            let left = fork.left.share()?;
+            let right = fork.right.share()?;
+            Tree::fork(alloc, left, row, right)
+        }
+    }
+
+    /// The tree without the row of that key.
+    pub(crate) fn without(&self, alloc: Global, key: Key) -> Result<Tree<T>, AllocError>
+        ensures { IfOk result (λ t. Rises T.key self.now.rows → t.rows ≡ without T.key key self.now.rows) }
+    {
+        let Some(fork) = &self.root else {
+            return Ok(Tree::new());
+        };
+        let fork: &Fork<T> = fork;
+        if key.number() < fork.row.key().number() {
+            let left = fork.left.without(alloc, key)?;
+            let right = fork.right.share()?;
+            Tree::balanced(alloc, left, fork.row, right)
+        } else if fork.row.key().number() < key.number() {
+            let left = fork.left.share()?;
+            let right = fork.right.without(alloc, key)?;
+            Tree::balanced(alloc, left, fork.row, right)
+        } else {
+            joined(alloc, &fork.left, &fork.right)
+        }
+    }
+
+    // The first row, and the tree of all others.
+    fn split_first(&self, alloc: Global) -> Result<Option<(T, Tree<T>)>, AllocError>
+        ensures { IfOk result (λ o. MatchOption o (self.now.rows ≡ []) (λ split. self.now.rows ≡ split.0 ∷ split.1.rows)) }
+    {
+        let Some(fork) = &self.root else {
+            return Ok(None);
+        };
+        let fork: &Fork<T> = fork;
+        let split = fork.left.split_first(alloc)?;
+        let right = fork.right.share()?;
+        match split {
+            None => Ok(Some((fork.row, right))),
+            Some((first, left)) => {
+                let rest = Tree::balanced(alloc, left, fork.row, right)?;
+                Ok(Some((first, rest)))
+            }
+        }
+    }
+}
+
+// The rows of both trees.
+fn joined<T: Copy + Dated>(
+    alloc: Global,
+    left: &Tree<T>,
+    right: &Tree<T>,
+) -> Result<Tree<T>, AllocError>
+    ensures { IfOk result (λ t. t.rows ≡ left.now.rows ++ right.now.rows) }
+{
+    let split = right.split_first(alloc)?;
+    let left = left.share()?;
+    match split {
+        None => Ok(left),
+        Some((first, rest)) => Tree::balanced(alloc, left, first, rest),
+    }
+}
+
+// ---- moments
+
+impl<T: Copy + Dated> Tree<T> {
+    /// The first row from that key on whose moment is come.
+    pub(crate) fn first_past(&self, first: Key, now: Moment) -> Option<T>
+        ensures { Rises T.key self.now.rows → result ≡ first_such (is_past_from T.key T.moment first now) self.now.rows }
+    {
+        let Some(fork) = &self.root else {
+            return None;
+        };
+        let fork: &Fork<T> = fork;
+        if now.seconds() < fork.earliest {
+            return None;
+        }
+        if fork.row.key().number() < first.number() {
+            return fork.right.first_past(first, now);
+        }
+        match fork.left.first_past(first, now) {
+            Some(row) => Some(row),
+            None if fork.row.moment().seconds() <= now.seconds() => Some(fork.row),
+            None => fork.right.first_past(first, now),
+        }
+    }
+
+    /// The first row from that key on whose moment is still to come.
+    pub(crate) fn first_ahead(&self, first: Key, now: Moment) -> Option<T>
+        ensures { Rises T.key self.now.rows → result ≡ first_such (is_ahead_from T.key T.moment first now) self.now.rows }
+    {
+        let Some(fork) = &self.root else {
+            return None;
+        };
+        let fork: &Fork<T> = fork;
+        if fork.latest <= now.seconds() {
+            return None;
+        }
+        if fork.row.key().number() < first.number() {
+            return fork.right.first_ahead(first, now);
+        }
+        match fork.left.first_ahead(first, now) {
+            Some(row) => Some(row),
+            None if now.seconds() < fork.row.moment().seconds() => Some(fork.row),
+            None => fork.right.first_ahead(first, now),
+        }
+    }
+}

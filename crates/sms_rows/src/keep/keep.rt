@@ -1,0 +1,55 @@
+//! Keeps.
+ghost use Rattle.std.specs.Prelude.{◌≡◌, ◌≢◌, ◌⊎◌, IfErr, IfOk, OnErr, OnOk};
+ghost use Rattle.sms_rows.specs.keep.Refusing.{Counts};
+ghost use Rattle.sms_rows.specs.declared.keep.error.KeepError.TheVariants.{NotThisStore, OldVersion};
+ghost use Rattle.sms_rows.specs.declared.keep.refusals.Refusals.{Refusals};
+
+use crate::keep::error::KeepError;
+
+/// The rows of one side, in some store.
+///
+/// Its laws are told for as long as it is honest: the store returns what was written. A stop inside a call is told by
+/// `may_leave`, since a machine that stops there leaves what the store may be left as when the call fails.
+pub trait Keep {
+    /// All that is kept, with the setup, which is handed in and not stored.
+    type Rows: Drop;
+
+    /// What an event changes of it.
+    type Changes;
+
+    /// The rows after the changes.
+    ghost after: { Self.Changes → Self.Rows → Self.Rows };
+
+    /// The rows that it keeps.
+    ghost holds: { Self → Self.Rows → Type 0 };
+
+    /// So far the store has returned what was written.
+    ghost is_honest: { Self → Type 0 };
+
+    /// It refuses each call from now on.
+    ghost is_closed: { Self → Type 0 };
+
+    /// The rows that may be there if the machine stops at this moment.
+    ghost may_leave: { Self → Self.Rows → Type 0 };
+
+    /// What it tells of the calls that it refused.
+    ghost refusals: { Self → Refusals };
+
+    /// Makes the changes, all of them or none.
+    fn commit(&mut self, changes: &Self::Changes) -> Result<(), KeepError>
+        ensures ok { is_honest self.new → (rows : Self.Rows) → holds self.old rows → OnOk result (holds self.new (after changes.now rows)) }
+        ensures err { is_honest self.new → (rows : Self.Rows) → holds self.old rows → OnErr result (holds self.new rows ⊎ is_closed self.new) }
+        ensures stop { is_honest self.new → (rows : Self.Rows) → holds self.old rows → (left : Self.Rows) → may_leave self.new left → (left ≡ rows) ⊎ (left ≡ after changes.now rows) }
+        ensures named { IfErr result (λ error. (error ≢ OldVersion) × (error ≢ NotThisStore)) }
+        ensures before { is_honest self.new → is_honest self.old }
+        ensures counted { Counts result (refusals self.old) (refusals self.new) };
+
+    /// The rows after all commits, each list in the order of its keys.
+    fn load(&mut self) -> Result<Self::Rows, KeepError>
+        ensures ok { is_honest self.new → (rows : Self.Rows) → holds self.old rows → IfOk result (λ found. (found ≡ rows) × holds self.new rows) }
+        ensures err { is_honest self.new → (rows : Self.Rows) → holds self.old rows → OnErr result (holds self.new rows ⊎ is_closed self.new) }
+        ensures stop { is_honest self.new → (rows : Self.Rows) → holds self.old rows → (left : Self.Rows) → may_leave self.new left → left ≡ rows }
+        ensures named { IfErr result (λ error. error ≢ OldVersion) }
+        ensures before { is_honest self.new → is_honest self.old }
+        ensures counted { Counts result (refusals self.old) (refusals self.new) };
+}

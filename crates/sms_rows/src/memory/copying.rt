@@ -1,0 +1,56 @@
+//! Copies of rows, and of changes of them.
+ghost use Rattle.std.specs.Prelude.{◌≡◌, IfOk, OnOk};
+ghost use Rattle.sms_rows.specs.table.Pending.{FitsIn, changed};
+
+use crate::table::{Change, Pending, Row, Settled, Table};
+use std::alloc::{AllocError, Global};
+
+/// A row that can be copied, in a keep of the kind `K`.
+pub trait CopiedRow<K>: Row {
+    /// A row of its own that is the same.
+    fn copied(&self, alloc: Global) -> Result<Self, AllocError>
+        ensures { IfOk result (λ copy. copy ≡ self.now) };
+}
+
+/// The rows, copied.
+pub fn copy_of_rows<K, T: Drop + CopiedRow<K>>(
+    alloc: Global,
+    rows: &[T],
+) -> Result<Vec<T>, AllocError>
+    ensures { IfOk result (λ copies. copies.items ≡ rows.now) }
+{
+    let mut copies = Vec::new(alloc);
+    for row in rows {
+        copies.push(row.copied(alloc)?)?;
+    }
+    Ok(copies)
+}
+
+fn add_copy<K, T: Drop + CopiedRow<K>>(
+    alloc: Global,
+    pending: &mut Pending<'_, T>,
+    change: &Change<T>,
+) -> Result<(), AllocError>
+    ensures { OnOk result (pending.new ≡ changed change.now pending.old) }
+{
+    match change {
+        Change::Put(row) => pending.put(row.copied(alloc)?),
+        Change::Remove(key) => pending.remove(*key),
+    }
+}
+
+/// The changes, copied, with the memory that the table needs for them.
+pub fn settled_copy<K, T: Drop + CopiedRow<K>>(
+    alloc: Global,
+    table: &Table<T>,
+    changes: &[Change<T>],
+) -> Result<Settled<T>, AllocError>
+    ensures changes { IfOk result (λ settled. settled.changes ≡ changes.now) }
+    ensures fits { IfOk result (λ settled. FitsIn settled table.now) }
+{
+    let mut pending = Pending::of(alloc, table);
+    for change in changes {
+        add_copy::<K, T>(alloc, &mut pending, change)?;
+    }
+    pending.settle_for(alloc, table)
+}

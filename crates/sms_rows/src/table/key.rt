@@ -1,0 +1,94 @@
+//! The keys of rows.
+ghost use Rattle.std.specs.Prelude.{◌≡◌, ◌<◌, ◌≤◌, ◌^◌, length};
+ghost use Rattle.sms_rows.specs.table.Keys.{digit_code as digit_code_of, digits_key, pair_key};
+
+use sms_base::{Digits, semi_octet_of};
+use std::marker::Model;
+
+/// The key of a row: a number, a number and a small one, digits, or digits and a small number.
+///
+/// Contracts see a key as one number, by which rows stand in order. Keys of one kind are equal exactly where what
+/// they were made of is; those of a first part stand together. A table has keys of one kind.
+#[derive(Clone, Copy, Debug, PartialEq, Eq)]
+pub struct Key {
+    place: u128,
+}
+
+impl Model for Key {
+    ghost use Rattle.std.specs.Prelude.{ℕ};
+
+    ghost Value = { ℕ };
+
+    ghost view = { λ k. k.place };
+
+    ghost inverse = { λ n. record { place = n } };
+}
+
+impl Key {
+    /// The key that is the number.
+    pub fn of(number: u64) -> Key
+        ensures { result ≡ number }
+    {
+        Key {
+            place: u128::from(number),
+        }
+    }
+
+    /// The number by which the row stands in order.
+    pub fn number(self) -> u128
+        ensures { result ≡ self }
+    {
+        self.place
+    }
+
+    /// The key of a number and a small one.
+    pub fn pair(first: u64, second: u8) -> Key
+        ensures { result ≡ pair_key first second }
+    {
+        Key {
+            place: 256 * u128::from(first) + u128::from(second),
+        }
+    }
+
+    /// The key of digits.
+    pub fn digits(digits: &Digits) -> Key
+        ensures { result ≡ digits_key digits.now }
+    {
+        Key {
+            place: digits_place(digits.as_few()),
+        }
+    }
+
+    /// The key of digits and a small number.
+    pub fn digits_and(digits: &Digits, second: u8) -> Key
+        ensures { result ≡ pair_key (digits_key digits.now) second }
+    {
+        Key {
+            place: 256 * digits_place(digits.as_few()) + u128::from(second),
+        }
+    }
+}
+
+// The number of the digits to the base 16.
+fn digits_place(digits: &[char]) -> u128
+    requires { length digits.now ≤ 20 }
+    ensures value { result ≡ digits_key digits.now }
+    ensures small { result < 16 ^ 20 }
+{
+    let mut place: u128 = 0;
+    for digit in digits {
+        place = 16 * place + u128::from(digit_code(*digit));
+    }
+    place
+}
+
+// The semi-octet of a digit, and one more, so that no digit counts as nothing.
+fn digit_code(digit: char) -> u8
+    ensures value { result ≡ digit_code_of digit }
+    ensures small { result ≤ 15 }
+{
+    match semi_octet_of(digit) {
+        Some(semi_octet) => semi_octet + 1,
+        None => 0,
+    }
+}

@@ -1,6 +1,0 @@
-use Rattle.sms_play.specs.Playing.{report_of}
-use Rattle.sms_running.proofs.Telling.{report_told}
-use Rattle.sms_running.proofs.ending.report_of.Goals as goal
-
-pub returns : goal.returns
-returns c = λ course shown. report_told c.report.result c.or_no_memory.result c.args.events (report_of course) c.or_no_memory.ensures (c.report.ensures course shown)

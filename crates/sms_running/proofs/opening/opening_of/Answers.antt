@@ -1,9 +1,0 @@
-use Rattle.std.proofs.Common.{◌∙◌, ap, List, ℕ, sym, subst}
-use Rattle.sms_played_centre.specs.FromBelow.{AreHandsets}
-use Rattle.sms_play.specs.Course.{Party, numbers_of}
-use Rattle.sms_running.proofs.opening.opening_of.Goals as goal
-
-pub returns-clause-handsets : goal.returns-clause-handsets
-returns-clause-handsets c =
-    subst (λ (hs : List (List ℕ)). AreHandsets hs) (sym (c.in_ok-handsets.ensures ∙ ap (λ (ps : List Party). numbers_of ps) c.requires.parties))
-    (c.handsets_can_have_links.ensures c.args.setup.now c.requires.setup)

@@ -1,4 +1,0 @@
-use Rattle.sms_running.proofs.run.write_text.Goals as goal
-
-pub returns-in-Ok : goal.returns-in-Ok
-returns-in-Ok g c = λ ran is. (c.args.text.now, (is, c.in-Ok.ensures.bytes))

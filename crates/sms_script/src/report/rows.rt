@@ -1,0 +1,95 @@
+//! What the sides have in the end. A handset is named by the digits of its number.
+use crate::report::answers::MessageState;
+use sms_base::{Carried, Digits, FinalState, Holder, MessageId, Moment, Octets};
+
+/// A message at the centre.
+#[derive(Debug, Drop)]
+pub struct MessageRow {
+    pub id: MessageId,
+    /// The digits or the name of its source.
+    pub from: Digits,
+    /// The digits of its destination.
+    pub to: Digits,
+    pub state: MessageState,
+}
+
+/// A TPDU that a handset accepted under a reference, as it came.
+#[derive(Debug, Drop)]
+pub struct AcceptedRow {
+    pub handset: Digits,
+    pub reference: u8,
+    pub tpdu: Octets,
+}
+
+/// How the units of a joined content are coded: compressed text counts as octets.
+#[derive(Clone, Copy, Debug, PartialEq, Eq)]
+pub enum JoinedCoding {
+    Septets,
+    Octets,
+    Ucs2,
+}
+
+/// A long message that a handset joined.
+#[derive(Debug, Drop)]
+pub struct JoinedRow {
+    pub handset: Digits,
+    /// The digits or the name of its source.
+    pub from: Digits,
+    pub coding: JoinedCoding,
+    /// One septet an octet, octets, or the octets of UCS2.
+    pub units: Octets,
+}
+
+/// A receipt or a status report.
+#[derive(Clone, Copy, Debug)]
+pub struct ReceiptRow {
+    pub id: MessageId,
+    pub state: FinalState,
+}
+
+/// How far an entry of an outbox is.
+#[derive(Clone, Copy, Debug, PartialEq, Eq)]
+pub enum EntryState {
+    Queued,
+    Sending,
+    Sent,
+    Failed,
+    Unsure,
+}
+
+/// An entry of an outbox.
+#[derive(Debug, Drop)]
+pub struct OutboxRow {
+    pub handset: Digits,
+    pub entry: u32,
+    pub state: EntryState,
+}
+
+/// The way to the centre, or to a handset.
+#[derive(Clone, Copy, Debug, PartialEq, Eq)]
+pub enum Direction {
+    Up,
+    Down,
+}
+
+/// A reference that was given: by the centre for what goes down, by the handset for what goes up.
+#[derive(Debug, Drop)]
+pub struct GivenRow {
+    pub handset: Digits,
+    pub direction: Direction,
+    pub reference: u8,
+    pub holder: Holder,
+    pub moment: Moment,
+}
+
+/// A frame that was sent.
+#[derive(Debug, Drop)]
+pub struct FrameRow {
+    /// Its number, from 1.
+    pub number: u64,
+    pub direction: Direction,
+    pub handset: Digits,
+    /// What it carries, unless it is a CP-ACK or a CP-ERROR.
+    pub carried: Option<Carried>,
+    pub octets: Octets,
+}

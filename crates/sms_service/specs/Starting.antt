@@ -1,9 +1,0 @@
--- Why a centre does not start.
-use Rattle.sms_centre.specs.FromBelow.{RecoverError, BadRows as BadRecover, NoMemory as NoRecover}
-use Rattle.sms_service.specs.declared.start_error.StartError.{StartError}
-use Rattle.sms_service.specs.declared.start_error.StartError.TheVariants.{BadRows, NoMemory}
-
--- the same cause
-abbrev pub of_recover : RecoverError → StartError
-of_recover BadRecover = BadRows
-of_recover NoRecover = NoMemory

@@ -1,6 +1,0 @@
-use Rattle.std.proofs.Common.{◌≡◌, drop}
-use Rattle.sms_reports.specs.Receipts.{is_unanswered}
-use Rattle.sms_sessions.proofs.serving.is_unanswered.Given as goal
-
-abbrev pub invariant-loop-seat : goal.invariant-loop-seat
-invariant-loop-seat l = is_unanswered l.id (drop l.seat-index l.seats) ≡ is_unanswered l.id l.seats

@@ -1,6 +1,0 @@
-use Rattle.std.proofs.Common.{◌≡◌, drop}
-use Rattle.sms_desk.specs.Serving.{serving}
-use Rattle.sms_sessions.proofs.serving.serving.Given as goal
-
-abbrev pub invariant-loop-seat : goal.invariant-loop-seat
-invariant-loop-seat l = serving l.account (drop l.seat-index l.seats) ≡ serving l.account l.seats

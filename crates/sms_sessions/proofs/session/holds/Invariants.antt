@@ -1,6 +1,0 @@
-use Rattle.std.proofs.Common.{◌≡◌, drop}
-use Rattle.sms_messages.specs.SplitReferences.{is_among}
-use Rattle.sms_sessions.proofs.session.holds.Given as goal
-
-abbrev pub invariant-loop-other : goal.invariant-loop-other
-invariant-loop-other l = is_among l.id (drop l.other-index l.ids) ≡ is_among l.id l.ids

@@ -1,7 +1,0 @@
-use Rattle.std.proofs.Common.{◌++◌, List, take}
-use Rattle.sms_waiting.specs.declared.load.Load.{Load}
-use Rattle.sms_waiting.specs.References.{AreHeld}
-use Rattle.sms_shelf.proofs.held.held_with.Given as goal
-
-abbrev pub invariant-loop-load : goal.invariant-loop-load
-invariant-loop-load l = (others : List Load) → AreHeld l.initial.held others → AreHeld l.held (others ++ take l.load-index l.waiting)

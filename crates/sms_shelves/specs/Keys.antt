@@ -1,6 +1,0 @@
--- The keys of stops.
-use Rattle.std.specs.Prelude.{ℕ}
-use Rattle.sms_shelves.specs.declared.stop.Stop.{Stop}
-
-abbrev pub stop_key : Stop → ℕ
-stop_key s = s.order

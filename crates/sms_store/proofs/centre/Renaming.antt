@@ -1,0 +1,43 @@
+-- What is kept of a database of version 1 that was opened.
+use Rattle.std.proofs.Common.{◌≡◌, inl, inr, false, length, Ok, sym, ap, subst, ◌∙◌, arith}
+use Rattle.sqlite.specs.Effect.{Database}
+use Rattle.sqlite.specs.Schema.{Schema}
+use Rattle.sqlite.specs.State.{State, Shows}
+use Rattle.sms_store_sql.specs.listing.Transaction.{Committed}
+use Rattle.sms_store_tables.specs.centre.CentreSchema.{first_schema, centre_schema, schema_is, first_schema_is}
+use Rattle.sms_store_migration.specs.Migrating.{Migrates}
+use Rattle.sms_store_migration.specs.Versions.{IsFirstStore}
+use Rattle.sms_store.specs.centre.Migrating.{Migrated}
+use Rattle.sms_store.specs.centre.Opened.{Opened, SaysFirst}
+use Rattle.sms_store.specs.centre.Types.{Setup}
+use Rattle.sms_store.proofs.centre.Openings.{first_differs}
+
+-- a look before the change changes nothing of it
+pub raised_then : (a b c : State) → Shows a b a.now a.now false → Committed Migrates b c → Committed Migrates a c
+raised_then a b c shows made = record {
+  inside = record { was_open = shows.was_open; is_open = made.inside.is_open; now_is = made.inside.now_is; committed_is = made.inside.committed_is; mode = made.inside.mode };
+  changed = λ rows is. made.changed rows (subst (λ (d : Database). IsFirstStore d rows) (sym shows.now_is) is);
+}
+
+pub schemas_differ : centre_schema ≡ first_schema → ⊥
+schemas_differ same =
+    let count : 7 ≡ 6 = ap (λ (s : Schema). length s.tables) (sym schema_is ∙ same ∙ first_schema_is) in
+    omega (arith, count)
+
+-- a store that was opened as it is
+pub migrated_opened : (setup : Setup) (old : Database) (new : State) → Opened setup old new → Migrated setup old new
+migrated_opened setup old new opened = record {
+  founded = opened.founded;
+  kept = opened.kept;
+  raised = λ rows is. absurd (elim opened.ours [ inl none ↦ first_differs (sym none ∙ is.0.schema) | inr says ↦ schemas_differ (sym says.tables ∙ is.0.schema) ]);
+  ours = elim opened.ours [ inl none ↦ inl none | inr says ↦ inr (inl says) ];
+}
+
+-- one of version 1
+pub migrated_first : (setup : Setup) (old new : State) → old.now.schema ≡ first_schema → Committed Migrates old new → SaysFirst 1 (Ok tt) old.now → Migrated setup old.now new
+migrated_first setup old new ours made says = record {
+  founded = λ none. absurd (first_differs (sym none ∙ ours));
+  kept = λ rows is. absurd (schemas_differ (sym is.0.schema ∙ ours));
+  raised = λ rows is. record { is_open = made.inside.is_open; autocommit = made.inside.mode; settled = sym made.inside.committed_is; store = (made.changed rows is.0, is.1) };
+  ours = inr (inr says);
+}

@@ -1,0 +1,89 @@
+-- What the texts that make the tables lead to.
+use Rattle.std.proofs.Common.{◌≡◌, ◌≢◌, List, [], refl, ◌∙◌, arith}
+use Rattle.std.proofs.lemmas.List.Sorted.{IsPermutation-refl}
+use Rattle.sqlite.specs.Effect.{Database}
+use Rattle.sqlite.specs.Order.{Row}
+use Rattle.sqlite.specs.State.{State}
+use Rattle.sqlite_rules.specs.Edit.{IsNoIndex}
+use Rattle.sms_rows.specs.table.Table.{put}
+use Rattle.sms_store_sql.specs.schema.Blank.{no_tables}
+use Rattle.sms_store_sql.specs.listing.Inside.{Alters, Ran}
+use Rattle.sms_store_sql.specs.listing.Listing.{ListOf, Holds}
+use Rattle.sms_store_sql.proofs.listing.Making.{makes}
+use Rattle.sms_store_tables.specs.centre.CentreSchema.{with_meta, with_message, with_part, with_reference, with_handset, first_schema, centre_schema, create_meta, create_message, create_part, create_reference, create_handset, create_report, meta_made, message_made, part_made, reference_made, handset_made, report_made, adds_meta, adds_message, adds_part, adds_reference, adds_handset, adds_report}
+use Rattle.sms_store_tables.specs.centre.MetaList.{meta_list}
+use Rattle.sms_store_tables.specs.centre.MessageList.{message_list}
+use Rattle.sms_store_tables.specs.centre.PartList.{part_list}
+use Rattle.sms_store_tables.specs.centre.ReferenceList.{reference_list}
+use Rattle.sms_store_tables.specs.centre.HandsetList.{handset_list}
+use Rattle.sms_store_tables.specs.centre.ReportList.{report_list}
+use Rattle.sms_store_tables.specs.centre.PriorityList.{priority_list}
+use Rattle.sms_store_migration.specs.Versions.{centre_meta}
+use Rattle.sms_store.specs.centre.CentreRows.{Founds}
+use Rattle.sms_store_migration.specs.Migrating.{Completes}
+use Rattle.sms_store_migration.proofs.Apart.{free_2, free_4, free_6, free_8, free_10, free_12}
+use Rattle.sms_store.specs.centre.Founding.{HasFirst, HasNext, MakesFirst, MakesNext, Tabulates, Declares}
+use Rattle.sms_store.proofs.centre.Turning.{other}
+
+pub first_made : (a b c d : State) → Ran create_meta [] a b → Ran create_message [] b c → Ran create_part [] c d → MakesFirst a.now d.now
+first_made a b c d p q r has =
+    let one = makes create_meta meta_made no_tables with_meta adds_meta a b p has in
+    let two = makes create_message message_made with_meta with_message adds_message b c q one.schema in
+    let three = makes create_part part_made with_message with_part adds_part c d r two.schema in
+    (three.schema, record { meta = three.others.0 ∙ two.others.0 ∙ one.empty; messages = three.others.1.0 ∙ two.empty; parts = three.empty })
+
+pub next_made : (a b c d : State) → Ran create_reference [] a b → Ran create_handset [] b c → Ran create_report [] c d → MakesNext a.now d.now
+next_made a b c d p q r has first =
+    let one = makes create_reference reference_made with_part with_reference adds_reference a b p has in
+    let two = makes create_handset handset_made with_reference with_handset adds_handset b c q one.schema in
+    let three = makes create_report report_made with_handset first_schema adds_report c d r two.schema in (
+      three.schema,
+      record {
+        meta = three.others.0 ∙ two.others.0 ∙ one.others.0 ∙ first.meta;
+        messages = three.others.1.0 ∙ two.others.1.0 ∙ one.others.1.0 ∙ first.messages;
+        parts = three.others.1.1.0 ∙ two.others.1.1.0 ∙ one.others.1.1.0 ∙ first.parts;
+      },
+      record {
+        references = three.others.1.1.1.0 ∙ two.others.1.1.1.0 ∙ one.empty;
+        handsets = three.others.1.1.1.1.0 ∙ two.empty;
+        reports = three.empty;
+      },
+    )
+
+abbrev pub MakesBoth : Database → Database → Type 0
+MakesBoth before after = before.schema ≡ no_tables → (after.schema ≡ first_schema) × HasFirst after × HasNext after
+
+pub both_made : (a b c : Database) → MakesFirst a b → MakesNext b c → MakesBoth a c
+both_made a b c p q has = let first = p has in q first.0 first.1
+
+pub tables_made : (a b c : Database) → MakesBoth a b → Completes b c → Tabulates a c
+tables_made a b c p q has =
+    let had = p has in
+    let made = q had.0 in (
+      made.schema,
+      record { meta = made.others.0 ∙ had.1.meta; messages = made.others.1.0 ∙ had.1.messages; parts = made.others.1.1.0 ∙ had.1.parts },
+      record { references = made.others.1.1.1.0 ∙ had.2.references; handsets = made.others.1.1.1.1.0 ∙ had.2.handsets; reports = made.others.1.1.1.1.1.0 ∙ had.2.reports },
+      made.empty,
+    )
+
+pub holds_none : {X : Type 0} (l : ListOf X) (rows : List Row) → rows ≡ [] → Holds l rows []
+holds_none l rows none = record { entries = []; keyed = tt; stored = none; shown = IsPermutation-refl []; rises = tt; fit = tt }
+
+module _ (a b : State) (p : Alters meta_list (put meta_list.key centre_meta) a b) (has : a.now.schema ≡ centre_schema) where
+  blank_still : {X : Type 0} (m : ListOf X) → m.table.tree ≢ 0 → IsNoIndex centre_schema m.table.tree → a.now.trees m.table.tree ≡ [] → Holds m (b.now.trees m.table.tree) []
+  blank_still m apart free none = other meta_list refl (put meta_list.key centre_meta) a b p m [] has apart free (holds_none m _ none)
+
+pub declared : (a b : State) → Alters meta_list (put meta_list.key centre_meta) a b → Declares a.now b.now
+declared a b p has first next none setup = record {
+  schema = p.schema has;
+  meta = p.changed has [] (holds_none meta_list _ first.meta);
+  messages = blank_still a b p has message_list (λ (e : 2 ≡ 0). omega (arith, e)) free_2 first.messages;
+  parts = blank_still a b p has part_list (λ (e : 4 ≡ 0). omega (arith, e)) free_4 first.parts;
+  references = blank_still a b p has reference_list (λ (e : 6 ≡ 0). omega (arith, e)) free_6 next.references;
+  handsets = blank_still a b p has handset_list (λ (e : 8 ≡ 0). omega (arith, e)) free_8 next.handsets;
+  reports = blank_still a b p has report_list (λ (e : 10 ≡ 0). omega (arith, e)) free_10 next.reports;
+  priorities = blank_still a b p has priority_list (λ (e : 12 ≡ 0). omega (arith, e)) free_12 none;
+}
+
+pub founded : (a b c : Database) → Tabulates a b → Declares b c → Founds a c
+founded a b c p q has = let tables = p has in q tables.0 tables.1 tables.2 tables.3

@@ -1,0 +1,25 @@
+-- What a keep has of a store of version 1, which is one of version 2 then.
+use Rattle.std.specs.Prelude.{◌≡◌, ◌⊎◌, Ok}
+use Rattle.sqlite.specs.Effect.{Database}
+use Rattle.sqlite.specs.State.{State}
+use Rattle.sms_store_sql.specs.listing.Transaction.{IsKept}
+use Rattle.sms_store_sql.specs.schema.Blank.{no_tables}
+use Rattle.sms_store_migration.specs.Migrating.{migrated}
+use Rattle.sms_store_migration.specs.Versions.{IsFirstStore}
+use Rattle.sms_store.specs.centre.CentreRows.{IsStoreWith}
+use Rattle.sms_store.specs.centre.Opened.{SaysFirst, SaysNow}
+use Rattle.sms_store.specs.centre.Types.{Rows, Setup, first_rows}
+
+abbrev pub IsFirstStoreWith : Setup → Database → Rows → Type 0
+IsFirstStoreWith setup db rows = IsFirstStore db rows × (rows.setup ≡ setup)
+
+-- what a keep has of the database that it was migrated or opened over
+pub record Migrated (setup : Setup) (old : Database) (new : State) : Type 0 where
+  pub founded : old.schema ≡ no_tables → IsKept (IsStoreWith setup) new (first_rows setup)
+  pub kept : (rows : Rows) → IsStoreWith setup old rows → IsKept (IsStoreWith setup) new rows
+  pub raised : (rows : Rows) → IsFirstStoreWith setup old rows → IsKept (IsStoreWith setup) new (migrated rows)
+  pub ours : (old.schema ≡ no_tables) ⊎ (SaysNow 2 (Ok tt) old ⊎ SaysFirst 1 (Ok tt) old)
+
+-- the same, whatever the setup
+abbrev pub IsMigrated : Database → State → Type 0
+IsMigrated old new = (setup : Setup) → Migrated setup old new

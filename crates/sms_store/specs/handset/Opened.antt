@@ -1,0 +1,44 @@
+-- What a keep has of the database that it was opened over.
+use Rattle.std.specs.Prelude.{◌≡◌, ◌⊎◌, List, Result, Ok, Err, ⊤}
+use Rattle.sqlite.specs.Effect.{Database}
+use Rattle.sqlite.specs.State.{State}
+use Rattle.sqlite.specs.Tree.{Trees}
+use Rattle.sqlite_wal.specs.Recovery.{Image}
+use Rattle.sqlite.specs.Files.{HoldsDatabase}
+use Rattle.sms_rows.specs.declared.keep.error.KeepError.{KeepError}
+use Rattle.sms_rows.specs.declared.keep.error.KeepError.TheVariants.{OldVersion}
+use Rattle.sms_store_sql.specs.listing.Listing.{Holds}
+use Rattle.sms_store_sql.specs.listing.Transaction.{IsKept}
+use Rattle.sms_store_sql.specs.declared.listing.meta.StoreKind.TheVariants.{Handset}
+use Rattle.sms_store_sql.specs.schema.Blank.{no_tables}
+use Rattle.sms_store_sql.specs.schema.Judged.{judged}
+use Rattle.sms_store_tables.specs.handset.HandsetSchema.{handset_schema}
+use Rattle.sms_store.specs.handset.HandsetRows.{IsStoreWith}
+use Rattle.sms_store_tables.specs.handset.MetaList.{meta_list}
+use Rattle.sms_store.specs.handset.Types.{Rows, Setup, Meta, first_rows}
+
+-- the tables are those of a handset's store, and what it says of itself is judged so
+pub record Says (judgement : Result (Unit {0}) KeepError) (db : Database) : Type 0 where
+  pub schema : db.schema ≡ handset_schema
+  pub said : (said : List Meta) → Holds meta_list (db.trees 0) said → judged Handset 1 said ≡ judgement
+
+pub record Opened (setup : Setup) (old : Database) (new : State) : Type 0 where
+  -- a database without tables became the store of a handset's first rows
+  pub founded : old.schema ≡ no_tables → IsKept (IsStoreWith setup) new (first_rows setup)
+  -- the rows of a store are kept as they are
+  pub kept : (rows : Rows) → IsStoreWith setup old rows → IsKept (IsStoreWith setup) new rows
+  -- nothing else is opened
+  pub ours : (old.schema ≡ no_tables) ⊎ Says (Ok tt) old
+
+-- the database that the contents of the files hold, if they hold one
+abbrev pub IsIn : Image → Database → Type 0
+IsIn image db = (trees : Trees) → HoldsDatabase image trees → db.trees ≡ trees
+
+-- an earlier version is told only of a store that says that it is one
+abbrev pub Refuses : KeepError → State → Type 0
+Refuses OldVersion s = Says (Err OldVersion) s.now
+Refuses _ s = ⊤
+
+-- what is found of what a store says of itself
+abbrev pub FindsSaid : Database → List Meta → Type 0
+FindsSaid db found = (said : List Meta) → Holds meta_list (db.trees 0) said → found ≡ said

@@ -1,0 +1,158 @@
+//! Bodies of a store: one query each.
+ghost use Rattle.std.specs.Prelude.{◌≡◌, ◌⊎◌, ◌==◌, ◌%◌, false, true, IfOk, OnErr};
+ghost use Rattle.sqlite.specs.Held.{state};
+ghost use Rattle.sqlite.specs.State.{HasCleanDisk};
+ghost use Rattle.sms_centre_spec.specs.octets.OctetsAt.{kind_octets, octets_at, part_octets, report_octets};
+ghost use Rattle.sms_store_tables.specs.centre.CentreSchema.{centre_schema};
+ghost use Rattle.sms_store_sql.specs.listing.Finding.{first_of};
+ghost use Rattle.sms_store_sql.specs.listing.Transaction.{IsKept};
+ghost use Rattle.sms_store.specs.centre.CentreRows.{IsStoreWith};
+ghost use Rattle.sms_store.specs.centre.Reading.{FindsPart, FindsReports};
+ghost use Rattle.sms_store.specs.centre.Types.{Rows as RowsOf};
+
+use crate::centre::keep::CentreKeep;
+use sms_base::Octets;
+use sms_centre_rows::messages::PartRow;
+use sms_centre_rows::reports::{ReportKind, ReportRow};
+use sms_rows::keep::{BodyKeep, KeepError};
+use sms_rows::table::Key;
+use sms_store_sql::listing::{Lookup, find, load_cause_of, look, seek};
+use sms_store_tables::centre::CentreStore;
+use sqlite::{Alter, Error, Transaction};
+use std::alloc::Global;
+
+/// The part of a key.
+#[derive(Drop)]
+struct PartAt {
+    key: Key,
+}
+
+impl Lookup for PartAt {
+    type Found = Option<PartRow>;
+
+    ghost schema = { λ lookup. centre_schema };
+
+    ghost finds = { λ lookup db found. FindsPart lookup.key db found };
+
+    fn read<S: Alter>(
+        &self,
+        alloc: Global,
+        tx: &mut Transaction<'_, S>,
+    ) -> Result<Option<PartRow>, Error> {
+        find::<CentreStore, PartRow, S>(alloc, tx, self.key)
+    }
+}
+
+/// The reports of a message.
+#[derive(Drop)]
+struct ReportsOf {
+    id: u128,
+}
+
+impl Lookup for ReportsOf {
+    type Found = Vec<ReportRow>;
+
+    ghost schema = { λ lookup. centre_schema };
+
+    ghost finds = { λ lookup db found. FindsReports lookup.id db found.items };
+
+    fn read<S: Alter>(
+        &self,
+        alloc: Global,
+        tx: &mut Transaction<'_, S>,
+    ) -> Result<Vec<ReportRow>, Error> {
+        seek::<CentreStore, ReportRow, S>(alloc, tx, self.id)
+    }
+}
+
+fn octets_of_part(part: Option<PartRow>) -> Option<Octets>
+    ensures { result ≡ part_octets part }
+{
+    match part {
+        Some(part) => Some(part.tpdu),
+        None => None,
+    }
+}
+
+fn octets_of_kind(kind: ReportKind) -> Option<Octets>
+    ensures { result ≡ kind_octets kind }
+{
+    match kind {
+        ReportKind::Status { tpdu, .. } => Some(tpdu),
+        ReportKind::Receipt | ReportKind::Unsent => None,
+    }
+}
+
+fn octets_of_first(reports: Vec<ReportRow>) -> Option<Octets>
+    ensures { result ≡ report_octets (first_of reports.items) }
+{
+    match reports.into_iter().next() {
+        Some(report) => octets_of_kind(report.kind),
+        None => None,
+    }
+}
+
+impl<S: Alter> CentreKeep<S> {
+    fn part_octets(&mut self, key: Key) -> Result<Option<Octets>, KeepError>
+        ensures ok { HasCleanDisk (state S.Store self.new.conn) → (key % 256 == 0) ≡ false → (rows : RowsOf) → IsKept (IsStoreWith self.old.setup) (state S.Store self.old.conn) rows
+            → IfOk result (λ octets. (octets ≡ octets_at rows key) × IsKept (IsStoreWith self.new.setup) (state S.Store self.new.conn) rows) }
+        ensures err { HasCleanDisk (state S.Store self.new.conn) → (rows : RowsOf) → IsKept (IsStoreWith self.old.setup) (state S.Store self.old.conn) rows
+            → OnErr result (IsKept (IsStoreWith self.new.setup) (state S.Store self.new.conn) rows ⊎ ((state S.Store self.new.conn).is_open ≡ false)) }
+        ensures before { HasCleanDisk (state S.Store self.new.conn) → HasCleanDisk (state S.Store self.old.conn) }
+        ensures same { self.new.refusals ≡ self.old.refusals }
+    {
+        match look(self.alloc, &mut self.conn, &PartAt { key }) {
+            Ok(part) => Ok(octets_of_part(part)),
+            Err(error) => Err(load_cause_of(error)),
+        }
+    }
+
+    fn report_octets(&mut self, key: Key) -> Result<Option<Octets>, KeepError>
+        ensures ok { HasCleanDisk (state S.Store self.new.conn) → (key % 256 == 0) ≡ true → (rows : RowsOf) → IsKept (IsStoreWith self.old.setup) (state S.Store self.old.conn) rows
+            → IfOk result (λ octets. (octets ≡ octets_at rows key) × IsKept (IsStoreWith self.new.setup) (state S.Store self.new.conn) rows) }
+        ensures err { HasCleanDisk (state S.Store self.new.conn) → (rows : RowsOf) → IsKept (IsStoreWith self.old.setup) (state S.Store self.old.conn) rows
+            → OnErr result (IsKept (IsStoreWith self.new.setup) (state S.Store self.new.conn) rows ⊎ ((state S.Store self.new.conn).is_open ≡ false)) }
+        ensures before { HasCleanDisk (state S.Store self.new.conn) → HasCleanDisk (state S.Store self.old.conn) }
+        ensures same { self.new.refusals ≡ self.old.refusals }
+    {
+        let lookup = ReportsOf {
+            id: key.number() / 256,
+        };
+        match look(self.alloc, &mut self.conn, &lookup) {
+            Ok(reports) => Ok(octets_of_first(reports)),
+            Err(error) => Err(load_cause_of(error)),
+        }
+    }
+
+    fn octets_under(&mut self, key: Key) -> Result<Option<Octets>, KeepError>
+        ensures ok { HasCleanDisk (state S.Store self.new.conn) → (rows : RowsOf) → IsKept (IsStoreWith self.old.setup) (state S.Store self.old.conn) rows
+            → IfOk result (λ octets. (octets ≡ octets_at rows key) × IsKept (IsStoreWith self.new.setup) (state S.Store self.new.conn) rows) }
+        ensures err { HasCleanDisk (state S.Store self.new.conn) → (rows : RowsOf) → IsKept (IsStoreWith self.old.setup) (state S.Store self.old.conn) rows
+            → OnErr result (IsKept (IsStoreWith self.new.setup) (state S.Store self.new.conn) rows ⊎ ((state S.Store self.new.conn).is_open ≡ false)) }
+        ensures before { HasCleanDisk (state S.Store self.new.conn) → HasCleanDisk (state S.Store self.old.conn) }
+        ensures same { self.new.refusals ≡ self.old.refusals }
+    {
+        if key.number() % 256 == 0 {
+            self.report_octets(key)
+        } else {
+            self.part_octets(key)
+        }
+    }
+}
+
+impl<S: Alter> BodyKeep for CentreKeep<S> {
+    ghost body_of = { octets_at };
+
+    fn body(&mut self, key: Key) -> Result<Option<Octets>, KeepError> {
+        match self.octets_under(key) {
+            Ok(octets) => {
+                self.refusals.answer();
+                Ok(octets)
+            }
+            Err(error) => {
+                self.refusals.read(key);
+                Err(error)
+            }
+        }
+    }
+}

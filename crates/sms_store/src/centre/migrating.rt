@@ -1,0 +1,119 @@
+//! A keep of a store of version 1, which becomes one of version 2.
+ghost use Rattle.std.specs.Prelude.{◌≡◌, false, IfErr, IfOk, OnOk};
+ghost use Rattle.sqlite.specs.Files.{file_state};
+ghost use Rattle.sqlite.specs.Held.{state};
+ghost use Rattle.sqlite.specs.Effect.{Database, IsDatabase};
+ghost use Rattle.sqlite.specs.State.{HasCleanDisk};
+ghost use Rattle.sqlite_wal.specs.Files.{image_at};
+ghost use Rattle.sms_store_sql.specs.listing.Transaction.{Committed};
+ghost use Rattle.sms_store_migration.specs.Migrating.{Migrates};
+ghost use Rattle.sms_store.specs.centre.Migrating.{IsMigrated, Migrated};
+ghost use Rattle.sms_store_tables.specs.centre.CentreSchema.{first_schema};
+ghost use Rattle.sms_store_tables.specs.centre.FirstMetaList.{meta_list as first_list};
+ghost use Rattle.sms_store.specs.centre.Opened.{IsIn, Refused, Refuses, SaysFirst};
+ghost use Rattle.sms_store.specs.centre.Stopping.{IsAsItWas, LeavesRaised, LeavesStore};
+
+use crate::centre::keep::CentreKeep;
+use crate::centre::readying::{judge_first, ready_current};
+use sms_centre_spec::Setup;
+use sms_rows::keep::{KeepError, Refusals};
+use sms_store_migration::raise;
+use sms_store_sql::listing::write_cause_of;
+use sms_store_tables::centre::is_first_schema;
+use sqlite::{Alter, Connection, File, FileFrom, FileStore, Start, Unknown};
+use std::alloc::Global;
+
+// Makes a store that says that it is of version 1 one of version 2.
+fn raise_first<S: Alter>(alloc: Global, conn: &mut Connection<S>) -> Result<(), KeepError>
+    ensures mode { conn.old.in_transaction ≡ false → conn.new.in_transaction ≡ false }
+    ensures clean { HasCleanDisk (state S.Store conn.new) → HasCleanDisk (state S.Store conn.old) }
+    ensures ok { HasCleanDisk (state S.Store conn.new) → (state S.Store conn.old).now.schema ≡ first_schema → OnOk result (Committed Migrates (state S.Store conn.old) (state S.Store conn.new) × SaysFirst 1 (Ok tt) (state S.Store conn.old).now) }
+    ensures err { HasCleanDisk (state S.Store conn.new) → (state S.Store conn.old).now.schema ≡ first_schema → IfErr result (λ error. Refused first_schema first_list 1 error (state S.Store conn.old).now × IsAsItWas (state S.Store conn.old) (state S.Store conn.new)) }
+    ensures stop { (state S.Store conn.old).now.schema ≡ first_schema → LeavesStore (state S.Store conn.old) (state S.Store conn.new) }
+{
+    match judge_first(alloc, conn, 1) {
+        Ok(()) => raise(alloc, conn),
+        Err(error) => Err(error),
+    }
+}
+
+// Makes a database ready as `ready` does, and a store of version 1 one of version 2.
+fn ready_raised<S: Alter>(alloc: Global, conn: &mut Connection<S>) -> Result<(), KeepError>
+    ensures mode { conn.old.in_transaction ≡ false → conn.new.in_transaction ≡ false }
+    ensures clean { HasCleanDisk (state S.Store conn.new) → HasCleanDisk (state S.Store conn.old) }
+    ensures ok { HasCleanDisk (state S.Store conn.new) → OnOk result (IsMigrated (state S.Store conn.old).now (state S.Store conn.new)) }
+    ensures err { HasCleanDisk (state S.Store conn.new) → IfErr result (λ error. Refuses 1 error (state S.Store conn.old) × IsAsItWas (state S.Store conn.old) (state S.Store conn.new)) }
+    ensures stop { LeavesStore (state S.Store conn.old) (state S.Store conn.new) }
+{
+    if !is_first_schema(conn.schema()) {
+        return ready_current(alloc, conn);
+    }
+    raise_first(alloc, conn)
+}
+
+impl<S: Alter + Drop> CentreKeep<S> {
+    /// Opens as `over` does, and makes a store of version 1 one of version 2 first. An error gives the connection back: it is as it
+    /// was, or closed. A stop inside the call leaves a store of version 1 as it was, or one of version 2 with the same rows; once the
+    /// keep is there, a stop leaves what the keep has.
+    pub fn migrate_over(
+        alloc: Global,
+        conn: Connection<S>,
+        setup: Setup,
+    ) -> Result<CentreKeep<S>, (KeepError, Connection<S>)>
+        ensures migrated { IfOk result (λ keep. HasCleanDisk (state S.Store keep.conn) → Migrated setup (state S.Store conn).now (state S.Store keep.conn)) }
+        ensures setup { IfOk result (λ keep. keep.setup ≡ setup) }
+        ensures clean { IfOk result (λ keep. HasCleanDisk (state S.Store keep.conn) → HasCleanDisk (state S.Store conn)) }
+        ensures settled { IfOk result (λ keep. HasCleanDisk (state S.Store keep.conn) → LeavesRaised setup (state S.Store conn).now (state S.Store keep.conn)) }
+        ensures mode { IfErr result (λ e. conn.in_transaction ≡ false → e.1.in_transaction ≡ false) }
+        ensures refused { IfErr result (λ e. HasCleanDisk (state S.Store e.1) → Refuses 1 e.0 (state S.Store conn)) }
+        ensures unchanged { IfErr result (λ e. HasCleanDisk (state S.Store e.1) → IsAsItWas (state S.Store conn) (state S.Store e.1)) }
+        ensures stop { IfErr result (λ e. LeavesStore (state S.Store conn) (state S.Store e.1)) }
+    {
+        let mut conn = conn;
+        match ready_raised(alloc, &mut conn) {
+            Ok(()) => Ok(CentreKeep {
+                conn,
+                setup,
+                alloc,
+                refusals: Refusals::none(),
+            }),
+            Err(error) => Err((error, conn)),
+        }
+    }
+}
+
+impl<T: Start> CentreKeep<FileStore<FileFrom<T>>> {
+    /// Opens the file at the path as `open_from` does, and makes a store of version 1 one of version 2 first.
+    pub fn migrate_from(
+        rt: &HostRuntime,
+        path: &str,
+        start: T,
+        setup: Setup,
+    ) -> Result<CentreKeep<FileStore<FileFrom<T>>>, KeepError>
+        ensures migrated { IfOk result (λ keep. (old : Database) × (HasCleanDisk (file_state keep.conn) → IsDatabase old × IsIn (image_at T.Start) old × Migrated setup old (file_state keep.conn) × LeavesRaised setup old (file_state keep.conn))) }
+        ensures setup { IfOk result (λ keep. keep.setup ≡ setup) }
+    {
+        let conn = match Connection::open_from(rt, path, false, start) {
+            Ok(conn) => conn,
+            Err((error, _)) => return Err(write_cause_of(error)),
+        };
+        match CentreKeep::migrate_over(rt.alloc(), conn, setup) {
+            Ok(keep) => Ok(keep),
+            Err((error, _)) => Err(error),
+        }
+    }
+}
+
+impl CentreKeep<FileStore<File>> {
+    /// Opens the file at the path as `open` does, and makes a store of version 1 one of version 2 first.
+    pub fn migrate(
+        rt: &HostRuntime,
+        path: &str,
+        setup: Setup,
+    ) -> Result<CentreKeep<FileStore<File>>, KeepError>
+        ensures migrated { IfOk result (λ keep. (old : Database) × (HasCleanDisk (file_state keep.conn) → IsDatabase old × Migrated setup old (file_state keep.conn) × LeavesRaised setup old (file_state keep.conn))) }
+        ensures setup { IfOk result (λ keep. keep.setup ≡ setup) }
+    {
+        CentreKeep::migrate_from(rt, path, Unknown, setup)
+    }
+}

@@ -1,0 +1,17 @@
+//! A handset's store: its rows in a database that `sqlite3` opens.
+//!
+//! The tables are those of `sms_store_tables::handset`, and one row of counters. `HandsetKeep` commits the changes of an event in
+//! one transaction and loads the rows; a stop inside a call leaves the rows before it or after it. `HandsetKeep::open`,
+//! `open_from`, `over` and `in_memory` make one.
+
+mod all;
+mod commit;
+mod counters;
+mod founding;
+mod keep;
+mod opening;
+mod said;
+
+pub use counters::CountersRow;
+pub use keep::HandsetKeep;
+pub use opening::in_memory;

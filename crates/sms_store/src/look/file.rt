@@ -1,0 +1,51 @@
+//! A look at the store at a path.
+use crate::look::looked::look_over;
+use sms_base::{Address, Listed, Moment};
+use sms_centre_spec::{Rows, Setup};
+use sms_rows::keep::KeepError;
+use sms_store_sql::listing::load_cause_of;
+use sms_store_sql::snapshot::{DatabaseCopy, connect, copy_at};
+use std::alloc::Global;
+use std::io::ErrorKind;
+
+// The first second of the year 2000.
+const FIRST_SECOND: u64 = 946_684_800;
+
+// The setup of a look: what stands in a store does not depend on it.
+fn any_setup(alloc: Global) -> Result<Setup, KeepError> {
+    match (Address::new(1, 1, "0"), Moment::from_seconds(FIRST_SECOND)) {
+        (Ok(centre), Ok(start)) => Ok(Setup {
+            centre,
+            start,
+            accounts: Listed::new(alloc),
+        }),
+        _ => Err(KeepError::NotThisStore),
+    }
+}
+
+fn copy_of(rt: &HostRuntime, path: &str) -> Result<DatabaseCopy, KeepError> {
+    match copy_at(rt, path) {
+        Ok(copy) => Ok(copy),
+        Err(error) if error.kind() == ErrorKind::OutOfMemory => Err(KeepError::NoMemory),
+        Err(_) => Err(KeepError::Disk),
+    }
+}
+
+fn look_at(alloc: Global, copy: &DatabaseCopy) -> Result<Rows, KeepError> {
+    let setup = any_setup(alloc)?;
+    match connect(alloc, copy) {
+        Ok(conn) => {
+            let looked = look_over(alloc, conn, setup)?;
+            Ok(looked.rows)
+        }
+        Err(error) => Err(load_cause_of(error)),
+    }
+}
+
+/// The rows of the centre's store at the path, by a copy of its files in memory: a server may have it open, and none of it is
+/// changed. The setup among them says nothing. A store of version 1 is `OldVersion`, what is no store of a centre `NotThisStore`, and a
+/// file that is not there `Disk`.
+pub fn rows_at(rt: &HostRuntime, path: &str) -> Result<Rows, KeepError> {
+    let copy = copy_of(rt, path)?;
+    look_at(rt.alloc(), &copy)
+}

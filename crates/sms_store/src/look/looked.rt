@@ -1,0 +1,69 @@
+//! A look at the database of a connection.
+ghost use Rattle.std.specs.Prelude.{◌≡◌, IfOk};
+ghost use Rattle.sqlite.specs.Held.{state};
+ghost use Rattle.sqlite.specs.State.{HasCleanDisk};
+ghost use Rattle.sms_store_migration.specs.Versions.{IsStore};
+ghost use Rattle.sms_store.specs.centre.CentreRows.{IsStoreWith};
+ghost use Rattle.sms_store.specs.centre.Opened.{Opened};
+ghost use Rattle.sms_store.specs.centre.Types.{Rows as RowsOf};
+ghost use Rattle.sms_store_sql.specs.listing.Transaction.{IsKept};
+
+use crate::centre::CentreKeep;
+use sms_centre_spec::{Rows, Setup};
+use sms_rows::keep::{Keep, KeepError};
+use sms_store_tables::centre::{is_centre_schema, is_first_schema};
+use sqlite::{Alter, Connection};
+use std::alloc::Global;
+
+/// What was found, and the connection by which it was found.
+#[derive(Drop)]
+pub struct Looked<S: Alter> {
+    pub rows: Rows,
+    pub conn: Connection<S>,
+}
+
+// The keep of a store that stands. A database without tables would become a new store, so it is refused.
+fn keep_over<S: Alter + Drop>(
+    alloc: Global,
+    conn: Connection<S>,
+    setup: Setup,
+) -> Result<CentreKeep<S>, KeepError>
+    ensures opened { IfOk result (λ keep. HasCleanDisk (state S.Store keep.conn) → Opened setup (state S.Store conn).now (state S.Store keep.conn)) }
+    ensures setup { IfOk result (λ keep. keep.setup ≡ setup) }
+{
+    if is_centre_schema(conn.schema()) || is_first_schema(conn.schema()) {
+        CentreKeep::over(alloc, conn, setup)
+    } else {
+        Err(KeepError::NotThisStore)
+    }
+}
+
+// All rows of a keep.
+fn look_in<S: Alter + Drop>(keep: CentreKeep<S>) -> Result<Looked<S>, KeepError>
+    ensures clean { IfOk result (λ looked. HasCleanDisk (state S.Store looked.conn) → HasCleanDisk (state S.Store keep.conn)) }
+    ensures found { IfOk result (λ looked. HasCleanDisk (state S.Store looked.conn) → (rows : RowsOf) → IsKept (IsStoreWith keep.setup) (state S.Store keep.conn) rows
+        → (looked.rows ≡ rows) × IsKept IsStore (state S.Store looked.conn) rows) }
+{
+    let mut keep = keep;
+    let rows = keep.load()?;
+    Ok(Looked {
+        rows,
+        conn: keep.into_connection(),
+    })
+}
+
+/// The rows of the centre's store that the connection is to. The setup is not stored: what is handed in stands among the rows. A
+/// store of version 1 is `OldVersion`, and what is no store of a centre `NotThisStore`.
+pub fn look_over<S: Alter + Drop>(
+    alloc: Global,
+    conn: Connection<S>,
+    setup: Setup,
+) -> Result<Looked<S>, KeepError>
+    // Whatever rows the database is the store of, they are found, and it is the store of them still.
+    ensures found { IfOk result (λ looked. HasCleanDisk (state S.Store looked.conn) → (rows : RowsOf) → IsStoreWith setup (state S.Store conn).now rows
+        → (looked.rows ≡ rows) × IsKept IsStore (state S.Store looked.conn) rows) }
+{
+    let keep = keep_over(alloc, conn, setup)?;
+    let looked = look_in(keep)?;
+    Ok(looked)
+}

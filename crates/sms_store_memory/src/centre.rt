@@ -1,0 +1,12 @@
+//! A centre's rows in memory, for runs without a store.
+//!
+//! `MemoryKeep` is a keep like the one over a database: a commit makes all changes or none. It is refused only where a growth
+//! was refused, and never closed. It reads bodies too, so it is the store of a centre.
+
+mod bodies;
+mod copies;
+mod gathering;
+mod keep;
+mod revisions;
+
+pub use keep::MemoryKeep;

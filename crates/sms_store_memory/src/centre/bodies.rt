@@ -1,0 +1,88 @@
+//! Bodies of a keep in memory.
+ghost use Rattle.std.specs.Prelude.{◌≡◌, IfOk, option_copied};
+ghost use Rattle.sms_centre_spec.specs.octets.OctetsAt.{kind_octets, octets_at, part_octets, report_octets};
+ghost use Rattle.sms_centre_rows.specs.messages.Messages.{part_key};
+ghost use Rattle.sms_rows.specs.table.Table.{row_at};
+ghost use Rattle.sms_centre_rows.specs.reports.Reports.{report_of};
+ghost use Rattle.sms_store_memory.specs.centre.RowsInKeep.{rows_in};
+
+use crate::centre::keep::MemoryKeep;
+use sms_base::Octets;
+use sms_centre_rows::reports::{ReportKind, ReportRow};
+use sms_centre_spec::octets::copy_of_octets;
+use sms_rows::keep::{BodyKeep, KeepError};
+use sms_rows::table::Key;
+use std::alloc::{AllocError, Global};
+
+fn report_on<'a>(id: u128, reports: &'a [ReportRow]) -> Option<&'a ReportRow>
+    ensures { option_copied result ≡ report_of id reports.entry.now }
+{
+    for report in reports {
+        if u128::from(report.id.number()) == id {
+            return Some(report);
+        }
+    }
+    None
+}
+
+fn octets_of_kind(alloc: Global, kind: &ReportKind) -> Result<Option<Octets>, AllocError>
+    ensures { IfOk result (λ octets. octets ≡ kind_octets kind.now) }
+{
+    match kind {
+        ReportKind::Status { tpdu, .. } => {
+            let octets = copy_of_octets(alloc, tpdu)?;
+            Ok(Some(octets))
+        }
+        ReportKind::Receipt | ReportKind::Unsent => Ok(None),
+    }
+}
+
+impl MemoryKeep {
+    fn part_octets(&self, key: Key) -> Result<Option<Octets>, AllocError>
+        ensures { IfOk result (λ octets. octets ≡ part_octets (row_at part_key key self.now.parts.rows)) }
+    {
+        match self.parts.find(key) {
+            Some(part) => {
+                let octets = copy_of_octets(self.alloc, &part.tpdu)?;
+                Ok(Some(octets))
+            }
+            None => Ok(None),
+        }
+    }
+
+    fn report_octets(&self, id: u128) -> Result<Option<Octets>, AllocError>
+        ensures { IfOk result (λ octets. octets ≡ report_octets (report_of id self.now.reports.rows)) }
+    {
+        match report_on(id, self.reports.as_slice()) {
+            Some(report) => octets_of_kind(self.alloc, &report.kind),
+            None => Ok(None),
+        }
+    }
+
+    fn octets_under(&self, key: Key) -> Result<Option<Octets>, AllocError>
+        ensures { IfOk result (λ octets. octets ≡ octets_at (rows_in self.now) key) }
+    {
+        if key.number() % 256 == 0 {
+            self.report_octets(key.number() / 256)
+        } else {
+            self.part_octets(key)
+        }
+    }
+}
+
+impl BodyKeep for MemoryKeep {
+    ghost body_of = { octets_at };
+
+    fn body(&mut self, key: Key) -> Result<Option<Octets>, KeepError> {
+        match self.octets_under(key) {
+            Ok(octets) => {
+                self.refusals.answer();
+                Ok(octets)
+            }
+            Err(_) => {
+                self.refusals.read(key);
+                Err(KeepError::NoMemory)
+            }
+        }
+    }
+}

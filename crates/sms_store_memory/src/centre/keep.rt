@@ -1,0 +1,182 @@
+//! The keep in memory.
+ghost use Rattle.std.specs.Prelude.{◌≡◌, ⊤, IfOk};
+ghost use Rattle.sms_centre_spec.specs.Draft.{rows_after};
+ghost use Rattle.sms_centre_spec.specs.SoundRows.{first_rows};
+ghost use Rattle.sms_store_memory.specs.centre.RowsInKeep.{AreReady, changes_of, rows_in};
+
+use crate::centre::revisions::ready_copy;
+use crate::revising::{Ready, adopt_revisions};
+use sms_base::Listed;
+use sms_centre_rows::messages::{MessageRow, PartRow, PriorityRow};
+use sms_centre_rows::reports::ReportRow;
+use sms_centre_rows::waiting::{HandsetRow, ReferenceRow};
+use sms_centre_spec::octets::copy_of_setup;
+use sms_centre_spec::{Changes, Rows, Setup};
+use sms_rows::keep::{Keep, KeepError, Refusals};
+use sms_rows::memory::{copy_of_rows, settled_copy};
+use sms_rows::table::{Settled, Table, adopt};
+use std::alloc::{AllocError, Global};
+
+/// The rows of a centre, in memory.
+#[derive(Drop)]
+pub struct MemoryKeep {
+    pub messages: Table<MessageRow>,
+    pub parts: Table<PartRow>,
+    pub references: Table<ReferenceRow>,
+    pub handsets: Table<HandsetRow>,
+    pub reports: Table<ReportRow>,
+    pub priorities: Table<PriorityRow>,
+    /// Handed in at the start.
+    pub setup: Setup,
+    pub alloc: Global,
+    pub(crate) refusals: Refusals,
+}
+
+// The changes of an event, copied, with the memory for them.
+#[derive(Drop)]
+pub(crate) struct Readied {
+    messages: Settled<MessageRow>,
+    parts: Ready<PartRow>,
+    references: Settled<ReferenceRow>,
+    handsets: Settled<HandsetRow>,
+    reports: Ready<ReportRow>,
+    priorities: Settled<PriorityRow>,
+}
+
+impl MemoryKeep {
+    /// Keeps a centre's first rows.
+    pub fn new(alloc: Global, setup: Setup) -> MemoryKeep
+        ensures { rows_in result ≡ first_rows setup }
+    {
+        MemoryKeep {
+            messages: Table::new(alloc),
+            parts: Table::new(alloc),
+            references: Table::new(alloc),
+            handsets: Table::new(alloc),
+            reports: Table::new(alloc),
+            priorities: Table::new(alloc),
+            setup,
+            alloc,
+            refusals: Refusals::none(),
+        }
+    }
+
+    fn readied(&self, changes: &Changes) -> Result<Readied, AllocError>
+        ensures same { IfOk result (λ readied. changes_of readied ≡ changes.now) }
+        ensures ready { IfOk result (λ readied. AreReady readied self.now) }
+    {
+        let alloc = self.alloc;
+        let messages = settled_copy::<MemoryKeep, MessageRow>(
+            alloc,
+            &self.messages,
+            changes.messages.as_slice(),
+        )?;
+        let parts = ready_copy(alloc, &self.parts, changes.parts.as_slice())?;
+        let references = settled_copy::<MemoryKeep, ReferenceRow>(
+            alloc,
+            &self.references,
+            changes.references.as_slice(),
+        )?;
+        let handsets = settled_copy::<MemoryKeep, HandsetRow>(
+            alloc,
+            &self.handsets,
+            changes.handsets.as_slice(),
+        )?;
+        let reports = ready_copy(alloc, &self.reports, changes.reports.as_slice())?;
+        let priorities = settled_copy::<MemoryKeep, PriorityRow>(
+            alloc,
+            &self.priorities,
+            changes.priorities.as_slice(),
+        )?;
+        Ok(Readied {
+            messages,
+            parts,
+            references,
+            handsets,
+            reports,
+            priorities,
+        })
+    }
+
+    fn take(&mut self, readied: Readied)
+        requires { AreReady readied self.old }
+        ensures rows { rows_in self.new ≡ rows_after (changes_of readied) (rows_in self.old) }
+        ensures refusals { self.new.refusals ≡ self.old.refusals }
+    {
+        adopt(&mut self.messages, readied.messages);
+        adopt_revisions::<MemoryKeep, PartRow>(&mut self.parts, readied.parts);
+        adopt(&mut self.references, readied.references);
+        adopt(&mut self.handsets, readied.handsets);
+        adopt_revisions::<MemoryKeep, ReportRow>(&mut self.reports, readied.reports);
+        adopt(&mut self.priorities, readied.priorities);
+    }
+
+    fn copy_of_all(&self) -> Result<Rows, AllocError>
+        ensures { IfOk result (λ rows. rows ≡ rows_in self.now) }
+    {
+        let alloc = self.alloc;
+        let messages = copy_of_rows::<MemoryKeep, MessageRow>(alloc, self.messages.as_slice())?;
+        let parts = copy_of_rows::<MemoryKeep, PartRow>(alloc, self.parts.as_slice())?;
+        let references = copy_of_rows::<MemoryKeep, ReferenceRow>(
+            alloc,
+            self.references.as_slice(),
+        )?;
+        let handsets = copy_of_rows::<MemoryKeep, HandsetRow>(alloc, self.handsets.as_slice())?;
+        let reports = copy_of_rows::<MemoryKeep, ReportRow>(alloc, self.reports.as_slice())?;
+        let priorities = copy_of_rows::<MemoryKeep, PriorityRow>(
+            alloc,
+            self.priorities.as_slice(),
+        )?;
+        let setup = copy_of_setup(alloc, &self.setup)?;
+        Ok(Rows {
+            messages: Listed::from_vec(messages),
+            parts: Listed::from_vec(parts),
+            references: Listed::from_vec(references),
+            handsets: Listed::from_vec(handsets),
+            reports: Listed::from_vec(reports),
+            priorities: Listed::from_vec(priorities),
+            setup,
+        })
+    }
+}
+
+impl Keep for MemoryKeep {
+    type Rows = Rows;
+
+    type Changes = Changes;
+
+    ghost after = { λ changes rows. rows_after changes rows };
+
+    ghost holds = { λ keep rows. rows_in keep ≡ rows };
+
+    ghost is_honest = { λ keep. ⊤ };
+
+    ghost is_closed = { λ keep. ⊥ };
+
+    ghost may_leave = { λ keep left. rows_in keep ≡ left };
+
+    ghost refusals = { λ keep. keep.refusals };
+
+    fn commit(&mut self, changes: &Changes) -> Result<(), KeepError> {
+        match self.readied(changes) {
+            Ok(readied) => {
+                self.take(readied);
+                Ok(())
+            }
+            Err(_) => {
+                self.refusals.call();
+                Err(KeepError::NoMemory)
+            }
+        }
+    }
+
+    fn load(&mut self) -> Result<Rows, KeepError> {
+        match self.copy_of_all() {
+            Ok(rows) => Ok(rows),
+            Err(_) => {
+                self.refusals.call();
+                Err(KeepError::NoMemory)
+            }
+        }
+    }
+}

@@ -1,0 +1,9 @@
+//! A handset's rows in memory, for runs without a store.
+//!
+//! `MemoryKeep` is a keep like the one over a database: a commit makes all changes or none. It is refused only where a growth
+//! was refused, and never closed.
+
+mod copies;
+mod keep;
+
+pub use keep::MemoryKeep;

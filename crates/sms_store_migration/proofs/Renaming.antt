@@ -1,0 +1,64 @@
+-- What a whole migration makes of a store of version 1.
+use Rattle.std.proofs.Common.{◌≡◌, ◌⊎◌, inl, inr, IsTrue, List, [], ◌∷◌, sym, ap, subst, ◌∙◌, arith}
+use Rattle.sqlite.specs.Effect.{Database}
+use Rattle.sqlite.specs.Order.{Row}
+use Rattle.sqlite.specs.State.{State}
+use Rattle.sqlite.specs.Tree.{Trees}
+use Rattle.sms_rows.specs.table.Table.{put, without}
+use Rattle.sms_store_sql.specs.listing.Inside.{Alters}
+use Rattle.sms_store_sql.specs.listing.Listing.{ListOf, Holds}
+use Rattle.sms_store_sql.specs.listing.Transaction.{Leaves, IsKept}
+use Rattle.sms_store_tables.specs.centre.MetaList.{meta_list}
+use Rattle.sms_store_tables.specs.centre.FirstMetaList.{meta_list as first_list}
+use Rattle.sms_store_tables.specs.centre.MessageList.{message_list}
+use Rattle.sms_store_tables.specs.centre.PartList.{part_list}
+use Rattle.sms_store_tables.specs.centre.ReferenceList.{reference_list}
+use Rattle.sms_store_tables.specs.centre.HandsetList.{handset_list}
+use Rattle.sms_store_tables.specs.centre.ReportList.{report_list}
+use Rattle.sms_store_tables.specs.centre.PriorityList.{priority_list}
+use Rattle.sms_store_migration.specs.Migrating.{Completes, Ranks, Renames, Migrates, migrated}
+use Rattle.sms_store_migration.specs.Versions.{AreStore, IsFirstStore, centre_meta, first_meta}
+use Rattle.sms_store_migration.specs.Types.{Rows, Meta}
+use Rattle.sms_store_migration.proofs.Apart.{free_0, free_2, free_4, free_6, free_8, free_10, free_12}
+
+-- what a list holds it holds in the same rows
+moved : {X : Type 0} (l : ListOf X) (rows others : List Row) (xs : List X) → others ≡ rows → Holds l rows xs → Holds l others xs
+moved l rows others xs same held = subst (λ rs. Holds l rs xs) (sym same) held
+
+-- the row of the store is the same in both versions
+said_now : (rows : List Row) (said : List Meta) → Holds first_list rows said → Holds meta_list rows said
+said_now rows said h = record { entries = h.entries; keyed = h.keyed; stored = h.stored; shown = h.shown; rises = h.rises; fit = h.fit }
+
+pub renames : (a b c : State) → Alters meta_list (without meta_list.key 1) a b → Alters meta_list (put meta_list.key centre_meta) b c → Renames a.now c.now
+renames a b c p q has held =
+    let mid = p.schema has in
+    record {
+      schema = q.schema mid;
+      meta = q.changed mid [] (p.changed has (first_meta ∷ []) held);
+      others = λ tree apart free. q.others mid tree apart free ∙ p.others has tree apart free;
+    }
+
+-- the three steps, one after another
+pub migrates : (a b c d : Database) → Completes a b → Ranks b c → Renames c d → Migrates a d
+migrates a b c d p q r rows is =
+    let made = p is.schema in
+    let ranked = q made.schema made.empty rows.messages (moved message_list (a.trees 2) (b.trees 2) rows.messages made.others.1.0 is.messages) in
+    let named = r ranked.schema (moved meta_list (a.trees 0) (c.trees 0) (first_meta ∷ []) (ranked.others 0 (λ (e : 0 ≡ 12). omega (arith, e)) free_0 ∙ made.others.0) (said_now _ _ is.meta)) in
+    record {
+      schema = named.schema;
+      meta = named.meta;
+      messages = moved message_list (a.trees 2) (d.trees 2) rows.messages (named.others 2 (λ (e : 2 ≡ 0). omega (arith, e)) free_2 ∙ ranked.others 2 (λ (e : 2 ≡ 12). omega (arith, e)) free_2 ∙ made.others.1.0) is.messages;
+      parts = moved part_list (a.trees 4) (d.trees 4) rows.parts (named.others 4 (λ (e : 4 ≡ 0). omega (arith, e)) free_4 ∙ ranked.others 4 (λ (e : 4 ≡ 12). omega (arith, e)) free_4 ∙ made.others.1.1.0) is.parts;
+      references = moved reference_list (a.trees 6) (d.trees 6) rows.references (named.others 6 (λ (e : 6 ≡ 0). omega (arith, e)) free_6 ∙ ranked.others 6 (λ (e : 6 ≡ 12). omega (arith, e)) free_6 ∙ made.others.1.1.1.0) is.references;
+      handsets = moved handset_list (a.trees 8) (d.trees 8) rows.handsets (named.others 8 (λ (e : 8 ≡ 0). omega (arith, e)) free_8 ∙ ranked.others 8 (λ (e : 8 ≡ 12). omega (arith, e)) free_8 ∙ made.others.1.1.1.1.0) is.handsets;
+      reports = moved report_list (a.trees 10) (d.trees 10) rows.reports (named.others 10 (λ (e : 10 ≡ 0). omega (arith, e)) free_10 ∙ ranked.others 10 (λ (e : 10 ≡ 12). omega (arith, e)) free_10 ∙ made.others.1.1.1.1.1.0) is.reports;
+      priorities = moved priority_list (c.trees 12) (d.trees 12) _ (named.others 12 (λ (e : 12 ≡ 0). omega (arith, e)) free_12) ranked.priorities;
+    }
+
+-- a stop inside leaves the trees as they were, or those of the store of version 2
+pub stop_raises : (old new : State) (rows : Rows) (left : Trees) → IsKept IsFirstStore old rows → ((db : Trees) → IsTrue old.is_open → old.may_leave db → db ≡ old.committed.trees)
+    → ((db : Trees) → new.may_leave db → old.may_leave db ⊎ (IsTrue old.is_open → Leaves Migrates old db)) → new.may_leave left → (left ≡ old.now.trees) ⊎ AreStore left (migrated rows)
+stop_raises old new rows left kept settled leaves may = elim (leaves left may) [
+  | inl earlier ↦ inl (settled left kept.is_open earlier ∙ sym (ap (λ (d : Database). d.trees) kept.settled))
+  | inr made ↦ let after_it = made kept.is_open in inr (after_it.0, after_it.1, after_it.2 rows kept.store)
+]

@@ -1,0 +1,56 @@
+-- How a store of version 1 becomes one of version 2: each message has priority 0 then, and all other rows stay.
+use Rattle.std.specs.Prelude.{◌≡◌, ◌≢◌, ℕ, [], ◌∷◌, map, List}
+use Rattle.sqlite_rules.specs.Edit.{IsNoIndex}
+use Rattle.sqlite.specs.Effect.{Database}
+use Rattle.sms_store_sql.specs.listing.Listing.{Holds}
+use Rattle.sms_store_sql.specs.listing.Making.{Makes}
+use Rattle.sms_store_tables.specs.centre.CentreSchema.{centre_schema, first_schema, with_priority}
+use Rattle.sms_store_tables.specs.centre.Indexing.{Indexes}
+use Rattle.sms_store_tables.specs.centre.MetaList.{meta_list}
+use Rattle.sms_store_tables.specs.centre.PriorityList.{priority_list}
+use Rattle.sms_store_tables.specs.centre.MessageList.{message_list}
+use Rattle.sms_store_migration.specs.Types.{Rows, MessageRow, PriorityRow}
+use Rattle.sms_store_migration.specs.Versions.{IsStore, IsFirstStore, centre_meta, first_meta}
+
+abbrev pub lowest : MessageRow → PriorityRow
+lowest m = record { id = m.id; priority = 0 }
+
+abbrev pub migrated : Rows → Rows
+migrated rows = record rows { priorities = map lowest rows.messages }
+
+-- the table that version 1 lacks
+abbrev pub MakesPriority : Database → Database → Type 0
+MakesPriority before after = before.schema ≡ first_schema → Makes first_schema with_priority before after
+
+-- the index that version 1 lacks
+abbrev pub IndexesReports : Database → Database → Type 0
+IndexesReports before after = before.schema ≡ with_priority → Indexes with_priority centre_schema before after
+
+-- both
+abbrev pub Completes : Database → Database → Type 0
+Completes before after = before.schema ≡ first_schema → Makes first_schema centre_schema before after
+
+-- the other tables stay
+abbrev pub KeepsOthers : ℕ → Database → Database → Type 0
+KeepsOthers tree before after = (other : ℕ) → other ≢ tree → IsNoIndex centre_schema other → after.trees other ≡ before.trees other
+
+-- each message has a row of priority 0
+pub record Ranked (messages : List MessageRow) (before after : Database) : Type 0 where
+  pub schema : after.schema ≡ centre_schema
+  pub priorities : Holds priority_list (after.trees 12) (map lowest messages)
+  pub others : KeepsOthers 12 before after
+
+abbrev pub Ranks : Database → Database → Type 0
+Ranks before after = before.schema ≡ centre_schema → before.trees 12 ≡ [] → (messages : List MessageRow) → Holds message_list (before.trees 2) messages → Ranked messages before after
+
+-- the row that says what the store is says version 2
+pub record Renamed (before after : Database) : Type 0 where
+  pub schema : after.schema ≡ centre_schema
+  pub meta : Holds meta_list (after.trees 0) (centre_meta ∷ [])
+  pub others : KeepsOthers 0 before after
+
+abbrev pub Renames : Database → Database → Type 0
+Renames before after = before.schema ≡ centre_schema → Holds meta_list (before.trees 0) (first_meta ∷ []) → Renamed before after
+
+abbrev pub Migrates : Database → Database → Type 0
+Migrates before after = (rows : Rows) → IsFirstStore before rows → IsStore after (migrated rows)

@@ -1,0 +1,79 @@
+//! A store of version 1 becomes one of version 2.
+ghost use Rattle.sms_rows.specs.declared.keep.error.KeepError.TheVariants.{NotThisStore, OldVersion};
+ghost use Rattle.std.specs.Prelude.{◌≡◌, ◌≢◌, ◌⊎◌, false, IfErr, IsTrue, OnErr, OnOk};
+ghost use Rattle.sqlite.specs.Held.{state};
+ghost use Rattle.sqlite.specs.State.{HasCleanDisk};
+ghost use Rattle.sqlite.specs.Tree.{Trees};
+ghost use Rattle.sms_store_sql.specs.listing.Inside.{Goes, Keeps, Spares};
+ghost use Rattle.sms_store_sql.specs.listing.Transaction.{Committed, IsKept, Leads};
+ghost use Rattle.sms_store_migration.specs.Migrating.{Migrates, Ranks, Renames, migrated};
+ghost use Rattle.sms_store_migration.specs.Versions.{AreStore, IsFirstStore};
+ghost use Rattle.sms_store_migration.specs.Types.{Rows as RowsOf};
+
+use crate::tables::complete_tables;
+use sms_rows::keep::KeepError;
+use sms_rows::table::Key;
+use sms_store_sql::listing::{Meta, StoreKind, Work, put, remove, run, transact, write_cause_of};
+use sms_store_tables::centre::CentreStore;
+use sqlite::{Alter, Connection, Error, Transaction};
+use std::alloc::Global;
+
+/// The table of priorities, each 0, the index of reports, and the new version.
+#[derive(Drop)]
+struct Migration;
+
+impl Work for Migration {
+    ghost changes = { λ work. Migrates };
+
+    fn run<S: Alter>(&self, alloc: Global, tx: &mut Transaction<'_, S>) -> Result<(), Error> {
+        complete_tables(tx)?;
+        rank_messages(tx)?;
+        rename(alloc, tx)
+    }
+}
+
+// Each message has the lowest priority.
+fn rank_messages<S: Alter>(tx: &mut Transaction<'_, S>) -> Result<(), Error>
+    ensures same_reference { tx.new.conn.ghost_name ≡ tx.old.conn.ghost_name }
+    ensures done { Goes S.Store tx.old.conn.now tx.new.conn.now (Leads Ranks) result }
+    ensures kept { Keeps S.Store tx.old.conn.now tx.new.conn.now }
+    ensures survives { Spares S.Store tx.old.conn.now tx.new.conn.now }
+{
+    run(
+        tx,
+        "INSERT INTO priority (message, priority) SELECT id, 0 FROM message",
+        &[],
+    )
+}
+
+fn rename<S: Alter>(alloc: Global, tx: &mut Transaction<'_, S>) -> Result<(), Error>
+    ensures same_reference { tx.new.conn.ghost_name ≡ tx.old.conn.ghost_name }
+    ensures done { Goes S.Store tx.old.conn.now tx.new.conn.now (Leads Renames) result }
+    ensures kept { Keeps S.Store tx.old.conn.now tx.new.conn.now }
+    ensures survives { Spares S.Store tx.old.conn.now tx.new.conn.now }
+{
+    let meta = Meta {
+        version: 2,
+        kind: StoreKind::Centre,
+    };
+    remove::<CentreStore, Meta, S>(tx, Key::of(1))?;
+    put::<CentreStore, Meta, S>(alloc, tx, &meta)
+}
+
+/// Makes a store of version 1 one of version 2, in one transaction: each message has priority 0, and all other rows stay. A
+/// failure changes nothing, and a stop inside the call leaves the store as it was, or as it is then.
+pub fn raise<S: Alter>(alloc: Global, conn: &mut Connection<S>) -> Result<(), KeepError>
+    ensures mode { conn.old.in_transaction ≡ false → conn.new.in_transaction ≡ false }
+    ensures ok { HasCleanDisk (state S.Store conn.new) → OnOk result (Committed Migrates (state S.Store conn.old) (state S.Store conn.new)) }
+    ensures err { HasCleanDisk (state S.Store conn.new) → IsTrue (state S.Store conn.new).is_open
+        → OnErr result (((state S.Store conn.new).now ≡ (state S.Store conn.old).now) × ((state S.Store conn.new).committed ≡ (state S.Store conn.old).committed)) }
+    ensures stop { HasCleanDisk (state S.Store conn.new) → (rows : RowsOf) → IsKept IsFirstStore (state S.Store conn.old) rows → (left : Trees) → (state S.Store conn.new).may_leave left
+        → (left ≡ (state S.Store conn.old).now.trees) ⊎ AreStore left (migrated rows) }
+    ensures clean { HasCleanDisk (state S.Store conn.new) → HasCleanDisk (state S.Store conn.old) }
+    ensures named { IfErr result (λ error. (error ≢ OldVersion) × (error ≢ NotThisStore)) }
+{
+    match transact(alloc, conn, &Migration) {
+        Ok(()) => Ok(()),
+        Err(error) => Err(write_cause_of(error)),
+    }
+}

@@ -1,0 +1,29 @@
+use Rattle.std.proofs.Common.{inl, sym, subst, ◌∙◌}
+use Rattle.sqlite.proofs.Callers.{IsPlain}
+use Rattle.sqlite.specs.Listing.{understood}
+use Rattle.sms_store_sql.proofs.listing.Steps.{if_ok}
+use Rattle.sms_store_sql.proofs.listing.Found.{shown_unchanged, keeps_if}
+use Rattle.sms_store_sql.proofs.listing.OneRow.{finds_row}
+use Rattle.sms_store_sql.proofs.listing.finding.find.Goals as goal
+
+pub returns-clause-found : goal.returns-clause-found
+returns-clause-found g c clean ours =
+    let list = g.T.StoredRow.list in
+    let text = g.T.FoundRow.find in
+    let one = g.met.T.FoundRow.is_found in
+    let shown = c.in_ok-rows.ensures.ok clean in
+    let plain = subst (λ s. IsPlain (understood s text)) (sym ours) one.alone in
+    let kept = shown_unchanged text (list.key_columns c.args.key) _ _ _ plain shown in
+    let made = rw c.deref.ensures.value at c.first_row.ensures in
+    if_ok c.first_row.result (λ row h. (
+      kept,
+      λ xs held.
+          let found = finds_row list g.met.T.StoredRow.is_list text one c.args.key _ _ _ ours shown xs held in
+          h found.0 found.3 found.1 ∙ found.2,
+    )) made
+
+pub returns-clause-kept : goal.returns-clause-kept
+returns-clause-kept g c clean ours =
+    let text = g.T.FoundRow.find in
+    let plain = subst (λ s. IsPlain (understood s text)) (sym ours) g.met.T.FoundRow.is_found.alone in
+    keeps_if _ _ (inl (shown_unchanged text (g.T.StoredRow.list.key_columns c.args.key) _ _ _ plain (c.in_ok-rows.ensures.ok clean)))

@@ -1,0 +1,38 @@
+use Rattle.std.proofs.Common.{inl, [], sym, subst, IsPermutation}
+use Rattle.std.proofs.lemmas.List.Sorted.{IsPermutation-sym}
+use Rattle.sqlite.proofs.Callers.{IsPlain}
+use Rattle.sqlite.specs.Listing.{understood}
+use Rattle.sms_store_sql.proofs.listing.Steps.{if_ok}
+use Rattle.sms_store_sql.proofs.listing.Found.{finds, shown_unchanged, keeps_if, keeps_if_refused, rises_by}
+use Rattle.sms_store_sql.proofs.listing.loading.load.Goals as goal
+
+pub returns-clause-found : goal.returns-clause-found
+returns-clause-found g c clean ours =
+    let list = g.T.StoredRow.list in
+    let is = g.met.T.StoredRow.is_list in
+    let shown = rw c.select.ensures at (c.in_ok-rows.ensures.ok clean) in
+    let plain = subst (λ s. IsPlain (understood s list.table.select)) (sym ours) is.selects_alone in
+    let kept = shown_unchanged list.table.select [] _ _ _ plain shown in
+    let made = rw c.deref.ensures.value at c.in_ok-rows_of.ensures in
+    if_ok c.in_order.result (λ sorted h. (
+      kept,
+      λ xs held.
+          let found = finds list is _ _ _ ours shown xs held in
+          let read = made found.0 found.3 found.1 in
+          h xs (subst (λ items. IsPermutation items xs) (sym read) (IsPermutation-sym _ _ found.2)) (rises_by list.key g.T.Row.key g.met.T.StoredRow.one_key xs held.rises),
+    )) c.in_order.ensures
+
+pub returns-in_err-rows-clause-kept : goal.returns-in_err-rows-clause-kept
+returns-in_err-rows-clause-kept g c clean ours = keeps_if_refused g.T.StoredRow.list.table.select [] _ _ _ (rw c.select.ensures at (c.in_err-rows.ensures.err clean))
+
+pub returns-in_err-rows_of-clause-kept : goal.returns-in_err-rows_of-clause-kept
+returns-in_err-rows_of-clause-kept g c clean ours =
+    let list = g.T.StoredRow.list in
+    let plain = subst (λ s. IsPlain (understood s list.table.select)) (sym ours) g.met.T.StoredRow.is_list.selects_alone in
+    keeps_if _ _ (inl (shown_unchanged list.table.select [] _ _ _ plain (rw c.select.ensures at (c.in_ok-rows.ensures.ok clean))))
+
+pub returns-clause-kept : goal.returns-clause-kept
+returns-clause-kept g c clean ours =
+    let list = g.T.StoredRow.list in
+    let plain = subst (λ s. IsPlain (understood s list.table.select)) (sym ours) g.met.T.StoredRow.is_list.selects_alone in
+    keeps_if _ _ (inl (shown_unchanged list.table.select [] _ _ _ plain (rw c.select.ensures at (c.in_ok-rows.ensures.ok clean))))

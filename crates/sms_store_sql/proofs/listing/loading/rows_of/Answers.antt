@@ -1,0 +1,9 @@
+use Rattle.std.proofs.Common.{subst, ap, ◌∙◌, ◌≡◌, take, ◌+◌, sym}
+use Rattle.sms_store_sql.proofs.listing.Found.{more_seen}
+use Rattle.sms_store_sql.proofs.listing.loading.rows_of.Goals as goal
+
+pub loop-row-preserved : goal.loop-row-preserved
+loop-row-preserved g c seen fit is =
+    let list = g.T.StoredRow.list in
+    subst (λ items. items ≡ take (c.loop-row.row-index + 1) seen) (sym c.in_ok-push.ensures.items)
+    (more_seen list.columns list.Fits c.args.rows.now seen c.loop-row.row-index c.row-item.result c.in_ok-read.field-0 c.loop-row.found.items c.loop-row-test.true c.row-item.is fit is (λ s fits here. c.in_ok-read.ensures ∙ ap list.reads here ∙ g.met.T.StoredRow.is_list.told s fits) (c.loop-row.invariant seen fit is))

@@ -1,0 +1,23 @@
+-- What the errors of statements are to a keep.
+use Rattle.sqlite.specs.declared.error.Error.{Error}
+use Rattle.sqlite.specs.declared.error.Error.TheVariants.{SqliteFailure, QueryReturnedNoRows, InvalidColumnIndex, InvalidColumnType, IntegralValueOutOfRange, Utf8Error}
+use Rattle.sqlite.specs.declared.error.ErrorCode.TheVariants as code
+use Rattle.sms_rows.specs.declared.keep.error.KeepError.{KeepError}
+use Rattle.sms_rows.specs.declared.keep.error.KeepError.TheVariants.{Disk, NoMemory, Interrupted, Closed, NotThisStore}
+
+-- of a statement that writes
+abbrev pub write_cause : Error → KeepError
+write_cause (SqliteFailure code.OutOfMemory) = NoMemory
+write_cause (SqliteFailure code.TooBig) = NoMemory
+write_cause (SqliteFailure code.OperationInterrupted) = Interrupted
+write_cause (SqliteFailure code.Closed) = Closed
+write_cause _ = Disk
+
+-- of one that reads: columns that are not those of a row, or no row where there is always one, tell that this is no such store
+abbrev pub load_cause : Error → KeepError
+load_cause QueryReturnedNoRows = NotThisStore
+load_cause (InvalidColumnIndex at) = NotThisStore
+load_cause (InvalidColumnType at kind) = NotThisStore
+load_cause (IntegralValueOutOfRange at) = NotThisStore
+load_cause (Utf8Error at) = NotThisStore
+load_cause error = write_cause error

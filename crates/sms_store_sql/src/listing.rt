@@ -1,0 +1,31 @@
+//! Lists of rows as tables of a database.
+//!
+//! A type of rows that says its table in a kind of store, its three texts and its columns (`StoredRow`) is stored by
+//! `put`, `remove`, `write` and `load`, which are proved here once for every list: inside one transaction the table
+//! holds the list with its changes, every other table stays, nothing is committed, and a stop leaves nothing new.
+//! `load` gives the rows in the order of their keys, `find` the row of one key (`FoundRow`), `seek` those of
+//! another number (`SoughtRow`). What a whole transaction changes is a `Work`, what it reads a
+//! `Lookup`: `transact` and `look` commit all of it or nothing, and a stop inside leaves the database before or after.
+
+mod cause;
+mod finding;
+mod inside;
+mod list;
+mod loading;
+mod meta;
+mod reading;
+mod seeking;
+mod transaction;
+
+pub use cause::{load_cause_of, write_cause_of};
+pub use finding::{FoundRow, find};
+pub use inside::{change, put, remove, run, run_counted, write};
+pub use list::StoredRow;
+pub use loading::load;
+pub use meta::{Meta, StoreKind, kind_at};
+pub use reading::{
+    address_at, digits_at, flag_at, is_null_at, moment_at, number_at, octet_at, octets_at,
+    optional_moment_at, optional_octet_at, optional_short_at, short_at, text_at, text_of, word_at,
+};
+pub use seeking::{SoughtRow, seek};
+pub use transaction::{Lookup, Work, look, transact};

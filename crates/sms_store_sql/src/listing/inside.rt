@@ -1,0 +1,108 @@
+//! Statements inside one transaction.
+ghost use Rattle.std.specs.Prelude.{◌≡◌, IfOk};
+ghost use Rattle.sqlite.specs.Held.{state};
+ghost use Rattle.sqlite.specs.Values.{bound};
+ghost use Rattle.sms_store_sql.specs.listing.Inside.{Alters, Counts, Goes, Keeps, Ran, RanOn, Spares};
+ghost use Rattle.sms_rows.specs.table.Table.{all_applied, applied, put as put_row, without};
+
+use crate::listing::list::StoredRow;
+use sms_rows::table::{Change, Key};
+use sqlite::types::ValueRef;
+use sqlite::{Alter, Error, Transaction};
+use std::alloc::Global;
+
+/// Runs one statement inside the transaction.
+pub fn run<S: Alter>(
+    tx: &mut Transaction<'_, S>,
+    sql: &str,
+    params: &[ValueRef<'_>],
+) -> Result<(), Error>
+    ensures same_reference { tx.new.conn.ghost_name ≡ tx.old.conn.ghost_name }
+    ensures done { Goes S.Store tx.old.conn.now tx.new.conn.now (Ran sql.now (bound params.now)) result }
+    ensures kept { Keeps S.Store tx.old.conn.now tx.new.conn.now }
+    ensures survives { Spares S.Store tx.old.conn.now tx.new.conn.now }
+{
+    tx.execute(sql, params)?;
+    Ok(())
+}
+
+/// Runs one statement inside the transaction, and tells how many rows it was on.
+pub fn run_counted<S: Alter>(
+    tx: &mut Transaction<'_, S>,
+    sql: &str,
+    params: &[ValueRef<'_>],
+) -> Result<usize, Error>
+    ensures same_reference { tx.new.conn.ghost_name ≡ tx.old.conn.ghost_name }
+    ensures done { Counts S.Store tx.old.conn.now tx.new.conn.now (RanOn sql.now (bound params.now)) result }
+    ensures kept { Keeps S.Store tx.old.conn.now tx.new.conn.now }
+    ensures survives { Spares S.Store tx.old.conn.now tx.new.conn.now }
+{
+    tx.execute(sql, params)
+}
+
+/// Removes the row of the key, if there is one.
+pub fn remove<K, T: Drop + StoredRow<K>, S: Alter>(
+    tx: &mut Transaction<'_, S>,
+    key: Key,
+) -> Result<(), Error>
+    ensures same_reference { tx.new.conn.ghost_name ≡ tx.old.conn.ghost_name }
+    ensures done { Goes S.Store tx.old.conn.now tx.new.conn.now (Alters T.list (without T.list.key key)) result }
+    ensures kept { Keeps S.Store tx.old.conn.now tx.new.conn.now }
+    ensures survives { Spares S.Store tx.old.conn.now tx.new.conn.now }
+{
+    T::delete(tx, key)
+}
+
+/// Puts the row in the place of that of its key, or where its key belongs.
+pub fn put<K, T: Drop + StoredRow<K>, S: Alter>(
+    alloc: Global,
+    tx: &mut Transaction<'_, S>,
+    row: &T,
+) -> Result<(), Error>
+    ensures same_reference { tx.new.conn.ghost_name ≡ tx.old.conn.ghost_name }
+    ensures done { Goes S.Store tx.old.conn.now tx.new.conn.now (Alters T.list (put_row T.list.key row.now)) result }
+    ensures kept { Keeps S.Store tx.old.conn.now tx.new.conn.now }
+    ensures survives { Spares S.Store tx.old.conn.now tx.new.conn.now }
+{
+    // A row that stands is changed under the rowid that it has: that writes its page alone, where a row that goes and
+    // comes again writes the page that it leaves, the last page of the table, and a page of the index of its key.
+    let changed = row.write(alloc, tx, T::update_text())?;
+    if changed == 0 {
+        row.write(alloc, tx, T::insert_text())?;
+    }
+    Ok(())
+}
+
+/// Makes the change.
+pub fn change<K, T: Drop + StoredRow<K>, S: Alter>(
+    alloc: Global,
+    tx: &mut Transaction<'_, S>,
+    change: &Change<T>,
+) -> Result<(), Error>
+    ensures same_reference { tx.new.conn.ghost_name ≡ tx.old.conn.ghost_name }
+    ensures done { Goes S.Store tx.old.conn.now tx.new.conn.now (Alters T.list (applied T.list.key change.now)) result }
+    ensures kept { Keeps S.Store tx.old.conn.now tx.new.conn.now }
+    ensures survives { Spares S.Store tx.old.conn.now tx.new.conn.now }
+{
+    match change {
+        Change::Put(row) => put::<K, T, S>(alloc, tx, row),
+        Change::Remove(key) => remove::<K, T, S>(tx, *key),
+    }
+}
+
+/// Makes the changes in their order.
+pub fn write<K, T: Drop + StoredRow<K>, S: Alter>(
+    alloc: Global,
+    tx: &mut Transaction<'_, S>,
+    changes: &[Change<T>],
+) -> Result<(), Error>
+    ensures same_reference { tx.new.conn.ghost_name ≡ tx.old.conn.ghost_name }
+    ensures done { Goes S.Store tx.old.conn.now tx.new.conn.now (Alters T.list (all_applied T.list.key changes.now)) result }
+    ensures kept { Keeps S.Store tx.old.conn.now tx.new.conn.now }
+    ensures survives { Spares S.Store tx.old.conn.now tx.new.conn.now }
+{
+    for item in changes {
+        change::<K, T, S>(alloc, tx, item)?;
+    }
+    Ok(())
+}

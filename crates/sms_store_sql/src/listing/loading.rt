@@ -1,0 +1,50 @@
+//! Reads a list.
+ghost use Rattle.std.specs.Prelude.{◌≡◌, IfOk, IsPermutation, List, map};
+ghost use Rattle.std.specs.List.{AllByRecursion};
+ghost use Rattle.sqlite.specs.Held.{state};
+ghost use Rattle.sms_store_sql.specs.listing.Inside.{Finds, Spares, Stays};
+ghost use Rattle.sms_rows.specs.table.Table.{Rises};
+
+use crate::listing::list::StoredRow;
+use sms_rows::table::Row;
+use sqlite::{Alter, Error, Row as Found, Transaction};
+use std::alloc::Global;
+
+pub(crate) fn rows_of<K, T: Drop + StoredRow<K>>(
+    alloc: Global,
+    rows: &[Found],
+) -> Result<Vec<T>, Error>
+    ensures { IfOk result (λ found. (seen : List T) → AllByRecursion T.list.Fits seen → rows.now ≡ map T.list.columns seen → found.items ≡ seen) }
+{
+    let mut found = Vec::new(alloc);
+    for row in rows {
+        found.push(T::read(alloc, row)?)?;
+    }
+    Ok(found)
+}
+
+pub(crate) fn in_order<T: Drop + Row>(rows: Vec<T>) -> Result<Vec<T>, Error>
+    ensures { IfOk result (λ sorted. (xs : List T) → IsPermutation rows.items xs → Rises T.key xs → sorted.items ≡ xs) }
+{
+    let mut sorted = rows;
+    sorted.sort_by_key(
+        |row: &T| -> u128
+            ensures { result ≡ T.key row.now }
+        { row.key().number() },
+    )?;
+    Ok(sorted)
+}
+
+/// The rows of the list in the order of their keys.
+pub fn load<K, T: Drop + StoredRow<K>, S: Alter>(
+    alloc: Global,
+    tx: &mut Transaction<'_, S>,
+) -> Result<Vec<T>, Error>
+    ensures same_reference { tx.new.conn.ghost_name ≡ tx.old.conn.ghost_name }
+    ensures found { Finds S.Store tx.old.conn.now tx.new.conn.now T.list (λ rows. rows.items) result }
+    ensures kept { Stays S.Store tx.old.conn.now tx.new.conn.now T.list }
+    ensures survives { Spares S.Store tx.old.conn.now tx.new.conn.now }
+{
+    let rows = tx.query_all(T::select(), &[])?;
+    in_order(rows_of::<K, T>(alloc, &rows)?)
+}

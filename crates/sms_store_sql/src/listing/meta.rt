@@ -1,0 +1,57 @@
+//! What a store says of itself.
+ghost use Rattle.std.specs.Prelude.{◌≡◌, IfOk};
+ghost use Rattle.sqlite_value.specs.Order.{column};
+ghost use Rattle.sms_store_sql.specs.listing.Columns.{text_in};
+ghost use Rattle.sms_store_sql.specs.listing.Meta.{kind_in, kind_word, meta_key};
+
+use crate::listing::reading::text_at;
+use sms_rows::table::{Key, Row};
+use sqlite::{Error, Row as Columns};
+
+/// Whose rows a store keeps.
+#[derive(Clone, Copy, Debug, PartialEq, Eq)]
+pub enum StoreKind {
+    Handset,
+    Centre,
+}
+
+/// The one row of a store that says what it is.
+#[derive(Clone, Copy, Debug, PartialEq, Eq)]
+pub struct Meta {
+    pub version: u32,
+    pub kind: StoreKind,
+}
+
+impl Row for Meta {
+    ghost key = { meta_key };
+
+    fn key(&self) -> Key {
+        Key::of(u64::from(self.version))
+    }
+}
+
+impl StoreKind {
+    /// The word for it in a store.
+    pub fn word(self) -> &'static str
+        ensures { result.now ≡ kind_word self }
+    {
+        match self {
+            StoreKind::Handset => "handset",
+            StoreKind::Centre => "centre",
+        }
+    }
+}
+
+/// The kind that the column tells.
+pub fn kind_at(row: &Columns, at: usize) -> Result<StoreKind, Error>
+    ensures { IfOk result (λ kind. kind ≡ kind_in (text_in (column row.now at))) }
+{
+    let word = text_at(row, at)?;
+    if word.as_str() == "handset" {
+        return Ok(StoreKind::Handset);
+    }
+    if word.as_str() == "centre" {
+        return Ok(StoreKind::Centre);
+    }
+    Err(Error::Utf8Error(at))
+}

@@ -1,0 +1,15 @@
+//! Whether a database is a store of a kind.
+//!
+//! A table is told by its name, its columns (`ColumnPlan`) and the columns of its key. Where a test answers yes, the table or
+//! index is the one that `sms_store_sql::listing` speaks of, so that a store is known by its schema before any row is read. Then `judge`
+//! says what the row is worth in which it tells its kind and version.
+
+mod blank;
+mod columns;
+mod kinds;
+mod tables;
+
+pub use blank::is_blank;
+pub use columns::{ColumnPlan, given, optional};
+pub use kinds::judge;
+pub use tables::{is_index, is_table};

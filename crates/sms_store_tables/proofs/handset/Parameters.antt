@@ -1,0 +1,18 @@
+-- Parameters of a text: what there may be, and what they are bound to.
+use Rattle.std.proofs.Common.{◌≡◌, ℕ, List, Option, Some, None, Result, refl, subst}
+use Rattle.sqlite.specs.Held.{Held}
+use Rattle.sqlite.specs.Order.{Row}
+use Rattle.sqlite.specs.Store.{Ghosts}
+use Rattle.sqlite.specs.Values.{bound_value}
+use Rattle.sqlite.specs.declared.error.Error.{Error}
+use Rattle.sqlite.specs.declared.types.Value.{Value}
+use Rattle.sms_store_sql.specs.listing.Columns.{or_none}
+use Rattle.sms_store_sql.specs.listing.Inside.{Counts, RanOn}
+
+pub bound_optional : {A : Type 0} (write : A → Value) (o : Option A) → ((x : A) → bound_value (write x) ≡ write x) → bound_value (or_none write o) ≡ or_none write o
+bound_optional write None same = refl
+bound_optional write (Some x) same = same x
+
+-- a text ran with these values, which are those
+pub ran_with : {S : Type 0} (g : Ghosts S) (old new : Held S) (text : List ℕ) (ps qs : Row) (r : Result ℕ Error) → Counts g old new (RanOn text ps) r → ps ≡ qs → Counts g old new (RanOn text qs) r
+ran_with g old new text ps qs r h e = subst (λ vs. Counts g old new (RanOn text vs) r) e h

@@ -1,0 +1,3 @@
+pub mod amending
+pub mod centre
+pub mod handset

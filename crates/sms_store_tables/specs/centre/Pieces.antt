@@ -1,0 +1,143 @@
+-- What stands in the store in several columns, or as a word.
+use Rattle.std.specs.Prelude.{◌≡◌, ℕ, nat_eq, if◌then◌else◌, List, [], ◌∷◌, codes, Option, Some, None, refl}
+use Rattle.sqlite.specs.Order.{Row}
+use Rattle.sqlite.specs.declared.types.Value.{Value}
+use Rattle.sqlite.specs.declared.types.Value.TheVariants.{Null, Blob}
+use Rattle.sqlite.specs.Cast.{cast}
+use Rattle.sqlite.specs.Kind.TheVariants.{Integer}
+use Rattle.sqlite_sql.specs.Ops.{is_null}
+use Rattle.sms_store_sql.specs.listing.Columns.{number, number_in, octets_in, flag, flag_in, or_none, is_word}
+use Rattle.sms_store_sql.proofs.listing.Columns.{cast_int, cast_null, flag_back}
+use Rattle.sms_store_tables.specs.centre.Types.{FinalState, Delivered, Expired, Deleted, Undeliverable, ConcatKey, ConcatReference, EightBit, SixteenBit, Originator, Application, Handset, Wish, Nothing, Always, OnFailure, ReportKind, Receipt, Status, Unsent, Progress}
+
+-- ---- the place of a part in a long message
+
+-- how many bits the reference has: 8 (3GPP TS 23.040 9.2.3.24.1) or 16 (9.2.3.24.8)
+abbrev pub reference_bits : ConcatReference → ℕ
+reference_bits (EightBit r) = 8
+reference_bits (SixteenBit r) = 16
+
+abbrev pub reference_number : ConcatReference → ℕ
+reference_number (EightBit r) = r
+reference_number (SixteenBit r) = r
+
+abbrev pub reference_in : Value → Value → ConcatReference
+reference_in bits reference = if nat_eq (number_in bits) 8 then EightBit (number_in reference) else SixteenBit (number_in reference)
+
+-- none where its first column is NULL
+abbrev pub key_in : Value → Value → Value → Value → Option ConcatKey
+key_in bits reference total part = if is_null bits then None else Some (record { reference = reference_in bits reference; total = number_in total; number = number_in part })
+
+reference_back : (r : ConcatReference) → reference_in (number (reference_bits r)) (number (reference_number r)) ≡ r
+reference_back (EightBit r) = refl
+reference_back (SixteenBit r) = refl
+
+pub key_back : (key : Option ConcatKey)
+    → key_in (or_none (λ (k : ConcatKey). number (reference_bits k.reference)) key) (or_none (λ (k : ConcatKey). number (reference_number k.reference)) key) (or_none (λ (k : ConcatKey). number k.total) key)
+    (or_none (λ (k : ConcatKey). number k.number) key) ≡ key
+key_back None = refl
+key_back (Some k) = let r = reference_back k.reference in λ i. Some (record { reference = r i; total = k.total; number = k.number })
+
+-- ---- how far a transfer is
+
+abbrev pub progress_in : Value → Value → Value → Progress
+progress_in done attempts due = record { is_done = flag_in done; attempts = number_in attempts; due = number_in due }
+
+pub progress_back : (p : Progress) → progress_in (flag p.is_done) (number p.attempts) (number p.due) ≡ p
+progress_back p = let f = flag_back p.is_done in λ i. record { is_done = f i; attempts = p.attempts; due = p.due }
+
+abbrev pub progress_columns : Progress → Row
+progress_columns p = flag p.is_done ∷ number p.attempts ∷ number p.due ∷ []
+
+-- ---- who submitted a message
+
+abbrev pub account_of : Originator → Value
+account_of (Application account) = Blob account
+account_of (Handset reference) = Null
+
+abbrev pub mark_of : Originator → Value
+mark_of (Application account) = Null
+mark_of (Handset reference) = number reference
+
+abbrev pub originator_in : Value → Value → Originator
+originator_in account reference = if is_null account then Handset (number_in reference) else Application (octets_in account)
+
+pub originator_back : (o : Originator) → originator_in (account_of o) (mark_of o) ≡ o
+originator_back (Application account) = refl
+originator_back (Handset reference) = refl
+
+pub mark_stays : (o : Originator) → cast Integer (mark_of o) ≡ mark_of o
+mark_stays (Application account) = cast_null
+mark_stays (Handset reference) = cast_int _
+
+-- ---- of which ends the originator is told
+
+abbrev pub wish_word : Wish → List ℕ
+wish_word Nothing = codes "nothing"
+wish_word Always = codes "always"
+wish_word OnFailure = codes "on_failure"
+
+abbrev pub wish_in : List ℕ → Wish
+wish_in word = if is_word (codes "nothing") word then Nothing else if is_word (codes "always") word then Always else OnFailure
+
+pub wish_back : (w : Wish) → wish_in (wish_word w) ≡ w
+wish_back Nothing = refl
+wish_back Always = refl
+wish_back OnFailure = refl
+
+-- ---- how a message ended
+
+abbrev pub state_word : Option FinalState → List ℕ
+state_word None = codes "pending"
+state_word (Some Delivered) = codes "delivered"
+state_word (Some Expired) = codes "expired"
+state_word (Some Deleted) = codes "deleted"
+state_word (Some Undeliverable) = codes "undeliverable"
+
+abbrev pub state_in : List ℕ → Option FinalState
+state_in word =
+    if is_word (codes "pending") word then None
+    else if is_word (codes "delivered") word then Some Delivered
+    else if is_word (codes "expired") word then Some Expired
+    else if is_word (codes "deleted") word then Some Deleted
+    else Some Undeliverable
+
+pub state_back : (s : Option FinalState) → state_in (state_word s) ≡ s
+state_back None = refl
+state_back (Some Delivered) = refl
+state_back (Some Expired) = refl
+state_back (Some Deleted) = refl
+state_back (Some Undeliverable) = refl
+
+-- ---- how an end is told
+
+abbrev pub kind_word : ReportKind → List ℕ
+kind_word Receipt = codes "receipt"
+kind_word (Status reference tpdu) = codes "status"
+kind_word Unsent = codes "unsent"
+
+abbrev pub kind_reference : ReportKind → Value
+kind_reference Receipt = Null
+kind_reference (Status reference tpdu) = number reference
+kind_reference Unsent = Null
+
+abbrev pub kind_tpdu : ReportKind → Value
+kind_tpdu Receipt = Null
+kind_tpdu (Status reference tpdu) = Blob tpdu
+kind_tpdu Unsent = Null
+
+abbrev pub kind_in : List ℕ → Value → Value → ReportKind
+kind_in word reference tpdu =
+    if is_word (codes "receipt") word then Receipt
+    else if is_word (codes "status") word then Status (number_in reference) (octets_in tpdu)
+    else Unsent
+
+pub kind_back : (k : ReportKind) → kind_in (kind_word k) (kind_reference k) (kind_tpdu k) ≡ k
+kind_back Receipt = refl
+kind_back (Status reference tpdu) = refl
+kind_back Unsent = refl
+
+pub reference_stays : (k : ReportKind) → cast Integer (kind_reference k) ≡ kind_reference k
+reference_stays Receipt = cast_null
+reference_stays (Status reference tpdu) = cast_int _
+reference_stays Unsent = cast_null

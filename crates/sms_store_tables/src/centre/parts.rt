@@ -1,0 +1,137 @@
+//! The parts of messages.
+ghost use Rattle.std.specs.Prelude.{refl};
+ghost use Rattle.sms_store_tables.specs.centre.PartList.{amend_part, find_part, part_amended, part_amends, part_is_found, part_is_list, part_list};
+ghost use Rattle.sms_store_tables.specs.centre.Pieces.{progress_columns};
+ghost use Rattle.sms_centre_rows.specs.messages.Messages.{part_reaching};
+
+use crate::amending::AmendedRow;
+use crate::centre::key::{id_value, integers_of, moment_value};
+use crate::centre::kind::CentreStore;
+use crate::centre::pieces::{
+    bits_of, concat_number_of, concat_total_of, id_at, key_at, number_of, progress_at,
+};
+use sms_centre_rows::messages::PartRow;
+use sms_centre_rows::waiting::Progress;
+use sms_rows::table::Key;
+use sms_store_sql::listing::{FoundRow, StoredRow, octet_at, octets_at, run, run_counted};
+use sqlite::{Alter, Error, Row, Transaction, params};
+use std::alloc::Global;
+
+impl StoredRow<CentreStore> for PartRow {
+    ghost list = { part_list };
+
+    fn delete<S: Alter>(tx: &mut Transaction<'_, S>, key: Key) -> Result<(), Error> {
+        let pair = integers_of(key)?;
+        run(
+            tx,
+            "DELETE FROM part WHERE message = ?1 AND number = ?2",
+            params![&pair.0, &pair.1],
+        )
+    }
+
+    fn update_text() -> &'static str {
+        "UPDATE part SET message = ?1, number = ?2, reference = ?3, tpdu = ?4, concat_bits = ?5, concat_reference = ?6, concat_total = ?7, concat_number = ?8, is_done = ?9, attempts = ?10, due = ?11 WHERE message = ?1 AND number = ?2"
+    }
+
+    fn insert_text() -> &'static str {
+        "INSERT INTO part (message, number, reference, tpdu, concat_bits, concat_reference, concat_total, concat_number, is_done, attempts, due) VALUES (?1, ?2, ?3, ?4, ?5, ?6, ?7, ?8, ?9, ?10, ?11)"
+    }
+
+    fn write<S: Alter>(
+        &self,
+        _alloc: Global,
+        tx: &mut Transaction<'_, S>,
+        text: &str,
+    ) -> Result<usize, Error> {
+        let id = id_value(self.id)?;
+        let due = moment_value(self.progress.due)?;
+        run_counted(
+            tx,
+            text,
+            params![
+                &id,
+                u32::from(self.number),
+                u32::from(self.reference),
+                self.tpdu.as_slice(),
+                bits_of(self.key),
+                number_of(self.key),
+                concat_total_of(self.key),
+                concat_number_of(self.key),
+                self.progress.is_done,
+                u32::from(self.progress.attempts),
+                &due
+            ],
+        )
+    }
+
+    fn select() -> &'static str {
+        "SELECT message, number, reference, tpdu, concat_bits, concat_reference, concat_total, concat_number, is_done, attempts, due FROM part"
+    }
+
+    fn read(_alloc: Global, row: &Row) -> Result<PartRow, Error> {
+        let id = id_at(row, 0)?;
+        let number = octet_at(row, 1)?;
+        let reference = octet_at(row, 2)?;
+        let tpdu = octets_at(row, 3)?;
+        let key = key_at(row, 4)?;
+        let progress = progress_at(row, 8)?;
+        Ok(PartRow {
+            id,
+            number,
+            reference,
+            tpdu,
+            key,
+            progress,
+        })
+    }
+
+    ghost one_key = { λ x. refl };
+
+    ghost is_list = { part_is_list };
+}
+
+impl FoundRow<CentreStore> for PartRow {
+    ghost find = { find_part };
+
+    fn query<S: Alter>(tx: &mut Transaction<'_, S>, key: Key) -> Result<Vec<Row>, Error> {
+        let pair = integers_of(key)?;
+        tx.query_all(
+            "SELECT message, number, reference, tpdu, concat_bits, concat_reference, concat_total, concat_number, is_done, attempts, due FROM part WHERE message = ?1 AND number = ?2",
+            params![&pair.0, &pair.1],
+        )
+    }
+
+    ghost is_found = { part_is_found };
+}
+
+impl AmendedRow<CentreStore> for PartRow {
+    ghost reaching = { part_reaching };
+
+    ghost progress_columns = { progress_columns };
+
+    ghost amendment = { amend_part };
+
+    ghost amended_columns = { part_amended };
+
+    fn update<S: Alter>(
+        tx: &mut Transaction<'_, S>,
+        key: Key,
+        progress: Progress,
+    ) -> Result<(), Error> {
+        let pair = integers_of(key)?;
+        let due = moment_value(progress.due)?;
+        run(
+            tx,
+            "UPDATE part SET is_done = ?3, attempts = ?4, due = ?5 WHERE message = ?1 AND number = ?2",
+            params![
+                &pair.0,
+                &pair.1,
+                progress.is_done,
+                u32::from(progress.attempts),
+                &due
+            ],
+        )
+    }
+
+    ghost amends = { part_amends };
+}

@@ -1,0 +1,295 @@
+//! What stands in the store in several columns, or as a word.
+ghost use Rattle.std.specs.Prelude.{◌≡◌, ◌<◌, ◌+◌, pos, IfOk};
+ghost use Rattle.sqlite.specs.Values.{or_null};
+ghost use Rattle.sqlite.specs.declared.types.Value.TheVariants.{Blob, Int};
+ghost use Rattle.sqlite_value.specs.Order.{column};
+ghost use Rattle.sms_concat.specs.declared.concat_key.ConcatKey.{ConcatKey as KeyOf};
+ghost use Rattle.sms_store_sql.specs.listing.Columns.{number, number_in, or_none, text_in};
+ghost use Rattle.sms_store_tables.specs.centre.Pieces.{account_of, key_in, kind_in, kind_reference, kind_tpdu, kind_word, mark_of, originator_in, progress_in, reference_bits, reference_in, reference_number, state_in, state_word, wish_in, wish_word};
+
+use sms_base::{FinalState, MessageId, Moment, Originator, Wish};
+use sms_centre_rows::reports::ReportKind;
+use sms_centre_rows::waiting::Progress;
+use sms_concat::{ConcatKey, ConcatReference};
+use sms_store_sql::listing::{
+    flag_at, is_null_at, moment_at, number_at, octet_at, octets_at, short_at, text_at,
+};
+use sqlite::{Error, Row};
+
+pub(crate) fn id_at(row: &Row, at: usize) -> Result<MessageId, Error>
+    ensures { IfOk result (λ id. id ≡ number_in (column row.now at)) }
+{
+    let number = number_at(row, at)?;
+    MessageId::new(number).ok_or(Error::IntegralValueOutOfRange(at))
+}
+
+pub(crate) fn progress_at(row: &Row, at: usize) -> Result<Progress, Error>
+    requires { at < 1000 }
+    ensures { IfOk result (λ progress. progress ≡ progress_in (column row.now at) (column row.now (at + 1)) (column row.now (at + 2))) }
+{
+    let is_done = flag_at(row, at)?;
+    let attempts = octet_at(row, at + 1)?;
+    let due = moment_at(row, at + 2)?;
+    Ok(Progress {
+        is_done,
+        attempts,
+        due,
+    })
+}
+
+// ---- the place of a part in a long message
+
+pub(crate) fn bits_of(key: Option<ConcatKey>) -> Option<u32>
+    ensures { or_null (λ n. Int (pos n)) result ≡ or_none (λ (k : KeyOf). number (reference_bits k.reference)) key }
+{
+    match key {
+        Some(key) => Some(reference_bits(key.reference)),
+        None => None,
+    }
+}
+
+pub(crate) fn number_of(key: Option<ConcatKey>) -> Option<u32>
+    ensures { or_null (λ n. Int (pos n)) result ≡ or_none (λ (k : KeyOf). number (reference_number k.reference)) key }
+{
+    match key {
+        Some(key) => Some(reference_number(key.reference)),
+        None => None,
+    }
+}
+
+pub(crate) fn concat_total_of(key: Option<ConcatKey>) -> Option<u32>
+    ensures { or_null (λ n. Int (pos n)) result ≡ or_none (λ (k : KeyOf). number k.total) key }
+{
+    match key {
+        Some(key) => Some(u32::from(key.total)),
+        None => None,
+    }
+}
+
+pub(crate) fn concat_number_of(key: Option<ConcatKey>) -> Option<u32>
+    ensures { or_null (λ n. Int (pos n)) result ≡ or_none (λ (k : KeyOf). number k.number) key }
+{
+    match key {
+        Some(key) => Some(u32::from(key.number)),
+        None => None,
+    }
+}
+
+fn reference_bits(reference: ConcatReference) -> u32
+    ensures { result ≡ reference_bits reference }
+{
+    match reference {
+        ConcatReference::EightBit(_) => 8,
+        ConcatReference::SixteenBit(_) => 16,
+    }
+}
+
+fn reference_number(reference: ConcatReference) -> u32
+    ensures { result ≡ reference_number reference }
+{
+    match reference {
+        ConcatReference::EightBit(number) => u32::from(number),
+        ConcatReference::SixteenBit(number) => u32::from(number),
+    }
+}
+
+pub(crate) fn key_at(row: &Row, at: usize) -> Result<Option<ConcatKey>, Error>
+    requires { at < 1000 }
+    ensures { IfOk result (λ key. key ≡ key_in (column row.now at) (column row.now (at + 1)) (column row.now (at + 2)) (column row.now (at + 3))) }
+{
+    if is_null_at(row, at)? {
+        return Ok(None);
+    }
+    let reference = reference_at(row, at, at + 1)?;
+    let total = octet_at(row, at + 2)?;
+    let number = octet_at(row, at + 3)?;
+    Ok(Some(ConcatKey {
+        reference,
+        total,
+        number,
+    }))
+}
+
+fn reference_at(row: &Row, bits: usize, number: usize) -> Result<ConcatReference, Error>
+    ensures { IfOk result (λ reference. reference ≡ reference_in (column row.now bits) (column row.now number)) }
+{
+    let width = octet_at(row, bits)?;
+    if width == 8 {
+        let number = octet_at(row, number)?;
+        return Ok(ConcatReference::EightBit(number));
+    }
+    let number = short_at(row, number)?;
+    Ok(ConcatReference::SixteenBit(number))
+}
+
+// ---- who submitted a message
+
+pub(crate) fn account_of<'a>(originator: &'a Originator) -> Option<&'a [u8]>
+    ensures { or_null (λ octets. Blob octets.now) result ≡ account_of originator.entry.now }
+{
+    match originator {
+        Originator::Application { account } => Some(account.as_slice()),
+        Originator::Handset { .. } => None,
+    }
+}
+
+pub(crate) fn mark_of(originator: &Originator) -> Option<u32>
+    ensures { or_null (λ n. Int (pos n)) result ≡ mark_of originator.now }
+{
+    match originator {
+        Originator::Application { .. } => None,
+        Originator::Handset { message_reference } => Some(u32::from(*message_reference)),
+    }
+}
+
+pub(crate) fn originator_at(row: &Row, at: usize) -> Result<Originator, Error>
+    requires { at < 1000 }
+    ensures { IfOk result (λ originator. originator ≡ originator_in (column row.now at) (column row.now (at + 1))) }
+{
+    if is_null_at(row, at)? {
+        let message_reference = octet_at(row, at + 1)?;
+        return Ok(Originator::Handset { message_reference });
+    }
+    let account = octets_at(row, at)?;
+    Ok(Originator::Application { account })
+}
+
+// ---- of which ends the originator is told, and how a message ended
+
+pub(crate) fn wish_word(wish: Wish) -> &'static str
+    ensures { result.now ≡ wish_word wish }
+{
+    match wish {
+        Wish::Nothing => "nothing",
+        Wish::Always => "always",
+        Wish::OnFailure => "on_failure",
+    }
+}
+
+pub(crate) fn wish_at(row: &Row, at: usize) -> Result<Wish, Error>
+    ensures { IfOk result (λ wish. wish ≡ wish_in (text_in (column row.now at))) }
+{
+    let text = text_at(row, at)?;
+    let word = text.as_str();
+    if word == "nothing" {
+        return Ok(Wish::Nothing);
+    }
+    if word == "always" {
+        return Ok(Wish::Always);
+    }
+    if word == "on_failure" {
+        return Ok(Wish::OnFailure);
+    }
+    Err(Error::Utf8Error(at))
+}
+
+pub(crate) fn state_word(state: Option<FinalState>) -> &'static str
+    ensures { result.now ≡ state_word state }
+{
+    match state {
+        None => "pending",
+        Some(FinalState::Delivered) => "delivered",
+        Some(FinalState::Expired) => "expired",
+        Some(FinalState::Deleted) => "deleted",
+        Some(FinalState::Undeliverable) => "undeliverable",
+    }
+}
+
+pub(crate) fn state_at(row: &Row, at: usize) -> Result<Option<FinalState>, Error>
+    ensures { IfOk result (λ state. state ≡ state_in (text_in (column row.now at))) }
+{
+    let text = text_at(row, at)?;
+    let word = text.as_str();
+    if word == "pending" {
+        return Ok(None);
+    }
+    if word == "delivered" {
+        return Ok(Some(FinalState::Delivered));
+    }
+    if word == "expired" {
+        return Ok(Some(FinalState::Expired));
+    }
+    if word == "deleted" {
+        return Ok(Some(FinalState::Deleted));
+    }
+    if word == "undeliverable" {
+        return Ok(Some(FinalState::Undeliverable));
+    }
+    Err(Error::Utf8Error(at))
+}
+
+// ---- how an end is told
+
+pub(crate) fn kind_word(kind: &ReportKind) -> &'static str
+    ensures { result.now ≡ kind_word kind.now }
+{
+    match kind {
+        ReportKind::Receipt => "receipt",
+        ReportKind::Status { .. } => "status",
+        ReportKind::Unsent => "unsent",
+    }
+}
+
+pub(crate) fn kind_reference(kind: &ReportKind) -> Option<u32>
+    ensures { or_null (λ n. Int (pos n)) result ≡ kind_reference kind.now }
+{
+    match kind {
+        ReportKind::Status { reference, .. } => Some(u32::from(*reference)),
+        ReportKind::Receipt | ReportKind::Unsent => None,
+    }
+}
+
+pub(crate) fn kind_tpdu<'a>(kind: &'a ReportKind) -> Option<&'a [u8]>
+    ensures { or_null (λ octets. Blob octets.now) result ≡ kind_tpdu kind.entry.now }
+{
+    match kind {
+        ReportKind::Status { tpdu, .. } => Some(tpdu.as_slice()),
+        ReportKind::Receipt | ReportKind::Unsent => None,
+    }
+}
+
+pub(crate) fn report_kind_at(row: &Row, at: usize) -> Result<ReportKind, Error>
+    requires { at < 1000 }
+    ensures { IfOk result (λ kind. kind ≡ kind_in (text_in (column row.now at)) (column row.now (at + 1)) (column row.now (at + 2))) }
+{
+    let text = text_at(row, at)?;
+    let word = text.as_str();
+    if word == "receipt" {
+        return Ok(ReportKind::Receipt);
+    }
+    if word == "status" {
+        let reference = octet_at(row, at + 1)?;
+        let tpdu = octets_at(row, at + 2)?;
+        return Ok(ReportKind::Status { reference, tpdu });
+    }
+    if word == "unsent" {
+        return Ok(ReportKind::Unsent);
+    }
+    Err(Error::Utf8Error(at))
+}
+
+// ---- numbers that may be missing
+
+pub(crate) fn seconds_of(moment: Option<Moment>) -> Option<i64>
+    ensures { or_null Int result ≡ or_none number moment }
+{
+    match moment {
+        Some(moment) => Some(seconds(moment)),
+        None => None,
+    }
+}
+
+fn seconds(moment: Moment) -> i64
+    ensures { result ≡ pos moment }
+{
+    moment.seconds() as i64
+}
+
+pub(crate) fn short_of(short: Option<u16>) -> Option<u32>
+    ensures { or_null (λ n. Int (pos n)) result ≡ or_none number short }
+{
+    match short {
+        Some(short) => Some(u32::from(short)),
+        None => None,
+    }
+}

@@ -1,0 +1,249 @@
+//! Whether a database has the tables of a centre's store.
+ghost use Rattle.std.specs.Prelude.{◌≡◌, false, IsTrue, [], ◌∷◌};
+ghost use Rattle.sqlite_value.specs.Keys.{plain};
+ghost use Rattle.sms_store_tables.specs.centre.CentreSchema.{centre_schema, first_schema, handset_index, handset_stands, message_index, message_stands, meta_index, meta_stands, part_index, part_stands, priority_index, priority_stands, reference_index, reference_stands, report_index, report_message_index, report_stands};
+
+use sms_store_sql::schema::{given, is_index, is_table, optional};
+use sqlite_schema::schema::{Index, Kind, Schema, Table};
+use sqlite_value::keys::Order;
+
+// The index of that name and tree, for a column of that table that is no key.
+fn is_plain_index(index: &Index, name: &str, tree: u32, table: u32, places: &[usize]) -> bool
+    ensures { IsTrue result → index.now ≡ record { name = name.now; tree = tree; table = table; columns = places.now; order = plain; is_unique = false } }
+{
+    index.name.as_slice() == name.as_bytes()
+        && index.tree == tree
+        && index.table == table
+        && index.columns.as_slice() == places
+        && (index.order == Order::PLAIN)
+        && !index.is_unique
+}
+
+fn is_meta(table: &Table) -> bool
+    ensures { IsTrue result → table.now ≡ meta_stands }
+{
+    let columns = [given("version", Kind::Integer), given("kind", Kind::Text)];
+    is_table(table, "meta", 0, &columns, &[1])
+}
+
+fn is_message(table: &Table) -> bool
+    ensures { IsTrue result → table.now ≡ message_stands }
+{
+    let columns = [
+        given("id", Kind::Integer),
+        optional("account", Kind::Blob),
+        optional("message_reference", Kind::Integer),
+        given("source_ton", Kind::Integer),
+        given("source_npi", Kind::Integer),
+        given("source", Kind::Text),
+        given("handset", Kind::Text),
+        given("data_coding_scheme", Kind::Integer),
+        given("protocol_identifier", Kind::Integer),
+        given("wish", Kind::Text),
+        given("submitted", Kind::Integer),
+        given("expires", Kind::Integer),
+        optional("split_reference", Kind::Integer),
+        given("state", Kind::Text),
+        optional("done", Kind::Integer),
+    ];
+    is_table(table, "message", 2, &columns, &[1])
+}
+
+fn is_part(table: &Table) -> bool
+    ensures { IsTrue result → table.now ≡ part_stands }
+{
+    let columns = [
+        given("message", Kind::Integer),
+        given("number", Kind::Integer),
+        given("reference", Kind::Integer),
+        given("tpdu", Kind::Blob),
+        optional("concat_bits", Kind::Integer),
+        optional("concat_reference", Kind::Integer),
+        optional("concat_total", Kind::Integer),
+        optional("concat_number", Kind::Integer),
+        given("is_done", Kind::Integer),
+        given("attempts", Kind::Integer),
+        given("due", Kind::Integer),
+    ];
+    is_table(table, "part", 4, &columns, &[1, 2])
+}
+
+fn is_reference(table: &Table) -> bool
+    ensures { IsTrue result → table.now ≡ reference_stands }
+{
+    let columns = [
+        given("place", Kind::Integer),
+        given("reference", Kind::Integer),
+        given("last_given", Kind::Integer),
+    ];
+    is_table(table, "given_reference", 6, &columns, &[1, 2])
+}
+
+fn is_handset(table: &Table) -> bool
+    ensures { IsTrue result → table.now ≡ handset_stands }
+{
+    let columns = [
+        given("place", Kind::Integer),
+        given("number", Kind::Text),
+        given("last_reference", Kind::Integer),
+    ];
+    is_table(table, "handset", 8, &columns, &[1])
+}
+
+fn is_report(table: &Table) -> bool
+    ensures { IsTrue result → table.now ≡ report_stands }
+{
+    let columns = [
+        given("place", Kind::Integer),
+        given("message", Kind::Integer),
+        given("kind", Kind::Text),
+        optional("reference", Kind::Integer),
+        optional("tpdu", Kind::Blob),
+        given("made", Kind::Integer),
+        given("is_done", Kind::Integer),
+        given("attempts", Kind::Integer),
+        given("due", Kind::Integer),
+    ];
+    is_table(table, "report", 10, &columns, &[1])
+}
+
+fn is_priority(table: &Table) -> bool
+    ensures { IsTrue result → table.now ≡ priority_stands }
+{
+    let columns = [
+        given("message", Kind::Integer),
+        given("priority", Kind::Integer),
+    ];
+    is_table(table, "priority", 12, &columns, &[1])
+}
+
+// The six tables that both versions have.
+fn are_first_tables(
+    meta: &Table,
+    message: &Table,
+    part: &Table,
+    reference: &Table,
+    handset: &Table,
+    report: &Table,
+) -> bool
+    ensures meta { IsTrue result → meta.now ≡ meta_stands }
+    ensures message { IsTrue result → message.now ≡ message_stands }
+    ensures part { IsTrue result → part.now ≡ part_stands }
+    ensures reference { IsTrue result → reference.now ≡ reference_stands }
+    ensures handset { IsTrue result → handset.now ≡ handset_stands }
+    ensures report { IsTrue result → report.now ≡ report_stands }
+{
+    if !is_meta(meta) || !is_message(message) || !is_part(part) {
+        return false;
+    }
+    is_reference(reference) && is_handset(handset) && is_report(report)
+}
+
+fn are_first_indexes(meta: &Index, message: &Index, part: &Index) -> bool
+    ensures meta { IsTrue result → meta.now ≡ meta_index }
+    ensures message { IsTrue result → message.now ≡ message_index }
+    ensures part { IsTrue result → part.now ≡ part_index }
+{
+    is_index(meta, "sqlite_autoindex_meta_1", 1, 0, &[1])
+        && is_index(message, "sqlite_autoindex_message_1", 3, 2, &[1])
+        && is_index(part, "sqlite_autoindex_part_1", 5, 4, &[1, 2])
+}
+
+fn are_next_indexes(reference: &Index, handset: &Index, report: &Index) -> bool
+    ensures reference { IsTrue result → reference.now ≡ reference_index }
+    ensures handset { IsTrue result → handset.now ≡ handset_index }
+    ensures report { IsTrue result → report.now ≡ report_index }
+{
+    is_index(
+        reference,
+        "sqlite_autoindex_given_reference_1",
+        7,
+        6,
+        &[1, 2],
+    ) && is_index(handset, "sqlite_autoindex_handset_1", 9, 8, &[1])
+        && is_index(report, "sqlite_autoindex_report_1", 11, 10, &[1])
+}
+
+// Those of version 2: the second finds the reports of a message, and is for no key.
+fn are_last_indexes(priority: &Index, report_message: &Index) -> bool
+    ensures priority { IsTrue result → priority.now ≡ priority_index }
+    ensures report_message { IsTrue result → report_message.now ≡ report_message_index }
+{
+    is_index(priority, "sqlite_autoindex_priority_1", 13, 12, &[1])
+        && is_plain_index(report_message, "report_message", 14, 10, &[2])
+}
+
+fn are_tables_of_first(tables: &[Table]) -> bool
+    ensures { IsTrue result → tables.now ≡ meta_stands ∷ message_stands ∷ part_stands ∷ reference_stands ∷ handset_stands ∷ report_stands ∷ [] }
+{
+    let [meta, message, part, reference, handset, report] = tables else {
+        return false;
+    };
+    are_first_tables(meta, message, part, reference, handset, report)
+}
+
+fn are_indexes_of_first(indexes: &[Index]) -> bool
+    ensures { IsTrue result → indexes.now ≡ meta_index ∷ message_index ∷ part_index ∷ reference_index ∷ handset_index ∷ report_index ∷ [] }
+{
+    let [meta, message, part, reference, handset, report] = indexes else {
+        return false;
+    };
+    if !are_first_indexes(meta, message, part) {
+        return false;
+    }
+    are_next_indexes(reference, handset, report)
+}
+
+fn are_tables(tables: &[Table]) -> bool
+    ensures { IsTrue result → tables.now ≡ meta_stands ∷ message_stands ∷ part_stands ∷ reference_stands ∷ handset_stands ∷ report_stands ∷ priority_stands ∷ [] }
+{
+    let [meta, message, part, reference, handset, report, priority] = tables else {
+        return false;
+    };
+    if !are_first_tables(meta, message, part, reference, handset, report) {
+        return false;
+    }
+    is_priority(priority)
+}
+
+fn are_indexes(indexes: &[Index]) -> bool
+    ensures { IsTrue result → indexes.now ≡ meta_index ∷ message_index ∷ part_index ∷ reference_index ∷ handset_index ∷ report_index ∷ priority_index ∷ report_message_index ∷ [] }
+{
+    let [
+        meta,
+        message,
+        part,
+        reference,
+        handset,
+        report,
+        priority,
+        report_message,
+    ] = indexes
+    else {
+        return false;
+    };
+    if !are_first_indexes(meta, message, part) || !are_next_indexes(reference, handset, report) {
+        return false;
+    }
+    are_last_indexes(priority, report_message)
+}
+
+/// Whether the tables are those of a centre's store of version 1, and nothing stands beside them.
+pub fn is_first_schema(schema: &Schema) -> bool
+    ensures { IsTrue result → schema.now ≡ first_schema }
+{
+    if !schema.views.is_empty() || !are_tables_of_first(schema.tables.as_slice()) {
+        return false;
+    }
+    are_indexes_of_first(schema.indexes.as_slice())
+}
+
+/// Whether the tables are those of a centre's store of version 2, and nothing stands beside them.
+pub fn is_centre_schema(schema: &Schema) -> bool
+    ensures { IsTrue result → schema.now ≡ centre_schema }
+{
+    if !schema.views.is_empty() || !are_tables(schema.tables.as_slice()) {
+        return false;
+    }
+    are_indexes(schema.indexes.as_slice())
+}

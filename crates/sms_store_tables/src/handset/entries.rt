@@ -1,0 +1,237 @@
+//! The inbox.
+ghost use Rattle.std.specs.Prelude.{◌≡◌, refl, IfOk};
+ghost use Rattle.sms_store_sql.specs.listing.Inside.{Counts, Keeps, RanOn, Spares};
+ghost use Rattle.sms_store_tables.specs.handset.Types.{Joined, Part, Single};
+ghost use Rattle.sms_store_tables.specs.handset.EntryList.{IsWritten, entry_is_list, entry_list, joined_in, message_in, part_in, row_columns};
+
+use crate::handset::group::{bits_of, group_at, number_of};
+use crate::handset::key::integer_of;
+use crate::handset::kind::HandsetStore;
+use crate::handset::words::{coding_at, coding_word};
+use sms_base::{Address, Octets};
+use sms_concat::Content;
+use sms_handset_rows::inbox::{Entry, Group, Message};
+use sms_rows::table::Key;
+use sms_store_sql::listing::{
+    StoredRow, address_at, octet_at, octets_at, run, run_counted, text_at, text_of, word_at,
+};
+use sqlite::{Alter, Error, Row, Transaction, params};
+use std::alloc::Global;
+
+impl StoredRow<HandsetStore> for Entry {
+    ghost list = { entry_list };
+
+    fn delete<S: Alter>(tx: &mut Transaction<'_, S>, key: Key) -> Result<(), Error> {
+        let number = integer_of(key)?;
+        run(tx, "DELETE FROM entry WHERE number = ?1", params![&number])
+    }
+
+    fn update_text() -> &'static str {
+        "UPDATE entry SET number = ?1, slots = ?2, kind = ?3, source_ton = ?4, source_npi = ?5, source = ?6, reference_bits = ?7, reference = ?8, total = ?9, part = ?10, coding = ?11, data_coding_scheme = ?12, octets = ?13 WHERE number = ?1"
+    }
+
+    fn insert_text() -> &'static str {
+        "INSERT INTO entry (number, slots, kind, source_ton, source_npi, source, reference_bits, reference, total, part, coding, data_coding_scheme, octets) VALUES (?1, ?2, ?3, ?4, ?5, ?6, ?7, ?8, ?9, ?10, ?11, ?12, ?13)"
+    }
+
+    fn write<S: Alter>(
+        &self,
+        alloc: Global,
+        tx: &mut Transaction<'_, S>,
+        text: &str,
+    ) -> Result<usize, Error> {
+        match &self.message {
+            Message::Single { tpdu } => write_single(self.number, self.slots, tpdu, tx, text),
+            Message::Part {
+                group,
+                number,
+                tpdu,
+            } => write_part(
+                alloc,
+                self.number,
+                self.slots,
+                group,
+                *number,
+                tpdu,
+                tx,
+                text,
+            ),
+            Message::Joined { source, content } => {
+                write_joined(alloc, self.number, self.slots, source, content, tx, text)
+            }
+        }
+    }
+
+    fn select() -> &'static str {
+        "SELECT number, slots, kind, source_ton, source_npi, source, reference_bits, reference, total, part, coding, data_coding_scheme, octets FROM entry"
+    }
+
+    fn read(_alloc: Global, row: &Row) -> Result<Entry, Error> {
+        let number = word_at(row, 0)?;
+        let slots = octet_at(row, 1)?;
+        let message = message_at(row)?;
+        Ok(Entry {
+            number,
+            slots,
+            message,
+        })
+    }
+
+    ghost one_key = { λ x. refl };
+
+    ghost is_list = { entry_is_list };
+}
+
+fn message_at(row: &Row) -> Result<Message, Error>
+    ensures { IfOk result (λ message. message ≡ message_in row.now) }
+{
+    let kind = text_at(row, 2)?;
+    if kind.as_str() == "single" {
+        let tpdu = octets_at(row, 12)?;
+        return Ok(Message::Single { tpdu });
+    }
+    if kind.as_str() == "part" {
+        return part_at(row);
+    }
+    if kind.as_str() == "joined" {
+        return joined_at(row);
+    }
+    Err(Error::Utf8Error(2))
+}
+
+fn part_at(row: &Row) -> Result<Message, Error>
+    ensures { IfOk result (λ message. message ≡ part_in row.now) }
+{
+    let group = group_at(row, 3)?;
+    let number = octet_at(row, 9)?;
+    let tpdu = octets_at(row, 12)?;
+    Ok(Message::Part {
+        group,
+        number,
+        tpdu,
+    })
+}
+
+fn joined_at(row: &Row) -> Result<Message, Error>
+    ensures { IfOk result (λ message. message ≡ joined_in row.now) }
+{
+    let source = address_at(row, 3)?;
+    let coding = coding_at(row, 10)?;
+    let dcs = octet_at(row, 11)?;
+    let units = octets_at(row, 12)?;
+    Ok(Message::Joined {
+        source,
+        content: Content { coding, dcs, units },
+    })
+}
+
+fn write_single<S: Alter>(
+    number: u32,
+    slots: u8,
+    tpdu: &Octets,
+    tx: &mut Transaction<'_, S>,
+    text: &str,
+) -> Result<usize, Error>
+    ensures same_reference { tx.new.conn.ghost_name ≡ tx.old.conn.ghost_name }
+    ensures done { Counts S.Store tx.old.conn.now tx.new.conn.now (RanOn text.now (row_columns (record { number = number; slots = slots; message = Single tpdu.now }))) result }
+    ensures kept { Keeps S.Store tx.old.conn.now tx.new.conn.now }
+    ensures survives { Spares S.Store tx.old.conn.now tx.new.conn.now }
+{
+    let none: Option<u32> = None;
+    run_counted(
+        tx,
+        text,
+        params![
+            number,
+            u32::from(slots),
+            "single",
+            none,
+            none,
+            none,
+            none,
+            none,
+            none,
+            none,
+            none,
+            none,
+            tpdu.as_slice()
+        ],
+    )
+}
+
+fn write_part<S: Alter>(
+    alloc: Global,
+    number: u32,
+    slots: u8,
+    group: &Group,
+    part: u8,
+    tpdu: &Octets,
+    tx: &mut Transaction<'_, S>,
+    text: &str,
+) -> Result<usize, Error>
+    ensures same_reference { tx.new.conn.ghost_name ≡ tx.old.conn.ghost_name }
+    ensures done { Counts S.Store tx.old.conn.now tx.new.conn.now (RanOn text.now (row_columns (record { number = number; slots = slots; message = Part group.now part tpdu.now }))) result }
+    ensures kept { Keeps S.Store tx.old.conn.now tx.new.conn.now }
+    ensures survives { Spares S.Store tx.old.conn.now tx.new.conn.now }
+    ensures fits { IfOk result (λ _. IsWritten (Part group.now part tpdu.now)) }
+{
+    let source = text_of(alloc, group.source.digits.as_slice())?;
+    let none: Option<u32> = None;
+    run_counted(
+        tx,
+        text,
+        params![
+            number,
+            u32::from(slots),
+            "part",
+            u32::from(group.source.ton.number()),
+            u32::from(group.source.npi),
+            &source,
+            bits_of(group.reference),
+            number_of(group.reference),
+            u32::from(group.total),
+            u32::from(part),
+            none,
+            none,
+            tpdu.as_slice()
+        ],
+    )
+}
+
+fn write_joined<S: Alter>(
+    alloc: Global,
+    number: u32,
+    slots: u8,
+    source: &Address,
+    content: &Content,
+    tx: &mut Transaction<'_, S>,
+    text: &str,
+) -> Result<usize, Error>
+    ensures same_reference { tx.new.conn.ghost_name ≡ tx.old.conn.ghost_name }
+    ensures done { Counts S.Store tx.old.conn.now tx.new.conn.now (RanOn text.now (row_columns (record { number = number; slots = slots; message = Joined source.now content.now }))) result }
+    ensures kept { Keeps S.Store tx.old.conn.now tx.new.conn.now }
+    ensures survives { Spares S.Store tx.old.conn.now tx.new.conn.now }
+    ensures fits { IfOk result (λ _. IsWritten (Joined source.now content.now)) }
+{
+    let digits = text_of(alloc, source.digits.as_slice())?;
+    let none: Option<u32> = None;
+    run_counted(
+        tx,
+        text,
+        params![
+            number,
+            u32::from(slots),
+            "joined",
+            u32::from(source.ton.number()),
+            u32::from(source.npi),
+            &digits,
+            none,
+            none,
+            none,
+            none,
+            coding_word(content.coding),
+            u32::from(content.dcs),
+            content.units.as_slice()
+        ],
+    )
+}

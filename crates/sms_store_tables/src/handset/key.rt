@@ -1,0 +1,24 @@
+//! Numbers as values of a database.
+ghost use Rattle.std.specs.Prelude.{◌≡◌, IfOk};
+ghost use Rattle.sms_store_sql.specs.listing.Columns.{number as as_number};
+
+use sms_rows::table::Key;
+use sqlite::types::Value;
+use sqlite::{Error, ErrorCode};
+
+/// The number as a value, if it is one of SQLite's integers.
+pub fn integer(number: u128) -> Result<Value, Error>
+    ensures { IfOk result (λ value. value ≡ as_number number) }
+{
+    match i64::try_from(number) {
+        Ok(integer) => Ok(Value::Int(integer)),
+        Err(_) => Err(Error::SqliteFailure(ErrorCode::TooBig)),
+    }
+}
+
+/// The key as a value.
+pub fn integer_of(key: Key) -> Result<Value, Error>
+    ensures { IfOk result (λ value. value ≡ as_number key) }
+{
+    integer(key.number())
+}

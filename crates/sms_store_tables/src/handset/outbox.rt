@@ -1,0 +1,135 @@
+//! The outbox.
+ghost use Rattle.std.specs.Prelude.{◌≡◌, pos, refl, IfOk};
+ghost use Rattle.sqlite.specs.Values.{or_null};
+ghost use Rattle.sqlite.specs.declared.types.Value.TheVariants.{Int};
+ghost use Rattle.sqlite_value.specs.Order.{column};
+ghost use Rattle.sms_store_sql.specs.listing.Columns.{number, octets_in, or_none};
+ghost use Rattle.sms_store_tables.specs.handset.OutEntryList.{out_is_list, out_list};
+
+use crate::handset::key::integer_of;
+use crate::handset::kind::HandsetStore;
+use crate::handset::words::{state_at, state_word};
+use sms_base::Moment;
+use sms_handset_rows::outbox::{OutEntry, SubmitTpdu};
+use sms_rows::table::Key;
+use sms_store_sql::listing::{
+    StoredRow, address_at, flag_at, octet_at, octets_at, optional_moment_at, optional_octet_at,
+    run, run_counted, text_of, word_at,
+};
+use sqlite::{Alter, Error, Row, Transaction, params};
+use std::alloc::Global;
+
+impl StoredRow<HandsetStore> for OutEntry {
+    ghost list = { out_list };
+
+    fn delete<S: Alter>(tx: &mut Transaction<'_, S>, key: Key) -> Result<(), Error> {
+        let number = integer_of(key)?;
+        run(tx, "DELETE FROM outbox WHERE number = ?1", params![&number])
+    }
+
+    fn update_text() -> &'static str {
+        "UPDATE outbox SET number = ?1, message_reference = ?2, reference = ?3, destination_ton = ?4, destination_npi = ?5, destination = ?6, tpdu = ?7, is_long = ?8, state = ?9, tries = ?10, rejects_duplicates = ?11, due = ?12, status = ?13 WHERE number = ?1"
+    }
+
+    fn insert_text() -> &'static str {
+        "INSERT INTO outbox (number, message_reference, reference, destination_ton, destination_npi, destination, tpdu, is_long, state, tries, rejects_duplicates, due, status) VALUES (?1, ?2, ?3, ?4, ?5, ?6, ?7, ?8, ?9, ?10, ?11, ?12, ?13)"
+    }
+
+    fn write<S: Alter>(
+        &self,
+        alloc: Global,
+        tx: &mut Transaction<'_, S>,
+        text: &str,
+    ) -> Result<usize, Error> {
+        let destination = text_of(alloc, self.destination.digits.as_slice())?;
+        run_counted(
+            tx,
+            text,
+            params![
+                self.number,
+                u32::from(self.message_reference),
+                u32::from(self.reference),
+                u32::from(self.destination.ton.number()),
+                u32::from(self.destination.npi),
+                &destination,
+                self.tpdu.as_slice(),
+                self.is_long,
+                state_word(self.state),
+                u32::from(self.tries),
+                self.rejects_duplicates,
+                seconds_of(self.due),
+                word_of(self.status)
+            ],
+        )
+    }
+
+    fn select() -> &'static str {
+        "SELECT number, message_reference, reference, destination_ton, destination_npi, destination, tpdu, is_long, state, tries, rejects_duplicates, due, status FROM outbox"
+    }
+
+    fn read(_alloc: Global, row: &Row) -> Result<OutEntry, Error> {
+        let number = word_at(row, 0)?;
+        let message_reference = octet_at(row, 1)?;
+        let reference = octet_at(row, 2)?;
+        let destination = address_at(row, 3)?;
+        let tpdu = submit_at(row, 6)?;
+        let is_long = flag_at(row, 7)?;
+        let state = state_at(row, 8)?;
+        let tries = octet_at(row, 9)?;
+        let rejects_duplicates = flag_at(row, 10)?;
+        let due = optional_moment_at(row, 11)?;
+        let status = optional_octet_at(row, 12)?;
+        Ok(OutEntry {
+            number,
+            message_reference,
+            reference,
+            destination,
+            tpdu,
+            is_long,
+            state,
+            tries,
+            rejects_duplicates,
+            due,
+            status,
+        })
+    }
+
+    ghost one_key = { λ x. refl };
+
+    ghost is_list = { out_is_list };
+}
+
+fn submit_at(row: &Row, at: usize) -> Result<SubmitTpdu, Error>
+    ensures { IfOk result (λ submit. submit ≡ octets_in (column row.now at)) }
+{
+    let octets = octets_at(row, at)?;
+    if octets.len() == 0 || octets.len() > 200 {
+        return Err(Error::IntegralValueOutOfRange(at));
+    }
+    Ok(SubmitTpdu::of(octets))
+}
+
+// A moment in seconds, which fit an integer of SQLite's.
+fn seconds_of(moment: Option<Moment>) -> Option<i64>
+    ensures { or_null Int result ≡ or_none number moment }
+{
+    match moment {
+        Some(moment) => Some(seconds(moment)),
+        None => None,
+    }
+}
+
+fn seconds(moment: Moment) -> i64
+    ensures { result ≡ pos moment }
+{
+    moment.seconds() as i64
+}
+
+fn word_of(octet: Option<u8>) -> Option<u32>
+    ensures { or_null (λ n. Int (pos n)) result ≡ or_none number octet }
+{
+    match octet {
+        Some(octet) => Some(u32::from(octet)),
+        None => None,
+    }
+}

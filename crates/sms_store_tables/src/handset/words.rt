@@ -1,0 +1,76 @@
+//! What stands in the store as a word.
+ghost use Rattle.std.specs.Prelude.{◌≡◌, IfOk};
+ghost use Rattle.sqlite_value.specs.Order.{column};
+ghost use Rattle.sms_store_sql.specs.listing.Columns.{text_in};
+ghost use Rattle.sms_store_tables.specs.handset.Words.{coding_in, coding_word, state_in, state_word};
+
+use sms_alphabet::Coding;
+use sms_handset_rows::outbox::EntryState;
+use sms_store_sql::listing::text_at;
+use sqlite::{Error, Row};
+
+pub(crate) fn state_word(state: EntryState) -> &'static str
+    ensures { result.now ≡ state_word state }
+{
+    match state {
+        EntryState::Queued => "queued",
+        EntryState::Sending => "sending",
+        EntryState::Sent => "sent",
+        EntryState::Failed => "failed",
+        EntryState::Unsure => "unsure",
+    }
+}
+
+pub(crate) fn state_at(row: &Row, at: usize) -> Result<EntryState, Error>
+    ensures { IfOk result (λ state. state ≡ state_in (text_in (column row.now at))) }
+{
+    let text = text_at(row, at)?;
+    let word = text.as_str();
+    if word == "queued" {
+        return Ok(EntryState::Queued);
+    }
+    if word == "sending" {
+        return Ok(EntryState::Sending);
+    }
+    if word == "sent" {
+        return Ok(EntryState::Sent);
+    }
+    if word == "failed" {
+        return Ok(EntryState::Failed);
+    }
+    if word == "unsure" {
+        return Ok(EntryState::Unsure);
+    }
+    Err(Error::Utf8Error(at))
+}
+
+pub(crate) fn coding_word(coding: Coding) -> &'static str
+    ensures { result.now ≡ coding_word coding }
+{
+    match coding {
+        Coding::Septets => "septets",
+        Coding::Octets => "octets",
+        Coding::Ucs2 => "ucs2",
+        Coding::Compressed => "compressed",
+    }
+}
+
+pub(crate) fn coding_at(row: &Row, at: usize) -> Result<Coding, Error>
+    ensures { IfOk result (λ coding. coding ≡ coding_in (text_in (column row.now at))) }
+{
+    let text = text_at(row, at)?;
+    let word = text.as_str();
+    if word == "septets" {
+        return Ok(Coding::Septets);
+    }
+    if word == "octets" {
+        return Ok(Coding::Octets);
+    }
+    if word == "ucs2" {
+        return Ok(Coding::Ucs2);
+    }
+    if word == "compressed" {
+        return Ok(Coding::Compressed);
+    }
+    Err(Error::Utf8Error(at))
+}

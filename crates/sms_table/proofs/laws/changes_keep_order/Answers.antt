@@ -1,5 +1,0 @@
-use Rattle.sms_table.proofs.Tables.{rises_all_applied}
-use Rattle.sms_table.proofs.laws.changes_keep_order.Goals as goal
-
-pub returns : goal.returns
-returns g c = λ changes rows h. rises_all_applied g.T.Row.key changes rows h

@@ -1,8 +1,0 @@
-//! What a handset's entries hold is told.
-ghost use Rattle.sms_told_entries.specs.ToldEntries.{EventLaw};
-
-/// Where a course tells of each entry of a sound handset's outbox that has not ended that its reference was given to it last, it tells so
-/// of each after every event.
-pub fn an_event_tells_its_entries()
-    ensures tells { EventLaw }
-{}

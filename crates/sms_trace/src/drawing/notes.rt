@@ -1,0 +1,175 @@
+//! What is said beside the rows of a ladder.
+use sms_base::{Carried, FinalState, Holder, Kind, MessageId};
+use sms_script::report::{Answered, FrameRow, MessageState};
+use std::alloc::{AllocError, Global};
+use std::str::from_utf8;
+
+fn holder_text(alloc: Global, holder: Holder) -> Result<String, AllocError> {
+    match holder {
+        Holder::Part(id, number) => {
+            let id = id.number();
+            format!(in alloc; "part {number} of message {id}")
+        }
+        Holder::Report(id) => {
+            let id = id.number();
+            format!(in alloc; "the status report of message {id}")
+        }
+        Holder::Entry(number) => format!(in alloc; "entry {number}"),
+        Holder::Memory(number) => format!(in alloc; "memory available, {number}"),
+    }
+}
+
+fn kind_word(kind: Kind) -> &'static str {
+    match kind {
+        Kind::Data => "data",
+        Kind::Ack => "acknowledgement",
+        Kind::Error => "error",
+    }
+}
+
+fn carried_text(alloc: Global, carried: &Carried) -> Result<String, AllocError> {
+    let holder = holder_text(alloc, carried.tag)?;
+    let reference = carried.reference;
+    let kind = kind_word(carried.kind);
+    format!(in alloc; "{kind} {reference:02X}, {holder}")
+}
+
+// A frame that carries nothing (3GPP TS 24.011 7.2).
+fn bare_word(octets: &[u8]) -> &'static str {
+    match octets {
+        [_, 0x04, ..] => "CP-ACK",
+        _ => "CP-ERROR",
+    }
+}
+
+fn again_word(is_again: bool) -> &'static str {
+    if is_again { ", again" } else { "" }
+}
+
+/// What a frame carries, and whether it goes out again.
+pub fn frame_text(alloc: Global, frame: &FrameRow, is_again: bool) -> Result<String, AllocError> {
+    let number = frame.number;
+    let again = again_word(is_again);
+    match &frame.carried {
+        Some(carried) => {
+            let carried = carried_text(alloc, carried)?;
+            format!(in alloc; "frame {number}{again}: {carried}")
+        }
+        None => {
+            let word = bare_word(frame.octets.as_slice());
+            format!(in alloc; "frame {number}{again}: {word}")
+        }
+    }
+}
+
+// A request that no PDU has stands in no capture, and its answer neither.
+fn stands_word(has_pdu: bool) -> &'static str {
+    if has_pdu { "" } else { ", in no PDU" }
+}
+
+/// A request of an application.
+#[derive(Clone, Copy)]
+pub struct Asked {
+    /// The name of its command.
+    pub command: &'static str,
+    /// Its sequence number, which its answer bears, too.
+    pub sequence: u32,
+    /// Whether there is a PDU of it.
+    pub has_pdu: bool,
+}
+
+/// What is said of an event beside its line.
+#[derive(Clone, Copy)]
+pub enum Heading {
+    None,
+    /// The frame arrived before.
+    Again,
+    /// It is a request.
+    Request(Asked),
+}
+
+/// The event of that number.
+pub fn event_text(
+    alloc: Global,
+    number: u64,
+    heading: Heading,
+    line: &[u8],
+) -> Result<String, AllocError> {
+    let line = from_utf8(line).unwrap_or("");
+    match heading {
+        Heading::None => format!(in alloc; "{number}. {line}"),
+        Heading::Again => format!(in alloc; "{number}. {line}, again"),
+        Heading::Request(asked) => {
+            let Asked {
+                command,
+                sequence,
+                has_pdu,
+            } = asked;
+            let stands = stands_word(has_pdu);
+            format!(in alloc; "{number}. {command} {sequence}{stands}: {line}")
+        }
+    }
+}
+
+/// The answer to a request.
+pub fn response_text(alloc: Global, asked: &Asked, answered: &str) -> Result<String, AllocError> {
+    let command = asked.command;
+    let sequence = asked.sequence;
+    let stands = stands_word(asked.has_pdu);
+    format!(in alloc; "{command}_resp {sequence}{stands}: {answered}")
+}
+
+// The word of a receipt for a state.
+fn state_word(state: FinalState) -> &'static str {
+    match state {
+        FinalState::Delivered => "DELIVRD",
+        FinalState::Expired => "EXPIRED",
+        FinalState::Deleted => "DELETED",
+        FinalState::Undeliverable => "UNDELIV",
+    }
+}
+
+fn found_word(state: MessageState) -> &'static str {
+    match state {
+        MessageState::Enroute => "ENROUTE",
+        MessageState::Final(state) => state_word(state),
+    }
+}
+
+/// What a request or an act of an owner is answered.
+pub fn answered_text(alloc: Global, answered: &Answered) -> Result<String, AllocError> {
+    match answered {
+        Answered::Accepted(id) => {
+            let id = id.number();
+            format!(in alloc; "accepted as message {id}")
+        }
+        Answered::Found(state) => {
+            let state = found_word(*state);
+            format!(in alloc; "{state}")
+        }
+        Answered::Status(status) => format!(in alloc; "{status:?}"),
+        Answered::Done => format!(in alloc; "done"),
+        Answered::Refused(code) => {
+            let code = from_utf8(code.as_slice()).unwrap_or("");
+            format!(in alloc; "refused, {code}")
+        }
+        Answered::Stopped => format!(in alloc; "stopped, and it starts again"),
+    }
+}
+
+/// What a receipt tells, in a deliver_sm of that sequence number.
+pub fn receipt_text(
+    alloc: Global,
+    sequence: u32,
+    id: MessageId,
+    state: Option<FinalState>,
+) -> Result<String, AllocError> {
+    let id = id.number();
+    let state = state.map_or("ENROUTE", state_word);
+    format!(in alloc; "deliver_sm {sequence}: receipt of message {id}, {state}")
+}
+
+/// The application accepts the deliver_sm of that sequence number.
+pub fn receipt_answer_text(alloc: Global, sequence: u32) -> Result<String, AllocError> {
+    format!(in alloc; "deliver_sm_resp {sequence}")
+}

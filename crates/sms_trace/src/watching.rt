@@ -1,0 +1,16 @@
+//! Who looks on while a script is played, beside its judge: a ladder and a capture file.
+//!
+//! `Ladder` draws the run as lanes and arrows; `Capture` writes what crosses the centre's links as a capture file. Each event costs what
+//! came with it. What there is to see, and the judge, is passed on from `sms_play::judging`.
+
+mod capture;
+mod coming;
+mod heads;
+mod ladder;
+mod lanes;
+mod requests;
+mod since;
+
+pub use capture::Capture;
+pub use ladder::Ladder;
+pub use sms_play::judging::{Judge, Scene, Watcher};

@@ -1,0 +1,49 @@
+//! How what comes to a side of a script is drawn.
+use crate::drawing::{Row, Stroke};
+use crate::watching::lanes::Lanes;
+use sms_play::judging::Scene;
+use sms_play::staging::frame_at;
+use sms_script::report::FrameRow;
+use sms_script::{Act, WorldEvent};
+
+fn asked(lanes: &Lanes, name: &[u8]) -> Row {
+    Row::Arrow(lanes.request(name))
+}
+
+fn done(lanes: &Lanes, handset: &[u8]) -> Row {
+    Row::Mark(lanes.handset(handset), b'*')
+}
+
+fn arrived(lanes: &Lanes, frame: Option<&FrameRow>) -> Option<Row> {
+    match frame {
+        Some(frame) => Some(Row::Arrow(lanes.way(frame, Stroke::Whole))),
+        None => None,
+    }
+}
+
+/// The row of an act: it comes to a side, or is done there. A frame that was not sent has none.
+pub(crate) fn row_of<S: Scene>(lanes: &Lanes, act: &Act<'_>, scene: &S) -> Option<Row> {
+    match act {
+        Act::Submit(submission) => Some(asked(lanes, submission.name.as_slice())),
+        Act::Query { name, .. } => Some(asked(lanes, name.as_slice())),
+        Act::Cancel { name, .. } => Some(asked(lanes, name.as_slice())),
+        Act::Write { handset, .. } => Some(done(lanes, handset.as_slice())),
+        Act::Delete { handset, .. } => Some(done(lanes, handset.as_slice())),
+        Act::Discard { handset, .. } => Some(done(lanes, handset.as_slice())),
+        Act::Deliver(number) => arrived(lanes, frame_at(*number, scene.bag())),
+        Act::Tick { side, .. } => Some(Row::Mark(lanes.side(side), b'o')),
+    }
+}
+
+/// The row of an event.
+pub(crate) fn row_of_event<S: Scene>(
+    lanes: &Lanes,
+    event: &WorldEvent<'_>,
+    scene: &S,
+) -> Option<Row> {
+    match event {
+        WorldEvent::Whole(act) => row_of(lanes, act, scene),
+        WorldEvent::Stopped(_, act) => row_of(lanes, act, scene),
+        WorldEvent::Restart(side) => Some(Row::Mark(lanes.side(side), b'X')),
+    }
+}

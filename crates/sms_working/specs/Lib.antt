@@ -1,7 +1,0 @@
-pub mod Working
-pub mod Telling
-pub mod Submitting
-pub mod Transfers
-pub mod DueNow
-pub mod Beginning
-pub mod Aging

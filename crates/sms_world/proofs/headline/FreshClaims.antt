@@ -1,0 +1,207 @@
+-- Each message that a handset joined is one round that was submitted to it, while frames are decided timely and references fresh.
+use Rattle.std.proofs.Common.{◌≡◌, ℕ, ◌+◌, List, [], ◌∷◌, ◌++◌, Bool, true, false, refl, sym, ◌∙◌, ap, subst, inl, inr, ⊎_elim, Result, Ok, Err}
+use Rattle.std.specs.Str.{bytes_eq}
+use Rattle.std.proofs.lemmas.Bool.{cases_Bool, cond-false, cond-true}
+use Rattle.std.proofs.lemmas.Slice.Eq.{bytes_eq-Decides}
+use Rattle.sms_base.specs.Among.{Among}
+use Rattle.sms_base.specs.Reading.{◌>>=◌}
+use Rattle.sms_script.specs.declared.report.rows.JoinedRow.{JoinedRow}
+use Rattle.sms_script.specs.declared.event.WorldEvent.{WorldEvent}
+use Rattle.sms_play.specs.declared.fault.PlayFault.{PlayFault}
+use Rattle.sms_play.specs.Course.{Course, Party}
+use Rattle.sms_play.specs.PlayedEvent.{played}
+use Rattle.sms_play.specs.Playing.{played_on}
+use Rattle.sms_play.specs.Premises.{is_fresh_event, is_timely_event}
+use Rattle.sms_world_model.specs.Place.{Key}
+use Rattle.sms_world_model.specs.Rounds.{Rounds, SameItems, rounds, rounds_of}
+use Rattle.sms_world_model.specs.Run.{end}
+use Rattle.sms_world_model.specs.ScriptRun.{After, Before, Belongs, Happening, Went, Whole, happened, is_stopped}
+use Rattle.sms_world_model.specs.PartsOfKey.{of_key}
+use Rattle.sms_world_model.specs.World.{Accepted, Joined, World}
+use Rattle.sms_world_model.specs.WorldStep.{Step}
+use Rattle.sms_world_model.proofs.Faithful.{IsFaithful}
+use Rattle.sms_world_model.proofs.Joins.{IsMatched, joined_submitted}
+use Rattle.sms_world_model.proofs.Sound.{IsSound}
+use Rattle.sms_world_model.proofs.Wholes.{AllWhole, splits_whole}
+use Rattle.sms_world_refinement.specs.centre_events.TruthfulRows.{pair_in_row}
+use Rattle.sms_world_refinement.specs.handset.PutInOrder.{JoinedText, joined_at, text_of}
+use Rattle.sms_world.specs.refinement.TellingLaws.{OneSubmits}
+use Rattle.sms_world.proofs.refinement.Telling.{sound_there}
+use Rattle.sms_world.specs.refinement.CourseRuns.{AllHandOctets, AreGood, IfPlayed}
+use Rattle.sms_world.specs.refinement.CourseSight.{CourseSees, row_joined, rows_joined}
+use Rattle.sms_world.specs.refinement.Happening.{HandsOctets, IsGoodEvent, happening_of}
+use Rattle.sms_world.proofs.refinement.Events.{event_leads, ok_course, same_course}
+use Rattle.sms_world.proofs.refinement.OneSubmission.{played_once}
+use Rattle.sms_world.specs.headline.Claims.{AllTimely, AreJoinedRounds, HaveNoneInCommon, IsJoinedRound, JoinedWhole, rounds_told}
+use Rattle.sms_world.specs.headline.DecidedPremises.{AllFresh}
+use Rattle.sms_world.proofs.headline.DecidedFresh.{decided_fresh}
+use Rattle.sms_world.proofs.headline.DecidedTimely.{hands_down}
+use Rattle.sms_world.proofs.headline.FaithfulRuns.{event_faithful}
+use Rattle.sms_world.proofs.headline.FreshRuns.{event_matched}
+use Rattle.sms_world.proofs.headline.GivenGrows.{given_grows}
+use Rattle.sms_world.proofs.headline.JoinedClaims.{all_apart, group_part, groups_at, placed_there}
+use Rattle.sms_world.proofs.headline.LongMessages.{long_split}
+use Rattle.sms_world.proofs.headline.PairsTold.{pairs_told}
+use Rattle.sms_world.proofs.headline.Takers.{TakersThere, takers_stay}
+use Rattle.sms_world.proofs.headline.WholeRuns.{event_whole}
+
+-- ---- one event, and then the others
+
+abbrev pub Matches : Course → Type 0
+Matches d = (v : World) × (CourseSees d v × IsFaithful v × TakersThere d v × IsMatched v × AllWhole v.table v.down)
+
+belongs_once : (w : World) (h : Happening) (went : Went) (steps : List Step) → Belongs w h went steps → OneSubmits steps
+belongs_once w h Whole steps b = played_once w h.event steps b
+belongs_once w h After steps b = played_once w h.event steps b
+belongs_once w h Before steps b = subst (λ (ss : List Step). OneSubmits ss) (sym b) tt
+
+event_matches : (n : ℕ) (e : WorldEvent) (c d : Course) (w : World) → CourseSees c w → IsGoodEvent e → HandsOctets e c → is_timely_event e c ≡ true → is_fresh_event c d ≡ true → played n e c ≡ ok_course d
+    → IsFaithful w → TakersThere c w → IsMatched w → AllWhole w.table w.down → Matches d
+event_matches n e c d w s good octets timely fresh q f takers matched whole =
+    let l = event_leads n e c d w s good octets q in
+    let h : Happening = happening_of e c.centre.moment in
+    let b : Bool = is_stopped h.went in
+    let sound : IsSound w = sound_there w s.reached in
+    let hands = hands_down e c w c.centre.moment s timely in
+    let grows = given_grows n e c d q in
+    let at = decided_fresh c d w h.moment b l.0 grows.0 s l.1.2 takers (belongs_once w h h.went l.0 l.1.0) grows.1 fresh in (
+      end w (happened h l.0),
+      (
+        l.1.2,
+        event_faithful w h.event h.went h.moment l.0 l.1.0 hands l.1.1 sound f,
+        takers_stay n e c d w c.centre.moment l.0 s q l.1.0 l.1.1 takers,
+        event_matched w h.moment b l.0 sound f matched l.1.1 at h h.went l.1.0 hands,
+        event_whole w h.moment b l.0 h h.went l.1.0 at sound whole l.1.1,
+      ),
+    )
+
+then_matches : (n : ℕ) (e : WorldEvent) (c d : Course) (w : World) (more : Course → Result Course PlayFault) (Octets Timely Fresh : Course → Type 0)
+    → ((x : Course) (v : World) → CourseSees x v → IsFaithful v → TakersThere x v → IsMatched v → AllWhole v.table v.down → Octets x → Timely x → Fresh x → more x ≡ ok_course d → Matches d)
+    → CourseSees c w → IsGoodEvent e → HandsOctets e c → is_timely_event e c ≡ true → IsFaithful w → TakersThere c w → IsMatched w → AllWhole w.table w.down → (r : Result Course PlayFault) → played n e c ≡ r
+    → IfPlayed r Octets → IfPlayed r Timely → IfPlayed r (λ x. (is_fresh_event c x ≡ true) × Fresh x) → (r >>= λ (x : Course). more x) ≡ ok_course d → Matches d
+then_matches n e c d w more Octets Timely Fresh go s good octets timely f takers matched whole (Ok x) is later in_time fresh q =
+    let y = event_matches n e c x w s good octets timely fresh.0 is f takers matched whole in go x y.0 y.1.0 y.1.1 y.1.2 y.1.3 y.1.4 later in_time fresh.1 q
+then_matches n e c d w more Octets Timely Fresh go s good octets timely f takers matched whole (Err fault) is later in_time fresh q = absurd cc
+
+pub all_match : (n : ℕ) (es : List WorldEvent) (c d : Course) (w : World) → CourseSees c w → AreGood es → AllHandOctets n es c → AllTimely n es c → AllFresh n es c → IsFaithful w → TakersThere c w → IsMatched w
+    → AllWhole w.table w.down → played_on n es c ≡ ok_course d → Matches d
+all_match n [] c d w s good octets timely fresh f takers matched whole q =
+    let same : c ≡ d = same_course c d q in (w, (subst (λ (z : Course). CourseSees z w) same s, f, subst (λ (z : Course). TakersThere z w) same takers, matched, whole))
+all_match n (e ∷ es) c d w s good octets timely fresh f takers matched whole q =
+    then_matches n e c d w (λ x. played_on (n + 1) es x) (λ x. AllHandOctets (n + 1) es x) (λ x. AllTimely (n + 1) es x) (λ x. AllFresh (n + 1) es x)
+    (λ x v k g h i u o t r p. all_match (n + 1) es x d v k good.1 o t r g h i u p)
+    s good.0 octets.0 timely.0 f takers matched whole (played n e c) refl octets.1 timely.1 fresh q
+
+-- ---- each joined message is one round
+
+module _ (c : Course) (w : World) (s : CourseSees c w) (matched : IsMatched w) (all_whole : AllWhole w.table w.down) (q : Party) (there : Among q c.parties) where
+  -- what the course tells of rounds is the world's
+  same_rounds : (k : Key) → rounds_of q.number k w.down ≡ rounds_told c q k
+  same_rounds k = ap (λ (z : List Accepted). rounds (of_key q.number k z)) (sym (pairs_told c w s c.given w.down s.down.parts (λ g i. i)))
+
+  -- the round of a group
+  record RoundOf (j : Joined) : Type 0 where
+    round : List Accepted
+    is : IsJoinedRound c q (row_joined q.number (text_of j)) round
+    same : SameItems j.group round
+
+  joined_round : (j : Joined) → Among j w.joined → j.handset ≡ q.number → RoundOf j
+  joined_round j i own =
+      let x = joined_submitted w (sound_there w s.reached) (placed_there w s.reached) matched j i in
+      let told : rounds_of j.handset j.key w.down ≡ rounds_told c q j.key = ap (λ (h : List ℕ). rounds_of h j.key w.down) own ∙ same_rounds j.key in
+      record {
+        round = x.0;
+        is = record {
+          joined = record {
+            key = j.key;
+            content = j.content;
+            joins = x.1.2;
+            says = refl;
+            parts = λ y k. group_part c w s q there j i own y ((x.1.1 y).1 k);
+          };
+          among = subst (λ (r : Rounds). Among x.0 (r.present ∷ r.finished)) told x.1.0;
+          whole = λ m k to long p in_parts its in_round y in_too.
+              let z = long_split c w s m k j.key long in
+              let all = splits_whole w (sound_there w s.reached) (placed_there w s.reached) matched all_whole j i z.0 z.1 z.2.0 z.2.1 (z.2.2 ∙ to ∙ sym own)
+              (pair_in_row m p) ((x.1.1 (pair_in_row m p)).1 in_round) (z.2.3 p in_parts its) in
+              z.2.4 y (all.0 y ((x.1.1 y).1 in_too));
+        };
+        same = x.1.1;
+      }
+
+  -- groups and their rounds, one by one
+  abbrev AreSame : List (List Accepted) → List (List Accepted) → Type 0
+  AreSame [] [] = Unit {0}
+  AreSame [] (r ∷ rs) = ⊥
+  AreSame (g ∷ gs) [] = ⊥
+  AreSame (g ∷ gs) (r ∷ rs) = SameItems g r × AreSame gs rs
+
+  one_more : (rows : List JoinedRow) (rs : List (List Accepted)) (row : JoinedRow) (r : List Accepted) → AreJoinedRounds c q rows rs → IsJoinedRound c q row r → AreJoinedRounds c q (rows ++ row ∷ []) (rs ++ r ∷ [])
+  one_more [] [] row r all is = (is, tt)
+  one_more [] (x ∷ rs) row r all is = absurd all
+  one_more (x ∷ rows) [] row r all is = absurd all
+  one_more (x ∷ rows) (y ∷ rs) row r all is = (all.0, one_more rows rs row r all.1 is)
+
+  one_same : (gs rs : List (List Accepted)) (g r : List Accepted) → AreSame gs rs → SameItems g r → AreSame (gs ++ g ∷ []) (rs ++ r ∷ [])
+  one_same [] [] g r all is = (is, tt)
+  one_same [] (x ∷ rs) g r all is = absurd all
+  one_same (x ∷ gs) [] g r all is = absurd all
+  one_same (x ∷ gs) (y ∷ rs) g r all is = (all.0, one_same gs rs g r all.1 is)
+
+  abbrev RoundsOf : List Joined → Type 0
+  RoundsOf js = (rs : List (List Accepted)) × (AreJoinedRounds c q (rows_joined q.number (joined_at q.number js)) rs × AreSame (groups_at q.number js) rs)
+
+  all_rounds : (js : List Joined) → ((j : Joined) → Among j js → Among j w.joined) → RoundsOf js
+  all_rounds [] inside = ([], (tt, tt))
+  all_rounds (j ∷ js) inside =
+      let h : List ℕ = q.number in
+      let older : RoundsOf js = all_rounds js (λ x i. inside x (inr i)) in
+      ⊎_elim
+      (λ (t : bytes_eq j.handset h ≡ true).
+      let r : RoundOf j = joined_round j (inside j (inl refl)) ((bytes_eq-Decides j.handset h).0 t) in (
+        older.0 ++ r.round ∷ [],
+        (
+          subst (λ (z : List JoinedText). AreJoinedRounds c q (rows_joined h z) (older.0 ++ r.round ∷ [])) (sym (cond-true (bytes_eq j.handset h) (text_of j ∷ joined_at h js) (joined_at h js) t))
+              (one_more (rows_joined h (joined_at h js)) older.0 (row_joined h (text_of j)) r.round older.1.0 r.is),
+          subst (λ (z : List (List Accepted)). AreSame z (older.0 ++ r.round ∷ [])) (sym (cond-true (bytes_eq j.handset h) (groups_at h js ++ j.group ∷ []) (groups_at h js) t))
+              (one_same (groups_at h js) older.0 j.group r.round older.1.1 r.same),
+        ),
+      ))
+      (λ (t : bytes_eq j.handset h ≡ false). (
+        older.0,
+        (
+          subst (λ (z : List JoinedText). AreJoinedRounds c q (rows_joined h z) older.0) (sym (cond-false (bytes_eq j.handset h) (text_of j ∷ joined_at h js) (joined_at h js) t)) older.1.0,
+          subst (λ (z : List (List Accepted)). AreSame z older.0) (sym (cond-false (bytes_eq j.handset h) (groups_at h js ++ j.group ∷ []) (groups_at h js) t)) older.1.1,
+        ),
+      ))
+      (cases_Bool (bytes_eq j.handset h))
+
+  -- where groups have nothing in common, nor do their rounds
+  group_of : (gs rs : List (List Accepted)) (r : List Accepted) → AreSame gs rs → Among r rs → (g : List Accepted) × (Among g gs × SameItems g r)
+  group_of [] [] r all i = absurd i
+  group_of [] (x ∷ rs) r all i = absurd all
+  group_of (g ∷ gs) [] r all i = absurd all
+  group_of (g ∷ gs) (x ∷ rs) r all i = ⊎_elim
+      (λ (e : r ≡ x). (g, (inl refl, subst (λ (z : List Accepted). SameItems g z) (sym e) all.0)))
+      (λ (j : Among r rs). let y = group_of gs rs r all.1 j in (y.0, (inr y.1.0, y.1.1)))
+      i
+
+  rounds_apart : (gs rs : List (List Accepted)) → AreSame gs rs → HaveNoneInCommon gs → HaveNoneInCommon rs
+  rounds_apart [] [] all o = tt
+  rounds_apart [] (x ∷ rs) all o = absurd all
+  rounds_apart (g ∷ gs) [] all o = absurd all
+  rounds_apart (g ∷ gs) (r ∷ rs) all o = (
+    λ h x i k l. let y = group_of gs rs h all.1 i in o.0 y.0 x y.1.0 ((all.0 x).1 k) ((y.1.1 x).1 l),
+    rounds_apart gs rs all.1 o.1,
+  )
+
+pub joined_whole : (c : Course) (w : World) → CourseSees c w → IsFaithful w → IsMatched w → AllWhole w.table w.down → JoinedWhole c
+joined_whole c w s f matched whole q there =
+    let all = all_rounds c w s matched whole q there w.joined (λ j i. i) in
+    let placed = placed_there w s.reached in (
+      all.0,
+      (
+        subst (λ (rows : List JoinedRow). AreJoinedRounds c q rows all.0) (sym (s.parties q there).joined) all.1.0,
+        rounds_apart c w s matched whole q there (groups_at q.number w.joined) all.0 all.1.1 (all_apart w placed f q.number w.joined (λ j i. i) placed.once),
+      ),
+    )

@@ -1,0 +1,340 @@
+-- To which entry of its outbox each handset gave a reference last, the course tells, of each entry that has not ended.
+use Rattle.std.proofs.Common.{◌≡◌, ℕ, zero, suc, List, [], ◌∷◌, ◌++◌, true, false, cond, refl, sym, ◌∙◌, ap, subst, inl, inr, ⊎_elim, Option, Some, None, Result, Ok, Err}
+use Rattle.std.specs.Prelude.{◌⊎◌, ◌==◌, ◌&&◌, is_some, nat_le}
+use Rattle.std.specs.Str.{bytes_eq}
+use Rattle.std.proofs.lemmas.Bool.{and_parts, cases_Bool, cond-false, cond_both}
+use Rattle.std.proofs.lemmas.Slice.Eq.{bytes_eq-Decides}
+use Rattle.sms_base.specs.Among.{Among}
+use Rattle.sms_base.specs.Reading.{◌>>=◌}
+use Rattle.sms_base.specs.declared.carried.Carried.{Carried}
+use Rattle.sms_base.specs.declared.carried.Kind.{Kind}
+use Rattle.sms_base.specs.declared.carried.Kind.TheVariants.{Data, Ack, Error}
+use Rattle.sms_base.specs.declared.holder.Holder.{Holder}
+use Rattle.sms_base.specs.declared.holder.Holder.TheVariants.{Part, Report, Entry, Memory}
+use Rattle.sms_link.specs.declared.outgoing.Outgoing.{Outgoing}
+use Rattle.sms_centre_rows.specs.declared.messages.message.MessageRow.{MessageRow}
+use Rattle.sms_centre_rows.specs.declared.messages.part.PartRow.{PartRow}
+use Rattle.sms_centre_rows.specs.messages.Messages.{message_at}
+use Rattle.sms_handset_rows.specs.declared.outbox.out_entry.OutEntry.{OutEntry}
+use Rattle.sms_handset_rows.specs.outbox.Keys.{out_key}
+use Rattle.sms_script.specs.declared.report.answers.Answered.TheVariants.{Stopped as AnsweredStopped}
+use Rattle.sms_script.specs.declared.report.rows.Direction.{Direction}
+use Rattle.sms_script.specs.declared.report.rows.Direction.TheVariants.{Up as UpRow, Down as DownRow}
+use Rattle.sms_script.specs.declared.report.rows.FrameRow.{FrameRow}
+use Rattle.sms_script.specs.declared.report.rows.GivenRow.{GivenRow}
+use Rattle.sms_centre_rows.specs.declared.reports.delivery.Delivery.{Delivery}
+use Rattle.sms_centre_rows.specs.declared.reports.report.ReportKind.{ReportKind}
+use Rattle.sms_centre_rows.specs.declared.reports.report.ReportKind.TheVariants.{Receipt, Status, Unsent}
+use Rattle.sms_centre_rows.specs.declared.reports.report.ReportRow.{ReportRow}
+use Rattle.sms_script.specs.declared.event.Act.{Act}
+use Rattle.sms_script.specs.declared.event.Act.TheVariants.{Submit as SubmitAct, Query, Cancel, Write as WriteAct, Delete as DeleteAct, Discard as DiscardAct, Deliver, Tick as TickAct}
+use Rattle.sms_script.specs.declared.event.Side.{Side}
+use Rattle.sms_script.specs.declared.event.Side.TheVariants.{Centre, Handset}
+use Rattle.sms_script.specs.declared.event.Stop.{Stop}
+use Rattle.sms_script.specs.declared.event.Stop.TheVariants.{Before, After}
+use Rattle.sms_script.specs.declared.event.WorldEvent.{WorldEvent}
+use Rattle.sms_script.specs.declared.event.WorldEvent.TheVariants.{Whole, Stopped, Restart}
+use Rattle.sms_rows.specs.declared.table.change.Change.{Change}
+use Rattle.sms_rows.specs.declared.table.change.Change.TheVariants.{Put, Remove}
+use Rattle.sms_rows.specs.table.Table.{put, row_at, without}
+use Rattle.sms_centre_rows.specs.declared.waiting.revision.Revision.{Revision}
+use Rattle.sms_centre_rows.specs.declared.waiting.revision.Revision.TheVariants.{Put as PutRow, Amend, Remove as RemoveRow}
+use Rattle.sms_centre_spec.specs.CentreEvent.{happened as centre_happened}
+use Rattle.sms_centre_spec.specs.Draft.{Draft as CentreDraft, changes_in, messages_in}
+use Rattle.sms_centre_spec.specs.SoundCore.{AreDifferent}
+use Rattle.sms_centre_spec.specs.declared.answer.CentreAnswer.{CentreAnswer}
+use Rattle.sms_centre_spec.specs.declared.event.CentreEvent.{CentreEvent}
+use Rattle.sms_centre_spec.specs.declared.event.CentreEvent.TheVariants.{DeliverAnswered, Frame as CentreFrame, Tick as CentreTick}
+use Rattle.sms_handset.specs.SoundCore.{IsSoundCore}
+use Rattle.sms_handset.specs.declared.event.HandsetEvent.{HandsetEvent}
+use Rattle.sms_handset.specs.declared.refusal.Refusal.{Refusal}
+use Rattle.sms_handset_draft.specs.Draft.{Draft, recovered}
+use Rattle.sms_play.specs.declared.fault.PlayFault.{PlayFault}
+use Rattle.sms_play.specs.CentreSide.{accepted_after, centre_meets, done as centre_done, given_by as centre_given, parts_given, report_given, reports_given, source_in, told as centre_told, whole as centre_whole}
+use Rattle.sms_play.specs.Course.{Course, Party, answer, frame_at, numbers_of, party_at, with_party}
+use Rattle.sms_play.specs.HandsetSide.{carried_given, committed, data_given, entries_given, entry_given, given_by, handset_meets, happened, is_owners, memories_given, memory_given, party_after, told, whole}
+use Rattle.sms_play.specs.Meeting.{AtCentre, AtHandset, Meeting, by_account, by_handset, delivered, handed_over, is_answered, meeting_of, tag_in}
+use Rattle.sms_play.specs.PlayedEvent.{handset_kept, handset_restarted, handset_restarts, kept, met, party_restarted, played, restart, restarted, stopped}
+use Rattle.sms_play.specs.Premises.{is_of_reference, is_same_side, last_holder}
+use Rattle.sms_world_model.specs.World.{World}
+use Rattle.sms_world.specs.refinement.CourseSight.{CourseSees}
+use Rattle.sms_world.proofs.refinement.Events.{ok_course, same_course}
+use Rattle.sms_world.proofs.refinement.Parties.{party_found, with_among, with_numbers}
+use Rattle.sms_world.specs.entries.ToldEntries.{AreBelow, TellsEntries}
+use Rattle.sms_world.proofs.entries.EntriesTold.{event_told}
+use Rattle.sms_world.proofs.entries.RowsGiven.{last_over}
+
+-- ---- rows that say nothing of it
+
+abbrev IsElsewhere : List ℕ → GivenRow → Type 0
+IsElsewhere h g = (is_same_side g.direction UpRow ≡ false) ⊎ ¬ (g.handset ≡ h)
+
+abbrev AllElsewhere : List ℕ → List GivenRow → Type 0
+AllElsewhere h [] = Unit {0}
+AllElsewhere h (g ∷ gs) = IsElsewhere h g × AllElsewhere h gs
+
+elsewhere : (h : List ℕ) (r : ℕ) (g : GivenRow) → IsElsewhere h g → is_of_reference h UpRow r g ≡ false
+elsewhere h r g is = ⊎_elim
+    (λ (t : is_of_reference h UpRow r g ≡ true).
+    let p = and_parts (bytes_eq g.handset h) (is_same_side g.direction UpRow && (g.reference == r)) t in
+    let q = and_parts (is_same_side g.direction UpRow) (g.reference == r) p.1 in
+    ⊎_elim
+    (λ (e : is_same_side g.direction UpRow ≡ false). let bad : true ≡ false = sym q.0 ∙ e in absurd cc)
+    (λ (ne : ¬ (g.handset ≡ h)). absurd (ne ((bytes_eq-Decides g.handset h).0 p.0)))
+    is)
+    (λ (f : is_of_reference h UpRow r g ≡ false). f)
+    (cases_Bool (is_of_reference h UpRow r g))
+
+last_elsewhere : (o : Option Holder) (h : List ℕ) (r : ℕ) (gs : List GivenRow) → AllElsewhere h gs → last_holder o h UpRow r gs ≡ o
+last_elsewhere o h r [] all = refl
+last_elsewhere o h r (g ∷ gs) all =
+    ap (λ (z : Option Holder). last_holder z h UpRow r gs) (cond-false (is_of_reference h UpRow r g) (Some g.holder) o (elsewhere h r g all.0)) ∙ last_elsewhere o h r gs all.1
+
+tells_still : (h : List ℕ) (outbox : List OutEntry) (given more : List GivenRow) → AllElsewhere h more → TellsEntries h outbox given → TellsEntries h outbox (given ++ more)
+tells_still h outbox given more all tells o i u =
+    last_over None h o.reference given more ∙ last_elsewhere (last_holder None h UpRow o.reference given) h o.reference more all ∙ tells o i u
+
+both_elsewhere : (h : List ℕ) (xs ys : List GivenRow) → AllElsewhere h xs → AllElsewhere h ys → AllElsewhere h (xs ++ ys)
+both_elsewhere h [] ys a b = b
+both_elsewhere h (x ∷ xs) ys a b = (a.0, both_elsewhere h xs ys a.1 b)
+
+-- ---- the centre's
+
+module _ (h : List ℕ) where
+  parts_elsewhere : (moment : ℕ) (ms : List MessageRow) (cs : List (Revision PartRow)) → AllElsewhere h (parts_given moment ms cs)
+  parts_elsewhere moment ms [] = tt
+  parts_elsewhere moment ms (PutRow p ∷ cs) = (inl refl, parts_elsewhere moment ms cs)
+  parts_elsewhere moment ms (Amend n q ∷ cs) = parts_elsewhere moment ms cs
+  parts_elsewhere moment ms (RemoveRow n ∷ cs) = parts_elsewhere moment ms cs
+
+  kind_elsewhere : (moment id : ℕ) (handset : List ℕ) (k : ReportKind) → AllElsewhere h (report_given moment id handset k)
+  kind_elsewhere moment id handset Receipt = tt
+  kind_elsewhere moment id handset (Status reference tpdu) = (inl refl, tt)
+  kind_elsewhere moment id handset Unsent = tt
+
+  reports_elsewhere : (moment : ℕ) (ms : List MessageRow) (cs : List (Revision ReportRow)) → AllElsewhere h (reports_given moment ms cs)
+  reports_elsewhere moment ms [] = tt
+  reports_elsewhere moment ms (PutRow r ∷ cs) =
+      both_elsewhere h (report_given moment r.id (source_in (message_at r.id ms)) r.kind) (reports_given moment ms cs) (kind_elsewhere moment r.id (source_in (message_at r.id ms)) r.kind)
+      (reports_elsewhere moment ms cs)
+  reports_elsewhere moment ms (Amend n q ∷ cs) = reports_elsewhere moment ms cs
+  reports_elsewhere moment ms (RemoveRow n ∷ cs) = reports_elsewhere moment ms cs
+
+  centre_elsewhere : (d : CentreDraft) → AllElsewhere h (centre_given d)
+  centre_elsewhere d =
+      both_elsewhere h (parts_given d.store.moment (messages_in d.store) (changes_in d.store).parts) (reports_given d.store.moment (messages_in d.store) (changes_in d.store).reports)
+      (parts_elsewhere d.store.moment (messages_in d.store) (changes_in d.store).parts) (reports_elsewhere d.store.moment (messages_in d.store) (changes_in d.store).reports)
+
+-- ---- another handset's
+
+module _ (h a : List ℕ) (ne : ¬ (a ≡ h)) where
+  entries_elsewhere : (moment : ℕ) (outbox : List OutEntry) (cs : List (Change OutEntry)) → AllElsewhere h (entries_given a moment outbox cs)
+  entries_elsewhere moment outbox [] = tt
+  entries_elsewhere moment outbox (Put o ∷ cs) =
+      both_elsewhere h (cond (is_some (row_at out_key o.number outbox)) [] (entry_given a moment o)) (entries_given a moment (put out_key o outbox) cs)
+      (cond_both (is_some (row_at out_key o.number outbox)) [] (entry_given a moment o) (λ (rows : List GivenRow). AllElsewhere h rows) (λ t. tt) (λ t. (inr ne, tt)))
+      (entries_elsewhere moment (put out_key o outbox) cs)
+  entries_elsewhere moment outbox (Remove key ∷ cs) = entries_elsewhere moment (without out_key key outbox) cs
+
+  memory_elsewhere : (moment next reference : ℕ) (tag : Holder) → AllElsewhere h (memory_given a moment next reference tag)
+  memory_elsewhere moment next reference (Part id number) = tt
+  memory_elsewhere moment next reference (Report id) = tt
+  memory_elsewhere moment next reference (Entry n) = tt
+  memory_elsewhere moment next reference (Memory n) =
+      cond_both (nat_le next n) (record { handset = a; direction = UpRow; reference = reference; holder = Memory n; moment = moment } ∷ []) [] (λ (rows : List GivenRow). AllElsewhere h rows)
+      (λ t. (inr ne, tt)) (λ t. tt)
+
+  data_elsewhere : (moment next reference : ℕ) (tag : Holder) (k : Kind) → AllElsewhere h (data_given a moment next reference tag k)
+  data_elsewhere moment next reference tag Data = memory_elsewhere moment next reference tag
+  data_elsewhere moment next reference tag Ack = tt
+  data_elsewhere moment next reference tag Error = tt
+
+  carried_elsewhere : (moment next : ℕ) (o : Option Carried) → AllElsewhere h (carried_given a moment next o)
+  carried_elsewhere moment next None = tt
+  carried_elsewhere moment next (Some x) = data_elsewhere moment next x.reference x.tag x.kind
+
+  memories_elsewhere : (moment next : ℕ) (fs : List Outgoing) → AllElsewhere h (memories_given a moment next fs)
+  memories_elsewhere moment next [] = tt
+  memories_elsewhere moment next (f ∷ fs) =
+      both_elsewhere h (cond f.is_copy [] (carried_given a moment next f.carried)) (memories_given a moment next fs)
+      (cond_both f.is_copy [] (carried_given a moment next f.carried) (λ (rows : List GivenRow). AllElsewhere h rows) (λ t. tt) (λ t. carried_elsewhere moment next f.carried))
+      (memories_elsewhere moment next fs)
+
+other_elsewhere : (h : List ℕ) (p : Party) (d : Draft) → ¬ (p.number ≡ h) → AllElsewhere h (given_by p d)
+other_elsewhere h p d ne =
+    both_elsewhere h (entries_given p.number d.moment p.core.rows.outbox d.changes.outbox) (memories_given p.number d.moment p.core.rows.counters.notice d.frames)
+    (entries_elsewhere h p.number ne d.moment p.core.rows.outbox d.changes.outbox) (memories_elsewhere h p.number ne d.moment p.core.rows.counters.notice d.frames)
+
+-- ---- a course
+
+abbrev pub AllTell : Course → Type 0
+AllTell c = (q : Party) → Among q c.parties → TellsEntries q.number q.core.rows.outbox c.given
+
+-- and no two handsets have one number
+abbrev Apart : Course → Type 0
+Apart c = AreDifferent (numbers_of c.parties) × AllTell c
+
+abbrev IsReady : Party → Type 0
+IsReady p = IsSoundCore p.core × AreBelow p.core.rows.counters.notice p.core.notices
+
+still_apart : (z : Party) (c : Course) → AreDifferent (numbers_of c.parties) → AreDifferent (numbers_of (with_party z c.parties))
+still_apart z c apart = subst (λ (ns : List (List ℕ)). AreDifferent ns) (sym (with_numbers z c.parties)) apart
+
+abbrev ok_meeting : Meeting → Result Meeting PlayFault
+ok_meeting m = Ok m
+
+same_meeting : (a b : Meeting) → ok_meeting a ≡ ok_meeting b → a ≡ b
+same_meeting a b e = cc
+
+-- of whom a meeting is
+abbrev IsOfParties : Course → Meeting → Type 0
+IsOfParties c (AtCentre e) = Unit {0}
+IsOfParties c (AtHandset p e) = Among p c.parties
+
+module _ (n : ℕ) where
+  -- ---- the centre
+
+  centre_gives : (d : CentreDraft) (c : Course) → Apart c → Apart (centre_done d c)
+  centre_gives d c k = (k.0, λ q i. tells_still q.number q.core.rows.outbox c.given (centre_given d) (centre_elsewhere q.number d) (k.1 q i))
+
+  accepted_apart : (d : CentreDraft) (most : ℕ) (waiting : List Delivery) (c : Course) → Apart c → Apart (accepted_after d most waiting c)
+  accepted_apart d zero waiting c k = k
+  accepted_apart d (suc most) [] c k = k
+  accepted_apart d (suc most) (x ∷ waiting) c k =
+      let e : CentreDraft = centre_happened (DeliverAnswered x.session x.id true) c.centre in
+      accepted_apart e most (waiting ++ e.desk.deliveries) (centre_done e c) (centre_gives e c k)
+
+  centre_told_apart : (a : Option CentreAnswer) (c : Course) → Apart c → Apart (centre_told n a c)
+  centre_told_apart None c k = k
+  centre_told_apart (Some a) c k = k
+
+  centre_apart : (e : CentreEvent) (c : Course) → Apart c → Apart (centre_meets n e c)
+  centre_apart e c k =
+      let d : CentreDraft = centre_happened e c.centre in
+      centre_told_apart d.answer (centre_whole d c) (accepted_apart d _ d.desk.deliveries (centre_done d c) (centre_gives d c k))
+
+  -- ---- a handset
+
+  commits : (p : Party) (e : HandsetEvent) (d : Draft) (c : Course) → Among p c.parties → IsReady p → happened e p.core ≡ Ok d → Apart c → Apart (committed p d c)
+  commits p e d c there ready q k =
+      let z : Party = party_after p d in (
+        still_apart z c k.0,
+        λ x i. ⊎_elim
+            (λ (same : x ≡ z).
+            subst (λ (y : Party). TellsEntries y.number y.core.rows.outbox (c.given ++ given_by p d)) (sym same) (event_told e p d c.given ready.0 ready.1 q (k.1 p there)))
+            (λ (a : Among x c.parties × ¬ (z.number ≡ x.number)). tells_still x.number x.core.rows.outbox c.given (given_by p d) (other_elsewhere x.number p d a.1) (k.1 x a.0))
+            (with_among z c.parties k.0 x i),
+      )
+
+  whole_apart : (p : Party) (e : HandsetEvent) (r : Result Draft Refusal) (c : Course) → Among p c.parties → IsReady p → happened e p.core ≡ r → Apart c → Apart (whole p r c)
+  whole_apart p e (Ok d) c there ready q k = commits p e d c there ready q k
+  whole_apart p e (Err refusal) c there ready q k = k
+
+  kept_apart : (p : Party) (e : HandsetEvent) (r : Result Draft Refusal) (c : Course) → Among p c.parties → IsReady p → happened e p.core ≡ r → Apart c → Apart (handset_kept p r c)
+  kept_apart p e (Ok d) c there ready q k = commits p e d c there ready q k
+  kept_apart p e (Err refusal) c there ready q k = k
+
+  told_apart : (r : Result Draft Refusal) (c : Course) → Apart c → Apart (told n r c)
+  told_apart (Ok d) c k = k
+  told_apart (Err refusal) c k = k
+
+  handset_apart : (p : Party) (e : HandsetEvent) (c : Course) → Among p c.parties → IsReady p → Apart c → Apart (handset_meets n p e c)
+  handset_apart p e c there ready k =
+      let r : Result Draft Refusal = happened e p.core in
+      let w : Apart (whole p r c) = whole_apart p e r c there ready refl k in
+      cond_both (is_owners e) (told n r (whole p r c)) (whole p r c) (λ (z : Course). Apart z) (λ t. told_apart r (whole p r c) w) (λ t. w)
+
+  -- ---- restarts and stops
+
+  party_apart : (p : Party) (c : Course) → Among p c.parties → Apart c → Apart (party_restarted p c)
+  party_apart p c there k =
+      let z : Party = record p { core = recovered p.core.rows } in (
+        still_apart z c k.0,
+        λ x i. ⊎_elim
+            (λ (same : x ≡ z). subst (λ (y : Party). TellsEntries y.number y.core.rows.outbox c.given) (sym same) (k.1 p there))
+            (λ (a : Among x c.parties × ¬ (z.number ≡ x.number)). k.1 x a.0)
+            (with_among z c.parties k.0 x i),
+      )
+
+  restarted_apart : (h : List ℕ) (o : Option Party) (c : Course) → party_at h c.parties ≡ o → Apart c → Apart (handset_restarted o c)
+  restarted_apart h None c e k = k
+  restarted_apart h (Some p) c e k = party_apart p c (party_found h c.parties p e).0 k
+
+  back_apart : (m : Meeting) (c : Course) → Apart c → Apart (restarted m c)
+  back_apart (AtCentre e) c k = k
+  back_apart (AtHandset p e) c k = restarted_apart p.number (party_at p.number c.parties) c refl k
+
+  module _ (c : Course) (ready : (p : Party) → Among p c.parties → IsReady p) (k : Apart c) where
+    stop_apart : (stop : Stop) (m : Meeting) → IsOfParties c m → Apart (kept stop m c)
+    stop_apart Before m is = k
+    stop_apart After (AtCentre e) is = centre_gives (centre_happened e c.centre) c k
+    stop_apart After (AtHandset p e) is = kept_apart p e (happened e p.core) c is (ready p is) refl k
+
+    stopped_apart : (act : Act) (stop : Stop) (m : Meeting) → IsOfParties c m → Apart (stopped n act stop m c)
+    stopped_apart act stop m is =
+        let d : Course = restarted m (kept stop m c) in
+        let o : Apart d = back_apart m (kept stop m c) (stop_apart stop m is) in
+        cond_both (is_answered act) (answer n AnsweredStopped d) d (λ (z : Course). Apart z) (λ t. o) (λ t. o)
+
+    met_apart : (m : Meeting) → IsOfParties c m → Apart (met n m c)
+    met_apart (AtCentre e) is = centre_apart e c k
+    met_apart (AtHandset p e) is = handset_apart p e c is (ready p is) k
+
+    -- ---- whom an act meets
+
+    of_account : (request : ℕ → CentreEvent) (o : Option ℕ) (m : Meeting) → by_account n request o ≡ Ok m → IsOfParties c m
+    of_account request None m q = absurd cc
+    of_account request (Some place) m q =
+        let same : AtCentre (request place) ≡ m = cc in subst (λ (z : Meeting). IsOfParties c z) same tt
+
+    of_handset : (h : List ℕ) (e : HandsetEvent) (o : Option Party) (m : Meeting) → party_at h c.parties ≡ o → by_handset e n o ≡ Ok m → IsOfParties c m
+    of_handset h e None m at q = absurd cc
+    of_handset h e (Some p) m at q =
+        let same : AtHandset p e ≡ m = cc in subst (λ (z : Meeting). IsOfParties c z) same (party_found h c.parties p at).0
+
+    of_row : (d : Direction) (f : FrameRow) (m : Meeting) → handed_over n d f c ≡ Ok m → IsOfParties c m
+    of_row UpRow f m q =
+        let x : Meeting = AtCentre (CentreFrame f.handset f.octets (tag_in f.carried)) in subst (λ (z : Meeting). IsOfParties c z) (same_meeting x m q) tt
+    of_row DownRow f m q = of_handset f.handset _ (party_at f.handset c.parties) m refl q
+
+    of_frame : (o : Option FrameRow) (m : Meeting) → delivered n o c ≡ Ok m → IsOfParties c m
+    of_frame None m q = absurd cc
+    of_frame (Some f) m q = of_row f.direction f m q
+
+    of_act : (act : Act) (m : Meeting) → meeting_of n act c ≡ Ok m → IsOfParties c m
+    of_act (SubmitAct s) m q = of_account _ _ m q
+    of_act (Query name id) m q = of_account _ _ m q
+    of_act (Cancel name id) m q = of_account _ _ m q
+    of_act (WriteAct h to report text) m q = of_handset h _ (party_at h c.parties) m refl q
+    of_act (DeleteAct h entry) m q = of_handset h _ (party_at h c.parties) m refl q
+    of_act (DiscardAct h entry) m q = of_handset h _ (party_at h c.parties) m refl q
+    of_act (Deliver number) m q = of_frame (frame_at number c.bag) m q
+    of_act (TickAct Centre now) m q = let x : Meeting = AtCentre (CentreTick now) in subst (λ (z : Meeting). IsOfParties c z) (same_meeting x m q) tt
+    of_act (TickAct (Handset h) now) m q = of_handset h _ (party_at h c.parties) m refl q
+
+    -- ---- each event
+
+    then_apart : (r : Result Meeting PlayFault) (f : Meeting → Course) (d : Course) → ((m : Meeting) → r ≡ Ok m → Apart (f m)) → (r >>= λ (m : Meeting). ok_course (f m)) ≡ ok_course d → Apart d
+    then_apart (Ok m) f d g e = subst (λ (z : Course). Apart z) (same_course (f m) d e) (g m refl)
+    then_apart (Err fault) f d g e = absurd cc
+
+    handset_back : (h : List ℕ) (o : Option Party) (d : Course) → party_at h c.parties ≡ o → handset_restarts n o c ≡ Ok d → Apart d
+    handset_back h None d e q = absurd cc
+    handset_back h (Some p) d e q = subst (λ (z : Course). Apart z) (same_course _ d q) (party_apart p c (party_found h c.parties p e).0 k)
+
+    side_back : (side : Side) (d : Course) → restart n side c ≡ Ok d → Apart d
+    side_back Centre d q = subst (λ (z : Course). Apart z) (same_course _ d q) k
+    side_back (Handset h) d q = handset_back h (party_at h c.parties) d refl q
+
+    event_apart : (e : WorldEvent) (d : Course) → played n e c ≡ ok_course d → Apart d
+    event_apart (Whole act) d q = then_apart (meeting_of n act c) (λ m. met n m c) d (λ m i. met_apart m (of_act act m i)) q
+    event_apart (Stopped stop act) d q = then_apart (meeting_of n act c) (λ m. stopped n act stop m c) d (λ m i. stopped_apart act stop m (of_act act m i)) q
+    event_apart (Restart side) d q = side_back side d q
+
+all_ready : (c : Course) (w : World) → CourseSees c w → (p : Party) → Among p c.parties → IsReady p
+all_ready c w s p i =
+    let k = s.parties p i in
+    (k.sound, λ n j. let g = k.sees.notices.given n j in k.sees.notices.used n.number _ g.1 refl refl)
+
+pub held_told : (n : ℕ) (e : WorldEvent) (c d : Course) (w : World) → CourseSees c w → played n e c ≡ ok_course d → AllTell c → AllTell d
+held_told n e c d w s q tells = (event_apart n c (all_ready c w s) (s.apart, tells) e d q).1

@@ -1,0 +1,31 @@
+-- What a play answers in the place of the report that its script leads to.
+use Rattle.std.specs.Prelude.{◌≡◌, List, Option, Result, Ok, Err}
+use Rattle.sms_base.specs.Reading.{◌>>=◌}
+use Rattle.sms_play.specs.declared.fault.PlayFault.{PlayFault}
+use Rattle.sms_play.specs.declared.fault.PlayFault.TheVariants.{BadSetup, NoMemory, NoSuchAccount, NoSuchFrame, NoSuchSide}
+use Rattle.sms_play.specs.Course.{Course}
+use Rattle.sms_play.specs.Playing.{played_on, report_of}
+use Rattle.sms_script.specs.declared.report.report.Broken.{Broken}
+use Rattle.sms_script.specs.declared.report.report.Report.{Report}
+use Rattle.sms_script.specs.declared.event.WorldEvent.{WorldEvent}
+
+-- This part of it is what was wanted, or the fault is told that was wanted in its place, or there was no memory for it.
+abbrev pub Gives : {X Y : Type 0} → (X → Y) → Result X PlayFault → Result Y PlayFault → Type 0
+Gives part (Ok x) wanted = wanted ≡ Ok (part x)
+Gives part (Err (NoMemory event)) wanted = Unit {0}
+Gives part (Err (NoSuchFrame event)) wanted = wanted ≡ Err (NoSuchFrame event)
+Gives part (Err (NoSuchSide event)) wanted = wanted ≡ Err (NoSuchSide event)
+Gives part (Err (NoSuchAccount event)) wanted = wanted ≡ Err (NoSuchAccount event)
+Gives part (Err BadSetup) wanted = wanted ≡ Err BadSetup
+
+-- the same of all of it
+abbrev pub Reports : {X : Type 0} → Result X PlayFault → Result X PlayFault → Type 0
+Reports result wanted = Gives (λ (x : _). x) result wanted
+
+-- the report of where these events lead from that course
+abbrev pub report_on : List WorldEvent → Course → Result Report PlayFault
+report_on events c = played_on 1 events c >>= λ (d : Course). Ok (report_of d)
+
+-- this was decided, and it is told so
+abbrev pub Decides : (Option Broken → Type 0) → Result (Option Broken) PlayFault → Type 0
+Decides tells wanted = (broken : Option Broken) × ((wanted ≡ Ok broken) × tells broken)

@@ -1,0 +1,41 @@
+//! What who looked on tells in the end.
+ghost use Rattle.std.specs.Prelude.{◌≡◌, ⊤, Option};
+ghost use Rattle.sms_play.specs.Course.{Course};
+ghost use Rattle.sms_script.specs.declared.report.report.Broken.{Broken as BrokenOf};
+
+use sms_script::report::Broken;
+use sms_trace::watching::{Capture, Judge, Ladder, Watcher};
+
+/// Who looks on while a script is played, and tells in the end which event was the first that broke a premise.
+pub(crate) trait Finder: Watcher {
+    /// It tells that where this event was the first. Who judges nothing may tell anything.
+    ghost tells: { Option BrokenOf → Option BrokenOf → Type 0 } = { λ told broken. ⊤ };
+
+    /// The first event that broke a premise.
+    fn verdict(&self) -> Option<Broken>
+        ensures { (broken : Option BrokenOf) (c : Course) → Self.has_seen self.now broken c → tells result broken };
+}
+
+impl Finder for Judge {
+    ghost use Rattle.std.specs.Prelude.{◌≡◌};
+
+    ghost tells = { λ told broken. told ≡ broken };
+
+    fn verdict(&self) -> Option<Broken> {
+        self.broken()
+    }
+}
+
+// A ladder judges nothing.
+impl Finder for Ladder {
+    fn verdict(&self) -> Option<Broken> {
+        None
+    }
+}
+
+// Nor does a capture.
+impl Finder for Capture {
+    fn verdict(&self) -> Option<Broken> {
+        None
+    }
+}

@@ -1,0 +1,53 @@
+//! A handset's events are steps of the world.
+ghost use Rattle.sms_world_refinement.specs.handset.Course.{CourseLaw, FirstCourseLaw};
+ghost use Rattle.sms_world_refinement.specs.handset.EventLaws.{DeleteLaw, DiscardLaw, FrameLaw, RestartLaw, TickLaw, WriteLaw};
+ghost use Rattle.sms_world_refinement.specs.handset.OthersLaws.{CentreLaw, OtherLaw};
+ghost use Rattle.sms_world_refinement.specs.handset.PlanLaws.{AdoptedLaw, PlanLaw};
+ghost use Rattle.sms_world_refinement.specs.handset.StopLaws.{StartLaw, StopLaw, StoppedLaw};
+
+/// Where a sound handset sees the world and is handed a frame of it, or one that carries nothing, the frame's event is steps of
+/// the world, all of them its own, and it sees where they lead.
+pub fn a_frame_is_steps()
+    ensures { FrameLaw }
+{}
+
+/// So is a tick; and a restart is no step at all.
+pub fn a_tick_is_steps()
+    ensures tick { TickLaw }
+    ensures restart { RestartLaw }
+{}
+
+/// So is what the owner does, where it is not refused.
+pub fn acts_are_steps()
+    ensures write { WriteLaw }
+    ensures delete { DeleteLaw }
+    ensures discard { DiscardLaw }
+{}
+
+/// What `Handset::plan` plans leads on in the world, whatever the event: its frames go on top of those that were sent, what its
+/// changes put is accepted and joined, and the handset that has adopted it sees where it led.
+pub fn plans_are_steps()
+    ensures event { PlanLaw }
+    ensures adopted { AdoptedLaw }
+{}
+
+/// What a stop leaves behind the store call shows the world without the event's frames; an event that was stopped so is steps
+/// of the world that send nothing; and a handset without rows sees the empty world.
+pub fn stops_are_seen()
+    ensures stopped { StoppedLaw }
+    ensures stop { StopLaw }
+    ensures start { StartLaw }
+{}
+
+/// What another handset or the centre does leaves what a handset sees, and what it accepted and joined.
+pub fn others_leave_what_is_seen()
+    ensures handset { OtherLaw }
+    ensures centre { CentreLaw }
+{}
+
+/// A handset's course, whatever it meets and however often it is stopped or restarts, is steps of the world, episode by episode,
+/// with what others do between them: from any world that it sees, and for a new handset from the empty one.
+pub fn a_course_is_steps()
+    ensures course { CourseLaw }
+    ensures first { FirstCourseLaw }
+{}

@@ -1,0 +1,13 @@
+use Rattle.std.proofs.Common.{codes, refl}
+use Rattle.smsc_cli.proofs.words.Options.{value_found}
+use Rattle.smsc_cli.specs.words.SimWords.{relay_command}
+use Rattle.smsc_cli.proofs.words.sim.relay_options.Goals as goal
+
+pub returns-clause-centre : goal.returns-clause-centre
+returns-clause-centre c = value_found relay_command _ _ _ (codes "centre") refl c.in_ok-command.ensures c.in_ok-matches.ensures.matches c.options_of.ensures.centre
+
+pub returns-clause-from : goal.returns-clause-from
+returns-clause-from c = value_found relay_command _ _ _ (codes "from") refl c.in_ok-command.ensures c.in_ok-matches.ensures.matches c.options_of.ensures.from
+
+pub returns-clause-now : goal.returns-clause-now
+returns-clause-now c = value_found relay_command _ _ _ (codes "now") refl c.in_ok-command.ensures c.in_ok-matches.ensures.matches c.options_of.ensures.now

@@ -1,0 +1,51 @@
+-- The words of a handset, by clap's matches of them. The first word is the program's name.
+use Rattle.std.specs.Prelude.{◌≡◌, ℕ, List, Bool, false, Option, Some, None, MatchBool, codes, bytes_eq}
+use Rattle.clap.specs.Words.{App, first_of, matches_of, new_app, with_rule}
+use Rattle.smsc_cli.specs.words.SimWords.{Gives, SpellsNumber, required_option}
+use Rattle.smsc_cli.specs.words.Numbers.{SpellsCount, SpellsFrom}
+use Rattle.smsc_cli.specs.declared.words.handset.HandsetWords.{HandsetWords}
+use Rattle.smsc_cli.specs.declared.words.handset.HandsetWords.TheVariants.{Run, Show}
+
+abbrev pub link_command : App
+link_command =
+    with_rule (with_rule (with_rule (new_app (codes "handset")) (required_option (codes "connect"))) (required_option (codes "number")))
+    (required_option (codes "centre"))
+
+abbrev pub run_command : App
+run_command =
+    with_rule (with_rule (with_rule link_command (required_option (codes "slots"))) (required_option (codes "store")))
+    (required_option (codes "frames"))
+
+abbrev pub show_command : App
+show_command = with_rule (new_app (codes "show")) (required_option (codes "store"))
+
+-- the value of an option in the matches of the words of a run, and of a look at a store
+abbrev pub run_value : List ℕ → List (List ℕ) → Option (List ℕ)
+run_value name words = first_of name (matches_of run_command words)
+
+abbrev pub show_value : List ℕ → List (List ℕ) → Option (List ℕ)
+show_value name words = first_of name (matches_of show_command words)
+
+-- the values of the six options spell what a run is to do
+abbrev pub SpelledRun : Option (List ℕ) → Option (List ℕ) → Option (List ℕ) → Option (List ℕ) → Option (List ℕ) → Option (List ℕ) → HandsetWords → Type 0
+SpelledRun given_connect given_number given_centre given_slots given_store given_frames (Run connect number centre slots store frames) =
+    Gives (SpellsFrom 1) given_connect connect × Gives SpellsNumber given_number number × Gives SpellsNumber given_centre centre
+    × Gives (SpellsFrom 1) given_slots slots × (given_store ≡ Some store.now) × Gives SpellsCount given_frames frames
+SpelledRun given_connect given_number given_centre given_slots given_store given_frames (Show store) = ⊥
+
+abbrev pub AsksToRun : List (List ℕ) → HandsetWords → Type 0
+AsksToRun words =
+    SpelledRun (run_value (codes "connect") words) (run_value (codes "number") words) (run_value (codes "centre") words)
+    (run_value (codes "slots") words) (run_value (codes "store") words) (run_value (codes "frames") words)
+
+abbrev pub AsksToShow : List (List ℕ) → HandsetWords → Type 0
+AsksToShow words (Run connect number centre slots store frames) = ⊥
+AsksToShow words (Show store) = show_value (codes "store") words ≡ Some store.now
+
+abbrev pub is_show : Option (List ℕ) → Bool
+is_show None = false
+is_show (Some word) = bytes_eq word (codes "show")
+
+-- `show` as the second word asks for a look, by the words behind the program's name, and all else for a run
+abbrev pub AsksFor : Option (List ℕ) → List (List ℕ) → List (List ℕ) → HandsetWords → Type 0
+AsksFor second words behind asked = MatchBool (is_show second) (AsksToShow behind asked) (AsksToRun words asked)

@@ -1,0 +1,51 @@
+-- The words of a relay run, `relay --centre NUMBER --from NUMBER --now SECONDS`, by clap's matches of them.
+use Rattle.std.specs.Prelude.{◌≡◌, ℕ, List, true, Option, Some, codes}
+use Rattle.std.specs.List.{list_all}
+use Rattle.std.specs.Str.{chars}
+use Rattle.std.specs.Str.Parse.{digits_value}
+use Rattle.clap.specs.Words.{App, Rule, first_of, matches_of, new_app, new_rule, with_rule}
+use Rattle.clap.specs.declared.builder.action.ArgAction.TheVariants.{Set}
+use Rattle.sms_base.specs.declared.address.Address.{Address}
+use Rattle.sms_base.specs.HandsetNumber.{is_decimal}
+use Rattle.smsc_cli.specs.words.OwnAddress.{IsOwnAddress}
+use Rattle.smsc_cli.specs.declared.words.sim.SimWords.{SimWords}
+use Rattle.smsc_cli.specs.declared.words.sim.SimWords.TheVariants.{Relay}
+
+-- an option with a value, that must be given
+abbrev pub required_option : List ℕ → Rule
+required_option name = record (new_rule name) { long = Some name; action = Some Set; required = true }
+
+abbrev pub relay_command : App
+relay_command =
+    with_rule (with_rule (with_rule (new_app (codes "relay")) (required_option (codes "centre")))
+    (required_option (codes "from"))) (required_option (codes "now"))
+
+-- the value of an option in the matches of a relay run's words
+abbrev pub value_of : List ℕ → List (List ℕ) → Option (List ℕ)
+value_of name words = first_of name (matches_of relay_command words)
+
+-- the text is the digits of the international number
+pub record SpellsNumber (text : List ℕ) (address : Address) : Type 0 where
+  pub own : IsOwnAddress address
+  pub digits : address.digits ≡ chars text
+
+-- the text is decimal digits of the number of seconds
+pub record SpellsSeconds (text : List ℕ) (moment : ℕ) : Type 0 where
+  pub digits : list_all is_decimal text ≡ true
+  pub value : digits_value 10 text ≡ moment
+
+-- the option of that name has a value that spells it
+abbrev pub Gives : {A : Type 0} → (List ℕ → A → Type 0) → Option (List ℕ) → A → Type 0
+Gives Spells given value = (text : List ℕ) × (given ≡ Some text) × Spells text value
+
+-- the values of the three options spell a relay run's numbers and its moment
+abbrev pub Spelled : Option (List ℕ) → Option (List ℕ) → Option (List ℕ) → SimWords → Type 0
+Spelled given_centre given_from given_now (Relay centre from now) =
+    Gives SpellsNumber given_centre centre × Gives SpellsNumber given_from from × Gives SpellsSeconds given_now now
+
+abbrev pub AsksFor : List (List ℕ) → SimWords → Type 0
+AsksFor words = Spelled (value_of (codes "centre") words) (value_of (codes "from") words) (value_of (codes "now") words)
+
+-- the numbers are such as the centre itself writes
+abbrev pub AreSimWords : SimWords → Type 0
+AreSimWords (Relay centre from now) = IsOwnAddress centre × IsOwnAddress from

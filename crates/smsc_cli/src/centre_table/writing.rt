@@ -1,0 +1,68 @@
+//! The table, written.
+ghost use Rattle.std.specs.Prelude.{◌≡◌, OnOk};
+ghost use Rattle.std.specs.Io.KnownBytes.{Appends};
+ghost use Rattle.smsc_cli.specs.centre_table.CentreTable.{centre_table};
+
+use crate::centre_table::table::centre_table;
+use sms_centre_rows::messages::{MessageRow, PartRow};
+use sms_rows::table::{Table, rises};
+use std::alloc::{AllocError, Global};
+use std::io::{self, Write};
+use thiserror::Error;
+
+/// Why a table was not written to its end.
+#[derive(Debug, Drop, Error)]
+pub enum ShowError {
+    /// The parts don't stand in the order of their keys. Nothing was written.
+    #[error("the rows are not sound")]
+    BadRows,
+    /// There was no memory. Nothing was written.
+    #[error("out of memory")]
+    NoMemory,
+    /// A write failed.
+    #[error("{0}")]
+    Io(io::Error),
+}
+
+impl From<AllocError> for ShowError {
+    fn from(_error: AllocError) -> ShowError {
+        ShowError::NoMemory
+    }
+}
+
+fn write_out<W: Write>(out: &mut W, octets: &[u8]) -> Result<(), ShowError>
+    ensures { OnOk result (Appends (W.contents out.old) (W.contents out.new) octets.now) }
+{
+    match out.write_all(octets) {
+        Ok(()) => Ok(()),
+        Err(error) => Err(ShowError::Io(error)),
+    }
+}
+
+fn show_parts<W: Write>(
+    alloc: Global,
+    messages: &[MessageRow],
+    parts: &Table<PartRow>,
+    out: &mut W,
+) -> Result<(), ShowError>
+    ensures { OnOk result (Appends (W.contents out.old) (W.contents out.new) (centre_table messages.now parts.now.rows)) }
+{
+    let table = centre_table(alloc, messages, parts)?;
+    write_out(out, table.as_slice())
+}
+
+/// Writes the table of messages and their parts.
+pub fn show<W: Write>(
+    alloc: Global,
+    messages: &[MessageRow],
+    parts: Vec<PartRow>,
+    out: &mut W,
+) -> Result<(), ShowError>
+    ensures { OnOk result (Appends (W.contents out.old) (W.contents out.new) (centre_table messages.now parts.items)) }
+{
+    if !rises(parts.as_slice()) {
+        return Err(ShowError::BadRows);
+    }
+    let parts = Table::from_vec(parts);
+    show_parts(alloc, messages, &parts, out)
+}

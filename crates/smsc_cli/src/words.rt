@@ -1,0 +1,21 @@
+//! The words of the programs.
+//!
+//! `handset_words` tells what the words behind `handset` ask, `server_words` those behind `smscd`, and `sim_words` those of a relay run
+//! of `smsim`. Each value is the one that clap's matches of the words have for its option, and spells what it is said to spell; all
+//! else is bad words. `add_lines` reads accounts from a file, so that no password has to stand among the words.
+
+mod account;
+mod address;
+mod fault;
+mod handset;
+mod number;
+mod option;
+mod server;
+mod sim;
+
+pub use account::{AccountWords, account_of};
+pub use address::own_address;
+pub use fault::WordsFault;
+pub use handset::{HandsetWords, handset_words};
+pub use server::{ServerRun, ServerWords, add_lines, server_words};
+pub use sim::{SimWords, sim_words};

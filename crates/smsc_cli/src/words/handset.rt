@@ -1,0 +1,184 @@
+//! The words of a handset.
+ghost use Rattle.std.specs.Prelude.{◌≡◌, map, drop, option_map, slice_get, codes, IfSome, IfOk};
+ghost use Rattle.clap.specs.Words.{app_of, first_value, found_of};
+ghost use Rattle.smsc_cli.specs.words.HandsetWords.{AsksFor, AsksToRun, AsksToShow, SpelledRun, is_show, link_command, run_command, run_value, show_command, show_value};
+
+use crate::words::fault::{WordsFault, fault_of};
+use crate::words::number::{address_of, count_of, port_of, slots_of};
+use crate::words::option::required;
+use clap::{ArgMatches, Command, Error};
+use sms_base::Address;
+use std::alloc::{AllocError, Global};
+
+/// What a run of a handset is to do.
+#[derive(Clone, Copy, Debug)]
+pub enum HandsetWords<'a> {
+    /// `--connect PORT --number NUMBER --centre NUMBER --slots K --store FILE --frames N`.
+    Run {
+        /// The port of the centre, on this machine.
+        connect: u16,
+        /// The handset's own number.
+        number: Address,
+        /// The number of the centre.
+        centre: Address,
+        /// How many parts its store has room for.
+        slots: u8,
+        /// The path of its store.
+        store: &'a str,
+        /// It ends after so many frames.
+        frames: u32,
+    },
+    /// `show --store FILE`.
+    Show {
+        /// The path of the store.
+        store: &'a str,
+    },
+}
+
+// The options of a run, as text.
+#[derive(Debug, Drop)]
+struct RunOptions<'a> {
+    connect: Option<&'a str>,
+    number: Option<&'a str>,
+    centre: Option<&'a str>,
+    slots: Option<&'a str>,
+    store: Option<&'a str>,
+    frames: Option<&'a str>,
+}
+
+// The first options of a run.
+fn link_command<'a>(alloc: Global) -> Result<Command<'a>, AllocError>
+    ensures { IfOk result (λ command. app_of command ≡ link_command) }
+{
+    let command = Command::new(alloc, "handset")
+        .arg(required(alloc, "connect"))?
+        .arg(required(alloc, "number"))?
+        .arg(required(alloc, "centre"))?;
+    Ok(command)
+}
+
+// The command line of a run.
+fn run_command<'a>(alloc: Global) -> Result<Command<'a>, AllocError>
+    ensures { IfOk result (λ command. app_of command ≡ run_command) }
+{
+    let command = link_command(alloc)?
+        .arg(required(alloc, "slots"))?
+        .arg(required(alloc, "store"))?
+        .arg(required(alloc, "frames"))?;
+    Ok(command)
+}
+
+// The command line of a look at a store.
+fn show_command<'a>(alloc: Global) -> Result<Command<'a>, AllocError>
+    ensures { IfOk result (λ command. app_of command ≡ show_command) }
+{
+    let command = Command::new(alloc, "show").arg(required(alloc, "store"))?;
+    Ok(command)
+}
+
+// The values of the options in the matches of the words.
+fn options_of<'a>(matches: &ArgMatches<'a>) -> RunOptions<'a>
+    ensures connect { option_map (λ s. s.now) result.connect ≡ first_value (found_of matches.now) (codes "connect") }
+    ensures number { option_map (λ s. s.now) result.number ≡ first_value (found_of matches.now) (codes "number") }
+    ensures centre { option_map (λ s. s.now) result.centre ≡ first_value (found_of matches.now) (codes "centre") }
+    ensures slots { option_map (λ s. s.now) result.slots ≡ first_value (found_of matches.now) (codes "slots") }
+    ensures store { option_map (λ s. s.now) result.store ≡ first_value (found_of matches.now) (codes "store") }
+    ensures frames { option_map (λ s. s.now) result.frames ≡ first_value (found_of matches.now) (codes "frames") }
+{
+    RunOptions {
+        connect: matches.get_str("connect"),
+        number: matches.get_str("number"),
+        centre: matches.get_str("centre"),
+        slots: matches.get_str("slots"),
+        store: matches.get_str("store"),
+        frames: matches.get_str("frames"),
+    }
+}
+
+fn run_options<'a>(alloc: Global, words: &'a [&'a str]) -> Result<RunOptions<'a>, Error>
+    ensures connect { IfOk result (λ o. option_map (λ s. s.now) o.connect ≡ run_value (codes "connect") (map (λ w. w.now) words.entry.now)) }
+    ensures number { IfOk result (λ o. option_map (λ s. s.now) o.number ≡ run_value (codes "number") (map (λ w. w.now) words.entry.now)) }
+    ensures centre { IfOk result (λ o. option_map (λ s. s.now) o.centre ≡ run_value (codes "centre") (map (λ w. w.now) words.entry.now)) }
+    ensures slots { IfOk result (λ o. option_map (λ s. s.now) o.slots ≡ run_value (codes "slots") (map (λ w. w.now) words.entry.now)) }
+    ensures store { IfOk result (λ o. option_map (λ s. s.now) o.store ≡ run_value (codes "store") (map (λ w. w.now) words.entry.now)) }
+    ensures frames { IfOk result (λ o. option_map (λ s. s.now) o.frames ≡ run_value (codes "frames") (map (λ w. w.now) words.entry.now)) }
+{
+    let command = run_command(alloc)?;
+    let matches = command.try_get_matches_from(words)?;
+    Ok(options_of(&matches))
+}
+
+fn shown_store<'a>(alloc: Global, words: &'a [&'a str]) -> Result<Option<&'a str>, Error>
+    ensures { IfOk result (λ store. option_map (λ s. s.now) store ≡ show_value (codes "store") (map (λ w. w.now) words.entry.now)) }
+{
+    let command = show_command(alloc)?;
+    let matches = command.try_get_matches_from(words)?;
+    Ok(matches.get_str("store"))
+}
+
+fn run_words<'a>(options: &RunOptions<'a>) -> Option<HandsetWords<'a>>
+    ensures { IfSome result (λ words. SpelledRun (option_map (λ s. s.now) options.entry.now.connect) (option_map (λ s. s.now) options.entry.now.number) (option_map (λ s. s.now) options.entry.now.centre) (option_map (λ s. s.now) options.entry.now.slots) (option_map (λ s. s.now) options.entry.now.store) (option_map (λ s. s.now) options.entry.now.frames) words) }
+{
+    let connect = port_of(options.connect?)?;
+    let number = address_of(options.number?)?;
+    let centre = address_of(options.centre?)?;
+    let slots = slots_of(options.slots?)?;
+    let store = options.store?;
+    let frames = count_of(options.frames?)?;
+    Some(HandsetWords::Run {
+        connect,
+        number,
+        centre,
+        slots,
+        store,
+        frames,
+    })
+}
+
+fn run_asked<'a>(alloc: Global, words: &'a [&'a str]) -> Result<HandsetWords<'a>, WordsFault>
+    ensures { IfOk result (λ asked. AsksToRun (map (λ w. w.now) words.entry.now) asked) }
+{
+    match run_options(alloc, words) {
+        Ok(options) => match run_words(&options) {
+            Some(words) => Ok(words),
+            None => Err(WordsFault::BadWords),
+        },
+        Err(error) => Err(fault_of(&error)),
+    }
+}
+
+fn show_asked<'a>(alloc: Global, words: &'a [&'a str]) -> Result<HandsetWords<'a>, WordsFault>
+    ensures { IfOk result (λ asked. AsksToShow (map (λ w. w.now) words.entry.now) asked) }
+{
+    match shown_store(alloc, words) {
+        Ok(Some(store)) => Ok(HandsetWords::Show { store }),
+        Ok(None) => Err(WordsFault::BadWords),
+        Err(error) => Err(fault_of(&error)),
+    }
+}
+
+fn is_show(words: &[&str]) -> bool
+    ensures { result ≡ is_show (option_map (λ w. w.now) (slice_get words.now 1)) }
+{
+    match words.get(1) {
+        Some(word) => *word == "show",
+        None => false,
+    }
+}
+
+/// What the words, the program's own name first, ask of a handset.
+///
+/// `--connect PORT --number NUMBER --centre NUMBER --slots K --store FILE --frames N` in any order, where a PORT is 1 to
+/// 65535, a NUMBER 1 to 20 digits 0 to 9, K 1 to 255, FILE a path and N 0 to 4294967295; or `show --store FILE`. All else
+/// is bad words. Each value is the one that clap's matches of the words have for its option.
+pub fn handset_words<'a>(
+    alloc: Global,
+    words: &'a [&'a str],
+) -> Result<HandsetWords<'a>, WordsFault>
+    ensures { IfOk result (AsksFor (option_map (λ w. w.now) (slice_get words.entry.now 1)) (map (λ w. w.now) words.entry.now) (map (λ w. w.now) (drop 1 words.entry.now))) }
+{
+    if words.len() > 1 && is_show(words) {
+        return show_asked(alloc, &words[1..]);
+    }
+    run_asked(alloc, words)
+}

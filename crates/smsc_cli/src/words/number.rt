@@ -1,0 +1,61 @@
+//! Numbers in words.
+ghost use Rattle.std.specs.Prelude.{◌≡◌, IfSome};
+ghost use Rattle.std.specs.List.{list_all};
+ghost use Rattle.sms_base.specs.HandsetNumber.{is_decimal};
+ghost use Rattle.smsc_cli.specs.words.SimWords.{SpellsNumber};
+ghost use Rattle.smsc_cli.specs.words.Numbers.{SpellsCount, SpellsFrom};
+
+use crate::words::address::own_address;
+use sms_base::Address;
+
+/// Whether the text is of digits 0 to 9.
+pub(crate) fn is_decimal_text(text: &str) -> bool
+    ensures { result ≡ list_all is_decimal text.now }
+{
+    text.as_bytes().iter().all(|digit| digit.is_ascii_digit())
+}
+
+/// The number of a handset or of the centre, 1 to 20 digits.
+pub(crate) fn address_of(text: &str) -> Option<Address>
+    ensures { IfSome result (λ address. SpellsNumber text.now address) }
+{
+    own_address(text)
+}
+
+/// A count of 32 bits in decimal digits alone.
+pub(crate) fn count_of(text: &str) -> Option<u32>
+    ensures { IfSome result (λ count. SpellsCount text.now count) }
+{
+    if !is_decimal_text(text) {
+        return None;
+    }
+    text.parse().ok()
+}
+
+/// A port, 1 to 65535, in decimal digits alone.
+pub(crate) fn port_of(text: &str) -> Option<u16>
+    ensures { IfSome result (λ port. SpellsFrom 1 text.now port) }
+{
+    if !is_decimal_text(text) {
+        return None;
+    }
+    let port: u16 = text.parse().ok()?;
+    if port == 0 {
+        return None;
+    }
+    Some(port)
+}
+
+/// How many slots a store has, 1 to 255, in decimal digits alone.
+pub(crate) fn slots_of(text: &str) -> Option<u8>
+    ensures { IfSome result (λ slots. SpellsFrom 1 text.now slots) }
+{
+    if !is_decimal_text(text) {
+        return None;
+    }
+    let slots: u8 = text.parse().ok()?;
+    if slots == 0 {
+        return None;
+    }
+    Some(slots)
+}

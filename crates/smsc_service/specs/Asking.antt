@@ -1,0 +1,71 @@
+-- What a seat's job, or time that goes on, asks of the centre.
+use Rattle.std.specs.Prelude.{ℕ, List, Option, Some, None, Result, Ok, Err, nat_lt, if◌then◌else◌}
+use Rattle.smpp_pdu.specs.declared.body.Body.{Body}
+use Rattle.smpp_pdu.specs.declared.body.Body.TheVariants.{SubmitSm, QuerySm, CancelSm}
+use Rattle.smpp_pdu.specs.declared.fault.PduFault.{PduFault}
+use Rattle.smpp_pdu.specs.declared.pdu.Pdu.{Pdu}
+use Rattle.smpp_pdu.specs.PduReading.{pdu_at}
+use Rattle.sms_centre_spec.specs.declared.event.CentreEvent.{CentreEvent}
+use Rattle.sms_centre_spec.specs.declared.event.CentreEvent.TheVariants.{Submit as SubmitOf, Query as QueryOf, Cancel as CancelOf, Bound as BoundOf, Unbound as UnboundOf, DeliverAnswered as DeliverAnsweredOf, Frame as FrameOf, LinkUp as LinkUpOf, LinkDown as LinkDownOf, Tick as TickOf}
+use Rattle.sms_centre_spec.specs.declared.jobs.job.Job.{Job}
+use Rattle.sms_centre_spec.specs.declared.jobs.job.Job.TheVariants.{Bound, Unbound, Submit, Query, Cancel, DeliverAnswered, LinkUp, LinkDown, Frame}
+use Rattle.sms_keeper.specs.declared.machine.Stimulus.{Stimulus}
+use Rattle.sms_keeper.specs.declared.machine.Stimulus.TheVariants.{Job as JobOf, Tick}
+use Rattle.smsc_service.specs.declared.asking.Asked.{Asked}
+use Rattle.smsc_service.specs.declared.asking.Asked.TheVariants.{Event, Nothing, Taken}
+use Rattle.smsc_service.specs.Numbers.{is_number}
+use Rattle.smsc_service.specs.Seats.{Seats, handset_at, seat_of}
+
+-- ---- requests: the PDU that was passed up, if it is the request that it was passed up as
+
+abbrev pub submission : ℕ → Body → Asked
+submission account (SubmitSm message) = Event (SubmitOf account message)
+submission account other = Nothing
+
+abbrev pub question : ℕ → Body → Asked
+question account (QuerySm query) = Event (QueryOf account query)
+question account other = Nothing
+
+abbrev pub withdrawal : ℕ → Body → Asked
+withdrawal account (CancelSm cancel) = Event (CancelOf account cancel)
+withdrawal account other = Nothing
+
+abbrev pub read_as : (Body → Asked) → Result Pdu PduFault → Asked
+read_as ask (Ok pdu) = ask pdu.body
+read_as ask (Err fault) = Nothing
+
+-- ---- links
+
+-- a handset has one link
+abbrev pub link_for : Option ℕ → List ℕ → Asked
+link_for (Some seat) handset = Taken
+link_for None handset = Event (LinkUpOf handset)
+
+-- what the link of the handset asks, if one stands at the seat
+abbrev pub of_handset : (List ℕ → CentreEvent) → Option (List ℕ) → Asked
+of_handset event None = Nothing
+of_handset event (Some handset) = if is_number handset then Event (event handset) else Nothing
+
+-- ---- what is asked
+
+abbrev pub asked : Seats → ℕ → Job → Asked
+asked s seat (Bound account receives) = Event (BoundOf seat account receives)
+asked s seat Unbound = Event (UnboundOf seat)
+asked s seat (Submit account pdu) = read_as (submission account) (pdu_at pdu)
+asked s seat (Query account pdu) = read_as (question account) (pdu_at pdu)
+asked s seat (Cancel account pdu) = read_as (withdrawal account) (pdu_at pdu)
+asked s seat (DeliverAnswered id is_accepted) = Event (DeliverAnsweredOf seat id is_accepted)
+asked s seat (LinkUp handset) = if is_number handset then link_for (seat_of handset s.links) handset else Nothing
+asked s seat LinkDown = of_handset (λ handset. LinkDownOf handset) (handset_at seat s.links)
+asked s seat (Frame octets) = of_handset (λ handset. FrameOf handset octets None) (handset_at seat s.links)
+
+-- a hub has 32 seats
+abbrev pub asked_by : Seats → Stimulus Job → Asked
+asked_by s (JobOf seat job) = if nat_lt seat 32 then asked s seat job else Nothing
+asked_by s (Tick now) = Event (TickOf now)
+
+-- where it is an event, it is one of these
+abbrev pub IfEvent : (CentreEvent → Type 0) → Asked → Type 0
+IfEvent Is (Event event) = Is event
+IfEvent Is Nothing = Unit {0}
+IfEvent Is Taken = Unit {0}

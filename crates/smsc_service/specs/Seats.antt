@@ -1,0 +1,59 @@
+-- Who sits where: the links that stand, and the sessions that are bound, each by its seat.
+use Rattle.std.specs.Prelude.{ℕ, List, [], ◌∷◌, Option, Some, None, if◌then◌else◌, bytes_eq}
+use Rattle.sms_centre_spec.specs.declared.jobs.job.Job.{Job}
+use Rattle.sms_centre_spec.specs.declared.jobs.job.Job.TheVariants.{Bound, Unbound, Submit, Query, Cancel, DeliverAnswered, LinkUp, LinkDown, Frame}
+use Rattle.sms_rows.specs.table.Table.{put, row_at, without}
+use Rattle.smsc_service.specs.declared.floor.Floor.{Floor}
+use Rattle.smsc_service.specs.declared.floor.LinkSeat.{LinkSeat}
+use Rattle.smsc_service.specs.declared.floor.Sitting.{Sitting}
+
+pub record Seats : Type 0 where
+  pub links : List LinkSeat
+  pub sittings : List Sitting
+
+abbrev pub nobody : Seats
+nobody = record { links = []; sittings = [] }
+
+-- those of a floor, whatever memory it has
+abbrev pub seats_in : Floor → Seats
+seats_in floor = record { links = floor.links.rows; sittings = floor.sittings.rows }
+
+abbrev pub link_key : LinkSeat → ℕ
+link_key link = link.seat
+
+abbrev pub sitting_key : Sitting → ℕ
+sitting_key sitting = sitting.seat
+
+-- ---- looked up
+
+abbrev pub handset_of : Option LinkSeat → Option (List ℕ)
+handset_of None = None
+handset_of (Some link) = Some link.handset
+
+-- the handset whose link stands at the seat
+abbrev pub handset_at : ℕ → List LinkSeat → Option (List ℕ)
+handset_at seat links = handset_of (row_at link_key seat links)
+
+-- the seat at which the link of the handset stands
+abbrev pub seat_of : List ℕ → List LinkSeat → Option ℕ
+seat_of handset [] = None
+seat_of handset (link ∷ links) = if bytes_eq link.handset handset then Some link.seat else seat_of handset links
+
+-- ---- changed
+
+-- a handset has one link
+abbrev pub raised : Option ℕ → ℕ → List ℕ → List LinkSeat → List LinkSeat
+raised None seat handset links = put link_key (record { seat = seat; handset = handset }) links
+raised (Some other) seat handset links = links
+
+-- what the job of the seat changes
+abbrev pub followed : ℕ → Job → Seats → Seats
+followed seat (Bound account receives) s = record s { sittings = put sitting_key (record { seat = seat; account = account; receives = receives }) s.sittings }
+followed seat Unbound s = record s { sittings = without sitting_key seat s.sittings }
+followed seat (Submit account pdu) s = s
+followed seat (Query account pdu) s = s
+followed seat (Cancel account pdu) s = s
+followed seat (DeliverAnswered id is_accepted) s = s
+followed seat (LinkUp handset) s = record s { links = raised (seat_of handset s.links) seat handset s.links }
+followed seat LinkDown s = record s { links = without link_key seat s.links }
+followed seat (Frame octets) s = s

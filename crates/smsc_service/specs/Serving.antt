@@ -1,0 +1,91 @@
+-- What the centre does as the machine of a hub.
+use Rattle.std.specs.Prelude.{◌≡◌, ◌⊎◌, nat_lt, List, if◌then◌else◌}
+use Rattle.sms_centre_spec.specs.CentreEvent.{happened, recovered}
+use Rattle.sms_centre_spec.specs.Draft.{Core, core_of}
+use Rattle.sms_centre_spec.specs.declared.rows.Rows.{Rows}
+use Rattle.sms_centre_spec.specs.declared.jobs.job.Job.{Job}
+use Rattle.sms_centre_spec.specs.declared.jobs.reply.Reply.{Reply}
+use Rattle.sms_keeper.specs.Fates.{MatchFate}
+use Rattle.sms_keeper.specs.declared.machine.Fate.{Fate}
+use Rattle.sms_keeper.specs.declared.machine.Fate.TheVariants.{Done, NoMemory, Refused}
+use Rattle.sms_keeper.specs.declared.machine.Stimulus.{Stimulus}
+use Rattle.sms_keeper.specs.declared.machine.Stimulus.TheVariants.{Job as JobOf, Tick}
+use Rattle.sms_keeper.specs.declared.outs.Out.{Out}
+use Rattle.sms_centre.specs.FromBelow.{IsStanding, StandingOf}
+use Rattle.smsc_service.specs.declared.step_error.StepError.{StepError}
+use Rattle.smsc_service.specs.declared.step_error.StepError.TheVariants.{NoMemory as NoPlan, NoBody, Store}
+use Rattle.smsc_service.specs.declared.asking.Asked.{Asked}
+use Rattle.smsc_service.specs.declared.asking.Asked.TheVariants.{Event, Nothing, Taken}
+use Rattle.smsc_service.specs.declared.floor.Floor.{Floor}
+use Rattle.smsc_service.specs.Asking.{asked_by}
+use Rattle.smsc_service.specs.Seats.{Seats, followed, seats_in}
+use Rattle.smsc_service.specs.Sitting.{handsets_of, sessions_of}
+use Rattle.smsc_service.specs.Telling.{failed_by, taken_by, told_by}
+
+-- a centre between two events, and who sits where
+pub record Serving : Type 0 where
+  pub core : Core
+  pub seats : Seats
+
+-- The centre starts again with these rows: links stand at their seats, and sessions are bound there.
+abbrev pub restarted : Rows → Seats → Serving
+restarted rows s = record { core = recovered rows (handsets_of s.links) (sessions_of rows.setup.accounts s.sittings); seats = s }
+
+-- what changes of who sits where; a hub has 32 seats
+abbrev pub followed_by : Stimulus Job → Seats → Seats
+followed_by (JobOf seat job) s = if nat_lt seat 32 then followed seat job s else s
+followed_by (Tick now) s = s
+
+-- ---- what is given
+
+-- What befell the event decides: it is told what came of it, or a request has failed.
+abbrev pub gives_for : Asked → Fate → Serving → Stimulus Job → List (Out Reply)
+gives_for (Event event) Done s stimulus = told_by s.seats stimulus (happened event s.core)
+gives_for (Event event) NoMemory s stimulus = failed_by stimulus
+gives_for (Event event) Refused s stimulus = failed_by stimulus
+gives_for Nothing fate s stimulus = failed_by stimulus
+gives_for Taken fate s stimulus = taken_by stimulus
+
+abbrev pub gives : Serving → Stimulus Job → Fate → List (Out Reply)
+gives s stimulus fate = gives_for (asked_by s.seats stimulus) fate s stimulus
+
+-- ---- what it leads to
+
+-- Want of memory changes nothing. After a refusal the centre starts again with its rows, and with the links and sessions that the job,
+-- too, left so.
+abbrev pub after_for : Asked → Fate → Serving → Stimulus Job → Serving
+after_for (Event event) Done s stimulus = record { core = core_of (happened event s.core); seats = followed_by stimulus s.seats }
+after_for (Event event) NoMemory s stimulus = s
+after_for (Event event) Refused s stimulus = restarted s.core.rows (followed_by stimulus s.seats)
+after_for Nothing fate s stimulus = s
+after_for Taken fate s stimulus = s
+
+abbrev pub after : Serving → Stimulus Job → Fate → Serving
+after s stimulus fate = after_for (asked_by s.seats stimulus) fate s stimulus
+
+-- ---- what stands for it
+
+-- the store holds its rows, and what is kept in memory is that centre and those seats
+pub record IsServing (held : Rows → Type 0) (standing : StandingOf) (floor : Floor) (s : Serving) : Type 0 where
+  pub rows : held s.core.rows
+  pub centre : IsStanding s.core standing
+  pub seats : seats_in floor ≡ s.seats
+
+-- the store holds its rows, or was closed; the centre starts again with them
+pub record IsWaiting (held : Rows → Type 0) (closed : Type 0) (floor : Floor) (s : Serving) : Type 0 where
+  pub rows : held s.core.rows ⊎ closed
+  pub again : s ≡ restarted s.core.rows s.seats
+  pub seats : seats_in floor ≡ s.seats
+
+-- What came of a stimulus that asks this: what is given, and what stands after it, by what befell it.
+abbrev pub Serves : (Rows → Type 0) → Type 0 → StandingOf → Floor → Asked → Serving → Stimulus Job → Fate → List (Out Reply) → Type 0
+Serves held closed centre floor asked s stimulus fate outs =
+    (outs ≡ gives_for asked fate s stimulus) × MatchFate fate (IsServing held centre floor (after_for asked fate s stimulus)) (IsWaiting held closed floor (after_for asked fate s stimulus))
+
+-- ---- what was not planned
+
+-- For want of memory nothing changes; after a refused read the job changes who sits where.
+abbrev pub GivesUp : StepError → Fate → Seats → Seats → Seats → Type 0
+GivesUp NoPlan fate seats before followed = (fate ≡ NoMemory) × (seats ≡ before)
+GivesUp NoBody fate seats before followed = (fate ≡ Refused) × (seats ≡ followed)
+GivesUp (Store error) fate seats before followed = (fate ≡ Refused) × (seats ≡ followed)

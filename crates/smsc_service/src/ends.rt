@@ -1,0 +1,96 @@
+//! The ends of messages.
+ghost use Rattle.std.specs.Prelude.{◌≡◌, IfOk, option_copied};
+ghost use Rattle.sms_centre_spec.specs.Draft.{Core};
+ghost use Rattle.sms_centre_spec.specs.Finals.{submit_reference as submit_reference_of};
+ghost use Rattle.sms_centre_rows.specs.messages.Messages.{message_at, message_key};
+ghost use Rattle.sms_centre.specs.FromBelow.{IsStanding};
+ghost use Rattle.sms_rows.specs.table.Table.{all_applied, change_row, newest_of};
+ghost use Rattle.smsc_service.specs.Telling.{end_in, end_of as end_of_row};
+
+use sms_base::{MessageId, Originator};
+use sms_centre::{Centre, Planned};
+use sms_centre_rows::messages::MessageRow;
+use sms_receipt::Final;
+use sms_rows::table::{Change, Key};
+use std::alloc::AllocError;
+
+// TP-MR of the SUBMIT of a handset's message.
+fn submit_reference(originator: &Originator) -> u8
+    ensures { result ≡ submit_reference_of originator.now }
+{
+    match originator {
+        Originator::Application { .. } => 0,
+        Originator::Handset { message_reference } => *message_reference,
+    }
+}
+
+// What is told of the message, if it ended.
+fn end_of(message: &MessageRow) -> Option<Final>
+    ensures { result ≡ end_in message.now message.now.state }
+{
+    let state = message.state?;
+    let done = message.done?;
+    Some(Final {
+        id: message.id,
+        source: message.source,
+        handset: message.handset,
+        message_reference: submit_reference(&message.originator),
+        submitted: message.submitted,
+        done,
+        state,
+    })
+}
+
+// What is told of the message that the change left.
+fn end_left(change: &Change<MessageRow>) -> Option<Final>
+    ensures { result ≡ end_of_row (change_row change.now) }
+{
+    match change.row() {
+        Some(message) => end_of(message),
+        None => None,
+    }
+}
+
+// The newest change of the message's row.
+fn newest<'a>(changes: &'a [Change<MessageRow>], key: Key) -> Option<&'a Change<MessageRow>>
+    ensures { option_copied result ≡ newest_of message_key key changes.entry.now }
+{
+    for i in 0..changes.len() {
+        let change = &changes[changes.len() - 1 - i];
+        if change.key().number() == key.number() {
+            return Some(change);
+        }
+    }
+    None
+}
+
+// The newest change of the message's row that is planned.
+fn newest_in(planned: &Planned, id: MessageId) -> Option<&Change<MessageRow>>
+    ensures { option_copied result ≡ newest_of message_key id planned.entry.now.plan.changes.messages }
+{
+    newest(planned.changes().messages.as_slice(), Key::of(id.number()))
+}
+
+// What is told of the message as the centre has it.
+fn end_at(centre: &Centre, id: MessageId) -> Result<Option<Final>, AllocError>
+    ensures { (c : Core) → IsStanding c centre.now → IfOk result (λ end. end ≡ end_of_row (message_at id c.rows.messages)) }
+{
+    match centre.message(id)? {
+        Some(row) => Ok(end_of(&row)),
+        None => Ok(None),
+    }
+}
+
+/// What is told of the message once the plan is adopted, if it has ended then.
+pub(crate) fn end_after(
+    centre: &Centre,
+    planned: &Planned,
+    id: MessageId,
+) -> Result<Option<Final>, AllocError>
+    ensures { (c : Core) → IsStanding c centre.now → IfOk result (λ end. end ≡ end_of_row (message_at id (all_applied message_key planned.now.plan.changes.messages c.rows.messages))) }
+{
+    match newest_in(planned, id) {
+        Some(change) => Ok(end_left(change)),
+        None => end_at(centre, id),
+    }
+}

@@ -1,0 +1,18 @@
+//! Laws of the service's steps, over its definitions alone.
+ghost use Rattle.std.specs.Prelude.{◌≡◌, ℕ, List, Some};
+ghost use Rattle.sms_base.specs.Among.{Among};
+ghost use Rattle.sms_centre_spec.specs.declared.answer.CentreAnswer.TheVariants.{Submitted};
+ghost use Rattle.sms_centre_spec.specs.declared.jobs.job.Job.TheVariants.{Submit};
+ghost use Rattle.sms_keeper.specs.declared.machine.Fate.{Fate};
+ghost use Rattle.sms_keeper.specs.declared.machine.Stimulus.TheVariants.{Job as JobOf};
+ghost use Rattle.sms_centre_rows.specs.messages.Messages.{message_at};
+ghost use Rattle.sms_centre_rows.specs.declared.messages.message.MessageRow.{MessageRow};
+ghost use Rattle.smsc_service.specs.Serving.{Serving, after, gives};
+ghost use Rattle.smsc_service.specs.Telling.{answer_for};
+
+/// Where a submission is answered by a number (submit_sm_resp with ESME_ROK, SMPP v3.4 4.4.2), the answer is for the seat that asked, and
+/// a message of that number stands in the rows after the step, which were committed when the outs are given.
+pub fn an_answer_names_a_message()
+    ensures { (s : Serving) (seat account asked id : ℕ) (pdu : List ℕ) (fate : Fate) → Among (answer_for asked (Submitted id)) (gives s (JobOf seat (Submit account pdu)) fate)
+        → (asked ≡ seat) × ((row : MessageRow) × (message_at id (after s (JobOf seat (Submit account pdu)) fate).core.rows.messages ≡ Some row)) }
+{}

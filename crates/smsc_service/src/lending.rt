@@ -1,0 +1,31 @@
+//! A service that is lent.
+ghost use Rattle.std.specs.Prelude.{IfOk};
+ghost use Rattle.std.specs.Fn.{FnOnceReturnsAtMut};
+ghost use Rattle.sms_centre_spec.specs.declared.rows.Rows.{Rows as RowsOf};
+ghost use Rattle.smsc_service.specs.Seats.{nobody};
+ghost use Rattle.smsc_service.specs.Serving.{IsServing, restarted};
+
+use crate::service::Service;
+use crate::start_error::StartError;
+use sms_base::lending::lend;
+use sms_centre_spec::bodies::CentreStore;
+use std::alloc::Global;
+
+/// Starts a service with the rows of a keep, with nobody at any seat, lends it to the work, and gives what the work gives. Who calls
+/// this owns no service.
+///
+/// # Errors
+/// As `Service::start`. The work is not done then.
+pub fn serve_with<K: CentreStore + Drop, R, W: FnOnce(&mut Service<K>) -> R>(
+    alloc: Global,
+    keep: K,
+    work: W,
+) -> Result<R, StartError>
+    requires { W.IsAlwaysCallable work }
+    // What is given is what the work gives of a service that stands on the rows of the keep.
+    ensures given { IfOk result (λ given. (lent : _) × (left : _) × (K.is_honest lent.machine.keep → (rows : RowsOf) → K.holds keep rows → IsServing (K.holds lent.machine.keep) lent.machine.centre lent.floor (restarted rows nobody))
+        × (K.is_honest lent.machine.keep → K.is_honest keep) × FnOnceReturnsAtMut W.FnOnce work lent given left) }
+{
+    let service = Service::start(alloc, keep)?;
+    Ok(lend(service, work))
+}

@@ -1,0 +1,82 @@
+//! A centre and the keep of its rows.
+ghost use Rattle.std.specs.Prelude.{◌≡◌, ◌⊎◌, IfOk, OnErr, OnOk};
+ghost use Rattle.sms_centre.specs.FromBelow.{IsPlanned, IsStanding};
+ghost use Rattle.sms_centre.specs.Planning.{Fits};
+ghost use Rattle.sms_centre_spec.specs.CentreEvent.{happened};
+ghost use Rattle.sms_centre_spec.specs.Draft.{Core, core_of};
+ghost use Rattle.sms_centre_spec.specs.SoundCore.{HasNumber, IsEvent};
+ghost use Rattle.sms_centre_spec.specs.declared.event.CentreEvent.{CentreEvent as CentreEventOf};
+ghost use Rattle.sms_centre_spec.specs.declared.rows.Rows.{Rows as RowsOf};
+ghost use Rattle.smsc_service.specs.Stepping.{OneRefused, PlansStep, step_error_of as step_error_of_plan};
+
+use crate::step_error::StepError;
+use sms_centre::{Centre, CentreEvent, PlanError, Planned, Told};
+use sms_centre_spec::bodies::{CentreStore, commit};
+use sms_keeper::Gate;
+
+/// A centre over the keep of its rows.
+#[derive(Drop)]
+pub struct CentreMachine<K: CentreStore + Drop> {
+    pub keep: K,
+    pub centre: Centre,
+}
+
+fn step_error_of(error: PlanError) -> StepError
+    ensures { result ≡ step_error_of_plan error }
+{
+    match error {
+        PlanError::NoBody => StepError::NoBody,
+        PlanError::NoMemory => StepError::NoMemory,
+    }
+}
+
+impl<K: CentreStore + Drop> CentreMachine<K> {
+    /// A machine over a centre that stands on the rows of the keep.
+    pub fn new(keep: K, centre: Centre) -> CentreMachine<K>
+        ensures keep { result.keep ≡ keep }
+        ensures centre { result.centre ≡ centre }
+    {
+        CentreMachine { keep, centre }
+    }
+
+    /// What the event leads to. Nothing has changed yet, but that bodies were read. A handset that the event names has a number.
+    pub fn plan(&mut self, event: &CentreEvent<'_>) -> Result<Planned, StepError>
+        requires { HasNumber event.now }
+        ensures plan { K.is_honest self.new.keep → (c : Core) → IsStanding c self.old.centre → K.holds self.old.keep c.rows → PlansStep (K.holds self.new.keep c.rows) (K.is_closed self.new.keep) (K.refusals self.old.keep) (K.refusals self.new.keep) (happened event.now c) result }
+        ensures fits { IfOk result (Fits self.new.centre) }
+        ensures event { IsEvent event.now }
+        ensures same { self.new.centre ≡ self.old.centre }
+        ensures before { K.is_honest self.new.keep → K.is_honest self.old.keep }
+    {
+        match self.centre.plan(event, &mut self.keep) {
+            Ok(planned) => Ok(planned),
+            Err(error) => Err(step_error_of(error)),
+        }
+    }
+
+    /// Passes the gate, commits what the plan changes, adopts it, and only then gives what is told.
+    pub fn carry_out<G: Gate>(&mut self, gate: &G, planned: Planned) -> Result<Told, StepError>
+        requires { Fits self.old.centre planned }
+        ensures told { IfOk result (λ told. told ≡ planned.plan.told) }
+        // What leaves was committed, and the centre is that after the event.
+        ensures committed { K.is_honest self.new.keep → (event : CentreEventOf) (c : Core) → IsEvent event → IsStanding c self.old.centre → IsPlanned (happened event c) planned.plan → K.holds self.old.keep c.rows
+            → OnOk result (K.holds self.new.keep (core_of (happened event c)).rows × IsStanding (core_of (happened event c)) self.new.centre) }
+        // A refused commit leaves the centre, and the rows or a closed keep: a call of the keep was refused, and one alone.
+        ensures err { K.is_honest self.new.keep → (rows : RowsOf) → K.holds self.old.keep rows → OnErr result (K.holds self.new.keep rows ⊎ K.is_closed self.new.keep) }
+        ensures same { OnErr result (self.new.centre ≡ self.old.centre) }
+        ensures refused { OnErr result (OneRefused (K.refusals self.old.keep) (K.refusals self.new.keep)) }
+        // A stop inside the commit leaves the rows from before the event or those after it, if one before it leaves the rows.
+        ensures stop { K.is_honest self.new.keep → (event : CentreEventOf) (c : Core) → IsPlanned (happened event c) planned.plan → K.holds self.old.keep c.rows → ((left : RowsOf) → K.may_leave self.old.keep left → left ≡ c.rows)
+            → (left : RowsOf) → K.may_leave self.new.keep left → (left ≡ c.rows) ⊎ (left ≡ (core_of (happened event c)).rows) }
+        ensures before { K.is_honest self.new.keep → K.is_honest self.old.keep }
+    {
+        gate.pass();
+        match commit(&mut self.keep, planned.changes()) {
+            Ok(()) => Ok(self.centre.adopt(planned)),
+            Err(error) => {
+                drop(planned);
+                Err(StepError::Store(error))
+            }
+        }
+    }
+}

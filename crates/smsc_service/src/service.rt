@@ -1,0 +1,281 @@
+//! The centre as the machine of a hub.
+ghost use Rattle.std.specs.Prelude.{◌≡◌, ◌⊎◌, true, false, IfOk, OnErr, OnOk};
+ghost use Rattle.sms_centre.specs.FromBelow.{IsPlanned, IsStanding};
+ghost use Rattle.sms_centre.specs.Planning.{Fits};
+ghost use Rattle.sms_centre_spec.specs.CentreEvent.{happened};
+ghost use Rattle.sms_centre_spec.specs.Draft.{Core, core_of};
+ghost use Rattle.sms_centre_spec.specs.SoundCore.{HasNumber, IsEvent};
+ghost use Rattle.sms_centre_spec.specs.declared.event.CentreEvent.{CentreEvent as CentreEventOf};
+ghost use Rattle.sms_centre_spec.specs.declared.rows.Rows.{Rows as RowsOf};
+ghost use Rattle.smsc_service.specs.declared.asking.Asked.TheVariants.{Event};
+ghost use Rattle.smsc_service.specs.Asking.{IfEvent};
+ghost use Rattle.smsc_service.specs.Room.{IsReady};
+ghost use Rattle.smsc_service.specs.Seats.{nobody, seats_in};
+ghost use Rattle.sms_keeper.specs.declared.machine.Fate.TheVariants.{Refused};
+ghost use Rattle.smsc_service.specs.Stepping.{OneRefused};
+ghost use Rattle.smsc_service.specs.Serving.{GivesUp, IsServing, IsWaiting, Serves, Serving, after, followed_by, gives, restarted};
+ghost use Rattle.smsc_service.specs.Telling.{failed_by, told_by};
+
+use crate::asking::Asked;
+use crate::floor::Floor;
+use crate::machine::CentreMachine;
+use crate::restarting::restarted_from;
+use crate::served::Served;
+use crate::start_error::StartError;
+use crate::step_error::StepError;
+use crate::stimuli::{asked_by, follow, outs_told, turned_away, unmade};
+use crate::twice::{Twice, done, doubled};
+use sms_base::lending::put;
+use sms_centre::{Centre, CentreEvent, Planned};
+use sms_centre_spec::bodies::CentreStore;
+use sms_centre_spec::jobs::{Job, Reply};
+use sms_keeper::{Broken, Fate, Gate, Machine, Step, Stimulus};
+use std::alloc::{AllocError, Global};
+
+/// The centre over its store, with who sits where.
+#[derive(Drop)]
+pub struct Service<K: CentreStore + Drop> {
+    pub alloc: Global,
+    pub machine: CentreMachine<K>,
+    pub floor: Floor,
+    /// The rows could not be read when they were last to be.
+    pub is_broken: bool,
+}
+
+// The plan is carried out: what it changes is committed, and it is adopted.
+fn is_carried_out<K: CentreStore + Drop, G: Gate>(
+    machine: &mut CentreMachine<K>,
+    gate: &G,
+    planned: Planned,
+) -> bool
+    requires { Fits machine.old.centre planned }
+    ensures committed { K.is_honest machine.new.keep → (event : CentreEventOf) (c : Core) → IsEvent event → IsStanding c machine.old.centre → IsPlanned (happened event c) planned.plan → K.holds machine.old.keep c.rows
+        → result ≡ true → K.holds machine.new.keep (core_of (happened event c)).rows × IsStanding (core_of (happened event c)) machine.new.centre }
+    ensures err { K.is_honest machine.new.keep → (rows : RowsOf) → K.holds machine.old.keep rows → result ≡ false → K.holds machine.new.keep rows ⊎ K.is_closed machine.new.keep }
+    ensures before { K.is_honest machine.new.keep → K.is_honest machine.old.keep }
+    ensures refused { result ≡ false → OneRefused (K.refusals machine.old.keep) (K.refusals machine.new.keep) }
+{
+    match machine.carry_out(gate, planned) {
+        Ok(_told) => true,
+        Err(_) => false,
+    }
+}
+
+// Nothing was planned.
+fn give_up(floor: &mut Floor, error: StepError, stimulus: &Stimulus<Job>) -> Step<Reply>
+    requires { IsReady floor.old }
+    ensures alike { result.to_seats ≡ result.to_history }
+    ensures history { result.to_history ≡ failed_by stimulus.now }
+    ensures floor { GivesUp error result.fate (seats_in floor.new) (seats_in floor.old) (followed_by stimulus.now (seats_in floor.old)) }
+{
+    match error {
+        StepError::NoMemory => unmade(Fate::NoMemory, stimulus),
+        StepError::NoBody | StepError::Store(_) => {
+            follow(floor, stimulus);
+            unmade(Fate::Refused, stimulus)
+        }
+    }
+}
+
+impl<K: CentreStore + Drop> Service<K> {
+    fn of(alloc: Global, keep: K, centre: Centre, floor: Floor) -> Service<K>
+        ensures keep { result.machine.keep ≡ keep }
+        ensures centre { result.machine.centre ≡ centre }
+        ensures floor { result.floor ≡ floor }
+    {
+        Service {
+            alloc,
+            machine: CentreMachine::new(keep, centre),
+            floor,
+            is_broken: false,
+        }
+    }
+
+    /// The service that starts with the rows of a keep, with nobody at any seat.
+    ///
+    /// # Errors
+    /// The store gave no rows, or they are not sound, or a growth was refused.
+    pub fn start(alloc: Global, keep: K) -> Result<Service<K>, StartError>
+        ensures stands { IfOk result (λ service. K.is_honest service.machine.keep → (rows : RowsOf) → K.holds keep rows → IsServing (K.holds service.machine.keep) service.machine.centre service.floor (restarted rows nobody)) }
+        ensures before { IfOk result (λ service. K.is_honest service.machine.keep → K.is_honest keep) }
+    {
+        let mut keep = keep;
+        let floor = Floor::new(alloc);
+        let centre = restarted_from(alloc, &mut keep, &floor)?;
+        Ok(Service::of(alloc, keep, centre, floor))
+    }
+
+    // What the seats are told of the plan, made twice before anything is committed.
+    fn outs_of(&self, stimulus: &Stimulus<Job>, planned: &Planned) -> Result<Twice, AllocError>
+        ensures told { (event : CentreEventOf) (s : Serving) → IsStanding s.core self.now.machine.centre → seats_in self.now.floor ≡ s.seats → IsPlanned (happened event s.core) planned.now.plan
+            → IfOk result (λ twice. twice.to_history.items ≡ told_by s.seats stimulus.now (happened event s.core)) }
+        ensures alike { IfOk result (λ twice. twice.to_seats.items ≡ twice.to_history.items) }
+    {
+        let outs = outs_told(
+            self.alloc,
+            &self.floor,
+            stimulus,
+            &self.machine.centre,
+            planned,
+        )?;
+        doubled(self.alloc, outs)
+    }
+
+    // The plan is carried out, and only then the outs are given.
+    fn carry_out<G: Gate>(
+        &mut self,
+        gate: &G,
+        stimulus: &Stimulus<Job>,
+        planned: Planned,
+        outs: Twice,
+    ) -> Step<Reply>
+        requires fits { Fits self.old.machine.centre planned }
+        requires room { IsReady self.old.floor }
+        requires same { outs.to_seats.items ≡ outs.to_history.items }
+        ensures alike { result.to_seats ≡ result.to_history }
+        ensures before { K.is_honest self.new.machine.keep → K.is_honest self.old.machine.keep }
+        ensures refused { result.fate ≡ Refused → OneRefused (K.refusals self.old.machine.keep) (K.refusals self.new.machine.keep) }
+        ensures gives { K.is_honest self.new.machine.keep → (event : CentreEventOf) (s : Serving) → IsServing (K.holds self.old.machine.keep) self.old.machine.centre self.old.floor s → IsEvent event → IsPlanned (happened event s.core) planned.plan
+            → outs.to_history.items ≡ told_by s.seats stimulus.now (happened event s.core)
+            → Serves (K.holds self.new.machine.keep) (K.is_closed self.new.machine.keep) self.new.machine.centre self.new.floor (Event event) s stimulus.now result.fate result.to_history }
+    {
+        follow(&mut self.floor, stimulus);
+        if is_carried_out(&mut self.machine, gate, planned) {
+            done(outs)
+        } else {
+            unmade(Fate::Refused, stimulus)
+        }
+    }
+
+    // What the seats are told is made, and then the plan is carried out.
+    fn go_on<G: Gate>(
+        &mut self,
+        gate: &G,
+        stimulus: &Stimulus<Job>,
+        planned: Planned,
+    ) -> Step<Reply>
+        requires fits { Fits self.old.machine.centre planned }
+        requires room { IsReady self.old.floor }
+        ensures alike { result.to_seats ≡ result.to_history }
+        ensures before { K.is_honest self.new.machine.keep → K.is_honest self.old.machine.keep }
+        ensures refused { result.fate ≡ Refused → OneRefused (K.refusals self.old.machine.keep) (K.refusals self.new.machine.keep) }
+        ensures gives { K.is_honest self.new.machine.keep → (event : CentreEventOf) (s : Serving) → IsServing (K.holds self.old.machine.keep) self.old.machine.centre self.old.floor s → IsEvent event → IsPlanned (happened event s.core) planned.plan
+            → Serves (K.holds self.new.machine.keep) (K.is_closed self.new.machine.keep) self.new.machine.centre self.new.floor (Event event) s stimulus.now result.fate result.to_history }
+    {
+        match self.outs_of(stimulus, &planned) {
+            Ok(outs) => self.carry_out(gate, stimulus, planned, outs),
+            Err(_) => {
+                drop(planned);
+                unmade(Fate::NoMemory, stimulus)
+            }
+        }
+    }
+
+    // An event happens, with room for what it changes of who sits where.
+    fn meet<G: Gate>(
+        &mut self,
+        gate: &G,
+        event: &CentreEvent<'_>,
+        stimulus: &Stimulus<Job>,
+    ) -> Step<Reply>
+        requires number { HasNumber event.now }
+        requires room { IsReady self.old.floor }
+        ensures alike { result.to_seats ≡ result.to_history }
+        ensures before { K.is_honest self.new.machine.keep → K.is_honest self.old.machine.keep }
+        ensures refused { K.is_honest self.new.machine.keep → (s : Serving) → IsServing (K.holds self.old.machine.keep) self.old.machine.centre self.old.floor s → result.fate ≡ Refused → OneRefused (K.refusals self.old.machine.keep) (K.refusals self.new.machine.keep) }
+        ensures gives { K.is_honest self.new.machine.keep → (s : Serving) → IsServing (K.holds self.old.machine.keep) self.old.machine.centre self.old.floor s
+            → Serves (K.holds self.new.machine.keep) (K.is_closed self.new.machine.keep) self.new.machine.centre self.new.floor (Event event.now) s stimulus.now result.fate result.to_history }
+    {
+        match self.machine.plan(event) {
+            Ok(planned) => self.go_on(gate, stimulus, planned),
+            Err(error) => give_up(&mut self.floor, error, stimulus),
+        }
+    }
+
+    // An event happens.
+    fn happen<G: Gate>(
+        &mut self,
+        gate: &G,
+        event: &CentreEvent<'_>,
+        stimulus: &Stimulus<Job>,
+    ) -> Step<Reply>
+        requires { HasNumber event.now }
+        ensures alike { result.to_seats ≡ result.to_history }
+        ensures before { K.is_honest self.new.machine.keep → K.is_honest self.old.machine.keep }
+        ensures refused { K.is_honest self.new.machine.keep → (s : Serving) → IsServing (K.holds self.old.machine.keep) self.old.machine.centre self.old.floor s → result.fate ≡ Refused → OneRefused (K.refusals self.old.machine.keep) (K.refusals self.new.machine.keep) }
+        ensures gives { K.is_honest self.new.machine.keep → (s : Serving) → IsServing (K.holds self.old.machine.keep) self.old.machine.centre self.old.floor s
+            → Serves (K.holds self.new.machine.keep) (K.is_closed self.new.machine.keep) self.new.machine.centre self.new.floor (Event event.now) s stimulus.now result.fate result.to_history }
+    {
+        match self.floor.make_room(self.alloc) {
+            Ok(()) => self.meet(gate, event, stimulus),
+            Err(_) => unmade(Fate::NoMemory, stimulus),
+        }
+    }
+
+    // What is asked is done.
+    fn serve<G: Gate>(
+        &mut self,
+        gate: &G,
+        asked: &Asked<'_>,
+        stimulus: &Stimulus<Job>,
+    ) -> Step<Reply>
+        requires { IfEvent HasNumber asked.now }
+        ensures alike { result.to_seats ≡ result.to_history }
+        ensures before { K.is_honest self.new.machine.keep → K.is_honest self.old.machine.keep }
+        ensures refused { K.is_honest self.new.machine.keep → (s : Serving) → IsServing (K.holds self.old.machine.keep) self.old.machine.centre self.old.floor s → result.fate ≡ Refused → OneRefused (K.refusals self.old.machine.keep) (K.refusals self.new.machine.keep) }
+        ensures gives { K.is_honest self.new.machine.keep → (s : Serving) → IsServing (K.holds self.old.machine.keep) self.old.machine.centre self.old.floor s
+            → Serves (K.holds self.new.machine.keep) (K.is_closed self.new.machine.keep) self.new.machine.centre self.new.floor asked.now s stimulus.now result.fate result.to_history }
+    {
+        match asked {
+            Asked::Event(event) => self.happen(gate, event, stimulus),
+            Asked::Nothing => unmade(Fate::Done, stimulus),
+            Asked::Taken => turned_away(stimulus),
+        }
+    }
+
+    // The centre starts again with the rows of the store.
+    fn restart(&mut self) -> Result<(), StartError>
+        ensures ok { K.is_honest self.new.machine.keep → (s : Serving) → IsWaiting (K.holds self.old.machine.keep) (K.is_closed self.old.machine.keep) self.old.floor s → OnOk result (IsServing (K.holds self.new.machine.keep) self.new.machine.centre self.new.floor s) }
+        ensures before { K.is_honest self.new.machine.keep → K.is_honest self.old.machine.keep }
+    {
+        let centre = restarted_from(self.alloc, &mut self.machine.keep, &self.floor)?;
+        put(&mut self.machine.centre, centre);
+        Ok(())
+    }
+}
+
+impl<K: CentreStore + Drop> Machine<Job, Reply> for Service<K> {
+    type State = Served;
+
+    ghost stands = { λ m s. IsServing (K.holds m.machine.keep) m.machine.centre m.floor s };
+
+    ghost resumes = { λ m s. IsWaiting (K.holds m.machine.keep) (K.is_closed m.machine.keep) m.floor s };
+
+    ghost is_honest = { λ m. K.is_honest m.machine.keep };
+
+    ghost is_broken = { λ m. m.is_broken ≡ true };
+
+    ghost refuses = { λ before after. OneRefused (K.refusals before.machine.keep) (K.refusals after.machine.keep) };
+
+    ghost gives = { λ s stimulus fate. gives s stimulus fate };
+
+    ghost after = { λ s stimulus fate. after s stimulus fate };
+
+    fn step<G: Gate>(&mut self, gate: &G, stimulus: &Stimulus<Job>) -> Step<Reply> {
+        let asked = asked_by(&self.floor, stimulus);
+        self.serve(gate, &asked, stimulus)
+    }
+
+    fn reopen(&mut self) -> Result<(), Broken> {
+        match self.restart() {
+            Ok(()) => {
+                self.is_broken = false;
+                Ok(())
+            }
+            Err(_) => {
+                self.is_broken = true;
+                Err(Broken)
+            }
+        }
+    }
+}

@@ -1,0 +1,17 @@
+//! What the lines of a run of a centre say that happens to it, as its events, and what a run begins with (`centre_runs`).
+//!
+//! An `Act` is a line with the octets that its event needs. Beside that stand the setup of the centre, its rows and tables as lines, and what
+//! a measured event gives that later ones need. This crate has no centre, so that a program that has one proves little else.
+
+mod act;
+mod kind;
+mod known;
+mod looking;
+mod measured;
+mod octets;
+mod setting;
+
+pub use act::{Act, act_in};
+pub use looking::{tell_receipts, tell_rows, tell_table};
+pub use measured::{Offered, Seen, cancelling, hello, link_coming, link_going, querying, sent};
+pub use setting::setup;

@@ -1,0 +1,17 @@
+//! The handsets whose links were up as a centre stopped.
+ghost use Rattle.std.specs.Prelude.{ℕ, List};
+ghost use Rattle.sms_base.specs.Among.{Among};
+ghost use Rattle.sms_centre_rows.specs.waiting.SoundGivings.{IsNumber};
+ghost use Rattle.sms_centre_spec.specs.SoundCore.{AreDifferent};
+
+use sms_base::Digits;
+
+/// That handset alone, as a centre that starts again is told whose links were up.
+#[tactic(auto, using(crate::proofs::lines::OneHandset::alone_numbers))]
+pub fn alone(handset: Digits) -> [Digits; 1]
+    requires { IsNumber handset }
+    ensures numbers { (number : List ℕ) → Among number result → IsNumber number }
+    ensures apart { AreDifferent result }
+{
+    [handset]
+}

@@ -1,0 +1,200 @@
+//! The text of a report.
+use smpp_pdu::CommandStatus;
+use sms_base::{Digits, FinalState, Listed, MessageId, OctetView, Octets};
+use sms_script::report::{
+    AcceptedRow, Answer, Answered, Broken, Direction, EntryState, FrameRow, JoinedCoding,
+    JoinedRow, MessageRow, MessageState, OutboxRow, ReceiptRow, Report, report_text,
+};
+use std::alloc::Global;
+use std::test::Fail;
+
+const ONE_MESSAGE: &str = "answer 1 ROK 0000000001\n\
+    message 0000000001 447700900001 447700900456 DELIVRD\n\
+    accepted 447700900456 00 240C9144770009001000004220923295850005E8329BFD06\n\
+    receipt 0000000001 DELIVRD\n\
+    frame 1 down 447700900456 0904\n\
+    premises hold\n";
+
+const ALL_KINDS: &str =
+    "answer 3 RINVMSGLEN\nanswer 4 ROK ENROUTE\nanswer 5 OK\nanswer 6 H2\nanswer 10000 STOPPED\n\
+    message 9999999999 Bankö 2 ENROUTE\n\
+    joined 2 1 16 00E4\njoined 2 1 7 -\n\
+    outbox 2 4294967294 UNSURE\n\
+    frame 20000 up 2 8904\n\
+    premises broken at event 7: reused\n";
+
+fn digits(text: &str) -> Digits {
+    let mut digits = Digits::new();
+    for character in text.chars() {
+        if digits.len() < 20 {
+            digits.push(character);
+        }
+    }
+    digits
+}
+
+fn id(number: u64) -> Result<MessageId, Fail> {
+    Ok(MessageId::new(number).ok_or("no id")?)
+}
+
+fn octets(alloc: Global, octets: &[u8]) -> Result<Octets, Fail> {
+    Ok(Octets::copy_of(alloc, octets)?)
+}
+
+fn empty(alloc: Global) -> Report {
+    Report {
+        answers: Listed::new(alloc),
+        table: Listed::new(alloc),
+        accepted: Listed::new(alloc),
+        joined: Listed::new(alloc),
+        receipts: Listed::new(alloc),
+        outboxes: Listed::new(alloc),
+        given: Listed::new(alloc),
+        bag: Listed::new(alloc),
+    }
+}
+
+fn message(
+    report: &mut Report,
+    id: MessageId,
+    from: &str,
+    to: &str,
+    state: MessageState,
+) -> Result<(), Fail> {
+    report.table.push(MessageRow {
+        id,
+        from: digits(from),
+        to: digits(to),
+        state,
+    })?;
+    Ok(())
+}
+
+fn accepted(report: &mut Report, tpdu: Octets) -> Result<(), Fail> {
+    report.accepted.push(AcceptedRow {
+        handset: digits("447700900456"),
+        reference: 0,
+        tpdu,
+    })?;
+    Ok(())
+}
+
+fn delivered(report: &mut Report, id: MessageId) -> Result<(), Fail> {
+    report.receipts.push(ReceiptRow {
+        id,
+        state: FinalState::Delivered,
+    })?;
+    Ok(())
+}
+
+fn frame(
+    report: &mut Report,
+    number: u64,
+    direction: Direction,
+    to: &str,
+    sent: Octets,
+) -> Result<(), Fail> {
+    report.bag.push(FrameRow {
+        number,
+        direction,
+        handset: digits(to),
+        carried: None,
+        octets: sent,
+    })?;
+    Ok(())
+}
+
+const TPDU: &[u8] =
+    b"\x24\x0C\x91\x44\x77\x00\x09\x00\x10\x00\x00\x42\x20\x92\x32\x95\x85\x00\x05\xE8\x32\x9B\xFD\x06";
+
+fn one_message(alloc: Global, report: &mut Report) -> Result<(), Fail> {
+    let first = id(1)?;
+    answer(report, 1, Answered::Accepted(first))?;
+    message(
+        report,
+        first,
+        "447700900001",
+        "447700900456",
+        MessageState::Final(FinalState::Delivered),
+    )?;
+    accepted(report, octets(alloc, TPDU)?)?;
+    delivered(report, first)?;
+    frame(
+        report,
+        1,
+        Direction::Down,
+        "447700900456",
+        octets(alloc, b"\x09\x04")?,
+    )
+}
+
+#[test]
+fn one_message_is_written(rt: HostRuntime) -> Result<(), Fail> {
+    let mut report = empty(rt.alloc());
+    one_message(rt.alloc(), &mut report)?;
+    let text = report_text(rt.alloc(), &report, None)?;
+    assert!(rt; text.as_slice() == ONE_MESSAGE.as_bytes());
+    Ok(())
+}
+
+fn answer(report: &mut Report, event: u64, answered: Answered) -> Result<(), Fail> {
+    report.answers.push(Answer { event, answered })?;
+    Ok(())
+}
+
+fn joined(report: &mut Report, coding: JoinedCoding, units: Octets) -> Result<(), Fail> {
+    report.joined.push(JoinedRow {
+        handset: digits("2"),
+        from: digits("1"),
+        coding,
+        units,
+    })?;
+    Ok(())
+}
+
+fn all_answers(report: &mut Report) -> Result<(), Fail> {
+    answer(report, 3, Answered::Status(CommandStatus::ESME_RINVMSGLEN))?;
+    answer(report, 4, Answered::Found(MessageState::Enroute))?;
+    answer(report, 5, Answered::Done)?;
+    answer(report, 6, Answered::Refused(OctetView::of(b"H2")))?;
+    answer(report, 10_000, Answered::Stopped)
+}
+
+fn unsure(report: &mut Report) -> Result<(), Fail> {
+    report.outboxes.push(OutboxRow {
+        handset: digits("2"),
+        entry: 4_294_967_294,
+        state: EntryState::Unsure,
+    })?;
+    Ok(())
+}
+
+fn all_kinds(alloc: Global, report: &mut Report) -> Result<(), Fail> {
+    message(
+        report,
+        id(9_999_999_999)?,
+        "Bankö",
+        "2",
+        MessageState::Enroute,
+    )?;
+    joined(report, JoinedCoding::Ucs2, octets(alloc, b"\x00\xE4")?)?;
+    joined(report, JoinedCoding::Septets, Octets::new(alloc))?;
+    unsure(report)?;
+    frame(
+        report,
+        20_000,
+        Direction::Up,
+        "2",
+        octets(alloc, b"\x89\x04")?,
+    )
+}
+
+#[test]
+fn each_kind_of_line_is_written(rt: HostRuntime) -> Result<(), Fail> {
+    let mut report = empty(rt.alloc());
+    all_answers(&mut report)?;
+    all_kinds(rt.alloc(), &mut report)?;
+    let text = report_text(rt.alloc(), &report, Some(Broken::Reused(7)))?;
+    assert!(rt; text.as_slice() == ALL_KINDS.as_bytes());
+    Ok(())
+}

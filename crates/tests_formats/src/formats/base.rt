@@ -1,0 +1,193 @@
+//! Moments, addresses, identities and lists: worked values, and each call at its greatest size.
+use crate::formats::rows::holds;
+use sms_base::{Address, Listed, MessageId, Moment, MomentError, Octets, TypeOfNumber};
+use std::alloc::Global;
+use std::test::Fail;
+
+// Thursday 29 February 2024, 23:59:58 at UTC.
+const LEAP_DAY: u64 = 1_709_251_198;
+
+const LEAP_DAY_STAMP: [u8; 7] = [0x42, 0x20, 0x92, 0x32, 0x95, 0x85, 0x00];
+
+fn stamp_of(seconds: u64) -> Option<[u8; 7]> {
+    match Moment::from_seconds(seconds) {
+        Ok(moment) => Some(moment.to_scts()),
+        Err(_) => None,
+    }
+}
+
+fn seconds_of(stamp: [u8; 7]) -> Option<u64> {
+    match Moment::from_scts(stamp) {
+        Ok(moment) => Some(moment.seconds()),
+        Err(_) => None,
+    }
+}
+
+// Leap day at UTC, one quarter hour ahead of it, and one behind it.
+const STAMPS: &[([u8; 7], u64)] = &[
+    (LEAP_DAY_STAMP, LEAP_DAY),
+    ([0x42, 0x20, 0x92, 0x32, 0x95, 0x85, 0x10], LEAP_DAY - 900),
+    ([0x42, 0x20, 0x92, 0x32, 0x95, 0x85, 0x18], LEAP_DAY + 900),
+];
+
+#[test]
+fn time_stamps_are_written_and_read() -> Result<(), Fail> {
+    for (stamp, seconds) in STAMPS {
+        holds(seconds_of(*stamp) == Some(*seconds), "a time stamp")?;
+    }
+    holds(stamp_of(LEAP_DAY) == Some(LEAP_DAY_STAMP), "a leap day")
+}
+
+// The code of a moment's fault, if there is no such time.
+fn moment_code(stamp: [u8; 7]) -> &'static str {
+    match Moment::from_scts(stamp) {
+        Err(MomentError::BadTime) => MomentError::BadTime.code(),
+        Ok(_) => "none",
+    }
+}
+
+#[test]
+fn february_has_no_30th() -> Result<(), Fail> {
+    let code = moment_code([0x42, 0x20, 0x03, 0x32, 0x95, 0x85, 0x00]);
+    holds(code == "M1", code)
+}
+
+// The seconds of a time of SMPP, on leap day.
+fn smpp_seconds(text: &[u8]) -> Result<Option<u64>, Fail> {
+    let now = Moment::from_seconds(LEAP_DAY)?;
+    match Moment::from_smpp(text, now) {
+        Ok(moment) => Ok(Some(moment.seconds())),
+        Err(_) => Ok(None),
+    }
+}
+
+const SMPP_TIMES: &[(&[u8], Option<u64>)] = &[
+    (b"240229235958000+", Some(LEAP_DAY)),
+    (b"240301005958004+", Some(LEAP_DAY)),
+    (b"000001000000000R", Some(LEAP_DAY + 86_400)),
+    (b"240230235958000+", None),
+    (b"240229235958049+", None),
+];
+
+#[test]
+fn times_of_smpp_are_dates_or_lengths() -> Result<(), Fail> {
+    for (text, seconds) in SMPP_TIMES {
+        holds(smpp_seconds(text)? == *seconds, "a time of SMPP")?;
+    }
+    Ok(())
+}
+
+fn address_code(ton: u8, npi: u8, text: &str) -> &'static str {
+    match Address::new(ton, npi, text) {
+        Ok(_) => "none",
+        Err(fault) => fault.code(),
+    }
+}
+
+// Why there is no such address; the first two are the longest number and the longest name.
+const ADDRESSES: &[(u8, u8, &str, &str)] = &[
+    (1, 1, "0123456789*#abc01234", "none"),
+    (5, 0, "Hello World", "none"),
+    (1, 1, "", "A1"),
+    (1, 1, "123456789012345678901", "A2"),
+    (5, 0, "€€€€€€", "A2"),
+    (1, 1, "12x", "A3"),
+    (5, 0, "ж", "A4"),
+    (7, 1, "", "A5"),
+    (1, 16, "", "A5"),
+];
+
+#[test]
+fn numbers_and_names_are_addresses() -> Result<(), Fail> {
+    for (ton, npi, text, code) in ADDRESSES {
+        holds(address_code(*ton, *npi, text) == *code, text)?;
+    }
+    Ok(())
+}
+
+#[test]
+fn a_number_has_a_type_and_digits() -> Result<(), Fail> {
+    let number = Address::new(1, 1, "447700900123")?;
+    holds(
+        number.ton == TypeOfNumber::International && number.digits.len() == 12,
+        "a number",
+    )
+}
+
+#[test]
+fn a_name_has_characters() -> Result<(), Fail> {
+    let name = Address::new(5, 0, "Bank €10")?;
+    holds(name.digits.len() == 8, "a name")
+}
+
+fn identity_digits(number: u64) -> Option<[u8; 10]> {
+    match MessageId::new(number) {
+        Some(id) => Some(id.digits()),
+        None => None,
+    }
+}
+
+fn identity_number(text: &[u8]) -> Option<u64> {
+    match MessageId::read(text) {
+        Some(id) => Some(id.number()),
+        None => None,
+    }
+}
+
+const IDENTITIES: &[(&[u8], Option<u64>)] = &[
+    (b"0000070214", Some(70_214)),
+    (b"9999999999", Some(9_999_999_999)),
+    (b"0000000000", None),
+    (b"+000070214", None),
+];
+
+#[test]
+fn an_identity_is_written_with_ten_digits() -> Result<(), Fail> {
+    for (text, number) in IDENTITIES {
+        holds(identity_number(text) == *number, "an identity")?;
+    }
+    holds(
+        identity_digits(70_214) == Some(*b"0000070214"),
+        "its digits",
+    )
+}
+
+// A list that grows to that length, octet by octet.
+fn grown(alloc: Global, length: usize) -> Result<Octets, Fail> {
+    let mut octets = Octets::with_capacity(alloc, 1)?;
+    for _ in 0..length {
+        octets.push(0x61)?;
+    }
+    Ok(octets)
+}
+
+// A copy of the octets, and the octets again behind it.
+fn doubled(alloc: Global, octets: &[u8]) -> Result<Octets, Fail> {
+    let mut copy = Octets::copy_of(alloc, octets)?;
+    copy.append(octets)?;
+    Ok(copy)
+}
+
+fn are_doubled(twice: &[u8], octets: &[u8]) -> bool {
+    twice.len() / 2 == octets.len() && twice.starts_with(octets) && twice.ends_with(octets)
+}
+
+#[test]
+fn octets_grow(rt: HostRuntime) -> Result<(), Fail> {
+    let octets = grown(rt.alloc(), 65_536)?;
+    let twice = doubled(rt.alloc(), octets.as_slice())?;
+    holds(octets.len() == 65_536, "octets")?;
+    holds(
+        are_doubled(twice.as_slice(), octets.as_slice()),
+        "their copy",
+    )
+}
+
+#[test]
+fn lists_grow(rt: HostRuntime) -> Result<(), Fail> {
+    let mut items = Listed::new(rt.alloc());
+    for item in 0..1_000_u32 {
+        items.push(item)?;
+    }
+    holds(items.len() == 1_000, "a list")
+}

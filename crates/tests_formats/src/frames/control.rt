@@ -1,0 +1,196 @@
+//! Frames of the control layer: worked, with a fault, and at their greatest size.
+use crate::frames::rows::{are, holds, is};
+use sms_base::{OctetView, Octets};
+use sms_control::{
+    Cp, CpCause, CpFault, LinkError, MessageType, Transaction, TransactionFlag,
+    TransactionIdentifier,
+};
+use std::alloc::Global;
+use std::test::Fail;
+
+// A unit for a handset, as a frame of the first transaction.
+const FRAME: [u8; 39] = [
+    0x09, 0x01, 0x24, 0x01, 0x00, 0x07, 0x91, 0x44, 0x77, 0x00, 0x09, 0x00, 0x00, 0x00, 0x18, 0x24,
+    0x0C, 0x91, 0x44, 0x77, 0x00, 0x09, 0x00, 0x10, 0x00, 0x00, 0x42, 0x20, 0x92, 0x32, 0x95, 0x85,
+    0x00, 0x05, 0xE8, 0x32, 0x9B, 0xFD, 0x06,
+];
+
+fn is_truncated(octets: &[u8]) -> bool {
+    match Cp::read(octets) {
+        Err(CpFault::Truncated) => true,
+        _ => false,
+    }
+}
+
+#[test]
+fn fronts_are_truncated() -> Result<(), Fail> {
+    for len in 0..39 {
+        holds(is_truncated(&FRAME[..len]), "a front")?;
+    }
+    Ok(())
+}
+
+fn code(octets: &[u8]) -> &'static str {
+    match Cp::read(octets) {
+        Ok(_) => "none",
+        Err(fault) => fault.code(),
+    }
+}
+
+const CODES: &[(&[u8], &str)] = &[
+    (&FRAME, "none"),
+    (&[0x09, 0x01, 0x00, 0x00], "P4"),
+    (&[0x09, 0x01, 0xF9], "P4"),
+    (&[0x08], "P3"),
+    (&[0x79], "P3"),
+    (&[0xF9, 0x04], "P3"),
+    (&[0x09, 0x02], "P3"),
+    (&[0x09, 0x04, 0x00], "P2"),
+    (&[0x09, 0x01, 0x01, 0x05, 0x05], "P2"),
+    (&[0x89, 0x10, 0x51, 0x00], "P2"),
+    (&[0x89, 0x10], "P1"),
+];
+
+#[test]
+fn faults_are_named() -> Result<(), Fail> {
+    for (octets, wanted) in CODES {
+        holds(code(octets) == *wanted, wanted)?;
+    }
+    Ok(())
+}
+
+fn is_written_alike(alloc: Global, octets: &[u8]) -> Result<bool, Fail> {
+    let cp = Cp::read(octets)?;
+    let written = cp.write(alloc)?;
+    Ok(is(written.as_slice(), octets))
+}
+
+const FRAMES: &[&[u8]] = &[
+    &FRAME,
+    &[0x89, 0x04],
+    &[0x69, 0x10, 0x51],
+    &[0xE9, 0x10, 0x7F],
+];
+
+#[test]
+fn frames_are_written(rt: HostRuntime) -> Result<(), Fail> {
+    for octets in FRAMES {
+        holds(is_written_alike(rt.alloc(), octets)?, "a frame")?;
+    }
+    Ok(())
+}
+
+// The longest unit that a frame carries.
+const LONGEST: &[u8] = &[0x5A; 248];
+
+// CP-DATA of the longest unit, in the last transaction of the other side's.
+fn longest(alloc: Global) -> Result<Octets, Fail> {
+    let Some(last) = TransactionIdentifier::new(6) else {
+        return Err(Fail::new("no identifier 6"));
+    };
+    let data = Cp::DataUnit {
+        transaction: Transaction {
+            flag: TransactionFlag::ToOriginator,
+            identifier: last,
+        },
+        unit: OctetView::of(LONGEST),
+    };
+    Ok(data.write(alloc)?)
+}
+
+fn is_data(octets: &[u8]) -> bool {
+    match Cp::read(octets) {
+        Ok(Cp::DataUnit { .. }) => true,
+        _ => false,
+    }
+}
+
+#[test]
+fn the_greatest_frame_is_written(rt: HostRuntime) -> Result<(), Fail> {
+    let written = longest(rt.alloc())?;
+    holds(
+        are(written.as_slice(), &[&[0xE9, 0x01, 0xF8], LONGEST]),
+        "a frame",
+    )?;
+    holds(
+        written.len() == 251 && is_data(written.as_slice()),
+        "CP-DATA",
+    )
+}
+
+#[test]
+fn causes_have_their_octets() -> Result<(), Fail> {
+    holds(
+        CpCause::of(81) == CpCause::InvalidTransactionIdentifier,
+        "81",
+    )?;
+    holds(CpCause::of(18) == CpCause::Other(18), "18")?;
+    holds(CpCause::ProtocolErrorUnspecified.octet() == 111, "111")
+}
+
+#[test]
+fn message_types_have_their_octets() -> Result<(), Fail> {
+    holds(
+        MessageType::of(0x10) == Some(MessageType::Error),
+        "CP-ERROR",
+    )?;
+    holds(MessageType::of(0x02).is_none(), "no type")?;
+    holds(MessageType::Ack.octet() == 0x04, "CP-ACK")
+}
+
+// Whether the code, if there is one, is that.
+fn has_code(error: LinkError, wanted: &str) -> bool {
+    match error.code() {
+        Some(code) => code == wanted,
+        None => false,
+    }
+}
+
+#[test]
+fn refusals_have_codes() -> Result<(), Fail> {
+    holds(has_code(LinkError::Busy, "L1"), "busy")?;
+    holds(
+        has_code(LinkError::NothingToAnswer, "L2"),
+        "nothing to answer",
+    )?;
+    holds(LinkError::NoMemory.code().is_none(), "no memory")
+}
+
+// The number of the identifier after that one.
+fn number_after(number: u8) -> Option<u8> {
+    match TransactionIdentifier::new(number) {
+        Some(identifier) => Some(identifier.next().number()),
+        None => None,
+    }
+}
+
+// The octet of what goes the other way in the transaction that the octet names.
+fn octet_back(octet: u8) -> Option<u8> {
+    match Transaction::of(octet) {
+        Some(transaction) => Some(transaction.turned().octet()),
+        None => None,
+    }
+}
+
+const NEXT: &[(u8, Option<u8>)] = &[(0, Some(1)), (6, Some(0)), (7, None)];
+
+const BACK: &[(u8, Option<u8>)] = &[(0x09, Some(0x89)), (0xE9, Some(0x69)), (0xF9, None)];
+
+#[test]
+fn identifiers_go_around() -> Result<(), Fail> {
+    for (number, next) in NEXT {
+        holds(number_after(*number) == *next, "an identifier")?;
+    }
+    holds(TransactionIdentifier::first().number() == 0, "the first")
+}
+
+#[test]
+fn flags_are_turned() -> Result<(), Fail> {
+    for (octet, back) in BACK {
+        holds(octet_back(*octet) == *back, "a transaction")?;
+    }
+    holds(
+        TransactionFlag::ToOriginator.turned() == TransactionFlag::FromOriginator,
+        "a flag",
+    )
+}

@@ -1,0 +1,283 @@
+//! Whole units in the octets of a network trace, and at their greatest size.
+use crate::frames::rows::{are, holds, is};
+use sms_base::{OctetView, Octets};
+use sms_relay::{RelayFault, Rp, RpCause, read_down, read_up, write_down, write_up};
+use std::alloc::Global;
+use std::test::Fail;
+
+const SMMA: &[u8] = b"\x06\x05";
+
+const CENTRE: &[u8] = b"\x91\x44\x77\x00\x09\x00\x00";
+
+const SUBMIT: &[u8] = b"\x01\x07\x0C\x91\x44\x77\x00\x09\x40\x65\x00\x00\x05\xE8\x32\x9B\xFD\x06";
+
+const DELIVER: &[u8] =
+    b"\x04\x0C\x91\x44\x77\x00\x09\x10\x32\x00\x00\x42\x20\x92\x32\x95\x85\x00\x05\xE8\x32\x9B\xFD\x06";
+
+const REPORT: &[u8] = b"\x01\x00\x42\x20\x92\x32\x95\x85\x00";
+
+const REFUSAL: &[u8] = b"\x01\xC6\x00\x42\x20\x92\x32\x95\x85\x00";
+
+const DATA_UP: &[u8] =
+    b"\x00\x03\x00\x07\x91\x44\x77\x00\x09\x00\x00\x12\x01\x07\x0C\x91\x44\x77\x00\x09\x40\x65\x00\x00\x05\xE8\x32\x9B\xFD\x06";
+
+const DATA_DOWN: &[u8] =
+    b"\x01\x00\x07\x91\x44\x77\x00\x09\x00\x00\x00\x18\x04\x0C\x91\x44\x77\x00\x09\x10\x32\x00\x00\x42\x20\x92\x32\x95\x85\x00\x05\xE8\x32\x9B\xFD\x06";
+
+const ACK_DOWN: &[u8] = b"\x03\x03\x41\x09\x01\x00\x42\x20\x92\x32\x95\x85\x00";
+
+const ERROR_DOWN: &[u8] = b"\x05\x03\x01\x15\x41\x0A\x01\xC6\x00\x42\x20\x92\x32\x95\x85\x00";
+
+const ERROR_UP: &[u8] = b"\x04\x01\x01\x16\x41\x03\x00\xD3\x00";
+
+fn is_submit(octets: &[u8]) -> bool {
+    match read_up(octets) {
+        Ok(
+            Rp::DataUnit {
+                reference: 3,
+                centre,
+                unit,
+            },
+        ) => is(centre.as_slice(), CENTRE) && is(unit.as_slice(), SUBMIT),
+        _ => false,
+    }
+}
+
+fn is_memory_exceeded(octets: &[u8]) -> bool {
+    match read_up(octets) {
+        Ok(
+            Rp::ErrorUnit {
+                cause: RpCause::MemoryCapacityExceeded,
+                ..
+            },
+        ) => true,
+        _ => false,
+    }
+}
+
+fn is_ack_with_a_unit(octets: &[u8]) -> bool {
+    match read_up(octets) {
+        Ok(Rp::AckUnit { unit: Some(_), .. }) => true,
+        _ => false,
+    }
+}
+
+fn is_memory_available(octets: &[u8]) -> bool {
+    match read_up(octets) {
+        Ok(Rp::Smma { reference: 5 }) => true,
+        _ => false,
+    }
+}
+
+fn is_bare_ack(octets: &[u8]) -> bool {
+    match read_down(octets) {
+        Ok(
+            Rp::AckUnit {
+                reference: 5,
+                unit: None,
+            },
+        ) => true,
+        _ => false,
+    }
+}
+
+#[test]
+fn units_are_read() -> Result<(), Fail> {
+    holds(is_submit(DATA_UP), "RP-DATA")?;
+    holds(is_memory_exceeded(ERROR_UP), "RP-ERROR")?;
+    holds(is_ack_with_a_unit(b"\x02\x00\x41\x02\x00\x00"), "RP-ACK")?;
+    holds(is_memory_available(SMMA), "RP-SMMA")?;
+    holds(is_bare_ack(b"\x03\x05"), "RP-ACK of a centre")
+}
+
+fn is_truncated(octets: &[u8]) -> bool {
+    match read_up(octets) {
+        Err(RelayFault::Truncated) => true,
+        _ => false,
+    }
+}
+
+#[test]
+fn fronts_are_truncated() -> Result<(), Fail> {
+    for length in 0..DATA_UP.len() {
+        holds(is_truncated(&DATA_UP[..length]), "a front")?;
+    }
+    Ok(())
+}
+
+fn code(octets: &[u8]) -> &'static str {
+    match read_up(octets) {
+        Ok(_) => "none",
+        Err(fault) => fault.code(),
+    }
+}
+
+const CODES: &[(&[u8], &str)] = &[
+    (b"\x00", "J1"),
+    (b"\x02\x03\x41", "J1"),
+    (b"\x06\x05\x00", "J2"),
+    (b"\x02\x03\x40", "J2"),
+    (b"\x07", "J3"),
+    (b"\x00\x03\x01", "J4"),
+    (b"\x00\x03\x00\x01", "J4"),
+    (b"\x04\x01\x03", "J4"),
+    (b"\x04\x01\x01\x80", "J4"),
+];
+
+#[test]
+fn faults_are_named() -> Result<(), Fail> {
+    for (octets, wanted) in CODES {
+        holds(code(octets) == *wanted, wanted)?;
+    }
+    Ok(())
+}
+
+fn data_down(alloc: Global) -> Result<Octets, Fail> {
+    let data = Rp::DataUnit {
+        reference: 0,
+        centre: OctetView::of(CENTRE),
+        unit: OctetView::of(DELIVER),
+    };
+    Ok(write_down(alloc, &data)?)
+}
+
+fn ack_down(alloc: Global) -> Result<Octets, Fail> {
+    let ack = Rp::AckUnit {
+        reference: 3,
+        unit: Some(OctetView::of(REPORT)),
+    };
+    Ok(write_down(alloc, &ack)?)
+}
+
+fn error_down(alloc: Global) -> Result<Octets, Fail> {
+    let error = Rp::ErrorUnit {
+        reference: 3,
+        cause: RpCause::ShortMessageTransferRejected,
+        unit: Some(OctetView::of(REFUSAL)),
+    };
+    Ok(write_down(alloc, &error)?)
+}
+
+#[test]
+fn writes_what_a_centre_sends(rt: HostRuntime) -> Result<(), Fail> {
+    holds(is(data_down(rt.alloc())?.as_slice(), DATA_DOWN), "RP-DATA")?;
+    holds(is(ack_down(rt.alloc())?.as_slice(), ACK_DOWN), "RP-ACK")?;
+    holds(
+        is(error_down(rt.alloc())?.as_slice(), ERROR_DOWN),
+        "RP-ERROR",
+    )
+}
+
+fn smma_up(alloc: Global) -> Result<Octets, Fail> {
+    Ok(write_up(alloc, &Rp::Smma { reference: 5 })?)
+}
+
+fn data_up(alloc: Global) -> Result<Octets, Fail> {
+    let data = Rp::DataUnit {
+        reference: 3,
+        centre: OctetView::of(CENTRE),
+        unit: OctetView::of(SUBMIT),
+    };
+    Ok(write_up(alloc, &data)?)
+}
+
+#[test]
+fn writes_what_a_handset_sends(rt: HostRuntime) -> Result<(), Fail> {
+    holds(is(smma_up(rt.alloc())?.as_slice(), SMMA), "RP-SMMA")?;
+    holds(is(data_up(rt.alloc())?.as_slice(), DATA_UP), "RP-DATA")
+}
+
+// The longest address of a centre: a type octet and 20 digits.
+const LONGEST_CENTRE: [u8; 11] = [
+    0x91, 0x21, 0x43, 0x65, 0x87, 0x09, 0x21, 0x43, 0x65, 0x87, 0x09,
+];
+
+// The longest TPDU that a unit has room for.
+const LONGEST: [u8; 255] = [0x5A; 255];
+
+fn longest_data_up(alloc: Global) -> Result<Octets, Fail> {
+    let data = Rp::DataUnit {
+        reference: 255,
+        centre: OctetView::of(&LONGEST_CENTRE),
+        unit: OctetView::of(&LONGEST),
+    };
+    Ok(write_up(alloc, &data)?)
+}
+
+fn longest_data_down(alloc: Global) -> Result<Octets, Fail> {
+    let data = Rp::DataUnit {
+        reference: 255,
+        centre: OctetView::of(&LONGEST_CENTRE),
+        unit: OctetView::of(&LONGEST),
+    };
+    Ok(write_down(alloc, &data)?)
+}
+
+fn longest_ack_up(alloc: Global) -> Result<Octets, Fail> {
+    let ack = Rp::AckUnit {
+        reference: 255,
+        unit: Some(OctetView::of(&LONGEST)),
+    };
+    Ok(write_up(alloc, &ack)?)
+}
+
+fn longest_error_down(alloc: Global) -> Result<Octets, Fail> {
+    let error = Rp::ErrorUnit {
+        reference: 255,
+        cause: RpCause::Interworking,
+        unit: Some(OctetView::of(&LONGEST)),
+    };
+    Ok(write_down(alloc, &error)?)
+}
+
+#[test]
+fn the_greatest_data_is_written(rt: HostRuntime) -> Result<(), Fail> {
+    let up = longest_data_up(rt.alloc())?;
+    let parts: &[&[u8]] = &[
+        &[0x00, 0xFF, 0x00, 0x0B],
+        &LONGEST_CENTRE,
+        &[0xFF],
+        &LONGEST,
+    ];
+    holds(are(up.as_slice(), parts), "RP-DATA of a handset")?;
+    let down = longest_data_down(rt.alloc())?;
+    let parts: &[&[u8]] = &[
+        &[0x01, 0xFF, 0x0B],
+        &LONGEST_CENTRE,
+        &[0x00, 0xFF],
+        &LONGEST,
+    ];
+    holds(are(down.as_slice(), parts), "RP-DATA of a centre")
+}
+
+fn is_interworking(octets: &[u8]) -> bool {
+    match read_down(octets) {
+        Ok(
+            Rp::ErrorUnit {
+                cause: RpCause::Interworking,
+                ..
+            },
+        ) => true,
+        _ => false,
+    }
+}
+
+#[test]
+fn the_greatest_answers_are_written(rt: HostRuntime) -> Result<(), Fail> {
+    let ack = longest_ack_up(rt.alloc())?;
+    holds(
+        are(ack.as_slice(), &[&[0x02, 0xFF, 0x41, 0xFF], &LONGEST]),
+        "RP-ACK",
+    )?;
+    let error = longest_error_down(rt.alloc())?;
+    let parts: &[&[u8]] = &[&[0x05, 0xFF, 0x01, 0x7F, 0x41, 0xFF], &LONGEST];
+    holds(are(error.as_slice(), parts), "RP-ERROR")?;
+    holds(is_interworking(error.as_slice()), "RP-ERROR that is read")
+}
+
+#[test]
+fn knows_each_cause_by_its_number() -> Result<(), Fail> {
+    holds(RpCause::of(97) == RpCause::MessageTypeNonExistent, "97")?;
+    holds(RpCause::of(11) == RpCause::Reserved(11), "11")?;
+    holds(RpCause::Congestion.number() == 42, "42")
+}

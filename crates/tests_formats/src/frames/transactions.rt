@@ -1,0 +1,278 @@
+//! Transactions of one end of a link, over frames from outside: rows of calls, with the frames that each sends and what
+//! goes up.
+use crate::frames::rows::{are, holds, is};
+use sms_base::Moment;
+use sms_control::{LinkError, Links, Out, Up};
+use std::test::Fail;
+
+// 2024-02-29 23:59:58.
+const T0: u64 = 1_709_251_198;
+
+const SMMA: &[u8] = b"\x06\x05";
+
+const ACK: &[u8] = b"\x03\x05";
+
+const FAILED: &[u8] = b"failed";
+
+const NOTHING: &[u8] = b"";
+
+// A call, at so many seconds.
+enum Call {
+    Begin(u64, &'static [u8]),
+    Reply(u64, &'static [u8]),
+    Take(&'static [u8]),
+    Fire(u64),
+}
+
+type Row = (Call, &'static [&'static [u8]], &'static [u8]);
+
+fn at(seconds: u64) -> Result<Moment, Fail> {
+    Ok(Moment::from_seconds(T0)?.plus(seconds))
+}
+
+fn begun(links: &mut Links, seconds: u64, unit: &[u8]) -> Result<Out, Fail> {
+    if unit.is_empty() || unit.len() > 248 {
+        return Err(Fail::new("no unit"));
+    }
+    Ok(links.begin(at(seconds)?, unit)?)
+}
+
+fn replied(links: &mut Links, seconds: u64, unit: &[u8]) -> Result<Out, Fail> {
+    if unit.is_empty() || unit.len() > 248 {
+        return Err(Fail::new("no unit"));
+    }
+    Ok(links.reply(at(seconds)?, unit)?)
+}
+
+fn taken(links: &mut Links, frame: &[u8]) -> Result<Out, Fail> {
+    Ok(links.take(frame)?)
+}
+
+fn fired(links: &mut Links, seconds: u64) -> Result<Out, Fail> {
+    Ok(links.fire(at(seconds)?)?)
+}
+
+fn called(links: &mut Links, call: &Call) -> Result<Out, Fail> {
+    match call {
+        Call::Begin(seconds, unit) => begun(links, *seconds, unit),
+        Call::Reply(seconds, unit) => replied(links, *seconds, unit),
+        Call::Take(frame) => taken(links, frame),
+        Call::Fire(seconds) => fired(links, *seconds),
+    }
+}
+
+// What went up: the octets of a unit, a word for a failure, or nothing.
+fn up(out: &Out) -> &[u8] {
+    match &out.up {
+        Some(Up::Unit { unit, .. }) => unit.as_slice(),
+        Some(Up::Failed) => FAILED,
+        None => NOTHING,
+    }
+}
+
+// Whether these frames, and no others, are sent.
+fn sends(out: &Out, frames: &[&[u8]]) -> bool {
+    if out.frames.len() != frames.len() {
+        return false;
+    }
+    for (sent, frame) in out.frames.as_slice().iter().zip(frames) {
+        if !is(sent.as_slice(), frame) {
+            return false;
+        }
+    }
+    true
+}
+
+fn goes(links: &mut Links, row: &Row) -> Result<bool, Fail> {
+    let (call, frames, told) = row;
+    let out = called(links, call)?;
+    Ok(sends(&out, frames) && is(up(&out), told))
+}
+
+// Each row goes so, after those before it.
+fn all_go(links: &mut Links, rows: &[Row]) -> Result<(), Fail> {
+    for (index, row) in rows.iter().enumerate() {
+        if !goes(links, row)? {
+            return Err(Fail::new(index));
+        }
+    }
+    Ok(())
+}
+
+const REPEATED: &[Row] = &[
+    (Call::Begin(0, SMMA), &[b"\x09\x01\x02\x06\x05"], NOTHING),
+    (Call::Fire(9), &[], NOTHING),
+    (Call::Fire(10), &[b"\x09\x01\x02\x06\x05"], NOTHING),
+    (Call::Fire(20), &[b"\x09\x01\x02\x06\x05"], NOTHING),
+    (Call::Fire(30), &[], FAILED),
+    (Call::Begin(30, SMMA), &[b"\x19\x01\x02\x06\x05"], NOTHING),
+];
+
+fn is_refused_as_busy(links: &mut Links) -> Result<bool, Fail> {
+    match links.begin(at(30)?, SMMA) {
+        Err(LinkError::Busy) => Ok(true),
+        _ => Ok(false),
+    }
+}
+
+fn repeats_and_fails(links: &mut Links) -> Result<(), Fail> {
+    all_go(links, REPEATED)?;
+    holds(is_refused_as_busy(links)?, "a second transaction")?;
+    holds(links.is_busy(), "the first one")
+}
+
+#[test]
+fn a_begun_transaction_is_repeated_and_fails(rt: HostRuntime) -> Result<(), Fail> {
+    let mut links = Links::new(rt.alloc());
+    repeats_and_fails(&mut links)
+}
+
+// After a jump of the clock nothing is repeated.
+const JUMPED: &[Row] = &[
+    (Call::Begin(0, SMMA), &[b"\x09\x01\x02\x06\x05"], NOTHING),
+    (Call::Fire(40), &[], FAILED),
+];
+
+#[test]
+fn a_jump_of_the_clock_repeats_nothing(rt: HostRuntime) -> Result<(), Fail> {
+    let mut links = Links::new(rt.alloc());
+    all_go(&mut links, JUMPED)
+}
+
+// An answer is taken once, remembered while the next one is awaited, and none of another identifier is taken.
+const ANSWERED: &[Row] = &[
+    (Call::Begin(0, SMMA), &[b"\x09\x01\x02\x06\x05"], NOTHING),
+    (Call::Take(b"\x89\x04"), &[], NOTHING),
+    (Call::Take(b"\x89\x01\x02\x03\x05"), &[b"\x09\x04"], ACK),
+    (Call::Take(b"\x89\x01\x02\x03\x05"), &[b"\x09\x04"], NOTHING),
+    (
+        Call::Take(b"\x89\x01\x02\x03\x06"),
+        &[b"\x09\x10\x51"],
+        NOTHING,
+    ),
+    (Call::Begin(0, SMMA), &[b"\x19\x01\x02\x06\x05"], NOTHING),
+    (Call::Take(b"\x89\x01\x02\x03\x05"), &[b"\x09\x04"], NOTHING),
+    (Call::Take(b"\x99\x10\x51"), &[], FAILED),
+];
+
+fn takes_an_answer_once(links: &mut Links) -> Result<(), Fail> {
+    all_go(links, ANSWERED)?;
+    holds(!links.is_busy(), "nothing under way")
+}
+
+#[test]
+fn an_answer_is_taken_once(rt: HostRuntime) -> Result<(), Fail> {
+    let mut links = Links::new(rt.alloc());
+    takes_an_answer_once(&mut links)
+}
+
+const OPENED: &[Row] = &[
+    (Call::Take(b"\x09\x01\x02\x06\x05"), &[b"\x89\x04"], SMMA),
+    (Call::Reply(0, ACK), &[b"\x89\x01\x02\x03\x05"], NOTHING),
+    (
+        Call::Take(b"\x09\x01\x02\x06\x05"),
+        &[b"\x89\x04", b"\x89\x01\x02\x03\x05"],
+        NOTHING,
+    ),
+    (Call::Take(b"\x09\x04"), &[], NOTHING),
+    (Call::Take(b"\x09\x01\x02\x06\x05"), &[b"\x89\x04"], NOTHING),
+];
+
+fn has_nothing_to_answer(links: &mut Links) -> Result<bool, Fail> {
+    match links.reply(at(0)?, ACK) {
+        Err(LinkError::NothingToAnswer) => Ok(true),
+        _ => Ok(false),
+    }
+}
+
+fn takes_an_opening_once(links: &mut Links) -> Result<(), Fail> {
+    all_go(links, OPENED)?;
+    holds(has_nothing_to_answer(links)?, "a second answer")?;
+    holds(!links.awaits_reply(), "no reply to give")
+}
+
+#[test]
+fn an_opening_is_taken_once(rt: HostRuntime) -> Result<(), Fail> {
+    let mut links = Links::new(rt.alloc());
+    takes_an_opening_once(&mut links)
+}
+
+// The longest unit.
+const LONGEST: &[u8] = &[0x5A; 248];
+
+// Whether one frame is sent: the octets, the length 248 and the longest unit.
+fn sends_longest(out: &Out, first: &[u8]) -> bool {
+    match out.frames.as_slice() {
+        [frame] => are(frame.as_slice(), &[first, &[0xF8], LONGEST]),
+        _ => false,
+    }
+}
+
+fn tells_longest(links: &mut Links, frame: &[u8]) -> Result<bool, Fail> {
+    let out = taken(links, frame)?;
+    Ok(is(up(&out), LONGEST))
+}
+
+// The other end takes the frame that was sent, and the longest unit goes up.
+fn passed(out: &Out, links: &mut Links) -> Result<bool, Fail> {
+    match out.frames.as_slice() {
+        [frame] => tells_longest(links, frame.as_slice()),
+        _ => Ok(false),
+    }
+}
+
+fn begins_longest(links: &mut Links) -> Result<bool, Fail> {
+    let sent = begun(links, 0, LONGEST)?;
+    Ok(sends_longest(&sent, &[0x09, 0x01]))
+}
+
+fn answers_longest(links: &mut Links) -> Result<bool, Fail> {
+    let sent = replied(links, 10, LONGEST)?;
+    Ok(sends_longest(&sent, &[0x89, 0x01]))
+}
+
+// At that time it is sent again, and comes to the other end.
+fn comes_again(
+    links: &mut Links,
+    seconds: u64,
+    first: &[u8],
+    other: &mut Links,
+) -> Result<bool, Fail> {
+    let again = fired(links, seconds)?;
+    Ok(sends_longest(&again, first) && passed(&again, other)?)
+}
+
+fn copy_comes_again(links: &Links, other: &mut Links) -> Result<bool, Fail> {
+    let mut copy = links.copy()?;
+    comes_again(&mut copy, 20, &[0x89, 0x01], other)
+}
+
+// Two ends of a link.
+#[derive(Drop)]
+struct Ends {
+    near: Links,
+    far: Links,
+}
+
+// The longest unit is sent, lost, and sent again; so is the longest answer, by a copy of the end that gave it.
+fn goes_both_ways(ends: &mut Ends) -> Result<(), Fail> {
+    holds(begins_longest(&mut ends.near)?, "a unit")?;
+    holds(
+        comes_again(&mut ends.near, 10, &[0x09, 0x01], &mut ends.far)?,
+        "the unit again",
+    )?;
+    holds(answers_longest(&mut ends.far)?, "an answer")?;
+    holds(
+        copy_comes_again(&ends.far, &mut ends.near)?,
+        "the answer again",
+    )
+}
+
+#[test]
+fn the_longest_unit_goes_both_ways(rt: HostRuntime) -> Result<(), Fail> {
+    let mut ends = Ends {
+        near: Links::new(rt.alloc()),
+        far: Links::new(rt.alloc()),
+    };
+    goes_both_ways(&mut ends)
+}

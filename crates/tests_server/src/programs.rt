@@ -1,0 +1,14 @@
+//! Tests of what the programs over links stand on: frames in a stream, owners' lines, words, captures.
+
+#[cfg(test)]
+mod captures;
+#[cfg(test)]
+mod frames;
+#[cfg(test)]
+mod owners;
+#[cfg(test)]
+mod rows;
+#[cfg(test)]
+mod server_words;
+#[cfg(test)]
+mod words;

@@ -1,0 +1,267 @@
+//! Words of the server, and lines of its accounts' file.
+use crate::programs::rows::holds;
+use smsc_cli::words::{AccountWords, ServerRun, ServerWords, WordsFault, add_lines, server_words};
+use std::alloc::Global;
+use std::test::Fail;
+
+const WORDS: [&str; 12] = [
+    "smscd",
+    "--store",
+    "c.store",
+    "--smpp",
+    "2775",
+    "--links",
+    "2776",
+    "--centre",
+    "447700900000",
+    "--sessions",
+    "2",
+    "app1:secret:447700900001",
+];
+
+// The words, with one in place of another.
+fn with(place: usize, word: &'static str) -> [&'static str; 12] {
+    let mut words = WORDS;
+    words[place.min(11)] = word;
+    words
+}
+
+// What the words are judged as.
+fn judged(alloc: Global, words: &[&str]) -> &'static str {
+    match server_words(alloc, words) {
+        Ok(ServerWords::Run(..)) => "run",
+        Ok(ServerWords::Show { .. }) => "show",
+        Err(WordsFault::BadWords) => "bad",
+        Err(WordsFault::NoMemory) => "no memory",
+    }
+}
+
+fn is_written(run: &ServerRun<'_>) -> bool {
+    run.store == "c.store"
+        && run.smpp == 2775
+        && run.links == 2776
+        && run.sessions == 2
+        && run.accounts.is_none()
+}
+
+fn is_account(accounts: &[AccountWords<'_>]) -> bool {
+    match accounts {
+        [account] => account.name == "app1" && account.password == "secret",
+        _ => false,
+    }
+}
+
+fn says_all(alloc: Global) -> bool {
+    match server_words(alloc, &WORDS) {
+        Ok(ServerWords::Run(run, accounts)) => is_written(&run) && is_account(accounts.as_slice()),
+        _ => false,
+    }
+}
+
+#[test]
+fn server_words_say_what_was_written(rt: HostRuntime) -> Result<(), Fail> {
+    holds(says_all(rt.alloc()), "five options and an account")
+}
+
+const WORDS_AT: &[(usize, &str, &str)] = &[
+    (4, "1", "run"),
+    (4, "65535", "run"),
+    (4, "0", "bad"),
+    (4, "65536", "bad"),
+    (4, "+1", "bad"),
+    (6, "65535", "run"),
+    (6, "0", "bad"),
+    (6, "65536", "bad"),
+    (6, "", "bad"),
+    (8, "12345678901234567890", "run"),
+    (8, "123456789012345678901", "bad"),
+    (8, "44770090000a", "bad"),
+    (8, "", "bad"),
+    (10, "0", "run"),
+    (10, "4294967295", "run"),
+    (10, "4294967296", "bad"),
+    (10, "-1", "bad"),
+    (10, "two", "bad"),
+    (9, "--session", "bad"),
+    (11, "app1::447700900001", "run"),
+    (11, "123456789012345:12345678:1", "run"),
+    (11, "1234567890123456:secret:1", "bad"),
+    (11, ":secret:447700900001", "bad"),
+    (11, "app1:123456789:447700900001", "bad"),
+    (11, "app1:se:cret:447700900001", "bad"),
+    (11, "app1:secret:", "bad"),
+    (11, "app1:secret", "bad"),
+    (11, "app1", "bad"),
+    (11, "äpp:secret:447700900001", "bad"),
+    (11, "--accounts", "bad"),
+];
+
+#[test]
+fn server_values_are_in_range(rt: HostRuntime) -> Result<(), Fail> {
+    for (place, word, wanted) in WORDS_AT {
+        holds(judged(rt.alloc(), &with(*place, word)) == *wanted, word)?;
+    }
+    Ok(())
+}
+
+const OTHERS: &[(&[&str], &str)] = &[
+    (&[], "bad"),
+    (&["smscd"], "bad"),
+    (&["smscd", "show"], "bad"),
+    (&["smscd", "show", "--store", "c.store"], "show"),
+    (&["smscd", "show", "--store", "c.store", "more"], "bad"),
+    (&["smscd", "--store", "c.store"], "bad"),
+    (
+        &[
+            "smscd",
+            "a::1",
+            "--sessions",
+            "1",
+            "--centre",
+            "1",
+            "b::1",
+            "--links",
+            "2",
+            "--smpp",
+            "1",
+            "--accounts",
+            "f",
+            "--store",
+            "c",
+        ],
+        "run",
+    ),
+    (
+        &[
+            "smscd",
+            "--store",
+            "c",
+            "--smpp",
+            "1",
+            "--links",
+            "2",
+            "--centre",
+            "1",
+            "--sessions",
+            "1",
+            "a:x:1",
+            "b::1",
+            "a:y:2",
+        ],
+        "bad",
+    ),
+    (
+        &[
+            "smscd",
+            "--store",
+            "c",
+            "--store",
+            "d",
+            "--smpp",
+            "1",
+            "--links",
+            "2",
+            "--centre",
+            "1",
+            "--sessions",
+            "1",
+        ],
+        "bad",
+    ),
+];
+
+#[test]
+fn other_server_words(rt: HostRuntime) -> Result<(), Fail> {
+    for (words, wanted) in OTHERS {
+        holds(judged(rt.alloc(), words) == *wanted, wanted)?;
+    }
+    Ok(())
+}
+
+// A run with 33 accounts.
+const MANY: [&str; 44] = [
+    "smscd",
+    "--store",
+    "c",
+    "--smpp",
+    "1",
+    "--links",
+    "2",
+    "--centre",
+    "1",
+    "--sessions",
+    "1",
+    "a::1",
+    "b::1",
+    "c::1",
+    "d::1",
+    "e::1",
+    "f::1",
+    "g::1",
+    "h::1",
+    "i::1",
+    "j::1",
+    "k::1",
+    "l::1",
+    "m::1",
+    "n::1",
+    "o::1",
+    "p::1",
+    "q::1",
+    "r::1",
+    "s::1",
+    "t::1",
+    "u::1",
+    "v::1",
+    "w::1",
+    "x::1",
+    "y::1",
+    "z::1",
+    "A::1",
+    "B::1",
+    "C::1",
+    "D::1",
+    "E::1",
+    "F::1",
+    "G::1",
+];
+
+// With so many of its words.
+const COUNTS: &[(usize, &str)] = &[(11, "run"), (12, "run"), (43, "run"), (44, "bad")];
+
+#[test]
+fn a_run_has_32_accounts_at_most(rt: HostRuntime) -> Result<(), Fail> {
+    for (count, wanted) in COUNTS {
+        holds(
+            judged(rt.alloc(), &MANY[..(*count).min(44)]) == *wanted,
+            wanted,
+        )?;
+    }
+    Ok(())
+}
+
+// How many accounts a file has, if all its lines are accounts and no two have one name.
+fn in_file(alloc: Global, file: &str) -> Option<usize> {
+    let mut accounts = Vec::new(alloc);
+    match add_lines(&mut accounts, file) {
+        Ok(()) => Some(accounts.len()),
+        Err(_) => None,
+    }
+}
+
+const FILES: &[(&str, Option<usize>)] = &[
+    ("", Some(0)),
+    ("app1:secret:447700900001\n", Some(1)),
+    ("app1:secret:447700900001\napp2::1", Some(2)),
+    ("app1:secret:447700900001\n\n", None),
+    ("app1:secret:447700900001\napp1::1\n", None),
+    ("app1:secret:447700900001 \n", None),
+];
+
+#[test]
+fn a_file_has_an_account_a_line(rt: HostRuntime) -> Result<(), Fail> {
+    for (file, wanted) in FILES {
+        holds(in_file(rt.alloc(), file) == *wanted, file)?;
+    }
+    Ok(())
+}

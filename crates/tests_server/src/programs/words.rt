@@ -1,0 +1,102 @@
+//! Words of a handset.
+use crate::programs::rows::holds;
+use smsc_cli::words::{HandsetWords, WordsFault, handset_words};
+use std::alloc::Global;
+use std::test::Fail;
+
+const WORDS: [&str; 13] = [
+    "handset",
+    "--connect",
+    "2775",
+    "--number",
+    "447700900456",
+    "--centre",
+    "447700900000",
+    "--slots",
+    "3",
+    "--store",
+    "b.store",
+    "--frames",
+    "8",
+];
+
+// The words, with one in place of another.
+fn with(place: usize, word: &'static str) -> [&'static str; 13] {
+    let mut words = WORDS;
+    words[place.min(12)] = word;
+    words
+}
+
+// What the words are judged as.
+fn judged(alloc: Global, words: &[&str]) -> &'static str {
+    match handset_words(alloc, words) {
+        Ok(HandsetWords::Run { .. }) => "run",
+        Ok(HandsetWords::Show { .. }) => "show",
+        Err(WordsFault::BadWords) => "bad",
+        Err(WordsFault::NoMemory) => "no memory",
+    }
+}
+
+fn says_all(alloc: Global) -> bool {
+    match handset_words(alloc, &WORDS) {
+        Ok(
+            HandsetWords::Run {
+                connect,
+                slots,
+                store,
+                frames,
+                ..
+            },
+        ) => connect == 2775 && slots == 3 && store == "b.store" && frames == 8,
+        _ => false,
+    }
+}
+
+#[test]
+fn words_say_what_was_written(rt: HostRuntime) -> Result<(), Fail> {
+    holds(says_all(rt.alloc()), "six options")
+}
+
+const WORDS_AT: &[(usize, &str, &str)] = &[
+    (2, "65535", "run"),
+    (2, "0", "bad"),
+    (2, "65536", "bad"),
+    (2, "+1", "bad"),
+    (4, "44770090045a", "bad"),
+    (4, "123456789012345678901", "bad"),
+    (6, "12345678901234567890", "run"),
+    (8, "255", "run"),
+    (8, "256", "bad"),
+    (8, "0", "bad"),
+    (11, "--frame", "bad"),
+    (12, "0", "run"),
+    (12, "4294967295", "run"),
+    (12, "4294967296", "bad"),
+    (12, "-1", "bad"),
+];
+
+#[test]
+fn values_are_in_range(rt: HostRuntime) -> Result<(), Fail> {
+    for (place, word, wanted) in WORDS_AT {
+        holds(judged(rt.alloc(), &with(*place, word)) == *wanted, word)?;
+    }
+    Ok(())
+}
+
+const OTHERS: &[(&[&str], &str)] = &[
+    (&[], "bad"),
+    (&["handset"], "bad"),
+    (&["handset", "show"], "bad"),
+    (&["handset", "show", "--store", "b.store"], "show"),
+    (&["handset", "show", "--store", "b.store", "more"], "bad"),
+    (&["handset", "show", "--stores", "b.store"], "bad"),
+    (&["handset", "--store", "b.store"], "bad"),
+];
+
+#[test]
+fn other_words(rt: HostRuntime) -> Result<(), Fail> {
+    for (words, wanted) in OTHERS {
+        holds(judged(rt.alloc(), words) == *wanted, wanted)?;
+    }
+    Ok(())
+}

@@ -1,0 +1,168 @@
+//! Sessions of applications: requests and answers, receipts, and how they end.
+use crate::seats::turns::{Act, Asked, Noted, Sight, Told, Turn, plays};
+use std::test::Fail;
+
+// bind_transceiver of app1 with the password secret, sequence number 1, and its answer (SMPP v3.4 4.1.5).
+const BIND: [u8; 33] = [
+    0x00, 0x00, 0x00, 0x21, 0x00, 0x00, 0x00, 0x09, 0x00, 0x00, 0x00, 0x00, 0x00, 0x00, 0x00, 0x01,
+    0x61, 0x70, 0x70, 0x31, 0x00, 0x73, 0x65, 0x63, 0x72, 0x65, 0x74, 0x00, 0x00, 0x34, 0x00, 0x00,
+    0x00,
+];
+
+const BIND_ANSWER: [u8; 21] = [
+    0x00, 0x00, 0x00, 0x15, 0x80, 0x00, 0x00, 0x09, 0x00, 0x00, 0x00, 0x00, 0x00, 0x00, 0x00, 0x01,
+    0x73, 0x6D, 0x73, 0x63, 0x00,
+];
+
+// submit_sm of `hello` to 447700900456, sequence number 2, its answer under the message_id 0000000001, and RTHROTTLED.
+const SUBMIT: [u8; 50] = [
+    0x00, 0x00, 0x00, 0x32, 0x00, 0x00, 0x00, 0x04, 0x00, 0x00, 0x00, 0x00, 0x00, 0x00, 0x00, 0x02,
+    0x00, 0x00, 0x00, 0x00, 0x01, 0x01, 0x34, 0x34, 0x37, 0x37, 0x30, 0x30, 0x39, 0x30, 0x30, 0x34,
+    0x35, 0x36, 0x00, 0x00, 0x00, 0x00, 0x00, 0x00, 0x00, 0x00, 0x00, 0x00, 0x05, 0x68, 0x65, 0x6C,
+    0x6C, 0x6F,
+];
+
+const SUBMIT_ANSWER: [u8; 27] = [
+    0x00, 0x00, 0x00, 0x1B, 0x80, 0x00, 0x00, 0x04, 0x00, 0x00, 0x00, 0x00, 0x00, 0x00, 0x00, 0x02,
+    0x30, 0x30, 0x30, 0x30, 0x30, 0x30, 0x30, 0x30, 0x30, 0x31, 0x00,
+];
+
+const THROTTLED: [u8; 16] = [
+    0x00, 0x00, 0x00, 0x10, 0x80, 0x00, 0x00, 0x04, 0x00, 0x00, 0x00, 0x58, 0x00, 0x00, 0x00, 0x02,
+];
+
+// submit_sm_resp of the first request with ESME_RSYSERR and no body, and RTHROTTLED for the second.
+const FAILED_AND_THROTTLED: [u8; 32] = [
+    0x00, 0x00, 0x00, 0x10, 0x80, 0x00, 0x00, 0x04, 0x00, 0x00, 0x00, 0x08, 0x00, 0x00, 0x00, 0x02,
+    0x00, 0x00, 0x00, 0x10, 0x80, 0x00, 0x00, 0x04, 0x00, 0x00, 0x00, 0x58, 0x00, 0x00, 0x00, 0x02,
+];
+
+// The bind with the password Secret.
+const WRONG_BIND: [u8; 33] = [
+    0x00, 0x00, 0x00, 0x21, 0x00, 0x00, 0x00, 0x09, 0x00, 0x00, 0x00, 0x00, 0x00, 0x00, 0x00, 0x01,
+    0x61, 0x70, 0x70, 0x31, 0x00, 0x53, 0x65, 0x63, 0x72, 0x65, 0x74, 0x00, 0x00, 0x34, 0x00, 0x00,
+    0x00,
+];
+
+// generic_nack with ESME_RBINDFAIL (SMPP v3.4 4.3, 5.1.3).
+const NO_ROOM: [u8; 16] = [
+    0x00, 0x00, 0x00, 0x10, 0x80, 0x00, 0x00, 0x00, 0x00, 0x00, 0x00, 0x0D, 0x00, 0x00, 0x00, 0x00,
+];
+
+// deliver_sm_resp of sequence number 1 (SMPP v3.4 4.6.2).
+const DELIVERED: [u8; 17] = [
+    0x00, 0x00, 0x00, 0x11, 0x80, 0x00, 0x00, 0x05, 0x00, 0x00, 0x00, 0x00, 0x00, 0x00, 0x00, 0x01,
+    0x00,
+];
+
+const BINDS: &[Turn] = &[
+    Turn::Does(Act::Comes(&BIND)),
+    Turn::Shows(Sight::Sends(&BIND_ANSWER)),
+    Turn::Shows(Sight::Asks(Asked::Bound)),
+    Turn::Shows(Sight::Notes(Noted::Bound)),
+    Turn::Does(Act::Sent(21)),
+];
+
+const IS_REFUSED: &[Turn] = &[
+    Turn::Does(Act::Comes(&WRONG_BIND)),
+    Turn::Shows(Sight::Notes(Noted::Refused(0x0E))),
+    Turn::Shows(Sight::IsKnown(false)),
+    Turn::Shows(Sight::AsksNothing),
+];
+
+const ASKS: &[Turn] = &[
+    Turn::Does(Act::Comes(&SUBMIT)),
+    Turn::Shows(Sight::Asks(Asked::Submission)),
+    Turn::Shows(Sight::Awaits(1)),
+    Turn::Does(Act::Hears(Told::Accepted(1))),
+    Turn::Shows(Sight::Sends(&SUBMIT_ANSWER)),
+    Turn::Shows(Sight::Awaits(0)),
+];
+
+const IS_THROTTLED: &[Turn] = &[
+    Turn::Does(Act::Comes(&SUBMIT)),
+    Turn::Does(Act::HandsBack),
+    Turn::Shows(Sight::Sends(&THROTTLED)),
+    Turn::Shows(Sight::Awaits(0)),
+];
+
+// The first request was put, the second handed back: its answer waits for the first one's.
+const IS_THROTTLED_IN_TURN: &[Turn] = &[
+    Turn::Does(Act::Comes(&SUBMIT)),
+    Turn::Shows(Sight::Asks(Asked::Submission)),
+    Turn::Does(Act::Comes(&SUBMIT)),
+    Turn::Does(Act::HandsBack),
+    Turn::Shows(Sight::Sends(&[])),
+    Turn::Does(Act::Hears(Told::Failed)),
+    Turn::Shows(Sight::Sends(&FAILED_AND_THROTTLED)),
+];
+
+// deliver_sm of a receipt has B3 hexadecimal octets.
+const HAS_A_RECEIPT: &[Turn] = &[
+    Turn::Does(Act::Hears(Told::Receipt)),
+    Turn::Shows(Sight::SendsSoMany(0xB3)),
+    Turn::Does(Act::Comes(&DELIVERED)),
+    Turn::Shows(Sight::Asks(Asked::Answered(true))),
+];
+
+const HAS_NO_RECEIPT: &[Turn] = &[
+    Turn::Does(Act::Hears(Told::Receipt)),
+    Turn::Shows(Sight::Sends(&[])),
+    Turn::Shows(Sight::Asks(Asked::Answered(false))),
+];
+
+const GOES: &[Turn] = &[
+    Turn::Shows(Sight::ClosesWith(Asked::Unbound)),
+    Turn::Shows(Sight::Closes),
+    Turn::Shows(Sight::IsOver),
+];
+
+const IS_GIVEN_UP: &[Turn] = &[
+    Turn::Does(Act::GivesUp),
+    Turn::Shows(Sight::Sends(&NO_ROOM)),
+];
+
+#[test]
+fn a_bind_is_answered_and_told(rt: HostRuntime) -> Result<(), Fail> {
+    plays(rt.alloc(), &[], BINDS)
+}
+
+#[test]
+fn a_wrong_password_is_noted(rt: HostRuntime) -> Result<(), Fail> {
+    plays(rt.alloc(), &[], IS_REFUSED)
+}
+
+#[test]
+fn a_request_has_its_answer(rt: HostRuntime) -> Result<(), Fail> {
+    plays(rt.alloc(), BINDS, ASKS)
+}
+
+#[test]
+fn a_request_that_is_handed_back_is_throttled(rt: HostRuntime) -> Result<(), Fail> {
+    plays(rt.alloc(), BINDS, IS_THROTTLED)
+}
+
+#[test]
+fn answers_keep_the_order_of_requests(rt: HostRuntime) -> Result<(), Fail> {
+    plays(rt.alloc(), BINDS, IS_THROTTLED_IN_TURN)
+}
+
+#[test]
+fn a_receipt_goes_out_and_its_answer_comes(rt: HostRuntime) -> Result<(), Fail> {
+    plays(rt.alloc(), BINDS, HAS_A_RECEIPT)
+}
+
+#[test]
+fn a_receipt_for_nobody_goes_back(rt: HostRuntime) -> Result<(), Fail> {
+    plays(rt.alloc(), &[], HAS_NO_RECEIPT)
+}
+
+#[test]
+fn a_session_that_was_bound_is_unbound_once(rt: HostRuntime) -> Result<(), Fail> {
+    plays(rt.alloc(), BINDS, GOES)
+}
+
+#[test]
+fn who_never_binds_is_told_that_there_is_no_room(rt: HostRuntime) -> Result<(), Fail> {
+    plays(rt.alloc(), &[], IS_GIVEN_UP)
+}

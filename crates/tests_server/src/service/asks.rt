@@ -1,0 +1,88 @@
+//! What happens to a service.
+use sms_base::{Address, Digits, MessageId, Moment, Octets};
+use sms_centre_spec::jobs::Job;
+use sms_keeper::Stimulus;
+use std::alloc::Global;
+use std::test::Fail;
+
+/// What a seat asks.
+#[derive(Clone, Copy)]
+pub(crate) enum Asked {
+    /// The session is bound, and takes receipts.
+    Bound,
+    Unbound,
+    /// The session submits `hello` to the handset.
+    Submits,
+    /// The session has taken the receipt of message 1.
+    Takes,
+    /// The link is the handset's.
+    Rises,
+    Falls,
+    /// A frame comes on the link.
+    Sends(&'static [u8]),
+}
+
+/// 2024-02-29 23:59:58.
+pub(crate) const START: u64 = 1_709_251_198;
+
+// submit_sm of `hello` to 447700900456 with a receipt wanted, sequence number 2 (SMPP v3.4 4.4.1).
+const SUBMIT: [u8; 50] = [
+    0x00, 0x00, 0x00, 0x32, 0x00, 0x00, 0x00, 0x04, 0x00, 0x00, 0x00, 0x00, 0x00, 0x00, 0x00, 0x02,
+    0x00, 0x00, 0x00, 0x00, 0x01, 0x01, 0x34, 0x34, 0x37, 0x37, 0x30, 0x30, 0x39, 0x30, 0x30, 0x34,
+    0x35, 0x36, 0x00, 0x00, 0x00, 0x00, 0x00, 0x00, 0x01, 0x00, 0x00, 0x00, 0x05, 0x68, 0x65, 0x6C,
+    0x6C, 0x6F,
+];
+
+fn handset() -> Result<Digits, Fail> {
+    Ok(Address::new(1, 1, "447700900456")?.digits)
+}
+
+fn submission(alloc: Global) -> Result<Job, Fail> {
+    let pdu = Octets::copy_of(alloc, &SUBMIT)?;
+    Ok(Job::Submit { account: 0, pdu })
+}
+
+fn taken() -> Result<Job, Fail> {
+    let id = MessageId::new(1).ok_or("no identity")?;
+    Ok(Job::DeliverAnswered {
+        id,
+        is_accepted: true,
+    })
+}
+
+fn risen() -> Result<Job, Fail> {
+    let handset = handset()?;
+    Ok(Job::LinkUp { handset })
+}
+
+fn frame(alloc: Global, octets: &[u8]) -> Result<Job, Fail> {
+    let octets = Octets::copy_of(alloc, octets)?;
+    Ok(Job::Frame { octets })
+}
+
+fn job(alloc: Global, asked: &Asked) -> Result<Job, Fail> {
+    match asked {
+        Asked::Bound => Ok(Job::Bound {
+            account: 0,
+            receives: true,
+        }),
+        Asked::Unbound => Ok(Job::Unbound),
+        Asked::Submits => submission(alloc),
+        Asked::Takes => taken(),
+        Asked::Rises => risen(),
+        Asked::Falls => Ok(Job::LinkDown),
+        Asked::Sends(octets) => frame(alloc, octets),
+    }
+}
+
+/// The seat asks that.
+pub(crate) fn asks(alloc: Global, seat: usize, asked: &Asked) -> Result<Stimulus<Job>, Fail> {
+    let job = job(alloc, asked)?;
+    Ok(Stimulus::Job(seat, job))
+}
+
+/// The clock shows so many seconds after the start.
+pub(crate) fn ticks(seconds: u32) -> Result<Stimulus<Job>, Fail> {
+    let now = Moment::from_seconds(START + u64::from(seconds))?;
+    Ok(Stimulus::Tick(now))
+}

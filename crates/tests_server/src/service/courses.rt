@@ -1,0 +1,156 @@
+//! Sessions and links at the seats of a hub.
+use crate::service::asks::Asked;
+use crate::service::store::MANY;
+use crate::service::telling::{To, Told};
+use crate::service::turns::{Turn, plays};
+use sms_keeper::Fate;
+use std::test::Fail;
+
+// CP-ACK of the handset for the centre's first transaction (3GPP TS 24.011 7.2.2), and of the centre for the handset's answer in it.
+const CP_ACK: &[u8] = &[0x89, 0x04];
+
+const CP_ACK_DOWN: &[u8] = &[0x09, 0x04];
+
+// CP-DATA of the handset with RP-ACK for reference 0 (3GPP TS 24.011 7.2.1, 7.3.3).
+const RP_ACK: &[u8] = &[0x89, 0x01, 0x02, 0x02, 0x00];
+
+// CP-DATA of the centre with RP-DATA, reference 0, from the centre 447700900999: a DELIVER of `hello` from 447700900001, sent on 29
+// February 2024 at 23:59:58, no more messages to send, its sender wants to know its end (3GPP TS 24.011 7.3.1, 3GPP TS 23.040 9.2.2.1).
+const DELIVER: &[u8] = &[
+    0x09, 0x01, 0x24, 0x01, 0x00, 0x07, 0x91, 0x44, 0x77, 0x00, 0x09, 0x90, 0x99, 0x00, 0x18, 0x24,
+    0x0C, 0x91, 0x44, 0x77, 0x00, 0x09, 0x00, 0x10, 0x00, 0x00, 0x42, 0x20, 0x92, 0x32, 0x95, 0x85,
+    0x00, 0x05, 0xE8, 0x32, 0x9B, 0xFD, 0x06,
+];
+
+const DONE: Fate = Fate::Done;
+
+// A session submits; the handset accepts; the receipt goes to the session.
+const RECEIPT: &[Turn] = &[
+    Turn::Job(3, Asked::Bound, DONE, &[]),
+    Turn::Job(5, Asked::Rises, DONE, &[]),
+    Turn::Job(
+        3,
+        Asked::Submits,
+        DONE,
+        &[To(3, Told::Accepted(1)), To(5, Told::Frame(DELIVER))],
+    ),
+    Turn::Job(5, Asked::Sends(CP_ACK), DONE, &[]),
+    Turn::Job(
+        5,
+        Asked::Sends(RP_ACK),
+        DONE,
+        &[To(5, Told::Frame(CP_ACK_DOWN)), To(3, Told::Receipt(1))],
+    ),
+    Turn::Job(3, Asked::Takes, DONE, &[]),
+];
+
+// The session has gone when its message is delivered: the receipt waits until the account is bound again, at any seat.
+const RECEIPT_WAITS: &[Turn] = &[
+    Turn::Job(3, Asked::Bound, DONE, &[]),
+    Turn::Job(3, Asked::Submits, DONE, &[To(3, Told::Accepted(1))]),
+    Turn::Job(3, Asked::Unbound, DONE, &[]),
+    Turn::Job(31, Asked::Rises, DONE, &[To(31, Told::Frame(DELIVER))]),
+    Turn::Job(31, Asked::Sends(CP_ACK), DONE, &[]),
+    Turn::Job(
+        31,
+        Asked::Sends(RP_ACK),
+        DONE,
+        &[To(31, Told::Frame(CP_ACK_DOWN))],
+    ),
+    Turn::Job(0, Asked::Bound, DONE, &[To(0, Told::Receipt(1))]),
+];
+
+// A second link of one handset is turned away, until the first one has gone.
+const ONE_LINK: &[Turn] = &[
+    Turn::Job(5, Asked::Rises, DONE, &[]),
+    Turn::Job(6, Asked::Rises, DONE, &[To(6, Told::Taken)]),
+    Turn::Job(6, Asked::Sends(CP_ACK), DONE, &[]),
+    Turn::Job(5, Asked::Falls, DONE, &[]),
+    Turn::Job(6, Asked::Rises, DONE, &[]),
+    Turn::Job(
+        3,
+        Asked::Submits,
+        DONE,
+        &[To(3, Told::Accepted(1)), To(6, Told::Frame(DELIVER))],
+    ),
+];
+
+// The commit of a submission is refused: its session is told so, and nothing is offered. The number is given to the next one; the link
+// comes up again at the first tick.
+const SUBMISSION_REFUSED: &[Turn] = &[
+    Turn::Job(5, Asked::Rises, DONE, &[]),
+    Turn::Commits(0),
+    Turn::Job(3, Asked::Submits, Fate::Refused, &[To(3, Told::Failed)]),
+    Turn::Commits(MANY),
+    Turn::Reopens,
+    Turn::Job(3, Asked::Submits, DONE, &[To(3, Told::Accepted(1))]),
+    Turn::Tick(1, DONE, &[To(5, Told::Frame(DELIVER))]),
+];
+
+// The commit of an acknowledgement is refused: nothing is told. The part goes out again as it was, under its reference, and the receipt
+// goes when that is acknowledged.
+const ACKNOWLEDGEMENT_REFUSED: &[Turn] = &[
+    Turn::Job(3, Asked::Bound, DONE, &[]),
+    Turn::Job(5, Asked::Rises, DONE, &[]),
+    Turn::Job(
+        3,
+        Asked::Submits,
+        DONE,
+        &[To(3, Told::Accepted(1)), To(5, Told::Frame(DELIVER))],
+    ),
+    Turn::Job(5, Asked::Sends(CP_ACK), DONE, &[]),
+    Turn::Commits(0),
+    Turn::Job(5, Asked::Sends(RP_ACK), Fate::Refused, &[]),
+    Turn::Commits(MANY),
+    Turn::Reopens,
+    Turn::Tick(1, DONE, &[To(5, Told::Frame(DELIVER))]),
+    Turn::Job(5, Asked::Sends(CP_ACK), DONE, &[]),
+    Turn::Job(
+        5,
+        Asked::Sends(RP_ACK),
+        DONE,
+        &[To(5, Told::Frame(CP_ACK_DOWN)), To(3, Told::Receipt(1))],
+    ),
+];
+
+// The body of the part can't be read as its handset comes up: nothing is told, and it goes out once it can.
+const BODY_REFUSED: &[Turn] = &[
+    Turn::Job(3, Asked::Submits, DONE, &[To(3, Told::Accepted(1))]),
+    Turn::Bodies(0),
+    Turn::Job(5, Asked::Rises, Fate::Refused, &[]),
+    Turn::Bodies(MANY),
+    Turn::Reopens,
+    Turn::Tick(1, DONE, &[To(5, Told::Frame(DELIVER))]),
+];
+
+#[test]
+fn a_submission_has_its_answer_and_its_receipt(rt: HostRuntime) -> Result<(), Fail> {
+    plays(rt.alloc(), RECEIPT)
+}
+
+#[test]
+fn a_receipt_waits_for_its_account(rt: HostRuntime) -> Result<(), Fail> {
+    plays(rt.alloc(), RECEIPT_WAITS)
+}
+
+#[test]
+fn a_handset_has_one_link(rt: HostRuntime) -> Result<(), Fail> {
+    plays(rt.alloc(), ONE_LINK)
+}
+
+#[test]
+fn a_submission_whose_commit_is_refused_fails(rt: HostRuntime) -> Result<(), Fail> {
+    plays(rt.alloc(), SUBMISSION_REFUSED)
+}
+
+#[test]
+fn an_acknowledgement_whose_commit_is_refused_is_asked_for_again(
+    rt: HostRuntime,
+) -> Result<(), Fail> {
+    plays(rt.alloc(), ACKNOWLEDGEMENT_REFUSED)
+}
+
+#[test]
+fn a_part_whose_body_is_refused_goes_out_later(rt: HostRuntime) -> Result<(), Fail> {
+    plays(rt.alloc(), BODY_REFUSED)
+}

@@ -1,0 +1,139 @@
+//! A service, what happens to it, and what is told.
+use crate::service::asks::{Asked, START, asks, ticks};
+use crate::service::rows::holds;
+use crate::service::store::Store;
+use crate::service::telling::{To, is_step};
+use sms_base::{Address, Listed, Moment, Octets};
+use sms_centre_spec::jobs::Job;
+use sms_keeper::{Fate, Gate, Machine, Stimulus};
+use sms_store_memory::centre::MemoryKeep;
+use smsc_service::{CentreAccount, Service, Setup, serve_with};
+use std::alloc::Global;
+use std::test::Fail;
+
+/// A turn of a course.
+#[derive(Clone, Copy)]
+pub(crate) enum Turn {
+    /// What the seat asks, what befalls it, and who is told what, in order.
+    Job(usize, Asked, Fate, &'static [To]),
+    /// The clock shows so many seconds after the start: what befalls that, and who is told what.
+    Tick(u32, Fate, &'static [To]),
+    /// The store takes so many commits more.
+    Commits(u32),
+    /// The store gives so many bodies more.
+    Bodies(u32),
+    /// The service starts again with the rows of its store.
+    Reopens,
+}
+
+struct Open;
+
+impl Gate for Open {
+    fn pass(&self) {}
+}
+
+// ---- a service
+
+fn account(alloc: Global) -> Result<CentreAccount, Fail> {
+    let address = Address::new(1, 1, "447700900001")?;
+    let name = Octets::copy_of(alloc, b"app1")?;
+    Ok(CentreAccount { name, address })
+}
+
+fn accounts(alloc: Global) -> Result<Listed<CentreAccount>, Fail> {
+    let accounts = vec![in alloc; account(alloc)?]?;
+    Ok(Listed::from_vec(accounts))
+}
+
+fn setup(alloc: Global) -> Result<Setup, Fail> {
+    let centre = Address::new(1, 1, "447700900999")?;
+    let start = Moment::from_seconds(START)?;
+    let accounts = accounts(alloc)?;
+    Ok(Setup {
+        centre,
+        start,
+        accounts,
+    })
+}
+
+// A store of a centre that has no message yet.
+fn opened(alloc: Global) -> Result<Store, Fail> {
+    let setup = setup(alloc)?;
+    Ok(Store::new(MemoryKeep::new(alloc, setup)))
+}
+
+// ---- turns
+
+fn meets(service: &mut Service<Store>, stimulus: &Stimulus<Job>, fate: Fate, told: &[To]) -> bool {
+    let step = service.step(&Open, stimulus);
+    is_step(&step, fate, told)
+}
+
+fn takes_job(
+    alloc: Global,
+    service: &mut Service<Store>,
+    seat: usize,
+    asked: &Asked,
+    fate: Fate,
+    told: &[To],
+) -> Result<bool, Fail> {
+    let stimulus = asks(alloc, seat, asked)?;
+    Ok(meets(service, &stimulus, fate, told))
+}
+
+fn takes_tick(
+    service: &mut Service<Store>,
+    seconds: u32,
+    fate: Fate,
+    told: &[To],
+) -> Result<bool, Fail> {
+    let stimulus = ticks(seconds)?;
+    Ok(meets(service, &stimulus, fate, told))
+}
+
+fn reopens(service: &mut Service<Store>) -> bool {
+    service.reopen().is_ok()
+}
+
+fn take_turn(alloc: Global, service: &mut Service<Store>, turn: &Turn) -> Result<bool, Fail> {
+    match turn {
+        Turn::Job(seat, asked, fate, told) => takes_job(alloc, service, *seat, asked, *fate, told),
+        Turn::Tick(seconds, fate, told) => takes_tick(service, *seconds, *fate, told),
+        Turn::Commits(count) => {
+            service.machine.keep.commits = *count;
+            Ok(true)
+        }
+        Turn::Bodies(count) => {
+            service.machine.keep.bodies = *count;
+            Ok(true)
+        }
+        Turn::Reopens => Ok(reopens(service)),
+    }
+}
+
+// The turns of a course, as a failure names them.
+const NAMES: [&str; 12] = [
+    "turn 1", "turn 2", "turn 3", "turn 4", "turn 5", "turn 6", "turn 7", "turn 8", "turn 9",
+    "turn 10", "turn 11", "turn 12",
+];
+
+fn name_of(at: usize) -> &'static str {
+    match NAMES.get(at) {
+        Some(name) => *name,
+        None => "a later turn",
+    }
+}
+
+fn go(alloc: Global, service: &mut Service<Store>, turns: &[Turn]) -> Result<(), Fail> {
+    for (at, turn) in turns.iter().enumerate() {
+        let holding = take_turn(alloc, service, turn)?;
+        holds(holding, name_of(at))?;
+    }
+    Ok(())
+}
+
+/// Each turn of the course is as told.
+pub(crate) fn plays(alloc: Global, turns: &[Turn]) -> Result<(), Fail> {
+    let store = opened(alloc)?;
+    serve_with(alloc, store, |service| go(alloc, service, turns))?
+}

@@ -1,0 +1,80 @@
+//! Guests that are given up, and guests that leave.
+use crate::serving::answering::{Counter, Still};
+use crate::serving::rows::holds;
+use crate::serving::table::{
+    ANSWERS, ENDED, REQUESTS, SILENT, STALLED, Side, Table, is_even, is_whole, make_room, run,
+};
+use crate::serving::wire::Script;
+use sms_base::Moment;
+use std::alloc::Global;
+use std::sync::Wait;
+use std::test::Fail;
+use std::thread::Threads;
+
+// The first seat has this wire, and tells this last. Gives how many octets went.
+fn leaves<R: Threads + Wait + Sync>(
+    rt: &R,
+    alloc: Global,
+    side: Side,
+    wire: Script<'_>,
+    last: u32,
+) -> Result<usize, Fail> {
+    let mut wire = wire;
+    let table = Table::new(alloc, side)?;
+    let room = make_room(alloc)?;
+    wire.bell = Some(room.first.bell()?);
+    let mut well = Script::well(&REQUESTS, ANSWERS);
+    let mut counter = Counter::new(alloc);
+    let clock = Still(Moment::from_seconds(1_709_251_198)?);
+    let ended = run(rt, &table, room, &mut counter, &clock, &mut wire, &mut well);
+    holds(ended, "the keeper ends with the seats")?;
+    holds(table.told.last() == last, "why it leaves")?;
+    is_even(&counter.first)?;
+    is_whole(&counter.second, well.taken)?;
+    Ok(wire.taken)
+}
+
+// Nothing comes, or half a PDU, and the other side stays: generic_nack with ESME_RBINDFAIL has 16 octets (SMPP v3.4 4.3), CP-ERROR
+// behind its length five (3GPP TS 24.011 7.2.3).
+const SAYS_NOTHING: &[(Side, usize, usize)] = &[
+    (Side::Application, 0, 16),
+    (Side::Application, 20, 16),
+    (Side::Handset, 0, 5),
+];
+
+#[test]
+fn who_says_nothing_is_given_up(rt: HostRuntime) -> Result<(), Fail> {
+    for (side, size, told) in SAYS_NOTHING {
+        let octets = REQUESTS.get(..*size).unwrap_or(&[]);
+        let wire = Script::well(octets, usize::MAX);
+        let taken = leaves(&rt, rt.alloc(), *side, wire, SILENT)?;
+        holds(taken == *told, "it is told so")?;
+    }
+    Ok(())
+}
+
+// It binds, and takes no answer.
+#[test]
+fn who_takes_nothing_is_given_up(rt: HostRuntime) -> Result<(), Fail> {
+    let mut wire = Script::well(&REQUESTS, usize::MAX);
+    wire.has_room = false;
+    let taken = leaves(&rt, rt.alloc(), Side::Application, wire, STALLED)?;
+    holds(taken == 0, "it takes nothing")
+}
+
+// Half a PDU comes, and then the end.
+#[test]
+fn who_leaves_in_a_request_leaves(rt: HostRuntime) -> Result<(), Fail> {
+    let octets = REQUESTS.get(..20).unwrap_or(&[]);
+    let wire = Script::well(octets, 0);
+    let taken = leaves(&rt, rt.alloc(), Side::Application, wire, ENDED)?;
+    holds(taken == 0, "it is sent nothing")
+}
+
+// generic_nack with ESME_RINVCMDLEN has 16 octets (SMPP v3.4 4.3), and goes before the end.
+#[test]
+fn who_sends_garbage_is_told(rt: HostRuntime) -> Result<(), Fail> {
+    let wire = Script::well(b"GET / HTTP/1.1\r\n\r\n", usize::MAX);
+    let taken = leaves(&rt, rt.alloc(), Side::Application, wire, ENDED)?;
+    holds(taken == 16, "it is told so")
+}

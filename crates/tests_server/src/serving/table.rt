@@ -1,0 +1,266 @@
+//! Two guests at the seats of a hub, and a keeper that runs what both ask.
+ghost use Rattle.std.specs.Prelude.{◌≡◌, false};
+ghost use Rattle.sms_keeper.specs.Jobs.{has_end};
+ghost use Rattle.sms_keeper.specs.Seating.{put_by};
+
+use crate::serving::answering::{Counter, Open, Still, Tally};
+use crate::serving::rows::holds;
+use crate::serving::wire::Script;
+use smpp_session::{Account, Accounts};
+use sms_base::Octets;
+use sms_base::lending::lend;
+use sms_centre_spec::jobs::{Job, Reply};
+use sms_keeper::{End, Hub, Keeper};
+use smsc_endpoint::{Application, Guest, HandsetLink, Note, OpenSeat, Teller, serve};
+use std::alloc::Global;
+use std::sync::atomic::{AtomicBool, AtomicU32, Ordering};
+use std::sync::{Arc, Wait};
+use std::test::Fail;
+use std::thread::{Threads, join};
+
+// bind_transceiver of app1 with the password secret, sequence number 1 (SMPP v3.4 4.1.5), and two submit_sm of `hello` to
+// 447700900456, numbers 2 and 3 (4.4.1).
+pub(crate) const REQUESTS: [u8; 133] = [
+    0x00, 0x00, 0x00, 0x21, 0x00, 0x00, 0x00, 0x09, 0x00, 0x00, 0x00, 0x00, 0x00, 0x00, 0x00, 0x01,
+    0x61, 0x70, 0x70, 0x31, 0x00, 0x73, 0x65, 0x63, 0x72, 0x65, 0x74, 0x00, 0x00, 0x34, 0x00, 0x00,
+    0x00, 0x00, 0x00, 0x00, 0x32, 0x00, 0x00, 0x00, 0x04, 0x00, 0x00, 0x00, 0x00, 0x00, 0x00, 0x00,
+    0x02, 0x00, 0x00, 0x00, 0x00, 0x01, 0x01, 0x34, 0x34, 0x37, 0x37, 0x30, 0x30, 0x39, 0x30, 0x30,
+    0x34, 0x35, 0x36, 0x00, 0x00, 0x00, 0x00, 0x00, 0x00, 0x00, 0x00, 0x00, 0x00, 0x05, 0x68, 0x65,
+    0x6C, 0x6C, 0x6F, 0x00, 0x00, 0x00, 0x32, 0x00, 0x00, 0x00, 0x04, 0x00, 0x00, 0x00, 0x00, 0x00,
+    0x00, 0x00, 0x03, 0x00, 0x00, 0x00, 0x00, 0x01, 0x01, 0x34, 0x34, 0x37, 0x37, 0x30, 0x30, 0x39,
+    0x30, 0x30, 0x34, 0x35, 0x36, 0x00, 0x00, 0x00, 0x00, 0x00, 0x00, 0x00, 0x00, 0x00, 0x00, 0x05,
+    0x68, 0x65, 0x6C, 0x6C, 0x6F,
+];
+
+// bind_transceiver_resp with `smsc` has 21 octets, and each submit_sm_resp that tells an error its header of 16 alone.
+pub(crate) const ANSWERS: usize = 53;
+
+// ---- what is told
+
+/// The number of the note that the connection has ended.
+pub(crate) const ENDED: u32 = 1;
+
+/// That of the note that nobody said who it is.
+pub(crate) const SILENT: u32 = 2;
+
+/// That of the note that no octets are taken.
+pub(crate) const STALLED: u32 = 3;
+
+/// What the first seat told last.
+#[derive(Drop)]
+pub(crate) struct Told {
+    last: AtomicU32,
+}
+
+impl Told {
+    /// Nothing yet.
+    pub(crate) fn new() -> Told {
+        Told {
+            last: AtomicU32::new(0),
+        }
+    }
+
+    pub(crate) fn last(&self) -> u32 {
+        self.last.load(Ordering::SeqCst)
+    }
+}
+
+impl Teller for Told {
+    fn tell(&self, seat: usize, note: Note) {
+        if seat != 0 {
+            return;
+        }
+        let number = match note {
+            Note::Ended => ENDED,
+            Note::Silent => SILENT,
+            Note::Stalled => STALLED,
+            _ => 0,
+        };
+        self.last.store(number, Ordering::SeqCst);
+    }
+}
+
+// ---- guests
+
+fn accounts(alloc: Global) -> Result<Arc<Accounts>, Fail> {
+    let mut accounts = Vec::new(alloc);
+    accounts.push(Account {
+        name: Octets::copy_of(alloc, b"app1")?,
+        password: Octets::copy_of(alloc, b"secret")?,
+    })?;
+    Ok(Arc::new(alloc, Accounts::from_vec(accounts))?)
+}
+
+// A guest is served until its wire ends, and then the seat closes.
+fn sits<R: Wait, G: Guest>(
+    rt: &R,
+    alloc: Global,
+    over: &AtomicBool,
+    wire: &mut Script<'_>,
+    seat: OpenSeat,
+    guest: &mut G,
+    told: &Told,
+) {
+    let mut seat = seat;
+    serve(rt, alloc, over, wire, &mut seat, guest, told);
+    seat.close(rt, over);
+}
+
+fn application_sits<R: Wait>(
+    rt: &R,
+    alloc: Global,
+    over: &AtomicBool,
+    wire: &mut Script<'_>,
+    seat: OpenSeat,
+    accounts: Arc<Accounts>,
+    told: &Told,
+) {
+    lend(Application::new(alloc, accounts), |guest| {
+        sits(rt, alloc, over, wire, seat, guest, told)
+    })
+}
+
+fn link_sits<R: Wait>(
+    rt: &R,
+    alloc: Global,
+    over: &AtomicBool,
+    wire: &mut Script<'_>,
+    seat: OpenSeat,
+    told: &Told,
+) {
+    lend(HandsetLink::new(alloc), |guest| {
+        sits(rt, alloc, over, wire, seat, guest, told)
+    })
+}
+
+// ---- a run
+
+/// A keeper with two seats.
+#[derive(Drop)]
+pub(crate) struct Room {
+    keeper: Keeper<Job, Reply>,
+    pub(crate) first: OpenSeat,
+    second: OpenSeat,
+}
+
+pub(crate) fn make_room(alloc: Global) -> Result<Room, Fail> {
+    let (keeper, first, second) = Hub::new::<Job, Reply>(alloc, 16)?;
+    Ok(Room {
+        keeper,
+        first: OpenSeat { seat: first },
+        second: OpenSeat { seat: second },
+    })
+}
+
+/// Who sits at the first seat.
+#[derive(Clone, Copy)]
+pub(crate) enum Side {
+    Application,
+    Handset,
+}
+
+/// What the two guests need beside their seats.
+#[derive(Drop)]
+pub(crate) struct Table {
+    pub(crate) alloc: Global,
+    accounts: Arc<Accounts>,
+    pub(crate) side: Side,
+    over: AtomicBool,
+    pub(crate) told: Told,
+}
+
+impl Table {
+    pub(crate) fn new(alloc: Global, side: Side) -> Result<Table, Fail> {
+        Ok(Table {
+            alloc,
+            accounts: accounts(alloc)?,
+            side,
+            over: AtomicBool::new(false),
+            told: Told::new(),
+        })
+    }
+
+    fn first_sits<R: Wait>(&self, rt: &R, wire: &mut Script<'_>, seat: OpenSeat) {
+        let Ok(accounts) = Arc::try_clone(&self.accounts) else {
+            return;
+        };
+        match self.side {
+            Side::Application => {
+                application_sits(rt, self.alloc, &self.over, wire, seat, accounts, &self.told)
+            }
+            Side::Handset => link_sits(rt, self.alloc, &self.over, wire, seat, &self.told),
+        }
+    }
+
+    fn second_sits<R: Wait>(&self, rt: &R, wire: &mut Script<'_>, seat: OpenSeat) {
+        let Ok(accounts) = Arc::try_clone(&self.accounts) else {
+            return;
+        };
+        application_sits(rt, self.alloc, &self.over, wire, seat, accounts, &self.told);
+    }
+
+    fn both_sit<R: Threads + Wait + Sync>(
+        &self,
+        rt: &R,
+        first: OpenSeat,
+        second: OpenSeat,
+        failing: &mut Script<'_>,
+        well: &mut Script<'_>,
+    ) {
+        join(
+            rt,
+            || self.first_sits(rt, failing, first),
+            || self.second_sits(rt, well, second),
+        );
+    }
+}
+
+// Whether the keeper has run all that both asked.
+fn keeps<R: Wait>(
+    rt: &R,
+    alloc: Global,
+    keeper: &mut Keeper<Job, Reply>,
+    counter: &mut Counter,
+    clock: &Still,
+) -> bool {
+    keeper.run(rt, alloc, counter, &Open, clock).end == End::AllClosed
+}
+
+/// Runs both guests, and says whether the keeper has run all that they asked.
+pub(crate) fn run<R: Threads + Wait + Sync>(
+    rt: &R,
+    table: &Table,
+    room: Room,
+    counter: &mut Counter,
+    clock: &Still,
+    failing: &mut Script<'_>,
+    well: &mut Script<'_>,
+) -> bool {
+    let Room {
+        mut keeper,
+        first,
+        second,
+    } = room;
+    let (ended, ()) = join(
+        rt,
+        || keeps(rt, table.alloc, &mut keeper, counter, clock),
+        || table.both_sit(rt, first, second, failing, well),
+    );
+    ended
+}
+
+// ---- what came of it
+
+/// The second guest is as if nobody sat beside it.
+pub(crate) fn is_whole(tally: &Tally, taken: usize) -> Result<(), Fail> {
+    holds(taken == ANSWERS, "it has all its answers")?;
+    holds(tally.submitted == 2, "its requests were run")?;
+    holds(tally.bound == 1 && tally.unbound == 1, "bound and unbound")
+}
+
+/// Whoever comes goes.
+pub(crate) fn is_even(tally: &Tally) -> Result<(), Fail> {
+    holds(tally.bound <= 1 && tally.up <= 1, "it comes once")?;
+    holds(tally.bound == tally.unbound, "a bound one is unbound once")?;
+    holds(tally.up == tally.down, "a link that is up goes down once")
+}

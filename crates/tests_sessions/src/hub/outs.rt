@@ -1,0 +1,71 @@
+//! Outs and the codes of faults.
+use crate::hub::counter::Reply;
+use crate::hub::rows::holds;
+use sms_hub::{HubFault, Out, Outs};
+use std::alloc::Global;
+use std::test::Fail;
+
+const FIRST: Out<Reply> = Out {
+    seat: 3,
+    out: Reply::Sum(1),
+};
+
+const SECOND: Out<Reply> = Out {
+    seat: 4,
+    out: Reply::Sum(2),
+};
+
+fn is_from(outs: &Outs<Reply>, place: usize, seat: usize) -> bool {
+    match outs.get(place) {
+        Some(out) => out.seat == seat,
+        None => false,
+    }
+}
+
+fn are_two(outs: &Outs<Reply>) -> bool {
+    outs.len() == 2 && is_from(outs, 0, 3) && is_from(outs, 1, 4) && outs.get(2).is_none()
+}
+
+fn reads_two(alloc: Global) -> Result<bool, Fail> {
+    let outs = Outs::from_vec(vec![in alloc; FIRST, SECOND]?);
+    Ok(are_two(&outs))
+}
+
+fn reads_none() -> bool {
+    let none = Outs::<Reply>::none();
+    none.is_empty() && none.get(0).is_none()
+}
+
+#[test]
+fn outs_are_read_in_order(rt: HostRuntime) -> Result<(), Fail> {
+    holds(reads_two(rt.alloc())?, "two outs")?;
+    holds(reads_none(), "no outs")
+}
+
+fn is_told(alloc: Global, fault: HubFault, code: &str, text: &str) -> Result<bool, Fail> {
+    let told = format!(in alloc; "{fault}")?;
+    Ok(fault.code() == code && told.as_str() == text)
+}
+
+const FAULTS: &[(HubFault, &str, &str)] = &[
+    (HubFault::NoThread, "B1", "no thread"),
+    (HubFault::NoMemory, "B2", "out of memory"),
+    (
+        HubFault::MachineFailed,
+        "B3",
+        "the machine could not be opened again",
+    ),
+    (
+        HubFault::TooManySessions,
+        "B4",
+        "no session, or more than 32",
+    ),
+];
+
+#[test]
+fn faults_have_codes(rt: HostRuntime) -> Result<(), Fail> {
+    for (fault, code, text) in FAULTS {
+        holds(is_told(rt.alloc(), *fault, code, text)?, code)?;
+    }
+    Ok(())
+}

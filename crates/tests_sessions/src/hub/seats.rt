@@ -1,0 +1,231 @@
+//! Seats and the keeper in one thread, and beside a keeper that is held or has many jobs.
+ghost use Rattle.std.specs.Prelude.{◌≡◌, [], false};
+ghost use Rattle.sms_keeper.specs.Jobs.{has_end};
+ghost use Rattle.sms_keeper.specs.Seating.{put_by, IsSeatOf};
+
+use crate::hub::counter::{Counter, Open, Reply, Still};
+use crate::hub::gates::Held;
+use sms_base::Moment;
+use sms_hub::{End, Hub, HubFault, Keeper, Seat};
+use std::alloc::Global;
+use std::sync::Wait;
+use std::sync::atomic::{AtomicBool, Ordering};
+use std::test::Fail;
+use std::thread;
+use std::thread::join;
+use std::time::{Clock, Duration};
+
+// A term on a machine that refuses its first job.
+fn ends_refused<R: Wait>(
+    rt: &R,
+    alloc: Global,
+    keeper: &mut Keeper<u32, Reply>,
+    clock: &Still,
+) -> bool {
+    let mut machine = Counter::new(1, true);
+    let term = keeper.run(rt, alloc, &mut machine, &Open, clock);
+    term.end == End::Refused
+}
+
+// A put into the one slot, a job that is handed back, and a put once the keeper has popped.
+fn put_and_back<R: Wait>(
+    rt: &R,
+    alloc: Global,
+    keeper: &mut Keeper<u32, Reply>,
+    a: &mut Seat<u32, Reply>,
+    b: &mut Seat<u32, Reply>,
+    clock: &Still,
+) -> bool
+    requires { (put_by a.old ≡ []) × (put_by b.old ≡ []) }
+{
+    let first = a.put(rt, 7) == Ok(());
+    let back = b.put(rt, 8) == Err(8);
+    let refused = ends_refused(rt, alloc, keeper, clock);
+    let told = a.take_answer(rt) == Some(Reply::Failed) && a.take_answer(rt).is_none();
+    first && back && refused && told && b.put(rt, 9) == Ok(())
+}
+
+#[test]
+fn a_job_is_taken_and_handed_back(rt: HostRuntime) -> Result<(), Fail> {
+    let clock = Still(Moment::from_seconds(1_709_251_198)?);
+    let (mut keeper, mut a, mut b) = Hub::new::<u32, Reply>(rt.alloc(), 1)?;
+    assert!(rt; put_and_back(&rt, rt.alloc(), &mut keeper, &mut a, &mut b, &clock));
+    Ok(())
+}
+
+// Whether a flag is set within 10,000 turns of a millisecond.
+fn is_set<R: Clock>(rt: &R, flag: &AtomicBool) -> bool {
+    for _ in 0..10000 {
+        if flag.load(Ordering::SeqCst) {
+            return true;
+        }
+        thread::sleep(rt, Duration::from_millis(1));
+    }
+    false
+}
+
+// Whether a job is taken within 10,000 turns of a millisecond.
+fn is_taken<R: Wait + Clock>(rt: &R, seat: &mut Seat<u32, Reply>, job: u32) -> bool
+    requires { has_end (put_by seat.old) ≡ false }
+    ensures { has_end (put_by seat.new) ≡ false }
+{
+    for _ in 0..10000 {
+        if seat.put(rt, job) == Ok(()) {
+            return true;
+        }
+        thread::sleep(rt, Duration::from_millis(1));
+    }
+    false
+}
+
+// Seat a's job is held at the gate; then seat b's is put; then the gate is opened.
+fn go_on<R: Wait + Clock>(
+    rt: &R,
+    mut a: Seat<u32, Reply>,
+    mut b: Seat<u32, Reply>,
+    reached: &AtomicBool,
+    opened: &AtomicBool,
+) -> bool
+    requires { (put_by a ≡ []) × (put_by b ≡ []) }
+{
+    let first = is_taken(rt, &mut a, 1);
+    let held = is_set(rt, reached);
+    let second = is_taken(rt, &mut b, 2);
+    opened.store(true, Ordering::SeqCst);
+    a.close(rt);
+    b.close(rt);
+    first && held && second
+}
+
+#[test]
+fn a_seat_goes_on_while_the_keeper_is_held(rt: HostRuntime) -> Result<(), Fail> {
+    let alloc = rt.alloc();
+    let clock = Still(Moment::from_seconds(1_709_251_198)?);
+    let (mut keeper, a, b) = Hub::new::<u32, Reply>(alloc, 2)?;
+    let mut machine = Counter::new(0, true);
+    let reached = AtomicBool::new(false);
+    let opened = AtomicBool::new(false);
+    let gate = Held {
+        rt: &rt,
+        reached: &reached,
+        opened: &opened,
+    };
+    let (ended, went_on) = join(
+        &rt,
+        || keeper.run(&rt, alloc, &mut machine, &gate, &clock).end == End::AllClosed,
+        || -> bool
+            requires { (put_by a ≡ []) × (put_by b ≡ []) }
+        { go_on(&rt, a, b, &reached, &opened) },
+    );
+    assert!(rt; ended && went_on);
+    assert_eq!(rt; machine.sum, 3);
+    Ok(())
+}
+
+// Puts a job, however long that takes.
+fn put_one<R: Wait>(rt: &R, seat: &mut Seat<u32, Reply>, job: u32)
+    requires { has_end (put_by seat.old) ≡ false }
+    ensures { has_end (put_by seat.new) ≡ false }
+{
+    for _ in rt.forever() {
+        if seat.put(rt, job) == Ok(()) {
+            return;
+        }
+        thread::yield_now();
+    }
+    unreachable!()
+}
+
+// Puts jobs that have no answer.
+fn put_many<R: Wait>(rt: &R, seat: &mut Seat<u32, Reply>, count: u32)
+    requires { has_end (put_by seat.old) ≡ false }
+    ensures { has_end (put_by seat.new) ≡ false }
+{
+    for _ in 0..count {
+        put_one(rt, seat, 0);
+    }
+}
+
+fn feed<R: Wait>(rt: &R, mut a: Seat<u32, Reply>, mut b: Seat<u32, Reply>)
+    requires { (put_by a ≡ []) × (put_by b ≡ []) }
+{
+    put_many(rt, &mut a, 65537);
+    a.close(rt);
+    b.close(rt);
+}
+
+// The ends of two terms, and how many items the second has.
+fn two_terms<R: Wait>(
+    rt: &R,
+    alloc: Global,
+    keeper: &mut Keeper<u32, Reply>,
+    clock: &Still,
+) -> (End, End, usize) {
+    let mut machine = Counter::new(0, true);
+    let first = keeper.run(rt, alloc, &mut machine, &Open, clock);
+    let second = keeper.run(rt, alloc, &mut machine, &Open, clock);
+    (first.end, second.end, second.history.len())
+}
+
+#[test]
+fn a_term_ends_after_its_most_jobs(rt: HostRuntime) -> Result<(), Fail> {
+    let alloc = rt.alloc();
+    let clock = Still(Moment::from_seconds(1_709_251_198)?);
+    let (mut keeper, a, b) = Hub::new::<u32, Reply>(alloc, 1024)?;
+    let (ends, ()) = join(
+        &rt,
+        || two_terms(&rt, alloc, &mut keeper, &clock),
+        || -> ()
+            requires { (put_by a ≡ []) × (put_by b ≡ []) }
+        { feed(&rt, a, b) },
+    );
+    assert_eq!(rt; ends, (End::Full, End::AllClosed, 1));
+    Ok(())
+}
+
+// Two jobs of seat a, one of whose answers it takes, and one that it leaves: what the keeper takes back.
+fn taken_back<R: Wait>(
+    rt: &R,
+    alloc: Global,
+    mut keeper: Keeper<u32, Reply>,
+    mut a: Seat<u32, Reply>,
+    mut b: Seat<u32, Reply>,
+    clock: &Still,
+) -> Option<Vec<Reply>>
+    requires { (put_by a ≡ []) × (put_by b ≡ []) × IsSeatOf keeper a }
+{
+    let put = a.put(rt, 5) == Ok(()) && a.put(rt, 6) == Ok(());
+    a.close(rt);
+    b.close(rt);
+    let mut machine = Counter::new(0, true);
+    let term = keeper.run(rt, alloc, &mut machine, &Open, clock);
+    a.wait(rt, Duration::from_millis(1));
+    let taken = a.take_answer(rt) == Some(Reply::Sum(5));
+    let numbers = (a.number(), b.number()) == (0, 1);
+    let rest = keeper.take_back(rt, alloc, a).ok()?;
+    if put && term.end == End::AllClosed && taken && numbers {
+        Some(rest)
+    } else {
+        None
+    }
+}
+
+#[test]
+fn a_seat_is_taken_back_with_what_it_left(rt: HostRuntime) -> Result<(), Fail> {
+    let clock = Still(Moment::from_seconds(1_709_251_198)?);
+    let (keeper, a, b) = Hub::new::<u32, Reply>(rt.alloc(), 4)?;
+    let rest = taken_back(&rt, rt.alloc(), keeper, a, b, &clock).ok_or("not taken back")?;
+    assert_eq!(rt; rest.as_slice(), [Reply::Sum(11)].as_slice());
+    Ok(())
+}
+
+#[test]
+fn a_hub_has_one_to_thirty_two_seats(rt: HostRuntime) -> Result<(), Fail> {
+    let (_keeper, seats) = Hub::with_seats::<u32, Reply>(rt.alloc(), 1024, 32)?;
+    assert_eq!(rt; seats.len(), 32);
+    for seats in [0usize, 33] {
+        let fault = Hub::with_seats::<u32, Reply>(rt.alloc(), 1, seats).err();
+        assert_eq!(rt; fault, Some(HubFault::TooManySessions), "of {seats}");
+    }
+    Ok(())
+}

@@ -1,0 +1,14 @@
+//! Tests of SMPP sessions over their public calls: what no clause says.
+
+#[cfg(test)]
+mod deliveries;
+#[cfg(test)]
+mod exchanges;
+#[cfg(test)]
+mod limits;
+#[cfg(test)]
+mod rows;
+#[cfg(test)]
+mod secrets;
+#[cfg(test)]
+mod sessions;

@@ -1,0 +1,60 @@
+//! Deliver_sm that go out, and their answers.
+use crate::smpp::exchanges::{
+    BIND, BIND_ANSWER, BIND_TRANSMITTER, DELIVERED_4, TRANSMITTER_ANSWER,
+};
+use crate::smpp::limits::message;
+use crate::smpp::rows::holds;
+use crate::smpp::sessions::{bound, session};
+use smpp_session::{Action, Actions, DeliverFault, Session};
+use std::test::Fail;
+
+// A deliver_sm that goes out under that number.
+fn delivers(session: &mut Session, number: u32) -> Result<(), Fail> {
+    let sent = session.deliver(message(&[]))?;
+    holds(sent.sequence_number == number, "a number")
+}
+
+// A deliver_sm that is refused so.
+fn refuses(session: &mut Session, fault: DeliverFault) -> Result<(), Fail> {
+    match session.deliver(message(&[])) {
+        Err(told) if told == fault => Ok(()),
+        _ => Err(Fail::new("not refused")),
+    }
+}
+
+// The deliver_sm of number 4 was accepted, and nothing else.
+fn is_settled(actions: &Actions) -> bool {
+    match actions.as_slice() {
+        [Action::DeliverAnswered(4, true)] => true,
+        _ => false,
+    }
+}
+
+fn is_accepted(session: &mut Session) -> Result<bool, Fail> {
+    let given = session.feed(&DELIVERED_4)?;
+    Ok(is_settled(&given.actions))
+}
+
+#[test]
+fn delivers_ten(rt: HostRuntime) -> Result<(), Fail> {
+    let mut session = session(rt.alloc())?;
+    bound(&mut session, &BIND, &BIND_ANSWER)?;
+    for number in 1..11 {
+        delivers(&mut session, number)?;
+    }
+    refuses(&mut session, DeliverFault::WindowFull)?;
+    holds(is_accepted(&mut session)?, "an answer")?;
+    delivers(&mut session, 11)
+}
+
+#[test]
+fn delivers_to_receivers_alone(rt: HostRuntime) -> Result<(), Fail> {
+    let mut session = session(rt.alloc())?;
+    refuses(&mut session, DeliverFault::NotBound)?;
+    bound(&mut session, &BIND_TRANSMITTER, &TRANSMITTER_ANSWER)?;
+    refuses(&mut session, DeliverFault::NotBound)?;
+    match DeliverFault::NotBound.code() {
+        Some(code) => holds(code == "N2", code),
+        None => Err(Fail::new("no code")),
+    }
+}
