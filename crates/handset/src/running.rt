@@ -89,7 +89,7 @@ fn machine_over<K: Keep<Rows = Rows, Changes = Changes> + Drop>(
 {
     let mut keep = keep;
     let handset = recover_from(alloc, &mut keep, setup)?;
-    Ok(HandsetMachine { keep, handset })
+    Ok(HandsetMachine::new(keep, handset))
 }
 
 fn run_over<K: Keep<Rows = Rows, Changes = Changes> + Drop>(

@@ -132,7 +132,7 @@ impl<'a> StoppingKeep<'a> {
     {
         let alloc = self.rt.alloc();
         let trial = CommitTrial {
-            setup: self.memory.setup,
+            setup: self.memory.setup(),
             changes,
         };
         self.image = stop_anywhere(alloc, &trial, &self.image, wanted)?;
