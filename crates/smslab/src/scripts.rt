@@ -1,11 +1,10 @@
-//! Plays the scripts of `data/`, and compares what each leads to with what stands beside it: `NAME.report`, the whole of what is
-//! told, or `NAME.lines`, lines that the report has. Some are drawn as ladders, `NAME.ladder`, one is captured, `NAME.pcap`, and some
-//! are played again with each event stopped in turn.
-#![tactic(auto)]
+//! Plays scripts, and compares each with the files beside it: `NAME.report` is its report or what is written on standard error,
+//! `NAME.lines` are lines of its report, `NAME.ladder` is its ladder, `NAME.pcap` its capture. Some scripts are played again with each event
+//! stopped in turn.
 
 mod stops;
 
-use crate::stops::holds_with_stops;
+use crate::scripts::stops::holds_with_stops;
 use sms_world::running::{run_capture, run_ladder, run_sim};
 use std::alloc::{AllocError, Global};
 use std::fs;
@@ -177,21 +176,22 @@ fn judge_stops(rt: &HostRuntime, name: &str) -> io::Result<()> {
     judge(rt, name, "script with stops", holds, "")
 }
 
-fn main(rt: HostRuntime) -> io::Result<()> {
+/// Plays each script of the working directory, and prints whether it leads to what its files have.
+pub(crate) fn run(rt: &HostRuntime) -> io::Result<()> {
     for name in WHOLE {
-        judge_report(&rt, name)?;
+        judge_report(rt, name)?;
     }
     for name in LINES {
-        judge_lines(&rt, name)?;
+        judge_lines(rt, name)?;
     }
     for name in LADDERS {
-        judge_ladder(&rt, name)?;
+        judge_ladder(rt, name)?;
     }
     for name in CAPTURES {
-        judge_capture(&rt, name)?;
+        judge_capture(rt, name)?;
     }
     for name in STOPPED {
-        judge_stops(&rt, name)?;
+        judge_stops(rt, name)?;
     }
     Ok(())
 }

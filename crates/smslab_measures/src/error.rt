@@ -2,22 +2,34 @@
 use smpp_pdu::PduFault;
 use sms_alphabet::{ReadingError, SpellingError, Ucs2Error, UnpackError};
 use sms_base::{AddressError, MomentError};
+use sms_centre::RecoverError;
 use sms_concat::SplitError;
+use sms_rows::keep::KeepError;
 use sms_tpdu::TpduFault;
+use sqlite::Error as StoreError;
 use std::alloc::AllocError;
 use std::io;
 use thiserror::Error;
 
 /// Why a measurement failed.
-#[derive(Debug, Drop, Error)]
-pub(crate) enum BenchError {
+#[derive(Clone, Copy, Debug, PartialEq, Eq, Error)]
+pub enum BenchError {
     /// A codec refused what it was given.
     #[error("a codec refused its input")]
     Refused,
+    /// The store has no such message, or not the octets of its part.
+    #[error("no such message")]
+    NoSuchMessage,
+    /// The store refused.
+    #[error("the store refused")]
+    Store,
+    /// No centre starts with the rows that were loaded.
+    #[error("the rows are not sound")]
+    BadRows,
     /// There was no memory.
     #[error("out of memory")]
     NoMemory,
-    /// The clock, an argument or an output failed.
+    /// The clock or an output failed.
     #[error("input or output failed")]
     Io,
 }
@@ -85,5 +97,26 @@ impl From<SplitError> for BenchError {
 impl From<PduFault> for BenchError {
     fn from(_error: PduFault) -> BenchError {
         BenchError::Refused
+    }
+}
+
+impl From<KeepError> for BenchError {
+    fn from(_error: KeepError) -> BenchError {
+        BenchError::Store
+    }
+}
+
+impl From<StoreError> for BenchError {
+    fn from(_error: StoreError) -> BenchError {
+        BenchError::Store
+    }
+}
+
+impl From<RecoverError> for BenchError {
+    fn from(error: RecoverError) -> BenchError {
+        match error {
+            RecoverError::BadRows => BenchError::BadRows,
+            RecoverError::NoMemory => BenchError::NoMemory,
+        }
     }
 }

@@ -4,8 +4,8 @@ ghost use Rattle.sms_base.specs.Among.{Among};
 ghost use Rattle.sms_centre_rows.specs.waiting.SoundGivings.{IsNumber};
 ghost use Rattle.sms_centre_spec.specs.SoundCore.{AreDifferent};
 
-use crate::course::{Course, Telling, alone_at, trouble_of};
-use crate::lines::play_lines;
+use crate::centre::course::{Course, Telling, alone_at, trouble_of};
+use crate::centre::lines::play_lines;
 use sms_base::Digits;
 use sms_base::lending::lend;
 use sms_centre::{Centre, first_rows, with_centre};

@@ -1,6 +1,6 @@
 //! Lines that are played with a centre.
-use crate::course::{Course, Telling};
-use crate::measuring::measure;
+use crate::centre::course::{Course, Telling};
+use crate::centre::measuring::measure;
 use smslab_lines::acts::{tell_receipts, tell_rows, tell_table};
 use smslab_lines::lines::{Trouble, place_named, read_number, session, value, word};
 use std::io::Print;

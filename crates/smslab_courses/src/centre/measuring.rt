@@ -3,7 +3,7 @@
 ghost use Rattle.sms_centre_spec.specs.SoundCore.{HasNumber};
 ghost use Rattle.sms_centre.specs.Planning.{Fits};
 
-use crate::course::restart_with;
+use crate::centre::course::restart_with;
 use sms_centre::{Centre, CentreEvent, Planned, Told, first_rows};
 use sms_rows::table::Table;
 use smslab_lines::acts::{

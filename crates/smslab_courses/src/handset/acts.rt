@@ -1,12 +1,12 @@
 //! What the lines of a run say.
-use crate::beginning::{cut, read_entry, read_number};
-use crate::machine::{Machine, moment, restart};
-use crate::summing::tell_rows;
-use crate::telling::{show, tell};
-use crate::trouble::Trouble;
+use crate::handset::beginning::{cut, read_entry};
+use crate::handset::machine::{Machine, restart};
+use crate::handset::summing::tell_rows;
+use crate::handset::telling::{show, tell};
 use sms_base::{Holder, OctetView};
 use sms_handset::machine::StepError;
 use sms_handset::{HandsetEvent, TextView};
+use smslab_lines::lines::{Trouble, moment, read_number};
 use std::io::Print;
 
 /// Plays the lines, each with what the lines before it left.

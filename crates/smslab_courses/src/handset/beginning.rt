@@ -1,20 +1,12 @@
 //! How a new handset begins. It is lent, so that it is let go in one place.
-use crate::acts::play_lines;
-use crate::machine::{Machine, machine};
-use crate::rows::tell_start;
-use crate::trouble::Trouble;
+use crate::handset::acts::play_lines;
+use crate::handset::machine::{Machine, machine};
+use crate::handset::rows::tell_start;
 use sms_base::lending::lend;
+use smslab_lines::lines::{Trouble, read_number};
 use std::io::Print;
 
-/// The number that the text spells.
-pub(crate) fn read_number(text: &str) -> Result<u64, Trouble> {
-    match text.parse::<u64>() {
-        Ok(number) => Ok(number),
-        Err(_) => Err(Trouble::BadLine),
-    }
-}
-
-/// The same, as the number of an entry.
+/// The number of an entry that the text spells.
 pub(crate) fn read_entry(text: &str) -> Result<u32, Trouble> {
     match u32::try_from(read_number(text)?) {
         Ok(entry) => Ok(entry),
@@ -39,7 +31,7 @@ pub(crate) fn play_section(rt: &HostRuntime, section: &[&str]) -> Result<(), Tro
 }
 
 fn play_headed(rt: &HostRuntime, head: &str, lines: &[&str]) -> Result<(), Trouble> {
-    // what stands before the first handset
+    // a comment before the first handset
     if head.starts_with('#') {
         return Ok(());
     }

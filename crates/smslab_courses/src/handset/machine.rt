@@ -3,20 +3,22 @@ ghost use Rattle.std.specs.Prelude.{IfOk};
 ghost use Rattle.sms_base.specs.Address.{IsAddress};
 ghost use Rattle.sms_handset.specs.SoundRows.{IsSetup};
 
-use crate::trouble::Trouble;
-use sms_base::{Address, Moment};
+use sms_base::Address;
 use sms_handset::machine::HandsetMachine;
-use sms_handset::{Handset, Rows, Setup};
+use sms_handset::{Handset, RecoverError, Rows, Setup};
 use sms_store_memory::handset::MemoryKeep;
+use smslab_lines::lines::{Trouble, moment};
 use std::alloc::Global;
 
 /// A handset, and the keep of its rows.
 pub(crate) type Machine = HandsetMachine<MemoryKeep>;
 
-/// So many seconds behind 2024-02-29 23:59:58.
-pub(crate) fn moment(seconds: u64) -> Result<Moment, Trouble> {
-    let start = Moment::from_seconds(1_709_251_198)?;
-    Ok(start.plus(seconds))
+/// Why a handset does not start.
+pub(crate) fn trouble_of(error: RecoverError) -> Trouble {
+    match error {
+        RecoverError::BadRows => Trouble::BadRows,
+        RecoverError::NoMemory => Trouble::NoMemory,
+    }
 }
 
 fn address(digits: &str) -> Result<Address, Trouble>
@@ -50,7 +52,7 @@ fn first_handset(alloc: Global, slots: u8) -> Result<Handset, Trouble> {
     let setup = setup(slots)?;
     match Handset::recover(alloc, Rows::first(alloc, setup)) {
         Ok(handset) => Ok(handset),
-        Err(error) => Err(Trouble::from(error)),
+        Err(error) => Err(trouble_of(error)),
     }
 }
 

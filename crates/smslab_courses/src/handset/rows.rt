@@ -1,9 +1,9 @@
 //! Rows that no handset committed.
-use crate::beginning::{cut, read_entry};
-use crate::machine::setup;
-use crate::trouble::Trouble;
+use crate::handset::beginning::{cut, read_entry};
+use crate::handset::machine::{setup, trouble_of};
 use sms_base::Octets;
 use sms_handset::{Entry, Handset, Message, Rows};
+use smslab_lines::lines::Trouble;
 use std::alloc::Global;
 use std::io::Print;
 
@@ -40,7 +40,7 @@ fn recovered(alloc: Global, rows: Rows) -> Result<Handset, Trouble> {
     rows.setup = setup(1)?;
     match Handset::recover(alloc, rows) {
         Ok(handset) => Ok(handset),
-        Err(error) => Err(Trouble::from(error)),
+        Err(error) => Err(trouble_of(error)),
     }
 }
 

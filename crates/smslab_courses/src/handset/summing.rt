@@ -1,6 +1,5 @@
 //! A checksum of all rows, list after list, each number in eight octets.
-use crate::machine::Machine;
-use crate::trouble::Trouble;
+use crate::handset::machine::Machine;
 use sms_alphabet::Coding;
 use sms_base::Address;
 use sms_concat::{ConcatReference, Content};
@@ -9,6 +8,7 @@ use sms_handset::{
     Rows,
 };
 use sms_rows::keep::Keep;
+use smslab_lines::lines::Trouble;
 use smslab_lines::measuring::Sum;
 use std::io::Print;
 

@@ -1,9 +1,9 @@
 //! What came of a line.
-use crate::machine::Machine;
-use crate::trouble::Trouble;
+use crate::handset::machine::Machine;
 use sms_base::Carried;
 use sms_link::Outgoing;
 use smsc_cli::handset_table::handset_table;
+use smslab_lines::lines::Trouble;
 use std::io::{Print, Write};
 
 /// Writes the frames; in a course also what they carry.

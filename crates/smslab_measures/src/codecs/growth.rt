@@ -1,7 +1,7 @@
 //! How the cost of splitting grows with the parts.
 use crate::error::BenchError;
-use crate::inputs::{ESCAPED, text};
-use crate::words::Words;
+use crate::codecs::inputs::{ESCAPED, text};
+use crate::codecs::words::Words;
 use sms_alphabet::{Coding, septets_of};
 use sms_base::Octets;
 use sms_concat::{Content, split};
@@ -47,8 +47,15 @@ fn splitting(
     Ok(Measured::new(nanos, sum))
 }
 
-/// A content that fills so many parts split, if the words ask for it.
-pub(crate) fn measure(rt: &HostRuntime, words: &Words, parts: u8) -> Result<(), BenchError> {
+/// Contents that fill one part to twenty split, each if the words ask for it.
+pub(crate) fn measure_all(rt: &HostRuntime, words: &Words<'_>) -> Result<(), BenchError> {
+    for parts in 1..21 {
+        measure(rt, words, parts)?;
+    }
+    Ok(())
+}
+
+fn measure(rt: &HostRuntime, words: &Words<'_>, parts: u8) -> Result<(), BenchError> {
     let alloc = rt.alloc();
     let name = format!(in alloc; "split_{parts:02}")?;
     if !words.ask_for(name.as_str()) {

@@ -1,6 +1,6 @@
 //! The kinds of work.
 use crate::error::BenchError;
-use crate::{addresses, pdus, septets, stamps, streams, texts, tpdus};
+use crate::codecs::{addresses, pdus, septets, stamps, streams, texts, tpdus};
 use smslab_lines::measuring::Measured;
 
 /// A kind of work.
@@ -97,10 +97,10 @@ impl Kind {
             Kind::SeptetsToText => septets::reading(rt, turns),
             Kind::TextToPacked => texts::packing(rt, turns),
             Kind::PackedToText => texts::unpacking(rt, turns),
-            Kind::TextToUcs2 => texts::writing_ucs2(rt, crate::inputs::ESCAPED, turns),
-            Kind::Ucs2ToText => texts::reading_ucs2(rt, crate::inputs::ESCAPED, turns),
-            Kind::MixedToUcs2 => texts::writing_ucs2(rt, crate::inputs::MIXED, turns),
-            Kind::Ucs2ToMixed => texts::reading_ucs2(rt, crate::inputs::MIXED, turns),
+            Kind::TextToUcs2 => texts::writing_ucs2(rt, crate::codecs::inputs::ESCAPED, turns),
+            Kind::Ucs2ToText => texts::reading_ucs2(rt, crate::codecs::inputs::ESCAPED, turns),
+            Kind::MixedToUcs2 => texts::writing_ucs2(rt, crate::codecs::inputs::MIXED, turns),
+            Kind::Ucs2ToMixed => texts::reading_ucs2(rt, crate::codecs::inputs::MIXED, turns),
             Kind::TimeStampWritten => stamps::writing(rt, turns),
             Kind::TimeStampRead => stamps::reading(rt, turns),
             Kind::AddressWritten => addresses::writing(rt, turns),

@@ -2,8 +2,8 @@
 ghost use Rattle.std.specs.Prelude.{◌<◌};
 
 use crate::error::BenchError;
-use crate::pdus::submit_octets;
-use crate::words::Words;
+use crate::codecs::pdus::submit_octets;
+use crate::codecs::words::Words;
 use smpp_session::{Account, Accounts, Action, Actions, Session};
 use sms_base::Octets;
 use smslab_lines::measuring::{Measured, Stopwatch, Sum};
@@ -133,14 +133,14 @@ fn behind(rt: &HostRuntime, waiting: u16, turns: u64) -> Result<Measured, BenchE
 }
 
 /// What one more octet costs behind more and more that wait, where the words ask for it.
-pub(crate) fn measure_growth(rt: &HostRuntime, words: &Words) -> Result<(), BenchError> {
+pub(crate) fn measure_growth(rt: &HostRuntime, words: &Words<'_>) -> Result<(), BenchError> {
     for waiting in WAITING.iter() {
         measure_behind(rt, words, *waiting)?;
     }
     Ok(())
 }
 
-fn measure_behind(rt: &HostRuntime, words: &Words, waiting: u16) -> Result<(), BenchError> {
+fn measure_behind(rt: &HostRuntime, words: &Words<'_>, waiting: u16) -> Result<(), BenchError> {
     let name = format!(in rt.alloc(); "feed_{waiting:05}")?;
     if !words.ask_for(name.as_str()) {
         return Ok(());

@@ -1,42 +1,43 @@
-//! The words of the command.
-use crate::error::BenchError;
-use std::env;
+//! What is asked of the codecs.
 
 /// Turns of each kind where no word says how many.
 const DEFAULT_TURNS: u64 = 64;
 
-/// What the words ask for.
-#[derive(Debug, Drop)]
-pub(crate) struct Words {
+/// What is asked of the codecs.
+#[derive(Clone, Copy, Debug)]
+pub struct Words<'a> {
     /// How often each kind of work is done.
     pub(crate) turns: u64,
     /// The name of the only kind that is done, if not all are.
-    pub(crate) kind: Option<String>,
+    pub(crate) kind: Option<&'a str>,
 }
 
-impl Words {
+impl<'a> Words<'a> {
     /// Whether the kind of that name is to be done.
     pub(crate) fn ask_for(&self, name: &str) -> bool {
-        match &self.kind {
-            Some(kind) => kind.as_str() == name,
+        match self.kind {
+            Some(kind) => kind == name,
             None => true,
         }
     }
 }
 
-/// The words behind the program's name, if they are of the right form.
-pub(crate) fn words_of(rt: &HostRuntime) -> Result<Option<Words>, BenchError> {
-    let mut args = env::args(rt)?.skip(1);
-    let turns = match args.next() {
-        None => DEFAULT_TURNS,
-        Some(word) => match word.parse::<u64>() {
-            Ok(turns) => turns,
-            Err(_) => return Ok(None),
-        },
-    };
-    let kind = args.next();
-    if args.next().is_some() {
-        return Ok(None);
+/// What the words `[TURNS [KIND]]` ask for: 64 turns of every kind where there are none. None where TURNS is no number, or a word is left.
+pub fn words_in<'a>(words: &[&'a str]) -> Option<Words<'a>> {
+    match words {
+        [] => Some(Words {
+            turns: DEFAULT_TURNS,
+            kind: None,
+        }),
+        [turns] => asked(turns, None),
+        [turns, kind] => asked(turns, Some(*kind)),
+        _ => None,
     }
-    Ok(Some(Words { turns, kind }))
+}
+
+fn asked<'a>(turns: &str, kind: Option<&'a str>) -> Option<Words<'a>> {
+    match turns.parse::<u64>() {
+        Ok(turns) => Some(Words { turns, kind }),
+        Err(_) => None,
+    }
 }

@@ -1,9 +1,9 @@
 //! The rows of a store committed once more to another one, as they came: each submission, and then each delivery.
-use crate::changes::no_changes;
+use crate::store::changes::no_changes;
 use crate::error::BenchError;
-use crate::kept::commit;
-use crate::meter::Meter;
-use crate::rows::setup;
+use crate::store::kept::commit;
+use crate::store::meter::Meter;
+use crate::store::rows::setup;
 use sms_base::{Digits, FinalState, MessageId};
 use sms_centre::{Changes, Rows};
 use sms_centre_rows::messages::{MessageRow, PartRow, PriorityRow};
@@ -21,7 +21,7 @@ fn rows_in<S: Alter + Drop>(keep: CentreKeep<S>) -> Result<Rows, BenchError> {
     if rows.parts.len() == messages && rows.priorities.len() == messages {
         Ok(rows)
     } else {
-        Err(BenchError::Refused)
+        Err(BenchError::NoSuchMessage)
     }
 }
 
@@ -37,7 +37,7 @@ fn check_part(message: MessageId, part: &PartRow) -> Result<(), BenchError> {
     if part.id == message && part.number == 1 {
         Ok(())
     } else {
-        Err(BenchError::Refused)
+        Err(BenchError::NoSuchMessage)
     }
 }
 
@@ -46,7 +46,7 @@ fn check_priority(message: MessageId, priority: &PriorityRow) -> Result<(), Benc
     if priority.id == message {
         Ok(())
     } else {
-        Err(BenchError::Refused)
+        Err(BenchError::NoSuchMessage)
     }
 }
 
@@ -56,7 +56,7 @@ fn handset_of(handsets: &[HandsetRow], number: Digits) -> Result<HandsetRow, Ben
             return Ok(*handset);
         }
     }
-    Err(BenchError::Refused)
+    Err(BenchError::NoSuchMessage)
 }
 
 // What its submission put: the message, its part, its priority, the reference that was given, and its handset. Nothing had come of the

@@ -1,7 +1,7 @@
 //! What events change of the rows.
 use crate::error::BenchError;
-use crate::rows::{given, handset, message, part, priority, progress, receipt};
-use crate::words::Turn;
+use crate::store::rows::{given, handset, message, part, priority, progress, receipt};
+use crate::store::words::Turn;
 use sms_base::{FinalState, Listed};
 use sms_centre::Changes;
 use sms_centre_rows::waiting::Revision;

@@ -1,7 +1,7 @@
 //! Messages that are over, and messages that wait.
-use crate::changes::{no_changes, put_finished, put_open};
+use crate::store::changes::{no_changes, put_finished, put_open};
 use crate::error::BenchError;
-use crate::words::Words;
+use crate::store::words::Words;
 use sms_rows::keep::{BodyKeep, Keep};
 use sms_rows::table::Key;
 use sms_store::centre::CentreKeep;

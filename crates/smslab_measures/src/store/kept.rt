@@ -1,13 +1,14 @@
 //! What events ask of a store, done by the keep.
-use crate::changes::{acknowledge, no_changes, put_open};
+use crate::store::changes::{acknowledge, no_changes, put_open};
 use crate::error::BenchError;
-use crate::meter::{Meter, Stopwatch};
-use crate::words::Turn;
+use crate::store::meter::Meter;
+use crate::store::words::Turn;
 use sms_base::Octets;
 use sms_centre::Changes;
 use sms_rows::keep::{BodyKeep, Keep};
 use sms_rows::table::Key;
 use sms_store::centre::CentreKeep;
+use smslab_lines::measuring::Stopwatch;
 use sqlite::Alter;
 
 /// Commits the changes, and adds what that took.
@@ -53,7 +54,7 @@ fn take(meter: &mut Meter, body: Option<Octets>) -> Result<(), BenchError> {
             meter.take(octets.as_slice());
             Ok(())
         }
-        None => Err(BenchError::Refused),
+        None => Err(BenchError::NoSuchMessage),
     }
 }
 

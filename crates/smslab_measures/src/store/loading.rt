@@ -1,10 +1,11 @@
 //! All rows loaded, and a centre that recovers on them.
 use crate::error::BenchError;
-use crate::meter::{Meter, Stopwatch};
+use crate::store::meter::Meter;
 use sms_centre::{Centre, Rows, with_centre};
 use sms_rows::keep::Keep;
 use sms_rows::table::Table;
 use sms_store::centre::CentreKeep;
+use smslab_lines::measuring::Stopwatch;
 use sqlite::Alter;
 
 // Of each list how much the checksum of a load must see: what became of every message, and the octets of every part.
@@ -25,13 +26,14 @@ fn take_rows(meter: &mut Meter, rows: &Rows) {
 fn recover(rt: &HostRuntime, rows: Rows) -> Result<u64, BenchError> {
     let sessions = Table::new(rt.alloc());
     let watch = Stopwatch::start(rt)?;
-    with_centre(
+    let took = with_centre(
         rt.alloc(),
         rows,
         &[],
         sessions,
         |_centre: &mut Centre| watch.stop(rt),
-    )?
+    )?;
+    Ok(took?)
 }
 
 fn measure_recover(rt: &HostRuntime, rows: Rows) -> Result<(), BenchError> {

@@ -1,27 +1,7 @@
 //! What a kind of work took.
 use crate::error::BenchError;
+use smslab_lines::measuring::Sum;
 use std::io::Print;
-use std::time::Instant;
-
-/// A measurement that runs.
-#[derive(Clone, Copy)]
-pub(crate) struct Stopwatch {
-    start: Instant,
-}
-
-impl Stopwatch {
-    /// Starts to measure.
-    pub(crate) fn start(rt: &HostRuntime) -> Result<Stopwatch, BenchError> {
-        let start = Instant::now(rt)?;
-        Ok(Stopwatch { start })
-    }
-
-    /// The nanoseconds since the start.
-    pub(crate) fn stop(&self, rt: &HostRuntime) -> Result<u64, BenchError> {
-        let took = self.start.elapsed(rt)?;
-        Ok((took.as_nanos() % 0x1_0000_0000_0000_0000) as u64)
-    }
-}
 
 /// A kind of work, how often it was done, how many nanoseconds that took in all and at least, and what it read.
 #[derive(Clone, Copy, Debug)]
@@ -30,7 +10,7 @@ pub(crate) struct Meter {
     turns: u64,
     nanos: u64,
     least: u64,
-    hash: u64,
+    sum: Sum,
 }
 
 impl Meter {
@@ -41,7 +21,7 @@ impl Meter {
             turns: 0,
             nanos: 0,
             least: u64::MAX,
-            hash: 0xCBF2_9CE4_8422_2325,
+            sum: Sum::new(),
         }
     }
 
@@ -52,17 +32,15 @@ impl Meter {
         self.least = self.least.min(nanos);
     }
 
-    /// It read these octets: they are hashed by FNV-1a.
+    /// It read these octets.
     pub(crate) fn take(&mut self, octets: &[u8]) {
-        for octet in octets {
-            self.hash = (self.hash ^ u64::from(*octet)).wrapping_mul(0x100_0000_01B3);
-        }
+        self.sum.take(octets);
     }
 
-    /// Writes the checksum of what it read, and then how often it was done, how long that took, and how long it took at least.
+    /// Prints the checksum of what it read. How often it was done, and how long that took in all and at least, goes to standard error.
     pub(crate) fn tell(&self, rt: &HostRuntime) -> Result<(), BenchError> {
         let name = self.name;
-        let checksum = self.hash;
+        let checksum = self.sum.hash;
         let turns = self.turns;
         let nanos = self.nanos;
         let least = self.least;

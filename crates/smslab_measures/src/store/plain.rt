@@ -1,12 +1,12 @@
 //! What events ask of a store, done by hand.
 use crate::error::BenchError;
-use crate::meter::{Meter, Stopwatch};
-use crate::rows::{DAYS, NOW, deliver, number_text};
-use crate::statements::{
+use crate::store::meter::Meter;
+use crate::store::rows::{DAYS, NOW, deliver, number_text};
+use crate::store::statements::{
     Values, amend_part, part_octets, put_handset, put_message, put_part, put_priority,
     put_reference, put_report,
 };
-use crate::words::Turn;
+use crate::store::words::Turn;
 use sqlite::{Alter, Connection, Transaction};
 use std::alloc::{AllocError, Global};
 

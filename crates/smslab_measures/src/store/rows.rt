@@ -1,6 +1,6 @@
 //! The rows of a message from an application to a handset.
 use crate::error::BenchError;
-use crate::words::Turn;
+use crate::store::words::Turn;
 use sms_base::{Address, Digits, FinalState, Listed, MessageId, Moment, Octets, Originator, Wish};
 use sms_centre::Setup;
 use sms_centre_rows::messages::{MessageRow, PartRow, PriorityRow};
@@ -65,7 +65,7 @@ fn number_at(alloc: Global, place: u32) -> Result<Digits, BenchError> {
 fn id_of(turn: Turn) -> Result<MessageId, BenchError> {
     match MessageId::new(turn.id) {
         Some(id) => Ok(id),
-        None => Err(BenchError::Refused),
+        None => Err(BenchError::NoSuchMessage),
     }
 }
 

@@ -1,7 +1,7 @@
 //! The statements of the keep's tables, written by hand. A row is put as the keep puts it: by an UPDATE, and by an INSERT where that
 //! changes none.
 use crate::error::BenchError;
-use crate::rows::{ACCOUNT, SOURCE};
+use crate::store::rows::{ACCOUNT, SOURCE};
 use sms_base::Octets;
 use sqlite::types::ValueRef;
 use sqlite::{Alter, Transaction, params};
@@ -252,6 +252,6 @@ pub(crate) fn part_octets<S: Alter>(
     )?;
     match rows.first() {
         Some(row) => Ok(row.get(3)?),
-        None => Err(BenchError::Refused),
+        None => Err(BenchError::NoSuchMessage),
     }
 }

@@ -1,9 +1,9 @@
 //! The kinds of work, each done by the keep and by hand in turns, so that both find the same store.
 use crate::error::BenchError;
-use crate::kept::{acknowledge_kept, offer_kept, submit_kept};
-use crate::meter::Meter;
-use crate::plain::{acknowledge_by_hand, offer_by_hand, submit_by_hand};
-use crate::words::{Turn, Words};
+use crate::store::kept::{acknowledge_kept, offer_kept, submit_kept};
+use crate::store::meter::Meter;
+use crate::store::plain::{acknowledge_by_hand, offer_by_hand, submit_by_hand};
+use crate::store::words::{Turn, Words};
 use sms_store::centre::CentreKeep;
 use sqlite::Alter;
 

@@ -1,32 +1,32 @@
-//! The words of the command.
-use crate::error::BenchError;
-use std::env;
+//! What is asked of a store.
 
-/// What the words ask for.
-#[derive(Debug, Drop)]
-pub(crate) enum Task {
+/// What is asked of a store.
+#[derive(Clone, Copy, Debug)]
+pub enum Task<'a> {
     /// Each kind of work is done.
-    Work(Words),
+    Work {
+        words: Words,
+        /// Where the store is made, if not in memory.
+        file: Option<&'a str>,
+    },
     /// The rows of a store are committed once more.
     Again {
-        /// Where it is.
-        from: String,
-        /// Where they are committed to.
-        to: String,
+        /// Where the store is.
+        from: &'a str,
+        /// Where the rows are committed to.
+        to: &'a str,
     },
 }
 
-/// The work, and the store that it is done on.
-#[derive(Debug, Drop)]
-pub(crate) struct Words {
+/// How much a store holds, and how often each kind of work is done.
+#[derive(Clone, Copy, Debug)]
+pub struct Words {
     /// How many messages are over.
     pub(crate) finished: u64,
     /// How many wait.
     pub(crate) open: u64,
     /// How often each kind of work is done.
     pub(crate) turns: u64,
-    /// Where the store is made, if not in memory.
-    pub(crate) file: Option<String>,
 }
 
 /// How many messages wait for one handset at most. It has 256 references.
@@ -87,63 +87,42 @@ impl Words {
     }
 }
 
-fn number_of(word: Option<String>) -> Option<u64> {
-    match word {
-        Some(word) => word.parse::<u64>().ok(),
-        None => None,
-    }
+// The work that is done where the words say nothing.
+const FEW: Words = Words {
+    finished: 1_000,
+    open: 400,
+    turns: 64,
+};
+
+fn number_in(word: &str) -> Option<u64> {
+    word.parse::<u64>().ok()
 }
 
-fn all_of(
-    finished: Option<String>,
-    open: Option<String>,
-    turns: Option<String>,
-    file: Option<String>,
-) -> Option<Task> {
-    let finished = number_of(finished);
-    let open = number_of(open);
-    let turns = number_of(turns);
-    match (finished, open, turns) {
-        (Some(finished), Some(open), Some(turns)) => Some(Task::Work(Words {
+fn work<'a>(finished: &str, open: &str, turns: &str, file: Option<&'a str>) -> Option<Task<'a>> {
+    let finished = number_in(finished)?;
+    let open = number_in(open)?;
+    let turns = number_in(turns)?;
+    Some(Task::Work {
+        words: Words {
             finished,
             open,
             turns,
-            file,
-        })),
+        },
+        file,
+    })
+}
+
+/// What the words `[FINISHED OPEN TURNS [FILE]]` or `again FROM TO` ask for: 1000, 400 and 64 in memory where there are none. None where a
+/// number is none, or a word is left.
+pub fn task_in<'a>(words: &[&'a str]) -> Option<Task<'a>> {
+    match words {
+        [] => Some(Task::Work {
+            words: FEW,
+            file: None,
+        }),
+        ["again", from, to] => Some(Task::Again { from, to }),
+        [finished, open, turns] => work(finished, open, turns, None),
+        [finished, open, turns, file] => work(finished, open, turns, Some(*file)),
         _ => None,
     }
-}
-
-// The work that is done where the words say nothing.
-fn few() -> Words {
-    Words {
-        finished: 1_000,
-        open: 400,
-        turns: 64,
-        file: None,
-    }
-}
-
-fn again(from: Option<String>, to: Option<String>) -> Option<Task> {
-    match (from, to) {
-        (Some(from), Some(to)) => Some(Task::Again { from, to }),
-        _ => None,
-    }
-}
-
-/// What the words behind the program's name ask for, if they are of the right form.
-pub(crate) fn words_of(rt: &HostRuntime) -> Result<Option<Task>, BenchError> {
-    let mut args = env::args(rt)?.skip(1);
-    let Some(first) = args.next() else {
-        return Ok(Some(Task::Work(few())));
-    };
-    let task = if first.as_str() == "again" {
-        again(args.next(), args.next())
-    } else {
-        all_of(Some(first), args.next(), args.next(), args.next())
-    };
-    if args.next().is_some() {
-        return Ok(None);
-    }
-    Ok(task)
 }
