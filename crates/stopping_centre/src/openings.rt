@@ -1,40 +1,23 @@
-//! Tests of the stores that a centre opens, as a program that prints what it found. They are written as `sqlite3` would write them:
-//! one of version 2 is opened, one of version 1 becomes one of version 2 where that is asked for, and every other is refused with its
-//! code. A store whose log or database file stops after any call on the way to version 2 has its rows when it is opened again, under
-//! version 1 or version 2; one that stops as it is made opens with a centre's first rows. Each call is made with ample memory, so that
-//! none may give up.
-#![tactic(auto)]
+//! Stores that a centre opens, written as `sqlite3` would write them.
+//!
+//! A store of version 2 is opened, a store of version 1 becomes one of version 2 where that is asked for, and every other is refused with its
+//! code. A store whose log or database file stops after any call on the way to version 2 has its rows when it is opened again, under version 1
+//! or version 2. A store that stops as it is made opens with a centre's first rows.
 
-mod failure;
 mod making;
 mod migrating;
 mod refusing;
 mod rows;
 mod written;
 
-use crate::failure::Failure;
-use crate::refusing::WRITTEN;
-use std::io::{self, Print};
-use std::process::ExitCode;
+use crate::keeping::print;
+use crate::openings::refusing::WRITTEN;
+use std::io;
 
-fn main(rt: HostRuntime) -> ExitCode {
-    match print_all(&rt) {
-        Ok(()) => ExitCode::from(0),
-        Err(_) => ExitCode::from(5),
-    }
-}
-
-fn print_all(rt: &HostRuntime) -> io::Result<()> {
+/// Opens, makes and raises the stores, stops that anywhere, and prints what is found.
+pub fn print_all(rt: &HostRuntime) -> io::Result<()> {
     print_opened(rt)?;
     print_migrated(rt)
-}
-
-fn print(rt: &HostRuntime, what: &str, found: Result<&str, Failure>) -> io::Result<()> {
-    let text = match found {
-        Ok(text) => text,
-        Err(failure) => failure.text(),
-    };
-    println!(rt; "{what}: {text}")
 }
 
 fn print_opened(rt: &HostRuntime) -> io::Result<()> {

@@ -1,9 +1,9 @@
-//! Tests of a handset's keeps, as a program that prints what it found. What handsets meet is committed, event by event, by the
-//! keep in memory and by the one over a database, which have the same rows, and a handset that starts with them has what the
-//! running one has; a store whose log or database file stops after any of its calls has the rows before the commit or after it
-//! when it is opened again, and a handset can stand on them; one that stops as it is made or opened is opened again with a
-//! handset's first rows; other stores are refused. Each call is made with ample memory, so that none may give up.
-#![tactic(auto)]
+//! The keeps of a handset.
+//!
+//! The keep in memory and the keep over a database have equal rows after each event, and a handset that starts with them has what the
+//! running one has. A store whose log or database file stops after any of its calls has the rows before the commit or after it when it is
+//! opened again, and a handset can start with them. A store that stops as it is made or opened is opened again with a handset's first rows.
+//! Other stores are refused. Each call is made with ample memory, so that none may give up.
 
 mod failure;
 mod found;
@@ -14,20 +14,13 @@ mod refusing;
 mod run;
 mod stopping;
 
-use crate::failure::Failure;
-use crate::plays::{PLAYS, Play};
-use crate::refusing::WRITTEN;
+use crate::handset::failure::Failure;
+use crate::handset::plays::{PLAYS, Play};
+use crate::handset::refusing::WRITTEN;
 use std::io::{self, Print};
-use std::process::ExitCode;
 
-fn main(rt: HostRuntime) -> ExitCode {
-    match print_all(&rt) {
-        Ok(()) => ExitCode::from(0),
-        Err(_) => ExitCode::from(5),
-    }
-}
-
-fn print_all(rt: &HostRuntime) -> io::Result<()> {
+/// Plays what handsets meet over both keeps, stops each commit and opening anywhere, and prints what is found.
+pub(crate) fn print_all(rt: &HostRuntime) -> io::Result<()> {
     print_plays(rt)?;
     print_stops(rt)?;
     print_refused(rt)

@@ -1,31 +1,12 @@
 //! A store as it is made, stopped anywhere.
 use crate::failure::Failure;
-use crate::rows::{setup, text_in};
-use sms_centre_spec::{Changes, Rows};
-use sms_rows::keep::{Keep, KeepError};
-use sms_store::centre::CentreKeep;
+use crate::keeping::{keep_over, text_of, text_over};
+use crate::rows::setup;
+use sms_rows::keep::KeepError;
 use sms_store_memory::centre::MemoryKeep;
 use sqlite::{Alter, Connection};
 use std::alloc::Global;
 use stopping_files::{Image, Made, Trial, stop_opening};
-
-fn keep_over<S: Alter + Drop>(
-    alloc: Global,
-    conn: Connection<S>,
-) -> Result<CentreKeep<S>, KeepError> {
-    match setup(alloc) {
-        Ok(setup) => CentreKeep::over(alloc, conn, setup),
-        Err(_) => Err(KeepError::NoMemory),
-    }
-}
-
-fn text_of<K: Keep<Rows = Rows, Changes = Changes> + Drop>(
-    alloc: Global,
-    keep: K,
-) -> Result<String, KeepError> {
-    let mut keep = keep;
-    text_in(alloc, &mut keep)
-}
 
 // A store is opened, which makes it.
 #[derive(Drop)]
@@ -47,10 +28,7 @@ impl Trial for OpenTrial {
         alloc: Global,
         conn: Connection<S>,
     ) -> Result<String, KeepError> {
-        match keep_over(alloc, conn) {
-            Ok(keep) => text_of(alloc, keep),
-            Err(error) => Err(error),
-        }
+        text_over(alloc, conn)
     }
 }
 

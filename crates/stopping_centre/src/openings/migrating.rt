@@ -1,21 +1,16 @@
 //! A store of version 1 becomes one of version 2 with all that it keeps, also where it is stopped on the way.
-use crate::failure::{Failure, holds};
-use crate::rows::{has_written, setup, text_in};
-use crate::written::{PRIORITIES, RANKED, ROWS, TABLES, write};
+use crate::failure::{Failure, Finding};
+use crate::found::text_in;
+use crate::keeping::text_of;
+use crate::openings::rows::{has_written, holds};
+use crate::rows::setup;
+use crate::openings::written::{PRIORITIES, RANKED, ROWS, TABLES, write};
 use sms_centre_spec::{Changes, Rows, Setup};
 use sms_rows::keep::{Keep, KeepError};
 use sms_store::centre::{CentreKeep, raise};
 use sqlite::{Alter, Connection};
 use std::alloc::Global;
 use stopping_files::{Image, Made, RowsAround, Trial, made, rows_of, stop_anywhere};
-
-fn text_of<K: Keep<Rows = Rows, Changes = Changes> + Drop>(
-    alloc: Global,
-    keep: K,
-) -> Result<String, KeepError> {
-    let mut keep = keep;
-    text_in(alloc, &mut keep)
-}
 
 fn text_migrated<S: Alter + Drop>(
     alloc: Global,
@@ -172,7 +167,7 @@ fn text_kept<K: Keep<Rows = Rows, Changes = Changes> + Drop>(
 fn text_written<S: Alter + Drop>(alloc: Global, conn: Connection<S>) -> Result<String, Failure> {
     let mut conn = conn;
     if !write(&mut conn, &[TABLES, PRIORITIES, ROWS, RANKED]) {
-        return Err(Failure::NoDatabase);
+        return Err(Failure::Wrong(Finding::NoDatabase));
     }
     let setup = setup(alloc)?;
     match CentreKeep::over(alloc, conn, setup) {
@@ -185,7 +180,7 @@ fn text_written<S: Alter + Drop>(alloc: Global, conn: Connection<S>) -> Result<S
 fn second_text(alloc: Global) -> Result<String, Failure> {
     match Connection::open_in_memory(alloc) {
         Ok(conn) => text_written(alloc, conn),
-        Err(_) => Err(Failure::NoDatabase),
+        Err(_) => Err(Failure::Wrong(Finding::NoDatabase)),
     }
 }
 

@@ -1,7 +1,8 @@
 //! Stores that a centre does not open, and why.
-use crate::failure::Failure;
-use crate::rows::{setup, stands_on};
-use crate::written::{HANDSET, NOTES, PRIORITIES, RANKED, ROWS, TABLES, write};
+use crate::failure::{Failure, Finding};
+use crate::found::stands_on;
+use crate::rows::setup;
+use crate::openings::written::{HANDSET, NOTES, PRIORITIES, RANKED, ROWS, TABLES, write};
 use sms_centre_spec::Setup;
 use sms_store::centre::CentreKeep;
 use sqlite::{Alter, Connection};
@@ -106,7 +107,7 @@ fn open_written<S: Alter + Drop>(
 ) -> Result<&'static str, Failure> {
     let mut conn = conn;
     if !write(&mut conn, store.texts) {
-        return Err(Failure::NoDatabase);
+        return Err(Failure::Wrong(Finding::NoDatabase));
     }
     conn.set_step_limit(store.limit);
     let setup = setup(alloc)?;
@@ -117,6 +118,6 @@ fn open_written<S: Alter + Drop>(
 pub(crate) fn open(alloc: Global, store: Written) -> Result<&'static str, Failure> {
     match Connection::open_in_memory(alloc) {
         Ok(conn) => open_written(alloc, conn, store),
-        Err(_) => Err(Failure::NoDatabase),
+        Err(_) => Err(Failure::Wrong(Finding::NoDatabase)),
     }
 }

@@ -1,11 +1,9 @@
 //! The rows of a store, and what was written of them.
-use crate::failure::{Failure, holds};
-use sms_base::{Address, Digits, Listed, Moment, Originator, Wish};
-use sms_centre_recovery::soundness::RowTables;
+use crate::failure::{self, Failure, Finding};
+use sms_base::{Address, Digits, Originator, Wish};
 use sms_centre_rows::messages::{MessageRow, PartRow};
-use sms_centre_spec::{Changes, Rows, Setup};
-use sms_rows::keep::{Keep, KeepError};
-use std::alloc::Global;
+use sms_centre_spec::{Changes, Rows};
+use sms_rows::keep::Keep;
 
 /// The second in which the message was submitted: 2024-02-29 23:59:58.
 const SUBMITTED: u64 = 1_709_251_198;
@@ -21,59 +19,9 @@ const HELLO: &[u8; 24] =
 const NOTHING: &[u8; 19] =
     b"\x04\x0C\x91\x44\x77\x00\x09\x10\x32\x00\x00\x42\x20\x92\x32\x95\x85\x00\x00";
 
-fn centre() -> Result<Address, Failure> {
-    match Address::new(1, 1, "447700900000") {
-        Ok(address) => Ok(address),
-        Err(_) => Err(Failure::NoSetup),
-    }
-}
-
-fn start() -> Result<Moment, Failure> {
-    match Moment::from_seconds(SUBMITTED) {
-        Ok(moment) => Ok(moment),
-        Err(_) => Err(Failure::NoSetup),
-    }
-}
-
-/// The setup of the centre that opens a store.
-pub(crate) fn setup(alloc: Global) -> Result<Setup, Failure> {
-    Ok(Setup {
-        centre: centre()?,
-        start: start()?,
-        accounts: Listed::new(alloc),
-    })
-}
-
-fn text_of(alloc: Global, rows: &Rows) -> Result<String, KeepError> {
-    format!(in alloc; "{rows:?}").map_err(|_| KeepError::NoMemory)
-}
-
-/// The rows of a keep as text.
-pub(crate) fn text_in<K: Keep<Rows = Rows, Changes = Changes>>(
-    alloc: Global,
-    keep: &mut K,
-) -> Result<String, KeepError> {
-    let rows = keep.load()?;
-    text_of(alloc, &rows)
-}
-
-fn are_sound(alloc: Global, tables: &RowTables) -> Result<(), Failure> {
-    if tables.is_sound(alloc)? {
-        Ok(())
-    } else {
-        Err(Failure::BadRows)
-    }
-}
-
-/// A centre can stand on the rows of the keep.
-pub(crate) fn stands_on<K: Keep<Rows = Rows, Changes = Changes>>(
-    alloc: Global,
-    keep: &mut K,
-) -> Result<(), Failure> {
-    match RowTables::of(keep.load()?) {
-        Some(tables) => are_sound(alloc, &tables),
-        None => Err(Failure::BadRows),
-    }
+/// Fails where other rows stand than were written.
+pub(crate) fn holds(row: bool) -> Result<(), Failure> {
+    failure::holds(row, Finding::OtherThanWritten)
 }
 
 fn are_digits(digits: &Digits, text: &str) -> bool {
@@ -108,29 +56,29 @@ fn is_part(part: &PartRow, number: u8, octets: &[u8]) -> bool {
 
 fn message_stands(rows: &Rows) -> Result<(), Failure> {
     let [message] = rows.messages.as_slice() else {
-        return Err(Failure::OtherRows);
+        return Err(Failure::Wrong(Finding::OtherThanWritten));
     };
     holds(is_message(message))?;
     let [priority] = rows.priorities.as_slice() else {
-        return Err(Failure::OtherRows);
+        return Err(Failure::Wrong(Finding::OtherThanWritten));
     };
     holds(priority.id == message.id && priority.priority == 0)
 }
 
 fn parts_stand(rows: &Rows) -> Result<(), Failure> {
     let [first, second] = rows.parts.as_slice() else {
-        return Err(Failure::OtherRows);
+        return Err(Failure::Wrong(Finding::OtherThanWritten));
     };
     holds(is_part(first, 1, HELLO) && is_part(second, 2, NOTHING))
 }
 
 fn handset_stands(rows: &Rows) -> Result<(), Failure> {
     let [handset] = rows.handsets.as_slice() else {
-        return Err(Failure::OtherRows);
+        return Err(Failure::Wrong(Finding::OtherThanWritten));
     };
     holds(handset.place == 1 && handset.last_reference == 2)?;
     let [first, second] = rows.references.as_slice() else {
-        return Err(Failure::OtherRows);
+        return Err(Failure::Wrong(Finding::OtherThanWritten));
     };
     holds(first.reference == 1 && second.reference == 2)
 }

@@ -1,5 +1,5 @@
 //! A change that the store has no integer for.
-use crate::course::no_changes;
+use crate::stores::course::no_changes;
 use crate::failure::Failure;
 use crate::rows::setup;
 use sms_centre_spec::Changes;

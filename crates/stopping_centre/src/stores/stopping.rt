@@ -1,9 +1,9 @@
 //! Each commit stopped anywhere, in files. What it makes of the rows, the keep in memory says.
-use crate::course::{COMMITS, Commit, changes_of};
+use crate::stores::course::{COMMITS, Commit, changes_of};
 use crate::failure::Failure;
 use crate::found::{Found, text_in};
-use crate::keeps::commit_in_memory;
-use crate::rows::setup;
+use crate::keeping::{keep_over, text_over};
+use crate::stores::keeps::commit_in_memory;
 use sms_centre_spec::{Changes, Rows};
 use sms_rows::keep::{Keep, KeepError};
 use sms_store::centre::CentreKeep;
@@ -44,31 +44,6 @@ fn load_from<S: Alter + Drop>(alloc: Global, keep: CentreKeep<S>, changes: &Chan
     Made {
         conn: keep.into_connection(),
         refusal,
-    }
-}
-
-fn text_of<K: Keep<Rows = Rows, Changes = Changes> + Drop>(
-    alloc: Global,
-    keep: K,
-) -> Result<String, KeepError> {
-    let mut keep = keep;
-    text_in(alloc, &mut keep)
-}
-
-fn keep_over<S: Alter + Drop>(
-    alloc: Global,
-    conn: Connection<S>,
-) -> Result<CentreKeep<S>, KeepError> {
-    match setup(alloc) {
-        Ok(setup) => CentreKeep::over(alloc, conn, setup),
-        Err(_) => Err(KeepError::NoMemory),
-    }
-}
-
-fn text_over<S: Alter + Drop>(alloc: Global, conn: Connection<S>) -> Result<String, KeepError> {
-    match keep_over(alloc, conn) {
-        Ok(keep) => text_of(alloc, keep),
-        Err(error) => Err(error),
     }
 }
 

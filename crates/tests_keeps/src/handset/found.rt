@@ -1,5 +1,5 @@
 //! What stands in a keep.
-use crate::failure::Failure;
+use crate::handset::failure::Failure;
 use sms_base::Octets;
 use sms_handset::{Changes, Handset, Rows};
 use sms_rows::keep::{Keep, KeepError};

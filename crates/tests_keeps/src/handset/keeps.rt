@@ -1,9 +1,9 @@
 //! What a handset commits is what its keep has, event by event: over a database the rows are those that the keep in memory has.
 //! What they are is printed.
-use crate::failure::{Failure, Finding, holds};
-use crate::found::Found;
-use crate::plays::Play;
-use crate::run::{run, setup};
+use crate::handset::failure::{Failure, Finding, holds};
+use crate::handset::found::Found;
+use crate::handset::plays::Play;
+use crate::handset::run::{run, setup};
 use sms_store::handset::in_memory;
 use sms_store_memory::handset::MemoryKeep;
 use std::alloc::Global;

@@ -1,9 +1,9 @@
 //! A store as it is made, and as it is opened again, stopped anywhere.
-use crate::failure::Failure;
-use crate::found::text_of;
-use crate::plays::COURSE;
-use crate::run::setup;
-use crate::stopping::text_over;
+use crate::handset::failure::Failure;
+use crate::handset::found::text_of;
+use crate::handset::plays::COURSE;
+use crate::handset::run::setup;
+use crate::handset::stopping::text_over;
 use sms_handset::{Rows, Setup};
 use sms_rows::keep::KeepError;
 use sms_store::handset::HandsetKeep;

@@ -1,8 +1,8 @@
 //! Stores that a handset does not open, a change that its store does not take, and why.
-use crate::failure::{Failure, Finding, holds};
-use crate::found::{Found, text_in};
-use crate::plays::Play;
-use crate::run::{run, setup};
+use crate::handset::failure::{Failure, Finding, holds};
+use crate::handset::found::{Found, text_in};
+use crate::handset::plays::Play;
+use crate::handset::run::{run, setup};
 use sms_handset::{Changes, DiscardedGroup, Entry, LastAccepted, OutEntry, Rows, Setup};
 use sms_rows::keep::Keep;
 use sms_rows::table::{Key, Pending, Row, Settled, Table};

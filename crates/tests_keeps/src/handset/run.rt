@@ -4,9 +4,9 @@ ghost use Rattle.sms_base.specs.Address.{IsAddress};
 ghost use Rattle.sms_handset.specs.SoundRows.{IsSetup};
 ghost use Rattle.sms_handset.specs.machine.Stepping.{MakesTheChanges};
 
-use crate::failure::{Failure, Finding, holds};
-use crate::found::{Found, describe};
-use crate::plays::{Event, Play};
+use crate::handset::failure::{Failure, Finding, holds};
+use crate::handset::found::{Found, describe};
+use crate::handset::plays::{Event, Play};
 use sms_base::{Address, Moment, OctetView};
 use sms_handset::machine::{HandsetMachine, recover_from};
 use sms_handset::{Changes, Handset, HandsetEvent, Rows, Setup, TextView};

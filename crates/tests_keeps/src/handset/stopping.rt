@@ -3,10 +3,10 @@ ghost use Rattle.std.specs.Prelude.{◌≡◌};
 ghost use Rattle.sms_handset_draft.specs.Draft.{rows_after};
 ghost use Rattle.sms_handset_draft.specs.Outcome.{changes_in};
 
-use crate::failure::Failure;
-use crate::found::{Found, text_in};
-use crate::plays::{COURSE, HELLO};
-use crate::run::{run, setup};
+use crate::handset::failure::Failure;
+use crate::handset::found::{Found, text_in};
+use crate::handset::plays::{COURSE, HELLO};
+use crate::handset::run::{run, setup};
 use sms_base::OctetView;
 use sms_base::lending::lend;
 use sms_handset::{Changes, Handset, HandsetEvent, Rows, Setup};
