@@ -1,9 +1,9 @@
 #!/usr/bin/env python3
-"""Writes the courses: what stands in ../stdin from the first line `course` on, and what is to come of it in ../stdout.
+"""Writes the courses of the section `handset`: its lines in ../stdin from the first line `course` on, and what a handset has to do in ../stdout.
 
-The rows before them were worked out by hand; what is to come of them is compared here with what the plain handset does (tests/plain), and each row is
-a course, too. With two files as its arguments behind a number it writes other courses, from that seed, and what is to come of them:
-`python3 vectors/runs.py 7 /tmp/lines /tmp/told; rt try < /tmp/lines | diff - /tmp/told`.
+The rows before them were worked out by hand, and are compared here with what the plain handset does (tests/plain). Each row is a course, too.
+With two files as its arguments behind a number it writes other courses, from that seed, and what has to come of them:
+`python3 vectors/handset_courses.py 7 /tmp/lines /tmp/found; rt try -- handset < /tmp/lines | diff - /tmp/found`.
 """
 import os
 import random
@@ -13,6 +13,7 @@ sys.dont_write_bytecode = True
 sys.path.insert(0, os.path.join(os.path.dirname(os.path.abspath(__file__)), '../../../tests/plain'))
 from formats import START
 from handset import Handset
+from sections import before_courses, put, write
 
 LONG = 'a' * 190
 HELLO = bytes.fromhex('E8329BFD06')
@@ -268,32 +269,21 @@ def references_around():
 
 # ---- the files
 
-def before_courses(path):
-    lines = open(path, encoding='utf-8').read().split('\n')
-    first = [place for place, line in enumerate(lines) if line.startswith('course ')]
-    return lines[:first[0]] if first else lines[:-1]
-
-
-def write(path, lines):
-    open(path, 'w', encoding='utf-8').write('\n'.join(lines) + '\n')
-
-
 def main():
     if len(sys.argv) == 4:
         lines = random_courses(int(sys.argv[1]), 20, 100)
         write(sys.argv[2], lines)
         write(sys.argv[3], told_of(lines))
         return
-    here = os.path.join(os.path.dirname(os.path.abspath(__file__)), '..')
-    rows, told = before_courses(here + '/stdin'), before_courses(here + '/stdout')
+    rows, told = before_courses('stdin', 'handset'), before_courses('stdout', 'handset')
     found = told_of(rows)
     for place, (line, other) in enumerate(zip(found + [None], told + [None])):
         if line != other:
-            sys.exit(f'line {place + 1} of stdout: {other!r}, but the plain handset has {line!r}')
+            sys.exit(f'line {place + 1} of the section in stdout: {other!r}, but the plain handset has {line!r}')
     again = ['course ' + line[4:] if line.startswith('row ') else line for line in rows if not line.startswith(('#', 'rows '))]
     lines = again + many_discarded() + references_around() + random_courses(1, 4, 100)
-    write(here + '/stdin', rows + lines)
-    write(here + '/stdout', told + told_of(lines))
+    put('stdin', 'handset', rows + lines)
+    put('stdout', 'handset', told + told_of(lines))
 
 
 if __name__ == '__main__':

@@ -1,10 +1,10 @@
 #!/usr/bin/env python3
-"""Writes the courses: what stands in ../stdin from the first line `course` on, and what is to come of it in ../stdout. They are the rows once
-more; four of the rows stopped after each event, where the rows of the centre that starts again are those of before; and random events.
+"""Writes the courses of the section `centre`: its lines in ../stdin from the first line `course` on, and what a centre has to do in ../stdout.
 
-What is to come of them is what the plain centre does (tests/plain), which also does the rows before them, to see that it has what was worked
-out by hand. With two files as its arguments behind a number it writes other courses, from that seed, and what is to come of them:
-`python3 vectors/courses.py 7 /tmp/lines /tmp/told; rt try < /tmp/lines | diff - /tmp/told`.
+They are the rows once more; four of the rows stopped after each event, where the centre that starts again has the rows of before; and random
+events. What a centre has to do is what the plain centre does (tests/plain), which also does the rows before them: so it is compared with what
+was worked out by hand. With two files as its arguments behind a number it writes other courses, from that seed, and what has to come of them:
+`python3 vectors/centre_courses.py 7 /tmp/lines /tmp/found; rt try -- centre < /tmp/lines | diff - /tmp/found`.
 """
 import copy
 import os
@@ -16,6 +16,7 @@ sys.dont_write_bytecode = True
 sys.path.insert(0, os.path.join(os.path.dirname(os.path.abspath(__file__)), '../../../tests/plain'))
 from centre import ENDINGS, Centre, SubmitSm
 from formats import START, Sum
+from sections import before_courses, put, write
 
 PLACES = {'A': '447700900123', 'B': '447700900456', 'C': '447700900789'}
 NAMES = {digits: name for name, digits in PLACES.items()}
@@ -199,7 +200,7 @@ def add_carried(told, carried):
 
 def measured():
     """What the events of `measure 1000 400 64` tell."""
-    script = os.path.join(os.path.dirname(os.path.abspath(__file__)), 'measured.py')
+    script = os.path.join(os.path.dirname(os.path.abspath(__file__)), 'centre_measured.py')
     return subprocess.run([sys.executable, script], capture_output=True, text=True, check=True).stdout.split('\n')[:-1]
 
 
@@ -451,33 +452,22 @@ def courses(first):
 
 # ---- the files
 
-def before_courses(path):
-    lines = open(path, encoding='utf-8').read().split('\n')
-    first = [place for place, line in enumerate(lines) if line.startswith('course ')]
-    return lines[:first[0]] if first else lines[:-1]
-
-
-def write(path, lines):
-    open(path, 'w', encoding='utf-8').write('\n'.join(lines) + '\n')
-
-
 def main():
     if len(sys.argv) == 4:
         lines, told = courses(int(sys.argv[1]))
         write(sys.argv[2], lines)
         write(sys.argv[3], told)
         return
-    here = os.path.join(os.path.dirname(os.path.abspath(__file__)), '..')
-    rows, told = before_courses(here + '/stdin'), before_courses(here + '/stdout')
+    rows, told = before_courses('stdin', 'centre'), before_courses('stdout', 'centre')
     found = told_of(rows)
     for place, (line, other) in enumerate(zip(found + [None], told + [None])):
         if line != other:
-            sys.exit(f'line {place + 1} of stdout: {other!r}, but the plain centre has {line!r}')
+            sys.exit(f'line {place + 1} of the section in stdout: {other!r}, but the plain centre has {line!r}')
     again = ['course ' + line[4:] if line.startswith('row ') else line for line in rows if line.split(' ')[0] in AGAIN]
     stops, to_stop = stopped(rows)
     lines, to_come = courses(1)
-    write(here + '/stdin', rows + again + stops + lines)
-    write(here + '/stdout', told + told_of(again) + to_stop + to_come)
+    put('stdin', 'centre', rows + again + stops + lines)
+    put('stdout', 'centre', told + told_of(again) + to_stop + to_come)
 
 
 if __name__ == '__main__':
