@@ -15,7 +15,6 @@ mod words;
 use crate::codecs::kind::{KINDS, Kind};
 use crate::error::BenchError;
 use std::io::Print;
-
 pub use words::{Words, words_in};
 
 /// Does each kind of work that the words ask for, and prints its checksum. Its turns and nanoseconds go to standard error.

@@ -26,7 +26,6 @@ use crate::store::turns::measure;
 use sms_store::centre::{CentreKeep, in_memory};
 use smslab_lines::measuring::Stopwatch;
 use sqlite::Alter;
-
 pub use words::{Task, Words, task_in};
 
 /// Does what is asked, and prints its checksums. Each kind of work has its turns, nanoseconds and least nanoseconds on standard error.

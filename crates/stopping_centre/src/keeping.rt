@@ -41,11 +41,7 @@ pub(crate) fn text_over<S: Alter + Drop>(
 }
 
 /// Prints what was found, or why nothing was.
-pub(crate) fn print(
-    rt: &HostRuntime,
-    what: &str,
-    found: Result<&str, Failure>,
-) -> io::Result<()> {
+pub(crate) fn print(rt: &HostRuntime, what: &str, found: Result<&str, Failure>) -> io::Result<()> {
     let text = match found {
         Ok(text) => text,
         Err(failure) => failure.text(),

@@ -1,7 +1,7 @@
 //! How the cost of splitting grows with the parts.
-use crate::error::BenchError;
 use crate::codecs::inputs::{ESCAPED, text};
 use crate::codecs::words::Words;
+use crate::error::BenchError;
 use sms_alphabet::{Coding, septets_of};
 use sms_base::Octets;
 use sms_concat::{Content, split};

@@ -1,6 +1,6 @@
 //! The kinds of work.
-use crate::error::BenchError;
 use crate::codecs::{addresses, pdus, septets, stamps, streams, texts, tpdus};
+use crate::error::BenchError;
 use smslab_lines::measuring::Measured;
 
 /// A kind of work.

@@ -4,8 +4,8 @@ ghost use Rattle.smpp_pdu.specs.BodyGrammar.{IsMessageValue};
 ghost use Rattle.smpp_pdu.specs.Fields.{IsTimeText};
 ghost use Rattle.smpp_pdu.specs.Writing.{IsWritable, written_message};
 
-use crate::error::BenchError;
 use crate::codecs::inputs::{PLAIN, text};
+use crate::error::BenchError;
 use smpp_pdu::{Body, Message, Pdu, SmeAddress, Tlvs};
 use sms_base::{OctetView, Octets};
 use smslab_lines::measuring::{Measured, Stopwatch, Sum};

@@ -1,6 +1,6 @@
 //! Septets: packed and unpacked, spelled and read.
-use crate::error::BenchError;
 use crate::codecs::inputs::{ESCAPED, PLAIN, text};
+use crate::error::BenchError;
 use sms_alphabet::{pack, septets_of, text_of, unpack};
 use smslab_lines::measuring::{Measured, Stopwatch, Sum};
 

@@ -1,9 +1,9 @@
 //! Sessions of SMPP: streams of submit_sm fed in pieces, and what one more octet costs behind those that wait.
 ghost use Rattle.std.specs.Prelude.{◌<◌};
 
-use crate::error::BenchError;
 use crate::codecs::pdus::submit_octets;
 use crate::codecs::words::Words;
+use crate::error::BenchError;
 use smpp_session::{Account, Accounts, Action, Actions, Session};
 use sms_base::Octets;
 use smslab_lines::measuring::{Measured, Stopwatch, Sum};

@@ -1,6 +1,6 @@
 //! Texts: into packed septets and back, into UCS2 and back.
-use crate::error::BenchError;
 use crate::codecs::inputs::{ESCAPED, text};
+use crate::error::BenchError;
 use sms_alphabet::{pack, septets_of, text_of, ucs2_of, ucs2_text, unpack};
 use sms_base::Octets;
 use smslab_lines::measuring::{Measured, Stopwatch, Sum};

@@ -1,6 +1,6 @@
 //! TPDUs of 160 septets.
-use crate::error::BenchError;
 use crate::codecs::inputs::with_packed_septets;
+use crate::error::BenchError;
 use sms_tpdu::{Carrier, Submit, Up, read_down, read_up, write_down};
 use smslab_lines::measuring::{Measured, Stopwatch, Sum};
 

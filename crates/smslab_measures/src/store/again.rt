@@ -1,6 +1,6 @@
 //! The rows of a store committed once more to another one, as they came: each submission, and then each delivery.
-use crate::store::changes::no_changes;
 use crate::error::BenchError;
+use crate::store::changes::no_changes;
 use crate::store::kept::commit;
 use crate::store::meter::Meter;
 use crate::store::rows::setup;

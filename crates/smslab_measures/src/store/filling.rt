@@ -1,6 +1,6 @@
 //! Messages that are over, and messages that wait.
-use crate::store::changes::{no_changes, put_finished, put_open};
 use crate::error::BenchError;
+use crate::store::changes::{no_changes, put_finished, put_open};
 use crate::store::words::Words;
 use sms_rows::keep::{BodyKeep, Keep};
 use sms_rows::table::Key;

@@ -1,6 +1,6 @@
 //! What events ask of a store, done by the keep.
-use crate::store::changes::{acknowledge, no_changes, put_open};
 use crate::error::BenchError;
+use crate::store::changes::{acknowledge, no_changes, put_open};
 use crate::store::meter::Meter;
 use crate::store::words::Turn;
 use sms_base::Octets;

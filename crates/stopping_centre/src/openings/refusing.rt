@@ -1,8 +1,8 @@
 //! Stores that a centre does not open, and why.
 use crate::failure::{Failure, Finding};
 use crate::found::stands_on;
-use crate::rows::setup;
 use crate::openings::written::{HANDSET, NOTES, PRIORITIES, RANKED, ROWS, TABLES, write};
+use crate::rows::setup;
 use sms_centre_spec::Setup;
 use sms_store::centre::CentreKeep;
 use sqlite::{Alter, Connection};

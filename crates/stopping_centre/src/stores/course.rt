@@ -1,7 +1,7 @@
 //! A course of commits of a centre, each leading to rows on which a centre can stand.
 use crate::failure::Failure;
-use crate::stores::kinds::fill_kinds;
 use crate::rows::{delivered, given, id, mentioned, part, pending, progress, report};
+use crate::stores::kinds::fill_kinds;
 use crate::stores::script;
 use sms_base::Listed;
 use sms_centre_rows::messages::PriorityRow;

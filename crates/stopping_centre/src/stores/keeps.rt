@@ -1,9 +1,9 @@
 //! What is committed is loaded, commit by commit: over a database the rows are those that the keep in memory has. What they are is
 //! printed.
-use crate::stores::course::Commit;
 use crate::failure::{Failure, Finding, holds};
 use crate::found::Found;
 use crate::rows::setup;
+use crate::stores::course::Commit;
 use crate::stores::run::run;
 use sms_store::centre::in_memory;
 use sms_store_memory::centre::MemoryKeep;

@@ -1,8 +1,8 @@
 //! Commits over a keep, and what it finds there.
-use crate::stores::course::{Commit, HELLO, NOTHING, RECEIVED, changes_of};
 use crate::failure::{Failure, Finding, holds};
 use crate::found::{Found, describe, stands_on};
 use crate::rows::progress;
+use crate::stores::course::{Commit, HELLO, NOTHING, RECEIVED, changes_of};
 use crate::stores::script;
 use sms_base::{FinalState, Octets};
 use sms_centre_spec::{Changes, Rows};

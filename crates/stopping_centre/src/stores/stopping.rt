@@ -1,8 +1,8 @@
 //! Each commit stopped anywhere, in files. What it makes of the rows, the keep in memory says.
-use crate::stores::course::{COMMITS, Commit, changes_of};
 use crate::failure::Failure;
 use crate::found::{Found, text_in};
 use crate::keeping::{keep_over, text_over};
+use crate::stores::course::{COMMITS, Commit, changes_of};
 use crate::stores::keeps::commit_in_memory;
 use sms_centre_spec::{Changes, Rows};
 use sms_rows::keep::{Keep, KeepError};
