@@ -2,7 +2,7 @@
 use crate::failure::Failure;
 use crate::found::{Found, text_in};
 use crate::keeping::{keep_over, text_over};
-use crate::stores::course::{COMMITS, Commit, changes_of};
+use crate::stores::course::{Commit, changes_of};
 use crate::stores::keeps::commit_in_memory;
 use sms_centre_spec::{Changes, Rows};
 use sms_rows::keep::{Keep, KeepError};
