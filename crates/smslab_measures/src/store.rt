@@ -67,8 +67,11 @@ fn work<S: Alter + Drop>(
     keep: CentreKeep<S>,
     watch: Stopwatch,
 ) -> Result<(), BenchError> {
+    measure_open(rt, watch)?;
     let mut keep = keep;
-    measure_all(rt, words, &mut keep, watch)
+    fill(rt, words, &mut keep)?;
+    let mut keep = measure(rt, words, keep)?;
+    measure_load(rt, &mut keep)
 }
 
 // The store is open.
@@ -76,16 +79,4 @@ fn measure_open(rt: &HostRuntime, watch: Stopwatch) -> Result<(), BenchError> {
     let mut meter = Meter::new("open");
     meter.add(watch.stop(rt)?);
     meter.tell(rt)
-}
-
-fn measure_all<S: Alter>(
-    rt: &HostRuntime,
-    words: &Words,
-    keep: &mut CentreKeep<S>,
-    watch: Stopwatch,
-) -> Result<(), BenchError> {
-    measure_open(rt, watch)?;
-    fill(rt, words, keep)?;
-    measure(rt, words, keep)?;
-    measure_load(rt, keep)
 }
