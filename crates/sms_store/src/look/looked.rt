@@ -9,7 +9,7 @@ ghost use Rattle.sms_store.specs.centre.Types.{Rows as RowsOf};
 ghost use Rattle.sms_store_sql.specs.listing.Transaction.{IsKept};
 ghost use Rattle.sms_store.specs.centre.InKeep.{setup_in, state_in};
 
-use crate::centre::CentreKeep;
+use crate::centre::keep::CentreKeep;
 use sms_centre_spec::{Rows, Setup};
 use sms_rows::keep::{Keep, KeepError};
 use sms_store_tables::centre::{is_centre_schema, is_first_schema};

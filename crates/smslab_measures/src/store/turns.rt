@@ -5,7 +5,7 @@ use crate::store::meter::Meter;
 use crate::store::plain::{acknowledge_by_hand, offer_by_hand, submit_by_hand};
 use crate::store::rows::setup;
 use crate::store::words::{Turn, Words};
-use sms_store::centre::CentreKeep;
+use sms_store::CentreKeep;
 use sqlite::{Alter, Connection};
 
 /// What an event asks of a store.

@@ -5,7 +5,7 @@ use crate::handset::found::Found;
 use crate::handset::plays::Play;
 use crate::handset::run::{run, setup};
 use sms_store::handset::in_memory;
-use sms_store_memory::handset::MemoryKeep;
+use sms_store::HandsetMemoryKeep;
 use std::alloc::Global;
 use std::io::{Print, Write};
 
@@ -16,7 +16,7 @@ fn play_in_memory(
     found: &mut Found,
 ) -> Result<(), Failure> {
     let setup = setup(play.slots)?;
-    run(alloc, MemoryKeep::new(alloc, setup), play, count, found)
+    run(alloc, HandsetMemoryKeep::new(alloc, setup), play, count, found)
 }
 
 fn play_over_database(
