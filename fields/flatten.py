@@ -298,6 +298,9 @@ def doubled(tree):
             name = os.path.basename(folder)
             inner = folder[len(f"{base}/src/") :]
             dotted, rust = inner.replace("/", "."), inner.replace("/", "::")
+            if re.search(rf"^#\[[^\n]*\]\n(?:pub )?mod {name};", read(f"{folder}.rt"), re.M):
+                tell(f"left: {crate}::{rust}::{name} has an attribute")
+                continue
             write(f"{folder}.rt", joined_text(read(f"{folder}.rt"), read(f"{folder}/{name}.rt"), name, f"crate::{rust}"))
             os.remove(f"{folder}/{name}.rt")
             for kind in ["proofs"]:
