@@ -1,5 +1,7 @@
 //! Laws of the control layer, over its definitions alone.
 ghost use Rattle.std.specs.Prelude.{◌≡◌, ◌++◌, ◌≢◌, ◌≤◌, ◌+◌, List, [], ◌∷◌, ℕ, Ok, Err, Some, None, false};
+ghost use Rattle.sms_base.specs.FaultReasons.{HasContinuation, HasFront};
+ghost use Rattle.sms_base.specs.Reading.{AreOctets};
 ghost use Rattle.sms_control.specs.ControlGrammar.{IsCp, IsCpValue, spelled};
 ghost use Rattle.sms_control.specs.ControlReading.{cp_at};
 ghost use Rattle.sms_control.specs.LinkRuns.{Acknowledges, Call, FiresPast, NoneAcknowledged, NoneAnswered, Rising, TakesTurns, begins, ends, openings, repeats, replies, run, sendings, ticks};
@@ -7,7 +9,8 @@ ghost use Rattle.sms_control.specs.LinkStep.{begin_step, fresh, has_begun, in_tr
 ghost use Rattle.sms_control.specs.Timers.{later, tr1};
 ghost use Rattle.sms_control.specs.declared.link_state.LinkState.{LinkState};
 ghost use Rattle.sms_control.specs.declared.link_state.Opened.{Opened};
-ghost use Rattle.sms_control.specs.declared.fault.CpFault.TheVariants.{Truncated};
+ghost use Rattle.sms_control.specs.declared.fault.CpFault.TheVariants.{Truncated, Trailing};
+ghost use Rattle.sms_control.specs.declared.fault.CpFault.{CpFault};
 ghost use Rattle.sms_control.specs.declared.message.Cp.{Cp};
 ghost use Rattle.sms_control.specs.declared.message.Cp.TheVariants.{AckUnit, DataUnit};
 ghost use Rattle.sms_control.specs.declared.out.Up.TheVariants.{Unit};
@@ -31,6 +34,14 @@ pub fn one_value()
 /// A proper front of a readable frame ends too early.
 pub fn front_is_truncated()
     ensures { (front rest : List ℕ) (cp : Cp) → IsCp (front ++ rest) cp → rest ≢ [] → cp_at front ≡ Err Truncated }
+{}
+
+/// Octets end too early only where octets may follow with which they are a frame. Octets are left over only behind a frame.
+/// With any other fault they are no frame, whatever follows.
+pub fn a_fault_has_its_reason()
+    ensures truncated { (octets : List ℕ) → AreOctets octets → cp_at octets ≡ Err Truncated → HasContinuation IsCp octets }
+    ensures trailing { (octets : List ℕ) → AreOctets octets → cp_at octets ≡ Err Trailing → HasFront IsCp octets }
+    ensures other { (octets more : List ℕ) (cp : Cp) (fault : CpFault) → cp_at octets ≡ Err fault → fault ≢ Truncated → ¬ IsCp (octets ++ more) cp }
 {}
 
 /// This side has at most one transaction under way: over any calls, as many have ended as began, or one fewer.

@@ -3,7 +3,7 @@ ghost use Rattle.std.specs.Prelude.{◌≡◌, ◌≢◌, ◌<◌, ℕ, List, []
 ghost use Rattle.std.specs.List.{AllByRecursion};
 ghost use Rattle.sms_base.specs.Reading.{AreOctets};
 ghost use Rattle.sms_relay.specs.Cause.{number_of, named, cause_of, IsRpCause};
-ghost use Rattle.sms_relay.specs.RelayFaults.{HasContinuation, HasFront};
+ghost use Rattle.sms_base.specs.FaultReasons.{HasContinuation, HasFront};
 ghost use Rattle.sms_relay.specs.RelayGrammar.{IsUp, IsDown, IsWrittenUp, IsWrittenDown, up_octets, down_octets, user_data_of, bare};
 ghost use Rattle.sms_relay.specs.RelayReading.{up_at, down_at};
 ghost use Rattle.sms_relay.specs.declared.cause.RpCause.{RpCause as CauseOf};
