@@ -1,4 +1,4 @@
-/* The store of a centre by C SQLite: the same tables, the same transactions, the same words as smsbench_store.
+/* The store of a centre by C SQLite: the same tables, the same transactions, the same words as `smslab store`.
  *
  *   peer [FINISHED OPEN TURNS [FILE]]
  *

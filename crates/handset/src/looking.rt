@@ -8,7 +8,7 @@ use sms_base::Address;
 use sms_handset::machine::recover_from;
 use sms_handset::{Changes, Handset, Rows, Setup};
 use sms_rows::keep::{Keep, KeepError};
-use sms_store::handset::HandsetKeep;
+use sms_store::HandsetKeep;
 use sms_store_sql::listing::load_cause_of;
 use sms_store_sql::snapshot::{DatabaseCopy, connect, copy_at};
 use sms_store_tables::handset::is_handset_schema;

@@ -10,7 +10,7 @@ use sms_handset::{Changes, Rows, Setup};
 use sms_rows::keep::Keep;
 use sms_script::ScriptFault;
 use sms_script::owner::{OwnersAct, read_acts};
-use sms_store::handset::HandsetKeep;
+use sms_store::HandsetKeep;
 use std::alloc::Global;
 use std::io::{self, Print, Read};
 use std::net::{Ipv4Addr, TcpStream};
@@ -89,7 +89,7 @@ fn machine_over<K: Keep<Rows = Rows, Changes = Changes> + Drop>(
 {
     let mut keep = keep;
     let handset = recover_from(alloc, &mut keep, setup)?;
-    Ok(HandsetMachine { keep, handset })
+    Ok(HandsetMachine::new(keep, handset))
 }
 
 fn run_over<K: Keep<Rows = Rows, Changes = Changes> + Drop>(

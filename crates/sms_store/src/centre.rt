@@ -9,13 +9,12 @@ mod bodies;
 mod commit;
 mod founding;
 mod gathering;
-mod keep;
+pub(crate) mod keep;
 mod migrating;
 mod opening;
 mod readying;
 mod said;
 mod tables;
 
-pub use keep::CentreKeep;
 pub use opening::in_memory;
 pub use sms_store_migration::raise;

@@ -8,10 +8,9 @@ mod all;
 mod commit;
 mod counters;
 mod founding;
-mod keep;
+pub(crate) mod keep;
 mod opening;
 mod said;
 
 pub use counters::CountersRow;
-pub use keep::HandsetKeep;
 pub use opening::in_memory;

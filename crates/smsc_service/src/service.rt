@@ -15,6 +15,7 @@ ghost use Rattle.sms_keeper.specs.declared.machine.Fate.TheVariants.{Refused};
 ghost use Rattle.smsc_service.specs.Stepping.{OneRefused};
 ghost use Rattle.smsc_service.specs.Serving.{GivesUp, IsServing, IsWaiting, Serves, Serving, after, followed_by, gives, restarted};
 ghost use Rattle.smsc_service.specs.Telling.{failed_by, told_by};
+ghost use Rattle.smsc_service.specs.InService.{IsAwaitedBy, IsBroken, IsServedBy, store_in};
 
 use crate::asking::Asked;
 use crate::floor::Floor;
@@ -35,11 +36,11 @@ use std::alloc::{AllocError, Global};
 /// The centre over its store, with who sits where.
 #[derive(Drop)]
 pub struct Service<K: CentreStore + Drop> {
-    pub alloc: Global,
-    pub machine: CentreMachine<K>,
-    pub floor: Floor,
-    /// The rows could not be read when they were last to be.
-    pub is_broken: bool,
+    alloc: Global,
+    machine: CentreMachine<K>,
+    floor: Floor,
+    // The rows could not be read when they were last to be.
+    is_broken: bool,
 }
 
 // The plan is carried out: what it changes is committed, and it is adopted.
@@ -96,8 +97,8 @@ impl<K: CentreStore + Drop> Service<K> {
     /// # Errors
     /// The store gave no rows, or they are not sound, or a growth was refused.
     pub fn start(alloc: Global, keep: K) -> Result<Service<K>, StartError>
-        ensures stands { IfOk result (λ service. K.is_honest service.machine.keep → (rows : RowsOf) → K.holds keep rows → IsServing (K.holds service.machine.keep) service.machine.centre service.floor (restarted rows nobody)) }
-        ensures before { IfOk result (λ service. K.is_honest service.machine.keep → K.is_honest keep) }
+        ensures stands { IfOk result (λ service. K.is_honest (store_in service) → (rows : RowsOf) → K.holds keep rows → IsServedBy K.holds service (restarted rows nobody)) }
+        ensures before { IfOk result (λ service. K.is_honest (store_in service) → K.is_honest keep) }
     {
         let mut keep = keep;
         let floor = Floor::new(alloc);
@@ -247,15 +248,15 @@ impl<K: CentreStore + Drop> Service<K> {
 impl<K: CentreStore + Drop> Machine<Job, Reply> for Service<K> {
     type State = Served;
 
-    ghost stands = { λ m s. IsServing (K.holds m.machine.keep) m.machine.centre m.floor s };
+    ghost stands = { λ m s. IsServedBy K.holds m s };
 
-    ghost resumes = { λ m s. IsWaiting (K.holds m.machine.keep) (K.is_closed m.machine.keep) m.floor s };
+    ghost resumes = { λ m s. IsAwaitedBy K.holds K.is_closed m s };
 
-    ghost is_honest = { λ m. K.is_honest m.machine.keep };
+    ghost is_honest = { λ m. K.is_honest (store_in m) };
 
-    ghost is_broken = { λ m. m.is_broken ≡ true };
+    ghost is_broken = { λ m. IsBroken m };
 
-    ghost refuses = { λ before after. OneRefused (K.refusals before.machine.keep) (K.refusals after.machine.keep) };
+    ghost refuses = { λ before after. OneRefused (K.refusals (store_in before)) (K.refusals (store_in after)) };
 
     ghost gives = { λ s stimulus fate. gives s stimulus fate };
 

@@ -60,8 +60,8 @@ fn note_changes(
 ) -> Result<(), AllocError>
     ensures { OnOk result (given.new ≡ (given.old ++ parts_given moment (rows_in keep.now).messages changes.now.parts) ++ reports_given moment (rows_in keep.now).messages changes.now.reports) }
 {
-    note_parts(moment, &keep.messages, changes.parts.as_slice(), given)?;
-    note_reports(moment, &keep.messages, changes.reports.as_slice(), given)?;
+    note_parts(moment, keep.messages(), changes.parts.as_slice(), given)?;
+    note_reports(moment, keep.messages(), changes.reports.as_slice(), given)?;
     Ok(())
 }
 

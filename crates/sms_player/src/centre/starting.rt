@@ -89,10 +89,10 @@ fn moment_of(keep: &MemoryKeep) -> Moment
     ensures { result ≡ moment_of_rows (rows_in keep.now) }
 {
     moment_among(
-        keep.setup.start,
-        keep.messages.as_slice(),
-        keep.references.as_slice(),
-        keep.reports.as_slice(),
+        keep.setup().start,
+        keep.messages().as_slice(),
+        keep.references().as_slice(),
+        keep.reports().as_slice(),
     )
 }
 
@@ -109,7 +109,7 @@ pub(crate) fn restart(
     ensures stands { Stands centre.new (rows_in keep.now) }
 {
     let moment = moment_of(keep);
-    let sessions = sessions_of(alloc, keep.setup.accounts.as_slice())?;
+    let sessions = sessions_of(alloc, keep.setup().accounts.as_slice())?;
     match centre.start_again(moment, handsets, sessions) {
         Ok(()) => Ok(()),
         Err(error) => Err(error),

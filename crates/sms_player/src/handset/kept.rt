@@ -131,14 +131,14 @@ impl KeptHandset {
     pub(crate) fn outbox(&self) -> &Table<OutEntry>
         ensures { result.now.rows ≡ self.now.core.rows.outbox }
     {
-        &self.keep.outbox
+        self.keep.outbox()
     }
 
     /// The number of the next RP-SMMA.
     pub(crate) fn next_notice(&self) -> u32
         ensures { result ≡ self.now.core.rows.counters.notice }
     {
-        self.keep.counters.notice
+        self.keep.counters().notice
     }
 
     /// The number of the next entry.
@@ -146,7 +146,7 @@ impl KeptHandset {
         ensures number { result ≡ self.now.core.rows.counters.entry }
         ensures sound { IsSound self.now.core.rows }
     {
-        self.keep.counters.entry
+        self.keep.counters().entry
     }
 
     /// The greatest moment that it was told after the event.
@@ -190,7 +190,7 @@ impl KeptHandset {
         let rows = load(&mut self.keep)?;
         let handset = recover(self.alloc, rows)?;
         self.handset = handset;
-        self.moment = self.keep.setup.start;
+        self.moment = self.keep.setup().start;
         Ok(())
     }
 }

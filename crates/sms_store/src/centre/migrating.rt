@@ -12,6 +12,7 @@ ghost use Rattle.sms_store_tables.specs.centre.CentreSchema.{first_schema};
 ghost use Rattle.sms_store_tables.specs.centre.FirstMetaList.{meta_list as first_list};
 ghost use Rattle.sms_store.specs.centre.Opened.{IsIn, Refused, Refuses, SaysFirst};
 ghost use Rattle.sms_store.specs.centre.Stopping.{IsAsItWas, LeavesRaised, LeavesStore};
+ghost use Rattle.sms_store.specs.centre.InKeep.{connection_in, setup_in, state_in};
 
 use crate::centre::keep::CentreKeep;
 use crate::centre::readying::{judge_first, ready_current};
@@ -60,10 +61,10 @@ impl<S: Alter + Drop> CentreKeep<S> {
         conn: Connection<S>,
         setup: Setup,
     ) -> Result<CentreKeep<S>, (KeepError, Connection<S>)>
-        ensures migrated { IfOk result (λ keep. HasCleanDisk (state S.Store keep.conn) → Migrated setup (state S.Store conn).now (state S.Store keep.conn)) }
-        ensures setup { IfOk result (λ keep. keep.setup ≡ setup) }
-        ensures clean { IfOk result (λ keep. HasCleanDisk (state S.Store keep.conn) → HasCleanDisk (state S.Store conn)) }
-        ensures settled { IfOk result (λ keep. HasCleanDisk (state S.Store keep.conn) → LeavesRaised setup (state S.Store conn).now (state S.Store keep.conn)) }
+        ensures migrated { IfOk result (λ keep. HasCleanDisk (state_in S.Store keep) → Migrated setup (state S.Store conn).now (state_in S.Store keep)) }
+        ensures setup { IfOk result (λ keep. setup_in keep ≡ setup) }
+        ensures clean { IfOk result (λ keep. HasCleanDisk (state_in S.Store keep) → HasCleanDisk (state S.Store conn)) }
+        ensures settled { IfOk result (λ keep. HasCleanDisk (state_in S.Store keep) → LeavesRaised setup (state S.Store conn).now (state_in S.Store keep)) }
         ensures mode { IfErr result (λ e. conn.in_transaction ≡ false → e.1.in_transaction ≡ false) }
         ensures refused { IfErr result (λ e. HasCleanDisk (state S.Store e.1) → Refuses 1 e.0 (state S.Store conn)) }
         ensures unchanged { IfErr result (λ e. HasCleanDisk (state S.Store e.1) → IsAsItWas (state S.Store conn) (state S.Store e.1)) }
@@ -90,8 +91,8 @@ impl<T: Start> CentreKeep<FileStore<FileFrom<T>>> {
         start: T,
         setup: Setup,
     ) -> Result<CentreKeep<FileStore<FileFrom<T>>>, KeepError>
-        ensures migrated { IfOk result (λ keep. (old : Database) × (HasCleanDisk (file_state keep.conn) → IsDatabase old × IsIn (image_at T.Start) old × Migrated setup old (file_state keep.conn) × LeavesRaised setup old (file_state keep.conn))) }
-        ensures setup { IfOk result (λ keep. keep.setup ≡ setup) }
+        ensures migrated { IfOk result (λ keep. (old : Database) × (HasCleanDisk (file_state (connection_in keep)) → IsDatabase old × IsIn (image_at T.Start) old × Migrated setup old (file_state (connection_in keep)) × LeavesRaised setup old (file_state (connection_in keep)))) }
+        ensures setup { IfOk result (λ keep. setup_in keep ≡ setup) }
     {
         let conn = match Connection::open_from(rt, path, false, start) {
             Ok(conn) => conn,
@@ -111,8 +112,8 @@ impl CentreKeep<FileStore<File>> {
         path: &str,
         setup: Setup,
     ) -> Result<CentreKeep<FileStore<File>>, KeepError>
-        ensures migrated { IfOk result (λ keep. (old : Database) × (HasCleanDisk (file_state keep.conn) → IsDatabase old × Migrated setup old (file_state keep.conn) × LeavesRaised setup old (file_state keep.conn))) }
-        ensures setup { IfOk result (λ keep. keep.setup ≡ setup) }
+        ensures migrated { IfOk result (λ keep. (old : Database) × (HasCleanDisk (file_state (connection_in keep)) → IsDatabase old × Migrated setup old (file_state (connection_in keep)) × LeavesRaised setup old (file_state (connection_in keep)))) }
+        ensures setup { IfOk result (λ keep. setup_in keep ≡ setup) }
     {
         CentreKeep::migrate_from(rt, path, Unknown, setup)
     }

@@ -1,7 +1,7 @@
 //! A service, what happens to it, and what is told.
 use crate::service::asks::{Asked, START, asks, ticks};
 use crate::service::rows::holds;
-use crate::service::store::Store;
+use crate::service::store::{Limits, Store};
 use crate::service::telling::{To, is_step};
 use sms_base::{Address, Listed, Moment, Octets};
 use sms_centre_spec::jobs::Job;
@@ -57,21 +57,21 @@ fn setup(alloc: Global) -> Result<Setup, Fail> {
 }
 
 // A store of a centre that has no message yet.
-fn opened(alloc: Global) -> Result<Store, Fail> {
+fn opened<'a>(alloc: Global, limits: &'a Limits) -> Result<Store<'a>, Fail> {
     let setup = setup(alloc)?;
-    Ok(Store::new(MemoryKeep::new(alloc, setup)))
+    Ok(Store::new(MemoryKeep::new(alloc, setup), limits))
 }
 
 // ---- turns
 
-fn meets(service: &mut Service<Store>, stimulus: &Stimulus<Job>, fate: Fate, told: &[To]) -> bool {
+fn meets(service: &mut Service<Store<'_>>, stimulus: &Stimulus<Job>, fate: Fate, told: &[To]) -> bool {
     let step = service.step(&Open, stimulus);
     is_step(&step, fate, told)
 }
 
 fn takes_job(
     alloc: Global,
-    service: &mut Service<Store>,
+    service: &mut Service<Store<'_>>,
     seat: usize,
     asked: &Asked,
     fate: Fate,
@@ -82,7 +82,7 @@ fn takes_job(
 }
 
 fn takes_tick(
-    service: &mut Service<Store>,
+    service: &mut Service<Store<'_>>,
     seconds: u32,
     fate: Fate,
     told: &[To],
@@ -91,20 +91,25 @@ fn takes_tick(
     Ok(meets(service, &stimulus, fate, told))
 }
 
-fn reopens(service: &mut Service<Store>) -> bool {
+fn reopens(service: &mut Service<Store<'_>>) -> bool {
     service.reopen().is_ok()
 }
 
-fn take_turn(alloc: Global, service: &mut Service<Store>, turn: &Turn) -> Result<bool, Fail> {
+fn take_turn(
+    alloc: Global,
+    service: &mut Service<Store<'_>>,
+    limits: &Limits,
+    turn: &Turn,
+) -> Result<bool, Fail> {
     match turn {
         Turn::Job(seat, asked, fate, told) => takes_job(alloc, service, *seat, asked, *fate, told),
         Turn::Tick(seconds, fate, told) => takes_tick(service, *seconds, *fate, told),
         Turn::Commits(count) => {
-            service.machine.keep.commits = *count;
+            limits.commits.set(*count);
             Ok(true)
         }
         Turn::Bodies(count) => {
-            service.machine.keep.bodies = *count;
+            limits.bodies.set(*count);
             Ok(true)
         }
         Turn::Reopens => Ok(reopens(service)),
@@ -124,9 +129,14 @@ fn name_of(at: usize) -> &'static str {
     }
 }
 
-fn go(alloc: Global, service: &mut Service<Store>, turns: &[Turn]) -> Result<(), Fail> {
+fn go(
+    alloc: Global,
+    service: &mut Service<Store<'_>>,
+    limits: &Limits,
+    turns: &[Turn],
+) -> Result<(), Fail> {
     for (at, turn) in turns.iter().enumerate() {
-        let holding = take_turn(alloc, service, turn)?;
+        let holding = take_turn(alloc, service, limits, turn)?;
         holds(holding, name_of(at))?;
     }
     Ok(())
@@ -134,6 +144,9 @@ fn go(alloc: Global, service: &mut Service<Store>, turns: &[Turn]) -> Result<(),
 
 /// Each turn of the course is as told.
 pub(crate) fn plays(alloc: Global, turns: &[Turn]) -> Result<(), Fail> {
-    let store = opened(alloc)?;
-    serve_with(alloc, store, |service| go(alloc, service, turns))?
+    let limits = Limits::none();
+    let store = opened(alloc, &limits)?;
+    serve_with(alloc, store, |service| {
+        go(alloc, service, &limits, turns)
+    })?
 }

@@ -1,0 +1,40 @@
+//! Why a run ended early.
+use smslab_lines::lines::Trouble;
+use smslab_measures::BenchError;
+use std::alloc::AllocError;
+use std::io;
+
+/// Why a run ended early.
+#[derive(Clone, Copy)]
+pub(crate) enum Failure {
+    /// The words ask for nothing that is done here.
+    Usage,
+    /// A course ended early, or could not be read.
+    Course(Trouble),
+    /// A measurement failed.
+    Measure(BenchError),
+}
+
+impl From<Trouble> for Failure {
+    fn from(trouble: Trouble) -> Failure {
+        Failure::Course(trouble)
+    }
+}
+
+impl From<BenchError> for Failure {
+    fn from(error: BenchError) -> Failure {
+        Failure::Measure(error)
+    }
+}
+
+impl From<AllocError> for Failure {
+    fn from(_error: AllocError) -> Failure {
+        Failure::Course(Trouble::NoMemory)
+    }
+}
+
+impl From<io::Error> for Failure {
+    fn from(_error: io::Error) -> Failure {
+        Failure::Course(Trouble::Io)
+    }
+}

@@ -1,0 +1,68 @@
+//! The laboratory: courses of both cores and of scripts, whose text is compared with what others worked out, and measurements.
+//!
+//! - `smslab centre` and `smslab handset` run the lines of standard input (`smslab_courses`).
+//! - `smslab scripts` plays the scripts of the working directory, and compares each with the files beside it.
+//! - `smslab codecs` and `smslab store` measure (`smslab_measures`).
+//! - `smslab sections` runs each section of standard input: a line `section WORDS`, and the lines that `smslab WORDS` is to read.
+//!
+//! The stored run has every course and every measurement as a section. Its `stdout` was worked out without this code: by hand, and by the
+//! Python of `tests/plain` and `vectors/`; the checksums of the codecs are those of the C side in `bench/`.
+#![tactic(auto)]
+
+mod failure;
+mod reading;
+mod scripts;
+mod sections;
+mod task;
+mod work;
+
+use crate::failure::Failure;
+use crate::work::run;
+use std::env;
+use std::io::Print;
+use std::process::ExitCode;
+
+const USAGE: &str = "usage: smslab sections < TEXT\n\
+    \x20      smslab centre < LINES\n\
+    \x20      smslab handset < LINES\n\
+    \x20      smslab scripts\n\
+    \x20      smslab codecs [TURNS [KIND]]\n\
+    \x20      smslab store [FINISHED OPEN TURNS [FILE]]\n\
+    \x20      smslab store again FROM TO\n\
+    TURNS is how often each kind of work is done, 64 by itself,\n\
+    FINISHED messages are over and OPEN ones wait, 1000 and 400 by themselves,\n\
+    FILE is where the store is made, in memory by itself; one that has messages is taken as filled so,\n\
+    again: the rows of the store FROM, whose messages have one part each, are committed to TO in their order,\n\
+    each submission and then each delivery\n";
+
+fn main(rt: HostRuntime) -> ExitCode {
+    match run_given(&rt) {
+        Ok(()) => ExitCode::from(0),
+        Err(failure) => ExitCode::from(failed(&rt, failure)),
+    }
+}
+
+fn failed(rt: &HostRuntime, failure: Failure) -> u8 {
+    let (status, told) = match failure {
+        Failure::Usage => (2, eprint!(rt; "{USAGE}")),
+        Failure::Course(trouble) => (3, eprint!(rt; "smslab: {trouble}\n")),
+        Failure::Measure(error) => (3, eprint!(rt; "smslab: {error}\n")),
+    };
+    match told {
+        Ok(()) => status,
+        Err(_) => 5,
+    }
+}
+
+// Does what the words behind the program's name ask for.
+fn run_given(rt: &HostRuntime) -> Result<(), Failure> {
+    let mut owned = Vec::new(rt.alloc());
+    for word in env::args(rt)?.skip(1) {
+        owned.push(word)?;
+    }
+    let mut words = Vec::new(rt.alloc());
+    for word in owned.iter() {
+        words.push(word.as_str())?;
+    }
+    run(rt, words.as_slice())
+}

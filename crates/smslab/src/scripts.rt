@@ -1,0 +1,197 @@
+//! Plays scripts, and compares each with the files beside it: `NAME.report` is its report or what is written on standard error,
+//! `NAME.lines` are lines of its report, `NAME.ladder` is its ladder, `NAME.pcap` its capture. Some scripts are played again with each event
+//! stopped in turn.
+
+mod stops;
+
+use crate::scripts::stops::holds_with_stops;
+use sms_world::running::{run_capture, run_ladder, run_sim};
+use std::alloc::{AllocError, Global};
+use std::fs;
+use std::io::{self, Print};
+
+const WHOLE: &[&str] = &[
+    "one_message",
+    "empty_text",
+    "too_long",
+    "answer_lost",
+    "centre_restarts",
+    "handset_full",
+    "late_answer",
+    "parts_in_disorder",
+    "discarded_group",
+    "more_to_come",
+    "urgent_goes_first",
+    "reference_reused",
+    "stopped_before",
+    "stopped_after",
+    "bad_line",
+    "no_such_frame",
+    "no_such_side",
+    "no_such_account",
+    "no_handset",
+];
+
+const LINES: &[&str] = &[
+    "references_run_out",
+    "references_come_around",
+    "sent_again_by_a_handset",
+];
+
+// What a script leads to: its report, or what is told of it on standard error.
+fn told(alloc: Global, script: &str) -> Result<String, AllocError> {
+    let mut input = script.as_bytes();
+    let mut report: Vec<u8> = Vec::new(alloc);
+    match run_sim(alloc, &mut input, &mut report) {
+        Ok(()) => match String::from_utf8(report) {
+            Ok(text) => Ok(text),
+            Err(_) => format!(in alloc; "no text"),
+        },
+        Err(error) => format!(in alloc; "smsim: {error}\n"),
+    }
+}
+
+fn has_line(report: &str, line: &str) -> bool {
+    report.lines().any(|other| other == line)
+}
+
+fn has_lines(report: &str, lines: &str) -> bool {
+    for line in lines.lines() {
+        if !has_line(report, line) {
+            return false;
+        }
+    }
+    true
+}
+
+// The script's ladder, or what is told of it on standard error.
+fn drawn(alloc: Global, script: &str) -> Result<String, AllocError> {
+    let mut input = script.as_bytes();
+    let mut ladder: Vec<u8> = Vec::new(alloc);
+    match run_ladder(alloc, &mut input, &mut ladder) {
+        Ok(()) => match String::from_utf8(ladder) {
+            Ok(text) => Ok(text),
+            Err(_) => format!(in alloc; "no text"),
+        },
+        Err(error) => format!(in alloc; "smsim: {error}\n"),
+    }
+}
+
+const LADDERS: &[&str] = &[
+    "answer_lost",
+    "centre_restarts",
+    "handset_full",
+    "parts_in_disorder",
+    "requests",
+];
+
+// The script's capture file; none where it can't be taken.
+fn captured(alloc: Global, script: &str) -> Vec<u8> {
+    let mut input = script.as_bytes();
+    let mut capture: Vec<u8> = Vec::new(alloc);
+    match run_capture(alloc, &mut input, &mut capture) {
+        Ok(()) => capture,
+        Err(_) => Vec::new(alloc),
+    }
+}
+
+const CAPTURES: &[&str] = &["answer_lost"];
+
+const STOPPED: &[&str] = &["one_message", "answer_lost", "late_answer"];
+
+fn judge(rt: &HostRuntime, name: &str, kind: &str, holds: bool, told: &str) -> io::Result<()> {
+    if holds {
+        println!(rt; "{name}.{kind}: as expected")
+    } else {
+        println!(rt; "{name}.{kind}: DIFFERS\n{told}")
+    }
+}
+
+fn path_of(rt: &HostRuntime, name: &str, kind: &str) -> io::Result<String> {
+    let path = format!(in rt.alloc(); "{name}.{kind}")?;
+    Ok(path)
+}
+
+fn read(rt: &HostRuntime, name: &str, kind: &str) -> io::Result<String> {
+    let path = path_of(rt, name, kind)?;
+    fs::read_to_string(rt, path.as_str())
+}
+
+fn judge_report(rt: &HostRuntime, name: &str) -> io::Result<()> {
+    let script = read(rt, name, "script")?;
+    let report = read(rt, name, "report")?;
+    let told = told(rt.alloc(), script.as_str())?;
+    judge(
+        rt,
+        name,
+        "report",
+        told.as_str() == report.as_str(),
+        told.as_str(),
+    )
+}
+
+fn judge_lines(rt: &HostRuntime, name: &str) -> io::Result<()> {
+    let script = read(rt, name, "script")?;
+    let lines = read(rt, name, "lines")?;
+    let told = told(rt.alloc(), script.as_str())?;
+    judge(
+        rt,
+        name,
+        "lines",
+        has_lines(told.as_str(), lines.as_str()),
+        told.as_str(),
+    )
+}
+
+fn judge_ladder(rt: &HostRuntime, name: &str) -> io::Result<()> {
+    let script = read(rt, name, "script")?;
+    let ladder = read(rt, name, "ladder")?;
+    let drawn = drawn(rt.alloc(), script.as_str())?;
+    judge(
+        rt,
+        name,
+        "ladder",
+        drawn.as_str() == ladder.as_str(),
+        drawn.as_str(),
+    )
+}
+
+fn judge_capture(rt: &HostRuntime, name: &str) -> io::Result<()> {
+    let script = read(rt, name, "script")?;
+    let path = path_of(rt, name, "pcap")?;
+    let capture = fs::read(rt, path.as_str())?;
+    let captured = captured(rt.alloc(), script.as_str());
+    judge(
+        rt,
+        name,
+        "pcap",
+        captured.as_slice() == capture.as_slice(),
+        "",
+    )
+}
+
+fn judge_stops(rt: &HostRuntime, name: &str) -> io::Result<()> {
+    let script = read(rt, name, "script")?;
+    let holds = holds_with_stops(rt.alloc(), script.as_str())?;
+    judge(rt, name, "script with stops", holds, "")
+}
+
+/// Plays each script of the working directory, and prints whether it leads to what its files have.
+pub(crate) fn run(rt: &HostRuntime) -> io::Result<()> {
+    for name in WHOLE {
+        judge_report(rt, name)?;
+    }
+    for name in LINES {
+        judge_lines(rt, name)?;
+    }
+    for name in LADDERS {
+        judge_ladder(rt, name)?;
+    }
+    for name in CAPTURES {
+        judge_capture(rt, name)?;
+    }
+    for name in STOPPED {
+        judge_stops(rt, name)?;
+    }
+    Ok(())
+}

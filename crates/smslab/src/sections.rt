@@ -1,0 +1,40 @@
+//! A text of sections: a line `section WORDS`, and the lines that belong to it.
+use crate::failure::Failure;
+use crate::task::task_in;
+use crate::work::run_task;
+use std::io::Print;
+
+fn begins(line: &str) -> bool {
+    line.starts_with("section ")
+}
+
+/// Does what each section asks for, in their order, and prints its first line before. What comes before the first section is a comment.
+pub(crate) fn run_sections(rt: &HostRuntime, lines: &[&str]) -> Result<(), Failure> {
+    for section in lines.chunk_by(|_, line| !begins(line)) {
+        run_section(rt, section)?;
+    }
+    Ok(())
+}
+
+fn run_section(rt: &HostRuntime, section: &[&str]) -> Result<(), Failure> {
+    match section.split_first() {
+        Some((head, lines)) if begins(head) => run_headed(rt, head, lines),
+        _ => Ok(()),
+    }
+}
+
+fn run_headed(rt: &HostRuntime, head: &str, lines: &[&str]) -> Result<(), Failure> {
+    println!(rt; "{head}")?;
+    let mut words = Vec::new(rt.alloc());
+    for word in head.split(' ').skip(1) {
+        words.push(word)?;
+    }
+    run_words(rt, words.as_slice(), lines)
+}
+
+fn run_words(rt: &HostRuntime, words: &[&str], lines: &[&str]) -> Result<(), Failure> {
+    match task_in(words) {
+        Some(task) => run_task(rt, &task, lines),
+        None => Err(Failure::Usage),
+    }
+}

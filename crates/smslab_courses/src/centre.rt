@@ -1,0 +1,34 @@
+//! Runs a centre over lines of text, and prints what follows from each.
+//!
+//! - `row NAME` begins a new centre. Each of its lines is printed with the answer, the frames and the receipts.
+//! - `course NAME` begins a new centre. After each of its lines a checksum of these and of all rows is printed.
+//! - `start HANDSET` begins a new centre whose link to that handset is up at once, and prints as the centre before it did.
+//! - `repeat COUNT LINE` makes the event COUNT times and prints nothing of it.
+//! - `unread LINE` prints whether the event can be planned with a store that refuses to read.
+//! - `table`, `receipts` and `rows` print what the centre and its store hold.
+//! - `measure FINISHED OPEN TURNS` prints a checksum for each kind of event, and on standard error how long the kind took.
+//!
+//! Every other line is an event. A line that is empty or begins with `#` is a comment.
+
+mod beginning;
+mod course;
+mod lines;
+mod measuring;
+
+use crate::centre::beginning::play_section;
+use crate::centre::course::Telling;
+use smslab_lines::lines::Trouble;
+
+// Whether the line begins a new centre.
+fn begins(line: &str) -> bool {
+    matches!(line.split(' ').next(), Some("row" | "course" | "start"))
+}
+
+/// Runs the lines. Those before the first that begins a centre are comments.
+pub fn run_lines(rt: &HostRuntime, lines: &[&str]) -> Result<(), Trouble> {
+    let mut telling = Telling::Row;
+    for section in lines.chunk_by(|_, line| !begins(line)) {
+        play_section(rt, &mut telling, section)?;
+    }
+    Ok(())
+}

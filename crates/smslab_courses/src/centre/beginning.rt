@@ -1,0 +1,122 @@
+//! How a new centre begins. It is lent, as its store is, so that this program proves of neither how it is let go.
+ghost use Rattle.std.specs.Prelude.{ℕ, List};
+ghost use Rattle.sms_base.specs.Among.{Among};
+ghost use Rattle.sms_centre_rows.specs.waiting.SoundGivings.{IsNumber};
+ghost use Rattle.sms_centre_spec.specs.SoundCore.{AreDifferent};
+
+use crate::centre::course::{Course, Telling, alone_at, trouble_of};
+use crate::centre::lines::play_lines;
+use sms_base::Digits;
+use sms_base::lending::lend;
+use sms_centre::{Centre, first_rows, with_centre};
+use sms_rows::table::Table;
+use sms_store_memory::centre::MemoryKeep;
+use smslab_lines::acts::setup;
+use smslab_lines::lines::{Trouble, place_named, word};
+use std::io::Print;
+
+/// Plays the lines with a new centre, begun as the first of them says. What is told of a centre that begins with a link up is what is told of
+/// the one before it.
+pub(crate) fn play_section(
+    rt: &HostRuntime,
+    telling: &mut Telling,
+    section: &[&str],
+) -> Result<(), Trouble> {
+    match section.split_first() {
+        Some((head, lines)) => play_headed(rt, telling, head, lines),
+        None => Ok(()),
+    }
+}
+
+// The lines before the first that begins a centre say nothing.
+fn play_headed(
+    rt: &HostRuntime,
+    telling: &mut Telling,
+    head: &str,
+    lines: &[&str],
+) -> Result<(), Trouble> {
+    match word(head, 0)? {
+        "row" => play_named(rt, telling, Telling::Row, head, lines),
+        "course" => play_named(rt, telling, Telling::Course, head, lines),
+        "start" => play_started(rt, *telling, head, lines),
+        _ => Ok(()),
+    }
+}
+
+fn play_named(
+    rt: &HostRuntime,
+    telling: &mut Telling,
+    named: Telling,
+    head: &str,
+    lines: &[&str],
+) -> Result<(), Trouble> {
+    println!(rt; "{head}")?;
+    *telling = named;
+    play_over(rt, named, &[], lines)
+}
+
+fn play_started(
+    rt: &HostRuntime,
+    telling: Telling,
+    head: &str,
+    lines: &[&str],
+) -> Result<(), Trouble> {
+    if telling == Telling::Row {
+        println!(rt; "{head}")?;
+    }
+    let handsets = alone_at(place_named(word(head, 1)?)?)?;
+    play_over(rt, telling, &handsets, lines)
+}
+
+// A new centre whose links to these handsets are up at once.
+fn play_over(
+    rt: &HostRuntime,
+    telling: Telling,
+    handsets: &[Digits],
+    lines: &[&str],
+) -> Result<(), Trouble>
+    requires numbers { (number : List ℕ) → Among number handsets.now → IsNumber number }
+    requires apart { AreDifferent handsets.now }
+{
+    lend(MemoryKeep::new(rt.alloc(), setup(rt.alloc())?), |keep| {
+        play_kept(rt, telling, handsets, lines, keep)
+    })
+}
+
+fn play_kept(
+    rt: &HostRuntime,
+    telling: Telling,
+    handsets: &[Digits],
+    lines: &[&str],
+    keep: &mut MemoryKeep,
+) -> Result<(), Trouble>
+    requires numbers { (number : List ℕ) → Among number handsets.now → IsNumber number }
+    requires apart { AreDifferent handsets.now }
+{
+    let alloc = rt.alloc();
+    let rows = first_rows(alloc, setup(alloc)?);
+    let played = with_centre(alloc, rows, handsets, Table::new(alloc), |centre| {
+        play_with(rt, telling, lines, keep, centre)
+    });
+    match played {
+        Ok(done) => done,
+        Err(error) => Err(trouble_of(error)),
+    }
+}
+
+fn play_with(
+    rt: &HostRuntime,
+    telling: Telling,
+    lines: &[&str],
+    keep: &mut MemoryKeep,
+    centre: &mut Centre,
+) -> Result<(), Trouble> {
+    let mut course = Course {
+        alloc: rt.alloc(),
+        centre,
+        keep,
+        telling,
+        is_unread: false,
+    };
+    play_lines(rt, &mut course, lines)
+}

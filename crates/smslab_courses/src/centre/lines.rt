@@ -1,0 +1,107 @@
+//! Lines that are played with a centre.
+use crate::centre::course::{Course, Telling};
+use crate::centre::measuring::measure;
+use smslab_lines::acts::{tell_receipts, tell_rows, tell_table};
+use smslab_lines::lines::{Trouble, place_named, read_number, session, value, word};
+use std::io::Print;
+
+/// Plays the lines, each with what the lines before it left.
+pub(crate) fn play_lines(
+    rt: &HostRuntime,
+    course: &mut Course<'_>,
+    lines: &[&str],
+) -> Result<(), Trouble> {
+    for line in lines {
+        play_line(rt, course, line)?;
+    }
+    Ok(())
+}
+
+fn play_line(rt: &HostRuntime, course: &mut Course<'_>, line: &str) -> Result<(), Trouble> {
+    if line.is_empty() || line.starts_with('#') {
+        return Ok(());
+    }
+    if course.telling == Telling::Row {
+        println!(rt; "{line}")?;
+    }
+    match word(line, 0)? {
+        "repeat" => repeat(rt, course, line),
+        "unread" => unread(rt, course, line),
+        "measure" => measure(rt, course.alloc, course.centre, line),
+        kind => look_or_act(rt, course, kind, line),
+    }
+}
+
+fn look_or_act(
+    rt: &HostRuntime,
+    course: &mut Course<'_>,
+    kind: &str,
+    line: &str,
+) -> Result<(), Trouble> {
+    match kind {
+        "table" => tell_centre_table(rt, course),
+        "receipts" => tell_centre_receipts(rt, course),
+        "rows" => tell_rows(rt, course.keep),
+        _ => act(rt, course, kind, line),
+    }
+}
+
+fn tell_centre_table(rt: &HostRuntime, course: &Course<'_>) -> Result<(), Trouble> {
+    let table = course.centre.table()?;
+    tell_table(rt, table.as_slice())
+}
+
+fn tell_centre_receipts(rt: &HostRuntime, course: &Course<'_>) -> Result<(), Trouble> {
+    let receipts = course.centre.receipts()?;
+    tell_receipts(rt, receipts.as_slice())
+}
+
+fn act(rt: &HostRuntime, course: &mut Course<'_>, kind: &str, line: &str) -> Result<(), Trouble> {
+    match kind {
+        "restart" => {
+            start_again(course, line)?;
+            course.tell_nothing(rt)
+        }
+        _ => course.happen(rt, line),
+    }
+}
+
+fn start_again(course: &mut Course<'_>, line: &str) -> Result<(), Trouble> {
+    if let Some(name) = value(line, "up") {
+        return course.restart_awaiting(place_named(name)?);
+    }
+    match value(line, "session") {
+        Some(_) => course.restart_seated(session(line)?),
+        None => course.restart(&[]),
+    }
+}
+
+// What stands behind the first word.
+fn rest(line: &str) -> &str {
+    match line.split_once(' ') {
+        Some((_, rest)) => rest,
+        None => "",
+    }
+}
+
+// `repeat COUNT LINE`: the line so many times, of which nothing is told.
+fn repeat(rt: &HostRuntime, course: &mut Course<'_>, line: &str) -> Result<(), Trouble> {
+    let count = read_number(word(line, 1)?)?;
+    let line = rest(rest(line));
+    let telling = course.telling;
+    course.telling = Telling::Nothing;
+    for _ in 0..count {
+        act(rt, course, word(line, 0)?, line)?;
+    }
+    course.telling = telling;
+    course.tell_nothing(rt)
+}
+
+// `unread LINE`: what is planned of it with a store that can't be read.
+fn unread(rt: &HostRuntime, course: &mut Course<'_>, line: &str) -> Result<(), Trouble> {
+    let line = rest(line);
+    course.is_unread = true;
+    act(rt, course, word(line, 0)?, line)?;
+    course.is_unread = false;
+    Ok(())
+}

@@ -1,0 +1,300 @@
+//! How long each kind of event takes, and how that grows with what a centre holds: it is filled with messages that are over and messages
+//! that wait for handsets that are away; then each kind of event happens so many times. docs/PERFORMANCE.md says what each kind is.
+ghost use Rattle.sms_centre_spec.specs.SoundCore.{HasNumber};
+ghost use Rattle.sms_centre.specs.Planning.{Fits};
+
+use crate::centre::course::restart_with;
+use sms_centre::{Centre, CentreEvent, Planned, Told, first_rows};
+use sms_rows::table::Table;
+use smslab_lines::acts::{
+    Offered, Seen, cancelling, hello, link_coming, link_going, querying, sent, setup,
+};
+use smslab_lines::lines::{
+    Amount, Asked, Meter, StandIn, Trouble, handset_at, moment, read_number, text_at, word,
+};
+use smslab_lines::measuring::Stopwatch;
+use std::alloc::Global;
+
+/// The place of the handset that is up. The others are away.
+const UP: u64 = 999_999;
+
+/// What an application asks of a message: that it be taken, where it is, and that it be given up.
+#[derive(Clone, Copy)]
+struct Asking {
+    submission: Meter,
+    query: Meter,
+    cancel: Meter,
+}
+
+impl Asking {
+    fn tell(&self, rt: &HostRuntime) -> Result<(), Trouble> {
+        self.submission.tell(rt)?;
+        self.query.tell(rt)?;
+        self.cancel.tell(rt)
+    }
+}
+
+/// What is offered, and what comes of its acknowledgement.
+#[derive(Clone, Copy)]
+struct Giving {
+    offer: Meter,
+    acknowledgement: Meter,
+}
+
+impl Giving {
+    fn tell(&self, rt: &HostRuntime) -> Result<(), Trouble> {
+        self.offer.tell(rt)?;
+        self.acknowledgement.tell(rt)
+    }
+}
+
+/// A centre that is measured, over a store that keeps nothing, and how many seconds it has run.
+#[derive(Drop)]
+struct Measured<'a> {
+    rt: &'a HostRuntime,
+    centre: &'a mut Centre,
+    store: StandIn,
+    seconds: u64,
+}
+
+fn amount_in(line: &str) -> Result<Amount, Trouble> {
+    Ok(Amount {
+        finished: read_number(word(line, 1)?)?,
+        open: read_number(word(line, 2)?)?,
+        turns: read_number(word(line, 3)?)?,
+    })
+}
+
+fn begin_anew(alloc: Global, centre: &mut Centre) -> Result<(), Trouble> {
+    let rows = first_rows(alloc, setup(alloc)?);
+    restart_with(centre, rows, &[], Table::new(alloc))
+}
+
+/// `measure FINISHED OPEN TURNS`: a new centre in which FINISHED messages are over and OPEN ones wait, and each kind of event TURNS times.
+/// Another new one is left.
+pub(crate) fn measure(
+    rt: &HostRuntime,
+    alloc: Global,
+    centre: &mut Centre,
+    line: &str,
+) -> Result<(), Trouble> {
+    let amount = amount_in(line)?;
+    begin_anew(alloc, centre)?;
+    measure_amount(rt, alloc, centre, &amount)?;
+    begin_anew(alloc, centre)
+}
+
+fn measure_amount(
+    rt: &HostRuntime,
+    alloc: Global,
+    centre: &mut Centre,
+    amount: &Amount,
+) -> Result<(), Trouble> {
+    let mut measured = Measured {
+        rt,
+        centre,
+        store: StandIn::new(alloc, true),
+        seconds: 0,
+    };
+    measured.fill(amount)?;
+    measured.time_all(amount)
+}
+
+fn adopted(centre: &mut Centre, planned: Planned) -> Told
+    requires { Fits centre.old planned }
+{
+    centre.adopt(planned)
+}
+
+fn happens(
+    centre: &mut Centre,
+    store: &mut StandIn,
+    event: &CentreEvent<'_>,
+) -> Result<Told, Trouble>
+    requires { HasNumber event.now }
+{
+    match centre.plan(event, store) {
+        Ok(planned) => Ok(adopted(centre, planned)),
+        Err(error) => Err(Trouble::from(error)),
+    }
+}
+
+// For what is not told.
+fn untold() -> Meter {
+    Meter::new("other")
+}
+
+impl<'a> Measured<'a> {
+    // It happens, and is asked how long that takes.
+    fn time(&mut self, meter: &mut Meter, event: &CentreEvent<'_>) -> Result<Seen, Trouble>
+        requires { HasNumber event.now }
+    {
+        let watch = Stopwatch::start(self.rt)?;
+        let told = happens(self.centre, &mut self.store, event)?;
+        meter.stop(self.rt, watch)?;
+        meter.take(&told.answer, told.frames.as_slice());
+        Ok(Seen::of(&told.answer, told.frames.as_slice()))
+    }
+
+    // A second later.
+    fn pass(&mut self) -> Result<(), Trouble> {
+        self.seconds = self.seconds.saturating_add(1);
+        self.tick(&mut untold())
+    }
+
+    fn tick(&mut self, meter: &mut Meter) -> Result<(), Trouble> {
+        let now = moment(self.seconds)?;
+        let _seen = self.time(meter, &CentreEvent::Tick(now))?;
+        Ok(())
+    }
+
+    // ---- what applications ask
+
+    // `hello` comes for the handset at that place.
+    fn submit(&mut self, meter: &mut Meter, place: u64) -> Result<Seen, Trouble> {
+        let text = text_at(self.rt.alloc(), place)?;
+        self.time(meter, &hello(&Asked::of(text.as_str())))
+    }
+
+    fn query(&mut self, meter: &mut Meter, id: &[u8]) -> Result<(), Trouble> {
+        let _seen = self.time(meter, &querying(&Asked::of(""), id))?;
+        Ok(())
+    }
+
+    fn cancel(&mut self, meter: &mut Meter, id: &[u8]) -> Result<(), Trouble> {
+        let _seen = self.time(meter, &cancelling(&Asked::of(""), id))?;
+        Ok(())
+    }
+
+    fn ask(&mut self, asking: &mut Asking, place: u64) -> Result<(), Trouble> {
+        let id = self.submit(&mut asking.submission, place)?.id()?;
+        self.query(&mut asking.query, &id)?;
+        self.cancel(&mut asking.cancel, &id)
+    }
+
+    fn ask_all(&mut self, amount: &Amount) -> Result<Asking, Trouble> {
+        let mut asking = Asking {
+            submission: Meter::new("submission"),
+            query: Meter::new("query"),
+            cancel: Meter::new("cancel"),
+        };
+        for turn in 0..amount.turns {
+            if amount.is_late(turn) {
+                self.pass()?;
+            }
+            self.ask(&mut asking, amount.place(turn))?;
+        }
+        Ok(asking)
+    }
+
+    // ---- what goes to handsets
+
+    fn link_up(&mut self, meter: &mut Meter, place: u64) -> Result<Seen, Trouble> {
+        let handset = handset_at(self.rt.alloc(), place)?;
+        self.time(meter, &link_coming(handset))
+    }
+
+    fn link_down(&mut self, place: u64) -> Result<(), Trouble> {
+        let handset = handset_at(self.rt.alloc(), place)?;
+        let _seen = self.time(&mut untold(), &link_going(handset))?;
+        Ok(())
+    }
+
+    fn hear(&mut self, meter: &mut Meter, place: u64, octets: &[u8]) -> Result<(), Trouble> {
+        let handset = handset_at(self.rt.alloc(), place)?;
+        let _seen = self.time(meter, &sent(handset, octets))?;
+        Ok(())
+    }
+
+    // The handset acknowledges what was offered, and then takes it.
+    fn take(&mut self, meter: &mut Meter, place: u64, offered: Offered) -> Result<(), Trouble> {
+        self.hear(&mut untold(), place, &offered.heard())?;
+        self.hear(meter, place, &offered.taken())
+    }
+
+    // A message comes for the handset that is up, goes at once, and is taken.
+    fn give(&mut self, giving: &mut Giving) -> Result<(), Trouble> {
+        self.pass()?;
+        let offered = self.submit(&mut giving.offer, UP)?.offered()?;
+        self.take(&mut giving.acknowledgement, UP, offered)
+    }
+
+    fn give_all(&mut self, turns: u64) -> Result<Giving, Trouble> {
+        let mut giving = Giving {
+            offer: Meter::new("offer"),
+            acknowledgement: Meter::new("acknowledgement"),
+        };
+        let _seen = self.link_up(&mut untold(), UP)?;
+        for _ in 0..turns {
+            self.give(&mut giving)?;
+        }
+        Ok(giving)
+    }
+
+    // A handset for which messages wait comes up, takes the first, and goes down again while the next is offered.
+    fn give_first(&mut self, giving: &mut Giving, place: u64) -> Result<(), Trouble> {
+        let offered = self.link_up(&mut giving.offer, place)?.offered()?;
+        self.take(&mut giving.acknowledgement, place, offered)?;
+        self.link_down(place)
+    }
+
+    // Each turn takes one of a handset's messages and offers another.
+    fn give_first_of_all(&mut self, amount: &Amount) -> Result<Giving, Trouble> {
+        let mut giving = Giving {
+            offer: Meter::new("link_up"),
+            acknowledgement: Meter::new("next_offer"),
+        };
+        for turn in 0..amount.turns.min(amount.open / 2) {
+            self.give_first(&mut giving, amount.place(turn))?;
+        }
+        Ok(giving)
+    }
+
+    // ---- time, and all
+
+    fn tick_all(&mut self, turns: u64) -> Result<Meter, Trouble> {
+        let mut meter = Meter::new("tick");
+        for _ in 0..turns {
+            self.tick(&mut meter)?;
+        }
+        Ok(meter)
+    }
+
+    fn time_all(&mut self, amount: &Amount) -> Result<(), Trouble> {
+        self.ask_all(amount)?.tell(self.rt)?;
+        self.give_all(amount.turns)?.tell(self.rt)?;
+        self.give_first_of_all(amount)?.tell(self.rt)?;
+        self.tick_all(amount.turns)?.tell(self.rt)
+    }
+
+    // ---- what a centre holds
+
+    // A message comes and is given up.
+    fn finish(&mut self, place: u64) -> Result<(), Trouble> {
+        let id = self.submit(&mut untold(), place)?.id()?;
+        self.cancel(&mut untold(), &id)
+    }
+
+    fn finish_all(&mut self, amount: &Amount) -> Result<(), Trouble> {
+        for turn in 0..amount.finished {
+            if amount.is_late(turn) {
+                self.pass()?;
+            }
+            self.finish(amount.place(turn))?;
+        }
+        self.pass()
+    }
+
+    fn leave_all(&mut self, amount: &Amount) -> Result<(), Trouble> {
+        for turn in 0..amount.open {
+            let _seen = self.submit(&mut untold(), amount.place(turn))?;
+        }
+        self.pass()
+    }
+
+    // As many messages are over and wait.
+    fn fill(&mut self, amount: &Amount) -> Result<(), Trouble> {
+        self.finish_all(amount)?;
+        self.leave_all(amount)
+    }
+}
