@@ -4,7 +4,7 @@ use Rattle.sms_centre_spec.specs.Draft.{in_store}
 use Rattle.sms_centre_spec.specs.Transfers.{part_ended}
 use Rattle.sms_centre_spec.proofs.Steady.{message_own}
 use Rattle.sms_centre_draft.specs.Working.{Shows}
-use Rattle.sms_centre_draft.proofs.working.Working.part_ended.Goals as goal
+use Rattle.sms_centre_transfers.proofs.endings.part_ended.Goals as goal
 
 pub returns-in-Refused : goal.returns-in-Refused
 returns-in-Refused c = λ d p shows there is of pending undone.

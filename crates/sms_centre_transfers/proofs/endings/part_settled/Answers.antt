@@ -5,7 +5,7 @@ use Rattle.sms_centre_rows.specs.waiting.Trying.{finished}
 use Rattle.sms_centre_spec.specs.Draft.{in_store, with_part_at}
 use Rattle.sms_centre_spec.proofs.Steady.{message_own}
 use Rattle.sms_centre_draft.specs.Working.{Shows}
-use Rattle.sms_centre_draft.proofs.working.Working.part_settled.Goals as goal
+use Rattle.sms_centre_transfers.proofs.endings.part_settled.Goals as goal
 
 pub returns : goal.returns
 returns c = λ d p shows there is of pending.
