@@ -52,7 +52,7 @@ impl<'a> Draft<'a> {
     }
 
     /// The transfer that this side began has ended.
-    pub(crate) fn transfer_ended(
+    pub fn transfer_ended(
         &mut self,
         transfer: &Carried,
         ending: &Ending,
