@@ -62,7 +62,11 @@ fn complete(working: &mut Working<'_>, message: &MessageRow) -> Result<(), Alloc
 }
 
 // The part was acknowledged.
-fn part_settled(working: &mut Working<'_>, entry: &PartEntry, message: &MessageRow) -> Result<(), AllocError>
+fn part_settled(
+    working: &mut Working<'_>,
+    entry: &PartEntry,
+    message: &MessageRow,
+) -> Result<(), AllocError>
     ensures { (d : Draft) (p : PartRowOf) → Shows d working.old → part_at p.id p.number (parts_in d.store) ≡ Some p → part_entry p ≡ entry.now
         → message_at p.id (messages_in d.store) ≡ Some message.now → is_pending message.now ≡ true
         → OnOk result (Shows (in_store (complete_of message.now (with_part_at p (finished_of p.progress) d.store)) d) working.new) }
@@ -91,7 +95,11 @@ fn part_ended(
 }
 
 // Nothing more is offered to a handset without memory.
-fn line_ended(working: &mut Working<'_>, verdict: Verdict, handset: Digits) -> Result<(), AllocError>
+fn line_ended(
+    working: &mut Working<'_>,
+    verdict: Verdict,
+    handset: Digits,
+) -> Result<(), AllocError>
     requires digits { AllDigits handset }
     ensures { (d : Draft) → Shows d working.old → OnOk result (Shows (on_air (line_ended_of verdict handset d.air) d) working.new) }
 {
@@ -151,7 +159,8 @@ fn part_concluded(
         → OnOk result (Shows (ended_with_of (verdict_on_ending (Part id number) ending.now d.store) handset (Part id number) d) working.new) }
 {
     match working.open_part(id, number)? {
-        Some((entry, message)) => part_ended_at(working, handset, id, number, ending, &entry, &message,
+        Some((entry, message)) => part_ended_at(
+            working, handset, id, number, ending, &entry, &message,
         ),
         None => Ok(()),
     }

@@ -13,7 +13,11 @@ use sms_link::{Ending, Upward};
 use std::alloc::AllocError;
 
 // What was under way to the handset has failed.
-fn lost(working: &mut Working<'_>, handset: Digits, transfer: Option<Carried>) -> Result<(), AllocError>
+fn lost(
+    working: &mut Working<'_>,
+    handset: Digits,
+    transfer: Option<Carried>,
+) -> Result<(), AllocError>
     requires digits { AllDigits handset }
     ensures { (d : Draft) → Shows d working.old → OnOk result (Shows (lost_of handset transfer d) working.new) }
 {
@@ -34,7 +38,11 @@ pub fn lower(working: &mut Working<'_>, handset: Digits) -> Result<(), AllocErro
 }
 
 // A transfer to the handset that a timer ended has failed.
-fn timed_out(working: &mut Working<'_>, handset: Digits, up: Option<Upward>) -> Result<(), AllocError>
+fn timed_out(
+    working: &mut Working<'_>,
+    handset: Digits,
+    up: Option<Upward>,
+) -> Result<(), AllocError>
     requires digits { AllDigits handset }
     ensures { (d : Draft) → Shows d working.old → OnOk result (Shows (timed_out_of handset up d) working.new) }
 {

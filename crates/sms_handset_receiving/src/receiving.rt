@@ -80,7 +80,9 @@ fn no_room(draft: &mut Draft<'_>, reference: u8, tag: Holder) -> Result<(), NoMe
     ensures { OnOk result (draft.new ≡ no_room_of reference tag draft.old) }
 {
     draft.flag();
-    refuse(draft, reference,
+    refuse(
+        draft,
+        reference,
         tag,
         RpCause::MemoryCapacityExceeded,
         MEMORY_CAPACITY_EXCEEDED,
@@ -88,7 +90,12 @@ fn no_room(draft: &mut Draft<'_>, reference: u8, tag: Holder) -> Result<(), NoMe
 }
 
 // A message that is no part of an open group.
-fn single_came(draft: &mut Draft<'_>, reference: u8, tag: Holder, tpdu: &[u8]) -> Result<(), NoMemory>
+fn single_came(
+    draft: &mut Draft<'_>,
+    reference: u8,
+    tag: Holder,
+    tpdu: &[u8],
+) -> Result<(), NoMemory>
     requires untouched { draft.old.changes ≡ no_changes }
     ensures { OnOk result (draft.new ≡ single_came_of reference tag tpdu.now draft.old) }
 {
@@ -246,7 +253,12 @@ fn report_came(
     accept(draft, reference, tag, tpdu)
 }
 
-fn tpdu_came(draft: &mut Draft<'_>, reference: u8, tag: Holder, tpdu: &[u8]) -> Result<Regrouping, NoMemory>
+fn tpdu_came(
+    draft: &mut Draft<'_>,
+    reference: u8,
+    tag: Holder,
+    tpdu: &[u8],
+) -> Result<Regrouping, NoMemory>
     requires untouched { draft.old.changes ≡ no_changes }
     ensures moves { OnOk result (draft.new ≡ tpdu_came_of reference tag tpdu.now (down_at Data tpdu.now) draft.old) }
     ensures groups { IfOk result (λ change. change ≡ tpdu_groups tpdu.now (down_at Data tpdu.now) draft.old) }
@@ -256,7 +268,9 @@ fn tpdu_came(draft: &mut Draft<'_>, reference: u8, tag: Holder, tpdu: &[u8]) -> 
             return deliver_came(draft, reference, tag, tpdu, &message);
         }
         Ok(Down::StatusReport(report)) => report_came(draft, reference, tag, tpdu, &report)?,
-        _ => refuse(draft, reference,
+        _ => refuse(
+            draft,
+            reference,
             tag,
             RpCause::InvalidMandatoryInformation,
             UNSPECIFIED,
@@ -266,7 +280,12 @@ fn tpdu_came(draft: &mut Draft<'_>, reference: u8, tag: Holder, tpdu: &[u8]) -> 
 }
 
 // RP-DATA.
-fn data_came(draft: &mut Draft<'_>, reference: u8, tag: Holder, tpdu: &[u8]) -> Result<Regrouping, NoMemory>
+fn data_came(
+    draft: &mut Draft<'_>,
+    reference: u8,
+    tag: Holder,
+    tpdu: &[u8],
+) -> Result<Regrouping, NoMemory>
     requires untouched { draft.old.changes ≡ no_changes }
     ensures moves { OnOk result (draft.new ≡ data_came_of reference tag tpdu.now draft.old) }
     ensures groups { IfOk result (λ change. change ≡ data_groups reference tpdu.now draft.old) }
@@ -280,7 +299,11 @@ fn data_came(draft: &mut Draft<'_>, reference: u8, tag: Holder, tpdu: &[u8]) -> 
 }
 
 /// A unit that opens a transaction of the centre's: what becomes of the open groups.
-pub(crate) fn unit_came(draft: &mut Draft<'_>, tag: Holder, unit: &[u8]) -> Result<Regrouping, NoMemory>
+pub(crate) fn unit_came(
+    draft: &mut Draft<'_>,
+    tag: Holder,
+    unit: &[u8],
+) -> Result<Regrouping, NoMemory>
     requires untouched { draft.old.changes ≡ no_changes }
     ensures moves { OnOk result (draft.new ≡ unit_came_of tag unit.now (unit_at unit.now) draft.old) }
     ensures groups { IfOk result (λ change. change ≡ unit_groups (unit_at unit.now) draft.old) }
@@ -306,7 +329,6 @@ const MEMORY_CAPACITY_EXCEEDED: u8 = 0xD3;
 
 /// TP-FCS: unspecified error cause.
 const UNSPECIFIED: u8 = 0xFF;
-
 
 // A unit of an unknown type, else one that can't be read.
 fn fault_cause(fault: RelayFault) -> RpCause

@@ -11,4 +11,6 @@
 pub mod formats;
 pub mod frames;
 pub mod pdus;
+#[cfg(test)]
+mod rows;
 pub mod texts;

@@ -1,5 +1,5 @@
 //! Moments, addresses, identities and lists: worked values, and each call at its greatest size.
-use crate::formats::rows::holds;
+use crate::rows::holds;
 use sms_base::{Address, Listed, MessageId, Moment, MomentError, Octets, TypeOfNumber};
 use std::alloc::Global;
 use std::test::Fail;

@@ -1,5 +1,5 @@
 //! Whole TPDUs in their octets, each public call once with ample memory, and SUBMITs that another implementation made.
-use crate::formats::rows::{are, holds};
+use crate::rows::{are, holds};
 use sms_base::{Address, Moment, Octets};
 use sms_tpdu::{
     Carrier, Deliver, Down, FailureCause, Status, StatusReport, Submit, Up, UserData,

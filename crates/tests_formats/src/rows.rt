@@ -11,6 +11,18 @@ pub(crate) fn are(octets: &[u8], others: &[u8]) -> bool {
     octets == others
 }
 
+/// Whether the octets are these parts, one behind another.
+pub(crate) fn are_parts(octets: &[u8], parts: &[&[u8]]) -> bool {
+    let mut rest = octets;
+    for part in parts {
+        match rest.strip_prefix(*part) {
+            Some(left) => rest = left,
+            None => return false,
+        }
+    }
+    rest.is_empty()
+}
+
 /// Whether a code, if there is one, is that.
 pub(crate) fn is_code(code: Option<&str>, wanted: &str) -> bool {
     match code {

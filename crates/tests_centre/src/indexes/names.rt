@@ -1,11 +1,6 @@
-//! How the rows of a test are judged, and the moments and messages that they name.
+//! The moments, messages and numbers that rows name.
 use sms_base::{Address, Digits, MessageId, Moment};
 use std::test::Fail;
-
-/// Ends the test where a row does not hold.
-pub(crate) fn holds(row: bool, name: &str) -> Result<(), Fail> {
-    if row { Ok(()) } else { Err(Fail::new(name)) }
-}
 
 /// So many seconds behind 2024-02-29 23:59:58.
 pub(crate) fn at(seconds: u32) -> Result<Moment, Fail> {
