@@ -1,18 +1,12 @@
 //! Whole units in the octets of a network trace, and at their greatest size.
+use crate::examples::{DELIVER, SMMA, SUBMIT};
 use crate::rows::{are, are_parts, holds};
 use sms_base::{OctetView, Octets};
 use sms_relay::{RelayFault, Rp, RpCause, read_down, read_up, write_down, write_up};
 use std::alloc::Global;
 use std::test::Fail;
 
-const SMMA: &[u8] = b"\x06\x05";
-
 const CENTRE: &[u8] = b"\x91\x44\x77\x00\x09\x00\x00";
-
-const SUBMIT: &[u8] = b"\x01\x07\x0C\x91\x44\x77\x00\x09\x40\x65\x00\x00\x05\xE8\x32\x9B\xFD\x06";
-
-const DELIVER: &[u8] =
-    b"\x04\x0C\x91\x44\x77\x00\x09\x10\x32\x00\x00\x42\x20\x92\x32\x95\x85\x00\x05\xE8\x32\x9B\xFD\x06";
 
 const REPORT: &[u8] = b"\x01\x00\x42\x20\x92\x32\x95\x85\x00";
 

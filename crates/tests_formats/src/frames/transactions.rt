@@ -1,5 +1,6 @@
 //! Transactions of one end of a link, over frames from outside: rows of calls, with the frames that each sends and what
 //! goes up.
+use crate::examples::SMMA;
 use crate::rows::{are, are_parts, holds};
 use sms_base::Moment;
 use sms_control::{LinkError, Links, Out, Up};
@@ -7,8 +8,6 @@ use std::test::Fail;
 
 // 2024-02-29 23:59:58.
 const T0: u64 = 1_709_251_198;
-
-const SMMA: &[u8] = b"\x06\x05";
 
 const ACK: &[u8] = b"\x03\x05";
 
