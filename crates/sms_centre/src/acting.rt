@@ -20,6 +20,7 @@ use sms_centre_events::{
     Asked, Came, bind, cancel, frame_refused, frame_taken, query, submit, submit_refused, tick,
 };
 use sms_centre_spec::CentreEvent;
+use sms_centre_transfers::lower;
 use std::alloc::AllocError;
 
 /// What came of an event.
@@ -162,7 +163,7 @@ fn lowered(working: &mut Working<'_>, handset: Digits) -> Result<Acted, AllocErr
     requires number { IsNumber handset }
     ensures { (c : Core) → Shows (draft_of c) working.old → IfOk result (Acts (LinkDown handset) c working.new) }
 {
-    working.lower(handset)?;
+    lower(working, handset)?;
     Ok(Acted::Done)
 }
 

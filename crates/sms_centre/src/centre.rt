@@ -10,7 +10,7 @@ ghost use Rattle.sms_centre_spec.specs.SoundRows.{IsSetup};
 ghost use Rattle.sms_centre.specs.Planning.{Fits, PlansEvent};
 ghost use Rattle.sms_centre.specs.Stored.{StoresRows};
 ghost use Rattle.sms_centre_rows.specs.messages.Messages.{message_at};
-ghost use Rattle.sms_centre_offers.specs.Going.{Goes, answers_but};
+ghost use Rattle.sms_centre_events.specs.offering.Going.{Goes, answers_but};
 ghost use Rattle.sms_centre.specs.plans.Planned.{IsPlanned};
 ghost use Rattle.sms_centre_reports.specs.report_log.Telling.{message_lines, receipt_lines};
 ghost use Rattle.sms_centre.specs.state.Recovering.{AreNew, RefusesRows};

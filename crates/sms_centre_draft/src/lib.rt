@@ -24,4 +24,5 @@ pub mod walks;
 mod working;
 
 pub use numbers::are_digits;
+pub use transfers::{finished, tried};
 pub use working::Working;

@@ -32,7 +32,7 @@ fn conclude(
     requires number { IsNumber handset }
     ensures { (d : Draft) → Shows d working.old → IfOk result (Comes (conclude_of handset transfer.now ending.now d) handset tag d working.new) }
 {
-    working.conclude(handset, transfer, ending)?;
+    sms_centre_transfers::conclude(working, handset, transfer, ending)?;
     Ok(Came::Done)
 }
 

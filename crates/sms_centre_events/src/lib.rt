@@ -1,4 +1,4 @@
-//! What an event of the centre does by itself: a frame from a handset, a request of an application, a tick.
+//! What an event of the centre does: a frame from a handset, a request of an application, a tick, and what follows each of them.
 //!
 //! A frame is taken by the handset's line. A transfer to the handset that it ends is concluded; a unit that opens a transaction is
 //! answered: a SUBMIT becomes a message or is refused, RP-SMMA says that the handset has memory, and what can't be read is rejected
@@ -14,8 +14,7 @@
 //! message are told by what is kept of messages as the event begins (`specs/Knowing.antt`): nothing before them in the event changes
 //! a message or a part.
 //!
-//! Receipts and offers follow every event, and are no part of it here. An answer to a receipt and the end of a session stand in
-//! sms_centre_draft.
+//! Receipts and offers follow every event: `offering`. An answer to a receipt and the end of a session are in `sms_centre_draft`.
 #![tactic(auto)]
 
 mod accepting;
@@ -25,6 +24,7 @@ mod asking;
 mod binding;
 mod finding;
 mod frames;
+pub mod offering;
 mod questions;
 mod single;
 mod sources;

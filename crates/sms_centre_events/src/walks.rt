@@ -21,7 +21,7 @@ fn fire_on(working: &mut Working<'_>, handset: Digits) -> Result<(), AllocError>
     if !are_digits(handset.as_slice()) {
         return Ok(());
     }
-    working.fire(handset)
+    sms_centre_transfers::fire(working, handset)
 }
 
 // So do those of these handsets, one after the other.

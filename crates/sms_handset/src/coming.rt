@@ -8,6 +8,7 @@ ghost use Rattle.sms_link.specs.LinkTurn.{fired, taken};
 
 use sms_base::{Holder, Moment};
 use sms_handset_draft::{Draft, NoMemory};
+use sms_handset_receiving::frame_came;
 use sms_handset_rows::inbox::Regrouping;
 
 /// A frame comes.
@@ -20,7 +21,7 @@ pub(crate) fn frame_and_follow(
     ensures moves { OnOk result (draft.new ≡ follow (frame_heard tag (taken octets.now (link_of draft.old)) draft.old)) }
     ensures groups { IfOk result (λ change. change ≡ frame_groups (taken octets.now (link_of draft.old)) draft.old) }
 {
-    let regrouping = draft.frame_came(octets, tag)?;
+    let regrouping = frame_came(draft, octets, tag)?;
     draft.follow()?;
     Ok(regrouping)
 }

@@ -182,7 +182,7 @@ impl<'a> Draft<'a> {
     }
 
     #[tactic(auto, using(sms_rows::proofs::table::Tables::all_applied_push))]
-    pub(crate) fn put_last(&mut self, last: LastAccepted) -> Result<(), NoMemory>
+    pub fn put_last(&mut self, last: LastAccepted) -> Result<(), NoMemory>
         ensures { OnOk result (self.new ≡ put_last_of last self.old) }
     {
         self.last.put(last)?;
@@ -262,7 +262,7 @@ impl<'a> Draft<'a> {
     }
 
     /// The stored parts of the group, before anything has changed.
-    pub(crate) fn members(&self, group: &Group) -> Members<'a>
+    pub fn members(&self, group: &Group) -> Members<'a>
         requires { self.now.changes ≡ no_changes }
         ensures { result ≡ members_of group.now self.now.rows.entries }
     {
@@ -295,7 +295,7 @@ impl<'a> Draft<'a> {
     }
 
     /// The outbox, before anything of it has changed.
-    pub(crate) fn outbox(&self) -> &'a [OutEntry]
+    pub fn outbox(&self) -> &'a [OutEntry]
         requires { self.now.changes.outbox ≡ [] }
         ensures { result.now ≡ self.now.rows.outbox }
     {
@@ -303,7 +303,7 @@ impl<'a> Draft<'a> {
     }
 
     /// What was accepted last under a reference, before anything was accepted.
-    pub(crate) fn last(&self, reference: u8) -> Option<&'a LastAccepted>
+    pub fn last(&self, reference: u8) -> Option<&'a LastAccepted>
         requires { self.now.changes.last ≡ [] }
         ensures { option_copied result ≡ row_at last_key reference self.now.rows.last }
     {
@@ -314,7 +314,7 @@ impl<'a> Draft<'a> {
 impl<'a> Draft<'a> {
     /// The answer in the transaction that the centre began, if one waits for it: a unit of 1 to 248 octets.
     #[tactic(auto, using(crate::proofs::HandsetLink::on_its_side))]
-    pub(crate) fn reply(
+    pub fn reply(
         &mut self,
         kind: Kind,
         reference: u8,
@@ -342,7 +342,7 @@ impl<'a> Draft<'a> {
 
     /// The link takes a frame: what goes up.
     #[tactic(auto, using(crate::proofs::HandsetLink::on_its_side))]
-    pub(crate) fn take(&mut self, frame: &[u8]) -> Result<Option<Upward>, NoMemory>
+    pub fn take(&mut self, frame: &[u8]) -> Result<Option<Upward>, NoMemory>
         ensures moves { OnOk result (self.new ≡ with_turn (taken frame.now (link_of self.old)) self.old) }
         ensures up { IfOk result (λ up. up ≡ (taken frame.now (link_of self.old)).out.up) }
     {

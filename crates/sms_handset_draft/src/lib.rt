@@ -10,17 +10,16 @@
 mod counters;
 mod draft;
 mod finished;
-mod frames_and_ticks;
 mod group_moves;
 mod no_memory;
 mod notices;
-mod receiving;
 mod rows;
 mod sending;
 mod settling;
 mod setup;
 mod stored;
 mod storing;
+mod ticks;
 
 pub use counters::Counters;
 pub use draft::Draft;

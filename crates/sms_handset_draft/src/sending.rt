@@ -52,11 +52,7 @@ impl<'a> Draft<'a> {
     }
 
     /// The transfer that this side began has ended.
-    pub(crate) fn transfer_ended(
-        &mut self,
-        transfer: &Carried,
-        ending: &Ending,
-    ) -> Result<(), NoMemory>
+    pub fn transfer_ended(&mut self, transfer: &Carried, ending: &Ending) -> Result<(), NoMemory>
         ensures { OnOk result (self.new ≡ transfer_ended_of transfer.now ending.now self.old) }
     {
         self.holder_concluded(ending, transfer.tag)

@@ -8,6 +8,6 @@ mod indexes;
 #[cfg(test)]
 mod interning;
 #[cfg(test)]
-mod rows;
+mod names;
 #[cfg(test)]
 mod shelf;

@@ -3,8 +3,6 @@
 #[cfg(test)]
 mod base;
 #[cfg(test)]
-mod rows;
-#[cfg(test)]
 mod table;
 #[cfg(test)]
 mod tpdu;

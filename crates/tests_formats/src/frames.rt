@@ -6,6 +6,4 @@ mod control;
 #[cfg(test)]
 mod relay;
 #[cfg(test)]
-mod rows;
-#[cfg(test)]
 mod transactions;

@@ -8,7 +8,11 @@
 //! - `texts`: Tests of texts over their public calls: the alphabet, the header and parts of a long text, and joining them.
 #![tactic(auto)]
 
+#[cfg(test)]
+mod examples;
 pub mod formats;
 pub mod frames;
 pub mod pdus;
+#[cfg(test)]
+mod rows;
 pub mod texts;

@@ -6,8 +6,6 @@ mod exchanges;
 #[cfg(test)]
 mod pdus;
 #[cfg(test)]
-mod rows;
-#[cfg(test)]
 mod secrets;
 #[cfg(test)]
 mod vectors;

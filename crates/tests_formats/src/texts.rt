@@ -8,5 +8,3 @@ mod concat;
 mod joiner;
 #[cfg(test)]
 mod other_implementations;
-#[cfg(test)]
-mod rows;

@@ -9,7 +9,11 @@
 //!   octets, or gives none.
 #![tactic(auto)]
 
+#[cfg(test)]
+mod clock_and_gate;
 pub mod programs;
+#[cfg(test)]
+mod rows;
 pub mod seats;
 pub mod server;
 pub mod service;

@@ -7,8 +7,6 @@ mod frames;
 #[cfg(test)]
 mod owners;
 #[cfg(test)]
-mod rows;
-#[cfg(test)]
 mod server_words;
 #[cfg(test)]
 mod words;

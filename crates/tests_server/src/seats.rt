@@ -7,6 +7,4 @@ mod applications;
 #[cfg(test)]
 mod links;
 #[cfg(test)]
-mod rows;
-#[cfg(test)]
 mod turns;

@@ -22,8 +22,6 @@ mod held_gate;
 #[cfg(test)]
 mod many_sessions;
 #[cfg(test)]
-mod rows;
-#[cfg(test)]
 mod store;
 #[cfg(test)]
 mod talker;

@@ -14,8 +14,6 @@ mod leaving;
 #[cfg(test)]
 mod ringing;
 #[cfg(test)]
-mod rows;
-#[cfg(test)]
 mod table;
 #[cfg(test)]
 mod wire;

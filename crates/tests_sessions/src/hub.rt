@@ -9,8 +9,6 @@ pub mod gates;
 #[cfg(test)]
 mod outs;
 #[cfg(test)]
-mod rows;
-#[cfg(test)]
 mod runs;
 #[cfg(test)]
 mod seats;

@@ -7,4 +7,6 @@
 
 pub mod hub;
 pub mod links;
+#[cfg(test)]
+mod rows;
 pub mod smpp;

@@ -10,17 +10,14 @@ ghost use Rattle.sms_centre_rows.specs.waiting.SoundWaiting.{SoundWaiting};
 ghost use Rattle.sms_centre_spec.specs.SoundRows.{AreSplitApart, AreTimes, CanBeTold, IsSetup, IsSound, all_for};
 ghost use Rattle.sms_centre_recovery.specs.soundness.RowsOf.{KeysRise, StandsAlone, rows_of};
 
-use crate::soundness::giving_rows::{are_given, are_mentioned, have_numbers_apart};
-use crate::soundness::message_rows::{are_messages, are_parts, are_priorities};
-use crate::soundness::report_rows::{are_once, are_reports};
-use crate::soundness::setup_and_times::{are_dated, are_made, are_submitted, are_told, is_setup};
-use crate::soundness::splits::are_split_apart;
-use crate::soundness::waiting_rows::{
-    are_parts_given, are_reports_given, have_references_apart, places_of,
-};
 use sms_centre_rows::messages::{MessageRow, PartRow, PriorityRow};
 use sms_centre_rows::reports::ReportRow;
 use sms_centre_rows::waiting::{HandsetRow, ReferenceRow};
+use sms_centre_soundness::{
+    are_dated, are_given, are_made, are_mentioned, are_messages, are_once, are_parts,
+    are_parts_given, are_priorities, are_reports, are_reports_given, are_split_apart,
+    are_submitted, are_told, have_numbers_apart, have_references_apart, is_setup, places_of,
+};
 use sms_centre_spec::{Rows, Setup};
 use sms_rows::table::{Table, rises};
 use std::alloc::{AllocError, Global};
