@@ -43,7 +43,8 @@ impl<K: CentreStore + Drop> CentreMachine<K> {
     /// What the event leads to. Nothing has changed yet, but that bodies were read. A handset that the event names has a number.
     pub fn plan(&mut self, event: &CentreEvent<'_>) -> Result<Planned, StepError>
         requires { HasNumber event.now }
-        ensures plan { K.is_honest (keep_in self.new) → (c : Core) → IsStanding c (centre_in self.old) → K.holds (keep_in self.old) c.rows → PlansStep (K.holds (keep_in self.new) c.rows) (K.is_closed (keep_in self.new)) (K.refusals (keep_in self.old)) (K.refusals (keep_in self.new)) (happened event.now c) result }
+        ensures plan { K.is_honest (keep_in self.new) → (c : Core) → IsStanding c (centre_in self.old) → K.holds (keep_in self.old) c.rows
+            → PlansStep (K.holds (keep_in self.new) c.rows) (K.is_closed (keep_in self.new)) (K.refusals (keep_in self.old)) (K.refusals (keep_in self.new)) (happened event.now c) result }
         ensures fits { IfOk result (Fits (centre_in self.new)) }
         ensures event { IsEvent event.now }
         ensures same { centre_in self.new ≡ centre_in self.old }
@@ -60,14 +61,17 @@ impl<K: CentreStore + Drop> CentreMachine<K> {
         requires { Fits (centre_in self.old) planned }
         ensures told { IfOk result (λ told. told ≡ planned.plan.told) }
         // What leaves was committed, and the centre is that after the event.
-        ensures committed { K.is_honest (keep_in self.new) → (event : CentreEventOf) (c : Core) → IsEvent event → IsStanding c (centre_in self.old) → IsPlanned (happened event c) planned.plan → K.holds (keep_in self.old) c.rows
+        ensures committed { K.is_honest (keep_in self.new) → (event : CentreEventOf) (c : Core) → IsEvent event → IsStanding c (centre_in self.old)
+            → IsPlanned (happened event c) planned.plan → K.holds (keep_in self.old) c.rows
             → OnOk result (K.holds (keep_in self.new) (core_of (happened event c)).rows × IsStanding (core_of (happened event c)) (centre_in self.new)) }
         // A refused commit leaves the centre, and the rows or a closed keep: a call of the keep was refused, and one alone.
-        ensures err { K.is_honest (keep_in self.new) → (rows : RowsOf) → K.holds (keep_in self.old) rows → OnErr result (K.holds (keep_in self.new) rows ⊎ K.is_closed (keep_in self.new)) }
+        ensures err { K.is_honest (keep_in self.new) → (rows : RowsOf) → K.holds (keep_in self.old) rows
+            → OnErr result (K.holds (keep_in self.new) rows ⊎ K.is_closed (keep_in self.new)) }
         ensures same { OnErr result (centre_in self.new ≡ centre_in self.old) }
         ensures refused { OnErr result (OneRefused (K.refusals (keep_in self.old)) (K.refusals (keep_in self.new))) }
         // A stop inside the commit leaves the rows from before the event or those after it, if one before it leaves the rows.
-        ensures stop { K.is_honest (keep_in self.new) → (event : CentreEventOf) (c : Core) → IsPlanned (happened event c) planned.plan → K.holds (keep_in self.old) c.rows → ((left : RowsOf) → K.may_leave (keep_in self.old) left → left ≡ c.rows)
+        ensures stop { K.is_honest (keep_in self.new) → (event : CentreEventOf) (c : Core) → IsPlanned (happened event c) planned.plan
+            → K.holds (keep_in self.old) c.rows → ((left : RowsOf) → K.may_leave (keep_in self.old) left → left ≡ c.rows)
             → (left : RowsOf) → K.may_leave (keep_in self.new) left → (left ≡ c.rows) ⊎ (left ≡ (core_of (happened event c)).rows) }
         ensures before { K.is_honest (keep_in self.new) → K.is_honest (keep_in self.old) }
     {

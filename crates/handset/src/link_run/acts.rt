@@ -112,7 +112,8 @@ pub(crate) fn act<K: Keep<Rows = Rows, Changes = Changes> + Drop, W: Write, A: W
     answers: &mut A,
 ) -> Result<(), Stop>
     requires { MakesTheChanges K.after }
-    ensures sends { OnOk result ((out : List ℕ) × (Sends (event_of act.now) (core_in machine.old) (core_in machine.new) out × Appends (W.contents link.old) (W.contents link.new) out)) }
+    ensures sends { OnOk result ((out : List ℕ) × (Sends (event_of act.now) (core_in machine.old) (core_in machine.new) out
+        × Appends (W.contents link.old) (W.contents link.new) out)) }
     ensures answers { OnOk result (Appends (A.contents answers.old) (A.contents answers.new) (answer_to (event_of act.now) (core_in machine.old))) }
 {
     match meet(alloc, machine, act) {

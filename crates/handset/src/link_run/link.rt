@@ -92,7 +92,8 @@ pub(crate) fn tick<K: Keep<Rows = Rows, Changes = Changes> + Drop, W: Write>(
     link: &mut W,
 ) -> Result<(), Stop>
     requires { MakesTheChanges K.after }
-    ensures { OnOk result ((out : List ℕ) × (Sends (TickOf now) (core_in machine.old) (core_in machine.new) out × Appends (W.contents link.old) (W.contents link.new) out)) }
+    ensures { OnOk result ((out : List ℕ) × (Sends (TickOf now) (core_in machine.old) (core_in machine.new) out
+        × Appends (W.contents link.old) (W.contents link.new) out)) }
 {
     let frames = machine.step(&HandsetEvent::Tick { now })?;
     send(alloc, link, frames.as_slice())
@@ -106,7 +107,8 @@ fn frame_came<K: Keep<Rows = Rows, Changes = Changes> + Drop, W: Write>(
     link: &mut W,
 ) -> Result<(), Stop>
     requires { MakesTheChanges K.after }
-    ensures { OnOk result ((out : List ℕ) × (Sends (came octets.entry) (core_in machine.old) (core_in machine.new) out × Appends (W.contents link.old) (W.contents link.new) out)) }
+    ensures { OnOk result ((out : List ℕ) × (Sends (came octets.entry) (core_in machine.old) (core_in machine.new) out
+        × Appends (W.contents link.old) (W.contents link.new) out)) }
 {
     let frames = machine.step(&HandsetEvent::Frame { octets, tag: None })?;
     send(alloc, link, frames.as_slice())
@@ -121,7 +123,8 @@ pub(crate) fn meet_frames<K: Keep<Rows = Rows, Changes = Changes> + Drop, W: Wri
     link: &mut W,
 ) -> Result<u32, Stop>
     requires { MakesTheChanges K.after }
-    ensures { IfOk result (λ left. (frames : List (List ℕ)) × ((buffer.old ≡ joined frames ++ buffer.new) × Meets (map came frames) (core_in machine.old) (core_in machine.new) (W.contents link.old) (W.contents link.new))) }
+    ensures { IfOk result (λ left. (frames : List (List ℕ))
+        × ((buffer.old ≡ joined frames ++ buffer.new) × Meets (map came frames) (core_in machine.old) (core_in machine.new) (W.contents link.old) (W.contents link.new))) }
 {
     let mut left = most;
     while left > 0 {

@@ -57,7 +57,9 @@ fn turn<K: Keep<Rows = Rows, Changes = Changes> + Drop, R: Read, W: Write>(
     most: u32,
 ) -> Result<u32, Stop>
     requires { MakesTheChanges K.after }
-    ensures { IfOk result (λ left. (frames : List (List ℕ)) × (octets : List ℕ) × (Consumes (R.remaining link_in.old) (R.remaining link_in.new) octets × (buffer.old ++ octets ≡ joined frames ++ buffer.new) × Meets (map came frames) (core_in machine.old) (core_in machine.new) (W.contents link_out.old) (W.contents link_out.new))) }
+    ensures { IfOk result (λ left. (frames : List (List ℕ)) × (octets : List ℕ)
+        × (Consumes (R.remaining link_in.old) (R.remaining link_in.new) octets × (buffer.old ++ octets ≡ joined frames ++ buffer.new)
+        × Meets (map came frames) (core_in machine.old) (core_in machine.new) (W.contents link_out.old) (W.contents link_out.new))) }
 {
     tick(alloc, machine, now, link_out)?;
     let stands = receive(link_in, buffer)?;
@@ -75,7 +77,8 @@ fn attend<K: Keep<Rows = Rows, Changes = Changes> + Drop, R: Read, W: Write, C: 
     most: u32,
 ) -> Result<(), Stop>
     requires { MakesTheChanges K.after }
-    ensures { OnOk result ((frames : List (List ℕ)) × (ReadAs frames (R.remaining link_in.old) (R.remaining link_in.new) × Meets (map came frames) (core_in machine.old) (core_in machine.new) (W.contents link_out.old) (W.contents link_out.new))) }
+    ensures { OnOk result ((frames : List (List ℕ)) × (ReadAs frames (R.remaining link_in.old) (R.remaining link_in.new)
+        × Meets (map came frames) (core_in machine.old) (core_in machine.new) (W.contents link_out.old) (W.contents link_out.new))) }
 {
     let mut left = most;
     let mut buffer = FrameBuffer::new(alloc);

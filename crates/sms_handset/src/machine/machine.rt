@@ -44,7 +44,8 @@ fn commit<K: Keep<Rows = Rows, Changes = Changes>>(
     ensures ok { K.is_honest keep.new → (rows : RowsOf) → K.holds keep.old rows → OnOk result (K.holds keep.new (rows_after (changes_in changes.now) rows)) }
     ensures err { K.is_honest keep.new → (rows : RowsOf) → K.holds keep.old rows → OnErr result (K.holds keep.new rows ⊎ K.is_closed keep.new) }
     // A stop inside it leaves the rows, or the rows with the changes, if one before it leaves the rows.
-    ensures stop { K.is_honest keep.new → (rows : RowsOf) → K.holds keep.old rows → ((left : RowsOf) → K.may_leave keep.old left → left ≡ rows) → (left : RowsOf) → K.may_leave keep.new left → (left ≡ rows) ⊎ (left ≡ rows_after (changes_in changes.now) rows) }
+    ensures stop { K.is_honest keep.new → (rows : RowsOf) → K.holds keep.old rows → ((left : RowsOf) → K.may_leave keep.old left → left ≡ rows)
+        → (left : RowsOf) → K.may_leave keep.new left → (left ≡ rows) ⊎ (left ≡ rows_after (changes_in changes.now) rows) }
 {
     if is_empty(changes) {
         return Ok(());
@@ -61,7 +62,8 @@ pub fn recover_from<K: Keep<Rows = Rows, Changes = Changes>>(
     setup: Setup,
 ) -> Result<Handset, StartError>
     requires { IsSetup setup }
-    ensures state { K.is_honest keep.new → (rows : RowsOf) → K.holds keep.old rows → rows.setup ≡ setup → IfOk result (λ handset. (handset.core ≡ recovered rows) × K.holds keep.new rows) }
+    ensures state { K.is_honest keep.new → (rows : RowsOf) → K.holds keep.old rows → rows.setup ≡ setup
+        → IfOk result (λ handset. (handset.core ≡ recovered rows) × K.holds keep.new rows) }
     ensures sound { IfOk result (λ handset. IsSoundCore handset.core) }
     ensures bad { K.is_honest keep.new → (rows : RowsOf) → K.holds keep.old rows → rows.setup ≡ setup → IsBad result → ¬ IsSound rows }
     ensures err { K.is_honest keep.new → (rows : RowsOf) → K.holds keep.old rows → OnErr result (K.holds keep.new rows ⊎ K.is_closed keep.new) }
@@ -92,8 +94,10 @@ impl<K: Keep<Rows = Rows, Changes = Changes> + Drop> HandsetMachine<K> {
     /// # Errors
     /// The keep refused the call: it has the rows still, or is closed.
     pub fn load(&mut self) -> Result<Rows, KeepError>
-        ensures ok { K.is_honest (keep_in self.new) → (rows : RowsOf) → K.holds (keep_in self.old) rows → IfOk result (λ found. (found ≡ rows) × K.holds (keep_in self.new) rows) }
-        ensures err { K.is_honest (keep_in self.new) → (rows : RowsOf) → K.holds (keep_in self.old) rows → OnErr result (K.holds (keep_in self.new) rows ⊎ K.is_closed (keep_in self.new)) }
+        ensures ok { K.is_honest (keep_in self.new) → (rows : RowsOf) → K.holds (keep_in self.old) rows
+            → IfOk result (λ found. (found ≡ rows) × K.holds (keep_in self.new) rows) }
+        ensures err { K.is_honest (keep_in self.new) → (rows : RowsOf) → K.holds (keep_in self.old) rows
+            → OnErr result (K.holds (keep_in self.new) rows ⊎ K.is_closed (keep_in self.new)) }
         ensures before { K.is_honest (keep_in self.new) → K.is_honest (keep_in self.old) }
         ensures same { handset_in self.new ≡ handset_in self.old }
     {
@@ -118,13 +122,17 @@ impl<K: Keep<Rows = Rows, Changes = Changes> + Drop> HandsetMachine<K> {
         ensures step { Steps result (handset_in self.old) (handset_in self.new) (happened event.now (core_in self.old)) }
         ensures sound { IsSoundCore (core_in self.old) → IsSoundCore (core_in self.new) }
         // What leaves was committed.
-        ensures committed { K.is_honest (keep_in self.new) → K.holds (keep_in self.old) (core_in self.old).rows → OnOk result (K.holds (keep_in self.new) (core_in self.new).rows) }
+        ensures committed { K.is_honest (keep_in self.new) → K.holds (keep_in self.old) (core_in self.old).rows
+            → OnOk result (K.holds (keep_in self.new) (core_in self.new).rows) }
         // What was refused, or found no memory, did not come to the store.
         ensures before { IsBeforeCommit result → keep_in self.new ≡ keep_in self.old }
         // A refused commit leaves the rows, or a closed keep.
-        ensures err { K.is_honest (keep_in self.new) → K.holds (keep_in self.old) (core_in self.old).rows → OnErr result (K.holds (keep_in self.new) (core_in self.old).rows ⊎ K.is_closed (keep_in self.new)) }
+        ensures err { K.is_honest (keep_in self.new) → K.holds (keep_in self.old) (core_in self.old).rows
+            → OnErr result (K.holds (keep_in self.new) (core_in self.old).rows ⊎ K.is_closed (keep_in self.new)) }
         // A stop inside it leaves the rows from before the event or those after it.
-        ensures stop { K.is_honest (keep_in self.new) → K.holds (keep_in self.old) (core_in self.old).rows → ((left : RowsOf) → K.may_leave (keep_in self.old) left → left ≡ (core_in self.old).rows) → (left : RowsOf) → K.may_leave (keep_in self.new) left → MayStandAs left (core_in self.old).rows (happened event.now (core_in self.old)) }
+        ensures stop { K.is_honest (keep_in self.new) → K.holds (keep_in self.old) (core_in self.old).rows
+            → ((left : RowsOf) → K.may_leave (keep_in self.old) left → left ≡ (core_in self.old).rows) → (left : RowsOf) → K.may_leave (keep_in self.new) left
+            → MayStandAs left (core_in self.old).rows (happened event.now (core_in self.old)) }
     {
         let planned = self.plan(event)?;
         match commit(&mut self.keep, planned.changes()) {
@@ -137,7 +145,8 @@ impl<K: Keep<Rows = Rows, Changes = Changes> + Drop> HandsetMachine<K> {
     /// first.
     pub fn reopen(&mut self, alloc: Global, setup: Setup) -> Result<(), StartError>
         requires { IsSetup setup }
-        ensures state { K.is_honest (keep_in self.new) → (rows : RowsOf) → K.holds (keep_in self.old) rows → rows.setup ≡ setup → OnOk result ((core_in self.new ≡ recovered rows) × K.holds (keep_in self.new) rows) }
+        ensures state { K.is_honest (keep_in self.new) → (rows : RowsOf) → K.holds (keep_in self.old) rows → rows.setup ≡ setup
+            → OnOk result ((core_in self.new ≡ recovered rows) × K.holds (keep_in self.new) rows) }
         ensures sound { OnOk result (IsSoundCore (core_in self.new)) }
         ensures err { OnErr result (handset_in self.new ≡ handset_in self.old) }
     {

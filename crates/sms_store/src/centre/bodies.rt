@@ -94,7 +94,8 @@ fn octets_of_first(reports: Vec<ReportRow>) -> Option<Octets>
 
 impl<S: Alter> CentreKeep<S> {
     fn part_octets(&mut self, key: Key) -> Result<Option<Octets>, KeepError>
-        ensures ok { HasCleanDisk (state_in S.Store self.new) → (key % 256 == 0) ≡ false → (rows : RowsOf) → IsKept (IsStoreWith (setup_in self.old)) (state_in S.Store self.old) rows
+        ensures ok { HasCleanDisk (state_in S.Store self.new) → (key % 256 == 0) ≡ false → (rows : RowsOf)
+            → IsKept (IsStoreWith (setup_in self.old)) (state_in S.Store self.old) rows
             → IfOk result (λ octets. (octets ≡ octets_at rows key) × IsKept (IsStoreWith (setup_in self.new)) (state_in S.Store self.new) rows) }
         ensures err { HasCleanDisk (state_in S.Store self.new) → (rows : RowsOf) → IsKept (IsStoreWith (setup_in self.old)) (state_in S.Store self.old) rows
             → OnErr result (IsKept (IsStoreWith (setup_in self.new)) (state_in S.Store self.new) rows ⊎ ((state_in S.Store self.new).is_open ≡ false)) }
@@ -108,7 +109,8 @@ impl<S: Alter> CentreKeep<S> {
     }
 
     fn report_octets(&mut self, key: Key) -> Result<Option<Octets>, KeepError>
-        ensures ok { HasCleanDisk (state_in S.Store self.new) → (key % 256 == 0) ≡ true → (rows : RowsOf) → IsKept (IsStoreWith (setup_in self.old)) (state_in S.Store self.old) rows
+        ensures ok { HasCleanDisk (state_in S.Store self.new) → (key % 256 == 0) ≡ true → (rows : RowsOf)
+            → IsKept (IsStoreWith (setup_in self.old)) (state_in S.Store self.old) rows
             → IfOk result (λ octets. (octets ≡ octets_at rows key) × IsKept (IsStoreWith (setup_in self.new)) (state_in S.Store self.new) rows) }
         ensures err { HasCleanDisk (state_in S.Store self.new) → (rows : RowsOf) → IsKept (IsStoreWith (setup_in self.old)) (state_in S.Store self.old) rows
             → OnErr result (IsKept (IsStoreWith (setup_in self.new)) (state_in S.Store self.new) rows ⊎ ((state_in S.Store self.new).is_open ≡ false)) }

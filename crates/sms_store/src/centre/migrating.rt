@@ -28,8 +28,11 @@ use std::alloc::Global;
 fn raise_first<S: Alter>(alloc: Global, conn: &mut Connection<S>) -> Result<(), KeepError>
     ensures mode { conn.old.in_transaction ≡ false → conn.new.in_transaction ≡ false }
     ensures clean { HasCleanDisk (state S.Store conn.new) → HasCleanDisk (state S.Store conn.old) }
-    ensures ok { HasCleanDisk (state S.Store conn.new) → (state S.Store conn.old).now.schema ≡ first_schema → OnOk result (Committed Migrates (state S.Store conn.old) (state S.Store conn.new) × SaysFirst 1 (Ok tt) (state S.Store conn.old).now) }
-    ensures err { HasCleanDisk (state S.Store conn.new) → (state S.Store conn.old).now.schema ≡ first_schema → IfErr result (λ error. Refused first_schema first_list 1 error (state S.Store conn.old).now × IsAsItWas (state S.Store conn.old) (state S.Store conn.new)) }
+    ensures ok { HasCleanDisk (state S.Store conn.new) → (state S.Store conn.old).now.schema ≡ first_schema
+        → OnOk result (Committed Migrates (state S.Store conn.old) (state S.Store conn.new) × SaysFirst 1 (Ok tt) (state S.Store conn.old).now) }
+    ensures err { HasCleanDisk (state S.Store conn.new) → (state S.Store conn.old).now.schema ≡ first_schema
+        → IfErr result (λ error. Refused first_schema first_list 1 error (state S.Store conn.old).now
+        × IsAsItWas (state S.Store conn.old) (state S.Store conn.new)) }
     ensures stop { (state S.Store conn.old).now.schema ≡ first_schema → LeavesStore (state S.Store conn.old) (state S.Store conn.new) }
 {
     match judge_first(alloc, conn, 1) {
@@ -43,7 +46,8 @@ fn ready_raised<S: Alter>(alloc: Global, conn: &mut Connection<S>) -> Result<(),
     ensures mode { conn.old.in_transaction ≡ false → conn.new.in_transaction ≡ false }
     ensures clean { HasCleanDisk (state S.Store conn.new) → HasCleanDisk (state S.Store conn.old) }
     ensures ok { HasCleanDisk (state S.Store conn.new) → OnOk result (IsMigrated (state S.Store conn.old).now (state S.Store conn.new)) }
-    ensures err { HasCleanDisk (state S.Store conn.new) → IfErr result (λ error. Refuses 1 error (state S.Store conn.old) × IsAsItWas (state S.Store conn.old) (state S.Store conn.new)) }
+    ensures err { HasCleanDisk (state S.Store conn.new) → IfErr result (λ error. Refuses 1 error (state S.Store conn.old)
+        × IsAsItWas (state S.Store conn.old) (state S.Store conn.new)) }
     ensures stop { LeavesStore (state S.Store conn.old) (state S.Store conn.new) }
 {
     if !is_first_schema(conn.schema()) {
@@ -91,7 +95,9 @@ impl<T: Start> CentreKeep<FileStore<FileFrom<T>>> {
         start: T,
         setup: Setup,
     ) -> Result<CentreKeep<FileStore<FileFrom<T>>>, KeepError>
-        ensures migrated { IfOk result (λ keep. (old : Database) × (HasCleanDisk (file_state (connection_in keep)) → IsDatabase old × IsIn (image_at T.Start) old × Migrated setup old (file_state (connection_in keep)) × LeavesRaised setup old (file_state (connection_in keep)))) }
+        ensures migrated { IfOk result (λ keep. (old : Database)
+            × (HasCleanDisk (file_state (connection_in keep)) → IsDatabase old × IsIn (image_at T.Start) old
+            × Migrated setup old (file_state (connection_in keep)) × LeavesRaised setup old (file_state (connection_in keep)))) }
         ensures setup { IfOk result (λ keep. setup_in keep ≡ setup) }
     {
         let conn = match Connection::open_from(rt, path, false, start) {
@@ -112,7 +118,9 @@ impl CentreKeep<FileStore<File>> {
         path: &str,
         setup: Setup,
     ) -> Result<CentreKeep<FileStore<File>>, KeepError>
-        ensures migrated { IfOk result (λ keep. (old : Database) × (HasCleanDisk (file_state (connection_in keep)) → IsDatabase old × Migrated setup old (file_state (connection_in keep)) × LeavesRaised setup old (file_state (connection_in keep)))) }
+        ensures migrated { IfOk result (λ keep. (old : Database)
+            × (HasCleanDisk (file_state (connection_in keep)) → IsDatabase old × Migrated setup old (file_state (connection_in keep))
+            × LeavesRaised setup old (file_state (connection_in keep)))) }
         ensures setup { IfOk result (λ keep. setup_in keep ≡ setup) }
     {
         CentreKeep::migrate_from(rt, path, Unknown, setup)

@@ -54,7 +54,9 @@ impl<T: Start> CentreKeep<FileStore<FileFrom<T>>> {
         start: T,
         setup: Setup,
     ) -> Result<CentreKeep<FileStore<FileFrom<T>>>, KeepError>
-        ensures opened { IfOk result (λ keep. (old : Database) × (HasCleanDisk (file_state (connection_in keep)) → IsDatabase old × IsIn (image_at T.Start) old × Opened setup old (file_state (connection_in keep)))) }
+        ensures opened { IfOk result (λ keep. (old : Database)
+            × (HasCleanDisk (file_state (connection_in keep)) → IsDatabase old × IsIn (image_at T.Start) old
+            × Opened setup old (file_state (connection_in keep)))) }
         ensures setup { IfOk result (λ keep. setup_in keep ≡ setup) }
     {
         match Connection::open_from(rt, path, false, start) {
@@ -72,7 +74,8 @@ impl CentreKeep<FileStore<File>> {
         path: &str,
         setup: Setup,
     ) -> Result<CentreKeep<FileStore<File>>, KeepError>
-        ensures opened { IfOk result (λ keep. (old : Database) × (HasCleanDisk (file_state (connection_in keep)) → IsDatabase old × Opened setup old (file_state (connection_in keep)))) }
+        ensures opened { IfOk result (λ keep. (old : Database)
+            × (HasCleanDisk (file_state (connection_in keep)) → IsDatabase old × Opened setup old (file_state (connection_in keep)))) }
         ensures setup { IfOk result (λ keep. setup_in keep ≡ setup) }
     {
         CentreKeep::open_from(rt, path, Unknown, setup)

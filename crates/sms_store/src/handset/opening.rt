@@ -28,7 +28,8 @@ use std::alloc::Global;
 impl<S: Alter + Drop> HandsetKeep<S> {
     // Makes the tables of an empty database and keeps a handset's first rows there.
     fn found(alloc: Global, conn: Connection<S>, setup: Setup) -> Result<HandsetKeep<S>, KeepError>
-        ensures kept { IfOk result (λ keep. HasCleanDisk (state_in S.Store keep) → (state S.Store conn).now.schema ≡ no_tables → IsKept (IsStoreWith setup) (state_in S.Store keep) (first_rows setup)) }
+        ensures kept { IfOk result (λ keep. HasCleanDisk (state_in S.Store keep) → (state S.Store conn).now.schema ≡ no_tables
+            → IsKept (IsStoreWith setup) (state_in S.Store keep) (first_rows setup)) }
         ensures setup { IfOk result (λ keep. setup_in keep ≡ setup) }
         ensures clean { IfOk result (λ keep. HasCleanDisk (state_in S.Store keep) → HasCleanDisk (state S.Store conn)) }
         ensures refused { IfErr result (λ error. Refuses error (state S.Store conn)) }
@@ -79,8 +80,11 @@ impl<S: Alter + Drop> HandsetKeep<S> {
 // What a store with a handset's tables says of itself must be that it is one.
 fn judge_store<S: Alter>(alloc: Global, conn: &mut Connection<S>) -> Result<(), KeepError>
     ensures clean { HasCleanDisk (state S.Store conn.new) → HasCleanDisk (state S.Store conn.old) }
-    ensures ok { HasCleanDisk (state S.Store conn.new) → (state S.Store conn.old).now.schema ≡ handset_schema → OnOk result (Shows (state S.Store conn.old) (state S.Store conn.new) (state S.Store conn.old).now (state S.Store conn.old).now false × Says (Ok tt) (state S.Store conn.old).now) }
-    ensures err { HasCleanDisk (state S.Store conn.new) → (state S.Store conn.old).now.schema ≡ handset_schema → IfErr result (λ error. Refuses error (state S.Store conn.old)) }
+    ensures ok { HasCleanDisk (state S.Store conn.new) → (state S.Store conn.old).now.schema ≡ handset_schema
+        → OnOk result (Shows (state S.Store conn.old) (state S.Store conn.new) (state S.Store conn.old).now (state S.Store conn.old).now false
+        × Says (Ok tt) (state S.Store conn.old).now) }
+    ensures err { HasCleanDisk (state S.Store conn.new) → (state S.Store conn.old).now.schema ≡ handset_schema
+        → IfErr result (λ error. Refuses error (state S.Store conn.old)) }
 {
     match look(alloc, conn, &Said) {
         Ok(said) => judge(&said, StoreKind::Handset, 1),
@@ -96,7 +100,9 @@ impl<T: Start> HandsetKeep<FileStore<FileFrom<T>>> {
         start: T,
         setup: Setup,
     ) -> Result<HandsetKeep<FileStore<FileFrom<T>>>, KeepError>
-        ensures opened { IfOk result (λ keep. (old : Database) × (HasCleanDisk (file_state (connection_in keep)) → IsDatabase old × IsIn (image_at T.Start) old × Opened setup old (file_state (connection_in keep)))) }
+        ensures opened { IfOk result (λ keep. (old : Database)
+            × (HasCleanDisk (file_state (connection_in keep)) → IsDatabase old × IsIn (image_at T.Start) old
+            × Opened setup old (file_state (connection_in keep)))) }
         ensures setup { IfOk result (λ keep. setup_in keep ≡ setup) }
     {
         match Connection::open_from(rt, path, false, start) {
@@ -114,7 +120,8 @@ impl HandsetKeep<FileStore<File>> {
         path: &str,
         setup: Setup,
     ) -> Result<HandsetKeep<FileStore<File>>, KeepError>
-        ensures opened { IfOk result (λ keep. (old : Database) × (HasCleanDisk (file_state (connection_in keep)) → IsDatabase old × Opened setup old (file_state (connection_in keep)))) }
+        ensures opened { IfOk result (λ keep. (old : Database)
+            × (HasCleanDisk (file_state (connection_in keep)) → IsDatabase old × Opened setup old (file_state (connection_in keep)))) }
         ensures setup { IfOk result (λ keep. setup_in keep ≡ setup) }
     {
         HandsetKeep::open_from(rt, path, Unknown, setup)

@@ -42,7 +42,8 @@ fn keep_over<S: Alter + Drop>(
 // All rows of a keep.
 fn look_in<S: Alter + Drop>(keep: CentreKeep<S>) -> Result<Looked<S>, KeepError>
     ensures clean { IfOk result (λ looked. HasCleanDisk (state S.Store looked.conn) → HasCleanDisk (state_in S.Store keep)) }
-    ensures found { IfOk result (λ looked. HasCleanDisk (state S.Store looked.conn) → (rows : RowsOf) → IsKept (IsStoreWith (setup_in keep)) (state_in S.Store keep) rows
+    ensures found { IfOk result (λ looked. HasCleanDisk (state S.Store looked.conn) → (rows : RowsOf)
+        → IsKept (IsStoreWith (setup_in keep)) (state_in S.Store keep) rows
         → (looked.rows ≡ rows) × IsKept IsStore (state S.Store looked.conn) rows) }
 {
     let mut keep = keep;

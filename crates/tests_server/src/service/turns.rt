@@ -59,7 +59,12 @@ fn opened<'a>(alloc: Global, limits: &'a Limits) -> Result<Store<'a>, Fail> {
 
 // ---- turns
 
-fn meets(service: &mut Service<Store<'_>>, stimulus: &Stimulus<Job>, fate: Fate, told: &[To]) -> bool {
+fn meets(
+    service: &mut Service<Store<'_>>,
+    stimulus: &Stimulus<Job>,
+    fate: Fate,
+    told: &[To],
+) -> bool {
     let step = service.step(&Open, stimulus);
     is_step(&step, fate, told)
 }
