@@ -3,7 +3,8 @@
 
     tests/programs/proofs.py [PAGE]     status 0 where all is there
 
-- Each `crate::item` is one item of that crate. Modules between the two may be left out where the item is the only one.
+- Each `crate::item` is one item of that crate. Modules between the two may be left out where the item is the only one; a module counts
+  only where nothing else has the name.
 - A table with the columns Call and Clauses names only clauses that stand in the contract of each call of the row.
 - Each `NAME.edit` lies in the must-fail folder of exactly one crate; each `crate/..` in backticks is a file or folder.
 - Each block that begins with ```rattle FILE stands in that file, line by line, as it is printed.
@@ -127,6 +128,7 @@ class Sources:
             typed = not middle or not middle[-1][0].isupper() or (item.where and item.where[-1] == middle[-1])
             if item.name == last and typed and all(word in rest for word in middle):
                 fits.append(item)
+        fits = [item for item in fits if item.kind != "mod"] or fits
         exact = [item for item in fits if list(item.where) == middle]
         return exact if len(exact) == 1 else fits
 
