@@ -1,14 +1,18 @@
 #!/usr/bin/env python3
 """Checks docs/PROOFS.md against the sources: names, clauses, edits, files and printed blocks.
 
-    tests/programs/proofs.py [PAGE]     status 0 where all is there
+    tests/programs/proofs.py [PAGE]             status 0 where all is there
+    tests/programs/proofs.py --write [PAGE]     prints the blocks of the page anew, after names have changed
 
 - Each `crate::item` is one item of that crate. Modules between the two may be left out where the item is the only one; a module counts
   only where nothing else has the name.
-- A table with the columns Call and Clauses names only clauses that stand in the contract of each call of the row.
+- A table with the columns Call and Clauses names only clauses that the contract of each call of the row has.
 - Each `NAME.edit` lies in the must-fail folder of exactly one crate; each `crate/..` in backticks is a file or folder.
-- Each block that begins with ```rattle FILE stands in that file, line by line, as it is printed.
 - Each edit of the repository is named.
+- A block is printed as it is in the sources, and its first line says what it is:
+    ```rattle crate::function                  its doc comment and its whole contract
+    ```rattle crate::function CLAUSE ..        these clauses alone
+    ```rattle crate/specs/FILE.antt NAME ..    these definitions, each with its comment
 """
 import collections
 import os
@@ -19,8 +23,8 @@ TOP = os.path.realpath(os.path.join(os.path.dirname(os.path.abspath(__file__)), 
 CRATES = os.path.join(TOP, "crates")
 KINDS = r"(?:fn|struct|enum|trait|mod|type|const|static|union)"
 
-# where: the modules and, of a method, the type or trait
-Item = collections.namedtuple("Item", "name kind where clauses trait")
+# where: the modules and, of a method, the type or trait; place: the number of the line in the file
+Item = collections.namedtuple("Item", "name kind where clauses trait path place")
 
 
 def read(path):
@@ -40,25 +44,27 @@ def modules_of(crate, path):
     return [word for word in words if word not in ("lib", "main")]
 
 
-def clauses_from(lines, at):
-    """The names of the clauses of the function whose first line is there. A clause without a name counts as `ensures` or `requires`."""
-    names, depth = [], 0
+def contract_at(lines, at):
+    """The clauses of the function whose first line is there, each with its lines, and the line behind the contract. A clause without
+    a name counts as `ensures` or `requires`."""
+    clauses, depth, begins = [], 0, None
     for number in range(at, len(lines)):
         line = lines[number].strip()
         if depth == 0:
             clause = re.match(r"(ensures|requires)(?: (\w+))? \{", line)
             if clause:
-                names.append(clause.group(2) or clause.group(1))
-            elif number > at and re.match(r"(//|#\[|\{|\}|pub |fn )", line) and not line.startswith("//"):
-                break
-            elif line.endswith(("{}", ";", "{")) and not line.startswith("//"):
-                break
+                clauses.append([clause.group(2) or clause.group(1), number, number])
+            elif number > at and re.match(r"\{|\}|pub |fn |#\[|///", line):
+                return clauses, number
+            elif not line.startswith("//") and line.endswith(("{}", ";", "{")):
+                return clauses, number + 1
             if not clause:
                 continue
         depth += line.count("{") - line.count("}")
+        clauses[-1][2] = number
         if depth == 0 and line.endswith(";"):
-            break
-    return names
+            return clauses, number + 1
+    return clauses, len(lines)
 
 
 def owner_in(head):
@@ -82,22 +88,24 @@ def items_in(crate):
         lines = read(path).split("\n")
         owner = trait = None
         if modules:
-            yield Item(modules[-1], "mod", modules[:-1], [], None)
+            yield Item(modules[-1], "mod", modules[:-1], [], None, path, 0)
         for at, line in enumerate(lines):
             if re.match(r"(?:unsafe )?impl\b", line):
                 owner, trait = owner_in(line if "{" in line else " ".join(lines[at : at + 4]))
             found = re.match(r"(?:pub )?trait (\w+)", line)
             if found:
                 owner, trait = found.group(1), None
-                yield Item(found.group(1), "trait", modules, [], None)
+                yield Item(found.group(1), "trait", modules, [], None, path, at)
                 continue
             if line.startswith("}"):
                 owner = trait = None
             found = re.match(r"\s*(?:pub(?:\([^)]*\))? )?(" + KINDS + r") (\w+)", line)
             if found:
                 kind, name = found.groups()
-                where = modules + ([owner] if owner and line.startswith(" ") else [])
-                yield Item(name, kind, where, clauses_from(lines, at) if kind == "fn" else [], trait if line.startswith(" ") else None)
+                inner = line.startswith(" ")
+                where = modules + ([owner] if owner and inner else [])
+                clauses = [clause[0] for clause in contract_at(lines, at)[0]] if kind == "fn" else []
+                yield Item(name, kind, where, clauses, trait if inner else None, path, at)
 
 
 def passed_on(crate):
@@ -196,26 +204,82 @@ def file_faults(page):
             yield f"no such file: {path}"
 
 
-def block_faults(page):
-    blocks = re.findall(r"^```rattle (\S+)\n(.*?)^```$", page, re.DOTALL | re.MULTILINE)
-    for path, block in blocks:
-        place = os.path.join(CRATES, path)
-        if not os.path.exists(place):
-            yield f"no such file: {path}"
-        elif "\n" + block not in "\n" + read(place):
-            yield f"{path} has no such lines:\n{block}"
+def printed_item(words, sources):
+    """The contract of a function, or some of its clauses."""
+    found = [item for item in sources.found(words[0]) if item.kind == "fn"]
+    if len(found) != 1:
+        raise LookupError(f"no block: {words[0]}")
+    lines = read(found[0].path).split("\n")
+    clauses, end = contract_at(lines, found[0].place)
+    if words[1:]:
+        chosen = [clause for clause in clauses if clause[0] in words[1:]]
+        if len(chosen) != len(words) - 1:
+            raise LookupError(f"no block: {' '.join(words)}")
+        return "\n".join("\n".join(lines[first : last + 1]) for _, first, last in chosen)
+    first = found[0].place
+    while lines[first - 1].strip().startswith(("///", "//")):
+        first -= 1
+    end += end < len(lines) and lines[end].strip() == "{}"
+    return "\n".join(lines[first:end])
+
+
+def printed_definitions(words):
+    """Definitions of a file of specs/, each with the comment above it."""
+    path = os.path.join(CRATES, words[0])
+    if not os.path.exists(path):
+        raise LookupError(f"no such file: {words[0]}")
+    lines = read(path).split("\n")
+    texts = []
+    for name in words[1:]:
+        heads = [at for at, line in enumerate(lines) if re.match(rf"\s*(?:unfoldable |abbrev )?pub (?:record |data )?{name}\b", line)]
+        if len(heads) != 1:
+            raise LookupError(f"{words[0]} has no {name}")
+        first = last = heads[0]
+        while lines[first - 1].strip().startswith("-- ") and not lines[first - 1].strip().startswith("-- ----"):
+            first -= 1
+        while lines[last + 1].strip():
+            last += 1
+        texts.append("\n".join(lines[first : last + 1]))
+    return "\n\n".join(texts)
+
+
+def printed(head, sources):
+    words = head.split()
+    return printed_definitions(words) if "/" in words[0] else printed_item(words, sources)
+
+
+BLOCK = re.compile(r"^```rattle ([^\n]+)\n(.*?)^```$", re.DOTALL | re.MULTILINE)
+
+
+def block_faults(page, sources):
+    for head, block in BLOCK.findall(page):
+        try:
+            if block != printed(head, sources) + "\n":
+                yield f"another text in the sources: {head}"
+        except LookupError as error:
+            yield str(error)
+
+
+def rewritten(page, sources):
+    return BLOCK.sub(lambda block: f"```rattle {block.group(1)}\n{printed(block.group(1), sources)}\n```", page)
 
 
 def main(words):
-    page = read(words[0] if words else os.path.join(TOP, "docs", "PROOFS.md"))
+    to_write = words[:1] == ["--write"]
+    path = words[to_write] if words[to_write:] else os.path.join(TOP, "docs", "PROOFS.md")
+    page = read(path)
     sources = Sources()
-    faults = [*name_faults(page, sources), *clause_faults(page, sources), *file_faults(page), *block_faults(page)]
+    if to_write:
+        page = rewritten(page, sources)
+        with open(path, "w", encoding="utf-8") as file:
+            file.write(page)
+    faults = [*name_faults(page, sources), *clause_faults(page, sources), *file_faults(page), *block_faults(page, sources)]
     for fault in faults:
         print(fault)
     names = len(set(re.findall(r"`([a-z]\w*(?:::\w+)+)`", page)))
-    blocks = len(re.findall(r"^```rattle ", page, re.MULTILINE))
+    blocks = len(BLOCK.findall(page))
     print(f"{names} names, {blocks} blocks, {len(faults)} faults")
-    return 1 if faults or names < 100 or blocks < 1 else 0
+    return 1 if faults or names < 100 or blocks < 10 else 0
 
 
 if __name__ == "__main__":
