@@ -2,7 +2,10 @@
 """Checks docs/PROOFS.md against the sources: names, clauses, edits, files and printed blocks.
 
     tests/programs/proofs.py [PAGE]             status 0 where all is there
-    tests/programs/proofs.py --write [PAGE]     prints the blocks of the page anew, after names have changed
+    tests/programs/proofs.py --write [PAGE]     prints the blocks of the page anew, and makes each name as short as it is clear
+    tests/programs/proofs.py --full [PAGE]      each name with all its modules, and of each block its first line alone, in backticks
+
+Before names are changed by a script: `--full`. Afterwards: `--write`.
 
 - Each `crate::item` is one item of that crate. Modules between the two may be left out where the item is the only one; a module counts
   only where nothing else has the name.
@@ -21,6 +24,7 @@ import sys
 
 TOP = os.path.realpath(os.path.join(os.path.dirname(os.path.abspath(__file__)), "..", ".."))
 CRATES = os.path.join(TOP, "crates")
+NAME = re.compile(r"`([a-z]\w*(?:::\w+)+)`")
 KINDS = r"(?:fn|struct|enum|trait|mod|type|const|static|union)"
 
 # where: the modules and, of a method, the type or trait; place: the number of the line in the file
@@ -152,7 +156,7 @@ class Sources:
 
 
 def name_faults(page, sources):
-    for name in sorted(set(re.findall(r"`([a-z]\w*(?:::\w+)+)`", page))):
+    for name in sorted(set(NAME.findall(page))):
         crate = name.split("::")[0]
         if crate not in sources.crates:
             yield f"no crate of that name: {name}"
@@ -174,7 +178,7 @@ def clause_faults(page, sources):
         elif [cell.strip() for cell in cells[:2]] == ["Call", "Clauses"]:
             is_table = True
         elif is_table and not set(line) <= set("|- "):
-            for name in re.findall(r"`([a-z]\w*(?:::\w+)+)`", cells[0]):
+            for name in NAME.findall(cells[0]):
                 for item in sources.found(name)[:1] if name.split("::")[0] in sources.crates else []:
                     has = sources.clauses(item)
                     for clause in re.findall(r"`(\w+)`", cells[1]):
@@ -248,6 +252,7 @@ def printed(head, sources):
     return printed_definitions(words) if "/" in words[0] else printed_item(words, sources)
 
 
+HEAD = re.compile(r"^`rattle ([^`\n]+)`$", re.MULTILINE)
 BLOCK = re.compile(r"^```rattle ([^\n]+)\n(.*?)^```$", re.DOTALL | re.MULTILINE)
 
 
@@ -260,23 +265,69 @@ def block_faults(page, sources):
             yield str(error)
 
 
+def full_name(crate, item):
+    return "::".join([crate, *item.where, item.name])
+
+
+def short_name(crate, item, sources):
+    """The shortest name that is clear: with the type of a method, and with as few modules as will do."""
+    is_method = bool(item.where) and item.where[-1][0].isupper()
+    modules, owner = (item.where[:-1], item.where[-1:]) if is_method else (item.where, [])
+    for chosen in [[], *([module] for module in modules), *([modules[0], module] for module in modules[1:])]:
+        name = "::".join([crate, *chosen, *owner, item.name])
+        if sources.found(name) == [item]:
+            return name
+    return full_name(crate, item)
+
+
+def named(name, sources, is_full):
+    crate = name.split("::")[0]
+    found = sources.found(name) if crate in sources.crates else []
+    if len(found) != 1:
+        return name
+    return full_name(crate, found[0]) if is_full else short_name(crate, found[0], sources)
+
+
+def named_head(head, sources, is_full):
+    first, *rest = head.split()
+    return " ".join([first if "/" in first else named(first, sources, is_full), *rest])
+
+
 def rewritten(page, sources):
-    return BLOCK.sub(lambda block: f"```rattle {block.group(1)}\n{printed(block.group(1), sources)}\n```", page)
+    page = HEAD.sub(lambda head: f"```rattle {head.group(1)}\n```", page)
+    page = NAME.sub(lambda name: f"`{named(name.group(1), sources, False)}`", page)
+
+    def block_of(block):
+        head = named_head(block.group(1), sources, False)
+        try:
+            return f"```rattle {head}\n{printed(head, sources)}\n```"
+        except LookupError:
+            return block.group(0)
+
+    return BLOCK.sub(block_of, page)
+
+
+def spelled_out(page, sources):
+    page = BLOCK.sub(lambda block: f"`rattle {named_head(block.group(1), sources, True)}`", page)
+    return NAME.sub(lambda name: f"`{named(name.group(1), sources, True)}`", page)
 
 
 def main(words):
-    to_write = words[:1] == ["--write"]
-    path = words[to_write] if words[to_write:] else os.path.join(TOP, "docs", "PROOFS.md")
+    ways = {"--write": rewritten, "--full": spelled_out}
+    way = ways.get(words[0]) if words else None
+    path = words[bool(way)] if words[bool(way) :] else os.path.join(TOP, "docs", "PROOFS.md")
     page = read(path)
     sources = Sources()
-    if to_write:
-        page = rewritten(page, sources)
+    if way:
+        page = way(page, sources)
         with open(path, "w", encoding="utf-8") as file:
             file.write(page)
+        if way is spelled_out:
+            return 0
     faults = [*name_faults(page, sources), *clause_faults(page, sources), *file_faults(page), *block_faults(page, sources)]
     for fault in faults:
         print(fault)
-    names = len(set(re.findall(r"`([a-z]\w*(?:::\w+)+)`", page)))
+    names = len(set(NAME.findall(page)))
     blocks = len(BLOCK.findall(page))
     print(f"{names} names, {blocks} blocks, {len(faults)} faults")
     return 1 if faults or names < 100 or blocks < 10 else 0
