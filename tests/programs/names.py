@@ -10,7 +10,7 @@ import sys
 TOP = os.path.normpath(os.path.join(os.path.dirname(os.path.abspath(__file__)), "..", ".."))
 CRATES = os.path.join(TOP, "crates")
 # Words of the system and of other programs, which stand in no file of the tree.
-FOREIGN = {"curl", "epoll", "perf", "strace", "lscpu", "malloc", "free", "memcpy", "iconv"}
+FOREIGN = {"new_transmitter", "new_receiver", "read_pdu", "busy_timeout", "fdatasync", "curl", "epoll", "perf", "strace", "lscpu", "malloc", "free", "memcpy", "iconv"}
 IDENTIFIER = r"[A-Za-z_][A-Za-z0-9_]*"
 
 
