@@ -1,5 +1,7 @@
-//! Large values that are lent, and that take the place of others: who owns one makes it, lends it to a piece of work, and lets it go
-//! in one place, so that no crate above proves how it is let go.
+//! A large value that its one owner lends.
+//!
+//! The owner makes a value, lends it to a closure and drops it in one place (`lend`). So no crate above proves how it
+//! is dropped. `put` puts one such value in the place of another.
 
 ghost use Rattle.std.specs.Prelude.{◌≡◌};
 ghost use Rattle.std.specs.Fn.{FnOnceReturnsAtMut};
