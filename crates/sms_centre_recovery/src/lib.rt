@@ -1,7 +1,10 @@
-//! sms_centre_recovery, of modules:
+//! Whether rows are sound, and the memory rebuilt from them.
 //!
-//! - `soundness`: Whether a centre can stand on rows: each condition of `sms_centre_spec/specs/SoundRows.antt` by a test of its own.
-//! - `starting`: What a centre begins with that isn't stored: what waits for each handset, its lines, and its moment.
+//! A centre starts only on sound rows. `soundness` answers exactly whether rows are sound, in time linear in the rows
+//! up to a logarithm. `starting` gives what a centre begins with that isn't stored, as the definition has it.
+//!
+//! - `soundness`: whether rows are sound, each condition by a test of its own
+//! - `starting`: what waits for each handset, the links, and the moment
 #![tactic(auto)]
 
 pub mod soundness;
