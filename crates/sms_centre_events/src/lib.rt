@@ -5,9 +5,9 @@
 //! reports and handsets at a tick; the code walks over those that are found.
 //!
 //! Where numbers or references aren't free for all parts of a submission, the centre is left half changed. The event
-//! then begins anew and refuses the submission (`Came::Congested`, `Asked::Congested`). What is kept of messages as the
-//! event begins answers three questions (`specs/Knowing.antt`): whether a SUBMIT is a duplicate, whether a reference is
-//! taken, and the next message's number. Nothing earlier in the event changes a message or a part.
+//! then begins anew and refuses the submission (`Came::Congested`, `Asked::Congested`). Three questions are answered by
+//! what is kept as the event begins (`specs/Knowing.antt`): whether a SUBMIT is a duplicate, whether a reference is
+//! taken, and the next number. Nothing earlier in the event changes a message or a part.
 //!
 //! - `accepting`: a submission becomes a message
 //! - `accounts`: the accounts of applications
