@@ -1,4 +1,4 @@
-//! What an originator wants to be told.
+//! At which ends an originator wants a report.
 
 /// Of which ends of a message its originator is told.
 #[derive(Clone, Copy, Debug, PartialEq, Eq)]

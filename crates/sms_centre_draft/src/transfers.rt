@@ -1,4 +1,4 @@
-//! How a transfer to a handset ends (3GPP TS 24.011 8.2.5.4), and what comes of it.
+//! How a transfer to a handset ends (3GPP TS 24.011 8.2.5.4), and what the centre makes of it.
 ghost use Rattle.std.specs.Prelude.{◌≡◌, ℕ, Some, true, false, IfOk, OnOk};
 ghost use Rattle.sms_centre_rows.specs.messages.Messages.{all_done as all_done_of, is_pending, message_at, part_at};
 ghost use Rattle.sms_centre_rows.specs.messages.PartEntries.{part_entry};

@@ -1,4 +1,4 @@
-//! What a centre is told when it starts.
+//! What a centre is given when it starts.
 use sms_base::{Address, Listed, Moment};
 use sms_intake::Account;
 

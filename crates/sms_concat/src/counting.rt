@@ -1,4 +1,4 @@
-//! How many parts a content takes, told before any memory is.
+//! How many parts a content takes, counted before any memory is taken.
 ghost use Rattle.std.specs.Prelude.{◌≡◌, ◌≤◌, ℕ, length, nat_le};
 ghost use Rattle.std.specs.Str.{chars};
 ghost use Rattle.sms_concat.specs.Counting.{content_with, counted, text_begun, text_outcome, with_text};

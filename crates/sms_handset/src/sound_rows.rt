@@ -1,4 +1,4 @@
-//! Whether a handset can stand on rows.
+//! Whether the rows of a handset are sound.
 ghost use Rattle.std.specs.Prelude.{◌≡◌, ◌↔◌, ◌&&◌, true};
 ghost use Rattle.sms_handset.specs.SoundRows.{IsSetup, IsSound};
 ghost use Rattle.sms_handset.specs.SoundnessTest.{KeysRise, are_few as are_few_of, inbox_passes as inbox_passes_of, outbox_passes as outbox_passes_of};

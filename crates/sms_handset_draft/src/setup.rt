@@ -1,4 +1,4 @@
-//! What a handset is told when it starts.
+//! What a handset is given when it starts.
 use sms_base::{Address, Moment};
 
 /// What a handset is told when it starts, and does not store.

@@ -1,4 +1,4 @@
-//! What stands in front of a content.
+//! The header in front of a content.
 use sms_base::OctetView;
 use sms_concat::ConcatKey;
 

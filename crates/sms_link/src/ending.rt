@@ -1,4 +1,4 @@
-//! What comes up from a link.
+//! What a link passes up.
 ghost use Rattle.std.specs.Prelude.{◌≡◌, IfOk, Ok};
 ghost use Rattle.sms_link.specs.Ending.{ended_by, unit_at, unit_ending as unit_ending_of};
 

@@ -1,4 +1,4 @@
-//! Copies of what seats are told.
+//! Copies of replies.
 ghost use Rattle.std.specs.Prelude.{◌≡◌, IfOk};
 
 use sms_base::Octets;

@@ -1,4 +1,4 @@
-//! What is kept as the rows of a store tell of it.
+//! What is kept of messages, rebuilt from the rows of a store.
 ghost use Rattle.std.specs.Prelude.{◌≡◌, [], List, map, IfOk, OnOk};
 ghost use Rattle.sms_centre_messages.specs.held.MessagesInMemory.{Holds, Notes};
 ghost use Rattle.sms_centre_rows.specs.messages.Messages.{message_key, part_key};

@@ -1,4 +1,4 @@
-//! What a centre tells of its messages, one by one.
+//! A centre's messages, listed one by one.
 ghost use Rattle.std.specs.Prelude.{◌≡◌, List, length, slice_get};
 ghost use Rattle.std.specs.Option.{option_map};
 ghost use Rattle.sms_centre_messages.specs.held.MessagesInMemory.{Holds};

@@ -1,4 +1,4 @@
-//! How claims are let go where messages end, and how parts bring theirs.
+//! Claims that end with their messages, and claims of new parts.
 ghost use Rattle.std.specs.Prelude.{◌≡◌, ◌+◌, ◌<◌, ◌≤◌, ℕ, List, Some, true, IsOk, OnOk};
 ghost use Rattle.sms_centre_messages.specs.references.Claims.{AreFew, BarsLess, BringsBar, BringsOwn, Brought, Ended, Holds, HoldsLess, PendsLess, still};
 ghost use Rattle.sms_centre_messages.specs.references.Moves.{HasRoomFor};

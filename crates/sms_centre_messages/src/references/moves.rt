@@ -1,4 +1,4 @@
-//! How claims come and go.
+//! Claims that are new or end.
 ghost use Rattle.std.specs.Prelude.{◌≡◌, ◌+◌, ◌<◌, ◌≤◌, ℕ, List, IsOk, OnOk};
 ghost use Rattle.sms_centre_messages.specs.references.Claims.{AreFew, BarsMore, ComesBehind, Entered, GivesLast, Holds, HoldsMore, PendsMore};
 ghost use Rattle.sms_centre_messages.specs.references.Moves.{HasRoomFor};

@@ -1,4 +1,4 @@
-//! Laws of shelves, over definitions alone.
+//! Laws of queues, over definitions alone.
 ghost use Rattle.std.specs.Prelude.{◌≡◌, ℕ, List};
 ghost use Rattle.sms_schedule.specs.Precedence.{next as first_scheduled};
 ghost use Rattle.sms_centre_queue.specs.queue.Scheduling.{AreNumbered, row_of_next, rows_of};

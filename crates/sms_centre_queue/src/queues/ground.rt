@@ -1,4 +1,4 @@
-//! The shelves as they were put in last.
+//! The queues as they were put in last.
 ghost use Rattle.std.specs.Prelude.{◌≡◌, ◌+◌, ◌≤◌, ◌<◌, ℕ, max, length, nat_eq, if◌then◌else◌, IfOk, option_copied};
 ghost use Rattle.std.specs.Option.{option_or};
 ghost use Rattle.indexmap.specs.IndexMap.{index_map_len, spare as spare_of};

@@ -1,4 +1,4 @@
-//! Laws of the shelves of all handsets, over their definitions alone.
+//! Laws of the queues of all handsets, over their definitions alone.
 ghost use Rattle.std.specs.Prelude.{◌≡◌, ℕ, List, Bool, filter};
 ghost use Rattle.sms_base.specs.Among.{Among};
 ghost use Rattle.sms_centre_rows.specs.waiting.Lines.{Air};

@@ -1,4 +1,4 @@
-//! What an event does with the shelf of a handset.
+//! What an event does with the queue of a handset.
 ghost use Rattle.std.specs.Prelude.{◌≡◌, ◌<◌, ◌≤◌, ℕ, List, Some, length, IfOk, IfSome, OnOk};
 ghost use Rattle.sms_link.specs.LinkTurn.{begun, fired, replied, taken};
 ghost use Rattle.sms_rows.specs.table.Keys.{AllDigits, pair_key};

@@ -1,4 +1,4 @@
-//! The shelves of all handsets, in the middle of an event.
+//! The queues of all handsets, within an event.
 ghost use Rattle.std.specs.Prelude.{◌≡◌, ◌++◌, ℕ, List, [], Some, nat_eq, if◌then◌else◌, IfOk, OnOk, option_copied};
 ghost use Rattle.sms_rows.specs.table.Keys.{digits_key};
 ghost use Rattle.sms_centre_rows.specs.waiting.Lines.{to_handset};

@@ -1,4 +1,4 @@
-//! A shelf among the others.
+//! A queue among the others.
 ghost use Rattle.std.specs.Prelude.{◌≡◌, IfOk, Some, None};
 ghost use Rattle.sms_centre_queue.specs.queues.Placing.{new_placed};
 ghost use Rattle.sms_centre_queue.specs.queues.Stops.{is_active, is_wanted as is_wanted_of, order_of, stop_at};

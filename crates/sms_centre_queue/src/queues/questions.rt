@@ -1,4 +1,4 @@
-//! What an event asks of shelves.
+//! What an event asks of queues.
 ghost use Rattle.std.specs.Prelude.{◌≡◌, ◌+◌, ℕ, List, [], IfOk};
 ghost use Rattle.sms_rows.specs.table.Keys.{AllDigits, pair_key};
 ghost use Rattle.sms_rows.specs.table.Table.{row_at};

@@ -1,4 +1,4 @@
-//! The shelves as rows tell of them.
+//! The queues, rebuilt from rows.
 ghost use Rattle.std.specs.Prelude.{◌≡◌, ℕ, [], None, Some, nat_eq, if◌then◌else◌, IfOk, OnOk};
 ghost use Rattle.sms_rows.specs.table.Keys.{digits_key};
 ghost use Rattle.sms_centre_rows.specs.waiting.References.{place_after};

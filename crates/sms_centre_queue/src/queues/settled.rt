@@ -1,4 +1,4 @@
-//! What an event leaves of the shelves.
+//! What an event leaves of the queues.
 ghost use Rattle.std.specs.Prelude.{◌≡◌, ℕ, [], Some, IfOk};
 ghost use Rattle.sms_centre_queue.specs.queues.Adopting.{Fits, IsAdopted, IsSettled};
 ghost use Rattle.sms_centre_queue.specs.queues.Stops.{scanned};

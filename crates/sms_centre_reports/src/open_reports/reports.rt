@@ -1,4 +1,4 @@
-//! The open reports, as they stand between events.
+//! The open reports, between events.
 ghost use Rattle.std.specs.Prelude.{◌≡◌, ◌+◌, ◌<◌, ◌++◌, ◌∷◌, [], List, OnOk, IfOk, None, Some, true};
 ghost use Rattle.sms_rows.specs.index.First.{first_such, is_ahead_from, is_past_from};
 ghost use Rattle.sms_rows.specs.index.Picked.{pick_of};

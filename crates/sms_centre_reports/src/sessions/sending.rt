@@ -1,4 +1,4 @@
-//! Receipts go: the oldest first, each in the session that serves its account.
+//! Receipts are sent: the oldest first, each in the session that serves its account.
 ghost use Rattle.std.specs.Prelude.{◌≡◌, ◌≤◌, List, Some, IfOk, IfSome, OnOk, option_map};
 ghost use Rattle.sms_centre_reports.specs.open_reports.Entries.{receipt_key};
 ghost use Rattle.sms_centre_reports.specs.open_reports.ReportsInMemory.{receipts_at};

@@ -1,5 +1,5 @@
-//! Laws of shelves, over their definitions alone: what a shelf does for its handset is what is done over the rows and lines of
-//! all handsets, and no other shelf sees it.
+//! Laws of one handset's link, references and waiting parts, over their definitions alone: what is done for one handset
+//! is done over the rows and links of all handsets, and no other handset's changes.
 ghost use Rattle.std.specs.Prelude.{Option, Some, ◌≡◌, ◌<◌, ◌∷◌, [], ℕ, List};
 ghost use Rattle.sms_base.specs.Among.{Among};
 ghost use Rattle.sms_rows.specs.table.Table.{put, without};

@@ -1,4 +1,4 @@
-//! What a seat is told.
+//! What a seat gets.
 use crate::CentreAnswer;
 use sms_base::Octets;
 use sms_receipt::Final;

@@ -1,4 +1,4 @@
-//! Whether a handset can stand on rows of the inbox.
+//! Whether rows of the inbox are sound.
 ghost use Rattle.std.specs.Prelude.{◌≡◌};
 ghost use Rattle.sms_tpdu.specs.TpduReading.{down_at};
 ghost use Rattle.sms_tpdu.specs.declared.carrier.Carrier.TheVariants.{InData as Data};

@@ -1,4 +1,4 @@
-//! Octets that came and are not cut off yet.
+//! Octets that arrived and are not cut off yet.
 ghost use Rattle.std.specs.Prelude.{◌≡◌, ◌++◌, ℕ, List, [], Ok, Some, length, OnOk, OnErr};
 ghost use Rattle.sms_link.specs.framing.Framing.{framed, front_of, sized_of};
 

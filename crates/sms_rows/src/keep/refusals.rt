@@ -1,4 +1,4 @@
-//! What a keep tells of the calls that it refused.
+//! How many calls a keep refused, and which read.
 ghost use Rattle.std.specs.Prelude.{◌≡◌};
 ghost use Rattle.sms_rows.specs.keep.Refusing.{no_refusals, with_answer, with_call, with_read};
 

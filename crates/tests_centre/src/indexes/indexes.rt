@@ -1,4 +1,4 @@
-//! An index beside a copy of it that goes on.
+//! An index beside a copy of it that changes on.
 use crate::indexes::rows::{at, holds};
 use sms_base::Moment;
 use sms_rows::index::{Dated, Index};

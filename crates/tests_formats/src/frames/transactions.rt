@@ -1,5 +1,5 @@
 //! Transactions of one end of a link, over frames from outside: rows of calls, with the frames that each sends and what
-//! goes up.
+//! it passes up.
 use crate::frames::rows::{are, holds, is};
 use sms_base::Moment;
 use sms_control::{LinkError, Links, Out, Up};

@@ -1,4 +1,4 @@
-//! A service, what happens to it, and what is told.
+//! A service, what happens to it, and its replies.
 use crate::service::asks::{Asked, START, asks, ticks};
 use crate::service::rows::holds;
 use crate::service::store::Store;
