@@ -58,7 +58,7 @@ fn tally_latin(octets: &[u8]) -> TextTally
     tally
 }
 
-/// The same of a text whose characters have these codes, from 00 to FF.
+/// How many parts `split` makes of a text whose characters have these codes, from 00 to FF, or why it splits none.
 ///
 /// Takes no memory. Linear in the octets.
 pub fn count_latin_parts(octets: &[u8]) -> Result<u8, SplitError>

@@ -44,7 +44,7 @@ pub fn bears(reference: ConcatReference, total: u8, dcs: u8, number: usize, part
         && part.content.dcs == dcs
 }
 
-/// Whether the parts bear the numbers above that one, in order.
+/// Whether the parts have the numbers above `below`, in order.
 pub fn bear_all(
     reference: ConcatReference,
     total: u8,

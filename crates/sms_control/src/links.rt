@@ -47,7 +47,7 @@ impl Links {
         }
     }
 
-    /// Links in the same state.
+    /// A copy of the links.
     pub fn copy(&self) -> Result<Links, AllocError>
         ensures { IfOk result (λ c. c ≡ self.now) }
     {

@@ -118,7 +118,7 @@ impl Transaction {
         }
     }
 
-    /// The same transaction, the other way.
+    /// The transaction with its flag turned.
     pub fn turned(self) -> Transaction
         ensures { result ≡ record { flag = turned self.flag; identifier = self.identifier } }
     {

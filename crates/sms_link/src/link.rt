@@ -51,7 +51,7 @@ impl Link {
         }
     }
 
-    /// A link in the same state.
+    /// A copy of the link.
     pub fn copy(&self) -> Result<Link, AllocError>
         ensures { IfOk result (λ copy. copy ≡ self.now) }
     {

@@ -69,7 +69,8 @@ pub fn front_up_is_truncated()
     ensures bare { (front : List ℕ) (rp : RpOf) → IsUp (front ++ user_data_of rp) rp → up_at front ≡ Ok (bare rp) }
 {}
 
-/// The same downwards.
+/// A proper front of a list that is read downwards is truncated, unless exactly the user data of an RP-ACK or RP-ERROR is
+/// cut off; then it is read as the unit without user data. RP-DATA has no such front.
 pub fn front_down_is_truncated()
     ensures truncated { (front rest : List ℕ) (rp : RpOf) → IsDown (front ++ rest) rp → rest ≢ [] → rest ≢ user_data_of rp → down_at front ≡ Err Truncated }
     ensures bare { (front : List ℕ) (rp : RpOf) → IsDown (front ++ user_data_of rp) rp → down_at front ≡ Ok (bare rp) }
@@ -83,7 +84,8 @@ pub fn faults_up_tell_what_may_follow()
     ensures other { (octets more : List ℕ) (rp : RpOf) (fault : FaultOf) → up_at octets ≡ Err fault → fault ≢ Truncated → ¬ IsUp (octets ++ more) rp }
 {}
 
-/// The same downwards.
+/// Downwards, octets end too early only where octets may follow with which they are a unit; octets are left over only
+/// behind a unit; and where the fault is any but the first, they are no unit whatever follows.
 pub fn faults_down_tell_what_may_follow()
     ensures truncated { (octets : List ℕ) → AreOctets octets → down_at octets ≡ Err Truncated → HasContinuation IsDown octets }
     ensures trailing { (octets : List ℕ) → AreOctets octets → down_at octets ≡ Err Trailing → HasFront IsDown octets }

@@ -43,7 +43,8 @@ pub fn a_fault_down_has_its_reason()
     ensures other { (carrier : Carrier) (octets rest : List ℕ) (tpdu : Down) (fault : TpduFault) → down_at carrier octets ≡ Err fault → fault ≢ Truncated → IsDown carrier (octets ++ rest) tpdu → ⊥ }
 {}
 
-/// The same upwards.
+/// Upwards, too, each fault has its reason: octets are missing only where some can be added so that a TPDU is there, left over
+/// only behind a TPDU, and any other fault only where no TPDU can follow.
 pub fn a_fault_up_has_its_reason()
     ensures truncated { (carrier : Carrier) (octets : List ℕ) → AreOctets octets → up_at carrier octets ≡ Err Truncated → (rest : List ℕ) × (tpdu : Up) × AreOctets rest × IsUp carrier (octets ++ rest) tpdu }
     ensures trailing { (carrier : Carrier) (octets : List ℕ) → AreOctets octets → up_at carrier octets ≡ Err TrailingOctets → (front : List ℕ) × (octet : ℕ) × (rest : List ℕ) × (tpdu : Up) × (octets ≡ front ++ octet ∷ rest) × IsUp carrier front tpdu }

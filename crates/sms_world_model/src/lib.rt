@@ -76,7 +76,7 @@ pub fn joined_was_submitted()
     ensures content { (items : List Item) → Run empty items → Timely empty items → Fresh empty items → SplitsJoined (end empty items) }
 {}
 
-/// The same over scripts of events, stopped ones among them, with no premise.
+/// Over scripts of events, stopped ones among them, and with no premise: what always holds of a list of steps.
 pub fn script_is_sound()
     ensures stays { (before later : List Happening) (w v : World) → Plays empty before w → Plays w later v → MessagesStay w v }
     ensures for_good { (before later : List Happening) (w v : World) → Plays empty before w → Plays w later v → FinalForGood w v }

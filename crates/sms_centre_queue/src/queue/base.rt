@@ -40,7 +40,7 @@ impl<T: Drop + Row> Base<T> {
         Ok(Base { table: Some(table) })
     }
 
-    /// The same rows in the same memory.
+    /// A copy that shares the memory of the rows.
     pub(crate) fn share(&self) -> Result<Base<T>, AllocError>
         ensures { IfOk result (λ base. base ≡ self.now) }
     {

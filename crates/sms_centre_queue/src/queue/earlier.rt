@@ -53,7 +53,7 @@ impl Earlier {
         Ok(Earlier { base, latest })
     }
 
-    /// The same rows in the same memory.
+    /// A copy that shares the memory of the rows.
     pub(crate) fn share(&self) -> Result<Earlier, AllocError>
         ensures { IfOk result (λ earlier. earlier ≡ self.now) }
     {

@@ -60,7 +60,7 @@ impl Given {
         })
     }
 
-    /// The same, with the shared ones in the same memory.
+    /// A copy that shares the memory of the shared references.
     pub(crate) fn copy(&self) -> Result<Given, AllocError>
         ensures { IfOk result (λ given. given ≡ self.now) }
     {

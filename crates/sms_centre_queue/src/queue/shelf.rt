@@ -71,7 +71,7 @@ impl Shelf {
         })
     }
 
-    /// The same. Most of what waits and of the references that were given is in the same memory, so that a copy costs little.
+    /// A copy. It shares most of what waits and of the references that were given, so that it costs little.
     pub fn copy(&self) -> Result<Shelf, AllocError>
         ensures { IfOk result (λ shelf. shelf ≡ self.now) }
     {

@@ -58,7 +58,7 @@ impl Waiting {
         }
     }
 
-    /// The same, with the shared ones in the same memory.
+    /// A copy that shares the memory of the shared parts.
     pub(crate) fn copy(&self) -> Result<Waiting, AllocError>
         ensures { IfOk result (λ waiting. waiting ≡ self.now) }
     {

@@ -201,7 +201,7 @@ impl PendingShelves {
 }
 
 impl PendingShelves {
-    /// The reference is given to the handset. Places go to 4,294,967,295: a handset that comes behind that one gets none.
+    /// Gives the reference to the handset. The last place of a handset is 4,294,967,295: a later handset gets none.
     pub fn give(&mut self, number: Digits, reference: u8, now: Moment) -> Result<(), AllocError>
         requires is { IsNumber number }
         ensures { OnOk result ((g : Givings) (air : Air) (waiting : List ℕ → List LoadOf) → Shows g air waiting self.old

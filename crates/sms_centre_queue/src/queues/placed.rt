@@ -28,7 +28,7 @@ impl Placed {
         }
     }
 
-    /// The same, in memory of its own.
+    /// A copy, in memory of its own.
     pub(crate) fn copy(&self) -> Result<Placed, AllocError>
         ensures { IfOk result (λ placed. placed ≡ self.now) }
     {
@@ -38,7 +38,7 @@ impl Placed {
         })
     }
 
-    /// The same without its line, in memory of its own.
+    /// A copy without its link, in memory of its own.
     pub(crate) fn unlined(&self) -> Result<Placed, AllocError>
         ensures { IfOk result (λ placed. placed ≡ unlined_of self.now) }
     {

@@ -53,7 +53,7 @@ impl Accounts {
         Accounts { first: None }
     }
 
-    /// The same accounts, shared.
+    /// A copy that shares all accounts.
     pub(crate) fn share(&self) -> Result<Accounts, AllocError>
         ensures { IfOk result (λ copy. copy ≡ self.now) }
     {

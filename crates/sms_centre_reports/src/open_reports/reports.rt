@@ -98,7 +98,7 @@ impl Reports {
         }
     }
 
-    /// The same reports, shared: it costs the same however many there are.
+    /// A copy that shares all reports. It costs equally much however many there are.
     pub fn share(&self) -> Result<Reports, AllocError>
         ensures { IfOk result (λ copy. copy ≡ self.now) }
     {

@@ -48,7 +48,7 @@ impl Line {
         self.is_up && !self.is_full && !self.link.is_busy()
     }
 
-    /// The same, in memory of its own.
+    /// A copy of the link, in memory of its own.
     pub fn copy(&self) -> Result<Line, AllocError>
         ensures { IfOk result (λ line. line ≡ self.now) }
     {

@@ -170,7 +170,7 @@ impl Joiner {
         self.takes(part) && self.parts().len() + 1 == usize::from(self.total)
     }
 
-    /// A joiner of its own that has taken the same parts.
+    /// A copy: a joiner that has taken these parts.
     pub fn copy(&self, alloc: Global) -> Result<Joiner, AllocError>
         ensures { IfOk result (λ copy. copy ≡ self.now) }
     {

@@ -61,7 +61,7 @@ pub struct OutEntry {
 }
 
 impl OutEntry {
-    /// An entry of its own that is the same.
+    /// A copy of the entry.
     pub fn copy(&self, alloc: Global) -> Result<OutEntry, AllocError>
         ensures { IfOk result (λ copy. copy ≡ self.now) }
     {

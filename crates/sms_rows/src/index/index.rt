@@ -40,7 +40,7 @@ impl<T: Copy + Dated> Index<T> {
         }
     }
 
-    /// The same rows, shared: it costs the same however many there are.
+    /// A copy that shares all rows. It costs equally much however many there are.
     pub fn share(&self) -> Result<Index<T>, AllocError>
         ensures { IfOk result (λ copy. copy ≡ self.now) }
     {

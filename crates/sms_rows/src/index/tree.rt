@@ -62,7 +62,7 @@ impl<T: Copy + Dated> Tree<T> {
         Tree { root: None }
     }
 
-    /// The same tree, shared.
+    /// A copy that shares the whole tree.
     pub(crate) fn share(&self) -> Result<Tree<T>, AllocError>
         ensures { IfOk result (λ copy. copy ≡ self.now) }
     {

@@ -81,7 +81,7 @@ impl Accounts {
         Ok(place)
     }
 
-    /// The same without taking memory.
+    /// Puts a name where there is room, without taking memory, and gives its place.
     pub fn put_ready(&mut self, name: Octets) -> usize
         requires { 0 < self.old.room }
         ensures { Interned self.old name result self.new }

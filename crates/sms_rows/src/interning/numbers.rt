@@ -83,7 +83,7 @@ impl Numbers {
         Ok(place)
     }
 
-    /// The same without taking memory.
+    /// Puts digits where there is room, without taking memory, and gives their place.
     pub fn put_ready(&mut self, digits: Digits) -> usize
         requires { 0 < self.old.room }
         ensures { Interned self.old digits result self.new }

@@ -154,7 +154,7 @@ impl<T: Drop + Row> Table<T> {
         Ok(())
     }
 
-    /// The same without taking memory.
+    /// Puts a row where there is room, without taking memory.
     pub fn put_ready(&mut self, row: T)
         requires { HasRoom 1 self.old }
         ensures { self.new ≡ record self.old { rows = put T.key row self.old.rows } }
