@@ -9,8 +9,12 @@ import sys
 
 TOP = os.path.normpath(os.path.join(os.path.dirname(os.path.abspath(__file__)), "..", ".."))
 CRATES = os.path.join(TOP, "crates")
-# Words of the system and of other programs, which stand in no file of the tree.
-FOREIGN = {"new_transmitter", "new_receiver", "read_pdu", "busy_timeout", "fdatasync", "curl", "epoll", "perf", "strace", "lscpu", "malloc", "free", "memcpy", "iconv"}
+# Words of the system, of ports and of other programs, and forms of dates, which no file of the tree has.
+FOREIGN = {
+    "curl", "epoll", "fdatasync", "free", "iconv", "lscpu", "malloc", "memcpy", "perf", "strace", "sqlite3",
+    "new_transmitter", "new_receiver", "read_pdu", "busy_timeout", "Wary", "YYMMDDhhmm", "YYMMDDhhmmsstnnp",
+}
+BUILT = ("out/", "/out/")
 IDENTIFIER = r"[A-Za-z_][A-Za-z0-9_]*"
 
 
@@ -25,8 +29,13 @@ def files_under(*places):
             yield from (os.path.join(folder, name) for name in names)
 
 
+def code_of(path):
+    """The text of a file without the lines that are comments."""
+    return re.sub(r"^\s*(//|--|#).*$", "", text_of(path), flags=re.MULTILINE)
+
+
 def words_of(paths):
-    return {word for path in paths for word in re.findall(IDENTIFIER, text_of(path))}
+    return {word for path in paths for word in re.findall(IDENTIFIER, code_of(path))}
 
 
 class Tree:
@@ -61,16 +70,20 @@ class Tree:
             return f"{crate} has no {absent[0]}" if absent else None
         if re.match(r"(sms|smsc|smpp|tests)_", crate) and crate not in self.words:
             return f"there is no crate {crate}"
-        absent = [name for name in names if name not in self.words and name not in FOREIGN]
+        absent = [name for name in names if name not in self.words]
         return f"no word {absent[0]} in the tree" if absent else None
 
     def fault_of_file(self, name):
         name = name.strip("/").split(" ")[0]
+        if any(part in name for part in BUILT):
+            return None
         places = (TOP, CRATES, os.path.join(TOP, "docs"))
         return None if any(os.path.exists(os.path.join(place, name)) for place in places) else f"no file {name}"
 
     def fault_of(self, token):
         token = re.sub(r"\(.*\)$", "", token.strip())
+        if token in FOREIGN or re.fullmatch(r"[0-9a-f]{16}", token):
+            return None
         if re.fullmatch(rf"{IDENTIFIER}(::{IDENTIFIER})*", token):
             return self.fault_of_path(token.split("::"))
         if re.match(r"(crates|docs|tests|bench|demo|specs|src|[a-z0-9_]+/(specs|src|proofs))/", token) and not token.startswith(("specs", "src")):
