@@ -73,7 +73,7 @@ impl Numbers {
         }
     }
 
-    /// The place of the number, which comes where it is not there. Where memory is wanting, nothing has changed.
+    /// The place of the number, which is added where it is not there. Where memory is wanting, nothing has changed.
     pub fn put(&mut self, digits: Digits) -> Result<usize, AllocError>
         ensures ok { IfOk result (λ place. Interned self.old digits place self.new) }
         ensures err { OnErr result (self.new.values ≡ self.old.values) }
