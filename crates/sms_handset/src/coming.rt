@@ -10,7 +10,7 @@ use sms_base::{Holder, Moment};
 use sms_handset_draft::{Draft, NoMemory};
 use sms_handset_rows::inbox::Regrouping;
 
-/// A frame comes.
+/// Takes a frame.
 pub(crate) fn frame_and_follow(
     draft: &mut Draft<'_>,
     octets: &[u8],

@@ -238,7 +238,8 @@ pub fn is_apart(number: u32, entries: &[Entry]) -> bool
 
 // ---- discarded groups
 
-/// Whether each discarded group has a number of its own that was given, and its parts that came differ and are not all.
+/// Whether each discarded group has a number of its own that was given, and its parts that arrived differ and are not
+/// all.
 pub fn are_marks(next: u32, entries: &[Entry], marks: &[DiscardedGroup]) -> bool
     ensures { result ≡ are_marks_of next entries.now marks.now }
 {

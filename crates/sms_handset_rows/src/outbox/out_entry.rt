@@ -8,7 +8,7 @@ use sms_base::{Address, Moment};
 use sms_rows::table::{Key, Row};
 use std::alloc::{AllocError, Global};
 
-/// How far an entry of the outbox has come.
+/// How far an entry of the outbox is.
 #[derive(Clone, Copy, Debug, PartialEq, Eq)]
 pub enum EntryState {
     /// It waits to be sent.
