@@ -15,7 +15,7 @@ use sms_rows::table::Table;
 use std::alloc::{AllocError, Global};
 
 impl KeptMessages {
-    /// The messages and the parts of rows that stand in the order of their keys. It costs a logarithm for each.
+    /// The messages and the parts of rows that are in the order of their keys. It costs a logarithm for each.
     pub fn recover(
         alloc: Global,
         messages: &[MessageRow],

@@ -9,7 +9,7 @@ ghost use Rattle.sms_centre_rows.specs.declared.messages.part.PartRow.{PartRow a
 use crate::held::kept::KeptMessages;
 use sms_base::{Address, Digits, FinalState, MessageId};
 
-/// Between whom a message goes, and how it ended.
+/// The source and the destination of a message, and how it ended.
 #[derive(Clone, Copy, Debug, PartialEq, Eq)]
 pub struct MessageSummary {
     pub id: MessageId,

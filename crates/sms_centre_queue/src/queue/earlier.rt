@@ -12,8 +12,8 @@ use sms_rows::table::{Key, Table};
 use std::alloc::{AllocError, Global};
 use std::marker::Model;
 
-/// References that were given, in their order, which copies share; and a moment after which none of them was given: so that an event
-/// has seldom to look for one of them, which lies in memory that no other event has touched for long.
+/// References that were given, in their order, which copies share, and a moment after which none of them was given. By
+/// that moment an event seldom has to look at them, in memory that no other event has touched for long.
 #[derive(Drop)]
 pub(crate) struct Earlier {
     base: Base<ReferenceRow>,

@@ -13,7 +13,7 @@ use std::alloc::{AllocError, Global};
 #[derive(Drop)]
 pub struct Placed {
     pub(crate) shelf: Shelf,
-    /// The place of its line in the order in which lines came, from 1, or 0 while it has none.
+    /// The place of its link in the order in which links were first used, from 1, or 0 while it has none.
     pub(crate) came: u64,
 }
 

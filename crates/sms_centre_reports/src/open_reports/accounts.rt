@@ -98,7 +98,7 @@ impl Accounts {
         }
     }
 
-    /// The accounts where that stands under the place among the receipts of the account, or nothing.
+    /// The accounts where the receipts of the account have that one, or nothing, under the place.
     pub(crate) fn with(
         &self,
         alloc: Global,

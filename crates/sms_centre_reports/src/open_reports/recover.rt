@@ -13,8 +13,8 @@ use sms_centre_rows::reports::ReportRow;
 use std::alloc::{AllocError, Global};
 
 impl Reports {
-    /// The open reports of rows that a centre can stand on, with their messages in the order of their numbers. It costs a
-    /// logarithm for each.
+    /// The open reports of sound rows, with their messages in the order of their numbers. It costs a logarithm for
+    /// each.
     pub fn recover(
         alloc: Global,
         messages: &[MessageRow],
