@@ -16,7 +16,7 @@ pub fn written_is_in_grammar()
     ensures { (octets : List ℕ) (pdu : PduOf) → IsWritten octets pdu → IsPdu octets pdu }
 {}
 
-/// What is written is read as the same value.
+/// What is written is read as that value.
 pub fn written_reads_back()
     ensures { (octets : List ℕ) (pdu : PduOf) → IsWritten octets pdu → pdu_at octets ≡ Ok pdu }
 {}

@@ -76,7 +76,7 @@ impl Centre {
         Ok(Centre::of(alloc, standing)?)
     }
 
-    /// The same, where links to these handsets are up at once.
+    /// The centre that starts with these rows, if it can, where links to these handsets are up at once.
     pub fn start(
         alloc: Global,
         rows: Rows,

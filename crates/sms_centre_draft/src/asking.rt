@@ -1,4 +1,4 @@
-//! What an event asks that goes over many handsets or reports, and the receipts that it sends.
+//! Questions of an event over many handsets or reports, and the receipts that it sends.
 ghost use Rattle.std.specs.Prelude.{◌≡◌, IfOk, OnOk};
 ghost use Rattle.sms_centre_reports.specs.open_reports.Entries.{status_key, status_until};
 ghost use Rattle.sms_rows.specs.index.First.{first_such, is_past_from};

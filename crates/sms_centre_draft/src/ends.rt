@@ -1,4 +1,4 @@
-//! How a message ends, and who is told.
+//! How a message ends, and its report.
 ghost use Rattle.std.specs.Prelude.{◌≡◌, ℕ, Some, true, false, IfOk, OnOk};
 ghost use Rattle.sms_base.specs.declared.originator.Originator.TheVariants.{Application, Handset};
 ghost use Rattle.sms_base.specs.declared.final_state.FinalState.{FinalState as FinalStateOf};

@@ -1,4 +1,4 @@
-//! Lines to handsets: what is under way on them, a line that goes down, its timers, and the moment.
+//! Links to handsets that are lost, and timers that fire.
 ghost use Rattle.std.specs.Prelude.{◌≡◌, max, OnOk, IfOk};
 ghost use Rattle.sms_rows.specs.table.Keys.{AllDigits};
 ghost use Rattle.sms_link.specs.LinkTurn.{fired as fired_link};

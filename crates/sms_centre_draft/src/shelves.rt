@@ -1,4 +1,4 @@
-//! Moves of shelves by the numbers of handsets: what is no number has no shelf.
+//! Moves of the queues by the numbers of handsets: what is no number has no queue.
 ghost use Rattle.std.specs.Prelude.{◌≡◌, ℕ, List, Some, IfOk, OnOk};
 ghost use Rattle.sms_rows.specs.table.Keys.{pair_key};
 ghost use Rattle.sms_rows.specs.table.Table.{put as put_in, row_at, without};

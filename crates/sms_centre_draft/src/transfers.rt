@@ -1,4 +1,4 @@
-//! What a transfer to a handset was for, where it waits still, and how far it is after one more attempt.
+//! How a transfer to a handset ends (3GPP TS 24.011 8.2.5.4), and what the centre makes of it.
 ghost use Rattle.std.specs.Prelude.{◌≡◌, ℕ, Some, true, IfOk, OnOk};
 ghost use Rattle.sms_centre_rows.specs.messages.Messages.{all_done as all_done_of, message_at};
 ghost use Rattle.sms_centre_rows.specs.waiting.Lines.{filled, line_of, put_line};

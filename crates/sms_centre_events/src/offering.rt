@@ -1,9 +1,16 @@
-//! What follows every event of the centre: receipts go, and then offers.
+//! What follows every event of the centre: receipts are sent, and then parts are offered.
 //!
-//! Of each handset whose line is ready the next that is due is offered, one in a transaction, in the order in which handsets were
-//! first given a reference. Its TPDU is that which the event made, or else it is read from the store, and tells whether more waits
-//! for the handset (TP-MMS, 3GPP TS 23.040 9.2.3.2). Whatever draft of the centre's definition the centre shows before it, it shows the
-//! definition's after it; where the store refuses a read that the definition asks for, that is told, and the event is given up.
+//! Each handset whose link is ready is offered its next due part, one in a transaction. Handsets are in the order in
+//! which they first got a reference. The TPDU is the one that the event made, or else it is read from the store. It
+//! says whether more waits for the handset (TP-MMS, 3GPP TS 23.040 9.2.3.2). Whatever draft of the definition the
+//! centre represents before, it represents the definition's after. Where the store refuses a read that the definition
+//! asks for, the call says so, and the event is given up.
+//!
+//! - `following`: receipts, then offers
+//! - `laws`: laws of what follows an event
+//! - `offers`: the offer to one handset
+//! - `reading`: the TPDU of what waits
+//! - `units`: the unit of an offered TPDU, and its transaction
 
 mod following;
 pub mod laws;

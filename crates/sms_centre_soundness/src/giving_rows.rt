@@ -1,4 +1,4 @@
-//! Whether a centre can stand on rows of handsets and references.
+//! Whether rows of handsets and references are sound.
 ghost use Rattle.std.specs.Prelude.{◌≡◌, IfOk, map};
 ghost use Rattle.std.specs.List.{list_all};
 ghost use Rattle.sms_centre_soundness.specs.Differing.{differ as differ_of};

@@ -1,4 +1,4 @@
-//! Whether a centre can stand on rows of messages, parts and priorities.
+//! Whether rows of messages, parts and priorities are sound.
 ghost use Rattle.std.specs.Prelude.{◌≡◌, Some, nat_lt};
 ghost use Rattle.sms_centre_rows.specs.messages.SplitReferences.{is_delivered as is_delivered_of, is_same_address as is_same_address_of};
 ghost use Rattle.sms_tpdu.specs.TpduReading.{down_at};

@@ -1,4 +1,4 @@
-//! Whether a centre can stand on rows of reports.
+//! Whether rows of reports are sound.
 ghost use Rattle.std.specs.Prelude.{◌≡◌, IfOk, Some, map};
 ghost use Rattle.std.specs.List.{list_all};
 ghost use Rattle.sms_tpdu.specs.TpduReading.{down_at};

@@ -1,4 +1,4 @@
-//! Whether all that waits holds references that were given, no two of one handset the same.
+//! Whether all that waits holds references that were given, different ones at a handset.
 ghost use Rattle.std.specs.Prelude.{◌≡◌, ℕ, nat_eq, filter_map, if◌then◌else◌, IfOk, OnOk, Some};
 ghost use Rattle.std.specs.List.{list_all};
 ghost use Rattle.std.specs.Map.{lookup};

@@ -1,4 +1,4 @@
-//! Frames and moments that come, and what follows every event.
+//! Frames and ticks, and what follows every event.
 ghost use Rattle.std.specs.Prelude.{◌≡◌, IfOk, OnOk};
 ghost use Rattle.sms_handset_draft.specs.Draft.{link_of, no_changes};
 ghost use Rattle.sms_handset_draft.specs.FramesAndTicks.{at_moment, frame_heard, timers_fired};
@@ -11,7 +11,7 @@ use sms_handset_draft::{Draft, NoMemory};
 use sms_handset_receiving::frame_came;
 use sms_handset_rows::inbox::Regrouping;
 
-/// A frame comes.
+/// Takes a frame.
 pub(crate) fn frame_and_follow(
     draft: &mut Draft<'_>,
     octets: &[u8],

@@ -42,7 +42,7 @@ pub struct Draft<'a> {
     pub(crate) outbox: Pending<'a, OutEntry>,
     pub(crate) marks: Pending<'a, DiscardedGroup>,
     pub(crate) counters: Option<Counters>,
-    /// How many slots the entries take as they stand.
+    /// How many slots the entries take at present.
     pub(crate) taken: u64,
     pub(crate) frames: Listed<Outgoing>,
 }
@@ -117,8 +117,8 @@ impl<'a> Draft<'a> {
         self.alloc
     }
 
-    /// What came of the event, with memory for the rows that come into the lists: those with which it began, where contracts
-    /// can't see any more that they are.
+    /// The outcome of the event, with memory for the lists' new rows. `stored` is the lists with which it began, where
+    /// contracts can't see any more that they are.
     pub fn finish(self, stored: &Stored) -> Result<Finished, NoMemory>
         ensures outcome { IfOk result (λ finished. outcome_in finished ≡ outcome_of self.entry) }
         ensures fits { IfOk result (λ finished. HaveRoom finished.changes (rows_of stored.now) (room_of stored.now)) }
@@ -154,7 +154,7 @@ impl<'a> Draft<'a> {
         })
     }
 
-    /// An entry of the inbox comes, or takes the place of that of its number.
+    /// Adds an entry of the inbox, or replaces that of its number.
     #[tactic(auto, using(sms_rows::proofs::table::Tables::all_applied_push))]
     pub(crate) fn put_entry(&mut self, entry: Entry) -> Result<(), NoMemory>
         ensures { OnOk result (self.new ≡ put_entry_of entry self.old) }
@@ -227,7 +227,7 @@ impl<'a> Draft<'a> {
         self.counters = Some(counters);
     }
 
-    /// The counters as they stand.
+    /// The present counters.
     pub fn counters(&self) -> Counters
         ensures { result ≡ self.now.rows.counters }
     {
@@ -340,7 +340,7 @@ impl<'a> Draft<'a> {
         push_all(&mut self.frames, frames)
     }
 
-    /// The link takes a frame: what goes up.
+    /// The link takes a frame, and gives what it passes up.
     #[tactic(auto, using(crate::proofs::HandsetLink::on_its_side))]
     pub fn take(&mut self, frame: &[u8]) -> Result<Option<Upward>, NoMemory>
         ensures moves { OnOk result (self.new ≡ with_turn (taken frame.now (link_of self.old)) self.old) }
@@ -351,7 +351,7 @@ impl<'a> Draft<'a> {
         Ok(out.up)
     }
 
-    /// The timers of the link fire that are due: what goes up.
+    /// The timers of the link fire that are due. It gives what the link passes up.
     #[tactic(auto, using(crate::proofs::HandsetLink::on_its_side))]
     pub(crate) fn fire(&mut self) -> Result<Option<Upward>, NoMemory>
         ensures moves { OnOk result (self.new ≡ with_turn (fired self.old.moment (link_of self.old)) self.old) }

@@ -58,7 +58,7 @@ impl<'a> Draft<'a> {
         self.holder_concluded(ending, transfer.tag)
     }
 
-    /// The outbox as it stands, with what this event has changed of it.
+    /// The present outbox, with what this event has changed of it.
     pub fn outbox_now(&self) -> Result<Table<OutView<'_>>, NoMemory>
         ensures { IfOk result (λ outbox. outbox.rows ≡ self.now.rows.outbox) }
     {

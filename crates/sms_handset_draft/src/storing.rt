@@ -144,7 +144,7 @@ impl<'a> Draft<'a> {
         })
     }
 
-    /// A part of a discarded group came.
+    /// Notes a part of a discarded group.
     pub fn mark(&mut self, number: u8, mark: &DiscardedGroup) -> Result<(), NoMemory>
         ensures { OnOk result (self.new ≡ marked_of number mark.now self.old) }
     {

@@ -1,17 +1,19 @@
-//! The world of a short message service centre and its handsets, and what holds of it whatever the network does.
+//! The world of a service centre and its handsets, and what holds of it whatever the network does.
 //!
-//! `specs/` is the protocol: the table of messages, the references that were given, what handsets accepted and joined, and
-//! every frame that was ever sent (`World`); what may happen next (`WorldStep`, `Run`); which steps an event of a script may
-//! be, a stopped one too (`ScriptRun`); and what then holds (`Agreement`). Frames may be lost, repeated and delayed, timers
-//! fire and sides restart at any time. The claims, each a law below over every list of steps and over every script:
-//! - Always: a message has one final state at most, for good, and one receipt at most, of that state; references that parts
-//!   and reports hold at a handset differ, and no reference is given twice there in one second.
-//! - Where each frame that is handed over is timely (`Timely`): a receipt says Delivered only if the handset accepted each
-//!   part exactly once, as it was submitted; and each entry that a handset counts as sent is a message of the centre.
-//! - Where originators keep references fresh too (`Fresh`): each long message that a handset joins is one that was
-//!   submitted to it, and none is joined twice.
+//! `specs/` is the protocol. `World` has the table of messages, the references that were given, what handsets accepted
+//! and joined, and every frame that was ever sent. `WorldStep` and `Run` say what may happen next, `ScriptRun` which
+//! steps an event of a script may be, a stopped one too. `Agreement` says what then holds. Frames may be lost, repeated
+//! and delayed, timers fire and sides restart at any time. Each claim is a law below, over every list of steps and over
+//! every script:
 //!
-//! Of octets the claims know what TPDUs and their headers are read as, and nothing of how they are written.
+//! - Always: a message has one final state at most, for good, and one receipt at most, of that state. References that
+//!   parts and reports hold at a handset differ, and no reference is given twice there in one second.
+//! - Where each frame that is handed over is timely (`Timely`): a receipt says Delivered only if the handset accepted
+//!   each part once, as submitted. Each entry that a handset counts as sent is a message of the centre.
+//! - Where originators keep references fresh too (`Fresh`): each long message that a handset joins was submitted to it,
+//!   and none is joined twice.
+//!
+//! The claims see octets only through what TPDUs and their headers are read as, never through how they are written.
 #![tactic(auto)]
 
 ghost use Rattle.std.specs.Prelude.{◌↔◌, ◌≡◌, ◌++◌, ◌∷◌, ◌≤◌, ℕ, List, Some, Bool};
@@ -74,7 +76,7 @@ pub fn joined_was_submitted()
     ensures content { (items : List Item) → Run empty items → Timely empty items → Fresh empty items → SplitsJoined (end empty items) }
 {}
 
-/// The same over scripts of events, stopped ones among them, with no premise.
+/// Over scripts of events, stopped ones among them, and with no premise: what always holds of a list of steps.
 pub fn script_is_sound()
     ensures stays { (before later : List Happening) (w v : World) → Plays empty before w → Plays w later v → MessagesStay w v }
     ensures for_good { (before later : List Happening) (w v : World) → Plays empty before w → Plays w later v → FinalForGood w v }

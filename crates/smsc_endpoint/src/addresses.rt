@@ -1,4 +1,4 @@
-//! Whether an address can stand in a unit.
+//! Whether a unit can carry an address.
 ghost use Rattle.std.specs.Prelude.{◌≡◌};
 ghost use Rattle.sms_base.specs.Address.{has_code as has_code_of, width_of as width_of_code};
 ghost use Rattle.sms_base.specs.Alphabet.{code_for};

@@ -1,4 +1,4 @@
-//! What a connection is told that is not served, or served no longer.
+//! The octets for a connection that is refused or given up.
 
 /// There is no room for an application: generic_nack with ESME_RBINDFAIL (SMPP v3.4 4.3 and 5.1.3).
 pub const NO_ROOM: [u8; 16] = [

@@ -1,4 +1,4 @@
-//! What octets come and go on.
+//! Where octets are received and sent.
 use std::sync::Wait;
 
 /// What a look at a connection found.

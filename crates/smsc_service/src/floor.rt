@@ -1,4 +1,4 @@
-//! Who sits where.
+//! Which handset and which session is at which seat.
 ghost use Rattle.std.specs.Prelude.{◌≡◌, OnOk};
 ghost use Rattle.sms_rows.specs.table.Table.{HasRoom};
 ghost use Rattle.sms_centre_spec.specs.declared.jobs.job.Job.TheVariants.{LinkUp};

@@ -1,4 +1,4 @@
-//! What a service stands for.
+//! What a service represents.
 
 use crate::floor::Floor;
 use sms_centre_spec::Rows;

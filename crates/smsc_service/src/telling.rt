@@ -1,4 +1,4 @@
-//! Which seats are told what.
+//! Which seats get which replies.
 ghost use Rattle.std.specs.Prelude.{◌≡◌, [], ◌∷◌, ◌++◌, Some, OnOk, IfOk};
 ghost use Rattle.sms_centre_spec.specs.Draft.{Core};
 ghost use Rattle.sms_centre_spec.specs.declared.jobs.reply.Reply.TheVariants.{Taken};

@@ -1,4 +1,4 @@
-//! Connections that come in.
+//! Connections, accepted at both ports.
 use crate::connection::{Connection, Ports, Side};
 use crate::refusing::refuse;
 use crossbeam_channel::Sender;

@@ -1,4 +1,4 @@
-//! What a connection that is not served is told.
+//! A connection that is refused.
 use crate::connection::Side;
 use smsc_endpoint::{CONGESTION, NO_ROOM};
 use std::io::{Read, Write};

@@ -1,4 +1,4 @@
-//! Tests of texts over their public calls: the alphabet, the header and parts of a long text, and joining them.
+//! Tests of texts, over their public calls: the alphabet, the header and parts of a long text, and joining them.
 
 #[cfg(test)]
 mod alphabet;

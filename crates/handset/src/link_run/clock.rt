@@ -1,4 +1,4 @@
-//! What tells the time.
+//! The clock of a run.
 use sms_base::Moment;
 
 /// What tells the time.

@@ -40,7 +40,7 @@ impl Standing {
         Ok(standing)
     }
 
-    /// The same, where links to these handsets are up at once.
+    /// The centre of the rows, where links to these handsets are up at once.
     pub fn start(
         alloc: Global,
         rows: Rows,

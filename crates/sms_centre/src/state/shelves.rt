@@ -1,4 +1,4 @@
-//! The shelves of a centre that starts.
+//! The queues of a centre that starts.
 ghost use Rattle.std.specs.Prelude.{ℕ, List, [], false, IfOk, OnOk};
 ghost use Rattle.sms_base.specs.Among.{Among};
 ghost use Rattle.sms_centre_queue.specs.queues.Adopting.{Fits, IsAdopted, IsSettled};

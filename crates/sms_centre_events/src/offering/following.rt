@@ -1,4 +1,4 @@
-//! Receipts go, then offers.
+//! Receipts, then offers.
 ghost use Rattle.std.specs.Prelude.{◌≡◌, None};
 ghost use Rattle.sms_centre_queue.specs.queues.Walks.{walk};
 ghost use Rattle.sms_centre_draft.specs.walks.Stepping.{offer_at as offer_at_of};

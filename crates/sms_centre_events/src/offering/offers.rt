@@ -76,7 +76,7 @@ fn offer_to<B: BodyKeep>(
     }
 }
 
-/// The same, of whatever characters: none but digits have a line.
+/// Offers the next due part to `handset`. A handset whose number isn't digits has no link, and gets none.
 pub(crate) fn offer_at<B: BodyKeep>(
     working: &mut Working<'_>,
     bodies: &mut B,

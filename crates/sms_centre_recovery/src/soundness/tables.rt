@@ -1,4 +1,4 @@
-//! The rows of a centre as tables, and whether a centre can stand on them.
+//! The rows of a centre as tables, and whether they are sound.
 ghost use Rattle.std.specs.Prelude.{◌≡◌, ◌↔◌, ◌&&◌, ℕ, List, true, IfNone, IfOk, IfSome};
 ghost use Rattle.sms_base.specs.Among.{Among};
 ghost use Rattle.sms_centre_rows.specs.messages.SoundMessages.{SoundMessages};

@@ -1,4 +1,4 @@
-//! Laws of how a script's course goes on.
+//! Laws of how a script's course grows.
 ghost use Rattle.sms_play.specs.growth.Growth.{GrowthLaw};
 
 /// Every event of a script whose centre is sound keeps what the course tells, where what the centre is told is an event.

@@ -1,4 +1,4 @@
-//! What went over the links so far: a frame that goes out again is known by it, and one that arrives again.
+//! What crossed the links so far, by which a frame that is sent or arrives again is recognised.
 use indexmap::IndexMap;
 use sms_base::{Carried, Holder, Kind};
 use sms_script::report::{Direction, FrameRow};

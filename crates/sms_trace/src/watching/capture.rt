@@ -1,4 +1,4 @@
-//! A run over a script, written as a capture file: what comes to the centre, and what leaves it.
+//! A run over a script, written as a capture file: what reaches the centre, and what leaves it.
 use crate::capture::{CapturedFrame, put_file_head, put_frame};
 use crate::sessions::{SessionSoFar, absolute_time, message_state};
 use crate::watching::heads::{Places, act_of};

@@ -1,4 +1,4 @@
-//! How what comes to a side of a script is drawn.
+//! How an arrival at a side of a script is drawn.
 use crate::drawing::{Row, Stroke};
 use crate::watching::lanes::Lanes;
 use sms_play::judging::Scene;

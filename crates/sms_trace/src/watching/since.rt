@@ -1,4 +1,4 @@
-//! What has come since an event began.
+//! What was added since an event began.
 use sms_centre_rows::reports::Delivery;
 use sms_play::judging::Scene;
 use sms_script::report::{Answer, FrameRow};

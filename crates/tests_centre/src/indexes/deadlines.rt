@@ -1,4 +1,4 @@
-//! Deadlines come in any order, and are found when their moment has come.
+//! Deadlines are added in any order, and are found when their moment is reached.
 use crate::indexes::names::{at, message};
 use crate::rows::holds;
 use sms_base::Moment;

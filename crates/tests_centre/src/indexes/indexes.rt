@@ -1,4 +1,4 @@
-//! An index beside a copy of it that goes on.
+//! An index beside a copy of it that changes on.
 use crate::indexes::names::at;
 use crate::rows::holds;
 use sms_base::Moment;

@@ -1,5 +1,5 @@
 //! Transactions of one end of a link, over frames from outside: rows of calls, with the frames that each sends and what
-//! goes up.
+//! it passes up.
 use crate::examples::SMMA;
 use crate::rows::{are, are_parts, holds};
 use sms_base::Moment;

@@ -1,4 +1,4 @@
-//! A guest, what is done with it, and what is to come of it.
+//! A guest, what is done with it, and what it has to do.
 use crate::rows::{holds, name_of};
 use smpp_pdu::CommandStatus;
 use smpp_session::{Account, Accounts, BindKind};

@@ -1,4 +1,4 @@
-//! A service, what happens to it, and what is told.
+//! A service, what happens to it, and its replies.
 use crate::clock_and_gate::Open;
 use crate::rows::{holds, name_of};
 use crate::service::asks::{Asked, START, asks, ticks};

@@ -1,4 +1,5 @@
-//! A machine that counts what seats ask, answers each request, and sends a frame where a link comes up and for each frame.
+//! A machine that counts what seats ask, answers each request, and sends a frame for each link that is up and for each
+//! frame.
 ghost use Rattle.std.specs.Prelude.{◌≡◌, ◌∷◌, [], IfOk};
 ghost use Rattle.sms_centre_spec.specs.declared.answer.CentreAnswer.TheVariants.{Refused};
 ghost use Rattle.sms_centre_spec.specs.declared.jobs.reply.Reply.TheVariants.{Answer, Frame};

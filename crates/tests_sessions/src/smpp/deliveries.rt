@@ -1,4 +1,4 @@
-//! Deliver_sm that go out, and their answers.
+//! Each deliver_sm that is sent, and its answer.
 use crate::rows::holds;
 use crate::smpp::exchanges::{
     BIND, BIND_ANSWER, BIND_TRANSMITTER, DELIVERED_4, TRANSMITTER_ANSWER,
