@@ -101,19 +101,18 @@ steady_run n = (on, wrong) where
 steady_more : (o : ℕ) (r : List ℕ → Result (List ℕ × List ℕ) PduFault) → IsSteady r → IsSteady (λ xs. r xs >>= (λ more. Ok (o ∷ more.0, more.1)))
 steady_more o r h = steady_bind r (λ more. Ok (o ∷ more.0, more.1)) h (λ x. steady_pure (o ∷ x))
 
-steady_text : (limit : ℕ) → IsSteady (text_in limit)
+text_step : (limit : ℕ) → IsSteady (text_in limit) → IsSteady (text_in (suc limit))
 unfolding text_in
-steady_text zero = ((λ xs ys z e. absurd cc), (λ xs ys f w e. e))
-steady_text (suc limit) = (on, wrong) where
-  by_test_on : (o : ℕ) (xs ys : List ℕ) (z : List ℕ × List ℕ) (b : Bool) → cond b (Ok ([], xs)) (text_in limit xs >>= (λ more. Ok (o ∷ more.0, more.1))) ≡ Ok z
-      → cond b (Ok ([], xs ++ ys)) (text_in limit (xs ++ ys) >>= (λ more. Ok (o ∷ more.0, more.1))) ≡ Ok (z.0, z.1 ++ ys)
+text_step limit rest = (on, wrong) where
+  by_test_on : (o : ℕ) (xs ys : List ℕ) (z : List ℕ × List ℕ) (b : Bool) → cond {A = Result (List ℕ × List ℕ) PduFault} b (Ok ([], xs)) (text_in limit xs >>= (λ more. Ok (o ∷ more.0, more.1))) ≡ Ok z
+      → cond {A = Result (List ℕ × List ℕ) PduFault} b (Ok ([], xs ++ ys)) (text_in limit (xs ++ ys) >>= (λ more. Ok (o ∷ more.0, more.1))) ≡ Ok (z.0, z.1 ++ ys)
   by_test_on o xs ys z true e = read_on [] xs ys z e
-  by_test_on o xs ys z false e = (steady_more o (text_in limit) (steady_text limit)).0 xs ys z e
+  by_test_on o xs ys z false e = (steady_more o (text_in limit) rest).0 xs ys z e
 
-  by_test_wrong : (o : ℕ) (xs ys : List ℕ) (f : PduFault) (b : Bool) → IsWrong f → cond b (Ok ([], xs)) (text_in limit xs >>= (λ more. Ok (o ∷ more.0, more.1))) ≡ Err f
-      → cond b (Ok ([], xs ++ ys)) (text_in limit (xs ++ ys) >>= (λ more. Ok (o ∷ more.0, more.1))) ≡ Err f
+  by_test_wrong : (o : ℕ) (xs ys : List ℕ) (f : PduFault) (b : Bool) → IsWrong f → cond {A = Result (List ℕ × List ℕ) PduFault} b (Ok ([], xs)) (text_in limit xs >>= (λ more. Ok (o ∷ more.0, more.1))) ≡ Err f
+      → cond {A = Result (List ℕ × List ℕ) PduFault} b (Ok ([], xs ++ ys)) (text_in limit (xs ++ ys) >>= (λ more. Ok (o ∷ more.0, more.1))) ≡ Err f
   by_test_wrong o xs ys f true w e = absurd (no_fault {A = List ℕ × List ℕ} ([], xs) f e)
-  by_test_wrong o xs ys f false w e = (steady_more o (text_in limit) (steady_text limit)).1 xs ys f w e
+  by_test_wrong o xs ys f false w e = (steady_more o (text_in limit) rest).1 xs ys f w e
 
   on : (xs ys : List ℕ) (z : List ℕ × List ℕ) → text_in (suc limit) xs ≡ Ok z → text_in (suc limit) (xs ++ ys) ≡ Ok (z.0, z.1 ++ ys)
   on [] ys z e = absurd cc
@@ -122,6 +121,11 @@ steady_text (suc limit) = (on, wrong) where
   wrong : (xs ys : List ℕ) (f : PduFault) → IsWrong f → text_in (suc limit) xs ≡ Err f → text_in (suc limit) (xs ++ ys) ≡ Err f
   wrong [] ys f w e = absurd (other_fault {A = List ℕ × List ℕ} f NoTerminator w e)
   wrong (o ∷ xs) ys f w e = by_test_wrong o xs ys f (eqb o 0) w e
+
+steady_text : (limit : ℕ) → IsSteady (text_in limit)
+unfolding text_in
+steady_text zero = ((λ xs ys z e. absurd cc), (λ xs ys f w e. e))
+steady_text (suc limit) = text_step limit (steady_text limit)
 
 steady_c_string : (limit : ℕ) → IsSteady (c_string_in limit)
 unfolding c_string_in
@@ -316,8 +320,10 @@ is_cut A BadTlv w = absurd w
 -- so many octets, where the first list has fewer
 take_over : (n : ℕ) (xs ys : List ℕ) → length xs ≤ n → take n (xs ++ ys) ≡ xs ++ take (n - length xs) ys
 take_over n [] ys le = let same : n - 0 ≡ n = omega arith in ap (λ (m : ℕ). take m ys) (sym same)
-take_over zero (x ∷ xs) ys le = absurd (omega le)
-take_over (suc n) (x ∷ xs) ys le = ap (λ (l : List ℕ). x ∷ l) (take_over n xs ys (omega le))
+take_over zero (x ∷ xs) ys le = absurd (omega (arith, le))
+take_over (suc n) (x ∷ xs) ys le =
+    let same : suc n - suc (length xs) ≡ n - length xs = omega arith in
+    ap (λ (l : List ℕ). x ∷ l) (take_over n xs ys (omega (arith, le)) ∙ ap (λ (m : ℕ). xs ++ take m ys) (sym same))
 
 -- the body of a PDU, where it is told whether its octets are there and whether some are left over
 abbrev read_body : Bool → Bool → Result Body PduFault → Result Body PduFault → Result Body PduFault
@@ -333,7 +339,7 @@ body_keeps c n xs ys f e other = by_short (ltb (length xs) n) refl e where
       → read_body b (eqb (length (xs ++ ys)) n) (body_at c (xs ++ ys)) (body_at c (take n (xs ++ ys))) ≡ Err f
   later true t lt w q = let s = body_stays c xs ys f w q in ap (λ (m : Result Body PduFault). let r : Result Body PduFault = Err (cut_short m) in r) s ∙ ap (λ (g : PduFault). let r : Result Body PduFault = Err g in r) (is_cut Body f w)
   later false t lt w q =
-      let le : length xs ≤ n = omega lt in
+      let le : length xs ≤ n = omega (arith, lt) in
       let s : body_at c (take n (xs ++ ys)) ≡ Err f = ap (body_at c) (take_over n xs ys le) ∙ body_stays c xs (take (n - length xs) ys) f w q in
       ap (λ (m : Result Body PduFault). m >>= (λ body. only_if (eqb (length (xs ++ ys)) n) BadLength >>= (λ done. Ok body))) s
 
@@ -405,11 +411,11 @@ keeps_four k hk xs ys f e other = elim (bind_err (four_in xs) k f e) [
 
 keeps_test : {Z : Type 0} (b : Bool) (bad : PduFault) (r : List ℕ → Result Z PduFault) → KeepsFault r → KeepsFault (λ xs. only_if b bad >>= (λ u. r xs))
 keeps_test true bad r h = h
-keeps_test false bad r h xs ys f e other = e
+keeps_test false bad r h = λ xs ys f e other. e
 
 keeps_known : {A Z : Type 0} (o : Option A) (k : A → List ℕ → Result Z PduFault) → ((x : A) → KeepsFault (k x)) → KeepsFault (λ xs. ok_or o UnknownCommand >>= (λ x. k x xs))
 keeps_known (Some x) k h = h x
-keeps_known None k h xs ys f e other = e
+keeps_known None k h = λ xs ys f e other. e
 
 keeps_map : {A Z : Type 0} (read : List ℕ → Result A PduFault) (k : A → Z) → KeepsFault read → KeepsFault (λ xs. read xs >>= (λ x. Ok (k x)))
 keeps_map {A} {Z} read k h xs ys f e other = elim (bind_err (read xs) (λ x. Ok (k x)) f e) [
