@@ -46,8 +46,8 @@ impl Row for Sitting {
 /// The links that are up and the sessions that are bound, by their seats.
 #[derive(Drop)]
 pub struct Floor {
-    pub links: Table<LinkSeat>,
-    pub sittings: Table<Sitting>,
+    pub(crate) links: Table<LinkSeat>,
+    pub(crate) sittings: Table<Sitting>,
 }
 
 // Makes room for a row more.
