@@ -91,7 +91,7 @@ impl<'a> Working<'a> {
         self.timed_out(handset, up)
     }
 
-    /// Time goes on, and never back.
+    /// Sets the moment, which never decreases.
     pub fn at_moment(&mut self, now: Moment)
         ensures { (d : Draft) → Shows d self.old → Shows (at_moment_of now d) self.new }
     {
