@@ -69,7 +69,7 @@ fn plan(alloc: Global, standing: &Standing, working: Working<'_>) -> Result<Plan
 
 // ---- what the event comes to
 
-/// Why an event goes no further.
+/// Why an event ends early.
 #[derive(Clone, Copy, Debug)]
 pub enum Stop {
     /// The store refused to read a body.

@@ -50,7 +50,7 @@ impl<'a> Working<'a> {
         Ok(up)
     }
 
-    /// Time goes on, and never back.
+    /// Moves the moment forward, never back.
     pub fn at_moment(&mut self, now: Moment)
         ensures { (d : Draft) → Shows d self.old → Shows (at_moment_of now d) self.new }
     {

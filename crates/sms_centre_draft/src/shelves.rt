@@ -46,7 +46,7 @@ pub(crate) fn put(
     shelves.put(number, load)
 }
 
-/// That one waits no more.
+/// Removes what waits under that message and number.
 pub(crate) fn remove(
     shelves: &mut PendingShelves,
     number: Digits,

@@ -5,7 +5,7 @@ ghost use Rattle.sms_centre_soundness.specs.Differing.{differ as differ_of};
 use indexmap::IndexSet;
 use std::alloc::{AllocError, Global};
 
-/// Whether no number stands twice; each takes the time of a look-up.
+/// Whether all numbers differ; each takes the time of a look-up.
 pub fn differ(alloc: Global, numbers: &[u128]) -> Result<bool, AllocError>
     ensures { IfOk result (λ b. b ≡ differ_of numbers.now) }
 {

@@ -30,35 +30,35 @@ ghost use Rattle.sms_centre_soundness.specs.RowsTest.{TimesPass, is_setup, is_to
 ghost use Rattle.sms_centre_soundness.specs.SplitTest.{split_of, splits_differ};
 ghost use Rattle.sms_centre_soundness.specs.WaitingTest.{Places, WaitingPass};
 
-/// An address passes exactly where it can stand in a unit.
+/// An address passes exactly where a unit can carry it.
 pub fn addresses_are_tested()
     ensures { (address : Address) → (is_address address ≡ true) ↔ IsAddress address }
 {}
 
-/// Where keys rise, messages, parts and priorities pass exactly where a centre can stand on them.
+/// Where keys rise, messages, parts and priorities pass exactly where they are sound.
 pub fn messages_are_tested()
     ensures { (messages : List MessageRow) (parts : List PartRow) (priorities : List PriorityRow) → Rises message_key messages → Rises part_key parts → Rises priority_key priorities
         → MessagesPass messages parts priorities ↔ SoundMessages messages parts priorities }
 {}
 
-/// Where keys rise, handsets and references pass exactly where a centre can stand on them.
+/// Where keys rise, handsets and references pass exactly where they are sound.
 pub fn givings_are_tested()
     ensures { (handsets : List HandsetRow) (references : List ReferenceRow) → Rises handset_key handsets → Rises reference_key references → GivingsPass handsets references ↔ SoundGivings handsets references }
 {}
 
-/// Where keys rise, reports pass exactly where a centre can stand on them.
+/// Where keys rise, reports pass exactly where they are sound.
 pub fn reports_are_tested()
     ensures { (messages : List MessageRow) (reports : List ReportRow) → Rises report_key reports → ReportsPass messages reports ↔ SoundReports messages reports }
 {}
 
-/// Where a centre can stand on everything else, what waits passes exactly where it can stand on what waits for each handset.
+/// Where everything else is sound, what waits passes exactly where it is sound for each handset.
 pub fn waiting_is_tested()
     ensures { (entries : List (ℕ × ℕ)) (handsets : List HandsetRow) (references : List ReferenceRow) (messages : List MessageRow) (priorities : List PriorityRow) (parts : List PartRow) (reports : List ReportRow)
         → Places entries handsets → SoundGivings handsets references → SoundMessages messages parts priorities → SoundReports messages reports → ((m : MessageRow) → Among m messages → CanBeTold m.originator m.source)
         → WaitingPass entries messages references parts reports ↔ ((number : List ℕ) → SoundWaiting (handset_at number handsets) references (waiting_for number messages priorities parts reports)) }
 {}
 
-/// A setup passes exactly where a centre can start with it, and moments and originators exactly where it can stand on them.
+/// A setup passes exactly where a centre can start with it, and moments and originators exactly where they are sound.
 pub fn setup_and_times_are_tested()
     ensures setup { (setup : Setup) → (is_setup setup ≡ true) ↔ IsSetup setup }
     ensures times { (messages : List MessageRow) (references : List ReferenceRow) (reports : List ReportRow) → TimesPass messages references reports ↔ AreTimes messages references reports }

@@ -74,8 +74,8 @@ fn is_message(parts: &Table<PartRow>, priorities: &Table<PriorityRow>, message: 
         && (is_told_delivered(parts, message) && has_rows(parts, priorities, message.id))
 }
 
-/// Whether each message has a number, addresses that can be written, the moment of its end exactly where it ended, its first part
-/// and its priority, and is delivered exactly where all its parts are done.
+/// Whether each message has a number, addresses that can be written, its first part and its priority. It has the moment
+/// of its end exactly where it ended. It is delivered exactly where all its parts are done.
 pub fn are_messages(
     messages: &[MessageRow],
     parts: &Table<PartRow>,

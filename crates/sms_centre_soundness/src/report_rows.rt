@@ -56,7 +56,7 @@ fn is_report(messages: &Table<MessageRow>, report: &ReportRow) -> bool
     }
 }
 
-/// Whether each report is of a message that has ended, and tells its originator as it can be told.
+/// Whether each report is of a message that has ended, and is of the kind that its originator can get.
 pub fn are_reports(reports: &[ReportRow], messages: &Table<MessageRow>) -> bool
     ensures { result ≡ list_all (λ r. is_report_of messages.now.rows r) reports.now }
 {

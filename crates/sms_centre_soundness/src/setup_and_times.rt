@@ -63,7 +63,7 @@ fn can_be_told(originator: &Originator, source: &Address) -> bool
     }
 }
 
-/// Whether each message of a handset comes from a number to which a status report can go.
+/// Whether each message of a handset is from a number to which a status report can be sent.
 pub fn are_told(messages: &[MessageRow]) -> bool
     ensures { result ≡ list_all is_told messages.now }
 {

@@ -12,7 +12,7 @@ use sms_centre_rows::messages::MessageRow;
 use std::alloc::{AllocError, Global};
 use std::hash::{Hash, Hasher};
 
-/// A number or a name, told from others by its characters.
+/// A number or a name, distinguished from others by its characters.
 #[derive(Clone, Copy, Debug, Drop)]
 pub struct Name {
     pub digits: Digits,

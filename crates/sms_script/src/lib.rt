@@ -1,7 +1,7 @@
 //! Scripts for the simulator, and the report of what a script led to.
 //!
-//! A script is lines of words, with a single space between each two. Its head is `start S`, `centre D`, `account NAME
-//! PASSWORD D` (any number) and `handset D SLOTS` (any number), in this order. Then events follow, numbered from 1:
+//! A script is lines of words, with a single space between each two. Its head is `start S`, `centre D`,
+//! `account NAME PASSWORD D` (any number) and `handset D SLOTS` (any number), in this order. Then events follow, numbered from 1:
 //! `submit`, `urgent`, `query`, `cancel`, `write`, `delete`, `discard`, `deliver`, `tick`, `restart`, `stopped before`
 //! and `stopped after`.
 //!

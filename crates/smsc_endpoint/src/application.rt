@@ -36,7 +36,7 @@ struct SentReceipt {
     id: MessageId,
 }
 
-/// The session of an application at a seat: what comes of the octets that came, and of what the seat is told.
+/// The session of an application at a seat: what follows from the received octets, and from the replies of the seat.
 #[derive(Drop)]
 pub struct Application {
     alloc: Global,

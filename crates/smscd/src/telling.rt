@@ -6,7 +6,7 @@ use std::alloc::{AllocError, Global};
 use std::io::Print;
 use std::sync::Arc;
 
-/// Tells standard error.
+/// Reports to standard error.
 #[derive(Drop)]
 pub struct ErrorTeller {
     pub rt: HostRuntime,

@@ -65,13 +65,13 @@ fn send_receipts(working: &mut Working<'_>) -> Result<(), PlanError>
     }
 }
 
-/// What follows every event: receipts that are due go to their sessions, then to each handset whose line is ready the next that is
-/// due is offered. Its TPDU is read from the store, unless the event made it. `centre` is the centre's address as RP units carry it,
-/// 2 to 11 octets.
+/// What follows every event. Receipts that are due are sent in their sessions. Then each handset whose link is ready is
+/// offered its next due part. The TPDU is read from the store, unless the event made it. `centre` is the centre's
+/// address as RP units carry it, 2 to 11 octets.
 ///
-/// Where the rows are sound, the centre then shows what follows in the definition, and the store holds what it held; or the store
-/// refused to read a body that the definition reads (`NoBody`), and is as it was or closed; or there was no memory, and the store
-/// refused nothing. After an error the event is given up.
+/// Where the rows are sound, one of three holds. The centre then represents what follows in the definition, and the
+/// store holds what it held. Or the store refused to read a body that the definition reads (`NoBody`), and is unchanged
+/// or closed. Or there was no memory, and the store refused nothing. After an error the event is given up.
 pub fn follow<B: BodyKeep>(
     working: &mut Working<'_>,
     bodies: &mut B,

@@ -118,7 +118,7 @@ fn begin(
     }
 }
 
-/// What waits is offered to the handset: its TPDU goes in a transaction of its own, and tells whether more waits.
+/// Offers what waits to the handset: its TPDU is sent in a transaction of its own, and says whether more waits.
 pub(crate) fn send(
     working: &mut Working<'_>,
     centre: &[u8],

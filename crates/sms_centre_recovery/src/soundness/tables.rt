@@ -57,7 +57,7 @@ fn keys_rise(rows: &Rows) -> bool
 }
 
 impl RowTables {
-    /// The rows as tables. None where their keys don't rise: no centre can stand on them.
+    /// The rows as tables. None where their keys don't rise: such rows are not sound.
     pub fn of(rows: Rows) -> Option<RowTables>
         ensures some { IfSome result (λ tables. rows_of tables ≡ rows) }
         ensures none { IfNone result (¬ IsSound rows) }
@@ -182,8 +182,8 @@ impl RowTables {
         Ok(both(both(givings, reports), both(splits, waiting)))
     }
 
-    /// Whether a centre can stand on the rows. It takes time linear in them, up to a logarithm; what can be judged without memory is
-    /// judged first.
+    /// Whether the rows are sound. It takes time linear in them, up to a logarithm. What can be judged without memory
+    /// is judged first.
     pub fn is_sound(&self, alloc: Global) -> Result<bool, AllocError>
         ensures { IfOk result (λ b. (b ≡ true) ↔ IsSound (rows_of self.now)) }
     {

@@ -43,7 +43,7 @@ pub(crate) fn centre_of(setup: &Setup<'_>) -> Address
     Address::of_handset(digits_of(setup.centre.as_slice()))
 }
 
-/// What the centre is told.
+/// The setup of the centre.
 ///
 /// # Errors
 /// A growth was refused.

@@ -74,7 +74,8 @@ pub(crate) fn judge_first<S: Alter>(
     }
 }
 
-/// An empty database becomes the store of a centre's first rows; one with the tables of version 2 must say that it is a centre's store.
+/// An empty database becomes the store of a centre's first rows. One with the tables of version 2 must say that it is a
+/// centre's store.
 pub(crate) fn ready_current<S: Alter>(
     alloc: Global,
     conn: &mut Connection<S>,

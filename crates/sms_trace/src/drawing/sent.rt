@@ -73,8 +73,8 @@ impl SentSoFar {
         }
     }
 
-    /// The frame is sent over the link of the handset in that lane. Whether it goes out again: an earlier one carried the same unit, for
-    /// the same holder, the same way.
+    /// The frame is sent over the link of the handset in that lane. It answers whether the frame is sent again: an
+    /// earlier one carried that unit, for that holder, the same way.
     pub fn send(&mut self, lane: usize, frame: &FrameRow) -> Result<bool, AllocError> {
         let Some(carried) = frame.carried else {
             return Ok(false);

@@ -14,7 +14,7 @@ use sms_script::report::{Answer, Answered, Direction, FrameRow};
 use sms_script::{Act, Setup, Submission, WorldEvent};
 use std::alloc::{AllocError, Global};
 
-/// A capture that is taken while the script is played: of what comes to the centre, and of what leaves it.
+/// A capture that is taken while the script is played: of what reaches the centre, and of what leaves it.
 #[derive(Drop)]
 pub struct Capture {
     alloc: Global,
