@@ -89,7 +89,8 @@ fn show_copy(rt: &HostRuntime, copy: &DatabaseCopy, setup: &Setup) -> Result<(),
     }
 }
 
-/// Prints the inbox and the outbox of the store at the path, by a copy of its files in memory: a handset that runs may have it open.
+/// Prints the inbox and the outbox of the store at the path, by a copy of its files in memory. A running handset may
+/// have it open.
 pub(crate) fn show_store(rt: &HostRuntime, path: &str) -> Result<(), Failure> {
     let copy = copy_of(rt, path)?;
     let setup = any_setup()?;

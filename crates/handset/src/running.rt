@@ -51,8 +51,8 @@ fn read_lines(rt: &HostRuntime) -> Result<Vec<u8>, Failure> {
     Ok(lines)
 }
 
-/// Reads the owner's lines, opens the store, connects to the centre, and runs the handset until so many frames came or the
-/// link closed.
+/// Reads the owner's lines, opens the store, connects to the centre, and runs the handset. It ends after so many
+/// frames, or when the link closes.
 pub(crate) fn run_lines(rt: &HostRuntime, run: &Run<'_>) -> Result<(), Failure>
     requires { IsSetup run.now.setup }
 {

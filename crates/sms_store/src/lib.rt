@@ -1,12 +1,12 @@
-//! The stores of a centre and of a handset: all rows of one side, kept from event to event.
+//! Both stores, as files that `sqlite3` opens.
 //!
-//! A `Keep` commits the changes of one event, all of them or none, and loads the rows that all commits made. A refused call (`KeepError`)
-//! leaves the rows as they were, or the keep is closed. A stop inside a call leaves the rows from before it or those after it.
-//! `CentreKeep` and `HandsetKeep` keep the rows in a database that `sqlite3` opens, `CentreMemoryKeep` and `HandsetMemoryKeep` in memory.
+//! A commit makes all changes of an event in one transaction, and `load` gives what was committed. A stop inside a call
+//! leaves the rows from before it or from after it. Opening judges the schema, and refuses what is no such store. These
+//! promises are under the disk model of `sqlite_disk`.
 //!
-//! - `centre`: A centre's store: its rows in a database that `sqlite3` opens.
-//! - `handset`: A handset's store: its rows in a database that `sqlite3` opens.
-//! - `look`: A look at a centre's store, which changes nothing in it.
+//! - `centre`: a centre's store
+//! - `handset`: a handset's store
+//! - `look`: a look at a centre's store, which changes nothing
 #![tactic(auto)]
 
 pub mod centre;

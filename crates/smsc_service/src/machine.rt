@@ -32,7 +32,7 @@ fn step_error_of(error: PlanError) -> StepError
 }
 
 impl<K: CentreStore + Drop> CentreMachine<K> {
-    /// A machine over a centre that stands on the rows of the keep.
+    /// A machine of a centre whose rows are those of the keep.
     pub fn new(keep: K, centre: Centre) -> CentreMachine<K>
         ensures keep { keep_in result ≡ keep }
         ensures centre { centre_in result ≡ centre }
@@ -56,7 +56,7 @@ impl<K: CentreStore + Drop> CentreMachine<K> {
         }
     }
 
-    /// Passes the gate, commits what the plan changes, adopts it, and only then gives what is told.
+    /// Passes the gate, commits what the plan changes, adopts it, and only then gives what leaves.
     pub fn carry_out<G: Gate>(&mut self, gate: &G, planned: Planned) -> Result<Told, StepError>
         requires { Fits (centre_in self.old) planned }
         ensures told { IfOk result (λ told. told ≡ planned.plan.told) }

@@ -1,4 +1,4 @@
-//! What the lines of a run of a centre say that happens to it, as its events, and what a run begins with (`smslab_courses`).
+//! The lines of a course of a centre as its events (`smslab_courses`), and what a course begins with.
 //!
 //! An `Act` is a line with the octets that its event needs. Beside that stand the setup of the centre, its rows and tables as lines, and what
 //! a measured event gives that later ones need. This crate has no centre, so that a program that has one proves little else.

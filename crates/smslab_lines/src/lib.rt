@@ -1,8 +1,11 @@
-//! smslab_lines, of modules:
+//! What a course of a centre is written in, and what measurements are made with.
 //!
-//! - `acts`: What the lines of a run of a centre say that happens to it, as its events, and what a run begins with (`smslab_courses`).
-//! - `lines`: What the lines of a run of a centre say, and what comes of a run, as lines (`smslab_courses`).
-//! - `measuring`: What the benches measure with: a stopwatch, and a checksum of what was produced.
+//! Who runs a centre over lines needs no more than this: each line is an event with the octets that it needs, and what follows from an event
+//! is lines of text, or a checksum of these and of all rows. The crate has no centre, so that nothing here is proved over one.
+//!
+//! - `lines`: the words of a line, the answer, frames and receipts of an event as lines and as a checksum, and the meters of its kinds.
+//! - `acts`: a line as an event, and the setup, rows and tables of a centre as lines.
+//! - `measuring`: a stopwatch, and a checksum of octets (FNV-1a).
 #![tactic(auto)]
 
 pub mod acts;

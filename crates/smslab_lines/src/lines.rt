@@ -1,4 +1,4 @@
-//! What the lines of a run of a centre say, and what comes of a run, as lines (`smslab_courses`).
+//! What the lines of a course of a centre say (`smslab_courses`), and what follows from an event, as lines.
 //!
 //! A line is words; what an event needs besides them stands behind `KEY=`. Handsets are called A, B and C, and time is told in seconds from
 //! 2024-02-29 23:59:58 on. Beside that stand what is told, the checksum of what an event told and of all rows, and what is measured. This

@@ -57,7 +57,7 @@ pub(crate) fn send<W: Write>(alloc: Global, link: &mut W, frames: &[Outgoing]) -
     write_out(link, out.as_slice())
 }
 
-/// Tells the centre whose link it is: the digits of the number, as the first frame.
+/// Sends the digits of the number to the centre, as the first frame.
 pub(crate) fn greet<W: Write>(alloc: Global, link: &mut W, digits: &[char]) -> Result<(), Stop>
     ensures { OnOk result (Appends (W.contents link.old) (W.contents link.new) (framed (encode_utf8_all digits.now))) }
 {
@@ -84,7 +84,7 @@ fn push_digit(out: &mut Octets, digit: char) -> Result<(), Stop>
     Ok(out.append(digit.encode_utf8(&mut octets).as_bytes())?)
 }
 
-/// Lets time go on.
+/// Lets time pass.
 pub(crate) fn tick<K: Keep<Rows = Rows, Changes = Changes> + Drop, W: Write>(
     alloc: Global,
     machine: &mut HandsetMachine<K>,
@@ -114,7 +114,7 @@ fn frame_came<K: Keep<Rows = Rows, Changes = Changes> + Drop, W: Write>(
     send(alloc, link, frames.as_slice())
 }
 
-/// Meets the whole frames that stand in the buffer, at most so many, and cuts them off; how many it may meet then.
+/// Takes the whole frames of the buffer, at most so many, and cuts them off. It answers how many it may take then.
 pub(crate) fn meet_frames<K: Keep<Rows = Rows, Changes = Changes> + Drop, W: Write>(
     alloc: Global,
     machine: &mut HandsetMachine<K>,

@@ -113,16 +113,16 @@ fn act_all<K: Keep<Rows = Rows, Changes = Changes> + Drop, W: Write, A: Write, C
 /// How a run ended.
 #[derive(Clone, Copy, Debug, PartialEq, Eq)]
 pub enum RunEnd {
-    /// All frames came, or the link closed.
+    /// All frames have arrived, or the link closed.
     Done,
     /// A write of the link failed, which closes it.
     Broken,
 }
 
-/// Runs a handset over a link: sends the digits of its number, does what its owner asks, each answered by a line, and meets
-/// the frames that come, until `frames` came or the link closed.
+/// Runs a handset over a link. It sends the digits of its number, does what its owner asks, each answered by a line,
+/// and takes frames. It ends after `frames` of them, or when the link closes.
 ///
-/// A link whose reads give up after a while lets time go on; a read or a write of it that fails closes it.
+/// A link whose reads give up after a while lets time pass. A read or a write of it that fails closes it.
 pub fn run_handset<
     K: Keep<Rows = Rows, Changes = Changes> + Drop,
     R: Read,

@@ -55,7 +55,7 @@ fn commit<K: Keep<Rows = Rows, Changes = Changes>>(
 
 /// The handset that starts with the rows of a keep.
 ///
-/// The setup is the one with which the keep was opened. `BadRows` is told exactly where the rows are not sound.
+/// The setup is the one with which the keep was opened. `BadRows` is answered exactly where the rows are not sound.
 pub fn recover_from<K: Keep<Rows = Rows, Changes = Changes>>(
     alloc: Global,
     keep: &mut K,
@@ -74,7 +74,7 @@ pub fn recover_from<K: Keep<Rows = Rows, Changes = Changes>>(
 }
 
 impl<K: Keep<Rows = Rows, Changes = Changes> + Drop> HandsetMachine<K> {
-    /// A machine over a handset that stands on the rows of the keep.
+    /// A machine of a handset whose rows are those of the keep.
     pub fn new(keep: K, handset: Handset) -> HandsetMachine<K>
         ensures keep { keep_in result ≡ keep }
         ensures handset { handset_in result ≡ handset }

@@ -71,7 +71,7 @@ impl<'a> PlayedCentre<'a> {
         self.keep.setup().accounts.as_slice()
     }
 
-    /// How many reports stand in its rows.
+    /// How many reports its rows have.
     pub fn count_reports(&self) -> usize
         ensures { result ≡ length self.now.rows.reports }
     {
@@ -115,8 +115,8 @@ impl<'a> PlayedCentre<'a> {
         self.centre.receipts()
     }
 
-    /// Meets an event: what it changes is committed, the references that it gives are told behind those before, and what it tells is
-    /// told.
+    /// Meets an event. What it changes is committed, the references that it gives are added to those before, and what
+    /// leaves is given.
     ///
     /// # Errors
     /// A growth was refused.
@@ -134,8 +134,8 @@ impl<'a> PlayedCentre<'a> {
         events::meet(self.centre, self.keep, event, given)
     }
 
-    /// Starts again on its rows, which it looks over once for the greatest moment that they have seen, and doesn't copy. Links to its
-    /// handsets come up at its first tick.
+    /// Starts again on its rows, which it looks over once for the greatest moment that they have seen, and doesn't
+    /// copy. Links to its handsets are up at its first tick.
     ///
     /// # Errors
     /// A growth was refused.

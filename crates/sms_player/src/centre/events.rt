@@ -119,8 +119,8 @@ fn carry_out(
     }
 }
 
-/// Meets an event: what it changes is committed, the references that it gives are told behind those before, and what it tells is
-/// told.
+/// Meets an event. What it changes is committed, the references that it gives are added to those before, and what
+/// leaves is given.
 pub(crate) fn meet(
     centre: &mut Centre,
     keep: &mut MemoryKeep,

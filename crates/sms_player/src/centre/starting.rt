@@ -43,8 +43,8 @@ fn lend_started<R, W: FnOnce(&mut Centre) -> R>(
     }
 }
 
-/// Starts a centre with the first rows of a new store, with links to these handsets that are up and a session of each account, lends
-/// it to the work, and gives what the work gives. Who calls this owns no centre.
+/// Starts a centre with the first rows of a new store, and lends it to the work. It has links to these handsets that
+/// are up, and a session of each account. It gives what the work gives. Who calls this owns no centre.
 ///
 /// # Errors
 /// A growth was refused. The work is not done then.
@@ -96,7 +96,7 @@ fn moment_of(keep: &MemoryKeep) -> Moment
     )
 }
 
-/// Starts again on its rows, which stay as they are. Links to its handsets come up at its first tick.
+/// Starts again on its rows, which stay unchanged. Links to its handsets are up at its first tick.
 pub(crate) fn restart(
     alloc: Global,
     centre: &mut Centre,

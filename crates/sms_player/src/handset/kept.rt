@@ -44,7 +44,7 @@ impl Model for KeptHandset {
     ghost invariant = { λ h. (rows_in h.keep ≡ h.handset.core.rows) × (h.moment ≡ h.handset.core.moment) × IsSoundCore h.handset.core };
 }
 
-/// The greatest moment that a handset was told after the event.
+/// The greatest moment of a handset after the event.
 fn moment_after(moment: Moment, event: &HandsetEvent<'_>) -> Moment
     ensures { result ≡ moment_after_of moment event.now }
 {
@@ -149,7 +149,7 @@ impl KeptHandset {
         self.keep.counters().entry
     }
 
-    /// The greatest moment that it was told after the event.
+    /// Its greatest moment after the event.
     pub(crate) fn moment_after(&self, event: &HandsetEvent<'_>) -> Moment
         ensures { result ≡ moment_after_of self.now.core.moment event.now }
     {

@@ -57,9 +57,9 @@ fn ready_raised<S: Alter>(alloc: Global, conn: &mut Connection<S>) -> Result<(),
 }
 
 impl<S: Alter + Drop> CentreKeep<S> {
-    /// Opens as `over` does, and makes a store of version 1 one of version 2 first. An error gives the connection back: it is as it
-    /// was, or closed. A stop inside the call leaves a store of version 1 as it was, or one of version 2 with the same rows; once the
-    /// keep is there, a stop leaves what the keep has.
+    /// Opens as `over` does, and makes a store of version 1 one of version 2 first. An error gives the connection back,
+    /// unchanged or closed. A stop inside the call leaves the store of version 1, or one of version 2 with its rows.
+    /// Once the keep is there, a stop leaves what the keep has.
     pub fn migrate_over(
         alloc: Global,
         conn: Connection<S>,

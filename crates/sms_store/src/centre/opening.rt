@@ -21,8 +21,8 @@ use sqlite::{Alter, Connection, File, FileFrom, FileStore, MemStore, Start, Unkn
 use std::alloc::Global;
 
 impl<S: Alter + Drop> CentreKeep<S> {
-    /// Keeps the rows of the database that the connection is to: those of a centre's store of version 2, or a centre's first
-    /// rows where it has no tables. It refuses every other database, as an earlier version where it says that it is one.
+    /// Keeps the rows of the connection's database: those of a centre's store of version 2, or a centre's first rows
+    /// where it has no tables. It refuses every other database, as an earlier version where it says that it is one.
     pub fn over(
         alloc: Global,
         conn: Connection<S>,

@@ -74,7 +74,8 @@ pub(crate) fn judge_first<S: Alter>(
     }
 }
 
-/// An empty database becomes the store of a centre's first rows; one with the tables of version 2 must say that it is a centre's store.
+/// An empty database becomes the store of a centre's first rows. One with the tables of version 2 must say that it is a
+/// centre's store.
 pub(crate) fn ready_current<S: Alter>(
     alloc: Global,
     conn: &mut Connection<S>,
@@ -95,7 +96,7 @@ pub(crate) fn ready_current<S: Alter>(
     judge_store(alloc, conn)
 }
 
-/// The same, and one with the tables of version 1 is told as such.
+/// Makes the database ready to be kept. One with the tables of version 1 is refused as one of an earlier version.
 pub(crate) fn ready<S: Alter>(alloc: Global, conn: &mut Connection<S>) -> Result<(), KeepError>
     ensures mode { conn.old.in_transaction ≡ false → conn.new.in_transaction ≡ false }
     ensures clean { HasCleanDisk (state S.Store conn.new) → HasCleanDisk (state S.Store conn.old) }

@@ -46,8 +46,8 @@ impl<S: Alter + Drop> HandsetKeep<S> {
         }
     }
 
-    /// Keeps the rows of the database that the connection is to: those of a handset's store, or a handset's first rows
-    /// where it has no tables. It refuses every other database.
+    /// Keeps the rows of the connection's database: those of a handset's store, or a handset's first rows where it has
+    /// no tables. It refuses every other database.
     pub fn over(
         alloc: Global,
         conn: Connection<S>,

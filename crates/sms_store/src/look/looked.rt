@@ -54,8 +54,8 @@ fn look_in<S: Alter + Drop>(keep: CentreKeep<S>) -> Result<Looked<S>, KeepError>
     })
 }
 
-/// The rows of the centre's store that the connection is to. The setup is not stored: what is handed in stands among the rows. A
-/// store of version 1 is `OldVersion`, and what is no store of a centre `NotThisStore`.
+/// The rows of the centre's store that the connection is to. The setup is not stored: the one that is handed in is
+/// among the rows. A store of version 1 is `OldVersion`, and what is no store of a centre `NotThisStore`.
 pub fn look_over<S: Alter + Drop>(
     alloc: Global,
     conn: Connection<S>,

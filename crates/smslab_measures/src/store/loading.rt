@@ -23,17 +23,20 @@ fn take_rows(meter: &mut Meter, rows: &Rows) {
     }
 }
 
+fn took(rt: &HostRuntime, watch: Stopwatch) -> Result<u64, BenchError> {
+    Ok(watch.stop(rt)?)
+}
+
 fn recover(rt: &HostRuntime, rows: Rows) -> Result<u64, BenchError> {
     let sessions = Table::new(rt.alloc());
     let watch = Stopwatch::start(rt)?;
-    let took = with_centre(
+    with_centre(
         rt.alloc(),
         rows,
         &[],
         sessions,
-        |_centre: &mut Centre| watch.stop(rt),
-    )?;
-    Ok(took?)
+        |_centre: &mut Centre| took(rt, watch),
+    )?
 }
 
 fn measure_recover(rt: &HostRuntime, rows: Rows) -> Result<(), BenchError> {

@@ -7,6 +7,7 @@ use crate::store::statements::{
     put_reference, put_report,
 };
 use crate::store::words::Turn;
+use smslab_lines::measuring::Stopwatch;
 use sqlite::{Alter, Connection, Transaction};
 use std::alloc::{AllocError, Global};
 

@@ -120,7 +120,10 @@ pub fn task_in<'a>(words: &[&'a str]) -> Option<Task<'a>> {
             words: FEW,
             file: None,
         }),
-        ["again", from, to] => Some(Task::Again { from, to }),
+        ["again", from, to] => Some(Task::Again {
+            from: *from,
+            to: *to,
+        }),
         [finished, open, turns] => work(finished, open, turns, None),
         [finished, open, turns, file] => work(finished, open, turns, Some(*file)),
         _ => None,

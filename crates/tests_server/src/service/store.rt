@@ -1,4 +1,4 @@
-//! A store in memory that fails when it is told to.
+//! A store in memory that fails on demand.
 ghost use Rattle.std.specs.Prelude.{◌≡◌, ⊤, refl};
 ghost use Rattle.sms_centre_spec.proofs.bodies.Bodies.{bodies_given};
 ghost use Rattle.sms_store_memory.specs.centre.RowsInKeep.{rows_in};

@@ -1,11 +1,12 @@
-//! A service, what happens to it, and what is told.
+//! A service, what happens to it, and its replies.
+use crate::clock_and_gate::Open;
+use crate::rows::{holds, name_of};
 use crate::service::asks::{Asked, START, asks, ticks};
-use crate::service::rows::holds;
 use crate::service::store::{Limits, Store};
 use crate::service::telling::{To, is_step};
 use sms_base::{Address, Listed, Moment, Octets};
 use sms_centre_spec::jobs::Job;
-use sms_keeper::{Fate, Gate, Machine, Stimulus};
+use sms_keeper::{Fate, Machine, Stimulus};
 use sms_store_memory::centre::MemoryKeep;
 use smsc_service::{CentreAccount, Service, Setup, serve_with};
 use std::alloc::Global;
@@ -24,12 +25,6 @@ pub(crate) enum Turn {
     Bodies(u32),
     /// The service starts again with the rows of its store.
     Reopens,
-}
-
-struct Open;
-
-impl Gate for Open {
-    fn pass(&self) {}
 }
 
 // ---- a service
@@ -118,19 +113,6 @@ fn take_turn(
             Ok(true)
         }
         Turn::Reopens => Ok(reopens(service)),
-    }
-}
-
-// The turns of a course, as a failure names them.
-const NAMES: [&str; 12] = [
-    "turn 1", "turn 2", "turn 3", "turn 4", "turn 5", "turn 6", "turn 7", "turn 8", "turn 9",
-    "turn 10", "turn 11", "turn 12",
-];
-
-fn name_of(at: usize) -> &'static str {
-    match NAMES.get(at) {
-        Some(name) => *name,
-        None => "a later turn",
     }
 }
 
