@@ -1,5 +1,4 @@
 pub mod Acting
-pub mod FromBelow
 pub mod Planning
 pub mod Stopping
 pub mod Stored

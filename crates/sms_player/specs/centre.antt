@@ -1,2 +1,1 @@
-pub mod FromBelow
 pub mod Shown

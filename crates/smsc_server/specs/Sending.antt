@@ -3,7 +3,7 @@ use Rattle.std.specs.Prelude.{◌≡◌, ℕ, List, Option, Result, IfOk}
 use Rattle.std.specs.declared.alloc.AllocError.{AllocError}
 use Rattle.sms_base.specs.HandsetNumber.{own_address}
 use Rattle.sms_base.specs.declared.address.Address.{Address}
-use Rattle.sms_centre.specs.FromBelow.{IsStanding, StandingOf}
+use Rattle.sms_centre.specs.state.Standing.{IsStanding, StandingOf}
 use Rattle.sms_relay.specs.RelayReading.{up_at}
 use Rattle.smsc_server.specs.relay_laws.Relay.{IsRelayed}
 use Rattle.smsc_server.specs.relay_laws.Relaying.{Relays, centre_for, destination_of, frame_for}

@@ -1,6 +1,6 @@
 -- What comes of a stimulus, by what befell it.
 use Rattle.std.proofs.Common.{◌≡◌, ◌⊎◌, ⊎_elim, refl, sym, subst, ap, ◌∙◌, List, Err}
-use Rattle.sms_centre.specs.FromBelow.{IsStanding, StandingOf}
+use Rattle.sms_centre.specs.state.Standing.{IsStanding, StandingOf}
 use Rattle.sms_rows.specs.declared.keep.refusals.Refusals.{Refusals}
 use Rattle.smsc_service.specs.Stepping.{OneRefused, PlansStep}
 use Rattle.smsc_service.specs.declared.step_error.StepError.{StepError}

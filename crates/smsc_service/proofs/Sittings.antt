@@ -5,7 +5,7 @@ use Rattle.std.proofs.lemmas.Slice.Eq.{bytes_eq-Decides}
 use Rattle.sms_base.specs.Among.{Among}
 use Rattle.sms_centre_spec.specs.SoundCore.{AreDifferent}
 use Rattle.sms_centre_rows.specs.reports.Receipts.{Session, session_key}
-use Rattle.sms_centre.specs.FromBelow.{AreNew}
+use Rattle.sms_centre.specs.state.Recovering.{AreNew}
 use Rattle.sms_rows.proofs.table.Tables.{among_put}
 use Rattle.sms_rows.specs.table.Table.{put}
 use Rattle.sms_centre_rows.specs.waiting.SoundGivings.{IsNumber}

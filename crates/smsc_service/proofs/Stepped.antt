@@ -12,7 +12,9 @@ use Rattle.sms_centre_spec.specs.Draft.{Core, Draft, core_of, rows_after}
 use Rattle.sms_centre_spec.specs.SoundRows.{IsSound}
 use Rattle.sms_centre_spec.proofs.Resting.{happened_rests}
 use Rattle.sms_centre_spec.specs.bodies.Storing.{GivesBodies}
-use Rattle.sms_centre.specs.FromBelow.{Goes, IsPlanned, NoneRefused, Planned}
+use Rattle.sms_centre_events.specs.offering.Going.{Goes, NoneRefused}
+use Rattle.sms_centre.specs.plans.Planned.{IsPlanned}
+use Rattle.sms_centre.specs.declared.plans.planned.Planned.{Planned}
 use Rattle.sms_centre.specs.Planning.{PlannedOf}
 use Rattle.sms_centre.specs.Stored.{StoresRows}
 use Rattle.smsc_service.specs.Stepping.{PlansStep, step_error_of}

@@ -1,6 +1,7 @@
 -- What is told of a plan is what the definition tells of the event.
 use Rattle.std.proofs.Common.{◌≡◌, ap, ◌∙◌, ℕ, List, Option}
-use Rattle.sms_centre.specs.FromBelow.{IsPlanned, Planned}
+use Rattle.sms_centre.specs.plans.Planned.{IsPlanned}
+use Rattle.sms_centre.specs.declared.plans.planned.Planned.{Planned}
 use Rattle.sms_centre_spec.specs.CentreEvent.{happened}
 use Rattle.sms_centre_spec.specs.Draft.{Core, messages_in, rows_after}
 use Rattle.sms_centre_spec.specs.declared.answer.CentreAnswer.{CentreAnswer}

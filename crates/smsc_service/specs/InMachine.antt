@@ -1,5 +1,5 @@
 -- What a centre's machine has.
-use Rattle.sms_centre.specs.FromBelow.{StandingOf}
+use Rattle.sms_centre.specs.state.Standing.{StandingOf}
 use Rattle.smsc_service.specs.declared.machine.CentreMachine.{CentreMachine}
 
 -- the keep of the centre's rows

@@ -11,7 +11,7 @@ use Rattle.sms_keeper.specs.declared.machine.Fate.TheVariants.{Done, NoMemory, R
 use Rattle.sms_keeper.specs.declared.machine.Stimulus.{Stimulus}
 use Rattle.sms_keeper.specs.declared.machine.Stimulus.TheVariants.{Job as JobOf, Tick}
 use Rattle.sms_keeper.specs.declared.outs.Out.{Out}
-use Rattle.sms_centre.specs.FromBelow.{IsStanding, StandingOf}
+use Rattle.sms_centre.specs.state.Standing.{IsStanding, StandingOf}
 use Rattle.smsc_service.specs.declared.step_error.StepError.{StepError}
 use Rattle.smsc_service.specs.declared.step_error.StepError.TheVariants.{NoMemory as NoPlan, NoBody, Store}
 use Rattle.smsc_service.specs.declared.asking.Asked.{Asked}

@@ -1,5 +1,6 @@
 -- Why a centre does not start.
-use Rattle.sms_centre.specs.FromBelow.{RecoverError, BadRows as BadRecover, NoMemory as NoRecover}
+use Rattle.sms_centre.specs.declared.state.recover_error.RecoverError.{RecoverError}
+use Rattle.sms_centre.specs.declared.state.recover_error.RecoverError.TheVariants.{BadRows as BadRecover, NoMemory as NoRecover}
 use Rattle.smsc_service.specs.declared.start_error.StartError.{StartError}
 use Rattle.smsc_service.specs.declared.start_error.StartError.TheVariants.{BadRows, NoMemory}
 

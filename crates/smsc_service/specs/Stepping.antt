@@ -5,7 +5,7 @@ use Rattle.sms_centre_spec.specs.declared.plan_error.PlanError.TheVariants.{NoBo
 use Rattle.sms_centre_spec.specs.Draft.{Draft}
 use Rattle.sms_rows.specs.keep.Refusing.{one_more}
 use Rattle.sms_rows.specs.declared.keep.refusals.Refusals.{Refusals}
-use Rattle.sms_centre.specs.FromBelow.{IsPlanned}
+use Rattle.sms_centre.specs.plans.Planned.{IsPlanned}
 use Rattle.sms_centre.specs.Planning.{PlannedOf}
 use Rattle.smsc_service.specs.declared.step_error.StepError.{StepError}
 use Rattle.smsc_service.specs.declared.step_error.StepError.TheVariants.{NoMemory, NoBody, Store}

@@ -3,7 +3,7 @@ ghost use Rattle.std.specs.Prelude.{◌≡◌, IfOk, option_copied};
 ghost use Rattle.sms_centre_spec.specs.Draft.{Core};
 ghost use Rattle.sms_centre_spec.specs.Finals.{submit_reference as submit_reference_of};
 ghost use Rattle.sms_centre_rows.specs.messages.Messages.{message_at, message_key};
-ghost use Rattle.sms_centre.specs.FromBelow.{IsStanding};
+ghost use Rattle.sms_centre.specs.state.Standing.{IsStanding};
 ghost use Rattle.sms_rows.specs.table.Table.{all_applied, change_row, newest_of};
 ghost use Rattle.smsc_service.specs.Telling.{end_in, end_of as end_of_row};
 

@@ -1,6 +1,7 @@
 //! A centre and the keep of its rows.
 ghost use Rattle.std.specs.Prelude.{◌≡◌, ◌⊎◌, IfOk, OnErr, OnOk};
-ghost use Rattle.sms_centre.specs.FromBelow.{IsPlanned, IsStanding};
+ghost use Rattle.sms_centre.specs.plans.Planned.{IsPlanned};
+ghost use Rattle.sms_centre.specs.state.Standing.{IsStanding};
 ghost use Rattle.sms_centre.specs.Planning.{Fits};
 ghost use Rattle.sms_centre_spec.specs.CentreEvent.{happened};
 ghost use Rattle.sms_centre_spec.specs.Draft.{Core, core_of};

@@ -1,7 +1,7 @@
 //! The handsets and sessions of a floor, as a centre that starts again wants them.
 ghost use Rattle.std.specs.Prelude.{◌≡◌, IfOk, OnOk, Some, slice_get};
 ghost use Rattle.sms_centre_spec.specs.SoundCore.{AreDifferent};
-ghost use Rattle.sms_centre.specs.FromBelow.{AreNew};
+ghost use Rattle.sms_centre.specs.state.Recovering.{AreNew};
 ghost use Rattle.smsc_service.specs.Seats.{seats_in};
 ghost use Rattle.smsc_service.specs.Sitting.{AreNumbers, handsets_of as handsets_of_links, is_among as is_among_of, sessions_of as sessions_of_sittings, with_number, with_session};
 

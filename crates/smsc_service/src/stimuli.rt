@@ -1,6 +1,7 @@
 //! What a stimulus asks, and what it gives.
 ghost use Rattle.std.specs.Prelude.{◌≡◌, IfOk};
-ghost use Rattle.sms_centre.specs.FromBelow.{IsPlanned, IsStanding};
+ghost use Rattle.sms_centre.specs.plans.Planned.{IsPlanned};
+ghost use Rattle.sms_centre.specs.state.Standing.{IsStanding};
 ghost use Rattle.sms_centre_spec.specs.CentreEvent.{happened};
 ghost use Rattle.sms_centre_spec.specs.SoundCore.{HasNumber};
 ghost use Rattle.sms_centre_spec.specs.declared.event.CentreEvent.{CentreEvent as CentreEventOf};

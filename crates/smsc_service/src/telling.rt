@@ -3,7 +3,7 @@ ghost use Rattle.std.specs.Prelude.{◌≡◌, [], ◌∷◌, ◌++◌, Some, On
 ghost use Rattle.sms_centre_spec.specs.Draft.{Core};
 ghost use Rattle.sms_centre_spec.specs.declared.jobs.reply.Reply.TheVariants.{Taken};
 ghost use Rattle.sms_centre_rows.specs.messages.Messages.{message_at, message_key};
-ghost use Rattle.sms_centre.specs.FromBelow.{IsStanding};
+ghost use Rattle.sms_centre.specs.state.Standing.{IsStanding};
 ghost use Rattle.sms_rows.specs.table.Table.{all_applied};
 ghost use Rattle.smsc_service.specs.Seats.{seats_in};
 ghost use Rattle.smsc_service.specs.Telling.{answer_out, end_of, failed as failed_of, for_seat, frame_out, frame_outs, is_that as is_that_of, receipt_out, receipt_outs, seat_for as seat_for_of, told_at};

@@ -4,7 +4,7 @@ use Rattle.sms_base.specs.Among.{Among}
 use Rattle.sms_intake.specs.declared.submission.Account.{Account}
 use Rattle.sms_play.specs.PlayedEvent.{sessions_from}
 use Rattle.sms_centre_rows.specs.reports.Receipts.{Session, session_key}
-use Rattle.sms_centre.specs.FromBelow.{AreNew}
+use Rattle.sms_centre.specs.state.Recovering.{AreNew}
 use Rattle.sms_rows.specs.table.Table.{AllAbove, Rises}
 
 none_waits : (x : Session) (n : ℕ) (accounts : List Account) → Among x (sessions_from n accounts) → x.unanswered ≡ []

@@ -10,7 +10,10 @@ use Rattle.sms_centre_spec.specs.declared.plan_error.PlanError.TheVariants.{NoBo
 use Rattle.sms_centre_spec.specs.declared.rows.Changes.{Changes}
 use Rattle.sms_centre_spec.specs.declared.rows.Rows.{Rows}
 use Rattle.sms_centre_rows.specs.declared.messages.message.MessageRow.{MessageRow}
-use Rattle.sms_centre.specs.FromBelow.{Goes, IsPlanned, IsStanding, Planned, StandingOf}
+use Rattle.sms_centre_events.specs.offering.Going.{Goes}
+use Rattle.sms_centre.specs.plans.Planned.{IsPlanned}
+use Rattle.sms_centre.specs.state.Standing.{IsStanding, StandingOf}
+use Rattle.sms_centre.specs.declared.plans.planned.Planned.{Planned}
 use Rattle.sms_centre.specs.Planning.{PlannedOf}
 use Rattle.sms_play.specs.CentreSide.{given_by, parts_given, reports_given}
 use Rattle.sms_play.specs.PlayedEvent.{sessions_from}

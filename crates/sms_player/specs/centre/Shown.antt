@@ -2,7 +2,7 @@
 use Rattle.std.specs.Prelude.{◌≡◌, ◌≤◌, ℕ, List, length}
 use Rattle.sms_centre_spec.specs.declared.rows.Rows.{Rows}
 use Rattle.sms_centre_spec.specs.Draft.{Core}
-use Rattle.sms_centre.specs.FromBelow.{IsStanding, StandingOf}
+use Rattle.sms_centre.specs.state.Standing.{IsStanding, StandingOf}
 
 -- It is that centre, and its keep has the centre's rows. It has few accounts.
 pub record IsPlayed (c : Core) (s : StandingOf) (rows : Rows) : Type 0 where

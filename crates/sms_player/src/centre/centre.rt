@@ -1,6 +1,7 @@
 //! The centre of a script in play.
 ghost use Rattle.std.specs.Prelude.{◌≡◌, ◌≤◌, ◌++◌, length, IfOk, OnOk, option_copied, option_map};
-ghost use Rattle.sms_centre.specs.FromBelow.{IsTold, message_lines, receipt_lines};
+ghost use Rattle.sms_centre.specs.plans.Planned.{IsTold};
+ghost use Rattle.sms_centre_reports.specs.report_log.Telling.{message_lines, receipt_lines};
 ghost use Rattle.sms_store_memory.specs.centre.RowsInKeep.{rows_in};
 ghost use Rattle.sms_centre_spec.specs.CentreEvent.{happened, recovered};
 ghost use Rattle.sms_centre_spec.specs.Draft.{Core, core_of};

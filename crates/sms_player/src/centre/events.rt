@@ -1,6 +1,7 @@
 //! What a centre on rows in memory does with an event.
 ghost use Rattle.std.specs.Prelude.{◌≡◌, ◌++◌, IfOk, OnErr, OnOk};
-ghost use Rattle.sms_centre.specs.FromBelow.{IsPlanned, IsStanding, IsTold};
+ghost use Rattle.sms_centre.specs.plans.Planned.{IsPlanned, IsTold};
+ghost use Rattle.sms_centre.specs.state.Standing.{IsStanding};
 ghost use Rattle.sms_centre.specs.Planning.{Fits};
 ghost use Rattle.sms_store_memory.specs.centre.RowsInKeep.{rows_in};
 ghost use Rattle.sms_centre_spec.specs.CentreEvent.{happened};

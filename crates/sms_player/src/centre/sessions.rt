@@ -1,6 +1,6 @@
 //! The sessions of a script's accounts.
 ghost use Rattle.std.specs.Prelude.{◌≡◌, ◌≤◌, length, IfOk};
-ghost use Rattle.sms_centre.specs.FromBelow.{AreNew};
+ghost use Rattle.sms_centre.specs.state.Recovering.{AreNew};
 ghost use Rattle.sms_play.specs.PlayedEvent.{sessions_from};
 
 use sms_centre::Seat;

@@ -1,7 +1,8 @@
 //! How a centre on rows in memory starts, and starts again.
 ghost use Rattle.std.specs.Prelude.{◌≡◌, ◌≤◌, length, IfOk, OnOk};
 ghost use Rattle.std.specs.Fn.{FnOnceReturnsAtMut};
-ghost use Rattle.sms_centre.specs.FromBelow.{AreNew, IsStanding};
+ghost use Rattle.sms_centre.specs.state.Recovering.{AreNew};
+ghost use Rattle.sms_centre.specs.state.Standing.{IsStanding};
 ghost use Rattle.sms_store_memory.specs.centre.RowsInKeep.{rows_in};
 ghost use Rattle.sms_centre_spec.specs.CentreEvent.{moment_of as moment_of_rows, recovered, started};
 ghost use Rattle.sms_centre_spec.specs.Draft.{Core};

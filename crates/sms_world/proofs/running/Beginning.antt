@@ -1,6 +1,6 @@
 -- How a script begins: it shows the course that begins with its head, and nothing was looked at.
 use Rattle.std.proofs.Common.{◌≡◌, ℕ, ◌≤◌, List, [], ◌∷◌, length, refl, sym, subst}
-use Rattle.sms_centre.specs.FromBelow.{IsStanding, StandingOf}
+use Rattle.sms_centre.specs.state.Standing.{IsStanding, StandingOf}
 use Rattle.sms_centre_spec.specs.CentreEvent.{started}
 use Rattle.sms_centre_spec.specs.SoundRows.{first_rows}
 use Rattle.sms_centre_spec.specs.declared.rows.Rows.{Rows}

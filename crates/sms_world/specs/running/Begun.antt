@@ -1,6 +1,6 @@
 -- What a script begins with.
 use Rattle.std.specs.Prelude.{◌≡◌, ℕ, List}
-use Rattle.sms_centre.specs.FromBelow.{StandingOf}
+use Rattle.sms_centre.specs.state.Standing.{StandingOf}
 use Rattle.sms_centre_spec.specs.declared.rows.Rows.{Rows}
 use Rattle.sms_play.specs.Course.{Party, numbers_of}
 use Rattle.sms_play.specs.Setups.{beginning, parties_of}

@@ -10,7 +10,9 @@ ghost use Rattle.sms_centre_spec.specs.CentreEvent.{started};
 ghost use Rattle.sms_centre_spec.specs.SoundRows.{IsSetup, first_rows as first_rows_of};
 ghost use Rattle.sms_play.specs.PlayedEvent.{sessions_from};
 ghost use Rattle.sms_play.specs.Setups.{beginning, can_be_played, centre_setup as centre_setup_of, parties_of as parties_of_head};
-ghost use Rattle.sms_player.specs.centre.FromBelow.{rows_in, AreHandsets, IsStanding};
+ghost use Rattle.sms_store_memory.specs.centre.RowsInKeep.{rows_in};
+ghost use Rattle.sms_player.specs.heads.Heads.{AreHandsets};
+ghost use Rattle.sms_centre.specs.state.Standing.{IsStanding};
 ghost use Rattle.sms_player.specs.centre.Shown.{Stands};
 
 use crate::running::ending::{Judged, finish};

@@ -3,7 +3,7 @@ ghost use Rattle.std.specs.Prelude.{ℕ, List, IfOk};
 ghost use Rattle.sms_base.specs.Among.{Among};
 ghost use Rattle.sms_centre_rows.specs.waiting.SoundGivings.{IsNumber};
 ghost use Rattle.sms_centre_spec.specs.SoundCore.{AreDifferent, HasNumber};
-ghost use Rattle.sms_centre.specs.FromBelow.{AreNew};
+ghost use Rattle.sms_centre.specs.state.Recovering.{AreNew};
 ghost use Rattle.sms_centre.specs.Planning.{Fits};
 
 use sms_base::Digits;

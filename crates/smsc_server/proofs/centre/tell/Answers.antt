@@ -1,5 +1,6 @@
 use Rattle.std.proofs.Common.{[], None, sym, subst}
-use Rattle.sms_centre.specs.FromBelow.{IsTold, Told}
+use Rattle.sms_centre.specs.plans.Planned.{IsTold}
+use Rattle.sms_centre.specs.declared.plans.planned.Told.{Told}
 use Rattle.sms_centre.specs.Stored.{StoresRows}
 use Rattle.sms_centre_spec.specs.CentreEvent.{happened, started}
 use Rattle.sms_centre_spec.specs.Draft.{Core}

@@ -1,5 +1,5 @@
 use Rattle.std.proofs.Common.{◌≡◌, drop}
-use Rattle.sms_centre.specs.FromBelow.{AreNew}
+use Rattle.sms_centre.specs.state.Recovering.{AreNew}
 use Rattle.smsc_service.specs.Sitting.{sessions_from, sessions_of}
 use Rattle.smsc_service.proofs.sitting.sessions_of.Given as goal
 

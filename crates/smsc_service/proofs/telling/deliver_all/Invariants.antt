@@ -1,7 +1,7 @@
 use Rattle.std.proofs.Common.{◌≡◌, ◌++◌, drop}
 use Rattle.sms_centre_spec.specs.Draft.{Core}
 use Rattle.sms_centre_rows.specs.messages.Messages.{message_key}
-use Rattle.sms_centre.specs.FromBelow.{IsStanding}
+use Rattle.sms_centre.specs.state.Standing.{IsStanding}
 use Rattle.sms_rows.specs.table.Table.{all_applied}
 use Rattle.smsc_service.specs.Telling.{receipt_outs}
 use Rattle.smsc_service.proofs.telling.deliver_all.Given as goal

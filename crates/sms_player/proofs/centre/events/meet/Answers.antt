@@ -1,7 +1,8 @@
 use Rattle.std.proofs.Common.{sym, subst}
 use Rattle.sms_store_memory.specs.centre.RowsInKeep.{rows_in}
 use Rattle.sms_centre_spec.specs.CentreEvent.{happened}
-use Rattle.sms_centre.specs.FromBelow.{IsTold, Told}
+use Rattle.sms_centre.specs.plans.Planned.{IsTold}
+use Rattle.sms_centre.specs.declared.plans.planned.Told.{Told}
 use Rattle.sms_player.specs.centre.Shown.{IsPlayed}
 use Rattle.sms_player.proofs.centre.Plans.{if_ok}
 use Rattle.sms_player.proofs.centre.events.meet.Goals as goal

@@ -1,6 +1,6 @@
 use Rattle.std.proofs.Common.{◌∙◌, ap, List, sym, subst}
 use Rattle.sms_centre_rows.specs.reports.Receipts.{Session, session_key}
-use Rattle.sms_centre.specs.FromBelow.{AreNew}
+use Rattle.sms_centre.specs.state.Recovering.{AreNew}
 use Rattle.sms_rows.specs.table.Table.{RowsInMemory, Rises}
 use Rattle.sms_player.proofs.centre.NewSessions.{are_new, sessions_rise}
 use Rattle.sms_player.proofs.centre.sessions.sessions_of.Goals as goal

@@ -3,7 +3,7 @@ use Rattle.sms_store_memory.specs.centre.RowsInKeep.{rows_in}
 use Rattle.sms_centre_spec.specs.CentreEvent.{moment_of, recovered}
 use Rattle.sms_centre_spec.specs.declared.rows.Rows.{Rows}
 use Rattle.sms_centre_spec.specs.declared.setup.Setup.{Setup}
-use Rattle.sms_centre.specs.FromBelow.{IsStanding, StandingOf}
+use Rattle.sms_centre.specs.state.Standing.{IsStanding, StandingOf}
 use Rattle.sms_intake.specs.declared.submission.Account.{Account}
 use Rattle.sms_play.specs.PlayedEvent.{sessions_from}
 use Rattle.sms_player.proofs.centre.Plans.{again_is, recovered_as}

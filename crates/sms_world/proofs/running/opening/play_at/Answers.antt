@@ -2,7 +2,7 @@ use Rattle.std.proofs.Common.{None, rules}
 use Rattle.std.specs.Prelude.{IfOk}
 use Rattle.sms_play.specs.Playing.{broken_on}
 use Rattle.sms_play.specs.Setups.{beginning}
-use Rattle.sms_player.specs.centre.FromBelow.{rows_in}
+use Rattle.sms_store_memory.specs.centre.RowsInKeep.{rows_in}
 use Rattle.sms_world.proofs.running.Beginning.{begins}
 use Rattle.sms_world.specs.running.Begun.{IsBegun}
 use Rattle.sms_world.specs.running.Reporting.{Decides, Gives, report_on}

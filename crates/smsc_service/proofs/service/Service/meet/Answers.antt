@@ -1,6 +1,6 @@
 use Rattle.std.proofs.Common.{◌∙◌, ap, subst, sym}
 use Rattle.sms_rows.specs.keep.Refusing.{one_more}
-use Rattle.sms_centre.specs.FromBelow.{IsStanding, StandingOf}
+use Rattle.sms_centre.specs.state.Standing.{IsStanding, StandingOf}
 use Rattle.smsc_service.specs.Seats.{Seats, seats_in}
 use Rattle.smsc_service.specs.Serving.{followed_by}
 use Rattle.smsc_service.proofs.ByFate.{gave_up, was_refused}

@@ -1,5 +1,5 @@
 use Rattle.std.proofs.Common.{subst, sym}
-use Rattle.sms_centre.specs.FromBelow.{StandingOf}
+use Rattle.sms_centre.specs.state.Standing.{StandingOf}
 use Rattle.smsc_service.specs.Serving.{IsServing}
 use Rattle.smsc_service.proofs.ByFate.{waits_no_more}
 use Rattle.smsc_service.proofs.service.Service.restart.Goals as goal
