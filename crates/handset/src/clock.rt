@@ -14,7 +14,8 @@ pub(crate) fn first_moment() -> Moment {
     }
 }
 
-/// The clock of this machine. A handset's time never goes back, so what the clock can't tell may be the first moment.
+/// The clock of this machine. A handset's time never decreases, so a moment that the clock can't show may be the first
+/// one.
 #[derive(Drop)]
 pub(crate) struct SystemClock<'a> {
     pub(crate) rt: &'a HostRuntime,

@@ -1,4 +1,4 @@
-//! Why the work was not done, and how that is told.
+//! Why the work was not done, as a line and a status.
 use sms_handset::machine::StartError;
 use sms_rows::keep::KeepError;
 use std::io::{self, Print};

@@ -1,8 +1,8 @@
 //! A run of a handset over a link to the centre.
 //!
-//! `run_handset` tells the centre whose link it is, does what the owner asks, and then meets the frames that come and the
-//! time that goes on, until enough frames came or the link closed. It does so over any keep, reader, writer and clock; a
-//! frame goes out only once what it stands on is committed.
+//! `run_handset` sends the number of its handset, does what the owner asks, and then takes frames and lets time pass.
+//! It ends after enough frames, or when the link closes. It does so over any keep, reader, writer and clock. A frame is
+//! sent only once the changes that it follows from are committed.
 
 mod acts;
 mod clock;

@@ -8,7 +8,7 @@ use sms_base::Address;
 use sms_handset::machine::recover_from;
 use sms_handset::{Changes, Handset, Rows, Setup};
 use sms_rows::keep::{Keep, KeepError};
-use sms_store::handset::HandsetKeep;
+use sms_store::HandsetKeep;
 use sms_store_sql::listing::load_cause_of;
 use sms_store_sql::snapshot::{DatabaseCopy, connect, copy_at};
 use sms_store_tables::handset::is_handset_schema;
@@ -89,7 +89,8 @@ fn show_copy(rt: &HostRuntime, copy: &DatabaseCopy, setup: &Setup) -> Result<(),
     }
 }
 
-/// Prints the inbox and the outbox of the store at the path, by a copy of its files in memory: a handset that runs may have it open.
+/// Prints the inbox and the outbox of the store at the path, by a copy of its files in memory. A running handset may
+/// have it open.
 pub(crate) fn show_store(rt: &HostRuntime, path: &str) -> Result<(), Failure> {
     let copy = copy_of(rt, path)?;
     let setup = any_setup()?;

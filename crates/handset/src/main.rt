@@ -1,4 +1,12 @@
-//! A handset: does what its owner asks and what the centre sends, over a link, or shows what it stores.
+//! A handset: its owner's acts and the centre's frames, over a link; or a look at its store.
+//!
+//! It gives a socket, a clock and a file to `run_handset`, which does the work.
+//!
+//! - `clock`: the clock of this machine
+//! - `failure`: why the work was not done, as a line and a status
+//! - `link_run`: a run of a handset over any link, keep and clock
+//! - `looking`: a look at a store, which changes nothing
+//! - `running`: a run over a link to the centre
 #![tactic(auto)]
 
 ghost use Rattle.std.specs.Prelude.{IfOk, IfSome};

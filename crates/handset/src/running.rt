@@ -10,7 +10,7 @@ use sms_handset::{Changes, Rows, Setup};
 use sms_rows::keep::Keep;
 use sms_script::ScriptFault;
 use sms_script::owner::{OwnersAct, read_acts};
-use sms_store::handset::HandsetKeep;
+use sms_store::HandsetKeep;
 use std::alloc::Global;
 use std::io::{self, Print, Read};
 use std::net::{Ipv4Addr, TcpStream};
@@ -51,8 +51,8 @@ fn read_lines(rt: &HostRuntime) -> Result<Vec<u8>, Failure> {
     Ok(lines)
 }
 
-/// Reads the owner's lines, opens the store, connects to the centre, and runs the handset until so many frames came or the
-/// link closed.
+/// Reads the owner's lines, opens the store, connects to the centre, and runs the handset. It ends after so many
+/// frames, or when the link closes.
 pub(crate) fn run_lines(rt: &HostRuntime, run: &Run<'_>) -> Result<(), Failure>
     requires { IsSetup run.now.setup }
 {
@@ -89,7 +89,7 @@ fn machine_over<K: Keep<Rows = Rows, Changes = Changes> + Drop>(
 {
     let mut keep = keep;
     let handset = recover_from(alloc, &mut keep, setup)?;
-    Ok(HandsetMachine { keep, handset })
+    Ok(HandsetMachine::new(keep, handset))
 }
 
 fn run_over<K: Keep<Rows = Rows, Changes = Changes> + Drop>(

@@ -1,4 +1,5 @@
 pub mod BodyLaws
+pub mod FaultLaws
 pub mod FieldLaws
 pub mod Fronts
 pub mod Lengths

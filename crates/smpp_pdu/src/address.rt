@@ -8,7 +8,7 @@ use crate::fields::c_string;
 use crate::writing::{put_octet, put_text};
 use sms_base::{Cursor, OctetView};
 
-/// The address of a short message entity as it stands in a PDU, which may be none that the centre takes.
+/// The address of a short message entity in a PDU, which may be none that the centre takes.
 #[derive(Debug, Drop)]
 pub struct SmeAddress<'a> {
     pub ton: u8,

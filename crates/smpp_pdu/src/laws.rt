@@ -1,5 +1,5 @@
 //! Laws of PDUs, over their definitions alone.
-ghost use Rattle.std.specs.Prelude.{◌≡◌, ◌++◌, List, [], ℕ, Ok, Err};
+ghost use Rattle.std.specs.Prelude.{◌≡◌, ◌≢◌, ◌++◌, List, [], ℕ, Ok, Err};
 ghost use Rattle.sms_base.specs.Reading.{AreOctets};
 ghost use Rattle.smpp_pdu.specs.declared.fault.PduFault.{PduFault as FaultOf};
 ghost use Rattle.smpp_pdu.specs.declared.fault.PduFault.TheVariants.{Truncated, BadTlv};
@@ -16,7 +16,7 @@ pub fn written_is_in_grammar()
     ensures { (octets : List ℕ) (pdu : PduOf) → IsWritten octets pdu → IsPdu octets pdu }
 {}
 
-/// What is written is read as the same value.
+/// What is written is read as that value.
 pub fn written_reads_back()
     ensures { (octets : List ℕ) (pdu : PduOf) → IsWritten octets pdu → pdu_at octets ≡ Ok pdu }
 {}
@@ -48,4 +48,14 @@ pub fn parameters_are_read_by_the_grammar()
 /// Of a proper front of a PDU octets are missing, and nothing else is wrong.
 pub fn proper_front_is_truncated()
     ensures { (front rest : List ℕ) (pdu : PduOf) → IsPdu (front ++ rest) pdu → (rest ≡ [] → ⊥) → pdu_at front ≡ Err Truncated }
+{}
+
+/// A fault other than missing octets stays that fault, whatever follows the octets.
+pub fn a_fault_stays()
+    ensures { (octets more : List ℕ) (fault : FaultOf) → pdu_at octets ≡ Err fault → fault ≢ Truncated → pdu_at (octets ++ more) ≡ Err fault }
+{}
+
+/// Octets that are refused for another fault than missing ones begin no PDU.
+pub fn refused_octets_begin_no_pdu()
+    ensures { (octets more : List ℕ) (pdu : PduOf) (fault : FaultOf) → pdu_at octets ≡ Err fault → fault ≢ Truncated → ¬ IsPdu (octets ++ more) pdu }
 {}

@@ -1,10 +1,26 @@
 //! PDUs of SMPP v3.4, read and written by one grammar (`specs/PduGrammar.antt`).
 //!
-//! `Pdu::read` answers a value exactly where the grammar has one, else the first fault from the left, and takes no
-//! memory: texts and parameters borrow the octets. `Pdu::write` gives the one written list of a value, in one
-//! growth, which is in the grammar and is read as that value. A proper front of a PDU is truncated and nothing else.
-//! `Header::read` gives the numbers of a header whose body is not there yet or can't be read.
-//! What the fields mean, and which statuses answer which faults, is the session's business and the centre's.
+//! `Pdu::read` answers a value exactly where the grammar has one, else the first fault from the left. It takes no
+//! memory: texts and parameters borrow the octets. `Pdu::write` gives the one written list of a value in one growth;
+//! the list is read as that value. A proper front of a PDU is truncated and nothing else. `Header::read` gives the
+//! numbers of a header whose body is missing or unreadable. What fields mean, and which status answers which fault, is
+//! decided by the session and the centre.
+//!
+//! - `address`: addresses in PDUs
+//! - `bind`: bind requests
+//! - `body`: the bodies of PDUs by their commands
+//! - `cancel`: cancel_sm
+//! - `command`: the commands, with their numbers
+//! - `fault`: what is wrong with the octets of a PDU
+//! - `fields`: the fields that PDUs share
+//! - `header`: the header
+//! - `laws`: laws of PDUs
+//! - `message`: submit_sm and deliver_sm
+//! - `pdu`: whole PDUs
+//! - `query`: query_sm and its response
+//! - `status`: values of command_status
+//! - `tlv`: optional parameters
+//! - `writing`: fields, written into a vector that has room
 #![tactic(auto)]
 
 mod address;

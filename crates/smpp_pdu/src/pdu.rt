@@ -26,8 +26,8 @@ pub struct Pdu<'a> {
 impl<'a> Pdu<'a> {
     /// The PDU that the octets are, all of them, or the first fault from the left.
     ///
-    /// The command_length is judged first, then the command_id, then the body. Octets that are missing come before
-    /// octets that are left over; those come after every other fault.
+    /// The command_length is judged first, then the command_id, then the body. Missing octets are reported before
+    /// octets that are left over, and those after every other fault.
     pub fn read(octets: &'a [u8]) -> Result<Pdu<'a>, PduFault>
         // What is read is in the grammar.
         ensures found { IfOk result (λ p. IsPdu octets.entry.now p) }

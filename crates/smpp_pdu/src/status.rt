@@ -81,7 +81,7 @@ const STATUSES: [CommandStatus; 23] = [
 ];
 
 impl CommandStatus {
-    /// The number that stands in command_status.
+    /// The number of the status in command_status.
     pub fn number(self) -> u32
         ensures { result ≡ status_number self }
     {

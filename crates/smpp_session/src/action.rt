@@ -50,7 +50,7 @@ impl Action {
 
 /// Actions in order, seen by contracts as a list.
 ///
-/// A vector is made for the first. Most octets of a slow line give none, and none is let go without a call.
+/// A vector is made for the first. Most octets of a slow connection give none, and none is dropped without a call.
 #[derive(Debug, Drop)]
 pub struct Actions {
     alloc: Global,
@@ -68,13 +68,13 @@ impl Model for Actions {
     ghost view = { λ a. all_given (option_map (λ given. given.items) a.items) };
 }
 
-/// What a session gives for octets that came.
+/// What a session gives for received octets.
 #[derive(Debug, Drop)]
 pub struct Fed {
     /// What is to be done, in order.
     pub actions: Actions,
-    /// The session closed by a bad command_length while an account was bound, and no `Unbound` says so: the owner, who
-    /// has been told `Bound` and not `Unbound`, has one account less.
+    /// The session closed by a bad command_length while an account was bound, and no `Unbound` says so. The owner, who
+    /// got `Bound` and no `Unbound`, has one account less.
     pub bind_lost: bool,
 }
 

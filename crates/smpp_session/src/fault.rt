@@ -5,7 +5,7 @@ ghost use Rattle.smpp_session.specs.declared.fault.DeliverFault.TheVariants.{NoM
 use std::alloc::AllocError;
 use thiserror::Error;
 
-/// Why a deliver_sm did not go out.
+/// Why a deliver_sm was not sent.
 #[derive(Clone, Copy, Debug, PartialEq, Eq, Error)]
 pub enum DeliverFault {
     /// Ten deliver_sm wait for their answers.

@@ -49,8 +49,8 @@ pub fn nothing_after_closed()
     ensures { (session : SessionView) (before : List ActionOf) (calls : List CallOf) → session.conversation.state ≡ Closed → ((ran (session, before) calls).0.conversation.state ≡ Closed) × ((ran (session, before) calls).1 ≡ before) }
 {}
 
-/// Over any calls, an account is bound behind octets that are fed then exactly where the owner was told so: by the actions,
-/// and by the word of a lost bind.
+/// Over any calls the owner knows whether an account is bound after the octets that were fed. The actions and the mark
+/// of a lost bind say so exactly.
 pub fn owner_knows_whether_an_account_is_bound()
     ensures { (accounts : List AccountOf) (calls : List CallOf) (octets : List ℕ) → is_bound (fed (ran (opened accounts, []) calls).0 octets).0.conversation.state ≡ bound_as_told (ran (opened accounts, []) calls).0 octets }
 {}

@@ -1,10 +1,23 @@
 //! A session of an application with the centre (SMPP v3.4 2.2, 4).
 //!
-//! The octets that come are fed in pieces of any size, and the session gives actions: octets to send, and requests to
-//! pass up. They are those of the session table over the joined stream, however it was cut: each PDU is treated when
-//! its last octet came, by the state that the session then has. A call that is refused leaves the session as it was,
-//! a closed session gives nothing, and the call that closed it tells whether an account was bound until then.
-//! What is passed up reads as that request. At most ten deliver_sm wait for their answers, under different numbers.
+//! The session takes octets in pieces of any size, and gives actions: octets to send, and requests to pass up. They are
+//! those of the session table over the joined stream, however it was cut. Each PDU is treated at its last octet, by the
+//! state that the session then has. A refused call leaves the session unchanged, and a closed session gives nothing.
+//! The call that closed it says whether an account was bound until then. At most ten deliver_sm wait for their answers,
+//! under different numbers.
+//!
+//! - `account`: who may bind
+//! - `action`: what a session wants done
+//! - `answer`: what the owner answers to the requests that were passed up
+//! - `calling`: a list of calls
+//! - `conversation`: what a session remembers beside its accounts and untreated octets
+//! - `fault`: why a call is refused
+//! - `front`: what the untreated octets begin with
+//! - `laws`: laws of sessions
+//! - `numbers`: sequence numbers that wait for their answers
+//! - `session`: the session and its calls
+//! - `table`: what becomes of a command by the state (2.2, 2.3)
+//! - `turn`: what a session is and gives, PDU by PDU
 #![tactic(auto)]
 
 mod account;

@@ -24,7 +24,7 @@ use std::sync::Arc;
 
 /// A session, seen by contracts as its accounts, what it remembers and the octets that aren't treated yet.
 ///
-/// The octets that come stand in one buffer, from whose front whole PDUs are cut; they are read there, where they stand.
+/// Received octets are in one buffer, from whose front whole PDUs are cut. They are read in place.
 #[derive(Drop)]
 pub struct Session {
     alloc: Global,
@@ -49,10 +49,10 @@ impl fmt::Debug for Session {
     }
 }
 
-/// A deliver_sm that goes out.
+/// A deliver_sm to send.
 #[derive(Debug, Drop)]
 pub struct Outgoing {
-    /// By which its answer is told.
+    /// The number of its answer.
     pub sequence_number: u32,
     /// The octets to send.
     pub octets: Octets,
@@ -82,7 +82,7 @@ impl Session {
         self.conversation.state
     }
 
-    /// Takes octets that came, and answers what is to be done.
+    /// Takes received octets, and answers what is to be done.
     ///
     /// Without memory the octets are not taken.
     pub fn feed(&mut self, octets: &[u8]) -> Result<Fed, AllocError>
@@ -177,8 +177,8 @@ impl Session {
         Ok(Some(octets))
     }
 
-    /// A deliver_sm that goes out under the next sequence number and then waits for its answer. A number under which one
-    /// waits still is passed over.
+    /// A deliver_sm under the next sequence number, which then waits for its answer. A number under which one waits
+    /// still is skipped.
     ///
     /// It is refused where no receiver or transceiver is bound, and where ten wait already.
     pub fn deliver(&mut self, message: Message<'_>) -> Result<Outgoing, DeliverFault>
@@ -203,7 +203,7 @@ impl Session {
         })
     }
 
-    /// Ends the session, whose connection is gone, and tells whether an account was bound until now.
+    /// Ends the session, whose connection has ended, and answers whether an account was bound until now.
     pub fn close(&mut self) -> bool
         ensures bind_lost { result ≡ is_bound self.old.conversation.state }
         ensures closed { self.new ≡ after_close self.old }

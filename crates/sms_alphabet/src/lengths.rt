@@ -22,7 +22,7 @@ pub fn header_septets(octets: usize) -> usize
     (8 * octets + 6) / 7
 }
 
-/// How many fill bits stand between a header of so many octets and the first septet.
+/// How many fill bits are between a header of so many octets and the first septet.
 pub fn fill_bits(octets: usize) -> u8
     requires { octets ≤ 256 }
     ensures is { result ≡ fill_bits octets }

@@ -1,8 +1,17 @@
-//! The default alphabet packed into octets, UCS2, and which of them a data coding scheme names.
+//! The default alphabet packed into octets, UCS2, and which of them a data coding scheme names (3GPP TS 23.038).
 //!
-//! To the layers above this one promises: a text is written as the septets of its characters, or told by the place of its
-//! first character that has none; septets, packed octets and UCS2 are read as what was written, or refused for their first
-//! fault from the left (`laws`). How long user data may be, and how much of it a header takes, stands here for all.
+//! A text is written as the septets of its characters, or refused at the place of its first character that has none.
+//! Septets, packed octets and UCS2 are read as what was written, or refused for their first fault from the left
+//! (`laws`). `lengths` has how long user data may be, and how much of it a header takes, for all layers.
+//!
+//! - `laws`: laws of the alphabet, of packing and of UCS2
+//! - `lengths`: how long user data may be, and how much of it a header takes
+//! - `packing`: septets into octets
+//! - `reading`: septets into texts
+//! - `scheme`: data coding schemes
+//! - `spelling`: texts into septets
+//! - `ucs2`: texts into UCS2 and back
+//! - `unpacking`: octets into septets
 #![tactic(auto)]
 
 pub mod laws;

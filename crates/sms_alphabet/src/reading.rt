@@ -90,8 +90,8 @@ fn read(alloc: Global, septets: &[u8]) -> Result<String, ReadingError>
 
 /// The text that septets of the default alphabet, one an octet, are read as (3GPP TS 23.038 6.2.1).
 ///
-/// ESC before a septet that the extension table lacks reads as the character of the main table; ESC ESC, and ESC as
-/// the last septet, read as a space. Refuses an octet above 7F. Takes memory once.
+/// ESC before a septet that the extension table lacks reads as the character of the main table. ESC ESC, and ESC as the
+/// last septet, read as a space. Refuses an octet above 7F. Takes memory once.
 pub fn text_of(alloc: Global, septets: &[u8]) -> Result<String, ReadingError>
     ensures found { IfOk result (λ text. IsReading septets.now (chars (string_bytes text))) }
     ensures only { (text : List ℕ) → IsReading septets.now text → AnswersText (λ read. chars (string_bytes read)) result (Ok text) }

@@ -19,7 +19,7 @@ pub enum Ucs2Error {
     /// The octets end in the middle of a unit.
     #[error("an octet is left over")]
     OddLength,
-    /// Half a surrogate pair stands alone.
+    /// Half a surrogate pair is alone.
     #[error("a surrogate stands alone")]
     LoneSurrogate,
     /// There was no memory for the text.
@@ -89,7 +89,7 @@ fn push_octets(out: &mut Octets, character: char) -> Result<(), AllocError>
     push_unit(out, 0xDC00 + (code - 0x1_0000) % 0x400)
 }
 
-/// The octets of a text in UCS2, two or four a character, the high octet of a unit first (3GPP TS 23.038 6.2.3).
+/// The octets of a text in UCS2 (3GPP TS 23.038 6.2.3): two or four a character, the high octet of a unit first.
 ///
 /// Takes memory once.
 pub fn ucs2_of(alloc: Global, text: &str) -> Result<Octets, AllocError>

@@ -12,7 +12,7 @@ pub enum UnpackError {
     /// The octets end before the last septet does.
     #[error("the octets end too early")]
     TooShort,
-    /// A bit outside the septets is not zero, or an octet stands behind them.
+    /// A bit outside the septets is not zero, or an octet is behind them.
     #[error("a bit outside the septets is not zero")]
     SpareBits,
     /// There was no memory for the septets.

@@ -4,6 +4,7 @@ pub mod Century
 pub mod Cuts
 pub mod MessageIds
 pub mod CodeTables
+pub mod FaultSteps
 pub mod HandsetNumbers
 pub mod NameWalk
 pub mod NumberWalk

@@ -4,6 +4,7 @@ pub mod Among
 pub mod Alphabet
 pub mod Digits
 pub mod FaultCodes
+pub mod FaultReasons
 pub mod HandsetNumber
 pub mod Inside
 pub mod MessageId

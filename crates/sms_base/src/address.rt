@@ -27,9 +27,9 @@ impl Address {
 
     /// The address with that type of number, that numbering plan and that text.
     ///
-    /// A type above 6 or a plan above 15 is told first, then an empty text, then the first faulty character from the
-    /// left; the 21st digit of a number, or the character of a name that passes the 11th septet, is too long whatever
-    /// it is.
+    /// Its first fault is a type above 6 or a plan above 15. Then it is an empty text, then the first faulty character
+    /// from the left. The 21st digit of a number, or the character of a name that exceeds the 11th septet, is too long,
+    /// whatever it is.
     pub fn new(ton: u8, npi: u8, text: &str) -> Result<Address, AddressError>
         ensures found { IfOk result (λ address. IsAddressOf ton npi (chars text.now) address) }
         ensures only { (address : AddressOf) → IsAddressOf ton npi (chars text.now) address → result ≡ Ok address }

@@ -7,8 +7,7 @@ ghost use Rattle.sms_base.specs.declared.alphabet.Code.{Code as CodeOf};
 /// The septet that leads to the extension table.
 pub const ESCAPE: u8 = 0x1B;
 
-/// The characters of the septets 00 to 7F in order, a column of the standard's table a line. 1B, ESC, stands for no
-/// character.
+/// The characters of the septets 00 to 7F in order, a column of the standard's table a line. 1B, ESC, is no character.
 pub static MAIN_TABLE: [char; 128] = [
     '@', '£', '$', '¥', 'è', 'é', 'ù', 'ì', 'ò', 'Ç', '\n', 'Ø', 'ø', '\r', 'Å', 'å', // 00 to 0F
     'Δ', '_', 'Φ', 'Γ', 'Λ', 'Ω', 'Π', 'Ψ', 'Σ', 'Θ', 'Ξ', '\u{1B}', 'Æ', 'æ', 'ß', 'É', // 10 to 1F
@@ -20,7 +19,7 @@ pub static MAIN_TABLE: [char; 128] = [
     'p', 'q', 'r', 's', 't', 'u', 'v', 'w', 'x', 'y', 'z', 'ä', 'ö', 'ñ', 'ü', 'à', // 70 to 7F
 ];
 
-/// The septets that stand for a character behind ESC, with their characters (6.2.1.1).
+/// The septets that spell a character behind ESC, with their characters (6.2.1.1).
 pub static EXTENSION_TABLE: [(u8, char); 10] = [
     (0x0A, '\u{0C}'),
     (0x14, '^'),
@@ -46,8 +45,8 @@ static AFTER_ESCAPE: [char; 128] = [
     'p', 'q', 'r', 's', 't', 'u', 'v', 'w', 'x', 'y', 'z', 'ä', 'ö', 'ñ', 'ü', 'à', // 70 to 7F
 ];
 
-/// How the characters 00 to FF are written: a septet of the main table, 80 and a septet of the extension table, or FF
-/// where there is no code.
+/// How the characters 00 to FF are written: a septet of the main table, or 80 and a septet of the extension table. FF
+/// means that there is no code.
 static LATIN_CODES: [u8; 256] = [
     0xFF, 0xFF, 0xFF, 0xFF, 0xFF, 0xFF, 0xFF, 0xFF, 0xFF, 0xFF, 0x0A, 0xFF, 0x8A, 0x0D, 0xFF, 0xFF, // 00 to 0F
     0xFF, 0xFF, 0xFF, 0xFF, 0xFF, 0xFF, 0xFF, 0xFF, 0xFF, 0xFF, 0xFF, 0xFF, 0xFF, 0xFF, 0xFF, 0xFF, // 10 to 1F
@@ -177,7 +176,7 @@ pub fn character_of(septet: u8) -> char
     MAIN_TABLE[usize::from(septet)]
 }
 
-/// The character that ESC and a septet are read as: that of the extension table, else a space for a second ESC,
+/// The character that ESC and a septet are read as. It is that of the extension table, else a space for a second ESC,
 /// else the character of the main table.
 #[tactic(auto, using(crate::proofs::CodeTables::escaped_is))]
 pub fn character_after_escape(septet: u8) -> char

@@ -1,13 +1,34 @@
-//! The words that every layer above speaks in, none of which takes memory but `Octets` and `Listed`.
+//! The values that every layer above shares.
 //!
-//! Moments and addresses equal their spelling: a time stamp is read as the moment that its clock shows
-//! (3GPP TS 23.040 9.2.3.11), a moment is written as one time stamp, and an address is the type of number, the
-//! numbering plan and the text that it was made of, or the first fault of that text from the left.
-//! `Octets` and `OctetView` are octets as contracts see them, a list; `Cursor` reads them from left to right,
-//! with the words of `specs/Reading.antt`, which the readers of all formats share.
-//! The default alphabet's two tables (3GPP TS 23.038 6.2.1) stand here, since a name is measured in septets.
-//! `MessageId` and `Holder` name messages and those for whom a frame is made, `Carried` what a frame carries,
-//! `Originator` and `Wish` who submitted a message and of which ends he is told.
+//! A moment and an address equal their spelling. A time stamp is read as the moment that its clock shows (3GPP TS
+//! 23.040 9.2.3.11). A moment is written as one time stamp. `Address::new` gives the address of a text, or the text's
+//! first fault from the left. Contracts see `Octets` and `OctetView` as a list of octets. `Cursor` reads octets from
+//! left to right, in the words of `specs/Reading.antt`, which all formats share. Only `Octets` and `Listed` take
+//! memory.
+//!
+//! - `address`: addresses: type of number, numbering plan and text
+//! - `address_error`: why a text is no address
+//! - `address_text`: the text of an address, judged character by character
+//! - `alphabet`: the two tables of the default alphabet (3GPP TS 23.038 6.2.1)
+//! - `carried`: what a frame carries: its kind, its reference and its holder
+//! - `clock`: the civil calendar as seconds
+//! - `cursor`: octets that are read from left to right
+//! - `digits`: up to 20 characters of an address
+//! - `final_state`: how a message ends
+//! - `holder`: for whom a reference was given
+//! - `laws`: laws of time stamps and identities
+//! - `lending`: a large value that its one owner lends
+//! - `listed`: lists that contracts see by their items
+//! - `message_id`: the number of a message, and its text of ten digits
+//! - `moment`: seconds, and time stamps both ways
+//! - `octets`: owned and borrowed octets
+//! - `originator`: who submitted a message
+//! - `priority`: how urgent a message is, 0 to 3
+//! - `reference`: the reference of a transfer, 0 to 255 (3GPP TS 24.011 8.2.3)
+//! - `semi_octet`: digits as semi-octets (3GPP TS 23.040 9.1.2.3)
+//! - `smpp_time`: the times of SMPP (SMPP v3.4 7.1.1)
+//! - `type_of_number`: the type of number of an address (3GPP TS 23.040 9.1.2.5)
+//! - `wish`: at which ends an originator wants a report
 #![tactic(auto)]
 
 mod address;

@@ -44,9 +44,9 @@ struct Numbers {
 impl Moment {
     /// The moment of a time of SMPP (SMPP v3.4 7.1.1), the sixteen characters `YYMMDDhhmmsstnnp`.
     ///
-    /// With `+` or `-` it is a clock's local time of the years 2000 to 2099, `nn` (00 to 48) quarter hours ahead of or
-    /// behind UTC. With `R` it is that length after `now`, a year as 365 days and a month as 30, but never past the
-    /// last moment. The tenth `t` isn't used.
+    /// With `+` or `-` it is a clock's local time of the years 2000 to 2099. The clock is `nn` (00 to 48) quarter hours
+    /// ahead of or behind UTC. With `R` it is that length after `now`, a year as 365 days and a month as 30, but never
+    /// past the last moment. The tenth `t` isn't used.
     pub fn from_smpp(octets: &[u8], now: Moment) -> Result<Moment, SmppTimeError>
         // What is read is a time of that moment.
         ensures found { IfOk result (λ m. IsSmppTime octets.now now m) }

@@ -1,6 +1,6 @@
-//! What an originator wants to be told.
+//! At which ends an originator wants a report.
 
-/// Of which ends of a message its originator is told.
+/// At which ends of a message its originator wants a report.
 #[derive(Clone, Copy, Debug, PartialEq, Eq)]
 pub enum Wish {
     Nothing,

@@ -10,7 +10,7 @@ use Rattle.sms_centre_spec.specs.SoundCore.{IsEvent, IsSoundCore}
 use Rattle.sms_centre_spec.specs.SoundRows.{IsSetup, IsSound}
 use Rattle.sms_centre_spec.proofs.EventLaws.{stays_sound}
 use Rattle.sms_centre_spec.proofs.Resting.{base_of, happened_stands}
-use Rattle.sms_centre_offers.specs.Stored.{CanOffer, Stores}
+use Rattle.sms_centre_events.specs.offering.Stored.{CanOffer, Stores}
 use Rattle.sms_centre.specs.state.Standing.{IsStanding, StandingOf}
 use Rattle.sms_tpdu.specs.AddressGrammar.{relay_address}
 use Rattle.sms_centre.specs.Acting.{acted}

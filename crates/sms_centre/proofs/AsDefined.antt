@@ -8,8 +8,8 @@ use Rattle.sms_centre_spec.specs.declared.plan_error.PlanError.TheVariants.{NoBo
 use Rattle.sms_centre_spec.specs.CentreEvent.{happened}
 use Rattle.sms_centre_spec.specs.Draft.{Core}
 use Rattle.sms_centre.specs.Planning.{PlannedOf, PlansEvent}
-use Rattle.sms_centre_offers.specs.Going.{Goes, NoneRefused, answers_but}
-use Rattle.sms_centre_offers.proofs.Planned.{answered_is, refused_is}
+use Rattle.sms_centre_events.specs.offering.Going.{Goes, NoneRefused, answers_but}
+use Rattle.sms_centre_events.proofs.offering.Planned.{answered_is, refused_is}
 use Rattle.sms_centre.specs.plans.Planned.{IsPlanned}
 
 none_then : (before refused : Refusals) → before.read ≡ None → NoneRefused before refused → refused.read ≡ None

@@ -6,8 +6,8 @@ use Rattle.sms_centre_spec.specs.declared.plan_error.PlanError.TheVariants.{NoBo
 use Rattle.sms_centre.specs.declared.finishing.Stop.{Stop}
 use Rattle.sms_centre.specs.declared.finishing.Stop.TheVariants.{NoBody as StopNoBody, NoMemory as StopNoMemory, Congested}
 use Rattle.sms_centre.specs.Stopping.{Stops, stop_of}
-use Rattle.sms_centre_offers.specs.Going.{Goes, NoneRefused}
-use Rattle.sms_centre_offers.proofs.OneOffer.{none_since, read_since}
+use Rattle.sms_centre_events.specs.offering.Going.{Goes, NoneRefused}
+use Rattle.sms_centre_events.proofs.offering.OneOffer.{none_since, read_since}
 
 pub goes_stops : (ok : Type 0) (none : ℕ → Type 0) (keys : List ℕ) (held closed : Type 0) (before refused : Refusals) (e : PlanError) → Goes (λ (u : Unit {0}). ok) keys held closed before refused (Err e)
     → Stops ok none keys held closed before refused (Err (stop_of e))

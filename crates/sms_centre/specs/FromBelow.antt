@@ -1,6 +1,6 @@
 -- What crates above name of those below: what a centre keeps, what it plans, what it tells of its rows. They find it here, so that of a
 -- centre they need to list this crate alone.
-pub use Rattle.sms_centre_offers.specs.Going.{Goes, NoneRefused}
+pub use Rattle.sms_centre_events.specs.offering.Going.{Goes, NoneRefused}
 pub use Rattle.sms_centre.specs.plans.Planned.{IsPlanned, IsTold}
 pub use Rattle.sms_centre.specs.declared.plans.planned.Planned.{Planned}
 pub use Rattle.sms_centre.specs.declared.plans.planned.Told.{Told}

@@ -7,7 +7,7 @@ use Rattle.sms_centre_spec.specs.declared.plan_error.PlanError.{PlanError}
 use Rattle.sms_centre_spec.specs.declared.plan_error.PlanError.TheVariants.{NoBody as NoBodyOf, NoMemory as NoMemoryOf}
 use Rattle.sms_centre.specs.declared.finishing.Stop.{Stop}
 use Rattle.sms_centre.specs.declared.finishing.Stop.TheVariants.{NoBody, NoMemory, Congested}
-use Rattle.sms_centre_offers.specs.Going.{NoneRefused}
+use Rattle.sms_centre_events.specs.offering.Going.{NoneRefused}
 
 abbrev pub stop_of : PlanError → Stop
 stop_of NoBodyOf = NoBody

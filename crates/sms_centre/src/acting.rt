@@ -20,15 +20,16 @@ use sms_centre_events::{
     Asked, Came, bind, cancel, frame_refused, frame_taken, query, submit, submit_refused, tick,
 };
 use sms_centre_spec::CentreEvent;
+use sms_centre_transfers::lower;
 use std::alloc::AllocError;
 
-/// What came of an event.
+/// How an event ended.
 #[derive(Clone, Copy, Debug)]
 pub enum Acted {
-    /// All that comes of it.
+    /// It is done, with all that it leads to.
     Done,
-    /// Numbers or references are free for not all of a submission, of a handset's under that reference: the event is to begin anew,
-    /// and refuses it.
+    /// Numbers or references are free for not all of a submission; a handset's is under that reference. The event is to
+    /// begin anew, and refuses it.
     Congested(u8),
 }
 
@@ -162,7 +163,7 @@ fn lowered(working: &mut Working<'_>, handset: Digits) -> Result<Acted, AllocErr
     requires number { IsNumber handset }
     ensures { (c : Core) → Shows (draft_of c) working.old → IfOk result (Acts (LinkDown handset) c working.new) }
 {
-    working.lower(handset)?;
+    lower(working, handset)?;
     Ok(Acted::Done)
 }
 
@@ -262,7 +263,8 @@ fn are_octets(octets: &[u8])
     ensures { AreOctets octets.now }
 {}
 
-/// An event that names a handset by its number: its octets are octets, and its moment is one that time stamps can tell.
+/// An event that names a handset by its number. Its octets are octets, and its moment is one that time stamps can
+/// write.
 pub(crate) fn is_event(event: &CentreEvent<'_>)
     requires { HasNumber event.now }
     ensures { IsEvent event.now }

@@ -13,7 +13,7 @@ use crate::plans::Told;
 use crate::state::Standing;
 use sms_centre_reports::awaited::laws::every_event_keeps_what_is_awaited;
 
-/// Puts the plan into what the centre keeps, without taking memory, and gives what is told.
+/// Puts the plan into what the centre keeps, without taking memory, and gives what leaves.
 pub(crate) fn put_in(standing: &mut Standing, planned: Planned) -> Told
     requires { Fits standing.old planned }
     ensures told { result ≡ planned.plan.told }

@@ -10,7 +10,7 @@ ghost use Rattle.sms_centre_spec.specs.SoundRows.{IsSetup};
 ghost use Rattle.sms_centre.specs.Planning.{Fits, PlansEvent};
 ghost use Rattle.sms_centre.specs.Stored.{StoresRows};
 ghost use Rattle.sms_centre_rows.specs.messages.Messages.{message_at};
-ghost use Rattle.sms_centre_offers.specs.Going.{Goes, answers_but};
+ghost use Rattle.sms_centre_events.specs.offering.Going.{Goes, answers_but};
 ghost use Rattle.sms_centre.specs.plans.Planned.{IsPlanned};
 ghost use Rattle.sms_centre_reports.specs.report_log.Telling.{message_lines, receipt_lines};
 ghost use Rattle.sms_centre.specs.state.Recovering.{AreNew, RefusesRows};
@@ -57,9 +57,9 @@ impl Model for Centre {
 }
 
 impl Centre {
-    /// The centre that starts again with these rows, if it can: `BadRows` only where they are not sound, and no centre of such rows;
-    /// in a time that grows as the rows do, up to a logarithm. Links to these handsets come up at its first tick; these sessions are
-    /// bound, in which nothing was sent yet.
+    /// The centre that starts again with these rows, if it can: `BadRows` only where they are not sound, and no centre
+    /// of such rows. Its time grows with the rows, up to a logarithm. Links to these handsets are up at its first tick.
+    /// These sessions are bound, in which nothing was sent yet.
     pub fn recover(
         alloc: Global,
         rows: Rows,
@@ -76,7 +76,7 @@ impl Centre {
         Ok(Centre::of(alloc, standing)?)
     }
 
-    /// The same, where links to these handsets are up at once.
+    /// The centre that starts with these rows, if it can, where links to these handsets are up at once.
     pub fn start(
         alloc: Global,
         rows: Rows,
@@ -116,8 +116,9 @@ impl Centre {
         }
     }
 
-    /// This centre starts again on the rows that it has committed, as `recover` would make it of them anew: `moment` is the greatest
-    /// that they have seen. It reads no rows, and costs what handsets and what waits for them do. Where it can't, it stays as it was.
+    /// This centre starts again on the rows that it has committed, as `recover` would make it of them anew. `moment` is
+    /// the greatest that they have seen. It reads no rows, and costs what handsets and what waits for them do. Where it
+    /// can't, it stays unchanged.
     ///
     /// # Errors
     /// A growth was refused.
@@ -154,10 +155,10 @@ impl Centre {
         }
     }
 
-    /// What the event leads to, with a store that gives the TPDUs of the rows as they stand. Nothing has changed yet.
+    /// What the event leads to, with a store that gives the TPDUs of the present rows. Nothing has changed yet.
     ///
-    /// `NoBody` where the store refused to read a body of those that the event reads; `NoMemory` where a growth was refused, and the
-    /// store refused nothing. A handset that the event names has a number.
+    /// `NoBody`: the store refused to read a body that the event reads. `NoMemory`: a growth was refused, and the store
+    /// refused nothing. A handset that the event names has a number.
     pub fn plan<B: BodyKeep>(
         &self,
         event: &CentreEvent<'_>,
@@ -183,7 +184,7 @@ impl Centre {
         )
     }
 
-    /// Puts the plan of an event into the centre, without taking memory, and gives what is told.
+    /// Puts the plan of an event into the centre, without taking memory, and gives what leaves.
     pub fn adopt(&mut self, planned: Planned) -> Told
         requires { Fits self.old planned }
         ensures told { result ≡ planned.plan.told }

@@ -8,8 +8,8 @@ ghost use Rattle.sms_centre.specs.Acting.{Acts, acted, congested};
 ghost use Rattle.sms_centre.specs.Stopping.{Stops, stop_of as stop_of_error};
 ghost use Rattle.sms_centre.specs.Planning.{Fits};
 ghost use Rattle.sms_rows.specs.declared.keep.refusals.Refusals.{Refusals};
-ghost use Rattle.sms_centre_offers.specs.Going.{Goes, UnlessMemory};
-ghost use Rattle.sms_centre_offers.specs.Stored.{CanOffer};
+ghost use Rattle.sms_centre_events.specs.offering.Going.{Goes, UnlessMemory};
+ghost use Rattle.sms_centre_events.specs.offering.Stored.{CanOffer};
 ghost use Rattle.sms_centre.specs.plans.Planned.{IsPlanned};
 ghost use Rattle.sms_centre.specs.state.Standing.{IsStanding};
 ghost use Rattle.sms_centre_draft.specs.Working.{Shows};
@@ -19,7 +19,7 @@ use crate::planned::Planned;
 use crate::plans::{Planned as Plan, settle};
 use crate::state::Standing;
 use sms_centre_draft::Working;
-use sms_centre_offers::follow;
+use sms_centre_events::offering::follow;
 use sms_centre_reports::report_log::SpareRegister;
 use sms_centre_spec::{CentreEvent, PlanError};
 use sms_rows::keep::BodyKeep;
@@ -69,7 +69,7 @@ fn plan(alloc: Global, standing: &Standing, working: Working<'_>) -> Result<Plan
 
 // ---- what the event comes to
 
-/// Why an event goes no further.
+/// Why an event ends early.
 #[derive(Clone, Copy, Debug)]
 pub enum Stop {
     /// The store refused to read a body.

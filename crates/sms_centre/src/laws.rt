@@ -36,11 +36,11 @@ pub fn each_event_is_of_a_kind()
     ensures tick { (now : ℕ) (c : Core) → happened (Tick now) c ≡ ticked now c }
 {}
 
-/// What every plan of a sound centre is good for. The rows with its changes are sound, and no message, part or report of the rows
-/// before is lost in them, no final state is taken back, and each part and report keeps its reference and its octets. The number in
-/// an answer to a submit_sm is that of a message in them, each receipt that goes out is one of theirs, and each frame was made for a
-/// part of one of the handset's messages, or for the status report of one of its own, under the reference that its row has, or for an
-/// answer, or for nothing.
+/// What every plan of a sound centre guarantees. The rows with its changes are sound. No message, part or report of the
+/// rows before is lost in them, no final state is taken back, and each part and report keeps its reference and its
+/// octets. The number in an answer to a submit_sm is that of a message in them, and each receipt that is sent is one of
+/// theirs. Each frame was made for a part of one of the handset's messages, the status report of one of its own, an
+/// answer, or nothing. For a part or report its reference is the row's.
 pub fn what_a_plan_is_good_for()
     ensures sound { (event : CentreEvent) (c : Core) (p : Planned) → IsPlanned (happened event c) p → IsSoundCore c → IsEvent event → IsSound (rows_after p.changes c.rows) }
     ensures kept { (event : CentreEvent) (c : Core) (p : Planned) → IsPlanned (happened event c) p → IsSoundCore c → IsEvent event → Keeps c.rows (rows_after p.changes c.rows) }

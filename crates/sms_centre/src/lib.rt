@@ -1,12 +1,21 @@
-//! The centre core (3GPP TS 23.040 3 and 9.2, 3GPP TS 24.011 6, SMPP v3.4 4): what a short message service centre does with what
-//! applications ask, with frames from handsets, with links that come and go, and with time.
+//! The centre core (3GPP TS 23.040 3 and 9.2, 3GPP TS 24.011 6, SMPP v3.4 4).
 //!
-//! `Centre` is a machine over rows, which it judges when it starts. `plan` takes an event and hands out what it leads to; nothing has
-//! changed yet. Its caller commits the changes and calls `adopt`, which can't fail and gives what is told: frames to handsets, the
-//! answer to an application, receipts. What an event leads to is said by the definition (`sms_centre_spec`): `plan` is exactly that,
-//! and a sound centre is sound after each event and starts again from the rows that were committed. What it keeps between events is
-//! `sms_centre::state`'s; its events' stages are those of `sms_centre_draft` and the crates above it. `with_centre` owns a centre and lends it, so
-//! that no crate above proves how one is let go.
+//! `Centre` is a machine over rows, which it judges when it starts. An event is a request of an application, a frame of
+//! a handset, a link that is up or down, or a tick. `plan` takes an event and gives what it leads to; nothing has
+//! changed yet. Its caller commits the changes and calls `adopt`, which can't fail and gives what leaves: frames to
+//! handsets, the answer to an application, receipts. The plan is exactly that of the definition (`sms_centre_spec`). A
+//! sound centre is sound after each event, and starts again from the rows that were committed. `with_centre` owns a
+//! centre and lends it, so that no crate above proves how one is dropped.
+//!
+//! - `acting`: what an event does by itself
+//! - `adopting`: a plan, put in
+//! - `centre`: the centre and its calls
+//! - `finishing`: what follows an event, and its plan
+//! - `laws`: laws of the centre's events
+//! - `lending`: a centre that is lent
+//! - `planned`: a plan, as callers see it
+//! - `plans`: what an event leads to, ready made
+//! - `state`: the centre between events
 #![tactic(auto)]
 
 mod acting;

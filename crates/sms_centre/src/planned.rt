@@ -30,7 +30,7 @@ impl Planned {
         &self.plan.changes
     }
 
-    /// What goes out once it is.
+    /// What leaves once it is committed.
     pub fn told(&self) -> &Told
         ensures { result.now ≡ self.now.plan.told }
     {

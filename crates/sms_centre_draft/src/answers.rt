@@ -103,7 +103,7 @@ impl<'a> Working<'a> {
         Ok(())
     }
 
-    /// Takes a frame of the handset, whatever its octets: gives what goes up.
+    /// Takes a frame of the handset, whatever its octets, and gives what the link passes up.
     pub fn take(&mut self, handset: Digits, frame: &[u8]) -> Result<Option<Upward>, AllocError>
         requires digits { AllDigits handset }
         ensures up { (d : Draft) → Shows d self.old → IfOk result (λ up. up ≡ (taken frame.now (line_of handset d.air.lines).link).out.up) }
@@ -181,7 +181,7 @@ impl<'a> Working<'a> {
         self.reply(handset, Kind::Error, reference, tag, unit.as_slice())
     }
 
-    /// Where its memory comes from.
+    /// The source of its memory.
     pub fn alloc(&self) -> Global {
         self.alloc
     }
@@ -195,7 +195,7 @@ impl<'a> Working<'a> {
         self.reply(handset, Kind::Ack, reference, tag, unit.as_slice())
     }
 
-    /// RP-SMMA came: the handset has memory.
+    /// Takes RP-SMMA: the handset has memory.
     pub fn memory_came(
         &mut self,
         handset: Digits,

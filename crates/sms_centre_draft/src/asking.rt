@@ -1,4 +1,4 @@
-//! What an event asks that goes over many handsets or reports, and the receipts that it sends.
+//! Questions of an event over many handsets or reports, and the receipts that it sends.
 ghost use Rattle.std.specs.Prelude.{◌≡◌, IfOk, OnOk};
 ghost use Rattle.sms_centre_reports.specs.open_reports.Entries.{status_key, status_until};
 ghost use Rattle.sms_rows.specs.index.First.{first_such, is_past_from};
@@ -13,7 +13,7 @@ use sms_centre_reports::open_reports::StatusEntry;
 use std::alloc::AllocError;
 
 impl<'a> Working<'a> {
-    /// The handsets that such a walk concerns as the draft stands, in the order in which it goes over them.
+    /// The handsets that such a walk concerns in the present draft, in the order in which it walks over them.
     pub fn stops(&self, purpose: &Purpose) -> Result<Vec<Stop>, AllocError>
         ensures { (d : Draft) → Shows d self.now → IfOk result (λ stops. stops.items ≡ found purpose.now (handsets_in d.store) d.air.lines (all_waiting d.store)) }
     {
@@ -28,7 +28,8 @@ impl<'a> Working<'a> {
         self.reports.first_old(first, self.moment)
     }
 
-    /// Receipts that are due go, the oldest first, each in the first session that receives for its account, if that has room.
+    /// Sends the receipts that are due, the oldest first, each in the first session that receives for its account, if
+    /// that has room.
     pub fn send(&mut self) -> Result<(), AllocError>
         ensures { (d : Draft) → Shows d self.old → OnOk result (Shows (send_of d) self.new) }
     {

@@ -1,4 +1,4 @@
-//! How a message ends, and who is told.
+//! How a message ends, and its report.
 ghost use Rattle.std.specs.Prelude.{◌≡◌, ℕ, Some, true, false, IfOk, OnOk};
 ghost use Rattle.sms_base.specs.declared.originator.Originator.TheVariants.{Application, Handset};
 ghost use Rattle.sms_base.specs.declared.final_state.FinalState.{FinalState as FinalStateOf};
@@ -168,7 +168,7 @@ impl<'a> Working<'a> {
         Ok(())
     }
 
-    /// The message, which is pending, ends so now, and who asked for it is told at once.
+    /// The message, which is pending, ends so now, and its report is made at once, where one was asked for.
     pub fn end(&mut self, state: FinalState, message: &MessageRow) -> Result<(), AllocError>
         ensures { (d : Draft) → Shows d self.old → message_at message.now.id (messages_in d.store) ≡ Some message.now → is_pending message.now ≡ true
             → OnOk result (Shows (in_store (end_of state message.now d.store) d) self.new) }

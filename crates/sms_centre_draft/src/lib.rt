@@ -1,10 +1,25 @@
-//! The centre in the middle of an event.
+//! The centre within an event.
 //!
-//! `Working` holds what the event finds and changes: messages, shelves, reports and sessions in the middle of it, its moment, and
-//! the answer so far. Each call is a stage of the centre's definition (`sms_centre_spec`): whatever draft of the definition the
-//! centre shows before it (`specs/Working.antt`), it shows what the stage makes of that draft after it.
+//! `Working` has what the event finds and changes: messages, queues, reports and sessions, the moment, and the answer
+//! so far. Each call is a stage of the centre's definition (`sms_centre_spec`). Whatever draft of the definition the
+//! centre represents before it (`specs/Working.antt`), it represents the stage of that draft after it. A call that
+//! finds no memory leaves no stated state: the event is given up whole.
 //!
-//! A call that finds no memory leaves no stated state: an event that finds none is given up whole.
+//! - `aging`: messages that expire, and status reports that are dropped
+//! - `answers`: answers to units of handsets (3GPP TS 24.011 6)
+//! - `asking`: questions over many handsets or reports, and receipts that are sent
+//! - `ends`: how a message ends, and its report
+//! - `lines`: links that are lost, and timers that fire
+//! - `moves`: one change of what the centre keeps, each
+//! - `numbers`: the numbers of handsets
+//! - `receiving`: everything that waits for a handset is due now (3GPP TS 24.011 7.3.2)
+//! - `rows`: rows that change
+//! - `sessions`: what sessions do with receipts
+//! - `shelves`: moves of the queues by the numbers of handsets
+//! - `submitting`: a submission becomes a message with all its parts, or nothing
+//! - `transfers`: how a transfer to a handset ends (3GPP TS 24.011 8.2.5.4)
+//! - `walks`: laws: walks over everything are walks over what is found
+//! - `working`: the draft itself
 #![tactic(auto)]
 
 mod aging;
@@ -24,4 +39,5 @@ pub mod walks;
 mod working;
 
 pub use numbers::are_digits;
+pub use transfers::{finished, tried};
 pub use working::Working;

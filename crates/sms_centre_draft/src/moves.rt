@@ -35,7 +35,7 @@ impl<'a> Working<'a> {
     }
 
     /// The part of that message is done with: it waits no more.
-    pub(crate) fn part_done(
+    pub fn part_done(
         &mut self,
         entry: &PartEntry,
         message: &MessageRow,
@@ -51,7 +51,7 @@ impl<'a> Working<'a> {
     }
 
     /// The part of that message, which is pending, waits until another moment.
-    pub(crate) fn part_off(
+    pub fn part_off(
         &mut self,
         entry: &PartEntry,
         message: &MessageRow,

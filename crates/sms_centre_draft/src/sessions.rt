@@ -10,8 +10,8 @@ use sms_base::MessageId;
 use std::alloc::AllocError;
 
 impl<'a> Working<'a> {
-    /// The receipt of the message was accepted in the session, or refused, and goes again after a minute. What wasn't sent in the
-    /// session isn't answered there.
+    /// The receipt of the message was accepted in the session, or was refused and is sent again after a minute. What
+    /// wasn't sent in the session isn't answered there.
     pub fn deliver_answered(
         &mut self,
         session: u32,
@@ -26,7 +26,8 @@ impl<'a> Working<'a> {
         Ok(())
     }
 
-    /// The session ends, if it is bound: the receipts that were sent in it and not answered go again after a minute.
+    /// The session ends, if it is bound: the receipts that were sent in it and not answered are sent again after a
+    /// minute.
     pub fn unbind(&mut self, session: u32) -> Result<(), AllocError>
         ensures { (d : Draft) → Shows d self.old → AreAwaited (messages_in d.store) (reports_in d.store) d.desk.sessions
             → OnOk result (Shows (unbind_of session d) self.new) }

@@ -1,4 +1,4 @@
-//! Moves of shelves by the numbers of handsets: what is no number has no shelf.
+//! Moves of the queues by the numbers of handsets: what is no number has no queue.
 ghost use Rattle.std.specs.Prelude.{◌≡◌, ℕ, List, Some, IfOk, OnOk};
 ghost use Rattle.sms_rows.specs.table.Keys.{pair_key};
 ghost use Rattle.sms_rows.specs.table.Table.{put as put_in, row_at, without};
@@ -46,7 +46,7 @@ pub(crate) fn put(
     shelves.put(number, load)
 }
 
-/// That one waits no more.
+/// Removes what waits under that message and number.
 pub(crate) fn remove(
     shelves: &mut PendingShelves,
     number: Digits,

@@ -158,8 +158,8 @@ impl<'a> Working<'a> {
         Ok(true)
     }
 
-    /// The message of the submission under that number, with these parts; false where references are free for not all of them,
-    /// and then the event is to begin anew.
+    /// The message of the submission under that number, with these parts. False where references are free for not all
+    /// of them; then the event is to begin anew.
     pub fn accept_under(
         &mut self,
         id: MessageId,

@@ -1,61 +1,27 @@
-//! How a transfer to a handset ends (3GPP TS 24.011 8.2.5.4), and what comes of it.
-ghost use Rattle.std.specs.Prelude.{◌≡◌, ℕ, Some, true, false, IfOk, OnOk};
-ghost use Rattle.sms_centre_rows.specs.messages.Messages.{all_done as all_done_of, is_pending, message_at, part_at};
-ghost use Rattle.sms_centre_rows.specs.messages.PartEntries.{part_entry};
-ghost use Rattle.sms_centre_rows.specs.declared.messages.part.PartRow.{PartRow as PartRowOf};
+//! How a transfer to a handset ends (3GPP TS 24.011 8.2.5.4), and what the centre makes of it.
+ghost use Rattle.std.specs.Prelude.{◌≡◌, ℕ, Some, true, IfOk, OnOk};
+ghost use Rattle.sms_centre_rows.specs.messages.Messages.{all_done as all_done_of, message_at};
 ghost use Rattle.sms_centre_rows.specs.waiting.Lines.{filled, line_of, put_line};
 ghost use Rattle.sms_centre_rows.specs.waiting.Trying.{finished as finished_of, one_more as one_more_of, tried as tried_of};
-ghost use Rattle.sms_base.specs.declared.holder.Holder.TheVariants.{Part, Report};
 ghost use Rattle.sms_rows.specs.table.Keys.{AllDigits};
 ghost use Rattle.sms_centre_reports.specs.open_reports.Entries.{open_entry, report_entry};
 ghost use Rattle.sms_rows.specs.index.Picked.{pick_of};
 ghost use Rattle.sms_centre_rows.specs.reports.Reports.{is_open_status, report_of};
 ghost use Rattle.sms_centre_rows.specs.declared.reports.report.ReportRow.{ReportRow as ReportRowOf};
-ghost use Rattle.sms_centre_spec.specs.Draft.{Draft, in_store, messages_in, on_air, parts_in, reports_in, with_part_at};
+ghost use Rattle.sms_centre_spec.specs.Draft.{Draft, in_store, messages_in, on_air, parts_in, reports_in};
 ghost use Rattle.sms_centre_spec.specs.declared.verdict.Verdict.TheVariants.{Settled};
-ghost use Rattle.sms_centre_spec.specs.Transfers.{cause_verdict as cause_verdict_of, complete as complete_of, conclude as conclude_of, ended_with as ended_with_of, is_temporary as is_temporary_of, line_ended as line_ended_of, part_ended as part_ended_of, report_ended as report_ended_of, verdict_of as verdict_of_ending, verdict_on as verdict_on_ending};
-ghost use Rattle.sms_centre_draft.specs.Transfers.{IsOpenPart, IsOpenStatus, IsTelling, IsWaiting, waiting_part as waiting_part_of, waiting_status as waiting_status_of};
+ghost use Rattle.sms_centre_spec.specs.Transfers.{report_ended as report_ended_of};
+ghost use Rattle.sms_centre_draft.specs.Transfers.{IsOpenPart, IsOpenStatus, waiting_part as waiting_part_of, waiting_status as waiting_status_of};
 ghost use Rattle.sms_centre_draft.specs.Working.{Shows};
 
 use crate::working::Working;
-use sms_base::{Carried, Digits, FinalState, Holder, MessageId, Moment};
+use sms_base::{Digits, MessageId, Moment};
 use sms_centre_reports::open_reports::ReportEntry;
 use sms_centre_rows::messages::{MessageRow, PartEntry};
 use sms_centre_rows::waiting::Progress;
 use sms_centre_spec::Verdict;
-use sms_link::Ending;
 use sms_schedule::retry_after;
 use std::alloc::AllocError;
-
-// Destination out of order, network out of order, temporary failure, congestion, resources unavailable.
-fn is_temporary(cause: u8) -> bool
-    ensures { result ≡ is_temporary_of cause }
-{
-    cause == 27 || cause == 38 || cause == 41 || cause == 42 || cause == 47
-}
-
-// 22: memory capacity exceeded.
-fn cause_verdict(cause: u8) -> Verdict
-    ensures { result ≡ cause_verdict_of cause }
-{
-    if cause == 22 {
-        return Verdict::HandsetFull;
-    }
-    if is_temporary(cause) {
-        return Verdict::Again;
-    }
-    Verdict::Refused
-}
-
-fn verdict_of(ending: &Ending) -> Verdict
-    ensures { result ≡ verdict_of_ending ending.now }
-{
-    match ending {
-        Ending::Acknowledged => Verdict::Settled,
-        Ending::Refused { cause, .. } => cause_verdict(cause.number()),
-        Ending::Wrong | Ending::Lost => Verdict::Again,
-    }
-}
 
 // Attempts are counted to 255.
 fn one_more(attempts: u8) -> u8
@@ -64,8 +30,8 @@ fn one_more(attempts: u8) -> u8
     attempts.saturating_add(1)
 }
 
-// Answered for good.
-fn finished(progress: &Progress) -> Progress
+/// How far what was answered for good is.
+pub fn finished(progress: &Progress) -> Progress
     ensures { result ≡ finished_of progress.now }
 {
     Progress {
@@ -75,8 +41,8 @@ fn finished(progress: &Progress) -> Progress
     }
 }
 
-// One more attempt failed.
-fn tried(now: Moment, progress: &Progress) -> Progress
+/// How far it is where one more attempt failed now: it is due again after the delay of its attempts.
+pub fn tried(now: Moment, progress: &Progress) -> Progress
     ensures { result ≡ tried_of now progress.now }
 {
     let attempts = one_more(progress.attempts);
@@ -113,54 +79,15 @@ fn waiting_status(
 }
 
 impl<'a> Working<'a> {
-    fn all_done(&self, id: MessageId) -> bool
+    /// Whether all parts of the message are done.
+    pub fn all_done(&self, id: MessageId) -> bool
         ensures { (d : Draft) → Shows d self.now → result ≡ all_done_of id (parts_in d.store) }
     {
         self.messages.all_done(id)
     }
 
-    // A message whose parts are all done is delivered.
-    fn complete(&mut self, message: &MessageRow) -> Result<(), AllocError>
-        ensures { (d : Draft) → Shows d self.old → message_at message.now.id (messages_in d.store) ≡ Some message.now → is_pending message.now ≡ true
-            → OnOk result (Shows (in_store (complete_of message.now d.store) d) self.new) }
-    {
-        if self.all_done(message.id) {
-            return self.end(FinalState::Delivered, message);
-        }
-        Ok(())
-    }
-
-    // The part was acknowledged.
-    fn part_settled(&mut self, entry: &PartEntry, message: &MessageRow) -> Result<(), AllocError>
-        ensures { (d : Draft) (p : PartRowOf) → Shows d self.old → part_at p.id p.number (parts_in d.store) ≡ Some p → part_entry p ≡ entry.now
-            → message_at p.id (messages_in d.store) ≡ Some message.now → is_pending message.now ≡ true
-            → OnOk result (Shows (in_store (complete_of message.now (with_part_at p (finished_of p.progress) d.store)) d) self.new) }
-    {
-        self.part_done(entry, message, &finished(&entry.progress))?;
-        self.complete(message)
-    }
-
-    // A transfer of a part that waits has ended.
-    fn part_ended(
-        &mut self,
-        verdict: Verdict,
-        entry: &PartEntry,
-        message: &MessageRow,
-    ) -> Result<(), AllocError>
-        ensures { (d : Draft) (p : PartRowOf) → Shows d self.old → part_at p.id p.number (parts_in d.store) ≡ Some p → part_entry p ≡ entry.now
-            → message_at p.id (messages_in d.store) ≡ Some message.now → is_pending message.now ≡ true → p.progress.is_done ≡ false
-            → OnOk result (Shows (in_store (part_ended_of verdict p message.now d.store) d) self.new) }
-    {
-        match verdict {
-            Verdict::Settled => self.part_settled(entry, message),
-            Verdict::Again => self.part_off(entry, message, &tried(self.moment, &entry.progress)),
-            Verdict::Refused => self.end(FinalState::Undeliverable, message),
-            Verdict::HandsetFull | Verdict::Late => Ok(()),
-        }
-    }
-
-    // The part of a pending message, if it waits there still.
-    pub(crate) fn open_part(
+    /// The part of a pending message, with the message, if it waits there still.
+    pub fn open_part(
         &self,
         id: MessageId,
         number: u8,
@@ -182,8 +109,8 @@ impl<'a> Working<'a> {
         Ok(waiting_status(entry, message))
     }
 
-    // The open status report of a message, with the message.
-    pub(crate) fn open_status(
+    /// The open status report of a message, with the message.
+    pub fn open_status(
         &self,
         id: MessageId,
     ) -> Result<Option<(ReportEntry, MessageRow)>, AllocError>
@@ -208,8 +135,8 @@ impl<'a> Working<'a> {
         self.status_ended(Verdict::Settled, entry, message)
     }
 
-    // A transfer of the status report, which waits, has ended.
-    fn status_ended(
+    /// A transfer of the status report, which waits, has ended.
+    pub fn status_ended(
         &mut self,
         verdict: Verdict,
         entry: &ReportEntry,
@@ -228,114 +155,12 @@ impl<'a> Working<'a> {
         }
     }
 
-    // The handset has no memory.
-    fn fill(&mut self, handset: Digits) -> Result<(), AllocError>
+    /// The handset has no memory.
+    pub fn fill(&mut self, handset: Digits) -> Result<(), AllocError>
         requires digits { AllDigits handset }
         ensures { (d : Draft) → Shows d self.old → OnOk result (Shows (on_air (put_line (filled (line_of handset d.air.lines)) d.air) d) self.new) }
     {
         self.shelves.fill(handset)?;
         Ok(())
-    }
-
-    // Nothing more is offered to a handset without memory.
-    fn line_ended(&mut self, verdict: Verdict, handset: Digits) -> Result<(), AllocError>
-        requires digits { AllDigits handset }
-        ensures { (d : Draft) → Shows d self.old → OnOk result (Shows (on_air (line_ended_of verdict handset d.air) d) self.new) }
-    {
-        match verdict {
-            Verdict::HandsetFull => self.fill(handset),
-            Verdict::Settled | Verdict::Again | Verdict::Refused | Verdict::Late => Ok(()),
-        }
-    }
-
-    // The transfer of a part that waits has ended so.
-    fn part_ended_at(
-        &mut self,
-        handset: Digits,
-        id: MessageId,
-        number: u8,
-        ending: &Ending,
-        entry: &PartEntry,
-        message: &MessageRow,
-    ) -> Result<(), AllocError>
-        requires digits { AllDigits handset }
-        ensures { (d : Draft) (p : PartRowOf) → Shows d self.old → IsWaiting id number entry.now message.now d.store p
-            → OnOk result (Shows (ended_with_of (verdict_on_ending (Part id number) ending.now d.store) handset (Part id number) d) self.new) }
-    {
-        let verdict = verdict_of(ending);
-        self.part_ended(verdict, entry, message)?;
-        self.line_ended(verdict, handset)
-    }
-
-    // The transfer of an open status report has ended so.
-    fn status_ended_at(
-        &mut self,
-        handset: Digits,
-        id: MessageId,
-        ending: &Ending,
-        entry: &ReportEntry,
-        message: &MessageRow,
-    ) -> Result<(), AllocError>
-        requires digits { AllDigits handset }
-        ensures { (d : Draft) (r : ReportRowOf) → Shows d self.old → IsTelling id entry.now message.now d.store r
-            → OnOk result (Shows (ended_with_of (verdict_on_ending (Report id) ending.now d.store) handset (Report id) d) self.new) }
-    {
-        let verdict = verdict_of(ending);
-        self.status_ended(verdict, entry, message)?;
-        self.line_ended(verdict, handset)
-    }
-
-    // The transfer of a part has ended.
-    fn part_concluded(
-        &mut self,
-        handset: Digits,
-        id: MessageId,
-        number: u8,
-        ending: &Ending,
-    ) -> Result<(), AllocError>
-        requires digits { AllDigits handset }
-        ensures { (d : Draft) → Shows d self.old
-            → OnOk result (Shows (ended_with_of (verdict_on_ending (Part id number) ending.now d.store) handset (Part id number) d) self.new) }
-    {
-        match self.open_part(id, number)? {
-            Some((entry, message)) => self.part_ended_at(
-                handset, id, number, ending, &entry, &message,
-            ),
-            None => Ok(()),
-        }
-    }
-
-    // The transfer of a status report has ended.
-    fn status_concluded(
-        &mut self,
-        handset: Digits,
-        id: MessageId,
-        ending: &Ending,
-    ) -> Result<(), AllocError>
-        requires digits { AllDigits handset }
-        ensures { (d : Draft) → Shows d self.old
-            → OnOk result (Shows (ended_with_of (verdict_on_ending (Report id) ending.now d.store) handset (Report id) d) self.new) }
-    {
-        match self.open_status(id)? {
-            Some((entry, message)) => self.status_ended_at(handset, id, ending, &entry, &message),
-            None => Ok(()),
-        }
-    }
-
-    /// The transfer to the handset has ended so; it concerns what it was for.
-    pub fn conclude(
-        &mut self,
-        handset: Digits,
-        transfer: &Carried,
-        ending: &Ending,
-    ) -> Result<(), AllocError>
-        requires digits { AllDigits handset }
-        ensures { (d : Draft) → Shows d self.old → OnOk result (Shows (conclude_of handset transfer.now ending.now d) self.new) }
-    {
-        match transfer.tag {
-            Holder::Part(id, number) => self.part_concluded(handset, id, number, ending),
-            Holder::Report(id) => self.status_concluded(handset, id, ending),
-            Holder::Entry(_) | Holder::Memory(_) => Ok(()),
-        }
     }
 }

@@ -3,3 +3,4 @@ pub mod Coming
 pub mod Found
 pub mod Knowing
 pub mod Walking
+pub mod offering

@@ -118,8 +118,8 @@ fn accept_whole(
     accept_content(working, id, None, 0, content, submission)
 }
 
-/// The message of the submission under that number; false where no split reference or no references are free for it, and then the
-/// event is to begin anew.
+/// The message of the submission under that number. False where no split reference or no references are free for it;
+/// then the event is to begin anew.
 pub(crate) fn accept_as(
     working: &mut Working<'_>,
     claims: &KeptClaims,

@@ -38,7 +38,7 @@ fn expire_each(working: &mut Working<'_>, ids: &[MessageId]) -> Result<(), Alloc
     Ok(())
 }
 
-/// All messages expire that are pending and whose time is over, by number. What is kept of messages is what stands there.
+/// All messages expire that are pending and whose time is over, by number. What is kept of messages is what is there.
 pub(crate) fn expire(working: &mut Working<'_>, kept: &KeptMessages) -> Result<(), AllocError>
     ensures { (d : Draft) → Shows d working.old → Holds kept.now (messages_in d.store) (parts_in d.store) → OnOk result (Shows (in_store (expired d.store) d) working.new) }
 {

@@ -32,7 +32,7 @@ fn conclude(
     requires number { IsNumber handset }
     ensures { (d : Draft) → Shows d working.old → IfOk result (Comes (conclude_of handset transfer.now ending.now d) handset tag d working.new) }
 {
-    working.conclude(handset, transfer, ending)?;
+    sms_centre_transfers::conclude(working, handset, transfer, ending)?;
     Ok(Came::Done)
 }
 
@@ -64,8 +64,8 @@ fn went_up(
     }
 }
 
-/// Takes a frame of the handset that came with that tag, whatever its octets. Where a SUBMIT is to be refused for want of
-/// references the centre shows no stated draft, and the event is to begin anew with `frame_refused`.
+/// Takes a frame of the handset with that tag, whatever its octets. Where a SUBMIT is to be refused for want of
+/// references, the centre represents no stated draft. The event is then to begin anew with `frame_refused`.
 pub fn frame_taken(
     working: &mut Working<'_>,
     kept: &KeptMessages,

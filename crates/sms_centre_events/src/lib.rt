@@ -1,21 +1,28 @@
-//! What an event of the centre does by itself: a frame from a handset, a request of an application, a tick.
+//! What an event of the centre does by itself: a frame of a handset, a request of an application, a tick.
 //!
-//! A frame is taken by the handset's line. A transfer to the handset that it ends is concluded; a unit that opens a transaction is
-//! answered: a SUBMIT becomes a message or is refused, RP-SMMA says that the handset has memory, and what can't be read is rejected
-//! (3GPP TS 24.011 6 and 8.2). A session is bound (SMPP v3.4 4.1); a submit_sm becomes a message or is refused (4.4); a query_sm tells
-//! how a message of the account's stands (4.8), and a cancel_sm ends it (4.9). At a tick messages whose time is over expire, by their
-//! numbers, and each tells its end at once; status reports that were not answered for too long are dropped, in the order in which they
-//! were made; timers of lines fire, first at the handsets that had been given a reference; and lines that were up before a recovery
-//! come up. The definition goes over all messages, reports and handsets at a tick; the code goes over those that are found.
+//! Whatever draft of the definition the centre represents before an event, it represents the definition's after it.
+//! Receipts and offers follow every event, and are in `sms_centre_offers`. The definition walks over all messages,
+//! reports and handsets at a tick; the code walks over those that are found.
 //!
-//! Whatever draft of the centre's definition the centre shows before an event, it shows the definition's after it. A submission for
-//! which numbers or references are free for not all of its parts leaves the centre half changed: the event begins anew, and refuses it
-//! (`Came::Congested`, `Asked::Congested`). Whether a SUBMIT is a duplicate, whether a reference is taken, and the number of the next
-//! message are told by what is kept of messages as the event begins (`specs/Knowing.antt`): nothing before them in the event changes
-//! a message or a part.
+//! Where numbers or references aren't free for all parts of a submission, the centre is left half changed. The event
+//! then begins anew and refuses the submission (`Came::Congested`, `Asked::Congested`). Three questions are answered by
+//! what is kept as the event begins (`specs/Knowing.antt`): whether a SUBMIT is a duplicate, whether a reference is
+//! taken, and the next number. Nothing earlier in the event changes a message or a part.
 //!
-//! Receipts and offers follow every event, and are no part of it here. An answer to a receipt and the end of a session stand in
-//! sms_centre_draft.
+//! - `accepting`: a submission becomes a message
+//! - `accounts`: the accounts of applications
+//! - `aging`: messages that expire, and status reports that are dropped
+//! - `asking`: what a submission is compared with, and the number of its message
+//! - `binding`: sessions are bound (SMPP v3.4 4.1)
+//! - `finding`: the message that an application asks for
+//! - `frames`: a frame of a handset (3GPP TS 24.011 6 and 8.2)
+//! - `questions`: query_sm and cancel_sm (SMPP v3.4 4.8, 4.9)
+//! - `single`: a SUBMIT becomes a message of one part
+//! - `sources`: the source that an application names
+//! - `submitting`: submit_sm (SMPP v3.4 4.4)
+//! - `ticks`: a tick
+//! - `units`: a unit of a handset that opens a transaction
+//! - `walks`: walks over the handsets that a tick concerns
 #![tactic(auto)]
 
 mod accepting;
@@ -25,6 +32,7 @@ mod asking;
 mod binding;
 mod finding;
 mod frames;
+pub mod offering;
 mod questions;
 mod single;
 mod sources;

@@ -54,8 +54,8 @@ fn query_by(
     Ok(())
 }
 
-/// Tells how the message stands that the account asks for, by its number and source; refused are an account that isn't there
-/// (ESME_RSYSERR) and a message that isn't the account's (ESME_RINVMSGID).
+/// Answers the state of the message that the account asks for, by its number and source. Refused are an account that
+/// isn't there (ESME_RSYSERR) and a message that isn't the account's (ESME_RINVMSGID).
 pub fn query(working: &mut Working<'_>, account: u8, query: &QuerySm<'_>) -> Result<(), AllocError>
     ensures { (d : Draft) → Shows d working.old → OnOk result (Shows (query_of account query.now d) working.new) }
 {
@@ -126,9 +126,9 @@ fn cancel_by(
     cancel_found(working, found)
 }
 
-/// Ends the message that the account asks for, by its number and source, and tells its end; refused are an account that isn't there
-/// (ESME_RSYSERR), a request without a number and a message that has ended (ESME_RCANCELFAIL), and a message that isn't the
-/// account's (ESME_RINVMSGID).
+/// Ends the message that the account asks for, by its number and source, and makes its report. Refused are an account
+/// that isn't there (ESME_RSYSERR), a request without a number and a message that has ended (ESME_RCANCELFAIL). A
+/// message that isn't the account's is refused too (ESME_RINVMSGID).
 pub fn cancel(
     working: &mut Working<'_>,
     account: u8,

@@ -28,7 +28,7 @@ use sms_centre_spec::CentreAnswer;
 use sms_intake::{Account, SmppError, Submission, from_pdu};
 use std::alloc::AllocError;
 
-/// What came of a submit_sm.
+/// How a submit_sm ended.
 #[derive(Clone, Copy, Debug)]
 pub enum Asked {
     /// It was answered: it is a message now, or was refused.
@@ -123,10 +123,11 @@ fn submit_by(
     }
 }
 
-/// Takes a submit_sm of the account: it becomes a message under the next number, in as many parts as it takes, each under a
-/// reference of its own, or is refused: ESME_RSYSERR where the account isn't there; the first refusal of `from_pdu`;
-/// ESME_RSUBMITFAIL where its header has a reference that the centre gave. Where no number is left, or no split reference or no
-/// references are free for all of it, the centre shows no stated draft, and the event is to begin anew with `submit_refused`.
+/// Takes a submit_sm of the account. It becomes a message under the next number, in as many parts as it takes, each
+/// under a reference of its own. Or it is refused: ESME_RSYSERR where the account isn't there, the first refusal of
+/// `from_pdu`, or ESME_RSUBMITFAIL where its header has a reference that the centre gave. Where no number, split
+/// reference or references are left for all of it, the centre represents no stated draft. The event is then to begin
+/// anew with `submit_refused`.
 pub fn submit(
     working: &mut Working<'_>,
     kept: &KeptMessages,

@@ -20,8 +20,8 @@ fn age(working: &mut Working<'_>, kept: &KeptMessages) -> Result<(), AllocError>
     drop_old(working)
 }
 
-/// Time goes on to that moment, if it isn't past, and all comes that comes with it but receipts and offers. What is kept of messages
-/// is what stands there.
+/// Sets the moment, if it isn't past, and does all that a tick does but receipts and offers. What is kept of messages
+/// is what is there.
 pub fn tick(working: &mut Working<'_>, kept: &KeptMessages, now: Moment) -> Result<(), AllocError>
     ensures { (d : Draft) → Shows d working.old → Holds kept.now (messages_in d.store) (parts_in d.store)
         → OnOk result (Shows (raised (fired (aged (at_moment now d)))) working.new) }

@@ -25,10 +25,10 @@ use sms_intake::{Submission, SubmitError, SubmitRefusal, from_submit};
 use sms_relay::{RelayFault, Rp, RpCause, read_up};
 use std::alloc::{AllocError, Global};
 
-/// What came of a frame.
+/// How a frame ended.
 #[derive(Clone, Copy, Debug)]
 pub enum Came {
-    /// All that comes of it.
+    /// It is done, with all that it leads to.
     Done,
     /// A SUBMIT under that reference for which no number or references are free: the event is to begin anew, and refuses it.
     Congested(u8),

@@ -21,7 +21,7 @@ fn fire_on(working: &mut Working<'_>, handset: Digits) -> Result<(), AllocError>
     if !are_digits(handset.as_slice()) {
         return Ok(());
     }
-    working.fire(handset)
+    sms_centre_transfers::fire(working, handset)
 }
 
 // So do those of these handsets, one after the other.
@@ -66,7 +66,7 @@ fn raise_each(working: &mut Working<'_>, stops: &[Stop]) -> Result<(), AllocErro
     Ok(())
 }
 
-/// All lines come up that were up before a recovery.
+/// Brings all links up that were up before a recovery.
 pub(crate) fn raise(working: &mut Working<'_>) -> Result<(), AllocError>
     ensures { (d : Draft) → Shows d working.old → OnOk result (Shows (raised d) working.new) }
 {

@@ -1,10 +1,10 @@
 //! What a centre keeps in memory of the messages that it accepted, and of their parts.
 //!
-//! `KeptMessages` is it between two events: each message's row with its numbers and its account kept once for all, each part
-//! without its TPDU, and the moments at which pending messages expire. `PendingMessages` is it in the middle of an event: what
-//! stood there, and what came since, as it is committed. It settles into changes and the memory that they need, which
-//! `KeptMessages::adopt` puts in without taking more.
-//! Contracts say what is shown of the rows: whatever rows a centre shows before a change, it shows the changed rows after it.
+//! `KeptMessages` is between events. It has each message's row, each part without its TPDU, and the moments at which
+//! pending messages expire. Numbers and accounts are kept once for all. `PendingMessages` is within an event, and has
+//! the new rows besides, as they are committed. It settles into changes and the memory that they need, which
+//! `KeptMessages::adopt` puts in without taking more. Contracts say which rows are represented: whatever rows they are
+//! before a change, they are the changed rows after it.
 
 mod changes;
 mod copying;

@@ -1,9 +1,12 @@
-//! sms_centre_messages, of modules:
+//! What a centre keeps in memory of messages and parts, in the place of their rows.
 //!
-//! - `held`: What a centre keeps in memory of the messages that it accepted, and of their parts.
-//! - `reference_moves`: What an event changes of messages and parts, as moves of what they lay claim to, over all events of the centre's
-//!   definition.
-//! - `references`: What earlier messages lay claim to, so that a submission is compared with all of them at the cost of one.
+//! What is kept is compact: numbers and names once each, parts without their TPDUs, claims on references as counts. It
+//! answers as the definition does over all rows. Whatever rows it represents before a change, it represents the changed
+//! rows after it. A change within an event takes the memory that putting it in needs.
+//!
+//! - `held`: messages, parts and the moments at which they expire
+//! - `reference_moves`: laws: what every event changes of messages and parts is a move of claims
+//! - `references`: which references and TP-MRs earlier messages claim, as counts
 #![tactic(auto)]
 
 pub mod held;

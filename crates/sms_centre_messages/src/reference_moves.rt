@@ -1,7 +1,7 @@
-//! What an event changes of messages and parts, as moves of what they lay claim to, over all events of the centre's definition.
+//! Laws: what an event changes of messages and parts is a move of claims, over all events of the centre's definition.
 //!
-//! What is kept of claims (`sms_centre_messages::references`) takes an event's changes in only where they are such moves: a message comes behind all
-//! others, or one that was pending has ended; and a part comes with its message, or is so far. Here it is shown that every event of a
-//! sound centre changes nothing else of them. There are laws here and no code.
+//! What is kept of claims (`sms_centre_messages::references`) takes in only these moves. A message is new, behind all
+//! others, or a pending one has ended. A part is new with its message, or its progress has changed. Every event of a
+//! sound centre changes nothing else of messages and parts. This module has laws and no code.
 
 pub mod laws;

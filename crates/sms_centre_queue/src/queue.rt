@@ -1,9 +1,8 @@
-//! A shelf: all that concerns one handset of a service centre, as the centre holds it.
+//! The queue of one handset: its link, its references, and what waits for it.
 //!
-//! A `Shelf` has its line with what is under way on it, the references that were given there and when, and what waits for it.
-//! Its calls are the functions over plain lists of `sms_centre_rows::waiting` (`specs/Shelves.antt` there).
-//!
-//! A call that finds no memory leaves a shelf in no stated state: plan on a copy, and install it when all is done.
+//! A `Shelf` has the link with its transfer under way, the references that were given there and when, and what waits.
+//! Its calls are the functions over plain lists in `sms_centre_rows/specs/waiting/Shelves.antt`. A call that finds no
+//! memory leaves it in no stated state: plan on a copy, and install it when all is done.
 
 mod base;
 mod earlier;

@@ -1,15 +1,14 @@
-//! The shelves of all handsets of a service centre, between two events and in the middle of one.
+//! The queues of all handsets, between events and within one.
 //!
-//! `Shelves` stand between events; `PendingShelves` share them as an event begins, and copy the shelves that the event
-//! touches. Each call's contract is one over the centre's definition: whatever rows of handsets and references, lines, frames and
-//! waiting loads the shelves show before it (`specs/Shown.antt`), they show what the definition makes of them after it; each question
-//! is the definition's. `settle` gives what is to be committed and sent, with the memory that it takes to put it in, and
-//! `Shelves::adopt` puts it in and takes none (`laws`: the next event then begins with the rows as they were changed). `forget_lines` is
-//! for a centre that starts again: all stays but the lines.
+//! `PendingShelves` share `Shelves` as an event begins, and copy those that the event touches. Each contract is over
+//! the centre's definition. Whatever handsets, references, links, frames and waiting parts they represent before a call
+//! (`specs/queues/Shown.antt`), they represent the definition's after it. `settle` gives what is committed and sent,
+//! with the memory to put it in. `Shelves::adopt` puts it in and takes none; the next event then begins with the
+//! changed rows (`laws`). `forget_lines` is for a centre that starts again: everything stays but the links.
 //!
-//! An event costs what it touches. What isn't a handset's own event (an offer, a timer, a line that comes up after a recovery) goes
-//! over handsets in a given order (`Purpose`, `Stop`), and finds those that it concerns by an index of the lines that are up, are
-//! awaited or have a timer that runs; at a moment at which nothing was left to offer, by the shelves that the event touched alone.
+//! Offers, timers and recovery may concern several handsets (`Purpose`, `Stop`). An index finds those whose link is up,
+//! awaited or has a timer that runs. At a moment at which nothing was left to offer, only the queues that the event
+//! touched are looked at.
 
 mod ground;
 pub mod laws;

@@ -1,7 +1,12 @@
-//! sms_centre_recovery, of modules:
+//! What a centre starts with: whether it can stand on rows, and what it has in memory that isn't stored.
 //!
-//! - `soundness`: Whether a centre can stand on rows: each condition of `sms_centre_spec/specs/SoundRows.antt` by a test of its own.
-//! - `starting`: What a centre begins with that isn't stored: what waits for each handset, its lines, and its moment.
+//! Rows on which a centre can stand are told from others exactly, whoever wrote them. Of such rows the shelves get what waits for each
+//! handset and its line, and the centre its moment, as the definition has them after a restart.
+//!
+//! | Module | What it has |
+//! |---|---|
+//! | `soundness` | the rows as tables, and whether a centre can stand on them |
+//! | `starting` | what waits for each handset, its lines, and the moment |
 #![tactic(auto)]
 
 pub mod soundness;

@@ -1,8 +1,8 @@
-//! What a centre begins with that isn't stored: what waits for each handset, its lines, and its moment.
+//! What a centre begins with that isn't stored: what waits for each handset, the links, and the moment.
 //!
-//! In the middle of an event, shelves on which nothing waits get what waits by rows: parts of pending messages that aren't done
-//! (`put_parts`), open status reports (`put_reports`); and lines to the handsets that are connected, up at once, or at the first tick
-//! as after a restart (`connect_all`). Each goes over its list once. `moment_of` and `moment_among` are the greatest moment that rows
+//! Empty queues get what waits by the rows: parts of pending messages that aren't done (`put_parts`) and open status
+//! reports (`put_reports`). Connected handsets get links, up at once, or at the first tick as after a restart
+//! (`connect_all`). Each walks through its list once. `moment_of` and `moment_among` are the greatest moment that rows
 //! have seen.
 
 mod connecting;

@@ -1,9 +1,13 @@
-//! sms_centre_reports, of modules:
+//! What a centre keeps in memory of receipts, status reports and sessions.
 //!
-//! - `awaited`: What sessions of applications wait for, over all events of the centre's definition.
-//! - `open_reports`: What a centre keeps of the receipts and status reports that are open.
-//! - `report_log`: The register of reports: which receipts and status reports were made, in the order made.
-//! - `sessions`: The sessions of applications in the middle of an event, and the receipts that were sent in them (SMPP v3.4 2.9 and 4.6).
+//! What is kept of reports and sessions answers as the rows do. Whatever reports and sessions it represents before a
+//! call, it represents the definition's after it. Open reports are found in a logarithm; nothing is kept of closed ones
+//! but a line in the log. Copies share what they do not change, and adopting takes no memory.
+//!
+//! - `awaited`: laws: what sessions wait for, over all events
+//! - `open_reports`: the receipts and status reports that are open
+//! - `report_log`: all reports that were made
+//! - `sessions`: the sessions of applications, and the receipts that were sent in them
 #![tactic(auto)]
 
 pub mod awaited;

@@ -1,8 +1,13 @@
-//! sms_centre_rows, of modules:
+//! The rows of a service centre, and their meaning.
 //!
-//! - `messages`: The messages that a service centre accepted, and their parts.
-//! - `reports`: Who is told how a message ended.
-//! - `waiting`: What waits at a service centre for one handset, and how the centre reaches it: the rows and the definitions.
+//! A centre stores messages, their parts, the references that it gave at each handset, reports, and priorities.
+//! `specs/` says what these rows mean: what a message still has to bring to its handset, and which references are free.
+//! It also says what waits where, and when rows are sound. Other crates keep these rows in memory, in stores, and
+//! change them in events; all do so in the words of this crate.
+//!
+//! - `messages`: the messages that were accepted, and their parts
+//! - `reports`: receipts and status reports
+//! - `waiting`: what waits for one handset, and the link to it
 #![tactic(auto)]
 
 pub mod messages;

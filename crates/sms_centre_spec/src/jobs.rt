@@ -1,7 +1,7 @@
-//! What sessions and links ask of the centre through the hub, and what they are told.
+//! What sessions and links ask of the centre through the hub, and the replies that they get.
 //!
-//! A `Job` is what the seat of a session or a link puts, a `Reply` what a seat gets. A seat names neither itself nor its
-//! session: jobs come with the number of the seat that put them, which is its session's number at the centre.
+//! The seat of a session or a link puts a `Job` and gets a `Reply`. A job names neither its seat nor its session: the
+//! hub adds the number of the seat, which is the session's number at the centre.
 
 mod job;
 mod reply;

@@ -36,9 +36,9 @@ pub fn what_is_adopted_is_what_happened()
     ensures { (event : CentreEvent) (c : Core) → adopted (outcome_of (happened event c)) c ≡ core_of (happened event c) }
 {}
 
-/// A sound centre is sound after every event: its rows are, no reference was given later than now, and what is under way on
-/// each line is a part of a message to that handset or the status report of one of its own, under the reference that its row
-/// keeps. A handset that the event names has a number.
+/// A sound centre is sound after every event. Its rows are, and no reference was given later than now. What is under
+/// way on each link is a part of a message to that handset or the status report of one of its own. It is under the
+/// reference that its row keeps. A handset that the event names has a number.
 pub fn a_sound_centre_stays_sound()
     ensures { (event : CentreEvent) (c : Core) → IsSoundCore c → IsEvent event → IsSoundCore (core_of (happened event c)) }
 {}
@@ -52,10 +52,11 @@ pub fn a_centre_begins_sound()
     ensures first { (setup : Setup) → IsSetup setup → IsSound (first_rows setup) }
 {}
 
-/// After every event no message, part or report is lost, a message that had ended is as it was, and each part and report goes
-/// under its reference and keeps its octets; all that waits for a handset holds references apart; each receipt that goes out is
-/// one of the rows; and each frame that goes out was made for a part of one of the handset's messages, or for the status report
-/// of one of its own, under the reference that its row has, or for an answer, or for nothing.
+/// After every event no message, part or report is lost, and a message that had ended is unchanged. Each part and
+/// report is sent under its reference and keeps its octets. All that waits for a handset holds references apart. Each
+/// receipt that is sent is one of the rows. Each frame that is sent was made for one of these: a part of one of the
+/// handset's messages, the status report of one of its own, an answer, or nothing. For a part or report its reference
+/// is the row's.
 pub fn an_event_keeps_its_promises()
     ensures kept { (event : CentreEvent) (c : Core) → IsSoundCore c → IsEvent event → Keeps c.rows (core_of (happened event c)).rows }
     ensures apart { (event : CentreEvent) (c : Core) → IsSoundCore c → IsEvent event → SoundHeld (happened event c).store }
@@ -65,15 +66,15 @@ pub fn an_event_keeps_its_promises()
         → (sent : Sent) → Among sent (happened event c).air.frames → Brings sent.handset sent.frame.carried (core_of (happened event c)).rows }
 {}
 
-/// The number that a submission is answered with is that of a message that stands in the rows.
+/// The number that a submission is answered with is that of a message in the rows.
 pub fn an_answered_submission_stands()
     ensures { (account : ℕ) (message : Message) (c : Core) (id : ℕ) → (happened (Submit account message) c).answer ≡ Some (Submitted id)
         → (row : MessageRow) × (message_at id (core_of (happened (Submit account message) c)).rows.messages ≡ Some row) }
 {}
 
-/// All that waits for a handset holds references that were given there, no two the same: also once a message was entered, the
-/// next reference was given for a part or a status report, a report was made that waits for no handset, a part or a report is so
-/// far, or a message has ended.
+/// All that waits for a handset holds references that were given there, all different. It stays so once a message was
+/// entered, the next reference was given for a part or a status report, or a report was made that waits for no handset.
+/// It stays so once a part or a report is so far, or a message has ended.
 pub fn references_stay_apart()
     ensures entered { (s : Store) (m : MessageRow) (q : PriorityRow) → SoundHeld s → q.id ≡ m.id → ((n : ℕ) → part_at m.id n (parts_in s) ≡ None) → report_of m.id (reports_in s) ≡ None → IsNumber m.handset
         → SoundHeld (with_priority q (with_message m s)) }

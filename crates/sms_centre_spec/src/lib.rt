@@ -1,10 +1,21 @@
-//! The definition of the centre core (3GPP TS 23.040 3.2 and 10, 3GPP TS 24.011 6, SMPP v3.4 4): what a service centre does with what
-//! applications want, with frames of handsets and with time.
+//! The definition of the centre core (3GPP TS 23.040 3.2 and 10, 3GPP TS 24.011 6, SMPP v3.4 4).
 //!
-//! `specs/` has its definition: an event is a composition of small stages over a draft in three parts, the rows, the lines to
-//! handsets and the sessions of applications. `laws` says what every event keeps: a sound centre stays sound, no final state is
-//! taken back, and what goes out is for what stands in the rows. This crate has no code but the types that the definition names:
-//! the crates from `sms_centre_messages::held` to `sms_centre` do what stands here.
+//! `specs/` defines what the centre does with requests of applications, frames of handsets and time. An event is a
+//! composition of small stages over a draft in three parts: rows, links to handsets, and sessions of applications.
+//! `laws` says what every event keeps. A sound centre stays sound, no final state is taken back, and what leaves is for
+//! what is in the rows. Here is no code but the types that the definition names, and the commit of an event's changes.
+//! The crates from `sms_centre_messages` to `sms_centre` do what is defined here.
+//!
+//! - `answer`: what an application is answered
+//! - `bodies`: what a centre wants of the store of its rows
+//! - `event`: the events of a centre
+//! - `jobs`: the jobs that seats put, and the replies that they get
+//! - `laws`: laws of the centre's events
+//! - `octets`: which octets rows have under a key
+//! - `plan_error`: why nothing is planned
+//! - `rows`: what a centre stores, and what an event changes of it
+//! - `setup`: what a centre is given when it starts
+//! - `verdict`: the meaning of a transfer's end
 #![tactic(auto)]
 
 mod answer;

@@ -1,7 +1,7 @@
-//! What the keeps of a centre share.
+//! Which octets rows have under a key, for all keeps of a centre.
 //!
-//! `copy_of_setup` gives each load a setup of its own, since a setup is handed in and not stored. `specs/` says which octets the
-//! rows have under a key: those of a part, or of the status report of a message.
+//! `specs/octets` has the definition: the TPDU of a part, or of the status report of a message. `copy_of_setup` gives
+//! each load a setup of its own, since a setup is handed in and not stored.
 
 mod copying;
 

@@ -1,8 +1,8 @@
-//! What a centre is told when it starts.
+//! What a centre is given when it starts.
 use sms_base::{Address, Listed, Moment};
 use sms_intake::Account;
 
-/// What a centre is told when it starts, and does not store.
+/// What a centre is given when it starts, and does not store.
 #[derive(Debug, Drop)]
 pub struct Setup {
     /// Its own address.

@@ -1,4 +1,4 @@
-//! How many parts a content takes, told before any memory is.
+//! How many parts a content takes, counted before any memory is taken.
 ghost use Rattle.std.specs.Prelude.{◌≡◌, ◌≤◌, ℕ, length, nat_le};
 ghost use Rattle.std.specs.Str.{chars};
 ghost use Rattle.sms_concat.specs.Counting.{content_with, counted, text_begun, text_outcome, with_text};
@@ -58,7 +58,7 @@ fn tally_latin(octets: &[u8]) -> TextTally
     tally
 }
 
-/// The same of a text whose characters have these codes, from 00 to FF.
+/// How many parts `split` makes of a text whose characters have these codes, from 00 to FF, or why it splits none.
 ///
 /// Takes no memory. Linear in the octets.
 pub fn count_latin_parts(octets: &[u8]) -> Result<u8, SplitError>

@@ -79,7 +79,7 @@ fn header_of<'a>(octets: &'a [u8]) -> Result<Header<'a>, HeaderError>
 impl<'a> Header<'a> {
     /// The header that the octets begin with (3GPP TS 23.040 9.2.3.24).
     ///
-    /// What stands behind the header is not looked at.
+    /// The octets behind the header are not looked at.
     pub fn read(octets: &'a [u8]) -> Result<Header<'a>, HeaderError>
         ensures found { IfOk result (λ elements. BeginsWith octets.entry.now elements) }
         ensures only { (elements : List ElementOf) → BeginsWith octets.entry.now elements → result ≡ Ok elements }

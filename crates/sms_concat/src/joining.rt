@@ -44,7 +44,7 @@ pub fn bears(reference: ConcatReference, total: u8, dcs: u8, number: usize, part
         && part.content.dcs == dcs
 }
 
-/// Whether the parts bear the numbers above that one, in order.
+/// Whether the parts have the numbers above `below`, in order.
 pub fn bear_all(
     reference: ConcatReference,
     total: u8,
@@ -109,8 +109,8 @@ fn units_of(alloc: Global, parts: &[Part]) -> Result<Octets, AllocError>
     Ok(units)
 }
 
-/// The content that the parts join to: none unless their numbers are 1 to the total, in order, under one
-/// key and one data coding scheme.
+/// The content that the parts join to. There is none unless their numbers are 1 to the total, in order, under one key
+/// and one data coding scheme.
 ///
 /// A lone part without a key counts as part 1 of 1. Takes memory once, and only where the parts join.
 pub fn join(alloc: Global, parts: &[Part]) -> Result<Option<Content>, AllocError>

@@ -19,7 +19,7 @@ pub fn header_is_read_by_the_grammar()
     ensures { (octets : List ℕ) (answer : Result (List ElementOf) HeaderErrorOf) → (header_at octets ≡ answer) ↔ HeaderIs octets answer }
 {}
 
-/// A header is read as its elements, whatever stands behind it.
+/// A header is read as its elements, whatever is behind it.
 pub fn written_header_is_read()
     ensures { (elements : List ElementOf) (rest : List ℕ) → header_at (written elements ++ rest) ≡ Ok elements }
 {}

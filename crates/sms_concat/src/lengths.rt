@@ -50,7 +50,7 @@ pub fn units_fit_behind(coding: Coding, header: usize, units: usize) -> bool
     taken <= capacity && units <= capacity - taken
 }
 
-/// Whether a content fits one short message behind a header of so many octets, 0 for none: at most 160 septets,
+/// Whether a content fits one short message behind a header of so many octets, 0 for none. It may have 160 septets,
 /// each below 128, or 140 octets, the header included.
 pub fn fits_behind(header: usize, content: &Content) -> bool
     requires { header ≤ 256 }

@@ -1,10 +1,28 @@
 //! User data headers, and long messages in parts (3GPP TS 23.040 9.2.3.24).
 //!
-//! A header is read as the list of its elements, and its concatenation key is that of the last valid
-//! concatenation element. A content that fits one short message is one part without a header; a longer
-//! one is cut between whole units into parts that are as full as that allows, and those parts joined are
-//! the content again. How many parts a content takes is told without memory. What is written of a part is read as that
-//! part.
+//! A header is read as the list of its elements. Its concatenation key is that of the last valid concatenation element.
+//! A content that fits one short message is one part without a header. A longer one is cut between whole units into
+//! parts that are as full as that allows. Those parts joined are the content again. How many parts a content takes is
+//! counted without memory. The user data written of a part is read as that part.
+//!
+//! - `concat_key`: what ties the parts of a long message together
+//! - `content`: the content of a message, and a part of it
+//! - `counting`: how many parts a content takes
+//! - `element`: one element of a header
+//! - `header`: the user data header
+//! - `header_error`: why octets begin with no header
+//! - `joiner`: a message joined part by part
+//! - `joining`: the parts of a message joined at once
+//! - `laws`: laws of headers, user data, splitting and joining
+//! - `lengths`: how much a short message has room for
+//! - `parts`: the parts of a content
+//! - `reading`: the part that user data carries
+//! - `split_error`: why a content is not split
+//! - `splitting`: a content split into parts
+//! - `tally`: parts counted from the sizes of whole units
+//! - `text_content`: the content of a text
+//! - `whole_unit`: the whole units of a content
+//! - `writing`: the user data of a part
 #![tactic(auto)]
 
 mod concat_key;

@@ -143,10 +143,10 @@ fn parts_of(alloc: Global, content: &Content, reference: u16) -> Result<Parts, S
 
 /// The parts of a content (3GPP TS 23.040 9.2.3.24.8).
 ///
-/// A content of at most 160 septets, 140 octets or 70 UCS2 units is one part without a header. A longer
-/// one is cut between whole units into parts under the 16-bit reference, each of at most 152 septets, 133
-/// octets or 66 UCS2 units, and as full as the next one's first whole unit allows. Refused are a compressed
-/// content that does not fit one part, and any other that takes more than 20. Linear in the content.
+/// A content of at most 160 septets, 140 octets or 70 UCS2 units is one part without a header. A longer one is cut
+/// between whole units into parts under the 16-bit reference. A part has at most 152 septets, 133 octets or 66 UCS2
+/// units, and is as full as the next one's first whole unit allows. Refused are a compressed content that does not fit
+/// one part, and any other that takes more than 20. Linear in the content.
 pub fn split(alloc: Global, content: &Content, reference: u16) -> Result<Parts, SplitError>
     ensures found { IfOk result (λ parts. IsSplit content.now reference parts × (length parts ≤ 20)) }
     ensures fit { AreUnits content.now.coding content.now.units → IfOk result (λ parts. All HasRoom parts) }

@@ -1,4 +1,4 @@
-//! Parts counted without memory, from the sizes of the whole units that go by.
+//! Parts counted without memory, from the sizes of the whole units.
 ghost use Rattle.std.specs.Prelude.{◌≡◌, ◌≤◌, length};
 ghost use Rattle.sms_base.specs.Alphabet.{code_for, septets_in};
 ghost use Rattle.sms_concat.specs.Counting.{either_outcome, outcome, tally_begun, text_begun, text_fits_behind, text_outcome, unit_tally_fits_behind, with_character, with_code, with_unit};

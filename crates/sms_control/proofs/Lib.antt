@@ -1,4 +1,5 @@
 pub mod ControlFrames
+pub mod FaultLaws
 pub mod LinkLaws
 pub mod ReplyLaws
 pub mod TickLaws

@@ -13,7 +13,7 @@ pub enum CpCause {
     MessageNotCompatible,
     InformationElementNonExistent,
     ProtocolErrorUnspecified,
-    /// Any other octet, as it came.
+    /// Any other octet, unchanged.
     Other(u8),
 }
 

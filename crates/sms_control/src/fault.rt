@@ -6,7 +6,7 @@ pub enum CpFault {
     /// The octets end too early.
     #[error("the octets end too early")]
     Truncated,
-    /// Octets stand behind the frame.
+    /// Octets are behind the frame.
     #[error("octets stand behind the frame")]
     Trailing,
     /// Another protocol, a reserved transaction identifier or another type of message.

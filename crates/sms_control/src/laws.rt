@@ -1,5 +1,7 @@
 //! Laws of the control layer, over its definitions alone.
 ghost use Rattle.std.specs.Prelude.{◌≡◌, ◌++◌, ◌≢◌, ◌≤◌, ◌+◌, List, [], ◌∷◌, ℕ, Ok, Err, Some, None, false};
+ghost use Rattle.sms_base.specs.FaultReasons.{HasContinuation, HasFront};
+ghost use Rattle.sms_base.specs.Reading.{AreOctets};
 ghost use Rattle.sms_control.specs.ControlGrammar.{IsCp, IsCpValue, spelled};
 ghost use Rattle.sms_control.specs.ControlReading.{cp_at};
 ghost use Rattle.sms_control.specs.LinkRuns.{Acknowledges, Call, FiresPast, NoneAcknowledged, NoneAnswered, Rising, TakesTurns, begins, ends, openings, repeats, replies, run, sendings, ticks};
@@ -7,13 +9,14 @@ ghost use Rattle.sms_control.specs.LinkStep.{begin_step, fresh, has_begun, in_tr
 ghost use Rattle.sms_control.specs.Timers.{later, tr1};
 ghost use Rattle.sms_control.specs.declared.link_state.LinkState.{LinkState};
 ghost use Rattle.sms_control.specs.declared.link_state.Opened.{Opened};
-ghost use Rattle.sms_control.specs.declared.fault.CpFault.TheVariants.{Truncated};
+ghost use Rattle.sms_control.specs.declared.fault.CpFault.TheVariants.{Truncated, Trailing};
+ghost use Rattle.sms_control.specs.declared.fault.CpFault.{CpFault};
 ghost use Rattle.sms_control.specs.declared.message.Cp.{Cp};
 ghost use Rattle.sms_control.specs.declared.message.Cp.TheVariants.{AckUnit, DataUnit};
 ghost use Rattle.sms_control.specs.declared.out.Up.TheVariants.{Unit};
 ghost use Rattle.sms_control.specs.declared.transaction.TransactionFlag.TheVariants.{FromOriginator, ToOriginator};
 
-/// What is written is in the grammar, and is read as the same value.
+/// What is written is in the grammar, and is read as that value.
 pub fn written_is_read()
     ensures { (cp : Cp) → IsCpValue cp → IsCp (spelled cp) cp × (cp_at (spelled cp) ≡ Ok cp) }
 {}
@@ -33,34 +36,42 @@ pub fn front_is_truncated()
     ensures { (front rest : List ℕ) (cp : Cp) → IsCp (front ++ rest) cp → rest ≢ [] → cp_at front ≡ Err Truncated }
 {}
 
+/// Octets end too early only where octets may follow with which they are a frame. Octets are left over only behind a frame.
+/// With any other fault they are no frame, whatever follows.
+pub fn a_fault_has_its_reason()
+    ensures truncated { (octets : List ℕ) → AreOctets octets → cp_at octets ≡ Err Truncated → HasContinuation IsCp octets }
+    ensures trailing { (octets : List ℕ) → AreOctets octets → cp_at octets ≡ Err Trailing → HasFront IsCp octets }
+    ensures other { (octets more : List ℕ) (cp : Cp) (fault : CpFault) → cp_at octets ≡ Err fault → fault ≢ Truncated → ¬ IsCp (octets ++ more) cp }
+{}
+
 /// This side has at most one transaction under way: over any calls, as many have ended as began, or one fewer.
 pub fn one_begun_at_a_time()
     ensures { (calls : List Call) → (ends calls fresh ≤ begins calls fresh) × (begins calls fresh ≤ ends calls fresh + 1) }
 {}
 
-/// A begun transaction ends once, with one unit that comes up or one failure: until the next one begins, there is no
-/// second end.
+/// A begun transaction ends once, with one unit passed up or one failure. Until the next one begins, there is no second
+/// end.
 pub fn a_begun_transaction_ends_once()
     ensures { (state : LinkState) (calls : List Call) → begins calls state ≡ 0 → ends calls state ≤ 1 }
 {}
 
-/// A unit of the other side is answered at most once: over any calls, no more are answered than came up.
+/// A unit of the other side is answered at most once: over any calls, no more are answered than were passed up.
 pub fn answers_follow_openings()
     ensures { (calls : List Call) → replies calls fresh ≤ openings calls fresh }
 {}
 
-/// Until the next unit of the other side comes up, there is no second answer.
+/// Until the next unit of the other side is passed up, there is no second answer.
 pub fn an_opening_is_answered_once()
     ensures { (state : LinkState) (calls : List Call) → openings calls state ≡ 0 → replies calls state ≤ 1 }
 {}
 
-/// The frame that opened the other side's present transaction does not come up again.
+/// The frame that opened the other side's present transaction is not passed up again.
 pub fn a_present_opening_is_quiet()
     ensures { (before : List Call) (transaction : Opened) → (run before fresh).opened ≡ Some transaction → (take_step transaction.opening (run before fresh)).out.up ≡ None }
 {}
 
-/// A frame equal to the opening of the last acknowledged transaction does not come up again, whatever is called
-/// until another one is acknowledged.
+/// A frame equal to the opening of the last acknowledged transaction is not passed up again, whatever is called until
+/// another one is acknowledged.
 pub fn an_acknowledged_opening_is_quiet()
     ensures { (before after : List Call) (ack opening : List ℕ)
         → Acknowledges (run before fresh) ack opening
@@ -80,9 +91,9 @@ pub fn a_begun_transaction_ends_within_40_ticks()
         → is_busy state ≡ false → Rising now calls → 40 ≤ ticks calls → 1 ≤ ends calls (begin_step now unit state).state }
 {}
 
-/// Transactions of this side take turns: one begins, with CP-DATA to the other side, only where none is under way, and
-/// what ends is the one under way, by CP-DATA of its own identifier or by a failure. So an answer of another identifier
-/// never comes up.
+/// Transactions of this side take turns. One begins, with CP-DATA to the other side, only where none is under way. What
+/// ends is the one under way, by CP-DATA of its own identifier or by a failure. So an answer of another identifier is
+/// never passed up.
 pub fn transactions_take_turns()
     ensures { (calls : List Call) → TakesTurns calls fresh None }
 {}
@@ -92,8 +103,8 @@ pub fn a_frame_is_repeated_at_most_twice()
     ensures { (before after : List Call) (frame : List ℕ) → sendings frame after (run before fresh) ≡ 0 → repeats frame after (run before fresh) ≤ 2 }
 {}
 
-/// An answer that was taken is acknowledged alone, whatever is called until another one is taken: the frame that comes
-/// again is answered by CP-ACK and nothing else, and does not come up, unless a transaction of its identifier is under
+/// An answer that was taken is acknowledged alone, whatever is called until another one is taken. Its frame, repeated,
+/// is answered by CP-ACK and nothing else, and is not passed up. The exception is a transaction of its identifier under
 /// way, whose answer it then is.
 pub fn a_taken_answer_is_acknowledged_alone()
     ensures alone { (state : LinkState) (after : List Call) (answer unit : List ℕ) (identifier : ℕ)

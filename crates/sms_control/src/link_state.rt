@@ -25,13 +25,13 @@ pub struct Begun {
     pub identifier: TransactionIdentifier,
     /// Its CP-DATA.
     pub frame: Octets,
-    /// None once CP-ACK came.
+    /// None once CP-ACK has arrived.
     pub repetition: Option<Repetition>,
     /// When TR1N ends it, or TR1M.
     pub closes: Moment,
 }
 
-/// The answer in a transaction of the other side, until its CP-ACK comes.
+/// The answer in a transaction of the other side, until its CP-ACK arrives.
 #[derive(Debug, Drop)]
 pub struct Answer {
     /// Its CP-DATA.

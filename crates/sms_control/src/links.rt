@@ -47,7 +47,7 @@ impl Links {
         }
     }
 
-    /// Links in the same state.
+    /// A copy of the links.
     pub fn copy(&self) -> Result<Links, AllocError>
         ensures { IfOk result (λ c. c ≡ self.now) }
     {
@@ -148,7 +148,7 @@ impl Links {
         Ok(Out { frames, up: None })
     }
 
-    /// Takes a frame that came, whatever its octets: one that cannot be read is dropped.
+    /// Takes a frame, whatever its octets: an unreadable one is dropped.
     #[tactic(auto, unfolding(crate::specs::LinkStep::take_step))]
     pub fn take(&mut self, frame: &[u8]) -> Result<Out, AllocError>
         ensures out { IfOk result (λ out. out ≡ (take_step frame.now self.old).out) }
@@ -170,7 +170,7 @@ impl Links {
         }
     }
 
-    /// Lets the timers fire that are due: TR1N or TR1M is looked at before TC1* of the begun transaction, and then
+    /// Lets the timers fire that are due. TR1N or TR1M is looked at first, then TC1* of the begun transaction, then
     /// TC1* of the other side's.
     #[tactic(auto, unfolding(crate::specs::LinkStep::fire_step))]
     pub fn fire(&mut self, now: Moment) -> Result<Out, AllocError>

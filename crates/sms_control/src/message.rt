@@ -22,7 +22,7 @@ pub enum Cp<'a> {
         transaction: Transaction,
         unit: OctetView<'a>,
     },
-    /// CP-ACK: CP-DATA came.
+    /// CP-ACK: CP-DATA arrived.
     AckUnit {
         transaction: Transaction,
     },

@@ -4,7 +4,7 @@ use sms_base::{Listed, Octets};
 /// Frames to send, in order.
 pub type Frames = Listed<Octets>;
 
-/// What goes up to the layer above.
+/// What is passed up to the layer above.
 #[derive(Debug, Drop)]
 pub enum Up {
     /// A unit of the other side's: it opens a transaction of the other side (`FromOriginator`),
@@ -14,7 +14,7 @@ pub enum Up {
     Failed,
 }
 
-/// What a call gives: frames to send and at most one thing that goes up.
+/// What a call gives: frames to send and at most one thing to pass up.
 #[derive(Debug, Drop)]
 pub struct Out {
     pub frames: Frames,

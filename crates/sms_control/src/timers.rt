@@ -16,8 +16,8 @@ pub const MOST_REPEATS: u8 = 2;
 /// TR1N, in seconds: how long the network waits for the answer to RP-DATA (3GPP TS 24.011 6.2.2 and 10: 35 to 45).
 pub const TR1N: u64 = 40;
 
-/// TR1M, in seconds: how long a handset waits for the answer to RP-DATA or RP-SMMA (3GPP TS 24.011 6.2.1 and 10:
-/// 35 to 45). It is as long as TR1N, since an end of a link does not know which it is.
+/// TR1M, in seconds: how long a handset waits for the answer to RP-DATA or RP-SMMA (3GPP TS 24.011 6.2.1 and 10: 35 to
+/// 45). It is as long as TR1N, since an end of a link does not know which end it is.
 pub const TR1M: u64 = TR1N;
 
 /// What the timers of a transaction do at a moment.

@@ -4,7 +4,7 @@ ghost use Rattle.sms_control.specs.ControlGrammar.{head_octet, head_of, turned};
 
 use std::marker::Model;
 
-/// From which side of a transaction a message comes (3GPP TS 24.007 11.2.3.1.3).
+/// From which side of a transaction a message is (3GPP TS 24.007 11.2.3.1.3).
 #[derive(Clone, Copy, Debug, PartialEq, Eq)]
 pub enum TransactionFlag {
     /// The flag 0: from the side that began the transaction.
@@ -14,7 +14,7 @@ pub enum TransactionFlag {
 }
 
 impl TransactionFlag {
-    /// The flag of what goes the other way.
+    /// The flag of messages the other way.
     pub fn turned(self) -> TransactionFlag
         ensures { result ≡ turned self }
     {
@@ -81,7 +81,7 @@ impl TransactionIdentifier {
     }
 }
 
-/// Which transaction a message stands in, as its first octet says.
+/// The transaction of a message, as its first octet says.
 #[derive(Clone, Copy, Debug, PartialEq, Eq)]
 pub struct Transaction {
     pub flag: TransactionFlag,
@@ -118,7 +118,7 @@ impl Transaction {
         }
     }
 
-    /// The same transaction, the other way.
+    /// The transaction with its flag turned.
     pub fn turned(self) -> Transaction
         ensures { result ≡ record { flag = turned self.flag; identifier = self.identifier } }
     {

@@ -1,2 +1,3 @@
+pub mod InMachine
 pub mod Starting
 pub mod Stepping

@@ -1,4 +1,4 @@
-//! Frames and moments that come, and what follows every event.
+//! Frames and ticks, and what follows every event.
 ghost use Rattle.std.specs.Prelude.{◌≡◌, IfOk, OnOk};
 ghost use Rattle.sms_handset_draft.specs.Draft.{link_of, no_changes};
 ghost use Rattle.sms_handset_draft.specs.FramesAndTicks.{at_moment, frame_heard, timers_fired};
@@ -8,9 +8,10 @@ ghost use Rattle.sms_link.specs.LinkTurn.{fired, taken};
 
 use sms_base::{Holder, Moment};
 use sms_handset_draft::{Draft, NoMemory};
+use sms_handset_receiving::frame_came;
 use sms_handset_rows::inbox::Regrouping;
 
-/// A frame comes.
+/// Takes a frame.
 pub(crate) fn frame_and_follow(
     draft: &mut Draft<'_>,
     octets: &[u8],
@@ -20,7 +21,7 @@ pub(crate) fn frame_and_follow(
     ensures moves { OnOk result (draft.new ≡ follow (frame_heard tag (taken octets.now (link_of draft.old)) draft.old)) }
     ensures groups { IfOk result (λ change. change ≡ frame_groups (taken octets.now (link_of draft.old)) draft.old) }
 {
-    let regrouping = draft.frame_came(octets, tag)?;
+    let regrouping = frame_came(draft, octets, tag)?;
     draft.follow()?;
     Ok(regrouping)
 }

@@ -5,12 +5,13 @@ use sms_base::{Holder, Moment, OctetView};
 /// What a handset meets.
 #[derive(Debug, Drop)]
 pub enum HandsetEvent<'a> {
-    /// A frame came; the tag is the holder for which it was made, where that is known: a frame from a socket has none.
+    /// A frame arrived. The tag is the holder for which it was made, where that is known: a frame from a socket has
+    /// none.
     Frame {
         octets: OctetView<'a>,
         tag: Option<Holder>,
     },
-    /// Time went on.
+    /// Time has passed.
     Tick {
         now: Moment,
     },

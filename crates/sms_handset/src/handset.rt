@@ -71,8 +71,8 @@ impl Model for Handset {
 }
 
 impl Handset {
-    /// The handset that starts with these rows, if it can: `BadRows` exactly where they are not sound, in a time that
-    /// grows as the rows do. It takes memory for the index of the open groups alone.
+    /// The handset that starts with these rows, if it can: `BadRows` exactly where they are not sound. Its time grows
+    /// with the rows. It takes memory for the index of the open groups alone.
     pub fn recover(alloc: Global, rows: Rows) -> Result<Handset, RecoverError>
         requires { IsSetup rows.setup }
         ensures state { IfOk result (λ handset. handset.core ≡ recovered rows) }

@@ -20,13 +20,13 @@ pub fn rows_are_the_changes()
     ensures discard { (entry : ℕ) (c : Core) → RestsIfDone c.rows (discarded entry c) }
 {}
 
-/// What is accepted is stored: changes that put a DELIVER of no discarded group into what was accepted last also put an
-/// entry of its source and user data, alone or joined, which stands in the rows.
+/// What is accepted is stored. Changes that make a DELIVER of no discarded group the last accepted also put an entry of
+/// its source and user data, alone or joined. The entry is in the rows.
 pub fn accepted_is_stored()
     ensures { (octets : List ℕ) (tag : Holder) (c : Core) → StoresAccepted c.rows.marks (frame_came octets tag c).changes (frame_came octets tag c).rows }
 {}
 
-/// Sound rows are so with any setup: a handset recovers with what it is told then.
+/// Sound rows are so with any setup: a handset recovers with the one that it is given then.
 pub fn sound_rows_take_any_setup()
     ensures { (rows : Rows) (setup : Setup) → IsSound rows → IsSetup setup → IsSound (record rows { setup = setup }) }
 {}
@@ -36,8 +36,8 @@ pub fn first_rows_are_sound()
     ensures { (setup : Setup) → IsSetup setup → IsSound (first_rows setup) }
 {}
 
-/// Where the numbers of RP-SMMA have come to their last, which is given to none, no further one is sent, and messages go
-/// on.
+/// Where the numbers of RP-SMMA have reached their last, which is never given, no further one is sent. Messages are
+/// still sent.
 pub fn the_last_notice_holds_nothing_up()
     ensures { (d : Draft) → d.rows.counters.notice ≡ 4294967295 → offer_wanted d ≡ offer_message d }
 {}

@@ -1,10 +1,22 @@
-//! The handset core (3GPP TS 23.040 9.2 and 10, 3GPP TS 24.011 6): what a handset does with a frame, with time and
-//! with what its owner wants.
+//! The handset core (3GPP TS 23.040 9.2 and 10, 3GPP TS 24.011 6): frames, ticks and the acts of its owner.
 //!
-//! `Handset` is a machine over rows, which it judges when it starts. `plan` takes an event and hands out the changes of
-//! the rows; nothing has changed yet. Its caller commits them and calls `adopt`, which can't fail: only then do the
-//! frames come out. A handset that was sound is so after each event, and starts again from the rows that were committed.
-//! What its rows are of is `sms_handset_rows::inbox`'s and `sms_handset_rows::outbox`'s, the stages of its events are `sms_handset_draft`'s.
+//! `Handset` is a machine over rows, which it judges when it starts. `plan` takes an event and gives the changes of the
+//! rows; nothing has changed yet. Its caller commits them and calls `adopt`, which can't fail and gives the frames. The
+//! plan is exactly that of the definition, and each refusal is the definition's. A sound handset is sound after each
+//! event, and starts again from the rows that were committed.
+//!
+//! - `coming`: frames and ticks, and what follows every event
+//! - `deleting`: deleting and discarding
+//! - `event`: the events of a handset
+//! - `handset`: the handset and its calls
+//! - `laws`: laws of a handset's events
+//! - `machine`: a handset over its store
+//! - `planned`: a plan, ready made
+//! - `recover_error`: why rows are refused
+//! - `refusal`: why an act of the owner is refused
+//! - `sound_rows`: whether a handset can start on rows
+//! - `text_view`: a borrowed text
+//! - `writing`: a text as SUBMITs in the outbox
 #![tactic(auto)]
 
 mod coming;

@@ -1,4 +1,4 @@
-//! Whether a handset can stand on rows.
+//! Whether the rows of a handset are sound.
 ghost use Rattle.std.specs.Prelude.{◌≡◌, ◌↔◌, ◌&&◌, true};
 ghost use Rattle.sms_handset.specs.SoundRows.{IsSetup, IsSound};
 ghost use Rattle.sms_handset.specs.SoundnessTest.{KeysRise, are_few as are_few_of, inbox_passes as inbox_passes_of, outbox_passes as outbox_passes_of};
@@ -48,8 +48,8 @@ fn outbox_passes(rows: &Rows) -> bool
         && are_marks(next, entries, rows.marks.as_slice())
 }
 
-/// Whether a handset can stand on the rows. It takes no memory, and as long as the rows are: at most 255 entries of the
-/// inbox, 20 of the outbox and 64 discarded groups are looked at one with another.
+/// Whether the rows are sound. It takes no memory, and time that grows with the rows. At most 255 entries of the inbox,
+/// 20 of the outbox and 64 discarded groups are compared with each other.
 #[tactic(auto, using(crate::proofs::Soundness::told, crate::proofs::Soundness::told_many))]
 pub(crate) fn are_sound(rows: &Rows) -> bool
     requires { IsSetup rows.now.setup }

@@ -42,7 +42,7 @@ pub struct Draft<'a> {
     pub(crate) outbox: Pending<'a, OutEntry>,
     pub(crate) marks: Pending<'a, DiscardedGroup>,
     pub(crate) counters: Option<Counters>,
-    /// How many slots the entries take as they stand.
+    /// How many slots the entries take at present.
     pub(crate) taken: u64,
     pub(crate) frames: Listed<Outgoing>,
 }
@@ -117,8 +117,8 @@ impl<'a> Draft<'a> {
         self.alloc
     }
 
-    /// What came of the event, with memory for the rows that come into the lists: those with which it began, where contracts
-    /// can't see any more that they are.
+    /// The outcome of the event, with memory for the lists' new rows. `stored` is the lists with which it began, where
+    /// contracts can't see any more that they are.
     pub fn finish(self, stored: &Stored) -> Result<Finished, NoMemory>
         ensures outcome { IfOk result (λ finished. outcome_in finished ≡ outcome_of self.entry) }
         ensures fits { IfOk result (λ finished. HaveRoom finished.changes (rows_of stored.now) (room_of stored.now)) }
@@ -154,7 +154,7 @@ impl<'a> Draft<'a> {
         })
     }
 
-    /// An entry of the inbox comes, or takes the place of that of its number.
+    /// Adds an entry of the inbox, or replaces that of its number.
     #[tactic(auto, using(sms_rows::proofs::table::Tables::all_applied_push))]
     pub(crate) fn put_entry(&mut self, entry: Entry) -> Result<(), NoMemory>
         ensures { OnOk result (self.new ≡ put_entry_of entry self.old) }
@@ -182,7 +182,7 @@ impl<'a> Draft<'a> {
     }
 
     #[tactic(auto, using(sms_rows::proofs::table::Tables::all_applied_push))]
-    pub(crate) fn put_last(&mut self, last: LastAccepted) -> Result<(), NoMemory>
+    pub fn put_last(&mut self, last: LastAccepted) -> Result<(), NoMemory>
         ensures { OnOk result (self.new ≡ put_last_of last self.old) }
     {
         self.last.put(last)?;
@@ -227,7 +227,7 @@ impl<'a> Draft<'a> {
         self.counters = Some(counters);
     }
 
-    /// The counters as they stand.
+    /// The present counters.
     pub fn counters(&self) -> Counters
         ensures { result ≡ self.now.rows.counters }
     {
@@ -262,7 +262,7 @@ impl<'a> Draft<'a> {
     }
 
     /// The stored parts of the group, before anything has changed.
-    pub(crate) fn members(&self, group: &Group) -> Members<'a>
+    pub fn members(&self, group: &Group) -> Members<'a>
         requires { self.now.changes ≡ no_changes }
         ensures { result ≡ members_of group.now self.now.rows.entries }
     {
@@ -295,7 +295,7 @@ impl<'a> Draft<'a> {
     }
 
     /// The outbox, before anything of it has changed.
-    pub(crate) fn outbox(&self) -> &'a [OutEntry]
+    pub fn outbox(&self) -> &'a [OutEntry]
         requires { self.now.changes.outbox ≡ [] }
         ensures { result.now ≡ self.now.rows.outbox }
     {
@@ -303,7 +303,7 @@ impl<'a> Draft<'a> {
     }
 
     /// What was accepted last under a reference, before anything was accepted.
-    pub(crate) fn last(&self, reference: u8) -> Option<&'a LastAccepted>
+    pub fn last(&self, reference: u8) -> Option<&'a LastAccepted>
         requires { self.now.changes.last ≡ [] }
         ensures { option_copied result ≡ row_at last_key reference self.now.rows.last }
     {
@@ -314,7 +314,7 @@ impl<'a> Draft<'a> {
 impl<'a> Draft<'a> {
     /// The answer in the transaction that the centre began, if one waits for it: a unit of 1 to 248 octets.
     #[tactic(auto, using(crate::proofs::HandsetLink::on_its_side))]
-    pub(crate) fn reply(
+    pub fn reply(
         &mut self,
         kind: Kind,
         reference: u8,
@@ -340,9 +340,9 @@ impl<'a> Draft<'a> {
         push_all(&mut self.frames, frames)
     }
 
-    /// The link takes a frame: what goes up.
+    /// The link takes a frame, and gives what it passes up.
     #[tactic(auto, using(crate::proofs::HandsetLink::on_its_side))]
-    pub(crate) fn take(&mut self, frame: &[u8]) -> Result<Option<Upward>, NoMemory>
+    pub fn take(&mut self, frame: &[u8]) -> Result<Option<Upward>, NoMemory>
         ensures moves { OnOk result (self.new ≡ with_turn (taken frame.now (link_of self.old)) self.old) }
         ensures up { IfOk result (λ up. up ≡ (taken frame.now (link_of self.old)).out.up) }
     {
@@ -351,7 +351,7 @@ impl<'a> Draft<'a> {
         Ok(out.up)
     }
 
-    /// The timers of the link fire that are due: what goes up.
+    /// The timers of the link fire that are due. It gives what the link passes up.
     #[tactic(auto, using(crate::proofs::HandsetLink::on_its_side))]
     pub(crate) fn fire(&mut self) -> Result<Option<Upward>, NoMemory>
         ensures moves { OnOk result (self.new ≡ with_turn (fired self.old.moment (link_of self.old)) self.old) }

@@ -1,4 +1,4 @@
-//! What came of an event.
+//! The outcome of an event.
 
 use crate::rows::Changes;
 use sms_base::{Listed, Moment};

@@ -26,7 +26,7 @@ impl<'a> Draft<'a> {
         Ok(Regrouping::Unchanged)
     }
 
-    /// A frame came: what becomes of the open groups.
+    /// Takes a frame, and gives what becomes of the open groups.
     pub fn frame_came(&mut self, octets: &[u8], tag: Holder) -> Result<Regrouping, NoMemory>
         requires untouched { self.old.changes ≡ no_changes }
         ensures moves { OnOk result (self.new ≡ frame_heard tag (taken octets.now (link_of self.old)) self.old) }
@@ -46,7 +46,7 @@ impl<'a> Draft<'a> {
         }
     }
 
-    /// Time went on.
+    /// Lets time pass.
     pub fn tick(&mut self, now: Moment) -> Result<(), NoMemory>
         ensures { OnOk result (self.new ≡ timers_fired (fired (at_moment now self.old).moment (link_of (at_moment now self.old))) (at_moment now self.old)) }
     {

@@ -52,17 +52,13 @@ impl<'a> Draft<'a> {
     }
 
     /// The transfer that this side began has ended.
-    pub(crate) fn transfer_ended(
-        &mut self,
-        transfer: &Carried,
-        ending: &Ending,
-    ) -> Result<(), NoMemory>
+    pub fn transfer_ended(&mut self, transfer: &Carried, ending: &Ending) -> Result<(), NoMemory>
         ensures { OnOk result (self.new ≡ transfer_ended_of transfer.now ending.now self.old) }
     {
         self.holder_concluded(ending, transfer.tag)
     }
 
-    /// The outbox as it stands, with what this event has changed of it.
+    /// The present outbox, with what this event has changed of it.
     pub fn outbox_now(&self) -> Result<Table<OutView<'_>>, NoMemory>
         ensures { IfOk result (λ outbox. outbox.rows ≡ self.now.rows.outbox) }
     {

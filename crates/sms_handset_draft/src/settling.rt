@@ -1,5 +1,5 @@
-//! The changes of an event, with memory for the rows that they bring. Each function here holds few values where a growth may be refused:
-//! what is let go there is dear to prove.
+//! The changes of an event, with memory for the rows that they bring. Each function here holds few values where a
+//! growth may be refused: what is dropped there is dear to prove.
 ghost use Rattle.std.specs.Prelude.{◌≡◌, IfOk};
 ghost use Rattle.sms_rows.specs.table.Pending.{FitsIn};
 ghost use Rattle.sms_handset_draft.specs.Draft.{room_of, rows_of};

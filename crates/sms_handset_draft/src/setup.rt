@@ -1,7 +1,7 @@
-//! What a handset is told when it starts.
+//! What a handset is given when it starts.
 use sms_base::{Address, Moment};
 
-/// What a handset is told when it starts, and does not store.
+/// What a handset is given when it starts, and does not store.
 #[derive(Clone, Copy, Debug, PartialEq, Eq)]
 pub struct Setup {
     /// Its own number.

@@ -17,7 +17,7 @@ use sms_handset_rows::inbox::{
 
 impl<'a> Draft<'a> {
     /// Whether a slot is free and an entry number is left.
-    pub(crate) fn has_room(&self) -> bool
+    pub fn has_room(&self) -> bool
         ensures room { result ≡ has_room_of self.now }
         ensures number { result ≡ true → self.now.rows.counters.entry < 4294967295 }
     {
@@ -25,7 +25,7 @@ impl<'a> Draft<'a> {
     }
 
     /// A message was refused for want of a slot.
-    pub(crate) fn flag(&mut self)
+    pub fn flag(&mut self)
         ensures { self.new ≡ flag_of self.old }
     {
         let mut counters = self.counters();
@@ -47,7 +47,7 @@ impl<'a> Draft<'a> {
     }
 
     /// A message that is no part of an open group.
-    pub(crate) fn store_single(&mut self, tpdu: &[u8]) -> Result<(), NoMemory>
+    pub fn store_single(&mut self, tpdu: &[u8]) -> Result<(), NoMemory>
         requires { self.old.rows.counters.entry < 4294967295 }
         ensures { OnOk result (self.new ≡ store_single_of tpdu.now self.old) }
     {
@@ -61,7 +61,7 @@ impl<'a> Draft<'a> {
     }
 
     /// A part of a group that has those parts so far: what becomes of the group.
-    pub(crate) fn store_part(
+    pub fn store_part(
         &mut self,
         group: &Group,
         number: u8,
@@ -144,8 +144,8 @@ impl<'a> Draft<'a> {
         })
     }
 
-    /// A part of a discarded group came.
-    pub(crate) fn mark(&mut self, number: u8, mark: &DiscardedGroup) -> Result<(), NoMemory>
+    /// Notes a part of a discarded group.
+    pub fn mark(&mut self, number: u8, mark: &DiscardedGroup) -> Result<(), NoMemory>
         ensures { OnOk result (self.new ≡ marked_of number mark.now self.old) }
     {
         let mut seen = Octets::copy_of(self.alloc, mark.seen.as_slice())?;

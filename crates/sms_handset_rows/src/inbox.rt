@@ -1,10 +1,10 @@
-//! The inbox of a handset: what it has stored of the messages that came (3GPP TS 23.040 9.2.3.24.1 and 10.1).
+//! The inbox of a handset: the messages and parts that it has stored (3GPP TS 23.040 9.2.3.24.1 and 10.1).
 //!
 //! An entry is a message, a part of an open group, or a long message that was joined. `OpenGroups` is the index of the
-//! open groups, by their first stored parts: it has just those of the entries, and a change of it, a `Regrouping`, is
-//! carried out in memory that was made before. Each open group has what its parts carry in a joiner, so that the parts of
-//! a full group aren't read again. `Members` are the stored parts of one group, found by the index.
-//! The tests of `sound_inbox` tell whether rows are such as a handset leaves; they take no memory.
+//! open groups by their first stored parts, and has exactly those of the entries. A change of it, a `Regrouping`, is
+//! put in with memory that was taken before. Each open group has what its parts carry in a joiner, so that the parts of
+//! a full group aren't read again. `Members` are the stored parts of one group, found by the index. The tests of
+//! `sound_inbox` answer whether a handset can have left such rows; they take no memory.
 
 mod discarded_group;
 mod entry;

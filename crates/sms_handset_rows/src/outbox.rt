@@ -1,9 +1,9 @@
 //! The outbox of a handset: what it sends (3GPP TS 23.040 9.2.2.2, 3GPP TS 24.011 6.3.3).
 //!
-//! An entry is one SUBMIT that the owner wrote, under a TP-MR and a reference that no unfinished entry and no RP-SMMA
-//! holds; a `Notice` is an RP-SMMA that has not ended. What the end of a transfer says is a `Verdict`, which settles the
-//! entry. Of the entries that are due the oldest is sent first. The tests of `sound_outbox` tell whether rows are such as
-//! a handset leaves; they take no memory.
+//! An entry is one SUBMIT that the owner wrote. It takes a TP-MR and a reference that no unfinished entry and no
+//! RP-SMMA holds. A `Notice` is an RP-SMMA that has not ended. A transfer's end gives a `Verdict`, which settles the
+//! entry. Of the entries that are due the oldest is sent first. The tests of `sound_outbox` answer whether a handset
+//! can have left such rows; they take no memory.
 
 mod answers;
 mod notice;

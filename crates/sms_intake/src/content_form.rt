@@ -1,4 +1,4 @@
-//! How a content stands in its octets.
+//! How octets spell a content.
 use sms_alphabet::Coding;
 
 /// What the octets of a content are.

@@ -133,9 +133,12 @@ fn are_few(count: Result<u8, SplitError>) -> bool
 }
 
 impl<'a> ContentView<'a> {
-    /// The content of the octets of a submit_sm, by its data_coding (SMPP v3.4 5.2.19): 0 septets, one an octet; 1 ASCII
-    /// and 3 Latin-1, in the default alphabet where it can be, else in UCS2; 2 and 4 octets; 8 UCS2; F0 to FF as the data
-    /// coding scheme. Refused are others, and octets that are no characters of theirs.
+    /// The content of the octets of a submit_sm, by its data_coding (SMPP v3.4 5.2.19):
+    /// - 0: septets, one an octet;
+    /// - 1, ASCII, and 3, Latin-1: in the default alphabet where it can be, else in UCS2;
+    /// - 2 and 4: octets; 8: UCS2;
+    /// - F0 to FF: as the data coding scheme.
+    /// Others are refused, and octets that are no characters of theirs.
     pub(crate) fn of(data_coding: u8, octets: &'a [u8]) -> Result<ContentView<'a>, CommandStatus>
         ensures { result ≡ content_at data_coding octets.entry.now }
     {
@@ -199,9 +202,12 @@ impl<'a> ContentView<'a> {
     }
 }
 
-/// The content of the octets of a submit_sm, by its data_coding (SMPP v3.4 5.2.19): 0 septets, one an octet; 1 ASCII and
-/// 3 Latin-1, in the default alphabet where it can be, else in UCS2; 2 and 4 octets; 8 UCS2; F0 to FF as the data coding
-/// scheme. Refused are others, and octets that are no characters of theirs.
+/// The content of the octets of a submit_sm, by its data_coding (SMPP v3.4 5.2.19):
+/// - 0: septets, one an octet;
+/// - 1, ASCII, and 3, Latin-1: in the default alphabet where it can be, else in UCS2;
+/// - 2 and 4: octets; 8: UCS2;
+/// - F0 to FF: as the data coding scheme.
+/// Others are refused, and octets that are no characters of theirs.
 pub fn content_of(alloc: Global, data_coding: u8, octets: &[u8]) -> Result<Content, SmppError>
     ensures { Answered result (content_at data_coding octets.now) }
 {

@@ -48,8 +48,8 @@ fn written(alloc: Global, deliver: &Deliver<'_>) -> Result<Octets, AllocError>
     write_deliver(alloc, deliver)
 }
 
-/// The DELIVER of a part whose reference was given at that moment, which is TP-SCTS; TP-MMS is 1, as no offer has told it
-/// yet. At most 163 octets. Takes memory once.
+/// The DELIVER of a part whose reference was given at that moment, which is TP-SCTS. TP-MMS is 1, as no offer has set
+/// it yet. At most 163 octets. Takes memory once.
 pub fn deliver_octets(
     alloc: Global,
     moment: Moment,

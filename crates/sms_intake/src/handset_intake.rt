@@ -97,8 +97,8 @@ fn accepted(
     Ok(submission)
 }
 
-/// The submission of what a handset with these digits sent in RP-DATA, or the first refusal: a TPDU that can't be read
-/// or is no SUBMIT, a destination that is no handset, a limit that is past.
+/// The submission of what a handset with these digits sent in RP-DATA, or the first refusal. Refused are a TPDU that is
+/// unreadable or no SUBMIT, a destination that is no handset, and a limit that is past.
 ///
 /// Takes memory once, for the user data of what is accepted.
 pub fn from_submit(

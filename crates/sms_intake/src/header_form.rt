@@ -1,13 +1,13 @@
-//! What stands in front of a content.
+//! The header in front of a content.
 use sms_base::OctetView;
 use sms_concat::ConcatKey;
 
-/// What stands in front of a content.
+/// The header in front of a content.
 #[derive(Debug, Drop)]
 pub(crate) enum HeaderForm<'a> {
     /// Nothing.
     Without,
-    /// The header that came, and its key.
+    /// The header of the sender, and its key.
     Given {
         header: OctetView<'a>,
         key: Option<ConcatKey>,

@@ -1,9 +1,25 @@
-//! What is submitted, and why it is refused, as far as that needs no rows.
+//! Submissions, and why they are refused, as far as that needs no rows.
 //!
-//! `from_submit` answers the submission that a handset's SUBMIT is (3GPP TS 23.040 9.2.2.2), or the first refusal in the
-//! order of `specs/HandsetIntake.antt`; `from_pdu` answers the same of an application's submit_sm (SMPP v3.4 4.4.1), in the
-//! order of `specs/SmppIntake.antt`. Want of memory is told only of what is accepted: all is judged over borrowed octets.
-//! A submission says what the message is to say: a content that the centre splits where it must, or one part.
+//! `from_submit` answers the submission of a handset's SUBMIT (3GPP TS 23.040 9.2.2.2), or the first refusal by
+//! `specs/HandsetIntake.antt`. `from_pdu` answers that of an application's submit_sm (SMPP v3.4 4.4.1), or the first
+//! refusal by `specs/SmppIntake.antt`. All is judged over borrowed octets, so want of memory is reported only of what
+//! is accepted. A submission has its content: one that the centre splits where it must, or one part.
+//!
+//! - `content_form`: how octets spell a content
+//! - `content_view`: the content of a submit_sm, before any memory is taken
+//! - `deliver`: the DELIVER of a part
+//! - `handset_intake`: a SUBMIT from a handset
+//! - `header_form`: the header in front of a content
+//! - `laws`: laws of submissions
+//! - `part_bodies`: what the parts of a submission carry
+//! - `refusal`: why a SUBMIT is refused
+//! - `smpp_address`: the addresses of a submit_sm
+//! - `smpp_front`: what is judged of a submit_sm before its text
+//! - `smpp_intake`: a submit_sm from an application
+//! - `smpp_times`: times and wishes of a submit_sm
+//! - `submission`: what is submitted
+//! - `submit_report`: the answer of a handset's SUBMIT
+//! - `text_view`: the text of a submit_sm, before any memory is taken
 #![tactic(auto)]
 
 mod content_form;

@@ -28,7 +28,7 @@ pub enum SubmitRefusal {
     /// The validity period is over.
     #[error("the validity period is over")]
     PastLimit,
-    /// The message is pending under the same TP-MR, and TP-RD is 1.
+    /// The message is pending under this TP-MR, and TP-RD is 1.
     #[error("the message is a duplicate")]
     Duplicate,
     /// The centre gave the concatenation reference to a message of its own.

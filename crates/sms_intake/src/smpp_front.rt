@@ -6,7 +6,7 @@ use crate::smpp_address::{handset_in, source_in};
 use smpp_pdu::{CommandStatus, Message, Tlvs};
 use sms_base::{Address, Digits, OctetView};
 
-/// Whose a message is, and to which handset it goes.
+/// The source of a message, and its handset.
 #[derive(Clone, Copy, Debug, PartialEq, Eq)]
 pub struct Front {
     /// The source, the account's address where none is given.
@@ -50,9 +50,9 @@ fn has_too_much(message: &Message<'_>) -> bool
     (payload && !message.short_message.as_slice().is_empty()) || (has_sar(&message.tlvs) && header)
 }
 
-/// Source and handset of a submit_sm from an account with that address, or the first refusal that comes before its
-/// text: esm_class with a message type, source, destination, lengths of the sar values, and a payload beside a
-/// short_message or sar values beside a header.
+/// Source and handset of a submit_sm from an account with that address, or the first refusal before its text. In this
+/// order: esm_class with a message type, source, destination, lengths of the sar values. Then a payload beside a
+/// short_message, or sar values beside a header.
 #[tactic(auto, unfolding(crate::specs::SmppIntake::front_in))]
 pub fn front_of(own: &Address, message: &Message<'_>) -> Result<Front, CommandStatus>
     ensures { result ≡ front_in own.now message.now }

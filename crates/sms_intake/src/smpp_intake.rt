@@ -63,10 +63,13 @@ fn submission_for(
     })
 }
 
-/// The submission of a submit_sm from an account, or the first refusal: what `front_of` refuses; a data_coding that names
-/// no coding, octets that are no characters of theirs, a header that can't be read; half a unit of UCS2; a text too long
-/// for 20 parts, or for one behind a header; a validity period that is no later time; a schedule that is no time before
-/// its end.
+/// The submission of a submit_sm from an account, or the first refusal, in this order:
+/// - what `front_of` refuses;
+/// - a data_coding that names no coding, octets that are no characters of theirs, an unreadable header;
+/// - half a unit of UCS2;
+/// - a text too long for 20 parts, or for one behind a header;
+/// - a validity period that is no later time;
+/// - a schedule that is no time before its end.
 ///
 /// Takes memory for what is accepted alone.
 #[tactic(auto, unfolding(crate::specs::SmppIntake::from_pdu))]

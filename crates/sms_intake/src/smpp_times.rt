@@ -22,8 +22,8 @@ fn time_in(octets: &[u8], now: Moment) -> Option<Moment>
     }
 }
 
-/// Until when a message is kept, by its validity_period: two days where it is empty, and no longer than 63 weeks; one
-/// that is no time, or not later than now, is refused.
+/// Until when a message is kept, by its validity_period. It is two days where that is empty, and 63 weeks at most. A
+/// period that is no time, or not later than now, is refused.
 pub fn limit_of(validity_period: &[u8], now: Moment) -> Result<Moment, CommandStatus>
     ensures { result ≡ limit_in now validity_period.now }
 {
@@ -49,8 +49,8 @@ fn earlier(one: Moment, other: Moment) -> Moment
     }
 }
 
-/// From when on a message is offered, by its schedule_delivery_time: now where it is empty; one that is no time, or not
-/// before the limit, is refused, and one that is past is kept as it is.
+/// From when on a message is offered, by its schedule_delivery_time: now where it is empty. One that is no time, or not
+/// before the limit, is refused. One that is past is kept.
 pub fn due_of(
     schedule_delivery_time: &[u8],
     now: Moment,
@@ -67,7 +67,8 @@ pub fn due_of(
     }
 }
 
-/// Of which ends the originator is told, by bits 1 and 0 of registered_delivery: 0 none, 1 and 3 always, 2 on failure.
+/// At which ends the originator wants a report, by bits 1 and 0 of registered_delivery: 0 none, 1 and 3 always, 2 on
+/// failure.
 pub fn wish_of(registered_delivery: u8) -> Wish
     ensures { result ≡ wish_in registered_delivery }
 {

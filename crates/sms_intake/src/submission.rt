@@ -41,7 +41,7 @@ pub struct Submission {
     pub originator: Originator,
     /// TP-OA of its parts.
     pub source: Address,
-    /// The digits 0 to 9 of the handset to which it goes.
+    /// The digits 0 to 9 of its handset.
     pub handset: Digits,
     /// TP-PID.
     pub protocol_identifier: u8,

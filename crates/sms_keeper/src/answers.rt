@@ -100,7 +100,7 @@ pub type AnswersQueue<O> = RuledArrayQueue<O, AnswersView<O>, Handed>;
 
 pub type AnswersPass<O> = Pass<O, AnswersView<O>>;
 
-/// The keeper gives an answer. It comes back only if the queue was full at one moment of the call.
+/// The keeper gives an answer. It is handed back only if the queue was full at one moment of the call.
 pub fn give<O, R: Wait>(
     rt: &R,
     queue: &AnswersQueue<O>,
@@ -165,7 +165,7 @@ fn empty<O: Drop, R: Wait>(
     unreachable!()
 }
 
-/// The keeper takes in the seat's pass and what is left in the queue, and lets go of it.
+/// The keeper takes in the seat's pass and what is left in the queue, and drops the pass.
 pub fn gather<O: Drop, R: Wait>(
     rt: &R,
     alloc: Global,

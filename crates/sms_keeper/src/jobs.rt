@@ -67,7 +67,7 @@ impl<J> Join<JobsView<J>> for TakeSeat {
     ghost spent = { spent_view };
 }
 
-/// The keeper's pass lets go of a seat's that it took in.
+/// The keeper's pass drops a seat's that it took in.
 pub struct LeaveSeat;
 
 impl<J> Split<JobsView<J>> for LeaveSeat {
@@ -163,7 +163,8 @@ pub fn next<J, R: Wait>(rt: &R, queue: &JobsQueue<J>, pass: &mut JobsPass<J>) ->
     queue.pop_as::<Runs, R>(rt, pass)
 }
 
-/// The keeper takes in a seat's pass, learns that what the seat put is its part of what was popped and of some rest, and lets go of it.
+/// The keeper takes in a seat's pass and drops it. It learns that what the seat put is its part of what was popped and
+/// of some rest.
 pub fn compare<J>(queue: &JobsQueue<J>, keeper: &mut JobsPass<J>, seat: JobsPass<J>)
     requires queue { IsPassOf queue.now keeper.old × IsPassOf queue.now seat }
     requires keeper { view keeper.old ≡ keeper_view (view keeper.old).made (view keeper.old).ran }

@@ -18,7 +18,7 @@ pub enum Stimulus<J> {
     Tick(Moment),
 }
 
-/// What befell an item.
+/// The result of an item.
 #[derive(Clone, Copy, Debug, PartialEq, Eq)]
 pub enum Fate {
     /// What it changed is committed.
@@ -54,7 +54,7 @@ pub trait Gate {
     fn pass(&self);
 }
 
-/// What tells the time.
+/// A clock.
 pub trait Clock {
     /// The moments that it may show.
     ghost shows: { Self → ℕ → Type 0 };
@@ -63,16 +63,16 @@ pub trait Clock {
         ensures { shows self.now result };
 }
 
-/// What the keeper runs: its definition, by `gives` and `after`, says what each stimulus puts out and leads to.
+/// What the keeper runs. Its definition, by `gives` and `after`, says what each stimulus puts out and leads to.
 ///
-/// Its laws are told for as long as it is honest: its store returns what was written.
+/// Its laws hold as long as it is honest: its store returns what was written.
 pub trait Machine<J, O> {
-    /// What a machine stands for. No value of it is made.
+    /// What a machine represents. No value of it is made.
     type State;
 
     ghost stands: { Self → Self.State → Type 0 };
 
-    /// What it stands for once it is opened again.
+    /// What it represents once it is opened again.
     ghost resumes: { Self → Self.State → Type 0 };
 
     /// So far its store has returned what was written.

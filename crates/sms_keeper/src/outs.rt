@@ -18,7 +18,7 @@ pub(crate) enum Held<O> {
     Many(Vec<Out<O>>),
 }
 
-/// Outs in order, seen by contracts as a list. None and one take no memory, so that a refusal can always be told.
+/// Outs in order, seen by contracts as a list. None and one take no memory, so that a refusal can always be reported.
 #[derive(Drop)]
 pub struct Outs<O> {
     held: Held<O>,

@@ -1,4 +1,4 @@
-//! What comes up from a link.
+//! What a link passes up.
 ghost use Rattle.std.specs.Prelude.{◌≡◌, IfOk, Ok};
 ghost use Rattle.sms_link.specs.Ending.{ended_by, unit_at, unit_ending as unit_ending_of};
 
@@ -9,9 +9,9 @@ use std::alloc::{AllocError, Global};
 /// Whose end of a link it is.
 #[derive(Clone, Copy, Debug, PartialEq, Eq)]
 pub enum Side {
-    /// Units that go down come to it.
+    /// It receives the units that are sent down.
     Handset,
-    /// Units that go up come to it.
+    /// It receives the units that are sent up.
     Centre,
 }
 
@@ -31,7 +31,7 @@ pub enum Ending {
     Lost,
 }
 
-/// What goes up to the core.
+/// What is passed up to the core.
 #[derive(Debug, Drop)]
 pub enum Upward {
     /// A unit that opens a transaction of the other side's. It waits for a reply.

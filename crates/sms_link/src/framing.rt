@@ -1,9 +1,8 @@
 //! The frames of a link between a handset and the centre, in the octets of a connection.
 //!
-//! A frame stands there behind two octets that tell its length. `FrameBuffer` takes octets as they come and shows the
-//! frame at the front where it stands, until it is cut off. To the layer above this one promises that the frames are those
-//! of the whole stream, however it was cut into pieces on its way, and that octets which are no such stream are refused as
-//! soon as the length that is wrong has come.
+//! Two octets in front of a frame have its length. `FrameBuffer` takes octets as they arrive and shows the frame at the
+//! front in place, until it is cut off. The frames are those of the whole stream, however it was cut into pieces on its
+//! way. Octets that are no such stream are refused as soon as the wrong length is there.
 
 mod buffer;
 mod fault;

@@ -12,10 +12,9 @@ ghost use Rattle.sms_link.specs.declared.ending.Ending.{Ending};
 ghost use Rattle.sms_link.specs.declared.ending.Upward.TheVariants.{Ended, Opened};
 ghost use Rattle.sms_link.specs.declared.ending.Side.{Side};
 
-/// Over any calls, each frame out is one of three. What `begin` and `reply` send is new: CP-DATA with the unit that they
-/// were given, and it carries what they were given. What a timer sends is a copy of a new frame that was sent before,
-/// with what that one carried. What a frame that came brings out is such a copy, or CP-ACK or CP-ERROR, which carries
-/// nothing.
+/// Over any calls, each frame out is one of three. `begin` and `reply` send a new frame: CP-DATA with the unit that
+/// they were given, which carries what they were given. A timer sends a copy of an earlier new frame, with what that
+/// frame carried. A received frame is answered by such a copy, or by CP-ACK or CP-ERROR, which carries nothing.
 pub fn frames_carry_what_they_did()
     ensures { (side : Side) (calls : List LinkCall) → AreCalls calls → AllSend calls (new_link side) [] }
 {}
@@ -43,7 +42,7 @@ pub fn a_waiting_unit_is_answered()
         → replied now kind reference tag unit link ≡ answering (of_kind kind reference tag) (reply_step now unit link.links) link }
 {}
 
-/// A unit that came up waits for its reply.
+/// A unit that was passed up waits for its reply.
 pub fn an_opened_unit_waits()
     ensures { (frame unit : List ℕ) (link : LinkOf) → (taken frame link).out.up ≡ Some (Opened unit) → awaits_reply (taken frame link).link.links ≡ true }
 {}

@@ -30,7 +30,7 @@ impl Model for Link {
     ghost view = { λ l. record { side = l.side; links = l.links; under_way = l.under_way; answered = l.answered } };
 }
 
-/// What a frame or a tick gives: frames to send and at most one thing that goes up.
+/// What a frame or a tick gives: frames to send and at most one thing to pass up.
 #[derive(Debug, Drop)]
 pub struct LinkOut {
     pub frames: Listed<Outgoing>,
@@ -51,7 +51,7 @@ impl Link {
         }
     }
 
-    /// A link in the same state.
+    /// A copy of the link.
     pub fn copy(&self) -> Result<Link, AllocError>
         ensures { IfOk result (λ copy. copy ≡ self.now) }
     {
@@ -162,7 +162,7 @@ impl Link {
         }
     }
 
-    /// Takes a frame that came, whatever its octets.
+    /// Takes a frame, whatever its octets.
     pub fn take(&mut self, frame: &[u8]) -> Result<LinkOut, AllocError>
         ensures out { IfOk result (λ out. out ≡ (taken frame.now self.old).out) }
         ensures state { OnOk result (self.new ≡ (taken frame.now self.old).link) }

@@ -7,6 +7,6 @@ pub struct Outgoing {
     pub octets: Octets,
     /// What CP-DATA carries. CP-ACK and CP-ERROR carry nothing.
     pub carried: Option<Carried>,
-    /// Whether it is a copy: CP-DATA that was sent before with the same octets and carried the same then.
+    /// Whether it is a copy: CP-DATA that was sent before with these octets, and carried this then.
     pub is_copy: bool,
 }

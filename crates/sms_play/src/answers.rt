@@ -1,7 +1,7 @@
-//! What a script's requests are never answered.
+//! Law: no request of a script is answered ESME_RSYSERR.
 //!
-//! A request of an application that the centre can't tell from any account is answered by ESME_RSYSERR (SMPP v3.4 5.1.3). Here it is shown
-//! of `sms_play`'s definition that no script leads there: its requests name accounts of its head, and no check of a submit_sm, a query_sm
-//! or a cancel_sm answers so. There is a law here and no code.
+//! The centre answers so a request of an application that it can't assign to any account (SMPP v3.4 5.1.3). By
+//! `sms_play`'s definition no script leads there. Its requests name accounts of its head, and no check of a submit_sm,
+//! a query_sm or a cancel_sm answers so. This module has a law and no code.
 
 pub mod laws;

@@ -1,8 +1,9 @@
 //! Whether the premises of the claims hold of a script in play.
 //!
-//! `Scene` is what there is to see of a script in play, and the course of the definition that it shows; `Watcher` is who looks on, before
-//! each event and after it. `Judge` finds the first event that breaks a premise: its verdict is that of the definition (`sms_play`),
-//! event by event, where the course goes on as events have it (`specs/Going.antt`). Each event costs what came with it.
+//! `Scene` is what there is to see of a script in play, and the course of the definition that it shows. `Watcher` looks
+//! on, before each event and after it. `Judge` finds the first event that breaks a premise. Its verdict is that of the
+//! definition (`sms_play`), event by event, where the course continues as events have it. Each event costs as much as
+//! it adds.
 
 mod premises;
 mod rounds;

@@ -1,10 +1,15 @@
-//! What a script leads to: handsets and a service centre on stores that keep what they are given, and a network that hands
-//! over what the script says and nothing else.
+//! What a script leads to.
 //!
-//! `specs/` has the definition: an event of the script is an event of one of the two cores (`Meeting`), what the core makes
-//! of it is committed, its frames get the next numbers, and the report is read off the rows and the changes that led to them.
-//! Whether frames were timely and concatenation references fresh is decided beside it. This crate has no code but the faults
-//! that the definition names.
+//! Handsets and a centre have stores that keep what they are given. The network hands over only what the script says.
+//! `specs/` has the definition. An event of the script is an event of one of the two cores (`Meeting`). What the core
+//! makes of it is committed, and its frames get the next numbers. The report is read off the rows and the changes that
+//! led to them. Beside it the definition decides whether frames were timely and concatenation references fresh.
+//!
+//! - `answers`: law: no request of a script is answered ESME_RSYSERR
+//! - `fault`: why a script is not played to its end
+//! - `growth`: laws: what an event keeps of a script's course
+//! - `judging`: whether the premises hold of a script in play
+//! - `staging`: requests as PDUs, frames by number, references that were given
 #![tactic(auto)]
 
 pub mod answers;

@@ -1,7 +1,7 @@
 //! What a script is played with beside its two cores.
 //!
-//! Requests become PDUs, frames get the next numbers, and the
-//! references that an event of the centre gives are told from its changes, each as the script's definition (`sms_play`) has it.
+//! Requests become PDUs, frames get the next numbers, and the references that an event of the centre gives are found in
+//! its changes. Each is as the script's definition (`sms_play`) has it.
 
 mod frames;
 mod givings;

@@ -1,9 +1,10 @@
 //! The centre of a script in play, over the centre's code.
 //!
-//! `PlayedCentre` is a centre on rows in memory, both lent to it, and at any time some centre of the definition: `meet` leads from the
-//! one to that after the event, commits its changes and tells the references that it gave; `restart` leads to the one that starts again
-//! on its rows. `with_first_centre` and `with_first_keep` lend what such a centre is made of. Memory is wanted only where a growth was
-//! refused. What a play names of the crates below, heads and handsets among it, it finds here (`specs/FromBelow.antt`).
+//! `PlayedCentre` is a centre on rows in memory, both lent to it. At any time it represents some centre of the
+//! definition. `meet` leads from that to the one after the event, commits its changes and gives the references that it
+//! gave. `restart` leads to the one that starts again on its rows. `with_first_centre` and `with_first_keep` lend what
+//! such a centre is made of. Want of memory is reported only where a growth was refused. This module passes on what a
+//! play names of the crates below, heads and handsets among it.
 
 mod centre;
 mod events;

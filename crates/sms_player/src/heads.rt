@@ -1,9 +1,9 @@
-//! Heads of scripts, and the sides that come of them.
+//! Which heads of scripts can be played, and the sides that they name.
 //!
-//! `judge` tells exactly which heads can be played, and the moment at which such a script begins. `centre_setup` is what its centre is
-//! told, `with_parties` makes its handsets and lends them, so that no crate above proves how they are let go. All of it is as the
-//! definition has it (`sms_play`). Memory is wanted only where a growth was refused. What crates above name of a handset in play they
-//! find here.
+//! `judge` answers exactly which heads can be played, and the moment at which such a script begins. `centre_setup` is
+//! the setup of its centre. `with_parties` makes its handsets and lends them, so that no crate above proves how they
+//! are dropped. All of it is as the definition has it (`sms_play`). Want of memory is reported only where a growth was
+//! refused. This module passes on what crates above name of a handset in play.
 
 mod centre;
 mod handsets;

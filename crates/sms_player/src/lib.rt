@@ -1,9 +1,13 @@
-//! sms_player, of modules:
+//! The cores' code plays a script, exactly as the script's definition says.
 //!
-//! - `centre`: The centre of a script in play, over the centre's code.
-//! - `handset`: A handset of a script in play.
-//! - `heads`: Heads of scripts, and the sides that come of them.
-//! - `playing`: A script in play: handsets and a centre on rows in memory, and a network that hands over what the script says.
+//! A play has the two cores on rows in memory, all of which are lent to it. At any time it represents a course of the
+//! definition (`sms_play`), and its report is that course's. It reports want of memory only where a growth was refused;
+//! the play ends then.
+//!
+//! - `centre`: the centre of a script in play
+//! - `handset`: a handset of a script in play
+//! - `heads`: which heads can be played, and the sides that they name
+//! - `playing`: a script in play
 #![tactic(auto)]
 
 pub mod centre;

@@ -11,7 +11,7 @@ use sms_base::{Address, FinalState, MessageId, OctetView, Octets};
 use std::alloc::{AllocError, Global};
 use std::marker::Model;
 
-/// The deliver_sm that tells an application how its message ended, seen by contracts as that message.
+/// The deliver_sm by which an application learns how its message ended, seen by contracts as that message.
 #[derive(Debug, Drop)]
 pub struct Receipt {
     source: Address,

@@ -20,8 +20,8 @@ fn status_of(state: FinalState) -> Status
     }
 }
 
-/// The status report of a message that a handset submitted: to whom it was to go, when it was taken, when and how it
-/// ended. TP-MMS is 1, as no offer has told it yet.
+/// The status report of a message that a handset submitted: its destination, when it was taken, when and how it ended.
+/// TP-MMS is 1, as no offer has set it yet.
 pub fn status_report_of(end: &Final) -> StatusReport<'static>
     ensures { result ≡ status_report_of end.now }
 {

@@ -1,6 +1,5 @@
 pub mod Cause
 pub mod FaultCode
 pub mod MessageType
-pub mod RelayFaults
 pub mod RelayGrammar
 pub mod RelayReading

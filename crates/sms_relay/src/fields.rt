@@ -45,7 +45,7 @@ pub(crate) fn tpdu<'a>(cursor: &mut Cursor<'a>) -> Result<OctetView<'a>, RelayFa
     Ok(OctetView::of(unit))
 }
 
-/// User data where its identifier stands, else none.
+/// User data where its identifier is there, else none.
 #[tactic(auto, unfolding(crate::specs::RelayReading::user_data_in))]
 fn user_data<'a>(cursor: &mut Cursor<'a>) -> Result<Option<OctetView<'a>>, RelayFault>
     ensures { Takes (λ x. x) result cursor.new (user_data_in cursor.old) }

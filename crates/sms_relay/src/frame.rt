@@ -27,7 +27,7 @@ pub enum Rp<'a> {
         cause: RpCause,
         unit: Option<OctetView<'a>>,
     },
-    /// RP-SMMA: the handset has memory again. It goes up alone.
+    /// RP-SMMA: the handset has memory again. It is sent up alone.
     Smma {
         reference: u8,
     },

@@ -3,7 +3,7 @@ ghost use Rattle.std.specs.Prelude.{◌≡◌, ◌≢◌, ◌<◌, ℕ, List, []
 ghost use Rattle.std.specs.List.{AllByRecursion};
 ghost use Rattle.sms_base.specs.Reading.{AreOctets};
 ghost use Rattle.sms_relay.specs.Cause.{number_of, named, cause_of, IsRpCause};
-ghost use Rattle.sms_relay.specs.RelayFaults.{HasContinuation, HasFront};
+ghost use Rattle.sms_base.specs.FaultReasons.{HasContinuation, HasFront};
 ghost use Rattle.sms_relay.specs.RelayGrammar.{IsUp, IsDown, IsWrittenUp, IsWrittenDown, up_octets, down_octets, user_data_of, bare};
 ghost use Rattle.sms_relay.specs.RelayReading.{up_at, down_at};
 ghost use Rattle.sms_relay.specs.declared.cause.RpCause.{RpCause as CauseOf};
@@ -12,13 +12,12 @@ ghost use Rattle.sms_relay.specs.declared.fault.RelayFault.{RelayFault as FaultO
 ghost use Rattle.sms_relay.specs.declared.fault.RelayFault.TheVariants.{Trailing, Truncated};
 ghost use Rattle.sms_relay.specs.declared.frame.Rp.{Rp as RpOf};
 
-/// Each number is that of the cause that it stands for.
+/// Each number is that of the cause that it names.
 pub fn cause_has_its_number()
     ensures { (number : ℕ) → number_of (cause_of number) ≡ number }
 {}
 
-/// A cause of a frame has a number below 128 and is what its number stands for; so is a reserved one whose number no
-/// named cause has.
+/// A cause of a frame has a number below 128, which names it. So has a reserved one whose number no named cause has.
 pub fn number_has_its_cause()
     ensures below { (cause : CauseOf) → IsRpCause cause → number_of cause < 128 }
     ensures back { (cause : CauseOf) → IsRpCause cause → cause_of (number_of cause) ≡ cause }
@@ -44,8 +43,8 @@ pub fn a_list_is_one_unit()
     ensures down { (octets : List ℕ) (one other : RpOf) → IsDown octets one → IsDown octets other → one ≡ other }
 {}
 
-/// What is written upwards is in the grammar and is read as the same unit; each unit of the grammar has exactly one
-/// written list.
+/// What is written upwards is in the grammar and is read as that unit. Each unit of the grammar has exactly one written
+/// list.
 pub fn written_up_is_read()
     ensures in_grammar { (octets : List ℕ) (rp : RpOf) → IsWrittenUp octets rp → IsUp octets rp }
     ensures again { (octets : List ℕ) (rp : RpOf) → IsWrittenUp octets rp → up_at octets ≡ Ok rp }
@@ -53,7 +52,7 @@ pub fn written_up_is_read()
     ensures one { (octets others : List ℕ) (rp : RpOf) → IsWrittenUp octets rp → IsWrittenUp others rp → octets ≡ others }
 {}
 
-/// What is written downwards is in the grammar and is read as the same unit; each unit of the grammar has exactly one
+/// What is written downwards is in the grammar and is read as that unit. Each unit of the grammar has exactly one
 /// written list.
 pub fn written_down_is_read()
     ensures in_grammar { (octets : List ℕ) (rp : RpOf) → IsWrittenDown octets rp → IsDown octets rp }
@@ -62,28 +61,30 @@ pub fn written_down_is_read()
     ensures one { (octets others : List ℕ) (rp : RpOf) → IsWrittenDown octets rp → IsWrittenDown others rp → octets ≡ others }
 {}
 
-/// A proper front of a list that is read upwards is truncated, unless exactly the user data of an RP-ACK or RP-ERROR is
-/// cut off; then it is read as the unit without user data. RP-DATA and RP-SMMA have no such front.
+/// A proper front of a list that is read upwards is truncated, unless exactly the user data of an answer is cut off.
+/// RP-ACK and RP-ERROR are then read as the unit without user data. RP-DATA and RP-SMMA have no such front.
 pub fn front_up_is_truncated()
     ensures truncated { (front rest : List ℕ) (rp : RpOf) → IsUp (front ++ rest) rp → rest ≢ [] → rest ≢ user_data_of rp → up_at front ≡ Err Truncated }
     ensures bare { (front : List ℕ) (rp : RpOf) → IsUp (front ++ user_data_of rp) rp → up_at front ≡ Ok (bare rp) }
 {}
 
-/// The same downwards.
+/// A proper front of a list that is read downwards is truncated, unless exactly the user data of an answer is cut off.
+/// RP-ACK and RP-ERROR are then read as the unit without user data. RP-DATA has no such front.
 pub fn front_down_is_truncated()
     ensures truncated { (front rest : List ℕ) (rp : RpOf) → IsDown (front ++ rest) rp → rest ≢ [] → rest ≢ user_data_of rp → down_at front ≡ Err Truncated }
     ensures bare { (front : List ℕ) (rp : RpOf) → IsDown (front ++ user_data_of rp) rp → down_at front ≡ Ok (bare rp) }
 {}
 
-/// Upwards, octets end too early only where octets may follow with which they are a unit; octets are left over only
-/// behind a unit; and where the fault is any but the first, they are no unit whatever follows.
+/// Upwards, octets end too early only where octets may follow with which they are a unit. Octets are left over only
+/// behind a unit. Where the fault is any but the first, they are no unit whatever follows.
 pub fn faults_up_tell_what_may_follow()
     ensures truncated { (octets : List ℕ) → AreOctets octets → up_at octets ≡ Err Truncated → HasContinuation IsUp octets }
     ensures trailing { (octets : List ℕ) → AreOctets octets → up_at octets ≡ Err Trailing → HasFront IsUp octets }
     ensures other { (octets more : List ℕ) (rp : RpOf) (fault : FaultOf) → up_at octets ≡ Err fault → fault ≢ Truncated → ¬ IsUp (octets ++ more) rp }
 {}
 
-/// The same downwards.
+/// Downwards, octets end too early only where octets may follow with which they are a unit. Octets are left over only
+/// behind a unit. Where the fault is any but the first, they are no unit whatever follows.
 pub fn faults_down_tell_what_may_follow()
     ensures truncated { (octets : List ℕ) → AreOctets octets → down_at octets ≡ Err Truncated → HasContinuation IsDown octets }
     ensures trailing { (octets : List ℕ) → AreOctets octets → down_at octets ≡ Err Trailing → HasFront IsDown octets }

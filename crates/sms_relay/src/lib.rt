@@ -1,10 +1,20 @@
-//! Frames of the relay layer (3GPP TS 24.011 7.3 and 8.2), between a handset and the centre.
+//! Units of the relay layer (3GPP TS 24.011 7.3 and 8.2), between a handset and the centre.
 //!
-//! To the layer above this one promises: `read_up` and `read_down` answer a unit exactly where the grammar has
-//! one for the whole list of octets, and otherwise the first fault from the left, octets left over last: they end
-//! too early only where some that follow make them a unit, and are left over only behind one (`laws`). What
-//! `write_up` and `write_down` write is in the grammar and is read again as the same unit. Reading takes no
-//! memory, since a unit borrows the octets that it was read from; writing takes one growth.
+//! `read_up` and `read_down` answer a unit exactly where the grammar has one for the whole list of octets. Otherwise
+//! they answer the first fault from the left, octets left over last. Octets end too early only where some that follow
+//! make them a unit, and are left over only behind one (`laws`). What `write_up` and `write_down` write is in the
+//! grammar and is read again as that unit. Reading takes no memory, since a unit borrows its octets; writing takes one
+//! growth.
+//!
+//! - `cause`: the cause of an RP-ERROR (8.2.5.4 and annex E)
+//! - `down`: units to the handset, read and written
+//! - `fault`: why octets are no unit
+//! - `fields`: the fields that the units share
+//! - `frame`: the units
+//! - `laws`: laws of the units
+//! - `message_type`: the type of a unit, its first octet (8.2.2)
+//! - `up`: units from the handset, read and written
+//! - `writing`: the octets of units, each in one growth
 #![tactic(auto)]
 
 mod cause;

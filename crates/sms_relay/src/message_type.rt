@@ -2,7 +2,7 @@
 ghost use Rattle.std.specs.Prelude.{◌≡◌};
 ghost use Rattle.sms_relay.specs.MessageType.{type_octet, type_of};
 
-/// Which unit it is and which way it goes. `octet` has the one table of the octets.
+/// Which unit it is and which way it is sent. `octet` has the one table of the octets.
 #[derive(Clone, Copy, Debug, PartialEq, Eq)]
 pub(crate) enum MessageType {
     DataUp,
@@ -14,7 +14,7 @@ pub(crate) enum MessageType {
     SmmaUp,
 }
 
-/// The types that there are; RP-SMMA goes up alone.
+/// The types that there are; RP-SMMA is sent up alone.
 const TYPES: [MessageType; 7] = [
     MessageType::DataUp,
     MessageType::DataDown,

@@ -1,8 +1,8 @@
-//! When what is pending expires.
+//! The moments at which pending messages expire.
 //!
-//! `Deadlines` keeps for each message the moment from which on it is not delivered any more, as a heap: a message that comes
-//! costs a logarithm, and takes no memory where room was made before. `past` finds the messages whose moment has come at a cost
-//! of what it finds, and never misses one. A message that ended earlier stays until its deadline stands first.
+//! `Deadlines` has the moment from which on each message is not delivered any more, as a heap. A new message costs a
+//! logarithm, and takes no memory where room was made before. `past` finds the messages whose moment is reached, at a
+//! cost of what it finds, and never misses one. A message that ended earlier stays until its deadline is the first.
 
 mod deadline;
 mod deadlines;

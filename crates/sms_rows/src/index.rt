@@ -1,9 +1,9 @@
-//! Rows in the order of their keys, shared between a core and its plans.
+//! Rows in the order of their keys, which a core and its plans share.
 //!
-//! A plan changes a copy, and adopting it puts the copy in the place of what was copied. So that this costs what the plan
-//! touches, an `Index` is a balanced tree whose parts are shared: a copy costs the same however many rows it has, a row that
-//! comes or goes a logarithm, in time and in memory. Rows also have a moment, and the first row whose moment is come, or is
-//! still to come, is found in a logarithm. Contracts see an index as its rows in order.
+//! A plan changes a copy, and adopting it puts the copy in the place of the original. An `Index` is a balanced tree
+//! whose parts are shared, so that this costs what the plan touches. A copy costs equally much however many rows it
+//! has. A row that is put or removed costs a logarithm, in time and in memory. The first row whose moment is reached,
+//! or is still to be reached, is found in a logarithm. Contracts see an index as its rows in order.
 
 mod dated;
 mod index;

@@ -1,9 +1,9 @@
 //! What a core wants of a store, whatever the store is.
 //!
-//! A `Keep` has all rows of one side and takes the changes of one event at a time, all of them or none. A `BodyKeep` also
-//! gives the octets of one row, so that a core needs not hold them. A refused call leaves the rows as they were, or the keep
-//! is closed; a stop inside a call leaves the rows before it or those after it. `Refusals` tells contracts how many calls a
-//! keep refused, and which read.
+//! A `Keep` has all rows of one side. It takes the changes of one event at a time, all of them or none. A `BodyKeep`
+//! also gives the octets of one row, so that a core needs not hold them. A refused call leaves the rows unchanged, or
+//! closes the keep. A stop inside a call leaves the rows from before it or from after it. By `Refusals` contracts see
+//! how many calls a keep refused, and which read.
 
 mod body_keep;
 mod error;

@@ -1,6 +1,6 @@
 //! Lists of rows in memory, for a keep that is no database.
 //!
-//! A commit makes all copies first (`settled_copy`), so that it can then be carried out without taking memory: it is refused
+//! A commit makes all copies first (`settled_copy`), and can then be carried out without taking memory. It is refused
 //! only where a growth was refused, and nothing has changed then. `copy_of_rows` is a load.
 
 mod copying;

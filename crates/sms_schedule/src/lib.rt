@@ -1,10 +1,19 @@
-//! What of a handset's messages is to be offered next, and when what failed is tried again.
+//! What of a handset's messages is offered next, and when a failed part is tried again.
 //!
-//! A `Schedule` has one row for each part of a message, or status report, that is still to be offered: its key, the moment
-//! from which on it is due, and its priority. `next` is the row that comes first among those that are due
-//! (`specs/Precedence.antt`: the greatest priority, then the earliest moment, then the lower key), whatever their order.
-//! The rows stand in an ordered map by their keys, beside an ordered set of the same rows by precedence, so that `set`,
-//! `remove`, `next` and `waits_beside` cost a logarithm; only `set` and `copy` take memory.
+//! A `Schedule` has one row for each part or status report that is still to be offered. The row has a key, the moment
+//! from which on it is due, and a priority. `next` is the first row of those that are due: the greatest priority, then
+//! the earliest moment, then the lower key (`specs/Precedence.antt`). The rows are in an ordered map by their keys,
+//! beside an ordered set by precedence. So `set`, `remove`, `next` and `waits_beside` cost a logarithm; only `set` and
+//! `copy` take memory.
+//!
+//! - `due`: what a schedule keeps of a key
+//! - `laws`: laws of what is next
+//! - `order`: the places of rows, in order
+//! - `part_id`: what is offered to a handset
+//! - `place`: a row in the order of precedence
+//! - `retry`: when a failed part is tried again
+//! - `schedule`: the schedule and its calls
+//! - `scheduled`: a row of a schedule
 #![tactic(auto)]
 
 mod due;

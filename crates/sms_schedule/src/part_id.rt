@@ -7,8 +7,8 @@ use std::marker::Model;
 
 /// A part of a message, or its status report.
 ///
-/// Contracts see it as one number, `pair_key` of the message's number and the part's, by which it stands in order; the
-/// tables of messages and parts have the same keys.
+/// Contracts see it as one number, `pair_key` of the message's number and the part's, which orders it. The tables of
+/// messages and parts have these keys.
 #[derive(Clone, Copy, Debug, PartialEq, Eq, PartialOrd, Ord)]
 pub struct PartId {
     id: MessageId,
@@ -50,7 +50,7 @@ impl PartId {
         self.number
     }
 
-    /// The number by which it stands in order: 256 times the message's number and the part's.
+    /// The number that orders it: 256 times the message's number and the part's.
     pub fn key(self) -> u64
         ensures { result ≡ self }
     {

@@ -1,4 +1,4 @@
-//! A row as it stands in the order of precedence.
+//! A row in the order of precedence.
 ghost use Rattle.std.specs.Prelude.{◌≡◌, ◌↔◌, ◌≤◌, true};
 ghost use Rattle.sms_schedule.specs.Places.{IsRealPlace, place_of, start_of};
 

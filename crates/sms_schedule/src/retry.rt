@@ -16,8 +16,8 @@ fn retry_delay(attempts: u8) -> u64
     }
 }
 
-/// When to try again what failed now, and has failed that many times: after 60 s, 300 s, 900 s, and from the fourth time
-/// on 3,600 s; never past the last moment.
+/// When to try again what failed now, and has failed that many times. It is after 60 s, 300 s, 900 s, and from the
+/// fourth time on 3,600 s, but never past the last moment.
 pub fn retry_after(attempts: u8, now: Moment) -> Moment
     ensures { result ≡ retry_after_of attempts now }
 {

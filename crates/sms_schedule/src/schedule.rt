@@ -45,7 +45,7 @@ impl Schedule {
         }
     }
 
-    /// The same rows, in memory of their own.
+    /// A copy of the rows, in memory of its own.
     pub fn copy(&self) -> Result<Schedule, AllocError>
         ensures { IfOk result (λ copy. copy ≡ self.now) }
     {

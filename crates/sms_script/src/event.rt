@@ -33,7 +33,7 @@ pub struct Submission<'a> {
 #[derive(Debug, Drop)]
 pub enum Act<'a> {
     Submit(Submission<'a>),
-    /// The text of the message's id stands as it was written.
+    /// The text of the message's id, as it was written.
     Query {
         name: OctetView<'a>,
         id: OctetView<'a>,

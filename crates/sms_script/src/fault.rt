@@ -15,7 +15,7 @@ pub enum LineFault {
 /// Why there is no script.
 #[derive(Clone, Copy, Debug, PartialEq, Eq, Error)]
 pub enum ScriptFault {
-    /// The line of that number, from 1, is none that may stand there, or is missing.
+    /// The line of that number, from 1, is none that may be there, or is missing.
     #[error("line {0}: bad line")]
     BadLine(u64),
     /// A growth was refused. No line is bad.

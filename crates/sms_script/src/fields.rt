@@ -66,7 +66,7 @@ fn stop_of(word: &[u8]) -> Result<Stop, LineFault>
     }
 }
 
-/// A word as it stands.
+/// A word as it is written.
 pub fn word<'a>(words: &mut Words<'a>) -> Result<OctetView<'a>, LineFault>
     ensures { Takes (λ x. x) result words.new (word_in words.old) }
 {

@@ -1,13 +1,30 @@
-//! Scripts for the simulator: texts of lines, each of words with a single space between each two.
+//! Scripts for the simulator, and the report of what a script led to.
 //!
-//! Head lines come first, in this order: `start S`, `centre D`, `account NAME PASSWORD D` (any number), `handset D SLOTS`
-//! (any number). Then events, numbered from 1: `submit`, `urgent`, `query`, `cancel`, `write`, `delete`, `discard`,
-//! `deliver`, `tick`, `restart`, `stopped before` and `stopped after`.
+//! A script is lines of words, with a single space between each two. Its head is `start S`, `centre D`,
+//! `account NAME PASSWORD D` (any number) and `handset D SLOTS` (any number), in this order. Then events follow, numbered from 1:
+//! `submit`, `urgent`, `query`, `cancel`, `write`, `delete`, `discard`, `deliver`, `tick`, `restart`, `stopped before`
+//! and `stopped after`.
 //!
-//! To the layer above this one promises: `read_script` answers a script exactly where the grammar has one for the whole
-//! text, and otherwise the number of the first bad line, whatever memory there is; want of memory is told of good scripts
-//! alone. Each text is one script at most. Texts and numbers of the head are kept as they were written, for the player to
-//! judge. `cutting` and `fields` are the lines, words and fields that other texts of lines share.
+//! `read_script` answers a script exactly where the grammar has one for the whole text. Otherwise it answers the number
+//! of the first bad line, whatever memory there is. Want of memory is reported of good scripts alone. Each text is one
+//! script at most. Texts and numbers of the head are kept as they were written, for the player to judge.
+//!
+//! - `act`: acts, each behind its keyword
+//! - `cutting`: texts cut into lines, and lines into words
+//! - `event`: the events of a script
+//! - `fault`: why a text is no script
+//! - `fields`: the fields of a line
+//! - `hexadecimal`: octets and texts in hexadecimal digits
+//! - `keyword`: the first words of lines
+//! - `laws`: laws of scripts
+//! - `line`: a line of a script
+//! - `number`: numbers in decimal digits
+//! - `owner`: the lines of a handset's owner
+//! - `progress`: how far a script is read
+//! - `report`: what a script led to, and its text
+//! - `script`: whole scripts
+//! - `setup`: the head of a script
+//! - `text`: texts in hexadecimal digits
 #![tactic(auto)]
 
 mod act;

@@ -1,8 +1,8 @@
-//! What the owner of a handset asks of it, in lines of text.
+//! The lines of a handset's owner.
 //!
-//! The lines are `write TO REPORT HEX`, `delete ENTRY` and `discard ENTRY`, those of a script without the number of the
-//! handset behind their first word. To the layer above this one promises: `read_acts` answers the acts that all lines say,
-//! in order, or the number of the first bad line, whatever memory there is; want of memory is told of good lines alone.
+//! They are `write TO REPORT HEX`, `delete ENTRY` and `discard ENTRY`: those of a script without the number of the
+//! handset behind their first word. `read_acts` answers the acts of all lines, in order, or the number of the first bad
+//! line, whatever memory there is. Want of memory is reported of good lines alone.
 
 mod act;
 pub mod laws;

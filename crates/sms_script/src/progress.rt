@@ -11,7 +11,7 @@ const MOST_LINES: u64 = 20_000;
 /// Events in a script.
 const MOST_EVENTS: u64 = 10_000;
 
-/// Which line comes next.
+/// Which line is next.
 #[derive(Clone, Copy, Debug, PartialEq, Eq)]
 pub(crate) enum Stage {
     /// The line of the start.

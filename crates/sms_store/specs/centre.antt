@@ -1,5 +1,6 @@
 pub mod CentreRows
 pub mod Founding
+pub mod InKeep
 pub mod Migrating
 pub mod Opened
 pub mod Reading

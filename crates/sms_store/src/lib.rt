@@ -1,10 +1,20 @@
-//! sms_store, of modules:
+//! Both stores, as files that `sqlite3` opens.
 //!
-//! - `centre`: A centre's store: its rows in a database that `sqlite3` opens.
-//! - `handset`: A handset's store: its rows in a database that `sqlite3` opens.
-//! - `look`: A look at a centre's store, which changes nothing in it.
+//! A commit makes all changes of an event in one transaction, and `load` gives what was committed. A stop inside a call
+//! leaves the rows from before it or from after it. Opening judges the schema, and refuses what is no such store. These
+//! promises are under the disk model of `sqlite_disk`.
+//!
+//! - `centre`: a centre's store
+//! - `handset`: a handset's store
+//! - `look`: a look at a centre's store, which changes nothing
 #![tactic(auto)]
 
 pub mod centre;
 pub mod handset;
 pub mod look;
+
+pub use crate::centre::keep::CentreKeep;
+pub use crate::handset::keep::HandsetKeep;
+pub use sms_rows::keep::{Keep, KeepError};
+pub use sms_store_memory::centre::MemoryKeep as CentreMemoryKeep;
+pub use sms_store_memory::handset::MemoryKeep as HandsetMemoryKeep;

@@ -1,7 +1,7 @@
 //! Rows that keep a TPDU, changed in a table.
 //!
-//! `revise` makes one change of an event: a row is put or removed, or only how far it is changes and its TPDU stays. It takes
-//! no memory where the table has room. `Ready` is all changes of an event with memory for the rows that they bring, and
+//! `revise` makes one change of an event: a row is put or removed, or only how far it is changes and its TPDU stays. It
+//! takes no memory where the table has room. `Ready` is all changes of an event with memory for its new rows, and
 //! `adopt_revisions` puts them in.
 
 mod ready;

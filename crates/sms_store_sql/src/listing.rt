@@ -1,11 +1,11 @@
 //! Lists of rows as tables of a database.
 //!
-//! A type of rows that says its table in a kind of store, its three texts and its columns (`StoredRow`) is stored by
-//! `put`, `remove`, `write` and `load`, which are proved here once for every list: inside one transaction the table
-//! holds the list with its changes, every other table stays, nothing is committed, and a stop leaves nothing new.
-//! `load` gives the rows in the order of their keys, `find` the row of one key (`FoundRow`), `seek` those of
-//! another number (`SoughtRow`). What a whole transaction changes is a `Work`, what it reads a
-//! `Lookup`: `transact` and `look` commit all of it or nothing, and a stop inside leaves the database before or after.
+//! A type of rows gives its table in a kind of store, its three texts and its columns (`StoredRow`). `put`, `remove`,
+//! `write` and `load` store it, and are proved here once for every list. Inside one transaction the table has the list
+//! with its changes. Every other table stays, nothing is committed, and a stop leaves nothing new. `load` gives the
+//! rows in the order of their keys, `find` the row of one key (`FoundRow`), `seek` those of another number
+//! (`SoughtRow`). A whole transaction's changes are a `Work`, what it reads is a `Lookup`. `transact` and `look` commit
+//! all of it or nothing, and a stop inside leaves the database from before or after.
 
 mod cause;
 mod finding;

@@ -1,8 +1,8 @@
 //! Whether a database is a store of a kind.
 //!
-//! A table is told by its name, its columns (`ColumnPlan`) and the columns of its key. Where a test answers yes, the table or
-//! index is the one that `sms_store_sql::listing` speaks of, so that a store is known by its schema before any row is read. Then `judge`
-//! says what the row is worth in which it tells its kind and version.
+//! A table is known by its name, its columns (`ColumnPlan`) and the columns of its key. Where a test answers yes, the
+//! table or index is the one of `sms_store_sql::listing`. So a store is known by its schema before any row is read.
+//! Then `judge` judges the row that has its kind and version.
 
 mod blank;
 mod columns;

@@ -1,8 +1,8 @@
-//! A look at a database that somebody else may have open, by a copy in memory.
+//! A copy in memory of a database that somebody else may have open.
 //!
-//! A database in a file is locked by whoever has it open. `copy_at` reads the file and its log without a lock, both as of one
-//! moment. `connect` gives a connection to the database for which the two stand, over files in memory: whatever is done by it, the
-//! files that were copied stay as they are.
+//! Whoever has a database in a file open locks it. `copy_at` reads the file and its log without a lock, both as of one
+//! moment. `connect` gives a connection to the database of those two, over files in memory. Whatever is done by it, the
+//! copied files stay unchanged.
 
 mod connecting;
 mod copying;

@@ -1,9 +1,9 @@
 //! The rows of a centre as tables of a database that `sqlite3` opens.
 //!
-//! Each list of rows is a STRICT table with one key, its columns numbers, texts and octets (`StoredRow<CentreStore>`), and
-//! `Meta` is the table in which the store says what it is. Version 2 has the priorities of messages; all other tables are those
-//! of version 1, of which only `Meta` is a list of its own. A part and a report are found by their keys too, a report by
-//! its message, for which version 2 has an index, and one text changes how far each is.
+//! Each list of rows is a STRICT table with one key, its columns numbers, texts and octets (`StoredRow<CentreStore>`).
+//! `Meta` is the table of the store's version and kind. Version 2 has the priorities of messages. All other tables are
+//! those of version 1, of which only `Meta` is a list of its own. A part and a report are found by their keys too, a
+//! report by its message, for which version 2 has an index. One text changes how far each is.
 
 mod handsets;
 mod key;

@@ -1,7 +1,8 @@
 //! The rows of a handset as tables of a database that `sqlite3` opens.
 //!
-//! Each list of rows is a STRICT table with one key, its columns numbers, texts and octets (`StoredRow<HandsetStore>`), and
-//! `Meta` is the table in which the store says what it is. `is_handset_schema` tells whether a database has these tables.
+//! Each list of rows is a STRICT table with one key, its columns numbers, texts and octets (`StoredRow<HandsetStore>`).
+//! `Meta` is the table of the store's version and kind. `is_handset_schema` answers whether a database has these
+//! tables.
 
 mod discarded;
 mod entries;

@@ -1,8 +1,12 @@
-//! sms_store_tables, of modules:
+//! The tables of both stores, and whether a database has them.
 //!
-//! - `amending`: Rows that keep a TPDU, amended in a table of a database.
-//! - `centre`: The rows of a centre as tables of a database that `sqlite3` opens.
-//! - `handset`: The rows of a handset as tables of a database that `sqlite3` opens.
+//! Each list of rows is a STRICT table with one key, its columns numbers, texts and octets, in a database that
+//! `sqlite3` opens. What is written of a row is read back as that row. This crate is below the cores, so that a table
+//! is proved without them.
+//!
+//! - `amending`: one text that changes how far a row is
+//! - `centre`: the tables of a centre's store, versions 1 and 2
+//! - `handset`: the tables of a handset's store
 #![tactic(auto)]
 
 pub mod amending;

@@ -183,8 +183,8 @@ fn relay_octets(alloc: Global, address: &Address) -> Result<Octets, AllocError>
     Ok(out)
 }
 
-/// The value of an address element of the relay layer: the type of address, then the semi-octets of a number or the
-/// septets of a name (3GPP TS 24.011 8.2.5.1), 2 to 11 octets.
+/// The value of an address element of the relay layer, 2 to 11 octets (3GPP TS 24.011 8.2.5.1). It is the type of
+/// address, then the semi-octets of a number or the septets of a name.
 ///
 /// Takes memory once.
 pub fn write_relay_address(alloc: Global, address: &Address) -> Result<Octets, AllocError>

@@ -64,7 +64,7 @@ fn down_of(octets: &[u8], carrier: Carrier) -> Result<Down<'_>, TpduFault>
     }
 }
 
-/// The TPDU that the octets are, or the first fault from left to right; octets left over come last.
+/// The TPDU that the octets are, or the first fault from left to right. Octets left over are the last fault.
 ///
 /// Takes no memory; the TPDU borrows the octets.
 pub fn read_down(octets: &[u8], carrier: Carrier) -> Result<Down<'_>, TpduFault>

@@ -1,16 +1,16 @@
 //! What is wrong with the octets of a TPDU.
 use thiserror::Error;
 
-/// The first fault of a TPDU's octets, from left to right; octets left over come after every other fault.
+/// The first fault of a TPDU's octets, from left to right. Octets left over are reported after every other fault.
 #[derive(Clone, Copy, Debug, PartialEq, Eq, Error)]
 pub enum TpduFault {
     /// The octets end before the TPDU does.
     #[error("the octets end too early")]
     Truncated,
-    /// Octets stand behind the TPDU.
+    /// Octets are behind the TPDU.
     #[error("octets stand behind the TPDU")]
     TrailingOctets,
-    /// An address field of no or too many digits, of a reserved type, or with a digit or a fill that can't stand there.
+    /// An address field of no or too many digits, of a reserved type, or with a digit or a fill that can't be there.
     #[error("no such address")]
     BadAddress,
     /// A time stamp of no date, of no time, or out of the years 2000 to 2099.

@@ -35,27 +35,28 @@ pub fn a_list_is_one_tpdu()
     ensures up { (carrier : Carrier) (octets : List ℕ) (one other : Up) → IsUp carrier octets one → IsUp carrier octets other → one ≡ other }
 {}
 
-/// Downwards octets are told to be missing only where some can be added so that a TPDU stands there, and to be left over
-/// only behind a TPDU; and octets that are refused for any other fault than missing octets are the front of none.
+/// Downwards, octets are missing only where some can be added so that a TPDU is there. They are left over only behind a
+/// TPDU. Octets that are refused for any other fault are the front of none.
 pub fn a_fault_down_has_its_reason()
     ensures truncated { (carrier : Carrier) (octets : List ℕ) → AreOctets octets → down_at carrier octets ≡ Err Truncated → (rest : List ℕ) × (tpdu : Down) × AreOctets rest × IsDown carrier (octets ++ rest) tpdu }
     ensures trailing { (carrier : Carrier) (octets : List ℕ) → AreOctets octets → down_at carrier octets ≡ Err TrailingOctets → (front : List ℕ) × (octet : ℕ) × (rest : List ℕ) × (tpdu : Down) × (octets ≡ front ++ octet ∷ rest) × IsDown carrier front tpdu }
     ensures other { (carrier : Carrier) (octets rest : List ℕ) (tpdu : Down) (fault : TpduFault) → down_at carrier octets ≡ Err fault → fault ≢ Truncated → IsDown carrier (octets ++ rest) tpdu → ⊥ }
 {}
 
-/// The same upwards.
+/// Upwards, octets are missing only where some can be added so that a TPDU is there. They are left over only behind a
+/// TPDU. Octets that are refused for any other fault are the front of none.
 pub fn a_fault_up_has_its_reason()
     ensures truncated { (carrier : Carrier) (octets : List ℕ) → AreOctets octets → up_at carrier octets ≡ Err Truncated → (rest : List ℕ) × (tpdu : Up) × AreOctets rest × IsUp carrier (octets ++ rest) tpdu }
     ensures trailing { (carrier : Carrier) (octets : List ℕ) → AreOctets octets → up_at carrier octets ≡ Err TrailingOctets → (front : List ℕ) × (octet : ℕ) × (rest : List ℕ) × (tpdu : Up) × (octets ≡ front ++ octet ∷ rest) × IsUp carrier front tpdu }
     ensures other { (carrier : Carrier) (octets rest : List ℕ) (tpdu : Up) (fault : TpduFault) → up_at carrier octets ≡ Err fault → fault ≢ Truncated → IsUp carrier (octets ++ rest) tpdu → ⊥ }
 {}
 
-/// What is written is in the grammar and is read as the same value: down.
+/// Downwards, what is written is in the grammar and is read as that value.
 pub fn written_down_is_read()
     ensures { (carrier : Carrier) (octets : List ℕ) (tpdu : Down) → IsWrittenDown carrier octets tpdu → IsDown carrier octets tpdu × (down_at carrier octets ≡ Ok tpdu) }
 {}
 
-/// What is written is in the grammar and is read as the same value: up.
+/// Upwards, what is written is in the grammar and is read as that value.
 pub fn written_up_is_read()
     ensures { (carrier : Carrier) (octets : List ℕ) (tpdu : Up) → IsWrittenUp carrier octets tpdu → IsUp carrier octets tpdu × (up_at carrier octets ≡ Ok tpdu) }
 {}
@@ -90,14 +91,14 @@ pub fn cut_deliver_report_is_truncated()
     ensures { (in_error : Bool) (front rest : List ℕ) (report : DeliverReport) → deliver_report_at in_error (front ++ rest) ≡ Ok report → (deliver_report_at in_error front ≡ Ok report) ⊎ (deliver_report_at in_error front ≡ Err Truncated) }
 {}
 
-/// A readable STATUS-REPORT that is cut anywhere is refused as truncated, or what was cut off passes unread, or it is
-/// the report without its parameters.
+/// A readable STATUS-REPORT that is cut anywhere is refused as truncated, with two exceptions. What was cut off passes
+/// unread, or it is the report without its parameters.
 pub fn cut_status_report_is_truncated()
     ensures { (front rest : List ℕ) (report : StatusReport) → status_report_at (front ++ rest) ≡ Ok report → (status_report_at front ≡ Ok report) ⊎ ((status_report_at front ≡ Ok (without_parameters report)) ⊎ (status_report_at front ≡ Err Truncated)) }
 {}
 
-/// Octets are one message exactly where what is compared of them is equal; so they are one with themselves, one with each
-/// other, and where two are one with a third, one.
+/// Octets are one message exactly where what is compared of them is equal. So they are one with themselves and one with
+/// each other, and where two are one with a third, one.
 pub fn one_message_is_an_equivalence()
     ensures is { (one other : List ℕ) → (same_message one other ≡ true) ↔ (compared one ≡ compared other) }
     ensures itself { (octets : List ℕ) → same_message octets octets ≡ true }
@@ -111,7 +112,8 @@ pub fn one_message_differs_in_one_bit()
     ensures none { (octets : List ℕ) → (same_message [] octets ≡ true) ↔ (octets ≡ []) }
 {}
 
-/// What is told whether more messages wait says so, is the same message, and is told once: the last telling holds.
+/// A TPDU in which TP-MMS was set says whether more messages wait, and is one message with the TPDU before. The last
+/// setting holds.
 pub fn more_messages_are_told()
     ensures told { (more : Bool) (first : ℕ) → bit (octet_telling more first) 4 ≡ not more }
     ensures kept { (more : Bool) (first : ℕ) (rest : List ℕ) → bit first 4 ≡ not more → telling more (first ∷ rest) ≡ first ∷ rest }
@@ -120,8 +122,8 @@ pub fn more_messages_are_told()
     ensures octets { (more : Bool) (octets : List ℕ) → AreOctets octets → AreOctets (telling more octets) }
 {}
 
-/// A TPDU that tells whether more messages wait is read as the same TPDU but for that, or refused for the same fault; and
-/// so is what is compared of it.
+/// A TPDU in which TP-MMS was set is read as the TPDU before but for that, or refused for its fault. What is compared
+/// of it is read alike.
 pub fn telling_is_read_alike()
     ensures telling { (more : Bool) (octets : List ℕ) → down_at InData (telling more octets) ≡ read_told more (down_at InData octets) }
     ensures compared { (octets : List ℕ) → down_at InData (compared octets) ≡ read_told false (down_at InData octets) }

@@ -1,11 +1,28 @@
 //! The five TPDUs of the transfer layer (3GPP TS 23.040 9.2.2), in RP-DATA, RP-ACK and RP-ERROR.
 //!
-//! `read_down` and `read_up` answer a value exactly where the grammar (`specs/TpduGrammar.antt`) has one, and otherwise
-//! the first fault from left to right, octet by octet, with octets left over last. What is written is in the grammar,
-//! is read as the same value, and is that value's one written list (`laws`); a readable TPDU that is cut is refused as
-//! truncated, but for what a report may lose (`laws` says what). User data is kept as it came, so that it can be
-//! passed on octet for octet. `same_message` knows a TPDU that is sent twice, whatever it says of waiting messages.
-//! Readers, `validity`, `same_message` and `tell_more_messages` take no memory; each writer takes it once.
+//! `read_down` and `read_up` answer a value exactly where the grammar (`specs/TpduGrammar.antt`) has one. Otherwise
+//! they answer the first fault from left to right, octet by octet, with octets left over last. What is written is in
+//! the grammar, is read as that value, and is the value's one written list (`laws`). A readable TPDU that is cut is
+//! refused as truncated, except for what a report may lose. User data is kept octet for octet. `same_message`
+//! recognises a TPDU that is sent again, whatever it says of waiting messages. Each writer takes memory once; the other
+//! calls take none.
+//!
+//! - `address_field`: address fields (9.1.2.5)
+//! - `bits`: bits of an octet, each named by its value
+//! - `carrier`: the RP unit that carries a TPDU
+//! - `codes`: causes of failure and statuses, with their numbers
+//! - `deliver`, `deliver_report`, `status_report`, `submit`, `submit_report`: a TPDU each
+//! - `down`: TPDUs from the service centre to a handset
+//! - `fault`: what is wrong with the octets of a TPDU
+//! - `laws`: laws of TPDUs
+//! - `more_messages`: whether more messages wait for the handset (TP-MMS, 9.2.3.2)
+//! - `name_field`: names in address fields, as packed septets (9.1.2.5)
+//! - `parameters`: what the parameter indicator of a report announces (9.2.3.27)
+//! - `slices`: parts of octets that may be shorter than wanted
+//! - `time_field`: time stamp fields (9.2.3.11)
+//! - `up`: TPDUs from a handset to the service centre
+//! - `user_data`: user data and its length (9.2.3.16, 9.2.3.24)
+//! - `validity_period`: validity periods (9.2.3.12)
 #![tactic(auto)]
 
 mod address_field;

@@ -17,7 +17,7 @@ use std::alloc::{AllocError, Global};
 /// The octets of a STATUS-REPORT beside its user data, at most.
 const FIXED: usize = 33;
 
-/// What became of a message, told to its sender.
+/// How a message ended, for its sender.
 #[derive(Debug, Drop)]
 pub struct StatusReport<'a> {
     /// TP-MMS: no more messages wait for this handset.
@@ -28,7 +28,7 @@ pub struct StatusReport<'a> {
     pub user_data_header_indicator: bool,
     /// TP-MR of the SUBMIT.
     pub message_reference: u8,
-    /// TP-RA: where the message went.
+    /// TP-RA: the destination of the message.
     pub recipient_address: Address,
     /// TP-SCTS: when the service centre took the SUBMIT.
     pub service_centre_time_stamp: Moment,

@@ -21,7 +21,7 @@ const FIXED: usize = 24;
 /// A message that a handset sends.
 #[derive(Debug, Drop)]
 pub struct Submit<'a> {
-    /// TP-RD: a message with the same reference, sender and destination that is still held is a duplicate.
+    /// TP-RD: a message with this reference, sender and destination that is still held is a duplicate.
     pub reject_duplicates: bool,
     /// TP-SRR: the sender wants a status report.
     pub status_report_request: bool,

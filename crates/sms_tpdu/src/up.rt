@@ -31,7 +31,7 @@ fn up_of(octets: &[u8], carrier: Carrier) -> Result<Up<'_>, TpduFault>
     }
 }
 
-/// The TPDU that the octets are, or the first fault from left to right; octets left over come last.
+/// The TPDU that the octets are, or the first fault from left to right. Octets left over are the last fault.
 ///
 /// Takes no memory; the TPDU borrows the octets.
 pub fn read_up(octets: &[u8], carrier: Carrier) -> Result<Up<'_>, TpduFault>

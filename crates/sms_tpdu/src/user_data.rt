@@ -11,7 +11,7 @@ use sms_alphabet::{Coding, UnpackError, check, fill_bits, greatest_length, heade
 use sms_base::{Cursor, OctetView, Octets};
 use std::alloc::AllocError;
 
-/// User data as it came: its length in septets of the default alphabet or else in octets, and its octets.
+/// User data as received: its length in septets of the default alphabet or else in octets, and its octets.
 #[derive(Debug, Drop)]
 pub struct UserData<'a> {
     /// How many septets, header and fill included, or how many octets.

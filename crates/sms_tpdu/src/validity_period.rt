@@ -114,10 +114,11 @@ fn later(moment: Moment, seconds: u64) -> Moment
     }
 }
 
-/// Until when a message that comes now is kept.
+/// Until when a message that arrives at `now` is kept.
 ///
-/// Two days (172,800 s) where no period is present; a relative period by its table (9.2.3.12.1), 5 minutes to 63 weeks;
-/// an absolute one as it is, also where it is over, but at most 63 weeks (38,102,400 s). Never past the last moment.
+/// Without a period it is two days (172,800 s). A relative period is by its table (9.2.3.12.1), 5 minutes to 63 weeks.
+/// An absolute one is unchanged, also where it is over, but at most 63 weeks (38,102,400 s). It is never past the last
+/// moment.
 pub fn validity(period: ValidityPeriod, now: Moment) -> Moment
     ensures value { result ≡ kept_until period now }
     ensures bound { result ≤ now + 38102400 }

@@ -1,7 +1,7 @@
 //! A capture file of what crosses the links of a centre, as tcpdump writes one and Wireshark opens it.
 //!
-//! A frame of a handset's link stands in it as GSMTAP over UDP, so that the CP layer (3GPP TS 24.011 8) and all that it carries are
-//! dissected; a PDU of an application's session stands in it as SMPP over TCP. The calls put octets at the end of a file: first
+//! A frame of a handset's link is GSMTAP over UDP. So the CP layer (3GPP TS 24.011 8) and all that it carries are
+//! dissected. A PDU of an application's session is SMPP over TCP. The calls put octets at the end of a file: first
 //! `put_file_head`, then a record for each frame and PDU, in order.
 
 mod checksum;

@@ -1,9 +1,9 @@
-//! Rows of a ladder, and what is said beside them.
+//! The rows of a ladder, and their notes.
 //!
-//! A ladder is text: a lane for each side, and rows below one another, an arrow from a lane to another or a mark in one, each with a note
-//! (`put_name`, `put_row`). `notes` says what a frame carries, what a request was answered and what a receipt tells. `SentSoFar` keeps what
-//! went over the links, so that what goes out or arrives again is known; `Text` gives the lines of a script one after another. Who looks
-//! on while a script is played draws with these (`sms_trace::watching`).
+//! A ladder is text: a lane for each side, and rows below one another. A row is an arrow from a lane to another or a
+//! mark in one, with a note (`put_name`, `put_row`). `notes` says what a frame carries, how a request was answered and
+//! what a receipt reports. `SentSoFar` keeps what crossed the links, so that a repeated frame is recognised. `Text`
+//! gives the lines of a script one after another. `sms_trace::watching` draws with these.
 
 pub mod notes;
 mod rows;

@@ -1,9 +1,11 @@
-//! sms_trace, of modules:
+//! A run of a script, drawn as a ladder and written as a capture file.
 //!
-//! - `capture`: A capture file of what crosses the links of a centre, as tcpdump writes one and Wireshark opens it.
-//! - `drawing`: Rows of a ladder, and what is said beside them.
-//! - `sessions`: The sessions of a script's applications, as a capture file has them.
-//! - `watching`: Who looks on while a script is played, beside its judge: a ladder and a capture file.
+//! Both look on while a script is played, and know no centre. Each event costs as much as it adds.
+//!
+//! - `capture`: a capture file of a centre's links and sessions
+//! - `drawing`: the rows of a ladder, and their notes
+//! - `sessions`: the sessions of applications, PDU by PDU
+//! - `watching`: who looks on while a script is played: a ladder, a capture
 #![tactic(auto)]
 
 pub mod capture;

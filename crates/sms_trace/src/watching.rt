@@ -1,7 +1,7 @@
 //! Who looks on while a script is played, beside its judge: a ladder and a capture file.
 //!
-//! `Ladder` draws the run as lanes and arrows; `Capture` writes what crosses the centre's links as a capture file. Each event costs what
-//! came with it. What there is to see, and the judge, is passed on from `sms_play::judging`.
+//! `Ladder` draws the run as lanes and arrows. `Capture` writes what crosses the centre's links as a capture file. Each
+//! event costs as much as it adds. The scene and the judge are passed on from `sms_play::judging`.
 
 mod capture;
 mod coming;

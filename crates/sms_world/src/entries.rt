@@ -1,8 +1,8 @@
-//! The references that a handset gives to the entries of its outbox, as a script's course tells them.
+//! Laws: which reference a handset's entry has, as a script's course says.
 //!
-//! `sms_play` tells of each event of a handset which references it gives: one to each entry that comes into the outbox, and one to each
-//! RP-SMMA that goes out for the first time. Here it is shown that they tell who holds a reference now: whatever the handset meets, the
-//! reference of an entry that has not ended was given to that entry last (`specs/ToldEntries`). So an answer that comes under it, and
-//! that was made for whom the reference was given to last, was made for that entry.
+//! `sms_play` lists of each event of a handset which references it gives. Each new entry of the outbox gets one, and
+//! each RP-SMMA that is sent for the first time. They say who holds a reference now. Whatever events the handset has,
+//! an entry that has not ended is the last to which its reference was given (`specs/entries/ToldEntries.antt`). So an
+//! answer under that reference, made for the last to whom it was given, was made for that entry.
 
 pub mod laws;

@@ -1,9 +1,10 @@
-//! Whence the messages of a script come.
+//! Laws: each message is what a line of the script submitted.
 //!
-//! `sms_world::headline` says of every script what becomes of the messages in the centre's rows. Here these are tied to the script's own lines:
-//! each message came of one event, a `submit` of an application or a frame with a handset's SUBMIT that was handed over, also where the
-//! event was stopped behind its store call; and it is what that submit_sm or SUBMIT asks for, octet for octet, from then on. So what a
-//! report calls delivered is what the script submitted, and its handset accepted exactly that (`specs/Origins`). There are laws here and no
+//! `sms_world::headline` says of every script what becomes of the messages in the centre's rows. These laws tie them to
+//! the script's own lines. Each message is of one event: a `submit` of an application, or a frame with a handset's
+//! SUBMIT that was handed over. This holds also where the event was stopped after its store call. The message is what
+//! that submit_sm or SUBMIT asks for, octet for octet, from then on. So what a report calls delivered is what the
+//! script submitted, and its handset accepted exactly that (`specs/origins/Origins.antt`). This module has laws and no
 //! code.
 
 pub mod laws;

@@ -1,8 +1,9 @@
-//! What the centre plans is steps of the world.
+//! Laws: what the centre's code plans is steps of the world.
 //!
-//! `sms_centre` says of `Centre::plan` that it hands out exactly what the definition's event leads to, and of `Centre::adopt` that the
-//! centre then stands as the definition's; `sms_world_refinement::centre_events` says that the definition's events are steps of the world. Here both
-//! are put together (`specs/PlannedSteps`): whatever the code plans is steps of the world that the centre sees, its frames go on top of
-//! those that were sent, and the centre that has adopted it sees where they lead.
+//! `Centre::plan` gives exactly what the definition's event leads to, and after `Centre::adopt` the centre represents
+//! the definition's. By `sms_world_refinement::centre_events` the definition's events are steps of the world. These
+//! laws combine both (`specs/plans/PlannedSteps.antt`). Whatever the code plans is steps of the world that the centre
+//! refines. Its frames are added to those that were sent, and the centre that has adopted it refines the world to which
+//! they lead.
 
 pub mod laws;

@@ -1,7 +1,8 @@
-//! The premises of the claims, as they are decided on a course of a script, are those that the world speaks of.
+//! Laws: the premises decided on a script's course are those of the world.
 //!
-//! `sms_play` decides of each event whether a frame that is handed over is timely, and whether what it submits begins a round of
-//! its key only where it may; `sms_world_model` supposes both of the world. Where a course tells the world's givings, frames and what
-//! handsets accepted (`specs/Told`), the one is decided exactly where the other holds.
+//! `sms_play` decides of each event whether a frame that is handed over is timely. It also decides whether what the
+//! event submits begins a round of its key only where it may. `sms_world_model` supposes both of the world. Where a
+//! course has the world's givings, frames and what handsets accepted (`specs/premises/Told.antt`), the one is decided
+//! exactly where the other holds.
 
 pub mod laws;

@@ -1,14 +1,15 @@
-//! What the course of a script shows of the world.
+//! Laws: a script's course is a run of the world.
 //!
-//! `sms_play` says what a script leads to: each of its events is an event of one of the two cores, what comes of it is committed, and
-//! its frames get the next numbers. `sms_world_refinement::handset` and `sms_world_refinement::centre_events` show that every event of a core is steps of the world
-//! that the core sees. Here both are put together: a course **sees** the world (`specs/CourseSight`) where the centre and each handset
-//! see it, every frame of its bag is one of the world's by its number, and what each handset accepted and joined is the world's, in
-//! order. However a script goes, with stops and restarts, its course is a run of the world (`specs/CourseRuns`).
+//! By `sms_play` each event of a script is an event of one core, its changes are committed, and its frames get the next
+//! numbers. By `sms_world_refinement` every event of a core is steps of the world that the core refines. These laws
+//! combine both. A course **refines** the world (`specs/refinement/CourseSight.antt`) under three conditions. The
+//! centre and each handset refine it. Every frame of the course is one of the world's by its number. What each handset
+//! accepted and joined is the world's, in order. Whatever a script does, with stops and restarts, its course is a run
+//! of the world (`specs/refinement/CourseRuns.antt`).
 //!
-//! `sms_play` tells of each event of the centre, too, which references its changes give, and to whom; the steps of the world that the event
-//! is give references as well. They are the same ones: a row for each giving, and a giving for each row, at the moment of the event. So to
-//! whom a reference was given last is the same in both, no two rows are of one holder, and the parts of messages come in the order in which
-//! they were given (`specs/ToldGivings`): which is what the premises go by.
+//! `sms_play` also lists of each event of the centre which references its changes give, and to whom. The steps of the
+//! world give exactly these, a row for each giving, at the moment of the event. So a reference's last holder is equal
+//! in both. No two rows are of one holder, and parts are in the order of their givings
+//! (`specs/refinement/ToldGivings.antt`). The premises rest on this.
 
 pub mod laws;

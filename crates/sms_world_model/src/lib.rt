@@ -1,17 +1,19 @@
-//! The world of a short message service centre and its handsets, and what holds of it whatever the network does.
+//! The world of a service centre and its handsets, and what holds of it whatever the network does.
 //!
-//! `specs/` is the protocol: the table of messages, the references that were given, what handsets accepted and joined, and
-//! every frame that was ever sent (`World`); what may happen next (`WorldStep`, `Run`); which steps an event of a script may
-//! be, a stopped one too (`ScriptRun`); and what then holds (`Agreement`). Frames may be lost, repeated and delayed, timers
-//! fire and sides restart at any time. The claims, each a law below over every list of steps and over every script:
-//! - Always: a message has one final state at most, for good, and one receipt at most, of that state; references that parts
-//!   and reports hold at a handset differ, and no reference is given twice there in one second.
-//! - Where each frame that is handed over is timely (`Timely`): a receipt says Delivered only if the handset accepted each
-//!   part exactly once, as it was submitted; and each entry that a handset counts as sent is a message of the centre.
-//! - Where originators keep references fresh too (`Fresh`): each long message that a handset joins is one that was
-//!   submitted to it, and none is joined twice.
+//! `specs/` is the protocol. `World` has the table of messages, the references that were given, what handsets accepted
+//! and joined, and every frame that was ever sent. `WorldStep` and `Run` say what may happen next, `ScriptRun` which
+//! steps an event of a script may be, a stopped one too. `Agreement` says what then holds. Frames may be lost, repeated
+//! and delayed, timers fire and sides restart at any time. Each claim is a law below, over every list of steps and over
+//! every script:
 //!
-//! Of octets the claims know what TPDUs and their headers are read as, and nothing of how they are written.
+//! - Always: a message has one final state at most, for good, and one receipt at most, of that state. References that
+//!   parts and reports hold at a handset differ, and no reference is given twice there in one second.
+//! - Where each frame that is handed over is timely (`Timely`): a receipt says Delivered only if the handset accepted
+//!   each part once, as submitted. Each entry that a handset counts as sent is a message of the centre.
+//! - Where originators keep references fresh too (`Fresh`): each long message that a handset joins was submitted to it,
+//!   and none is joined twice.
+//!
+//! The claims see octets only through what TPDUs and their headers are read as, never through how they are written.
 #![tactic(auto)]
 
 ghost use Rattle.std.specs.Prelude.{◌↔◌, ◌≡◌, ◌++◌, ◌∷◌, ◌≤◌, ℕ, List, Some, Bool};
@@ -42,8 +44,8 @@ pub fn one_final_state()
     ensures for_good { (before later : List Item) → Run empty (before ++ later) → FinalForGood (end empty before) (end empty (before ++ later)) }
 {}
 
-/// Whatever happens: receipts agree with final states, references that are held differ, no reference is given twice at
-/// one moment, frames have numbers of their own, and what was joined is a full group that was joined once.
+/// Whatever happens, receipts agree with final states and references that are held differ. No reference is given twice
+/// at one moment, and frames have numbers of their own. What was joined is a full group that was joined once.
 pub fn always_sound()
     ensures receipts { (items : List Item) → Run empty items → ReceiptsAgree (end empty items) }
     ensures held { (items : List Item) → Run empty items → HeldDiffer (end empty items) }
@@ -53,20 +55,20 @@ pub fn always_sound()
     ensures joined { (items : List Item) → Run empty items → JoinedEnded (end empty items) }
 {}
 
-/// While frames come in time, a delivered message was accepted in each part exactly once, as it was submitted.
+/// While frames are timely, a delivered message was accepted in each part exactly once, as it was submitted.
 pub fn delivered_was_accepted()
     ensures delivered { (items : List Item) → Run empty items → Timely empty items → DeliveredAccepted (end empty items) }
     ensures told { (items : List Item) → Run empty items → Timely empty items → DeliveredTold (end empty items) }
     ensures once { (items : List Item) → Run empty items → Timely empty items → NoPartTwice (end empty items) }
 {}
 
-/// While frames come in time, each entry of a handset that counts as sent has its message in the table.
+/// While frames are timely, each entry of a handset that counts as sent has its message in the table.
 pub fn sent_was_submitted()
     ensures { (items : List Item) → Run empty items → Timely empty items → SentSubmitted (end empty items) }
 {}
 
-/// While frames come in time, no round is joined twice; and where originators keep references fresh, what a handset joins
-/// is one round that was submitted to it, and what it joins with a part of a split message is that message.
+/// While frames are timely, no round is joined twice. Where originators keep references fresh too, what a handset joins
+/// is one round that was submitted to it. What it joins with a part of a split message is that message.
 pub fn joined_was_submitted()
     ensures once { (items : List Item) → Run empty items → Timely empty items → RoundsOnce (end empty items).joined }
     ensures joined { (items : List Item) → Run empty items → Timely empty items → Fresh empty items → JoinedSubmitted (end empty items) }
@@ -74,7 +76,7 @@ pub fn joined_was_submitted()
     ensures content { (items : List Item) → Run empty items → Timely empty items → Fresh empty items → SplitsJoined (end empty items) }
 {}
 
-/// The same over scripts of events, stopped ones among them, with no premise.
+/// Over scripts of events, stopped ones among them, and with no premise: what always holds of a list of steps.
 pub fn script_is_sound()
     ensures stays { (before later : List Happening) (w v : World) → Plays empty before w → Plays w later v → MessagesStay w v }
     ensures for_good { (before later : List Happening) (w v : World) → Plays empty before w → Plays w later v → FinalForGood w v }
@@ -102,8 +104,8 @@ pub fn script_joins()
     ensures content { (events : List Happening) (w : World) → PlaysFresh empty events w → SplitsJoined w }
 {}
 
-/// A stopped event leaves the world from before it, or that from after it with none of its frames; and an event that may be
-/// played may be stopped so.
+/// A stopped event leaves the world from before it, or the world from after it with none of its frames. An event that
+/// may be played may be stopped so.
 pub fn stop_is_before_or_after()
     ensures leaves { (w v : World) (h : Happening) → ¬ (h.went ≡ Whole) → Leads w h v → IsBeforeOrAfter w h v }
     ensures may { (w x : World) (event : Event) (m : ℕ) → Leads w (record { event = event; went = Whole; moment = m }) x → Leads w (record { event = event; went = After; moment = m }) (with_frames w.bag x) }
@@ -114,8 +116,8 @@ pub fn restart_leaves_the_world()
     ensures { (w v : World) (m : ℕ) → Leads w (record { event = Restarted; went = Whole; moment = m }) v → v ≡ w }
 {}
 
-/// What the centre keeps of its givings tells when a reference may be given again, and stays true as references are given
-/// and time goes on; after a restart any moment will do that is not before one that is kept.
+/// What the centre keeps of its givings says when a reference may be given again, and stays true as references are
+/// given and time passes. After a restart any moment will do that is not before one that is kept.
 pub fn kept_givings()
     ensures again { (kept : LastGivings) (down : List Giving) (now : ℕ) (handset : List ℕ) (reference : ℕ) → SeesGivings kept down now → WasEarlier (kept handset reference) now → IsEarlier down handset reference now }
     ensures gave { (kept next : LastGivings) (down : List Giving) (now : ℕ) (g : Giving) → SeesGivings kept down now → IsKeptFrom kept next g → g.moment ≡ now → SeesGivings next (g ∷ down) now }
@@ -123,7 +125,7 @@ pub fn kept_givings()
     ensures recovered { (kept : LastGivings) (down : List Giving) (now start : ℕ) → SeesGivings kept down now → ((handset : List ℕ) (reference second : ℕ) → kept handset reference ≡ Some second → second ≤ start) → SeesGivings kept down start }
 {}
 
-/// What of a TPDU is not compared tells neither of its place in a long message nor of its content, nor whose it is.
+/// What of a TPDU is not compared says nothing of its place in a long message, of its content, or of whose it is.
 pub fn compared_is_read_alike()
     ensures place { (tpdu : List ℕ) → place_in (compared tpdu) ≡ place_in tpdu }
     ensures content { (tpdu : List ℕ) → carried_in (compared tpdu) ≡ carried_in tpdu }
@@ -131,7 +133,7 @@ pub fn compared_is_read_alike()
     ensures report { (s : Submission) (f : FinalState) (tpdu : List ℕ) → IsReportOf s f (compared tpdu) ↔ IsReportOf s f tpdu }
 {}
 
-/// How the groups of a key go on as parts are accepted; and nothing was joined at the place of the group that ends next.
+/// How the groups of a key grow as parts are accepted. Nothing was joined at the place of the group that ends next.
 pub fn groups_go_on()
     ensures others_stay { OthersStay }
     ensures passed { IsPassed }
@@ -140,8 +142,8 @@ pub fn groups_go_on()
     ensures new { (items : List Item) → Run empty items → NextIsNew (end empty items) }
 {}
 
-/// The steps of a handset leave what another handset has and what the centre has, and the steps of the centre leave what
-/// a handset has.
+/// The steps of a handset leave what another handset has and what the centre has. The steps of the centre leave what a
+/// handset has.
 pub fn sides_stay_apart()
     ensures handsets { (g h : List ℕ) (w : World) (m : ℕ) (b : Bool) (ss : List Step) → ¬ (g ≡ h) → AllOfHandset g ss → LeavesHandset h w (end w (items m b ss)) }
     ensures handset { (h : List ℕ) (w : World) (m : ℕ) (b : Bool) (ss : List Step) → AllOfCentre ss → LeavesHandset h w (end w (items m b ss)) }

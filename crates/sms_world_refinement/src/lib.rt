@@ -1,12 +1,16 @@
-//! sms_world_refinement, of modules:
+//! Every event of a core is steps of the world model.
 //!
-//! - `centre`: What the centre sees of the world.
-//! - `centre_events`: A centre's course is steps of the world.
-//! - `frames`: Frames as the world sees them.
-//! - `handset`: What the world sees of a handset's events.
-//! - `handset_octets`: What a handset sends is octets.
-//! - `splits`: Messages that the centre split, as its rows have them.
-//! - `submissions`: Messages as applications submitted them, as the centre's rows have them.
+//! A core refines the world where its rows, and what its links may send again, can be looked up there and back. After
+//! any event it refines the world that the event's steps lead to. So what `sms_world_model` claims of every list of
+//! steps holds of both cores, whatever events they get. Each module has laws over definitions alone, and no code.
+//!
+//! - `centre`: how the centre refines the world, and the events that are steps by themselves
+//! - `centre_events`: every event of the centre, and a whole course of them, are steps of the world
+//! - `frames`: which frames of the world the frames of a side are
+//! - `handset`: every event of a handset is steps of the world
+//! - `handset_octets`: what a handset sends is octets
+//! - `splits`: a message that the centre split stays the text that was submitted
+//! - `submissions`: a message of an application stays what was submitted
 #![tactic(auto)]
 
 pub mod centre;

@@ -1,9 +1,9 @@
-//! Messages that the centre split, as its rows have them.
+//! A message that the centre split stays the text that was submitted.
 //!
-//! A text that no part holds is split into parts under a 16-bit reference, which the row of its message keeps. Here it is shown of every
-//! event of a sound centre's definition that each such message stays what it became: as many parts as its header counts, each at its own
-//! number's place under the one key (`specs/SplitRows`); and of a submission that its message is that of the text that was submitted, part
-//! by part, whatever happens afterwards. What a handset joins of such a message is said above (`sms_world::headline`). There are laws here and no
-//! code.
+//! The centre splits a text that no part holds under a 16-bit reference, which the message's row keeps. Every event of
+//! a sound centre's definition keeps each such message. It has as many parts as its header counts, each at its own
+//! number's place under the one key (`specs/splits/SplitRows.antt`). A submission's message is that of the submitted
+//! text, part by part, whatever happens afterwards. `sms_world::headline` says what a handset joins of it. This module
+//! has laws and no code.
 
 pub mod laws;

@@ -1,8 +1,8 @@
-//! Messages as applications submitted them, as the centre's rows have them.
+//! A message of an application stays what was submitted.
 //!
-//! A submit_sm that passes all checks is a submission: its source, its handset, its data coding, its user data and what else a DELIVER
-//! says of it. Here it is shown of the centre's definition that the message that comes of it is that submission's, part by part: each part
-//! is offered as a DELIVER of it (`specs/SubmittedRows`), whether its user data fit one part, came with a header of their own or were
-//! split; and that it stays so through every event. There are laws here and no code.
+//! A submit_sm that passes all checks is a submission. It has a source, a handset, a data coding, user data, and all
+//! else that a DELIVER says of it. The centre's definition makes of it a message that is that submission's, part by
+//! part. Each part is offered as a DELIVER of it (`specs/submissions/SubmittedRows.antt`). Its user data may fit one
+//! part, have a header of their own or be split. Every event keeps this. This module has laws and no code.
 
 pub mod laws;

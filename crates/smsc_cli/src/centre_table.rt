@@ -1,8 +1,9 @@
-//! What a centre stores, as a table for a person.
+//! The table of a centre's store, for a person.
 //!
-//! A line for each message: its number, from whom and to whom, its state, when it was submitted and last changed, how often
-//! it was tried in vain and when it is tried next; then how many messages are in each state. The table is exactly that of
-//! `specs/CentreTable.antt`, and never has what a message says. Nothing is changed.
+//! Each message has a line: its number, source, destination and state, and when it was submitted and last changed. The
+//! line also has how often the message was tried in vain, and when it is tried next. Then each state has a line with
+//! the number of its messages. The table is exactly that of `specs/centre_table/CentreTable.antt`, and never has a
+//! message's text. Nothing is changed.
 
 mod messages;
 mod parts;

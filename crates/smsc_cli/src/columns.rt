@@ -1,7 +1,7 @@
-//! Tables for a person: cells, each filled up to the width of its column, and texts on one line.
+//! Cells of a table, each filled up to the width of its column, and texts on one line.
 //!
-//! What a message says, or the name that it comes from, may have any character. A space stands for each control character,
-//! so that it can't begin a line of its own or steer a terminal.
+//! A message's text, or the name of its originator, may have any character. A space replaces each control character, so
+//! that it can't begin a line of its own or steer a terminal.
 
 mod cells;
 

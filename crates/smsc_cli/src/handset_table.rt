@@ -1,7 +1,8 @@
-//! What a handset stores, as a table for a person.
+//! The table of a handset's store, for a person.
 //!
-//! Two lists, the inbox and the outbox, each with a line for an entry: its number, from whom or to whom, its state, and the
-//! text as far as it is text. The table is exactly that of `specs/HandsetTable.antt`. Nothing is changed.
+//! It has two lists, the inbox and the outbox. An entry's line has its number, its originator or destination, its
+//! state, and the text as far as it is text. The table is exactly that of `specs/handset_table/HandsetTable.antt`.
+//! Nothing is changed.
 
 mod content;
 mod table;

@@ -1,9 +1,12 @@
-//! smsc_cli, of modules:
+//! The words of the programs, and the tables that they print.
 //!
-//! - `centre_table`: What a centre stores, as a table for a person.
-//! - `columns`: Tables for a person: cells, each filled up to the width of its column, and texts on one line.
-//! - `handset_table`: What a handset stores, as a table for a person.
-//! - `words`: The words of the programs.
+//! Words give exactly the values that clap's matches have for their options; all else is bad words. A table is exactly
+//! its definition's text.
+//!
+//! - `centre_table`: the table of a centre's store
+//! - `columns`: cells of a table, and texts on one line
+//! - `handset_table`: the table of a handset's store
+//! - `words`: the words of `handset`, `smscd` and `smsim`
 #![tactic(auto)]
 
 pub mod centre_table;

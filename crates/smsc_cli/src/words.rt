@@ -1,8 +1,8 @@
 //! The words of the programs.
 //!
-//! `handset_words` tells what the words behind `handset` ask, `server_words` those behind `smscd`, and `sim_words` those of a relay run
-//! of `smsim`. Each value is the one that clap's matches of the words have for its option, and spells what it is said to spell; all
-//! else is bad words. `add_lines` reads accounts from a file, so that no password has to stand among the words.
+//! `handset_words` reads the words of `handset`, `server_words` those of `smscd`, and `sim_words` those of a relay run
+//! of `smsim`. Each value is the one that clap's matches have for its option, and spells what it is said to spell; all
+//! else is bad words. `add_lines` reads accounts from a file, so that no password has to be among the words.
 
 mod account;
 mod address;

@@ -1,9 +1,9 @@
-//! Whether an address can stand in a unit.
+//! Whether a unit can carry an address.
 ghost use Rattle.std.specs.Prelude.{◌≡◌};
 ghost use Rattle.sms_base.specs.Address.{has_code as has_code_of, width_of as width_of_code};
 ghost use Rattle.sms_base.specs.Alphabet.{code_for};
 ghost use Rattle.sms_base.specs.SemiOctet.{is_digit as is_digit_of};
-ghost use Rattle.sms_centre_recovery.specs.soundness.AddressTest.{is_address as is_address_of, is_name_within as is_name_within_of};
+ghost use Rattle.sms_centre_soundness.specs.AddressTest.{is_address as is_address_of, is_name_within as is_name_within_of};
 ghost use Rattle.std.specs.List.{list_all};
 
 use sms_base::{Address, code_of, semi_octet_of};
@@ -58,7 +58,7 @@ fn is_name_within(left: u8, characters: &[char]) -> bool
     }
 }
 
-/// Whether the address can stand in a unit: a numbering plan below 16, and 1 to 20 digits `0-9*#abc` or a name of 1 to 11
+/// Whether a unit can carry the address: a numbering plan below 16, and 1 to 20 digits `0-9*#abc` or a name of 1 to 11
 /// septets.
 pub(crate) fn is_address(address: &Address) -> bool
     ensures { result ≡ is_address_of address.now }

@@ -11,7 +11,7 @@ use crate::texts::{is_id_text, is_time_text};
 use smpp_pdu::{CommandStatus, Header, MessageResp, QuerySmResp};
 use smpp_session::{Accounts, Action, Answer, BindKind, Request, Session, SessionState};
 use sms_base::{Address, FinalState, MessageId, Moment, OctetView, Octets};
-use sms_centre_recovery::soundness::laws::addresses_are_tested;
+use sms_centre_soundness::laws::addresses_are_tested;
 use sms_centre_spec::CentreAnswer;
 use sms_centre_spec::jobs::{Job, Reply};
 use sms_receipt::laws::receipts_can_be_written;
@@ -36,7 +36,7 @@ struct SentReceipt {
     id: MessageId,
 }
 
-/// The session of an application at a seat: what comes of the octets that came, and of what the seat is told.
+/// The session of an application at a seat: what follows from the received octets, and from the replies of the seat.
 #[derive(Drop)]
 pub struct Application {
     alloc: Global,

@@ -4,7 +4,7 @@ use sms_base::Digits;
 use sms_centre_spec::jobs::{Job, Reply};
 use std::alloc::AllocError;
 
-/// What an operator may want to know of a guest. No password and no text stands in it.
+/// What an operator may want to know of a guest. It has no password and no text.
 #[derive(Clone, Copy, Debug, PartialEq, Eq)]
 pub enum Note {
     /// The account at this place is bound.
@@ -19,7 +19,7 @@ pub enum Note {
     NoNumber,
     /// The handset has a link at another seat.
     Taken,
-    /// What came is no stream of frames.
+    /// The octets are no stream of frames.
     NoFrames,
     /// Nobody was bound and no handset named for too long.
     Silent,
@@ -33,10 +33,10 @@ pub enum Note {
 
 /// A session or a link at a seat.
 pub trait Guest {
-    /// Takes octets that came. Without memory the guest can't go on.
+    /// Takes received octets. Without memory the guest can't continue.
     fn take(&mut self, octets: &[u8]) -> Result<(), AllocError>;
 
-    /// Takes what the seat is told.
+    /// Takes a reply of the seat.
     fn told(&mut self, reply: Reply) -> Result<(), AllocError>;
 
     /// It has not said who it is for too long: it is to be sent that there is no room for it.
@@ -60,7 +60,7 @@ pub trait Guest {
     /// Whether jobs wait to be put.
     fn has_jobs(&self) -> bool;
 
-    /// How many answers to its requests are still to come.
+    /// How many answers to its requests are still missing.
     fn unanswered(&self) -> usize;
 
     /// Whether it said who it is.

@@ -1,11 +1,21 @@
-//! Sessions of applications and links of handsets at the seats of a hub.
+//! Sessions of applications and links of handsets at the seats of a hub, between octets and jobs.
 //!
-//! `Application` is the session of an application at a seat: octets that came make octets to send and jobs to put, in order, and so
-//! does what the seat is told. `HandsetLink` is the same for the link of a handset. Neither knows of sockets or threads; what they
-//! want sent and put stands in them until it is. `serve` runs one of them between a `Wire` and a seat, whatever the wire is, and
-//! leaves the seat as if nobody had sat there: it has taken all that the seat was told.
-//! A wire that takes no octets, or gives none before it is bound or names its handset, is given up after a while, and its seat takes
-//! its answers meanwhile, so that the keeper never waits for it. Who is refused, or given up before it said who it is, is told so.
+//! `Application` is the session of an application at a seat, `HandsetLink` the link of a handset. Received octets, and
+//! the replies of the seat, become octets to send and jobs to put, in order. Neither knows of sockets or threads.
+//! `serve` runs one of them between a `Wire` and a seat, whatever the wire is. It leaves the seat as it was before: all
+//! of the guest's replies are taken. A wire that takes no octets, or gives none before it is bound or names its
+//! handset, is given up after a while. Its seat takes its answers meanwhile, so that the keeper never waits for it.
+//!
+//! - `addresses`: whether an address can be in a unit
+//! - `application`: the session of an application at a seat
+//! - `guest`: what a session and a link have in common
+//! - `handset_link`: the link of a handset at a seat
+//! - `open_seat`: a seat that has not closed
+//! - `outbox`: octets to send and jobs to put
+//! - `refusing`: the octets for a connection that is refused or given up
+//! - `serving`: a guest between its wire and its seat
+//! - `texts`: texts that can be in a PDU
+//! - `wire`: where octets are received and sent
 #![tactic(auto)]
 
 mod addresses;

@@ -1,11 +1,12 @@
-//! What a connection is told that is not served, or served no longer.
+//! The octets for a connection that is refused or given up.
 
 /// There is no room for an application: generic_nack with ESME_RBINDFAIL (SMPP v3.4 4.3 and 5.1.3).
 pub const NO_ROOM: [u8; 16] = [
     0x00, 0x00, 0x00, 0x10, 0x80, 0x00, 0x00, 0x00, 0x00, 0x00, 0x00, 0x0D, 0x00, 0x00, 0x00, 0x00,
 ];
 
-/// There is no room for a link: CP-ERROR with the cause "congestion" behind its length (3GPP TS 24.011 7.2.3 and 8.1.4.2).
+/// There is no room for a link: CP-ERROR with the cause "congestion", behind its length (3GPP TS 24.011 7.2.3 and
+/// 8.1.4.2).
 pub const CONGESTION: [u8; 5] = [0x00, 0x03, 0x09, 0x10, 0x16];
 
 /// What a link brought is no frame, or names no handset: CP-ERROR with the cause "protocol error, unspecified".

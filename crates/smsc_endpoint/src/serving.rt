@@ -9,7 +9,7 @@ use std::sync::Wait;
 use std::sync::atomic::{AtomicBool, Ordering};
 use std::time::Duration;
 
-/// Whoever is told what happens to guests.
+/// Who reports what happens to guests.
 pub trait Teller {
     fn tell(&self, seat: usize, note: Note);
 }

@@ -1,4 +1,4 @@
-//! Texts that can stand in a PDU.
+//! Texts that a PDU can carry.
 ghost use Rattle.std.specs.Prelude.{◌≡◌, nat_lt, true};
 ghost use Rattle.std.specs.List.{list_all};
 ghost use Rattle.smpp_pdu.specs.Fields.{IsText, IsTimeText};

@@ -66,8 +66,8 @@ fn rows_for(alloc: Global, centre: Address, now: Moment) -> Rows
     first_rows(alloc, setup_for(alloc, centre, now))
 }
 
-/// A centre starts with no rows and with links to these handsets, and the frame of one of them comes: what it sends, without the control
-/// layer.
+/// A centre starts with no rows and with links to these handsets, and takes the frame of one of them. It gives what the
+/// centre sends, without the control layer.
 pub(crate) fn relay_started(
     alloc: Global,
     centre: Address,

@@ -33,7 +33,7 @@ fn cut_line(input: &[u8]) -> (&[u8], &[u8])
 /// Octets that a line spells at most.
 pub(crate) const MOST_OCTETS: usize = LONGEST_LINE / 2;
 
-/// Puts the octets that the one line of an input spells to the front of a room of 8,192, and tells how many they are,
+/// Puts the octets that the one line of an input spells to the front of a room of 8,192. It answers how many they are,
 /// or the number of the bad line, from 1. Takes no memory.
 pub(crate) fn read_frame(input: &[u8], room: &mut [u8]) -> Result<usize, u64>
     requires { length room.old ≡ MOST_OCTETS }

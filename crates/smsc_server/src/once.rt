@@ -110,12 +110,12 @@ fn relay(
 
 /// The frames that a centre without rows sends for one frame of a handset.
 ///
-/// `centre` and `from` are the numbers of the centre and of the sender, `now` is the moment of the centre, and `frame`
-/// is one unit of the relay layer. An accepted SUBMIT is answered RP-ACK and goes to its destination as a DELIVER;
-/// a refused one, RP-SMMA and what can't be read have an answer alone, and nothing is sent for an answer to nothing.
+/// `centre` and `from` are the numbers of the centre and of the sender. `now` is the moment of the centre, and `frame`
+/// is one unit of the relay layer. An accepted SUBMIT is answered RP-ACK, and its destination gets a DELIVER. A refused
+/// one, RP-SMMA and an unreadable unit have an answer alone. Nothing is sent for an answer to nothing.
 ///
-/// The centre starts with links to the sender and to the destination, and the frame comes in CP-DATA; what it sends is taken out of
-/// CP-DATA again.
+/// The centre starts with links to the sender and to the destination. The frame arrives in CP-DATA, and what the centre
+/// sends is taken out of CP-DATA again.
 pub fn relay_once(
     alloc: Global,
     centre: Address,

@@ -135,12 +135,12 @@ fn write_output<W: Write>(
     }
 }
 
-/// Reads one line of hexadecimal digits, an RP unit of the handset `from`, and writes a line for each frame that a
-/// centre without rows sends for it at the moment `now`: the number of the handset, a space, and the frame in capital
-/// hexadecimal digits; the answer comes first.
+/// Reads one line of hexadecimal digits, an RP unit of the handset `from`. It writes a line for each frame that a
+/// centre without rows sends for it at the moment `now`, the answer first. A line has the number of the handset, a
+/// space, and the frame in capital hexadecimal digits.
 ///
-/// A bad line is told by its number. Nothing is written for it, nor where memory is wanting, which is told of a good
-/// line alone. A read or write that fails ends the run.
+/// A bad line is reported by its number. Nothing is written for it, nor where memory is wanting, which is reported of a
+/// good line alone. A read or write that fails ends the run.
 pub fn run_relay<R: Read, W: Write>(
     alloc: Global,
     reader: &mut R,

@@ -1,4 +1,6 @@
 pub mod Asking
+pub mod InMachine
+pub mod InService
 pub mod Numbers
 pub mod Room
 pub mod Seats

@@ -19,7 +19,7 @@ use sms_centre_spec::jobs::Job;
 pub enum Asked<'a> {
     /// Something that happens to the centre.
     Event(CentreEvent<'a>),
-    /// Nothing: its seat has no link, or what came is no such request.
+    /// Nothing: its seat has no link, or its octets are no such request.
     Nothing,
     /// A link for a handset that has one at another seat.
     Taken,

@@ -1,4 +1,4 @@
-//! Copies of what seats are told.
+//! Copies of replies.
 ghost use Rattle.std.specs.Prelude.{◌≡◌, IfOk};
 
 use sms_base::Octets;
@@ -30,7 +30,7 @@ fn copy_of_out(alloc: Global, out: &Out<Reply>) -> Result<Out<Reply>, AllocError
     })
 }
 
-/// The same outs.
+/// A copy of the outs.
 pub fn copy_of_outs(alloc: Global, outs: &[Out<Reply>]) -> Result<Vec<Out<Reply>>, AllocError>
     ensures { IfOk result (λ copy. copy.items ≡ outs.now) }
 {

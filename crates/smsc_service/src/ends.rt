@@ -81,7 +81,7 @@ fn end_at(centre: &Centre, id: MessageId) -> Result<Option<Final>, AllocError>
     }
 }
 
-/// What is told of the message once the plan is adopted, if it has ended then.
+/// What a report says of the message once the plan is adopted, if it has ended then.
 pub(crate) fn end_after(
     centre: &Centre,
     planned: &Planned,

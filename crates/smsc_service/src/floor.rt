@@ -1,4 +1,4 @@
-//! Who sits where.
+//! Which handset and which session is at which seat.
 ghost use Rattle.std.specs.Prelude.{◌≡◌, OnOk};
 ghost use Rattle.sms_rows.specs.table.Table.{HasRoom};
 ghost use Rattle.sms_centre_spec.specs.declared.jobs.job.Job.TheVariants.{LinkUp};
@@ -12,7 +12,7 @@ use sms_rows::table::laws::spare_has_room;
 use sms_rows::table::{Key, Row, Table};
 use std::alloc::{AllocError, Global};
 
-/// The seat at which the link of a handset stands.
+/// The seat of a handset's link.
 #[derive(Clone, Copy, Debug, PartialEq, Eq)]
 pub struct LinkSeat {
     pub seat: u32,
@@ -46,8 +46,8 @@ impl Row for Sitting {
 /// The links that are up and the sessions that are bound, by their seats.
 #[derive(Drop)]
 pub struct Floor {
-    pub links: Table<LinkSeat>,
-    pub sittings: Table<Sitting>,
+    pub(crate) links: Table<LinkSeat>,
+    pub(crate) sittings: Table<Sitting>,
 }
 
 // Makes room for a row more.
@@ -72,7 +72,7 @@ impl Floor {
         }
     }
 
-    /// The handset whose link stands at the seat.
+    /// The handset whose link is at the seat.
     pub fn handset_at(&self, seat: u32) -> Option<Digits>
         ensures { result ≡ handset_at seat (seats_in self.now).links }
     {
@@ -82,7 +82,7 @@ impl Floor {
         }
     }
 
-    /// The seat at which the link of the handset stands.
+    /// The seat of the handset's link.
     pub fn seat_of(&self, handset: Digits) -> Option<u32>
         ensures { result ≡ seat_of handset (seats_in self.now).links }
     {

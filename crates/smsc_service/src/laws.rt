@@ -10,8 +10,9 @@ ghost use Rattle.sms_centre_rows.specs.declared.messages.message.MessageRow.{Mes
 ghost use Rattle.smsc_service.specs.Serving.{Serving, after, gives};
 ghost use Rattle.smsc_service.specs.Telling.{answer_for};
 
-/// Where a submission is answered by a number (submit_sm_resp with ESME_ROK, SMPP v3.4 4.4.2), the answer is for the seat that asked, and
-/// a message of that number stands in the rows after the step, which were committed when the outs are given.
+/// Where a submission is answered by a number (submit_sm_resp with ESME_ROK, SMPP v3.4 4.4.2), the answer is for the
+/// seat that asked. A message of that number is in the rows after the step, which were committed when the outs are
+/// given.
 pub fn an_answer_names_a_message()
     ensures { (s : Serving) (seat account asked id : ℕ) (pdu : List ℕ) (fate : Fate) → Among (answer_for asked (Submitted id)) (gives s (JobOf seat (Submit account pdu)) fate)
         → (asked ≡ seat) × ((row : MessageRow) × (message_at id (after s (JobOf seat (Submit account pdu)) fate).core.rows.messages ≡ Some row)) }

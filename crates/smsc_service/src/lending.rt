@@ -3,7 +3,8 @@ ghost use Rattle.std.specs.Prelude.{IfOk};
 ghost use Rattle.std.specs.Fn.{FnOnceReturnsAtMut};
 ghost use Rattle.sms_centre_spec.specs.declared.rows.Rows.{Rows as RowsOf};
 ghost use Rattle.smsc_service.specs.Seats.{nobody};
-ghost use Rattle.smsc_service.specs.Serving.{IsServing, restarted};
+ghost use Rattle.smsc_service.specs.Serving.{restarted};
+ghost use Rattle.smsc_service.specs.InService.{IsServedBy, store_in};
 
 use crate::service::Service;
 use crate::start_error::StartError;
@@ -23,8 +24,9 @@ pub fn serve_with<K: CentreStore + Drop, R, W: FnOnce(&mut Service<K>) -> R>(
 ) -> Result<R, StartError>
     requires { W.IsAlwaysCallable work }
     // What is given is what the work gives of a service that stands on the rows of the keep.
-    ensures given { IfOk result (λ given. (lent : _) × (left : _) × (K.is_honest lent.machine.keep → (rows : RowsOf) → K.holds keep rows → IsServing (K.holds lent.machine.keep) lent.machine.centre lent.floor (restarted rows nobody))
-        × (K.is_honest lent.machine.keep → K.is_honest keep) × FnOnceReturnsAtMut W.FnOnce work lent given left) }
+    ensures given { IfOk result (λ given. (lent : _) × (left : _)
+        × (K.is_honest (store_in lent) → (rows : RowsOf) → K.holds keep rows → IsServedBy K.holds lent (restarted rows nobody))
+        × (K.is_honest (store_in lent) → K.is_honest keep) × FnOnceReturnsAtMut W.FnOnce work lent given left) }
 {
     let service = Service::start(alloc, keep)?;
     Ok(lend(service, work))

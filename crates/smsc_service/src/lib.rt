@@ -1,19 +1,33 @@
-//! The centre as the machine of a hub: who sits where, what their jobs ask of the centre, and what they are told.
+//! The centre as the machine of a hub.
 //!
-//! `CentreMachine` has a centre and the keep of its rows. An event is planned, passes the gate, is committed at most once, is adopted,
-//! and only then gives what is told: what leaves was committed. What is told, and the centre after it, are exactly what the centre's
-//! definition makes of the event; an event that is refused, or finds no memory, leaves the centre as it was. A step whose commit was
-//! refused leaves the rows in the keep, or a closed keep: then the centre starts again with the rows.
+//! `CentreMachine` has a centre and the keep of its rows. An event is planned, passes the gate, is committed at most
+//! once, is adopted, and only then gives its replies: what leaves was committed. The replies, and the centre after
+//! them, are exactly the definition's. An event that is refused, or finds no memory, leaves the centre unchanged. A
+//! step whose commit was refused leaves the rows in the keep, or a closed keep: then the centre starts again with the
+//! rows.
 //!
-//! `Service` is what a hub's keeper runs: it asks the centre what a seat's job asks, or lets time go on, and gives each seat what it is
-//! told. To the layer above this one promises that its steps are one history of the centre's definition (`specs/Serving.antt`): the outs
-//! of each are what the definition gives, they are given only after what they tell of was committed, and what was refused, or found no
-//! memory, changes no row. `serve_with` owns one and lends it, so that no crate above proves how a centre is let go.
+//! `Service` is what a hub's keeper runs: it asks the centre for a seat's job, or lets time pass, and gives each seat
+//! its replies. Its steps are one history of the centre's definition (`specs/Serving.antt`). `Floor` keeps which
+//! handset's link and which session is at which seat, so that frames and receipts find their seats. `serve_with` owns a
+//! service and lends it, so that no crate above proves how a centre is dropped.
 //!
-//! `Floor` keeps which handset's link stands at which seat, and who is bound at which, so that a frame finds its link, and a centre that
-//! starts again has its links and sessions (`handsets_of`, `sessions_of`). `job_asks` says what a seat's job asks of the centre, and
-//! `told` which seats are told what of a plan: the answer to the seat that asked, frames to the seats of their handsets' links, receipts
-//! to those of their sessions. Each is its definition (`specs/`).
+//! - `asking`: what a job asks of the centre
+//! - `copying`: copies of replies
+//! - `ends`: the ends of messages
+//! - `floor`: which handset and which session is at which seat
+//! - `laws`: laws of the service's steps
+//! - `lending`: a service that is lent
+//! - `machine`: a centre and the keep of its rows
+//! - `number`: the numbers of handsets
+//! - `restarting`: a centre that starts again
+//! - `served`: what a service represents
+//! - `service`: the service and its steps
+//! - `sitting`: handsets and sessions, as a centre that starts again wants them
+//! - `start_error`: why a centre does not start
+//! - `step_error`: why a step was not made
+//! - `stimuli`: what a job or tick asks, and what it gives
+//! - `telling`: which seats get which replies of a plan
+//! - `twice`: replies twice, for the seats and for the history
 #![tactic(auto)]
 
 mod asking;

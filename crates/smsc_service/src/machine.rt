@@ -8,6 +8,7 @@ ghost use Rattle.sms_centre_spec.specs.SoundCore.{HasNumber, IsEvent};
 ghost use Rattle.sms_centre_spec.specs.declared.event.CentreEvent.{CentreEvent as CentreEventOf};
 ghost use Rattle.sms_centre_spec.specs.declared.rows.Rows.{Rows as RowsOf};
 ghost use Rattle.smsc_service.specs.Stepping.{OneRefused, PlansStep, step_error_of as step_error_of_plan};
+ghost use Rattle.smsc_service.specs.InMachine.{centre_in, keep_in};
 
 use crate::step_error::StepError;
 use sms_centre::{Centre, CentreEvent, PlanError, Planned, Told};
@@ -17,8 +18,8 @@ use sms_keeper::Gate;
 /// A centre over the keep of its rows.
 #[derive(Drop)]
 pub struct CentreMachine<K: CentreStore + Drop> {
-    pub keep: K,
-    pub centre: Centre,
+    pub(crate) keep: K,
+    pub(crate) centre: Centre,
 }
 
 fn step_error_of(error: PlanError) -> StepError
@@ -31,10 +32,10 @@ fn step_error_of(error: PlanError) -> StepError
 }
 
 impl<K: CentreStore + Drop> CentreMachine<K> {
-    /// A machine over a centre that stands on the rows of the keep.
+    /// A machine of a centre whose rows are those of the keep.
     pub fn new(keep: K, centre: Centre) -> CentreMachine<K>
-        ensures keep { result.keep ≡ keep }
-        ensures centre { result.centre ≡ centre }
+        ensures keep { keep_in result ≡ keep }
+        ensures centre { centre_in result ≡ centre }
     {
         CentreMachine { keep, centre }
     }
@@ -42,11 +43,12 @@ impl<K: CentreStore + Drop> CentreMachine<K> {
     /// What the event leads to. Nothing has changed yet, but that bodies were read. A handset that the event names has a number.
     pub fn plan(&mut self, event: &CentreEvent<'_>) -> Result<Planned, StepError>
         requires { HasNumber event.now }
-        ensures plan { K.is_honest self.new.keep → (c : Core) → IsStanding c self.old.centre → K.holds self.old.keep c.rows → PlansStep (K.holds self.new.keep c.rows) (K.is_closed self.new.keep) (K.refusals self.old.keep) (K.refusals self.new.keep) (happened event.now c) result }
-        ensures fits { IfOk result (Fits self.new.centre) }
+        ensures plan { K.is_honest (keep_in self.new) → (c : Core) → IsStanding c (centre_in self.old) → K.holds (keep_in self.old) c.rows
+            → PlansStep (K.holds (keep_in self.new) c.rows) (K.is_closed (keep_in self.new)) (K.refusals (keep_in self.old)) (K.refusals (keep_in self.new)) (happened event.now c) result }
+        ensures fits { IfOk result (Fits (centre_in self.new)) }
         ensures event { IsEvent event.now }
-        ensures same { self.new.centre ≡ self.old.centre }
-        ensures before { K.is_honest self.new.keep → K.is_honest self.old.keep }
+        ensures same { centre_in self.new ≡ centre_in self.old }
+        ensures before { K.is_honest (keep_in self.new) → K.is_honest (keep_in self.old) }
     {
         match self.centre.plan(event, &mut self.keep) {
             Ok(planned) => Ok(planned),
@@ -54,21 +56,24 @@ impl<K: CentreStore + Drop> CentreMachine<K> {
         }
     }
 
-    /// Passes the gate, commits what the plan changes, adopts it, and only then gives what is told.
+    /// Passes the gate, commits what the plan changes, adopts it, and only then gives what leaves.
     pub fn carry_out<G: Gate>(&mut self, gate: &G, planned: Planned) -> Result<Told, StepError>
-        requires { Fits self.old.centre planned }
+        requires { Fits (centre_in self.old) planned }
         ensures told { IfOk result (λ told. told ≡ planned.plan.told) }
         // What leaves was committed, and the centre is that after the event.
-        ensures committed { K.is_honest self.new.keep → (event : CentreEventOf) (c : Core) → IsEvent event → IsStanding c self.old.centre → IsPlanned (happened event c) planned.plan → K.holds self.old.keep c.rows
-            → OnOk result (K.holds self.new.keep (core_of (happened event c)).rows × IsStanding (core_of (happened event c)) self.new.centre) }
+        ensures committed { K.is_honest (keep_in self.new) → (event : CentreEventOf) (c : Core) → IsEvent event → IsStanding c (centre_in self.old)
+            → IsPlanned (happened event c) planned.plan → K.holds (keep_in self.old) c.rows
+            → OnOk result (K.holds (keep_in self.new) (core_of (happened event c)).rows × IsStanding (core_of (happened event c)) (centre_in self.new)) }
         // A refused commit leaves the centre, and the rows or a closed keep: a call of the keep was refused, and one alone.
-        ensures err { K.is_honest self.new.keep → (rows : RowsOf) → K.holds self.old.keep rows → OnErr result (K.holds self.new.keep rows ⊎ K.is_closed self.new.keep) }
-        ensures same { OnErr result (self.new.centre ≡ self.old.centre) }
-        ensures refused { OnErr result (OneRefused (K.refusals self.old.keep) (K.refusals self.new.keep)) }
+        ensures err { K.is_honest (keep_in self.new) → (rows : RowsOf) → K.holds (keep_in self.old) rows
+            → OnErr result (K.holds (keep_in self.new) rows ⊎ K.is_closed (keep_in self.new)) }
+        ensures same { OnErr result (centre_in self.new ≡ centre_in self.old) }
+        ensures refused { OnErr result (OneRefused (K.refusals (keep_in self.old)) (K.refusals (keep_in self.new))) }
         // A stop inside the commit leaves the rows from before the event or those after it, if one before it leaves the rows.
-        ensures stop { K.is_honest self.new.keep → (event : CentreEventOf) (c : Core) → IsPlanned (happened event c) planned.plan → K.holds self.old.keep c.rows → ((left : RowsOf) → K.may_leave self.old.keep left → left ≡ c.rows)
-            → (left : RowsOf) → K.may_leave self.new.keep left → (left ≡ c.rows) ⊎ (left ≡ (core_of (happened event c)).rows) }
-        ensures before { K.is_honest self.new.keep → K.is_honest self.old.keep }
+        ensures stop { K.is_honest (keep_in self.new) → (event : CentreEventOf) (c : Core) → IsPlanned (happened event c) planned.plan
+            → K.holds (keep_in self.old) c.rows → ((left : RowsOf) → K.may_leave (keep_in self.old) left → left ≡ c.rows)
+            → (left : RowsOf) → K.may_leave (keep_in self.new) left → (left ≡ c.rows) ⊎ (left ≡ (core_of (happened event c)).rows) }
+        ensures before { K.is_honest (keep_in self.new) → K.is_honest (keep_in self.old) }
     {
         gate.pass();
         match commit(&mut self.keep, planned.changes()) {

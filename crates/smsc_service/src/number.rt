@@ -7,7 +7,7 @@ ghost use Rattle.smsc_service.specs.Numbers.{is_number as is_number_of};
 
 use sms_base::{Digits, semi_octet_of};
 
-/// Whether it is the same number.
+/// Whether both numbers are equal.
 pub(crate) fn is_same(number: &Digits, other: &Digits) -> bool
     ensures { result ≡ bytes_eq number.now other.now }
 {

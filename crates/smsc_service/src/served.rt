@@ -1,10 +1,11 @@
-//! What a service stands for.
+//! What a service represents.
 
 use crate::floor::Floor;
 use sms_centre_spec::Rows;
 use std::marker::Model;
 
-/// What a service stands for, as contracts see it: a centre between two events, and who sits where. No value of it is made.
+/// What a service represents, as contracts see it: a centre between events, and which handset and session is at which
+/// seat. No value of it is made.
 pub struct Served {
     pub rows: Rows,
     pub floor: Floor,

@@ -15,6 +15,7 @@ ghost use Rattle.sms_keeper.specs.declared.machine.Fate.TheVariants.{Refused};
 ghost use Rattle.smsc_service.specs.Stepping.{OneRefused};
 ghost use Rattle.smsc_service.specs.Serving.{GivesUp, IsServing, IsWaiting, Serves, Serving, after, followed_by, gives, restarted};
 ghost use Rattle.smsc_service.specs.Telling.{failed_by, told_by};
+ghost use Rattle.smsc_service.specs.InService.{IsAwaitedBy, IsBroken, IsServedBy, store_in};
 
 use crate::asking::Asked;
 use crate::floor::Floor;
@@ -35,11 +36,11 @@ use std::alloc::{AllocError, Global};
 /// The centre over its store, with who sits where.
 #[derive(Drop)]
 pub struct Service<K: CentreStore + Drop> {
-    pub alloc: Global,
-    pub machine: CentreMachine<K>,
-    pub floor: Floor,
-    /// The rows could not be read when they were last to be.
-    pub is_broken: bool,
+    alloc: Global,
+    machine: CentreMachine<K>,
+    floor: Floor,
+    // The rows could not be read when they were last to be.
+    is_broken: bool,
 }
 
 // The plan is carried out: what it changes is committed, and it is adopted.
@@ -49,9 +50,11 @@ fn is_carried_out<K: CentreStore + Drop, G: Gate>(
     planned: Planned,
 ) -> bool
     requires { Fits machine.old.centre planned }
-    ensures committed { K.is_honest machine.new.keep → (event : CentreEventOf) (c : Core) → IsEvent event → IsStanding c machine.old.centre → IsPlanned (happened event c) planned.plan → K.holds machine.old.keep c.rows
+    ensures committed { K.is_honest machine.new.keep → (event : CentreEventOf) (c : Core) → IsEvent event → IsStanding c machine.old.centre
+        → IsPlanned (happened event c) planned.plan → K.holds machine.old.keep c.rows
         → result ≡ true → K.holds machine.new.keep (core_of (happened event c)).rows × IsStanding (core_of (happened event c)) machine.new.centre }
-    ensures err { K.is_honest machine.new.keep → (rows : RowsOf) → K.holds machine.old.keep rows → result ≡ false → K.holds machine.new.keep rows ⊎ K.is_closed machine.new.keep }
+    ensures err { K.is_honest machine.new.keep → (rows : RowsOf) → K.holds machine.old.keep rows → result ≡ false
+        → K.holds machine.new.keep rows ⊎ K.is_closed machine.new.keep }
     ensures before { K.is_honest machine.new.keep → K.is_honest machine.old.keep }
     ensures refused { result ≡ false → OneRefused (K.refusals machine.old.keep) (K.refusals machine.new.keep) }
 {
@@ -96,8 +99,9 @@ impl<K: CentreStore + Drop> Service<K> {
     /// # Errors
     /// The store gave no rows, or they are not sound, or a growth was refused.
     pub fn start(alloc: Global, keep: K) -> Result<Service<K>, StartError>
-        ensures stands { IfOk result (λ service. K.is_honest service.machine.keep → (rows : RowsOf) → K.holds keep rows → IsServing (K.holds service.machine.keep) service.machine.centre service.floor (restarted rows nobody)) }
-        ensures before { IfOk result (λ service. K.is_honest service.machine.keep → K.is_honest keep) }
+        ensures stands { IfOk result (λ service. K.is_honest (store_in service) → (rows : RowsOf) → K.holds keep rows
+            → IsServedBy K.holds service (restarted rows nobody)) }
+        ensures before { IfOk result (λ service. K.is_honest (store_in service) → K.is_honest keep) }
     {
         let mut keep = keep;
         let floor = Floor::new(alloc);
@@ -107,7 +111,8 @@ impl<K: CentreStore + Drop> Service<K> {
 
     // What the seats are told of the plan, made twice before anything is committed.
     fn outs_of(&self, stimulus: &Stimulus<Job>, planned: &Planned) -> Result<Twice, AllocError>
-        ensures told { (event : CentreEventOf) (s : Serving) → IsStanding s.core self.now.machine.centre → seats_in self.now.floor ≡ s.seats → IsPlanned (happened event s.core) planned.now.plan
+        ensures told { (event : CentreEventOf) (s : Serving) → IsStanding s.core self.now.machine.centre → seats_in self.now.floor ≡ s.seats
+            → IsPlanned (happened event s.core) planned.now.plan
             → IfOk result (λ twice. twice.to_history.items ≡ told_by s.seats stimulus.now (happened event s.core)) }
         ensures alike { IfOk result (λ twice. twice.to_seats.items ≡ twice.to_history.items) }
     {
@@ -135,7 +140,9 @@ impl<K: CentreStore + Drop> Service<K> {
         ensures alike { result.to_seats ≡ result.to_history }
         ensures before { K.is_honest self.new.machine.keep → K.is_honest self.old.machine.keep }
         ensures refused { result.fate ≡ Refused → OneRefused (K.refusals self.old.machine.keep) (K.refusals self.new.machine.keep) }
-        ensures gives { K.is_honest self.new.machine.keep → (event : CentreEventOf) (s : Serving) → IsServing (K.holds self.old.machine.keep) self.old.machine.centre self.old.floor s → IsEvent event → IsPlanned (happened event s.core) planned.plan
+        ensures gives { K.is_honest self.new.machine.keep → (event : CentreEventOf) (s : Serving)
+            → IsServing (K.holds self.old.machine.keep) self.old.machine.centre self.old.floor s → IsEvent event
+            → IsPlanned (happened event s.core) planned.plan
             → outs.to_history.items ≡ told_by s.seats stimulus.now (happened event s.core)
             → Serves (K.holds self.new.machine.keep) (K.is_closed self.new.machine.keep) self.new.machine.centre self.new.floor (Event event) s stimulus.now result.fate result.to_history }
     {
@@ -159,7 +166,9 @@ impl<K: CentreStore + Drop> Service<K> {
         ensures alike { result.to_seats ≡ result.to_history }
         ensures before { K.is_honest self.new.machine.keep → K.is_honest self.old.machine.keep }
         ensures refused { result.fate ≡ Refused → OneRefused (K.refusals self.old.machine.keep) (K.refusals self.new.machine.keep) }
-        ensures gives { K.is_honest self.new.machine.keep → (event : CentreEventOf) (s : Serving) → IsServing (K.holds self.old.machine.keep) self.old.machine.centre self.old.floor s → IsEvent event → IsPlanned (happened event s.core) planned.plan
+        ensures gives { K.is_honest self.new.machine.keep → (event : CentreEventOf) (s : Serving)
+            → IsServing (K.holds self.old.machine.keep) self.old.machine.centre self.old.floor s → IsEvent event
+            → IsPlanned (happened event s.core) planned.plan
             → Serves (K.holds self.new.machine.keep) (K.is_closed self.new.machine.keep) self.new.machine.centre self.new.floor (Event event) s stimulus.now result.fate result.to_history }
     {
         match self.outs_of(stimulus, &planned) {
@@ -182,7 +191,9 @@ impl<K: CentreStore + Drop> Service<K> {
         requires room { IsReady self.old.floor }
         ensures alike { result.to_seats ≡ result.to_history }
         ensures before { K.is_honest self.new.machine.keep → K.is_honest self.old.machine.keep }
-        ensures refused { K.is_honest self.new.machine.keep → (s : Serving) → IsServing (K.holds self.old.machine.keep) self.old.machine.centre self.old.floor s → result.fate ≡ Refused → OneRefused (K.refusals self.old.machine.keep) (K.refusals self.new.machine.keep) }
+        ensures refused { K.is_honest self.new.machine.keep → (s : Serving)
+            → IsServing (K.holds self.old.machine.keep) self.old.machine.centre self.old.floor s → result.fate ≡ Refused
+            → OneRefused (K.refusals self.old.machine.keep) (K.refusals self.new.machine.keep) }
         ensures gives { K.is_honest self.new.machine.keep → (s : Serving) → IsServing (K.holds self.old.machine.keep) self.old.machine.centre self.old.floor s
             → Serves (K.holds self.new.machine.keep) (K.is_closed self.new.machine.keep) self.new.machine.centre self.new.floor (Event event.now) s stimulus.now result.fate result.to_history }
     {
@@ -202,7 +213,9 @@ impl<K: CentreStore + Drop> Service<K> {
         requires { HasNumber event.now }
         ensures alike { result.to_seats ≡ result.to_history }
         ensures before { K.is_honest self.new.machine.keep → K.is_honest self.old.machine.keep }
-        ensures refused { K.is_honest self.new.machine.keep → (s : Serving) → IsServing (K.holds self.old.machine.keep) self.old.machine.centre self.old.floor s → result.fate ≡ Refused → OneRefused (K.refusals self.old.machine.keep) (K.refusals self.new.machine.keep) }
+        ensures refused { K.is_honest self.new.machine.keep → (s : Serving)
+            → IsServing (K.holds self.old.machine.keep) self.old.machine.centre self.old.floor s → result.fate ≡ Refused
+            → OneRefused (K.refusals self.old.machine.keep) (K.refusals self.new.machine.keep) }
         ensures gives { K.is_honest self.new.machine.keep → (s : Serving) → IsServing (K.holds self.old.machine.keep) self.old.machine.centre self.old.floor s
             → Serves (K.holds self.new.machine.keep) (K.is_closed self.new.machine.keep) self.new.machine.centre self.new.floor (Event event.now) s stimulus.now result.fate result.to_history }
     {
@@ -222,7 +235,9 @@ impl<K: CentreStore + Drop> Service<K> {
         requires { IfEvent HasNumber asked.now }
         ensures alike { result.to_seats ≡ result.to_history }
         ensures before { K.is_honest self.new.machine.keep → K.is_honest self.old.machine.keep }
-        ensures refused { K.is_honest self.new.machine.keep → (s : Serving) → IsServing (K.holds self.old.machine.keep) self.old.machine.centre self.old.floor s → result.fate ≡ Refused → OneRefused (K.refusals self.old.machine.keep) (K.refusals self.new.machine.keep) }
+        ensures refused { K.is_honest self.new.machine.keep → (s : Serving)
+            → IsServing (K.holds self.old.machine.keep) self.old.machine.centre self.old.floor s → result.fate ≡ Refused
+            → OneRefused (K.refusals self.old.machine.keep) (K.refusals self.new.machine.keep) }
         ensures gives { K.is_honest self.new.machine.keep → (s : Serving) → IsServing (K.holds self.old.machine.keep) self.old.machine.centre self.old.floor s
             → Serves (K.holds self.new.machine.keep) (K.is_closed self.new.machine.keep) self.new.machine.centre self.new.floor asked.now s stimulus.now result.fate result.to_history }
     {
@@ -235,7 +250,9 @@ impl<K: CentreStore + Drop> Service<K> {
 
     // The centre starts again with the rows of the store.
     fn restart(&mut self) -> Result<(), StartError>
-        ensures ok { K.is_honest self.new.machine.keep → (s : Serving) → IsWaiting (K.holds self.old.machine.keep) (K.is_closed self.old.machine.keep) self.old.floor s → OnOk result (IsServing (K.holds self.new.machine.keep) self.new.machine.centre self.new.floor s) }
+        ensures ok { K.is_honest self.new.machine.keep → (s : Serving)
+            → IsWaiting (K.holds self.old.machine.keep) (K.is_closed self.old.machine.keep) self.old.floor s
+            → OnOk result (IsServing (K.holds self.new.machine.keep) self.new.machine.centre self.new.floor s) }
         ensures before { K.is_honest self.new.machine.keep → K.is_honest self.old.machine.keep }
     {
         let centre = restarted_from(self.alloc, &mut self.machine.keep, &self.floor)?;
@@ -247,15 +264,15 @@ impl<K: CentreStore + Drop> Service<K> {
 impl<K: CentreStore + Drop> Machine<Job, Reply> for Service<K> {
     type State = Served;
 
-    ghost stands = { λ m s. IsServing (K.holds m.machine.keep) m.machine.centre m.floor s };
+    ghost stands = { λ m s. IsServedBy K.holds m s };
 
-    ghost resumes = { λ m s. IsWaiting (K.holds m.machine.keep) (K.is_closed m.machine.keep) m.floor s };
+    ghost resumes = { λ m s. IsAwaitedBy K.holds K.is_closed m s };
 
-    ghost is_honest = { λ m. K.is_honest m.machine.keep };
+    ghost is_honest = { λ m. K.is_honest (store_in m) };
 
-    ghost is_broken = { λ m. m.is_broken ≡ true };
+    ghost is_broken = { λ m. IsBroken m };
 
-    ghost refuses = { λ before after. OneRefused (K.refusals before.machine.keep) (K.refusals after.machine.keep) };
+    ghost refuses = { λ before after. OneRefused (K.refusals (store_in before)) (K.refusals (store_in after)) };
 
     ghost gives = { λ s stimulus fate. gives s stimulus fate };
 

@@ -44,7 +44,7 @@ fn push_new(handset: Digits, handsets: &mut Vec<Digits>) -> Result<(), AllocErro
     Ok(())
 }
 
-/// The handsets whose links stand, each once.
+/// The handsets that have links, each once.
 pub fn handsets_of(alloc: Global, floor: &Floor) -> Result<Vec<Digits>, AllocError>
     ensures handsets { IfOk result (λ handsets. handsets.items ≡ handsets_of_links (seats_in floor.now).links) }
     ensures numbers { IfOk result (λ handsets. AreNumbers handsets.items) }

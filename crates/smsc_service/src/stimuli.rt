@@ -70,7 +70,7 @@ fn asker_of(stimulus: &Stimulus<Job>) -> usize
     }
 }
 
-/// What the seats are told of the plan of an event.
+/// The replies of the seats to the plan of an event.
 pub(crate) fn outs_told(
     alloc: Global,
     floor: &Floor,

@@ -1,4 +1,4 @@
-//! Which seats are told what.
+//! Which seats get which replies.
 ghost use Rattle.std.specs.Prelude.{◌≡◌, [], ◌∷◌, ◌++◌, Some, OnOk, IfOk};
 ghost use Rattle.sms_centre_spec.specs.Draft.{Core};
 ghost use Rattle.sms_centre_spec.specs.declared.jobs.reply.Reply.TheVariants.{Taken};
@@ -21,7 +21,7 @@ use std::alloc::{AllocError, Global};
 
 type Replies = Vec<Out<Reply>>;
 
-/// The seat that asks, and the handset whose link comes up there, if one does.
+/// The seat that asks, and the handset whose link is new there, if one is.
 #[derive(Drop)]
 pub struct Asker {
     pub risen: Option<Digits>,
@@ -147,7 +147,7 @@ fn deliver_all(
     Ok(())
 }
 
-/// What comes of a plan, for each seat: the answer to the seat that asked, frames and receipts.
+/// The replies of a plan, for each seat: the answer to the seat that asked, frames and receipts.
 pub fn told(
     alloc: Global,
     floor: &Floor,
@@ -166,7 +166,7 @@ pub fn told(
     Ok(outs)
 }
 
-/// What the seat is told of a job that failed, or that asks nothing: a request has an answer.
+/// The reply of the seat for a job that failed, or that asks nothing: a request has an answer.
 pub fn failed(seat: usize, job: &Job) -> Outs<Reply>
     ensures { result ≡ failed_of seat job.now }
 {
@@ -180,7 +180,7 @@ pub fn failed(seat: usize, job: &Job) -> Outs<Reply>
     }
 }
 
-/// What the seat is told whose handset has a link at another one.
+/// The reply of the seat whose handset has a link at another one.
 pub fn taken(seat: usize) -> Outs<Reply>
     ensures { result ≡ for_seat seat Taken }
 {

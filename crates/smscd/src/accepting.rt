@@ -1,4 +1,4 @@
-//! Connections that come in.
+//! Connections, accepted at both ports.
 use crate::connection::{Connection, Ports, Side};
 use crate::refusing::refuse;
 use crossbeam_channel::Sender;
@@ -74,7 +74,7 @@ impl<R: Wait> Porter<R> {
         }
     }
 
-    /// Takes so many connections. Of those beyond the greatest number at once each is told so, and is not counted.
+    /// Takes so many connections. Each beyond the greatest number at once is refused, and is not counted.
     pub fn accept_all(&mut self) {
         let mut left = self.sessions;
         for _ in 0..u64::MAX {

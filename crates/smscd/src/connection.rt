@@ -18,12 +18,12 @@ pub enum Side {
     Handset,
 }
 
-/// Where connections come in.
+/// The ports, at which connections are accepted.
 #[derive(Drop)]
 pub struct Ports {
     pub applications: TcpListener,
     pub links: TcpListener,
-    /// Rings where somebody comes.
+    /// Rings where a connection waits.
     pub bell: Doorbell,
 }
 
@@ -61,7 +61,7 @@ const WRITE_WAIT: u64 = 20;
 // So many pieces of what came wait for the seat; then no more is read, and the other side is held back.
 const PIECES: usize = 4;
 
-/// The wire of a connection. What came is read by the reader of the seat, and only taken here.
+/// The wire of a connection. The reader of the seat reads the octets; they are only taken here.
 #[derive(Drop)]
 pub struct Socket {
     stream: TcpStream,
@@ -89,8 +89,9 @@ fn open_reading(alloc: Global, stream: &TcpStream) -> Result<(Reading, Receiver<
 }
 
 impl Socket {
-    /// The wire of a connection, and what its reader needs. Where they can't be had the other side is told that there is no room: the
-    /// system gave the connection no second time, as it has ended or too many files are open, or there was no memory.
+    /// The wire of a connection, and what its reader needs. Where they can't be had, the other side gets the answer
+    /// that there is no room. The system then refused a second handle, since the connection has ended or too many files
+    /// are open, or there was no memory.
     pub fn open(alloc: Global, connection: Connection) -> Result<(Socket, Reading), Note> {
         let Connection { stream, side } = connection;
         match open_reading(alloc, &stream) {

@@ -7,7 +7,7 @@ use std::net::TcpListener;
 use std::os::fd::AsRawFd;
 use std::time::Duration;
 
-/// Rings where a connection comes at one of two ports.
+/// Rings where a connection waits at one of two ports.
 #[derive(Drop)]
 pub struct Doorbell {
     poll: Poll,
@@ -41,7 +41,8 @@ impl Doorbell {
         }
     }
 
-    /// Waits until it rings, at most so long. It rings for what came since nobody was found at a port. Says whether it could wait.
+    /// Waits until it rings, at most so long. It rings for each connection since nobody was found at a port. It answers
+    /// whether it could wait.
     pub fn wait(&mut self, at_most: Duration) -> bool {
         self.poll.poll(&mut self.events, Some(at_most)).is_ok()
     }

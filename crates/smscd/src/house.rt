@@ -229,7 +229,8 @@ impl House {
         }
     }
 
-    /// Runs terms until all seats have closed. A term's history goes with it, so a long run takes no more memory than one term.
+    /// Runs terms until all seats have closed. A term's history ends with it, so a long run takes no more memory than
+    /// one term.
     pub fn keep<R: Wait, M: Machine<Job, Reply>>(
         &mut self,
         host: HostRuntime,
@@ -245,7 +246,7 @@ impl House {
         unreachable!()
     }
 
-    /// Tells the threads that the run has ended, and waits for them.
+    /// Signals the threads that the run has ended, and waits for them.
     pub fn end<R: Threads>(self, rt: &R, over: &AtomicBool) {
         let House { keeper: _, threads } = self;
         over.store(true, Ordering::SeqCst);

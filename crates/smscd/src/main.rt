@@ -1,4 +1,21 @@
 //! The centre's server: applications by SMPP and handsets by links, on this machine; or a look at its store.
+//!
+//! It gives sockets, threads, a clock and files to `smsc_service` and `smsc_endpoint`, which do the work. What its
+//! threads and sockets carry is not proved.
+//!
+//! - `accepting`: connections, accepted at both ports
+//! - `clock`: the time of this machine
+//! - `connection`: a connection that was accepted
+//! - `doorbell`: what wakes the thread that accepts connections
+//! - `guests`: the threads of the seats
+//! - `house`: the seats of a run with their threads, and the keeper
+//! - `looking`: a look at a store, which changes nothing
+//! - `reading`: the threads that read connections
+//! - `refusing`: a connection that is refused
+//! - `run_fault`: why a run ended early
+//! - `running`: a run of the server
+//! - `setup`: the accounts of a run, as each part of it wants them
+//! - `telling`: the lines of standard error
 #![tactic(auto)]
 
 mod accepting;

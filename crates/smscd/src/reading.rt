@@ -10,7 +10,7 @@ use std::sync::Wait;
 // So many octets are read at once.
 const PIECE: usize = 1024;
 
-/// Octets that came on a connection.
+/// Octets that a connection received.
 #[derive(Drop)]
 pub struct Piece {
     octets: [u8; PIECE],
@@ -33,7 +33,7 @@ impl Piece {
     }
 }
 
-/// A connection to be read, and where its octets go.
+/// A connection to be read, and where its octets are put.
 #[derive(Drop)]
 pub struct Reading {
     pub stream: TcpStream,

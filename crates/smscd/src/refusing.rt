@@ -1,10 +1,10 @@
-//! What a connection that is not served is told.
+//! A connection that is refused.
 use crate::connection::Side;
 use smsc_endpoint::{CONGESTION, NO_ROOM};
 use std::io::{Read, Write};
 use std::net::TcpStream;
 
-/// The octets that tell this side that there is no room.
+/// The octets by which this side learns that there is no room.
 pub fn no_room(side: Side) -> &'static [u8] {
     match side {
         Side::Application => &NO_ROOM,
@@ -12,8 +12,8 @@ pub fn no_room(side: Side) -> &'static [u8] {
     }
 }
 
-/// Tells the other side that there is no room, as far as it listens. What it sent is read first, since a connection that is closed
-/// over octets that nobody read loses what it was told.
+/// Sends the other side that there is no room, as far as it listens. What it sent is read first: a connection that is
+/// closed over octets that nobody read loses what was sent to it.
 pub fn refuse(stream: TcpStream, side: Side) {
     let mut stream = stream;
     if stream.set_nonblocking(true).is_err() {

@@ -54,7 +54,7 @@ impl RunFault {
         }
     }
 
-    /// What standard error is told.
+    /// The line of standard error.
     pub fn text(self) -> &'static str {
         match self {
             RunFault::Words => USAGE,

@@ -10,7 +10,7 @@ use smpp_session::Accounts;
 use sms_base::Moment;
 use sms_centre_spec::jobs::{Job, Reply};
 use sms_keeper::Machine;
-use sms_store::centre::CentreKeep;
+use sms_store::CentreKeep;
 use smsc_cli::words::{AccountWords, ServerRun, WordsFault, add_lines};
 use smsc_service::{CentreStore, Setup, StartError, serve_with};
 use std::alloc::Global;

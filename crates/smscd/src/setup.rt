@@ -80,7 +80,7 @@ impl Book {
     }
 }
 
-/// What the centre is told when it starts.
+/// The setup of the centre when it starts.
 pub fn setup_of(run: &ServerRun<'_>, start: Moment, accounts: Vec<CentreAccount>) -> Setup {
     Setup {
         centre: run.centre,

@@ -1,4 +1,4 @@
-//! What an operator is told, a line for each thing.
+//! The lines of standard error for an operator.
 use smpp_session::BindKind;
 use sms_base::Digits;
 use smsc_endpoint::{Note, Teller};
@@ -6,7 +6,7 @@ use std::alloc::{AllocError, Global};
 use std::io::Print;
 use std::sync::Arc;
 
-/// Tells standard error.
+/// Reports to standard error.
 #[derive(Drop)]
 pub struct ErrorTeller {
     pub rt: HostRuntime,

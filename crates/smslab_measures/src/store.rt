@@ -23,7 +23,8 @@ use crate::store::loading::measure_load;
 use crate::store::meter::Meter;
 use crate::store::rows::setup;
 use crate::store::turns::measure;
-use sms_store::centre::{CentreKeep, in_memory};
+use sms_store::CentreKeep;
+use sms_store::centre::in_memory;
 use smslab_lines::measuring::Stopwatch;
 use sqlite::Alter;
 pub use words::{Task, Words, task_in};
@@ -67,8 +68,11 @@ fn work<S: Alter + Drop>(
     keep: CentreKeep<S>,
     watch: Stopwatch,
 ) -> Result<(), BenchError> {
+    measure_open(rt, watch)?;
     let mut keep = keep;
-    measure_all(rt, words, &mut keep, watch)
+    fill(rt, words, &mut keep)?;
+    let mut keep = measure(rt, words, keep)?;
+    measure_load(rt, &mut keep)
 }
 
 // The store is open.
@@ -76,16 +80,4 @@ fn measure_open(rt: &HostRuntime, watch: Stopwatch) -> Result<(), BenchError> {
     let mut meter = Meter::new("open");
     meter.add(watch.stop(rt)?);
     meter.tell(rt)
-}
-
-fn measure_all<S: Alter>(
-    rt: &HostRuntime,
-    words: &Words,
-    keep: &mut CentreKeep<S>,
-    watch: Stopwatch,
-) -> Result<(), BenchError> {
-    measure_open(rt, watch)?;
-    fill(rt, words, keep)?;
-    measure(rt, words, keep)?;
-    measure_load(rt, keep)
 }

@@ -4,7 +4,7 @@ use crate::found::text_in;
 use crate::rows::setup;
 use sms_centre_spec::{Changes, Rows};
 use sms_rows::keep::{Keep, KeepError};
-use sms_store::centre::CentreKeep;
+use sms_store::CentreKeep;
 use sqlite::{Alter, Connection};
 use std::alloc::Global;
 use std::io::{self, Print};

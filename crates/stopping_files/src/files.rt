@@ -26,7 +26,7 @@ impl File {
     }
 }
 
-/// The files as they are when the machine comes back: what was not synced is lost, and they do not stop again.
+/// The files after a crash: what was not synced is lost, and they do not stop again.
 pub(crate) fn after_crash(files: Stopping) -> Stopping {
     let Files { log, db } = files;
     let (mut log, mut db) = (log, db);

@@ -1,10 +1,18 @@
 //! Stops inside a call on a store, for the tests of stores.
 //!
-//! A `Trial` is a call on a store, and how its rows are read. `stop_anywhere` makes the call once for each moment inside it at
-//! which one of the store's two files can stop: the store in what a crash then leaves has to open, with the rows from before the call or
-//! those after it, and a refusal has to tell of the disk. `made` makes the call without a stop, `rows_of` reads what it left, and
-//! `refusal_at_stop` tells why it is refused at the first stop that it does not survive. The files are in memory, and what was not
-//! synced is lost. `stop_opening` stops the opening of a store so, the first one too, which makes it.
+//! A `Trial` is a call on a store, and how its rows are read. `stop_anywhere` makes the call once for each moment
+//! inside it at which one of the store's two files can stop. The store in what a crash then leaves has to open, with
+//! the rows from before the call or from after it. A refusal has to name the disk. The files are in memory, and what
+//! was not synced is lost. `made` makes the call without a stop, `rows_of` reads what it left. `refusal_at_stop` gives
+//! the refusal at the first stop that the call does not survive. `stop_opening` stops the opening of a store so, also
+//! the first one, which makes it.
+//!
+//! - `files`: a store in two files in memory, one of which may stop
+//! - `image`: the octets of a store's two files
+//! - `openings`: the opening of a store, stopped anywhere
+//! - `stops`: a call stopped anywhere
+//! - `trial`: a call on a store that is tried
+//! - `witnessed`: a file that leaves a copy of what was synced with its witness
 #![tactic(auto)]
 
 mod files;

@@ -6,7 +6,7 @@ use sms_rows::keep::KeepError;
 use sqlite::Connection;
 use std::alloc::{AllocError, Global};
 
-/// What went wrong with a call that was stopped.
+/// What is wrong with a call that was stopped.
 #[derive(Clone, Copy)]
 pub enum StopError {
     NoMemory,
@@ -16,9 +16,9 @@ pub enum StopError {
     Store(KeepError),
     /// A crash left other rows than those before the call, or after it where it was confirmed.
     OtherRows,
-    /// The call told another cause than the disk, or that the store is closed.
+    /// The call reported another cause than the disk or a closed store.
     OtherCause,
-    /// No stop came inside the call.
+    /// No stop was inside the call.
     NeverStops,
     /// The call was never confirmed.
     AlwaysStops,
@@ -278,9 +278,9 @@ pub fn made<T: Trial>(alloc: Global, trial: &T, image: &Image) -> Result<Image, 
     }
 }
 
-/// Makes the call on the store in the image once for each moment at which one of its files can stop, and gives the image after
-/// the call without a stop. The store in what a crash leaves has the rows after the call, or, where it was not confirmed,
-/// perhaps those before it.
+/// Makes the call on the store in the image once for each moment at which one of its files can stop. It gives the image
+/// after the call without a stop. The store in what a crash leaves has the rows after the call. Where the call was not
+/// confirmed, it may have those before it.
 pub fn stop_anywhere<T: Trial>(
     alloc: Global,
     trial: &T,

@@ -13,7 +13,7 @@ pub struct Made<S: Alter + Drop> {
 
 /// A call on a store that is tried, whatever the store is.
 pub trait Trial {
-    /// Makes the call on a store. None where a stop came before the call.
+    /// Makes the call on a store. None where a stop was before the call.
     fn make<S: Alter + Drop>(&self, alloc: Global, conn: Connection<S>) -> Option<Made<S>>;
 
     /// The rows of a store as text.

@@ -1,4 +1,5 @@
-//! A file that leaves a copy of what was synced with whoever watches it. So the copy is there when whoever had the file has let it go.
+//! A file that leaves a copy of what was synced with its witness. So the copy is there when the file's owner has
+//! dropped it.
 use sqlite_disk::{Disk, Memory, Tally};
 use std::alloc::{AllocError, Global};
 use std::cell::RefCell;

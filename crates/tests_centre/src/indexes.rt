@@ -1,5 +1,7 @@
-//! Tests of what a service centre keeps in memory beside its rows, over public calls: deadlines, values that are kept once,
-//! indexes whose copies are shared, and the shelf of a handset. Each call is made with ample memory, so that none may give up.
+//! Tests of what a centre keeps in memory beside its rows, over public calls.
+//!
+//! They are of deadlines, of values that are kept once, of indexes whose copies are shared, and of the queue of a
+//! handset. Each call has ample memory, so that none may give up.
 
 #[cfg(test)]
 mod deadlines;
@@ -8,6 +10,6 @@ mod indexes;
 #[cfg(test)]
 mod interning;
 #[cfg(test)]
-mod rows;
+mod names;
 #[cfg(test)]
 mod shelf;

@@ -1,4 +1,12 @@
 //! Tests of the crates below the centre core, over their public calls.
+//!
+//! - `indexes`: what a centre keeps in memory beside its rows
+//! - `intake`: submissions and refusals
+//! - `receipts`: receipts and status reports
+//! - `rows`: how the rows of a test are judged
+//! - `schedules`: schedules beside a plain search
+//! - `submissions`: submissions of applications: the refusals in order, and what is accepted
+//! - `world`: scripts and reports
 #![tactic(auto)]
 
 pub mod indexes;

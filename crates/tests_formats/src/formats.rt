@@ -1,9 +1,7 @@
-//! Tests of the words and formats below the layers of a link, over their public calls: moments, addresses and tables, and TPDUs.
+//! Tests of values, rows and TPDUs, over their public calls: moments, addresses, tables, and whole TPDUs.
 
 #[cfg(test)]
 mod base;
-#[cfg(test)]
-mod rows;
 #[cfg(test)]
 mod table;
 #[cfg(test)]

@@ -1,11 +1,9 @@
-//! Tests of the two lower layers of a link over their public calls: units of the relay layer, and frames and transactions of the
-//! control layer.
+//! Tests of the two lower layers of a link, over their public calls: units of the relay layer, and frames and
+//! transactions of the control layer.
 
 #[cfg(test)]
 mod control;
 #[cfg(test)]
 mod relay;
-#[cfg(test)]
-mod rows;
 #[cfg(test)]
 mod transactions;

@@ -1,14 +1,19 @@
-//! tests_formats, of modules:
+//! Tests of values, rows and formats, over their public calls.
 //!
-//! - `formats`: Tests of the words and formats below the layers of a link, over their public calls: moments, addresses and tables, and
-//!   TPDUs.
-//! - `frames`: Tests of the two lower layers of a link over their public calls: units of the relay layer, and frames and transactions of
-//!   the control layer.
-//! - `pdus`: Tests of PDUs over their public calls: what no clause says.
-//! - `texts`: Tests of texts over their public calls: the alphabet, the header and parts of a long text, and joining them.
+//! They try what no clause says: worked values, octets of other implementations, and each call at its greatest size.
+//! Each call has ample memory, so that none may give up.
+//!
+//! - `formats`: moments, addresses and tables, and TPDUs
+//! - `frames`: units of the relay layer; frames and transactions of the control layer
+//! - `pdus`: PDUs of SMPP
+//! - `texts`: the alphabet, the header and parts of a long text, and joining them
 #![tactic(auto)]
 
+#[cfg(test)]
+mod examples;
 pub mod formats;
 pub mod frames;
 pub mod pdus;
+#[cfg(test)]
+mod rows;
 pub mod texts;

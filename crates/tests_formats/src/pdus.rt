@@ -1,12 +1,10 @@
-//! Tests of PDUs over their public calls: what no clause says. The longest one is read and written where sessions are tested
-//! (`tests_sessions::smpp`), which take it too.
+//! Tests of PDUs, over their public calls: what no clause says. `tests_sessions::smpp` reads and writes the longest
+//! one, which a session takes too.
 
 #[cfg(test)]
 mod exchanges;
 #[cfg(test)]
 mod pdus;
-#[cfg(test)]
-mod rows;
 #[cfg(test)]
 mod secrets;
 #[cfg(test)]

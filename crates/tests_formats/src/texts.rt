@@ -1,4 +1,4 @@
-//! Tests of texts over their public calls: the alphabet, the header and parts of a long text, and joining them.
+//! Tests of texts, over their public calls: the alphabet, the header and parts of a long text, and joining them.
 
 #[cfg(test)]
 mod alphabet;
@@ -8,5 +8,3 @@ mod concat;
 mod joiner;
 #[cfg(test)]
 mod other_implementations;
-#[cfg(test)]
-mod rows;

@@ -1,4 +1,4 @@
-//! Tests of what the programs over links stand on: frames in a stream, owners' lines, words, captures.
+//! Tests of what the programs over links use: frames in a stream, owners' lines, words, captures.
 
 #[cfg(test)]
 mod captures;
@@ -6,8 +6,6 @@ mod captures;
 mod frames;
 #[cfg(test)]
 mod owners;
-#[cfg(test)]
-mod rows;
 #[cfg(test)]
 mod server_words;
 #[cfg(test)]

@@ -1,12 +1,10 @@
-//! Tests of what sits at the seats of a hub: sessions of applications and links of handsets, without wire or hub.
+//! Tests of guests at the seats of a hub: sessions of applications and links of handsets, without wire or hub.
 //!
-//! A course is a table: what is done with a guest, turn by turn, and what is to be seen of it.
+//! A course is a table: what is done with a guest, turn by turn, and what it has to send and put.
 
 #[cfg(test)]
 mod applications;
 #[cfg(test)]
 mod links;
-#[cfg(test)]
-mod rows;
 #[cfg(test)]
 mod turns;

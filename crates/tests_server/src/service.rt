@@ -1,13 +1,13 @@
-//! Tests of the centre as the machine of a hub: what is told of what happens to it, turn by turn, over a store in memory that fails when it
-//! is told to; and sessions in threads of their own over one centre.
+//! Tests of the centre as the machine of a hub: turn by turn over a store in memory that fails on demand, and in
+//! threads.
 //!
-//! A course is a table: what happens, turn by turn, and for each turn what the step is to be and what each seat is to be told. Bound
-//! sessions have their answers and receipts, links their frames; a commit or a read of a body that the store refuses leaves what was
-//! committed, and the service goes on from it.
+//! A course is a table: what happens, turn by turn, and for each turn the step's end and each seat's replies. Bound
+//! sessions have their answers and receipts, links their frames. A commit or a read of a body that the store refuses
+//! leaves what was committed, and the service continues from it.
 //!
-//! Each session in a thread has a list of a submit and a query of the first message. Whatever the order in which the centre meets them, each
-//! message has a number of its own, and the first is known to whoever has submitted. And all other sessions are answered while the submit
-//! of one is held between what the centre plans of it and its commit.
+//! Each session in a thread has a list of a submit and a query of the first message. In whatever order the centre takes
+//! them, each message has a number of its own, and who has submitted can query the first. All other sessions are
+//! answered while the submit of one is held between its plan and its commit.
 
 #[cfg(test)]
 mod asks;
@@ -21,8 +21,6 @@ mod courses;
 mod held_gate;
 #[cfg(test)]
 mod many_sessions;
-#[cfg(test)]
-mod rows;
 #[cfg(test)]
 mod store;
 #[cfg(test)]

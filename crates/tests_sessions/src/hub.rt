@@ -1,15 +1,13 @@
 //! Tests of `sms_hub` on real threads, over its public calls.
 //!
-//! `counter` has a small machine, which adds up the jobs and answers each with the sum so far. What its steps give and lead
-//! to stands in `specs/Counting.antt`, so each run is proved to be one history of it; the tests see that runs come to
-//! their ends, that a job is taken and handed back, and that seats go on while the keeper is held.
+//! `counter` has a small machine, which adds up the jobs and answers each with the sum so far.
+//! `specs/hub/Counting.antt` says what its steps give, so each run is proved to be one history of it. The tests see
+//! that runs end, that a job is taken or handed back, and that seats continue while the keeper is held.
 
 pub mod counter;
 pub mod gates;
 #[cfg(test)]
 mod outs;
-#[cfg(test)]
-mod rows;
 #[cfg(test)]
 mod runs;
 #[cfg(test)]

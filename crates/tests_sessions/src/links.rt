@@ -2,5 +2,3 @@
 
 #[cfg(test)]
 mod link;
-#[cfg(test)]
-mod rows;

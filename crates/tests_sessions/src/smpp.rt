@@ -7,8 +7,6 @@ mod exchanges;
 #[cfg(test)]
 mod limits;
 #[cfg(test)]
-mod rows;
-#[cfg(test)]
 mod secrets;
 #[cfg(test)]
 mod sessions;

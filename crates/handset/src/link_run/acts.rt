@@ -7,6 +7,7 @@ ghost use Rattle.std.specs.Io.KnownBytes.{Appends};
 ghost use Rattle.sms_handset.specs.machine.Stepping.{MakesTheChanges, happened};
 ghost use Rattle.handset.specs.link_run.Asking.{answer_to, entry_of, event_of};
 ghost use Rattle.handset.specs.link_run.Course.{Does, Sends};
+ghost use Rattle.sms_handset.specs.machine.InMachine.{core_in, handset_in};
 
 use crate::link_run::link::send;
 use crate::link_run::run_error::{RunError, Stop};
@@ -46,7 +47,7 @@ fn write<K: Keep<Rows = Rows, Changes = Changes> + Drop>(
     text: &sms_script::TextView<'_>,
 ) -> Result<Listed<Outgoing>, StepError>
     requires { MakesTheChanges K.after }
-    ensures { Does result machine.old.handset machine.new.handset (happened (WriteOf (chars text.now) (chars (encode_utf8_all to.now)) report) machine.old.handset.core) }
+    ensures { Does result (handset_in machine.old) (handset_in machine.new) (happened (WriteOf (chars text.now) (chars (encode_utf8_all to.now)) report) (core_in machine.old)) }
 {
     let to = match text_of(alloc, to.as_slice()) {
         Ok(to) => to,
@@ -73,7 +74,7 @@ fn meet<K: Keep<Rows = Rows, Changes = Changes> + Drop>(
     act: &OwnersAct<'_>,
 ) -> Result<Listed<Outgoing>, StepError>
     requires { MakesTheChanges K.after }
-    ensures { Does result machine.old.handset machine.new.handset (happened (event_of act.now) machine.old.handset.core) }
+    ensures { Does result (handset_in machine.old) (handset_in machine.new) (happened (event_of act.now) (core_in machine.old)) }
 {
     match act {
         OwnersAct::Write { to, report, text } => write(alloc, machine, to, *report, text),
@@ -111,8 +112,9 @@ pub(crate) fn act<K: Keep<Rows = Rows, Changes = Changes> + Drop, W: Write, A: W
     answers: &mut A,
 ) -> Result<(), Stop>
     requires { MakesTheChanges K.after }
-    ensures sends { OnOk result ((out : List ℕ) × (Sends (event_of act.now) machine.old.handset.core machine.new.handset.core out × Appends (W.contents link.old) (W.contents link.new) out)) }
-    ensures answers { OnOk result (Appends (A.contents answers.old) (A.contents answers.new) (answer_to (event_of act.now) machine.old.handset.core)) }
+    ensures sends { OnOk result ((out : List ℕ) × (Sends (event_of act.now) (core_in machine.old) (core_in machine.new) out
+        × Appends (W.contents link.old) (W.contents link.new) out)) }
+    ensures answers { OnOk result (Appends (A.contents answers.old) (A.contents answers.new) (answer_to (event_of act.now) (core_in machine.old))) }
 {
     match meet(alloc, machine, act) {
         Ok(frames) => {

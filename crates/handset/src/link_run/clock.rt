@@ -1,7 +1,7 @@
-//! What tells the time.
+//! The clock of a run.
 use sms_base::Moment;
 
-/// What tells the time.
+/// The clock of a run.
 pub trait Clock {
     /// The present moment.
     fn now(&self) -> Moment;

@@ -7,6 +7,7 @@ ghost use Rattle.sms_link.specs.framing.Framing.{framed, joined};
 ghost use Rattle.sms_handset.specs.declared.event.HandsetEvent.TheVariants.{Tick as TickOf};
 ghost use Rattle.sms_handset.specs.machine.Stepping.{MakesTheChanges};
 ghost use Rattle.handset.specs.link_run.Course.{Meets, Sends, came, on_link};
+ghost use Rattle.sms_handset.specs.machine.InMachine.{core_in};
 
 use crate::link_run::run_error::Stop;
 use sms_base::{Moment, OctetView, Octets};
@@ -56,7 +57,7 @@ pub(crate) fn send<W: Write>(alloc: Global, link: &mut W, frames: &[Outgoing]) -
     write_out(link, out.as_slice())
 }
 
-/// Tells the centre whose link it is: the digits of the number, as the first frame.
+/// Sends the digits of the number to the centre, as the first frame.
 pub(crate) fn greet<W: Write>(alloc: Global, link: &mut W, digits: &[char]) -> Result<(), Stop>
     ensures { OnOk result (Appends (W.contents link.old) (W.contents link.new) (framed (encode_utf8_all digits.now))) }
 {
@@ -83,7 +84,7 @@ fn push_digit(out: &mut Octets, digit: char) -> Result<(), Stop>
     Ok(out.append(digit.encode_utf8(&mut octets).as_bytes())?)
 }
 
-/// Lets time go on.
+/// Lets time pass.
 pub(crate) fn tick<K: Keep<Rows = Rows, Changes = Changes> + Drop, W: Write>(
     alloc: Global,
     machine: &mut HandsetMachine<K>,
@@ -91,7 +92,8 @@ pub(crate) fn tick<K: Keep<Rows = Rows, Changes = Changes> + Drop, W: Write>(
     link: &mut W,
 ) -> Result<(), Stop>
     requires { MakesTheChanges K.after }
-    ensures { OnOk result ((out : List ℕ) × (Sends (TickOf now) machine.old.handset.core machine.new.handset.core out × Appends (W.contents link.old) (W.contents link.new) out)) }
+    ensures { OnOk result ((out : List ℕ) × (Sends (TickOf now) (core_in machine.old) (core_in machine.new) out
+        × Appends (W.contents link.old) (W.contents link.new) out)) }
 {
     let frames = machine.step(&HandsetEvent::Tick { now })?;
     send(alloc, link, frames.as_slice())
@@ -105,13 +107,14 @@ fn frame_came<K: Keep<Rows = Rows, Changes = Changes> + Drop, W: Write>(
     link: &mut W,
 ) -> Result<(), Stop>
     requires { MakesTheChanges K.after }
-    ensures { OnOk result ((out : List ℕ) × (Sends (came octets.entry) machine.old.handset.core machine.new.handset.core out × Appends (W.contents link.old) (W.contents link.new) out)) }
+    ensures { OnOk result ((out : List ℕ) × (Sends (came octets.entry) (core_in machine.old) (core_in machine.new) out
+        × Appends (W.contents link.old) (W.contents link.new) out)) }
 {
     let frames = machine.step(&HandsetEvent::Frame { octets, tag: None })?;
     send(alloc, link, frames.as_slice())
 }
 
-/// Meets the whole frames that stand in the buffer, at most so many, and cuts them off; how many it may meet then.
+/// Takes the whole frames of the buffer, at most so many, and cuts them off. It answers how many it may take then.
 pub(crate) fn meet_frames<K: Keep<Rows = Rows, Changes = Changes> + Drop, W: Write>(
     alloc: Global,
     machine: &mut HandsetMachine<K>,
@@ -120,7 +123,8 @@ pub(crate) fn meet_frames<K: Keep<Rows = Rows, Changes = Changes> + Drop, W: Wri
     link: &mut W,
 ) -> Result<u32, Stop>
     requires { MakesTheChanges K.after }
-    ensures { IfOk result (λ left. (frames : List (List ℕ)) × ((buffer.old ≡ joined frames ++ buffer.new) × Meets (map came frames) machine.old.handset.core machine.new.handset.core (W.contents link.old) (W.contents link.new))) }
+    ensures { IfOk result (λ left. (frames : List (List ℕ))
+        × ((buffer.old ≡ joined frames ++ buffer.new) × Meets (map came frames) (core_in machine.old) (core_in machine.new) (W.contents link.old) (W.contents link.new))) }
 {
     let mut left = most;
     while left > 0 {

@@ -6,6 +6,7 @@ ghost use Rattle.sms_handset.specs.machine.Stepping.{MakesTheChanges};
 ghost use Rattle.handset.specs.link_run.Asking.{event_of};
 ghost use Rattle.handset.specs.link_run.Course.{Meets, ReadAs, came};
 ghost use Rattle.handset.specs.link_run.Ends.{IsRun, IsRunDone};
+ghost use Rattle.sms_handset.specs.machine.InMachine.{core_in};
 
 use crate::link_run::acts::act;
 use crate::link_run::clock::Clock;
@@ -56,7 +57,9 @@ fn turn<K: Keep<Rows = Rows, Changes = Changes> + Drop, R: Read, W: Write>(
     most: u32,
 ) -> Result<u32, Stop>
     requires { MakesTheChanges K.after }
-    ensures { IfOk result (λ left. (frames : List (List ℕ)) × (octets : List ℕ) × (Consumes (R.remaining link_in.old) (R.remaining link_in.new) octets × (buffer.old ++ octets ≡ joined frames ++ buffer.new) × Meets (map came frames) machine.old.handset.core machine.new.handset.core (W.contents link_out.old) (W.contents link_out.new))) }
+    ensures { IfOk result (λ left. (frames : List (List ℕ)) × (octets : List ℕ)
+        × (Consumes (R.remaining link_in.old) (R.remaining link_in.new) octets × (buffer.old ++ octets ≡ joined frames ++ buffer.new)
+        × Meets (map came frames) (core_in machine.old) (core_in machine.new) (W.contents link_out.old) (W.contents link_out.new))) }
 {
     tick(alloc, machine, now, link_out)?;
     let stands = receive(link_in, buffer)?;
@@ -74,7 +77,8 @@ fn attend<K: Keep<Rows = Rows, Changes = Changes> + Drop, R: Read, W: Write, C: 
     most: u32,
 ) -> Result<(), Stop>
     requires { MakesTheChanges K.after }
-    ensures { OnOk result ((frames : List (List ℕ)) × (ReadAs frames (R.remaining link_in.old) (R.remaining link_in.new) × Meets (map came frames) machine.old.handset.core machine.new.handset.core (W.contents link_out.old) (W.contents link_out.new))) }
+    ensures { OnOk result ((frames : List (List ℕ)) × (ReadAs frames (R.remaining link_in.old) (R.remaining link_in.new)
+        × Meets (map came frames) (core_in machine.old) (core_in machine.new) (W.contents link_out.old) (W.contents link_out.new))) }
 {
     let mut left = most;
     let mut buffer = FrameBuffer::new(alloc);
@@ -97,7 +101,7 @@ fn act_all<K: Keep<Rows = Rows, Changes = Changes> + Drop, W: Write, A: Write, C
     clock: &C,
 ) -> Result<(), Stop>
     requires { MakesTheChanges K.after }
-    ensures { OnOk result (Meets (map event_of acts.now) machine.old.handset.core machine.new.handset.core (W.contents link.old) (W.contents link.new)) }
+    ensures { OnOk result (Meets (map event_of acts.now) (core_in machine.old) (core_in machine.new) (W.contents link.old) (W.contents link.new)) }
 {
     for asked in acts {
         tick(alloc, machine, clock.now(), link)?;
@@ -109,16 +113,16 @@ fn act_all<K: Keep<Rows = Rows, Changes = Changes> + Drop, W: Write, A: Write, C
 /// How a run ended.
 #[derive(Clone, Copy, Debug, PartialEq, Eq)]
 pub enum RunEnd {
-    /// All frames came, or the link closed.
+    /// All frames have arrived, or the link closed.
     Done,
     /// A write of the link failed, which closes it.
     Broken,
 }
 
-/// Runs a handset over a link: sends the digits of its number, does what its owner asks, each answered by a line, and meets
-/// the frames that come, until `frames` came or the link closed.
+/// Runs a handset over a link. It sends the digits of its number, does what its owner asks, each answered by a line,
+/// and takes frames. It ends after `frames` of them, or when the link closes.
 ///
-/// A link whose reads give up after a while lets time go on; a read or a write of it that fails closes it.
+/// A link whose reads give up after a while lets time pass. A read or a write of it that fails closes it.
 pub fn run_handset<
     K: Keep<Rows = Rows, Changes = Changes> + Drop,
     R: Read,
@@ -139,7 +143,7 @@ pub fn run_handset<
     requires { MakesTheChanges K.after }
     // What stands on the link behind the number is what the definition puts there for what the owner asked, and then for the
     // frames that were read, with ticks between them; the handset is the one that they lead to.
-    ensures { IfOk result (IsRun (map event_of acts.now) number.now machine.old.handset.core machine.new.handset.core (R.remaining link_in.old) (R.remaining link_in.new) (W.contents link_out.old) (W.contents link_out.new)) }
+    ensures { IfOk result (IsRun (map event_of acts.now) number.now (core_in machine.old) (core_in machine.new) (R.remaining link_in.old) (R.remaining link_in.new) (W.contents link_out.old) (W.contents link_out.new)) }
 {
     match run(
         alloc, machine, number, acts, link_in, link_out, answers, clock, frames,
@@ -162,7 +166,7 @@ fn run<K: Keep<Rows = Rows, Changes = Changes> + Drop, R: Read, W: Write, A: Wri
     frames: u32,
 ) -> Result<(), Stop>
     requires { MakesTheChanges K.after }
-    ensures { OnOk result (IsRunDone (map event_of acts.now) number.now machine.old.handset.core machine.new.handset.core (R.remaining link_in.old) (R.remaining link_in.new) (W.contents link_out.old) (W.contents link_out.new)) }
+    ensures { OnOk result (IsRunDone (map event_of acts.now) number.now (core_in machine.old) (core_in machine.new) (R.remaining link_in.old) (R.remaining link_in.new) (W.contents link_out.old) (W.contents link_out.new)) }
 {
     greet(alloc, link_out, number.digits.as_slice())?;
     act_all(alloc, machine, acts, link_out, answers, clock)?;

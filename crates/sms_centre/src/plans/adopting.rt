@@ -19,7 +19,7 @@ use sms_centre_reports::sessions::Seat;
 use sms_rows::table::Table;
 
 impl Planned {
-    /// Puts it into what the centre keeps, without taking memory, and gives what is told.
+    /// Puts it into what the centre keeps, without taking memory, and gives what leaves.
     pub fn adopt(
         self,
         moment: &mut Moment,

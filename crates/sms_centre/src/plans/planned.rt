@@ -11,8 +11,8 @@ use sms_centre_spec::{CentreAnswer, Changes};
 use sms_rows::table::Table;
 use std::marker::Model;
 
-/// What goes out once the changes are committed: frames to handsets in their order, the answer to an application's request, and
-/// receipts in their order.
+/// What leaves once the changes are committed: frames to handsets in their order, the answer to an application's
+/// request, and receipts in their order.
 #[derive(Drop)]
 pub struct Told {
     pub frames: Listed<Sent>,
@@ -46,7 +46,7 @@ impl Model for Left {
     } };
 }
 
-/// What an event leads to: what it changes of the rows, what it tells, and what is kept after it.
+/// What an event leads to: what it changes of the rows, what leaves, and what is kept after it.
 #[derive(Drop)]
 pub struct Planned {
     pub changes: Changes,

@@ -127,8 +127,8 @@ fn planned(
     }
 }
 
-/// What the event leads to, with the memory to put it into what the centre keeps of messages and claims; it brings what it leaves of
-/// shelves, reports and sessions with it.
+/// What the event leads to, with the memory to put it into what the centre keeps of messages and claims. It has what
+/// the event leaves of queues, reports and sessions.
 pub fn settle(
     working: Working<'_>,
     kept: &KeptMessages,

@@ -8,8 +8,8 @@ ghost use Rattle.sms_centre_spec.specs.Draft.{Core, draft_of, messages_in, parts
 ghost use Rattle.sms_centre_spec.specs.SoundCore.{IsSoundCore};
 ghost use Rattle.sms_centre.specs.state.Standing.{IsStanding, StandingOf};
 
-/// What stands between two events is all that the calls of an event ask for as it begins: the centre is sound, what is kept of messages
-/// and what they lay claim to is that of the draft, and sessions wait for what they may wait for.
+/// The state between events is all that the calls of an event ask for as it begins. The centre is sound, what is kept
+/// of messages and their claims is that of the draft, and sessions wait for what they may wait for.
 pub fn what_stands_is_known()
     ensures sound { (c : Core) (s : StandingOf) → IsStanding c s → IsSoundCore c }
     ensures messages { (c : Core) (s : StandingOf) → IsStanding c s → HoldsMessages s.messages (messages_in (draft_of c).store) (parts_in (draft_of c).store) }

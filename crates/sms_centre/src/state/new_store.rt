@@ -7,7 +7,7 @@ use sms_centre_spec::laws::a_centre_begins_sound;
 use sms_centre_spec::{Rows, Setup};
 use std::alloc::Global;
 
-/// The rows of a new store: no message yet. A centre can stand on them.
+/// The rows of a new store: no message yet. They are sound.
 pub fn first_rows(alloc: Global, setup: Setup) -> Rows
     ensures rows { result ≡ first_rows_of setup }
     ensures sound { IsSetup setup → IsSound result }

@@ -21,9 +21,9 @@ use sms_rows::table::Table;
 use std::alloc::{AllocError, Global};
 
 impl Standing {
-    /// The centre that starts again with these rows, if it can: `BadRows` only where they are not sound, and no centre of such rows.
-    /// Want of memory may be told before all of them is judged. Links to these handsets come
-    /// up at its first tick; these sessions are bound, in which nothing was sent yet.
+    /// The centre that starts again with these rows, if it can: `BadRows` only where they are not sound, and no centre
+    /// of such rows. Want of memory may be reported before all of them is judged. Links to these handsets are up at its
+    /// first tick. These sessions are bound, in which nothing was sent yet.
     pub fn recover(
         alloc: Global,
         rows: Rows,
@@ -40,7 +40,7 @@ impl Standing {
         Ok(standing)
     }
 
-    /// The same, where links to these handsets are up at once.
+    /// The centre of the rows, where links to these handsets are up at once.
     pub fn start(
         alloc: Global,
         rows: Rows,

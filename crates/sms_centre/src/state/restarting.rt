@@ -23,9 +23,9 @@ use sms_rows::table::Table;
 use std::alloc::{AllocError, Global};
 
 impl Standing {
-    /// The centre starts again on the rows that it has, as `recover` would make it of them anew: `moment` is the greatest that they
-    /// have seen. What it keeps of messages and reports tells of rows alone and stays, so the cost is that of handsets and of what
-    /// waits for them. Where it can't, it stays as it was.
+    /// The centre starts again on its rows, as `recover` would make it of them anew. `moment` is the greatest that they
+    /// have seen. What it keeps of messages and reports follows from rows alone and stays. So the cost is that of
+    /// handsets and of what waits for them. Where it can't, it stays unchanged.
     ///
     /// # Errors
     /// A growth was refused.

@@ -1,4 +1,4 @@
-//! The shelves of a centre that starts.
+//! The queues of a centre that starts.
 ghost use Rattle.std.specs.Prelude.{ℕ, List, [], false, IfOk, OnOk};
 ghost use Rattle.sms_base.specs.Among.{Among};
 ghost use Rattle.sms_centre_queue.specs.queues.Adopting.{Fits, IsAdopted, IsSettled};
@@ -91,7 +91,8 @@ fn load(
     }
 }
 
-/// The shelves of a centre that starts again, ready made: lines to these handsets alone, each expected to come up at its first tick.
+/// The queues of a centre that starts again, ready made: links to these handsets alone, each expected to be up at its
+/// first tick.
 pub(crate) fn settled_anew(
     alloc: Global,
     handsets: &[Digits],
@@ -115,8 +116,8 @@ pub(crate) fn settled_anew(
     }
 }
 
-/// The shelves of a centre that starts on these rows at that moment, with lines to these handsets: up at once, or expected to come up
-/// at its first tick.
+/// The queues of a centre that starts on these rows at that moment. It has links to these handsets: up at once, or
+/// expected to be up at its first tick.
 pub(crate) fn shelves_of(
     alloc: Global,
     tables: &RowTables,

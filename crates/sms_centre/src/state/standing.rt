@@ -21,7 +21,7 @@ use std::marker::Model;
 #[derive(Drop)]
 pub struct Standing {
     pub setup: Setup,
-    /// The greatest moment that it was told, or that its rows have seen.
+    /// The greatest moment of a tick, or that its rows have seen.
     pub moment: Moment,
     pub messages: KeptMessages,
     /// The split references and TP-MRs that earlier messages lay claim to.

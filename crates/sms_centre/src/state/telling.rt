@@ -1,4 +1,4 @@
-//! What a centre tells of its messages and of their ends.
+//! The tables of a centre's messages and of their ends.
 ghost use Rattle.std.specs.Prelude.{◌≡◌, ◌++◌, ◌∷◌, [], List, slice_get, IfOk, OnOk};
 ghost use Rattle.sms_centre_messages.specs.held.MessagesInMemory.{Holds};
 ghost use Rattle.sms_centre_messages.specs.held.Summaries.{summary_of};

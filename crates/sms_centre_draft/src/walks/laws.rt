@@ -24,37 +24,38 @@ ghost use Rattle.sms_centre_draft.specs.walks.Stepping.{fire_on, offer_at, stops
 
 use sms_centre_reports::open_reports::laws::old_reports_are_dropped_by_what_is_kept;
 
-/// A walk goes on with one more step.
+/// A walk over one more stop is the walk before it, then a step at that stop.
 pub fn a_walk_goes_on<D: Drop>()
     ensures { (step : List ℕ → D → D) (stops : List Stop) (stop : Stop) (d : D) → walk step (stops ++ stop ∷ []) d ≡ step stop.number (walk step stops d) }
 {}
 
-/// Offers go to those handsets alone whose line is ready and for which something is due as the offers begin.
+/// Offers concern only those handsets whose link is ready and for which something is due as the offers begin.
 pub fn offers_go_to_those_found()
     ensures { (d : Draft) → SoundGivings (handsets_in d.store) (references_in d.store) → offer d ≡ walk offer_at (stops_in (Offer d.store.moment) d) d }
 {}
 
-/// Timers fire at those lines alone at which one is due as the walk begins: first at those of the handsets that had been given a
-/// reference, then at the others. Both are found before the first timer fires; what comes of one that fires (a message that ends,
-/// a status report for another handset, which then has been given a reference) makes no other timer due, and moves no handset.
+/// Timers fire only at those links at which one is due as the walk begins: first at those of the handsets that had been
+/// given a reference, then at the others. Both are found before the first timer fires. One that fires may end a
+/// message, or make a status report for another handset, which then has been given a reference. It makes no other timer
+/// due, and moves no handset.
 pub fn timers_fire_at_those_found()
     ensures { (d : Draft) → SoundGivings (handsets_in d.store) (references_in d.store) → AreLines d.air.lines
         → fired d ≡ walk fire_on (stops_in (FireUnmentioned d.store.moment) d) (walk fire_on (stops_in (Fire d.store.moment) d) d) }
 {}
 
-/// The lines that were up before a recovery come up: those that are found as the walk begins.
+/// The links that were up before a recovery are up again: those that are found as the walk begins.
 pub fn lines_come_up_where_found()
     ensures { (d : Draft) → AreLines d.air.lines → raised d ≡ walk raise (stops_in Awaited d) d }
 {}
 
-/// Messages expire by their numbers: any numbers in order serve among which are those of all messages whose time is over. A number
-/// may stand there twice, and that of a message that has ended.
+/// Messages expire by their numbers. Any numbers in order serve among which are those of all messages whose time is
+/// over. A number may be there twice, and so may that of a message that has ended.
 pub fn messages_expire_by_numbers()
     ensures { (s : Store) (ids : List ℕ) → Rises message_key (messages_in s) → IsNonDecreasing ids → CoversOver ids s → expired s ≡ expire_numbers ids s }
 {}
 
-/// Old status reports are dropped from place 0 on. From a place on, the first that what is kept tells goes, and then those behind
-/// it; where it tells none, none is dropped any more.
+/// Old status reports are dropped from place 0 on. From a place on, the first that is found by what is kept is dropped,
+/// and then those behind it. Where none is found, none is dropped any more.
 pub fn old_reports_are_dropped_where_found()
     ensures begins { (s : Store) → dropped s ≡ drop_from 0 s }
     ensures next { (s : Store) (kept : ReportsOf) (first : ℕ) (e : StatusEntry) → Shows (messages_in s) kept (reports_in s) → first_such (is_past_from status_key status_until first s.moment) kept.statuses ≡ Some e

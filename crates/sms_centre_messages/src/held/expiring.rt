@@ -10,8 +10,8 @@ use sms_base::{MessageId, Moment};
 use std::alloc::{AllocError, Global};
 
 impl KeptMessages {
-    /// The numbers of the messages that are pending and whose time has ended, in order, each once. It costs a logarithm for
-    /// each, and for each that ended before its time and whose deadline still stands there.
+    /// The numbers of the messages that are pending and whose time has ended, in order, each once. It costs a logarithm
+    /// for each. It also costs one for each that ended before its time and whose deadline is still there.
     pub fn expired(&self, alloc: Global, now: Moment) -> Result<Vec<MessageId>, AllocError>
         ensures { (ms : List MessageRowOf) (ps : List PartRowOf) → Holds self.now ms ps → IfOk result (λ ids. ids.items ≡ past_ids now ms) }
     {

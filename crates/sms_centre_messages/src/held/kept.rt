@@ -91,8 +91,8 @@ impl KeptMessages {
         }
     }
 
-    /// The numbers of messages whose time has ended, those of all pending ones among them, in order; a number may stand there
-    /// twice, and that of a message that ended. It costs a logarithm for each.
+    /// The numbers of messages whose time has ended, in order, those of all pending ones among them. A number may be
+    /// there twice, and so may that of a message that ended. It costs a logarithm for each.
     pub fn past(&self, alloc: Global, now: Moment) -> Result<Vec<u64>, AllocError>
         ensures all { (ms : List MessageRowOf) (ps : List PartRowOf) → Holds self.now ms ps → IfOk result (λ numbers. CoversPast now ms numbers.items) }
         ensures order { IfOk result (λ numbers. IsNonDecreasing numbers.items) }

@@ -1,7 +1,7 @@
 //! A message's row with its numbers and its account under their places.
 //!
-//! It takes at most 96 octets: five words, two each for the originator and the moment of its end, and the small fields. A
-//! message of one part that ended takes these, 32 for its part, and 16 for its deadline until that stands first: 144.
+//! It takes at most 96 octets: five words, two each for the originator and the moment of its end, and the small fields.
+//! A message of one part that ended takes 144: these, 32 for its part, and 16 for its deadline until that is the first.
 ghost use Rattle.std.specs.Prelude.{◌≡◌};
 ghost use Rattle.sms_centre_messages.specs.held.Entries.{message_entry_key};
 

@@ -21,7 +21,7 @@ use sms_rows::table::{Change, Key};
 use std::alloc::{AllocError, Global};
 use std::marker::Model;
 
-/// Messages, parts and priorities in the middle of an event: what stood there, and what came since.
+/// Messages, parts and priorities within an event: those from before it, and those that it put.
 #[derive(Drop)]
 pub struct PendingMessages<'a> {
     alloc: Global,
@@ -65,7 +65,7 @@ impl<'a> PendingMessages<'a> {
         }
     }
 
-    /// The message of that number as it stands, in memory of its own.
+    /// The present message of that number, in memory of its own.
     pub fn find(&self, id: MessageId) -> Result<Option<MessageRow>, AllocError>
         ensures { (m : Messages) → Shows self.now m → IfOk result (λ row. row ≡ message_at id (messages_of m)) }
     {
@@ -82,7 +82,7 @@ impl<'a> PendingMessages<'a> {
         self.parts.find(id, number)
     }
 
-    /// The TPDU of the part of that message and number, if the event put it: else it stands in the store.
+    /// The TPDU of the part of that message and number, if the event put it: else the store has it.
     pub fn tpdu_put(&self, id: MessageId, number: u8) -> Option<&[u8]>
         ensures { (m : Messages) → Shows self.now m → option_copied result ≡ tpdu_put (pair_key id number) m.parts.news }
     {
@@ -96,7 +96,7 @@ impl<'a> PendingMessages<'a> {
         self.parts.all_done(id)
     }
 
-    /// A message comes, or takes the place of that of its number, as one that ends.
+    /// Adds a message, or replaces that of its number, as one that ends.
     pub fn put_message(&mut self, row: MessageRow) -> Result<(), AllocError>
         ensures { (m : Messages) → Shows self.old m → OnOk result (Shows self.new (put_message row m)) }
     {
@@ -104,7 +104,7 @@ impl<'a> PendingMessages<'a> {
         Ok(())
     }
 
-    /// A priority comes.
+    /// Adds a priority.
     pub fn put_priority(&mut self, row: PriorityRow) -> Result<(), AllocError>
         ensures { (m : Messages) → Shows self.old m → OnOk result (Shows self.new (put_priority row m)) }
     {
@@ -112,7 +112,7 @@ impl<'a> PendingMessages<'a> {
         Ok(())
     }
 
-    /// A part comes whole.
+    /// Adds a whole part.
     pub fn put_part(&mut self, row: PartRow) -> Result<(), AllocError>
         ensures { (m : Messages) → Shows self.old m → OnOk result (Shows self.new (put_part row m)) }
     {
@@ -120,7 +120,7 @@ impl<'a> PendingMessages<'a> {
         Ok(())
     }
 
-    /// The part, which stands there, is so far.
+    /// Sets how far the part is, which is there.
     pub fn amend_part(&mut self, entry: &PartEntry, progress: &Progress) -> Result<(), AllocError>
         ensures { (m : Messages) (row : PartRowOf) → Shows self.old m → part_at row.id row.number (parts_of m) ≡ Some row → part_entry row ≡ entry.now
             → OnOk result (Shows self.new (amend_part row progress.now m)) }

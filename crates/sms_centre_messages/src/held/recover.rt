@@ -1,4 +1,4 @@
-//! What is kept as the rows of a store tell of it.
+//! What is kept of messages, rebuilt from the rows of a store.
 ghost use Rattle.std.specs.Prelude.{◌≡◌, [], List, map, IfOk, OnOk};
 ghost use Rattle.sms_centre_messages.specs.held.MessagesInMemory.{Holds, Notes};
 ghost use Rattle.sms_centre_rows.specs.messages.Messages.{message_key, part_key};
@@ -15,7 +15,7 @@ use sms_rows::table::Table;
 use std::alloc::{AllocError, Global};
 
 impl KeptMessages {
-    /// The messages and the parts of rows that stand in the order of their keys. It costs a logarithm for each.
+    /// The messages and the parts of rows that are in the order of their keys. It costs a logarithm for each.
     pub fn recover(
         alloc: Global,
         messages: &[MessageRow],

@@ -1,4 +1,4 @@
-//! What a centre tells of its messages, one by one.
+//! A centre's messages, listed one by one.
 ghost use Rattle.std.specs.Prelude.{◌≡◌, List, length, slice_get};
 ghost use Rattle.std.specs.Option.{option_map};
 ghost use Rattle.sms_centre_messages.specs.held.MessagesInMemory.{Holds};
@@ -9,7 +9,7 @@ ghost use Rattle.sms_centre_rows.specs.declared.messages.part.PartRow.{PartRow a
 use crate::held::kept::KeptMessages;
 use sms_base::{Address, Digits, FinalState, MessageId};
 
-/// Between whom a message goes, and how it ended.
+/// The source and the destination of a message, and how it ended.
 #[derive(Clone, Copy, Debug, PartialEq, Eq)]
 pub struct MessageSummary {
     pub id: MessageId,

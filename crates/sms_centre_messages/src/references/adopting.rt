@@ -16,8 +16,8 @@ use sms_centre_rows::waiting::Revision;
 use sms_rows::table::{Change, Key};
 
 impl KeptClaims {
-    /// Puts the changes of messages and of parts in, without taking memory: a message that is pending comes behind all others, one
-    /// that has an end was pending before, and a part comes with its message.
+    /// Puts the changes of messages and of parts in, without taking memory. A pending message is new, behind all
+    /// others; one that has an end was pending before. A part is new with its message.
     pub fn adopt(
         &mut self,
         spare: SpareClaims,

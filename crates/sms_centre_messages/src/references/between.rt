@@ -1,4 +1,4 @@
-//! Between whom messages go, as the key of a map.
+//! A source and a handset, as the key of a map.
 ghost use Rattle.std.specs.Prelude.{◌≡◌};
 ghost use Rattle.sms_centre_messages.specs.references.Keys.{key_of, pair_of};
 

@@ -48,8 +48,8 @@ impl KeptClaims {
         }
     }
 
-    /// Whether the reference of a header that came with a submission was given to a message of its source and handset that
-    /// isn't wholly delivered.
+    /// Whether the reference of a submission's own header was given to a message of its source and handset that isn't
+    /// wholly delivered.
     pub fn is_taken(&self, source: &Address, handset: &Digits, reference: Option<u16>) -> bool
         ensures { (ms : List MessageRowOf) (ps : List PartRowOf) → Holds self.now ms ps → result ≡ is_taken reference (held_splits source.now handset.now ms) }
     {

@@ -1,4 +1,4 @@
-//! How claims are let go where messages end, and how parts bring theirs.
+//! Claims that end with their messages, and claims of new parts.
 ghost use Rattle.std.specs.Prelude.{◌≡◌, ◌+◌, ◌<◌, ◌≤◌, ℕ, List, Some, true, IsOk, OnOk};
 ghost use Rattle.sms_centre_messages.specs.references.Claims.{AreFew, BarsLess, BringsBar, BringsOwn, Brought, Ended, Holds, HoldsLess, PendsLess, still};
 ghost use Rattle.sms_centre_messages.specs.references.Moves.{HasRoomFor};
@@ -37,7 +37,7 @@ impl KeptClaims {
         drop_pending(&mut self.pending, row);
     }
 
-    /// A part comes, whose key is this and whose message that.
+    /// Adds a part of that message, with that key.
     pub fn bring(&mut self, message: &MessageRow, key: &Option<ConcatKey>) -> Result<(), AllocError>
         ensures holds { (ms : List MessageRowOf) (ps : List PartRowOf) (p : PartRowOf) → Holds self.old ms ps → Rises part_key ps → message_at p.id ms ≡ Some message.now → p.key ≡ key.now
             → row_at part_key (part_key p) ps ≡ None → AreFew ms ps → OnOk result (Holds self.new ms (put part_key p ps)) }

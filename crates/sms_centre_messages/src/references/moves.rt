@@ -1,4 +1,4 @@
-//! How claims come and go.
+//! Claims that are new or end.
 ghost use Rattle.std.specs.Prelude.{◌≡◌, ◌+◌, ◌<◌, ◌≤◌, ℕ, List, IsOk, OnOk};
 ghost use Rattle.sms_centre_messages.specs.references.Claims.{AreFew, BarsMore, ComesBehind, Entered, GivesLast, Holds, HoldsMore, PendsMore};
 ghost use Rattle.sms_centre_messages.specs.references.Moves.{HasRoomFor};
@@ -16,7 +16,7 @@ use sms_centre_rows::messages::MessageRow;
 use std::alloc::AllocError;
 
 impl KeptClaims {
-    /// A message comes behind all others, with no parts yet.
+    /// Adds a message behind all others, with no parts yet.
     pub fn enter(&mut self, row: &MessageRow) -> Result<(), AllocError>
         ensures holds { (ms : List MessageRowOf) (ps : List PartRowOf) → Holds self.old ms ps → ComesBehind row.now ms ps → AreFew ms ps → OnOk result (Holds self.new (put message_key row.now ms) ps) }
         ensures room { (n p : ℕ) → HasRoomFor (n + 1) p self.old → OnOk result (HasRoomFor n p self.new) }

@@ -11,7 +11,7 @@ use sms_rows::table::{Key, Table};
 use std::alloc::{AllocError, Global};
 
 impl KeptClaims {
-    /// What the messages and the parts, which stand in the order of their keys, lay claim to. It costs a logarithm for each.
+    /// The claims of the messages and the parts, which are in the order of their keys. It costs a logarithm for each.
     pub fn recover(
         alloc: Global,
         messages: &Table<MessageRow>,

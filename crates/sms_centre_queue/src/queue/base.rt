@@ -40,7 +40,7 @@ impl<T: Drop + Row> Base<T> {
         Ok(Base { table: Some(table) })
     }
 
-    /// The same rows in the same memory.
+    /// A copy that shares the memory of the rows.
     pub(crate) fn share(&self) -> Result<Base<T>, AllocError>
         ensures { IfOk result (λ base. base ≡ self.now) }
     {
@@ -75,7 +75,7 @@ impl<T: Drop + Row> Base<T> {
     }
 }
 
-/// Whether all of these rows, which stand in order, have lower keys.
+/// Whether all of these ordered rows have lower keys.
 pub(crate) fn is_below<T: Row>(rows: &[T], key: Key) -> bool
     requires { Rises T.key rows.now }
     ensures { (result ≡ true) ↔ AllBelow T.key key rows.now }

@@ -12,8 +12,8 @@ use sms_rows::table::{Key, Table};
 use std::alloc::{AllocError, Global};
 use std::marker::Model;
 
-/// References that were given, in their order, which copies share; and a moment after which none of them was given: so that an event
-/// has seldom to look for one of them, which lies in memory that no other event has touched for long.
+/// References that were given, in their order, which copies share, and a moment after which none of them was given. By
+/// that moment an event seldom has to look at them, in memory that no other event has touched for long.
 #[derive(Drop)]
 pub(crate) struct Earlier {
     base: Base<ReferenceRow>,
@@ -53,7 +53,7 @@ impl Earlier {
         Ok(Earlier { base, latest })
     }
 
-    /// The same rows in the same memory.
+    /// A copy that shares the memory of the rows.
     pub(crate) fn share(&self) -> Result<Earlier, AllocError>
         ensures { IfOk result (λ earlier. earlier ≡ self.now) }
     {

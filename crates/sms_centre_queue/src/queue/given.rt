@@ -15,8 +15,8 @@ use std::marker::Model;
 // So many stand beside the shared ones at most: few to copy, and seldom are all of them copied.
 const MOST_NEWER: usize = 16;
 
-/// The references that were given at a handset, in their order. Copies share all but those that were given last, since a copy of
-/// all of them would cost an event more than all else that it does.
+/// The references that were given at a handset, in their order. Copies share all but those that were given last. A copy
+/// of all of them would cost an event more than all else that it does.
 #[derive(Drop)]
 pub(crate) struct Given {
     alloc: Global,
@@ -60,7 +60,7 @@ impl Given {
         })
     }
 
-    /// The same, with the shared ones in the same memory.
+    /// A copy that shares the memory of the shared references.
     pub(crate) fn copy(&self) -> Result<Given, AllocError>
         ensures { IfOk result (λ given. given ≡ self.now) }
     {

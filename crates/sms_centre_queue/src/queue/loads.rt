@@ -44,8 +44,8 @@ fn is_part_of(load: &Load, id: MessageId) -> bool
     load.id.number() == id.number() && load.number != 0
 }
 
-/// Of all that is due the one that goes first, where that is the first of what waits behind these. Looked through from the end, so
-/// that what is left is what the definition has behind it.
+/// Of all that is due, the first to be offered, where `behind` is the first of what waits behind these. It looks from
+/// the end, so that what is left is what the definition has behind it.
 pub(crate) fn first_due(waiting: &[Load], now: Moment, behind: Option<Load>) -> Option<Load>
     ensures { (others : List LoadOf) → behind ≡ next_of now others → result ≡ next_of now (waiting.now ++ others) }
 {

@@ -107,7 +107,7 @@ impl SharedLoads {
         })
     }
 
-    /// The same loads in the same memory.
+    /// A copy that shares the memory of what waits.
     pub(crate) fn share(&self) -> Result<SharedLoads, AllocError>
         ensures { IfOk result (λ shared. shared ≡ self.now) }
     {

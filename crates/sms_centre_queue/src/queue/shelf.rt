@@ -71,7 +71,7 @@ impl Shelf {
         })
     }
 
-    /// The same. Most of what waits and of the references that were given is in the same memory, so that a copy costs little.
+    /// A copy. It shares most of what waits and of the references that were given, so that it costs little.
     pub fn copy(&self) -> Result<Shelf, AllocError>
         ensures { IfOk result (λ shelf. shelf ≡ self.now) }
     {
@@ -139,7 +139,7 @@ impl Shelf {
         Ok(())
     }
 
-    /// That one waits no more.
+    /// Removes what waits under that message and number.
     pub fn remove(&mut self, id: MessageId, number: u8) -> Result<(), AllocError>
         ensures { OnOk result (self.new ≡ shelf_without (pair_key id number) self.old) }
     {
@@ -163,7 +163,7 @@ impl Shelf {
         Ok(())
     }
 
-    /// Of all that is due, the one that goes first.
+    /// Of all that is due, the first to be offered.
     pub fn next(&self, now: Moment) -> Option<Load>
         ensures { result ≡ next_of now self.now.waiting }
     {
@@ -227,7 +227,7 @@ impl Shelf {
         self.line.is_full = false;
     }
 
-    /// The line was up before a recovery, and comes up at the next tick.
+    /// The link was up before a recovery, and is up again at the next tick.
     pub fn expect(&mut self)
         ensures { self.new ≡ shelf_on (record self.old.line { is_awaited = true }) self.old }
     {

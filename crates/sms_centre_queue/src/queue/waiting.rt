@@ -22,9 +22,9 @@ use std::marker::Model;
 // all of them copied.
 const MOST_NEWER: usize = 16;
 
-/// What waits for a handset, in the order of messages and numbers. Copies share all but what came last: a new message goes behind
-/// all others, and a copy of all of them would cost an event more than all else that it does. What changes among the shared ones
-/// is changed in a copy of all.
+/// What waits for a handset, in the order of messages and numbers. Copies share all but what was added last: a new
+/// message is behind all others. A copy of all of them would cost an event more than all else that it does. What
+/// changes among the shared ones is changed in a copy of all.
 #[derive(Drop)]
 pub(crate) struct Waiting {
     alloc: Global,
@@ -58,7 +58,7 @@ impl Waiting {
         }
     }
 
-    /// The same, with the shared ones in the same memory.
+    /// A copy that shares the memory of the shared parts.
     pub(crate) fn copy(&self) -> Result<Waiting, AllocError>
         ensures { IfOk result (λ waiting. waiting ≡ self.now) }
     {
@@ -99,7 +99,7 @@ impl Waiting {
         }
     }
 
-    /// Of all that is due, the one that goes first.
+    /// Of all that is due, the first to be offered.
     pub(crate) fn next(&self, now: Moment) -> Option<Load>
         ensures { result ≡ next_of now (loads_of self.now) }
     {

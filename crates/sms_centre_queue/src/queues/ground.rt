@@ -1,4 +1,4 @@
-//! The shelves as they were put in last.
+//! The queues as they were put in last.
 ghost use Rattle.std.specs.Prelude.{◌≡◌, ◌+◌, ◌≤◌, ◌<◌, ℕ, max, length, nat_eq, if◌then◌else◌, IfOk, option_copied};
 ghost use Rattle.std.specs.Option.{option_or};
 ghost use Rattle.indexmap.specs.IndexMap.{index_map_len, spare as spare_of};
@@ -14,7 +14,7 @@ use sms_base::Moment;
 use std::alloc::{AllocError, Global};
 use std::marker::Model;
 
-/// The shelves as they were put in last, which an event shares while it goes on.
+/// The queues as they were put in last, which an event shares while it lasts.
 #[derive(Drop)]
 pub(crate) struct Ground {
     // Under the keys of the handsets' digits.
@@ -81,7 +81,7 @@ impl Ground {
         Ok(spare)
     }
 
-    /// The shelves come in, without taking memory.
+    /// Puts the queues in, without taking memory.
     pub(crate) fn install(
         &mut self,
         spare: SpareMap<Placed>,

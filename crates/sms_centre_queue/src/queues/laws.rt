@@ -1,4 +1,4 @@
-//! Laws of the shelves of all handsets, over their definitions alone.
+//! Laws of the queues of all handsets, over their definitions alone.
 ghost use Rattle.std.specs.Prelude.{◌≡◌, ℕ, List, Bool, filter};
 ghost use Rattle.sms_base.specs.Among.{Among};
 ghost use Rattle.sms_centre_rows.specs.waiting.Lines.{Air};
@@ -16,7 +16,7 @@ pub fn what_was_left_stands()
         → Shows g air waiting p → IsSettled p s → IsAdopted s new → Stands (handsets_of g) (references_of g) air.lines waiting new }
 {}
 
-/// An event that goes over all handsets may go over those alone that it concerns as it begins.
+/// An event that walks over all handsets may walk over those alone that it concerns as it begins.
 pub fn a_walk_stops_where_it_acts<D: Drop>()
     ensures { (step : List ℕ → D → D) (concerns : List ℕ → D → Bool) (test : Stop → Bool) (stops : List Stop) (d : D) → StepsAlone D step concerns → AreApart stops
         → ((s : Stop) → Among s stops → test s ≡ concerns s.number d) → walk step stops d ≡ walk step (filter test stops) d }

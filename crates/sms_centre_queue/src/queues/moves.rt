@@ -1,4 +1,4 @@
-//! What an event does with the shelf of a handset.
+//! What an event does with the queue of a handset.
 ghost use Rattle.std.specs.Prelude.{◌≡◌, ◌<◌, ◌≤◌, ℕ, List, Some, length, IfOk, IfSome, OnOk};
 ghost use Rattle.sms_link.specs.LinkTurn.{begun, fired, replied, taken};
 ghost use Rattle.sms_rows.specs.table.Keys.{AllDigits, pair_key};
@@ -33,7 +33,7 @@ impl PendingShelves {
         self.put_back(number, placed)
     }
 
-    /// That one waits no more.
+    /// Removes what waits for the handset under that message and number.
     pub fn remove(&mut self, number: Digits, id: MessageId, load: u8) -> Result<(), AllocError>
         requires digits { AllDigits number }
         ensures { OnOk result ((g : Givings) (air : Air) (waiting after : List ℕ → List LoadOf) → Shows g air waiting self.old
@@ -80,7 +80,7 @@ impl PendingShelves {
         self.put_line(number, placed, none)
     }
 
-    /// The handset's line was up before a recovery, and comes up at the next tick.
+    /// The handset's link was up before a recovery, and is up again at the next tick.
     pub fn expect(&mut self, number: Digits) -> Result<(), AllocError>
         requires digits { AllDigits number }
         ensures { OnOk result ((g : Givings) (air : Air) (waiting : List ℕ → List LoadOf) → Shows g air waiting self.old
@@ -171,7 +171,7 @@ impl PendingShelves {
         self.put_line(number, placed, frames)
     }
 
-    /// Takes a frame of the handset, whatever its octets: gives what goes up.
+    /// Takes a frame of the handset, whatever its octets, and gives what its link passes up.
     pub fn take(&mut self, number: Digits, frame: &[u8]) -> Result<Option<Upward>, AllocError>
         requires digits { AllDigits number }
         ensures up { IfOk result (λ up. (g : Givings) (air : Air) (waiting : List ℕ → List LoadOf) → Shows g air waiting self.old
@@ -185,7 +185,7 @@ impl PendingShelves {
         Ok(out.up)
     }
 
-    /// Lets the timers of the line fire that are due: gives what goes up.
+    /// Lets the timers of the link fire that are due, and gives what it passes up.
     pub fn fire(&mut self, number: Digits, now: Moment) -> Result<Option<Upward>, AllocError>
         requires digits { AllDigits number }
         ensures up { IfOk result (λ up. (g : Givings) (air : Air) (waiting : List ℕ → List LoadOf) → Shows g air waiting self.old
@@ -201,7 +201,7 @@ impl PendingShelves {
 }
 
 impl PendingShelves {
-    /// The reference is given to the handset. Places go to 4,294,967,295: a handset that comes behind that one gets none.
+    /// Gives the reference to the handset. The last place of a handset is 4,294,967,295: a later handset gets none.
     pub fn give(&mut self, number: Digits, reference: u8, now: Moment) -> Result<(), AllocError>
         requires is { IsNumber number }
         ensures { OnOk result ((g : Givings) (air : Air) (waiting : List ℕ → List LoadOf) → Shows g air waiting self.old

@@ -1,4 +1,4 @@
-//! The shelves of all handsets, in the middle of an event.
+//! The queues of all handsets, within an event.
 ghost use Rattle.std.specs.Prelude.{◌≡◌, ◌++◌, ℕ, List, [], Some, nat_eq, if◌then◌else◌, IfOk, OnOk, option_copied};
 ghost use Rattle.sms_rows.specs.table.Keys.{digits_key};
 ghost use Rattle.sms_centre_rows.specs.waiting.Lines.{to_handset};
@@ -113,7 +113,7 @@ impl PendingShelves {
         }
     }
 
-    /// A line that has no place yet comes behind all others.
+    /// Gives a link that has no place yet one behind all others.
     pub(crate) fn come(&mut self, placed: &mut Placed) -> Result<(), AllocError>
         ensures placed { OnOk result (placed.new ≡ record placed.old { came = came_now placed.old.came self.old.lines }) }
         ensures lines { OnOk result (self.new ≡ record self.old { lines = lines_now placed.old.came self.old.lines }) }
@@ -129,7 +129,7 @@ impl PendingShelves {
         Ok(())
     }
 
-    /// Puts the shelf of the handset back, whose line came now or changed, and sends frames on it.
+    /// Puts the queue of the handset back, whose link is new or has changed, and sends frames on it.
     pub(crate) fn put_line(
         &mut self,
         number: Digits,

@@ -1,4 +1,4 @@
-//! A shelf among the others.
+//! A queue among the others.
 ghost use Rattle.std.specs.Prelude.{◌≡◌, IfOk, Some, None};
 ghost use Rattle.sms_centre_queue.specs.queues.Placing.{new_placed};
 ghost use Rattle.sms_centre_queue.specs.queues.Stops.{is_active, is_wanted as is_wanted_of, order_of, stop_at};
@@ -13,7 +13,7 @@ use std::alloc::{AllocError, Global};
 #[derive(Drop)]
 pub struct Placed {
     pub(crate) shelf: Shelf,
-    /// The place of its line in the order in which lines came, from 1, or 0 while it has none.
+    /// The place of its link in the order in which links were first used, from 1, or 0 while it has none.
     pub(crate) came: u64,
 }
 
@@ -28,7 +28,7 @@ impl Placed {
         }
     }
 
-    /// The same, in memory of its own.
+    /// A copy, in memory of its own.
     pub(crate) fn copy(&self) -> Result<Placed, AllocError>
         ensures { IfOk result (λ placed. placed ≡ self.now) }
     {
@@ -38,7 +38,7 @@ impl Placed {
         })
     }
 
-    /// The same without its line, in memory of its own.
+    /// A copy without its link, in memory of its own.
     pub(crate) fn unlined(&self) -> Result<Placed, AllocError>
         ensures { IfOk result (λ placed. placed ≡ unlined_of self.now) }
     {

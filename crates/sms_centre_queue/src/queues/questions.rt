@@ -1,4 +1,4 @@
-//! What an event asks of shelves.
+//! What an event asks of queues.
 ghost use Rattle.std.specs.Prelude.{◌≡◌, ◌+◌, ℕ, List, [], IfOk};
 ghost use Rattle.sms_rows.specs.table.Keys.{AllDigits, pair_key};
 ghost use Rattle.sms_rows.specs.table.Table.{row_at};
@@ -44,7 +44,7 @@ impl PendingShelves {
         }
     }
 
-    /// Of all that is due for the handset, the one that goes first.
+    /// Of all that is due for the handset, the first to be offered.
     pub fn next(&self, number: &Digits, now: Moment) -> Option<Load>
         requires digits { AllDigits number.now }
         ensures { (g : Givings) (air : Air) (waiting : List ℕ → List LoadOf) → Shows g air waiting self.now → result ≡ next_of now (waiting number.now) }
@@ -91,8 +91,8 @@ impl PendingShelves {
         }
     }
 
-    /// The next reference that may be given to the handset. Places go to 4,294,967,295: a handset that comes behind that
-    /// one gets none.
+    /// The next reference that may be given to the handset. The last place of a handset is 4,294,967,295: a later
+    /// handset gets none.
     pub fn next_reference(&self, number: Digits, now: Moment) -> Result<Option<u8>, AllocError>
         requires digits { AllDigits number }
         ensures { IfOk result (λ reference. (g : Givings) (air : Air) (waiting : List ℕ → List LoadOf) → Shows g air waiting self.now
@@ -123,8 +123,9 @@ impl PendingShelves {
         }
     }
 
-    /// The handsets that such an event concerns, in the order in which it goes over them. It looks at the shelves that
-    /// were touched, and at those of the index where something may have become due since they were looked at last.
+    /// The handsets that such an event concerns, in the order in which it walks over them. It looks at the queues that
+    /// were touched. It also looks at those of the index where something may have become due since it looked at them
+    /// last.
     pub fn stops(&self, purpose: &Purpose) -> Result<Vec<Stop>, AllocError>
         ensures { IfOk result (λ stops. (g : Givings) (air : Air) (waiting : List ℕ → List LoadOf) → Shows g air waiting self.now
             → stops.items ≡ found purpose.now (handsets_of g) air.lines waiting) }

@@ -1,4 +1,4 @@
-//! The shelves as rows tell of them.
+//! The queues, rebuilt from rows.
 ghost use Rattle.std.specs.Prelude.{◌≡◌, ℕ, [], None, Some, nat_eq, if◌then◌else◌, IfOk, OnOk};
 ghost use Rattle.sms_rows.specs.table.Keys.{digits_key};
 ghost use Rattle.sms_centre_rows.specs.waiting.References.{place_after};
@@ -18,8 +18,8 @@ use std::alloc::{AllocError, Global};
 use std::sync::Arc;
 
 impl Shelves {
-    /// The shelves of the handsets of the rows, with the references that were given there. Nothing waits for them yet, and
-    /// they have no lines: these come, as in an event, by `PendingShelves`.
+    /// The queues of the handsets of the rows, with the references that were given there. Nothing waits for them yet,
+    /// and they have no links: `PendingShelves` adds these, as in an event.
     pub fn recover(
         alloc: Global,
         handsets: &[HandsetRow],

@@ -1,4 +1,4 @@
-//! What an event leaves of the shelves.
+//! What an event leaves of the queues.
 ghost use Rattle.std.specs.Prelude.{◌≡◌, ℕ, [], Some, IfOk};
 ghost use Rattle.sms_centre_queue.specs.queues.Adopting.{Fits, IsAdopted, IsSettled};
 ghost use Rattle.sms_centre_queue.specs.queues.Stops.{scanned};
@@ -46,8 +46,8 @@ impl Model for SettledShelves {
     } };
 }
 
-/// What an event does with shelves: what is to be committed of handsets and of references, each in order, the frames in
-/// order, and the shelves as it leaves them.
+/// What an event does with the queues: what is to be committed of handsets and of references, each in order, and the
+/// frames in order. It has the queues as the event leaves them.
 #[derive(Drop)]
 pub struct ShelvesPlan {
     pub handsets: Listed<Change<HandsetRow>>,
@@ -101,8 +101,8 @@ impl PendingShelves {
 }
 
 impl Shelves {
-    /// Puts in what an event left, without taking memory. Where another event still shares the ground, what was touched stands
-    /// beside it until one is adopted that has it alone.
+    /// Puts in what an event left, without taking memory. Where another event still shares the ground, what was touched
+    /// is beside it until one is adopted that has it alone.
     pub fn adopt(&mut self, settled: SettledShelves)
         requires fits { Fits settled }
         ensures { IsAdopted settled self.new }

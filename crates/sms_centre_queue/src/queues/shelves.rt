@@ -1,4 +1,4 @@
-//! The shelves of all handsets, between two events.
+//! The queues of all handsets, between events.
 use crate::queues::ground::Ground;
 use crate::queues::placed::Placed;
 use indexmap::IndexMap;

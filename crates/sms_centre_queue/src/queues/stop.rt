@@ -5,10 +5,11 @@ ghost use Rattle.sms_centre_queue.specs.queues.Keys.{stop_key};
 use sms_base::{Digits, Moment};
 use sms_rows::table::{Key, Row};
 
-/// A handset that an event concerns, by its place in the order in which the event goes over them.
+/// A handset that an event concerns, by its place in the order in which the event walks over them.
 #[derive(Clone, Copy, Debug, PartialEq, Eq)]
 pub struct Stop {
-    /// Its place in the order of first mention, or that of its line in the order in which lines came; from 1.
+    /// Its place in the order of first mention, or that of its link in the order in which links were first used; from
+    /// 1.
     pub order: u64,
     /// Its digits.
     pub number: Digits,

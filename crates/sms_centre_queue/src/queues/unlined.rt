@@ -1,4 +1,4 @@
-//! Shelves without lines.
+//! Queues without links.
 ghost use Rattle.std.specs.Prelude.{◌≡◌, ℕ, List, [], Some, nat_eq, if◌then◌else◌, IfOk, OnOk, option_map};
 ghost use Rattle.std.specs.Option.{option_or};
 ghost use Rattle.sms_centre_rows.specs.waiting.Lines.{Air};

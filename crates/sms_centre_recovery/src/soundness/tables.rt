@@ -1,4 +1,4 @@
-//! The rows of a centre as tables, and whether a centre can stand on them.
+//! The rows of a centre as tables, and whether they are sound.
 ghost use Rattle.std.specs.Prelude.{◌≡◌, ◌↔◌, ◌&&◌, ℕ, List, true, IfNone, IfOk, IfSome};
 ghost use Rattle.sms_base.specs.Among.{Among};
 ghost use Rattle.sms_centre_rows.specs.messages.SoundMessages.{SoundMessages};
@@ -10,17 +10,14 @@ ghost use Rattle.sms_centre_rows.specs.waiting.SoundWaiting.{SoundWaiting};
 ghost use Rattle.sms_centre_spec.specs.SoundRows.{AreSplitApart, AreTimes, CanBeTold, IsSetup, IsSound, all_for};
 ghost use Rattle.sms_centre_recovery.specs.soundness.RowsOf.{KeysRise, StandsAlone, rows_of};
 
-use crate::soundness::giving_rows::{are_given, are_mentioned, have_numbers_apart};
-use crate::soundness::message_rows::{are_messages, are_parts, are_priorities};
-use crate::soundness::report_rows::{are_once, are_reports};
-use crate::soundness::setup_and_times::{are_dated, are_made, are_submitted, are_told, is_setup};
-use crate::soundness::splits::are_split_apart;
-use crate::soundness::waiting_rows::{
-    are_parts_given, are_reports_given, have_references_apart, places_of,
-};
 use sms_centre_rows::messages::{MessageRow, PartRow, PriorityRow};
 use sms_centre_rows::reports::ReportRow;
 use sms_centre_rows::waiting::{HandsetRow, ReferenceRow};
+use sms_centre_soundness::{
+    are_dated, are_given, are_made, are_mentioned, are_messages, are_once, are_parts,
+    are_parts_given, are_priorities, are_reports, are_reports_given, are_split_apart,
+    are_submitted, are_told, have_numbers_apart, have_references_apart, is_setup, places_of,
+};
 use sms_centre_spec::{Rows, Setup};
 use sms_rows::table::{Table, rises};
 use std::alloc::{AllocError, Global};
@@ -60,7 +57,7 @@ fn keys_rise(rows: &Rows) -> bool
 }
 
 impl RowTables {
-    /// The rows as tables. None where their keys don't rise: no centre can stand on them.
+    /// The rows as tables. None where their keys don't rise: such rows are not sound.
     pub fn of(rows: Rows) -> Option<RowTables>
         ensures some { IfSome result (λ tables. rows_of tables ≡ rows) }
         ensures none { IfNone result (¬ IsSound rows) }
@@ -185,8 +182,8 @@ impl RowTables {
         Ok(both(both(givings, reports), both(splits, waiting)))
     }
 
-    /// Whether a centre can stand on the rows. It takes time linear in them, up to a logarithm; what can be judged without memory is
-    /// judged first.
+    /// Whether the rows are sound. It takes time linear in them, up to a logarithm. What can be judged without memory
+    /// is judged first.
     pub fn is_sound(&self, alloc: Global) -> Result<bool, AllocError>
         ensures { IfOk result (λ b. (b ≡ true) ↔ IsSound (rows_of self.now)) }
     {

@@ -73,7 +73,8 @@ fn put_part(
     shelves.put(message.handset, part_load(tables, part))
 }
 
-/// All of these parts that wait, where nothing does: the last comes first, so that each next one stands before the others.
+/// Adds all of these parts that wait, where nothing does. The last is added first, so that each next one is in front of
+/// the others.
 pub fn put_parts(
     tables: &RowTables,
     parts: &[PartRow],
@@ -141,7 +142,7 @@ fn put_report(
     shelves.put(message.source.digits, report_load(report))
 }
 
-/// All of these status reports that wait, beside what waits already: the last comes first.
+/// Adds all of these status reports that wait, beside what waits already. The last is added first.
 pub fn put_reports(
     tables: &RowTables,
     reports: &[ReportRow],

@@ -48,7 +48,7 @@ fn after_reports(start: Moment, rows: &[ReportRow]) -> Moment
     moment
 }
 
-/// The greatest moment that these rows have seen, or that one, where they saw none later. It looks at each row once.
+/// The greatest of `start` and the moments that these rows have seen. It looks at each row once.
 pub fn moment_among(
     start: Moment,
     messages: &[MessageRow],

@@ -22,8 +22,8 @@ ghost use Rattle.sms_centre_spec.specs.SoundCore.{IsEvent, IsSoundCore};
 ghost use Rattle.sms_centre_reports.specs.awaited.Events.{IsNoAnswer};
 ghost use Rattle.sms_centre_reports.specs.awaited.Moving.{moved_to};
 
-/// An answer to a receipt, the end of a session and its binding touch the reports and the sessions alone, as the calls of the
-/// sessions say.
+/// An answer to a receipt, the end of a session and its binding touch only the reports and the sessions. They do so as
+/// the calls of the sessions say.
 pub fn sessions_touch_reports_and_sessions()
     ensures answered { (session id : ℕ) (is_accepted : Bool) (d : Draft)
         → deliver_answered session id is_accepted d ≡ moved_to (reports_answered session id is_accepted d.store.moment d.desk.sessions d.store.reports) (desk_answered session id d.desk) d }
@@ -38,8 +38,8 @@ pub fn what_is_made_is_not_read()
     ensures { (id : ℕ) (t : Revised ReportRow) → tpdu_made id t ≡ (if puts_report id t.news then Some (report_tpdu (report_of id (reports_of t))) else None) }
 {}
 
-/// What was sent and not answered is an open receipt of its session's account, and was sent in that session alone: so it is once
-/// receipts went, one was answered, a session ended or was bound.
+/// What was sent and not answered is an open receipt of its session's account, and was sent in that session alone. It
+/// stays so once receipts were sent, one was answered, or a session ended or was bound.
 pub fn what_is_awaited_stays_so()
     ensures sent { (moment : ℕ) (messages : List MessageRow) (rows : List ReportRow) (desk : Desk) → Alone rows → AreAwaited messages rows desk.sessions → AreAwaited messages rows (send_all moment messages rows desk).sessions }
     ensures answered { (messages : List MessageRow) (session id moment : ℕ) (is_accepted : Bool) (t : Revised ReportRow) (desk : Desk) → Rises report_key (reports_of t) → AreAwaited messages (reports_of t) desk.sessions
@@ -55,8 +55,8 @@ pub fn new_sessions_wait_for_nothing()
     ensures { (messages : List MessageRow) (rows : List ReportRow) (sessions : List Session) → ((s : Session) → Among s sessions → s.unanswered ≡ []) → AreAwaited messages rows sessions }
 {}
 
-/// No event but an answer to a receipt closes a receipt, and after every event of a sound centre what was sent and not answered is an
-/// open receipt of its session's account, and was sent in that session alone, if it was so before.
+/// No event but an answer to a receipt closes a receipt. After every event of a sound centre what was sent and not
+/// answered is an open receipt of its session's account. It was sent in that session alone, if it was so before.
 pub fn every_event_keeps_what_is_awaited()
     ensures still_open { (event : CentreEvent) (c : Core) → IsSoundCore c → IsEvent event → IsNoAnswer event → (id : ℕ) (r : ReportRow) → report_of id c.rows.reports ≡ Some r → is_open_receipt r ≡ true
         → (x : ReportRow) × ((report_of id (core_of (happened event c)).rows.reports ≡ Some x) × (is_open_receipt x ≡ true)) }

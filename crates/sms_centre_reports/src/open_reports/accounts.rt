@@ -53,7 +53,7 @@ impl Accounts {
         Accounts { first: None }
     }
 
-    /// The same accounts, shared.
+    /// A copy that shares all accounts.
     pub(crate) fn share(&self) -> Result<Accounts, AllocError>
         ensures { IfOk result (λ copy. copy ≡ self.now) }
     {
@@ -98,7 +98,7 @@ impl Accounts {
         }
     }
 
-    /// The accounts where that stands under the place among the receipts of the account, or nothing.
+    /// The accounts where the receipts of the account have that one, or nothing, under the place.
     pub(crate) fn with(
         &self,
         alloc: Global,

@@ -65,7 +65,7 @@ impl Dated for StatusEntry {
 pub struct ReceiptEntry {
     pub place: u64,
     pub id: MessageId,
-    /// When it goes next.
+    /// When it is sent next.
     pub due: Moment,
 }
 

@@ -29,8 +29,8 @@ pub fn messages_may_change_in_an_event()
         → ((r : ReportRow) → report_of r.id (reports_of t) ≡ Some r → account_in (message_at r.id others) ≡ account_in (message_at r.id messages)) → Tells others p t }
 {}
 
-/// The receipts that go from a place on: first the one that what is kept tells, in its session; then those behind it. Where it
-/// tells none, none goes any more.
+/// The receipts that are sent from a place on: first the one that is found by what is kept, in its session, then those
+/// behind it. Where none is found, none is sent any more.
 pub fn receipts_go_by_what_is_kept()
     ensures next { (first moment : ℕ) (messages : List MessageRow) (kept : ReportsOf) (rows : List ReportRow) (desk : Desk) (n : Next) → Shows messages kept rows → Rises session_key desk.sessions
         → next_among first moment desk.sessions kept.accounts desk.sessions ≡ Some n
@@ -39,8 +39,8 @@ pub fn receipts_go_by_what_is_kept()
         → next_among first moment desk.sessions kept.accounts desk.sessions ≡ None → send_all moment messages (rows_from report_key first rows) desk ≡ desk }
 {}
 
-/// The status reports that are dropped from a place on: first the one that what is kept tells; then those behind it. Where it
-/// tells none, none is dropped any more.
+/// The status reports that are dropped from a place on: first the one that is found by what is kept, then those behind
+/// it. Where none is found, none is dropped any more.
 pub fn old_reports_are_dropped_by_what_is_kept()
     ensures next { (first moment : ℕ) (messages : List MessageRow) (kept : ReportsOf) (rows : List ReportRow) (t : Revised ReportRow) (e : StatusEntry) → Shows messages kept rows
         → first_such (is_past_from status_key status_until first moment) kept.statuses ≡ Some e

@@ -2,7 +2,7 @@
 use sms_base::MessageId;
 use sms_rows::table::{Key, Row};
 
-/// At which of an event's changes the report of a message comes.
+/// The place of a message's report among an event's changes.
 #[derive(Clone, Copy)]
 pub(crate) struct MadeEntry {
     pub(crate) id: MessageId,

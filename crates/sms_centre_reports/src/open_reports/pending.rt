@@ -102,7 +102,7 @@ impl PendingReports {
         self.reports.first_old(first, now)
     }
 
-    /// The STATUS-REPORT of the message, if the event made it: else it stands in the store. A receipt has no octets.
+    /// The STATUS-REPORT of the message, if the event made it: else the store has it. A receipt has no octets.
     pub fn tpdu_made(&self, id: MessageId) -> Option<&[u8]>
         ensures { (messages : List MessageRowOf) (t : Revised ReportRowOf) → Tells messages self.now t → option_copied result ≡ tpdu_made id t }
     {
@@ -168,7 +168,7 @@ impl PendingReports {
         Ok(())
     }
 
-    /// The end of a message that has no report yet is told to nobody, since no reference was free.
+    /// Makes a report that nobody gets, of a message that has none yet, since no reference was free.
     pub fn make_unsent(&mut self, id: MessageId, made: Moment) -> Result<(), AllocError>
         ensures { (messages : List MessageRowOf) (t : Revised ReportRowOf) → Tells messages self.old t → report_of id (reports_of t) ≡ None
             → OnOk result (Tells messages self.new (report_made id Unsent true made t)) }

@@ -13,9 +13,9 @@ const DELAY: u64 = 60;
 pub(crate) enum ReceiptMove {
     /// The application accepted it.
     Accepted,
-    /// The application refused it, or the session ended in which it was sent: it goes again after a minute.
+    /// The application refused it, or the session ended in which it was sent: it is sent again after a minute.
     PutOff(Moment),
-    /// It goes now.
+    /// It is sent now.
     Due(Moment),
 }
 

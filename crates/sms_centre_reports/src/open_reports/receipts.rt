@@ -36,7 +36,8 @@ impl PendingReports {
         Ok(())
     }
 
-    /// The receipt of the account's message, which was sent and not answered yet, was accepted, or goes again after a minute.
+    /// The receipt of the account's message, which was sent and not answered yet, was accepted, or is sent again after
+    /// a minute.
     pub fn end_receipt(
         &mut self,
         account: &[u8],
@@ -55,7 +56,7 @@ impl PendingReports {
         Ok(())
     }
 
-    /// The receipts of the account's messages, which were sent and not answered yet, go again after a minute.
+    /// The receipts of the account's messages, which were sent and not answered yet, are sent again after a minute.
     pub fn put_off_receipts(
         &mut self,
         account: &[u8],

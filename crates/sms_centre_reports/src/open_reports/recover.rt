@@ -1,4 +1,4 @@
-//! What is kept as the rows of a store tell of it.
+//! What is kept of reports, rebuilt from the rows of a store.
 ghost use Rattle.std.specs.Prelude.{◌≡◌, ℕ, List, Some, IfOk, nat_lt, option_copied};
 ghost use Rattle.sms_centre_reports.specs.open_reports.Entries.{account_in};
 ghost use Rattle.sms_centre_reports.specs.open_reports.ReportsInMemory.{Shows};
@@ -13,8 +13,8 @@ use sms_centre_rows::reports::ReportRow;
 use std::alloc::{AllocError, Global};
 
 impl Reports {
-    /// The open reports of rows that a centre can stand on, with their messages in the order of their numbers. It costs a
-    /// logarithm for each.
+    /// The open reports of sound rows, with their messages in the order of their numbers. It costs a logarithm for
+    /// each.
     pub fn recover(
         alloc: Global,
         messages: &[MessageRow],

@@ -1,4 +1,4 @@
-//! The open reports, as they stand between events.
+//! The open reports, between events.
 ghost use Rattle.std.specs.Prelude.{◌≡◌, ◌+◌, ◌<◌, ◌++◌, ◌∷◌, [], List, OnOk, IfOk, None, Some, true};
 ghost use Rattle.sms_rows.specs.index.First.{first_such, is_ahead_from, is_past_from};
 ghost use Rattle.sms_rows.specs.index.Picked.{pick_of};
@@ -65,8 +65,8 @@ impl ReportEntry {
     }
 }
 
-/// What is kept of reports: those that are open, without their TPDUs, found by their messages, by their accounts and by the
-/// moment at which they are dropped. Copies share it, so that an event changes a copy at the cost of what it touches.
+/// The open reports, without their TPDUs. They are found by their messages, by their accounts and by the moment at
+/// which they are dropped. Copies share them, so that an event changes a copy at the cost of what it touches.
 #[derive(Drop)]
 pub struct Reports {
     alloc: Global,
@@ -98,7 +98,7 @@ impl Reports {
         }
     }
 
-    /// The same reports, shared: it costs the same however many there are.
+    /// A copy that shares all reports. It costs equally much however many there are.
     pub fn share(&self) -> Result<Reports, AllocError>
         ensures { IfOk result (λ copy. copy ≡ self.now) }
     {
@@ -198,7 +198,7 @@ impl Reports {
         }
     }
 
-    /// One more row, that stands behind all others; a receipt is of a message of that account.
+    /// Adds a row behind all others; a receipt is of a message of that account.
     pub fn add(&mut self, row: &ReportRow, account: &[u8]) -> Result<(), AllocError>
         ensures { (messages : List MessageRowOf) (rows : List ReportRowOf) → Shows messages self.old rows → ((s : ReportRowOf) → Among s rows → s.place < row.now.place) → report_of row.now.id rows ≡ None
             → (is_receipt row.now.kind ≡ true → account_in (message_at row.now.id messages) ≡ Some account.now) → OnOk result (Shows messages self.new (rows ++ row.now ∷ [])) }

@@ -69,7 +69,7 @@ impl Register {
         }
     }
 
-    /// The register of the reports of rows that stand in the order of their places.
+    /// The log of the reports of rows that are in the order of their places.
     pub fn recover(alloc: Global, rows: &[ReportRow]) -> Result<Register, AllocError>
         requires { Rises report_key rows.now }
         ensures { IfOk result (λ register. Holds register rows.now) }

@@ -15,8 +15,8 @@ use sms_base::{MessageId, Moment};
 use std::alloc::AllocError;
 
 impl PendingDesk {
-    /// The receipt of the message was accepted in the session, or refused, and goes again after a minute. What wasn't sent in the
-    /// session isn't answered there.
+    /// The receipt of the message was accepted in the session, or was refused and is sent again after a minute. What
+    /// wasn't sent in the session isn't answered there.
     pub fn deliver_answered(
         &mut self,
         reports: &mut PendingReports,
@@ -41,7 +41,8 @@ impl PendingDesk {
         Ok(())
     }
 
-    /// The session ends, if it is bound: the receipts that were sent in it and not answered go again after a minute.
+    /// The session ends, if it is bound: the receipts that were sent in it and not answered are sent again after a
+    /// minute.
     pub fn unbind(
         &mut self,
         reports: &mut PendingReports,

@@ -1,4 +1,4 @@
-//! Receipts go: the oldest first, each in the session that serves its account.
+//! Receipts are sent: the oldest first, each in the session that serves its account.
 ghost use Rattle.std.specs.Prelude.{◌≡◌, ◌≤◌, List, Some, IfOk, IfSome, OnOk, option_map};
 ghost use Rattle.sms_centre_reports.specs.open_reports.Entries.{receipt_key};
 ghost use Rattle.sms_centre_reports.specs.open_reports.ReportsInMemory.{receipts_at};
@@ -23,7 +23,7 @@ use std::alloc::AllocError;
 // How many receipts may be unanswered in a session.
 const WINDOW: usize = 10;
 
-/// A receipt that goes, in the session of that number.
+/// A receipt to send, in the session of that number.
 #[derive(Clone, Copy)]
 pub(crate) struct Going {
     pub(crate) session: u32,
@@ -31,8 +31,8 @@ pub(crate) struct Going {
 }
 
 impl PendingDesk {
-    /// Receipts that are due go, the oldest first, each in the first session that receives for its account, if that has room. It
-    /// costs what goes, and a look at each session.
+    /// Sends the receipts that are due, the oldest first, each in the first session that receives for its account, if
+    /// that has room. It costs what it sends, and a look at each session.
     pub fn send(&mut self, reports: &PendingReports, now: Moment) -> Result<(), AllocError>
         ensures { (messages : List MessageRowOf) (t : Revised ReportRowOf) → Tells messages reports.now t → OnOk result (self.new ≡ send_all now messages (reports_of t) self.old) }
     {

@@ -67,7 +67,7 @@ impl Seat {
         Ok(Seat { seated })
     }
 
-    /// The same session, shared.
+    /// A copy that shares the session's state.
     pub fn share(&self) -> Result<Seat, AllocError>
         ensures { IfOk result (λ copy. copy ≡ self.now) }
     {

@@ -8,7 +8,7 @@ ghost use Rattle.sms_rows.specs.table.Table.{Rises, row_at};
 ghost use Rattle.sms_centre_rows.specs.waiting.Revisions.{Revised, amend_in, put_in, rows_of};
 ghost use Rattle.sms_centre_rows.specs.declared.waiting.progress.Progress.{Progress};
 
-/// A part that comes, or is so far, does so in memory and in the rows alike, with the same changes.
+/// A part that is new, or is so far, is so in memory and in the rows alike, with equal changes.
 pub fn parts_in_memory_follow_the_rows()
     ensures put { (p : PartsOf) (t : Revised PartRow) (row : PartRow) → Rises part_key (rows_of part_key part_reaching t) → Tells p t → Tells (putting row p) (put_in row t) }
     ensures amended { (p : PartsOf) (t : Revised PartRow) (row : PartRow) (progress : Progress) → Rises part_key (rows_of part_key part_reaching t)
@@ -16,7 +16,7 @@ pub fn parts_in_memory_follow_the_rows()
     ensures found { (p : PartsOf) (t : Revised PartRow) (k : ℕ) → Tells p t → row_at entry_key k (rows_now p) ≡ option_map part_entry (row_at part_key k (rows_of part_key part_reaching t)) }
 {}
 
-/// The parts of a message that are in memory tell whether all its parts are done.
+/// The parts of a message that are in memory show whether all its parts are done.
 pub fn parts_in_memory_tell_what_is_done()
     ensures { (id : ℕ) (parts : List PartRow) → Few parts → done_to id 20 (map part_entry parts) ≡ all_done id parts }
 {}

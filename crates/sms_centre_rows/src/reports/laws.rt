@@ -16,8 +16,8 @@ ghost use Rattle.sms_centre_rows.specs.waiting.Revisions.{amended};
 ghost use Rattle.sms_centre_rows.specs.waiting.Waiting.{withdrawn};
 ghost use Rattle.sms_centre_rows.specs.declared.waiting.progress.Progress.{Progress};
 
-/// A part that comes, or is so far, waits for its handset exactly where it is undone and its message is pending; all else waits
-/// as before.
+/// A part that is new, or is so far, waits for its handset exactly where it is undone and its message is pending. All
+/// else waits as before.
 pub fn a_part_waits_as_it_stands()
     ensures put { (handset : List ℕ) (messages : List MessageRow) (priorities : List PriorityRow) (parts : List PartRow) (reports : List ReportRow) (p : PartRow)
         → Numbered parts → Alone reports → 0 < p.number → p.number < 256
@@ -28,7 +28,8 @@ pub fn a_part_waits_as_it_stands()
         ≡ waiting_as (part_key p) (part_wait handset messages priorities (Some (part_reaching progress p))) (waiting_for handset messages priorities parts reports) }
 {}
 
-/// A report that comes, or is so far, waits for its handset exactly where it is an open status report; all else waits as before.
+/// A report that is new, or is so far, waits for its handset exactly where it is an open status report. All else waits
+/// as before.
 pub fn a_report_waits_as_it_stands()
     ensures put { (handset : List ℕ) (messages : List MessageRow) (priorities : List PriorityRow) (parts : List PartRow) (reports : List ReportRow) (r : ReportRow)
         → Numbered parts → Alone reports → IsNew reports r

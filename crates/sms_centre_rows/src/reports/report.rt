@@ -6,7 +6,7 @@ use crate::waiting::Progress;
 use sms_base::{MessageId, Moment, Octets};
 use sms_rows::table::{Key, Row};
 
-/// How the end of a message is told.
+/// How the end of a message is reported.
 #[derive(Debug, Drop)]
 pub enum ReportKind {
     /// To an application, by deliver_sm (SMPP v3.4 4.6).
@@ -17,7 +17,7 @@ pub enum ReportKind {
     Unsent,
 }
 
-/// What tells an originator how a message ended.
+/// A report to an originator of how a message ended.
 #[derive(Debug, Drop)]
 pub struct ReportRow {
     /// Its place in the order in which reports were made, from 1.

@@ -1,5 +1,5 @@
-//! Laws of shelves, over their definitions alone: what a shelf does for its handset is what is done over the rows and lines of
-//! all handsets, and no other shelf sees it.
+//! Laws of one handset's link, references and waiting parts, over their definitions alone: what is done for one handset
+//! is done over the rows and links of all handsets, and no other handset's changes.
 ghost use Rattle.std.specs.Prelude.{Option, Some, ◌≡◌, ◌<◌, ◌∷◌, [], ℕ, List};
 ghost use Rattle.sms_base.specs.Among.{Among};
 ghost use Rattle.sms_rows.specs.table.Table.{put, without};
@@ -50,8 +50,9 @@ pub fn a_line_stays_on_its_shelf()
         → ¬ (line.handset ≡ other) → Shows other handsets references waiting lines s → Shows other handsets references waiting (with_line line lines) s }
 {}
 
-/// What waits for a handset holds references that were given there, no two the same, whatever becomes of it: one more that takes
-/// the next reference, one that is put off, one or all parts of a message that wait no more, and all of it due at once.
+/// What waits for a handset holds references that were given there, all different, whatever becomes of it. One more may
+/// take the next reference, one may be put off, one or all parts of a message may wait no more, and all may be due at
+/// once.
 pub fn what_waits_holds_references_apart()
     ensures more { (row : Option HandsetRow) (h : HandsetRow) (references : List ReferenceRow) (waiting : List Load) (l : Load) (now : ℕ)
         → SoundWaiting row references waiting → ((g : HandsetRow) → row ≡ Some g → g.place ≡ h.place) → next_reference h waiting references now ≡ Some l.reference

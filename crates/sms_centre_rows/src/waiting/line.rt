@@ -20,7 +20,7 @@ pub struct Line {
     /// Its digits 0 to 9.
     pub handset: Digits,
     pub is_up: bool,
-    /// It was up before a recovery, and comes up at the next tick.
+    /// It was up before a recovery, and is up again at the next tick.
     pub is_awaited: bool,
     /// The handset said that it has no memory (3GPP TS 23.040 9.2.3.22, RP cause 22).
     pub is_full: bool,
@@ -48,7 +48,7 @@ impl Line {
         self.is_up && !self.is_full && !self.link.is_busy()
     }
 
-    /// The same, in memory of its own.
+    /// A copy of the link, in memory of its own.
     pub fn copy(&self) -> Result<Line, AllocError>
         ensures { IfOk result (λ line. line ≡ self.now) }
     {

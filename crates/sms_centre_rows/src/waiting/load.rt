@@ -15,7 +15,7 @@ pub struct Load {
     pub number: u8,
     /// The reference of its RP-DATA, kept over all attempts.
     pub reference: u8,
-    /// 0 to 3; the greatest goes first.
+    /// 0 to 3; the greatest is offered first.
     pub priority: u8,
     /// When it is offered next.
     pub due: Moment,
@@ -37,7 +37,7 @@ impl Load {
         self.due.seconds() <= now.seconds()
     }
 
-    /// Whether it goes before the other, once both are due: by priority, moment, message, number.
+    /// Whether it is offered before the other, once both are due: by priority, moment, message, number.
     pub fn precedes(&self, other: &Load) -> bool
         ensures { result ≡ precedes_of self.now other.now }
     {

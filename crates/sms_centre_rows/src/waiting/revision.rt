@@ -5,10 +5,10 @@ use sms_rows::table::Key;
 /// One change of a list whose rows keep a TPDU. Who amends a row needs to know nothing of its TPDU, which stays.
 #[derive(Debug, Drop)]
 pub enum Revision<T: Drop> {
-    /// The row takes the place of that of its key, or comes where its key belongs.
+    /// The row replaces that of its key, or is added where its key belongs.
     Put(T),
     /// The row of that key is so far now; all else of it stays.
     Amend { key: Key, progress: Progress },
-    /// The row of that key goes.
+    /// The row of that key is removed.
     Remove(Key),
 }

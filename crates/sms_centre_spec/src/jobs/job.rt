@@ -23,7 +23,7 @@ pub enum Job {
     LinkUp { handset: Digits },
     /// Its link is no longer.
     LinkDown,
-    /// A frame that came on its link.
+    /// A frame that arrived on its link.
     Frame { octets: Octets },
 }
 

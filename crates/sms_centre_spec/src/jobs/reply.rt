@@ -1,9 +1,9 @@
-//! What a seat is told.
+//! What a seat gets.
 use crate::CentreAnswer;
 use sms_base::Octets;
 use sms_receipt::Final;
 
-/// What the seat of a session or a link is told.
+/// What the seat of a session or a link gets.
 #[derive(Debug, Drop)]
 pub enum Reply {
     /// The answer to the oldest request of its session that has none yet.

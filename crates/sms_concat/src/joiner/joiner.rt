@@ -11,7 +11,7 @@ use sms_base::Octets;
 use std::alloc::{AllocError, Global};
 use std::marker::Model;
 
-/// The parts of one message that were taken so far, in whatever order they came, and room for the others.
+/// The parts of one message that were taken so far, in any order, and room for the others.
 ///
 /// Contracts see the reference and the total of the message, and the parts in the order of their numbers.
 #[derive(Debug, Drop)]
@@ -112,8 +112,8 @@ fn copies_of(alloc: Global, total: u8, parts: &[Part]) -> Result<Vec<Part>, Allo
 }
 
 impl Joiner {
-    /// No part of the message that the key names by its reference and its total, with room for all; the key's number is
-    /// not looked at.
+    /// A joiner of the message that the key names by its reference and its total. It has no part and room for all; the
+    /// key's number is not looked at.
     pub fn new(alloc: Global, key: ConcatKey) -> Result<Joiner, AllocError>
         ensures { IfOk result (λ joiner. joiner ≡ none_taken key) }
     {
@@ -142,8 +142,8 @@ impl Joiner {
             && !has_number(number_of(part), self.parts.as_slice())
     }
 
-    /// Takes a part of the message, whatever its data coding scheme, or hands it back and stays as it was: `NoPlace` where
-    /// a part of its number is there or its key is another. Takes no memory.
+    /// Takes a part of the message, whatever its data coding scheme, or hands it back and stays unchanged. `NoPlace`: a
+    /// part of its number is there, or its key is another. Takes no memory.
     pub fn add(&mut self, part: Part) -> Result<(), AddError>
         ensures { Adds result self.old self.new part }
     {
@@ -170,7 +170,7 @@ impl Joiner {
         self.takes(part) && self.parts().len() + 1 == usize::from(self.total)
     }
 
-    /// A joiner of its own that has taken the same parts.
+    /// A copy: a joiner that has taken these parts.
     pub fn copy(&self, alloc: Global) -> Result<Joiner, AllocError>
         ensures { IfOk result (λ copy. copy ≡ self.now) }
     {

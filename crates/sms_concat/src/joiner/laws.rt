@@ -8,8 +8,8 @@ ghost use Rattle.sms_concat.specs.Joining.{content_joined};
 ghost use Rattle.sms_concat.specs.Splitting.{split_of};
 ghost use Rattle.sms_concat.specs.joiner.StepwiseJoining.{AreSameParts, IsTaken, Taken, has_number, is_full, joined_stepwise, none_taken, takes, with_part};
 
-/// The parts of a message that joins join to the same content step by step, in whatever order they come, and come some of
-/// them more than once; so do the parts of a split.
+/// The parts of a message that joins at once join to its content step by step. They may be added in any order, and some
+/// of them more than once. So may the parts of a split.
 pub fn steps_join_alike()
     ensures whole { (parts came : List PartOf) (content : ContentOf) → content_joined parts ≡ Some content → AreSameParts came parts → joined_stepwise came ≡ Some content }
     ensures split { (content : ContentOf) (reference : ℕ) (parts came : List PartOf) → split_of content reference ≡ Ok parts → AreSameParts came parts → joined_stepwise came ≡ Some content }

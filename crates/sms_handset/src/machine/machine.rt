@@ -8,6 +8,7 @@ ghost use Rattle.sms_handset.specs.SoundCore.{IsSoundCore};
 ghost use Rattle.sms_handset.specs.SoundRows.{IsSetup, IsSound};
 ghost use Rattle.sms_handset.specs.machine.Stepping.{IsBeforeCommit, MakesTheChanges, MayStandAs, Steps, happened};
 ghost use Rattle.sms_handset.specs.machine.Starting.{IsBad};
+ghost use Rattle.sms_handset.specs.machine.InMachine.{core_in, handset_in, keep_in};
 
 use crate::machine::start_error::StartError;
 use crate::machine::step_error::StepError;
@@ -20,8 +21,8 @@ use std::alloc::Global;
 /// A handset over the keep of its rows.
 #[derive(Drop)]
 pub struct HandsetMachine<K: Keep<Rows = Rows, Changes = Changes> + Drop> {
-    pub keep: K,
-    pub handset: Handset,
+    keep: K,
+    handset: Handset,
 }
 
 fn is_empty(changes: &Changes) -> bool
@@ -43,7 +44,8 @@ fn commit<K: Keep<Rows = Rows, Changes = Changes>>(
     ensures ok { K.is_honest keep.new → (rows : RowsOf) → K.holds keep.old rows → OnOk result (K.holds keep.new (rows_after (changes_in changes.now) rows)) }
     ensures err { K.is_honest keep.new → (rows : RowsOf) → K.holds keep.old rows → OnErr result (K.holds keep.new rows ⊎ K.is_closed keep.new) }
     // A stop inside it leaves the rows, or the rows with the changes, if one before it leaves the rows.
-    ensures stop { K.is_honest keep.new → (rows : RowsOf) → K.holds keep.old rows → ((left : RowsOf) → K.may_leave keep.old left → left ≡ rows) → (left : RowsOf) → K.may_leave keep.new left → (left ≡ rows) ⊎ (left ≡ rows_after (changes_in changes.now) rows) }
+    ensures stop { K.is_honest keep.new → (rows : RowsOf) → K.holds keep.old rows → ((left : RowsOf) → K.may_leave keep.old left → left ≡ rows)
+        → (left : RowsOf) → K.may_leave keep.new left → (left ≡ rows) ⊎ (left ≡ rows_after (changes_in changes.now) rows) }
 {
     if is_empty(changes) {
         return Ok(());
@@ -53,14 +55,15 @@ fn commit<K: Keep<Rows = Rows, Changes = Changes>>(
 
 /// The handset that starts with the rows of a keep.
 ///
-/// The setup is the one with which the keep was opened. `BadRows` is told exactly where the rows are not sound.
+/// The setup is the one with which the keep was opened. `BadRows` is answered exactly where the rows are not sound.
 pub fn recover_from<K: Keep<Rows = Rows, Changes = Changes>>(
     alloc: Global,
     keep: &mut K,
     setup: Setup,
 ) -> Result<Handset, StartError>
     requires { IsSetup setup }
-    ensures state { K.is_honest keep.new → (rows : RowsOf) → K.holds keep.old rows → rows.setup ≡ setup → IfOk result (λ handset. (handset.core ≡ recovered rows) × K.holds keep.new rows) }
+    ensures state { K.is_honest keep.new → (rows : RowsOf) → K.holds keep.old rows → rows.setup ≡ setup
+        → IfOk result (λ handset. (handset.core ≡ recovered rows) × K.holds keep.new rows) }
     ensures sound { IfOk result (λ handset. IsSoundCore handset.core) }
     ensures bad { K.is_honest keep.new → (rows : RowsOf) → K.holds keep.old rows → rows.setup ≡ setup → IsBad result → ¬ IsSound rows }
     ensures err { K.is_honest keep.new → (rows : RowsOf) → K.holds keep.old rows → OnErr result (K.holds keep.new rows ⊎ K.is_closed keep.new) }
@@ -71,18 +74,40 @@ pub fn recover_from<K: Keep<Rows = Rows, Changes = Changes>>(
 }
 
 impl<K: Keep<Rows = Rows, Changes = Changes> + Drop> HandsetMachine<K> {
-    /// A machine over a handset that stands on the rows of the keep.
+    /// A machine of a handset whose rows are those of the keep.
     pub fn new(keep: K, handset: Handset) -> HandsetMachine<K>
-        ensures keep { result.keep ≡ keep }
-        ensures handset { result.handset ≡ handset }
+        ensures keep { keep_in result ≡ keep }
+        ensures handset { handset_in result ≡ handset }
     {
         HandsetMachine { keep, handset }
     }
 
+    /// The handset.
+    pub fn handset(&self) -> &Handset
+        ensures { result.now ≡ handset_in self.now }
+    {
+        &self.handset
+    }
+
+    /// The rows of the keep.
+    ///
+    /// # Errors
+    /// The keep refused the call: it has the rows still, or is closed.
+    pub fn load(&mut self) -> Result<Rows, KeepError>
+        ensures ok { K.is_honest (keep_in self.new) → (rows : RowsOf) → K.holds (keep_in self.old) rows
+            → IfOk result (λ found. (found ≡ rows) × K.holds (keep_in self.new) rows) }
+        ensures err { K.is_honest (keep_in self.new) → (rows : RowsOf) → K.holds (keep_in self.old) rows
+            → OnErr result (K.holds (keep_in self.new) rows ⊎ K.is_closed (keep_in self.new)) }
+        ensures before { K.is_honest (keep_in self.new) → K.is_honest (keep_in self.old) }
+        ensures same { handset_in self.new ≡ handset_in self.old }
+    {
+        self.keep.load()
+    }
+
     fn plan(&self, event: &HandsetEvent<'_>) -> Result<Planned, PlanError>
-        ensures plan { Plans result self.now.handset (happened event.now self.now.handset.core) }
-        ensures fits { IfOk result (λ planned. Fits planned self.now.handset) }
-        ensures sound { IsSoundCore self.now.handset.core → IfOk result (λ planned. IsSoundCore (adopted planned.outcome self.now.handset.core)) }
+        ensures plan { Plans result (handset_in self.now) (happened event.now (core_in self.now)) }
+        ensures fits { IfOk result (λ planned. Fits planned (handset_in self.now)) }
+        ensures sound { IsSoundCore (core_in self.now) → IfOk result (λ planned. IsSoundCore (adopted planned.outcome (core_in self.now))) }
     {
         self.handset.plan(event)
     }
@@ -94,16 +119,20 @@ impl<K: Keep<Rows = Rows, Changes = Changes> + Drop> HandsetMachine<K> {
         requires { MakesTheChanges K.after }
         // What the definition does with the event: its frames and the handset after it, or its refusal; the handset is as
         // it was where there are no frames to send.
-        ensures step { Steps result self.old.handset self.new.handset (happened event.now self.old.handset.core) }
-        ensures sound { IsSoundCore self.old.handset.core → IsSoundCore self.new.handset.core }
+        ensures step { Steps result (handset_in self.old) (handset_in self.new) (happened event.now (core_in self.old)) }
+        ensures sound { IsSoundCore (core_in self.old) → IsSoundCore (core_in self.new) }
         // What leaves was committed.
-        ensures committed { K.is_honest self.new.keep → K.holds self.old.keep self.old.handset.core.rows → OnOk result (K.holds self.new.keep self.new.handset.core.rows) }
+        ensures committed { K.is_honest (keep_in self.new) → K.holds (keep_in self.old) (core_in self.old).rows
+            → OnOk result (K.holds (keep_in self.new) (core_in self.new).rows) }
         // What was refused, or found no memory, did not come to the store.
-        ensures before { IsBeforeCommit result → self.new.keep ≡ self.old.keep }
+        ensures before { IsBeforeCommit result → keep_in self.new ≡ keep_in self.old }
         // A refused commit leaves the rows, or a closed keep.
-        ensures err { K.is_honest self.new.keep → K.holds self.old.keep self.old.handset.core.rows → OnErr result (K.holds self.new.keep self.old.handset.core.rows ⊎ K.is_closed self.new.keep) }
+        ensures err { K.is_honest (keep_in self.new) → K.holds (keep_in self.old) (core_in self.old).rows
+            → OnErr result (K.holds (keep_in self.new) (core_in self.old).rows ⊎ K.is_closed (keep_in self.new)) }
         // A stop inside it leaves the rows from before the event or those after it.
-        ensures stop { K.is_honest self.new.keep → K.holds self.old.keep self.old.handset.core.rows → ((left : RowsOf) → K.may_leave self.old.keep left → left ≡ self.old.handset.core.rows) → (left : RowsOf) → K.may_leave self.new.keep left → MayStandAs left self.old.handset.core.rows (happened event.now self.old.handset.core) }
+        ensures stop { K.is_honest (keep_in self.new) → K.holds (keep_in self.old) (core_in self.old).rows
+            → ((left : RowsOf) → K.may_leave (keep_in self.old) left → left ≡ (core_in self.old).rows) → (left : RowsOf) → K.may_leave (keep_in self.new) left
+            → MayStandAs left (core_in self.old).rows (happened event.now (core_in self.old)) }
     {
         let planned = self.plan(event)?;
         match commit(&mut self.keep, planned.changes()) {
@@ -116,9 +145,10 @@ impl<K: Keep<Rows = Rows, Changes = Changes> + Drop> HandsetMachine<K> {
     /// first.
     pub fn reopen(&mut self, alloc: Global, setup: Setup) -> Result<(), StartError>
         requires { IsSetup setup }
-        ensures state { K.is_honest self.new.keep → (rows : RowsOf) → K.holds self.old.keep rows → rows.setup ≡ setup → OnOk result ((self.new.handset.core ≡ recovered rows) × K.holds self.new.keep rows) }
-        ensures sound { OnOk result (IsSoundCore self.new.handset.core) }
-        ensures err { OnErr result (self.new.handset ≡ self.old.handset) }
+        ensures state { K.is_honest (keep_in self.new) → (rows : RowsOf) → K.holds (keep_in self.old) rows → rows.setup ≡ setup
+            → OnOk result ((core_in self.new ≡ recovered rows) × K.holds (keep_in self.new) rows) }
+        ensures sound { OnOk result (IsSoundCore (core_in self.new)) }
+        ensures err { OnErr result (handset_in self.new ≡ handset_in self.old) }
     {
         let handset = recover_from(alloc, &mut self.keep, setup)?;
         self.handset = handset;

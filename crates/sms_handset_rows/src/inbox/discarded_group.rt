@@ -5,13 +5,13 @@ use crate::inbox::entry::Group;
 use sms_base::Octets;
 use sms_rows::table::{Key, Row};
 
-/// A discarded group, until each of its parts has come.
+/// A discarded group, until each of its parts has arrived.
 #[derive(Debug, Drop)]
 pub struct DiscardedGroup {
     /// The entry number of the group's first stored part.
     pub number: u32,
     pub group: Group,
-    /// The numbers of the parts that came, in the order in which they came.
+    /// The numbers of the parts that arrived, in the order of their arrival.
     pub seen: Octets,
 }
 

@@ -10,7 +10,7 @@ use sms_rows::table::{Key, Row};
 /// What ties the parts of one long message together at a handset (3GPP TS 23.040 9.2.3.24.1).
 #[derive(Clone, Copy, Debug, PartialEq, Eq)]
 pub struct Group {
-    /// The whole address that the parts come from.
+    /// The whole address that the parts are from.
     pub source: Address,
     /// The reference of the message, in the width of its element.
     pub reference: ConcatReference,
@@ -21,11 +21,11 @@ pub struct Group {
 /// What an entry holds.
 #[derive(Debug, Drop)]
 pub enum Message {
-    /// A DELIVER as it came, 1 to 255 octets.
+    /// A DELIVER as received, 1 to 255 octets.
     Single {
         tpdu: Octets,
     },
-    /// A DELIVER as it came, a part of an open group.
+    /// A DELIVER as received, a part of an open group.
     Part {
         group: Group,
         /// Which part it is, 1 to the group's total.

@@ -12,7 +12,7 @@ use sms_tpdu::same_message;
 pub struct LastAccepted {
     /// The reference of the RP-DATA.
     pub reference: u8,
-    /// The TPDU as it came.
+    /// The TPDU as received.
     pub tpdu: Octets,
 }
 

@@ -31,7 +31,7 @@ pub struct OpenGroup {
 #[derive(Debug, Drop)]
 pub enum Regrouping {
     Unchanged,
-    /// The group stands under the number of its first stored part, in the place of what stood there.
+    /// The group is under the number of its first stored part, in the place of what was there.
     Opened {
         first: u32,
         group: OpenGroup,

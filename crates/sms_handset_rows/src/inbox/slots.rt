@@ -5,8 +5,8 @@ ghost use Rattle.sms_handset_rows.specs.inbox.Slots.{slots_taken};
 use crate::inbox::entry::Entry;
 use std::alloc::AllocError;
 
-/// How many slots the entries take. A count that is too large for its type, which takes more entries than there are
-/// numbers, is told as want of memory.
+/// How many slots the entries take. A count that is too large for its type takes more entries than there are numbers.
+/// It is reported as want of memory.
 pub fn slots_in(entries: &[Entry]) -> Result<u64, AllocError>
     ensures { IfOk result (λ taken. taken ≡ slots_taken entries.now) }
 {

@@ -1,4 +1,4 @@
-//! Whether a handset can stand on rows of the inbox.
+//! Whether rows of the inbox are sound.
 ghost use Rattle.std.specs.Prelude.{◌≡◌};
 ghost use Rattle.sms_tpdu.specs.TpduReading.{down_at};
 ghost use Rattle.sms_tpdu.specs.declared.carrier.Carrier.TheVariants.{InData as Data};
@@ -238,7 +238,8 @@ pub fn is_apart(number: u32, entries: &[Entry]) -> bool
 
 // ---- discarded groups
 
-/// Whether each discarded group has a number of its own that was given, and its parts that came differ and are not all.
+/// Whether each discarded group has a number of its own that was given, and its parts that arrived differ and are not
+/// all.
 pub fn are_marks(next: u32, entries: &[Entry], marks: &[DiscardedGroup]) -> bool
     ensures { result ≡ are_marks_of next entries.now marks.now }
 {

@@ -8,7 +8,7 @@ use sms_base::{Address, Moment};
 use sms_rows::table::{Key, Row};
 use std::alloc::{AllocError, Global};
 
-/// How far an entry of the outbox has come.
+/// How far an entry of the outbox is.
 #[derive(Clone, Copy, Debug, PartialEq, Eq)]
 pub enum EntryState {
     /// It waits to be sent.
@@ -61,7 +61,7 @@ pub struct OutEntry {
 }
 
 impl OutEntry {
-    /// An entry of its own that is the same.
+    /// A copy of the entry.
     pub fn copy(&self, alloc: Global) -> Result<OutEntry, AllocError>
         ensures { IfOk result (λ copy. copy ≡ self.now) }
     {

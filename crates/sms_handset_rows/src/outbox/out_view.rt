@@ -8,7 +8,7 @@ use sms_rows::table::{Change, Key, Row, Table};
 use std::alloc::{AllocError, Global};
 use std::marker::Model;
 
-/// An entry of the outbox where it stands: in the rows, or in a change of it.
+/// An entry of the outbox in place: in the rows, or in a change of it.
 #[derive(Drop)]
 pub struct OutView<'a> {
     entry: &'a OutEntry,

@@ -8,14 +8,14 @@ use crate::outbox::out_view::OutView;
 use sms_base::Octets;
 use std::alloc::{AllocError, Global};
 
-/// The reference behind that one, 0 behind 255.
+/// The reference after `reference`: 0 after 255.
 pub fn following(reference: u8) -> u8
     ensures { result ≡ (reference + 1) % 256 }
 {
     reference.wrapping_add(1)
 }
 
-/// The first reference from that one on, around from 255 to 0, that is not held.
+/// The first reference from `reference` on, around from 255 to 0, that is not held.
 #[tactic(auto, using(crate::proofs::outbox::FreeReferences::free_held, crate::proofs::outbox::FreeReferences::free_here))]
 pub fn next_free(reference: u8, held: &[u8]) -> u8
     ensures { result ≡ next_free_of reference held.now }

@@ -1,4 +1,4 @@
-//! How an entry stands once its transfer has ended.
+//! The state of an entry after its transfer has ended.
 ghost use Rattle.std.specs.Prelude.{◌≡◌};
 ghost use Rattle.sms_handset_rows.specs.outbox.Settling.{lost as lost_of, put_back as put_back_of, settled as settled_of};
 

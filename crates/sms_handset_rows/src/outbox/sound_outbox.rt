@@ -1,4 +1,4 @@
-//! Whether a handset can stand on rows of the outbox.
+//! Whether rows of the outbox are sound.
 ghost use Rattle.std.specs.Prelude.{◌≡◌};
 ghost use Rattle.sms_tpdu.specs.TpduReading.{up_at};
 ghost use Rattle.sms_tpdu.specs.declared.carrier.Carrier.TheVariants.{InData as Data};

@@ -40,7 +40,7 @@ impl SubmitTpdu {
         self.octets.as_slice()
     }
 
-    /// Octets of its own that are the same.
+    /// A copy of the octets.
     pub fn copy(&self, alloc: Global) -> Result<SubmitTpdu, AllocError>
         ensures { IfOk result (λ copy. copy ≡ self.now) }
     {

@@ -203,9 +203,10 @@ fn run_opened<J: Drop, O: Drop, R: Threads + Wait, M: Machine<J, O>, G: Gate, C:
     }
 }
 
-/// Runs 1 to 32 lists of jobs, each by a session in a thread of its own, and the keeper in this one. With an answer, all
-/// lists were run, each in its order and each job once, in one history of the machine, and the answers of each session are
-/// its outs in the history. There is none where the number of lists (told first), a thread, memory or the machine failed.
+/// Runs 1 to 32 lists of jobs, each by a session in a thread of its own, and the keeper in this one. Where it gives an
+/// answer, all lists were run, each in its order and each job once, in one history of the machine. The answers of each
+/// session are its outs in the history. It gives none where the number of lists, which is judged first, a thread,
+/// memory or the machine failed.
 pub fn many_sessions<
     J: Drop + Send + 'static,
     O: Drop + Send + 'static,

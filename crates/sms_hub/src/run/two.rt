@@ -32,9 +32,9 @@ fn apart<O: Drop>(all: Vec<Vec<O>>) -> (Vec<O>, Vec<O>)
     }
 }
 
-/// Runs two lists of jobs, each by a session in a thread of its own, and the keeper in this one. With an answer, both
-/// lists were run, each in its order and each job once, in one history of the machine, and the answers of each session are
-/// its outs in the history. There is none where a thread, memory or the machine failed.
+/// Runs two lists of jobs, each by a session in a thread of its own, and the keeper in this one. Where it gives an
+/// answer, both lists were run, each in its order and each job once, in one history of the machine. The answers of each
+/// session are its outs in the history. It gives none where a thread, memory or the machine failed.
 pub fn two_sessions<
     J: Drop + Send + 'static,
     O: Drop + Send + 'static,

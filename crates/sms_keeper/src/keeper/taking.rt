@@ -13,7 +13,7 @@ use std::sync::Wait;
 impl<J: Drop, O: Drop> Keeper<J, O> {
     /// Takes a seat back, with the answers that it has not taken, in order. Where memory runs out they are lost.
     ///
-    /// The two then know: what the seat put is its part of what was popped and then some more, and what it took is
+    /// Then both know two facts. What the seat put is its part of what was popped and then some more. What it took is
     /// the beginning of what it was given.
     pub fn take_back<R: Wait>(
         &mut self,

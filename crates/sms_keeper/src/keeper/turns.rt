@@ -156,8 +156,9 @@ impl<J: Drop, O: Drop> Keeper<J, O> {
         true
     }
 
-    /// Runs a term: the jobs of the seats in the order in which they are popped, and a tick where the clock shows a
-    /// later moment than the last one. It waits where there is nothing to do, and where a seat takes no answers.
+    /// Runs a term: the jobs of the seats in the order in which they are popped. A tick precedes a job where the clock
+    /// shows a later moment than the last one. It waits where there is nothing to do, and where a seat takes no
+    /// answers.
     pub fn run<R: Wait, M: Machine<J, O>, G: Gate, C: Clock>(
         &mut self,
         rt: &R,

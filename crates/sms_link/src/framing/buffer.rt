@@ -1,4 +1,4 @@
-//! Octets that came and are not cut off yet.
+//! Octets that arrived and are not cut off yet.
 ghost use Rattle.std.specs.Prelude.{◌≡◌, ◌++◌, ℕ, List, [], Ok, Some, length, OnOk, OnErr};
 ghost use Rattle.sms_link.specs.framing.Framing.{framed, front_of, sized_of};
 
@@ -9,7 +9,7 @@ use sms_base::OctetView;
 use std::alloc::{AllocError, Global};
 use std::marker::Model;
 
-/// The octets of a link that came and are not cut off yet, seen by contracts as a list.
+/// The octets of a link that arrived and are not cut off yet. Contracts see them as a list.
 #[derive(Drop)]
 pub struct FrameBuffer {
     waiting: BytesMut,
@@ -60,7 +60,7 @@ impl FrameBuffer {
         }
     }
 
-    /// Puts octets that came at the end. Without memory none is taken.
+    /// Puts received octets at the end. Without memory none is taken.
     pub fn feed(&mut self, octets: &[u8]) -> Result<(), AllocError>
         ensures ok { OnOk result (self.new ≡ self.old ++ octets.now) }
         ensures err { OnErr result (self.new ≡ self.old) }
@@ -68,7 +68,7 @@ impl FrameBuffer {
         self.waiting.extend_from_slice(octets)
     }
 
-    /// The frame at the front, where it stands, or none where more octets have to come. A length that no frame has is
+    /// The frame at the front, in place, or none where more octets have to arrive. A length that no frame has is
     /// refused as soon as its two octets are there, and ever after.
     pub fn front(&self) -> Result<Option<OctetView<'_>>, FramingFault>
         ensures { result ≡ front_of self.now }

@@ -8,13 +8,13 @@ pub fn stream_has_one_cut()
     ensures { (octets : List ℕ) (one other : List (List ℕ)) (rest left : List ℕ) → IsStream octets one rest → IsStream octets other left → (one ≡ other) × (rest ≡ left) }
 {}
 
-/// A frame stands at the front of octets exactly where they begin with it.
+/// Octets have a frame at the front exactly where they begin with it.
 pub fn front_is_the_frame()
     ensures found { (octets frame : List ℕ) → front_of octets ≡ Ok (Some frame) → BeginsWithFrame octets frame }
     ensures only { (octets frame : List ℕ) → BeginsWithFrame octets frame → front_of octets ≡ Ok (Some frame) }
 {}
 
-/// What stands at the front still stands there when more octets come, a fault too.
+/// What is at the front stays there when more octets arrive, a fault too.
 pub fn more_octets_change_no_front()
     ensures frame { (octets more frame : List ℕ) → front_of octets ≡ Ok (Some frame) → front_of (octets ++ more) ≡ Ok (Some frame) }
     ensures fault { (octets more : List ℕ) (fault : FaultOf) → front_of octets ≡ Err fault → front_of (octets ++ more) ≡ Err fault }

@@ -1,4 +1,4 @@
-//! Frames that go out.
+//! Frames, written with their lengths.
 ghost use Rattle.std.specs.Prelude.{◌≡◌, ◌↔◌, ◌++◌, true, length, OnOk, OnErr};
 ghost use Rattle.sms_link.specs.framing.Framing.{framed, IsFrame};
 

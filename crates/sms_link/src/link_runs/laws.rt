@@ -17,8 +17,9 @@ ghost use Rattle.sms_link.specs.link_runs.FramesSent.{repeats, sendings};
 ghost use Rattle.sms_link.specs.link_runs.UnderWay.{EndsByTimer, EndsByFrame, IsUnderWay, under_way_after};
 
 /// A frame is sent three times at most: once as the layer above has it sent, and twice more by TC1* (3GPP TS 24.011
-/// 5.3.2.1). Wherever calls have led, timers send the same octets at most twice until the layer above has them sent anew
-/// (`until_sent_anew`); and over any calls they go out at most three times for each time that it has them sent (`in_all`).
+/// 5.3.2.1). Wherever calls have led, timers send its octets at most twice until the layer above has them sent anew
+/// (`until_sent_anew`). Over any calls they are sent at most three times for each time that it has them sent
+/// (`in_all`).
 pub fn a_frame_is_sent_three_times_at_most()
     ensures until_sent_anew { (side : Side) (before after : List LinkCall) (frame : List ℕ)
         → sendings frame after (run before (new_link side)) ≡ 0 → repeats frame after (run before (new_link side)) ≤ 2 }
@@ -26,9 +27,9 @@ pub fn a_frame_is_sent_three_times_at_most()
         → sendings frame calls (new_link side) + repeats frame calls (new_link side) ≤ 3 * sendings frame calls (new_link side) }
 {}
 
-/// An answer, CP-DATA to the originator, comes up exactly where its identifier is that of the transaction under way: the
-/// transfer that this transaction carries ends then, as the answer's unit says (`own`). An answer of another identifier
-/// never comes up, nor does one where no transaction is under way (`other`).
+/// An answer, CP-DATA to the originator, is passed up exactly where its identifier is that of the transaction under
+/// way. The transfer that this transaction carries ends then, as the answer's unit says (`own`). An answer of another
+/// identifier is never passed up, nor is one where no transaction is under way (`other`).
 pub fn an_answer_comes_up_under_its_own_identifier()
     ensures own { (side : Side) (calls : List LinkCall) (frame unit : List ℕ) (identifier : ℕ) (transfer : Carried)
         → cp_at frame ≡ Ok (DataUnit (in_transaction ToOriginator identifier) unit)
@@ -40,8 +41,9 @@ pub fn an_answer_comes_up_under_its_own_identifier()
         → (taken frame (run calls (new_link side))).out.up ≡ None }
 {}
 
-/// Only the transfer under way ends. A frame that ends it has the identifier of its transaction, and is the answer, whose
-/// unit tells how it ended, or CP-ERROR, which leaves it lost (`frame`). What a timer ends is lost (`timer`).
+/// Only the transfer under way ends. A frame that ends it has the identifier of its transaction. It is the answer,
+/// whose unit says how the transfer ended, or CP-ERROR, which leaves it lost (`frame`). What a timer ends is lost
+/// (`timer`).
 pub fn only_what_is_under_way_ends()
     ensures frame { (side : Side) (calls : List LinkCall) (frame : List ℕ) (transfer : Carried) (ending : Ending)
         → (taken frame (run calls (new_link side))).out.up ≡ Some (Ended transfer ending)
@@ -51,9 +53,10 @@ pub fn only_what_is_under_way_ends()
         → EndsByTimer (under_way_after calls side) transfer ending }
 {}
 
-/// An answer that was taken is acknowledged alone until another answer is taken (3GPP TS 24.011 5.3.2): whatever else is
-/// called, the frame that comes again brings out CP-ACK of its transaction and nothing else. Whether it comes up again
-/// `an_answer_comes_up_under_its_own_identifier` says: only where a transaction of its identifier is under way again.
+/// An answer that was taken is acknowledged alone until another answer is taken (3GPP TS 24.011 5.3.2). Whatever else
+/// is called, its frame, repeated, is answered by CP-ACK of its transaction and nothing else.
+/// `an_answer_comes_up_under_its_own_identifier` says when it is passed up again: only where a transaction of its
+/// identifier is under way again.
 pub fn a_taken_answer_is_acknowledged_alone()
     ensures { (side : Side) (before after : List LinkCall) (answer : List ℕ) (identifier : ℕ)
         → Answers answer identifier (run before (new_link side))

@@ -18,7 +18,7 @@ use sms_script::report::{AcceptedRow, Broken, GivenRow};
 use sms_script::{Act, WorldEvent};
 use std::alloc::{AllocError, Global};
 
-/// The first event that breaks a premise, and what it is told by.
+/// The first event that breaks a premise, and by what it is found.
 #[derive(Drop)]
 pub struct Judge {
     watch: Watch,

@@ -16,7 +16,7 @@ pub(crate) struct Place {
     pub number: u8,
 }
 
-/// What tells that parts belong together.
+/// By what parts belong together.
 #[derive(Clone, Copy, PartialEq, Eq, Hash)]
 pub(crate) struct RoundKey {
     pub handset: Number,

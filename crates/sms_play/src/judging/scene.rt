@@ -19,7 +19,7 @@ pub trait Scene {
     /// It shows that course of the script. A scene that doesn't say which shows none.
     ghost shows: { Self → Course → Type 0 } = { λ scene c. ⊥ };
 
-    /// The answers that were told, in order.
+    /// The answers so far, in order.
     fn answers(&self) -> &[Answer]
         ensures { (c : Course) → shows self.now c → result.now ≡ c.answers };
 
@@ -32,7 +32,7 @@ pub trait Scene {
         ensures bag { (c : Course) → shows self.now c → result.now ≡ c.bag }
         ensures numbered { (c : Course) → shows self.now c → AreNumbered 1 c.bag };
 
-    /// The receipts that went to applications, in order. A session's number is the place of its account.
+    /// The receipts that were sent to applications, in order. A session's number is the place of its account.
     fn deliveries(&self) -> &[Delivery];
 
     /// How many handsets there are.
@@ -57,7 +57,7 @@ pub trait Watcher {
     /// It has looked on up to that course, and that was the first event that broke a premise. Who judges nothing has seen all.
     ghost has_seen: { Self → Option Broken → Course → Type 0 } = { λ watcher broken c. ⊤ };
 
-    /// The event of that number comes: all stands as before it.
+    /// The event of that number is next: the scene is from before it.
     fn before<S: Scene>(
         &mut self,
         number: u64,
@@ -66,7 +66,7 @@ pub trait Watcher {
     ) -> Result<(), AllocError>
         ensures { (broken : Option Broken) (c : Course) → S.shows scene.now c → has_seen self.old broken c → OnOk result (has_seen self.new (or_first broken (untimely number event.now c)) c) };
 
-    /// The event of that number has come.
+    /// The event of that number is done.
     fn after<S: Scene>(
         &mut self,
         number: u64,

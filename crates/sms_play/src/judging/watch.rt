@@ -306,8 +306,8 @@ impl Watch {
         Ok(may)
     }
 
-    /// A part is submitted to the handset under that reference. Whether it may stand where it stands: it goes on in the present round of
-    /// its key, or begins the next, all of the present one having been accepted.
+    /// A part is submitted to the handset under that reference. It answers whether the part may be in its place. It may
+    /// continue the present round of its key, or begin the next, all of the present one having been accepted.
     pub(crate) fn submit(
         &mut self,
         handset: Digits,

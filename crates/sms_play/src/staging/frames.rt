@@ -33,7 +33,7 @@ fn send(
     })
 }
 
-/// The frames of a handset go out.
+/// Adds the frames of a handset, under the next numbers.
 pub fn send_up(
     handset: Digits,
     frames: Listed<Outgoing>,
@@ -47,7 +47,7 @@ pub fn send_up(
     Ok(())
 }
 
-/// The frames of the centre go out.
+/// Adds the frames of the centre, under the next numbers.
 pub fn send_down(frames: Listed<Sent>, bag: &mut Listed<FrameRow>) -> Result<(), AllocError>
     ensures { OnOk result (bag.new ≡ all_sent_down frames bag.old) }
 {

@@ -70,7 +70,7 @@ fn note_part(
     }
 }
 
-/// The references of the parts that come.
+/// The references of the new parts.
 #[tactic(auto, using(crate::proofs::staging::Given::parts_each))]
 pub fn note_parts(
     moment: Moment,
@@ -131,7 +131,7 @@ fn note_report(
     }
 }
 
-/// The references of the status reports that come.
+/// The references of the new status reports.
 #[tactic(auto, using(crate::proofs::staging::Given::reports_each))]
 pub fn note_reports(
     moment: Moment,

@@ -68,21 +68,21 @@ impl<'a> PlayedCentre<'a> {
         ensures accounts { result.now ≡ self.now.rows.setup.accounts }
         ensures few { length result.now ≤ 32 }
     {
-        self.keep.setup.accounts.as_slice()
+        self.keep.setup().accounts.as_slice()
     }
 
-    /// How many reports stand in its rows.
+    /// How many reports its rows have.
     pub fn count_reports(&self) -> usize
         ensures { result ≡ length self.now.rows.reports }
     {
-        self.keep.reports.as_slice().len()
+        self.keep.reports().as_slice().len()
     }
 
     /// The TPDU of a part of its rows.
     pub fn part_tpdu(&self, id: MessageId, number: u8) -> Option<&[u8]>
         ensures { option_copied result ≡ option_map (λ p. p.tpdu) (part_at id number self.now.rows.parts) }
     {
-        match self.keep.parts.find(Key::pair(id.number(), number)) {
+        match self.keep.parts().find(Key::pair(id.number(), number)) {
             Some(part) => Some(part.tpdu.as_slice()),
             None => None,
         }
@@ -92,7 +92,7 @@ impl<'a> PlayedCentre<'a> {
     pub fn message(&self, id: MessageId) -> Option<&MessageRow>
         ensures { option_copied result ≡ message_at id self.now.rows.messages }
     {
-        self.keep.messages.find(Key::of(id.number()))
+        self.keep.messages().find(Key::of(id.number()))
     }
 
     /// Every message with its state, by number.
@@ -115,8 +115,8 @@ impl<'a> PlayedCentre<'a> {
         self.centre.receipts()
     }
 
-    /// Meets an event: what it changes is committed, the references that it gives are told behind those before, and what it tells is
-    /// told.
+    /// Meets an event. What it changes is committed, the references that it gives are added to those before, and what
+    /// leaves is given.
     ///
     /// # Errors
     /// A growth was refused.
@@ -134,8 +134,8 @@ impl<'a> PlayedCentre<'a> {
         events::meet(self.centre, self.keep, event, given)
     }
 
-    /// Starts again on its rows, which it looks over once for the greatest moment that they have seen, and doesn't copy. Links to its
-    /// handsets come up at its first tick.
+    /// Starts again on its rows, which it looks over once for the greatest moment that they have seen, and doesn't
+    /// copy. Links to its handsets are up at its first tick.
     ///
     /// # Errors
     /// A growth was refused.

@@ -60,8 +60,8 @@ fn note_changes(
 ) -> Result<(), AllocError>
     ensures { OnOk result (given.new ≡ (given.old ++ parts_given moment (rows_in keep.now).messages changes.now.parts) ++ reports_given moment (rows_in keep.now).messages changes.now.reports) }
 {
-    note_parts(moment, &keep.messages, changes.parts.as_slice(), given)?;
-    note_reports(moment, &keep.messages, changes.reports.as_slice(), given)?;
+    note_parts(moment, keep.messages(), changes.parts.as_slice(), given)?;
+    note_reports(moment, keep.messages(), changes.reports.as_slice(), given)?;
     Ok(())
 }
 
@@ -119,8 +119,8 @@ fn carry_out(
     }
 }
 
-/// Meets an event: what it changes is committed, the references that it gives are told behind those before, and what it tells is
-/// told.
+/// Meets an event. What it changes is committed, the references that it gives are added to those before, and what
+/// leaves is given.
 pub(crate) fn meet(
     centre: &mut Centre,
     keep: &mut MemoryKeep,

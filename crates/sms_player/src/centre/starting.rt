@@ -43,8 +43,8 @@ fn lend_started<R, W: FnOnce(&mut Centre) -> R>(
     }
 }
 
-/// Starts a centre with the first rows of a new store, with links to these handsets that are up and a session of each account, lends
-/// it to the work, and gives what the work gives. Who calls this owns no centre.
+/// Starts a centre with the first rows of a new store, and lends it to the work. It has links to these handsets that
+/// are up, and a session of each account. It gives what the work gives. Who calls this owns no centre.
 ///
 /// # Errors
 /// A growth was refused. The work is not done then.
@@ -89,14 +89,14 @@ fn moment_of(keep: &MemoryKeep) -> Moment
     ensures { result ≡ moment_of_rows (rows_in keep.now) }
 {
     moment_among(
-        keep.setup.start,
-        keep.messages.as_slice(),
-        keep.references.as_slice(),
-        keep.reports.as_slice(),
+        keep.setup().start,
+        keep.messages().as_slice(),
+        keep.references().as_slice(),
+        keep.reports().as_slice(),
     )
 }
 
-/// Starts again on its rows, which stay as they are. Links to its handsets come up at its first tick.
+/// Starts again on its rows, which stay unchanged. Links to its handsets are up at its first tick.
 pub(crate) fn restart(
     alloc: Global,
     centre: &mut Centre,
@@ -109,7 +109,7 @@ pub(crate) fn restart(
     ensures stands { Stands centre.new (rows_in keep.now) }
 {
     let moment = moment_of(keep);
-    let sessions = sessions_of(alloc, keep.setup.accounts.as_slice())?;
+    let sessions = sessions_of(alloc, keep.setup().accounts.as_slice())?;
     match centre.start_again(moment, handsets, sessions) {
         Ok(()) => Ok(()),
         Err(error) => Err(error),

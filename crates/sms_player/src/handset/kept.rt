@@ -44,7 +44,7 @@ impl Model for KeptHandset {
     ghost invariant = { λ h. (rows_in h.keep ≡ h.handset.core.rows) × (h.moment ≡ h.handset.core.moment) × IsSoundCore h.handset.core };
 }
 
-/// The greatest moment that a handset was told after the event.
+/// The greatest moment of a handset after the event.
 fn moment_after(moment: Moment, event: &HandsetEvent<'_>) -> Moment
     ensures { result ≡ moment_after_of moment event.now }
 {
@@ -131,14 +131,14 @@ impl KeptHandset {
     pub(crate) fn outbox(&self) -> &Table<OutEntry>
         ensures { result.now.rows ≡ self.now.core.rows.outbox }
     {
-        &self.keep.outbox
+        self.keep.outbox()
     }
 
     /// The number of the next RP-SMMA.
     pub(crate) fn next_notice(&self) -> u32
         ensures { result ≡ self.now.core.rows.counters.notice }
     {
-        self.keep.counters.notice
+        self.keep.counters().notice
     }
 
     /// The number of the next entry.
@@ -146,10 +146,10 @@ impl KeptHandset {
         ensures number { result ≡ self.now.core.rows.counters.entry }
         ensures sound { IsSound self.now.core.rows }
     {
-        self.keep.counters.entry
+        self.keep.counters().entry
     }
 
-    /// The greatest moment that it was told after the event.
+    /// Its greatest moment after the event.
     pub(crate) fn moment_after(&self, event: &HandsetEvent<'_>) -> Moment
         ensures { result ≡ moment_after_of self.now.core.moment event.now }
     {
@@ -190,7 +190,7 @@ impl KeptHandset {
         let rows = load(&mut self.keep)?;
         let handset = recover(self.alloc, rows)?;
         self.handset = handset;
-        self.moment = self.keep.setup.start;
+        self.moment = self.keep.setup().start;
         Ok(())
     }
 }

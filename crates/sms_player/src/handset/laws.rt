@@ -3,7 +3,7 @@ ghost use Rattle.sms_player.specs.handset.Meeting.{KeepsMomentsLaw, RestsLaw};
 
 use sms_handset::laws::rows_are_the_changes;
 
-/// Time goes on by ticks alone, and never back.
+/// Only ticks change the moment, and it never decreases.
 pub fn moments_come_by_ticks()
     ensures { KeepsMomentsLaw }
 {}

@@ -1,4 +1,4 @@
-//! What handsets in play tell in the end.
+//! What handsets in play report in the end.
 ghost use Rattle.std.specs.Prelude.{◌≡◌, ◌++◌, IfOk, OnOk};
 ghost use Rattle.sms_play.specs.Playing.{accepted_lines as accepted_lines_of, all_outbox_lines, entry_state as entry_state_of, joined_lines as joined_lines_of, outbox_lines as outbox_lines_of};
 

@@ -233,7 +233,7 @@ fn note_out(
     }
 }
 
-/// The references of the entries that come into the outbox.
+/// The references of the new entries of the outbox.
 pub(crate) fn note_entries(
     handset: Digits,
     moment: Moment,
@@ -326,7 +326,7 @@ fn note_frame(
     note_carried(handset, moment, next, frame.carried, given)
 }
 
-/// The references of the RP-SMMA that go out for the first time, those of numbers from the next on.
+/// The references of the RP-SMMA that are sent for the first time, those of numbers from the next on.
 pub(crate) fn note_memories(
     handset: Digits,
     moment: Moment,

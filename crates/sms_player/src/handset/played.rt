@@ -47,7 +47,7 @@ impl Model for PlayedHandset {
 /// What a handset did with an event.
 #[derive(Drop)]
 pub enum Met {
-    /// These frames go out.
+    /// These frames are sent.
     Done(Listed<Outgoing>),
     /// The act of its owner is refused.
     Refused(Refusal),
@@ -184,8 +184,8 @@ impl PlayedHandset {
         self.history.joined.as_slice()
     }
 
-    /// Meets an event: what it changes is committed, and the references that it gives are told behind those before. Memory is wanted
-    /// only where a growth was refused; the handset is then left in no stated way.
+    /// Meets an event. What it changes is committed, and the references that it gives are added to those before. Want
+    /// of memory is reported only where a growth was refused; the handset is then left in no stated way.
     pub fn meet(
         &mut self,
         event: &HandsetEvent<'_>,

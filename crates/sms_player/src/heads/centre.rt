@@ -1,4 +1,4 @@
-//! What a head tells its centre.
+//! The setup of a head's centre.
 ghost use Rattle.std.specs.Prelude.{◌≡◌, ◌≤◌, length, IfOk, true};
 ghost use Rattle.sms_base.specs.Address.{IsAddress};
 ghost use Rattle.sms_base.specs.HandsetNumber.{own_address};
@@ -43,7 +43,7 @@ pub(crate) fn centre_of(setup: &Setup<'_>) -> Address
     Address::of_handset(digits_of(setup.centre.as_slice()))
 }
 
-/// What the centre is told.
+/// The setup of the centre.
 ///
 /// # Errors
 /// A growth was refused.

@@ -36,7 +36,7 @@ use sms_script::{Act, Side, Stop, Submission, TextView as TextWord, WorldEvent};
 use std::alloc::{AllocError, Global};
 use std::str::from_utf8;
 
-/// The same, with want of memory told as a fault at that event.
+/// What was done, with want of memory as a fault at `event`.
 ///
 /// # Errors
 /// `NoMemory` with the event, where there was none.

@@ -1,4 +1,4 @@
-//! Where accounts and handsets stand among those of a script.
+//! The places of accounts and handsets among those of a script.
 ghost use Rattle.std.specs.Prelude.{◌≡◌, ◌≤◌, ◌<◌, ◌^◌, ℕ, length, Err, IfSome};
 ghost use Rattle.std.specs.Str.{bytes_eq};
 ghost use Rattle.sms_base.specs.Address.{IsAddress};

@@ -8,7 +8,7 @@ use sms_script::report::{Answer, Answered, FrameRow, GivenRow};
 use std::alloc::{AllocError, Global};
 use std::marker::Model;
 
-/// All that has come of a script so far. Its centre and its handsets are lent to it.
+/// All that a script has led to so far. Its centre and its handsets are lent to it.
 #[derive(Drop)]
 pub struct Playing<'a> {
     pub(crate) alloc: Global,

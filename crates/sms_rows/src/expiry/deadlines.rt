@@ -85,7 +85,7 @@ impl Deadlines {
         }
     }
 
-    /// The one that stands first, if there is one.
+    /// The first deadline of the heap, if there is one.
     pub fn first(&self) -> Option<Deadline>
         ensures { result ≡ first_of self.now.items }
     {
@@ -95,7 +95,7 @@ impl Deadlines {
         }
     }
 
-    /// The one that stands first goes.
+    /// Removes the first deadline of the heap.
     pub fn drop_first(&mut self)
         ensures others { (other : DeadlineOf) → Among other self.old.items → (Some other ≡ first_of self.old.items) ⊎ Among other self.new.items }
         ensures len { length self.new.items ≤ length self.old.items }
@@ -139,7 +139,7 @@ impl Deadlines {
         }
     }
 
-    /// The numbers of messages whose moment has come, none of them missing, in order; a number may stand there twice. It
+    /// The numbers of messages whose moment is reached, none of them missing, in order. A number may be there twice. It
     /// costs a logarithm for each.
     pub fn past(&self, alloc: Global, now: Moment) -> Result<Vec<u64>, AllocError>
         ensures all { IfOk result (λ ids. HasPast now self.now.items ids.items) }

@@ -40,7 +40,7 @@ impl<T: Copy + Dated> Index<T> {
         }
     }
 
-    /// The same rows, shared: it costs the same however many there are.
+    /// A copy that shares all rows. It costs equally much however many there are.
     pub fn share(&self) -> Result<Index<T>, AllocError>
         ensures { IfOk result (λ copy. copy ≡ self.now) }
     {
@@ -77,7 +77,7 @@ impl<T: Copy + Dated> Index<T> {
         Ok(())
     }
 
-    /// Lets that stand under the key, or nothing. Where memory is wanting, nothing has changed.
+    /// Puts the row under the key, or removes the key's row. Where memory is wanting, nothing has changed.
     pub fn set(&mut self, key: Key, row: Option<T>) -> Result<(), AllocError>
         ensures ok { OnOk result (self.new ≡ set_at T.key key row self.old) }
         ensures err { OnErr result (self.new ≡ self.old) }
@@ -88,14 +88,14 @@ impl<T: Copy + Dated> Index<T> {
         }
     }
 
-    /// The first row from that key on whose moment is come.
+    /// The first row from that key on whose moment is reached.
     pub fn first_past(&self, first: Key, now: Moment) -> Option<T>
         ensures { result ≡ first_such (is_past_from T.key T.moment first now) self.now }
     {
         self.tree.first_past(first, now)
     }
 
-    /// The first row from that key on whose moment is still to come.
+    /// The first row from that key on whose moment is still ahead.
     pub fn first_ahead(&self, first: Key, now: Moment) -> Option<T>
         ensures { result ≡ first_such (is_ahead_from T.key T.moment first now) self.now }
     {

@@ -12,10 +12,10 @@ use std::alloc::{AllocError, Global};
 use std::marker::Model;
 use std::sync::Arc;
 
-/// Rows in order, as a balanced tree (G. M. Adelson-Velsky and E. M. Landis, 1962) that never changes: a tree with one row
-/// more or less is a new one that shares all sides but those on the way to the row.
+/// Rows in order, as a balanced tree that never changes (G. M. Adelson-Velsky and E. M. Landis, 1962). A tree with one
+/// row more or less is a new one that shares all sides but those on the way to the row.
 ///
-/// Heights are at most one apart beside each fork. No contract says so, since no result hangs on it.
+/// Heights are at most one apart beside each fork. No contract says so, since no result depends on it.
 #[cycle(tree)]
 #[derive(Drop)]
 pub(crate) struct Tree<T: Copy + Dated> {
@@ -62,7 +62,7 @@ impl<T: Copy + Dated> Tree<T> {
         Tree { root: None }
     }
 
-    /// The same tree, shared.
+    /// A copy that shares the whole tree.
     pub(crate) fn share(&self) -> Result<Tree<T>, AllocError>
         ensures { IfOk result (λ copy. copy ≡ self.now) }
     {
@@ -348,7 +348,7 @@ fn joined<T: Copy + Dated>(
 // ---- moments
 
 impl<T: Copy + Dated> Tree<T> {
-    /// The first row from that key on whose moment is come.
+    /// The first row from that key on whose moment is reached.
     pub(crate) fn first_past(&self, first: Key, now: Moment) -> Option<T>
         ensures { Rises T.key self.now.rows → result ≡ first_such (is_past_from T.key T.moment first now) self.now.rows }
     {
@@ -369,7 +369,7 @@ impl<T: Copy + Dated> Tree<T> {
         }
     }
 
-    /// The first row from that key on whose moment is still to come.
+    /// The first row from that key on whose moment is still ahead.
     pub(crate) fn first_ahead(&self, first: Key, now: Moment) -> Option<T>
         ensures { Rises T.key self.now.rows → result ≡ first_such (is_ahead_from T.key T.moment first now) self.now.rows }
     {

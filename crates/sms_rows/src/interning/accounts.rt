@@ -6,8 +6,8 @@ use sms_base::Octets;
 use std::alloc::{AllocError, Global};
 use std::marker::Model;
 
-/// The names of accounts, each once, seen by contracts as the list of them and how many more the memory holds. A look-up
-/// goes through them: a centre has 32 accounts at most.
+/// The names of accounts, each once. Contracts see the list of them and how many more the memory holds. A look-up walks
+/// through them: a centre has 32 accounts at most.
 #[derive(Drop)]
 pub struct Accounts {
     names: Vec<Octets>,
@@ -67,7 +67,7 @@ impl Accounts {
         self.names.as_slice().get(place)
     }
 
-    /// The place of the name, which comes where it is not there. Where memory is wanting, nothing has changed.
+    /// The place of the name, which is added where it is not there. Where memory is wanting, nothing has changed.
     pub fn put(&mut self, name: Octets) -> Result<usize, AllocError>
         ensures ok { IfOk result (λ place. Interned self.old name place self.new) }
         ensures err { OnErr result (self.new.values ≡ self.old.values) }
@@ -81,7 +81,7 @@ impl Accounts {
         Ok(place)
     }
 
-    /// The same without taking memory.
+    /// Puts a name where there is room, without taking memory, and gives its place.
     pub fn put_ready(&mut self, name: Octets) -> usize
         requires { 0 < self.old.room }
         ensures { Interned self.old name result self.new }

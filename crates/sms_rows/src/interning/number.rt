@@ -7,7 +7,7 @@ ghost use Rattle.std.proofs.Common.{rules};
 use sms_base::Digits;
 use std::hash::{Hash, Hasher};
 
-/// A number or a name as a key, told from others by its characters.
+/// A number or a name as a key, distinguished from others by its characters.
 #[derive(Clone, Copy, Debug, Drop)]
 pub struct Number {
     /// Its characters.

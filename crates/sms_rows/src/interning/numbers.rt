@@ -73,7 +73,7 @@ impl Numbers {
         }
     }
 
-    /// The place of the number, which comes where it is not there. Where memory is wanting, nothing has changed.
+    /// The place of the number, which is added where it is not there. Where memory is wanting, nothing has changed.
     pub fn put(&mut self, digits: Digits) -> Result<usize, AllocError>
         ensures ok { IfOk result (λ place. Interned self.old digits place self.new) }
         ensures err { OnErr result (self.new.values ≡ self.old.values) }
@@ -83,7 +83,7 @@ impl Numbers {
         Ok(place)
     }
 
-    /// The same without taking memory.
+    /// Puts digits where there is room, without taking memory, and gives their place.
     pub fn put_ready(&mut self, digits: Digits) -> usize
         requires { 0 < self.old.room }
         ensures { Interned self.old digits result self.new }

@@ -8,8 +8,8 @@ use crate::keep::error::KeepError;
 
 /// The rows of one side, in some store.
 ///
-/// Its laws are told for as long as it is honest: the store returns what was written. A stop inside a call is told by
-/// `may_leave`, since a machine that stops there leaves what the store may be left as when the call fails.
+/// Its laws hold as long as it is honest: the store returns what was written. `may_leave` says what a stop inside a
+/// call leaves: a machine that stops there leaves what a failed call may leave.
 pub trait Keep {
     /// All that is kept, with the setup, which is handed in and not stored.
     type Rows: Drop;
@@ -32,7 +32,7 @@ pub trait Keep {
     /// The rows that may be there if the machine stops at this moment.
     ghost may_leave: { Self → Self.Rows → Type 0 };
 
-    /// What it tells of the calls that it refused.
+    /// The calls that it refused.
     ghost refusals: { Self → Refusals };
 
     /// Makes the changes, all of them or none.

@@ -2,8 +2,8 @@
 ghost use Rattle.std.specs.Prelude.{◌≢◌, ◌<◌, ◌^◌, ℕ};
 ghost use Rattle.sms_rows.specs.keep.Refusing.{one_more};
 
-/// A keep that refused one more call does not tell the count that it told before: so a step in which one call was refused is none in which
-/// none was.
+/// A keep that refused one more call has another count than before. So a step in which one call was refused is none in
+/// which none was.
 pub fn one_more_is_another()
     ensures { (n : ℕ) → n < 2 ^ 64 → one_more n ≢ n }
 {}

@@ -1,10 +1,10 @@
-//! What a keep tells of the calls that it refused.
+//! How many calls a keep refused, and which read.
 ghost use Rattle.std.specs.Prelude.{◌≡◌};
 ghost use Rattle.sms_rows.specs.keep.Refusing.{no_refusals, with_answer, with_call, with_read};
 
 use crate::table::Key;
 
-/// What a keep tells of the calls that it refused. A program needs none of it: it is for contracts, which say by it that a step was
+/// How many calls a keep refused, and which read last. A program needs none of it. Contracts say by it that a step was
 /// refused only where the store refused a call in it.
 #[derive(Clone, Copy, Debug, PartialEq, Eq)]
 pub struct Refusals {

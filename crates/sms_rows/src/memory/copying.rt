@@ -7,7 +7,7 @@ use std::alloc::{AllocError, Global};
 
 /// A row that can be copied, in a keep of the kind `K`.
 pub trait CopiedRow<K>: Row {
-    /// A row of its own that is the same.
+    /// A copy of the row.
     fn copied(&self, alloc: Global) -> Result<Self, AllocError>
         ensures { IfOk result (λ copy. copy ≡ self.now) };
 }

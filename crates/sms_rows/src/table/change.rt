@@ -8,9 +8,9 @@ use crate::table::table::{Row, Table};
 /// One change of a table of rows.
 #[derive(Debug, Drop)]
 pub enum Change<T: Drop> {
-    /// The row takes the place of that of its key, or comes where its key belongs.
+    /// The row replaces that of its key, or is added where its key belongs.
     Put(T),
-    /// The row of that key goes.
+    /// The row of that key is removed.
     Remove(Key),
 }
 

@@ -7,8 +7,8 @@ use std::marker::Model;
 
 /// The key of a row: a number, a number and a small one, digits, or digits and a small number.
 ///
-/// Contracts see a key as one number, by which rows stand in order. Keys of one kind are equal exactly where what
-/// they were made of is; those of a first part stand together. A table has keys of one kind.
+/// Contracts see a key as one number, which orders the rows. Keys of one kind are equal exactly where what they were
+/// made of is. Those of a first part are neighbours. A table has keys of one kind.
 #[derive(Clone, Copy, Debug, PartialEq, Eq)]
 pub struct Key {
     place: u128,
@@ -34,7 +34,7 @@ impl Key {
         }
     }
 
-    /// The number by which the row stands in order.
+    /// The number that orders the rows.
     pub fn number(self) -> u128
         ensures { result ≡ self }
     {

@@ -7,12 +7,12 @@ ghost use Rattle.sms_rows.specs.declared.table.change.Change.{Change};
 
 use crate::table::table::Row;
 
-/// Changes leave rows that stand in order in order.
+/// Changes leave ordered rows in order.
 pub fn changes_keep_order<T: Row + Drop>()
     ensures { (changes : List (Change T)) (rows : List T) → Rises T.key rows → Rises T.key (all_applied T.key changes rows) }
 {}
 
-/// After changes a key has the row that the newest change of it left, or else the row that stood there.
+/// After changes a key has the row that the newest change of it left, or else its row from before.
 pub fn row_after_changes<T: Row + Drop>()
     ensures { (n : ℕ) (changes : List (Change T)) (rows : List T) → row_at T.key n (all_applied T.key changes rows) ≡ left_by (newest_of T.key n changes) (row_at T.key n rows) }
 {}
@@ -32,7 +32,7 @@ pub fn equal_digits()
     ensures { (digits others : List ℕ) → AllDigits digits → AllDigits others → digits_key digits ≡ digits_key others → digits ≡ others }
 {}
 
-/// What came of a table, committed the oldest first, leads to the rows as they stand.
+/// The changes of a table, committed the oldest first, lead to its present rows.
 pub fn news_are_committed<T: Row + Drop>()
     ensures { (news : List (Change T)) (base : List T) → all_applied T.key (oldest_first news) base ≡ rows_after T.key news base }
 {}

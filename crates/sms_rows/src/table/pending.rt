@@ -58,14 +58,14 @@ impl<'a, T: Drop + Row> Pending<'a, T> {
         self.changes.as_slice()
     }
 
-    /// The row of that key as it stands, if there is one.
+    /// The present row of that key, if there is one.
     pub fn find(&self, key: Key) -> Option<&T>
         ensures { option_copied result ≡ row_at T.key key (rows_in T.key self.now) }
     {
         self.base.find_after(self.changes.as_slice(), key)
     }
 
-    /// A row comes, or takes the place of that of its key. Where memory is wanting, nothing has changed.
+    /// Adds a row, or replaces that of its key. Where memory is wanting, nothing has changed.
     #[tactic(auto, using(crate::proofs::table::Tables::all_applied_push))]
     pub fn put(&mut self, row: T) -> Result<(), AllocError>
         ensures change { OnOk result (self.new ≡ changed (Put row) self.old) }
@@ -76,7 +76,7 @@ impl<'a, T: Drop + Row> Pending<'a, T> {
         Ok(())
     }
 
-    /// The row of that key goes. Where memory is wanting, nothing has changed.
+    /// Removes the row of that key. Where memory is wanting, nothing has changed.
     #[tactic(auto, using(crate::proofs::table::Tables::all_applied_push))]
     pub fn remove(&mut self, key: Key) -> Result<(), AllocError>
         ensures change { OnOk result (self.new ≡ changed (Remove key) self.old) }
@@ -96,8 +96,8 @@ impl<'a, T: Drop + Row> Pending<'a, T> {
         self.settle_for(alloc, base)
     }
 
-    /// The changes, with memory for the rows that they bring to that table: the one that the event began with, where
-    /// contracts can't see any more that it is.
+    /// The changes, with memory for the rows that they bring to `table`. It is the table that the event began with,
+    /// where contracts can't see any more that it is.
     pub fn settle_for(self, alloc: Global, table: &Table<T>) -> Result<Settled<T>, AllocError>
         ensures changes { IfOk result (λ s. s.changes ≡ self.entry.changes) }
         ensures fits { IfOk result (λ s. FitsIn s table.now) }

@@ -19,8 +19,8 @@ pub trait Row {
 
 /// Rows in the order of their keys, at most one a key, found in logarithmic time.
 ///
-/// Contracts see the rows and how many of them the table's memory holds. So a plan of changes can be made first,
-/// with a `Spare` where the memory is too small for them, and be carried out later without taking memory.
+/// Contracts see the rows and how many of them the table's memory holds. So a plan of changes can be made first, with a
+/// `Spare` where the memory is too small. It is carried out later without taking memory.
 #[derive(Drop)]
 pub struct Table<T: Drop + Row> {
     items: Vec<T>,
@@ -47,7 +47,7 @@ impl<T: Drop + Row> Table<T> {
         }
     }
 
-    /// The rows of the vector, which stand in order: `rises` tells.
+    /// A table of the vector's rows, whose keys rise (`rises`).
     pub fn from_vec(items: Vec<T>) -> Table<T>
         requires { Rises T.key items.items }
         ensures { result ≡ record { rows = items.items; capacity = vec_capacity items } }
@@ -154,7 +154,7 @@ impl<T: Drop + Row> Table<T> {
         Ok(())
     }
 
-    /// The same without taking memory.
+    /// Puts a row where there is room, without taking memory.
     pub fn put_ready(&mut self, row: T)
         requires { HasRoom 1 self.old }
         ensures { self.new ≡ record self.old { rows = put T.key row self.old.rows } }
@@ -250,7 +250,7 @@ impl<T: Drop> Model for Spare<T> {
     ghost invariant = { λ s. s.items.items ≡ [] };
 }
 
-/// Whether the keys of the rows rise: the rows stand in order, at most one a key.
+/// Whether the keys of the rows rise: the rows are in order, at most one a key.
 pub fn rises<T: Row>(rows: &[T]) -> bool
     ensures { (result ≡ true) ↔ Rises T.key rows.now }
 {

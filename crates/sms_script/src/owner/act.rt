@@ -5,7 +5,7 @@ use sms_base::OctetView;
 /// What the owner of a handset asks of it.
 #[derive(Debug, Drop)]
 pub enum OwnersAct<'a> {
-    /// A text to a number, which stands as it was written; `report` asks for a status report.
+    /// A text to a number, as it was written; `report` asks for a status report.
     Write {
         to: OctetView<'a>,
         report: bool,

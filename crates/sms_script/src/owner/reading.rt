@@ -60,9 +60,9 @@ fn build(alloc: Global, text: &[u8]) -> Result<Listed<OwnersAct<'_>>, ScriptFaul
     Ok(acts)
 }
 
-/// What the lines of an owner ask, in order, or the number of the first bad line: one that says nothing, of more than
-/// 16,384 octets, or past 10,000 lines. No text is no acts. The acts borrow the text; their list alone takes memory, which
-/// is wanted only once all lines are good.
+/// What the lines of an owner ask, in order, or the number of the first bad line. A bad line says nothing, has more
+/// than 16,384 octets, or is past 10,000 lines. No text is no acts. The acts borrow the text. Their list alone takes
+/// memory, which is wanted only once all lines are good.
 pub fn read_acts(alloc: Global, text: &[u8]) -> Result<Listed<OwnersAct<'_>>, ScriptFault>
     ensures { ReadsActs result (acts_in text.now) }
 {

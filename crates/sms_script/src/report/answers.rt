@@ -2,7 +2,7 @@
 use smpp_pdu::CommandStatus;
 use sms_base::{FinalState, MessageId, OctetView};
 
-/// Where a message stands (SMPP v3.4 5.2.28, message_state).
+/// The state of a message (SMPP v3.4 5.2.28, message_state).
 #[derive(Clone, Copy, Debug, PartialEq, Eq)]
 pub enum MessageState {
     Enroute,

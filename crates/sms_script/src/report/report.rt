@@ -29,7 +29,7 @@ pub struct Report {
     pub answers: Listed<Answer>,
     /// By id.
     pub table: Listed<MessageRow>,
-    /// By handset in the order of the script's head, then in the order in which they came.
+    /// By handset in the order of the script's head, then in the order of their arrival.
     pub accepted: Listed<AcceptedRow>,
     /// Likewise.
     pub joined: Listed<JoinedRow>,

@@ -13,7 +13,7 @@ pub struct MessageRow {
     pub state: MessageState,
 }
 
-/// A TPDU that a handset accepted under a reference, as it came.
+/// A TPDU that a handset accepted under a reference, as received.
 #[derive(Debug, Drop)]
 pub struct AcceptedRow {
     pub handset: Digits,
@@ -72,7 +72,7 @@ pub enum Direction {
     Down,
 }
 
-/// A reference that was given: by the centre for what goes down, by the handset for what goes up.
+/// A reference that was given: by the centre for what it sends, by the handset for what it sends.
 #[derive(Debug, Drop)]
 pub struct GivenRow {
     pub handset: Digits,

@@ -1,6 +1,5 @@
 //! Bodies of a store: one query each.
 ghost use Rattle.std.specs.Prelude.{◌≡◌, ◌⊎◌, ◌==◌, ◌%◌, false, true, IfOk, OnErr};
-ghost use Rattle.sqlite.specs.Held.{state};
 ghost use Rattle.sqlite.specs.State.{HasCleanDisk};
 ghost use Rattle.sms_centre_spec.specs.octets.OctetsAt.{kind_octets, octets_at, part_octets, report_octets};
 ghost use Rattle.sms_store_tables.specs.centre.CentreSchema.{centre_schema};
@@ -9,6 +8,7 @@ ghost use Rattle.sms_store_sql.specs.listing.Transaction.{IsKept};
 ghost use Rattle.sms_store.specs.centre.CentreRows.{IsStoreWith};
 ghost use Rattle.sms_store.specs.centre.Reading.{FindsPart, FindsReports};
 ghost use Rattle.sms_store.specs.centre.Types.{Rows as RowsOf};
+ghost use Rattle.sms_store.specs.centre.InKeep.{refusals_in, setup_in, state_in};
 
 use crate::centre::keep::CentreKeep;
 use sms_base::Octets;
@@ -94,12 +94,13 @@ fn octets_of_first(reports: Vec<ReportRow>) -> Option<Octets>
 
 impl<S: Alter> CentreKeep<S> {
     fn part_octets(&mut self, key: Key) -> Result<Option<Octets>, KeepError>
-        ensures ok { HasCleanDisk (state S.Store self.new.conn) → (key % 256 == 0) ≡ false → (rows : RowsOf) → IsKept (IsStoreWith self.old.setup) (state S.Store self.old.conn) rows
-            → IfOk result (λ octets. (octets ≡ octets_at rows key) × IsKept (IsStoreWith self.new.setup) (state S.Store self.new.conn) rows) }
-        ensures err { HasCleanDisk (state S.Store self.new.conn) → (rows : RowsOf) → IsKept (IsStoreWith self.old.setup) (state S.Store self.old.conn) rows
-            → OnErr result (IsKept (IsStoreWith self.new.setup) (state S.Store self.new.conn) rows ⊎ ((state S.Store self.new.conn).is_open ≡ false)) }
-        ensures before { HasCleanDisk (state S.Store self.new.conn) → HasCleanDisk (state S.Store self.old.conn) }
-        ensures same { self.new.refusals ≡ self.old.refusals }
+        ensures ok { HasCleanDisk (state_in S.Store self.new) → (key % 256 == 0) ≡ false → (rows : RowsOf)
+            → IsKept (IsStoreWith (setup_in self.old)) (state_in S.Store self.old) rows
+            → IfOk result (λ octets. (octets ≡ octets_at rows key) × IsKept (IsStoreWith (setup_in self.new)) (state_in S.Store self.new) rows) }
+        ensures err { HasCleanDisk (state_in S.Store self.new) → (rows : RowsOf) → IsKept (IsStoreWith (setup_in self.old)) (state_in S.Store self.old) rows
+            → OnErr result (IsKept (IsStoreWith (setup_in self.new)) (state_in S.Store self.new) rows ⊎ ((state_in S.Store self.new).is_open ≡ false)) }
+        ensures before { HasCleanDisk (state_in S.Store self.new) → HasCleanDisk (state_in S.Store self.old) }
+        ensures same { refusals_in self.new ≡ refusals_in self.old }
     {
         match look(self.alloc, &mut self.conn, &PartAt { key }) {
             Ok(part) => Ok(octets_of_part(part)),
@@ -108,12 +109,13 @@ impl<S: Alter> CentreKeep<S> {
     }
 
     fn report_octets(&mut self, key: Key) -> Result<Option<Octets>, KeepError>
-        ensures ok { HasCleanDisk (state S.Store self.new.conn) → (key % 256 == 0) ≡ true → (rows : RowsOf) → IsKept (IsStoreWith self.old.setup) (state S.Store self.old.conn) rows
-            → IfOk result (λ octets. (octets ≡ octets_at rows key) × IsKept (IsStoreWith self.new.setup) (state S.Store self.new.conn) rows) }
-        ensures err { HasCleanDisk (state S.Store self.new.conn) → (rows : RowsOf) → IsKept (IsStoreWith self.old.setup) (state S.Store self.old.conn) rows
-            → OnErr result (IsKept (IsStoreWith self.new.setup) (state S.Store self.new.conn) rows ⊎ ((state S.Store self.new.conn).is_open ≡ false)) }
-        ensures before { HasCleanDisk (state S.Store self.new.conn) → HasCleanDisk (state S.Store self.old.conn) }
-        ensures same { self.new.refusals ≡ self.old.refusals }
+        ensures ok { HasCleanDisk (state_in S.Store self.new) → (key % 256 == 0) ≡ true → (rows : RowsOf)
+            → IsKept (IsStoreWith (setup_in self.old)) (state_in S.Store self.old) rows
+            → IfOk result (λ octets. (octets ≡ octets_at rows key) × IsKept (IsStoreWith (setup_in self.new)) (state_in S.Store self.new) rows) }
+        ensures err { HasCleanDisk (state_in S.Store self.new) → (rows : RowsOf) → IsKept (IsStoreWith (setup_in self.old)) (state_in S.Store self.old) rows
+            → OnErr result (IsKept (IsStoreWith (setup_in self.new)) (state_in S.Store self.new) rows ⊎ ((state_in S.Store self.new).is_open ≡ false)) }
+        ensures before { HasCleanDisk (state_in S.Store self.new) → HasCleanDisk (state_in S.Store self.old) }
+        ensures same { refusals_in self.new ≡ refusals_in self.old }
     {
         let lookup = ReportsOf {
             id: key.number() / 256,
@@ -125,12 +127,12 @@ impl<S: Alter> CentreKeep<S> {
     }
 
     fn octets_under(&mut self, key: Key) -> Result<Option<Octets>, KeepError>
-        ensures ok { HasCleanDisk (state S.Store self.new.conn) → (rows : RowsOf) → IsKept (IsStoreWith self.old.setup) (state S.Store self.old.conn) rows
-            → IfOk result (λ octets. (octets ≡ octets_at rows key) × IsKept (IsStoreWith self.new.setup) (state S.Store self.new.conn) rows) }
-        ensures err { HasCleanDisk (state S.Store self.new.conn) → (rows : RowsOf) → IsKept (IsStoreWith self.old.setup) (state S.Store self.old.conn) rows
-            → OnErr result (IsKept (IsStoreWith self.new.setup) (state S.Store self.new.conn) rows ⊎ ((state S.Store self.new.conn).is_open ≡ false)) }
-        ensures before { HasCleanDisk (state S.Store self.new.conn) → HasCleanDisk (state S.Store self.old.conn) }
-        ensures same { self.new.refusals ≡ self.old.refusals }
+        ensures ok { HasCleanDisk (state_in S.Store self.new) → (rows : RowsOf) → IsKept (IsStoreWith (setup_in self.old)) (state_in S.Store self.old) rows
+            → IfOk result (λ octets. (octets ≡ octets_at rows key) × IsKept (IsStoreWith (setup_in self.new)) (state_in S.Store self.new) rows) }
+        ensures err { HasCleanDisk (state_in S.Store self.new) → (rows : RowsOf) → IsKept (IsStoreWith (setup_in self.old)) (state_in S.Store self.old) rows
+            → OnErr result (IsKept (IsStoreWith (setup_in self.new)) (state_in S.Store self.new) rows ⊎ ((state_in S.Store self.new).is_open ≡ false)) }
+        ensures before { HasCleanDisk (state_in S.Store self.new) → HasCleanDisk (state_in S.Store self.old) }
+        ensures same { refusals_in self.new ≡ refusals_in self.old }
     {
         if key.number() % 256 == 0 {
             self.report_octets(key)

@@ -1,10 +1,10 @@
 //! The keep of a centre's rows.
 ghost use Rattle.std.specs.Prelude.{◌≡◌, ◌⊎◌, false, IfOk};
-ghost use Rattle.sqlite.specs.Held.{state};
 ghost use Rattle.sqlite.specs.State.{HasCleanDisk};
 ghost use Rattle.sms_store_sql.specs.listing.Transaction.{IsKept, MayLeave};
 ghost use Rattle.sms_store.specs.centre.CentreRows.{IsStoreWith};
 ghost use Rattle.sms_store.specs.centre.Types.{rows_after};
+ghost use Rattle.sms_store.specs.centre.InKeep.{connection_in, refusals_in, setup_in, state_in};
 
 use crate::centre::all::All;
 use crate::centre::commit::Commit;
@@ -17,9 +17,9 @@ use std::alloc::Global;
 /// The rows of a centre in a database: a file, or memory.
 #[derive(Drop)]
 pub struct CentreKeep<S: Alter> {
-    pub conn: Connection<S>,
-    /// Handed in at the opening, not stored.
-    pub setup: Setup,
+    pub(crate) conn: Connection<S>,
+    // Handed in at the opening, not stored.
+    pub(crate) setup: Setup,
     pub(crate) alloc: Global,
     pub(crate) refusals: Refusals,
 }
@@ -27,7 +27,7 @@ pub struct CentreKeep<S: Alter> {
 impl<S: Alter> CentreKeep<S> {
     /// Gives the connection back.
     pub fn into_connection(self) -> Connection<S>
-        ensures { result ≡ self.conn }
+        ensures { result ≡ connection_in self }
     {
         let CentreKeep {
             conn,
@@ -46,15 +46,15 @@ impl<S: Alter> Keep for CentreKeep<S> {
 
     ghost after = { λ changes rows. rows_after changes rows };
 
-    ghost holds = { λ keep rows. IsKept (IsStoreWith keep.setup) (state S.Store keep.conn) rows };
+    ghost holds = { λ keep rows. IsKept (IsStoreWith (setup_in keep)) (state_in S.Store keep) rows };
 
-    ghost is_honest = { λ keep. HasCleanDisk (state S.Store keep.conn) };
+    ghost is_honest = { λ keep. HasCleanDisk (state_in S.Store keep) };
 
-    ghost is_closed = { λ keep. (state S.Store keep.conn).is_open ≡ false };
+    ghost is_closed = { λ keep. (state_in S.Store keep).is_open ≡ false };
 
-    ghost may_leave = { λ keep left. MayLeave (IsStoreWith keep.setup) (state S.Store keep.conn) left };
+    ghost may_leave = { λ keep left. MayLeave (IsStoreWith (setup_in keep)) (state_in S.Store keep) left };
 
-    ghost refusals = { λ keep. keep.refusals };
+    ghost refusals = { λ keep. refusals_in keep };
 
     fn commit(&mut self, changes: &Changes) -> Result<(), KeepError> {
         let work = Commit { changes };

@@ -12,6 +12,7 @@ ghost use Rattle.sms_store_tables.specs.centre.CentreSchema.{first_schema};
 ghost use Rattle.sms_store_tables.specs.centre.FirstMetaList.{meta_list as first_list};
 ghost use Rattle.sms_store.specs.centre.Opened.{IsIn, Refused, Refuses, SaysFirst};
 ghost use Rattle.sms_store.specs.centre.Stopping.{IsAsItWas, LeavesRaised, LeavesStore};
+ghost use Rattle.sms_store.specs.centre.InKeep.{connection_in, setup_in, state_in};
 
 use crate::centre::keep::CentreKeep;
 use crate::centre::readying::{judge_first, ready_current};
@@ -27,8 +28,11 @@ use std::alloc::Global;
 fn raise_first<S: Alter>(alloc: Global, conn: &mut Connection<S>) -> Result<(), KeepError>
     ensures mode { conn.old.in_transaction ≡ false → conn.new.in_transaction ≡ false }
     ensures clean { HasCleanDisk (state S.Store conn.new) → HasCleanDisk (state S.Store conn.old) }
-    ensures ok { HasCleanDisk (state S.Store conn.new) → (state S.Store conn.old).now.schema ≡ first_schema → OnOk result (Committed Migrates (state S.Store conn.old) (state S.Store conn.new) × SaysFirst 1 (Ok tt) (state S.Store conn.old).now) }
-    ensures err { HasCleanDisk (state S.Store conn.new) → (state S.Store conn.old).now.schema ≡ first_schema → IfErr result (λ error. Refused first_schema first_list 1 error (state S.Store conn.old).now × IsAsItWas (state S.Store conn.old) (state S.Store conn.new)) }
+    ensures ok { HasCleanDisk (state S.Store conn.new) → (state S.Store conn.old).now.schema ≡ first_schema
+        → OnOk result (Committed Migrates (state S.Store conn.old) (state S.Store conn.new) × SaysFirst 1 (Ok tt) (state S.Store conn.old).now) }
+    ensures err { HasCleanDisk (state S.Store conn.new) → (state S.Store conn.old).now.schema ≡ first_schema
+        → IfErr result (λ error. Refused first_schema first_list 1 error (state S.Store conn.old).now
+        × IsAsItWas (state S.Store conn.old) (state S.Store conn.new)) }
     ensures stop { (state S.Store conn.old).now.schema ≡ first_schema → LeavesStore (state S.Store conn.old) (state S.Store conn.new) }
 {
     match judge_first(alloc, conn, 1) {
@@ -42,7 +46,8 @@ fn ready_raised<S: Alter>(alloc: Global, conn: &mut Connection<S>) -> Result<(),
     ensures mode { conn.old.in_transaction ≡ false → conn.new.in_transaction ≡ false }
     ensures clean { HasCleanDisk (state S.Store conn.new) → HasCleanDisk (state S.Store conn.old) }
     ensures ok { HasCleanDisk (state S.Store conn.new) → OnOk result (IsMigrated (state S.Store conn.old).now (state S.Store conn.new)) }
-    ensures err { HasCleanDisk (state S.Store conn.new) → IfErr result (λ error. Refuses 1 error (state S.Store conn.old) × IsAsItWas (state S.Store conn.old) (state S.Store conn.new)) }
+    ensures err { HasCleanDisk (state S.Store conn.new) → IfErr result (λ error. Refuses 1 error (state S.Store conn.old)
+        × IsAsItWas (state S.Store conn.old) (state S.Store conn.new)) }
     ensures stop { LeavesStore (state S.Store conn.old) (state S.Store conn.new) }
 {
     if !is_first_schema(conn.schema()) {
@@ -52,18 +57,18 @@ fn ready_raised<S: Alter>(alloc: Global, conn: &mut Connection<S>) -> Result<(),
 }
 
 impl<S: Alter + Drop> CentreKeep<S> {
-    /// Opens as `over` does, and makes a store of version 1 one of version 2 first. An error gives the connection back: it is as it
-    /// was, or closed. A stop inside the call leaves a store of version 1 as it was, or one of version 2 with the same rows; once the
-    /// keep is there, a stop leaves what the keep has.
+    /// Opens as `over` does, and makes a store of version 1 one of version 2 first. An error gives the connection back,
+    /// unchanged or closed. A stop inside the call leaves the store of version 1, or one of version 2 with its rows.
+    /// Once the keep is there, a stop leaves what the keep has.
     pub fn migrate_over(
         alloc: Global,
         conn: Connection<S>,
         setup: Setup,
     ) -> Result<CentreKeep<S>, (KeepError, Connection<S>)>
-        ensures migrated { IfOk result (λ keep. HasCleanDisk (state S.Store keep.conn) → Migrated setup (state S.Store conn).now (state S.Store keep.conn)) }
-        ensures setup { IfOk result (λ keep. keep.setup ≡ setup) }
-        ensures clean { IfOk result (λ keep. HasCleanDisk (state S.Store keep.conn) → HasCleanDisk (state S.Store conn)) }
-        ensures settled { IfOk result (λ keep. HasCleanDisk (state S.Store keep.conn) → LeavesRaised setup (state S.Store conn).now (state S.Store keep.conn)) }
+        ensures migrated { IfOk result (λ keep. HasCleanDisk (state_in S.Store keep) → Migrated setup (state S.Store conn).now (state_in S.Store keep)) }
+        ensures setup { IfOk result (λ keep. setup_in keep ≡ setup) }
+        ensures clean { IfOk result (λ keep. HasCleanDisk (state_in S.Store keep) → HasCleanDisk (state S.Store conn)) }
+        ensures settled { IfOk result (λ keep. HasCleanDisk (state_in S.Store keep) → LeavesRaised setup (state S.Store conn).now (state_in S.Store keep)) }
         ensures mode { IfErr result (λ e. conn.in_transaction ≡ false → e.1.in_transaction ≡ false) }
         ensures refused { IfErr result (λ e. HasCleanDisk (state S.Store e.1) → Refuses 1 e.0 (state S.Store conn)) }
         ensures unchanged { IfErr result (λ e. HasCleanDisk (state S.Store e.1) → IsAsItWas (state S.Store conn) (state S.Store e.1)) }
@@ -90,8 +95,10 @@ impl<T: Start> CentreKeep<FileStore<FileFrom<T>>> {
         start: T,
         setup: Setup,
     ) -> Result<CentreKeep<FileStore<FileFrom<T>>>, KeepError>
-        ensures migrated { IfOk result (λ keep. (old : Database) × (HasCleanDisk (file_state keep.conn) → IsDatabase old × IsIn (image_at T.Start) old × Migrated setup old (file_state keep.conn) × LeavesRaised setup old (file_state keep.conn))) }
-        ensures setup { IfOk result (λ keep. keep.setup ≡ setup) }
+        ensures migrated { IfOk result (λ keep. (old : Database)
+            × (HasCleanDisk (file_state (connection_in keep)) → IsDatabase old × IsIn (image_at T.Start) old
+            × Migrated setup old (file_state (connection_in keep)) × LeavesRaised setup old (file_state (connection_in keep)))) }
+        ensures setup { IfOk result (λ keep. setup_in keep ≡ setup) }
     {
         let conn = match Connection::open_from(rt, path, false, start) {
             Ok(conn) => conn,
@@ -111,8 +118,10 @@ impl CentreKeep<FileStore<File>> {
         path: &str,
         setup: Setup,
     ) -> Result<CentreKeep<FileStore<File>>, KeepError>
-        ensures migrated { IfOk result (λ keep. (old : Database) × (HasCleanDisk (file_state keep.conn) → IsDatabase old × Migrated setup old (file_state keep.conn) × LeavesRaised setup old (file_state keep.conn))) }
-        ensures setup { IfOk result (λ keep. keep.setup ≡ setup) }
+        ensures migrated { IfOk result (λ keep. (old : Database)
+            × (HasCleanDisk (file_state (connection_in keep)) → IsDatabase old × Migrated setup old (file_state (connection_in keep))
+            × LeavesRaised setup old (file_state (connection_in keep)))) }
+        ensures setup { IfOk result (λ keep. setup_in keep ≡ setup) }
     {
         CentreKeep::migrate_from(rt, path, Unknown, setup)
     }

@@ -10,6 +10,7 @@ ghost use Rattle.sms_store_sql.specs.listing.Transaction.{IsKept};
 ghost use Rattle.sms_store.specs.centre.CentreRows.{IsStoreWith};
 ghost use Rattle.sms_store.specs.centre.Opened.{IsIn, Opened, Refuses};
 ghost use Rattle.sms_store.specs.centre.Types.{first_rows};
+ghost use Rattle.sms_store.specs.centre.InKeep.{connection_in, setup_in, state_in};
 
 use crate::centre::keep::CentreKeep;
 use crate::centre::readying::{found, ready};
@@ -20,16 +21,16 @@ use sqlite::{Alter, Connection, File, FileFrom, FileStore, MemStore, Start, Unkn
 use std::alloc::Global;
 
 impl<S: Alter + Drop> CentreKeep<S> {
-    /// Keeps the rows of the database that the connection is to: those of a centre's store of version 2, or a centre's first
-    /// rows where it has no tables. It refuses every other database, as an earlier version where it says that it is one.
+    /// Keeps the rows of the connection's database: those of a centre's store of version 2, or a centre's first rows
+    /// where it has no tables. It refuses every other database, as an earlier version where it says that it is one.
     pub fn over(
         alloc: Global,
         conn: Connection<S>,
         setup: Setup,
     ) -> Result<CentreKeep<S>, KeepError>
-        ensures opened { IfOk result (λ keep. HasCleanDisk (state S.Store keep.conn) → Opened setup (state S.Store conn).now (state S.Store keep.conn)) }
-        ensures setup { IfOk result (λ keep. keep.setup ≡ setup) }
-        ensures clean { IfOk result (λ keep. HasCleanDisk (state S.Store keep.conn) → HasCleanDisk (state S.Store conn)) }
+        ensures opened { IfOk result (λ keep. HasCleanDisk (state_in S.Store keep) → Opened setup (state S.Store conn).now (state_in S.Store keep)) }
+        ensures setup { IfOk result (λ keep. setup_in keep ≡ setup) }
+        ensures clean { IfOk result (λ keep. HasCleanDisk (state_in S.Store keep) → HasCleanDisk (state S.Store conn)) }
         ensures refused { IfErr result (λ error. (last : Held S) × (HasCleanDisk (state S.Store last) → Refuses 2 error (state S.Store conn))) }
     {
         let mut conn = conn;
@@ -53,8 +54,10 @@ impl<T: Start> CentreKeep<FileStore<FileFrom<T>>> {
         start: T,
         setup: Setup,
     ) -> Result<CentreKeep<FileStore<FileFrom<T>>>, KeepError>
-        ensures opened { IfOk result (λ keep. (old : Database) × (HasCleanDisk (file_state keep.conn) → IsDatabase old × IsIn (image_at T.Start) old × Opened setup old (file_state keep.conn))) }
-        ensures setup { IfOk result (λ keep. keep.setup ≡ setup) }
+        ensures opened { IfOk result (λ keep. (old : Database)
+            × (HasCleanDisk (file_state (connection_in keep)) → IsDatabase old × IsIn (image_at T.Start) old
+            × Opened setup old (file_state (connection_in keep)))) }
+        ensures setup { IfOk result (λ keep. setup_in keep ≡ setup) }
     {
         match Connection::open_from(rt, path, false, start) {
             Ok(conn) => CentreKeep::over(rt.alloc(), conn, setup),
@@ -71,8 +74,9 @@ impl CentreKeep<FileStore<File>> {
         path: &str,
         setup: Setup,
     ) -> Result<CentreKeep<FileStore<File>>, KeepError>
-        ensures opened { IfOk result (λ keep. (old : Database) × (HasCleanDisk (file_state keep.conn) → IsDatabase old × Opened setup old (file_state keep.conn))) }
-        ensures setup { IfOk result (λ keep. keep.setup ≡ setup) }
+        ensures opened { IfOk result (λ keep. (old : Database)
+            × (HasCleanDisk (file_state (connection_in keep)) → IsDatabase old × Opened setup old (file_state (connection_in keep)))) }
+        ensures setup { IfOk result (λ keep. setup_in keep ≡ setup) }
     {
         CentreKeep::open_from(rt, path, Unknown, setup)
     }
@@ -80,8 +84,8 @@ impl CentreKeep<FileStore<File>> {
 
 /// A keep in memory, of a centre's first rows.
 pub fn in_memory(alloc: Global, setup: Setup) -> Result<CentreKeep<MemStore>, KeepError>
-    ensures kept { IfOk result (λ keep. IsKept (IsStoreWith setup) (state over_memory keep.conn) (first_rows setup)) }
-    ensures setup { IfOk result (λ keep. keep.setup ≡ setup) }
+    ensures kept { IfOk result (λ keep. IsKept (IsStoreWith setup) (state_in over_memory keep) (first_rows setup)) }
+    ensures setup { IfOk result (λ keep. setup_in keep ≡ setup) }
 {
     let mut conn = match Connection::open_in_memory(alloc) {
         Ok(conn) => conn,

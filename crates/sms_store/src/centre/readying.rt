@@ -38,8 +38,12 @@ pub(crate) fn found<S: Alter>(alloc: Global, conn: &mut Connection<S>) -> Result
 fn judge_store<S: Alter>(alloc: Global, conn: &mut Connection<S>) -> Result<(), KeepError>
     ensures mode { conn.old.in_transaction ≡ false → conn.new.in_transaction ≡ false }
     ensures clean { HasCleanDisk (state S.Store conn.new) → HasCleanDisk (state S.Store conn.old) }
-    ensures ok { HasCleanDisk (state S.Store conn.new) → (state S.Store conn.old).now.schema ≡ centre_schema → OnOk result (Shows (state S.Store conn.old) (state S.Store conn.new) (state S.Store conn.old).now (state S.Store conn.old).now false × SaysNow 2 (Ok tt) (state S.Store conn.old).now) }
-    ensures err { HasCleanDisk (state S.Store conn.new) → (state S.Store conn.old).now.schema ≡ centre_schema → IfErr result (λ error. Refused centre_schema meta_list 2 error (state S.Store conn.old).now × IsAsItWas (state S.Store conn.old) (state S.Store conn.new)) }
+    ensures ok { HasCleanDisk (state S.Store conn.new) → (state S.Store conn.old).now.schema ≡ centre_schema
+        → OnOk result (Shows (state S.Store conn.old) (state S.Store conn.new) (state S.Store conn.old).now (state S.Store conn.old).now false
+        × SaysNow 2 (Ok tt) (state S.Store conn.old).now) }
+    ensures err { HasCleanDisk (state S.Store conn.new) → (state S.Store conn.old).now.schema ≡ centre_schema
+        → IfErr result (λ error. Refused centre_schema meta_list 2 error (state S.Store conn.old).now
+        × IsAsItWas (state S.Store conn.old) (state S.Store conn.new)) }
     ensures stop { (state S.Store conn.old).now.schema ≡ centre_schema → LeavesStore (state S.Store conn.old) (state S.Store conn.new) }
 {
     match look(alloc, conn, &Said) {
@@ -56,8 +60,12 @@ pub(crate) fn judge_first<S: Alter>(
 ) -> Result<(), KeepError>
     ensures mode { conn.old.in_transaction ≡ false → conn.new.in_transaction ≡ false }
     ensures clean { HasCleanDisk (state S.Store conn.new) → HasCleanDisk (state S.Store conn.old) }
-    ensures ok { HasCleanDisk (state S.Store conn.new) → (state S.Store conn.old).now.schema ≡ first_schema → OnOk result (Shows (state S.Store conn.old) (state S.Store conn.new) (state S.Store conn.old).now (state S.Store conn.old).now false × SaysFirst version (Ok tt) (state S.Store conn.old).now) }
-    ensures err { HasCleanDisk (state S.Store conn.new) → (state S.Store conn.old).now.schema ≡ first_schema → IfErr result (λ error. Refused first_schema first_list version error (state S.Store conn.old).now × IsAsItWas (state S.Store conn.old) (state S.Store conn.new)) }
+    ensures ok { HasCleanDisk (state S.Store conn.new) → (state S.Store conn.old).now.schema ≡ first_schema
+        → OnOk result (Shows (state S.Store conn.old) (state S.Store conn.new) (state S.Store conn.old).now (state S.Store conn.old).now false
+        × SaysFirst version (Ok tt) (state S.Store conn.old).now) }
+    ensures err { HasCleanDisk (state S.Store conn.new) → (state S.Store conn.old).now.schema ≡ first_schema
+        → IfErr result (λ error. Refused first_schema first_list version error (state S.Store conn.old).now
+        × IsAsItWas (state S.Store conn.old) (state S.Store conn.new)) }
     ensures stop { (state S.Store conn.old).now.schema ≡ first_schema → LeavesStore (state S.Store conn.old) (state S.Store conn.new) }
 {
     match look(alloc, conn, &SaidFirst) {
@@ -66,7 +74,8 @@ pub(crate) fn judge_first<S: Alter>(
     }
 }
 
-/// An empty database becomes the store of a centre's first rows; one with the tables of version 2 must say that it is a centre's store.
+/// An empty database becomes the store of a centre's first rows. One with the tables of version 2 must say that it is a
+/// centre's store.
 pub(crate) fn ready_current<S: Alter>(
     alloc: Global,
     conn: &mut Connection<S>,
@@ -74,7 +83,8 @@ pub(crate) fn ready_current<S: Alter>(
     ensures mode { conn.old.in_transaction ≡ false → conn.new.in_transaction ≡ false }
     ensures clean { HasCleanDisk (state S.Store conn.new) → HasCleanDisk (state S.Store conn.old) }
     ensures ok { HasCleanDisk (state S.Store conn.new) → OnOk result (IsOpened (state S.Store conn.old).now (state S.Store conn.new)) }
-    ensures err { HasCleanDisk (state S.Store conn.new) → IfErr result (λ error. Refused centre_schema meta_list 2 error (state S.Store conn.old).now × IsAsItWas (state S.Store conn.old) (state S.Store conn.new)) }
+    ensures err { HasCleanDisk (state S.Store conn.new) → IfErr result (λ error. Refused centre_schema meta_list 2 error (state S.Store conn.old).now
+        × IsAsItWas (state S.Store conn.old) (state S.Store conn.new)) }
     ensures stop { LeavesStore (state S.Store conn.old) (state S.Store conn.new) }
 {
     if is_blank(conn.schema()) {
@@ -86,12 +96,13 @@ pub(crate) fn ready_current<S: Alter>(
     judge_store(alloc, conn)
 }
 
-/// The same, and one with the tables of version 1 is told as such.
+/// Makes the database ready to be kept. One with the tables of version 1 is refused as one of an earlier version.
 pub(crate) fn ready<S: Alter>(alloc: Global, conn: &mut Connection<S>) -> Result<(), KeepError>
     ensures mode { conn.old.in_transaction ≡ false → conn.new.in_transaction ≡ false }
     ensures clean { HasCleanDisk (state S.Store conn.new) → HasCleanDisk (state S.Store conn.old) }
     ensures ok { HasCleanDisk (state S.Store conn.new) → OnOk result (IsOpened (state S.Store conn.old).now (state S.Store conn.new)) }
-    ensures err { HasCleanDisk (state S.Store conn.new) → IfErr result (λ error. Refuses 2 error (state S.Store conn.old) × IsAsItWas (state S.Store conn.old) (state S.Store conn.new)) }
+    ensures err { HasCleanDisk (state S.Store conn.new) → IfErr result (λ error. Refuses 2 error (state S.Store conn.old)
+        × IsAsItWas (state S.Store conn.old) (state S.Store conn.new)) }
     ensures stop { LeavesStore (state S.Store conn.old) (state S.Store conn.new) }
 {
     if !is_first_schema(conn.schema()) {

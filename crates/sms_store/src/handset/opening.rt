@@ -12,6 +12,7 @@ ghost use Rattle.sms_store.specs.handset.HandsetRows.{IsStoreWith};
 ghost use Rattle.sms_store_tables.specs.handset.HandsetSchema.{handset_schema};
 ghost use Rattle.sms_store.specs.handset.Opened.{IsIn, Opened, Refuses, Says};
 ghost use Rattle.sms_store.specs.handset.Types.{first_rows};
+ghost use Rattle.sms_store.specs.handset.InKeep.{connection_in, setup_in, state_in};
 
 use crate::handset::founding::Founding;
 use crate::handset::keep::HandsetKeep;
@@ -27,9 +28,10 @@ use std::alloc::Global;
 impl<S: Alter + Drop> HandsetKeep<S> {
     // Makes the tables of an empty database and keeps a handset's first rows there.
     fn found(alloc: Global, conn: Connection<S>, setup: Setup) -> Result<HandsetKeep<S>, KeepError>
-        ensures kept { IfOk result (λ keep. HasCleanDisk (state S.Store keep.conn) → (state S.Store conn).now.schema ≡ no_tables → IsKept (IsStoreWith setup) (state S.Store keep.conn) (first_rows setup)) }
-        ensures setup { IfOk result (λ keep. keep.setup ≡ setup) }
-        ensures clean { IfOk result (λ keep. HasCleanDisk (state S.Store keep.conn) → HasCleanDisk (state S.Store conn)) }
+        ensures kept { IfOk result (λ keep. HasCleanDisk (state_in S.Store keep) → (state S.Store conn).now.schema ≡ no_tables
+            → IsKept (IsStoreWith setup) (state_in S.Store keep) (first_rows setup)) }
+        ensures setup { IfOk result (λ keep. setup_in keep ≡ setup) }
+        ensures clean { IfOk result (λ keep. HasCleanDisk (state_in S.Store keep) → HasCleanDisk (state S.Store conn)) }
         ensures refused { IfErr result (λ error. Refuses error (state S.Store conn)) }
     {
         let mut conn = conn;
@@ -44,16 +46,16 @@ impl<S: Alter + Drop> HandsetKeep<S> {
         }
     }
 
-    /// Keeps the rows of the database that the connection is to: those of a handset's store, or a handset's first rows
-    /// where it has no tables. It refuses every other database.
+    /// Keeps the rows of the connection's database: those of a handset's store, or a handset's first rows where it has
+    /// no tables. It refuses every other database.
     pub fn over(
         alloc: Global,
         conn: Connection<S>,
         setup: Setup,
     ) -> Result<HandsetKeep<S>, KeepError>
-        ensures opened { IfOk result (λ keep. HasCleanDisk (state S.Store keep.conn) → Opened setup (state S.Store conn).now (state S.Store keep.conn)) }
-        ensures setup { IfOk result (λ keep. keep.setup ≡ setup) }
-        ensures clean { IfOk result (λ keep. HasCleanDisk (state S.Store keep.conn) → HasCleanDisk (state S.Store conn)) }
+        ensures opened { IfOk result (λ keep. HasCleanDisk (state_in S.Store keep) → Opened setup (state S.Store conn).now (state_in S.Store keep)) }
+        ensures setup { IfOk result (λ keep. setup_in keep ≡ setup) }
+        ensures clean { IfOk result (λ keep. HasCleanDisk (state_in S.Store keep) → HasCleanDisk (state S.Store conn)) }
         ensures refused { IfErr result (λ error. (last : Held S) × (HasCleanDisk (state S.Store last) → Refuses error (state S.Store conn))) }
     {
         if is_blank(conn.schema()) {
@@ -78,8 +80,11 @@ impl<S: Alter + Drop> HandsetKeep<S> {
 // What a store with a handset's tables says of itself must be that it is one.
 fn judge_store<S: Alter>(alloc: Global, conn: &mut Connection<S>) -> Result<(), KeepError>
     ensures clean { HasCleanDisk (state S.Store conn.new) → HasCleanDisk (state S.Store conn.old) }
-    ensures ok { HasCleanDisk (state S.Store conn.new) → (state S.Store conn.old).now.schema ≡ handset_schema → OnOk result (Shows (state S.Store conn.old) (state S.Store conn.new) (state S.Store conn.old).now (state S.Store conn.old).now false × Says (Ok tt) (state S.Store conn.old).now) }
-    ensures err { HasCleanDisk (state S.Store conn.new) → (state S.Store conn.old).now.schema ≡ handset_schema → IfErr result (λ error. Refuses error (state S.Store conn.old)) }
+    ensures ok { HasCleanDisk (state S.Store conn.new) → (state S.Store conn.old).now.schema ≡ handset_schema
+        → OnOk result (Shows (state S.Store conn.old) (state S.Store conn.new) (state S.Store conn.old).now (state S.Store conn.old).now false
+        × Says (Ok tt) (state S.Store conn.old).now) }
+    ensures err { HasCleanDisk (state S.Store conn.new) → (state S.Store conn.old).now.schema ≡ handset_schema
+        → IfErr result (λ error. Refuses error (state S.Store conn.old)) }
 {
     match look(alloc, conn, &Said) {
         Ok(said) => judge(&said, StoreKind::Handset, 1),
@@ -95,8 +100,10 @@ impl<T: Start> HandsetKeep<FileStore<FileFrom<T>>> {
         start: T,
         setup: Setup,
     ) -> Result<HandsetKeep<FileStore<FileFrom<T>>>, KeepError>
-        ensures opened { IfOk result (λ keep. (old : Database) × (HasCleanDisk (file_state keep.conn) → IsDatabase old × IsIn (image_at T.Start) old × Opened setup old (file_state keep.conn))) }
-        ensures setup { IfOk result (λ keep. keep.setup ≡ setup) }
+        ensures opened { IfOk result (λ keep. (old : Database)
+            × (HasCleanDisk (file_state (connection_in keep)) → IsDatabase old × IsIn (image_at T.Start) old
+            × Opened setup old (file_state (connection_in keep)))) }
+        ensures setup { IfOk result (λ keep. setup_in keep ≡ setup) }
     {
         match Connection::open_from(rt, path, false, start) {
             Ok(conn) => HandsetKeep::over(rt.alloc(), conn, setup),
@@ -113,8 +120,9 @@ impl HandsetKeep<FileStore<File>> {
         path: &str,
         setup: Setup,
     ) -> Result<HandsetKeep<FileStore<File>>, KeepError>
-        ensures opened { IfOk result (λ keep. (old : Database) × (HasCleanDisk (file_state keep.conn) → IsDatabase old × Opened setup old (file_state keep.conn))) }
-        ensures setup { IfOk result (λ keep. keep.setup ≡ setup) }
+        ensures opened { IfOk result (λ keep. (old : Database)
+            × (HasCleanDisk (file_state (connection_in keep)) → IsDatabase old × Opened setup old (file_state (connection_in keep)))) }
+        ensures setup { IfOk result (λ keep. setup_in keep ≡ setup) }
     {
         HandsetKeep::open_from(rt, path, Unknown, setup)
     }
@@ -122,8 +130,8 @@ impl HandsetKeep<FileStore<File>> {
 
 /// A keep in memory, of a handset's first rows.
 pub fn in_memory(alloc: Global, setup: Setup) -> Result<HandsetKeep<MemStore>, KeepError>
-    ensures kept { IfOk result (λ keep. IsKept (IsStoreWith setup) (state over_memory keep.conn) (first_rows setup)) }
-    ensures setup { IfOk result (λ keep. keep.setup ≡ setup) }
+    ensures kept { IfOk result (λ keep. IsKept (IsStoreWith setup) (state_in over_memory keep) (first_rows setup)) }
+    ensures setup { IfOk result (λ keep. setup_in keep ≡ setup) }
 {
     let conn = match Connection::open_in_memory(alloc) {
         Ok(conn) => conn,

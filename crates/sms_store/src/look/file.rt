@@ -42,9 +42,9 @@ fn look_at(alloc: Global, copy: &DatabaseCopy) -> Result<Rows, KeepError> {
     }
 }
 
-/// The rows of the centre's store at the path, by a copy of its files in memory: a server may have it open, and none of it is
-/// changed. The setup among them says nothing. A store of version 1 is `OldVersion`, what is no store of a centre `NotThisStore`, and a
-/// file that is not there `Disk`.
+/// The rows of the centre's store at the path, by a copy of its files in memory. A server may have it open, and none of
+/// it is changed. The setup among them says nothing. A store of version 1 is `OldVersion`, what is no store of a centre
+/// `NotThisStore`, and a file that is not there `Disk`.
 pub fn rows_at(rt: &HostRuntime, path: &str) -> Result<Rows, KeepError> {
     let copy = copy_of(rt, path)?;
     look_at(rt.alloc(), &copy)

@@ -7,8 +7,9 @@ ghost use Rattle.sms_store.specs.centre.CentreRows.{IsStoreWith};
 ghost use Rattle.sms_store.specs.centre.Opened.{Opened};
 ghost use Rattle.sms_store.specs.centre.Types.{Rows as RowsOf};
 ghost use Rattle.sms_store_sql.specs.listing.Transaction.{IsKept};
+ghost use Rattle.sms_store.specs.centre.InKeep.{setup_in, state_in};
 
-use crate::centre::CentreKeep;
+use crate::centre::keep::CentreKeep;
 use sms_centre_spec::{Rows, Setup};
 use sms_rows::keep::{Keep, KeepError};
 use sms_store_tables::centre::{is_centre_schema, is_first_schema};
@@ -28,8 +29,8 @@ fn keep_over<S: Alter + Drop>(
     conn: Connection<S>,
     setup: Setup,
 ) -> Result<CentreKeep<S>, KeepError>
-    ensures opened { IfOk result (λ keep. HasCleanDisk (state S.Store keep.conn) → Opened setup (state S.Store conn).now (state S.Store keep.conn)) }
-    ensures setup { IfOk result (λ keep. keep.setup ≡ setup) }
+    ensures opened { IfOk result (λ keep. HasCleanDisk (state_in S.Store keep) → Opened setup (state S.Store conn).now (state_in S.Store keep)) }
+    ensures setup { IfOk result (λ keep. setup_in keep ≡ setup) }
 {
     if is_centre_schema(conn.schema()) || is_first_schema(conn.schema()) {
         CentreKeep::over(alloc, conn, setup)
@@ -40,8 +41,9 @@ fn keep_over<S: Alter + Drop>(
 
 // All rows of a keep.
 fn look_in<S: Alter + Drop>(keep: CentreKeep<S>) -> Result<Looked<S>, KeepError>
-    ensures clean { IfOk result (λ looked. HasCleanDisk (state S.Store looked.conn) → HasCleanDisk (state S.Store keep.conn)) }
-    ensures found { IfOk result (λ looked. HasCleanDisk (state S.Store looked.conn) → (rows : RowsOf) → IsKept (IsStoreWith keep.setup) (state S.Store keep.conn) rows
+    ensures clean { IfOk result (λ looked. HasCleanDisk (state S.Store looked.conn) → HasCleanDisk (state_in S.Store keep)) }
+    ensures found { IfOk result (λ looked. HasCleanDisk (state S.Store looked.conn) → (rows : RowsOf)
+        → IsKept (IsStoreWith (setup_in keep)) (state_in S.Store keep) rows
         → (looked.rows ≡ rows) × IsKept IsStore (state S.Store looked.conn) rows) }
 {
     let mut keep = keep;
@@ -52,8 +54,8 @@ fn look_in<S: Alter + Drop>(keep: CentreKeep<S>) -> Result<Looked<S>, KeepError>
     })
 }
 
-/// The rows of the centre's store that the connection is to. The setup is not stored: what is handed in stands among the rows. A
-/// store of version 1 is `OldVersion`, and what is no store of a centre `NotThisStore`.
+/// The rows of the centre's store that the connection is to. The setup is not stored: the one that is handed in is
+/// among the rows. A store of version 1 is `OldVersion`, and what is no store of a centre `NotThisStore`.
 pub fn look_over<S: Alter + Drop>(
     alloc: Global,
     conn: Connection<S>,

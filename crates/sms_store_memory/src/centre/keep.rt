@@ -20,15 +20,15 @@ use std::alloc::{AllocError, Global};
 /// The rows of a centre, in memory.
 #[derive(Drop)]
 pub struct MemoryKeep {
-    pub messages: Table<MessageRow>,
-    pub parts: Table<PartRow>,
-    pub references: Table<ReferenceRow>,
-    pub handsets: Table<HandsetRow>,
-    pub reports: Table<ReportRow>,
-    pub priorities: Table<PriorityRow>,
-    /// Handed in at the start.
-    pub setup: Setup,
-    pub alloc: Global,
+    pub(crate) messages: Table<MessageRow>,
+    pub(crate) parts: Table<PartRow>,
+    pub(crate) references: Table<ReferenceRow>,
+    pub(crate) handsets: Table<HandsetRow>,
+    pub(crate) reports: Table<ReportRow>,
+    pub(crate) priorities: Table<PriorityRow>,
+    // Handed in at the start.
+    pub(crate) setup: Setup,
+    pub(crate) alloc: Global,
     pub(crate) refusals: Refusals,
 }
 
@@ -59,6 +59,55 @@ impl MemoryKeep {
             alloc,
             refusals: Refusals::none(),
         }
+    }
+
+    /// The messages, by their ids.
+    pub fn messages(&self) -> &Table<MessageRow>
+        ensures { result.now.rows ≡ (rows_in self.now).messages }
+    {
+        &self.messages
+    }
+
+    /// The parts of messages, by id and number.
+    pub fn parts(&self) -> &Table<PartRow>
+        ensures { result.now.rows ≡ (rows_in self.now).parts }
+    {
+        &self.parts
+    }
+
+    /// The references that were given at handsets.
+    pub fn references(&self) -> &Table<ReferenceRow>
+        ensures { result.now.rows ≡ (rows_in self.now).references }
+    {
+        &self.references
+    }
+
+    /// The handsets that were given a reference, in the order of their first.
+    pub fn handsets(&self) -> &Table<HandsetRow>
+        ensures { result.now.rows ≡ (rows_in self.now).handsets }
+    {
+        &self.handsets
+    }
+
+    /// The receipts and status reports.
+    pub fn reports(&self) -> &Table<ReportRow>
+        ensures { result.now.rows ≡ (rows_in self.now).reports }
+    {
+        &self.reports
+    }
+
+    /// The priorities of messages.
+    pub fn priorities(&self) -> &Table<PriorityRow>
+        ensures { result.now.rows ≡ (rows_in self.now).priorities }
+    {
+        &self.priorities
+    }
+
+    /// The setup that was handed in at the start.
+    pub fn setup(&self) -> &Setup
+        ensures { result.now ≡ (rows_in self.now).setup }
+    {
+        &self.setup
     }
 
     fn readied(&self, changes: &Changes) -> Result<Readied, AllocError>

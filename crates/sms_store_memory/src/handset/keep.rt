@@ -17,14 +17,14 @@ use std::alloc::{AllocError, Global};
 /// The rows of a handset, in memory.
 #[derive(Drop)]
 pub struct MemoryKeep {
-    pub entries: Table<Entry>,
-    pub last: Table<LastAccepted>,
-    pub outbox: Table<OutEntry>,
-    pub marks: Table<DiscardedGroup>,
-    pub counters: Counters,
-    /// Handed in at the start.
-    pub setup: Setup,
-    pub alloc: Global,
+    entries: Table<Entry>,
+    last: Table<LastAccepted>,
+    outbox: Table<OutEntry>,
+    marks: Table<DiscardedGroup>,
+    counters: Counters,
+    // Handed in at the start.
+    setup: Setup,
+    alloc: Global,
     refusals: Refusals,
 }
 
@@ -50,6 +50,27 @@ impl MemoryKeep {
             alloc,
             refusals: Refusals::none(),
         }
+    }
+
+    /// The entries of the outbox, by number.
+    pub fn outbox(&self) -> &Table<OutEntry>
+        ensures { result.now.rows ≡ (rows_in self.now).outbox }
+    {
+        &self.outbox
+    }
+
+    /// What the handset counts.
+    pub fn counters(&self) -> Counters
+        ensures { result ≡ (rows_in self.now).counters }
+    {
+        self.counters
+    }
+
+    /// The setup that was handed in at the start.
+    pub fn setup(&self) -> Setup
+        ensures { result ≡ (rows_in self.now).setup }
+    {
+        self.setup
     }
 
     // The changes, copied, with the memory for them.

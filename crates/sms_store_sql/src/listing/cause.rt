@@ -17,7 +17,8 @@ pub fn write_cause_of(error: Error) -> KeepError
     }
 }
 
-/// What the error of one that reads is to a keep: columns that no row has, or a missing row, tell that this is no such store.
+/// What the error of a reading call is to a keep. Columns that no row has, or a missing row, mean that this is no such
+/// store.
 pub fn load_cause_of(error: Error) -> KeepError
     ensures { result ≡ load_cause error }
 {

@@ -26,7 +26,7 @@ pub fn run<S: Alter>(
     Ok(())
 }
 
-/// Runs one statement inside the transaction, and tells how many rows it was on.
+/// Runs one statement inside the transaction, and gives how many rows it was on.
 pub fn run_counted<S: Alter>(
     tx: &mut Transaction<'_, S>,
     sql: &str,

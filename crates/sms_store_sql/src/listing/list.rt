@@ -28,7 +28,7 @@ pub trait StoredRow<K>: Row {
     fn insert_text() -> &'static str
         ensures { result.now ≡ list.table.insert };
 
-    /// Runs such a text with the columns of the row as its values, and tells how many rows it was on.
+    /// Runs such a text with the columns of the row as its values, and gives how many rows it was on.
     fn write<S: Alter>(
         &self,
         alloc: Global,
@@ -45,7 +45,7 @@ pub trait StoredRow<K>: Row {
     fn select() -> &'static str
         ensures { result.now ≡ list.table.select };
 
-    /// Reads the columns of a row. An error tells columns that no row of the list has, or want of memory.
+    /// Reads the columns of a row. An error means columns that no row of the list has, or want of memory.
     fn read(alloc: Global, row: &sqlite::Row) -> Result<Self, Error>
         ensures { IfOk result (λ found. found ≡ list.reads row.now) };
 

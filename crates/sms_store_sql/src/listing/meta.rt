@@ -42,7 +42,7 @@ impl StoreKind {
     }
 }
 
-/// The kind that the column tells.
+/// The kind that the column names.
 pub fn kind_at(row: &Columns, at: usize) -> Result<StoreKind, Error>
     ensures { IfOk result (λ kind. kind ≡ kind_in (text_in (column row.now at))) }
 {

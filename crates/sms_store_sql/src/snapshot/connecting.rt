@@ -36,7 +36,7 @@ fn files_of(alloc: Global, copy: &DatabaseCopy) -> Result<Files<Memory>, Error>
     Ok(Files { log, db })
 }
 
-/// Connects to the database for which the octets of the two files stand. Where they stand for none yet, it has no tables.
+/// Connects to the database of the two files' octets. Where they are none yet, it has no tables.
 pub fn connect(alloc: Global, copy: &DatabaseCopy) -> Result<Connection<FileStore<Memory>>, Error>
     ensures opened { IfOk result (λ conn. HasCleanDisk (file_state conn) → IsOpened conn) }
     ensures found { IfOk result (λ conn. HasCleanDisk (file_state conn) → FindsIn (record { log = copy.now.log.items; db = copy.now.db.items }) (file_state conn)) }

@@ -68,8 +68,8 @@ fn copy_files(rt: &HostRuntime, db: &str, log: &str) -> io::Result<DatabaseCopy>
     Err(io::ErrorKind::ResourceBusy.into())
 }
 
-/// Copies the database file at the path, and its log, which has the same name with `-wal` behind it. Nothing is written and
-/// nothing locked, so somebody else may have the database open and write it.
+/// Copies the database file at the path, and its log, whose name has `-wal` behind it. Nothing is written and nothing
+/// locked, so somebody else may have the database open and write it.
 pub fn copy_at(rt: &HostRuntime, path: &str) -> io::Result<DatabaseCopy> {
     let real = fs::canonicalize(rt, path)?;
     let log = format!(in rt.alloc(); "{}-wal", real.as_str())?;

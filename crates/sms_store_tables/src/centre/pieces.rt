@@ -1,4 +1,4 @@
-//! What stands in the store in several columns, or as a word.
+//! Values that are several columns, or a word, in the store.
 ghost use Rattle.std.specs.Prelude.{◌≡◌, ◌<◌, ◌+◌, pos, IfOk};
 ghost use Rattle.sqlite.specs.Values.{or_null};
 ghost use Rattle.sqlite.specs.declared.types.Value.TheVariants.{Blob, Int};

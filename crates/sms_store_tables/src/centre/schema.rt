@@ -228,7 +228,7 @@ fn are_indexes(indexes: &[Index]) -> bool
     are_last_indexes(priority, report_message)
 }
 
-/// Whether the tables are those of a centre's store of version 1, and nothing stands beside them.
+/// Whether the tables are those of a centre's store of version 1, and no others are beside them.
 pub fn is_first_schema(schema: &Schema) -> bool
     ensures { IsTrue result → schema.now ≡ first_schema }
 {
@@ -238,7 +238,7 @@ pub fn is_first_schema(schema: &Schema) -> bool
     are_indexes_of_first(schema.indexes.as_slice())
 }
 
-/// Whether the tables are those of a centre's store of version 2, and nothing stands beside them.
+/// Whether the tables are those of a centre's store of version 2, and no others are beside them.
 pub fn is_centre_schema(schema: &Schema) -> bool
     ensures { IsTrue result → schema.now ≡ centre_schema }
 {

@@ -136,7 +136,7 @@ fn are_indexes(indexes: &[Index]) -> bool
     are_last_indexes(out, mark, count)
 }
 
-/// Whether the tables are those of a handset's store, and nothing stands beside them.
+/// Whether the tables are those of a handset's store, and no others are beside them.
 pub fn is_handset_schema(schema: &Schema) -> bool
     ensures { IsTrue result → schema.now ≡ handset_schema }
 {

@@ -1,4 +1,4 @@
-//! What stands in the store as a word.
+//! Values that are words in the store.
 ghost use Rattle.std.specs.Prelude.{◌≡◌, IfOk};
 ghost use Rattle.sqlite_value.specs.Order.{column};
 ghost use Rattle.sms_store_sql.specs.listing.Columns.{text_in};

@@ -1,4 +1,4 @@
-//! What stands before a frame and before a PDU in a packet.
+//! The heads in front of a frame and of a PDU in a packet.
 ghost use Rattle.std.specs.Prelude.{◌≡◌};
 ghost use Rattle.sms_trace.specs.capture.Packets.{datagram_head, gsmtap_head, internet_fields, internet_head};
 

@@ -1,4 +1,4 @@
-//! What stands before a PDU in a packet.
+//! The heads in front of a PDU in a packet.
 ghost use Rattle.std.specs.Prelude.{◌≡◌, ◌≤◌, length};
 ghost use Rattle.sms_trace.specs.capture.Packets.{segment_checksum, segment_fields, segment_front, way_of};
 

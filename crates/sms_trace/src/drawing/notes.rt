@@ -46,7 +46,7 @@ fn again_word(is_again: bool) -> &'static str {
     if is_again { ", again" } else { "" }
 }
 
-/// What a frame carries, and whether it goes out again.
+/// What a frame carries, and whether it is sent again.
 pub fn frame_text(alloc: Global, frame: &FrameRow, is_again: bool) -> Result<String, AllocError> {
     let number = frame.number;
     let again = again_word(is_again);
@@ -157,7 +157,7 @@ pub fn answered_text(alloc: Global, answered: &Answered) -> Result<String, Alloc
     }
 }
 
-/// What a receipt tells, in a deliver_sm of that sequence number.
+/// What a receipt says, in a deliver_sm of that sequence number.
 pub fn receipt_text(
     alloc: Global,
     sequence: u32,

@@ -31,14 +31,14 @@ pub struct Arrow {
 /// A row of a ladder.
 #[derive(Clone, Copy)]
 pub enum Row {
-    /// Something goes from a lane to another.
+    /// Something is sent from a lane to another.
     Arrow(Arrow),
-    /// Something is done in that lane, and this character stands for it.
+    /// Something is done in that lane, drawn as this character.
     Mark(usize, u8),
 }
 
 impl Row {
-    /// The lane of the side that it comes to.
+    /// The lane of the side that it reaches.
     pub fn end(&self) -> usize {
         match self {
             Row::Arrow(arrow) => arrow.to,

@@ -1,4 +1,4 @@
-//! What went over the links so far: a frame that goes out again is known by it, and one that arrives again.
+//! What crossed the links so far, by which a frame that is sent or arrives again is recognised.
 use indexmap::IndexMap;
 use sms_base::{Carried, Holder, Kind};
 use sms_script::report::{Direction, FrameRow};
@@ -73,8 +73,8 @@ impl SentSoFar {
         }
     }
 
-    /// The frame is sent over the link of the handset in that lane. Whether it goes out again: an earlier one carried the same unit, for
-    /// the same holder, the same way.
+    /// The frame is sent over the link of the handset in that lane. It answers whether the frame is sent again: an
+    /// earlier one carried that unit, for that holder, the same way.
     pub fn send(&mut self, lane: usize, frame: &FrameRow) -> Result<bool, AllocError> {
         let Some(carried) = frame.carried else {
             return Ok(false);

@@ -7,7 +7,7 @@ ghost use Rattle.std.specs.Prelude.{◌≡◌, ◌+◌, ◌<◌};
 pub struct SequenceNumbers {
     /// The number of the application's last request.
     pub asked: u32,
-    /// The number of what the centre told it last.
+    /// The number of the centre's last request to it.
     pub told: u32,
 }
 
@@ -30,7 +30,7 @@ impl SequenceNumbers {
         self.asked
     }
 
-    /// The centre tells it something: the number of that.
+    /// The centre sends it a request: the number of that.
     pub fn tell(&mut self) -> u32
         ensures number { result ≡ self.new.told }
         ensures next { self.old.told < 4294967295 → self.new.told ≡ self.old.told + 1 }

@@ -105,7 +105,7 @@ impl SessionSoFar {
         Ok(())
     }
 
-    /// It is answered. Where the request does not stand in the capture, nothing is written.
+    /// It is answered. Where the request is not in the capture, nothing is written.
     pub fn answer(
         &mut self,
         alloc: Global,
@@ -126,7 +126,7 @@ impl SessionSoFar {
         Ok(())
     }
 
-    /// The centre tells it something.
+    /// The centre sends it a receipt.
     pub fn tell(
         &mut self,
         alloc: Global,
@@ -143,7 +143,7 @@ impl SessionSoFar {
         Ok(())
     }
 
-    /// It accepts what it was told.
+    /// It accepts the receipt.
     pub fn accept(
         &mut self,
         alloc: Global,

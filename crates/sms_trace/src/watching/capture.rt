@@ -1,4 +1,4 @@
-//! A run over a script, written as a capture file: what comes to the centre, and what leaves it.
+//! A run over a script, written as a capture file: what reaches the centre, and what leaves it.
 use crate::capture::{CapturedFrame, put_file_head, put_frame};
 use crate::sessions::{SessionSoFar, absolute_time, message_state};
 use crate::watching::heads::{Places, act_of};
@@ -14,7 +14,7 @@ use sms_script::report::{Answer, Answered, Direction, FrameRow};
 use sms_script::{Act, Setup, Submission, WorldEvent};
 use std::alloc::{AllocError, Global};
 
-/// A capture that is taken while the script is played: of what comes to the centre, and of what leaves it.
+/// A capture that is taken while the script is played: of what reaches the centre, and of what leaves it.
 #[derive(Drop)]
 pub struct Capture {
     alloc: Global,

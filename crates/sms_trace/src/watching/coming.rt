@@ -1,4 +1,4 @@
-//! How what comes to a side of a script is drawn.
+//! How an arrival at a side of a script is drawn.
 use crate::drawing::{Row, Stroke};
 use crate::watching::lanes::Lanes;
 use sms_play::judging::Scene;
@@ -21,7 +21,7 @@ fn arrived(lanes: &Lanes, frame: Option<&FrameRow>) -> Option<Row> {
     }
 }
 
-/// The row of an act: it comes to a side, or is done there. A frame that was not sent has none.
+/// The row of an act: it reaches a side, or is done there. A frame that was not sent has none.
 pub(crate) fn row_of<S: Scene>(lanes: &Lanes, act: &Act<'_>, scene: &S) -> Option<Row> {
     match act {
         Act::Submit(submission) => Some(asked(lanes, submission.name.as_slice())),

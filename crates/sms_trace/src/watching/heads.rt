@@ -1,4 +1,4 @@
-//! Where accounts and handsets stand in the head of a script, and the act of an event.
+//! The places of accounts and handsets in the head of a script, and the act of an event.
 use sms_base::{Digits, Octets};
 use sms_play::staging::spell;
 use sms_script::{Account, Act, HandsetSetup, Setup, WorldEvent};

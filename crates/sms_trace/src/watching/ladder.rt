@@ -67,7 +67,8 @@ impl Ladder {
         Ok(ladder)
     }
 
-    /// The ladder of a script that was played to its end. So many frames were sent; those that no event handed over stand at the end.
+    /// The ladder of a script that was played to its end. So many frames were sent; those that no event handed over are
+    /// listed at the end.
     pub fn finish(mut self, frames: usize) -> Result<Octets, AllocError> {
         self.put_lost(frames)?;
         Ok(self.out)

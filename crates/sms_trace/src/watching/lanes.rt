@@ -13,7 +13,7 @@ const MOST_ACCOUNTS: usize = 32;
 
 const MOST_HANDSETS: usize = 16;
 
-/// Where the sides of a script stand.
+/// The lanes of the sides of a script.
 #[derive(Drop)]
 pub(crate) struct Lanes {
     places: Places,

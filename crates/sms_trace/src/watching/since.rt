@@ -1,9 +1,9 @@
-//! What has come since an event began.
+//! What was added since an event began.
 use sms_centre_rows::reports::Delivery;
 use sms_play::judging::Scene;
 use sms_script::report::{Answer, FrameRow};
 
-/// How much had come when it began.
+/// How much there was when it began.
 #[derive(Clone, Copy)]
 pub(crate) struct Since {
     answers: usize,
@@ -12,7 +12,7 @@ pub(crate) struct Since {
 }
 
 impl Since {
-    /// Nothing has come yet.
+    /// Nothing is there yet.
     pub(crate) fn nothing() -> Since {
         Since {
             answers: 0,
@@ -21,7 +21,7 @@ impl Since {
         }
     }
 
-    /// All that has come so far.
+    /// All that is there so far.
     pub(crate) fn of<S: Scene>(scene: &S) -> Since {
         Since {
             answers: scene.answers().len(),
@@ -42,7 +42,7 @@ impl Since {
         &all[self.frames.min(all.len())..]
     }
 
-    /// The receipts that went to applications since.
+    /// The receipts that were sent to applications since.
     pub(crate) fn deliveries<'a, S: Scene>(&self, scene: &'a S) -> &'a [Delivery] {
         let all = scene.deliveries();
         &all[self.deliveries.min(all.len())..]

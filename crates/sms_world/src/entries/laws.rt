@@ -1,4 +1,4 @@
-//! What a handset's entries hold is told.
+//! Which reference a handset's entry has.
 ghost use Rattle.sms_world.specs.entries.ToldEntries.{EventLaw};
 
 /// Where a course tells of each entry of a sound handset's outbox that has not ended that its reference was given to it last, it tells so

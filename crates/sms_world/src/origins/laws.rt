@@ -1,4 +1,4 @@
-//! Whence messages come.
+//! The origins of messages.
 ghost use Rattle.sms_world.specs.origins.OriginLaws.{DeliveredLaw, OriginLaw, PlayedLaw, SubmitLaw};
 
 /// Whatever happens, each message in the centre's rows came of an event of the script: it is what the submit_sm of a `submit` reads as, or

@@ -1,4 +1,4 @@
-//! What is told of a script that was played to its end.
+//! The report of a script that was played to its end.
 ghost use Rattle.std.specs.Prelude.{Ok, Option, IfOk};
 ghost use Rattle.sms_play.specs.Course.{Course};
 ghost use Rattle.sms_play.specs.Playing.{report_of as report_of_course};

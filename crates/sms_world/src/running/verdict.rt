@@ -1,4 +1,4 @@
-//! What who looked on tells in the end.
+//! The verdict of the watcher in the end.
 ghost use Rattle.std.specs.Prelude.{◌≡◌, ⊤, Option};
 ghost use Rattle.sms_play.specs.Course.{Course};
 ghost use Rattle.sms_script.specs.declared.report.report.Broken.{Broken as BrokenOf};

@@ -5,8 +5,8 @@ ghost use Rattle.sms_world_refinement.specs.handset.OthersLaws.{CentreLaw, Other
 ghost use Rattle.sms_world_refinement.specs.handset.PlanLaws.{AdoptedLaw, PlanLaw};
 ghost use Rattle.sms_world_refinement.specs.handset.StopLaws.{StartLaw, StopLaw, StoppedLaw};
 
-/// Where a sound handset sees the world and is handed a frame of it, or one that carries nothing, the frame's event is steps of
-/// the world, all of them its own, and it sees where they lead.
+/// Where a sound handset refines the world and is handed a frame of it, or one that carries nothing, the frame's event
+/// is steps of the world. All of them are its own, and it refines the world to which they lead.
 pub fn a_frame_is_steps()
     ensures { FrameLaw }
 {}
@@ -24,15 +24,15 @@ pub fn acts_are_steps()
     ensures discard { DiscardLaw }
 {}
 
-/// What `Handset::plan` plans leads on in the world, whatever the event: its frames go on top of those that were sent, what its
-/// changes put is accepted and joined, and the handset that has adopted it sees where it led.
+/// What `Handset::plan` plans continues in the world, whatever the event. Its frames are added to those that were sent,
+/// and what its changes put is accepted and joined. The handset that has adopted it refines the world to which it led.
 pub fn plans_are_steps()
     ensures event { PlanLaw }
     ensures adopted { AdoptedLaw }
 {}
 
-/// What a stop leaves behind the store call shows the world without the event's frames; an event that was stopped so is steps
-/// of the world that send nothing; and a handset without rows sees the empty world.
+/// What a stop leaves after the store call refines the world without the event's frames. An event that was stopped so
+/// is steps of the world that send nothing. A handset without rows refines the empty world.
 pub fn stops_are_seen()
     ensures stopped { StoppedLaw }
     ensures stop { StopLaw }
@@ -45,8 +45,8 @@ pub fn others_leave_what_is_seen()
     ensures centre { CentreLaw }
 {}
 
-/// A handset's course, whatever it meets and however often it is stopped or restarts, is steps of the world, episode by episode,
-/// with what others do between them: from any world that it sees, and for a new handset from the empty one.
+/// A handset's course is steps of the world, episode by episode, with what others do between them. It may have any
+/// events, stops and restarts. It begins in any world that the handset refines, and for a new handset in the empty one.
 pub fn a_course_is_steps()
     ensures course { CourseLaw }
     ensures first { FirstCourseLaw }

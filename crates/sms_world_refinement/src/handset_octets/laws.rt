@@ -9,7 +9,7 @@ pub fn what_is_sent_is_octets()
     ensures course { CourseLaw }
 {}
 
-/// A frame of octets is one that may come.
+/// A frame of octets is one that may arrive.
 pub fn octets_may_come()
     ensures { ComesLaw }
 {}

@@ -24,10 +24,11 @@ fn put_table(
     put_totals(out, messages)
 }
 
-/// The table of messages and their parts: a line that names the columns, a line for each message, and a line for each state
-/// with the number of its messages.
+/// The table of messages and their parts: a line that names the columns, a line for each message, and a line for each
+/// state.
 ///
-/// Moments are `YYMMDDhhmm` at UTC. Costs a search of the parts for each message.
+/// A state's line has the number of its messages. Moments are `YYMMDDhhmm` at UTC. Costs a search of the parts for each
+/// message.
 #[tactic(auto, unfolding(crate::specs::centre_table::CentreTable::centre_table))]
 pub fn centre_table(
     alloc: Global,

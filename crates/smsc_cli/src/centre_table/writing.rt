@@ -13,7 +13,7 @@ use thiserror::Error;
 /// Why a table was not written to its end.
 #[derive(Debug, Drop, Error)]
 pub enum ShowError {
-    /// The parts don't stand in the order of their keys. Nothing was written.
+    /// The parts aren't in the order of their keys. Nothing was written.
     #[error("the rows are not sound")]
     BadRows,
     /// There was no memory. Nothing was written.

@@ -154,11 +154,11 @@ fn put_table(
     put_out_entries(alloc, out, outbox)
 }
 
-/// The table of an inbox and an outbox: each under a line that names its columns, with a line for each entry in the order in
-/// which they are given.
+/// The table of an inbox and an outbox. Each is under a line that names its columns, with a line for each entry in the
+/// given order.
 ///
-/// A line has the entry's number, the digits or the name that it comes from or goes to, its state, and its text: how many
-/// octets it has where it is no text, or `(no text)` where it can't be read.
+/// A line has the entry's number, the digits or the name of its originator or destination, its state, and its text.
+/// Where that is no text, it is how many octets it has; where it is unreadable, `(no text)`.
 #[tactic(auto, unfolding(crate::specs::handset_table::HandsetTable::handset_table))]
 pub fn handset_table(
     alloc: Global,

@@ -166,11 +166,11 @@ fn is_show(words: &[&str]) -> bool
     }
 }
 
-/// What the words, the program's own name first, ask of a handset.
+/// The run that the words ask of a handset, the program's own name first.
 ///
-/// `--connect PORT --number NUMBER --centre NUMBER --slots K --store FILE --frames N` in any order, where a PORT is 1 to
-/// 65535, a NUMBER 1 to 20 digits 0 to 9, K 1 to 255, FILE a path and N 0 to 4294967295; or `show --store FILE`. All else
-/// is bad words. Each value is the one that clap's matches of the words have for its option.
+/// They are `--connect PORT --number NUMBER --centre NUMBER --slots K --store FILE --frames N` in any order, or
+/// `show --store FILE`. A PORT is 1 to 65535, a NUMBER 1 to 20 digits 0 to 9, K 1 to 255, FILE a path and N 0 to
+/// 4294967295. All else is bad words. Each value is the one that clap's matches of the words have for its option.
 pub fn handset_words<'a>(
     alloc: Global,
     words: &'a [&'a str],

@@ -257,12 +257,12 @@ fn is_show(words: &[&str]) -> bool
     }
 }
 
-/// What the words, the program's own name first, ask of the server.
+/// The run that the words ask of the server, the program's own name first.
 ///
-/// `--store FILE --smpp PORT --links PORT --centre NUMBER --sessions N` in any order, where a FILE is a path, a PORT 1 to 65535, a
-/// NUMBER 1 to 20 digits 0 to 9 and N 0 to 4294967295, then perhaps `--accounts FILE`, and up to 32 accounts
-/// `NAME:PASSWORD:NUMBER`, each cut at its first two colons into a name of 1 to 15 and a password of up to 8 ASCII characters and a
-/// NUMBER, no two of one name; or `show --store FILE`. All else is bad words.
+/// They are `--store FILE --smpp PORT --links PORT --centre NUMBER --sessions N` in any order, or `show --store FILE`.
+/// A FILE is a path, a PORT 1 to 65535, a NUMBER 1 to 20 digits 0 to 9 and N 0 to 4294967295. Then `--accounts FILE`
+/// may follow, and up to 32 accounts `NAME:PASSWORD:NUMBER`, no two of one name. Each is cut at its first two colons
+/// into a name of 1 to 15 and a password of up to 8 ASCII characters and a NUMBER. All else is bad words.
 pub fn server_words<'a>(alloc: Global, words: &'a [&'a str]) -> Result<ServerWords<'a>, WordsFault>
     ensures { IfOk result (AsksOfServer (option_map (λ w. w.now) (slice_get words.entry.now 1)) (map (λ w. w.now) words.entry.now) (map (λ w. w.now) (drop 1 words.entry.now))) }
 {

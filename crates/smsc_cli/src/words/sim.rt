@@ -88,10 +88,10 @@ fn relay_words(options: &RelayOptions<'_>) -> Option<SimWords>
     Some(SimWords::Relay { centre, from, now })
 }
 
-/// What the words after the program's name ask of the simulator.
+/// The run that the words after the program's name ask of the simulator.
 ///
-/// `relay --centre NUMBER --from NUMBER --now SECONDS`, where a number is 1 to 20 digits 0 to 9 and the seconds are
-/// counted from 1970, in the years 2000 to 2099; all else is bad words. Each value is the one that clap's matches of
+/// They are `relay --centre NUMBER --from NUMBER --now SECONDS`. A number is 1 to 20 digits 0 to 9. The seconds are
+/// counted from 1970, in the years 2000 to 2099. All else is bad words. Each value is the one that clap's matches of
 /// the words have for its option.
 pub fn sim_words(alloc: Global, words: &[&str]) -> Result<SimWords, WordsFault>
     ensures { IfOk result (λ asked. AsksFor (map (λ w. w.now) words.now) asked) }

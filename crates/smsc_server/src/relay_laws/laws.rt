@@ -9,9 +9,10 @@ ghost use Rattle.sms_centre_spec.specs.SoundCore.{AreDifferent};
 ghost use Rattle.sms_relay.specs.RelayReading.{up_at};
 ghost use Rattle.smsc_server.specs.relay_laws.Relaying.{Relays, destination_of, handsets_for};
 
-/// A unit that CP-DATA can carry, of a handset that has a number, comes to a centre that starts at that moment with no rows, with links
-/// to the sender and to the handset that its SUBMIT names. What the centre's definition sends then is CP-ACK, the answer to the sender
-/// and what goes down, as `IsRelayed` says, each in CP-DATA on its handset's link, and nothing else. The handset named may be the sender.
+/// A unit that CP-DATA can carry, of a handset that has a number, reaches a centre that starts at that moment with no
+/// rows. The centre has links to the sender and to the handset that its SUBMIT names, which may be the sender. By its
+/// definition it then sends CP-ACK, the answer to the sender and the unit for the destination, as `IsRelayed` says.
+/// Each of the two is in CP-DATA on its handset's link, and nothing else is sent.
 pub fn an_empty_centre_relays_a_unit()
     ensures { (centre : Address) (from : List ℕ) (now : ℕ) (unit : List ℕ) → IsNumber from → IsMoment now → AreOctets unit → 0 < length unit → length unit ≤ 248 → Relays centre from now unit }
 {}

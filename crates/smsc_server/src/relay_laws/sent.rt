@@ -41,7 +41,8 @@ fn addressed(to: Option<Address>, unit: Option<Octets>) -> Option<(Address, Octe
     }
 }
 
-/// The units in the frames that a centre sent for a unit: CP-ACK, the answer, and what goes down.
+/// The units in the frames that a centre sent for a unit, which are CP-ACK, the answer, and the unit for the
+/// destination.
 pub fn units_in(alloc: Global, to: Option<Address>, frames: &[Sent]) -> Result<Relayed, AllocError>
     ensures { (centre : AddressOf) (from : List ℕ) (now : ℕ) (unit : List ℕ) (sent : RelayedOf)
         → IsRelayed centre (own_address from) now unit sent → told frames.now ≡ frames_of from sent → to ≡ destination_of (up_at unit)

@@ -80,7 +80,7 @@ fn refuse(
     Ok(answer(write_down(alloc, &error)?))
 }
 
-/// What a centre that holds nothing sends for a unit that CP-DATA can't carry, so that it never came over a link.
+/// What a centre without rows sends for a unit that CP-DATA can't carry, so that it never arrived over a link.
 pub fn relay_uncarried(alloc: Global, now: Moment, unit: &[u8]) -> Result<Relayed, AllocError>
     requires { 0 < length unit.now → length unit.now ≤ 248 → ⊥ }
     ensures { (centre from : AddressOf) → IfOk result (λ r. IsRelayed centre from now unit.now r) }

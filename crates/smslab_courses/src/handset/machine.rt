@@ -72,7 +72,8 @@ pub(crate) fn machine(alloc: Global, slots: u8) -> Result<Machine, Trouble> {
 
 /// The handset is switched off and on.
 pub(crate) fn restart(alloc: Global, machine: &mut Machine) -> Result<(), Trouble> {
-    let setup = setup(machine.keep.setup.slots)?;
+    let rows = machine.load()?;
+    let setup = setup(rows.setup.slots)?;
     match machine.reopen(alloc, setup) {
         Ok(()) => Ok(()),
         Err(_) => Err(Trouble::BadRows),

@@ -7,7 +7,6 @@ use sms_handset::{
     Counters, DiscardedGroup, Entry, EntryState, Group, Handset, LastAccepted, Message, OutEntry,
     Rows,
 };
-use sms_rows::keep::Keep;
 use smslab_lines::lines::Trouble;
 use smslab_lines::measuring::Sum;
 use std::io::Print;
@@ -16,12 +15,12 @@ use std::io::Print;
 pub(crate) fn tell_rows(rt: &HostRuntime, machine: &mut Machine) -> Result<(), Trouble> {
     let mut sum = Sum::new();
     take_kept(machine, &mut sum)?;
-    take_handset(&machine.handset, &mut sum);
+    take_handset(machine.handset(), &mut sum);
     Ok(println!(rt; "  rows {}", sum.hash)?)
 }
 
 fn take_kept(machine: &mut Machine, sum: &mut Sum) -> Result<(), Trouble> {
-    let rows = machine.keep.load()?;
+    let rows = machine.load()?;
     take_rows(&rows, sum);
     Ok(())
 }

@@ -36,8 +36,8 @@ fn tell_carried(rt: &HostRuntime, carried: Carried, is_copy: bool) -> Result<(),
 pub(crate) fn show(rt: &HostRuntime, machine: &Machine) -> Result<(), Trouble> {
     let table = handset_table(
         rt.alloc(),
-        machine.handset.inbox(),
-        machine.handset.outbox(),
+        machine.handset().inbox(),
+        machine.handset().outbox(),
     )?;
     let mut stdout = rt.stdout();
     Ok(stdout.write_all(table.as_slice())?)

@@ -76,11 +76,11 @@ pub fn tell_receipts(rt: &impl Print, receipts: &[ReceiptRow]) -> Result<(), Tro
 
 /// Writes how many rows are kept, and more of the last message and of the reports.
 pub fn tell_rows(rt: &impl Print, keep: &MemoryKeep) -> Result<(), Trouble> {
-    let messages = keep.messages.as_slice();
-    let parts = keep.parts.as_slice().len();
+    let messages = keep.messages().as_slice();
+    let parts = keep.parts().as_slice().len();
     println!(rt; "  {} messages, {parts} parts", messages.len())?;
     tell_split(rt, messages)?;
-    for report in keep.reports.as_slice() {
+    for report in keep.reports().as_slice() {
         tell_report(rt, report)?;
     }
     Ok(())

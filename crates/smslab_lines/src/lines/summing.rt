@@ -39,12 +39,12 @@ fn take_told(told: Happened<'_>, sum: &mut Sum) {
 }
 
 fn take_rows(keep: &MemoryKeep, sum: &mut Sum) {
-    take_messages(keep.messages.as_slice(), sum);
-    take_parts(keep.parts.as_slice(), sum);
-    take_references(keep.references.as_slice(), sum);
-    take_handsets(keep.handsets.as_slice(), sum);
-    take_reports(keep.reports.as_slice(), sum);
-    take_priorities(keep.priorities.as_slice(), sum);
+    take_messages(keep.messages().as_slice(), sum);
+    take_parts(keep.parts().as_slice(), sum);
+    take_references(keep.references().as_slice(), sum);
+    take_handsets(keep.handsets().as_slice(), sum);
+    take_reports(keep.reports().as_slice(), sum);
+    take_priorities(keep.priorities().as_slice(), sum);
 }
 
 // ---- values

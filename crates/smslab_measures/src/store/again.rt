@@ -10,7 +10,7 @@ use sms_centre_rows::messages::{MessageRow, PartRow, PriorityRow};
 use sms_centre_rows::waiting::{HandsetRow, Progress, Revision};
 use sms_rows::keep::Keep;
 use sms_rows::table::{Change, Key};
-use sms_store::centre::CentreKeep;
+use sms_store::CentreKeep;
 use sqlite::Alter;
 use std::alloc::Global;
 

@@ -4,7 +4,7 @@ use crate::store::changes::{no_changes, put_finished, put_open};
 use crate::store::words::Words;
 use sms_rows::keep::{BodyKeep, Keep};
 use sms_rows::table::Key;
-use sms_store::centre::CentreKeep;
+use sms_store::CentreKeep;
 use sqlite::Alter;
 
 /// How many messages come in one transaction.

@@ -7,7 +7,7 @@ use sms_base::Octets;
 use sms_centre::Changes;
 use sms_rows::keep::{BodyKeep, Keep};
 use sms_rows::table::Key;
-use sms_store::centre::CentreKeep;
+use sms_store::CentreKeep;
 use smslab_lines::measuring::Stopwatch;
 use sqlite::Alter;
 

@@ -4,7 +4,7 @@ use crate::store::meter::Meter;
 use sms_centre::{Centre, Rows, with_centre};
 use sms_rows::keep::Keep;
 use sms_rows::table::Table;
-use sms_store::centre::CentreKeep;
+use sms_store::CentreKeep;
 use smslab_lines::measuring::Stopwatch;
 use sqlite::Alter;
 

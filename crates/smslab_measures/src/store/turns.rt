@@ -3,9 +3,37 @@ use crate::error::BenchError;
 use crate::store::kept::{acknowledge_kept, offer_kept, submit_kept};
 use crate::store::meter::Meter;
 use crate::store::plain::{acknowledge_by_hand, offer_by_hand, submit_by_hand};
+use crate::store::rows::setup;
 use crate::store::words::{Turn, Words};
-use sms_store::centre::CentreKeep;
-use sqlite::Alter;
+use sms_store::CentreKeep;
+use sqlite::{Alter, Connection};
+
+/// What an event asks of a store.
+#[derive(Clone, Copy)]
+enum Kind {
+    Submission,
+    Offer,
+    Acknowledgement,
+}
+
+/// How long the keep took, and how long the statements by hand.
+#[derive(Drop)]
+struct Meters {
+    kept: Meter,
+    plain: Meter,
+}
+
+fn meters(kind: Kind) -> Meters {
+    let (kept, plain) = match kind {
+        Kind::Submission => ("submission_kept", "submission_by_hand"),
+        Kind::Offer => ("offer_kept", "offer_by_hand"),
+        Kind::Acknowledgement => ("acknowledgement_kept", "acknowledgement_by_hand"),
+    };
+    Meters {
+        kept: Meter::new(kept),
+        plain: Meter::new(plain),
+    }
+}
 
 // The keep's message of a turn, and the one beside it.
 fn pair(words: &Words, turn: u64) -> (Turn, Turn) {
@@ -13,61 +41,83 @@ fn pair(words: &Words, turn: u64) -> (Turn, Turn) {
     (words.turn(first), words.turn(first.saturating_add(1)))
 }
 
-fn submissions<S: Alter>(
+fn do_kept<S: Alter>(
     rt: &HostRuntime,
-    words: &Words,
+    kind: Kind,
     keep: &mut CentreKeep<S>,
+    meter: &mut Meter,
+    turn: Turn,
 ) -> Result<(), BenchError> {
-    let mut kept = Meter::new("submission_kept");
-    let mut plain = Meter::new("submission_by_hand");
-    for turn in 0..words.turns {
-        let (first, second) = pair(words, turn);
-        submit_kept(rt, keep, &mut kept, first)?;
-        submit_by_hand(rt, &mut keep.conn, &mut plain, second)?;
+    match kind {
+        Kind::Submission => submit_kept(rt, keep, meter, turn),
+        Kind::Offer => offer_kept(rt, keep, meter, turn),
+        Kind::Acknowledgement => acknowledge_kept(rt, keep, meter, turn),
     }
-    kept.tell(rt)?;
-    plain.tell(rt)
 }
 
-fn offers<S: Alter>(
+fn do_by_hand<S: Alter>(
     rt: &HostRuntime,
-    words: &Words,
-    keep: &mut CentreKeep<S>,
+    kind: Kind,
+    conn: &mut Connection<S>,
+    meter: &mut Meter,
+    turn: Turn,
 ) -> Result<(), BenchError> {
-    let mut kept = Meter::new("offer_kept");
-    let mut plain = Meter::new("offer_by_hand");
-    for turn in 0..words.turns {
-        let (first, second) = pair(words, turn);
-        offer_kept(rt, keep, &mut kept, first)?;
-        offer_by_hand(rt, &mut keep.conn, &mut plain, second)?;
+    match kind {
+        Kind::Submission => submit_by_hand(rt, conn, meter, turn),
+        Kind::Offer => offer_by_hand(rt, conn, meter, turn),
+        Kind::Acknowledgement => acknowledge_by_hand(rt, conn, meter, turn),
     }
-    kept.tell(rt)?;
-    plain.tell(rt)
 }
 
-fn acknowledgements<S: Alter>(
+fn keep_again<S: Alter + Drop>(
     rt: &HostRuntime,
-    words: &Words,
-    keep: &mut CentreKeep<S>,
-) -> Result<(), BenchError> {
-    let mut kept = Meter::new("acknowledgement_kept");
-    let mut plain = Meter::new("acknowledgement_by_hand");
-    for turn in 0..words.turns {
-        let (first, second) = pair(words, turn);
-        acknowledge_kept(rt, keep, &mut kept, first)?;
-        acknowledge_by_hand(rt, &mut keep.conn, &mut plain, second)?;
+    conn: Connection<S>,
+) -> Result<CentreKeep<S>, BenchError> {
+    let setup = setup(rt.alloc())?;
+    match CentreKeep::over(rt.alloc(), conn, setup) {
+        Ok(keep) => Ok(keep),
+        Err(error) => Err(BenchError::from(error)),
     }
-    kept.tell(rt)?;
-    plain.tell(rt)
 }
 
-/// Each kind of work, as often as the words say.
-pub(crate) fn measure<S: Alter>(
+// The keep does its message, gives its connection back for the other one, and is opened again, which no meter counts.
+fn take_turn<S: Alter + Drop>(
+    rt: &HostRuntime,
+    kind: Kind,
+    keep: CentreKeep<S>,
+    meters: &mut Meters,
+    turns: (Turn, Turn),
+) -> Result<CentreKeep<S>, BenchError> {
+    let mut keep = keep;
+    do_kept(rt, kind, &mut keep, &mut meters.kept, turns.0)?;
+    let mut conn = keep.into_connection();
+    do_by_hand(rt, kind, &mut conn, &mut meters.plain, turns.1)?;
+    keep_again(rt, conn)
+}
+
+fn take_turns<S: Alter + Drop>(
     rt: &HostRuntime,
     words: &Words,
-    keep: &mut CentreKeep<S>,
-) -> Result<(), BenchError> {
-    submissions(rt, words, keep)?;
-    offers(rt, words, keep)?;
-    acknowledgements(rt, words, keep)
+    kind: Kind,
+    keep: CentreKeep<S>,
+) -> Result<CentreKeep<S>, BenchError> {
+    let mut meters = meters(kind);
+    let mut keep = keep;
+    for turn in 0..words.turns {
+        keep = take_turn(rt, kind, keep, &mut meters, pair(words, turn))?;
+    }
+    meters.kept.tell(rt)?;
+    meters.plain.tell(rt)?;
+    Ok(keep)
+}
+
+/// Each kind of work, as often as the words say. Gives the keep back.
+pub(crate) fn measure<S: Alter + Drop>(
+    rt: &HostRuntime,
+    words: &Words,
+    keep: CentreKeep<S>,
+) -> Result<CentreKeep<S>, BenchError> {
+    let keep = take_turns(rt, words, Kind::Submission, keep)?;
+    let keep = take_turns(rt, words, Kind::Offer, keep)?;
+    take_turns(rt, words, Kind::Acknowledgement, keep)
 }

@@ -3,7 +3,7 @@ use crate::failure::Failure;
 use crate::keeping::{keep_over, text_of, text_over};
 use crate::rows::setup;
 use sms_rows::keep::KeepError;
-use sms_store_memory::centre::MemoryKeep;
+use sms_store::CentreMemoryKeep;
 use sqlite::{Alter, Connection};
 use std::alloc::Global;
 use stopping_files::{Image, Made, Trial, stop_opening};
@@ -35,7 +35,7 @@ impl Trial for OpenTrial {
 // A centre's first rows, as the keep in memory has them.
 fn first_text(alloc: Global) -> Result<String, Failure> {
     let setup = setup(alloc)?;
-    Ok(text_of(alloc, MemoryKeep::new(alloc, setup))?)
+    Ok(text_of(alloc, CentreMemoryKeep::new(alloc, setup))?)
 }
 
 /// Stops the making of a store anywhere.

@@ -4,7 +4,7 @@ use crate::found::stands_on;
 use crate::openings::written::{HANDSET, NOTES, PRIORITIES, RANKED, ROWS, TABLES, write};
 use crate::rows::setup;
 use sms_centre_spec::Setup;
-use sms_store::centre::CentreKeep;
+use sms_store::CentreKeep;
 use sqlite::{Alter, Connection};
 use std::alloc::Global;
 

@@ -5,7 +5,8 @@ use crate::stores::course::no_changes;
 use sms_centre_spec::Changes;
 use sms_rows::keep::Keep;
 use sms_rows::table::{Change, Key};
-use sms_store::centre::{CentreKeep, in_memory};
+use sms_store::CentreKeep;
+use sms_store::centre::in_memory;
 use sqlite::Alter;
 use std::alloc::Global;
 

@@ -5,8 +5,8 @@ use crate::found::Found;
 use crate::rows::setup;
 use crate::stores::course::Commit;
 use crate::stores::run::run;
+use sms_store::CentreMemoryKeep;
 use sms_store::centre::in_memory;
-use sms_store_memory::centre::MemoryKeep;
 use std::alloc::Global;
 use std::io::Print;
 
@@ -18,7 +18,13 @@ pub(crate) fn commit_in_memory(
     found: &mut Found,
 ) -> Result<(), Failure> {
     let setup = setup(alloc)?;
-    run(alloc, MemoryKeep::new(alloc, setup), commits, count, found)
+    run(
+        alloc,
+        CentreMemoryKeep::new(alloc, setup),
+        commits,
+        count,
+        found,
+    )
 }
 
 fn commit_over_database(

@@ -6,7 +6,7 @@ use crate::stores::course::{Commit, changes_of};
 use crate::stores::keeps::commit_in_memory;
 use sms_centre_spec::{Changes, Rows};
 use sms_rows::keep::{Keep, KeepError};
-use sms_store::centre::CentreKeep;
+use sms_store::CentreKeep;
 use sqlite::{Alter, Connection};
 use std::alloc::Global;
 use stopping_files::{Image, Made, RowsAround, Trial, refusal_at_stop, stop_anywhere};

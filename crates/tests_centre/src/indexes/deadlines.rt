@@ -1,5 +1,6 @@
-//! Deadlines come in any order, and are found when their moment has come.
-use crate::indexes::rows::{at, holds, message};
+//! Deadlines are added in any order, and are found when their moment is reached.
+use crate::indexes::names::{at, message};
+use crate::rows::holds;
 use sms_base::Moment;
 use sms_rows::expiry::{Deadline, Deadlines};
 use std::alloc::Global;

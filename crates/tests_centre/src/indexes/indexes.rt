@@ -1,5 +1,6 @@
-//! An index beside a copy of it that goes on.
-use crate::indexes::rows::{at, holds};
+//! An index beside a copy of it that changes on.
+use crate::indexes::names::at;
+use crate::rows::holds;
 use sms_base::Moment;
 use sms_rows::index::{Dated, Index};
 use sms_rows::table::{Key, Row};

@@ -1,5 +1,6 @@
 //! A value is kept once, under a place that stays.
-use crate::indexes::rows::{digits, holds};
+use crate::indexes::names::digits;
+use crate::rows::holds;
 use sms_base::Octets;
 use sms_rows::interning::{Accounts, Numbers};
 use std::alloc::Global;

@@ -1,5 +1,6 @@
 //! What waits for a handset, and its line.
-use crate::indexes::rows::{at, digits, holds, message};
+use crate::indexes::names::{at, digits, message};
+use crate::rows::holds;
 use sms_base::{Holder, Kind};
 use sms_centre_queue::queue::Shelf;
 use sms_centre_rows::waiting::Load;

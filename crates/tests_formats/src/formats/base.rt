@@ -1,11 +1,9 @@
 //! Moments, addresses, identities and lists: worked values, and each call at its greatest size.
-use crate::formats::rows::holds;
+use crate::examples::LEAP_DAY;
+use crate::rows::holds;
 use sms_base::{Address, Listed, MessageId, Moment, MomentError, Octets, TypeOfNumber};
 use std::alloc::Global;
 use std::test::Fail;
-
-// Thursday 29 February 2024, 23:59:58 at UTC.
-const LEAP_DAY: u64 = 1_709_251_198;
 
 const LEAP_DAY_STAMP: [u8; 7] = [0x42, 0x20, 0x92, 0x32, 0x95, 0x85, 0x00];
 

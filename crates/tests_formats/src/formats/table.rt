@@ -1,5 +1,5 @@
 //! Tables, over rows of a number and a letter.
-use crate::formats::rows::holds;
+use crate::rows::holds;
 use sms_rows::table::{Change, Key, Pending, Row, Table, adopt, rises};
 use std::alloc::Global;
 use std::test::Fail;

@@ -1,5 +1,6 @@
 //! Whole TPDUs in their octets, each public call once with ample memory, and SUBMITs that another implementation made.
-use crate::formats::rows::{are, holds};
+use crate::examples::{DELIVER, LEAP_DAY, SUBMIT};
+use crate::rows::{are, holds};
 use sms_base::{Address, Moment, Octets};
 use sms_tpdu::{
     Carrier, Deliver, Down, FailureCause, Status, StatusReport, Submit, Up, UserData,
@@ -8,14 +9,6 @@ use sms_tpdu::{
 };
 use std::alloc::Global;
 use std::test::Fail;
-
-// Thursday 29 February 2024, 23:59:58 at UTC.
-const LEAP_DAY: u64 = 1_709_251_198;
-
-const SUBMIT: &[u8] = b"\x01\x07\x0C\x91\x44\x77\x00\x09\x40\x65\x00\x00\x05\xE8\x32\x9B\xFD\x06";
-
-const DELIVER: &[u8] =
-    b"\x04\x0C\x91\x44\x77\x00\x09\x10\x32\x00\x00\x42\x20\x92\x32\x95\x85\x00\x05\xE8\x32\x9B\xFD\x06";
 
 // A header of five octets behind its length, then one septet.
 const WITH_HEADER: &[u8] =

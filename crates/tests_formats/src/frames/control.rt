@@ -1,5 +1,5 @@
 //! Frames of the control layer: worked, with a fault, and at their greatest size.
-use crate::frames::rows::{are, holds, is};
+use crate::rows::{are, are_parts, holds};
 use sms_base::{OctetView, Octets};
 use sms_control::{
     Cp, CpCause, CpFault, LinkError, MessageType, Transaction, TransactionFlag,
@@ -62,7 +62,7 @@ fn faults_are_named() -> Result<(), Fail> {
 fn is_written_alike(alloc: Global, octets: &[u8]) -> Result<bool, Fail> {
     let cp = Cp::read(octets)?;
     let written = cp.write(alloc)?;
-    Ok(is(written.as_slice(), octets))
+    Ok(are(written.as_slice(), octets))
 }
 
 const FRAMES: &[&[u8]] = &[
@@ -109,7 +109,7 @@ fn is_data(octets: &[u8]) -> bool {
 fn the_greatest_frame_is_written(rt: HostRuntime) -> Result<(), Fail> {
     let written = longest(rt.alloc())?;
     holds(
-        are(written.as_slice(), &[&[0xE9, 0x01, 0xF8], LONGEST]),
+        are_parts(written.as_slice(), &[&[0xE9, 0x01, 0xF8], LONGEST]),
         "a frame",
     )?;
     holds(

@@ -1,18 +1,12 @@
 //! Whole units in the octets of a network trace, and at their greatest size.
-use crate::frames::rows::{are, holds, is};
+use crate::examples::{DELIVER, SMMA, SUBMIT};
+use crate::rows::{are, are_parts, holds};
 use sms_base::{OctetView, Octets};
 use sms_relay::{RelayFault, Rp, RpCause, read_down, read_up, write_down, write_up};
 use std::alloc::Global;
 use std::test::Fail;
 
-const SMMA: &[u8] = b"\x06\x05";
-
 const CENTRE: &[u8] = b"\x91\x44\x77\x00\x09\x00\x00";
-
-const SUBMIT: &[u8] = b"\x01\x07\x0C\x91\x44\x77\x00\x09\x40\x65\x00\x00\x05\xE8\x32\x9B\xFD\x06";
-
-const DELIVER: &[u8] =
-    b"\x04\x0C\x91\x44\x77\x00\x09\x10\x32\x00\x00\x42\x20\x92\x32\x95\x85\x00\x05\xE8\x32\x9B\xFD\x06";
 
 const REPORT: &[u8] = b"\x01\x00\x42\x20\x92\x32\x95\x85\x00";
 
@@ -38,7 +32,7 @@ fn is_submit(octets: &[u8]) -> bool {
                 centre,
                 unit,
             },
-        ) => is(centre.as_slice(), CENTRE) && is(unit.as_slice(), SUBMIT),
+        ) => are(centre.as_slice(), CENTRE) && are(unit.as_slice(), SUBMIT),
         _ => false,
     }
 }
@@ -160,10 +154,10 @@ fn error_down(alloc: Global) -> Result<Octets, Fail> {
 
 #[test]
 fn writes_what_a_centre_sends(rt: HostRuntime) -> Result<(), Fail> {
-    holds(is(data_down(rt.alloc())?.as_slice(), DATA_DOWN), "RP-DATA")?;
-    holds(is(ack_down(rt.alloc())?.as_slice(), ACK_DOWN), "RP-ACK")?;
+    holds(are(data_down(rt.alloc())?.as_slice(), DATA_DOWN), "RP-DATA")?;
+    holds(are(ack_down(rt.alloc())?.as_slice(), ACK_DOWN), "RP-ACK")?;
     holds(
-        is(error_down(rt.alloc())?.as_slice(), ERROR_DOWN),
+        are(error_down(rt.alloc())?.as_slice(), ERROR_DOWN),
         "RP-ERROR",
     )
 }
@@ -183,8 +177,8 @@ fn data_up(alloc: Global) -> Result<Octets, Fail> {
 
 #[test]
 fn writes_what_a_handset_sends(rt: HostRuntime) -> Result<(), Fail> {
-    holds(is(smma_up(rt.alloc())?.as_slice(), SMMA), "RP-SMMA")?;
-    holds(is(data_up(rt.alloc())?.as_slice(), DATA_UP), "RP-DATA")
+    holds(are(smma_up(rt.alloc())?.as_slice(), SMMA), "RP-SMMA")?;
+    holds(are(data_up(rt.alloc())?.as_slice(), DATA_UP), "RP-DATA")
 }
 
 // The longest address of a centre: a type octet and 20 digits.
@@ -239,7 +233,7 @@ fn the_greatest_data_is_written(rt: HostRuntime) -> Result<(), Fail> {
         &[0xFF],
         &LONGEST,
     ];
-    holds(are(up.as_slice(), parts), "RP-DATA of a handset")?;
+    holds(are_parts(up.as_slice(), parts), "RP-DATA of a handset")?;
     let down = longest_data_down(rt.alloc())?;
     let parts: &[&[u8]] = &[
         &[0x01, 0xFF, 0x0B],
@@ -247,7 +241,7 @@ fn the_greatest_data_is_written(rt: HostRuntime) -> Result<(), Fail> {
         &[0x00, 0xFF],
         &LONGEST,
     ];
-    holds(are(down.as_slice(), parts), "RP-DATA of a centre")
+    holds(are_parts(down.as_slice(), parts), "RP-DATA of a centre")
 }
 
 fn is_interworking(octets: &[u8]) -> bool {
@@ -266,12 +260,12 @@ fn is_interworking(octets: &[u8]) -> bool {
 fn the_greatest_answers_are_written(rt: HostRuntime) -> Result<(), Fail> {
     let ack = longest_ack_up(rt.alloc())?;
     holds(
-        are(ack.as_slice(), &[&[0x02, 0xFF, 0x41, 0xFF], &LONGEST]),
+        are_parts(ack.as_slice(), &[&[0x02, 0xFF, 0x41, 0xFF], &LONGEST]),
         "RP-ACK",
     )?;
     let error = longest_error_down(rt.alloc())?;
     let parts: &[&[u8]] = &[&[0x05, 0xFF, 0x01, 0x7F, 0x41, 0xFF], &LONGEST];
-    holds(are(error.as_slice(), parts), "RP-ERROR")?;
+    holds(are_parts(error.as_slice(), parts), "RP-ERROR")?;
     holds(is_interworking(error.as_slice()), "RP-ERROR that is read")
 }
 

@@ -1,14 +1,13 @@
 //! Transactions of one end of a link, over frames from outside: rows of calls, with the frames that each sends and what
-//! goes up.
-use crate::frames::rows::{are, holds, is};
+//! it passes up.
+use crate::examples::SMMA;
+use crate::rows::{are, are_parts, holds};
 use sms_base::Moment;
 use sms_control::{LinkError, Links, Out, Up};
 use std::test::Fail;
 
 // 2024-02-29 23:59:58.
 const T0: u64 = 1_709_251_198;
-
-const SMMA: &[u8] = b"\x06\x05";
 
 const ACK: &[u8] = b"\x03\x05";
 
@@ -76,7 +75,7 @@ fn sends(out: &Out, frames: &[&[u8]]) -> bool {
         return false;
     }
     for (sent, frame) in out.frames.as_slice().iter().zip(frames) {
-        if !is(sent.as_slice(), frame) {
+        if !are(sent.as_slice(), frame) {
             return false;
         }
     }
@@ -86,7 +85,7 @@ fn sends(out: &Out, frames: &[&[u8]]) -> bool {
 fn goes(links: &mut Links, row: &Row) -> Result<bool, Fail> {
     let (call, frames, told) = row;
     let out = called(links, call)?;
-    Ok(sends(&out, frames) && is(up(&out), told))
+    Ok(sends(&out, frames) && are(up(&out), told))
 }
 
 // Each row goes so, after those before it.
@@ -203,14 +202,14 @@ const LONGEST: &[u8] = &[0x5A; 248];
 // Whether one frame is sent: the octets, the length 248 and the longest unit.
 fn sends_longest(out: &Out, first: &[u8]) -> bool {
     match out.frames.as_slice() {
-        [frame] => are(frame.as_slice(), &[first, &[0xF8], LONGEST]),
+        [frame] => are_parts(frame.as_slice(), &[first, &[0xF8], LONGEST]),
         _ => false,
     }
 }
 
 fn tells_longest(links: &mut Links, frame: &[u8]) -> Result<bool, Fail> {
     let out = taken(links, frame)?;
-    Ok(is(up(&out), LONGEST))
+    Ok(are(up(&out), LONGEST))
 }
 
 // The other end takes the frame that was sent, and the longest unit goes up.

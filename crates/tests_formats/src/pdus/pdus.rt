@@ -2,8 +2,8 @@
 use crate::pdus::exchanges::{
     BIND, BIND_ANSWER, ENQUIRE, ENQUIRE_ANSWER, SHORT_LENGTH, SUBMIT, SUBMIT_ANSWER,
 };
-use crate::pdus::rows::{are, holds};
 use crate::pdus::vectors;
+use crate::rows::{are, holds};
 use smpp_pdu::{
     Bind, BindResp, Body, CommandId, CommandStatus, Header, Message, MessageResp, Pdu, PduFault,
     TlvTag, Tlvs,

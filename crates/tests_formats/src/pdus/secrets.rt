@@ -1,6 +1,6 @@
 //! No PDU shows the password that it has.
 use crate::pdus::exchanges::BIND;
-use crate::pdus::rows::holds;
+use crate::rows::holds;
 use smpp_pdu::{Bind, Body, Pdu};
 use std::alloc::Global;
 use std::fmt::Debug;

@@ -1,8 +1,8 @@
 //! The default alphabet, its packing, UCS2 and data coding schemes.
 ghost use Rattle.std.specs.Prelude.{◌<◌};
 
+use crate::rows::{are, holds, is_code};
 use crate::texts::other_implementations::{SEPTETS, UCS2};
-use crate::texts::rows::{are, holds, is_code};
 use sms_alphabet::{
     Coding, check, dcs, fill_bits, greatest_length, header_septets, pack, septets_of, text_of,
     ucs2_of, ucs2_text, unpack,

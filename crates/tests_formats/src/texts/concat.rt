@@ -1,5 +1,5 @@
 //! Headers of user data, and the parts of a long message.
-use crate::texts::rows::{are, holds, is_code};
+use crate::rows::{are, holds, is_code};
 use sms_alphabet::Coding;
 use sms_base::Octets;
 use sms_concat::{

@@ -1,5 +1,5 @@
 //! Parts that are joined one after the other.
-use crate::texts::rows::{are, holds, is_code};
+use crate::rows::{are, holds, is_code};
 use sms_alphabet::Coding;
 use sms_base::Octets;
 use sms_concat::joiner::{AddError, Joiner};

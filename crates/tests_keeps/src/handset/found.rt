@@ -76,13 +76,12 @@ fn describe_rows(alloc: Global, rows: &Rows, found: &mut Found) -> Result<(), Fa
 }
 
 /// Says what stands in a keep, and what the handset shows.
-pub(crate) fn describe<K: Keep<Rows = Rows, Changes = Changes>>(
+pub(crate) fn describe(
     alloc: Global,
-    keep: &mut K,
     handset: &Handset,
+    rows: &Rows,
     found: &mut Found,
 ) -> Result<(), Failure> {
     found.table = handset_table(alloc, handset.inbox(), handset.outbox())?;
-    let rows = keep.load()?;
-    describe_rows(alloc, &rows, found)
+    describe_rows(alloc, rows, found)
 }

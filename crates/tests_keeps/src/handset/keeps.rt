@@ -4,8 +4,8 @@ use crate::handset::failure::{Failure, Finding, holds};
 use crate::handset::found::Found;
 use crate::handset::plays::Play;
 use crate::handset::run::{run, setup};
+use sms_store::HandsetMemoryKeep;
 use sms_store::handset::in_memory;
-use sms_store_memory::handset::MemoryKeep;
 use std::alloc::Global;
 use std::io::{Print, Write};
 
@@ -16,7 +16,13 @@ fn play_in_memory(
     found: &mut Found,
 ) -> Result<(), Failure> {
     let setup = setup(play.slots)?;
-    run(alloc, MemoryKeep::new(alloc, setup), play, count, found)
+    run(
+        alloc,
+        HandsetMemoryKeep::new(alloc, setup),
+        play,
+        count,
+        found,
+    )
 }
 
 fn play_over_database(

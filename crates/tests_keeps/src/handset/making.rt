@@ -6,7 +6,7 @@ use crate::handset::run::setup;
 use crate::handset::stopping::text_over;
 use sms_handset::{Rows, Setup};
 use sms_rows::keep::KeepError;
-use sms_store::handset::HandsetKeep;
+use sms_store::HandsetKeep;
 use sqlite::{Alter, Connection};
 use std::alloc::Global;
 use std::io::Print;

@@ -6,7 +6,8 @@ use crate::handset::run::{run, setup};
 use sms_handset::{Changes, DiscardedGroup, Entry, LastAccepted, OutEntry, Rows, Setup};
 use sms_rows::keep::Keep;
 use sms_rows::table::{Key, Pending, Row, Settled, Table};
-use sms_store::handset::{HandsetKeep, in_memory};
+use sms_store::HandsetKeep;
+use sms_store::handset::in_memory;
 use sqlite::{Alter, Connection};
 use std::alloc::{AllocError, Global};
 

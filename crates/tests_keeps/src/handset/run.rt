@@ -118,10 +118,10 @@ fn start_again<K: Keep<Rows = Rows, Changes = Changes> + Drop>(
     machine: &mut HandsetMachine<K>,
     slots: u8,
 ) -> Result<(), Failure> {
-    let running = lists_of(alloc, &machine.handset)?;
+    let running = lists_of(alloc, machine.handset())?;
     let setup = setup(slots)?;
     machine.reopen(alloc, setup)?;
-    let started = lists_of(alloc, &machine.handset)?;
+    let started = lists_of(alloc, machine.handset())?;
     holds(started == running, Finding::OtherHandset)
 }
 
@@ -136,7 +136,8 @@ fn play_on<K: Keep<Rows = Rows, Changes = Changes> + Drop>(
 {
     meet_first(machine, play, count)?;
     start_again(alloc, machine, play.slots)?;
-    describe(alloc, &mut machine.keep, &machine.handset, found)
+    let rows = machine.load()?;
+    describe(alloc, machine.handset(), &rows, found)
 }
 
 fn machine_over<K: Keep<Rows = Rows, Changes = Changes> + Drop>(

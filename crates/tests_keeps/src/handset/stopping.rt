@@ -11,8 +11,7 @@ use sms_base::OctetView;
 use sms_base::lending::lend;
 use sms_handset::{Changes, Handset, HandsetEvent, Rows, Setup};
 use sms_rows::keep::{Keep, KeepError, Refusals};
-use sms_store::handset::HandsetKeep;
-use sms_store_memory::handset::MemoryKeep;
+use sms_store::{HandsetKeep, HandsetMemoryKeep};
 use sqlite::{Alter, Connection};
 use std::alloc::Global;
 use std::io::Print;
@@ -120,7 +119,7 @@ impl<'a> Trial for LoadTrial<'a> {
 #[derive(Drop)]
 pub(crate) struct StoppingKeep<'a> {
     rt: &'a HostRuntime,
-    memory: &'a mut MemoryKeep,
+    memory: &'a mut HandsetMemoryKeep,
     image: Image,
     refusals: Refusals,
 }
@@ -132,7 +131,7 @@ impl<'a> StoppingKeep<'a> {
     {
         let alloc = self.rt.alloc();
         let trial = CommitTrial {
-            setup: self.memory.setup,
+            setup: self.memory.setup(),
             changes,
         };
         self.image = stop_anywhere(alloc, &trial, &self.image, wanted)?;
@@ -201,7 +200,7 @@ impl<'a> Keep for StoppingKeep<'a> {
     }
 }
 
-fn stop_over(rt: &HostRuntime, memory: &mut MemoryKeep) -> Result<(), Failure> {
+fn stop_over(rt: &HostRuntime, memory: &mut HandsetMemoryKeep) -> Result<(), Failure> {
     let mut found = Found::new(rt.alloc());
     let keep = StoppingKeep {
         rt,
@@ -216,8 +215,8 @@ fn stop_over(rt: &HostRuntime, memory: &mut MemoryKeep) -> Result<(), Failure> {
 pub(crate) fn stop_course(rt: &HostRuntime) -> Result<&'static str, Failure> {
     let setup = setup(COURSE.slots)?;
     lend(
-        MemoryKeep::new(rt.alloc(), setup),
-        |memory: &mut MemoryKeep| stop_over(rt, memory),
+        HandsetMemoryKeep::new(rt.alloc(), setup),
+        |memory: &mut HandsetMemoryKeep| stop_over(rt, memory),
     )?;
     Ok("in each commit the rows before it, or after it")
 }

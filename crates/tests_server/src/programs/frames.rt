@@ -1,5 +1,5 @@
 //! Frames in a stream: whole, in two pieces, octet by octet, faulty, and at their greatest size.
-use crate::programs::rows::holds;
+use crate::rows::holds;
 use sms_base::Octets;
 use sms_link::framing::{FrameBuffer, FramingFault, is_frame, push_frame};
 use std::alloc::Global;

@@ -1,5 +1,5 @@
 //! Lines of an owner: read, and the first that is bad.
-use crate::programs::rows::holds;
+use crate::rows::holds;
 use sms_script::ScriptFault;
 use sms_script::owner::{OwnersAct, read_acts};
 use std::alloc::Global;

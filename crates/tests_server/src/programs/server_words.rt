@@ -1,5 +1,5 @@
 //! Words of the server, and lines of its accounts' file.
-use crate::programs::rows::holds;
+use crate::rows::holds;
 use smsc_cli::words::{AccountWords, ServerRun, ServerWords, WordsFault, add_lines, server_words};
 use std::alloc::Global;
 use std::test::Fail;

@@ -1,5 +1,5 @@
 //! Words of a handset.
-use crate::programs::rows::holds;
+use crate::rows::holds;
 use smsc_cli::words::{HandsetWords, WordsFault, handset_words};
 use std::alloc::Global;
 use std::test::Fail;

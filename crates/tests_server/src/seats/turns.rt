@@ -1,5 +1,5 @@
-//! A guest, what is done with it, and what is to come of it.
-use crate::seats::rows::holds;
+//! A guest, what is done with it, and what it has to do.
+use crate::rows::{holds, name_of};
 use smpp_pdu::CommandStatus;
 use smpp_session::{Account, Accounts, BindKind};
 use sms_base::lending::lend;
@@ -306,19 +306,6 @@ fn take_turn<G: Guest>(
             Ok(true)
         }
         Turn::Shows(sight) => Ok(shows(guest, sight)),
-    }
-}
-
-// The turns of a course, as a failure names them.
-const NAMES: [&str; 12] = [
-    "turn 1", "turn 2", "turn 3", "turn 4", "turn 5", "turn 6", "turn 7", "turn 8", "turn 9",
-    "turn 10", "turn 11", "turn 12",
-];
-
-fn name_of(at: usize) -> &'static str {
-    match NAMES.get(at) {
-        Some(name) => *name,
-        None => "a later turn",
     }
 }
 

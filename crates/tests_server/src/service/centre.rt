@@ -1,6 +1,6 @@
 //! A centre that has no message yet, and what applications ask of it.
+use crate::clock_and_gate::Still;
 use sms_base::{Address, Listed, Moment, Octets};
-use sms_keeper::Clock;
 use sms_store_memory::centre::MemoryKeep;
 use smsc_service::{CentreAccount, Setup};
 use std::alloc::Global;
@@ -36,19 +36,6 @@ pub(crate) const ENQUIRE: &[u8] = &[
 ];
 
 /// A clock that always shows the start.
-#[derive(Clone, Copy)]
-pub(crate) struct Still(Moment);
-
-impl Clock for Still {
-    ghost use Rattle.std.specs.Prelude.{◌≡◌};
-
-    ghost shows = { λ c m. m ≡ c.0 };
-
-    fn now(&self) -> Moment {
-        self.0
-    }
-}
-
 pub(crate) fn clock() -> Result<Still, Fail> {
     Ok(Still(Moment::from_seconds(START)?))
 }

@@ -1,7 +1,8 @@
 //! A submit is held between what the centre plans of it and its commit; all other sessions are answered meanwhile.
+use crate::clock_and_gate::Still;
+use crate::rows::holds;
 use crate::service::board::{Board, Held};
-use crate::service::centre::{Still, clock, keep};
-use crate::service::rows::holds;
+use crate::service::centre::{clock, keep};
 use crate::service::talker::{Act, HELD, OTHER, Talker};
 use smpp_session::{Account, Accounts};
 use sms_base::Octets;

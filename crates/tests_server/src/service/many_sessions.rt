@@ -1,24 +1,17 @@
 //! Lists of a submit and a query, each by a session in a thread of its own.
+use crate::clock_and_gate::Open;
+use crate::rows::holds;
 use crate::service::centre::{QUERY, SUBMIT, clock, keep};
-use crate::service::rows::holds;
 use sms_base::Octets;
 use sms_centre_spec::CentreAnswer;
 use sms_centre_spec::jobs::{Job, Reply};
 use sms_hub::{ManyRun, Run, many_sessions, two_sessions};
-use sms_keeper::{Gate, Item, Machine, Stimulus};
+use sms_keeper::{Item, Machine, Stimulus};
 use smsc_service::serve_with;
 use std::alloc::Global;
 use std::sync::Wait;
 use std::test::Fail;
 use std::thread::Threads;
-
-// A gate that is open.
-#[derive(Clone, Copy)]
-struct Open;
-
-impl Gate for Open {
-    fn pass(&self) {}
-}
 
 // ---- lists
 

@@ -1,4 +1,4 @@
-//! A store in memory that fails when it is told to.
+//! A store in memory that fails on demand.
 ghost use Rattle.std.specs.Prelude.{◌≡◌, ⊤, refl};
 ghost use Rattle.sms_centre_spec.proofs.bodies.Bodies.{bodies_given};
 ghost use Rattle.sms_store_memory.specs.centre.RowsInKeep.{rows_in};
@@ -12,28 +12,55 @@ use sms_rows::keep::{BodyKeep, Keep, KeepError, Refusals};
 use sms_rows::table::Key;
 use sms_store_memory::centre::MemoryKeep;
 use smsc_service::CentreStore;
-
-/// The rows of a centre in memory.
-#[derive(Drop)]
-pub(crate) struct Store {
-    keep: MemoryKeep,
-    /// How many commits it will take; it refuses the others.
-    pub(crate) commits: u32,
-    /// How many bodies it will give; it refuses the others.
-    pub(crate) bodies: u32,
-    refusals: Refusals,
-}
+use std::cell::Cell;
 
 /// More commits and bodies than any course has.
 pub(crate) const MANY: u32 = 1000;
 
-impl Store {
-    /// A store that fails at nothing.
-    pub(crate) fn new(keep: MemoryKeep) -> Store {
+/// How much a store does. Whoever has the store may set this meanwhile.
+#[derive(Drop)]
+pub(crate) struct Limits {
+    /// How many commits it will take; it refuses the others.
+    pub(crate) commits: Cell<u32>,
+    /// How many bodies it will give; it refuses the others.
+    pub(crate) bodies: Cell<u32>,
+}
+
+impl Limits {
+    /// A store with these fails at nothing.
+    pub(crate) fn none() -> Limits {
+        Limits {
+            commits: Cell::new(MANY),
+            bodies: Cell::new(MANY),
+        }
+    }
+}
+
+// One call less is left, if there was one.
+fn is_left(limit: &Cell<u32>) -> bool {
+    match limit.get().checked_sub(1) {
+        Some(left) => {
+            limit.set(left);
+            true
+        }
+        None => false,
+    }
+}
+
+/// The rows of a centre in memory.
+#[derive(Drop)]
+pub(crate) struct Store<'a> {
+    keep: MemoryKeep,
+    limits: &'a Limits,
+    refusals: Refusals,
+}
+
+impl<'a> Store<'a> {
+    /// A store that fails where the limits are met.
+    pub(crate) fn new(keep: MemoryKeep, limits: &'a Limits) -> Store<'a> {
         Store {
             keep,
-            commits: MANY,
-            bodies: MANY,
+            limits,
             refusals: Refusals::none(),
         }
     }
@@ -59,7 +86,7 @@ fn count_read<T>(refusals: &mut Refusals, key: Key, answer: &Result<T, KeepError
     }
 }
 
-impl Keep for Store {
+impl Keep for Store<'_> {
     type Rows = Rows;
 
     type Changes = Changes;
@@ -77,11 +104,10 @@ impl Keep for Store {
     ghost refusals = { λ store. store.refusals };
 
     fn commit(&mut self, changes: &Changes) -> Result<(), KeepError> {
-        if self.commits == 0 {
+        if !is_left(&self.limits.commits) {
             self.refusals.call();
             return Err(KeepError::Disk);
         }
-        self.commits -= 1;
         let committed = self.keep.commit(changes);
         count(&mut self.refusals, &committed);
         committed
@@ -94,22 +120,21 @@ impl Keep for Store {
     }
 }
 
-impl BodyKeep for Store {
+impl BodyKeep for Store<'_> {
     ghost body_of = { octets_at };
 
     fn body(&mut self, key: Key) -> Result<Option<Octets>, KeepError> {
-        if self.bodies == 0 {
+        if !is_left(&self.limits.bodies) {
             self.refusals.read(key);
             return Err(KeepError::Disk);
         }
-        self.bodies -= 1;
         let body = self.keep.body(key);
         count_read(&mut self.refusals, key, &body);
         body
     }
 }
 
-impl CentreStore for Store {
+impl CentreStore for Store<'_> {
     fn gather(&mut self) -> Result<Rows, KeepError> {
         self.load()
     }

@@ -1,4 +1,4 @@
-//! What seats are told.
+//! The replies of seats.
 use smpp_pdu::CommandStatus;
 use sms_centre_spec::CentreAnswer;
 use sms_centre_spec::jobs::Reply;

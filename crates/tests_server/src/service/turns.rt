@@ -1,11 +1,12 @@
-//! A service, what happens to it, and what is told.
+//! A service, what happens to it, and its replies.
+use crate::clock_and_gate::Open;
+use crate::rows::{holds, name_of};
 use crate::service::asks::{Asked, START, asks, ticks};
-use crate::service::rows::holds;
-use crate::service::store::Store;
+use crate::service::store::{Limits, Store};
 use crate::service::telling::{To, is_step};
 use sms_base::{Address, Listed, Moment, Octets};
 use sms_centre_spec::jobs::Job;
-use sms_keeper::{Fate, Gate, Machine, Stimulus};
+use sms_keeper::{Fate, Machine, Stimulus};
 use sms_store_memory::centre::MemoryKeep;
 use smsc_service::{CentreAccount, Service, Setup, serve_with};
 use std::alloc::Global;
@@ -24,12 +25,6 @@ pub(crate) enum Turn {
     Bodies(u32),
     /// The service starts again with the rows of its store.
     Reopens,
-}
-
-struct Open;
-
-impl Gate for Open {
-    fn pass(&self) {}
 }
 
 // ---- a service
@@ -57,21 +52,26 @@ fn setup(alloc: Global) -> Result<Setup, Fail> {
 }
 
 // A store of a centre that has no message yet.
-fn opened(alloc: Global) -> Result<Store, Fail> {
+fn opened<'a>(alloc: Global, limits: &'a Limits) -> Result<Store<'a>, Fail> {
     let setup = setup(alloc)?;
-    Ok(Store::new(MemoryKeep::new(alloc, setup)))
+    Ok(Store::new(MemoryKeep::new(alloc, setup), limits))
 }
 
 // ---- turns
 
-fn meets(service: &mut Service<Store>, stimulus: &Stimulus<Job>, fate: Fate, told: &[To]) -> bool {
+fn meets(
+    service: &mut Service<Store<'_>>,
+    stimulus: &Stimulus<Job>,
+    fate: Fate,
+    told: &[To],
+) -> bool {
     let step = service.step(&Open, stimulus);
     is_step(&step, fate, told)
 }
 
 fn takes_job(
     alloc: Global,
-    service: &mut Service<Store>,
+    service: &mut Service<Store<'_>>,
     seat: usize,
     asked: &Asked,
     fate: Fate,
@@ -82,7 +82,7 @@ fn takes_job(
 }
 
 fn takes_tick(
-    service: &mut Service<Store>,
+    service: &mut Service<Store<'_>>,
     seconds: u32,
     fate: Fate,
     told: &[To],
@@ -91,42 +91,39 @@ fn takes_tick(
     Ok(meets(service, &stimulus, fate, told))
 }
 
-fn reopens(service: &mut Service<Store>) -> bool {
+fn reopens(service: &mut Service<Store<'_>>) -> bool {
     service.reopen().is_ok()
 }
 
-fn take_turn(alloc: Global, service: &mut Service<Store>, turn: &Turn) -> Result<bool, Fail> {
+fn take_turn(
+    alloc: Global,
+    service: &mut Service<Store<'_>>,
+    limits: &Limits,
+    turn: &Turn,
+) -> Result<bool, Fail> {
     match turn {
         Turn::Job(seat, asked, fate, told) => takes_job(alloc, service, *seat, asked, *fate, told),
         Turn::Tick(seconds, fate, told) => takes_tick(service, *seconds, *fate, told),
         Turn::Commits(count) => {
-            service.machine.keep.commits = *count;
+            limits.commits.set(*count);
             Ok(true)
         }
         Turn::Bodies(count) => {
-            service.machine.keep.bodies = *count;
+            limits.bodies.set(*count);
             Ok(true)
         }
         Turn::Reopens => Ok(reopens(service)),
     }
 }
 
-// The turns of a course, as a failure names them.
-const NAMES: [&str; 12] = [
-    "turn 1", "turn 2", "turn 3", "turn 4", "turn 5", "turn 6", "turn 7", "turn 8", "turn 9",
-    "turn 10", "turn 11", "turn 12",
-];
-
-fn name_of(at: usize) -> &'static str {
-    match NAMES.get(at) {
-        Some(name) => *name,
-        None => "a later turn",
-    }
-}
-
-fn go(alloc: Global, service: &mut Service<Store>, turns: &[Turn]) -> Result<(), Fail> {
+fn go(
+    alloc: Global,
+    service: &mut Service<Store<'_>>,
+    limits: &Limits,
+    turns: &[Turn],
+) -> Result<(), Fail> {
     for (at, turn) in turns.iter().enumerate() {
-        let holding = take_turn(alloc, service, turn)?;
+        let holding = take_turn(alloc, service, limits, turn)?;
         holds(holding, name_of(at))?;
     }
     Ok(())
@@ -134,6 +131,9 @@ fn go(alloc: Global, service: &mut Service<Store>, turns: &[Turn]) -> Result<(),
 
 /// Each turn of the course is as told.
 pub(crate) fn plays(alloc: Global, turns: &[Turn]) -> Result<(), Fail> {
-    let store = opened(alloc)?;
-    serve_with(alloc, store, |service| go(alloc, service, turns))?
+    let limits = Limits::none();
+    let store = opened(alloc, &limits)?;
+    serve_with(alloc, store, |service| {
+        go(alloc, service, &limits, turns)
+    })?
 }

@@ -1,13 +1,14 @@
-//! A machine that counts what seats ask, answers each request, and sends a frame where a link comes up and for each frame.
+//! A machine that counts what seats ask, answers each request, and sends a frame for each link that is up and for each
+//! frame.
 ghost use Rattle.std.specs.Prelude.{◌≡◌, ◌∷◌, [], IfOk};
 ghost use Rattle.sms_centre_spec.specs.declared.answer.CentreAnswer.TheVariants.{Refused};
 ghost use Rattle.sms_centre_spec.specs.declared.jobs.reply.Reply.TheVariants.{Answer, Frame};
 
 use smpp_pdu::CommandStatus;
-use sms_base::{Moment, Octets};
+use sms_base::Octets;
 use sms_centre_spec::CentreAnswer;
 use sms_centre_spec::jobs::{Job, Reply};
-use sms_keeper::{Broken, Clock, Fate, Gate, Machine, Out, Outs, Step, Stimulus};
+use sms_keeper::{Broken, Fate, Gate, Machine, Out, Outs, Step, Stimulus};
 use std::alloc::{AllocError, Global};
 
 /// The frame that a link is sent: CP-DATA with an RP-DATA of `hello`. Its octets are not looked at.
@@ -169,26 +170,4 @@ impl Machine<Job, Reply> for Counter {
     fn reopen(&mut self) -> Result<(), Broken> {
         Ok(())
     }
-}
-
-/// A clock that always shows one moment.
-#[derive(Clone, Copy)]
-pub(crate) struct Still(pub(crate) Moment);
-
-impl Clock for Still {
-    ghost use Rattle.std.specs.Prelude.{◌≡◌};
-
-    ghost shows = { λ c m. m ≡ c.0 };
-
-    fn now(&self) -> Moment {
-        self.0
-    }
-}
-
-/// A gate that is open.
-#[derive(Clone, Copy)]
-pub(crate) struct Open;
-
-impl Gate for Open {
-    fn pass(&self) {}
 }

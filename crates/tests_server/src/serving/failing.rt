@@ -1,6 +1,7 @@
 //! Each call of a wire refused in turn.
-use crate::serving::answering::{Counter, FRAME, Still, Tally};
-use crate::serving::rows::holds;
+use crate::clock_and_gate::Still;
+use crate::rows::holds;
+use crate::serving::answering::{Counter, FRAME, Tally};
 use crate::serving::table::{ANSWERS, REQUESTS, Side, Table, is_even, is_whole, make_room, run};
 use crate::serving::wire::Script;
 use sms_base::Moment;

@@ -1,6 +1,7 @@
 //! Guests that are given up, and guests that leave.
-use crate::serving::answering::{Counter, Still};
-use crate::serving::rows::holds;
+use crate::clock_and_gate::Still;
+use crate::rows::holds;
+use crate::serving::answering::Counter;
 use crate::serving::table::{
     ANSWERS, ENDED, REQUESTS, SILENT, STALLED, Side, Table, is_even, is_whole, make_room, run,
 };

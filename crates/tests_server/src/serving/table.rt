@@ -3,8 +3,9 @@ ghost use Rattle.std.specs.Prelude.{◌≡◌, false};
 ghost use Rattle.sms_keeper.specs.Jobs.{has_end};
 ghost use Rattle.sms_keeper.specs.Seating.{put_by};
 
-use crate::serving::answering::{Counter, Open, Still, Tally};
-use crate::serving::rows::holds;
+use crate::clock_and_gate::{Open, Still};
+use crate::rows::holds;
+use crate::serving::answering::{Counter, Tally};
 use crate::serving::wire::Script;
 use smpp_session::{Account, Accounts};
 use sms_base::Octets;

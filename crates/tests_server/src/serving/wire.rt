@@ -1,4 +1,4 @@
-//! A wire that stands in for a socket.
+//! A wire that replaces a socket.
 use sms_keeper::Bell;
 use smsc_endpoint::{Received, Wire};
 use std::sync::Wait;

@@ -1,6 +1,6 @@
 //! Outs and the codes of faults.
 use crate::hub::counter::Reply;
-use crate::hub::rows::holds;
+use crate::rows::holds;
 use sms_hub::{HubFault, Out, Outs};
 use std::alloc::Global;
 use std::test::Fail;

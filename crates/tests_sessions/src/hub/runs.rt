@@ -1,6 +1,6 @@
 //! Runs of lists of jobs, each in a thread of its own.
 use crate::hub::counter::{Counter, Open, Reply, Still};
-use crate::hub::rows::holds;
+use crate::rows::holds;
 use sms_base::Moment;
 use sms_hub::{Fate, HubFault, Item, ManyRun, Run, Stimulus, many_sessions, two_sessions};
 use std::alloc::Global;

@@ -1,6 +1,6 @@
 //! Both ends of a link, over frames from outside: rows of calls, with the frames that each sends, what each carries and
-//! whether it is a copy, and what goes up.
-use crate::links::rows::{are, holds, is};
+//! whether it is a copy, and what it passes up.
+use crate::rows::{are, are_parts, holds};
 use sms_base::{Carried, Holder, Kind, Moment, Octets};
 use sms_link::{Ending, Link, LinkOut, Outgoing, Side, Upward};
 use sms_relay::RpCause;
@@ -108,11 +108,11 @@ fn carried_by(frame: &[u8]) -> Option<Carried> {
 }
 
 fn is_data(frame: &Outgoing, expected: &[u8]) -> bool {
-    is(frame.octets.as_slice(), expected) && frame.carried == carried_by(expected)
+    are(frame.octets.as_slice(), expected) && frame.carried == carried_by(expected)
 }
 
 fn is_bare(frame: &Outgoing, expected: &[u8]) -> bool {
-    is(frame.octets.as_slice(), expected) && frame.carried.is_none() && !frame.is_copy
+    are(frame.octets.as_slice(), expected) && frame.carried.is_none() && !frame.is_copy
 }
 
 fn is_sent(frame: &Outgoing, sent: &Sent) -> bool {
@@ -145,7 +145,7 @@ fn ending_word(ending: &Ending) -> &'static str {
 }
 
 fn unit_word(unit: &[u8]) -> &'static str {
-    if is(unit, DATA_UP) {
+    if are(unit, DATA_UP) {
         "opened"
     } else {
         "another unit"
@@ -305,7 +305,7 @@ fn is_refusal(ending: &Ending, refusal: &[u8]) -> bool {
         Ending::Refused {
             cause: RpCause::ShortMessageTransferRejected,
             tpdu: Some(tpdu),
-        } => is(tpdu.as_slice(), refusal),
+        } => are(tpdu.as_slice(), refusal),
         _ => false,
     }
 }
@@ -350,7 +350,7 @@ const REFUSING: &[u8] = b"\x89\x01\xF8\x05\x03\x01\x15\x41\xF2";
 fn sends_longest(frames: &[Outgoing], first: &[u8], carried: Carried) -> bool {
     match frames {
         [frame] => {
-            are(frame.octets.as_slice(), &[first, &[0xF8], LONGEST])
+            are_parts(frame.octets.as_slice(), &[first, &[0xF8], LONGEST])
                 && frame.carried == Some(carried)
         }
         _ => false,
@@ -359,7 +359,7 @@ fn sends_longest(frames: &[Outgoing], first: &[u8], carried: Carried) -> bool {
 
 fn is_longest(up: &Option<Upward>) -> bool {
     match up {
-        Some(Upward::Opened(unit)) => is(unit.as_slice(), LONGEST),
+        Some(Upward::Opened(unit)) => are(unit.as_slice(), LONGEST),
         _ => false,
     }
 }

@@ -1,9 +1,9 @@
-//! Deliver_sm that go out, and their answers.
+//! Each deliver_sm that is sent, and its answer.
+use crate::rows::holds;
 use crate::smpp::exchanges::{
     BIND, BIND_ANSWER, BIND_TRANSMITTER, DELIVERED_4, TRANSMITTER_ANSWER,
 };
 use crate::smpp::limits::message;
-use crate::smpp::rows::holds;
 use crate::smpp::sessions::{bound, session};
 use smpp_session::{Action, Actions, DeliverFault, Session};
 use std::test::Fail;

@@ -3,8 +3,8 @@ ghost use Rattle.std.specs.Prelude.{◌≡◌, ◌≤◌, ◌<◌, [], length};
 ghost use Rattle.smpp_pdu.specs.Writing.{IsWritable};
 ghost use Rattle.smpp_session.specs.Sessions.{IsDeliverable};
 
+use crate::rows::holds;
 use crate::smpp::exchanges::{BIND, BIND_ANSWER, SUBMIT_HEADER};
-use crate::smpp::rows::holds;
 use crate::smpp::sessions::{bound, session, silent};
 use smpp_pdu::{Body, Message, Pdu, SmeAddress, Tlvs};
 use smpp_session::{Action, Actions, Session};

@@ -1,6 +1,6 @@
 //! No type that holds a password shows it.
+use crate::rows::holds;
 use crate::smpp::exchanges::BIND;
-use crate::smpp::rows::holds;
 use crate::smpp::sessions::{accounts, session, silent};
 use smpp_session::{Account, Call};
 use sms_base::{OctetView, Octets};

@@ -5,12 +5,12 @@ ghost use Rattle.smpp_pdu.specs.BodyGrammar.{IsQueryRespValue};
 ghost use Rattle.smpp_pdu.specs.Writing.{IsMessageRespValue};
 ghost use Rattle.smpp_session.specs.Calls.{IsCall};
 
+use crate::rows::{are, holds};
 use crate::smpp::exchanges::{
     ALREADY_BOUND, BIND, BIND_ANSWER, ENQUIRE, ENQUIRE_ANSWER, LENGTH_REFUSED, LONG_LENGTH,
     NET_SMPP, QUERY_SM_RESP, SHORT_LENGTH, SUBMIT, SUBMIT_ANSWER, SUBMIT_CUT_SHORT, SUBMIT_HEADER,
     SUBMIT_NOT_BOUND,
 };
-use crate::smpp::rows::{are, holds};
 use smpp_pdu::{CommandStatus, MessageResp, QuerySmResp};
 use smpp_session::{
     Account, Accounts, Action, Actions, Answer, Call, Request, Session, SessionState, run,

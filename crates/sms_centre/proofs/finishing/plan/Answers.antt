@@ -1,6 +1,6 @@
 use Rattle.std.proofs.Common.{◌≡◌, Ok, subst}
 use Rattle.std.specs.Prelude.{IfOk, Result}
-use Rattle.sms_centre_offers.proofs.OneOffer.{unless_alike}
+use Rattle.sms_centre_events.proofs.offering.OneOffer.{unless_alike}
 use Rattle.sms_centre.specs.plans.Planned.{IsPlanned}
 use Rattle.sms_centre.specs.Planning.{PlannedOf}
 use Rattle.std.specs.declared.alloc.AllocError.{AllocError}

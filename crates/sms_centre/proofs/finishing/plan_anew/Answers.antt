@@ -2,7 +2,7 @@ use Rattle.std.proofs.Common.{inr, refl}
 use Rattle.sms_centre_spec.specs.CentreEvent.{follow}
 use Rattle.sms_centre.specs.Acting.{congested}
 use Rattle.sms_centre.specs.Planning.{PlannedOf}
-use Rattle.sms_centre_offers.proofs.OneOffer.{goes_off, goes_on}
+use Rattle.sms_centre_events.proofs.offering.OneOffer.{goes_off, goes_on}
 use Rattle.sms_centre.specs.plans.Planned.{IsPlanned}
 use Rattle.sms_centre_draft.specs.Working.{Shows}
 use Rattle.sms_centre.proofs.finishing.plan_anew.Goals as goal

@@ -3,7 +3,7 @@ use Rattle.sms_centre_spec.specs.CentreEvent.{follow}
 use Rattle.sms_centre.specs.Acting.{acted, congested}
 use Rattle.sms_centre.specs.Planning.{PlannedOf}
 use Rattle.sms_centre.proofs.Stopped.{stops_alike}
-use Rattle.sms_centre_offers.proofs.OneOffer.{goes_on}
+use Rattle.sms_centre_events.proofs.offering.OneOffer.{goes_on}
 use Rattle.sms_centre.specs.plans.Planned.{IsPlanned}
 use Rattle.sms_centre_draft.specs.Working.{Shows}
 use Rattle.sms_centre.proofs.finishing.plan_begun.Goals as goal

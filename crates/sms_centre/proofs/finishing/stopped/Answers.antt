@@ -6,8 +6,8 @@ use Rattle.sms_centre.specs.Planning.{PlannedOf}
 use Rattle.sms_centre.specs.Stopping.{Stops}
 use Rattle.sms_centre.specs.declared.finishing.Stop.{Stop}
 use Rattle.sms_centre.proofs.Stopped.{goes_since}
-use Rattle.sms_centre_offers.specs.Going.{Goes}
-use Rattle.sms_centre_offers.specs.Stored.{CanOffer}
+use Rattle.sms_centre_events.specs.offering.Going.{Goes}
+use Rattle.sms_centre_events.specs.offering.Stored.{CanOffer}
 use Rattle.sms_centre.specs.plans.Planned.{IsPlanned}
 use Rattle.sms_centre.proofs.finishing.stopped.Goals as goal
 

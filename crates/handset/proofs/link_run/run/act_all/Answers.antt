@@ -5,6 +5,7 @@ use Rattle.sms_script.specs.declared.owner.act.OwnersAct.{OwnersAct}
 use Rattle.handset.specs.link_run.Asking.{event_of}
 use Rattle.handset.specs.link_run.Course.{Meets}
 use Rattle.handset.proofs.link_run.Courses.{act_at, asked_untimed, meets_join, meets_none, meets_one}
+use Rattle.sms_handset.specs.machine.InMachine.{core_in}
 use Rattle.handset.proofs.link_run.run.act_all.Goals as goal
 
 pub loop-asked-init : goal.loop-asked-init
@@ -19,9 +20,9 @@ loop-asked-preserved g c =
     act_at c.args.acts.now c.loop-asked.asked-index asked c.loop-asked-test.true c.asked-item.is in
     let ticked = c.in_ok-tick.ensures in
     let done = c.in_ok-act.ensures.sends in
-    let core = c.act.new.machine.handset.core in
-    let acted : Meets (event_of asked ∷ []) c.tick.new.machine.handset.core core (g.W.Write.contents c.tick.new.link) (g.W.Write.contents c.act.new.link) =
-    subst (λ (l : List HandsetEvent). Meets l c.tick.new.machine.handset.core core (g.W.Write.contents c.tick.new.link) (g.W.Write.contents c.act.new.link)) (asked_untimed asked) (meets_one (event_of asked) _ _ _ _ done.0 done.1.0 done.1.1) in (
+    let core = core_in c.act.new.machine in
+    let acted : Meets (event_of asked ∷ []) (core_in c.tick.new.machine) core (g.W.Write.contents c.tick.new.link) (g.W.Write.contents c.act.new.link) =
+    subst (λ (l : List HandsetEvent). Meets l (core_in c.tick.new.machine) core (g.W.Write.contents c.tick.new.link) (g.W.Write.contents c.act.new.link)) (asked_untimed asked) (meets_one (event_of asked) _ _ _ _ done.0 done.1.0 done.1.1) in (
       before.0 ++ event_of asked ∷ [],
       (
         append_assoc before.0 (event_of asked ∷ []) (map event_of behind) ∙ (ap (λ (l : List OwnersAct). before.0 ++ map event_of l) (sym next) ∙ before.1.0),

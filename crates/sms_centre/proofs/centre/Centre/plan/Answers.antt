@@ -1,7 +1,7 @@
 use Rattle.std.proofs.Common.{ℕ, List, sym, subst}
 use Rattle.sms_centre_spec.specs.Draft.{Draft}
-use Rattle.sms_centre_offers.specs.Going.{Goes}
-use Rattle.sms_centre_offers.specs.Stored.{CanOffer}
+use Rattle.sms_centre_events.specs.offering.Going.{Goes}
+use Rattle.sms_centre_events.specs.offering.Stored.{CanOffer}
 use Rattle.sms_centre.specs.plans.Planned.{IsPlanned}
 use Rattle.sms_centre.specs.state.Standing.{IsStanding, StandingOf}
 use Rattle.sms_centre.specs.Acting.{acted}

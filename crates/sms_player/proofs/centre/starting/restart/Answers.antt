@@ -2,6 +2,7 @@ use Rattle.std.proofs.Common.{◌≤◌, ◌∙◌, ap, length, List, sym, subst
 use Rattle.sms_store_memory.specs.centre.RowsInKeep.{rows_in}
 use Rattle.sms_centre_spec.specs.CentreEvent.{moment_of, recovered}
 use Rattle.sms_centre_spec.specs.declared.rows.Rows.{Rows}
+use Rattle.sms_centre_spec.specs.declared.setup.Setup.{Setup}
 use Rattle.sms_centre.specs.FromBelow.{IsStanding, StandingOf}
 use Rattle.sms_intake.specs.declared.submission.Account.{Account}
 use Rattle.sms_play.specs.PlayedEvent.{sessions_from}
@@ -10,11 +11,11 @@ use Rattle.sms_player.proofs.centre.starting.restart.Goals as goal
 
 pub sessions_of-requires : goal.sessions_of-requires
 sessions_of-requires c = let was = c.requires.stands.1 in
-    subst (λ (accounts : List Account). length accounts ≤ 32) (sym (c.as_slice.ensures ∙ ap (λ (r : Rows). r.setup.accounts) was.kept)) was.accounts
+    subst (λ (accounts : List Account). length accounts ≤ 32) (sym (c.as_slice.ensures ∙ ap (λ (s : Setup). s.accounts) c.setup.ensures ∙ ap (λ (r : Rows). r.setup.accounts) was.kept)) was.accounts
 
 pub returns-in-Ok-clause-played : goal.returns-in-Ok-clause-played
 returns-in-Ok-clause-played c = λ core was.
-    let seats = c.in_ok-sessions.ensures.sessions ∙ ap (λ (accounts : List Account). sessions_from 0 accounts) (c.as_slice.ensures ∙ ap (λ (r : Rows). r.setup.accounts) was.kept) in
+    let seats = c.in_ok-sessions.ensures.sessions ∙ ap (λ (accounts : List Account). sessions_from 0 accounts) (c.as_slice.ensures ∙ ap (λ (s : Setup). s.accounts) c.setup.ensures ∙ ap (λ (r : Rows). r.setup.accounts) was.kept) in
     again_is core c.args.handsets.now c.start_again.new.self (rows_in c.args.keep.now)
     (recovered_as core.rows c.args.handsets.now _ _ c.start_again.new.self seats
     (c.in-Ok.ensures.standing core was.centre (c.moment_of-moment.ensures ∙ ap (λ (r : Rows). moment_of r) was.kept)))

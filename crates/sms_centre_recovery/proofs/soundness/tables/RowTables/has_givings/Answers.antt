@@ -1,8 +1,8 @@
 use Rattle.std.proofs.Common.{◌∙◌, ap, map}
 use Rattle.std.specs.List.{list_all}
-use Rattle.sms_centre_recovery.specs.soundness.Differing.{differ}
-use Rattle.sms_centre_recovery.specs.soundness.GivingTest.{is_given, is_mentioned, number_key}
-use Rattle.sms_centre_recovery.proofs.soundness.GivingsTested.{givings_from, givings_to}
+use Rattle.sms_centre_soundness.specs.Differing.{differ}
+use Rattle.sms_centre_soundness.specs.GivingTest.{is_given, is_mentioned, number_key}
+use Rattle.sms_centre_soundness.proofs.GivingsTested.{givings_from, givings_to}
 use Rattle.sms_centre_recovery.proofs.soundness.Together.{three_from, three_to}
 use Rattle.sms_centre_recovery.proofs.soundness.tables.RowTables.has_givings.Goals as goal
 

@@ -1,0 +1,138 @@
+//! The unit in which a TPDU is offered, and the transaction that carries it.
+ghost use Rattle.std.specs.Prelude.{◌≡◌, ◌<◌, ◌≤◌, ◌↔◌, length, true, IfOk, OnOk};
+ghost use Rattle.sms_relay.specs.RelayGrammar.{IsCentre, IsTpdu, data_down};
+ghost use Rattle.sms_rows.specs.table.Keys.{AllDigits};
+ghost use Rattle.sms_tpdu.specs.MoreMessages.{telling};
+ghost use Rattle.sms_centre_spec.specs.Draft.{Draft};
+ghost use Rattle.sms_centre_spec.specs.Offering.{holder_of as holder_of_load};
+ghost use Rattle.sms_centre_events.specs.offering.Going.{UnlessMemory};
+ghost use Rattle.sms_centre_events.specs.offering.Offered.{offer_in};
+ghost use Rattle.sms_centre_draft.specs.Working.{Shows};
+
+use sms_base::{Digits, Holder, OctetView, Octets};
+use sms_centre_draft::Working;
+use sms_centre_rows::waiting::Load;
+use sms_centre_spec::PlanError;
+use sms_relay::{Rp, write_down};
+use sms_tpdu::tell_more_messages;
+use std::alloc::{AllocError, Global};
+
+// The TPDU tells whether more waits.
+fn told(tpdu: Octets, more: bool) -> Octets
+    ensures { result ≡ telling more tpdu }
+{
+    let mut octets = tpdu.into_vec();
+    tell_more_messages(octets.as_mut_slice(), more);
+    Octets::from_vec(octets)
+}
+
+// RP-DATA.
+fn data_unit(alloc: Global, reference: u8, centre: &[u8], tpdu: &[u8]) -> Result<Octets, AllocError>
+    requires centre { IsCentre centre.now }
+    requires tpdu { IsTpdu tpdu.now }
+    ensures { IfOk result (λ unit. unit ≡ data_down reference centre.now tpdu.now) }
+{
+    write_down(
+        alloc,
+        &Rp::DataUnit {
+            reference,
+            centre: OctetView::of(centre),
+            unit: OctetView::of(tpdu),
+        },
+    )
+}
+
+// Whether a TPDU fits RP-DATA from that centre, which takes 248 octets at most.
+fn fits(centre: &[u8], tpdu: &[u8]) -> bool
+    ensures { (result ≡ true) ↔ ((2 ≤ length centre.now) × ((length centre.now ≤ 11) × (length tpdu.now ≤ 232))) }
+{
+    centre.len() >= 2 && centre.len() <= 11 && tpdu.len() <= 232
+}
+
+// The unit in which the TPDU goes, if it fits.
+fn unit(
+    alloc: Global,
+    reference: u8,
+    centre: &[u8],
+    tpdu: Octets,
+    more: bool,
+) -> Result<Octets, PlanError>
+    ensures is { 2 ≤ length centre.now → length centre.now ≤ 11 → length tpdu ≤ 200
+        → UnlessMemory (λ unit. unit ≡ data_down reference centre.now (telling more tpdu)) result }
+    ensures fits { IfOk result (λ unit. (0 < length unit) × (length unit ≤ 248)) }
+{
+    let octets = told(tpdu, more);
+    if !fits(centre, octets.as_slice()) {
+        return Err(PlanError::NoBody);
+    }
+    match data_unit(alloc, reference, centre, octets.as_slice()) {
+        Ok(unit) => Ok(unit),
+        Err(_) => Err(PlanError::NoMemory),
+    }
+}
+
+// Number 0 is a status report.
+fn holder_of(load: &Load) -> Holder
+    ensures { result ≡ holder_of_load load.now }
+{
+    match load.number {
+        0 => Holder::Report(load.id),
+        number => Holder::Part(load.id, number),
+    }
+}
+
+// A transaction to the handset begins with the unit.
+fn begun(
+    working: &mut Working<'_>,
+    handset: Digits,
+    load: &Load,
+    unit: &[u8],
+) -> Result<(), AllocError>
+    requires digits { AllDigits handset }
+    requires some { 0 < length unit.now }
+    requires fits { length unit.now ≤ 248 }
+    ensures { (d : Draft) → Shows d working.old → OnOk result (Shows (offer_in handset unit.now load.now d) working.new) }
+{
+    let now = working.now();
+    let holder = holder_of(load);
+    working
+        .shelves
+        .begin(handset, now, load.reference, holder, unit)?;
+    Ok(())
+}
+
+fn begin(
+    working: &mut Working<'_>,
+    handset: Digits,
+    load: &Load,
+    unit: &[u8],
+) -> Result<(), PlanError>
+    requires digits { AllDigits handset }
+    requires some { 0 < length unit.now }
+    requires fits { length unit.now ≤ 248 }
+    ensures { (d : Draft) → Shows d working.old → UnlessMemory (λ _. Shows (offer_in handset unit.now load.now d) working.new) result }
+{
+    match begun(working, handset, load, unit) {
+        Ok(()) => Ok(()),
+        Err(_) => Err(PlanError::NoMemory),
+    }
+}
+
+/// Offers what waits to the handset: its TPDU is sent in a transaction of its own, and says whether more waits.
+pub(crate) fn send(
+    working: &mut Working<'_>,
+    centre: &[u8],
+    handset: Digits,
+    load: &Load,
+    more: bool,
+    tpdu: Octets,
+) -> Result<(), PlanError>
+    requires digits { AllDigits handset }
+    ensures { (d : Draft) → Shows d working.old → 2 ≤ length centre.now → length centre.now ≤ 11 → length tpdu ≤ 200
+        → UnlessMemory (λ _. Shows (offer_in handset (data_down load.now.reference centre.now (telling more tpdu)) load.now d) working.new) result }
+{
+    match unit(working.alloc(), load.reference, centre, tpdu, more) {
+        Ok(unit) => begin(working, handset, load, unit.as_slice()),
+        Err(error) => Err(error),
+    }
+}

@@ -1,0 +1,13 @@
+mod Passing
+pub mod PlacesNoted
+pub mod AddressTested
+mod DoneTogether
+pub mod MessagesTested
+pub mod DifferTested
+pub mod GivingsTested
+pub mod ReportsTested
+mod HoldsApart
+mod PlacesFound
+pub mod WaitingTested
+pub mod SplitsTested
+pub mod RowsTested

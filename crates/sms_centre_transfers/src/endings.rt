@@ -1,0 +1,201 @@
+//! How a transfer to a handset ends (3GPP TS 24.011 8.2.5.4), and what becomes of what it was for.
+ghost use Rattle.std.specs.Prelude.{◌≡◌, Some, true, false, OnOk};
+ghost use Rattle.sms_centre_rows.specs.messages.Messages.{is_pending, message_at, part_at};
+ghost use Rattle.sms_centre_rows.specs.messages.PartEntries.{part_entry};
+ghost use Rattle.sms_centre_rows.specs.declared.messages.part.PartRow.{PartRow as PartRowOf};
+ghost use Rattle.sms_centre_rows.specs.waiting.Trying.{finished as finished_of};
+ghost use Rattle.sms_base.specs.declared.holder.Holder.TheVariants.{Part, Report};
+ghost use Rattle.sms_rows.specs.table.Keys.{AllDigits};
+ghost use Rattle.sms_centre_rows.specs.declared.reports.report.ReportRow.{ReportRow as ReportRowOf};
+ghost use Rattle.sms_centre_spec.specs.Draft.{Draft, in_store, messages_in, on_air, parts_in, with_part_at};
+ghost use Rattle.sms_centre_spec.specs.Transfers.{cause_verdict as cause_verdict_of, complete as complete_of, conclude as conclude_of, ended_with as ended_with_of, is_temporary as is_temporary_of, line_ended as line_ended_of, part_ended as part_ended_of, verdict_of as verdict_of_ending, verdict_on as verdict_on_ending};
+ghost use Rattle.sms_centre_draft.specs.Transfers.{IsTelling, IsWaiting};
+ghost use Rattle.sms_centre_draft.specs.Working.{Shows};
+
+use sms_base::{Carried, Digits, FinalState, Holder, MessageId};
+use sms_centre_draft::{Working, finished, tried};
+use sms_centre_reports::open_reports::ReportEntry;
+use sms_centre_rows::messages::{MessageRow, PartEntry};
+use sms_centre_spec::Verdict;
+use sms_link::Ending;
+use std::alloc::AllocError;
+
+// Destination out of order, network out of order, temporary failure, congestion, resources unavailable.
+fn is_temporary(cause: u8) -> bool
+    ensures { result ≡ is_temporary_of cause }
+{
+    cause == 27 || cause == 38 || cause == 41 || cause == 42 || cause == 47
+}
+
+// 22: memory capacity exceeded.
+fn cause_verdict(cause: u8) -> Verdict
+    ensures { result ≡ cause_verdict_of cause }
+{
+    if cause == 22 {
+        return Verdict::HandsetFull;
+    }
+    if is_temporary(cause) {
+        return Verdict::Again;
+    }
+    Verdict::Refused
+}
+
+fn verdict_of(ending: &Ending) -> Verdict
+    ensures { result ≡ verdict_of_ending ending.now }
+{
+    match ending {
+        Ending::Acknowledged => Verdict::Settled,
+        Ending::Refused { cause, .. } => cause_verdict(cause.number()),
+        Ending::Wrong | Ending::Lost => Verdict::Again,
+    }
+}
+
+// A message whose parts are all done is delivered.
+fn complete(working: &mut Working<'_>, message: &MessageRow) -> Result<(), AllocError>
+    ensures { (d : Draft) → Shows d working.old → message_at message.now.id (messages_in d.store) ≡ Some message.now → is_pending message.now ≡ true
+        → OnOk result (Shows (in_store (complete_of message.now d.store) d) working.new) }
+{
+    if working.all_done(message.id) {
+        return working.end(FinalState::Delivered, message);
+    }
+    Ok(())
+}
+
+// The part was acknowledged.
+fn part_settled(
+    working: &mut Working<'_>,
+    entry: &PartEntry,
+    message: &MessageRow,
+) -> Result<(), AllocError>
+    ensures { (d : Draft) (p : PartRowOf) → Shows d working.old → part_at p.id p.number (parts_in d.store) ≡ Some p → part_entry p ≡ entry.now
+        → message_at p.id (messages_in d.store) ≡ Some message.now → is_pending message.now ≡ true
+        → OnOk result (Shows (in_store (complete_of message.now (with_part_at p (finished_of p.progress) d.store)) d) working.new) }
+{
+    working.part_done(entry, message, &finished(&entry.progress))?;
+    complete(working, message)
+}
+
+// A transfer of a part that waits has ended.
+fn part_ended(
+    working: &mut Working<'_>,
+    verdict: Verdict,
+    entry: &PartEntry,
+    message: &MessageRow,
+) -> Result<(), AllocError>
+    ensures { (d : Draft) (p : PartRowOf) → Shows d working.old → part_at p.id p.number (parts_in d.store) ≡ Some p → part_entry p ≡ entry.now
+        → message_at p.id (messages_in d.store) ≡ Some message.now → is_pending message.now ≡ true → p.progress.is_done ≡ false
+        → OnOk result (Shows (in_store (part_ended_of verdict p message.now d.store) d) working.new) }
+{
+    match verdict {
+        Verdict::Settled => part_settled(working, entry, message),
+        Verdict::Again => working.part_off(entry, message, &tried(working.moment, &entry.progress)),
+        Verdict::Refused => working.end(FinalState::Undeliverable, message),
+        Verdict::HandsetFull | Verdict::Late => Ok(()),
+    }
+}
+
+// Nothing more is offered to a handset without memory.
+fn line_ended(
+    working: &mut Working<'_>,
+    verdict: Verdict,
+    handset: Digits,
+) -> Result<(), AllocError>
+    requires digits { AllDigits handset }
+    ensures { (d : Draft) → Shows d working.old → OnOk result (Shows (on_air (line_ended_of verdict handset d.air) d) working.new) }
+{
+    match verdict {
+        Verdict::HandsetFull => working.fill(handset),
+        Verdict::Settled | Verdict::Again | Verdict::Refused | Verdict::Late => Ok(()),
+    }
+}
+
+// The transfer of a part that waits has ended so.
+fn part_ended_at(
+    working: &mut Working<'_>,
+    handset: Digits,
+    id: MessageId,
+    number: u8,
+    ending: &Ending,
+    entry: &PartEntry,
+    message: &MessageRow,
+) -> Result<(), AllocError>
+    requires digits { AllDigits handset }
+    ensures { (d : Draft) (p : PartRowOf) → Shows d working.old → IsWaiting id number entry.now message.now d.store p
+        → OnOk result (Shows (ended_with_of (verdict_on_ending (Part id number) ending.now d.store) handset (Part id number) d) working.new) }
+{
+    let verdict = verdict_of(ending);
+    part_ended(working, verdict, entry, message)?;
+    line_ended(working, verdict, handset)
+}
+
+// The transfer of an open status report has ended so.
+fn status_ended_at(
+    working: &mut Working<'_>,
+    handset: Digits,
+    id: MessageId,
+    ending: &Ending,
+    entry: &ReportEntry,
+    message: &MessageRow,
+) -> Result<(), AllocError>
+    requires digits { AllDigits handset }
+    ensures { (d : Draft) (r : ReportRowOf) → Shows d working.old → IsTelling id entry.now message.now d.store r
+        → OnOk result (Shows (ended_with_of (verdict_on_ending (Report id) ending.now d.store) handset (Report id) d) working.new) }
+{
+    let verdict = verdict_of(ending);
+    working.status_ended(verdict, entry, message)?;
+    line_ended(working, verdict, handset)
+}
+
+// The transfer of a part has ended.
+fn part_concluded(
+    working: &mut Working<'_>,
+    handset: Digits,
+    id: MessageId,
+    number: u8,
+    ending: &Ending,
+) -> Result<(), AllocError>
+    requires digits { AllDigits handset }
+    ensures { (d : Draft) → Shows d working.old
+        → OnOk result (Shows (ended_with_of (verdict_on_ending (Part id number) ending.now d.store) handset (Part id number) d) working.new) }
+{
+    match working.open_part(id, number)? {
+        Some((entry, message)) => part_ended_at(
+            working, handset, id, number, ending, &entry, &message,
+        ),
+        None => Ok(()),
+    }
+}
+
+// The transfer of a status report has ended.
+fn status_concluded(
+    working: &mut Working<'_>,
+    handset: Digits,
+    id: MessageId,
+    ending: &Ending,
+) -> Result<(), AllocError>
+    requires digits { AllDigits handset }
+    ensures { (d : Draft) → Shows d working.old
+        → OnOk result (Shows (ended_with_of (verdict_on_ending (Report id) ending.now d.store) handset (Report id) d) working.new) }
+{
+    match working.open_status(id)? {
+        Some((entry, message)) => status_ended_at(working, handset, id, ending, &entry, &message),
+        None => Ok(()),
+    }
+}
+
+/// The transfer to the handset has ended so; it concerns what it was for.
+pub fn conclude(
+    working: &mut Working<'_>,
+    handset: Digits,
+    transfer: &Carried,
+    ending: &Ending,
+) -> Result<(), AllocError>
+    requires digits { AllDigits handset }
+    ensures { (d : Draft) → Shows d working.old → OnOk result (Shows (conclude_of handset transfer.now ending.now d) working.new) }
+{
+    match transfer.tag {
+        Holder::Part(id, number) => part_concluded(working, handset, id, number, ending),
+        Holder::Report(id) => status_concluded(working, handset, id, ending),
+        Holder::Entry(_) | Holder::Memory(_) => Ok(()),
+    }
+}

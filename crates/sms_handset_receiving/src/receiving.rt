@@ -1,0 +1,352 @@
+//! Receiving a message: it is stored before it is acknowledged.
+ghost use Rattle.std.specs.Prelude.{◌≡◌, IfOk, OnOk, Some, option_copied};
+ghost use Rattle.sms_relay.specs.Cause.{IsRpCause};
+ghost use Rattle.sms_relay.specs.RelayReading.{down_at as unit_at};
+ghost use Rattle.sms_tpdu.specs.TpduReading.{down_at};
+ghost use Rattle.sms_tpdu.specs.declared.carrier.Carrier.TheVariants.{InData as Data};
+ghost use Rattle.sms_handset_draft.specs.Draft.{no_changes};
+ghost use Rattle.sms_handset_draft.specs.GroupChanges.{data_groups, deliver_groups, member_groups, new_part_groups, part_groups, tpdu_groups, unit_groups};
+ghost use Rattle.sms_handset_rows.specs.inbox.Groups.{key_of as key_of_deliver, mark_of, members as members_of};
+ghost use Rattle.sms_handset_draft.specs.Receiving.{accept as accept_of, acknowledge as acknowledge_of, data_came as data_came_of, deliver_came as deliver_came_of, fault_cause as fault_cause_of, member_came as member_came_of, new_part_came as new_part_came_of, no_room as no_room_of, note as note_of, part_came as part_came_of, reference_octet as reference_octet_of, refuse as refuse_of, reject as reject_of, single_came as single_came_of, tpdu_came as tpdu_came_of, unit_came as unit_came_of};
+ghost use Rattle.sms_handset_rows.specs.outbox.Reports.{reported as reported_of};
+
+use sms_base::{Holder, Kind, OctetView, Octets};
+use sms_handset_draft::{Draft, NoMemory};
+use sms_handset_rows::inbox::{
+    DiscardedGroup, Group, LastAccepted, Members, Regrouping, find_mark, is_among, is_double,
+    key_of,
+};
+use sms_handset_rows::outbox::{OutEntry, reported};
+use sms_relay::{RelayFault, Rp, RpCause, read_down as read_unit, write_up};
+use sms_tpdu::{Carrier, Deliver, Down, StatusReport, read_down};
+
+// RP-ACK with a DELIVER-REPORT that says nothing.
+fn acknowledge(draft: &mut Draft<'_>, reference: u8, tag: Holder) -> Result<(), NoMemory>
+    ensures { OnOk result (draft.new ≡ acknowledge_of reference tag draft.old) }
+{
+    let rp = Rp::AckUnit {
+        reference,
+        unit: Some(OctetView::of(&[0, 0])),
+    };
+    let unit = write_up(draft.alloc(), &rp)?;
+    draft.reply(Kind::Ack, reference, tag, unit.as_slice())
+}
+
+// RP-ERROR with a DELIVER-REPORT that has the cause of failure: causes that have a name.
+fn refuse(
+    draft: &mut Draft<'_>,
+    reference: u8,
+    tag: Holder,
+    cause: RpCause,
+    failure: u8,
+) -> Result<(), NoMemory>
+    requires named { IsRpCause cause }
+    ensures { OnOk result (draft.new ≡ refuse_of reference tag cause failure draft.old) }
+{
+    let report = [0, failure, 0];
+    let rp = Rp::ErrorUnit {
+        reference,
+        cause,
+        unit: Some(OctetView::of(&report)),
+    };
+    let unit = write_up(draft.alloc(), &rp)?;
+    draft.reply(Kind::Error, reference, tag, unit.as_slice())
+}
+
+// RP-ERROR alone.
+fn reject(draft: &mut Draft<'_>, reference: u8, tag: Holder, cause: RpCause) -> Result<(), NoMemory>
+    requires named { IsRpCause cause }
+    ensures { OnOk result (draft.new ≡ reject_of reference tag cause draft.old) }
+{
+    let rp = Rp::ErrorUnit {
+        reference,
+        cause,
+        unit: None,
+    };
+    let unit = write_up(draft.alloc(), &rp)?;
+    draft.reply(Kind::Error, reference, tag, unit.as_slice())
+}
+
+// The TPDU is the last under its reference from now on.
+fn accept(draft: &mut Draft<'_>, reference: u8, tag: Holder, tpdu: &[u8]) -> Result<(), NoMemory>
+    ensures { OnOk result (draft.new ≡ accept_of reference tag tpdu.now draft.old) }
+{
+    let tpdu = Octets::copy_of(draft.alloc(), tpdu)?;
+    draft.put_last(LastAccepted { reference, tpdu })?;
+    acknowledge(draft, reference, tag)
+}
+
+fn no_room(draft: &mut Draft<'_>, reference: u8, tag: Holder) -> Result<(), NoMemory>
+    ensures { OnOk result (draft.new ≡ no_room_of reference tag draft.old) }
+{
+    draft.flag();
+    refuse(
+        draft,
+        reference,
+        tag,
+        RpCause::MemoryCapacityExceeded,
+        MEMORY_CAPACITY_EXCEEDED,
+    )
+}
+
+// A message that is no part of an open group.
+fn single_came(
+    draft: &mut Draft<'_>,
+    reference: u8,
+    tag: Holder,
+    tpdu: &[u8],
+) -> Result<(), NoMemory>
+    requires untouched { draft.old.changes ≡ no_changes }
+    ensures { OnOk result (draft.new ≡ single_came_of reference tag tpdu.now draft.old) }
+{
+    if draft.has_room() {
+        draft.store_single(tpdu)?;
+        accept(draft, reference, tag, tpdu)
+    } else {
+        no_room(draft, reference, tag)
+    }
+}
+
+// A part whose number does not stand in its group.
+fn new_part_came(
+    draft: &mut Draft<'_>,
+    reference: u8,
+    tag: Holder,
+    tpdu: &[u8],
+    group: &Group,
+    number: u8,
+    members: &Members<'_>,
+) -> Result<Regrouping, NoMemory>
+    requires untouched { draft.old.changes ≡ no_changes }
+    ensures moves { OnOk result (draft.new ≡ new_part_came_of reference tag tpdu.now group.now number members.now draft.old) }
+    ensures groups { IfOk result (λ change. change ≡ new_part_groups tpdu.now group.now number members.now draft.old) }
+{
+    if draft.has_room() {
+        let change = draft.store_part(group, number, tpdu, members)?;
+        accept(draft, reference, tag, tpdu)?;
+        Ok(change)
+    } else {
+        no_room(draft, reference, tag)?;
+        Ok(Regrouping::Unchanged)
+    }
+}
+
+// A part of no discarded group.
+fn member_came(
+    draft: &mut Draft<'_>,
+    reference: u8,
+    tag: Holder,
+    tpdu: &[u8],
+    group: &Group,
+    number: u8,
+) -> Result<Regrouping, NoMemory>
+    requires untouched { draft.old.changes ≡ no_changes }
+    ensures moves { OnOk result (draft.new ≡ member_came_of reference tag tpdu.now group.now number (members_of group.now draft.old.rows.entries) draft.old) }
+    ensures groups { IfOk result (λ change. change ≡ member_groups tpdu.now group.now number (members_of group.now draft.old.rows.entries) draft.old) }
+{
+    let members = draft.members(group);
+    if members.has(number) {
+        single_came(draft, reference, tag, tpdu)?;
+        Ok(Regrouping::Unchanged)
+    } else {
+        new_part_came(draft, reference, tag, tpdu, group, number, &members)
+    }
+}
+
+// A part of a discarded group.
+fn marked_part_came(
+    draft: &mut Draft<'_>,
+    reference: u8,
+    tag: Holder,
+    tpdu: &[u8],
+    group: &Group,
+    number: u8,
+    mark: &DiscardedGroup,
+) -> Result<(), NoMemory>
+    requires untouched { draft.old.changes ≡ no_changes }
+    ensures { OnOk result (draft.new ≡ part_came_of reference tag tpdu.now group.now number (Some mark.now) draft.old) }
+{
+    if is_among(number, mark.seen.as_slice()) {
+        single_came(draft, reference, tag, tpdu)
+    } else {
+        draft.mark(number, mark)?;
+        accept(draft, reference, tag, tpdu)
+    }
+}
+
+// A part of a long message.
+fn part_came(
+    draft: &mut Draft<'_>,
+    reference: u8,
+    tag: Holder,
+    tpdu: &[u8],
+    group: &Group,
+    number: u8,
+) -> Result<Regrouping, NoMemory>
+    requires untouched { draft.old.changes ≡ no_changes }
+    ensures moves { OnOk result (draft.new ≡ part_came_of reference tag tpdu.now group.now number (mark_of group.now draft.old.rows.marks) draft.old) }
+    ensures groups { IfOk result (λ change. change ≡ part_groups tpdu.now group.now number (mark_of group.now draft.old.rows.marks) draft.old) }
+{
+    match find_mark(group, draft.marks()) {
+        Some(mark) => {
+            marked_part_came(draft, reference, tag, tpdu, group, number, mark)?;
+            Ok(Regrouping::Unchanged)
+        }
+        None => member_came(draft, reference, tag, tpdu, group, number),
+    }
+}
+
+fn deliver_came(
+    draft: &mut Draft<'_>,
+    reference: u8,
+    tag: Holder,
+    tpdu: &[u8],
+    message: &Deliver<'_>,
+) -> Result<Regrouping, NoMemory>
+    requires untouched { draft.old.changes ≡ no_changes }
+    ensures moves { OnOk result (draft.new ≡ deliver_came_of reference tag tpdu.now message.now (key_of_deliver message.now) draft.old) }
+    ensures groups { IfOk result (λ change. change ≡ deliver_groups tpdu.now message.now (key_of_deliver message.now) draft.old) }
+{
+    match key_of(
+        message.user_data_header_indicator,
+        message.user_data.octets.as_slice(),
+    ) {
+        Some(key) => {
+            let group = Group {
+                source: message.originating_address,
+                reference: key.reference,
+                total: key.total,
+            };
+            part_came(draft, reference, tag, tpdu, &group, key.number)
+        }
+        None => {
+            single_came(draft, reference, tag, tpdu)?;
+            Ok(Regrouping::Unchanged)
+        }
+    }
+}
+
+// What a status report says of the newest entry that it is about.
+fn note(draft: &mut Draft<'_>, status: u8, entry: Option<&OutEntry>) -> Result<(), NoMemory>
+    ensures { OnOk result (draft.new ≡ note_of status (option_copied entry.entry) draft.old) }
+{
+    if let Some(entry) = entry {
+        let mut noted = entry.copy(draft.alloc())?;
+        noted.status = Some(status);
+        draft.put_out(noted)?;
+    }
+    Ok(())
+}
+
+fn report_came(
+    draft: &mut Draft<'_>,
+    reference: u8,
+    tag: Holder,
+    tpdu: &[u8],
+    report: &StatusReport<'_>,
+) -> Result<(), NoMemory>
+    requires untouched { draft.old.changes ≡ no_changes }
+    ensures { OnOk result (draft.new ≡ accept_of reference tag tpdu.now (note_of report.now.status (reported_of report.now draft.old.rows.outbox) draft.old)) }
+{
+    let outbox = draft.outbox();
+    note(draft, report.status, reported(report, outbox))?;
+    accept(draft, reference, tag, tpdu)
+}
+
+fn tpdu_came(
+    draft: &mut Draft<'_>,
+    reference: u8,
+    tag: Holder,
+    tpdu: &[u8],
+) -> Result<Regrouping, NoMemory>
+    requires untouched { draft.old.changes ≡ no_changes }
+    ensures moves { OnOk result (draft.new ≡ tpdu_came_of reference tag tpdu.now (down_at Data tpdu.now) draft.old) }
+    ensures groups { IfOk result (λ change. change ≡ tpdu_groups tpdu.now (down_at Data tpdu.now) draft.old) }
+{
+    match read_down(tpdu, Carrier::InData) {
+        Ok(Down::Deliver(message)) => {
+            return deliver_came(draft, reference, tag, tpdu, &message);
+        }
+        Ok(Down::StatusReport(report)) => report_came(draft, reference, tag, tpdu, &report)?,
+        _ => refuse(
+            draft,
+            reference,
+            tag,
+            RpCause::InvalidMandatoryInformation,
+            UNSPECIFIED,
+        )?,
+    }
+    Ok(Regrouping::Unchanged)
+}
+
+// RP-DATA.
+fn data_came(
+    draft: &mut Draft<'_>,
+    reference: u8,
+    tag: Holder,
+    tpdu: &[u8],
+) -> Result<Regrouping, NoMemory>
+    requires untouched { draft.old.changes ≡ no_changes }
+    ensures moves { OnOk result (draft.new ≡ data_came_of reference tag tpdu.now draft.old) }
+    ensures groups { IfOk result (λ change. change ≡ data_groups reference tpdu.now draft.old) }
+{
+    if is_double(tpdu, draft.last(reference)) {
+        acknowledge(draft, reference, tag)?;
+        Ok(Regrouping::Unchanged)
+    } else {
+        tpdu_came(draft, reference, tag, tpdu)
+    }
+}
+
+/// A unit that opens a transaction of the centre's: what becomes of the open groups.
+pub(crate) fn unit_came(
+    draft: &mut Draft<'_>,
+    tag: Holder,
+    unit: &[u8],
+) -> Result<Regrouping, NoMemory>
+    requires untouched { draft.old.changes ≡ no_changes }
+    ensures moves { OnOk result (draft.new ≡ unit_came_of tag unit.now (unit_at unit.now) draft.old) }
+    ensures groups { IfOk result (λ change. change ≡ unit_groups (unit_at unit.now) draft.old) }
+{
+    match read_unit(unit) {
+        Ok(
+            Rp::DataUnit {
+                reference,
+                unit,
+                ..
+            },
+        ) => data_came(draft, reference, tag, unit.as_slice()),
+        Ok(_) => Ok(Regrouping::Unchanged),
+        Err(fault) => {
+            reject(draft, reference_octet(unit), tag, fault_cause(fault))?;
+            Ok(Regrouping::Unchanged)
+        }
+    }
+}
+
+/// TP-FCS: memory capacity exceeded (3GPP TS 23.040 9.2.3.22).
+const MEMORY_CAPACITY_EXCEEDED: u8 = 0xD3;
+
+/// TP-FCS: unspecified error cause.
+const UNSPECIFIED: u8 = 0xFF;
+
+// A unit of an unknown type, else one that can't be read.
+fn fault_cause(fault: RelayFault) -> RpCause
+    ensures value { result ≡ fault_cause_of fault }
+    ensures named { IsRpCause result }
+{
+    match fault {
+        RelayFault::Unknown => RpCause::MessageTypeNonExistent,
+        _ => RpCause::InvalidMandatoryInformation,
+    }
+}
+
+// The octet where the reference stands, or 0.
+fn reference_octet(unit: &[u8]) -> u8
+    ensures { result ≡ reference_octet_of unit.now }
+{
+    match unit {
+        [_, reference, ..] => *reference,
+        _ => 0,
+    }
+}

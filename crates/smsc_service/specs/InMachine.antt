@@ -1,0 +1,11 @@
+-- What a centre's machine has.
+use Rattle.sms_centre.specs.FromBelow.{StandingOf}
+use Rattle.smsc_service.specs.declared.machine.CentreMachine.{CentreMachine}
+
+-- the keep of the centre's rows
+abbrev pub keep_in : {K : Type 0} → CentreMachine K → K
+keep_in machine = machine.keep
+
+-- the centre between two events
+abbrev pub centre_in : {K : Type 0} → CentreMachine K → StandingOf
+centre_in machine = machine.centre

@@ -1,7 +1,0 @@
-//! How the rows of a test are judged.
-use std::test::Fail;
-
-/// Ends the test where a row does not hold.
-pub(crate) fn holds(row: bool, name: &str) -> Result<(), Fail> {
-    if row { Ok(()) } else { Err(Fail::new(name)) }
-}
