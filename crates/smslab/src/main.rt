@@ -54,14 +54,24 @@ fn failed(rt: &HostRuntime, failure: Failure) -> u8 {
     }
 }
 
-// Does what the words behind the program's name ask for.
-fn run_given(rt: &HostRuntime) -> Result<(), Failure> {
-    let mut owned = Vec::new(rt.alloc());
-    for word in env::args(rt)?.skip(1) {
-        owned.push(word)?;
-    }
+// The words behind the program's name.
+fn words_given(rt: &HostRuntime) -> Result<Vec<String>, Failure> {
     let mut words = Vec::new(rt.alloc());
-    for word in owned.iter() {
+    for word in env::args(rt)?.skip(1) {
+        words.push(word)?;
+    }
+    Ok(words)
+}
+
+fn run_given(rt: &HostRuntime) -> Result<(), Failure> {
+    let words = words_given(rt)?;
+    run_words(rt, words.as_slice())
+}
+
+// Does what the words ask for.
+fn run_words(rt: &HostRuntime, owned: &[String]) -> Result<(), Failure> {
+    let mut words = Vec::new(rt.alloc());
+    for word in owned {
         words.push(word.as_str())?;
     }
     run(rt, words.as_slice())
