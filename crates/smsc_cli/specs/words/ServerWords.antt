@@ -4,7 +4,7 @@ use Rattle.clap.specs.Words.{App, Rule, first_of, matches_of, new_app, new_rule,
 use Rattle.clap.specs.declared.builder.action.ArgAction.TheVariants.{Append, Set}
 use Rattle.smsc_cli.specs.words.SimWords.{Gives, SpellsNumber, required_option}
 use Rattle.smsc_cli.specs.words.HandsetWords.{is_show, show_value}
-use Rattle.smsc_cli.specs.words.Numbers.{SpellsCount, SpellsFrom}
+use Rattle.smsc_cli.specs.words.Numbers.{SpellsCount, SpellsPort}
 use Rattle.smsc_cli.specs.declared.words.server.ServerRun.{ServerRun}
 use Rattle.smsc_cli.specs.declared.words.server.ServerWords.{ServerWords}
 use Rattle.smsc_cli.specs.declared.words.server.ServerWords.TheVariants.{Run, Show}
@@ -36,7 +36,7 @@ server_value name words = first_of name (matches_of server_command words)
 -- the values of the six options spell what a run is to do
 abbrev pub SpelledServer : Option (List ℕ) → Option (List ℕ) → Option (List ℕ) → Option (List ℕ) → Option (List ℕ) → Option (List ℕ) → ServerRun → Type 0
 SpelledServer given_store given_smpp given_links given_centre given_sessions given_accounts run =
-    (given_store ≡ Some run.store.now) × Gives (SpellsFrom 1) given_smpp run.smpp × Gives (SpellsFrom 1) given_links run.links
+    (given_store ≡ Some run.store.now) × Gives SpellsPort given_smpp run.smpp × Gives SpellsPort given_links run.links
     × Gives SpellsNumber given_centre run.centre × Gives SpellsCount given_sessions run.sessions
     × (given_accounts ≡ option_map (λ s. s.now) run.accounts)
 

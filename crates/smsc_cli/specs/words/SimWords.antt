@@ -1,12 +1,10 @@
 -- The words of a relay run, `relay --centre NUMBER --from NUMBER --now SECONDS`, by clap's matches of them.
-use Rattle.std.specs.Prelude.{◌≡◌, ℕ, List, true, Option, Some, codes}
-use Rattle.std.specs.List.{list_all}
+use Rattle.std.specs.Prelude.{◌≡◌, ℕ, List, Option, Some, codes}
 use Rattle.std.specs.Str.{chars}
-use Rattle.std.specs.Str.Parse.{digits_value}
 use Rattle.clap.specs.Words.{App, Rule, first_of, matches_of, new_app, new_rule, with_rule}
 use Rattle.clap.specs.declared.builder.action.ArgAction.TheVariants.{Set}
 use Rattle.sms_base.specs.declared.address.Address.{Address}
-use Rattle.sms_base.specs.HandsetNumber.{is_decimal}
+use Rattle.smsc_cli.specs.words.Numbers.{SpellsBetween}
 use Rattle.smsc_cli.specs.words.OwnAddress.{IsOwnAddress}
 use Rattle.smsc_cli.specs.declared.words.sim.SimWords.{SimWords}
 use Rattle.smsc_cli.specs.declared.words.sim.SimWords.TheVariants.{Relay}
@@ -29,10 +27,9 @@ pub record SpellsNumber (text : List ℕ) (address : Address) : Type 0 where
   pub own : IsOwnAddress address
   pub digits : address.digits ≡ chars text
 
--- the text is decimal digits of the number of seconds
-pub record SpellsSeconds (text : List ℕ) (moment : ℕ) : Type 0 where
-  pub digits : list_all is_decimal text ≡ true
-  pub value : digits_value 10 text ≡ moment
+-- the text is decimal digits of the number of seconds from 1970 to a moment of the years 2000 to 2099
+abbrev pub SpellsSeconds : List ℕ → ℕ → Type 0
+SpellsSeconds = SpellsBetween 946_684_800 4_102_444_799
 
 -- the option of that name has a value that spells it
 abbrev pub Gives : {A : Type 0} → (List ℕ → A → Type 0) → Option (List ℕ) → A → Type 0

@@ -1,5 +1,5 @@
 //! The words of the simulator.
-ghost use Rattle.std.specs.Prelude.{◌≡◌, map, option_map, codes, IfSome, IfOk};
+ghost use Rattle.std.specs.Prelude.{◌≡◌, ℕ, map, option_map, codes, IfSome, IfOk, Some};
 ghost use Rattle.std.specs.List.{list_all};
 ghost use Rattle.sms_base.specs.HandsetNumber.{is_decimal};
 ghost use Rattle.clap.specs.Words.{app_of, first_value, found_of};
@@ -70,7 +70,8 @@ fn relay_options<'a>(alloc: Global, words: &'a [&'a str]) -> Result<RelayOptions
 
 // The moment of a number of seconds, in decimal digits alone.
 fn moment_of(text: &str) -> Option<Moment>
-    ensures { IfSome result (λ moment. SpellsSeconds text.now moment) }
+    ensures found { IfSome result (λ moment. SpellsSeconds text.now moment) }
+    ensures only { (moment : ℕ) → SpellsSeconds text.now moment → result ≡ Some moment }
 {
     if !is_decimal_text(text) {
         return None;

@@ -10,3 +10,9 @@ returns-then-eq-clause-some c =
     subst (λ (v : InternedOf (List ℕ)). IsAt c.args.name.now c.loop-place.place v.values) c.self.view_is
     (slice_get_read c.self.inside.names.items c.len-place-end.result c.loop-place.place c.index.result.now (c.len-place-end.ensures ∙ c.self.inside.names.ok.0) c.loop-place-test.true c.index.ensures
     ∙ ap (λ (x : List ℕ). Some x) (sym c.as_slice.ensures ∙ e ∙ c.as_slice-in-loop-place.ensures))
+
+pub loop-place-preserved : goal.loop-place-preserved
+loop-place-preserved c = ?
+
+pub returns-clause-none : goal.returns-clause-none
+returns-clause-none c = ?
