@@ -187,8 +187,8 @@ among_get (x ∷ xs) zero d l = inl refl
 among_get (x ∷ xs) (suc k) d l = inr (among_get xs k d (omega (arith, l)))
 
 -- the deadline at a place of the heap is reached
-pub past_at : (heap : List (Reverse Deadline)) (place now n : ℕ) (r : Reverse Deadline) → place < length heap → r ≡ get_or heap place r → r.0.limit ≤ now → n ≡ r.0.id → IsPastIn now heap n
-past_at heap place now n r within is due e = (r, subst (λ (x : Reverse Deadline). Among x heap) (sym is) (among_get heap place r within), due, sym e)
+pub past_at : (heap : List (Reverse Deadline)) (place now n : ℕ) (r : Reverse Deadline) → place < length heap → r ≡ get_or heap place r → r.0.limit ≤ now → n ≡ (get_or heap place r).0.id → IsPastIn now heap n
+past_at heap place now n r within is due e = (get_or heap place r, among_get heap place r within, subst (λ (x : Reverse Deadline). x.0.limit ≤ now) is due, sym e)
 
 pub last_or_before : (n x : ℕ) (xs : List ℕ) → Among n (xs ++ x ∷ []) → Among n xs ⊎ (n ≡ x)
 last_or_before n x [] m = ⊎_elim (λ (e : n ≡ x). inr e) (λ (k : ⊥). elim k [ ]) m

@@ -35,7 +35,7 @@ returns-clause-only t c = λ n m. ⊎_elim
     (λ (k : Among n c.collect.new.ids.items). ⊎_elim
     (λ (l : Among n c.push.new.self.items). ⊎_elim
     (λ (o : Among n c.args.ids.now.items). inl o)
-    (λ (e : n ≡ c.number.result). inr (past_at c.args.heap.now c.args.place c.args.now n c.index-heap-place.result ? c.index-heap-place.is (let e = c.if-lt.ensures in grind (arith, nat_tests)) (e ∙ c.number.ensures.value)))
+    (λ (e : n ≡ c.number.result). inr (past_at c.args.heap.now c.args.place c.args.now n c.index-heap-place.result (let w = c.if-place-heap.false in omega (arith, w)) c.index-heap-place.is (let e = c.if-lt.ensures in grind (arith, nat_tests)) (e ∙ c.number.ensures.value)))
     (last_or_before n c.number.result c.args.ids.now.items (subst (λ (x : List ℕ). Among n x) c.in_ok-push.ensures.items l)))
     (λ (f : IsPastIn c.args.now c.args.heap.now n). inr f)
     (c.in_ok-collect.ensures.only n k))

@@ -20,5 +20,5 @@ returns-clause-order c = IsNonDecreasingBy-from_sort (λ (n : ℕ). n) c.sort.ne
 pub returns-clause-only : goal.returns-clause-only
 returns-clause-only c =
     subst (λ (v : DeadlinesOf). HasOnlyPast c.args.now v.items c.sort.new.self.items) c.self.view_is
-    (only_collected c.args.now (heap_items c.self.inside.heap) c.new-ids.result.items c.collect.new.ids.items c.sort.new.self.items ?
+    (only_collected c.args.now (heap_items c.self.inside.heap) c.new-ids.result.items c.collect.new.ids.items c.sort.new.self.items c.new-ids.ensures.items
     (subst (λ (h : List (Reverse Deadline)). (n : ℕ) → Among n c.collect.new.ids.items → Among n c.new-ids.result.items ⊎ IsPastIn c.args.now h n) c.as_slice.ensures.value c.in_ok-collect.ensures.only) c.in_ok-sort.ensures.permutation)
