@@ -1,6 +1,9 @@
 //! The words of the server.
-ghost use Rattle.std.specs.Prelude.{◌≡◌, false, map, drop, option_map, slice_get, codes, IfSome, IfOk};
+ghost use Rattle.std.specs.Prelude.{◌≡◌, ◌↔◌, ℕ, List, [], true, false, map, drop, option_map, slice_get, codes, Err, IfErr, IfNone, IfSome, IfOk, OnErr, OnOk};
+ghost use Rattle.std.specs.Str.Iter.{LacksByte};
 ghost use Rattle.clap.specs.Words.{app_of, first_value, found_of, rule_of};
+ghost use Rattle.smsc_cli.specs.words.Accounts.{AddsAccount, AddsAll, AddsNone, AreLines, IsBare, IsCutAt, IsNewName};
+ghost use Rattle.smsc_cli.specs.declared.words.fault.WordsFault.TheVariants.{BadWords, NoMemory};
 ghost use Rattle.smsc_cli.specs.words.SimWords.{required_option};
 ghost use Rattle.smsc_cli.specs.words.HandsetWords.{is_show, show_command, show_value};
 ghost use Rattle.smsc_cli.specs.words.ServerWords.{AsksOfServer, AsksToLook, AsksToServe, SpelledRun, SpelledServer, listed_words, needed_command, optional_option, port_command, server_command, server_value};
@@ -176,16 +179,27 @@ fn run_of<'a>(options: &Options<'a>) -> Option<ServerRun<'a>>
     })
 }
 
-fn has_name(accounts: &[AccountWords<'_>], name: &str) -> bool {
-    accounts.iter().any(|account| account.name == name)
+// Whether no account has the name.
+fn is_new(name: &str, accounts: &[AccountWords<'_>]) -> bool
+    ensures { (result ≡ true) ↔ IsNewName name.now accounts.now }
+{
+    match accounts {
+        [] => true,
+        [first, others @ ..] => first.name != name && is_new(name, others),
+    }
 }
 
 // One more account, if it is one, of a new name, and there are not too many.
-fn add<'a>(accounts: &mut Vec<AccountWords<'a>>, text: &'a str) -> Result<(), WordsFault> {
+fn add<'a>(accounts: &mut Vec<AccountWords<'a>>, text: &'a str) -> Result<(), WordsFault>
+    ensures ok { OnOk result (AddsAccount text.entry.now accounts.old.items accounts.new.items) }
+    ensures err { OnErr result (accounts.new.items ≡ accounts.old.items) }
+    ensures bad { result ≡ Err BadWords → AddsNone text.entry.now accounts.old.items }
+    ensures memory { result ≡ Err NoMemory → ¬ AddsNone text.entry.now accounts.old.items }
+{
     let Some(account) = account_of(text) else {
         return Err(WordsFault::BadWords);
     };
-    if accounts.len() >= MOST_ACCOUNTS || has_name(accounts.as_slice(), account.name) {
+    if accounts.len() >= MOST_ACCOUNTS || !is_new(account.name, accounts.as_slice()) {
         return Err(WordsFault::BadWords);
     }
     match accounts.push(account) {
@@ -194,26 +208,60 @@ fn add<'a>(accounts: &mut Vec<AccountWords<'a>>, text: &'a str) -> Result<(), Wo
     }
 }
 
-fn add_all<'a>(accounts: &mut Vec<AccountWords<'a>>, texts: &[&'a str]) -> Result<(), WordsFault> {
-    for text in texts {
-        add(accounts, text)?;
+// An account for each text, in order. There are no more calls in one another than accounts.
+fn add_all<'a>(accounts: &mut Vec<AccountWords<'a>>, texts: &[&'a str]) -> Result<(), WordsFault>
+    ensures { OnOk result (AddsAll (map (λ text. text.now) texts.now) accounts.old.items accounts.new.items) }
+{
+    match texts {
+        [] => Ok(()),
+        [first, others @ ..] => {
+            add(accounts, first)?;
+            add_all(accounts, others)
+        }
     }
-    Ok(())
+}
+
+// The text before its first line feed, and the text behind it.
+fn at_line_feed<'a>(text: &'a str) -> Option<(&'a str, &'a str)>
+    ensures cut { IfSome result (λ cut. IsCutAt 10 text.entry.now cut.0.now cut.1.now) }
+    ensures none { IfNone result (LacksByte 10 text.entry.now) }
+{
+    text.split_once('\n')
+}
+
+// The line, less a carriage return at its end.
+fn bare<'a>(line: &'a str) -> &'a str
+    ensures { IsBare line.entry.now result.now }
+{
+    match line.strip_suffix('\r') {
+        Some(bare) => bare,
+        None => line,
+    }
 }
 
 /// The accounts of a file, one a line, behind these: 32 at most, no two of one name. The last line may lack its end.
 pub fn add_lines<'a>(
     accounts: &mut Vec<AccountWords<'a>>,
     file: &'a str,
-) -> Result<(), WordsFault> {
-    for line in file.lines() {
-        add(accounts, line)?;
+) -> Result<(), WordsFault>
+    ensures { OnOk result ((lines : List (List ℕ)) × AreLines file.entry.now lines × AddsAll lines accounts.old.items accounts.new.items) }
+{
+    if file.is_empty() {
+        return Ok(());
     }
-    Ok(())
+    match at_line_feed(file) {
+        Some((line, rest)) => {
+            add(accounts, bare(line))?;
+            add_lines(accounts, rest)
+        }
+        None => add(accounts, file),
+    }
 }
 
 // The accounts that all these texts spell.
-fn accounts_of<'a>(alloc: Global, texts: &[&'a str]) -> Result<Vec<AccountWords<'a>>, WordsFault> {
+fn accounts_of<'a>(alloc: Global, texts: &[&'a str]) -> Result<Vec<AccountWords<'a>>, WordsFault>
+    ensures { IfOk result (λ accounts. AddsAll (map (λ text. text.now) texts.now) [] accounts.items) }
+{
     let mut accounts = Vec::new(alloc);
     add_all(&mut accounts, texts)?;
     Ok(accounts)
