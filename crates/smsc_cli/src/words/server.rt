@@ -1,12 +1,13 @@
 //! The words of the server.
-ghost use Rattle.std.specs.Prelude.{◌≡◌, ◌↔◌, ℕ, List, [], true, false, map, drop, option_map, slice_get, codes, Err, IfErr, IfNone, IfSome, IfOk, OnErr, OnOk};
+ghost use Rattle.std.specs.Prelude.{◌≡◌, ◌↔◌, ℕ, List, [], true, false, map, drop, option_map, slice_get, codes, Err, IfErr, IfNone, IfSome, IfOk, IsOk, OnErr, OnOk};
 ghost use Rattle.std.specs.Str.Iter.{LacksByte};
-ghost use Rattle.clap.specs.Words.{app_of, first_value, found_of, rule_of};
+ghost use Rattle.clap.specs.Words.{app_of, first_value, found_of, kind_of, matched_of, raw_values, rule_of, takes};
+ghost use Rattle.clap.specs.declared.error.kind.ErrorKind.TheVariants.{OutOfMemory};
 ghost use Rattle.smsc_cli.specs.words.Accounts.{AddsAccount, AddsAll, AddsNone, AreLines, IsBare, IsCutAt, IsNewName};
 ghost use Rattle.smsc_cli.specs.declared.words.fault.WordsFault.TheVariants.{BadWords, NoMemory};
 ghost use Rattle.smsc_cli.specs.words.SimWords.{required_option};
-ghost use Rattle.smsc_cli.specs.words.HandsetWords.{is_show, show_command, show_value};
-ghost use Rattle.smsc_cli.specs.words.ServerWords.{AsksOfServer, AsksToLook, AsksToServe, SpelledRun, SpelledServer, listed_words, needed_command, optional_option, port_command, server_command, server_value};
+ghost use Rattle.smsc_cli.specs.words.HandsetWords.{AskForShow, is_show, show_command, show_value};
+ghost use Rattle.smsc_cli.specs.words.ServerWords.{AskForServer, AskOfServer, AsksOfServer, AsksToLook, AsksToServe, SpelledRun, SpelledServer, SpellsServer, listed, listed_words, needed_command, optional_option, port_command, server_command, server_list, server_value};
 
 use crate::words::account::{AccountWords, account_of};
 use crate::words::fault::{WordsFault, fault_of};
@@ -123,6 +124,7 @@ fn options_of<'a>(alloc: Global, matches: &ArgMatches<'a>) -> Result<Options<'a>
     ensures centre { IfOk result (λ o. option_map (λ s. s.now) o.centre ≡ first_value (found_of matches.now) (codes "centre")) }
     ensures sessions { IfOk result (λ o. option_map (λ s. s.now) o.sessions ≡ first_value (found_of matches.now) (codes "sessions")) }
     ensures accounts { IfOk result (λ o. option_map (λ s. s.now) o.accounts ≡ first_value (found_of matches.now) (codes "accounts")) }
+    ensures words { IfOk result (λ o. map (λ w. w.now) o.words.items ≡ listed (option_map raw_values (matched_of (found_of matches.now) (codes "account")))) }
 {
     let words = match matches.get_strs("account") {
         Some(words) => Vec::from_slice(alloc, words)?,
@@ -146,6 +148,8 @@ fn run_options<'a>(alloc: Global, words: &'a [&'a str]) -> Result<Options<'a>, E
     ensures centre { IfOk result (λ o. option_map (λ s. s.now) o.centre ≡ server_value (codes "centre") (map (λ w. w.now) words.entry.now)) }
     ensures sessions { IfOk result (λ o. option_map (λ s. s.now) o.sessions ≡ server_value (codes "sessions") (map (λ w. w.now) words.entry.now)) }
     ensures accounts { IfOk result (λ o. option_map (λ s. s.now) o.accounts ≡ server_value (codes "accounts") (map (λ w. w.now) words.entry.now)) }
+    ensures words { IfOk result (λ o. map (λ w. w.now) o.words.items ≡ server_list (codes "account") (map (λ w. w.now) words.entry.now)) }
+    ensures good { IfErr result (λ error. takes server_command (map (λ w. w.now) words.entry.now) ≡ true → kind_of error ≡ OutOfMemory) }
 {
     let command = run_command(alloc)?;
     let matches = command.try_get_matches_from(words)?;
@@ -154,7 +158,8 @@ fn run_options<'a>(alloc: Global, words: &'a [&'a str]) -> Result<Options<'a>, E
 }
 
 fn shown_store<'a>(alloc: Global, words: &'a [&'a str]) -> Result<Option<&'a str>, Error>
-    ensures { IfOk result (λ store. option_map (λ s. s.now) store ≡ show_value (codes "store") (map (λ w. w.now) words.entry.now)) }
+    ensures store { IfOk result (λ store. option_map (λ s. s.now) store ≡ show_value (codes "store") (map (λ w. w.now) words.entry.now)) }
+    ensures good { IfErr result (λ error. takes show_command (map (λ w. w.now) words.entry.now) ≡ true → kind_of error ≡ OutOfMemory) }
 {
     let command = show_command(alloc)?;
     let matches = command.try_get_matches_from(words)?;
@@ -162,7 +167,8 @@ fn shown_store<'a>(alloc: Global, words: &'a [&'a str]) -> Result<Option<&'a str
 }
 
 fn run_of<'a>(options: &Options<'a>) -> Option<ServerRun<'a>>
-    ensures { IfSome result (λ run. SpelledServer (option_map (λ s. s.now) options.entry.now.store) (option_map (λ s. s.now) options.entry.now.smpp) (option_map (λ s. s.now) options.entry.now.links) (option_map (λ s. s.now) options.entry.now.centre) (option_map (λ s. s.now) options.entry.now.sessions) (option_map (λ s. s.now) options.entry.now.accounts) run) }
+    ensures found { IfSome result (λ run. SpelledServer (option_map (λ s. s.now) options.entry.now.store) (option_map (λ s. s.now) options.entry.now.smpp) (option_map (λ s. s.now) options.entry.now.links) (option_map (λ s. s.now) options.entry.now.centre) (option_map (λ s. s.now) options.entry.now.sessions) (option_map (λ s. s.now) options.entry.now.accounts) run) }
+    ensures none { IfNone result (¬ SpellsServer (option_map (λ s. s.now) options.entry.now.store) (option_map (λ s. s.now) options.entry.now.smpp) (option_map (λ s. s.now) options.entry.now.links) (option_map (λ s. s.now) options.entry.now.centre) (option_map (λ s. s.now) options.entry.now.sessions)) }
 {
     let store = options.store?;
     let smpp = port_of(options.smpp?)?;
@@ -210,7 +216,8 @@ fn add<'a>(accounts: &mut Vec<AccountWords<'a>>, text: &'a str) -> Result<(), Wo
 
 // An account for each text, in order. There are no more calls in one another than accounts.
 fn add_all<'a>(accounts: &mut Vec<AccountWords<'a>>, texts: &[&'a str]) -> Result<(), WordsFault>
-    ensures { OnOk result (AddsAll (map (λ text. text.now) texts.now) accounts.old.items accounts.new.items) }
+    ensures added { OnOk result (AddsAll (map (λ text. text.now) texts.now) accounts.old.items accounts.new.items) }
+    ensures good { map (λ text. text.now) texts.now ≡ [] → IsOk result }
 {
     match texts {
         [] => Ok(()),
@@ -260,7 +267,8 @@ pub fn add_lines<'a>(
 
 // The accounts that all these texts spell.
 fn accounts_of<'a>(alloc: Global, texts: &[&'a str]) -> Result<Vec<AccountWords<'a>>, WordsFault>
-    ensures { IfOk result (λ accounts. AddsAll (map (λ text. text.now) texts.now) [] accounts.items) }
+    ensures added { IfOk result (λ accounts. AddsAll (map (λ text. text.now) texts.now) [] accounts.items) }
+    ensures good { map (λ text. text.now) texts.now ≡ [] → IsOk result }
 {
     let mut accounts = Vec::new(alloc);
     add_all(&mut accounts, texts)?;
@@ -268,7 +276,8 @@ fn accounts_of<'a>(alloc: Global, texts: &[&'a str]) -> Result<Vec<AccountWords<
 }
 
 fn run_words<'a>(alloc: Global, options: &Options<'a>) -> Result<ServerWords<'a>, WordsFault>
-    ensures { IfOk result (λ asked. SpelledRun (option_map (λ s. s.now) options.entry.now.store) (option_map (λ s. s.now) options.entry.now.smpp) (option_map (λ s. s.now) options.entry.now.links) (option_map (λ s. s.now) options.entry.now.centre) (option_map (λ s. s.now) options.entry.now.sessions) (option_map (λ s. s.now) options.entry.now.accounts) asked) }
+    ensures found { IfOk result (λ asked. SpelledRun (option_map (λ s. s.now) options.entry.now.store) (option_map (λ s. s.now) options.entry.now.smpp) (option_map (λ s. s.now) options.entry.now.links) (option_map (λ s. s.now) options.entry.now.centre) (option_map (λ s. s.now) options.entry.now.sessions) (option_map (λ s. s.now) options.entry.now.accounts) (map (λ w. w.now) options.entry.now.words.items) asked) }
+    ensures good { SpellsServer (option_map (λ s. s.now) options.entry.now.store) (option_map (λ s. s.now) options.entry.now.smpp) (option_map (λ s. s.now) options.entry.now.links) (option_map (λ s. s.now) options.entry.now.centre) (option_map (λ s. s.now) options.entry.now.sessions) → map (λ w. w.now) options.entry.now.words.items ≡ [] → IfErr result (λ fault. fault ≡ NoMemory) }
 {
     let Some(run) = run_of(options) else {
         return Err(WordsFault::BadWords);
@@ -278,7 +287,8 @@ fn run_words<'a>(alloc: Global, options: &Options<'a>) -> Result<ServerWords<'a>
 }
 
 fn run_asked<'a>(alloc: Global, words: &'a [&'a str]) -> Result<ServerWords<'a>, WordsFault>
-    ensures { IfOk result (λ asked. AsksToServe (map (λ w. w.now) words.entry.now) asked) }
+    ensures asked { IfOk result (λ asked. AsksToServe (map (λ w. w.now) words.entry.now) asked) }
+    ensures good { AskForServer (map (λ w. w.now) words.entry.now) → IfErr result (λ fault. fault ≡ NoMemory) }
 {
     match run_options(alloc, words) {
         Ok(options) => run_words(alloc, &options),
@@ -287,7 +297,8 @@ fn run_asked<'a>(alloc: Global, words: &'a [&'a str]) -> Result<ServerWords<'a>,
 }
 
 fn show_asked<'a>(alloc: Global, words: &'a [&'a str]) -> Result<ServerWords<'a>, WordsFault>
-    ensures { IfOk result (λ asked. AsksToLook (map (λ w. w.now) words.entry.now) asked) }
+    ensures asked { IfOk result (λ asked. AsksToLook (map (λ w. w.now) words.entry.now) asked) }
+    ensures good { AskForShow (map (λ w. w.now) words.entry.now) → IfErr result (λ fault. fault ≡ NoMemory) }
 {
     match shown_store(alloc, words) {
         Ok(Some(store)) => Ok(ServerWords::Show { store }),
@@ -312,7 +323,8 @@ fn is_show(words: &[&str]) -> bool
 /// may follow, and up to 32 accounts `NAME:PASSWORD:NUMBER`, no two of one name. Each is cut at its first two colons
 /// into a name of 1 to 15 and a password of up to 8 ASCII characters and a NUMBER. All else is bad words.
 pub fn server_words<'a>(alloc: Global, words: &'a [&'a str]) -> Result<ServerWords<'a>, WordsFault>
-    ensures { IfOk result (AsksOfServer (option_map (λ w. w.now) (slice_get words.entry.now 1)) (map (λ w. w.now) words.entry.now) (map (λ w. w.now) (drop 1 words.entry.now))) }
+    ensures asked { IfOk result (AsksOfServer (option_map (λ w. w.now) (slice_get words.entry.now 1)) (map (λ w. w.now) words.entry.now) (map (λ w. w.now) (drop 1 words.entry.now))) }
+    ensures good { AskOfServer (option_map (λ w. w.now) (slice_get words.entry.now 1)) (map (λ w. w.now) words.entry.now) (map (λ w. w.now) (drop 1 words.entry.now)) → IfErr result (λ fault. fault ≡ NoMemory) }
 {
     if words.len() > 1 && is_show(words) {
         return show_asked(alloc, &words[1..]);
