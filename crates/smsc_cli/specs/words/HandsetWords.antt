@@ -2,7 +2,7 @@
 use Rattle.std.specs.Prelude.{◌≡◌, ℕ, List, Bool, true, false, Option, Some, None, MatchBool, codes, bytes_eq}
 use Rattle.clap.specs.Words.{App, first_of, matches_of, new_app, takes, with_rule}
 use Rattle.smsc_cli.specs.words.SimWords.{Gives, Spells, SpellsNumber, required_option}
-use Rattle.smsc_cli.specs.words.Numbers.{SpellsCount, SpellsPort, SpellsSlots}
+use Rattle.smsc_cli.specs.words.Numbers.{IsCount, IsPort, IsSlots, SpellsCount, SpellsFrom}
 use Rattle.smsc_cli.specs.declared.words.handset.HandsetWords.{HandsetWords}
 use Rattle.smsc_cli.specs.declared.words.handset.HandsetWords.TheVariants.{Run, Show}
 
@@ -29,15 +29,15 @@ show_value name words = first_of name (matches_of show_command words)
 -- the values of the six options spell what a run is to do
 abbrev pub SpelledRun : Option (List ℕ) → Option (List ℕ) → Option (List ℕ) → Option (List ℕ) → Option (List ℕ) → Option (List ℕ) → HandsetWords → Type 0
 SpelledRun given_connect given_number given_centre given_slots given_store given_frames (Run connect number centre slots store frames) =
-    Gives SpellsPort given_connect connect × Gives SpellsNumber given_number number × Gives SpellsNumber given_centre centre
-    × Gives SpellsSlots given_slots slots × (given_store ≡ Some store.now) × Gives SpellsCount given_frames frames
+    Gives (SpellsFrom 1) given_connect connect × Gives SpellsNumber given_number number × Gives SpellsNumber given_centre centre
+    × Gives (SpellsFrom 1) given_slots slots × (given_store ≡ Some store.now) × Gives SpellsCount given_frames frames
 SpelledRun given_connect given_number given_centre given_slots given_store given_frames (Show store) = ⊥
 
 -- they spell some run
 abbrev pub SpellsRun : Option (List ℕ) → Option (List ℕ) → Option (List ℕ) → Option (List ℕ) → Option (List ℕ) → Option (List ℕ) → Type 0
 SpellsRun given_connect given_number given_centre given_slots given_store given_frames =
-    Spells SpellsPort given_connect × Spells SpellsNumber given_number × Spells SpellsNumber given_centre
-    × Spells SpellsSlots given_slots × ((store : List ℕ) × (given_store ≡ Some store)) × Spells SpellsCount given_frames
+    Spells IsPort given_connect × Spells SpellsNumber given_number × Spells SpellsNumber given_centre
+    × Spells IsSlots given_slots × ((store : List ℕ) × (given_store ≡ Some store)) × Spells IsCount given_frames
 
 -- clap takes the words, and they ask for a run
 pub record AskForRun (words : List (List ℕ)) : Type 0 where

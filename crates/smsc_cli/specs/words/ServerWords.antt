@@ -1,11 +1,11 @@
 -- The words of the server, by clap's matches of them. The first word is the program's name.
-use Rattle.std.specs.Prelude.{◌≡◌, ℕ, List, [], true, Option, Some, None, MatchBool, codes, option_map}
-use Rattle.clap.specs.Words.{App, Rule, all_of, first_of, matches_of, new_app, new_rule, takes, with_rule}
+use Rattle.std.specs.Prelude.{◌≡◌, ℕ, List, [], Option, Some, None, MatchBool, codes, option_map}
+use Rattle.clap.specs.Words.{App, Rule, all_of, first_of, matches_of, new_app, new_rule, with_rule}
 use Rattle.clap.specs.declared.builder.action.ArgAction.TheVariants.{Append, Set}
-use Rattle.smsc_cli.specs.words.SimWords.{Gives, Spells, SpellsNumber, required_option}
+use Rattle.smsc_cli.specs.words.SimWords.{Gives, SpellsNumber, required_option}
 use Rattle.smsc_cli.specs.words.Accounts.{AddsAll}
-use Rattle.smsc_cli.specs.words.HandsetWords.{AskForShow, is_show, show_value}
-use Rattle.smsc_cli.specs.words.Numbers.{SpellsCount, SpellsPort}
+use Rattle.smsc_cli.specs.words.HandsetWords.{is_show, show_value}
+use Rattle.smsc_cli.specs.words.Numbers.{SpellsCount, SpellsFrom}
 use Rattle.smsc_cli.specs.declared.words.server.ServerRun.{ServerRun}
 use Rattle.smsc_cli.specs.declared.words.server.ServerWords.{ServerWords}
 use Rattle.smsc_cli.specs.declared.words.server.ServerWords.TheVariants.{Run, Show}
@@ -46,17 +46,11 @@ server_list name words = listed (all_of name (matches_of server_command words))
 -- the values of the six options spell what a run is to do
 abbrev pub SpelledServer : Option (List ℕ) → Option (List ℕ) → Option (List ℕ) → Option (List ℕ) → Option (List ℕ) → Option (List ℕ) → ServerRun → Type 0
 SpelledServer given_store given_smpp given_links given_centre given_sessions given_accounts run =
-    (given_store ≡ Some run.store.now) × Gives SpellsPort given_smpp run.smpp × Gives SpellsPort given_links run.links
+    (given_store ≡ Some run.store.now) × Gives (SpellsFrom 1) given_smpp run.smpp × Gives (SpellsFrom 1) given_links run.links
     × Gives SpellsNumber given_centre run.centre × Gives SpellsCount given_sessions run.sessions
     × (given_accounts ≡ option_map (λ s. s.now) run.accounts)
 
--- they spell some run
-abbrev pub SpellsServer : Option (List ℕ) → Option (List ℕ) → Option (List ℕ) → Option (List ℕ) → Option (List ℕ) → Type 0
-SpellsServer given_store given_smpp given_links given_centre given_sessions =
-    ((store : List ℕ) × (given_store ≡ Some store)) × Spells SpellsPort given_smpp × Spells SpellsPort given_links
-    × Spells SpellsNumber given_centre × Spells SpellsCount given_sessions
-
--- they ask for that run, with the accounts that the last of them spell
+-- they ask for that run, with the accounts that these words spell
 abbrev pub SpelledRun : Option (List ℕ) → Option (List ℕ) → Option (List ℕ) → Option (List ℕ) → Option (List ℕ) → Option (List ℕ) → List (List ℕ) → ServerWords → Type 0
 SpelledRun given_store given_smpp given_links given_centre given_sessions given_accounts given_words (Run run accounts) =
     SpelledServer given_store given_smpp given_links given_centre given_sessions given_accounts run × AddsAll given_words [] accounts.items
@@ -68,13 +62,6 @@ AsksToServe words =
     (server_value (codes "centre") words) (server_value (codes "sessions") words) (server_value (codes "accounts") words)
     (server_list (codes "account") words)
 
--- clap takes the words, and they ask for a run without accounts
-pub record AskForServer (words : List (List ℕ)) : Type 0 where
-  pub taken : takes server_command words ≡ true
-  pub spelled : SpellsServer (server_value (codes "store") words) (server_value (codes "smpp") words) (server_value (codes "links") words)
-      (server_value (codes "centre") words) (server_value (codes "sessions") words)
-  pub no_accounts : server_list (codes "account") words ≡ []
-
 abbrev pub AsksToLook : List (List ℕ) → ServerWords → Type 0
 AsksToLook words (Run run accounts) = ⊥
 AsksToLook words (Show store) = show_value (codes "store") words ≡ Some store.now
@@ -82,7 +69,3 @@ AsksToLook words (Show store) = show_value (codes "store") words ≡ Some store.
 -- `show` as the second word asks for a look, by the words behind the program's name, and all else for a run
 abbrev pub AsksOfServer : Option (List ℕ) → List (List ℕ) → List (List ℕ) → ServerWords → Type 0
 AsksOfServer second words behind asked = MatchBool (is_show second) (AsksToLook behind asked) (AsksToServe words asked)
-
--- words that ask the server for something, and name no account
-abbrev pub AskOfServer : Option (List ℕ) → List (List ℕ) → List (List ℕ) → Type 0
-AskOfServer second words behind = MatchBool (is_show second) (AskForShow behind) (AskForServer words)

@@ -4,7 +4,7 @@ use Rattle.std.specs.Str.{chars}
 use Rattle.clap.specs.Words.{App, Rule, first_of, matches_of, new_app, new_rule, takes, with_rule}
 use Rattle.clap.specs.declared.builder.action.ArgAction.TheVariants.{Set}
 use Rattle.sms_base.specs.declared.address.Address.{Address}
-use Rattle.smsc_cli.specs.words.Numbers.{SpellsBetween}
+use Rattle.smsc_cli.specs.words.Numbers.{SpellsBetween, SpellsCount}
 use Rattle.smsc_cli.specs.words.OwnAddress.{IsOwnAddress}
 use Rattle.smsc_cli.specs.declared.words.sim.SimWords.{SimWords}
 use Rattle.smsc_cli.specs.declared.words.sim.SimWords.TheVariants.{Relay}
@@ -27,9 +27,13 @@ pub record SpellsNumber (text : List ℕ) (address : Address) : Type 0 where
   pub own : IsOwnAddress address
   pub digits : address.digits ≡ chars text
 
--- the text is decimal digits of the number of seconds from 1970 to a moment of the years 2000 to 2099
+-- the text is decimal digits of the number of seconds
 abbrev pub SpellsSeconds : List ℕ → ℕ → Type 0
-SpellsSeconds = SpellsBetween 946_684_800 4_102_444_799
+SpellsSeconds = SpellsCount
+
+-- to a moment of the years 2000 to 2099
+abbrev pub IsSeconds : List ℕ → ℕ → Type 0
+IsSeconds = SpellsBetween 946_684_800 4_102_444_799
 
 -- the option of that name has a value that spells it
 abbrev pub Gives : {A : Type 0} → (List ℕ → A → Type 0) → Option (List ℕ) → A → Type 0
@@ -46,7 +50,7 @@ Spelled given_centre given_from given_now (Relay centre from now) =
 
 -- they spell some
 abbrev pub SpellsRelay : Option (List ℕ) → Option (List ℕ) → Option (List ℕ) → Type 0
-SpellsRelay given_centre given_from given_now = Spells SpellsNumber given_centre × Spells SpellsNumber given_from × Spells SpellsSeconds given_now
+SpellsRelay given_centre given_from given_now = Spells SpellsNumber given_centre × Spells SpellsNumber given_from × Spells IsSeconds given_now
 
 abbrev pub is_relay : Option (List ℕ) → Bool
 is_relay None = false

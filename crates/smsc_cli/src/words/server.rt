@@ -1,24 +1,20 @@
 //! The words of the server.
-ghost use Rattle.std.specs.Prelude.{◌≡◌, ◌↔◌, ℕ, List, [], true, false, map, drop, option_map, slice_get, codes, Err, IfErr, IfNone, IfSome, IfOk, IsOk, OnErr, OnOk};
-ghost use Rattle.std.specs.Str.Iter.{LacksByte};
+ghost use Rattle.std.specs.Prelude.{◌≡◌, true, false, map, drop, option_map, slice_get, codes, IfErr, IfSome, IfOk};
 ghost use Rattle.clap.specs.Words.{app_of, first_value, found_of, kind_of, matched_of, raw_values, rule_of, takes};
 ghost use Rattle.clap.specs.declared.error.kind.ErrorKind.TheVariants.{OutOfMemory};
-ghost use Rattle.smsc_cli.specs.words.Accounts.{AddsAccount, AddsAll, AddsNone, AreLines, IsBare, IsCutAt, IsNewName};
-ghost use Rattle.smsc_cli.specs.declared.words.fault.WordsFault.TheVariants.{BadWords, NoMemory};
+ghost use Rattle.smsc_cli.specs.declared.words.fault.WordsFault.TheVariants.{NoMemory};
 ghost use Rattle.smsc_cli.specs.words.SimWords.{required_option};
 ghost use Rattle.smsc_cli.specs.words.HandsetWords.{AskForShow, is_show, show_command, show_value};
-ghost use Rattle.smsc_cli.specs.words.ServerWords.{AskForServer, AskOfServer, AsksOfServer, AsksToLook, AsksToServe, SpelledRun, SpelledServer, SpellsServer, listed, listed_words, needed_command, optional_option, port_command, server_command, server_list, server_value};
+ghost use Rattle.smsc_cli.specs.words.ServerWords.{AsksOfServer, AsksToLook, AsksToServe, SpelledRun, SpelledServer, listed, listed_words, needed_command, optional_option, port_command, server_command, server_list, server_value};
 
-use crate::words::account::{AccountWords, account_of};
+use crate::words::account::AccountWords;
+use crate::words::accounts::accounts_of;
 use crate::words::fault::{WordsFault, fault_of};
 use crate::words::number::{address_of, count_of, port_of};
 use crate::words::option::required;
 use clap::{Arg, ArgAction, ArgMatches, Command, Error};
 use sms_base::Address;
 use std::alloc::{AllocError, Global};
-
-/// How many accounts there may be.
-const MOST_ACCOUNTS: usize = 32;
 
 /// What a run of the server is to do, but for its accounts.
 #[derive(Clone, Copy, Debug)]
@@ -149,7 +145,6 @@ fn run_options<'a>(alloc: Global, words: &'a [&'a str]) -> Result<Options<'a>, E
     ensures sessions { IfOk result (λ o. option_map (λ s. s.now) o.sessions ≡ server_value (codes "sessions") (map (λ w. w.now) words.entry.now)) }
     ensures accounts { IfOk result (λ o. option_map (λ s. s.now) o.accounts ≡ server_value (codes "accounts") (map (λ w. w.now) words.entry.now)) }
     ensures words { IfOk result (λ o. map (λ w. w.now) o.words.items ≡ server_list (codes "account") (map (λ w. w.now) words.entry.now)) }
-    ensures good { IfErr result (λ error. takes server_command (map (λ w. w.now) words.entry.now) ≡ true → kind_of error ≡ OutOfMemory) }
 {
     let command = run_command(alloc)?;
     let matches = command.try_get_matches_from(words)?;
@@ -167,8 +162,7 @@ fn shown_store<'a>(alloc: Global, words: &'a [&'a str]) -> Result<Option<&'a str
 }
 
 fn run_of<'a>(options: &Options<'a>) -> Option<ServerRun<'a>>
-    ensures found { IfSome result (λ run. SpelledServer (option_map (λ s. s.now) options.entry.now.store) (option_map (λ s. s.now) options.entry.now.smpp) (option_map (λ s. s.now) options.entry.now.links) (option_map (λ s. s.now) options.entry.now.centre) (option_map (λ s. s.now) options.entry.now.sessions) (option_map (λ s. s.now) options.entry.now.accounts) run) }
-    ensures none { IfNone result (¬ SpellsServer (option_map (λ s. s.now) options.entry.now.store) (option_map (λ s. s.now) options.entry.now.smpp) (option_map (λ s. s.now) options.entry.now.links) (option_map (λ s. s.now) options.entry.now.centre) (option_map (λ s. s.now) options.entry.now.sessions)) }
+    ensures { IfSome result (λ run. SpelledServer (option_map (λ s. s.now) options.entry.now.store) (option_map (λ s. s.now) options.entry.now.smpp) (option_map (λ s. s.now) options.entry.now.links) (option_map (λ s. s.now) options.entry.now.centre) (option_map (λ s. s.now) options.entry.now.sessions) (option_map (λ s. s.now) options.entry.now.accounts) run) }
 {
     let store = options.store?;
     let smpp = port_of(options.smpp?)?;
@@ -185,99 +179,8 @@ fn run_of<'a>(options: &Options<'a>) -> Option<ServerRun<'a>>
     })
 }
 
-// Whether no account has the name.
-fn is_new(name: &str, accounts: &[AccountWords<'_>]) -> bool
-    ensures { (result ≡ true) ↔ IsNewName name.now accounts.now }
-{
-    match accounts {
-        [] => true,
-        [first, others @ ..] => first.name != name && is_new(name, others),
-    }
-}
-
-// One more account, if it is one, of a new name, and there are not too many.
-fn add<'a>(accounts: &mut Vec<AccountWords<'a>>, text: &'a str) -> Result<(), WordsFault>
-    ensures ok { OnOk result (AddsAccount text.entry.now accounts.old.items accounts.new.items) }
-    ensures err { OnErr result (accounts.new.items ≡ accounts.old.items) }
-    ensures bad { result ≡ Err BadWords → AddsNone text.entry.now accounts.old.items }
-    ensures memory { result ≡ Err NoMemory → ¬ AddsNone text.entry.now accounts.old.items }
-{
-    let Some(account) = account_of(text) else {
-        return Err(WordsFault::BadWords);
-    };
-    if accounts.len() >= MOST_ACCOUNTS || !is_new(account.name, accounts.as_slice()) {
-        return Err(WordsFault::BadWords);
-    }
-    match accounts.push(account) {
-        Ok(()) => Ok(()),
-        Err(_) => Err(WordsFault::NoMemory),
-    }
-}
-
-// An account for each text, in order. There are no more calls in one another than accounts.
-fn add_all<'a>(accounts: &mut Vec<AccountWords<'a>>, texts: &[&'a str]) -> Result<(), WordsFault>
-    ensures added { OnOk result (AddsAll (map (λ text. text.now) texts.now) accounts.old.items accounts.new.items) }
-    ensures good { map (λ text. text.now) texts.now ≡ [] → IsOk result }
-{
-    match texts {
-        [] => Ok(()),
-        [first, others @ ..] => {
-            add(accounts, first)?;
-            add_all(accounts, others)
-        }
-    }
-}
-
-// The text before its first line feed, and the text behind it.
-fn at_line_feed<'a>(text: &'a str) -> Option<(&'a str, &'a str)>
-    ensures cut { IfSome result (λ cut. IsCutAt 10 text.entry.now cut.0.now cut.1.now) }
-    ensures none { IfNone result (LacksByte 10 text.entry.now) }
-{
-    text.split_once('\n')
-}
-
-// The line, less a carriage return at its end.
-fn bare<'a>(line: &'a str) -> &'a str
-    ensures { IsBare line.entry.now result.now }
-{
-    match line.strip_suffix('\r') {
-        Some(bare) => bare,
-        None => line,
-    }
-}
-
-/// The accounts of a file, one a line, behind these: 32 at most, no two of one name. The last line may lack its end.
-pub fn add_lines<'a>(
-    accounts: &mut Vec<AccountWords<'a>>,
-    file: &'a str,
-) -> Result<(), WordsFault>
-    ensures { OnOk result ((lines : List (List ℕ)) × AreLines file.entry.now lines × AddsAll lines accounts.old.items accounts.new.items) }
-{
-    if file.is_empty() {
-        return Ok(());
-    }
-    match at_line_feed(file) {
-        Some((line, rest)) => {
-            add(accounts, bare(line))?;
-            add_lines(accounts, rest)
-        }
-        None => add(accounts, file),
-    }
-}
-
-// The accounts that all these texts spell.
-fn accounts_of<'a>(alloc: Global, texts: &[&'a str]) -> Result<Vec<AccountWords<'a>>, WordsFault>
-    ensures added { IfOk result (λ accounts. AddsAll (map (λ text. text.now) texts.now) [] accounts.items) }
-    ensures good { map (λ text. text.now) texts.now ≡ [] → IsOk result }
-{
-    let mut accounts = Vec::new(alloc);
-    add_all(&mut accounts, texts)?;
-    Ok(accounts)
-}
-
 fn run_words<'a>(alloc: Global, options: &Options<'a>) -> Result<ServerWords<'a>, WordsFault>
-    ensures found { IfOk result (λ asked. SpelledRun (option_map (λ s. s.now) options.entry.now.store) (option_map (λ s. s.now) options.entry.now.smpp) (option_map (λ s. s.now) options.entry.now.links) (option_map (λ s. s.now) options.entry.now.centre) (option_map (λ s. s.now) options.entry.now.sessions) (option_map (λ s. s.now) options.entry.now.accounts) (map (λ w. w.now) options.entry.now.words.items) asked) }
-    ensures good { SpellsServer (option_map (λ s. s.now) options.entry.now.store) (option_map (λ s. s.now) options.entry.now.smpp) (option_map (λ s. s.now) options.entry.now.links) (option_map (λ s. s.now) options.entry.now.centre) (option_map (λ s. s.now) options.entry.now.sessions) → map (λ w. w.now) options.entry.now.words.items ≡ [] → IfErr result (λ fault. fault ≡ NoMemory) }
+    ensures { IfOk result (λ asked. SpelledRun (option_map (λ s. s.now) options.entry.now.store) (option_map (λ s. s.now) options.entry.now.smpp) (option_map (λ s. s.now) options.entry.now.links) (option_map (λ s. s.now) options.entry.now.centre) (option_map (λ s. s.now) options.entry.now.sessions) (option_map (λ s. s.now) options.entry.now.accounts) (map (λ w. w.now) options.entry.now.words.items) asked) }
 {
     let Some(run) = run_of(options) else {
         return Err(WordsFault::BadWords);
@@ -287,8 +190,7 @@ fn run_words<'a>(alloc: Global, options: &Options<'a>) -> Result<ServerWords<'a>
 }
 
 fn run_asked<'a>(alloc: Global, words: &'a [&'a str]) -> Result<ServerWords<'a>, WordsFault>
-    ensures asked { IfOk result (λ asked. AsksToServe (map (λ w. w.now) words.entry.now) asked) }
-    ensures good { AskForServer (map (λ w. w.now) words.entry.now) → IfErr result (λ fault. fault ≡ NoMemory) }
+    ensures { IfOk result (λ asked. AsksToServe (map (λ w. w.now) words.entry.now) asked) }
 {
     match run_options(alloc, words) {
         Ok(options) => run_words(alloc, &options),
@@ -324,7 +226,7 @@ fn is_show(words: &[&str]) -> bool
 /// into a name of 1 to 15 and a password of up to 8 ASCII characters and a NUMBER. All else is bad words.
 pub fn server_words<'a>(alloc: Global, words: &'a [&'a str]) -> Result<ServerWords<'a>, WordsFault>
     ensures asked { IfOk result (AsksOfServer (option_map (λ w. w.now) (slice_get words.entry.now 1)) (map (λ w. w.now) words.entry.now) (map (λ w. w.now) (drop 1 words.entry.now))) }
-    ensures good { AskOfServer (option_map (λ w. w.now) (slice_get words.entry.now 1)) (map (λ w. w.now) words.entry.now) (map (λ w. w.now) (drop 1 words.entry.now)) → IfErr result (λ fault. fault ≡ NoMemory) }
+    ensures show { is_show (option_map (λ w. w.now) (slice_get words.entry.now 1)) ≡ true → AskForShow (map (λ w. w.now) (drop 1 words.entry.now)) → IfErr result (λ fault. fault ≡ NoMemory) }
 {
     if words.len() > 1 && is_show(words) {
         return show_asked(alloc, &words[1..]);

@@ -3,7 +3,7 @@ ghost use Rattle.std.specs.Prelude.{◌≡◌, ℕ, map, option_map, slice_get, 
 ghost use Rattle.clap.specs.Words.{app_of, first_value, found_of, kind_of, takes};
 ghost use Rattle.clap.specs.declared.error.kind.ErrorKind.TheVariants.{OutOfMemory};
 ghost use Rattle.smsc_cli.specs.declared.words.fault.WordsFault.TheVariants.{BadWords, NoMemory};
-ghost use Rattle.smsc_cli.specs.words.SimWords.{AskForRelay, AsksFor, Spelled, SpellsRelay, SpellsSeconds, is_relay, relay_command, value_of};
+ghost use Rattle.smsc_cli.specs.words.SimWords.{AskForRelay, AsksFor, IsSeconds, Spelled, SpellsRelay, SpellsSeconds, is_relay, relay_command, value_of};
 
 use crate::words::fault::{WordsFault, fault_of};
 use crate::words::number::{address_of, is_decimal_text};
@@ -72,7 +72,7 @@ fn relay_options<'a>(alloc: Global, words: &'a [&'a str]) -> Result<RelayOptions
 // The moment of a number of seconds, in decimal digits alone.
 fn moment_of(text: &str) -> Option<Moment>
     ensures found { IfSome result (λ moment. SpellsSeconds text.now moment) }
-    ensures only { (moment : ℕ) → SpellsSeconds text.now moment → result ≡ Some moment }
+    ensures only { (moment : ℕ) → IsSeconds text.now moment → result ≡ Some moment }
 {
     if !is_decimal_text(text) {
         return None;
