@@ -1,10 +1,11 @@
 -- Texts of decimal digits are what `parse` reads.
-use Rattle.std.proofs.Common.{◌≡◌, ℕ, ◌<◌, ◌≤◌, ◌-◌, Bool, true, false, cond, ◌&&◌, ◌==◌, eqb, ltb, leb, List, [], ◌∷◌, drop, length, refl, sym, ap, ◌∙◌, arith}
+use Rattle.std.proofs.Common.{◌≡◌, ℕ, ◌<◌, ◌≤◌, ◌-◌, ◌^◌, Result, Ok, Err, subst, Bool, true, false, cond, ◌&&◌, ◌==◌, eqb, ltb, leb, List, [], ◌∷◌, drop, length, refl, sym, ap, ◌∙◌, arith}
 use Rattle.std.specs.Char.{digit_value}
 use Rattle.std.specs.List.{list_all}
-use Rattle.std.specs.Str.Parse.{AllDigits, IsNumeral, without_leading_plus}
+use Rattle.std.specs.Str.Parse.{AllDigits, IsNumeral, ParsesUnsigned, digits_value, without_leading_plus}
 use Rattle.std.proofs.lemmas.Bool.{le-ltb, lt-ltb, leb-true, ne_eqb}
 use Rattle.sms_base.specs.HandsetNumber.{is_decimal}
+use Rattle.smsc_cli.specs.words.Numbers.{SpellsCount}
 
 both : (a b : Bool) → (a && b) ≡ true → (a ≡ true) × (b ≡ true)
 both true b e = (refl, e)
@@ -35,3 +36,9 @@ all_digits (c ∷ cs) e = let h = both (is_decimal c) (list_all is_decimal cs) e
 
 pub numeral : (text : List ℕ) → 0 < length text → list_all is_decimal text ≡ true → IsNumeral 10 text
 numeral text some e = (some, all_digits text e)
+
+-- `parse` reads what spells a number of its type
+pub parsed : {E : Type 0} (k n : ℕ) (text : List ℕ) (r : Result ℕ E) → ParsesUnsigned k 10 text r → SpellsCount text n → n < 2 ^ k → r ≡ Ok n
+parsed k n text (Ok x) h s less = ap (λ (y : ℕ). Ok y) (h.1 ∙ ap (digits_value 10) (no_plus text s.digits) ∙ s.value)
+parsed k n text (Err e) h s less =
+    absurd (h (subst (λ (t : List ℕ). IsNumeral 10 t × (digits_value 10 t < 2 ^ k)) (sym (no_plus text s.digits)) (numeral text s.some s.digits, subst (λ (m : ℕ). m < 2 ^ k) (sym s.value) less)))
