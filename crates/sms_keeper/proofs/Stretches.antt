@@ -6,6 +6,9 @@ use Rattle.sms_keeper.specs.declared.machine.Fate.TheVariants.{Done, NoMemory, R
 use Rattle.sms_keeper.specs.declared.outs.Out.{Out}
 use Rattle.sms_keeper.specs.declared.machine.Item.{Item}
 use Rattle.sms_keeper.specs.declared.keeper.Keeper.{Keeper}
+use Rattle.sms_keeper.specs.declared.keeper.End.{End}
+use Rattle.sms_keeper.specs.declared.keeper.End.TheVariants.{Short}
+use Rattle.sms_keeper.specs.Ends.{MatchEnd}
 use Rattle.sms_keeper.specs.Fates.{MatchFate, WentOn, EndsRefused}
 use Rattle.sms_keeper.specs.History.{IsHistory, IsRising, Leads, LeadsBy, IsTimely, tick_after, outs_to, answers_in, asked_by, asked, work}
 use Rattle.sms_keeper.specs.Keeping.{given_at, given_by, ran_by, IsSameHub, Gave, IsStretch}
@@ -18,6 +21,9 @@ fate_went Refused A B n h = absurd (n refl)
 
 pub fate_ended : (f : Fate) (A B : Type 0) → f ≡ Refused → MatchFate f A B → B
 fate_ended f A B e h = let P : Fate → Type 0 = λ x. MatchFate x A B in subst P e h
+
+pub end_short : (e : End) (A B : Type 0) → e ≡ Short → MatchEnd e A B → A
+end_short e A B is h = let P : End → Type 0 = λ x. MatchEnd x A B in subst P is h
 
 is_refused : Fate → Bool
 is_refused Done = false

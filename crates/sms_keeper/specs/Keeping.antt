@@ -69,3 +69,10 @@ module _ {J O : Type 0} (shows : ℕ → Type 0) where
     pub told : MatchFate fate (WentOn more) (EndsRefused more)
     pub did : IsStretch a more b
     pub led : leads more
+
+  -- What a term did that ended for want of memory: it ran fewer jobs than a whole term. What its items lead to is said.
+  pub record IsShort (leads : List (Item J O) → Type 0) (a b : Keeper J O) : Type 0 where
+    pub items : List (Item J O)
+    pub did : IsStretch a items b
+    pub led : leads items
+    pub few : length (asked items) < 65536

@@ -2,7 +2,8 @@
 ghost use Rattle.std.specs.Prelude.{◌≡◌, true, ⊤, IfOk, IfErr};
 ghost use Rattle.sms_keeper.specs.Faults.{MatchFault};
 ghost use Rattle.sms_keeper.specs.History.{Leads};
-ghost use Rattle.sms_keeper.specs.Keeping.{IsClosed, IsStretch};
+ghost use Rattle.sms_keeper.specs.Keeping.{IsClosed, IsShort, IsStretch};
+ghost use Rattle.sms_keeper.specs.declared.hub_fault.HubFault.TheVariants.{NoMemory};
 
 use crate::hub_fault::HubFault;
 use crate::keeper::{End, Keeper, Term};
@@ -24,6 +25,9 @@ fn run_term<J: Drop, O: Drop, R: Wait, M: Machine<J, O>, G: Gate, C: Clock>(
     ensures before { M.is_honest machine.new → M.is_honest machine.old }
     ensures closed { IfOk result (λ r. r.1 ≡ true → IsClosed keeper.new) }
     ensures fault { IfErr result (λ fault. MatchFault fault ⊥ ⊤ (M.is_broken machine.new) ⊥) }
+    ensures short { IfErr result (λ fault. fault ≡ NoMemory → IsShort (C.shows clock.now)
+        (λ items. M.is_honest machine.new → Leads M.gives M.after (M.stands machine.old) items (M.stands machine.new))
+        keeper.old keeper.new) }
 {
     let Term { history, end } = keeper.run(rt, alloc, machine, gate, clock);
     match end {

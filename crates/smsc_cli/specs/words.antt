@@ -1,3 +1,4 @@
+pub mod Accounts
 pub mod HandsetWords
 pub mod Numbers
 pub mod OwnAddress

@@ -1,7 +1,7 @@
 //! What the keeper does, turn by turn.
-ghost use Rattle.std.specs.Prelude.{◌≡◌, ◌<◌, ◌≤◌, ℕ, true, IsTrue, List, [], ◌∷◌, ◌++◌, MatchOption, length, vec_len, vec_capacity};
+ghost use Rattle.std.specs.Prelude.{◌≡◌, ◌↔◌, ◌<◌, ◌≤◌, ℕ, true, IsTrue, List, [], ◌∷◌, ◌++◌, MatchOption, length, vec_len, vec_capacity};
 ghost use Rattle.sms_keeper.specs.declared.machine.Item.{Item};
-ghost use Rattle.sms_keeper.specs.declared.keeper.End.TheVariants.{AllClosed, Full};
+ghost use Rattle.sms_keeper.specs.declared.keeper.End.TheVariants.{AllClosed, Full, Short};
 ghost use Rattle.sms_keeper.specs.Ends.{MatchEnd};
 ghost use Rattle.sms_keeper.specs.Fates.{MatchFate, EndsRefused, WentOn};
 ghost use Rattle.sms_keeper.specs.History.{asked, IsLater, Leads, LeadsBy};
@@ -69,16 +69,19 @@ impl<J: Drop, O: Drop> Keeper<J, O> {
         fate
     }
 
-    // Runs the next job, notes an end mark, or waits a little for either.
+    // Runs the next job, notes an end mark, or waits a little for either, at a moment that is not after the last tick.
     fn serve<R: Wait, M: Machine<J, O>, G: Gate, C: Clock>(
         &mut self,
         rt: &R,
         machine: &mut M,
         gate: &G,
         clock: &C,
+        now: Moment,
         history: &mut Vec<Item<J, O>>,
     ) -> Turn
         requires room { vec_len history.old < vec_capacity history.old }
+        requires shown { C.shows clock.now now }
+        requires not_due { ¬ IsLater self.old.last now }
         ensures turn { IsTurn (C.shows clock.now)
             (λ more. M.is_honest machine.new → LeadsBy M.gives M.after result.fate (M.stands machine.old) more (M.stands machine.new) (M.resumes machine.new))
             self.old history.old.items self.new history.new.items result.jobs result.fate }
@@ -111,7 +114,7 @@ impl<J: Drop, O: Drop> Keeper<J, O> {
 
     // Whether a moment is later than the last tick.
     fn is_due(&self, now: Moment) -> bool
-        ensures { IsTrue result → IsLater self.now.last now }
+        ensures { IsTrue result ↔ IsLater self.now.last now }
     {
         match self.last {
             Some(last) => last.seconds() < now.seconds(),
@@ -141,7 +144,7 @@ impl<J: Drop, O: Drop> Keeper<J, O> {
             self.last = Some(now);
             return Turn { jobs: 0, fate };
         }
-        self.serve(rt, machine, gate, clock, history)
+        self.serve(rt, machine, gate, clock, now, history)
     }
 
     // Whether all end marks were popped.
@@ -180,6 +183,7 @@ impl<J: Drop, O: Drop> Keeper<J, O> {
         ensures refused { MatchEnd result.end (WentOn result.history.items) (EndsRefused result.history.items) }
         ensures closed { result.end ≡ AllClosed → IsClosed self.new }
         ensures full { result.end ≡ Full → length (asked result.history.items) ≡ 65536 }
+        ensures short { result.end ≡ Short → length (asked result.history.items) < 65536 }
         ensures most { length (asked result.history.items) ≤ 65536 }
     {
         let mut history = Vec::new(alloc);

@@ -1,5 +1,5 @@
 //! Octets that arrived and are not cut off yet.
-ghost use Rattle.std.specs.Prelude.{◌≡◌, ◌++◌, ℕ, List, [], Ok, Some, length, OnOk, OnErr};
+ghost use Rattle.std.specs.Prelude.{◌≡◌, ◌≢◌, ◌++◌, ℕ, List, [], Ok, Some, length, OnOk, OnErr};
 ghost use Rattle.sms_link.specs.framing.Framing.{framed, front_of, sized_of};
 
 use crate::framing::fault::FramingFault;
@@ -76,9 +76,10 @@ impl FrameBuffer {
         front_frame(self.waiting.as_slice())
     }
 
-    /// Cuts the frame at the front off, in place.
+    /// Cuts the frame at the front off, in place. Where no whole frame is there, nothing is cut.
     pub fn cut(&mut self)
-        ensures { (frame : List ℕ) → front_of self.old ≡ Ok (Some frame) → self.old ≡ framed frame ++ self.new }
+        ensures frame { (frame : List ℕ) → front_of self.old ≡ Ok (Some frame) → self.old ≡ framed frame ++ self.new }
+        ensures none { ((frame : List ℕ) → front_of self.old ≢ Ok (Some frame)) → self.new ≡ self.old }
     {
         if let Ok(Some(frame)) = front_frame(self.waiting.as_slice()) {
             let length = frame.as_slice().len();

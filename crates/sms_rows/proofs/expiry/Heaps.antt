@@ -8,10 +8,10 @@ use Rattle.std.specs.declared.cmp.Reverse.{Reverse}
 use Rattle.std.proofs.lemmas.Bool.{cases_eq}
 use Rattle.std.proofs.lemmas.Bool.Decides.{nat_tests}
 use Rattle.std.proofs.lemmas.List.Elements.{All-from_recursion, recursion_from_All}
-use Rattle.std.proofs.lemmas.List.Sorted.{All-permutation, IsPermutation-sym}
+use Rattle.std.proofs.lemmas.List.Sorted.{All-permutation, IsPermutation-map, IsPermutation-sym}
 use Rattle.sms_base.specs.Among.{Among}
 use Rattle.sms_rows.specs.declared.expiry.deadline.Deadline.{Deadline}
-use Rattle.sms_rows.specs.expiry.Deadlines.{HasPast, IsCollected, IsUnder, above, first_of, heap_cmp, inside, steps_above}
+use Rattle.sms_rows.specs.expiry.Deadlines.{HasOnlyPast, HasPast, IsCollected, IsPastIn, IsUnder, above, first_of, heap_cmp, inside, steps_above}
 
 -- ---- none is lost
 
@@ -165,3 +165,40 @@ among_before n x (y ∷ ys) m = ⊎_elim (λ (e : n ≡ y). inl e) (λ (r : Amon
 pub among_last_as : (n x : ℕ) (xs : List ℕ) → n ≡ x → Among n (xs ++ x ∷ [])
 among_last_as n x [] e = inl e
 among_last_as n x (y ∷ ys) e = inr (among_last_as n x ys e)
+
+-- ---- nothing is added
+
+pub pushed_exact : (d : Deadline) (old new : List (Reverse Deadline)) → IsPermutation (record { 0 = d } ∷ old) new → IsPermutation (d ∷ map inside old) (map inside new)
+pushed_exact d old new p = IsPermutation-map inside (record { 0 = d } ∷ old) new p
+
+pub popped_exact : (o : Option (Reverse Deadline)) (old new : List (Reverse Deadline)) (n : ℕ) → n ≡ length old → ((is_some o ≡ true) ↔ (0 < n)) → IfSome o (λ x. x ≡ get_or old 0 x) → IfSome o (λ x. IsPermutation old (x ∷ new))
+    → IfSome (first_of (map inside old)) (λ first. IsPermutation (map inside old) (first ∷ map inside new))
+popped_exact o [] new n l some top p = tt
+popped_exact None (x ∷ xs) new n l some top p = let s : false ≡ true = some.1 (omega (arith, l)) in absurd cc
+popped_exact (Some y) (x ∷ xs) new n l some top p =
+    subst (λ (r : Reverse Deadline). IsPermutation (map inside (x ∷ xs)) (r.0 ∷ map inside new)) top (IsPermutation-map inside (x ∷ xs) (y ∷ new) p)
+
+pub appended_exact : (own old new : List (Reverse Deadline)) → own ≡ [] → IsPermutation (own ++ old) new → IsPermutation (map inside old) (map inside new)
+appended_exact own old new e p = IsPermutation-map inside old new (subst (λ (l : List (Reverse Deadline)). IsPermutation (l ++ old) new) e p)
+
+among_get : (heap : List (Reverse Deadline)) (k : ℕ) (d : Reverse Deadline) → k < length heap → Among (get_or heap k d) heap
+among_get [] k d l = absurd (omega arith)
+among_get (x ∷ xs) zero d l = inl refl
+among_get (x ∷ xs) (suc k) d l = inr (among_get xs k d (omega (arith, l)))
+
+-- the deadline at a place of the heap is reached
+pub past_at : (heap : List (Reverse Deadline)) (place now n : ℕ) (r : Reverse Deadline) → place < length heap → r ≡ get_or heap place r → r.0.limit ≤ now → n ≡ (get_or heap place r).0.id → IsPastIn now heap n
+past_at heap place now n r within is due e = (get_or heap place r, among_get heap place r within, subst (λ (x : Reverse Deadline). x.0.limit ≤ now) is due, sym e)
+
+pub last_or_before : (n x : ℕ) (xs : List ℕ) → Among n (xs ++ x ∷ []) → Among n xs ⊎ (n ≡ x)
+last_or_before n x [] m = ⊎_elim (λ (e : n ≡ x). inr e) (λ (k : ⊥). elim k [ ]) m
+last_or_before n x (y ∷ ys) m = ⊎_elim
+    (λ (e : n ≡ y). inl (inl e))
+    (λ (r : Among n (ys ++ x ∷ [])). ⊎_elim (λ (k : Among n ys). inl (inr k)) (λ (e : n ≡ x). inr e) (last_or_before n x ys r))
+    m
+
+pub only_collected : (now : ℕ) (rs : List (Reverse Deadline)) (before ids sorted : List ℕ) → before ≡ [] → ((n : ℕ) → Among n ids → Among n before ⊎ IsPastIn now rs n) → IsPermutation ids sorted → HasOnlyPast now (map inside rs) sorted
+only_collected now rs before ids sorted none only p id m = ⊎_elim
+    (λ (k : Among id before). let n : Among id [] = subst (λ (l : List ℕ). Among id l) none k in elim n [ ])
+    (λ (f : IsPastIn now rs id). (f.0.0, inside_among f.0 rs f.1, f.2, f.3))
+    (only id (among_permutation sorted ids id (IsPermutation-sym ids sorted p) m))

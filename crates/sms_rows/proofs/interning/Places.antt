@@ -1,5 +1,5 @@
 -- A number that came stands under its place, and the others stay.
-use Rattle.std.proofs.Common.{◌≡◌, ℕ, zero, suc, List, [], ◌∷◌, ◌++◌, map, Bool, true, false, Option, Some, true≢false, append-nil, append_assoc, refl, sym, ◌∙◌, ap, subst, ⊎_elim}
+use Rattle.std.proofs.Common.{◌≡◌, ◌≢◌, ◌<◌, ◌⊎◌, inl, inr, arith, ℕ, zero, suc, List, [], ◌∷◌, ◌++◌, length, map, Bool, true, false, Option, Some, true≢false, append-nil, append_assoc, refl, sym, ◌∙◌, ap, subst, ⊎_elim}
 use Rattle.std.specs.List.{AllByRecursion, IsDistinct, find, list_any, slice_get}
 use Rattle.std.specs.Prelude.{◌||◌}
 use Rattle.std.specs.Option.{option_map}
@@ -9,7 +9,7 @@ use Rattle.std.proofs.lemmas.Option.{slice_get-map}
 use Rattle.std.proofs.lemmas.Slice.Eq.{bytes_eq-Decides}
 use Rattle.indexmap.specs.IndexSet.{insert_all, insert_key}
 use Rattle.sms_rows.specs.declared.interning.number.Number.{Number}
-use Rattle.sms_rows.specs.interning.Interning.{IsAt, Keeps}
+use Rattle.sms_rows.specs.interning.Interning.{IsAt, IsKnownOrLast, IsNowhere, Keeps}
 use Rattle.sms_rows.specs.interning.Numbers.{digits_in}
 
 abbrev is_same : Number → Number → Bool
@@ -98,3 +98,22 @@ pub keeps_moved : (own old new : List Number) → own ≡ [] → IsDistinct is_s
 keeps_moved own old new none apart e v i at =
     subst (λ (l : List Number). IsAt v i (map digits_in l))
     (sym (e ∙ ap (λ (l : List Number). insert_all is_same l old) none ∙ insert_each [] old (none_yet old) apart)) at
+
+pub same_moved : (own old new : List Number) → own ≡ [] → IsDistinct is_same old → new ≡ insert_all is_same own old → map digits_in new ≡ map digits_in old
+same_moved own old new none apart e =
+    ap (map digits_in) (e ∙ ap (λ (l : List Number). insert_all is_same l old) none ∙ insert_each [] old (none_yet old) apart)
+
+-- ---- added
+
+pub added_once : (k : Number) (ks : List Number) → IsKnownOrLast (map digits_in ks) k.digits (map digits_in (insert_key is_same ks k))
+added_once k ks = ⊎_elim
+    (λ (t : list_any (is_same k) ks ≡ true). inl (ap (map digits_in) (cond-true (list_any (is_same k) ks) ks (ks ++ k ∷ []) t)))
+    (λ (t : list_any (is_same k) ks ≡ false). inr (no_place k ks t, ap (map digits_in) (cond-false (list_any (is_same k) ks) ks (ks ++ k ∷ []) t) ∙ map_append ks (k ∷ [])))
+    (cases_Bool (list_any (is_same k) ks))
+
+-- ---- a walk
+
+pub nowhere : (name : List ℕ) (names : List (List ℕ)) → ((place : ℕ) → place < length names → slice_get names place ≢ Some name) → IsNowhere name names
+nowhere name [] f place at = absurd cc
+nowhere name (x ∷ xs) f zero at = f 0 (omega arith) at
+nowhere name (x ∷ xs) f (suc place) at = nowhere name xs (λ p l e. f (suc p) (omega (arith, l)) e) place at

@@ -30,6 +30,10 @@ first_of (d ∷ ds) = Some d
 abbrev pub HasPast : ℕ → List Deadline → List ℕ → Type 0
 HasPast now items ids = (d : Deadline) → Among d items → d.limit ≤ now → Among d.id ids
 
+-- each of these messages has a deadline that is reached
+abbrev pub HasOnlyPast : ℕ → List Deadline → List ℕ → Type 0
+HasOnlyPast now items ids = (id : ℕ) → Among id ids → (d : Deadline) × Among d items × (d.limit ≤ now) × (d.id ≡ id)
+
 -- ---- places in a heap
 
 -- the place above
@@ -49,3 +53,7 @@ IsUnder place k = (n : ℕ) × (steps_above n k ≡ place)
 abbrev pub IsCollected : ℕ → List (Reverse Deadline) → ℕ → List ℕ → Type 0
 IsCollected now heap place ids =
     (k : ℕ) (d : Reverse Deadline) → IsUnder place k → k < length heap → (slice_index_or heap k d).0.limit ≤ now → Among (slice_index_or heap k d).0.id ids
+
+-- a deadline of the heap that is reached is that of the message
+abbrev pub IsPastIn : ℕ → List (Reverse Deadline) → ℕ → Type 0
+IsPastIn now heap id = (d : Reverse Deadline) × Among d heap × (d.0.limit ≤ now) × (d.0.id ≡ id)

@@ -1,9 +1,9 @@
 //! The deadlines of all messages that are pending.
-ghost use Rattle.std.specs.Prelude.{◌≡◌, ◌⊎◌, ◌+◌, ◌-◌, ◌≤◌, ℕ, [], ◌∷◌, length, max, Some, OnErr, OnOk, IfOk, IsOk};
+ghost use Rattle.std.specs.Prelude.{◌≡◌, ◌⊎◌, ◌+◌, ◌-◌, ◌≤◌, ℕ, [], ◌∷◌, length, max, IfSome, Some, OnErr, OnOk, IfOk, IsOk};
 ghost use Rattle.std.specs.BinaryHeap.{IsHeap};
-ghost use Rattle.std.specs.List.Sorted.{IsNonDecreasing};
+ghost use Rattle.std.specs.List.Sorted.{IsNonDecreasing, IsPermutation};
 ghost use Rattle.sms_base.specs.Among.{Among};
-ghost use Rattle.sms_rows.specs.expiry.Deadlines.{HasPast, IsCollected, first_of, heap_cmp};
+ghost use Rattle.sms_rows.specs.expiry.Deadlines.{HasOnlyPast, HasPast, IsCollected, IsPastIn, first_of, heap_cmp};
 ghost use Rattle.sms_rows.specs.declared.expiry.deadline.Deadline.{Deadline as DeadlineOf};
 
 use crate::expiry::deadline::Deadline;
@@ -63,6 +63,7 @@ impl Deadlines {
         ensures own { OnOk result (Among deadline self.new.items) }
         ensures others { (other : DeadlineOf) → Among other self.old.items → Among other self.new.items }
         ensures len { OnOk result (length self.new.items ≡ length self.old.items + 1) }
+        ensures exact { OnOk result (IsPermutation (deadline ∷ self.old.items) self.new.items) }
         ensures err { OnErr result (self.new.items ≡ self.old.items) }
         ensures capacity { self.old.capacity ≤ self.new.capacity }
         ensures ready { length self.old.items + 1 ≤ self.old.capacity → IsOk result }
@@ -77,6 +78,7 @@ impl Deadlines {
         ensures own { Among deadline self.new.items }
         ensures others { (other : DeadlineOf) → Among other self.old.items → Among other self.new.items }
         ensures len { length self.new.items ≡ length self.old.items + 1 }
+        ensures exact { IsPermutation (deadline ∷ self.old.items) self.new.items }
         ensures capacity { self.old.capacity ≤ self.new.capacity }
     {
         match self.push(deadline) {
@@ -100,6 +102,7 @@ impl Deadlines {
         ensures others { (other : DeadlineOf) → Among other self.old.items → (Some other ≡ first_of self.old.items) ⊎ Among other self.new.items }
         ensures len { length self.new.items ≤ length self.old.items }
         ensures less { length self.new.items ≡ length self.old.items - 1 }
+        ensures exact { IfSome (first_of self.old.items) (λ first. IsPermutation self.old.items (first ∷ self.new.items)) }
         ensures capacity { self.new.capacity ≡ self.old.capacity }
     {
         self.heap.pop();
@@ -128,6 +131,7 @@ impl Deadlines {
     pub fn use_spare(&mut self, spare: SpareDeadlines)
         ensures items { (deadline : DeadlineOf) → Among deadline self.old.items → Among deadline self.new.items }
         ensures len { length self.new.items ≡ length self.old.items }
+        ensures exact { IsPermutation self.old.items self.new.items }
         ensures capacity { max self.old.capacity spare ≤ self.new.capacity }
     {
         let mut heap = spare.heap;
@@ -139,10 +143,11 @@ impl Deadlines {
         }
     }
 
-    /// The numbers of messages whose moment is reached, none of them missing, in order. A number may be there twice. It
-    /// costs a logarithm for each.
+    /// The numbers of messages whose moment is reached, none of them missing and no other, in order. A number may be
+    /// there twice. It costs a logarithm for each.
     pub fn past(&self, alloc: Global, now: Moment) -> Result<Vec<u64>, AllocError>
         ensures all { IfOk result (λ ids. HasPast now self.now.items ids.items) }
+        ensures only { IfOk result (λ ids. HasOnlyPast now self.now.items ids.items) }
         ensures order { IfOk result (λ ids. IsNonDecreasing ids.items) }
     {
         let mut ids = Vec::new(alloc);
@@ -163,6 +168,7 @@ fn collect(
     requires { IsHeap heap_cmp heap.now }
     ensures kept { OnOk result ((n : ℕ) → Among n ids.old.items → Among n ids.new.items) }
     ensures found { OnOk result (IsCollected now heap.now place ids.new.items) }
+    ensures only { OnOk result ((n : ℕ) → Among n ids.new.items → Among n ids.old.items ⊎ IsPastIn now heap.now n) }
 {
     if place >= heap.len() {
         return Ok(());

@@ -1,6 +1,6 @@
 //! The names of accounts, each kept once.
-ghost use Rattle.std.specs.Prelude.{◌≡◌, [], ◌<◌, IfOk, IfSome, IsOk, OnErr, option_copied, slice_get};
-ghost use Rattle.sms_rows.specs.interning.Interning.{Interned, IsAt, Keeps, Makes, Suffices};
+ghost use Rattle.std.specs.Prelude.{◌≡◌, [], ◌<◌, IfNone, IfOk, IfSome, IsOk, OnErr, option_copied, slice_get};
+ghost use Rattle.sms_rows.specs.interning.Interning.{Interned, IsAt, IsNowhere, Keeps, Makes, Suffices};
 
 use sms_base::Octets;
 use std::alloc::{AllocError, Global};
@@ -50,7 +50,8 @@ impl Accounts {
 
     // The place of the name, if it is there.
     fn place(&self, name: &Octets) -> Option<usize>
-        ensures { IfSome result (λ place. IsAt name.now place self.now.values) }
+        ensures some { IfSome result (λ place. IsAt name.now place self.now.values) }
+        ensures none { IfNone result (IsNowhere name.now self.now.values) }
     {
         for place in 0..self.names.len() {
             if self.names[place].as_slice() == name.as_slice() {
@@ -114,6 +115,7 @@ impl Accounts {
     /// Moves the names into the memory where it is larger than the own, without taking memory.
     pub fn use_spare(&mut self, spare: SpareAccounts)
         ensures values { Keeps self.old.values self.new.values }
+        ensures same { self.new.values ≡ self.old.values }
         ensures room { Makes spare self.old self.new }
     {
         let mut names = spare.names;

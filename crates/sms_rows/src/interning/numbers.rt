@@ -116,6 +116,7 @@ impl Numbers {
     /// Moves the numbers into the memory where it is larger than the own, without taking memory.
     pub fn use_spare(&mut self, spare: SpareNumbers)
         ensures values { Keeps self.old.values self.new.values }
+        ensures same { self.new.values ≡ self.old.values }
         ensures room { Makes spare self.old self.new }
     {
         let mut set = spare.set;

@@ -12,7 +12,7 @@ loop-left-preserved g c =
     let stands : front_of c.loop-left.buffer ≡ Ok (Some frame) = search rules in (
       before.0 ++ frame ∷ [],
       (
-        cut_join _ _ _ before.0 (frame ∷ []) before.1.0 (cut_one _ frame _ (c.cut.ensures frame stands)),
+        cut_join _ _ _ before.0 (frame ∷ []) before.1.0 (cut_one _ frame _ (c.cut.ensures.frame frame stands)),
         frames_join before.0 (frame ∷ []) _ _ _ _ _ _ before.1.1 (meets_one (came frame) _ _ _ _ sent.0 sent.1.0 sent.1.1),
       ),
     )

@@ -33,3 +33,6 @@ returns-in-Refused-clause-most g c = let h = c.turn-turn.ensures.turn in let l =
 
 pub returns-then-is_err-clause-most : goal.returns-then-is_err-clause-most
 returns-then-is_err-clause-most g c = let x = c.loop.invariant.jobs in let y = c.loop.invariant.most in let z = ap (λ l. length (asked l)) c.reserve.ensures.items in omega arith
+
+pub returns-then-is_err-clause-short : goal.returns-then-is_err-clause-short
+returns-then-is_err-clause-short g c = λ is. let x = c.loop.invariant.jobs in let y = c.loop.invariant.most in let z = ap (λ l. length (asked l)) c.reserve.ensures.items in let t = c.if-jobs-eq65536.false in omega arith

@@ -37,7 +37,7 @@ returns-in-Some-job-clause-turn g c = let h = c.in-Some.ensures in let k = c.han
       most = lit≤ tt;
       told = fate_told c.handle-fate.result e k.item.3;
       did = stretch_one (g.C.Clock.shows c.args.clock.now) c.args.self.now c.pop.new.self c.handle-fate.new.self (Job x.seat c.in-Some-job.job) e h.same.0 h.lines
-          (ap work h.ran ∙ work_snoc before x ∙ ap (λ o. work before ++ job_of x.seat o) c.in-Some-job.is) k.same.0 k.ran (k.same.1 ∙ h.same.1) tt k.item.2 k.item.5;
+          (ap work h.ran ∙ work_snoc before x ∙ ap (λ o. work before ++ job_of x.seat o) c.in-Some-job.is) k.same.0 k.ran (k.same.1 ∙ h.same.1) (c.args.now, c.requires.shown, c.requires.not_due) k.item.2 k.item.5;
       led = λ honest. led_one g.M.Machine.gives g.M.Machine.after c.handle-fate.result (g.M.Machine.stands c.args.machine.now) (g.M.Machine.stands c.handle-fate.new.machine) (g.M.Machine.resumes c.handle-fate.new.machine)
           (Job x.seat c.in-Some-job.job) e k.item.2 k.item.3 (k.item.4 honest);
     }

@@ -14,7 +14,7 @@ returns-then-is_due-clause-turn g c = let k = c.handle-fate.ensures in let e = k
       most = lit≤ tt;
       told = fate_told c.handle-fate.result e k.item.3;
       did = stretch_one (g.C.Clock.shows c.args.clock.now) c.args.self.now c.args.self.now _ (Tick now) e (refl, refl) refl
-          (sym (append-nil (work before))) k.same.0 k.ran refl (c.if-is_due.ensures refl, c.now-now.ensures) k.item.2 k.item.5;
+          (sym (append-nil (work before))) k.same.0 k.ran refl (c.if-is_due.ensures.0 refl, c.now-now.ensures) k.item.2 k.item.5;
       led = λ honest. led_one g.M.Machine.gives g.M.Machine.after c.handle-fate.result (g.M.Machine.stands c.args.machine.now) (g.M.Machine.stands c.handle-fate.new.machine) (g.M.Machine.resumes c.handle-fate.new.machine)
           (Tick now) e k.item.2 k.item.3 (k.item.4 honest);
     }

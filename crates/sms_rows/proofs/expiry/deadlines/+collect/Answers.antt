@@ -1,8 +1,8 @@
-use Rattle.std.proofs.Common.{◌≡◌, ◌⊎◌, ◌+◌, ◌*◌, ℕ, List, ◌∙◌, ⊎_elim, arith, get_or, sym, subst}
+use Rattle.std.proofs.Common.{◌≡◌, ◌⊎◌, ◌++◌, ◌∷◌, [], inl, inr, ◌+◌, ◌*◌, ℕ, List, ◌∙◌, ⊎_elim, arith, get_or, sym, subst}
 use Rattle.std.proofs.lemmas.Bool.Decides.{nat_tests}
 use Rattle.sms_base.specs.Among.{Among}
-use Rattle.sms_rows.specs.expiry.Deadlines.{IsUnder}
-use Rattle.sms_rows.proofs.expiry.Heaps.{among_before, among_last_as, late, no_later, same_id, under_cases, under_within}
+use Rattle.sms_rows.specs.expiry.Deadlines.{IsPastIn, IsUnder}
+use Rattle.sms_rows.proofs.expiry.Heaps.{among_before, among_last_as, last_or_before, late, no_later, past_at, same_id, under_cases, under_within}
 use Rattle.sms_rows.proofs.expiry.deadlines.+collect.Goals as goal
 
 pub returns-then-place-heap-clause-found : goal.returns-then-place-heap-clause-found
@@ -29,3 +29,15 @@ returns-clause-found t c = λ k d u within due. ⊎_elim
     (λ (l : IsUnder (2 * c.args.place + 2) k). c.in_ok-collect-2.ensures.found k d l within due)
     r)
     (under_cases c.args.place k u)
+
+pub returns-clause-only : goal.returns-clause-only
+returns-clause-only t c = λ n m. ⊎_elim
+    (λ (k : Among n c.collect.new.ids.items). ⊎_elim
+    (λ (l : Among n c.push.new.self.items). ⊎_elim
+    (λ (o : Among n c.args.ids.now.items). inl o)
+    (λ (e : n ≡ c.number.result). inr (past_at c.args.heap.now c.args.place c.args.now n c.index-heap-place.result (let w = c.if-place-heap.false in omega (arith, w)) c.index-heap-place.is (let e = c.if-lt.ensures in grind (arith, nat_tests)) (e ∙ c.number.ensures.value)))
+    (last_or_before n c.number.result c.args.ids.now.items (subst (λ (x : List ℕ). Among n x) c.in_ok-push.ensures.items l)))
+    (λ (f : IsPastIn c.args.now c.args.heap.now n). inr f)
+    (c.in_ok-collect.ensures.only n k))
+    (λ (f : IsPastIn c.args.now c.args.heap.now n). inr f)
+    (c.in_ok-collect-2.ensures.only n m)
