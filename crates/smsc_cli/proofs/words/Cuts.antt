@@ -1,9 +1,10 @@
 -- A text that is cut at its first octet of a kind, and accounts that are cut so.
-use Rattle.std.proofs.Common.{◌≡◌, ◌≢◌, ◌<◌, ◌+◌, ℕ, zero, suc, List, [], ◌∷◌, ◌++◌, length, get_or, Option, Some, None, MatchOption, IfSome, IfNone, refl, sym, ap, ◌∙◌, subst, arith, length-append}
+use Rattle.std.proofs.Common.{◌≡◌, ◌≢◌, ◌<◌, ◌≤◌, ◌+◌, ℕ, zero, suc, List, [], ◌∷◌, ◌++◌, length, get_or, Option, Some, None, MatchOption, IfSome, IfNone, refl, sym, ap, ◌∙◌, subst, arith, length-append}
 use Rattle.std.specs.Str.Iter.{LacksByte}
 use denote.Ref.{Bor}
 use Rattle.sms_base.specs.declared.address.Address.{Address}
-use Rattle.smsc_cli.specs.words.Accounts.{IsCutAt, IsName, IsPassword, SpellsAccount}
+use Rattle.smsc_cli.specs.declared.words.account.AccountWords.{AccountWords}
+use Rattle.smsc_cli.specs.words.Accounts.{AddsNone, IsCutAt, IsName, IsNewName, IsPassword, SpellsAccount, most_accounts}
 use Rattle.smsc_cli.specs.words.SimWords.{SpellsNumber}
 
 -- what `split_parts` says of `split_once`
@@ -70,3 +71,17 @@ module _ (text name rest : List ℕ) (cut : IsCutAt 58 text name rest) where
 
   pub bad_number : (password number : List ℕ) → IsCutAt 58 rest password number → ((a : Address) → SpellsNumber number a → ⊥) → (n p : List ℕ) (a : Address) → SpellsAccount text n p a → ⊥
   bad_number password number more bad n p a s = bad a (subst (λ (t : List ℕ). SpellsNumber t a) (parts_are password number more n p a s).2 s.spells)
+
+-- ---- one more of several
+
+pub same_name : (text n p : List ℕ) (a : Address) (m q : List ℕ) (b : Address) → SpellsAccount text n p a → SpellsAccount text m q b → n ≡ m
+same_name text n p a m q b s t = (first_is text m t.behind t.name_ends n p a s).0
+
+pub too_many : (text : List ℕ) (old : List AccountWords) → most_accounts ≤ length old → AddsNone text old
+too_many text old full n p a s new few = omega (arith, full, few)
+
+pub name_there : (text m q : List ℕ) (b : Address) (old : List AccountWords) → SpellsAccount text m q b → (IsNewName m old → ⊥) → AddsNone text old
+name_there text m q b old t there n p a s new few = there (subst (λ (x : List ℕ). IsNewName x old) (same_name text n p a m q b s t) new)
+
+pub one_more : (text : List ℕ) (account : AccountWords) (old : List AccountWords) → SpellsAccount text account.name.now account.password.now account.address → IsNewName account.name.now old → length old < most_accounts → AddsNone text old → ⊥
+one_more text account old s new few none = none account.name.now account.password.now account.address s new few

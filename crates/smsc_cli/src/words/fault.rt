@@ -4,12 +4,12 @@ ghost use Rattle.clap.specs.Words.{kind_of};
 ghost use Rattle.clap.specs.declared.error.kind.ErrorKind.TheVariants.{OutOfMemory};
 ghost use Rattle.smsc_cli.specs.declared.words.fault.WordsFault.TheVariants.{BadWords, NoMemory};
 
-use clap::Error;
+use clap::Error as ClapError;
 use clap::error::ErrorKind;
-use thiserror::Error as FaultText;
+use thiserror::Error;
 
 /// Why words are none.
-#[derive(Clone, Copy, Debug, PartialEq, Eq, FaultText)]
+#[derive(Clone, Copy, Debug, PartialEq, Eq, Error)]
 pub enum WordsFault {
     /// A word is missing, too many or can't be read.
     #[error("bad words")]
@@ -20,7 +20,7 @@ pub enum WordsFault {
 }
 
 /// What clap's error says.
-pub(crate) fn fault_of(error: &Error) -> WordsFault
+pub(crate) fn fault_of(error: &ClapError) -> WordsFault
     ensures memory { kind_of error.now ≡ OutOfMemory → result ≡ NoMemory }
     ensures bad { kind_of error.now ≢ OutOfMemory → result ≡ BadWords }
 {
