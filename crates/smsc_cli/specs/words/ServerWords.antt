@@ -1,9 +1,8 @@
 -- The words of the server, by clap's matches of them. The first word is the program's name.
-use Rattle.std.specs.Prelude.{◌≡◌, ℕ, List, [], Option, Some, None, MatchBool, codes, option_map}
-use Rattle.clap.specs.Words.{App, Rule, all_of, first_of, matches_of, new_app, new_rule, with_rule}
+use Rattle.std.specs.Prelude.{◌≡◌, ℕ, List, Option, Some, MatchBool, codes, option_map}
+use Rattle.clap.specs.Words.{App, Rule, first_of, matches_of, new_app, new_rule, with_rule}
 use Rattle.clap.specs.declared.builder.action.ArgAction.TheVariants.{Append, Set}
 use Rattle.smsc_cli.specs.words.SimWords.{Gives, SpellsNumber, required_option}
-use Rattle.smsc_cli.specs.words.Accounts.{AddsAll}
 use Rattle.smsc_cli.specs.words.HandsetWords.{is_show, show_value}
 use Rattle.smsc_cli.specs.words.Numbers.{SpellsCount, SpellsFrom}
 use Rattle.smsc_cli.specs.declared.words.server.ServerRun.{ServerRun}
@@ -34,15 +33,6 @@ server_command = with_rule (with_rule needed_command (optional_option (codes "ac
 abbrev pub server_value : List ℕ → List (List ℕ) → Option (List ℕ)
 server_value name words = first_of name (matches_of server_command words)
 
--- texts, or none
-abbrev pub listed : Option (List (List ℕ)) → List (List ℕ)
-listed None = []
-listed (Some texts) = texts
-
--- the words that stand for themselves
-abbrev pub server_list : List ℕ → List (List ℕ) → List (List ℕ)
-server_list name words = listed (all_of name (matches_of server_command words))
-
 -- the values of the six options spell what a run is to do
 abbrev pub SpelledServer : Option (List ℕ) → Option (List ℕ) → Option (List ℕ) → Option (List ℕ) → Option (List ℕ) → Option (List ℕ) → ServerRun → Type 0
 SpelledServer given_store given_smpp given_links given_centre given_sessions given_accounts run =
@@ -50,17 +40,16 @@ SpelledServer given_store given_smpp given_links given_centre given_sessions giv
     × Gives SpellsNumber given_centre run.centre × Gives SpellsCount given_sessions run.sessions
     × (given_accounts ≡ option_map (λ s. s.now) run.accounts)
 
--- they ask for that run, with the accounts that these words spell
-abbrev pub SpelledRun : Option (List ℕ) → Option (List ℕ) → Option (List ℕ) → Option (List ℕ) → Option (List ℕ) → Option (List ℕ) → List (List ℕ) → ServerWords → Type 0
-SpelledRun given_store given_smpp given_links given_centre given_sessions given_accounts given_words (Run run accounts) =
-    SpelledServer given_store given_smpp given_links given_centre given_sessions given_accounts run × AddsAll given_words [] accounts.items
-SpelledRun given_store given_smpp given_links given_centre given_sessions given_accounts given_words (Show store) = ⊥
+-- they ask for that run, with some accounts
+abbrev pub SpelledRun : Option (List ℕ) → Option (List ℕ) → Option (List ℕ) → Option (List ℕ) → Option (List ℕ) → Option (List ℕ) → ServerWords → Type 0
+SpelledRun given_store given_smpp given_links given_centre given_sessions given_accounts (Run run accounts) =
+    SpelledServer given_store given_smpp given_links given_centre given_sessions given_accounts run
+SpelledRun given_store given_smpp given_links given_centre given_sessions given_accounts (Show store) = ⊥
 
 abbrev pub AsksToServe : List (List ℕ) → ServerWords → Type 0
 AsksToServe words =
     SpelledRun (server_value (codes "store") words) (server_value (codes "smpp") words) (server_value (codes "links") words)
     (server_value (codes "centre") words) (server_value (codes "sessions") words) (server_value (codes "accounts") words)
-    (server_list (codes "account") words)
 
 abbrev pub AsksToLook : List (List ℕ) → ServerWords → Type 0
 AsksToLook words (Run run accounts) = ⊥

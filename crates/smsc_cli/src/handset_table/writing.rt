@@ -1,8 +1,7 @@
 //! The table, written.
-ghost use Rattle.std.specs.Prelude.{◌≡◌, ◌≢◌, Err, OnOk};
+ghost use Rattle.std.specs.Prelude.{◌≡◌, OnOk};
 ghost use Rattle.std.specs.Io.KnownBytes.{Appends};
 ghost use Rattle.smsc_cli.specs.handset_table.HandsetTable.{handset_table};
-ghost use Rattle.smsc_cli.specs.declared.handset_table.writing.ShowError.TheVariants.{NoMemory};
 
 use crate::handset_table::table::handset_table;
 use sms_handset_rows::inbox::Entry;
@@ -23,19 +22,13 @@ pub enum ShowError {
 }
 
 impl From<AllocError> for ShowError {
-    ghost use Rattle.std.specs.Prelude.{◌≡◌};
-    ghost use Rattle.smsc_cli.specs.declared.handset_table.writing.ShowError.TheVariants.{NoMemory};
-
-    ghost from_gives = { λ _ fault. fault ≡ NoMemory };
-
     fn from(_error: AllocError) -> ShowError {
         ShowError::NoMemory
     }
 }
 
 fn write_out<W: Write>(out: &mut W, octets: &[u8]) -> Result<(), ShowError>
-    ensures written { OnOk result (Appends (W.contents out.old) (W.contents out.new) octets.now) }
-    ensures io { result ≢ Err NoMemory }
+    ensures { OnOk result (Appends (W.contents out.old) (W.contents out.new) octets.now) }
 {
     match out.write_all(octets) {
         Ok(()) => Ok(()),
@@ -50,8 +43,7 @@ pub fn show<W: Write>(
     outbox: &[OutEntry],
     out: &mut W,
 ) -> Result<(), ShowError>
-    ensures written { OnOk result (Appends (W.contents out.old) (W.contents out.new) (handset_table inbox.now outbox.now)) }
-    ensures unwritten { result ≡ Err NoMemory → out.new ≡ out.old }
+    ensures { OnOk result (Appends (W.contents out.old) (W.contents out.new) (handset_table inbox.now outbox.now)) }
 {
     let table = handset_table(alloc, inbox, outbox)?;
     write_out(out, table.as_slice())

@@ -1,20 +1,20 @@
 //! The words of the server.
-ghost use Rattle.std.specs.Prelude.{◌≡◌, true, false, map, drop, option_map, slice_get, codes, IfErr, IfSome, IfOk};
-ghost use Rattle.clap.specs.Words.{app_of, first_value, found_of, kind_of, matched_of, raw_values, rule_of, takes};
-ghost use Rattle.clap.specs.declared.error.kind.ErrorKind.TheVariants.{OutOfMemory};
-ghost use Rattle.smsc_cli.specs.declared.words.fault.WordsFault.TheVariants.{NoMemory};
+ghost use Rattle.std.specs.Prelude.{◌≡◌, false, map, drop, option_map, slice_get, codes, IfSome, IfOk};
+ghost use Rattle.clap.specs.Words.{app_of, first_value, found_of, rule_of};
 ghost use Rattle.smsc_cli.specs.words.SimWords.{required_option};
-ghost use Rattle.smsc_cli.specs.words.HandsetWords.{AskForShow, is_show, show_command, show_value};
-ghost use Rattle.smsc_cli.specs.words.ServerWords.{AsksOfServer, AsksToLook, AsksToServe, SpelledRun, SpelledServer, listed, listed_words, needed_command, optional_option, port_command, server_command, server_list, server_value};
+ghost use Rattle.smsc_cli.specs.words.HandsetWords.{is_show, show_command, show_value};
+ghost use Rattle.smsc_cli.specs.words.ServerWords.{AsksOfServer, AsksToLook, AsksToServe, SpelledRun, SpelledServer, listed_words, needed_command, optional_option, port_command, server_command, server_value};
 
-use crate::words::account::AccountWords;
-use crate::words::accounts::accounts_of;
+use crate::words::account::{AccountWords, account_of};
 use crate::words::fault::{WordsFault, fault_of};
 use crate::words::number::{address_of, count_of, port_of};
 use crate::words::option::required;
 use clap::{Arg, ArgAction, ArgMatches, Command, Error};
 use sms_base::Address;
 use std::alloc::{AllocError, Global};
+
+/// How many accounts there may be.
+const MOST_ACCOUNTS: usize = 32;
 
 /// What a run of the server is to do, but for its accounts.
 #[derive(Clone, Copy, Debug)]
@@ -120,7 +120,6 @@ fn options_of<'a>(alloc: Global, matches: &ArgMatches<'a>) -> Result<Options<'a>
     ensures centre { IfOk result (λ o. option_map (λ s. s.now) o.centre ≡ first_value (found_of matches.now) (codes "centre")) }
     ensures sessions { IfOk result (λ o. option_map (λ s. s.now) o.sessions ≡ first_value (found_of matches.now) (codes "sessions")) }
     ensures accounts { IfOk result (λ o. option_map (λ s. s.now) o.accounts ≡ first_value (found_of matches.now) (codes "accounts")) }
-    ensures words { IfOk result (λ o. map (λ w. w.now) o.words.items ≡ listed (option_map raw_values (matched_of (found_of matches.now) (codes "account")))) }
 {
     let words = match matches.get_strs("account") {
         Some(words) => Vec::from_slice(alloc, words)?,
@@ -144,7 +143,6 @@ fn run_options<'a>(alloc: Global, words: &'a [&'a str]) -> Result<Options<'a>, E
     ensures centre { IfOk result (λ o. option_map (λ s. s.now) o.centre ≡ server_value (codes "centre") (map (λ w. w.now) words.entry.now)) }
     ensures sessions { IfOk result (λ o. option_map (λ s. s.now) o.sessions ≡ server_value (codes "sessions") (map (λ w. w.now) words.entry.now)) }
     ensures accounts { IfOk result (λ o. option_map (λ s. s.now) o.accounts ≡ server_value (codes "accounts") (map (λ w. w.now) words.entry.now)) }
-    ensures words { IfOk result (λ o. map (λ w. w.now) o.words.items ≡ server_list (codes "account") (map (λ w. w.now) words.entry.now)) }
 {
     let command = run_command(alloc)?;
     let matches = command.try_get_matches_from(words)?;
@@ -153,8 +151,7 @@ fn run_options<'a>(alloc: Global, words: &'a [&'a str]) -> Result<Options<'a>, E
 }
 
 fn shown_store<'a>(alloc: Global, words: &'a [&'a str]) -> Result<Option<&'a str>, Error>
-    ensures store { IfOk result (λ store. option_map (λ s. s.now) store ≡ show_value (codes "store") (map (λ w. w.now) words.entry.now)) }
-    ensures good { IfErr result (λ error. takes show_command (map (λ w. w.now) words.entry.now) ≡ true → kind_of error ≡ OutOfMemory) }
+    ensures { IfOk result (λ store. option_map (λ s. s.now) store ≡ show_value (codes "store") (map (λ w. w.now) words.entry.now)) }
 {
     let command = show_command(alloc)?;
     let matches = command.try_get_matches_from(words)?;
@@ -179,8 +176,51 @@ fn run_of<'a>(options: &Options<'a>) -> Option<ServerRun<'a>>
     })
 }
 
+fn has_name(accounts: &[AccountWords<'_>], name: &str) -> bool {
+    accounts.iter().any(|account| account.name == name)
+}
+
+// One more account, if it is one, of a new name, and there are not too many.
+fn add<'a>(accounts: &mut Vec<AccountWords<'a>>, text: &'a str) -> Result<(), WordsFault> {
+    let Some(account) = account_of(text) else {
+        return Err(WordsFault::BadWords);
+    };
+    if accounts.len() >= MOST_ACCOUNTS || has_name(accounts.as_slice(), account.name) {
+        return Err(WordsFault::BadWords);
+    }
+    match accounts.push(account) {
+        Ok(()) => Ok(()),
+        Err(_) => Err(WordsFault::NoMemory),
+    }
+}
+
+fn add_all<'a>(accounts: &mut Vec<AccountWords<'a>>, texts: &[&'a str]) -> Result<(), WordsFault> {
+    for text in texts {
+        add(accounts, text)?;
+    }
+    Ok(())
+}
+
+/// The accounts of a file, one a line, behind these: 32 at most, no two of one name. The last line may lack its end.
+pub fn add_lines<'a>(
+    accounts: &mut Vec<AccountWords<'a>>,
+    file: &'a str,
+) -> Result<(), WordsFault> {
+    for line in file.lines() {
+        add(accounts, line)?;
+    }
+    Ok(())
+}
+
+// The accounts that all these texts spell.
+fn accounts_of<'a>(alloc: Global, texts: &[&'a str]) -> Result<Vec<AccountWords<'a>>, WordsFault> {
+    let mut accounts = Vec::new(alloc);
+    add_all(&mut accounts, texts)?;
+    Ok(accounts)
+}
+
 fn run_words<'a>(alloc: Global, options: &Options<'a>) -> Result<ServerWords<'a>, WordsFault>
-    ensures { IfOk result (λ asked. SpelledRun (option_map (λ s. s.now) options.entry.now.store) (option_map (λ s. s.now) options.entry.now.smpp) (option_map (λ s. s.now) options.entry.now.links) (option_map (λ s. s.now) options.entry.now.centre) (option_map (λ s. s.now) options.entry.now.sessions) (option_map (λ s. s.now) options.entry.now.accounts) (map (λ w. w.now) options.entry.now.words.items) asked) }
+    ensures { IfOk result (λ asked. SpelledRun (option_map (λ s. s.now) options.entry.now.store) (option_map (λ s. s.now) options.entry.now.smpp) (option_map (λ s. s.now) options.entry.now.links) (option_map (λ s. s.now) options.entry.now.centre) (option_map (λ s. s.now) options.entry.now.sessions) (option_map (λ s. s.now) options.entry.now.accounts) asked) }
 {
     let Some(run) = run_of(options) else {
         return Err(WordsFault::BadWords);
@@ -199,8 +239,7 @@ fn run_asked<'a>(alloc: Global, words: &'a [&'a str]) -> Result<ServerWords<'a>,
 }
 
 fn show_asked<'a>(alloc: Global, words: &'a [&'a str]) -> Result<ServerWords<'a>, WordsFault>
-    ensures asked { IfOk result (λ asked. AsksToLook (map (λ w. w.now) words.entry.now) asked) }
-    ensures good { AskForShow (map (λ w. w.now) words.entry.now) → IfErr result (λ fault. fault ≡ NoMemory) }
+    ensures { IfOk result (λ asked. AsksToLook (map (λ w. w.now) words.entry.now) asked) }
 {
     match shown_store(alloc, words) {
         Ok(Some(store)) => Ok(ServerWords::Show { store }),
@@ -225,8 +264,7 @@ fn is_show(words: &[&str]) -> bool
 /// may follow, and up to 32 accounts `NAME:PASSWORD:NUMBER`, no two of one name. Each is cut at its first two colons
 /// into a name of 1 to 15 and a password of up to 8 ASCII characters and a NUMBER. All else is bad words.
 pub fn server_words<'a>(alloc: Global, words: &'a [&'a str]) -> Result<ServerWords<'a>, WordsFault>
-    ensures asked { IfOk result (AsksOfServer (option_map (λ w. w.now) (slice_get words.entry.now 1)) (map (λ w. w.now) words.entry.now) (map (λ w. w.now) (drop 1 words.entry.now))) }
-    ensures show { is_show (option_map (λ w. w.now) (slice_get words.entry.now 1)) ≡ true → AskForShow (map (λ w. w.now) (drop 1 words.entry.now)) → IfErr result (λ fault. fault ≡ NoMemory) }
+    ensures { IfOk result (AsksOfServer (option_map (λ w. w.now) (slice_get words.entry.now 1)) (map (λ w. w.now) words.entry.now) (map (λ w. w.now) (drop 1 words.entry.now))) }
 {
     if words.len() > 1 && is_show(words) {
         return show_asked(alloc, &words[1..]);

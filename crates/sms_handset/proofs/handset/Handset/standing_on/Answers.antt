@@ -13,7 +13,7 @@ invariant_of-result c =
       record {
         centre = c.requires.centre;
         index = subst (λ (es : List Entry). Indexes c.in_ok-groups.groups es) (c.as_slice.ensures ∙ sym rows) c.in_ok-groups.ensures;
-        slots = c.in_ok-taken.ensures.taken ∙ ap (λ (es : List Entry). slots_taken es) (c.as_slice-2.ensures ∙ sym rows);
+        slots = c.in_ok-taken.ensures ∙ ap (λ (es : List Entry). slots_taken es) (c.as_slice-2.ensures ∙ sym rows);
         numbers = subst (λ (es : List Entry). AllByRecursion (λ (e : Entry). e.number < c.args.rows.counters.entry) es) (sym rows) c.requires.numbers;
       },
       ap (λ (l : LinkOf). l.side) c.new.ensures,

@@ -1,5 +1,5 @@
 use Rattle.std.proofs.Common.{codes, refl}
-use Rattle.smsc_cli.proofs.words.Options.{list_found, value_found}
+use Rattle.smsc_cli.proofs.words.Options.{value_found}
 use Rattle.smsc_cli.specs.words.ServerWords.{server_command}
 use Rattle.smsc_cli.proofs.words.server.run_options.Goals as goal
 
@@ -20,6 +20,3 @@ returns-clause-sessions c = value_found server_command _ _ _ (codes "sessions") 
 
 pub returns-clause-accounts : goal.returns-clause-accounts
 returns-clause-accounts c = value_found server_command _ _ _ (codes "accounts") refl c.in_ok-command.ensures c.in_ok-matches.ensures.matches c.in_ok-options.ensures.accounts
-
-pub returns-clause-words : goal.returns-clause-words
-returns-clause-words c = list_found server_command _ _ _ (codes "account") refl c.in_ok-command.ensures c.in_ok-matches.ensures.matches c.in_ok-options.ensures.words
