@@ -18,6 +18,7 @@ mod work;
 
 use crate::failure::Failure;
 use crate::work::run;
+use smslab_lines::lines::Trouble;
 use std::env;
 use std::io::Print;
 use std::process::ExitCode;
@@ -54,25 +55,33 @@ fn failed(rt: &HostRuntime, failure: Failure) -> u8 {
     }
 }
 
-// The words behind the program's name.
-fn words_given(rt: &HostRuntime) -> Result<Vec<String>, Failure> {
-    let mut words = Vec::new(rt.alloc());
+fn put_owned(owned: &mut Vec<String>, rt: &HostRuntime) -> Result<(), Failure> {
     for word in env::args(rt)?.skip(1) {
-        words.push(word)?;
+        if owned.push(word).is_err() {
+            return Err(Failure::Course(Trouble::NoMemory));
+        }
     }
-    Ok(words)
+    Ok(())
 }
 
-fn run_given(rt: &HostRuntime) -> Result<(), Failure> {
-    let words = words_given(rt)?;
-    run_words(rt, words.as_slice())
+fn put_words<'a>(words: &mut Vec<&'a str>, owned: &'a [String]) -> Result<(), Failure> {
+    for word in owned.iter() {
+        if words.push(word.as_str()).is_err() {
+            return Err(Failure::Course(Trouble::NoMemory));
+        }
+    }
+    Ok(())
 }
 
-// Does what the words ask for.
-fn run_words(rt: &HostRuntime, owned: &[String]) -> Result<(), Failure> {
+fn run_owned(rt: &HostRuntime, owned: &[String]) -> Result<(), Failure> {
     let mut words = Vec::new(rt.alloc());
-    for word in owned {
-        words.push(word.as_str())?;
-    }
+    put_words(&mut words, owned)?;
     run(rt, words.as_slice())
+}
+
+// Does what the words behind the program's name ask for.
+fn run_given(rt: &HostRuntime) -> Result<(), Failure> {
+    let mut owned = Vec::new(rt.alloc());
+    put_owned(&mut owned, rt)?;
+    run_owned(rt, owned.as_slice())
 }

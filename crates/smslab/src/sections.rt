@@ -2,6 +2,7 @@
 use crate::failure::Failure;
 use crate::task::task_in;
 use crate::work::run_task;
+use smslab_lines::lines::Trouble;
 use std::io::Print;
 
 fn begins(line: &str) -> bool {
@@ -23,12 +24,19 @@ fn run_section(rt: &HostRuntime, section: &[&str]) -> Result<(), Failure> {
     }
 }
 
+fn put_words<'a>(words: &mut Vec<&'a str>, head: &'a str) -> Result<(), Failure> {
+    for word in head.split(' ').skip(1) {
+        if words.push(word).is_err() {
+            return Err(Failure::Course(Trouble::NoMemory));
+        }
+    }
+    Ok(())
+}
+
 fn run_headed(rt: &HostRuntime, head: &str, lines: &[&str]) -> Result<(), Failure> {
     println!(rt; "{head}")?;
     let mut words = Vec::new(rt.alloc());
-    for word in head.split(' ').skip(1) {
-        words.push(word)?;
-    }
+    put_words(&mut words, head)?;
     run_words(rt, words.as_slice(), lines)
 }
 

@@ -20,10 +20,6 @@ pub(crate) fn run(rt: &HostRuntime, words: &[&str]) -> Result<(), Failure> {
 fn run_reading(rt: &HostRuntime, words: &[&str]) -> Result<(), Failure> {
     let octets = read_all(rt)?;
     let text = text_of(octets.as_slice())?;
-    run_text(rt, words, text)
-}
-
-fn run_text(rt: &HostRuntime, words: &[&str], text: &str) -> Result<(), Failure> {
     let mut lines = Vec::new(rt.alloc());
     put_lines(&mut lines, text)?;
     run_over(rt, words, lines.as_slice())
