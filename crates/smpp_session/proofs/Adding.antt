@@ -23,7 +23,7 @@ use Rattle.smpp_session.specs.declared.front.Front.{Front}
 use Rattle.smpp_session.specs.declared.front.Front.TheVariants.{Waiting, Whole, BadLength, Dropped}
 use Rattle.smpp_session.specs.declared.table.Judgement.{Judgement}
 use Rattle.smpp_session.specs.declared.table.Judgement.TheVariants.{Read, Refused, Ignored}
-use Rattle.smpp_session.specs.declared.turn.Turn.{Turn}
+use Rattle.smpp_session.specs.declared.turn.SessionStep.{SessionStep}
 use Rattle.smpp_session.specs.Logins.{login}
 use Rattle.smpp_session.specs.Windows.{is_among}
 use Rattle.smpp_session.specs.Stream.{header_at, front_of}
@@ -31,40 +31,40 @@ use Rattle.smpp_session.specs.SessionTable.{judged, judged_fault, refusal, with_
 use Rattle.smpp_session.specs.SessionRun.{Course, fronted, one_more, stream}
 
 -- a turn that gave these actions before
-abbrev pub behind : List Action → Turn → Turn
+abbrev pub behind : List Action → SessionStep → SessionStep
 behind before turn = record { conversation = turn.conversation; actions = before ++ turn.actions }
 
-given_behind : (before : List Action) (action : Action) (turn : Turn) → given action (behind before turn) ≡ behind before (given action turn)
+given_behind : (before : List Action) (action : Action) (turn : SessionStep) → given action (behind before turn) ≡ behind before (given action turn)
 given_behind before action turn = ap (λ (acts : List Action). with_actions acts) (append_assoc before turn.actions (action ∷ [])) where
-  with_actions : List Action → Turn
+  with_actions : List Action → SessionStep
   with_actions acts = record { conversation = turn.conversation; actions = acts }
 
-sent_behind : (before : List Action) (body : Body) (status : CommandStatus) (n : ℕ) (turn : Turn) → sent body status n (behind before turn) ≡ behind before (sent body status n turn)
+sent_behind : (before : List Action) (body : Body) (status : CommandStatus) (n : ℕ) (turn : SessionStep) → sent body status n (behind before turn) ≡ behind before (sent body status n turn)
 unfolding sent
 sent_behind before body status n turn = given_behind before (Send (written (response body status n))) turn
 
-logged_in_behind : (before : List Action) (kind : BindKind) (n : ℕ) (l : Login) (turn : Turn) → logged_in kind n l (behind before turn) ≡ behind before (logged_in kind n l turn)
+logged_in_behind : (before : List Action) (kind : BindKind) (n : ℕ) (l : Login) (turn : SessionStep) → logged_in kind n l (behind before turn) ≡ behind before (logged_in kind n l turn)
 logged_in_behind before kind n (Known place) turn =
-    ap (λ (t : Turn). in_state (bound_as kind) (given (Bound place kind) t)) (sent_behind before (with_bind_resp kind centre_name) ESME_ROK n turn)
+    ap (λ (t : SessionStep). in_state (bound_as kind) (given (Bound place kind) t)) (sent_behind before (with_bind_resp kind centre_name) ESME_ROK n turn)
     ∙ ap (in_state (bound_as kind)) (given_behind before (Bound place kind) (sent (with_bind_resp kind centre_name) ESME_ROK n turn))
 logged_in_behind before kind n UnknownName turn = sent_behind before (without_bind_resp kind) ESME_RINVSYSID n turn
 logged_in_behind before kind n WrongPassword turn = sent_behind before (without_bind_resp kind) ESME_RINVPASWD n turn
 
-bind_behind : (before : List Action) (accounts : List Account) (kind : BindKind) (n : ℕ) (bind : Bind) (turn : Turn) → bind_taken accounts kind n bind (behind before turn) ≡ behind before (bind_taken accounts kind n bind turn)
+bind_behind : (before : List Action) (accounts : List Account) (kind : BindKind) (n : ℕ) (bind : Bind) (turn : SessionStep) → bind_taken accounts kind n bind (behind before turn) ≡ behind before (bind_taken accounts kind n bind turn)
 bind_behind before accounts kind n bind turn = logged_in_behind before kind n (login 0 bind.system_id bind.password accounts) turn
 
-unbound_behind : (before : List Action) (n : ℕ) (turn : Turn) → unbound n (behind before turn) ≡ behind before (unbound n turn)
+unbound_behind : (before : List Action) (n : ℕ) (turn : SessionStep) → unbound n (behind before turn) ≡ behind before (unbound n turn)
 unbound_behind before n turn =
-    ap (λ (t : Turn). closed (given Unbound t)) (sent_behind before UnbindResp ESME_ROK n turn)
+    ap (λ (t : SessionStep). closed (given Unbound t)) (sent_behind before UnbindResp ESME_ROK n turn)
     ∙ ap closed (given_behind before Unbound (sent UnbindResp ESME_ROK n turn))
 
-delivered_behind : (before : List Action) (n : ℕ) (accepted : Bool) (turn : Turn) → delivered n accepted (behind before turn) ≡ behind before (delivered n accepted turn)
+delivered_behind : (before : List Action) (n : ℕ) (accepted : Bool) (turn : SessionStep) → delivered n accepted (behind before turn) ≡ behind before (delivered n accepted turn)
 delivered_behind before n accepted turn = by_test (is_among n turn.conversation.unanswered) refl where
   by_test : (b : Bool) → is_among n turn.conversation.unanswered ≡ b → delivered n accepted (behind before turn) ≡ behind before (delivered n accepted turn)
   by_test true e = rw e (rw append_assoc refl)
   by_test false e = rw e refl
 
-taken_behind : (before : List Action) (accounts : List Account) (octets : List ℕ) (pdu : Pdu) (body : Body) (turn : Turn) → taken accounts octets pdu body (behind before turn) ≡ behind before (taken accounts octets pdu body turn)
+taken_behind : (before : List Action) (accounts : List Account) (octets : List ℕ) (pdu : Pdu) (body : Body) (turn : SessionStep) → taken accounts octets pdu body (behind before turn) ≡ behind before (taken accounts octets pdu body turn)
 taken_behind before accounts octets pdu (BindTransmitter bind) turn = bind_behind before accounts Transmitter pdu.sequence_number bind turn
 taken_behind before accounts octets pdu (BindReceiver bind) turn = bind_behind before accounts Receiver pdu.sequence_number bind turn
 taken_behind before accounts octets pdu (BindTransceiver bind) turn = bind_behind before accounts Transceiver pdu.sequence_number bind turn
@@ -77,32 +77,32 @@ taken_behind before accounts octets pdu (DeliverSmResp body) turn = delivered_be
 taken_behind before accounts octets pdu GenericNack turn = delivered_behind before pdu.sequence_number false turn
 taken_behind before accounts octets pdu body turn = refl
 
-refused_behind : (before : List Action) (c : CommandId) (n : ℕ) (j : Judgement) (turn : Turn) → refused c n j (behind before turn) ≡ behind before (refused c n j turn)
+refused_behind : (before : List Action) (c : CommandId) (n : ℕ) (j : Judgement) (turn : SessionStep) → refused c n j (behind before turn) ≡ behind before (refused c n j turn)
 refused_behind before c n (Refused status) turn = sent_behind before (refusal c) status n turn
 refused_behind before c n Ignored turn = refl
 refused_behind before c n Read turn = refl
 
-read_behind : (before : List Action) (accounts : List Account) (octets : List ℕ) (c : CommandId) (n : ℕ) (r : Result Pdu PduFault) (turn : Turn) → read accounts octets c n r (behind before turn) ≡ behind before (read accounts octets c n r turn)
+read_behind : (before : List Action) (accounts : List Account) (octets : List ℕ) (c : CommandId) (n : ℕ) (r : Result Pdu PduFault) (turn : SessionStep) → read accounts octets c n r (behind before turn) ≡ behind before (read accounts octets c n r turn)
 read_behind before accounts octets c n (Ok pdu) turn = taken_behind before accounts octets pdu pdu.body turn
 read_behind before accounts octets c n (Err fault) turn = refused_behind before c n (judged_fault c fault) turn
 
-judging_behind : (before : List Action) (accounts : List Account) (octets : List ℕ) (c : CommandId) (n : ℕ) (j : Judgement) (turn : Turn) → judging accounts octets c n j (behind before turn) ≡ behind before (judging accounts octets c n j turn)
+judging_behind : (before : List Action) (accounts : List Account) (octets : List ℕ) (c : CommandId) (n : ℕ) (j : Judgement) (turn : SessionStep) → judging accounts octets c n j (behind before turn) ≡ behind before (judging accounts octets c n j turn)
 judging_behind before accounts octets c n Read turn = read_behind before accounts octets c n (pdu_at octets) turn
 judging_behind before accounts octets c n (Refused status) turn = refused_behind before c n (Refused status) turn
 judging_behind before accounts octets c n Ignored turn = refl
 
-command_behind : (before : List Action) (accounts : List Account) (octets : List ℕ) (h : Header) (c : Option CommandId) (turn : Turn) → by_command accounts octets h c (behind before turn) ≡ behind before (by_command accounts octets h c turn)
+command_behind : (before : List Action) (accounts : List Account) (octets : List ℕ) (h : Header) (c : Option CommandId) (turn : SessionStep) → by_command accounts octets h c (behind before turn) ≡ behind before (by_command accounts octets h c turn)
 command_behind before accounts octets h (Some c) turn = judging_behind before accounts octets c h.sequence_number (judged c turn.conversation.state) turn
 command_behind before accounts octets h None turn = by_test (ltb h.command_id 0x80000000) where
   by_test : (b : Bool) → cond b (sent GenericNack ESME_RINVCMDID h.sequence_number (behind before turn)) (behind before turn) ≡ behind before (cond b (sent GenericNack ESME_RINVCMDID h.sequence_number turn) turn)
   by_test true = sent_behind before GenericNack ESME_RINVCMDID h.sequence_number turn
   by_test false = refl
 
-treated_behind : (before : List Action) (accounts : List Account) (octets : List ℕ) (turn : Turn) → treated accounts octets (behind before turn) ≡ behind before (treated accounts octets turn)
+treated_behind : (before : List Action) (accounts : List Account) (octets : List ℕ) (turn : SessionStep) → treated accounts octets (behind before turn) ≡ behind before (treated accounts octets turn)
 unfolding treated
 treated_behind before accounts octets turn = command_behind before accounts octets (header_at octets) (command_of (header_at octets).command_id) turn
 
-bad_behind : (before : List Action) (octets : List ℕ) (turn : Turn) → bad_length octets (behind before turn) ≡ behind before (bad_length octets turn)
+bad_behind : (before : List Action) (octets : List ℕ) (turn : SessionStep) → bad_length octets (behind before turn) ≡ behind before (bad_length octets turn)
 unfolding bad_length
 bad_behind before octets turn = ap closed (sent_behind before GenericNack ESME_RINVCMDLEN (header_at octets).sequence_number turn)
 
@@ -111,13 +111,13 @@ bad_behind before octets turn = ap closed (sent_behind before GenericNack ESME_R
 abbrev pub course_behind : List Action → Course → Course
 course_behind before course = (behind before course.0, course.1)
 
-fronted_behind : (before : List Action) (accounts : List Account) (f : Front) (turn : Turn) (octets : List ℕ) → fronted accounts f (behind before turn) octets ≡ course_behind before (fronted accounts f turn octets)
+fronted_behind : (before : List Action) (accounts : List Account) (f : Front) (turn : SessionStep) (octets : List ℕ) → fronted accounts f (behind before turn) octets ≡ course_behind before (fronted accounts f turn octets)
 fronted_behind before accounts Waiting turn octets = refl
-fronted_behind before accounts (Whole len) turn octets = ap (λ (t : Turn). with_none t) (treated_behind before accounts octets turn) where
-  with_none : Turn → Course
+fronted_behind before accounts (Whole len) turn octets = ap (λ (t : SessionStep). with_none t) (treated_behind before accounts octets turn) where
+  with_none : SessionStep → Course
   with_none t = (t, [])
-fronted_behind before accounts BadLength turn octets = ap (λ (t : Turn). with_none t) (bad_behind before octets turn) where
-  with_none : Turn → Course
+fronted_behind before accounts BadLength turn octets = ap (λ (t : SessionStep). with_none t) (bad_behind before octets turn) where
+  with_none : SessionStep → Course
   with_none t = (t, [])
 fronted_behind before accounts Dropped turn octets = refl
 

@@ -12,7 +12,7 @@ use Rattle.smpp_session.specs.declared.fault.DeliverFault.{DeliverFault}
 use Rattle.smpp_session.specs.declared.front.Front.{Front}
 use Rattle.smpp_session.specs.declared.front.Front.TheVariants.{Waiting, Whole, BadLength, Dropped}
 use Rattle.smpp_session.specs.declared.conversation.SessionState.{SessionState}
-use Rattle.smpp_session.specs.declared.turn.Turn.{Turn}
+use Rattle.smpp_session.specs.declared.turn.SessionStep.{SessionStep}
 use Rattle.smpp_session.specs.Stream.{front_of}
 use Rattle.smpp_session.specs.SessionRun.{Course, fronted, one_more, stream}
 use Rattle.smpp_session.specs.Sessions.{SessionView, opened, turn_of, after_course, with_more, treated_input, fed, delivery_fault, deliver_pdu, number_to_send, after_delivery}
@@ -31,7 +31,7 @@ Kept state buffered = (front_of state buffered ≡ Waiting) ⊎ (buffered ≡ []
 abbrev pub IsKept : SessionView → Type 0
 IsKept session = Kept session.conversation.state session.buffered
 
-fronted_kept : (accounts : List Account) (f : Front) (turn : Turn) (xs : List ℕ) → front_of turn.conversation.state xs ≡ f → Kept (fronted accounts f turn xs).0.conversation.state (fronted accounts f turn xs).1
+fronted_kept : (accounts : List Account) (f : Front) (turn : SessionStep) (xs : List ℕ) → front_of turn.conversation.state xs ≡ f → Kept (fronted accounts f turn xs).0.conversation.state (fronted accounts f turn xs).1
 fronted_kept accounts Waiting turn xs e = inl e
 fronted_kept accounts (Whole len) turn xs e = inr refl
 fronted_kept accounts BadLength turn xs e = inr refl
@@ -46,7 +46,7 @@ unfolding stream
 stream_kept accounts c [] h = h
 stream_kept accounts c (x ∷ xs) h = stream_kept accounts (one_more accounts c x) xs (more_kept accounts c x)
 
-kept_again : (accounts : List Account) (turn : Turn) (xs : List ℕ) → Kept turn.conversation.state xs → stream accounts (turn, []) xs ≡ (turn, xs)
+kept_again : (accounts : List Account) (turn : SessionStep) (xs : List ℕ) → Kept turn.conversation.state xs → stream accounts (turn, []) xs ≡ (turn, xs)
 unfolding stream
 kept_again accounts turn xs (inl e) = waiting_kept accounts turn xs e
 kept_again accounts turn xs (inr e) = nothing xs e where

@@ -10,7 +10,7 @@ use Rattle.smpp_session.specs.declared.front.Front.{Front}
 use Rattle.smpp_session.specs.declared.front.Front.TheVariants.{Waiting, Whole, BadLength, Dropped}
 use Rattle.smpp_session.specs.declared.conversation.SessionState.{SessionState}
 use Rattle.smpp_session.specs.declared.conversation.SessionState.TheVariants.{Opened, BoundTx, BoundRx, BoundTrx, Closed}
-use Rattle.smpp_session.specs.declared.turn.Turn.{Turn}
+use Rattle.smpp_session.specs.declared.turn.SessionStep.{SessionStep}
 use Rattle.smpp_session.specs.Stream.{number_at, front_at, front_of}
 use Rattle.smpp_pdu.specs.declared.body.Body.TheVariants.{GenericNack}
 use Rattle.smpp_pdu.specs.declared.status.CommandStatus.TheVariants.{ESME_RINVCMDLEN}
@@ -131,12 +131,12 @@ unfolding stream
 stream-append accounts c [] ys = refl
 stream-append accounts c (x ∷ xs) ys = stream-append accounts (one_more accounts c x) xs ys
 
-pub step_is : (accounts : List Account) (turn : Turn) (before : List ℕ) (octet : ℕ) (f : Front) → front_of turn.conversation.state (before ++ octet ∷ []) ≡ f → one_more accounts (turn, before) octet ≡ fronted accounts f turn (before ++ octet ∷ [])
+pub step_is : (accounts : List Account) (turn : SessionStep) (before : List ℕ) (octet : ℕ) (f : Front) → front_of turn.conversation.state (before ++ octet ∷ []) ≡ f → one_more accounts (turn, before) octet ≡ fronted accounts f turn (before ++ octet ∷ [])
 unfolding one_more
 step_is accounts turn before octet f e = ap (λ (g : Front). fronted accounts g turn (before ++ octet ∷ [])) e
 
 -- octets that are waited for are kept
-pub walks : (accounts : List Account) (turn : Turn) (before more : List ℕ) → IsOpen turn.conversation.state → front_at (before ++ more) ≡ Waiting → stream accounts (turn, before) more ≡ (turn, before ++ more)
+pub walks : (accounts : List Account) (turn : SessionStep) (before more : List ℕ) → IsOpen turn.conversation.state → front_at (before ++ more) ≡ Waiting → stream accounts (turn, before) more ≡ (turn, before ++ more)
 unfolding stream
 walks accounts turn before [] o h = ap (λ (ys : List ℕ). (turn, ys)) (sym (append-nil before))
 walks accounts turn before (x ∷ xs) o h =
@@ -147,7 +147,7 @@ walks accounts turn before (x ∷ xs) o h =
     ∙ (walks accounts turn (before ++ x ∷ []) xs o later ∙ ap (λ (ys : List ℕ). (turn, ys)) same)
 
 -- a closed session drops what comes
-pub dropped : (accounts : List Account) (turn : Turn) (more : List ℕ) → turn.conversation.state ≡ Closed → stream accounts (turn, []) more ≡ (turn, [])
+pub dropped : (accounts : List Account) (turn : SessionStep) (more : List ℕ) → turn.conversation.state ≡ Closed → stream accounts (turn, []) more ≡ (turn, [])
 unfolding stream
 dropped accounts turn [] e = refl
 dropped accounts turn (x ∷ xs) e =
@@ -155,7 +155,7 @@ dropped accounts turn (x ∷ xs) e =
     ap (λ (c : Course). stream accounts c xs) (step_is accounts turn [] x Dropped now) ∙ dropped accounts turn xs e
 
 -- the last octet of a PDU
-piece_at : (accounts : List Account) (turn : Turn) (front : List ℕ) (x : ℕ) (more : List ℕ) → IsOpen turn.conversation.state → 16 ≤ length front + 1 → length front + 1 ≤ 65536 → number_at 0 (front ++ x ∷ []) ≡ length front + 1
+piece_at : (accounts : List Account) (turn : SessionStep) (front : List ℕ) (x : ℕ) (more : List ℕ) → IsOpen turn.conversation.state → 16 ≤ length front + 1 → length front + 1 ≤ 65536 → number_at 0 (front ++ x ∷ []) ≡ length front + 1
     → stream accounts (turn, []) (front ++ x ∷ more) ≡ stream accounts (treated accounts (front ++ x ∷ []) turn, []) more
 unfolding stream
 piece_at accounts turn front x more o low high stated =
@@ -173,7 +173,7 @@ piece_at accounts turn front x more o low high stated =
       short (inr t) e = inl t.1
 
 -- the last octet of a header that states no good length
-bad_at : (accounts : List Account) (turn : Turn) (front : List ℕ) (x : ℕ) (more : List ℕ) → IsOpen turn.conversation.state → length front ≡ 15 → (number_at 0 (front ++ x ∷ []) < 16) ⊎ (65536 < number_at 0 (front ++ x ∷ []))
+bad_at : (accounts : List Account) (turn : SessionStep) (front : List ℕ) (x : ℕ) (more : List ℕ) → IsOpen turn.conversation.state → length front ≡ 15 → (number_at 0 (front ++ x ∷ []) < 16) ⊎ (65536 < number_at 0 (front ++ x ∷ []))
     → stream accounts (turn, []) (front ++ x ∷ more) ≡ (bad_length (front ++ x ∷ []) turn, [])
 unfolding stream bad_length
 bad_at accounts turn front x more o len out =
@@ -192,7 +192,7 @@ bad_at accounts turn front x more o len out =
 split_at : (xs : List ℕ) (k : ℕ) → k < length xs → xs ≡ take k xs ++ get_or xs k 0 ∷ drop (suc k) xs
 split_at xs k fits = sym (take-append-drop k xs) ∙ ap (λ (ys : List ℕ). take k xs ++ ys) (drop-cons xs k 0 fits)
 
-pub piece_treated : (accounts : List Account) (turn : Turn) (xs : List ℕ) (len : ℕ) → front_of turn.conversation.state xs ≡ Whole len
+pub piece_treated : (accounts : List Account) (turn : SessionStep) (xs : List ℕ) (len : ℕ) → front_of turn.conversation.state xs ≡ Whole len
     → stream accounts (turn, []) xs ≡ stream accounts (treated accounts (take len xs) turn, []) (drop len xs)
 piece_treated accounts turn xs len e = by_state (open_or_closed turn.conversation.state) where
   at_last : (k : ℕ) → len ≡ suc k → IsOpen turn.conversation.state → Facts (length xs) (number_at 0 xs) (Whole len) → stream accounts (turn, []) xs ≡ stream accounts (treated accounts (take len xs) turn, []) (drop len xs)
@@ -223,7 +223,7 @@ piece_treated accounts turn xs len e = by_state (open_or_closed turn.conversatio
       let never : front_of Closed xs ≡ Whole len = ap (λ (s : SessionState). front_of s xs) (sym c) ∙ e in
       absurd cc
 
-pub bad_ends : (accounts : List Account) (turn : Turn) (xs : List ℕ) → front_of turn.conversation.state xs ≡ BadLength → stream accounts (turn, []) xs ≡ (bad_length xs turn, [])
+pub bad_ends : (accounts : List Account) (turn : SessionStep) (xs : List ℕ) → front_of turn.conversation.state xs ≡ BadLength → stream accounts (turn, []) xs ≡ (bad_length xs turn, [])
 unfolding bad_length
 bad_ends accounts turn xs e = by_state (open_or_closed turn.conversation.state) where
   at_header : IsOpen turn.conversation.state → Facts (length xs) (number_at 0 xs) BadLength → stream accounts (turn, []) xs ≡ (bad_length xs turn, [])
@@ -247,7 +247,7 @@ bad_ends accounts turn xs e = by_state (open_or_closed turn.conversation.state) 
         out same (inl h) = inl (omega arith)
         out same (inr h) = inr (omega arith)
 
-        ended : ℕ → Turn
+        ended : ℕ → SessionStep
         ended n = closed (sent GenericNack ESME_RINVCMDLEN n turn)
 
   by_state : IsOpen turn.conversation.state ⊎ (turn.conversation.state ≡ Closed) → stream accounts (turn, []) xs ≡ (bad_length xs turn, [])
@@ -256,7 +256,7 @@ bad_ends accounts turn xs e = by_state (open_or_closed turn.conversation.state) 
       let never : front_of Closed xs ≡ BadLength = ap (λ (s : SessionState). front_of s xs) (sym c) ∙ e in
       absurd cc
 
-pub waiting_kept : (accounts : List Account) (turn : Turn) (xs : List ℕ) → front_of turn.conversation.state xs ≡ Waiting → stream accounts (turn, []) xs ≡ (turn, xs)
+pub waiting_kept : (accounts : List Account) (turn : SessionStep) (xs : List ℕ) → front_of turn.conversation.state xs ≡ Waiting → stream accounts (turn, []) xs ≡ (turn, xs)
 waiting_kept accounts turn xs e = by_state (open_or_closed turn.conversation.state) where
   by_state : IsOpen turn.conversation.state ⊎ (turn.conversation.state ≡ Closed) → stream accounts (turn, []) xs ≡ (turn, xs)
   by_state (inl o) = walks accounts turn [] xs o (sym (o xs) ∙ e)
@@ -264,7 +264,7 @@ waiting_kept accounts turn xs e = by_state (open_or_closed turn.conversation.sta
       let never : front_of Closed xs ≡ Waiting = ap (λ (s : SessionState). front_of s xs) (sym c) ∙ e in
       absurd cc
 
-pub closed_drops : (accounts : List Account) (turn : Turn) (xs : List ℕ) → front_of turn.conversation.state xs ≡ Dropped → stream accounts (turn, []) xs ≡ (turn, [])
+pub closed_drops : (accounts : List Account) (turn : SessionStep) (xs : List ℕ) → front_of turn.conversation.state xs ≡ Dropped → stream accounts (turn, []) xs ≡ (turn, [])
 closed_drops accounts turn xs e = by_state (open_or_closed turn.conversation.state) where
   by_state : IsOpen turn.conversation.state ⊎ (turn.conversation.state ≡ Closed) → stream accounts (turn, []) xs ≡ (turn, [])
   by_state (inl o) = absurd (facts_at xs Dropped (sym (o xs) ∙ e))
@@ -294,40 +294,40 @@ bad_long state xs e = by_state (open_or_closed state) where
       let never : BadLength ≡ front_of Closed xs = e ∙ ap (λ (s : SessionState). front_of s xs) c in
       absurd cc
 
-pub walks_on : (accounts : List Account) (turn next : Turn) (xs piece rest : List ℕ) (len : ℕ) → Whole len ≡ front_of turn.conversation.state xs → piece ≡ take len xs → rest ≡ drop len xs → next ≡ treated accounts piece turn
+pub walks_on : (accounts : List Account) (turn next : SessionStep) (xs piece rest : List ℕ) (len : ℕ) → Whole len ≡ front_of turn.conversation.state xs → piece ≡ take len xs → rest ≡ drop len xs → next ≡ treated accounts piece turn
     → stream accounts (turn, []) xs ≡ stream accounts (next, []) rest
 walks_on accounts turn next xs piece rest len e is_piece is_rest is_next =
     piece_treated accounts turn xs len (sym e)
     ∙ (ap (λ (ys : List ℕ). stream accounts (treated accounts ys turn, []) (drop len xs)) (sym is_piece)
-    ∙ (ap (λ (t : Turn). stream accounts (t, []) (drop len xs)) (sym is_next)
+    ∙ (ap (λ (t : SessionStep). stream accounts (t, []) (drop len xs)) (sym is_next)
     ∙ ap (λ (ys : List ℕ). stream accounts (next, []) ys) (sym is_rest)))
 
-pub ends_bad : (accounts : List Account) (turn next : Turn) (xs : List ℕ) → BadLength ≡ front_of turn.conversation.state xs → next ≡ bad_length xs turn → stream accounts (turn, []) xs ≡ (next, [])
-ends_bad accounts turn next xs e is_next = bad_ends accounts turn xs (sym e) ∙ ap (λ (t : Turn). with_none t) (sym is_next) where
-  with_none : Turn → Course
+pub ends_bad : (accounts : List Account) (turn next : SessionStep) (xs : List ℕ) → BadLength ≡ front_of turn.conversation.state xs → next ≡ bad_length xs turn → stream accounts (turn, []) xs ≡ (next, [])
+ends_bad accounts turn next xs e is_next = bad_ends accounts turn xs (sym e) ∙ ap (λ (t : SessionStep). with_none t) (sym is_next) where
+  with_none : SessionStep → Course
   with_none t = (t, [])
 
 -- ---- in a list of which the front is done with
 
-pub waits_behind : (accounts : List Account) (turn : Turn) (xs rest : List ℕ) (done : ℕ) → rest ≡ drop done xs → Waiting ≡ front_of turn.conversation.state rest
+pub waits_behind : (accounts : List Account) (turn : SessionStep) (xs rest : List ℕ) (done : ℕ) → rest ≡ drop done xs → Waiting ≡ front_of turn.conversation.state rest
     → stream accounts (turn, []) (drop done xs) ≡ (turn, drop done xs)
 waits_behind accounts turn xs rest done is e = waiting_kept accounts turn (drop done xs) (ap (front_of turn.conversation.state) (sym is) ∙ sym e)
 
-none_left : (turn : Turn) (xs : List ℕ) → (let c : Course = (turn, []) in let d : Course = (turn, drop (length xs) xs) in c ≡ d)
+none_left : (turn : SessionStep) (xs : List ℕ) → (let c : Course = (turn, []) in let d : Course = (turn, drop (length xs) xs) in c ≡ d)
 none_left turn xs = ap (λ (ys : List ℕ). with_rest ys) (sym (drop_all (length xs) xs (omega arith))) where
   with_rest : List ℕ → Course
   with_rest ys = (turn, ys)
 
-pub drops_behind : (accounts : List Account) (turn : Turn) (xs rest : List ℕ) (done : ℕ) → rest ≡ drop done xs → Dropped ≡ front_of turn.conversation.state rest
+pub drops_behind : (accounts : List Account) (turn : SessionStep) (xs rest : List ℕ) (done : ℕ) → rest ≡ drop done xs → Dropped ≡ front_of turn.conversation.state rest
     → stream accounts (turn, []) (drop done xs) ≡ (turn, drop (length xs) xs)
 drops_behind accounts turn xs rest done is e = closed_drops accounts turn (drop done xs) (ap (front_of turn.conversation.state) (sym is) ∙ sym e) ∙ none_left turn xs
 
-pub ends_behind : (accounts : List Account) (turn next : Turn) (xs rest : List ℕ) (done : ℕ) → rest ≡ drop done xs → BadLength ≡ front_of turn.conversation.state rest → next ≡ bad_length rest turn
+pub ends_behind : (accounts : List Account) (turn next : SessionStep) (xs rest : List ℕ) (done : ℕ) → rest ≡ drop done xs → BadLength ≡ front_of turn.conversation.state rest → next ≡ bad_length rest turn
     → stream accounts (turn, []) (drop done xs) ≡ (next, drop (length xs) xs)
 ends_behind accounts turn next xs rest done is e is_next =
     ends_bad accounts turn next (drop done xs) (e ∙ ap (front_of turn.conversation.state) is) (is_next ∙ ap (λ (ys : List ℕ). bad_length ys turn) is) ∙ none_left next xs
 
-pub goes_on : (accounts : List Account) (turn next : Turn) (xs rest piece : List ℕ) (done len : ℕ) → rest ≡ drop done xs → Whole len ≡ front_of turn.conversation.state rest → piece ≡ take len rest → next ≡ treated accounts piece turn
+pub goes_on : (accounts : List Account) (turn next : SessionStep) (xs rest piece : List ℕ) (done len : ℕ) → rest ≡ drop done xs → Whole len ≡ front_of turn.conversation.state rest → piece ≡ take len rest → next ≡ treated accounts piece turn
     → stream accounts (turn, []) (drop done xs) ≡ stream accounts (next, []) (drop (done + len) xs)
 goes_on accounts turn next xs rest piece done len is e is_piece is_next =
     walks_on accounts turn next (drop done xs) piece (drop len (drop done xs)) len (e ∙ ap (front_of turn.conversation.state) is) (is_piece ∙ ap (take len) is) refl is_next

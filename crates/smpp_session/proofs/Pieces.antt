@@ -7,7 +7,7 @@ use Rattle.smpp_session.specs.declared.front.Front.{Front}
 use Rattle.smpp_session.specs.declared.front.Front.TheVariants.{Waiting, Whole, BadLength, Dropped}
 use Rattle.smpp_session.specs.declared.conversation.SessionState.{SessionState}
 use Rattle.smpp_session.specs.declared.conversation.SessionState.TheVariants.{Opened, BoundTx, BoundRx, BoundTrx, Closed}
-use Rattle.smpp_session.specs.declared.turn.Turn.{Turn}
+use Rattle.smpp_session.specs.declared.turn.SessionStep.{SessionStep}
 use Rattle.smpp_session.specs.Stream.{number_at, IsPiece, BeginsWithPiece, joined, IsStream, front_of}
 use Rattle.smpp_session.specs.SessionTable.{treated}
 use Rattle.smpp_session.specs.SessionRun.{fronted, stream, piece_in, by_pieces}
@@ -61,7 +61,7 @@ begins xs len h =
     let high : length (take len xs) ≤ 65536 = omega (arith, h.0, h.2) in
     (take len xs, drop len xs, record { header = low; short = high; stated = says ∙ (sym h.0 ∙ sym same) }, sym joins)
 
-rest_is : (accounts : List Account) (turn : Turn) (rest : List ℕ) → (BeginsWithPiece rest → ⊥) → stream accounts (turn, []) rest ≡ fronted accounts (front_of turn.conversation.state rest) turn rest
+rest_is : (accounts : List Account) (turn : SessionStep) (rest : List ℕ) → (BeginsWithPiece rest → ⊥) → stream accounts (turn, []) rest ≡ fronted accounts (front_of turn.conversation.state rest) turn rest
 rest_is accounts turn rest none = by_front (front_of turn.conversation.state rest) refl where
   whole_never : (len : ℕ) → front_of turn.conversation.state rest ≡ Whole len → IsOpen turn.conversation.state ⊎ (turn.conversation.state ≡ Closed) → ⊥
   whole_never len e (inl o) = none (begins rest len (facts_at rest (Whole len) (sym (o rest) ∙ e)))
@@ -75,7 +75,7 @@ rest_is accounts turn rest none = by_front (front_of turn.conversation.state res
   by_front BadLength e = bad_ends accounts turn rest e
   by_front Dropped e = closed_drops accounts turn rest e
 
-treats : (accounts : List Account) (state : SessionState) (piece : List ℕ) (turn : Turn) → IsOpen state → piece_in accounts state piece turn ≡ treated accounts piece turn
+treats : (accounts : List Account) (state : SessionState) (piece : List ℕ) (turn : SessionStep) → IsOpen state → piece_in accounts state piece turn ≡ treated accounts piece turn
 treats accounts Opened piece turn o = refl
 treats accounts BoundTx piece turn o = refl
 treats accounts BoundRx piece turn o = refl
@@ -84,24 +84,24 @@ treats accounts Closed piece turn o =
     let never : front_of Closed [] ≡ Waiting = o [] in
     absurd cc
 
-one_piece : (accounts : List Account) (turn : Turn) (piece more : List ℕ) → IsPiece piece → IsOpen turn.conversation.state ⊎ (turn.conversation.state ≡ Closed)
+one_piece : (accounts : List Account) (turn : SessionStep) (piece more : List ℕ) → IsPiece piece → IsOpen turn.conversation.state ⊎ (turn.conversation.state ≡ Closed)
     → stream accounts (turn, []) (piece ++ more) ≡ stream accounts (piece_in accounts turn.conversation.state piece turn, []) more
 one_piece accounts turn piece more h (inl o) =
     piece_treated accounts turn (piece ++ more) (length piece) (piece_front turn.conversation.state piece more o h)
     ∙ (ap (λ (xs : List ℕ). stream accounts (treated accounts xs turn, []) (drop (length piece) (piece ++ more))) (take_at piece more (length piece) refl)
     ∙ (ap (λ (xs : List ℕ). stream accounts (treated accounts piece turn, []) xs) (drop_at piece more (length piece) refl)
-    ∙ ap (λ (t : Turn). stream accounts (t, []) more) (sym (treats accounts turn.conversation.state piece turn o))))
+    ∙ ap (λ (t : SessionStep). stream accounts (t, []) more) (sym (treats accounts turn.conversation.state piece turn o))))
 one_piece accounts turn piece more h (inr c) =
     let same : piece_in accounts turn.conversation.state piece turn ≡ turn = ap (λ (s : SessionState). piece_in accounts s piece turn) c in
     dropped accounts turn (piece ++ more) c
-    ∙ (sym (dropped accounts turn more c) ∙ ap (λ (t : Turn). stream accounts (t, []) more) (sym same))
+    ∙ (sym (dropped accounts turn more c) ∙ ap (λ (t : SessionStep). stream accounts (t, []) more) (sym same))
 
-pieces_are : (accounts : List Account) (turn : Turn) (pieces : List (List ℕ)) (rest : List ℕ) → AllByRecursion IsPiece pieces → (BeginsWithPiece rest → ⊥) → stream accounts (turn, []) (joined pieces ++ rest) ≡ by_pieces accounts turn pieces rest
+pieces_are : (accounts : List Account) (turn : SessionStep) (pieces : List (List ℕ)) (rest : List ℕ) → AllByRecursion IsPiece pieces → (BeginsWithPiece rest → ⊥) → stream accounts (turn, []) (joined pieces ++ rest) ≡ by_pieces accounts turn pieces rest
 pieces_are accounts turn [] rest each none = rest_is accounts turn rest none
 pieces_are accounts turn (piece ∷ pieces) rest each none =
     ap (stream accounts (turn, [])) (append_assoc piece (joined pieces) rest)
     ∙ (one_piece accounts turn piece (joined pieces ++ rest) each.0 (open_or_closed turn.conversation.state)
     ∙ pieces_are accounts (piece_in accounts turn.conversation.state piece turn) pieces rest each.1 none)
 
-pub by_pieces_is : (accounts : List Account) (turn : Turn) (octets : List ℕ) (pieces : List (List ℕ)) (rest : List ℕ) → IsStream octets pieces rest → stream accounts (turn, []) octets ≡ by_pieces accounts turn pieces rest
+pub by_pieces_is : (accounts : List Account) (turn : SessionStep) (octets : List ℕ) (pieces : List (List ℕ)) (rest : List ℕ) → IsStream octets pieces rest → stream accounts (turn, []) octets ≡ by_pieces accounts turn pieces rest
 by_pieces_is accounts turn octets pieces rest h = ap (stream accounts (turn, [])) h.parts ∙ pieces_are accounts turn pieces rest h.each h.no_more

@@ -34,7 +34,7 @@ use Rattle.smpp_session.specs.declared.conversation.SessionState.TheVariants.{Op
 use Rattle.smpp_session.specs.declared.conversation.Conversation.{Conversation}
 use Rattle.smpp_session.specs.declared.table.Judgement.{Judgement}
 use Rattle.smpp_session.specs.declared.table.Judgement.TheVariants.{Read, Refused, Ignored}
-use Rattle.smpp_session.specs.declared.turn.Turn.{Turn}
+use Rattle.smpp_session.specs.declared.turn.SessionStep.{SessionStep}
 use Rattle.smpp_session.specs.Answers.{answered}
 use Rattle.smpp_session.specs.Bindings.{is_bound, bound_after, bound_behind, is_bind_lost}
 use Rattle.smpp_session.specs.Calls.{called, delivering, sending, and_then, ran}
@@ -49,7 +49,7 @@ use Rattle.smpp_session.proofs.Cutting.{dropped}
 use Rattle.smpp_session.proofs.FreeNumbers.{all_append, after_is_number, free_is_free, free_is_number, window_added, window_taken, no_window}
 
 -- what the actions of a turn told, where an account was bound before them or not
-record IsSound (before : Bool) (turn : Turn) : Type 0 where
+record IsSound (before : Bool) (turn : SessionStep) : Type 0 where
   waiting : IsWindow turn.conversation.unanswered
   number : IsSequenceNumber turn.conversation.next_number
   reads : AllByRecursion ReadsAsItsCommand turn.actions
@@ -63,7 +63,7 @@ reads_end : (acts : List Action) (action : Action) → AllByRecursion ReadsAsIts
 reads_end acts action h r = all_append ReadsAsItsCommand acts (action ∷ []) h (r, tt)
 
 -- an action that binds and unbinds nobody
-given_sound : (before : Bool) (action : Action) (turn : Turn) → IsSound before turn → ReadsAsItsCommand action → ((b : Bool) → bound_after b action ≡ b) → IsSound before (given action turn)
+given_sound : (before : Bool) (action : Action) (turn : SessionStep) → IsSound before turn → ReadsAsItsCommand action → ((b : Bool) → bound_after b action ≡ b) → IsSound before (given action turn)
 given_sound before action turn h r same = record {
   waiting = h.waiting;
   number = h.number;
@@ -74,7 +74,7 @@ given_sound before action turn h r same = record {
   still (inl c) = inl c
   still (inr e) = inr (e ∙ (sym (same (bound_behind before turn.actions)) ∙ sym (bound_end before turn.actions action)))
 
-sent_sound : (before : Bool) (body : Body) (status : CommandStatus) (n : ℕ) (turn : Turn) → IsSound before turn → IsSound before (sent body status n turn)
+sent_sound : (before : Bool) (body : Body) (status : CommandStatus) (n : ℕ) (turn : SessionStep) → IsSound before turn → IsSound before (sent body status n turn)
 unfolding sent
 sent_sound before body status n turn h = given_sound before (Send (written (response body status n))) turn h tt (λ b. refl)
 
@@ -83,7 +83,7 @@ kind_is_bound Transmitter = refl
 kind_is_bound Receiver = refl
 kind_is_bound Transceiver = refl
 
-now_bound : (before : Bool) (kind : BindKind) (place : ℕ) (turn : Turn) → IsSound before turn → IsSound before (in_state (bound_as kind) (given (Bound place kind) turn))
+now_bound : (before : Bool) (kind : BindKind) (place : ℕ) (turn : SessionStep) → IsSound before turn → IsSound before (in_state (bound_as kind) (given (Bound place kind) turn))
 now_bound before kind place turn h = record {
   waiting = h.waiting;
   number = h.number;
@@ -91,18 +91,18 @@ now_bound before kind place turn h = record {
   bound = inr (kind_is_bound kind ∙ sym (bound_end before turn.actions (Bound place kind)));
 }
 
-logged_in_sound : (before : Bool) (kind : BindKind) (n : ℕ) (l : Login) (turn : Turn) → IsSound before turn → IsSound before (logged_in kind n l turn)
+logged_in_sound : (before : Bool) (kind : BindKind) (n : ℕ) (l : Login) (turn : SessionStep) → IsSound before turn → IsSound before (logged_in kind n l turn)
 logged_in_sound before kind n (Known place) turn h = now_bound before kind place (sent (with_bind_resp kind centre_name) ESME_ROK n turn) (sent_sound before (with_bind_resp kind centre_name) ESME_ROK n turn h)
 logged_in_sound before kind n UnknownName turn h = sent_sound before (without_bind_resp kind) ESME_RINVSYSID n turn h
 logged_in_sound before kind n WrongPassword turn h = sent_sound before (without_bind_resp kind) ESME_RINVPASWD n turn h
 
-bind_sound : (before : Bool) (accounts : List Account) (kind : BindKind) (n : ℕ) (bind : Bind) (turn : Turn) → IsSound before turn → IsSound before (bind_taken accounts kind n bind turn)
+bind_sound : (before : Bool) (accounts : List Account) (kind : BindKind) (n : ℕ) (bind : Bind) (turn : SessionStep) → IsSound before turn → IsSound before (bind_taken accounts kind n bind turn)
 bind_sound before accounts kind n bind turn h = logged_in_sound before kind n (login 0 bind.system_id bind.password accounts) turn h
 
-closed_sound : (before : Bool) (turn : Turn) → IsSound before turn → IsSound before (closed turn)
+closed_sound : (before : Bool) (turn : SessionStep) → IsSound before turn → IsSound before (closed turn)
 closed_sound before turn h = record { waiting = no_window; number = h.number; reads = h.reads; bound = inl refl }
 
-unbound_sound : (before : Bool) (n : ℕ) (turn : Turn) → IsSound before turn → IsSound before (unbound n turn)
+unbound_sound : (before : Bool) (n : ℕ) (turn : SessionStep) → IsSound before turn → IsSound before (unbound n turn)
 unbound_sound before n turn h = record {
   waiting = no_window;
   number = first.number;
@@ -112,15 +112,15 @@ unbound_sound before n turn h = record {
   first : IsSound before (sent UnbindResp ESME_ROK n turn)
   first = sent_sound before UnbindResp ESME_ROK n turn h
 
-delivered_sound : (before : Bool) (n : ℕ) (accepted : Bool) (turn : Turn) → IsSound before turn → IsSound before (delivered n accepted turn)
+delivered_sound : (before : Bool) (n : ℕ) (accepted : Bool) (turn : SessionStep) → IsSound before turn → IsSound before (delivered n accepted turn)
 delivered_sound before n accepted turn h = by_test (is_among n turn.conversation.unanswered) where
-  told : Turn
+  told : SessionStep
   told = given (DeliverAnswered n accepted) turn
 
   told_sound : IsSound before told
   told_sound = given_sound before (DeliverAnswered n accepted) turn h tt (λ b. refl)
 
-  answered_turn : Turn
+  answered_turn : SessionStep
   answered_turn = record {
     conversation = record { state = turn.conversation.state; unanswered = without n turn.conversation.unanswered; next_number = turn.conversation.next_number };
     actions = turn.actions ++ DeliverAnswered n accepted ∷ [];
@@ -130,7 +130,7 @@ delivered_sound before n accepted turn h = by_test (is_among n turn.conversation
   by_test true = record { waiting = window_taken n turn.conversation.unanswered h.waiting; number = h.number; reads = told_sound.reads; bound = told_sound.bound }
   by_test false = h
 
-taken_sound : (before : Bool) (accounts : List Account) (octets : List ℕ) (pdu : Pdu) (body : Body) (turn : Turn) → pdu_at octets ≡ Ok pdu → pdu.body ≡ body → IsSound before turn → IsSound before (taken accounts octets pdu body turn)
+taken_sound : (before : Bool) (accounts : List Account) (octets : List ℕ) (pdu : Pdu) (body : Body) (turn : SessionStep) → pdu_at octets ≡ Ok pdu → pdu.body ≡ body → IsSound before turn → IsSound before (taken accounts octets pdu body turn)
 taken_sound before accounts octets pdu (BindTransmitter bind) turn e is h = bind_sound before accounts Transmitter pdu.sequence_number bind turn h
 taken_sound before accounts octets pdu (BindReceiver bind) turn e is h = bind_sound before accounts Receiver pdu.sequence_number bind turn h
 taken_sound before accounts octets pdu (BindTransceiver bind) turn e is h = bind_sound before accounts Transceiver pdu.sequence_number bind turn h
@@ -143,37 +143,37 @@ taken_sound before accounts octets pdu (DeliverSmResp body) turn e is h = delive
 taken_sound before accounts octets pdu GenericNack turn e is h = delivered_sound before pdu.sequence_number false turn h
 taken_sound before accounts octets pdu body turn e is h = h
 
-refused_sound : (before : Bool) (c : CommandId) (n : ℕ) (j : Judgement) (turn : Turn) → IsSound before turn → IsSound before (refused c n j turn)
+refused_sound : (before : Bool) (c : CommandId) (n : ℕ) (j : Judgement) (turn : SessionStep) → IsSound before turn → IsSound before (refused c n j turn)
 refused_sound before c n (Refused status) turn h = sent_sound before (refusal c) status n turn h
 refused_sound before c n Ignored turn h = h
 refused_sound before c n Read turn h = h
 
-read_sound : (before : Bool) (accounts : List Account) (octets : List ℕ) (c : CommandId) (n : ℕ) (r : Result Pdu PduFault) (turn : Turn) → pdu_at octets ≡ r → IsSound before turn → IsSound before (read accounts octets c n r turn)
+read_sound : (before : Bool) (accounts : List Account) (octets : List ℕ) (c : CommandId) (n : ℕ) (r : Result Pdu PduFault) (turn : SessionStep) → pdu_at octets ≡ r → IsSound before turn → IsSound before (read accounts octets c n r turn)
 read_sound before accounts octets c n (Ok pdu) turn e h = taken_sound before accounts octets pdu pdu.body turn e refl h
 read_sound before accounts octets c n (Err fault) turn e h = refused_sound before c n (judged_fault c fault) turn h
 
-judging_sound : (before : Bool) (accounts : List Account) (octets : List ℕ) (c : CommandId) (n : ℕ) (j : Judgement) (turn : Turn) → IsSound before turn → IsSound before (judging accounts octets c n j turn)
+judging_sound : (before : Bool) (accounts : List Account) (octets : List ℕ) (c : CommandId) (n : ℕ) (j : Judgement) (turn : SessionStep) → IsSound before turn → IsSound before (judging accounts octets c n j turn)
 judging_sound before accounts octets c n Read turn h = read_sound before accounts octets c n (pdu_at octets) turn refl h
 judging_sound before accounts octets c n (Refused status) turn h = refused_sound before c n (Refused status) turn h
 judging_sound before accounts octets c n Ignored turn h = h
 
-command_sound : (before : Bool) (accounts : List Account) (octets : List ℕ) (header : Header) (c : Option CommandId) (turn : Turn) → IsSound before turn → IsSound before (by_command accounts octets header c turn)
+command_sound : (before : Bool) (accounts : List Account) (octets : List ℕ) (header : Header) (c : Option CommandId) (turn : SessionStep) → IsSound before turn → IsSound before (by_command accounts octets header c turn)
 command_sound before accounts octets header (Some c) turn h = judging_sound before accounts octets c header.sequence_number (judged c turn.conversation.state) turn h
 command_sound before accounts octets header None turn h = by_test (ltb header.command_id 0x80000000) where
   by_test : (b : Bool) → IsSound before (cond b (sent GenericNack ESME_RINVCMDID header.sequence_number turn) turn)
   by_test true = sent_sound before GenericNack ESME_RINVCMDID header.sequence_number turn h
   by_test false = h
 
-treated_sound : (before : Bool) (accounts : List Account) (octets : List ℕ) (turn : Turn) → IsSound before turn → IsSound before (treated accounts octets turn)
+treated_sound : (before : Bool) (accounts : List Account) (octets : List ℕ) (turn : SessionStep) → IsSound before turn → IsSound before (treated accounts octets turn)
 unfolding treated
 treated_sound before accounts octets turn h = command_sound before accounts octets (header_at octets) (command_of (header_at octets).command_id) turn h
 
-bad_sound : (before : Bool) (octets : List ℕ) (turn : Turn) → IsSound before turn → IsSound before (bad_length octets turn)
+bad_sound : (before : Bool) (octets : List ℕ) (turn : SessionStep) → IsSound before turn → IsSound before (bad_length octets turn)
 unfolding bad_length
 bad_sound before octets turn h =
     closed_sound before (sent GenericNack ESME_RINVCMDLEN (header_at octets).sequence_number turn) (sent_sound before GenericNack ESME_RINVCMDLEN (header_at octets).sequence_number turn h)
 
-fronted_sound : (before : Bool) (accounts : List Account) (f : Front) (turn : Turn) (octets : List ℕ) → IsSound before turn → IsSound before (fronted accounts f turn octets).0
+fronted_sound : (before : Bool) (accounts : List Account) (f : Front) (turn : SessionStep) (octets : List ℕ) → IsSound before turn → IsSound before (fronted accounts f turn octets).0
 fronted_sound before accounts Waiting turn octets h = h
 fronted_sound before accounts (Whole len) turn octets h = treated_sound before accounts octets turn h
 fronted_sound before accounts BadLength turn octets h = bad_sound before octets turn h

@@ -5,16 +5,16 @@ use Rattle.smpp_session.specs.declared.front.Front.{Front}
 use Rattle.smpp_session.specs.declared.front.Front.TheVariants.{Waiting, Whole, BadLength, Dropped}
 use Rattle.smpp_session.specs.declared.conversation.SessionState.{SessionState}
 use Rattle.smpp_session.specs.declared.conversation.SessionState.TheVariants.{Opened, BoundTx, BoundRx, BoundTrx, Closed}
-use Rattle.smpp_session.specs.declared.turn.Turn.{Turn}
+use Rattle.smpp_session.specs.declared.turn.SessionStep.{SessionStep}
 use Rattle.smpp_session.specs.Stream.{front_of}
 use Rattle.smpp_session.specs.SessionTable.{treated, bad_length}
 
 -- A turn, and the octets that aren't treated yet.
 abbrev pub Course : Type 0
-Course = Turn × List ℕ
+Course = SessionStep × List ℕ
 
 -- what becomes of octets that begin so
-abbrev pub fronted : List Account → Front → Turn → List ℕ → Course
+abbrev pub fronted : List Account → Front → SessionStep → List ℕ → Course
 fronted accounts Waiting turn octets = (turn, octets)
 fronted accounts (Whole len) turn octets = (treated accounts octets turn, [])
 fronted accounts BadLength turn octets = (bad_length octets turn, [])
@@ -33,7 +33,7 @@ stream accounts course (octet ∷ octets) = stream accounts (one_more accounts c
 -- ---- the same by pieces
 
 -- a closed session drops a piece, any other treats it
-abbrev pub piece_in : List Account → SessionState → List ℕ → Turn → Turn
+abbrev pub piece_in : List Account → SessionState → List ℕ → SessionStep → SessionStep
 piece_in accounts Closed piece turn = turn
 piece_in accounts Opened piece turn = treated accounts piece turn
 piece_in accounts BoundTx piece turn = treated accounts piece turn
@@ -41,6 +41,6 @@ piece_in accounts BoundRx piece turn = treated accounts piece turn
 piece_in accounts BoundTrx piece turn = treated accounts piece turn
 
 -- the pieces of a stream one after the other, and then its rest
-abbrev pub by_pieces : List Account → Turn → List (List ℕ) → List ℕ → Course
+abbrev pub by_pieces : List Account → SessionStep → List (List ℕ) → List ℕ → Course
 by_pieces accounts turn [] rest = fronted accounts (front_of turn.conversation.state rest) turn rest
 by_pieces accounts turn (piece ∷ pieces) rest = by_pieces accounts (piece_in accounts turn.conversation.state piece turn) pieces rest

@@ -29,7 +29,7 @@ use Rattle.smpp_session.specs.declared.conversation.SessionState.TheVariants.{Op
 use Rattle.smpp_session.specs.declared.conversation.Conversation.{Conversation}
 use Rattle.smpp_session.specs.declared.table.Judgement.{Judgement}
 use Rattle.smpp_session.specs.declared.table.Judgement.TheVariants.{Read, Refused, Ignored}
-use Rattle.smpp_session.specs.declared.turn.Turn.{Turn}
+use Rattle.smpp_session.specs.declared.turn.SessionStep.{SessionStep}
 use Rattle.smpp_session.specs.Logins.{login}
 use Rattle.smpp_session.specs.Stream.{header_at}
 use Rattle.smpp_session.specs.Windows.{is_among, without}
@@ -127,40 +127,40 @@ response body status number = record { command_status = status_number status; se
 
 -- ---- stages: what a session is and what it has given so far
 
-abbrev pub given : Action → Turn → Turn
+abbrev pub given : Action → SessionStep → SessionStep
 given action turn = record { conversation = turn.conversation; actions = turn.actions ++ action ∷ [] }
 
-unfoldable pub sent : Body → CommandStatus → ℕ → Turn → Turn
+unfoldable pub sent : Body → CommandStatus → ℕ → SessionStep → SessionStep
 sent body status number turn = given (Send (written (response body status number))) turn
 
 -- a closed session waits for no answer
 abbrev pub closed_conversation : Conversation → Conversation
 closed_conversation conversation = record { state = Closed; unanswered = []; next_number = conversation.next_number }
 
-abbrev pub closed : Turn → Turn
+abbrev pub closed : SessionStep → SessionStep
 closed turn = record { conversation = closed_conversation turn.conversation; actions = turn.actions }
 
-abbrev pub in_state : SessionState → Turn → Turn
+abbrev pub in_state : SessionState → SessionStep → SessionStep
 in_state state turn = record {
   conversation = record { state = state; unanswered = turn.conversation.unanswered; next_number = turn.conversation.next_number };
   actions = turn.actions;
 }
 
 -- a bind: the answer first, then the word to the owner
-abbrev pub logged_in : BindKind → ℕ → Login → Turn → Turn
+abbrev pub logged_in : BindKind → ℕ → Login → SessionStep → SessionStep
 logged_in kind number (Known place) turn = in_state (bound_as kind) (given (Bound place kind) (sent (with_bind_resp kind centre_name) ESME_ROK number turn))
 logged_in kind number UnknownName turn = sent (without_bind_resp kind) ESME_RINVSYSID number turn
 logged_in kind number WrongPassword turn = sent (without_bind_resp kind) ESME_RINVPASWD number turn
 
-abbrev pub bind_taken : List Account → BindKind → ℕ → Bind → Turn → Turn
+abbrev pub bind_taken : List Account → BindKind → ℕ → Bind → SessionStep → SessionStep
 bind_taken accounts kind number bind turn = logged_in kind number (login 0 bind.system_id bind.password accounts) turn
 
 -- an unbind: the answer, the word to the owner, and the end
-abbrev pub unbound : ℕ → Turn → Turn
+abbrev pub unbound : ℕ → SessionStep → SessionStep
 unbound number turn = closed (given Unbound (sent UnbindResp ESME_ROK number turn))
 
 -- the answer to a deliver_sm, if it waits for one
-abbrev pub delivered : ℕ → Bool → Turn → Turn
+abbrev pub delivered : ℕ → Bool → SessionStep → SessionStep
 delivered number accepted turn =
     if is_among number turn.conversation.unanswered
     then record {
@@ -180,7 +180,7 @@ priority_of flag = if nat_lt flag 3 then flag else 3
 -- ---- one PDU
 
 -- a PDU that can be read, in a state that takes its command; requests are passed up as they came
-abbrev pub taken : List Account → List ℕ → Pdu → Body → Turn → Turn
+abbrev pub taken : List Account → List ℕ → Pdu → Body → SessionStep → SessionStep
 taken accounts octets pdu (BindTransmitter bind) turn = bind_taken accounts Transmitter pdu.sequence_number bind turn
 taken accounts octets pdu (BindReceiver bind) turn = bind_taken accounts Receiver pdu.sequence_number bind turn
 taken accounts octets pdu (BindTransceiver bind) turn = bind_taken accounts Transceiver pdu.sequence_number bind turn
@@ -193,31 +193,31 @@ taken accounts octets pdu (DeliverSmResp body) turn = delivered pdu.sequence_num
 taken accounts octets pdu GenericNack turn = delivered pdu.sequence_number false turn
 taken accounts octets pdu body turn = turn
 
-abbrev pub refused : CommandId → ℕ → Judgement → Turn → Turn
+abbrev pub refused : CommandId → ℕ → Judgement → SessionStep → SessionStep
 refused command number (Refused status) turn = sent (refusal command) status number turn
 refused command number Ignored turn = turn
 refused command number Read turn = turn
 
-abbrev pub read : List Account → List ℕ → CommandId → ℕ → Result Pdu PduFault → Turn → Turn
+abbrev pub read : List Account → List ℕ → CommandId → ℕ → Result Pdu PduFault → SessionStep → SessionStep
 read accounts octets command number (Ok pdu) turn = taken accounts octets pdu pdu.body turn
 read accounts octets command number (Err fault) turn = refused command number (judged_fault command fault) turn
 
-abbrev pub judging : List Account → List ℕ → CommandId → ℕ → Judgement → Turn → Turn
+abbrev pub judging : List Account → List ℕ → CommandId → ℕ → Judgement → SessionStep → SessionStep
 judging accounts octets command number Read turn = read accounts octets command number (pdu_at octets) turn
 judging accounts octets command number (Refused status) turn = refused command number (Refused status) turn
 judging accounts octets command number Ignored turn = turn
 
 -- a request of an unknown command is refused; a response, whose command_id has bit 31 set, is ignored
-abbrev pub by_command : List Account → List ℕ → Header → Option CommandId → Turn → Turn
+abbrev pub by_command : List Account → List ℕ → Header → Option CommandId → SessionStep → SessionStep
 by_command accounts octets header (Some command) turn =
     judging accounts octets command header.sequence_number (judged command turn.conversation.state) turn
 by_command accounts octets header None turn =
     if nat_lt header.command_id 0x80000000 then sent GenericNack ESME_RINVCMDID header.sequence_number turn else turn
 
 -- The answer to one PDU. The sequence number is that of the PDU; the state is judged before the body is looked at.
-unfoldable pub treated : List Account → List ℕ → Turn → Turn
+unfoldable pub treated : List Account → List ℕ → SessionStep → SessionStep
 treated accounts octets turn = by_command accounts octets (header_at octets) (command_of (header_at octets).command_id) turn
 
 -- The answer to a header that states no good length: the session is at its end.
-unfoldable pub bad_length : List ℕ → Turn → Turn
+unfoldable pub bad_length : List ℕ → SessionStep → SessionStep
 bad_length octets turn = closed (sent GenericNack ESME_RINVCMDLEN (header_at octets).sequence_number turn)

@@ -13,7 +13,7 @@ use Rattle.smpp_session.specs.declared.fault.DeliverFault.TheVariants.{WindowFul
 use Rattle.smpp_session.specs.declared.conversation.SessionState.{SessionState}
 use Rattle.smpp_session.specs.declared.conversation.SessionState.TheVariants.{Opened, BoundRx, BoundTrx}
 use Rattle.smpp_session.specs.declared.conversation.Conversation.{Conversation}
-use Rattle.smpp_session.specs.declared.turn.Turn.{Turn}
+use Rattle.smpp_session.specs.declared.turn.SessionStep.{SessionStep}
 use Rattle.smpp_session.specs.Windows.{window, number_after, free_number}
 use Rattle.smpp_session.specs.SessionTable.{response, closed_conversation}
 use Rattle.smpp_session.specs.SessionRun.{Course, stream}
@@ -35,7 +35,7 @@ opened accounts = record {
 
 -- ---- feed
 
-abbrev pub turn_of : SessionView → Turn
+abbrev pub turn_of : SessionView → SessionStep
 turn_of session = record { conversation = session.conversation; actions = [] }
 
 abbrev pub after_course : SessionView → Course → SessionView × List Action

@@ -5,7 +5,7 @@ ghost use Rattle.smpp_session.specs.declared.account.Account.{Account as Account
 ghost use Rattle.smpp_session.specs.declared.action.Action.{Action as ActionOf};
 ghost use Rattle.smpp_session.specs.declared.calling.Call.{Call as CallOf};
 ghost use Rattle.smpp_session.specs.declared.conversation.SessionState.TheVariants.{Closed};
-ghost use Rattle.smpp_session.specs.declared.turn.Turn.{Turn as TurnOf};
+ghost use Rattle.smpp_session.specs.declared.turn.SessionStep.{SessionStep as TurnOf};
 ghost use Rattle.smpp_session.specs.Stream.{IsStream};
 ghost use Rattle.smpp_session.specs.SessionRun.{stream, by_pieces};
 ghost use Rattle.smpp_session.specs.Sessions.{SessionView, opened, number_to_send, fed};

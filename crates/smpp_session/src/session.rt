@@ -13,7 +13,7 @@ use crate::conversation::{Conversation, SessionState};
 use crate::fault::DeliverFault;
 use crate::front::{Front, front_of};
 use crate::numbers::Numbers;
-use crate::turn::Turn;
+use crate::turn::SessionStep;
 use bytes::BytesMut;
 use smpp_pdu::{Body, CommandStatus, Message, Pdu};
 use sms_base::Octets;
@@ -145,12 +145,12 @@ impl Session {
         ensures ok { IfOk result (λ actions. treated_input self.old ≡ (self.new, actions)) }
         ensures err { OnErr result (self.new ≡ self.old) }
     {
-        let mut turn = Turn {
+        let mut turn = SessionStep {
             conversation: self.conversation.copy(self.alloc)?,
             actions: Actions::new(self.alloc),
         };
         let done = turn.walk(self.alloc, &self.accounts, self.input.as_slice())?;
-        let Turn {
+        let SessionStep {
             conversation,
             actions,
         } = turn;

@@ -19,12 +19,12 @@ use std::alloc::{AllocError, Global};
 
 // What a session is, and what it has given so far.
 #[derive(Drop)]
-pub(crate) struct Turn {
+pub(crate) struct SessionStep {
     pub conversation: Conversation,
     pub actions: Actions,
 }
 
-impl Turn {
+impl SessionStep {
     // Gives an action.
     fn give(&mut self, action: Action) -> Result<(), AllocError>
         ensures { OnOk result (self.new ≡ given action self.old) }

@@ -13,7 +13,7 @@ use Rattle.jiff_core.specs.declared.civil.time.Time.{Time}
 use Rattle.jiff_core.specs.declared.civil.datetime.DateTime.{DateTime}
 use Rattle.jiff_core.specs.DateTime.{civil_seconds}
 use Rattle.sms_base.specs.SmppTime.{two_digits}
-use Rattle.sms_base.specs.UtcClock.{Clock, Shows, clock_at, clock_of, stamp_of, date_of, months, month_in, day_in, year_of, days_before}
+use Rattle.sms_base.specs.UtcClock.{Clock, Represents, clock_at, clock_of, stamp_of, date_of, months, month_in, day_in, year_of, days_before}
 use Rattle.sms_base.proofs.Shown.{Passes, shown_by}
 use Rattle.sms_base.proofs.WrittenStamps.{one_written, same_clock}
 
@@ -137,7 +137,7 @@ unfolding clock_at
 numbers_are day second = (refl, refl, refl)
 
 -- the clock of a moment is what a clock shows then
-pub clock_shows : (moment : ℕ) → IsMoment moment → Shows (clock_of moment) moment
+pub clock_shows : (moment : ℕ) → IsMoment moment → Represents (clock_of moment) moment
 clock_shows moment h =
     let c = clock_of moment in
     let d = dated (moment / 86400 - 10957) (moment % 86400) (omega (arith, h.to_2099)) in

@@ -11,7 +11,7 @@ use Rattle.sms_centre_spec.specs.SoundRows.{IsSetup, IsSound}
 use Rattle.sms_centre_spec.proofs.EventLaws.{stays_sound}
 use Rattle.sms_centre_spec.proofs.Resting.{base_of, happened_stands}
 use Rattle.sms_centre_events.specs.offering.Stored.{CanOffer, Stores}
-use Rattle.sms_centre.specs.state.Standing.{IsStanding, StandingOf}
+use Rattle.sms_centre.specs.state.CentreState.{Represents, CentreStateOf}
 use Rattle.sms_tpdu.specs.AddressGrammar.{relay_address}
 use Rattle.sms_centre.specs.Acting.{acted}
 use Rattle.sms_centre.specs.Stored.{StoresRows}
@@ -51,12 +51,12 @@ setup_as_begun : (event : CentreEvent) (c : Core) → (acted event c).store.setu
 setup_as_begun event c = ap (λ (s : Store). s.setup) (sym (stores_alike event c)) ∙ ap (λ (r : Rows). r.setup) (happened_stands event c)
 
 -- a centre stands on a setup
-pub setup_stands : (c : Core) (s : StandingOf) → IsStanding c s → IsSetup s.setup
+pub setup_stands : (c : Core) (s : CentreStateOf) → Represents c s → IsSetup s.setup
 setup_stands c s k = subst IsSetup (sym k.centre.setup_is) k.centre.sound.rows.setup
 
 -- ---- what offers rest on
 
-pub can_offer : {R : Type 0} (body_of : R → ℕ → Option (List ℕ)) (stored : R) (event : CentreEvent) (c : Core) (s : StandingOf) (address : List ℕ) → IsStanding c s → IsEvent event
+pub can_offer : {R : Type 0} (body_of : R → ℕ → Option (List ℕ)) (stored : R) (event : CentreEvent) (c : Core) (s : CentreStateOf) (address : List ℕ) → Represents c s → IsEvent event
     → StoresRows (body_of stored) c.rows → address ≡ relay_address s.setup.centre → CanOffer body_of stored address (acted event c).store
 can_offer body_of stored event c s address k is given e = record {
   sound = sound_as_left event c k.centre.sound is;

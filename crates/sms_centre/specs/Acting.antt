@@ -5,14 +5,14 @@ use Rattle.sms_intake.specs.declared.refusal.SubmitRefusal.TheVariants.{Congeste
 use Rattle.sms_centre_spec.specs.declared.event.CentreEvent.{CentreEvent}
 use Rattle.sms_centre_spec.specs.declared.event.CentreEvent.TheVariants.{Submit, Query, Cancel, Bound, Unbound, DeliverAnswered, Frame, LinkUp, LinkDown, Tick}
 use Rattle.sms_link.specs.LinkTurn.{taken}
-use Rattle.sms_centre_rows.specs.waiting.Lines.{line_of, turn_line}
+use Rattle.sms_centre_rows.specs.waiting.Links.{line_of, turn_line}
 use Rattle.sms_centre_spec.specs.CentreEvent.{aged, at_moment, fired, frame_taken, lower, raise, raised, tag_of}
-use Rattle.sms_centre_spec.specs.Draft.{Core, Draft, draft_of, on_air}
+use Rattle.sms_centre_spec.specs.Draft.{Core, Draft, draft_of, on_links}
 use Rattle.sms_centre_spec.specs.Requests.{submit, query, cancel, refused}
 use Rattle.sms_centre_spec.specs.Receiving.{refuse}
-use Rattle.sms_centre.specs.declared.acting.Acted.{Acted}
-use Rattle.sms_centre.specs.declared.acting.Acted.TheVariants.{Done, Congested}
-use Rattle.sms_centre_draft.specs.Working.{Shows, WorkingOf}
+use Rattle.sms_centre.specs.declared.acting.EventEnd.{EventEnd}
+use Rattle.sms_centre.specs.declared.acting.EventEnd.TheVariants.{Done, Congested}
+use Rattle.sms_centre_draft.specs.CentreDraft.{Represents, CentreDraftOf}
 use Rattle.sms_centre_spec.specs.Sessions.{bind, unbind, deliver_answered}
 
 abbrev pub acted : CentreEvent → Core → Draft
@@ -29,7 +29,7 @@ acted (Tick now) c = raised (fired (aged (at_moment now (draft_of c))))
 
 -- a frame was heard on the handset's line, and nothing came of it yet
 abbrev pub heard : List ℕ → List ℕ → Core → Draft
-heard handset octets c = let d : Draft = draft_of c in on_air (turn_line (line_of handset d.air.lines) (taken octets (line_of handset d.air.lines).link) d.air) d
+heard handset octets c = let d : Draft = draft_of c in on_links (turn_line (line_of handset d.links.lines) (taken octets (line_of handset d.links.lines).link) d.links) d
 
 -- ---- a submission for which no numbers or references are free
 
@@ -47,6 +47,6 @@ congested (LinkDown handset) reference c = draft_of c
 congested (Tick now) reference c = draft_of c
 
 -- The draft in which the event acted is shown; or it is the one in which the submission is refused.
-abbrev pub Acts : CentreEvent → Core → WorkingOf → Acted → Type 0
-Acts event c w Done = Shows (acted event c) w
+abbrev pub Acts : CentreEvent → Core → CentreDraftOf → EventEnd → Type 0
+Acts event c w Done = Represents (acted event c) w
 Acts event c w (Congested reference) = acted event c ≡ congested event reference c

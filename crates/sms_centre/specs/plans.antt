@@ -1,2 +1,2 @@
-pub mod Left
-pub mod Planned
+pub mod NextState
+pub mod EventOutcome

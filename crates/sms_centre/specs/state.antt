@@ -1,3 +1,3 @@
-pub mod Lines
+pub mod MessageLines
 pub mod Recovering
-pub mod Standing
+pub mod CentreState

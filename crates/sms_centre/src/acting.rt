@@ -2,22 +2,22 @@
 ghost use Rattle.std.specs.Prelude.{◌≡◌, ℕ, IfOk, OnOk};
 ghost use Rattle.smpp_pdu.specs.declared.message.Message.{Message as MessageOf};
 ghost use Rattle.sms_base.specs.Reading.{AreOctets};
-ghost use Rattle.sms_centre_rows.specs.waiting.SoundGivings.{IsNumber};
+ghost use Rattle.sms_centre_rows.specs.waiting.SoundAllocations.{IsNumber};
 ghost use Rattle.sms_centre_spec.specs.CentreEvent.{tag_of as tag_or_none};
 ghost use Rattle.sms_centre_spec.specs.Draft.{Core, draft_of};
 ghost use Rattle.sms_centre_spec.specs.SoundCore.{HasNumber, IsEvent};
 ghost use Rattle.sms_centre_spec.specs.SoundRows.{IsSetup};
 ghost use Rattle.sms_centre_spec.specs.declared.event.CentreEvent.TheVariants.{Submit, Query, Cancel, Bound, Unbound, DeliverAnswered, Frame, LinkUp, LinkDown, Tick};
 ghost use Rattle.sms_centre.specs.Acting.{Acts, congested};
-ghost use Rattle.sms_centre.specs.state.Standing.{IsStanding};
-ghost use Rattle.sms_centre_draft.specs.Working.{Shows};
+ghost use Rattle.sms_centre.specs.state.CentreState.{Represents as StateRepresents};
+ghost use Rattle.sms_centre_draft.specs.CentreDraft.{Represents as DraftRepresents};
 
-use crate::state::Standing;
+use crate::state::CentreState;
 use smpp_pdu::{CancelSm, Message, QuerySm};
 use sms_base::{Digits, Holder, MessageId, Moment};
-use sms_centre_draft::Working;
+use sms_centre_draft::CentreDraft;
 use sms_centre_events::{
-    Asked, Came, bind, cancel, frame_refused, frame_taken, query, submit, submit_refused, tick,
+    SubmitOutcome, FrameOutcome, bind, cancel, frame_refused, frame_taken, query, submit, submit_refused, tick,
 };
 use sms_centre_spec::CentreEvent;
 use sms_centre_transfers::lower;
@@ -25,7 +25,7 @@ use std::alloc::AllocError;
 
 /// How an event ended.
 #[derive(Clone, Copy, Debug)]
-pub enum Acted {
+pub enum EventEnd {
     /// It is done, with all that it leads to.
     Done,
     /// Numbers or references are free for not all of a submission; a handset's is under that reference. The event is to
@@ -36,86 +36,86 @@ pub enum Acted {
 // ---- what applications ask
 
 fn submitted(
-    working: &mut Working<'_>,
-    standing: &Standing,
+    draft: &mut CentreDraft<'_>,
+    centre_state: &CentreState,
     account: u8,
     message: &Message<'_>,
-) -> Result<Acted, AllocError>
-    requires setup { IsSetup working.old.setup }
-    ensures { (c : Core) → Shows (draft_of c) working.old → IsStanding c standing.now → IfOk result (Acts (Submit account message.now) c working.new) }
+) -> Result<EventEnd, AllocError>
+    requires setup { IsSetup draft.old.setup }
+    ensures { (c : Core) → DraftRepresents (draft_of c) draft.old → StateRepresents c centre_state.now → IfOk result (Acts (Submit account message.now) c draft.new) }
 {
     let asked = submit(
-        working,
-        &standing.messages,
-        &standing.claims,
+        draft,
+        &centre_state.messages,
+        &centre_state.reference_index,
         account,
         message,
     )?;
     match asked {
-        Asked::Answered => Ok(Acted::Done),
-        Asked::Congested => Ok(Acted::Congested(0)),
+        SubmitOutcome::Answered => Ok(EventEnd::Done),
+        SubmitOutcome::Congested => Ok(EventEnd::Congested(0)),
     }
 }
 
 fn queried(
-    working: &mut Working<'_>,
+    draft: &mut CentreDraft<'_>,
     account: u8,
     wanted: &QuerySm<'_>,
-) -> Result<Acted, AllocError>
-    ensures { (c : Core) → Shows (draft_of c) working.old → IfOk result (Acts (Query account wanted.now) c working.new) }
+) -> Result<EventEnd, AllocError>
+    ensures { (c : Core) → DraftRepresents (draft_of c) draft.old → IfOk result (Acts (Query account wanted.now) c draft.new) }
 {
-    query(working, account, wanted)?;
-    Ok(Acted::Done)
+    query(draft, account, wanted)?;
+    Ok(EventEnd::Done)
 }
 
 fn cancelled(
-    working: &mut Working<'_>,
+    draft: &mut CentreDraft<'_>,
     account: u8,
     wanted: &CancelSm<'_>,
-) -> Result<Acted, AllocError>
-    ensures { (c : Core) → Shows (draft_of c) working.old → IfOk result (Acts (Cancel account wanted.now) c working.new) }
+) -> Result<EventEnd, AllocError>
+    ensures { (c : Core) → DraftRepresents (draft_of c) draft.old → IfOk result (Acts (Cancel account wanted.now) c draft.new) }
 {
-    cancel(working, account, wanted)?;
-    Ok(Acted::Done)
+    cancel(draft, account, wanted)?;
+    Ok(EventEnd::Done)
 }
 
 // ---- sessions
 
 fn bound(
-    working: &mut Working<'_>,
-    standing: &Standing,
+    draft: &mut CentreDraft<'_>,
+    centre_state: &CentreState,
     session: u32,
     account: u8,
     receives: bool,
-) -> Result<Acted, AllocError>
-    ensures { (c : Core) → Shows (draft_of c) working.old → IsStanding c standing.now → IfOk result (Acts (Bound session account receives) c working.new) }
+) -> Result<EventEnd, AllocError>
+    ensures { (c : Core) → DraftRepresents (draft_of c) draft.old → StateRepresents c centre_state.now → IfOk result (Acts (Bound session account receives) c draft.new) }
 {
-    bind(working, session, account, receives)?;
-    Ok(Acted::Done)
+    bind(draft, session, account, receives)?;
+    Ok(EventEnd::Done)
 }
 
 fn unbound(
-    working: &mut Working<'_>,
-    standing: &Standing,
+    draft: &mut CentreDraft<'_>,
+    centre_state: &CentreState,
     session: u32,
-) -> Result<Acted, AllocError>
-    ensures { (c : Core) → Shows (draft_of c) working.old → IsStanding c standing.now → IfOk result (Acts (Unbound session) c working.new) }
+) -> Result<EventEnd, AllocError>
+    ensures { (c : Core) → DraftRepresents (draft_of c) draft.old → StateRepresents c centre_state.now → IfOk result (Acts (Unbound session) c draft.new) }
 {
-    working.unbind(session)?;
-    Ok(Acted::Done)
+    draft.unbind(session)?;
+    Ok(EventEnd::Done)
 }
 
 fn answered(
-    working: &mut Working<'_>,
-    standing: &Standing,
+    draft: &mut CentreDraft<'_>,
+    centre_state: &CentreState,
     session: u32,
     id: MessageId,
     is_accepted: bool,
-) -> Result<Acted, AllocError>
-    ensures { (c : Core) → Shows (draft_of c) working.old → IsStanding c standing.now → IfOk result (Acts (DeliverAnswered session id is_accepted) c working.new) }
+) -> Result<EventEnd, AllocError>
+    ensures { (c : Core) → DraftRepresents (draft_of c) draft.old → StateRepresents c centre_state.now → IfOk result (Acts (DeliverAnswered session id is_accepted) c draft.new) }
 {
-    working.deliver_answered(session, id, is_accepted)?;
-    Ok(Acted::Done)
+    draft.deliver_answered(session, id, is_accepted)?;
+    Ok(EventEnd::Done)
 }
 
 // ---- handsets
@@ -127,131 +127,131 @@ fn tag_of(tag: Option<Holder>) -> Holder
     tag.unwrap_or(Holder::Entry(0))
 }
 
-fn frame_came(
-    working: &mut Working<'_>,
-    standing: &Standing,
+fn frame_received(
+    draft: &mut CentreDraft<'_>,
+    centre_state: &CentreState,
     handset: Digits,
     octets: &[u8],
     tag: Option<Holder>,
-) -> Result<Acted, AllocError>
+) -> Result<EventEnd, AllocError>
     requires number { IsNumber handset }
-    ensures { (c : Core) → Shows (draft_of c) working.old → IsStanding c standing.now → IfOk result (Acts (Frame handset octets.now tag) c working.new) }
+    ensures { (c : Core) → DraftRepresents (draft_of c) draft.old → StateRepresents c centre_state.now → IfOk result (Acts (Frame handset octets.now tag) c draft.new) }
 {
     let came = frame_taken(
-        working,
-        &standing.messages,
-        &standing.claims,
+        draft,
+        &centre_state.messages,
+        &centre_state.reference_index,
         handset,
         octets,
         tag_of(tag),
     )?;
     match came {
-        Came::Done => Ok(Acted::Done),
-        Came::Congested(reference) => Ok(Acted::Congested(reference)),
+        FrameOutcome::Done => Ok(EventEnd::Done),
+        FrameOutcome::Congested(reference) => Ok(EventEnd::Congested(reference)),
     }
 }
 
-fn raised(working: &mut Working<'_>, handset: Digits) -> Result<Acted, AllocError>
+fn raised(draft: &mut CentreDraft<'_>, handset: Digits) -> Result<EventEnd, AllocError>
     requires number { IsNumber handset }
-    ensures { (c : Core) → Shows (draft_of c) working.old → IfOk result (Acts (LinkUp handset) c working.new) }
+    ensures { (c : Core) → DraftRepresents (draft_of c) draft.old → IfOk result (Acts (LinkUp handset) c draft.new) }
 {
-    working.raise(handset)?;
-    Ok(Acted::Done)
+    draft.raise(handset)?;
+    Ok(EventEnd::Done)
 }
 
-fn lowered(working: &mut Working<'_>, handset: Digits) -> Result<Acted, AllocError>
+fn lowered(draft: &mut CentreDraft<'_>, handset: Digits) -> Result<EventEnd, AllocError>
     requires number { IsNumber handset }
-    ensures { (c : Core) → Shows (draft_of c) working.old → IfOk result (Acts (LinkDown handset) c working.new) }
+    ensures { (c : Core) → DraftRepresents (draft_of c) draft.old → IfOk result (Acts (LinkDown handset) c draft.new) }
 {
-    lower(working, handset)?;
-    Ok(Acted::Done)
+    lower(draft, handset)?;
+    Ok(EventEnd::Done)
 }
 
 // ---- time
 
-fn ticked(working: &mut Working<'_>, standing: &Standing, now: Moment) -> Result<Acted, AllocError>
-    ensures { (c : Core) → Shows (draft_of c) working.old → IsStanding c standing.now → IfOk result (Acts (Tick now) c working.new) }
+fn ticked(draft: &mut CentreDraft<'_>, centre_state: &CentreState, now: Moment) -> Result<EventEnd, AllocError>
+    ensures { (c : Core) → DraftRepresents (draft_of c) draft.old → StateRepresents c centre_state.now → IfOk result (Acts (Tick now) c draft.new) }
 {
-    tick(working, &standing.messages, now)?;
-    Ok(Acted::Done)
+    tick(draft, &centre_state.messages, now)?;
+    Ok(EventEnd::Done)
 }
 
 // ---- all events
 
 /// The event acts on the centre as it begins.
 pub(crate) fn act(
-    working: &mut Working<'_>,
-    standing: &Standing,
+    draft: &mut CentreDraft<'_>,
+    centre_state: &CentreState,
     event: &CentreEvent<'_>,
-) -> Result<Acted, AllocError>
+) -> Result<EventEnd, AllocError>
     requires number { HasNumber event.now }
-    requires setup { IsSetup working.old.setup }
-    ensures { (c : Core) → Shows (draft_of c) working.old → IsStanding c standing.now → IfOk result (Acts event.now c working.new) }
+    requires setup { IsSetup draft.old.setup }
+    ensures { (c : Core) → DraftRepresents (draft_of c) draft.old → StateRepresents c centre_state.now → IfOk result (Acts event.now c draft.new) }
 {
     match event {
-        CentreEvent::Submit { account, message } => submitted(working, standing, *account, message),
-        CentreEvent::Query { account, query } => queried(working, *account, query),
-        CentreEvent::Cancel { account, cancel } => cancelled(working, *account, cancel),
+        CentreEvent::Submit { account, message } => submitted(draft, centre_state, *account, message),
+        CentreEvent::Query { account, query } => queried(draft, *account, query),
+        CentreEvent::Cancel { account, cancel } => cancelled(draft, *account, cancel),
         CentreEvent::Bound {
             session,
             account,
             receives,
-        } => bound(working, standing, *session, *account, *receives),
-        CentreEvent::Unbound { session } => unbound(working, standing, *session),
+        } => bound(draft, centre_state, *session, *account, *receives),
+        CentreEvent::Unbound { session } => unbound(draft, centre_state, *session),
         CentreEvent::DeliverAnswered {
             session,
             id,
             is_accepted,
-        } => answered(working, standing, *session, *id, *is_accepted),
+        } => answered(draft, centre_state, *session, *id, *is_accepted),
         CentreEvent::Frame {
             handset,
             octets,
             tag,
-        } => frame_came(working, standing, *handset, octets.as_slice(), *tag),
-        CentreEvent::LinkUp { handset } => raised(working, *handset),
-        CentreEvent::LinkDown { handset } => lowered(working, *handset),
-        CentreEvent::Tick(now) => ticked(working, standing, *now),
+        } => frame_received(draft, centre_state, *handset, octets.as_slice(), *tag),
+        CentreEvent::LinkUp { handset } => raised(draft, *handset),
+        CentreEvent::LinkDown { handset } => lowered(draft, *handset),
+        CentreEvent::Tick(now) => ticked(draft, centre_state, *now),
     }
 }
 
 // A submit_sm is refused for want of numbers or references.
-fn refuse_submit(working: &mut Working<'_>) -> Result<(), AllocError>
-    ensures { (c : Core) (account : ℕ) (message : MessageOf) (reference : ℕ) → Shows (draft_of c) working.old → OnOk result (Shows (congested (Submit account message) reference c) working.new) }
+fn refuse_submit(draft: &mut CentreDraft<'_>) -> Result<(), AllocError>
+    ensures { (c : Core) (account : ℕ) (message : MessageOf) (reference : ℕ) → DraftRepresents (draft_of c) draft.old → OnOk result (DraftRepresents (congested (Submit account message) reference c) draft.new) }
 {
-    submit_refused(working);
+    submit_refused(draft);
     Ok(())
 }
 
 // So is the SUBMIT of a frame.
 fn refuse_frame(
-    working: &mut Working<'_>,
+    draft: &mut CentreDraft<'_>,
     handset: Digits,
     octets: &[u8],
     tag: Option<Holder>,
     reference: u8,
 ) -> Result<(), AllocError>
     requires number { IsNumber handset }
-    ensures { (c : Core) → Shows (draft_of c) working.old → OnOk result (Shows (congested (Frame handset octets.now tag) reference c) working.new) }
+    ensures { (c : Core) → DraftRepresents (draft_of c) draft.old → OnOk result (DraftRepresents (congested (Frame handset octets.now tag) reference c) draft.new) }
 {
-    frame_refused(working, handset, octets, tag_of(tag), reference)
+    frame_refused(draft, handset, octets, tag_of(tag), reference)
 }
 
 /// The event, which began anew, refuses the submission that it brings.
 pub(crate) fn refuse(
-    working: &mut Working<'_>,
+    draft: &mut CentreDraft<'_>,
     event: &CentreEvent<'_>,
     reference: u8,
 ) -> Result<(), AllocError>
     requires number { HasNumber event.now }
-    ensures { (c : Core) → Shows (draft_of c) working.old → OnOk result (Shows (congested event.now reference c) working.new) }
+    ensures { (c : Core) → DraftRepresents (draft_of c) draft.old → OnOk result (DraftRepresents (congested event.now reference c) draft.new) }
 {
     match event {
-        CentreEvent::Submit { .. } => refuse_submit(working),
+        CentreEvent::Submit { .. } => refuse_submit(draft),
         CentreEvent::Frame {
             handset,
             octets,
             tag,
-        } => refuse_frame(working, *handset, octets.as_slice(), *tag, reference),
+        } => refuse_frame(draft, *handset, octets.as_slice(), *tag, reference),
         _ => Ok(()),
     }
 }

@@ -5,32 +5,32 @@ ghost use Rattle.sms_centre_spec.specs.Draft.{Core, core_of};
 ghost use Rattle.sms_centre_spec.specs.SoundCore.{IsEvent};
 ghost use Rattle.sms_centre_spec.specs.declared.event.CentreEvent.{CentreEvent as CentreEventOf};
 ghost use Rattle.sms_centre.specs.Planning.{Fits};
-ghost use Rattle.sms_centre.specs.plans.Planned.{IsPlanned};
-ghost use Rattle.sms_centre.specs.state.Standing.{IsStanding};
+ghost use Rattle.sms_centre.specs.plans.EventOutcome.{IsOutcome};
+ghost use Rattle.sms_centre.specs.state.CentreState.{Represents};
 
-use crate::planned::Planned;
-use crate::plans::Told;
-use crate::state::Standing;
+use crate::plan::Plan;
+use crate::plans::Outputs;
+use crate::state::CentreState;
 use sms_centre_reports::awaited::laws::every_event_keeps_what_is_awaited;
 
 /// Puts the plan into what the centre keeps, without taking memory, and gives what leaves.
-pub(crate) fn put_in(standing: &mut Standing, planned: Planned) -> Told
-    requires { Fits standing.old planned }
-    ensures told { result ≡ planned.plan.told }
-    ensures setup { standing.new.setup ≡ standing.old.setup }
-    ensures standing { (event : CentreEventOf) (c : Core) → IsStanding c standing.old → IsEvent event → IsPlanned (happened event c) planned.plan → IsStanding (core_of (happened event c)) standing.new }
+pub(crate) fn put_in(centre_state: &mut CentreState, planned: Plan) -> Outputs
+    requires { Fits centre_state.old planned }
+    ensures outputs { result ≡ planned.plan.outputs }
+    ensures setup { centre_state.new.setup ≡ centre_state.old.setup }
+    ensures centre_state { (event : CentreEventOf) (c : Core) → Represents c centre_state.old → IsEvent event → IsOutcome (happened event c) planned.plan → Represents (core_of (happened event c)) centre_state.new }
 {
     every_event_keeps_what_is_awaited();
-    let Planned { plan, register } = planned;
-    standing
-        .register
-        .adopt(register, plan.changes.reports.as_slice());
+    let Plan { plan, log } = planned;
+    centre_state
+        .log
+        .adopt(log, plan.changes.reports.as_slice());
     plan.adopt(
-        &mut standing.moment,
-        &mut standing.messages,
-        &mut standing.claims,
-        &mut standing.shelves,
-        &mut standing.reports,
-        &mut standing.sessions,
+        &mut centre_state.moment,
+        &mut centre_state.messages,
+        &mut centre_state.reference_index,
+        &mut centre_state.queues,
+        &mut centre_state.reports,
+        &mut centre_state.sessions,
     )
 }

@@ -1,7 +1,7 @@
 //! The centre.
 ghost use Rattle.std.specs.Prelude.{◌≡◌, ℕ, List, None, IfErr, IfOk, OnErr, OnOk};
 ghost use Rattle.sms_base.specs.Among.{Among};
-ghost use Rattle.sms_centre_rows.specs.waiting.SoundGivings.{IsNumber};
+ghost use Rattle.sms_centre_rows.specs.waiting.SoundAllocations.{IsNumber};
 ghost use Rattle.sms_centre_spec.specs.declared.event.CentreEvent.{CentreEvent as CentreEventOf};
 ghost use Rattle.sms_centre_spec.specs.CentreEvent.{happened, moment_of, recovered, started};
 ghost use Rattle.sms_centre_spec.specs.Draft.{Core, core_of};
@@ -10,26 +10,26 @@ ghost use Rattle.sms_centre_spec.specs.SoundRows.{IsSetup};
 ghost use Rattle.sms_centre.specs.Planning.{Fits, PlansEvent};
 ghost use Rattle.sms_centre.specs.Stored.{StoresRows};
 ghost use Rattle.sms_centre_rows.specs.messages.Messages.{message_at};
-ghost use Rattle.sms_centre_events.specs.offering.Going.{Goes, answers_but};
-ghost use Rattle.sms_centre.specs.plans.Planned.{IsPlanned};
-ghost use Rattle.sms_centre_reports.specs.report_log.Telling.{message_lines, receipt_lines};
+ghost use Rattle.sms_centre_events.specs.offering.Refusing.{SucceedsOrRefuses, answers_but};
+ghost use Rattle.sms_centre.specs.plans.EventOutcome.{IsOutcome};
+ghost use Rattle.sms_centre_reports.specs.report_log.Reporting.{message_lines, receipt_lines};
 ghost use Rattle.sms_centre.specs.state.Recovering.{AreNew, RefusesRows};
-ghost use Rattle.sms_centre.specs.state.Standing.{IsStanding};
+ghost use Rattle.sms_centre.specs.state.CentreState.{Represents};
 
 use crate::acting::is_event;
 use crate::adopting::put_in;
 use crate::finishing::plan_of;
-use crate::planned::Planned;
-use crate::plans::Told;
-use crate::state::{RecoverError, Standing};
+use crate::plan::Plan;
+use crate::plans::Outputs;
+use crate::state::{RecoverError, CentreState};
 use sms_base::lending::put;
 use sms_base::{Digits, Listed, MessageId, Moment, Octets};
-use sms_centre_reports::sessions::Seat;
+use sms_centre_reports::sessions::ReceiptSession;
 use sms_centre_rows::messages::MessageRow as Message;
 use sms_centre_spec::{CentreEvent, PlanError, Rows};
 use sms_rows::keep::BodyKeep;
 use sms_rows::table::Table;
-use sms_script::report::{MessageRow, ReceiptRow};
+use sms_script::report::{ReportedMessage, ReceiptRow};
 use sms_tpdu::write_relay_address;
 use std::alloc::{AllocError, Global};
 use std::marker::Model;
@@ -38,7 +38,7 @@ use std::marker::Model;
 #[derive(Drop)]
 pub struct Centre {
     alloc: Global,
-    standing: Standing,
+    centre_state: CentreState,
     // Its address as RP units carry it.
     address: Octets,
 }
@@ -47,13 +47,13 @@ impl Model for Centre {
     ghost use Rattle.std.specs.Prelude.{◌≡◌};
     ghost use Rattle.sms_tpdu.specs.AddressGrammar.{relay_address};
     ghost use Rattle.sms_centre_spec.specs.SoundRows.{IsSetup};
-    ghost use Rattle.sms_centre.specs.state.Standing.{StandingOf};
+    ghost use Rattle.sms_centre.specs.state.CentreState.{CentreStateOf};
 
-    ghost Value = { StandingOf };
+    ghost Value = { CentreStateOf };
 
-    ghost view = { λ c. c.standing };
+    ghost view = { λ c. c.centre_state };
 
-    ghost invariant = { λ c. IsSetup c.standing.setup × (c.address ≡ relay_address c.standing.setup.centre) };
+    ghost invariant = { λ c. IsSetup c.centre_state.setup × (c.address ≡ relay_address c.centre_state.setup.centre) };
 }
 
 impl Centre {
@@ -64,16 +64,16 @@ impl Centre {
         alloc: Global,
         rows: Rows,
         handsets: &[Digits],
-        sessions: Table<Seat>,
+        sessions: Table<ReceiptSession>,
     ) -> Result<Centre, RecoverError>
         requires numbers { (number : List ℕ) → Among number handsets.now → IsNumber number }
         requires apart { AreDifferent handsets.now }
         requires sessions { AreNew sessions.rows }
-        ensures standing { IfOk result (IsStanding (recovered rows handsets.now sessions.rows)) }
+        ensures centre_state { IfOk result (Represents (recovered rows handsets.now sessions.rows)) }
         ensures refused { IfErr result (λ error. RefusesRows error rows) }
     {
-        let standing = Standing::recover(alloc, rows, handsets, sessions)?;
-        Ok(Centre::of(alloc, standing)?)
+        let centre_state = CentreState::recover(alloc, rows, handsets, sessions)?;
+        Ok(Centre::of(alloc, centre_state)?)
     }
 
     /// The centre that starts with these rows, if it can, where links to these handsets are up at once.
@@ -81,16 +81,16 @@ impl Centre {
         alloc: Global,
         rows: Rows,
         handsets: &[Digits],
-        sessions: Table<Seat>,
+        sessions: Table<ReceiptSession>,
     ) -> Result<Centre, RecoverError>
         requires numbers { (number : List ℕ) → Among number handsets.now → IsNumber number }
         requires apart { AreDifferent handsets.now }
         requires sessions { AreNew sessions.rows }
-        ensures standing { IfOk result (IsStanding (started rows handsets.now sessions.rows)) }
+        ensures centre_state { IfOk result (Represents (started rows handsets.now sessions.rows)) }
         ensures refused { IfErr result (λ error. RefusesRows error rows) }
     {
-        let standing = Standing::start(alloc, rows, handsets, sessions)?;
-        Ok(Centre::of(alloc, standing)?)
+        let centre_state = CentreState::start(alloc, rows, handsets, sessions)?;
+        Ok(Centre::of(alloc, centre_state)?)
     }
 
     /// This centre starts again, with these rows in place of what it had, as `recover` says. Where it can't, it stays as it was.
@@ -98,12 +98,12 @@ impl Centre {
         &mut self,
         rows: Rows,
         handsets: &[Digits],
-        sessions: Table<Seat>,
+        sessions: Table<ReceiptSession>,
     ) -> Result<(), RecoverError>
         requires numbers { (number : List ℕ) → Among number handsets.now → IsNumber number }
         requires apart { AreDifferent handsets.now }
         requires sessions { AreNew sessions.rows }
-        ensures standing { OnOk result (IsStanding (recovered rows handsets.now sessions.rows) self.new) }
+        ensures centre_state { OnOk result (Represents (recovered rows handsets.now sessions.rows) self.new) }
         ensures refused { IfErr result (λ error. RefusesRows error rows) }
         ensures same { OnErr result (self.new ≡ self.old) }
     {
@@ -126,30 +126,30 @@ impl Centre {
         &mut self,
         moment: Moment,
         handsets: &[Digits],
-        sessions: Table<Seat>,
+        sessions: Table<ReceiptSession>,
     ) -> Result<(), AllocError>
         requires numbers { (number : List ℕ) → Among number handsets.now → IsNumber number }
         requires apart { AreDifferent handsets.now }
         requires sessions { AreNew sessions.rows }
-        ensures standing { OnOk result ((c : Core) → IsStanding c self.old → moment ≡ moment_of c.rows → IsStanding (recovered c.rows handsets.now sessions.rows) self.new) }
+        ensures centre_state { OnOk result ((c : Core) → Represents c self.old → moment ≡ moment_of c.rows → Represents (recovered c.rows handsets.now sessions.rows) self.new) }
         ensures same { OnErr result (self.new ≡ self.old) }
     {
-        self.standing
+        self.centre_state
             .start_again(self.alloc, moment, handsets, sessions)
     }
 
-    fn of(alloc: Global, standing: Standing) -> Result<Centre, AllocError>
-        requires { IsSetup standing.setup }
-        ensures { IfOk result (λ centre. centre ≡ standing) }
+    fn of(alloc: Global, centre_state: CentreState) -> Result<Centre, AllocError>
+        requires { IsSetup centre_state.setup }
+        ensures { IfOk result (λ centre. centre ≡ centre_state) }
     {
-        match write_relay_address(alloc, &standing.setup.centre) {
+        match write_relay_address(alloc, &centre_state.setup.centre) {
             Ok(address) => Ok(Centre {
                 alloc,
-                standing,
+                centre_state,
                 address,
             }),
             Err(error) => {
-                drop(standing);
+                drop(centre_state);
                 Err(error)
             }
         }
@@ -163,12 +163,12 @@ impl Centre {
         &self,
         event: &CentreEvent<'_>,
         bodies: &mut B,
-    ) -> Result<Planned, PlanError>
+    ) -> Result<Plan, PlanError>
         requires number { HasNumber event.now }
-        ensures goes { B.is_honest bodies.new → (c : Core) (rows : B.Rows) → IsStanding c self.now → StoresRows (B.body_of rows) c.rows → B.holds bodies.old rows
-            → Goes (λ p. IsPlanned (happened event.now c) p.plan) (happened event.now c).air.read (B.holds bodies.new rows) (B.is_closed bodies.new) (B.refusals bodies.old) (B.refusals bodies.new) result }
+        ensures goes { B.is_honest bodies.new → (c : Core) (rows : B.Rows) → Represents c self.now → StoresRows (B.body_of rows) c.rows → B.holds bodies.old rows
+            → SucceedsOrRefuses (λ p. IsOutcome (happened event.now c) p.plan) (happened event.now c).links.read (B.holds bodies.new rows) (B.is_closed bodies.new) (B.refusals bodies.old) (B.refusals bodies.new) result }
         // So it is what the definition plans with a store that answers all that the event reads but what it refused.
-        ensures definition { B.is_honest bodies.new → (c : Core) (rows : B.Rows) → IsStanding c self.now → StoresRows (B.body_of rows) c.rows → B.holds bodies.old rows → (B.refusals bodies.old).read ≡ None
+        ensures definition { B.is_honest bodies.new → (c : Core) (rows : B.Rows) → Represents c self.now → StoresRows (B.body_of rows) c.rows → B.holds bodies.old rows → (B.refusals bodies.old).read ≡ None
             → PlansEvent (answers_but (B.refusals bodies.new).read) event.now c result }
         ensures fits { IfOk result (Fits self.now) }
         ensures event { IsEvent event.now }
@@ -177,7 +177,7 @@ impl Centre {
         is_event(event);
         plan_of(
             self.alloc,
-            &self.standing,
+            &self.centre_state,
             event,
             bodies,
             self.address.as_slice(),
@@ -185,33 +185,33 @@ impl Centre {
     }
 
     /// Puts the plan of an event into the centre, without taking memory, and gives what leaves.
-    pub fn adopt(&mut self, planned: Planned) -> Told
+    pub fn adopt(&mut self, planned: Plan) -> Outputs
         requires { Fits self.old planned }
-        ensures told { result ≡ planned.plan.told }
-        ensures standing { (event : CentreEventOf) (c : Core) → IsStanding c self.old → IsEvent event → IsPlanned (happened event c) planned.plan → IsStanding (core_of (happened event c)) self.new }
+        ensures outputs { result ≡ planned.plan.outputs }
+        ensures centre_state { (event : CentreEventOf) (c : Core) → Represents c self.old → IsEvent event → IsOutcome (happened event c) planned.plan → Represents (core_of (happened event c)) self.new }
     {
-        put_in(&mut self.standing, planned)
+        put_in(&mut self.centre_state, planned)
     }
 
     /// The message of that number, in memory of its own.
     pub fn message(&self, id: MessageId) -> Result<Option<Message>, AllocError>
-        ensures { (c : Core) → IsStanding c self.now → IfOk result (λ row. row ≡ message_at id c.rows.messages) }
+        ensures { (c : Core) → Represents c self.now → IfOk result (λ row. row ≡ message_at id c.rows.messages) }
     {
-        let message = self.standing.messages.find(self.alloc, id)?;
+        let message = self.centre_state.messages.find(self.alloc, id)?;
         Ok(message)
     }
 
     /// Every message with its state, by number. It takes time linear in the messages.
-    pub fn table(&self) -> Result<Listed<MessageRow>, AllocError>
-        ensures { (c : Core) → IsStanding c self.now → IfOk result (λ table. table ≡ message_lines c.rows.messages) }
+    pub fn table(&self) -> Result<Listed<ReportedMessage>, AllocError>
+        ensures { (c : Core) → Represents c self.now → IfOk result (λ table. table ≡ message_lines c.rows.messages) }
     {
-        self.standing.table(self.alloc)
+        self.centre_state.table(self.alloc)
     }
 
     /// Every receipt and status report that was made, in the order made, with the final state of its message. Each costs a look-up.
     pub fn receipts(&self) -> Result<Listed<ReceiptRow>, AllocError>
-        ensures { (c : Core) → IsStanding c self.now → IfOk result (λ receipts. receipts ≡ receipt_lines c.rows.messages c.rows.reports) }
+        ensures { (c : Core) → Represents c self.now → IfOk result (λ receipts. receipts ≡ receipt_lines c.rows.messages c.rows.reports) }
     {
-        self.standing.receipts(self.alloc)
+        self.centre_state.receipts(self.alloc)
     }
 }

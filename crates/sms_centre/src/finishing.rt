@@ -8,50 +8,50 @@ ghost use Rattle.sms_centre.specs.Acting.{Acts, acted, congested};
 ghost use Rattle.sms_centre.specs.Stopping.{Stops, stop_of as stop_of_error};
 ghost use Rattle.sms_centre.specs.Planning.{Fits};
 ghost use Rattle.sms_rows.specs.declared.keep.refusals.Refusals.{Refusals};
-ghost use Rattle.sms_centre_events.specs.offering.Going.{Goes, UnlessMemory};
+ghost use Rattle.sms_centre_events.specs.offering.Refusing.{SucceedsOrRefuses, UnlessMemory};
 ghost use Rattle.sms_centre_events.specs.offering.Stored.{CanOffer};
-ghost use Rattle.sms_centre.specs.plans.Planned.{IsPlanned};
-ghost use Rattle.sms_centre.specs.state.Standing.{IsStanding};
-ghost use Rattle.sms_centre_draft.specs.Working.{Shows};
+ghost use Rattle.sms_centre.specs.plans.EventOutcome.{IsOutcome};
+ghost use Rattle.sms_centre.specs.state.CentreState.{Represents as StateRepresents};
+ghost use Rattle.sms_centre_draft.specs.CentreDraft.{Represents as DraftRepresents};
 
-use crate::acting::{Acted, act, refuse};
-use crate::planned::Planned;
-use crate::plans::{Planned as Plan, settle};
-use crate::state::Standing;
-use sms_centre_draft::Working;
+use crate::acting::{EventEnd, act, refuse};
+use crate::plan::Plan;
+use crate::plans::{EventOutcome, settle};
+use crate::state::CentreState;
+use sms_centre_draft::CentreDraft;
 use sms_centre_events::offering::follow;
-use sms_centre_reports::report_log::SpareRegister;
+use sms_centre_reports::report_log::ReportLogReserve;
 use sms_centre_spec::{CentreEvent, PlanError};
 use sms_rows::keep::BodyKeep;
 use std::alloc::{AllocError, Global};
 
 // A plan, if there is memory for its reports.
-fn with_register(
-    plan: Plan,
-    register: Result<SpareRegister, AllocError>,
-) -> Result<Planned, AllocError>
+fn with_log(
+    plan: EventOutcome,
+    log: Result<ReportLogReserve, AllocError>,
+) -> Result<Plan, AllocError>
     ensures plan { IfOk result (λ p. p.plan ≡ plan) }
-    ensures register { IfOk result (λ p. register ≡ Ok p.register) }
+    ensures log { IfOk result (λ p. log ≡ Ok p.log) }
 {
-    match register {
-        Ok(register) => Ok(Planned { plan, register }),
+    match log {
+        Ok(log) => Ok(Plan { plan, log }),
         Err(error) => Err(error),
     }
 }
 
 // The plan of the centre as it stands.
-fn planned(alloc: Global, standing: &Standing, working: Working<'_>) -> Result<Planned, AllocError>
-    ensures plan { (d : Draft) → Shows d working.entry → IfOk result (λ p. IsPlanned d p.plan) }
-    ensures fits { IfOk result (Fits standing.now) }
+fn planned(alloc: Global, centre_state: &CentreState, draft: CentreDraft<'_>) -> Result<Plan, AllocError>
+    ensures plan { (d : Draft) → DraftRepresents d draft.entry → IfOk result (λ p. IsOutcome d p.plan) }
+    ensures fits { IfOk result (Fits centre_state.now) }
 {
-    let plan = settle(working, &standing.messages, &standing.claims)?;
-    let register = standing
-        .register
-        .make_spare(alloc, plan.changes.reports.len());
-    with_register(plan, register)
+    let plan = settle(draft, &centre_state.messages, &centre_state.reference_index)?;
+    let log = centre_state
+        .log
+        .make_reserve(alloc, plan.changes.reports.len());
+    with_log(plan, log)
 }
 
-fn unless_memory(made: Result<Planned, AllocError>) -> Result<Planned, PlanError>
+fn unless_memory(made: Result<Plan, AllocError>) -> Result<Plan, PlanError>
     ensures plan { UnlessMemory (λ p. made ≡ Ok p) result }
 {
     match made {
@@ -60,18 +60,18 @@ fn unless_memory(made: Result<Planned, AllocError>) -> Result<Planned, PlanError
     }
 }
 
-fn plan(alloc: Global, standing: &Standing, working: Working<'_>) -> Result<Planned, PlanError>
-    ensures plan { (d : Draft) → Shows d working.entry → UnlessMemory (λ p. IsPlanned d p.plan) result }
-    ensures fits { IfOk result (Fits standing.now) }
+fn plan(alloc: Global, centre_state: &CentreState, draft: CentreDraft<'_>) -> Result<Plan, PlanError>
+    ensures plan { (d : Draft) → DraftRepresents d draft.entry → UnlessMemory (λ p. IsOutcome d p.plan) result }
+    ensures fits { IfOk result (Fits centre_state.now) }
 {
-    unless_memory(planned(alloc, standing, working))
+    unless_memory(planned(alloc, centre_state, draft))
 }
 
 // ---- what the event comes to
 
 /// Why an event ends early.
 #[derive(Clone, Copy, Debug)]
-pub enum Stop {
+pub enum PlanStop {
     /// The store refused to read a body.
     NoBody,
     /// There was no memory.
@@ -80,85 +80,85 @@ pub enum Stop {
     Congested(u8),
 }
 
-fn stop_of(error: PlanError) -> Stop
+fn stop_of(error: PlanError) -> PlanStop
     ensures { result ≡ stop_of_error error }
 {
     match error {
-        PlanError::NoBody => Stop::NoBody,
-        PlanError::NoMemory => Stop::NoMemory,
+        PlanError::NoBody => PlanStop::NoBody,
+        PlanError::NoMemory => PlanStop::NoMemory,
     }
 }
 
 // Receipts go, then offers.
 fn followed<B: BodyKeep>(
-    working: &mut Working<'_>,
+    draft: &mut CentreDraft<'_>,
     bodies: &mut B,
     centre: &[u8],
-) -> Result<(), Stop>
-    ensures goes { B.is_honest bodies.new → (d : Draft) (rows : B.Rows) → Shows d working.old → CanOffer B.body_of rows centre.now d.store → B.holds bodies.old rows
-        → Stops (Shows (follow_of d) working.new) (λ reference. ⊥) (follow_of d).air.read (B.holds bodies.new rows) (B.is_closed bodies.new) (B.refusals bodies.old) (B.refusals bodies.new) result }
+) -> Result<(), PlanStop>
+    ensures goes { B.is_honest bodies.new → (d : Draft) (rows : B.Rows) → DraftRepresents d draft.old → CanOffer B.body_of rows centre.now d.store → B.holds bodies.old rows
+        → Stops (DraftRepresents (follow_of d) draft.new) (λ reference. ⊥) (follow_of d).links.read (B.holds bodies.new rows) (B.is_closed bodies.new) (B.refusals bodies.old) (B.refusals bodies.new) result }
     ensures before { B.is_honest bodies.new → B.is_honest bodies.old }
 {
-    match follow(working, bodies, centre) {
+    match follow(draft, bodies, centre) {
         Ok(()) => Ok(()),
         Err(error) => Err(stop_of(error)),
     }
 }
 
 fn run_on<B: BodyKeep>(
-    working: &mut Working<'_>,
-    came: Acted,
+    draft: &mut CentreDraft<'_>,
+    came: EventEnd,
     event: &CentreEvent<'_>,
     bodies: &mut B,
     centre: &[u8],
-) -> Result<(), Stop>
-    ensures goes { B.is_honest bodies.new → (c : Core) (rows : B.Rows) → Acts event.now c working.old came → CanOffer B.body_of rows centre.now (acted event.now c).store → B.holds bodies.old rows
-        → Stops (Shows (follow_of (acted event.now c)) working.new) (λ reference. acted event.now c ≡ congested event.now reference c) (follow_of (acted event.now c)).air.read (B.holds bodies.new rows) (B.is_closed bodies.new) (B.refusals bodies.old) (B.refusals bodies.new) result }
+) -> Result<(), PlanStop>
+    ensures goes { B.is_honest bodies.new → (c : Core) (rows : B.Rows) → Acts event.now c draft.old came → CanOffer B.body_of rows centre.now (acted event.now c).store → B.holds bodies.old rows
+        → Stops (DraftRepresents (follow_of (acted event.now c)) draft.new) (λ reference. acted event.now c ≡ congested event.now reference c) (follow_of (acted event.now c)).links.read (B.holds bodies.new rows) (B.is_closed bodies.new) (B.refusals bodies.old) (B.refusals bodies.new) result }
     ensures before { B.is_honest bodies.new → B.is_honest bodies.old }
 {
     // The clause speaks of it.
     let _event = event;
     match came {
-        Acted::Done => followed(working, bodies, centre),
-        Acted::Congested(reference) => Err(Stop::Congested(reference)),
+        EventEnd::Done => followed(draft, bodies, centre),
+        EventEnd::Congested(reference) => Err(PlanStop::Congested(reference)),
     }
 }
 
 // The event acts, and receipts and offers follow.
 fn run<B: BodyKeep>(
-    working: &mut Working<'_>,
-    standing: &Standing,
+    draft: &mut CentreDraft<'_>,
+    centre_state: &CentreState,
     event: &CentreEvent<'_>,
     bodies: &mut B,
     centre: &[u8],
-) -> Result<(), Stop>
+) -> Result<(), PlanStop>
     requires number { HasNumber event.now }
-    requires setup { IsSetup working.old.setup }
-    ensures goes { B.is_honest bodies.new → (c : Core) (rows : B.Rows) → Shows (draft_of c) working.old → IsStanding c standing.now → CanOffer B.body_of rows centre.now (acted event.now c).store → B.holds bodies.old rows
-        → Stops (Shows (follow_of (acted event.now c)) working.new) (λ reference. acted event.now c ≡ congested event.now reference c) (follow_of (acted event.now c)).air.read (B.holds bodies.new rows) (B.is_closed bodies.new) (B.refusals bodies.old) (B.refusals bodies.new) result }
+    requires setup { IsSetup draft.old.setup }
+    ensures goes { B.is_honest bodies.new → (c : Core) (rows : B.Rows) → DraftRepresents (draft_of c) draft.old → StateRepresents c centre_state.now → CanOffer B.body_of rows centre.now (acted event.now c).store → B.holds bodies.old rows
+        → Stops (DraftRepresents (follow_of (acted event.now c)) draft.new) (λ reference. acted event.now c ≡ congested event.now reference c) (follow_of (acted event.now c)).links.read (B.holds bodies.new rows) (B.is_closed bodies.new) (B.refusals bodies.old) (B.refusals bodies.new) result }
     ensures before { B.is_honest bodies.new → B.is_honest bodies.old }
 {
-    match act(working, standing, event) {
-        Ok(came) => run_on(working, came, event, bodies, centre),
-        Err(_) => Err(Stop::NoMemory),
+    match act(draft, centre_state, event) {
+        Ok(came) => run_on(draft, came, event, bodies, centre),
+        Err(_) => Err(PlanStop::NoMemory),
     }
 }
 
 // The event, which began anew, refuses the submission that it brings, and receipts and offers follow.
 fn run_anew<B: BodyKeep>(
-    working: &mut Working<'_>,
+    draft: &mut CentreDraft<'_>,
     event: &CentreEvent<'_>,
     reference: u8,
     bodies: &mut B,
     centre: &[u8],
 ) -> Result<(), PlanError>
     requires number { HasNumber event.now }
-    ensures goes { B.is_honest bodies.new → (c : Core) (rows : B.Rows) → Shows (draft_of c) working.old → CanOffer B.body_of rows centre.now (congested event.now reference c).store → B.holds bodies.old rows
-        → Goes (λ _. Shows (follow_of (congested event.now reference c)) working.new) (follow_of (congested event.now reference c)).air.read (B.holds bodies.new rows) (B.is_closed bodies.new) (B.refusals bodies.old) (B.refusals bodies.new) result }
+    ensures goes { B.is_honest bodies.new → (c : Core) (rows : B.Rows) → DraftRepresents (draft_of c) draft.old → CanOffer B.body_of rows centre.now (congested event.now reference c).store → B.holds bodies.old rows
+        → SucceedsOrRefuses (λ _. DraftRepresents (follow_of (congested event.now reference c)) draft.new) (follow_of (congested event.now reference c)).links.read (B.holds bodies.new rows) (B.is_closed bodies.new) (B.refusals bodies.old) (B.refusals bodies.new) result }
     ensures before { B.is_honest bodies.new → B.is_honest bodies.old }
 {
-    match refuse(working, event, reference) {
-        Ok(()) => follow(working, bodies, centre),
+    match refuse(draft, event, reference) {
+        Ok(()) => follow(draft, bodies, centre),
         Err(_) => Err(PlanError::NoMemory),
     }
 }
@@ -167,23 +167,23 @@ fn run_anew<B: BodyKeep>(
 
 fn plan_anew<B: BodyKeep>(
     alloc: Global,
-    standing: &Standing,
-    mut working: Working<'_>,
+    centre_state: &CentreState,
+    mut draft: CentreDraft<'_>,
     event: &CentreEvent<'_>,
     reference: u8,
     bodies: &mut B,
     centre: &[u8],
-) -> Result<Planned, PlanError>
+) -> Result<Plan, PlanError>
     requires number { HasNumber event.now }
-    ensures goes { B.is_honest bodies.new → (c : Core) (rows : B.Rows) → Shows (draft_of c) working.entry → CanOffer B.body_of rows centre.now (congested event.now reference c).store → B.holds bodies.old rows
-        → Goes (λ p. IsPlanned (follow_of (congested event.now reference c)) p.plan) (follow_of (congested event.now reference c)).air.read (B.holds bodies.new rows) (B.is_closed bodies.new) (B.refusals bodies.old) (B.refusals bodies.new) result }
-    ensures fits { IfOk result (Fits standing.now) }
+    ensures goes { B.is_honest bodies.new → (c : Core) (rows : B.Rows) → DraftRepresents (draft_of c) draft.entry → CanOffer B.body_of rows centre.now (congested event.now reference c).store → B.holds bodies.old rows
+        → SucceedsOrRefuses (λ p. IsOutcome (follow_of (congested event.now reference c)) p.plan) (follow_of (congested event.now reference c)).links.read (B.holds bodies.new rows) (B.is_closed bodies.new) (B.refusals bodies.old) (B.refusals bodies.new) result }
+    ensures fits { IfOk result (Fits centre_state.now) }
     ensures before { B.is_honest bodies.new → B.is_honest bodies.old }
 {
-    match run_anew(&mut working, event, reference, bodies, centre) {
-        Ok(()) => plan(alloc, standing, working),
+    match run_anew(&mut draft, event, reference, bodies, centre) {
+        Ok(()) => plan(alloc, centre_state, draft),
         Err(error) => {
-            drop(working);
+            drop(draft);
             Err(error)
         }
     }
@@ -192,20 +192,20 @@ fn plan_anew<B: BodyKeep>(
 // The event begins anew.
 fn begin_anew<B: BodyKeep>(
     alloc: Global,
-    standing: &Standing,
+    centre_state: &CentreState,
     event: &CentreEvent<'_>,
     reference: u8,
     bodies: &mut B,
     centre: &[u8],
-) -> Result<Planned, PlanError>
+) -> Result<Plan, PlanError>
     requires number { HasNumber event.now }
-    ensures goes { B.is_honest bodies.new → (c : Core) (rows : B.Rows) → IsStanding c standing.now → CanOffer B.body_of rows centre.now (congested event.now reference c).store → B.holds bodies.old rows
-        → Goes (λ p. IsPlanned (follow_of (congested event.now reference c)) p.plan) (follow_of (congested event.now reference c)).air.read (B.holds bodies.new rows) (B.is_closed bodies.new) (B.refusals bodies.old) (B.refusals bodies.new) result }
-    ensures fits { IfOk result (Fits standing.now) }
+    ensures goes { B.is_honest bodies.new → (c : Core) (rows : B.Rows) → StateRepresents c centre_state.now → CanOffer B.body_of rows centre.now (congested event.now reference c).store → B.holds bodies.old rows
+        → SucceedsOrRefuses (λ p. IsOutcome (follow_of (congested event.now reference c)) p.plan) (follow_of (congested event.now reference c)).links.read (B.holds bodies.new rows) (B.is_closed bodies.new) (B.refusals bodies.old) (B.refusals bodies.new) result }
+    ensures fits { IfOk result (Fits centre_state.now) }
     ensures before { B.is_honest bodies.new → B.is_honest bodies.old }
 {
-    match standing.begin(alloc) {
-        Ok(working) => plan_anew(alloc, standing, working, event, reference, bodies, centre),
+    match centre_state.begin(alloc) {
+        Ok(draft) => plan_anew(alloc, centre_state, draft, event, reference, bodies, centre),
         Err(_) => Err(PlanError::NoMemory),
     }
 }
@@ -213,46 +213,46 @@ fn begin_anew<B: BodyKeep>(
 // What comes of an event that goes no further.
 fn stopped<B: BodyKeep>(
     alloc: Global,
-    standing: &Standing,
+    centre_state: &CentreState,
     event: &CentreEvent<'_>,
-    stop: Stop,
+    stop: PlanStop,
     bodies: &mut B,
     centre: &[u8],
-) -> Result<Planned, PlanError>
+) -> Result<Plan, PlanError>
     requires number { HasNumber event.now }
-    ensures goes { B.is_honest bodies.new → (c : Core) (rows : B.Rows) (first : Refusals) → IsStanding c standing.now → CanOffer B.body_of rows centre.now (acted event.now c).store
-        → Stops (Unit {0}) (λ reference. acted event.now c ≡ congested event.now reference c) (follow_of (acted event.now c)).air.read (B.holds bodies.old rows) (B.is_closed bodies.old) first (B.refusals bodies.old) (Err stop)
-        → Goes (λ p. IsPlanned (follow_of (acted event.now c)) p.plan) (follow_of (acted event.now c)).air.read (B.holds bodies.new rows) (B.is_closed bodies.new) first (B.refusals bodies.new) result }
-    ensures fits { IfOk result (Fits standing.now) }
+    ensures goes { B.is_honest bodies.new → (c : Core) (rows : B.Rows) (first : Refusals) → StateRepresents c centre_state.now → CanOffer B.body_of rows centre.now (acted event.now c).store
+        → Stops (Unit {0}) (λ reference. acted event.now c ≡ congested event.now reference c) (follow_of (acted event.now c)).links.read (B.holds bodies.old rows) (B.is_closed bodies.old) first (B.refusals bodies.old) (Err stop)
+        → SucceedsOrRefuses (λ p. IsOutcome (follow_of (acted event.now c)) p.plan) (follow_of (acted event.now c)).links.read (B.holds bodies.new rows) (B.is_closed bodies.new) first (B.refusals bodies.new) result }
+    ensures fits { IfOk result (Fits centre_state.now) }
     ensures before { B.is_honest bodies.new → B.is_honest bodies.old }
 {
     match stop {
-        Stop::NoBody => Err(PlanError::NoBody),
-        Stop::NoMemory => Err(PlanError::NoMemory),
-        Stop::Congested(reference) => begin_anew(alloc, standing, event, reference, bodies, centre),
+        PlanStop::NoBody => Err(PlanError::NoBody),
+        PlanStop::NoMemory => Err(PlanError::NoMemory),
+        PlanStop::Congested(reference) => begin_anew(alloc, centre_state, event, reference, bodies, centre),
     }
 }
 
 fn plan_begun<B: BodyKeep>(
     alloc: Global,
-    standing: &Standing,
-    mut working: Working<'_>,
+    centre_state: &CentreState,
+    mut draft: CentreDraft<'_>,
     event: &CentreEvent<'_>,
     bodies: &mut B,
     centre: &[u8],
-) -> Result<Planned, PlanError>
+) -> Result<Plan, PlanError>
     requires number { HasNumber event.now }
-    requires setup { IsSetup working.setup }
-    ensures goes { B.is_honest bodies.new → (c : Core) (rows : B.Rows) → Shows (draft_of c) working.entry → IsStanding c standing.now → CanOffer B.body_of rows centre.now (acted event.now c).store → B.holds bodies.old rows
-        → Goes (λ p. IsPlanned (follow_of (acted event.now c)) p.plan) (follow_of (acted event.now c)).air.read (B.holds bodies.new rows) (B.is_closed bodies.new) (B.refusals bodies.old) (B.refusals bodies.new) result }
-    ensures fits { IfOk result (Fits standing.now) }
+    requires setup { IsSetup draft.setup }
+    ensures goes { B.is_honest bodies.new → (c : Core) (rows : B.Rows) → DraftRepresents (draft_of c) draft.entry → StateRepresents c centre_state.now → CanOffer B.body_of rows centre.now (acted event.now c).store → B.holds bodies.old rows
+        → SucceedsOrRefuses (λ p. IsOutcome (follow_of (acted event.now c)) p.plan) (follow_of (acted event.now c)).links.read (B.holds bodies.new rows) (B.is_closed bodies.new) (B.refusals bodies.old) (B.refusals bodies.new) result }
+    ensures fits { IfOk result (Fits centre_state.now) }
     ensures before { B.is_honest bodies.new → B.is_honest bodies.old }
 {
-    match run(&mut working, standing, event, bodies, centre) {
-        Ok(()) => plan(alloc, standing, working),
+    match run(&mut draft, centre_state, event, bodies, centre) {
+        Ok(()) => plan(alloc, centre_state, draft),
         Err(stop) => {
-            drop(working);
-            stopped(alloc, standing, event, stop, bodies, centre)
+            drop(draft);
+            stopped(alloc, centre_state, event, stop, bodies, centre)
         }
     }
 }
@@ -260,20 +260,20 @@ fn plan_begun<B: BodyKeep>(
 /// The plan of the event. `centre` is the centre's address as RP units carry it.
 pub(crate) fn plan_of<B: BodyKeep>(
     alloc: Global,
-    standing: &Standing,
+    centre_state: &CentreState,
     event: &CentreEvent<'_>,
     bodies: &mut B,
     centre: &[u8],
-) -> Result<Planned, PlanError>
+) -> Result<Plan, PlanError>
     requires number { HasNumber event.now }
-    requires setup { IsSetup standing.now.setup }
-    ensures goes { B.is_honest bodies.new → (c : Core) (rows : B.Rows) → IsStanding c standing.now → CanOffer B.body_of rows centre.now (acted event.now c).store → B.holds bodies.old rows
-        → Goes (λ p. IsPlanned (follow_of (acted event.now c)) p.plan) (follow_of (acted event.now c)).air.read (B.holds bodies.new rows) (B.is_closed bodies.new) (B.refusals bodies.old) (B.refusals bodies.new) result }
-    ensures fits { IfOk result (Fits standing.now) }
+    requires setup { IsSetup centre_state.now.setup }
+    ensures goes { B.is_honest bodies.new → (c : Core) (rows : B.Rows) → StateRepresents c centre_state.now → CanOffer B.body_of rows centre.now (acted event.now c).store → B.holds bodies.old rows
+        → SucceedsOrRefuses (λ p. IsOutcome (follow_of (acted event.now c)) p.plan) (follow_of (acted event.now c)).links.read (B.holds bodies.new rows) (B.is_closed bodies.new) (B.refusals bodies.old) (B.refusals bodies.new) result }
+    ensures fits { IfOk result (Fits centre_state.now) }
     ensures before { B.is_honest bodies.new → B.is_honest bodies.old }
 {
-    match standing.begin(alloc) {
-        Ok(working) => plan_begun(alloc, standing, working, event, bodies, centre),
+    match centre_state.begin(alloc) {
+        Ok(draft) => plan_begun(alloc, centre_state, draft, event, bodies, centre),
         Err(_) => Err(PlanError::NoMemory),
     }
 }

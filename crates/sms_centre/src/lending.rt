@@ -2,17 +2,17 @@
 ghost use Rattle.std.specs.Prelude.{◌≡◌, ℕ, List, IfErr, IfOk};
 ghost use Rattle.std.specs.Fn.{FnOnceReturnsAtMut};
 ghost use Rattle.sms_base.specs.Among.{Among};
-ghost use Rattle.sms_centre_rows.specs.waiting.SoundGivings.{IsNumber};
+ghost use Rattle.sms_centre_rows.specs.waiting.SoundAllocations.{IsNumber};
 ghost use Rattle.sms_centre_spec.specs.CentreEvent.{started};
 ghost use Rattle.sms_centre_spec.specs.SoundCore.{AreDifferent};
 ghost use Rattle.sms_centre.specs.state.Recovering.{AreNew, RefusesRows};
-ghost use Rattle.sms_centre.specs.state.Standing.{IsStanding};
+ghost use Rattle.sms_centre.specs.state.CentreState.{Represents};
 
 use crate::centre::Centre;
 use crate::state::RecoverError;
 use sms_base::Digits;
 use sms_base::lending::lend;
-use sms_centre_reports::sessions::Seat;
+use sms_centre_reports::sessions::ReceiptSession;
 use sms_centre_spec::Rows;
 use sms_rows::table::Table;
 use std::alloc::Global;
@@ -25,15 +25,15 @@ pub fn with_centre<R, W: FnOnce(&mut Centre) -> R>(
     alloc: Global,
     rows: Rows,
     handsets: &[Digits],
-    sessions: Table<Seat>,
+    sessions: Table<ReceiptSession>,
     work: W,
 ) -> Result<R, RecoverError>
     requires numbers { (number : List ℕ) → Among number handsets.now → IsNumber number }
     requires apart { AreDifferent handsets.now }
     requires sessions { AreNew sessions.rows }
-    requires work { (lent : _) → IsStanding (started rows handsets.now sessions.rows) lent.now → W.pre work lent }
+    requires work { (lent : _) → Represents (started rows handsets.now sessions.rows) lent.now → W.pre work lent }
     // What is given is what the work gives of a centre that stands on these rows.
-    ensures given { IfOk result (λ given. (lent : _) × (left : _) × IsStanding (started rows handsets.now sessions.rows) lent × FnOnceReturnsAtMut W.FnOnce work lent given left) }
+    ensures given { IfOk result (λ given. (lent : _) × (next_state : _) × Represents (started rows handsets.now sessions.rows) lent × FnOnceReturnsAtMut W.FnOnce work lent given next_state) }
     ensures refused { IfErr result (λ error. RefusesRows error rows) }
 {
     let centre = Centre::start(alloc, rows, handsets, sessions)?;

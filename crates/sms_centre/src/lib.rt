@@ -13,7 +13,7 @@
 //! - `finishing`: what follows an event, and its plan
 //! - `laws`: laws of the centre's events
 //! - `lending`: a centre that is lent
-//! - `planned`: a plan, as callers see it
+//! - `plan`: a plan, as callers see it
 //! - `plans`: what an event leads to, ready made
 //! - `state`: the centre between events
 #![tactic(auto)]
@@ -24,14 +24,14 @@ mod centre;
 mod finishing;
 pub mod laws;
 mod lending;
-mod planned;
+mod plan;
 pub mod plans;
 pub mod state;
 
-pub use crate::plans::Told;
+pub use crate::plans::Outputs;
 pub use crate::state::{RecoverError, first_rows};
 pub use centre::Centre;
 pub use lending::with_centre;
-pub use planned::Planned;
-pub use sms_centre_reports::sessions::Seat;
+pub use plan::Plan;
+pub use sms_centre_reports::sessions::ReceiptSession;
 pub use sms_centre_spec::{CentreAnswer, CentreEvent, Changes, PlanError, Rows, Setup};

@@ -1,6 +1,6 @@
 //! The centre between events.
 //!
-//! `Standing` is all that a centre keeps in memory. It has messages and parts without TPDUs, claims, the queues of
+//! `CentreState` is all that a centre keeps in memory. It has messages and parts without TPDUs, claims, the queues of
 //! handsets, open reports, the log of all reports, and sessions. `specs/state/Standing.antt` says which centre of the
 //! definition it represents; that centre is sound. `recover` and `start` make it from the rows of a store, and refuse
 //! rows that are not sound. `start_again` makes of a centre the one that `recover` would make of its rows, and leaves
@@ -13,10 +13,10 @@ mod new_store;
 mod recover;
 mod recover_error;
 mod restarting;
-mod shelves;
-mod standing;
-mod telling;
+mod queues;
+mod centre_state;
+mod reporting;
 
 pub use new_store::first_rows;
 pub use recover_error::RecoverError;
-pub use standing::Standing;
+pub use centre_state::CentreState;

@@ -18,13 +18,13 @@ use Rattle.sms_centre_rows.specs.reports.Waiting.{report_load, report_wait, repo
 use Rattle.sms_centre_rows.proofs.reports.AllWaiting.{part_waits_at, report_waits_at, rises_all}
 use Rattle.sms_centre_rows.proofs.reports.FewWaiting.{all_few}
 use Rattle.sms_centre_rows.proofs.reports.ReportRows.{amended_other, amended_own}
-use Rattle.sms_centre_rows.specs.declared.waiting.load.Load.{Load}
+use Rattle.sms_centre_rows.specs.declared.waiting.queued_part.QueuedPart.{QueuedPart}
 use Rattle.sms_centre_rows.specs.declared.waiting.progress.Progress.{Progress}
 use Rattle.sms_centre_rows.specs.waiting.Keys.{load_key}
 use Rattle.sms_centre_rows.specs.waiting.Trying.{due_at}
 use Rattle.sms_centre_spec.specs.Receiving.{all_due, load_due, part_due, report_due}
 use Rattle.sms_centre_spec.proofs.Steady.{part_own, report_own}
-use Rattle.sms_centre_draft.specs.Working.{Shows, WorkingOf}
+use Rattle.sms_centre_draft.specs.CentreDraft.{Represents, CentreDraftOf}
 use Rattle.sms_centre_spec.specs.Draft.{Draft, Store, in_store, messages_in, parts_in, priorities_in, reports_in, waiting_in, with_part_at, with_report_at}
 use Rattle.sms_centre_spec.specs.Held.{SoundHeld}
 use Rattle.sms_centre_spec.specs.Transfers.{is_open_part_at, is_open_status_at}
@@ -38,7 +38,7 @@ waits_open h p (Some m) e =
     let a = and_parts (not p.progress.is_done) (is_pending m && bytes_eq m.handset h) e in
     and_from (not p.progress.is_done) (is_pending m) a.0 (and_parts (is_pending m) (bytes_eq m.handset h) a.1).0
 
-part_open : (h : List ℕ) (s : Store) (o : Option PartRow) (l : Load) → part_wait h (messages_in s) (priorities_in s) o ≡ Some l → is_open_part_at o s ≡ true
+part_open : (h : List ℕ) (s : Store) (o : Option PartRow) (l : QueuedPart) → part_wait h (messages_in s) (priorities_in s) o ≡ Some l → is_open_part_at o s ≡ true
 part_open h s None l e = absurd cc
 part_open h s (Some p) l e = ⊎_elim
     (λ (t : waits_for h p (message_at p.id (messages_in s)) ≡ true). waits_open h p (message_at p.id (messages_in s)) t)
@@ -50,7 +50,7 @@ reports_open : (h : List ℕ) (r : ReportRow) (o : Option MessageRow) → report
 reports_open h r None e = absurd cc
 reports_open h r (Some m) e = (and_parts (is_open_status r) (bytes_eq m.source.digits h) e).0
 
-status_open : (h : List ℕ) (s : Store) (o : Option ReportRow) (l : Load) → report_wait h (messages_in s) o ≡ Some l → is_open_status_at o ≡ true
+status_open : (h : List ℕ) (s : Store) (o : Option ReportRow) (l : QueuedPart) → report_wait h (messages_in s) o ≡ Some l → is_open_status_at o ≡ true
 status_open h s None l e = absurd cc
 status_open h s (Some r) l e = ⊎_elim
     (λ (t : reports_to h r (message_at r.id (messages_in s)) ≡ true). reports_open h r (message_at r.id (messages_in s)) t)
@@ -58,7 +58,7 @@ status_open h s (Some r) l e = ⊎_elim
     let bad : None ≡ Some l = sym (cond-false (reports_to h r (message_at r.id (messages_in s))) (Some (report_load r)) None t) ∙ e in absurd cc)
     (cases_Bool (reports_to h r (message_at r.id (messages_in s))))
 
-pub waiting_open : (h : List ℕ) (s : Store) (l : Load) → SoundHeld s → Among l (waiting_in h s) → IsOpenLoad l s
+pub waiting_open : (h : List ℕ) (s : Store) (l : QueuedPart) → SoundHeld s → Among l (waiting_in h s) → IsOpenLoad l s
 waiting_open h s l held among =
     let ms : List MessageRow = messages_in s in
     let rises = rises_all h ms (priorities_in s) (parts_in s) (reports_in s) held.parts in
@@ -84,7 +84,7 @@ report_same : (o : Option PartRow) (s : Store) (r : ReportRow) (q : Progress) �
 report_same None s r q = refl
 report_same (Some x) s r q = refl
 
-pub open_part_far : (s : Store) (p : PartRow) (q : Progress) (l : Load) → row_at part_key (part_key p) (parts_in s) ≡ Some p → q.is_done ≡ p.progress.is_done → IsOpenLoad l s → IsOpenLoad l (with_part_at p q s)
+pub open_part_far : (s : Store) (p : PartRow) (q : Progress) (l : QueuedPart) → row_at part_key (part_key p) (parts_in s) ≡ Some p → q.is_done ≡ p.progress.is_done → IsOpenLoad l s → IsOpenLoad l (with_part_at p q s)
 open_part_far s p q l there same is = record {
   small = is.small;
   part = λ some. part_same (part_at l.id l.number (parts_in (with_part_at p q s))) s p q ∙ ⊎_elim
@@ -104,7 +104,7 @@ open_part_far s p q l there same is = record {
     by None = refl
     by (Some m) = ap (λ (b : Bool). not b && is_pending m) same
 
-pub open_report_far : (s : Store) (r : ReportRow) (q : Progress) (l : Load) → SoundHeld s → report_of r.id (reports_in s) ≡ Some r → q.is_done ≡ r.progress.is_done → IsOpenLoad l s → IsOpenLoad l (with_report_at r q s)
+pub open_report_far : (s : Store) (r : ReportRow) (q : Progress) (l : QueuedPart) → SoundHeld s → report_of r.id (reports_in s) ≡ Some r → q.is_done ≡ r.progress.is_done → IsOpenLoad l s → IsOpenLoad l (with_report_at r q s)
 open_report_far s r q l held there same is = record {
   small = is.small;
   part = λ some. report_same (part_at l.id l.number (parts_in s)) s r q ∙ is.part some;
@@ -121,7 +121,7 @@ open_report_far s r q l held there same is = record {
 }
 
 -- whatever becomes due
-pub due_open : (l x : Load) (s : Store) → SoundHeld s → IsOpenLoad x s → IsOpenLoad x (load_due l s)
+pub due_open : (l x : QueuedPart) (s : Store) → SoundHeld s → IsOpenLoad x s → IsOpenLoad x (load_due l s)
 due_open l x s held is =
     cond_both (l.number == 0) (report_due (report_of l.id (reports_in s)) s) (part_due (part_at l.id l.number (parts_in s)) s) (λ (e : Store). IsOpenLoad x e)
     (λ t. by_report (report_of l.id (reports_in s)) refl) (λ t. by_part (part_at l.id l.number (parts_in s)) refl)
@@ -137,32 +137,32 @@ due_open l x s held is =
 -- ---- a walk over what waits
 
 -- those behind a place are open, and are still to become due
-pub record IsLeft (d : Draft) (loads rest : List Load) (w : WorkingOf) : Type 0 where
+pub record IsLeft (d : Draft) (loads rest : List QueuedPart) (w : CentreDraftOf) : Type 0 where
   pub store : Store
-  pub shows : Shows (in_store store d) w
-  pub each : (x : Load) → Among x rest → IsOpenLoad x store
+  pub represents : Represents (in_store store d) w
+  pub each : (x : QueuedPart) → Among x rest → IsOpenLoad x store
   pub goes : all_due rest store ≡ all_due loads d.store
 
-pub left_next : (d : Draft) (loads rest : List Load) (l : Load) (behind : List Load) (w new : WorkingOf) → rest ≡ l ∷ behind → IsLeft d loads rest w
-    → ((e : Draft) → Shows e w → IsOpenLoad l e.store → Shows (in_store (load_due l e.store) e) new) → IsLeft d loads behind new
+pub left_next : (d : Draft) (loads rest : List QueuedPart) (l : QueuedPart) (behind : List QueuedPart) (w new : CentreDraftOf) → rest ≡ l ∷ behind → IsLeft d loads rest w
+    → ((e : Draft) → Represents e w → IsOpenLoad l e.store → Represents (in_store (load_due l e.store) e) new) → IsLeft d loads behind new
 left_next d loads rest l behind w new split left step =
     let s : Store = left.store in
-    let here : IsOpenLoad l s = left.each l (subst (λ (ls : List Load). Among l ls) (sym split) (inl refl)) in
+    let here : IsOpenLoad l s = left.each l (subst (λ (ls : List QueuedPart). Among l ls) (sym split) (inl refl)) in
     record {
       store = load_due l s;
-      shows = step (in_store s d) left.shows here;
-      each = λ x among. due_open l x s left.shows.stands.held (left.each x (subst (λ (ls : List Load). Among x ls) (sym split) (inr among)));
-      goes = sym (ap (λ (ls : List Load). all_due ls s) split) ∙ left.goes;
+      represents = step (in_store s d) left.represents here;
+      each = λ x among. due_open l x s left.represents.stands.held (left.each x (subst (λ (ls : List QueuedPart). Among x ls) (sym split) (inr among)));
+      goes = sym (ap (λ (ls : List QueuedPart). all_due ls s) split) ∙ left.goes;
     }
 
-pub left_none : (d : Draft) (loads rest : List Load) (w : WorkingOf) → rest ≡ [] → IsLeft d loads rest w → Shows (in_store (all_due loads d.store) d) w
+pub left_none : (d : Draft) (loads rest : List QueuedPart) (w : CentreDraftOf) → rest ≡ [] → IsLeft d loads rest w → Represents (in_store (all_due loads d.store) d) w
 left_none d loads rest w none left =
-    subst (λ (s : Store). Shows (in_store s d) w) (sym (ap (λ (ls : List Load). all_due ls left.store) none) ∙ left.goes) left.shows
+    subst (λ (s : Store). Represents (in_store s d) w) (sym (ap (λ (ls : List QueuedPart). all_due ls left.store) none) ∙ left.goes) left.represents
 
 -- ---- one load
 
-pub load_is_status : (l : Load) (s : Store) → l.number ≡ 0 → report_due (report_of l.id (reports_in s)) s ≡ load_due l s
+pub load_is_status : (l : QueuedPart) (s : Store) → l.number ≡ 0 → report_due (report_of l.id (reports_in s)) s ≡ load_due l s
 load_is_status l s zero = sym (cond-true (l.number == 0) (report_due (report_of l.id (reports_in s)) s) (part_due (part_at l.id l.number (parts_in s)) s) (eq-eqb l.number 0 zero))
 
-pub load_is_part : (l : Load) (s : Store) → ¬ (l.number ≡ 0) → part_due (part_at l.id l.number (parts_in s)) s ≡ load_due l s
+pub load_is_part : (l : QueuedPart) (s : Store) → ¬ (l.number ≡ 0) → part_due (part_at l.id l.number (parts_in s)) s ≡ load_due l s
 load_is_part l s some = sym (cond-false (l.number == 0) (report_due (report_of l.id (reports_in s)) s) (part_due (part_at l.id l.number (parts_in s)) s) (ne_eqb l.number 0 some))

@@ -9,79 +9,79 @@ use Rattle.sms_centre_rows.specs.declared.messages.message.MessageRow.{MessageRo
 use Rattle.sms_centre_rows.specs.declared.messages.part.PartRow.{PartRow}
 use Rattle.sms_centre_rows.specs.declared.messages.priority.PriorityRow.{PriorityRow}
 use Rattle.sms_centre_rows.specs.messages.Messages.{message_at, message_key, part_at, part_key, priority_in, priority_key, put_message, put_part, put_priority}
-use Rattle.sms_centre_messages.specs.held.MessagesInMemory.{PendingOf as MessagesOf, Shows as ShowsMessages}
+use Rattle.sms_centre_messages.specs.message_index.MessageIndex.{MessageIndexDraftOf as MessagesOf, DraftRepresents as RepresentsMessages}
 use Rattle.sms_centre_rows.specs.declared.reports.report.ReportRow.{ReportRow}
 use Rattle.sms_centre_rows.specs.reports.Reports.{report_of}
 use Rattle.sms_centre_rows.specs.waiting.Keys.{load_key}
 use Rattle.sms_centre_rows.specs.waiting.References.{give, handset_of}
-use Rattle.sms_centre_rows.specs.waiting.SoundGivings.{IsNumber}
-use Rattle.sms_centre_queue.specs.queues.Placing.{PendingOf as ShelvesOf}
-use Rattle.sms_centre_queue.specs.queues.Shown.{Shows as ShowsShelves, Waits}
+use Rattle.sms_centre_rows.specs.waiting.SoundAllocations.{IsNumber}
+use Rattle.sms_centre_queue.specs.queues.Queues.{DeliveryQueuesDraftOf as QueuesOf}
+use Rattle.sms_centre_queue.specs.queues.Representing.{DraftRepresents as RepresentsQueues, Waits}
 use Rattle.sms_intake.specs.declared.submission.SinglePart.{SinglePart}
 use Rattle.sms_intake.specs.declared.submission.Submission.{Submission}
 use Rattle.sms_intake.specs.PartBodies.{deliver_octets}
 use Rattle.sms_centre_spec.specs.Draft.{Draft, Store, handsets_in, in_store, messages_in, parts_in, priorities_in, reports_in, with_given, with_part}
 use Rattle.sms_centre_spec.specs.SoundRows.{CanBeTold}
-use Rattle.sms_centre_spec.specs.Standing.{Stands}
+use Rattle.sms_centre_spec.specs.Consistent.{IsConsistent}
 use Rattle.sms_centre_spec.specs.Submitting.{enter, give_part, give_parts, message_of, part_given, put_part_of, reference_for}
 use Rattle.sms_centre_spec.proofs.NextNumbers.{no_part, no_report}
 use Rattle.sms_centre_spec.proofs.StandsEntered.{enter_stands, part_stands}
 use Rattle.sms_centre_draft.specs.Submitting.{Accepts, CanGive, IsNewId}
-use Rattle.sms_centre_draft.specs.Working.{AreFew, Shows, WorkingOf, all_waiting}
+use Rattle.sms_centre_draft.specs.CentreDraft.{AreFew, Represents, CentreDraftOf, all_waiting}
 use Rattle.sms_centre_draft.proofs.MovesWaiting.{entered_waits, part_new_waits}
 use Rattle.sms_centre_draft.proofs.ReportsStill.{entered_told}
-use Rattle.sms_centre_draft.proofs.Shown.{shelves_alike}
+use Rattle.sms_centre_draft.proofs.Shown.{queues_alike}
 
 -- ---- the message
 
-part_below : (id : ℕ) (s : Store) → Stands s → IsNewId id s → (p : PartRow) → Among p (parts_in s) → p.id < id
+part_below : (id : ℕ) (s : Store) → IsConsistent s → IsNewId id s → (p : PartRow) → Among p (parts_in s) → p.id < id
 part_below id s k below p among =
     let of = k.parts p among in
     let same : of.0.id ≡ p.id = found_key message_key p.id of.0 (messages_in s) of.1 in
     let low = below of.0 (found_among message_key p.id of.0 (messages_in s) of.1) in omega (arith, same, low)
 
-report_below : (id : ℕ) (s : Store) → Stands s → IsNewId id s → (r : ReportRow) → Among r (reports_in s) → r.id < id
+report_below : (id : ℕ) (s : Store) → IsConsistent s → IsNewId id s → (r : ReportRow) → Among r (reports_in s) → r.id < id
 report_below id s k below r among =
     let of = k.reports r among in
     let same : of.0.id ≡ r.id = found_key message_key r.id of.0 (messages_in s) of.1.0 in
     let low = below of.0 (found_among message_key r.id of.0 (messages_in s) of.1.0) in omega (arith, same, low)
 
-none_part : (id : ℕ) (s : Store) → Stands s → IsNewId id s → (n : ℕ) → part_at id n (parts_in s) ≡ None
+none_part : (id : ℕ) (s : Store) → IsConsistent s → IsNewId id s → (n : ℕ) → part_at id n (parts_in s) ≡ None
 none_part id s k below n = no_part id n (parts_in s) k.held.parts (part_below id s k below)
 
-none_report : (id : ℕ) (s : Store) → Stands s → IsNewId id s → report_of id (reports_in s) ≡ None
+none_report : (id : ℕ) (s : Store) → IsConsistent s → IsNewId id s → report_of id (reports_in s) ≡ None
 none_report id s k below = no_report id (reports_in s) (λ r among e. let low = report_below id s k below r among in absurd (omega (arith, low, e)))
 
-pub entered_shown : (d : Draft) (w : WorkingOf) (id : ℕ) (split : Option ℕ) (u : Submission) (messages : MessagesOf) → Shows d w → IsNewId id d.store → IsNumber u.handset → CanBeTold u.originator u.source
-    → ShowsMessages messages (put_priority (record { id = id; priority = u.priority }) (put_message (message_of id w.moment split u) d.store.messages))
-    → Shows (in_store (enter id split u d.store) d) (record w { messages = messages })
-entered_shown d w id split u messages shows below is told kept =
+pub entered_shown : (d : Draft) (w : CentreDraftOf) (id : ℕ) (split : Option ℕ) (u : Submission) (messages : MessagesOf) → Represents d w → IsNewId id d.store → IsNumber u.handset → CanBeTold u.originator u.source
+    → RepresentsMessages messages (put_priority (record { id = id; priority = u.priority }) (put_message (message_of id w.moment split u) d.store.messages))
+    → Represents (in_store (enter id split u d.store) d) (record w { messages = messages })
+entered_shown d w id split u messages represents below is told kept =
     let s : Store = d.store in
     let m : MessageRow = message_of id s.moment split u in
     let q : PriorityRow = record { id = id; priority = u.priority } in
     record {
-      stands = enter_stands id split u s shows.stands below is told;
-      few = shows.few;
-      setup = shows.setup;
-      moment = shows.moment;
-      messages = subst (λ (n : ℕ). ShowsMessages messages (put_priority (record { id = id; priority = u.priority }) (put_message (message_of id n split u) s.messages))) shows.moment kept;
-      shelves = shelves_alike s.givings d.air (all_waiting s) (all_waiting (enter id split u s)) w.shelves shows.shelves
-          (entered_waits s m q shows.stands.held refl (none_part id s shows.stands below) (none_report id s shows.stands below));
-      reports = entered_told (messages_in s) m w.reports s.reports (λ r among e. let low = report_below id s shows.stands below r among in absurd (omega (arith, low, e))) shows.reports;
-      desk = shows.desk;
-      answer = shows.answer;
+      stands = enter_stands id split u s represents.stands below is told;
+      few = represents.few;
+      setup = represents.setup;
+      moment = represents.moment;
+      messages = subst (λ (n : ℕ). RepresentsMessages messages (put_priority (record { id = id; priority = u.priority }) (put_message (message_of id n split u) s.messages))) represents.moment kept;
+      queues = queues_alike s.allocations d.links (all_waiting s) (all_waiting (enter id split u s)) w.queues represents.queues
+          (entered_waits s m q represents.stands.held refl (none_part id s represents.stands below) (none_report id s represents.stands below));
+      reports = entered_told (messages_in s) m w.reports s.reports (λ r among e. let low = report_below id s represents.stands below r among in absurd (omega (arith, low, e))) represents.reports;
+      bindings = represents.bindings;
+      answer = represents.answer;
     }
 
 -- its parts can come
-pub entered_can : (d : Draft) (w : WorkingOf) (id : ℕ) (split : Option ℕ) (u : Submission) → Shows d w → IsNewId id d.store → CanGive id u 1 (enter id split u d.store)
-entered_can d w id split u shows below =
+pub entered_can : (d : Draft) (w : CentreDraftOf) (id : ℕ) (split : Option ℕ) (u : Submission) → Represents d w → IsNewId id d.store → CanGive id u 1 (enter id split u d.store)
+entered_can d w id split u represents below =
     let m : MessageRow = message_of id d.store.moment split u in
     let q : PriorityRow = record { id = id; priority = u.priority } in
     record {
       message = (m, (row_at_put message_key m (messages_in d.store), refl, refl, refl));
       priority = ap (λ (o : Option PriorityRow). priority_in o) (row_at_put priority_key q (priorities_in d.store));
       first = omega arith;
-      coming = λ n from small. none_part id d.store shows.stands below n;
+      coming = λ n from small. none_part id d.store represents.stands below n;
     }
 
 -- ---- a part
@@ -96,11 +96,11 @@ part_row id u n b reference moment = record {
   progress = record { is_done = false; attempts = 0; due = u.due };
 }
 
-pub given_waits : (d : Draft) (w : WorkingOf) (id : ℕ) (u : Submission) (n : ℕ) (b : SinglePart) (reference : ℕ) → Shows d w → CanGive id u n d.store → n ≤ 20
+pub given_waits : (d : Draft) (w : CentreDraftOf) (id : ℕ) (u : Submission) (n : ℕ) (b : SinglePart) (reference : ℕ) → Represents d w → CanGive id u n d.store → n ≤ 20
     → Waits u.handset (put load_key (record { id = id; number = n; reference = reference; priority = u.priority; due = u.due })) (all_waiting d.store)
     (all_waiting (put_part_of id u n b reference (with_given (handset_of u.handset (handsets_in d.store)) reference d.store)))
 unfolding part_row
-given_waits d w id u n b reference shows can few =
+given_waits d w id u n b reference represents can few =
     let s : Store = d.store in
     let p : PartRow = part_row id u n b reference s.moment in
     let m = can.message.0 in
@@ -108,7 +108,7 @@ given_waits d w id u n b reference shows can few =
     let first = can.first in
     subst (λ (h : List ℕ). Waits h (put load_key (record { id = id; number = n; reference = reference; priority = u.priority; due = u.due })) (all_waiting s) (all_waiting (with_part p s))) of.2
     (subst (λ (k : ℕ). Waits m.handset (put load_key (record { id = id; number = n; reference = reference; priority = k; due = u.due })) (all_waiting s) (all_waiting (with_part p s))) can.priority
-    (part_new_waits s p m shows.stands.held of.0 of.3 refl first (omega (arith, few)) (can.coming n (omega arith) (omega (arith, few)))))
+    (part_new_waits s p m represents.stands.held of.0 of.3 refl first (omega (arith, few)) (can.coming n (omega arith) (omega (arith, few)))))
 
 few_put : (p : PartRow) (ps : List PartRow) → p.number ≤ 20 → AreFew ps → AreFew (put part_key p ps)
 few_put p ps own few x among = ⊎_elim
@@ -116,33 +116,33 @@ few_put p ps own few x among = ⊎_elim
     (λ (a : Among x ps × ¬ (part_key x ≡ part_key p)). few x a.0)
     (among_put part_key x p ps among)
 
-pub given_shown : (d : Draft) (w : WorkingOf) (id : ℕ) (u : Submission) (n : ℕ) (b : SinglePart) (reference : ℕ) (messages : MessagesOf) (shelves : ShelvesOf) → Shows d w → CanGive id u n d.store → n ≤ 20
+pub given_shown : (d : Draft) (w : CentreDraftOf) (id : ℕ) (u : Submission) (n : ℕ) (b : SinglePart) (reference : ℕ) (messages : MessagesOf) (queues : QueuesOf) → Represents d w → CanGive id u n d.store → n ≤ 20
     → reference_for (handset_of u.handset (handsets_in d.store)) d.store ≡ Some reference
-    → ShowsMessages messages (put_part (record { id = id; number = n; reference = reference; tpdu = deliver_octets w.moment u b; key = b.key; progress = record { is_done = false; attempts = 0; due = u.due } }) d.store.messages)
-    → ShowsShelves (give (handset_of u.handset (handsets_in d.store)) reference w.moment d.store.givings) d.air
-    (all_waiting (put_part_of id u n b reference (with_given (handset_of u.handset (handsets_in d.store)) reference d.store))) shelves
-    → Shows (in_store (put_part_of id u n b reference (with_given (handset_of u.handset (handsets_in d.store)) reference d.store)) d) (record w { messages = messages; shelves = shelves })
+    → RepresentsMessages messages (put_part (record { id = id; number = n; reference = reference; tpdu = deliver_octets w.moment u b; key = b.key; progress = record { is_done = false; attempts = 0; due = u.due } }) d.store.messages)
+    → RepresentsQueues (give (handset_of u.handset (handsets_in d.store)) reference w.moment d.store.allocations) d.links
+    (all_waiting (put_part_of id u n b reference (with_given (handset_of u.handset (handsets_in d.store)) reference d.store))) queues
+    → Represents (in_store (put_part_of id u n b reference (with_given (handset_of u.handset (handsets_in d.store)) reference d.store)) d) (record w { messages = messages; queues = queues })
 unfolding part_row
-given_shown d w id u n b reference messages shelves shows can few next kept placed =
+given_shown d w id u n b reference messages queues represents can few next kept placed =
     let s : Store = d.store in
     let m = can.message.0 in
     let of = can.message.1 in
     let first = can.first in
     let there : message_at m.id (messages_in s) ≡ Some m = subst (λ (k : ℕ). message_at k (messages_in s) ≡ Some m) (sym of.1) of.0 in
     let free : reference_for (handset_of m.handset (handsets_in s)) s ≡ Some reference = subst (λ (h : List ℕ). reference_for (handset_of h (handsets_in s)) s ≡ Some reference) (sym of.2) next in
-    let stands = part_stands m u n b (Some reference) s (shows.stands, there) of.3 first (omega (arith, few)) free in
+    let stands = part_stands m u n b (Some reference) s (represents.stands, there) of.3 first (omega (arith, few)) free in
     record {
-      stands = subst (λ (h : List ℕ). Stands (put_part_of id u n b reference (with_given (handset_of h (handsets_in s)) reference s))) of.2
-          (subst (λ (k : ℕ). Stands (put_part_of k u n b reference (with_given (handset_of m.handset (handsets_in s)) reference s))) of.1 stands.0);
-      few = few_put (part_row id u n b reference s.moment) (parts_in s) few shows.few;
-      setup = shows.setup;
-      moment = shows.moment;
-      messages = subst (λ (x : ℕ). ShowsMessages messages (put_part (part_row id u n b reference x) s.messages)) shows.moment kept;
-      shelves = subst (λ (x : ℕ). ShowsShelves (give (handset_of u.handset (handsets_in s)) reference x s.givings) d.air
-          (all_waiting (put_part_of id u n b reference (with_given (handset_of u.handset (handsets_in s)) reference s))) shelves) shows.moment placed;
-      reports = shows.reports;
-      desk = shows.desk;
-      answer = shows.answer;
+      stands = subst (λ (h : List ℕ). IsConsistent (put_part_of id u n b reference (with_given (handset_of h (handsets_in s)) reference s))) of.2
+          (subst (λ (k : ℕ). IsConsistent (put_part_of k u n b reference (with_given (handset_of m.handset (handsets_in s)) reference s))) of.1 stands.0);
+      few = few_put (part_row id u n b reference s.moment) (parts_in s) few represents.few;
+      setup = represents.setup;
+      moment = represents.moment;
+      messages = subst (λ (x : ℕ). RepresentsMessages messages (put_part (part_row id u n b reference x) s.messages)) represents.moment kept;
+      queues = subst (λ (x : ℕ). RepresentsQueues (give (handset_of u.handset (handsets_in s)) reference x s.allocations) d.links
+          (all_waiting (put_part_of id u n b reference (with_given (handset_of u.handset (handsets_in s)) reference s))) queues) represents.moment placed;
+      reports = represents.reports;
+      bindings = represents.bindings;
+      answer = represents.answer;
     }
 
 pub given_can : (s : Store) (id : ℕ) (u : Submission) (n : ℕ) (b : SinglePart) (reference : ℕ) → CanGive id u n s → n ≤ 20
@@ -157,22 +157,22 @@ given_can s id u n b reference can few = record {
       ∙ can.coming k (omega (arith, from)) small;
 }
 
-pub given_number : (d : Draft) (w : WorkingOf) (id : ℕ) (u : Submission) (n : ℕ) → Shows d w → CanGive id u n d.store → IsNumber u.handset
-given_number d w id u n shows can =
+pub given_number : (d : Draft) (w : CentreDraftOf) (id : ℕ) (u : Submission) (n : ℕ) → Represents d w → CanGive id u n d.store → IsNumber u.handset
+given_number d w id u n represents can =
     let m = can.message.0 in
-    subst IsNumber can.message.1.2 (shows.stands.held.numbers m (found_among message_key id m (messages_in d.store) can.message.1.0))
+    subst IsNumber can.message.1.2 (represents.stands.held.numbers m (found_among message_key id m (messages_in d.store) can.message.1.0))
 
 -- ---- parts one after the other
 
-pub accepts_in : (o : Option Store) (s : Store) (d : Draft) (w : WorkingOf) (b : Bool) → Accepts o (in_store s d) w b → Accepts o d w b
+pub accepts_in : (o : Option Store) (s : Store) (d : Draft) (w : CentreDraftOf) (b : Bool) → Accepts o (in_store s d) w b → Accepts o d w b
 accepts_in None s d w true a = a
 accepts_in None s d w false a = a
 accepts_in (Some e) s d w true a = a
 accepts_in (Some e) s d w false a = a
 
-pub record IsComing (d : Draft) (id : ℕ) (u : Submission) (bodies : List SinglePart) (number : ℕ) (rest : List SinglePart) (w : WorkingOf) : Type 0 where
+pub record IsComing (d : Draft) (id : ℕ) (u : Submission) (bodies : List SinglePart) (number : ℕ) (rest : List SinglePart) (w : CentreDraftOf) : Type 0 where
   pub store : Store
-  pub shows : Shows (in_store store d) w
+  pub represents : Represents (in_store store d) w
   pub can : CanGive id u number store
   pub goes : give_parts id u number rest store ≡ give_parts id u 1 bodies d.store
 
@@ -182,41 +182,41 @@ next_can id u n b (Some r) s e is can few =
     let same : put_part_of id u n b r (with_given (handset_of u.handset (handsets_in s)) r s) ≡ e = cc in
     subst (λ (x : Store). CanGive id u (n + 1) x) same (given_can s id u n b r can few)
 
-given_one : (o : Option Store) (d : Draft) (w : WorkingOf) → Accepts o d w true → (e : Store) × ((o ≡ Some e) × Shows (in_store e d) w)
+given_one : (o : Option Store) (d : Draft) (w : CentreDraftOf) → Accepts o d w true → (e : Store) × ((o ≡ Some e) × Represents (in_store e d) w)
 given_one None d w a = absurd a
 given_one (Some e) d w a = (e, (refl, a))
 
-given_none : (o : Option Store) (d : Draft) (w : WorkingOf) → Accepts o d w false → o ≡ None
+given_none : (o : Option Store) (d : Draft) (w : CentreDraftOf) → Accepts o d w false → o ≡ None
 given_none None d w a = refl
 given_none (Some e) d w a = absurd a
 
-pub coming_next : (d : Draft) (id : ℕ) (u : Submission) (bodies : List SinglePart) (n : ℕ) (rest : List SinglePart) (b : SinglePart) (behind : List SinglePart) (w new : WorkingOf) → rest ≡ b ∷ behind → IsComing d id u bodies n rest w → n ≤ 20
-    → ((x : Draft) → Shows x w → CanGive id u n x.store → n ≤ 20 → Accepts (give_part id u n b (handset_of u.handset (handsets_in x.store)) x.store) x new true) → IsComing d id u bodies (n + 1) behind new
+pub coming_next : (d : Draft) (id : ℕ) (u : Submission) (bodies : List SinglePart) (n : ℕ) (rest : List SinglePart) (b : SinglePart) (behind : List SinglePart) (w new : CentreDraftOf) → rest ≡ b ∷ behind → IsComing d id u bodies n rest w → n ≤ 20
+    → ((x : Draft) → Represents x w → CanGive id u n x.store → n ≤ 20 → Accepts (give_part id u n b (handset_of u.handset (handsets_in x.store)) x.store) x new true) → IsComing d id u bodies (n + 1) behind new
 coming_next d id u bodies n rest b behind w new split left few step =
     let s : Store = left.store in
     let h = handset_of u.handset (handsets_in s) in
-    let g = given_one (give_part id u n b h s) (in_store s d) new (step (in_store s d) left.shows left.can few) in
+    let g = given_one (give_part id u n b h s) (in_store s d) new (step (in_store s d) left.represents left.can few) in
     record {
       store = g.0;
-      shows = g.1.1;
+      represents = g.1.1;
       can = next_can id u n b (reference_for h s) s g.0 g.1.0 left.can few;
       goes = sym (ap (λ (bs : List SinglePart). give_parts id u n bs s) split
           ∙ ap (λ (o : Option Store). option_and_then (λ (e : Store). give_parts id u (n + 1) behind e) o) g.1.0) ∙ left.goes;
     }
 
-pub coming_stops : (d : Draft) (id : ℕ) (u : Submission) (bodies : List SinglePart) (n : ℕ) (rest : List SinglePart) (b : SinglePart) (behind : List SinglePart) (w new : WorkingOf) → rest ≡ b ∷ behind → IsComing d id u bodies n rest w → n ≤ 20
-    → ((x : Draft) → Shows x w → CanGive id u n x.store → n ≤ 20 → Accepts (give_part id u n b (handset_of u.handset (handsets_in x.store)) x.store) x new false) → Accepts (give_parts id u 1 bodies d.store) d new false
+pub coming_stops : (d : Draft) (id : ℕ) (u : Submission) (bodies : List SinglePart) (n : ℕ) (rest : List SinglePart) (b : SinglePart) (behind : List SinglePart) (w new : CentreDraftOf) → rest ≡ b ∷ behind → IsComing d id u bodies n rest w → n ≤ 20
+    → ((x : Draft) → Represents x w → CanGive id u n x.store → n ≤ 20 → Accepts (give_part id u n b (handset_of u.handset (handsets_in x.store)) x.store) x new false) → Accepts (give_parts id u 1 bodies d.store) d new false
 coming_stops d id u bodies n rest b behind w new split left few step =
     let s : Store = left.store in
     let h = handset_of u.handset (handsets_in s) in
-    let none = given_none (give_part id u n b h s) (in_store s d) new (step (in_store s d) left.shows left.can few) in
+    let none = given_none (give_part id u n b h s) (in_store s d) new (step (in_store s d) left.represents left.can few) in
     let is : give_parts id u 1 bodies d.store ≡ None =
     sym left.goes ∙ ap (λ (bs : List SinglePart). give_parts id u n bs s) split ∙ ap (λ (o : Option Store). option_and_then (λ (e : Store). give_parts id u (n + 1) behind e) o) none in
     subst (λ (o : Option Store). Accepts o d new false) (sym is) tt
 
-pub coming_done : (d : Draft) (id : ℕ) (u : Submission) (bodies : List SinglePart) (n : ℕ) (rest : List SinglePart) (w : WorkingOf) → rest ≡ [] → IsComing d id u bodies n rest w → Accepts (give_parts id u 1 bodies d.store) d w true
+pub coming_done : (d : Draft) (id : ℕ) (u : Submission) (bodies : List SinglePart) (n : ℕ) (rest : List SinglePart) (w : CentreDraftOf) → rest ≡ [] → IsComing d id u bodies n rest w → Accepts (give_parts id u 1 bodies d.store) d w true
 coming_done d id u bodies n rest w none left =
-    subst (λ (o : Option Store). Accepts o d w true) (sym (ap (λ (bs : List SinglePart). give_parts id u n bs left.store) none) ∙ left.goes) left.shows
+    subst (λ (o : Option Store). Accepts o d w true) (sym (ap (λ (bs : List SinglePart). give_parts id u n bs left.store) none) ∙ left.goes) left.represents
 
 pub body_at : (xs : List SinglePart) (i : ℕ) (x : SinglePart) → i < length xs → Among (get_or xs i x) xs
 body_at [] i x low = absurd (omega (arith, low))

@@ -12,7 +12,7 @@ use Rattle.sms_centre_rows.specs.declared.messages.parts.PartEntry.{PartEntry}
 use Rattle.sms_centre_rows.specs.messages.Messages.{is_pending, message_at, part_at}
 use Rattle.sms_centre_rows.specs.messages.OpenParts.{is_open_part}
 use Rattle.sms_centre_rows.specs.messages.PartEntries.{part_entry}
-use Rattle.sms_centre_messages.specs.held.MessagesInMemory.{found_part}
+use Rattle.sms_centre_messages.specs.message_index.MessageIndex.{found_part}
 use Rattle.sms_centre_rows.specs.declared.reports.report.ReportKind.{ReportKind}
 use Rattle.sms_centre_rows.specs.declared.reports.report.ReportKind.TheVariants.{Receipt, Status, Unsent}
 use Rattle.sms_centre_rows.specs.declared.reports.report.ReportRow.{ReportRow}
@@ -22,8 +22,8 @@ use Rattle.sms_centre_reports.specs.declared.open_reports.entry.ReportEntry.{Rep
 use Rattle.sms_centre_reports.specs.open_reports.Entries.{is_open, open_entry, reference_of, report_entry}
 use Rattle.sms_centre_spec.specs.declared.verdict.Verdict.{Verdict}
 use Rattle.sms_centre_spec.specs.declared.verdict.Verdict.TheVariants.{Late}
-use Rattle.sms_centre_spec.specs.Draft.{Draft, Store, in_store, messages_in, on_air, parts_in, reports_in}
-use Rattle.sms_centre_spec.specs.Standing.{Stands}
+use Rattle.sms_centre_spec.specs.Draft.{Draft, Store, in_store, messages_in, on_links, parts_in, reports_in}
+use Rattle.sms_centre_spec.specs.Consistent.{IsConsistent}
 use Rattle.sms_centre_spec.specs.Transfers.{ended_with, is_open_part_at, is_open_status_at, line_ended, part_ended, part_ended_at, part_ended_of, report_ended, report_ended_at, verdict_of, verdict_on}
 use Rattle.sms_centre_spec.proofs.Steady.{part_own, report_own}
 use Rattle.sms_centre_draft.specs.Transfers.{IsOpenPart, IsOpenStatus, IsTelling, IsWaiting, waiting_part, waiting_status}
@@ -115,7 +115,7 @@ open_one Receipt b e f = absurd cc
 open_one (Status reference tpdu) b e f = f
 open_one Unsent b e f = absurd cc
 
-status_with : (id : ℕ) (s : Store) (r : ReportRow) (entry : ReportEntry) (o : Option MessageRow) → Stands s → report_of id (reports_in s) ≡ Some r → entry ≡ report_entry r → is_open r ≡ true → message_at r.id (messages_in s) ≡ o
+status_with : (id : ℕ) (s : Store) (r : ReportRow) (entry : ReportEntry) (o : Option MessageRow) → IsConsistent s → report_of id (reports_in s) ≡ Some r → entry ≡ report_entry r → is_open r ≡ true → message_at r.id (messages_in s) ≡ o
     → IsOpenStatus id s (waiting_status entry o)
 status_with id s r entry None stands there is waits of =
     let m = stands.reports r (report_found id r (reports_in s) there).0 in
@@ -141,7 +141,7 @@ status_with id s r entry (Some m) stands there is waits of = ⊎_elim
     subst (λ (o : Option (ReportEntry × MessageRow)). IsOpenStatus id s o) (sym (cond-false (is_some entry.reference) (Some (entry, m)) None t)) none)
     (cases_Bool (is_some entry.reference))
 
-pub found_open_status : (id : ℕ) (s : Store) (entry : ReportEntry) (o : Option MessageRow) → Stands s → Some entry ≡ pick_of open_entry (report_of id (reports_in s)) → o ≡ message_at entry.id (messages_in s)
+pub found_open_status : (id : ℕ) (s : Store) (entry : ReportEntry) (o : Option MessageRow) → IsConsistent s → Some entry ≡ pick_of open_entry (report_of id (reports_in s)) → o ≡ message_at entry.id (messages_in s)
     → IsOpenStatus id s (waiting_status entry o)
 found_open_status id s entry o stands e of =
     let f = one_report (report_of id (reports_in s)) entry e in
@@ -158,7 +158,7 @@ open_undone r e = not_true r.progress.is_done (and_parts (is_status r.kind) (not
 -- ---- how what waits ends
 
 pub part_ends : (d : Draft) (handset : List ℕ) (id number : ℕ) (ending : Ending) (entry : PartEntry) (m : MessageRow) (p : PartRow) → IsWaiting id number entry m d.store p
-    → ended_with (verdict_on (Part id number) ending d.store) handset (Part id number) d ≡ on_air (line_ended (verdict_of ending) handset d.air) (in_store (part_ended (verdict_of ending) p m d.store) d)
+    → ended_with (verdict_on (Part id number) ending d.store) handset (Part id number) d ≡ on_links (line_ended (verdict_of ending) handset d.links) (in_store (part_ended (verdict_of ending) p m d.store) d)
 part_ends d handset id number ending entry m p waits =
     let s : Store = d.store in
     let v : Verdict = verdict_of ending in
@@ -166,14 +166,14 @@ part_ends d handset id number ending entry m p waits =
     ap (λ (o : Option PartRow). is_open_part_at o s) waits.part ∙ ap (λ (o : Option MessageRow). is_open_part p o) waits.message
     ∙ and_from (not p.progress.is_done) (is_pending m) (ap (λ (b : Bool). not b) waits.undone) waits.pending in
     ap (λ (x : Verdict). ended_with x handset (Part id number) d) (cond-true (is_open_part_at (part_at id number (parts_in s)) s) v Late is)
-    ∙ ap (λ (o : Option PartRow). on_air (line_ended v handset d.air) (in_store (part_ended_at v o s) d)) waits.part
-    ∙ ap (λ (o : Option MessageRow). on_air (line_ended v handset d.air) (in_store (part_ended_of v p o s) d)) waits.message
+    ∙ ap (λ (o : Option PartRow). on_links (line_ended v handset d.links) (in_store (part_ended_at v o s) d)) waits.part
+    ∙ ap (λ (o : Option MessageRow). on_links (line_ended v handset d.links) (in_store (part_ended_of v p o s) d)) waits.message
 
 pub status_ends : (d : Draft) (handset : List ℕ) (id : ℕ) (ending : Ending) (entry : ReportEntry) (m : MessageRow) (r : ReportRow) → IsTelling id entry m d.store r
-    → ended_with (verdict_on (Report id) ending d.store) handset (Report id) d ≡ on_air (line_ended (verdict_of ending) handset d.air) (in_store (report_ended (verdict_of ending) r d.store) d)
+    → ended_with (verdict_on (Report id) ending d.store) handset (Report id) d ≡ on_links (line_ended (verdict_of ending) handset d.links) (in_store (report_ended (verdict_of ending) r d.store) d)
 status_ends d handset id ending entry m r tells =
     let s : Store = d.store in
     let v : Verdict = verdict_of ending in
     let is : is_open_status_at (report_of id (reports_in s)) ≡ true = ap (λ (o : Option ReportRow). is_open_status_at o) tells.report ∙ tells.waits in
     ap (λ (x : Verdict). ended_with x handset (Report id) d) (cond-true (is_open_status_at (report_of id (reports_in s))) v Late is)
-    ∙ ap (λ (o : Option ReportRow). on_air (line_ended v handset d.air) (in_store (report_ended_at v o s) d)) tells.report
+    ∙ ap (λ (o : Option ReportRow). on_links (line_ended v handset d.links) (in_store (report_ended_at v o s) d)) tells.report

@@ -19,41 +19,41 @@ use Rattle.sms_centre_rows.proofs.reports.AllWaiting.{part_waits_at, report_wait
 use Rattle.sms_centre_rows.proofs.reports.EndsWaiting.{new_waits}
 use Rattle.sms_centre_rows.proofs.reports.ReportRows.{amended_alone, amended_other, amended_own, new_alone, new_report, new_report_other}
 use Rattle.sms_centre_rows.proofs.reports.WaitingChanges.{part_changes, report_changes}
-use Rattle.sms_centre_rows.specs.declared.waiting.load.Load.{Load}
+use Rattle.sms_centre_rows.specs.declared.waiting.queued_part.QueuedPart.{QueuedPart}
 use Rattle.sms_centre_rows.specs.declared.waiting.progress.Progress.{Progress}
 use Rattle.sms_centre_rows.specs.waiting.Keys.{load_key}
 use Rattle.sms_centre_rows.specs.waiting.Revisions.{amended}
-use Rattle.sms_centre_queue.specs.queues.Shown.{Waits}
+use Rattle.sms_centre_queue.specs.queues.Representing.{Waits}
 use Rattle.sms_centre_spec.specs.Draft.{Store, messages_in, parts_in, priorities_in, reports_in, with_message, with_part, with_part_at, with_priority, with_report_at, with_reports}
 use Rattle.sms_centre_spec.specs.Held.{SoundHeld}
-use Rattle.sms_centre_draft.specs.Working.{all_waiting}
+use Rattle.sms_centre_draft.specs.CentreDraft.{all_waiting}
 use Rattle.sms_centre_draft.proofs.OthersWaiting.{differ, part_elsewhere}
 
 -- ---- under one key
 
-absent_same : (k : ℕ) (ls : List Load) → row_at load_key k ls ≡ None → without load_key k ls ≡ ls
+absent_same : (k : ℕ) (ls : List QueuedPart) → row_at load_key k ls ≡ None → without load_key k ls ≡ ls
 absent_same k [] e = refl
 absent_same k (l ∷ ls) e = ⊎_elim
     (λ (h : load_key l ≡ k). let bad : Some l ≡ None = sym (row_here load_key k l ls h) ∙ e in absurd cc)
-    (λ (h : load_key l ≡ k → ⊥). without_behind load_key k l ls h ∙ ap (λ (r : List Load). l ∷ r) (absent_same k ls (sym (row_behind load_key k l ls h) ∙ e)))
+    (λ (h : load_key l ≡ k → ⊥). without_behind load_key k l ls h ∙ ap (λ (r : List QueuedPart). l ∷ r) (absent_same k ls (sym (row_behind load_key k l ls h) ∙ e)))
     (cases_eq (load_key l) k)
 
 -- nothing waits under the key for other handsets
-abbrev pub NoneElse : ℕ → List ℕ → (List ℕ → Option Load) → (List ℕ → List Load) → Type 0
+abbrev pub NoneElse : ℕ → List ℕ → (List ℕ → Option QueuedPart) → (List ℕ → List QueuedPart) → Type 0
 NoneElse k number o w = (other : List ℕ) → ¬ (number ≡ other) → (o other ≡ None) × (row_at load_key k (w other) ≡ None)
 
-waits_put : (k : ℕ) (number : List ℕ) (l : Load) (o : List ℕ → Option Load) (w w2 : List ℕ → List Load) → ((n : List ℕ) → w2 n ≡ waiting_as k (o n) (w n)) → o number ≡ Some l → NoneElse k number o w
+waits_put : (k : ℕ) (number : List ℕ) (l : QueuedPart) (o : List ℕ → Option QueuedPart) (w w2 : List ℕ → List QueuedPart) → ((n : List ℕ) → w2 n ≡ waiting_as k (o n) (w n)) → o number ≡ Some l → NoneElse k number o w
     → Waits number (put load_key l) w w2
 waits_put k number l o w w2 f own others = (
-  f number ∙ ap (λ (x : Option Load). waiting_as k x (w number)) own,
-  λ other ne. let g = others other ne in f other ∙ ap (λ (x : Option Load). waiting_as k x (w other)) g.0 ∙ absent_same k (w other) g.1,
+  f number ∙ ap (λ (x : Option QueuedPart). waiting_as k x (w number)) own,
+  λ other ne. let g = others other ne in f other ∙ ap (λ (x : Option QueuedPart). waiting_as k x (w other)) g.0 ∙ absent_same k (w other) g.1,
 )
 
-waits_without : (k : ℕ) (number : List ℕ) (o : List ℕ → Option Load) (w w2 : List ℕ → List Load) → ((n : List ℕ) → w2 n ≡ waiting_as k (o n) (w n)) → o number ≡ None → NoneElse k number o w
+waits_without : (k : ℕ) (number : List ℕ) (o : List ℕ → Option QueuedPart) (w w2 : List ℕ → List QueuedPart) → ((n : List ℕ) → w2 n ≡ waiting_as k (o n) (w n)) → o number ≡ None → NoneElse k number o w
     → Waits number (without load_key k) w w2
 waits_without k number o w w2 f own others = (
-  f number ∙ ap (λ (x : Option Load). waiting_as k x (w number)) own,
-  λ other ne. let g = others other ne in f other ∙ ap (λ (x : Option Load). waiting_as k x (w other)) g.0 ∙ absent_same k (w other) g.1,
+  f number ∙ ap (λ (x : Option QueuedPart). waiting_as k x (w number)) own,
+  λ other ne. let g = others other ne in f other ∙ ap (λ (x : Option QueuedPart). waiting_as k x (w other)) g.0 ∙ absent_same k (w other) g.1,
 )
 
 -- ---- a part is so far
@@ -167,7 +167,7 @@ pub quiet_new_waits : (s : Store) (r : ReportRow) → SoundHeld s → IsNew (rep
     → (n : List ℕ) → all_waiting (with_reports (put_report r s.reports) s) n ≡ all_waiting s n
 quiet_new_waits s r held new none closed n =
     report_new_as s r held new n
-    ∙ ap (λ (o : Option Load). waiting_as (pair_key r.id 0) o (all_waiting s n)) (quiet_waits n (messages_in s) r (message_at r.id (messages_in s)) refl closed)
+    ∙ ap (λ (o : Option QueuedPart). waiting_as (pair_key r.id 0) o (all_waiting s n)) (quiet_waits n (messages_in s) r (message_at r.id (messages_in s)) refl closed)
     ∙ absent_same (pair_key r.id 0) (all_waiting s n) (none_waits s r.id n held none)
 
 pub status_new_waits : (s : Store) (r : ReportRow) (m : MessageRow) → SoundHeld s → IsNew (reports_in s) r → report_of r.id (reports_in s) ≡ None → message_at r.id (messages_in s) ≡ Some m → is_open_status r ≡ true
@@ -219,7 +219,7 @@ pub quiet_far_waits : (s : Store) (r : ReportRow) (q : Progress) → SoundHeld s
     → (n : List ℕ) → all_waiting (with_report_at r q s) n ≡ all_waiting s n
 quiet_far_waits s r q held there quiet n =
     report_far_as s r q held there n
-    ∙ ap (λ (o : Option Load). waiting_as (pair_key r.id 0) o (all_waiting s n))
+    ∙ ap (λ (o : Option QueuedPart). waiting_as (pair_key r.id 0) o (all_waiting s n))
     (quiet_waits n (messages_in s) (report_reaching q r) (message_at r.id (messages_in s)) refl (ap (λ (b : Bool). b && not q.is_done) quiet))
     ∙ absent_same (pair_key r.id 0) (all_waiting s n)
     (report_waits_at n (messages_in s) (priorities_in s) (parts_in s) (reports_in s) r.id held.parts held.alone

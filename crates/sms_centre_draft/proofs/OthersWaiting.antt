@@ -17,15 +17,15 @@ use Rattle.sms_centre_rows.specs.reports.Waiting.{waiting_for}
 use Rattle.sms_centre_rows.proofs.reports.AllWaiting.{part_waits_at, rises_all}
 use Rattle.sms_centre_rows.proofs.reports.EndsWaiting.{end_waits}
 use Rattle.sms_centre_rows.proofs.reports.FewWaiting.{all_few}
-use Rattle.sms_centre_rows.specs.declared.waiting.load.Load.{Load}
+use Rattle.sms_centre_rows.specs.declared.waiting.queued_part.QueuedPart.{QueuedPart}
 use Rattle.sms_centre_rows.specs.waiting.Keys.{load_key}
 use Rattle.sms_centre_rows.specs.waiting.Waiting.{withdrawn}
 use Rattle.sms_centre_rows.proofs.waiting.Alike.{pairs_alike}
 use Rattle.sms_centre_rows.proofs.waiting.Withdrawing.{rises_withdrawn, withdrawn_other, withdrawn_part}
-use Rattle.sms_centre_queue.specs.queues.Shown.{Waits}
+use Rattle.sms_centre_queue.specs.queues.Representing.{Waits}
 use Rattle.sms_centre_spec.specs.Draft.{Store, messages_in, parts_in, priorities_in, reports_in, with_message}
 use Rattle.sms_centre_spec.specs.Held.{SoundHeld}
-use Rattle.sms_centre_draft.specs.Working.{all_waiting}
+use Rattle.sms_centre_draft.specs.CentreDraft.{all_waiting}
 
 pub differ : (a b : List ℕ) → ¬ (a ≡ b) → bytes_eq a b ≡ false
 differ a b ne = ⊎_elim
@@ -71,7 +71,7 @@ part_of_elsewhere other ms qs ps m n numbered there ne small = by (part_at m.id 
 ended_elsewhere : (other : List ℕ) (ms : List MessageRow) (qs : List PriorityRow) (ps : List PartRow) (rs : List ReportRow) (m : MessageRow) → Numbered ps → message_at m.id ms ≡ Some m → ¬ (m.handset ≡ other)
     → withdrawn m.id (waiting_for other ms qs ps rs) ≡ waiting_for other ms qs ps rs
 ended_elsewhere other ms qs ps rs m numbered there ne =
-    let w : List Load = waiting_for other ms qs ps rs in
+    let w : List QueuedPart = waiting_for other ms qs ps rs in
     let few = all_few other ms qs ps rs numbered in
     let rises = rises_all other ms qs ps rs numbered in
     pairs_alike load_key (withdrawn m.id w) w (rises_withdrawn m.id w rises) rises

@@ -10,25 +10,25 @@ use Rattle.sms_centre_rows.specs.messages.SplitReferences.{is_among}
 use Rattle.sms_centre_rows.specs.declared.reports.report.ReportKind.{ReportKind}
 use Rattle.sms_centre_rows.specs.declared.reports.report.ReportKind.TheVariants.{Receipt, Status, Unsent}
 use Rattle.sms_centre_rows.specs.declared.reports.report.ReportRow.{ReportRow}
-use Rattle.sms_centre_rows.specs.reports.Receipts.{Desk, Session, all_tried, answered_in, receipt_ended, receipt_tried, session_key}
+use Rattle.sms_centre_rows.specs.reports.Receipts.{Bindings, Session, all_tried, answered_in, receipt_ended, receipt_tried, session_key}
 use Rattle.sms_centre_rows.specs.reports.Reports.{amend_report, is_receipt, is_status, report_key, report_of, report_reaching, reports_of}
 use Rattle.sms_centre_rows.proofs.reports.ReportRows.{amended_other, amended_own}
 use Rattle.sms_centre_rows.specs.waiting.Revisions.{Revised, amended}
-use Rattle.sms_centre_reports.specs.open_reports.Pending.{PendingOf as ReportsOf, Tells}
-use Rattle.sms_centre_reports.specs.sessions.Answering.{desk_answered, desk_answered_by, desk_unbound, desk_unbound_from, reports_answered, reports_answered_by, reports_unbound, reports_unbound_from}
+use Rattle.sms_centre_reports.specs.open_reports.OpenReportsDraft.{OpenReportsDraftOf as ReportsOf, DraftRepresents}
+use Rattle.sms_centre_reports.specs.sessions.Answering.{bindings_answered, bindings_answered_by, bindings_unbound, bindings_unbound_from, reports_answered, reports_answered_by, reports_unbound, reports_unbound_from}
 use Rattle.sms_centre_reports.specs.sessions.Awaited.{AreAwaited}
 use Rattle.sms_centre_reports.proofs.sessions.Ending.{is_among_so}
 use Rattle.sms_centre_rows.specs.declared.waiting.progress.Progress.{Progress}
 use Rattle.sms_centre_rows.specs.waiting.Trying.{finished}
 use Rattle.sms_centre_spec.specs.Draft.{Draft, Store, messages_in, reports_in, with_reports}
 use Rattle.sms_centre_spec.specs.Sessions.{answered_by, deliver_answered, unbind, unbound_from}
-use Rattle.sms_centre_spec.specs.Standing.{Stands}
+use Rattle.sms_centre_spec.specs.Consistent.{IsConsistent}
 use Rattle.sms_centre_spec.proofs.StandsKept.{stands_steady}
 use Rattle.sms_centre_spec.proofs.Steady.{report_own}
 use Rattle.sms_centre_spec.proofs.SteadyTimes.{all_tried_steady, answered_steady}
-use Rattle.sms_centre_draft.specs.Working.{Shows, WorkingOf, all_waiting}
+use Rattle.sms_centre_draft.specs.CentreDraft.{Represents, CentreDraftOf, all_waiting}
 use Rattle.sms_centre_draft.proofs.MovesWaiting.{quiet_far_waits}
-use Rattle.sms_centre_draft.proofs.Shown.{shelves_alike}
+use Rattle.sms_centre_draft.proofs.Shown.{queues_alike}
 
 not_status : (kind : ReportKind) → is_receipt kind ≡ true → is_status kind ≡ false
 not_status Receipt e = refl
@@ -37,55 +37,55 @@ not_status Unsent e = refl
 
 -- ---- one that was answered
 
-ended_waits_so : (b : Bool) (id : ℕ) (r : ReportRow) (s : Store) → Stands s → report_of id (reports_in s) ≡ Some r → is_receipt r.kind ≡ true
+ended_waits_so : (b : Bool) (id : ℕ) (r : ReportRow) (s : Store) → IsConsistent s → report_of id (reports_in s) ≡ Some r → is_receipt r.kind ≡ true
     → (n : List ℕ) → all_waiting (with_reports (receipt_ended b s.moment (report_of id (reports_in s)) s.reports) s) n ≡ all_waiting s n
 ended_waits_so b id r s stands there receipt n =
     ap (λ (o : Option ReportRow). all_waiting (with_reports (receipt_ended b s.moment o s.reports) s) n) there
     ∙ quiet_far_waits s r (if b then finished r.progress else receipt_tried s.moment r.progress) stands.held (report_own id r s there) (not_status r.kind receipt) n
 
-pub answered_shown : (session id : ℕ) (b : Bool) (d : Draft) (w : WorkingOf) (desk : Desk) (reports : ReportsOf) → Shows d w → AreAwaited (messages_in d.store) (reports_in d.store) d.desk.sessions
-    → desk ≡ desk_answered session id d.desk → Tells (messages_in d.store) reports (reports_answered session id b d.store.moment d.desk.sessions d.store.reports)
-    → Shows (deliver_answered session id b d) (record w { reports = reports; desk = desk })
-answered_shown session id b d w desk reports shows awaited is tells = by (row_at session_key session d.desk.sessions) refl is tells where
-  plain : desk ≡ d.desk → Tells (messages_in d.store) reports d.store.reports → Shows d (record w { reports = reports; desk = desk })
+pub answered_shown : (session id : ℕ) (b : Bool) (d : Draft) (w : CentreDraftOf) (bindings : Bindings) (reports : ReportsOf) → Represents d w → AreAwaited (messages_in d.store) (reports_in d.store) d.bindings.sessions
+    → bindings ≡ bindings_answered session id d.bindings → DraftRepresents (messages_in d.store) reports (reports_answered session id b d.store.moment d.bindings.sessions d.store.reports)
+    → Represents (deliver_answered session id b d) (record w { reports = reports; bindings = bindings })
+answered_shown session id b d w bindings reports represents awaited is tells = by (row_at session_key session d.bindings.sessions) refl is tells where
+  plain : bindings ≡ d.bindings → DraftRepresents (messages_in d.store) reports d.store.reports → Represents d (record w { reports = reports; bindings = bindings })
   plain e t = record {
-    stands = shows.stands;
-    few = shows.few;
-    setup = shows.setup;
-    moment = shows.moment;
-    messages = shows.messages;
-    shelves = shows.shelves;
+    stands = represents.stands;
+    few = represents.few;
+    setup = represents.setup;
+    moment = represents.moment;
+    messages = represents.messages;
+    queues = represents.queues;
     reports = t;
-    desk = e;
-    answer = shows.answer;
+    bindings = e;
+    answer = represents.answer;
   }
 
-  moved : (x : Session) (r : ReportRow) → report_of id (reports_in d.store) ≡ Some r → is_receipt r.kind ≡ true → desk ≡ answered_in id x d.desk
-      → Tells (messages_in d.store) reports (receipt_ended b d.store.moment (report_of id (reports_in d.store)) d.store.reports)
-      → Shows (record d { store = with_reports (receipt_ended b d.store.moment (report_of id (reports_in d.store)) d.store.reports) d.store; desk = answered_in id x d.desk }) (record w { reports = reports; desk = desk })
+  moved : (x : Session) (r : ReportRow) → report_of id (reports_in d.store) ≡ Some r → is_receipt r.kind ≡ true → bindings ≡ answered_in id x d.bindings
+      → DraftRepresents (messages_in d.store) reports (receipt_ended b d.store.moment (report_of id (reports_in d.store)) d.store.reports)
+      → Represents (record d { store = with_reports (receipt_ended b d.store.moment (report_of id (reports_in d.store)) d.store.reports) d.store; bindings = answered_in id x d.bindings }) (record w { reports = reports; bindings = bindings })
   moved x r there receipt e t = record {
-    stands = answered_steady Stands stands_steady id b d.store shows.stands;
-    few = shows.few;
-    setup = shows.setup;
-    moment = shows.moment;
-    messages = shows.messages;
-    shelves = shelves_alike d.store.givings d.air (all_waiting d.store) (all_waiting (with_reports (receipt_ended b d.store.moment (report_of id (reports_in d.store)) d.store.reports) d.store)) w.shelves shows.shelves
-        (ended_waits_so b id r d.store shows.stands there receipt);
+    stands = answered_steady IsConsistent stands_steady id b d.store represents.stands;
+    few = represents.few;
+    setup = represents.setup;
+    moment = represents.moment;
+    messages = represents.messages;
+    queues = queues_alike d.store.allocations d.links (all_waiting d.store) (all_waiting (with_reports (receipt_ended b d.store.moment (report_of id (reports_in d.store)) d.store.reports) d.store)) w.queues represents.queues
+        (ended_waits_so b id r d.store represents.stands there receipt);
     reports = t;
-    desk = e;
-    answer = shows.answer;
+    bindings = e;
+    answer = represents.answer;
   }
 
-  tested : (x : Session) (c : Bool) → row_at session_key session d.desk.sessions ≡ Some x → is_among id x.unanswered ≡ c → desk ≡ (if c then answered_in id x d.desk else d.desk)
-      → Tells (messages_in d.store) reports (if c then receipt_ended b d.store.moment (report_of id (reports_in d.store)) d.store.reports else d.store.reports)
-      → Shows (if c then record d { store = with_reports (receipt_ended b d.store.moment (report_of id (reports_in d.store)) d.store.reports) d.store; desk = answered_in id x d.desk } else d) (record w { reports = reports; desk = desk })
+  tested : (x : Session) (c : Bool) → row_at session_key session d.bindings.sessions ≡ Some x → is_among id x.unanswered ≡ c → bindings ≡ (if c then answered_in id x d.bindings else d.bindings)
+      → DraftRepresents (messages_in d.store) reports (if c then receipt_ended b d.store.moment (report_of id (reports_in d.store)) d.store.reports else d.store.reports)
+      → Represents (if c then record d { store = with_reports (receipt_ended b d.store.moment (report_of id (reports_in d.store)) d.store.reports) d.store; bindings = answered_in id x d.bindings } else d) (record w { reports = reports; bindings = bindings })
   tested x false there sent e t = plain e t
   tested x true there sent e t =
-      let one = (awaited.each x (found_among session_key session x d.desk.sessions there) id (is_among_so id x.unanswered sent)).report in
+      let one = (awaited.each x (found_among session_key session x d.bindings.sessions there) id (is_among_so id x.unanswered sent)).report in
       moved x one.0 one.1.0 (and_parts (is_receipt one.0.kind) (not one.0.progress.is_done) one.1.1).0 e t
 
-  by : (o : Option Session) → row_at session_key session d.desk.sessions ≡ o → desk ≡ desk_answered_by id o d.desk → Tells (messages_in d.store) reports (reports_answered_by id b d.store.moment o d.store.reports)
-      → Shows (answered_by id b o d) (record w { reports = reports; desk = desk })
+  by : (o : Option Session) → row_at session_key session d.bindings.sessions ≡ o → bindings ≡ bindings_answered_by id o d.bindings → DraftRepresents (messages_in d.store) reports (reports_answered_by id b d.store.moment o d.store.reports)
+      → Represents (answered_by id b o d) (record w { reports = reports; bindings = bindings })
   by None there e t = plain e t
   by (Some x) there e t = tested x (is_among id x.unanswered) there refl e t
 
@@ -103,7 +103,7 @@ receipts_stay r q ids t rises there receipt each id among = ⊎_elim
     (λ (ne : ¬ (r.id ≡ id)). let x = each id among in (x.0, (amended_other id r q (reports_of t) rises there ne ∙ x.1.0, x.1.1)))
     (cases_eq r.id id)
 
-tried_waits : (n : ℕ) (ids : List ℕ) (t : Revised ReportRow) (s : Store) → Stands (with_reports t s) → AreReceipts ids (reports_of t)
+tried_waits : (n : ℕ) (ids : List ℕ) (t : Revised ReportRow) (s : Store) → IsConsistent (with_reports t s) → AreReceipts ids (reports_of t)
     → (h : List ℕ) → all_waiting (with_reports (all_tried n ids t) s) h ≡ all_waiting (with_reports t s) h
 unfolding AreReceipts
 tried_waits n [] t s k each h = refl
@@ -111,44 +111,44 @@ tried_waits n (id ∷ ids) t s k each h =
     let one = each id (inl refl) in
     let r : ReportRow = one.0 in
     let own : report_of r.id (reports_of t) ≡ Some r = report_own id r (with_reports t s) one.1.0 in
-    tried_waits n ids (receipt_ended false n (report_of id (reports_of t)) t) s (all_tried_steady Stands stands_steady n (id ∷ []) t s k)
+    tried_waits n ids (receipt_ended false n (report_of id (reports_of t)) t) s (all_tried_steady IsConsistent stands_steady n (id ∷ []) t s k)
     (subst (λ (o : Option ReportRow). AreReceipts ids (reports_of (receipt_ended false n o t))) (sym one.1.0)
     (receipts_stay r (receipt_tried n r.progress) ids t k.held.report_keys own one.1.1 (λ i a. each i (inr a)))) h
     ∙ ap (λ (o : Option ReportRow). all_waiting (with_reports (receipt_ended false n o t) s) h) one.1.0
     ∙ quiet_far_waits (with_reports t s) r (receipt_tried n r.progress) k.held own (not_status r.kind one.1.1) h
 
-pub unbound_shown : (session : ℕ) (d : Draft) (w : WorkingOf) (desk : Desk) (reports : ReportsOf) → Shows d w → AreAwaited (messages_in d.store) (reports_in d.store) d.desk.sessions
-    → desk ≡ desk_unbound session d.desk → Tells (messages_in d.store) reports (reports_unbound session d.store.moment d.desk.sessions d.store.reports)
-    → Shows (unbind session d) (record w { reports = reports; desk = desk })
+pub unbound_shown : (session : ℕ) (d : Draft) (w : CentreDraftOf) (bindings : Bindings) (reports : ReportsOf) → Represents d w → AreAwaited (messages_in d.store) (reports_in d.store) d.bindings.sessions
+    → bindings ≡ bindings_unbound session d.bindings → DraftRepresents (messages_in d.store) reports (reports_unbound session d.store.moment d.bindings.sessions d.store.reports)
+    → Represents (unbind session d) (record w { reports = reports; bindings = bindings })
 unfolding AreReceipts
-unbound_shown session d w desk reports shows awaited is tells = by (row_at session_key session d.desk.sessions) refl is tells where
-  receipts : (x : Session) → Among x d.desk.sessions → AreReceipts x.unanswered (reports_in d.store)
+unbound_shown session d w bindings reports represents awaited is tells = by (row_at session_key session d.bindings.sessions) refl is tells where
+  receipts : (x : Session) → Among x d.bindings.sessions → AreReceipts x.unanswered (reports_in d.store)
   receipts x among id sent =
       let one = (awaited.each x among id sent).report in
       (one.0, (one.1.0, (and_parts (is_receipt one.0.kind) (not one.0.progress.is_done) one.1.1).0))
 
-  by : (o : Option Session) → row_at session_key session d.desk.sessions ≡ o → desk ≡ desk_unbound_from o d.desk → Tells (messages_in d.store) reports (reports_unbound_from d.store.moment o d.store.reports)
-      → Shows (unbound_from o d) (record w { reports = reports; desk = desk })
+  by : (o : Option Session) → row_at session_key session d.bindings.sessions ≡ o → bindings ≡ bindings_unbound_from o d.bindings → DraftRepresents (messages_in d.store) reports (reports_unbound_from d.store.moment o d.store.reports)
+      → Represents (unbound_from o d) (record w { reports = reports; bindings = bindings })
   by None there e t = record {
-    stands = shows.stands;
-    few = shows.few;
-    setup = shows.setup;
-    moment = shows.moment;
-    messages = shows.messages;
-    shelves = shows.shelves;
+    stands = represents.stands;
+    few = represents.few;
+    setup = represents.setup;
+    moment = represents.moment;
+    messages = represents.messages;
+    queues = represents.queues;
     reports = t;
-    desk = e;
-    answer = shows.answer;
+    bindings = e;
+    answer = represents.answer;
   }
   by (Some x) there e t = record {
-    stands = all_tried_steady Stands stands_steady d.store.moment x.unanswered d.store.reports d.store shows.stands;
-    few = shows.few;
-    setup = shows.setup;
-    moment = shows.moment;
-    messages = shows.messages;
-    shelves = shelves_alike d.store.givings d.air (all_waiting d.store) (all_waiting (with_reports (all_tried d.store.moment x.unanswered d.store.reports) d.store)) w.shelves shows.shelves
-        (tried_waits d.store.moment x.unanswered d.store.reports d.store shows.stands (receipts x (found_among session_key session x d.desk.sessions there)));
+    stands = all_tried_steady IsConsistent stands_steady d.store.moment x.unanswered d.store.reports d.store represents.stands;
+    few = represents.few;
+    setup = represents.setup;
+    moment = represents.moment;
+    messages = represents.messages;
+    queues = queues_alike d.store.allocations d.links (all_waiting d.store) (all_waiting (with_reports (all_tried d.store.moment x.unanswered d.store.reports) d.store)) w.queues represents.queues
+        (tried_waits d.store.moment x.unanswered d.store.reports d.store represents.stands (receipts x (found_among session_key session x d.bindings.sessions there)));
     reports = t;
-    desk = e;
-    answer = shows.answer;
+    bindings = e;
+    answer = represents.answer;
   }

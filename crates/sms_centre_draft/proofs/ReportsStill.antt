@@ -12,7 +12,7 @@ use Rattle.sms_centre_rows.specs.messages.Messages.{ended, message_at, message_k
 use Rattle.sms_centre_rows.specs.declared.reports.report.ReportRow.{ReportRow}
 use Rattle.sms_centre_rows.specs.reports.Reports.{is_open_receipt, reports_of}
 use Rattle.sms_centre_reports.specs.open_reports.Entries.{account_in, is_named, receipt_entry}
-use Rattle.sms_centre_reports.specs.open_reports.Pending.{PendingOf, Tells}
+use Rattle.sms_centre_reports.specs.open_reports.OpenReportsDraft.{OpenReportsDraftOf, DraftRepresents}
 use Rattle.sms_centre_rows.specs.waiting.Revisions.{Revised}
 
 picked_alike : {B : Type 0} (one two : ReportRow → Option B) (rows : List ReportRow) → ((r : ReportRow) → Among r rows → one r ≡ two r) → picked one rows ≡ picked two rows
@@ -20,7 +20,7 @@ picked_alike one two [] f = refl
 picked_alike one two (r ∷ rows) f =
     ap (λ (o : Option _). before_all o (picked one rows)) (f r (inl refl)) ∙ ap (λ (es : List _). before_all (two r) es) (picked_alike one two rows (λ s m. f s (inr m)))
 
-pub told_still : (ms others : List MessageRow) (p : PendingOf) (t : Revised ReportRow) → Tells ms p t → ((r : ReportRow) → Among r (reports_of t) → account_in (message_at r.id others) ≡ account_in (message_at r.id ms)) → Tells others p t
+pub told_still : (ms others : List MessageRow) (p : OpenReportsDraftOf) (t : Revised ReportRow) → DraftRepresents ms p t → ((r : ReportRow) → Among r (reports_of t) → account_in (message_at r.id others) ≡ account_in (message_at r.id ms)) → DraftRepresents others p t
 told_still ms others p t tells same = record {
   kept = record {
     keys = tells.kept.keys;
@@ -37,7 +37,7 @@ told_still ms others p t tells same = record {
   stay = tells.stay;
 }
 
-pub ended_told : (ms : List MessageRow) (m : MessageRow) (f : FinalState) (moment : ℕ) (p : PendingOf) (t : Revised ReportRow) → message_at m.id ms ≡ Some m → Tells ms p t → Tells (put message_key (ended f moment m) ms) p t
+pub ended_told : (ms : List MessageRow) (m : MessageRow) (f : FinalState) (moment : ℕ) (p : OpenReportsDraftOf) (t : Revised ReportRow) → message_at m.id ms ≡ Some m → DraftRepresents ms p t → DraftRepresents (put message_key (ended f moment m) ms) p t
 ended_told ms m f moment p t there tells = told_still ms (put message_key (ended f moment m) ms) p t tells (λ r among. ⊎_elim
     (λ (e : m.id ≡ r.id).
     let now : message_at r.id (put message_key (ended f moment m) ms) ≡ Some (ended f moment m) = ap (λ (k : ℕ). message_at k (put message_key (ended f moment m) ms)) (sym e) ∙ row_at_put message_key (ended f moment m) ms in
@@ -47,6 +47,6 @@ ended_told ms m f moment p t there tells = told_still ms (put message_key (ended
     (cases_eq m.id r.id))
 
 -- a message comes of which there is no report
-pub entered_told : (ms : List MessageRow) (m : MessageRow) (p : PendingOf) (t : Revised ReportRow) → ((r : ReportRow) → Among r (reports_of t) → ¬ (m.id ≡ r.id)) → Tells ms p t → Tells (put message_key m ms) p t
+pub entered_told : (ms : List MessageRow) (m : MessageRow) (p : OpenReportsDraftOf) (t : Revised ReportRow) → ((r : ReportRow) → Among r (reports_of t) → ¬ (m.id ≡ r.id)) → DraftRepresents ms p t → DraftRepresents (put message_key m ms) p t
 entered_told ms m p t none tells = told_still ms (put message_key m ms) p t tells (λ r among.
     ap (λ (o : Option MessageRow). account_in o) (row_at_put_other message_key r.id m ms (none r among)))

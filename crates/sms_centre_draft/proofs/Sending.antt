@@ -1,19 +1,19 @@
 -- Receipts go: the rows and the lines stay.
 use Rattle.std.proofs.Common.{◌≡◌, ℕ, ◌∙◌, ap}
-use Rattle.sms_centre_rows.specs.reports.Receipts.{Desk, send_all}
+use Rattle.sms_centre_rows.specs.reports.Receipts.{Bindings, send_all}
 use Rattle.sms_centre_spec.specs.Draft.{Draft, messages_in, reports_in}
 use Rattle.sms_centre_spec.specs.Sessions.{send}
-use Rattle.sms_centre_draft.specs.Working.{Shows, WorkingOf}
+use Rattle.sms_centre_draft.specs.CentreDraft.{Represents, CentreDraftOf}
 
-pub sent_shown : (d : Draft) (w : WorkingOf) (desk : Desk) → Shows d w → desk ≡ send_all w.moment (messages_in d.store) (reports_in d.store) w.desk → Shows (send d) (record w { desk = desk })
-sent_shown d w desk shows is = record {
-  stands = shows.stands;
-  few = shows.few;
-  setup = shows.setup;
-  moment = shows.moment;
-  messages = shows.messages;
-  shelves = shows.shelves;
-  reports = shows.reports;
-  desk = is ∙ ap (λ (n : ℕ). send_all n (messages_in d.store) (reports_in d.store) w.desk) shows.moment ∙ ap (λ (x : Desk). send_all d.store.moment (messages_in d.store) (reports_in d.store) x) shows.desk;
-  answer = shows.answer;
+pub sent_shown : (d : Draft) (w : CentreDraftOf) (bindings : Bindings) → Represents d w → bindings ≡ send_all w.moment (messages_in d.store) (reports_in d.store) w.bindings → Represents (send d) (record w { bindings = bindings })
+sent_shown d w bindings represents is = record {
+  stands = represents.stands;
+  few = represents.few;
+  setup = represents.setup;
+  moment = represents.moment;
+  messages = represents.messages;
+  queues = represents.queues;
+  reports = represents.reports;
+  bindings = is ∙ ap (λ (n : ℕ). send_all n (messages_in d.store) (reports_in d.store) w.bindings) represents.moment ∙ ap (λ (x : Bindings). send_all d.store.moment (messages_in d.store) (reports_in d.store) x) represents.bindings;
+  answer = represents.answer;
 }

@@ -11,27 +11,27 @@ use Rattle.sms_centre_rows.specs.declared.messages.message.MessageRow.{MessageRo
 use Rattle.sms_centre_rows.specs.declared.messages.part.PartRow.{PartRow}
 use Rattle.sms_centre_rows.specs.messages.Messages.{amend_part, ended, is_pending, message_at, message_key, part_key, part_reaching, put_message}
 use Rattle.sms_centre_rows.specs.messages.PartEntries.{Few}
-use Rattle.sms_centre_messages.specs.held.MessagesInMemory.{PendingOf as MessagesOf, Shows as ShowsMessages}
+use Rattle.sms_centre_messages.specs.message_index.MessageIndex.{MessageIndexDraftOf as MessagesOf, DraftRepresents as RepresentsMessages}
 use Rattle.sms_centre_rows.specs.declared.reports.report.ReportKind.{ReportKind}
 use Rattle.sms_centre_rows.specs.declared.reports.report.ReportKind.TheVariants.{Status}
 use Rattle.sms_centre_rows.specs.declared.reports.report.ReportRow.{ReportRow}
 use Rattle.sms_centre_rows.specs.reports.Reports.{amend_report, is_status, next_place, put_report, report_made, report_of}
 use Rattle.sms_centre_rows.specs.reports.Waiting.{IsNew}
 use Rattle.sms_centre_reports.specs.open_reports.Entries.{account_in, account_of}
-use Rattle.sms_centre_reports.specs.open_reports.Pending.{PendingOf as ReportsOf, Tells}
+use Rattle.sms_centre_reports.specs.open_reports.OpenReportsDraft.{OpenReportsDraftOf as ReportsOf, DraftRepresents}
 use Rattle.sms_receipt.specs.StatusReports.{status_octets}
-use Rattle.sms_centre_rows.specs.declared.waiting.load.Load.{Load}
+use Rattle.sms_centre_rows.specs.declared.waiting.queued_part.QueuedPart.{QueuedPart}
 use Rattle.sms_centre_rows.specs.declared.waiting.progress.Progress.{Progress}
 use Rattle.sms_centre_rows.specs.declared.waiting.handset.HandsetRow.{HandsetRow}
 use Rattle.sms_centre_rows.specs.waiting.Keys.{load_key}
-use Rattle.sms_centre_rows.specs.waiting.Lines.{Air}
-use Rattle.sms_centre_rows.specs.waiting.References.{Givings, give, handset_at, handset_of, handsets_of, next_reference, references_of}
+use Rattle.sms_centre_rows.specs.waiting.Links.{Links}
+use Rattle.sms_centre_rows.specs.waiting.References.{Allocations, give, handset_at, handset_of, handsets_of, next_reference, references_of}
 use Rattle.sms_centre_rows.specs.waiting.Revisions.{amended}
-use Rattle.sms_centre_rows.specs.waiting.SoundGivings.{IsNumber}
+use Rattle.sms_centre_rows.specs.waiting.SoundAllocations.{IsNumber}
 use Rattle.sms_centre_rows.proofs.waiting.Mentions.{row_fits}
-use Rattle.sms_centre_queue.specs.queues.Placing.{PendingOf as ShelvesOf, placed_of}
-use Rattle.sms_centre_queue.specs.queues.Shown.{Shows as ShowsShelves, ShowsPlaced, Waits}
-use Rattle.sms_centre_spec.specs.Draft.{Draft, Store, answer_with, handsets_in, in_store, messages_in, on_air, parts_in, references_in, reports_in, waiting_in, with_message, with_part_at, with_report_at, with_reports}
+use Rattle.sms_centre_queue.specs.queues.Queues.{DeliveryQueuesDraftOf as QueuesOf, placed_of}
+use Rattle.sms_centre_queue.specs.queues.Representing.{DraftRepresents as RepresentsQueues, RepresentsPlaced, Waits}
+use Rattle.sms_centre_spec.specs.Draft.{Draft, Store, answer_with, handsets_in, in_store, messages_in, on_links, parts_in, references_in, reports_in, waiting_in, with_message, with_part_at, with_report_at, with_reports}
 use Rattle.sms_centre_spec.specs.SoundRows.{CanBeTold}
 use Rattle.sms_centre_spec.specs.declared.answer.CentreAnswer.{CentreAnswer}
 use Rattle.sms_centre_spec.specs.CentreEvent.{at_moment}
@@ -41,52 +41,52 @@ use Rattle.sms_centre_spec.specs.Submitting.{reference_for}
 use Rattle.sms_centre_spec.proofs.NextNumbers.{among_amended, no_report}
 use Rattle.sms_centre_spec.proofs.SteadyTimes.{report_none}
 use Rattle.sms_centre_spec.proofs.StandsKept.{CanReport, can_report, later_stands, next_is_new, part_far_stands, quiet_stands, report_far_stands, status_stands}
-use Rattle.sms_centre_draft.specs.Telling.{CanTell}
-use Rattle.sms_centre_draft.specs.Working.{AreFew, Shows, WorkingOf, all_waiting}
+use Rattle.sms_centre_draft.specs.Stages.{CanTell}
+use Rattle.sms_centre_draft.specs.CentreDraft.{AreFew, Represents, CentreDraftOf, all_waiting}
 use Rattle.sms_centre_draft.proofs.MovesWaiting.{quiet_new_waits, status_new_waits}
 use Rattle.sms_centre_draft.proofs.ReportsStill.{ended_told}
 
 -- what waits may be written otherwise
-pub shelves_alike : (g : Givings) (air : Air) (w w2 : List ℕ → List Load) (p : ShelvesOf) → ShowsShelves g air w p → ((n : List ℕ) → w2 n ≡ w n) → ShowsShelves g air w2 p
-shelves_alike g air w w2 p shows same = record {
-  sound = shows.sound;
-  each = λ n d. subst (λ (ls : List Load). ShowsPlaced n (handsets_of g) (references_of g) ls air.lines (placed_of n p)) (sym (same n)) (shows.each n d);
-  named = shows.named;
-  next_place = shows.next_place;
-  handsets = shows.handsets;
-  references = shows.references;
-  frames = shows.frames;
-  lines = shows.lines;
-  digits = shows.digits;
-  apart = shows.apart;
-  indexed = shows.indexed;
+pub queues_alike : (g : Allocations) (links : Links) (w w2 : List ℕ → List QueuedPart) (p : QueuesOf) → RepresentsQueues g links w p → ((n : List ℕ) → w2 n ≡ w n) → RepresentsQueues g links w2 p
+queues_alike g links w w2 p represents same = record {
+  sound = represents.sound;
+  each = λ n d. subst (λ (ls : List QueuedPart). RepresentsPlaced n (handsets_of g) (references_of g) ls links.lines (placed_of n p)) (sym (same n)) (represents.each n d);
+  named = represents.named;
+  next_place = represents.next_place;
+  handsets = represents.handsets;
+  references = represents.references;
+  frames = represents.frames;
+  lines = represents.lines;
+  digits = represents.digits;
+  apart = represents.apart;
+  indexed = represents.indexed;
 }
 
 -- ---- a message ends
 
-pub ended_shown : (d : Draft) (w : WorkingOf) (m : MessageRow) (f : FinalState) (messages : MessagesOf) (shelves : ShelvesOf) → Shows d w → message_at m.id (messages_in d.store) ≡ Some m → is_pending m ≡ true
-    → ShowsMessages messages (put_message (ended f w.moment m) d.store.messages)
-    → ShowsShelves d.store.givings d.air (all_waiting (with_message (ended f d.store.moment m) d.store)) shelves
-    → Shows (in_store (with_message (ended f d.store.moment m) d.store) d) (record w { messages = messages; shelves = shelves })
-ended_shown d w m f messages shelves shows there pending kept placed = record {
-  stands = (can_report f m d.store shows.stands there pending).stands;
-  few = shows.few;
-  setup = shows.setup;
-  moment = shows.moment;
-  messages = subst (λ (n : ℕ). ShowsMessages messages (put_message (ended f n m) d.store.messages)) shows.moment kept;
-  shelves = placed;
-  reports = ended_told (messages_in d.store) m f d.store.moment w.reports d.store.reports there shows.reports;
-  desk = shows.desk;
-  answer = shows.answer;
+pub ended_shown : (d : Draft) (w : CentreDraftOf) (m : MessageRow) (f : FinalState) (messages : MessagesOf) (queues : QueuesOf) → Represents d w → message_at m.id (messages_in d.store) ≡ Some m → is_pending m ≡ true
+    → RepresentsMessages messages (put_message (ended f w.moment m) d.store.messages)
+    → RepresentsQueues d.store.allocations d.links (all_waiting (with_message (ended f d.store.moment m) d.store)) queues
+    → Represents (in_store (with_message (ended f d.store.moment m) d.store) d) (record w { messages = messages; queues = queues })
+ended_shown d w m f messages queues represents there pending kept placed = record {
+  stands = (can_report f m d.store represents.stands there pending).stands;
+  few = represents.few;
+  setup = represents.setup;
+  moment = represents.moment;
+  messages = subst (λ (n : ℕ). RepresentsMessages messages (put_message (ended f n m) d.store.messages)) represents.moment kept;
+  queues = placed;
+  reports = ended_told (messages_in d.store) m f d.store.moment w.reports d.store.reports there represents.reports;
+  bindings = represents.bindings;
+  answer = represents.answer;
 }
 
 -- then it can be told
 pub can_tell : (f : FinalState) (m : MessageRow) (s : Store) → CanReport f s.moment m (with_message (ended f s.moment m) s) → CanTell f m (with_message (ended f s.moment m) s)
 can_tell f m s can = record { there = can.there; none = no_report m.id (reports_in s) can.none }
 
-tells_report : (f : FinalState) (m : MessageRow) (d : Draft) (w : WorkingOf) → Shows d w → CanTell f m d.store → CanReport f d.store.moment m d.store
-tells_report f m d w shows can = record {
-  stands = shows.stands;
+tells_report : (f : FinalState) (m : MessageRow) (d : Draft) (w : CentreDraftOf) → Represents d w → CanTell f m d.store → CanReport f d.store.moment m d.store
+tells_report f m d w represents can = record {
+  stands = represents.stands;
   there = can.there;
   none = λ r among own. report_none m.id r (reports_in d.store) can.none among own;
 }
@@ -99,23 +99,23 @@ made_is_new id kind closed f n m s can own =
     next_is_new (record { place = next_place (reports_in s); id = id; kind = kind; made = s.moment; progress = record { is_done = closed; attempts = 0; due = s.moment } })
     (reports_in s) can.stands.held.report_keys (λ x among e. can.none x among (e ∙ sym own)) refl
 
-pub quiet_shown : (d : Draft) (w : WorkingOf) (m : MessageRow) (f : FinalState) (kind : ReportKind) (closed : Bool) (reports : ReportsOf) → Shows d w → CanTell f m d.store → is_status kind ≡ false
-    → Tells (messages_in d.store) reports (report_made m.id kind closed w.moment d.store.reports)
-    → Shows (in_store (make_report m.id kind closed d.store) d) (record w { reports = reports })
-quiet_shown d w m f kind closed reports shows can quiet tells =
-    let report = tells_report f m d w shows can in
+pub quiet_shown : (d : Draft) (w : CentreDraftOf) (m : MessageRow) (f : FinalState) (kind : ReportKind) (closed : Bool) (reports : ReportsOf) → Represents d w → CanTell f m d.store → is_status kind ≡ false
+    → DraftRepresents (messages_in d.store) reports (report_made m.id kind closed w.moment d.store.reports)
+    → Represents (in_store (make_report m.id kind closed d.store) d) (record w { reports = reports })
+quiet_shown d w m f kind closed reports represents can quiet tells =
+    let report = tells_report f m d w represents can in
     let r : ReportRow = record { place = next_place (reports_in d.store); id = m.id; kind = kind; made = d.store.moment; progress = record { is_done = closed; attempts = 0; due = d.store.moment } } in
     record {
       stands = quiet_stands f d.store.moment m kind closed d.store report quiet;
-      few = shows.few;
-      setup = shows.setup;
-      moment = shows.moment;
-      messages = shows.messages;
-      shelves = shelves_alike d.store.givings d.air (all_waiting d.store) (all_waiting (make_report m.id kind closed d.store)) w.shelves shows.shelves
-          (quiet_new_waits d.store r shows.stands.held (made_is_new m.id kind closed f d.store.moment m d.store report refl) can.none (closed_one kind closed quiet));
-      reports = subst (λ (n : ℕ). Tells (messages_in d.store) reports (report_made m.id kind closed n d.store.reports)) shows.moment tells;
-      desk = shows.desk;
-      answer = shows.answer;
+      few = represents.few;
+      setup = represents.setup;
+      moment = represents.moment;
+      messages = represents.messages;
+      queues = queues_alike d.store.allocations d.links (all_waiting d.store) (all_waiting (make_report m.id kind closed d.store)) w.queues represents.queues
+          (quiet_new_waits d.store r represents.stands.held (made_is_new m.id kind closed f d.store.moment m d.store report refl) can.none (closed_one kind closed quiet));
+      reports = subst (λ (n : ℕ). DraftRepresents (messages_in d.store) reports (report_made m.id kind closed n d.store.reports)) represents.moment tells;
+      bindings = represents.bindings;
+      answer = represents.answer;
     }
   where
     closed_one : (kind : ReportKind) (closed : Bool) → is_status kind ≡ false → (is_status kind && not closed) ≡ false
@@ -126,25 +126,25 @@ pub account_told : (f : FinalState) (m : MessageRow) (account : List ℕ) (s : S
 account_told f m account s can is = ap (λ (o : Option MessageRow). account_in o) can.there ∙ ap (λ (o : Originator). account_of o) is
 
 -- the handset of a message that ended has a number, and so has the one that submitted it
-pub told_number : (f : FinalState) (m : MessageRow) (n : ℕ) (d : Draft) (w : WorkingOf) → Shows d w → CanTell f m d.store → m.originator ≡ Handset n → IsNumber m.source.digits
-told_number f m n d w shows can is =
-    subst (λ (o : Originator). CanBeTold o m.source) is (shows.stands.told (ended f d.store.moment m) (found_among message_key m.id (ended f d.store.moment m) (messages_in d.store) can.there))
+pub told_number : (f : FinalState) (m : MessageRow) (n : ℕ) (d : Draft) (w : CentreDraftOf) → Represents d w → CanTell f m d.store → m.originator ≡ Handset n → IsNumber m.source.digits
+told_number f m n d w represents can is =
+    subst (λ (o : Originator). CanBeTold o m.source) is (represents.stands.told (ended f d.store.moment m) (found_among message_key m.id (ended f d.store.moment m) (messages_in d.store) can.there))
 
-pub handset_number : (m : MessageRow) (d : Draft) (w : WorkingOf) → Shows d w → message_at m.id (messages_in d.store) ≡ Some m → IsNumber m.handset
-handset_number m d w shows there = shows.stands.held.numbers m (found_among message_key m.id m (messages_in d.store) there)
+pub handset_number : (m : MessageRow) (d : Draft) (w : CentreDraftOf) → Represents d w → message_at m.id (messages_in d.store) ≡ Some m → IsNumber m.handset
+handset_number m d w represents there = represents.stands.held.numbers m (found_among message_key m.id m (messages_in d.store) there)
 
-pub ended_number : (f : FinalState) (m : MessageRow) (d : Draft) (w : WorkingOf) → Shows d w → CanTell f m d.store → IsNumber m.handset
-ended_number f m d w shows can =
-    shows.stands.held.numbers (ended f d.store.moment m) (found_among message_key m.id (ended f d.store.moment m) (messages_in d.store) can.there)
+pub ended_number : (f : FinalState) (m : MessageRow) (d : Draft) (w : CentreDraftOf) → Represents d w → CanTell f m d.store → IsNumber m.handset
+ended_number f m d w represents can =
+    represents.stands.held.numbers (ended f d.store.moment m) (found_among message_key m.id (ended f d.store.moment m) (messages_in d.store) can.there)
 
--- the next reference of the handset, as the shelves tell it
-pub next_told : (number : List ℕ) (o : Option ℕ) (d : Draft) (w : WorkingOf) → Shows d w → o ≡ next_reference (handset_of number (handsets_in d.store)) (all_waiting d.store number) (references_in d.store) w.moment
+-- the next reference of the handset, as the queues tell it
+pub next_told : (number : List ℕ) (o : Option ℕ) (d : Draft) (w : CentreDraftOf) → Represents d w → o ≡ next_reference (handset_of number (handsets_in d.store)) (all_waiting d.store number) (references_in d.store) w.moment
     → reference_for (handset_of number (handsets_in d.store)) d.store ≡ o
-next_told number o d w shows is =
+next_told number o d w represents is =
     let h : HandsetRow = handset_of number (handsets_in d.store) in
-    let fits = row_fits number (handsets_in d.store) (handset_at number (handsets_in d.store)) shows.stands.held.givings.handset_keys shows.stands.held.givings.apart refl in
+    let fits = row_fits number (handsets_in d.store) (handset_at number (handsets_in d.store)) represents.stands.held.allocations.handset_keys represents.stands.held.allocations.apart refl in
     ap (λ (n : List ℕ). next_reference h (waiting_in n d.store) (references_in d.store) d.store.moment) fits.1
-    ∙ ap (λ (n : ℕ). next_reference h (all_waiting d.store number) (references_in d.store) n) (sym shows.moment) ∙ sym is
+    ∙ ap (λ (n : ℕ). next_reference h (all_waiting d.store number) (references_in d.store) n) (sym represents.moment) ∙ sym is
 
 -- a status report is made, and waits for the handset that submitted the message
 status_row : FinalState → MessageRow → ℕ → Store → ReportRow
@@ -156,34 +156,34 @@ status_row f m reference s = record {
   progress = record { is_done = false; attempts = 0; due = s.moment };
 }
 
-pub status_made_waits : (f : FinalState) (m : MessageRow) (reference : ℕ) (d : Draft) (w : WorkingOf) → Shows d w → CanTell f m d.store
+pub status_made_waits : (f : FinalState) (m : MessageRow) (reference : ℕ) (d : Draft) (w : CentreDraftOf) → Represents d w → CanTell f m d.store
     → Waits m.source.digits (put load_key (record { id = m.id; number = 0; reference = reference; priority = 0; due = w.moment })) (all_waiting d.store)
     (all_waiting (status_given f m (handset_of m.source.digits (handsets_in d.store)) (Some reference) d.store))
 unfolding status_row
-status_made_waits f m reference d w shows can =
+status_made_waits f m reference d w represents can =
     let s : Store = d.store in
     let r : ReportRow = status_row f m reference s in
-    subst (λ (n : ℕ). Waits m.source.digits (put load_key (record { id = m.id; number = 0; reference = reference; priority = 0; due = n })) (all_waiting s) (all_waiting (with_reports (put_report r s.reports) s))) (sym shows.moment)
-    (status_new_waits s r (ended f s.moment m) shows.stands.held
-    (made_is_new m.id (Status reference (status_octets (final_of f s.moment m))) false f s.moment m s (tells_report f m d w shows can) refl) can.none can.there refl)
+    subst (λ (n : ℕ). Waits m.source.digits (put load_key (record { id = m.id; number = 0; reference = reference; priority = 0; due = n })) (all_waiting s) (all_waiting (with_reports (put_report r s.reports) s))) (sym represents.moment)
+    (status_new_waits s r (ended f s.moment m) represents.stands.held
+    (made_is_new m.id (Status reference (status_octets (final_of f s.moment m))) false f s.moment m s (tells_report f m d w represents can) refl) can.none can.there refl)
 
-pub status_shown : (d : Draft) (w : WorkingOf) (m : MessageRow) (f : FinalState) (n reference : ℕ) (reports : ReportsOf) (shelves : ShelvesOf) → Shows d w → CanTell f m d.store → m.originator ≡ Handset n
+pub status_shown : (d : Draft) (w : CentreDraftOf) (m : MessageRow) (f : FinalState) (n reference : ℕ) (reports : ReportsOf) (queues : QueuesOf) → Represents d w → CanTell f m d.store → m.originator ≡ Handset n
     → reference_for (handset_of m.source.digits (handsets_in d.store)) d.store ≡ Some reference
-    → Tells (messages_in d.store) reports (report_made m.id (Status reference (status_octets (final_of f w.moment m))) false w.moment d.store.reports)
-    → ShowsShelves (give (handset_of m.source.digits (handsets_in d.store)) reference w.moment d.store.givings) d.air
-    (all_waiting (status_given f m (handset_of m.source.digits (handsets_in d.store)) (Some reference) d.store)) shelves
-    → Shows (in_store (status_given f m (handset_of m.source.digits (handsets_in d.store)) (Some reference) d.store) d) (record w { reports = reports; shelves = shelves })
-status_shown d w m f n reference reports shelves shows can is next tells placed = record {
-  stands = status_stands f d.store.moment m (Some reference) d.store (tells_report f m d w shows can) (told_number f m n d w shows can is) next;
-  few = shows.few;
-  setup = shows.setup;
-  moment = shows.moment;
-  messages = shows.messages;
-  shelves = subst (λ (x : ℕ). ShowsShelves (give (handset_of m.source.digits (handsets_in d.store)) reference x d.store.givings) d.air
-      (all_waiting (status_given f m (handset_of m.source.digits (handsets_in d.store)) (Some reference) d.store)) shelves) shows.moment placed;
-  reports = subst (λ (x : ℕ). Tells (messages_in d.store) reports (report_made m.id (Status reference (status_octets (final_of f x m))) false x d.store.reports)) shows.moment tells;
-  desk = shows.desk;
-  answer = shows.answer;
+    → DraftRepresents (messages_in d.store) reports (report_made m.id (Status reference (status_octets (final_of f w.moment m))) false w.moment d.store.reports)
+    → RepresentsQueues (give (handset_of m.source.digits (handsets_in d.store)) reference w.moment d.store.allocations) d.links
+    (all_waiting (status_given f m (handset_of m.source.digits (handsets_in d.store)) (Some reference) d.store)) queues
+    → Represents (in_store (status_given f m (handset_of m.source.digits (handsets_in d.store)) (Some reference) d.store) d) (record w { reports = reports; queues = queues })
+status_shown d w m f n reference reports queues represents can is next tells placed = record {
+  stands = status_stands f d.store.moment m (Some reference) d.store (tells_report f m d w represents can) (told_number f m n d w represents can is) next;
+  few = represents.few;
+  setup = represents.setup;
+  moment = represents.moment;
+  messages = represents.messages;
+  queues = subst (λ (x : ℕ). RepresentsQueues (give (handset_of m.source.digits (handsets_in d.store)) reference x d.store.allocations) d.links
+      (all_waiting (status_given f m (handset_of m.source.digits (handsets_in d.store)) (Some reference) d.store)) queues) represents.moment placed;
+  reports = subst (λ (x : ℕ). DraftRepresents (messages_in d.store) reports (report_made m.id (Status reference (status_octets (final_of f x m))) false x d.store.reports)) represents.moment tells;
+  bindings = represents.bindings;
+  answer = represents.answer;
 }
 
 -- ---- a part is so far
@@ -196,105 +196,105 @@ few_far p q ps few x among =
     (λ (e : (part_key g.0 ≡ part_key p) × (x ≡ part_reaching q g.0)). subst (λ (y : PartRow). y.number ≤ 20) (sym e.1) (few g.0 g.1.0))
     g.1.1
 
-pub part_far_shown : (d : Draft) (w : WorkingOf) (p : PartRow) (q : Progress) (messages : MessagesOf) (shelves : ShelvesOf) → Shows d w → row_at part_key (part_key p) (parts_in d.store) ≡ Some p
+pub part_far_shown : (d : Draft) (w : CentreDraftOf) (p : PartRow) (q : Progress) (messages : MessagesOf) (queues : QueuesOf) → Represents d w → row_at part_key (part_key p) (parts_in d.store) ≡ Some p
     → (q.is_done ≡ false → p.progress.is_done ≡ false)
-    → ShowsMessages messages (amend_part p q d.store.messages)
-    → ShowsShelves d.store.givings d.air (all_waiting (with_part_at p q d.store)) shelves
-    → Shows (in_store (with_part_at p q d.store) d) (record w { messages = messages; shelves = shelves })
-part_far_shown d w p q messages shelves shows there done kept placed = record {
-  stands = part_far_stands p q d.store shows.stands there done;
-  few = few_far p q (parts_in d.store) shows.few;
-  setup = shows.setup;
-  moment = shows.moment;
+    → RepresentsMessages messages (amend_part p q d.store.messages)
+    → RepresentsQueues d.store.allocations d.links (all_waiting (with_part_at p q d.store)) queues
+    → Represents (in_store (with_part_at p q d.store) d) (record w { messages = messages; queues = queues })
+part_far_shown d w p q messages queues represents there done kept placed = record {
+  stands = part_far_stands p q d.store represents.stands there done;
+  few = few_far p q (parts_in d.store) represents.few;
+  setup = represents.setup;
+  moment = represents.moment;
   messages = kept;
-  shelves = placed;
-  reports = shows.reports;
-  desk = shows.desk;
-  answer = shows.answer;
+  queues = placed;
+  reports = represents.reports;
+  bindings = represents.bindings;
+  answer = represents.answer;
 }
 
 -- ---- a report is so far
 
-pub report_far_shown : (d : Draft) (w : WorkingOf) (r : ReportRow) (q : Progress) (reports : ReportsOf) (shelves : ShelvesOf) → Shows d w → report_of r.id (reports_in d.store) ≡ Some r
+pub report_far_shown : (d : Draft) (w : CentreDraftOf) (r : ReportRow) (q : Progress) (reports : ReportsOf) (queues : QueuesOf) → Represents d w → report_of r.id (reports_in d.store) ≡ Some r
     → (q.is_done ≡ false → r.progress.is_done ≡ false)
-    → Tells (messages_in d.store) reports (amend_report r q d.store.reports)
-    → ShowsShelves d.store.givings d.air (all_waiting (with_report_at r q d.store)) shelves
-    → Shows (in_store (with_report_at r q d.store) d) (record w { reports = reports; shelves = shelves })
-report_far_shown d w r q reports shelves shows there done tells placed = record {
-  stands = report_far_stands r q d.store shows.stands there done;
-  few = shows.few;
-  setup = shows.setup;
-  moment = shows.moment;
-  messages = shows.messages;
-  shelves = placed;
+    → DraftRepresents (messages_in d.store) reports (amend_report r q d.store.reports)
+    → RepresentsQueues d.store.allocations d.links (all_waiting (with_report_at r q d.store)) queues
+    → Represents (in_store (with_report_at r q d.store) d) (record w { reports = reports; queues = queues })
+report_far_shown d w r q reports queues represents there done tells placed = record {
+  stands = report_far_stands r q d.store represents.stands there done;
+  few = represents.few;
+  setup = represents.setup;
+  moment = represents.moment;
+  messages = represents.messages;
+  queues = placed;
   reports = tells;
-  desk = shows.desk;
-  answer = shows.answer;
+  bindings = represents.bindings;
+  answer = represents.answer;
 }
 
--- what has no digits has no shelf
-pub nobody_waits : (number : List ℕ) (f : List Load → List Load) (g : Givings) (air : Air) (w w2 : List ℕ → List Load) (p : ShelvesOf) → ¬ AllDigits number → ShowsShelves g air w p → Waits number f w w2 → ShowsShelves g air w2 p
-nobody_waits number f g air w w2 p not_digits shows waits = record {
-  sound = shows.sound;
-  each = λ n d. subst (λ (ls : List Load). ShowsPlaced n (handsets_of g) (references_of g) ls air.lines (placed_of n p)) (sym (waits.1 n (λ e. not_digits (subst AllDigits (sym e) d)))) (shows.each n d);
-  named = shows.named;
-  next_place = shows.next_place;
-  handsets = shows.handsets;
-  references = shows.references;
-  frames = shows.frames;
-  lines = shows.lines;
-  digits = shows.digits;
-  apart = shows.apart;
-  indexed = shows.indexed;
+-- what has no digits has no queue
+pub nobody_waits : (number : List ℕ) (f : List QueuedPart → List QueuedPart) (g : Allocations) (links : Links) (w w2 : List ℕ → List QueuedPart) (p : QueuesOf) → ¬ AllDigits number → RepresentsQueues g links w p → Waits number f w w2 → RepresentsQueues g links w2 p
+nobody_waits number f g links w w2 p not_digits represents waits = record {
+  sound = represents.sound;
+  each = λ n d. subst (λ (ls : List QueuedPart). RepresentsPlaced n (handsets_of g) (references_of g) ls links.lines (placed_of n p)) (sym (waits.1 n (λ e. not_digits (subst AllDigits (sym e) d)))) (represents.each n d);
+  named = represents.named;
+  next_place = represents.next_place;
+  handsets = represents.handsets;
+  references = represents.references;
+  frames = represents.frames;
+  lines = represents.lines;
+  digits = represents.digits;
+  apart = represents.apart;
+  indexed = represents.indexed;
 }
 
 -- ---- the lines are others
 
-pub aired_shown : (d : Draft) (w : WorkingOf) (air : Air) (shelves : ShelvesOf) → Shows d w → ShowsShelves d.store.givings air (all_waiting d.store) shelves → Shows (on_air air d) (record w { shelves = shelves })
-aired_shown d w air shelves shows placed = record {
-  stands = shows.stands;
-  few = shows.few;
-  setup = shows.setup;
-  moment = shows.moment;
-  messages = shows.messages;
-  shelves = placed;
-  reports = shows.reports;
-  desk = shows.desk;
-  answer = shows.answer;
+pub aired_shown : (d : Draft) (w : CentreDraftOf) (links : Links) (queues : QueuesOf) → Represents d w → RepresentsQueues d.store.allocations links (all_waiting d.store) queues → Represents (on_links links d) (record w { queues = queues })
+aired_shown d w links queues represents placed = record {
+  stands = represents.stands;
+  few = represents.few;
+  setup = represents.setup;
+  moment = represents.moment;
+  messages = represents.messages;
+  queues = placed;
+  reports = represents.reports;
+  bindings = represents.bindings;
+  answer = represents.answer;
 }
 
-pub few_parts : (d : Draft) (w : WorkingOf) → Shows d w → Few (parts_in d.store)
-few_parts d w shows = record {
-  keys = shows.stands.held.parts.keys;
-  numbers = λ p among. ((shows.stands.held.parts.numbers p among).0, shows.few p among);
+pub few_parts : (d : Draft) (w : CentreDraftOf) → Represents d w → Few (parts_in d.store)
+few_parts d w represents = record {
+  keys = represents.stands.held.parts.keys;
+  numbers = λ p among. ((represents.stands.held.parts.numbers p among).0, represents.few p among);
 }
 
 -- ---- time goes on
 
-pub later_shown : (d : Draft) (w : WorkingOf) (now moment : ℕ) → Shows d w → moment ≡ max w.moment now → Shows (at_moment now d) (record w { moment = moment })
-later_shown d w now moment shows is = record {
-  stands = later_stands (max d.store.moment now) d.store shows.stands;
-  few = shows.few;
-  setup = shows.setup;
-  moment = is ∙ ap (λ (n : ℕ). max n now) shows.moment;
-  messages = shows.messages;
-  shelves = shows.shelves;
-  reports = shows.reports;
-  desk = shows.desk;
-  answer = shows.answer;
+pub later_shown : (d : Draft) (w : CentreDraftOf) (now moment : ℕ) → Represents d w → moment ≡ max w.moment now → Represents (at_moment now d) (record w { moment = moment })
+later_shown d w now moment represents is = record {
+  stands = later_stands (max d.store.moment now) d.store represents.stands;
+  few = represents.few;
+  setup = represents.setup;
+  moment = is ∙ ap (λ (n : ℕ). max n now) represents.moment;
+  messages = represents.messages;
+  queues = represents.queues;
+  reports = represents.reports;
+  bindings = represents.bindings;
+  answer = represents.answer;
 }
 
 -- ---- an application is answered
 
-pub answered_shown : (d : Draft) (w : WorkingOf) (answer : CentreAnswer) → Shows d w → Shows (answer_with answer d) (record w { answer = Some answer })
-answered_shown d w answer shows = record {
-  stands = shows.stands;
-  few = shows.few;
-  setup = shows.setup;
-  moment = shows.moment;
-  messages = shows.messages;
-  shelves = shows.shelves;
-  reports = shows.reports;
-  desk = shows.desk;
+pub answered_shown : (d : Draft) (w : CentreDraftOf) (answer : CentreAnswer) → Represents d w → Represents (answer_with answer d) (record w { answer = Some answer })
+answered_shown d w answer represents = record {
+  stands = represents.stands;
+  few = represents.few;
+  setup = represents.setup;
+  moment = represents.moment;
+  messages = represents.messages;
+  queues = represents.queues;
+  reports = represents.reports;
+  bindings = represents.bindings;
   answer = refl;
 }

@@ -1,5 +1,5 @@
-pub mod Working
-pub mod Telling
+pub mod CentreDraft
+pub mod Stages
 pub mod Submitting
 pub mod Transfers
 pub mod DueNow

@@ -6,8 +6,8 @@ use Rattle.sms_centre_rows.specs.messages.Messages.{is_pending, message_at, part
 use Rattle.sms_intake.specs.declared.submission.SinglePart.{SinglePart}
 use Rattle.sms_intake.specs.declared.submission.Submission.{Submission}
 use Rattle.sms_centre_spec.specs.Draft.{Draft, Store, in_store, messages_in, parts_in, priorities_in}
-use Rattle.sms_centre_spec.specs.Standing.{IsBody}
-use Rattle.sms_centre_draft.specs.Working.{Shows, WorkingOf}
+use Rattle.sms_centre_spec.specs.Consistent.{IsBody}
+use Rattle.sms_centre_draft.specs.CentreDraft.{Represents, CentreDraftOf}
 
 -- no message has that number or a greater one
 abbrev pub IsNewId : ℕ → Store → Type 0
@@ -25,8 +25,8 @@ pub record CanGive (id : ℕ) (u : Submission) (number : ℕ) (s : Store) : Type
   pub coming : (n : ℕ) → number ≤ n → n < 256 → part_at id n (parts_in s) ≡ None
 
 -- It was accepted, and the draft with it is shown; or it can't be.
-abbrev pub Accepts : Option Store → Draft → WorkingOf → Bool → Type 0
+abbrev pub Accepts : Option Store → Draft → CentreDraftOf → Bool → Type 0
 Accepts None d w true = ⊥
 Accepts None d w false = Unit {0}
-Accepts (Some s) d w true = Shows (in_store s d) w
+Accepts (Some s) d w true = Represents (in_store s d) w
 Accepts (Some s) d w false = ⊥

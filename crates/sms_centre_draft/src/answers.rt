@@ -5,14 +5,14 @@ ghost use Rattle.sms_rows.specs.table.Keys.{AllDigits};
 ghost use Rattle.sms_link.specs.LinkTurn.{taken};
 ghost use Rattle.sms_relay.specs.Cause.{IsRpCause};
 ghost use Rattle.sms_relay.specs.RelayGrammar.{ack_down, error_down};
-ghost use Rattle.sms_centre_rows.specs.waiting.Lines.{line_of, turn_line};
+ghost use Rattle.sms_centre_rows.specs.waiting.Links.{line_of, turn_line};
 ghost use Rattle.sms_intake.specs.Refusals.{cause_of};
 ghost use Rattle.sms_intake.specs.SubmitReports.{accepting_report as accepting_report_of, refusing_report as refusing_report_of};
-ghost use Rattle.sms_centre_spec.specs.Draft.{Draft, answer_with, on_air};
-ghost use Rattle.sms_centre_spec.specs.Receiving.{confirm as confirm_of, memory_came as memory_came_of, refuse as refuse_of, reject as reject_of, reply as reply_of};
-ghost use Rattle.sms_centre_draft.specs.Working.{Shows};
+ghost use Rattle.sms_centre_spec.specs.Draft.{Draft, answer_with, on_links};
+ghost use Rattle.sms_centre_spec.specs.Receiving.{confirm as confirm_of, memory_available as memory_available_of, refuse as refuse_of, reject as reject_of, reply as reply_of};
+ghost use Rattle.sms_centre_draft.specs.CentreDraft.{Represents};
 
-use crate::working::Working;
+use crate::centre_draft::CentreDraft;
 use sms_base::{Digits, Holder, Kind, OctetView, Octets};
 use sms_centre_spec::CentreAnswer;
 use sms_intake::{SubmitRefusal, accepting_report, refusing_report};
@@ -83,7 +83,7 @@ fn bare_error(alloc: Global, reference: u8, cause: RpCause) -> Result<Octets, Al
     )
 }
 
-impl<'a> Working<'a> {
+impl<'a> CentreDraft<'a> {
     /// The answer in the transaction that the handset began, if one waits for it: a unit of 1 to 248 octets.
     pub fn reply(
         &mut self,
@@ -96,9 +96,9 @@ impl<'a> Working<'a> {
         requires digits { AllDigits handset }
         requires some { 0 < length unit.now }
         requires fits { length unit.now ≤ 248 }
-        ensures { (d : Draft) → Shows d self.old → OnOk result (Shows (reply_of handset kind reference tag unit.now d) self.new) }
+        ensures { (d : Draft) → Represents d self.old → OnOk result (Represents (reply_of handset kind reference tag unit.now d) self.new) }
     {
-        self.shelves
+        self.queues
             .reply(handset, self.moment, kind, reference, tag, unit)?;
         Ok(())
     }
@@ -106,24 +106,24 @@ impl<'a> Working<'a> {
     /// Takes a frame of the handset, whatever its octets, and gives what the link passes up.
     pub fn take(&mut self, handset: Digits, frame: &[u8]) -> Result<Option<Upward>, AllocError>
         requires digits { AllDigits handset }
-        ensures up { (d : Draft) → Shows d self.old → IfOk result (λ up. up ≡ (taken frame.now (line_of handset d.air.lines).link).out.up) }
-        ensures state { (d : Draft) → Shows d self.old
-            → OnOk result (Shows (on_air (turn_line (line_of handset d.air.lines) (taken frame.now (line_of handset d.air.lines).link) d.air) d) self.new) }
+        ensures up { (d : Draft) → Represents d self.old → IfOk result (λ up. up ≡ (taken frame.now (line_of handset d.links.lines).link).out.up) }
+        ensures state { (d : Draft) → Represents d self.old
+            → OnOk result (Represents (on_links (turn_line (line_of handset d.links.lines) (taken frame.now (line_of handset d.links.lines).link) d.links) d) self.new) }
     {
-        let up = self.shelves.take(handset, frame)?;
+        let up = self.queues.take(handset, frame)?;
         Ok(up)
     }
 
     /// The application is answered.
     pub fn answer(&mut self, answer: CentreAnswer)
-        ensures { (d : Draft) → Shows d self.old → Shows (answer_with answer d) self.new }
+        ensures { (d : Draft) → Represents d self.old → Represents (answer_with answer d) self.new }
     {
         self.answer = Some(answer);
     }
 
     // RP-ACK with the SUBMIT-REPORT of one that was accepted now.
     fn confirming(&self, reference: u8) -> Result<Octets, AllocError>
-        ensures is { (d : Draft) → Shows d self.now → IfOk result (λ unit. unit ≡ ack_down reference (Some (accepting_report_of d.store.moment))) }
+        ensures is { (d : Draft) → Represents d self.now → IfOk result (λ unit. unit ≡ ack_down reference (Some (accepting_report_of d.store.moment))) }
         ensures len { IfOk result (λ unit. length unit ≡ 13) }
     {
         let report = accepting_report(self.alloc, self.moment)?;
@@ -133,7 +133,7 @@ impl<'a> Working<'a> {
 
     // RP-ERROR with the SUBMIT-REPORT of one that was refused now.
     fn refusing(&self, reference: u8, refusal: SubmitRefusal) -> Result<Octets, AllocError>
-        ensures is { (d : Draft) → Shows d self.now → IfOk result (λ unit. unit ≡ error_down reference (cause_of refusal) (Some (refusing_report_of refusal d.store.moment))) }
+        ensures is { (d : Draft) → Represents d self.now → IfOk result (λ unit. unit ≡ error_down reference (cause_of refusal) (Some (refusing_report_of refusal d.store.moment))) }
         ensures len { IfOk result (λ unit. length unit ≡ 16) }
     {
         let report = refusing_report(self.alloc, refusal, self.moment)?;
@@ -144,7 +144,7 @@ impl<'a> Working<'a> {
     /// A SUBMIT is accepted.
     pub fn confirm(&mut self, handset: Digits, reference: u8, tag: Holder) -> Result<(), AllocError>
         requires digits { AllDigits handset }
-        ensures { (d : Draft) → Shows d self.old → OnOk result (Shows (confirm_of handset reference tag d) self.new) }
+        ensures { (d : Draft) → Represents d self.old → OnOk result (Represents (confirm_of handset reference tag d) self.new) }
     {
         let unit = self.confirming(reference)?;
         self.reply(handset, Kind::Ack, reference, tag, unit.as_slice())
@@ -159,7 +159,7 @@ impl<'a> Working<'a> {
         refusal: SubmitRefusal,
     ) -> Result<(), AllocError>
         requires digits { AllDigits handset }
-        ensures { (d : Draft) → Shows d self.old → OnOk result (Shows (refuse_of handset reference tag refusal d) self.new) }
+        ensures { (d : Draft) → Represents d self.old → OnOk result (Represents (refuse_of handset reference tag refusal d) self.new) }
     {
         let unit = self.refusing(reference, refusal)?;
         self.reply(handset, Kind::Error, reference, tag, unit.as_slice())
@@ -175,7 +175,7 @@ impl<'a> Working<'a> {
     ) -> Result<(), AllocError>
         requires digits { AllDigits handset }
         requires cause { IsRpCause cause }
-        ensures { (d : Draft) → Shows d self.old → OnOk result (Shows (reject_of handset reference tag cause d) self.new) }
+        ensures { (d : Draft) → Represents d self.old → OnOk result (Represents (reject_of handset reference tag cause d) self.new) }
     {
         let unit = bare_error(self.alloc(), reference, cause)?;
         self.reply(handset, Kind::Error, reference, tag, unit.as_slice())
@@ -189,21 +189,21 @@ impl<'a> Working<'a> {
     // RP-SMMA is acknowledged.
     fn acknowledge(&mut self, handset: Digits, reference: u8, tag: Holder) -> Result<(), AllocError>
         requires digits { AllDigits handset }
-        ensures { (d : Draft) → Shows d self.old → OnOk result (Shows (reply_of handset Ack reference tag (ack_down reference None) d) self.new) }
+        ensures { (d : Draft) → Represents d self.old → OnOk result (Represents (reply_of handset Ack reference tag (ack_down reference None) d) self.new) }
     {
         let unit = bare_ack(self.alloc(), reference)?;
         self.reply(handset, Kind::Ack, reference, tag, unit.as_slice())
     }
 
     /// Takes RP-SMMA: the handset has memory.
-    pub fn memory_came(
+    pub fn memory_available(
         &mut self,
         handset: Digits,
         reference: u8,
         tag: Holder,
     ) -> Result<(), AllocError>
         requires digits { AllDigits handset }
-        ensures { (d : Draft) → Shows d self.old → OnOk result (Shows (memory_came_of handset reference tag d) self.new) }
+        ensures { (d : Draft) → Represents d self.old → OnOk result (Represents (memory_available_of handset reference tag d) self.new) }
     {
         self.acknowledge(handset, reference, tag)?;
         self.has_memory(handset)

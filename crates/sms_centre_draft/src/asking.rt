@@ -5,19 +5,19 @@ ghost use Rattle.sms_rows.specs.index.First.{first_such, is_past_from};
 ghost use Rattle.sms_centre_queue.specs.queues.Stops.{found};
 ghost use Rattle.sms_centre_spec.specs.Draft.{Draft, handsets_in};
 ghost use Rattle.sms_centre_spec.specs.Sessions.{send as send_of};
-ghost use Rattle.sms_centre_draft.specs.Working.{Shows, all_waiting};
+ghost use Rattle.sms_centre_draft.specs.CentreDraft.{Represents, all_waiting};
 
-use crate::working::Working;
-use sms_centre_queue::queues::{Purpose, Stop};
+use crate::centre_draft::CentreDraft;
+use sms_centre_queue::queues::{Concern, ConcernedHandset};
 use sms_centre_reports::open_reports::StatusEntry;
 use std::alloc::AllocError;
 
-impl<'a> Working<'a> {
+impl<'a> CentreDraft<'a> {
     /// The handsets that such a walk concerns in the present draft, in the order in which it walks over them.
-    pub fn stops(&self, purpose: &Purpose) -> Result<Vec<Stop>, AllocError>
-        ensures { (d : Draft) → Shows d self.now → IfOk result (λ stops. stops.items ≡ found purpose.now (handsets_in d.store) d.air.lines (all_waiting d.store)) }
+    pub fn stops(&self, purpose: &Concern) -> Result<Vec<ConcernedHandset>, AllocError>
+        ensures { (d : Draft) → Represents d self.now → IfOk result (λ stops. stops.items ≡ found purpose.now (handsets_in d.store) d.links.lines (all_waiting d.store)) }
     {
-        let stops = self.shelves.stops(purpose)?;
+        let stops = self.queues.stops(purpose)?;
         Ok(stops)
     }
 
@@ -31,9 +31,9 @@ impl<'a> Working<'a> {
     /// Sends the receipts that are due, the oldest first, each in the first session that receives for its account, if
     /// that has room.
     pub fn send(&mut self) -> Result<(), AllocError>
-        ensures { (d : Draft) → Shows d self.old → OnOk result (Shows (send_of d) self.new) }
+        ensures { (d : Draft) → Represents d self.old → OnOk result (Represents (send_of d) self.new) }
     {
-        self.desk.send(&self.reports, self.moment)?;
+        self.bindings.send(&self.reports, self.moment)?;
         Ok(())
     }
 }

@@ -6,20 +6,20 @@ ghost use Rattle.sms_centre_rows.specs.messages.Messages.{is_pending, message_at
 ghost use Rattle.sms_receipt.specs.StatusReports.{status_octets as status_octets_of};
 ghost use Rattle.sms_centre_rows.specs.declared.reports.report.ReportKind.TheVariants.{Receipt, Unsent};
 ghost use Rattle.sms_centre_rows.specs.waiting.References.{handset_of};
-ghost use Rattle.sms_centre_rows.specs.waiting.SoundGivings.{IsNumber};
+ghost use Rattle.sms_centre_rows.specs.waiting.SoundAllocations.{IsNumber};
 ghost use Rattle.sms_centre_spec.specs.Draft.{Draft, handsets_in, in_store, messages_in};
 ghost use Rattle.sms_centre_spec.specs.Ends.{end as end_of, is_failure as is_failure_of, is_wished as is_wished_of, make_report, make_status as make_status_of, report as report_of, report_to as report_to_of, status_given};
 ghost use Rattle.sms_centre_spec.specs.Finals.{final_of as final_of_message, submit_reference as submit_reference_of};
 ghost use Rattle.sms_centre_spec.specs.Submitting.{reference_for};
-ghost use Rattle.sms_centre_draft.specs.Telling.{CanTell};
-ghost use Rattle.sms_centre_draft.specs.Working.{Shows};
+ghost use Rattle.sms_centre_draft.specs.Stages.{CanTell};
+ghost use Rattle.sms_centre_draft.specs.CentreDraft.{Represents};
 
 use crate::numbers::is_number;
-use crate::shelves::{give, next_reference, put};
-use crate::working::Working;
+use crate::queues::{give, next_reference, put};
+use crate::centre_draft::CentreDraft;
 use sms_base::{Digits, FinalState, Moment, Octets, Originator, Wish};
 use sms_centre_rows::messages::MessageRow;
-use sms_centre_rows::waiting::Load;
+use sms_centre_rows::waiting::QueuedPart;
 use sms_receipt::{Final, status_report_octets};
 use std::alloc::{AllocError, Global};
 
@@ -80,11 +80,11 @@ fn status_octets(
     status_report_octets(alloc, &final_of(state, now, message))
 }
 
-impl<'a> Working<'a> {
+impl<'a> CentreDraft<'a> {
     // An application's message gets a receipt.
     fn make_receipt(&mut self, message: &MessageRow, account: &[u8]) -> Result<(), AllocError>
-        ensures { (d : Draft) (state : FinalStateOf) → Shows d self.old → CanTell state message.now d.store → message.now.originator ≡ Application account.now
-            → OnOk result (Shows (in_store (make_report message.now.id Receipt false d.store) d) self.new) }
+        ensures { (d : Draft) (state : FinalStateOf) → Represents d self.old → CanTell state message.now d.store → message.now.originator ≡ Application account.now
+            → OnOk result (Represents (in_store (make_report message.now.id Receipt false d.store) d) self.new) }
     {
         self.reports.make_receipt(message.id, self.moment, account)?;
         Ok(())
@@ -97,30 +97,30 @@ impl<'a> Working<'a> {
         message: &MessageRow,
         reference: u8,
     ) -> Result<(), AllocError>
-        ensures { (d : Draft) (n : ℕ) → Shows d self.old → CanTell state message.now d.store → message.now.originator ≡ Handset n
+        ensures { (d : Draft) (n : ℕ) → Represents d self.old → CanTell state message.now d.store → message.now.originator ≡ Handset n
             → reference_for (handset_of message.now.source.digits (handsets_in d.store)) d.store ≡ Some reference
-            → OnOk result (Shows (in_store (status_given state message.now (handset_of message.now.source.digits (handsets_in d.store)) (Some reference) d.store) d) self.new) }
+            → OnOk result (Represents (in_store (status_given state message.now (handset_of message.now.source.digits (handsets_in d.store)) (Some reference) d.store) d) self.new) }
     {
         let handset = message.source.digits;
         let tpdu = status_octets(self.alloc, state, self.moment, message)?;
         self.reports
             .make_status(message.id, self.moment, reference, tpdu)?;
-        give(&mut self.shelves, handset, reference, self.moment)?;
-        let load = Load {
+        give(&mut self.queues, handset, reference, self.moment)?;
+        let load = QueuedPart {
             id: message.id,
             number: 0,
             reference,
             priority: 0,
             due: self.moment,
         };
-        put(&mut self.shelves, handset, load)?;
+        put(&mut self.queues, handset, load)?;
         Ok(())
     }
 
     // No reference is free for the status report, so that none is sent.
     fn make_unsent(&mut self, message: &MessageRow) -> Result<(), AllocError>
-        ensures { (d : Draft) (state : FinalStateOf) → Shows d self.old → CanTell state message.now d.store
-            → OnOk result (Shows (in_store (make_report message.now.id Unsent true d.store) d) self.new) }
+        ensures { (d : Draft) (state : FinalStateOf) → Represents d self.old → CanTell state message.now d.store
+            → OnOk result (Represents (in_store (make_report message.now.id Unsent true d.store) d) self.new) }
     {
         self.reports.make_unsent(message.id, self.moment)?;
         Ok(())
@@ -128,16 +128,16 @@ impl<'a> Working<'a> {
 
     /// The next reference of the handset.
     pub(crate) fn next_reference(&self, number: Digits) -> Result<Option<u8>, AllocError>
-        ensures { (d : Draft) → Shows d self.now → IsNumber number → IfOk result (λ reference. reference_for (handset_of number (handsets_in d.store)) d.store ≡ reference) }
+        ensures { (d : Draft) → Represents d self.now → IsNumber number → IfOk result (λ reference. reference_for (handset_of number (handsets_in d.store)) d.store ≡ reference) }
     {
-        let reference = next_reference(&self.shelves, number, self.moment)?;
+        let reference = next_reference(&self.queues, number, self.moment)?;
         Ok(reference)
     }
 
     // A handset's message gets a status report, where a reference is free for it.
     fn make_status(&mut self, state: FinalState, message: &MessageRow) -> Result<(), AllocError>
-        ensures { (d : Draft) (n : ℕ) → Shows d self.old → CanTell state message.now d.store → message.now.originator ≡ Handset n
-            → OnOk result (Shows (in_store (make_status_of state message.now (handset_of message.now.source.digits (handsets_in d.store)) d.store) d) self.new) }
+        ensures { (d : Draft) (n : ℕ) → Represents d self.old → CanTell state message.now d.store → message.now.originator ≡ Handset n
+            → OnOk result (Represents (in_store (make_status_of state message.now (handset_of message.now.source.digits (handsets_in d.store)) d.store) d) self.new) }
     {
         let free = self.next_reference(message.source.digits)?;
         match free {
@@ -148,8 +148,8 @@ impl<'a> Working<'a> {
 
     // An application gets a receipt, a handset a status report.
     fn report_to(&mut self, state: FinalState, message: &MessageRow) -> Result<(), AllocError>
-        ensures { (d : Draft) → Shows d self.old → CanTell state message.now d.store
-            → OnOk result (Shows (in_store (report_to_of message.now.originator state message.now d.store) d) self.new) }
+        ensures { (d : Draft) → Represents d self.old → CanTell state message.now d.store
+            → OnOk result (Represents (in_store (report_to_of message.now.originator state message.now d.store) d) self.new) }
     {
         match &message.originator {
             Originator::Application { account } => self.make_receipt(message, account.as_slice()),
@@ -159,8 +159,8 @@ impl<'a> Working<'a> {
 
     // The end is told to who asked for it.
     fn report(&mut self, state: FinalState, message: &MessageRow) -> Result<(), AllocError>
-        ensures { (d : Draft) → Shows d self.old → CanTell state message.now d.store
-            → OnOk result (Shows (in_store (report_of state message.now d.store) d) self.new) }
+        ensures { (d : Draft) → Represents d self.old → CanTell state message.now d.store
+            → OnOk result (Represents (in_store (report_of state message.now d.store) d) self.new) }
     {
         if is_wished(message.wish, state) {
             return self.report_to(state, message);
@@ -170,8 +170,8 @@ impl<'a> Working<'a> {
 
     /// The message, which is pending, ends so now, and its report is made at once, where one was asked for.
     pub fn end(&mut self, state: FinalState, message: &MessageRow) -> Result<(), AllocError>
-        ensures { (d : Draft) → Shows d self.old → message_at message.now.id (messages_in d.store) ≡ Some message.now → is_pending message.now ≡ true
-            → OnOk result (Shows (in_store (end_of state message.now d.store) d) self.new) }
+        ensures { (d : Draft) → Represents d self.old → message_at message.now.id (messages_in d.store) ≡ Some message.now → is_pending message.now ≡ true
+            → OnOk result (Represents (in_store (end_of state message.now d.store) d) self.new) }
     {
         self.put_ended(state, message)?;
         self.report(state, message)

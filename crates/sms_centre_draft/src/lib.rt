@@ -1,6 +1,6 @@
 //! The centre within an event.
 //!
-//! `Working` has what the event finds and changes: messages, queues, reports and sessions, the moment, and the answer
+//! `CentreDraft` has what the event finds and changes: messages, queues, reports and sessions, the moment, and the answer
 //! so far. Each call is a stage of the centre's definition (`sms_centre_spec`). Whatever draft of the definition the
 //! centre represents before it (`specs/Working.antt`), it represents the stage of that draft after it. A call that
 //! finds no memory leaves no stated state: the event is given up whole.
@@ -9,35 +9,35 @@
 //! - `answers`: answers to units of handsets (3GPP TS 24.011 6)
 //! - `asking`: questions over many handsets or reports, and receipts that are sent
 //! - `ends`: how a message ends, and its report
-//! - `lines`: links that are lost, and timers that fire
+//! - `links`: links that are lost, and timers that fire
 //! - `moves`: one change of what the centre keeps, each
 //! - `numbers`: the numbers of handsets
 //! - `receiving`: everything that waits for a handset is due now (3GPP TS 24.011 7.3.2)
 //! - `rows`: rows that change
 //! - `sessions`: what sessions do with receipts
-//! - `shelves`: moves of the queues by the numbers of handsets
+//! - `queues`: moves of the queues by the numbers of handsets
 //! - `submitting`: a submission becomes a message with all its parts, or nothing
 //! - `transfers`: how a transfer to a handset ends (3GPP TS 24.011 8.2.5.4)
 //! - `walks`: laws: walks over everything are walks over what is found
-//! - `working`: the draft itself
+//! - `centre_draft`: the draft itself
 #![tactic(auto)]
 
 mod aging;
 mod answers;
 mod asking;
 mod ends;
-mod lines;
+mod links;
 mod moves;
 mod numbers;
 mod receiving;
 mod rows;
 mod sessions;
-mod shelves;
+mod queues;
 mod submitting;
 mod transfers;
 pub mod walks;
-mod working;
+mod centre_draft;
 
 pub use numbers::are_digits;
 pub use transfers::{finished, tried};
-pub use working::Working;
+pub use centre_draft::CentreDraft;

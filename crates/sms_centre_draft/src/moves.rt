@@ -7,30 +7,30 @@ ghost use Rattle.sms_centre_reports.specs.open_reports.Entries.{report_entry};
 ghost use Rattle.sms_centre_rows.specs.reports.Reports.{is_open_status, is_status, report_of};
 ghost use Rattle.sms_centre_rows.specs.declared.reports.report.ReportRow.{ReportRow as ReportRowOf};
 ghost use Rattle.sms_centre_spec.specs.Draft.{Draft, in_store, messages_in, parts_in, reports_in, with_message, with_part_at, with_report_at};
-ghost use Rattle.sms_centre_draft.specs.Working.{Shows};
+ghost use Rattle.sms_centre_draft.specs.CentreDraft.{Represents};
 
 use crate::rows::ended;
-use crate::shelves::{put_off, remove, withdraw};
-use crate::working::Working;
+use crate::queues::{put_off, remove, withdraw};
+use crate::centre_draft::CentreDraft;
 use sms_base::FinalState;
 use sms_centre_reports::open_reports::ReportEntry;
 use sms_centre_rows::messages::{MessageRow, PartEntry};
 use sms_centre_rows::waiting::Progress;
 use std::alloc::AllocError;
 
-impl<'a> Working<'a> {
+impl<'a> CentreDraft<'a> {
     /// The message, which is pending, has ended so: no part of it waits any more.
     pub(crate) fn put_ended(
         &mut self,
         state: FinalState,
         message: &MessageRow,
     ) -> Result<(), AllocError>
-        ensures { (d : Draft) → Shows d self.old → message_at message.now.id (messages_in d.store) ≡ Some message.now → is_pending message.now ≡ true
-            → OnOk result (Shows (in_store (with_message (ended_of state d.store.moment message.now) d.store) d) self.new) }
+        ensures { (d : Draft) → Represents d self.old → message_at message.now.id (messages_in d.store) ≡ Some message.now → is_pending message.now ≡ true
+            → OnOk result (Represents (in_store (with_message (ended_of state d.store.moment message.now) d.store) d) self.new) }
     {
         let row = ended(self.alloc, state, self.moment, message)?;
         self.messages.put_message(row)?;
-        withdraw(&mut self.shelves, message.handset, message.id)?;
+        withdraw(&mut self.queues, message.handset, message.id)?;
         Ok(())
     }
 
@@ -41,12 +41,12 @@ impl<'a> Working<'a> {
         message: &MessageRow,
         progress: &Progress,
     ) -> Result<(), AllocError>
-        ensures { (d : Draft) (p : PartRowOf) → Shows d self.old → part_at p.id p.number (parts_in d.store) ≡ Some p → part_entry p ≡ entry.now
+        ensures { (d : Draft) (p : PartRowOf) → Represents d self.old → part_at p.id p.number (parts_in d.store) ≡ Some p → part_entry p ≡ entry.now
             → message_at p.id (messages_in d.store) ≡ Some message.now → progress.now.is_done ≡ true
-            → OnOk result (Shows (in_store (with_part_at p progress.now d.store) d) self.new) }
+            → OnOk result (Represents (in_store (with_part_at p progress.now d.store) d) self.new) }
     {
         self.messages.amend_part(entry, progress)?;
-        remove(&mut self.shelves, message.handset, entry.id, entry.number)?;
+        remove(&mut self.queues, message.handset, entry.id, entry.number)?;
         Ok(())
     }
 
@@ -57,13 +57,13 @@ impl<'a> Working<'a> {
         message: &MessageRow,
         progress: &Progress,
     ) -> Result<(), AllocError>
-        ensures { (d : Draft) (p : PartRowOf) → Shows d self.old → part_at p.id p.number (parts_in d.store) ≡ Some p → part_entry p ≡ entry.now
+        ensures { (d : Draft) (p : PartRowOf) → Represents d self.old → part_at p.id p.number (parts_in d.store) ≡ Some p → part_entry p ≡ entry.now
             → message_at p.id (messages_in d.store) ≡ Some message.now → is_pending message.now ≡ true → p.progress.is_done ≡ false → progress.now.is_done ≡ false
-            → OnOk result (Shows (in_store (with_part_at p progress.now d.store) d) self.new) }
+            → OnOk result (Represents (in_store (with_part_at p progress.now d.store) d) self.new) }
     {
         self.messages.amend_part(entry, progress)?;
         put_off(
-            &mut self.shelves,
+            &mut self.queues,
             message.handset,
             entry.id,
             entry.number,
@@ -79,12 +79,12 @@ impl<'a> Working<'a> {
         message: &MessageRow,
         progress: &Progress,
     ) -> Result<(), AllocError>
-        ensures { (d : Draft) (r : ReportRowOf) → Shows d self.old → report_of r.id (reports_in d.store) ≡ Some r → entry.now ≡ report_entry r → is_status r.kind ≡ true
+        ensures { (d : Draft) (r : ReportRowOf) → Represents d self.old → report_of r.id (reports_in d.store) ≡ Some r → entry.now ≡ report_entry r → is_status r.kind ≡ true
             → message_at r.id (messages_in d.store) ≡ Some message.now → progress.now.is_done ≡ true
-            → OnOk result (Shows (in_store (with_report_at r progress.now d.store) d) self.new) }
+            → OnOk result (Represents (in_store (with_report_at r progress.now d.store) d) self.new) }
     {
         self.reports.amend_status(entry, progress)?;
-        remove(&mut self.shelves, message.source.digits, entry.id, 0)?;
+        remove(&mut self.queues, message.source.digits, entry.id, 0)?;
         Ok(())
     }
 
@@ -95,13 +95,13 @@ impl<'a> Working<'a> {
         message: &MessageRow,
         progress: &Progress,
     ) -> Result<(), AllocError>
-        ensures { (d : Draft) (r : ReportRowOf) → Shows d self.old → report_of r.id (reports_in d.store) ≡ Some r → entry.now ≡ report_entry r → is_open_status r ≡ true
+        ensures { (d : Draft) (r : ReportRowOf) → Represents d self.old → report_of r.id (reports_in d.store) ≡ Some r → entry.now ≡ report_entry r → is_open_status r ≡ true
             → message_at r.id (messages_in d.store) ≡ Some message.now → progress.now.is_done ≡ false
-            → OnOk result (Shows (in_store (with_report_at r progress.now d.store) d) self.new) }
+            → OnOk result (Represents (in_store (with_report_at r progress.now d.store) d) self.new) }
     {
         self.reports.amend_status(entry, progress)?;
         put_off(
-            &mut self.shelves,
+            &mut self.queues,
             message.source.digits,
             entry.id,
             0,

@@ -2,21 +2,21 @@
 ghost use Rattle.std.specs.Prelude.{◌≡◌, ℕ, true, false, OnOk, IfOk};
 ghost use Rattle.sms_base.specs.Among.{Among};
 ghost use Rattle.sms_rows.specs.table.Keys.{AllDigits};
-ghost use Rattle.sms_centre_rows.specs.waiting.Lines.{emptied, line_of, put_line, raised};
+ghost use Rattle.sms_centre_rows.specs.waiting.Links.{emptied, line_of, put_line, raised};
 ghost use Rattle.sms_centre_rows.specs.waiting.Trying.{due_at as due_at_of};
-ghost use Rattle.sms_centre_rows.specs.declared.waiting.load.Load.{Load as LoadOf};
+ghost use Rattle.sms_centre_rows.specs.declared.waiting.queued_part.QueuedPart.{QueuedPart as LoadOf};
 ghost use Rattle.sms_centre_rows.specs.messages.Messages.{part_at};
 ghost use Rattle.sms_centre_rows.specs.reports.Reports.{report_of};
 ghost use Rattle.sms_centre_spec.specs.CentreEvent.{raise as raise_of};
-ghost use Rattle.sms_centre_spec.specs.Draft.{Draft, in_store, on_air, parts_in, reports_in, waiting_in};
+ghost use Rattle.sms_centre_spec.specs.Draft.{Draft, in_store, on_links, parts_in, reports_in, waiting_in};
 ghost use Rattle.sms_centre_spec.specs.Receiving.{all_due as all_due_of, due_now as due_now_of, empty_line, has_memory as has_memory_of, load_due as load_due_of, part_due as part_due_of, report_due as report_due_of};
 ghost use Rattle.sms_centre_spec.specs.Transfers.{is_open_part_at, is_open_status_at};
 ghost use Rattle.sms_centre_draft.specs.DueNow.{IsOpenLoad};
-ghost use Rattle.sms_centre_draft.specs.Working.{Shows};
+ghost use Rattle.sms_centre_draft.specs.CentreDraft.{Represents};
 
-use crate::working::Working;
+use crate::centre_draft::CentreDraft;
 use sms_base::{Digits, MessageId, Moment};
-use sms_centre_rows::waiting::{Load, Progress};
+use sms_centre_rows::waiting::{QueuedPart, Progress};
 use std::alloc::AllocError;
 
 // It is tried at that moment.
@@ -30,18 +30,18 @@ fn due_at(moment: Moment, progress: &Progress) -> Progress
     }
 }
 
-impl<'a> Working<'a> {
+impl<'a> CentreDraft<'a> {
     /// The moment of the event.
     pub fn now(&self) -> Moment
-        ensures { (d : Draft) → Shows d self.now → result ≡ d.store.moment }
+        ensures { (d : Draft) → Represents d self.now → result ≡ d.store.moment }
     {
         self.moment
     }
 
     // The part, which waits, is due now.
     fn part_due(&mut self, id: MessageId, number: u8) -> Result<(), AllocError>
-        ensures { (d : Draft) → Shows d self.old → is_open_part_at (part_at id number (parts_in d.store)) d.store ≡ true
-            → OnOk result (Shows (in_store (part_due_of (part_at id number (parts_in d.store)) d.store) d) self.new) }
+        ensures { (d : Draft) → Represents d self.old → is_open_part_at (part_at id number (parts_in d.store)) d.store ≡ true
+            → OnOk result (Represents (in_store (part_due_of (part_at id number (parts_in d.store)) d.store) d) self.new) }
     {
         let found = self.open_part(id, number)?;
         match found {
@@ -55,8 +55,8 @@ impl<'a> Working<'a> {
 
     // The status report, which waits, is due now.
     fn status_due(&mut self, id: MessageId) -> Result<(), AllocError>
-        ensures { (d : Draft) → Shows d self.old → is_open_status_at (report_of id (reports_in d.store)) ≡ true
-            → OnOk result (Shows (in_store (report_due_of (report_of id (reports_in d.store)) d.store) d) self.new) }
+        ensures { (d : Draft) → Represents d self.old → is_open_status_at (report_of id (reports_in d.store)) ≡ true
+            → OnOk result (Represents (in_store (report_due_of (report_of id (reports_in d.store)) d.store) d) self.new) }
     {
         let found = self.open_status(id)?;
         match found {
@@ -69,8 +69,8 @@ impl<'a> Working<'a> {
     }
 
     // That one of what waits is due now.
-    fn load_due(&mut self, load: &Load) -> Result<(), AllocError>
-        ensures { (d : Draft) → Shows d self.old → IsOpenLoad load.now d.store → OnOk result (Shows (in_store (load_due_of load.now d.store) d) self.new) }
+    fn load_due(&mut self, load: &QueuedPart) -> Result<(), AllocError>
+        ensures { (d : Draft) → Represents d self.old → IsOpenLoad load.now d.store → OnOk result (Represents (in_store (load_due_of load.now d.store) d) self.new) }
     {
         if load.number == 0 {
             return self.status_due(load.id);
@@ -79,9 +79,9 @@ impl<'a> Working<'a> {
     }
 
     // All of them are due now.
-    fn all_due(&mut self, loads: &[Load]) -> Result<(), AllocError>
-        ensures { (d : Draft) → Shows d self.old → ((l : LoadOf) → Among l loads.now → IsOpenLoad l d.store)
-            → OnOk result (Shows (in_store (all_due_of loads.now d.store) d) self.new) }
+    fn all_due(&mut self, loads: &[QueuedPart]) -> Result<(), AllocError>
+        ensures { (d : Draft) → Represents d self.old → ((l : LoadOf) → Among l loads.now → IsOpenLoad l d.store)
+            → OnOk result (Represents (in_store (all_due_of loads.now d.store) d) self.new) }
     {
         for load in loads {
             self.load_due(load)?;
@@ -90,18 +90,18 @@ impl<'a> Working<'a> {
     }
 
     // What waits for the handset, in memory of its own.
-    fn waiting(&self, handset: Digits) -> Result<Vec<Load>, AllocError>
+    fn waiting(&self, handset: Digits) -> Result<Vec<QueuedPart>, AllocError>
         requires digits { AllDigits handset }
-        ensures { (d : Draft) → Shows d self.now → IfOk result (λ loads. loads.items ≡ waiting_in handset d.store) }
+        ensures { (d : Draft) → Represents d self.now → IfOk result (λ loads. loads.items ≡ waiting_in handset d.store) }
     {
-        let loads = self.shelves.waiting(&handset)?;
+        let loads = self.queues.waiting(&handset)?;
         Ok(loads)
     }
 
     /// All that waits for the handset is due now.
     pub fn due_now(&mut self, handset: Digits) -> Result<(), AllocError>
         requires digits { AllDigits handset }
-        ensures { (d : Draft) → Shows d self.old → OnOk result (Shows (in_store (due_now_of handset d.store) d) self.new) }
+        ensures { (d : Draft) → Represents d self.old → OnOk result (Represents (in_store (due_now_of handset d.store) d) self.new) }
     {
         let loads = self.waiting(handset)?;
         self.all_due(loads.as_slice())
@@ -110,16 +110,16 @@ impl<'a> Working<'a> {
     // The handset has memory again.
     fn empty(&mut self, handset: Digits) -> Result<(), AllocError>
         requires digits { AllDigits handset }
-        ensures { (d : Draft) → Shows d self.old → OnOk result (Shows (on_air (empty_line handset d.air) d) self.new) }
+        ensures { (d : Draft) → Represents d self.old → OnOk result (Represents (on_links (empty_line handset d.links) d) self.new) }
     {
-        self.shelves.empty(handset)?;
+        self.queues.empty(handset)?;
         Ok(())
     }
 
     /// The handset has memory, and all that waits for it is due now.
     pub fn has_memory(&mut self, handset: Digits) -> Result<(), AllocError>
         requires digits { AllDigits handset }
-        ensures { (d : Draft) → Shows d self.old → OnOk result (Shows (has_memory_of handset d) self.new) }
+        ensures { (d : Draft) → Represents d self.old → OnOk result (Represents (has_memory_of handset d) self.new) }
     {
         self.due_now(handset)?;
         self.empty(handset)
@@ -128,16 +128,16 @@ impl<'a> Working<'a> {
     // The line of the handset is up.
     fn raise_line(&mut self, handset: Digits) -> Result<(), AllocError>
         requires digits { AllDigits handset }
-        ensures { (d : Draft) → Shows d self.old → OnOk result (Shows (on_air (put_line (raised (line_of handset d.air.lines)) d.air) d) self.new) }
+        ensures { (d : Draft) → Represents d self.old → OnOk result (Represents (on_links (put_line (raised (line_of handset d.links.lines)) d.links) d) self.new) }
     {
-        self.shelves.raise(handset)?;
+        self.queues.raise(handset)?;
         Ok(())
     }
 
     /// The handset can be reached: it has memory, and all that waits for it is due now.
     pub fn raise(&mut self, handset: Digits) -> Result<(), AllocError>
         requires digits { AllDigits handset }
-        ensures { (d : Draft) → Shows d self.old → OnOk result (Shows (raise_of handset d) self.new) }
+        ensures { (d : Draft) → Represents d self.old → OnOk result (Represents (raise_of handset d) self.new) }
     {
         self.due_now(handset)?;
         self.raise_line(handset)

@@ -3,20 +3,20 @@ ghost use Rattle.std.specs.Prelude.{◌≡◌, ◌≤◌, Some, false, IfOk, OnO
 ghost use Rattle.sms_base.specs.Address.{IsAddress};
 ghost use Rattle.sms_intake.specs.PartBodies.{IsPartData};
 ghost use Rattle.sms_centre_rows.specs.waiting.References.{handset_of};
-ghost use Rattle.sms_centre_rows.specs.waiting.SoundGivings.{IsNumber};
+ghost use Rattle.sms_centre_rows.specs.waiting.SoundAllocations.{IsNumber};
 ghost use Rattle.sms_centre_spec.specs.Draft.{Draft, handsets_in, in_store, with_given};
 ghost use Rattle.sms_centre_spec.specs.SoundRows.{CanBeTold};
-ghost use Rattle.sms_centre_spec.specs.Standing.{IsSubmission};
+ghost use Rattle.sms_centre_spec.specs.Consistent.{IsSubmission};
 ghost use Rattle.sms_centre_spec.specs.Submitting.{accept_under as accept_under_of, data_coding_of as data_coding_of_text, enter as enter_of, give_part as give_part_of, give_parts as give_parts_of, message_of as message_of_submission, put_part_of, reference_for};
 ghost use Rattle.sms_centre_draft.specs.Submitting.{Accepts, AreBodies, CanGive, IsNewId};
-ghost use Rattle.sms_centre_draft.specs.Working.{Shows};
+ghost use Rattle.sms_centre_draft.specs.CentreDraft.{Represents};
 
 use crate::rows::copy_of;
-use crate::shelves::{give, put};
-use crate::working::Working;
+use crate::queues::{give, put};
+use crate::centre_draft::CentreDraft;
 use sms_base::{MessageId, Moment, Octets};
 use sms_centre_rows::messages::{MessageRow, PartRow, PriorityRow};
-use sms_centre_rows::waiting::{Load, Progress};
+use sms_centre_rows::waiting::{QueuedPart, Progress};
 use sms_concat::ConcatKey;
 use sms_intake::{SinglePart, Submission, Text, deliver_octets};
 use std::alloc::{AllocError, Global};
@@ -57,7 +57,7 @@ fn message_of(
     })
 }
 
-impl<'a> Working<'a> {
+impl<'a> CentreDraft<'a> {
     // The message with its priority.
     fn enter(
         &mut self,
@@ -65,8 +65,8 @@ impl<'a> Working<'a> {
         split: Option<u16>,
         submission: &Submission,
     ) -> Result<(), AllocError>
-        ensures { (d : Draft) → Shows d self.old → IsNewId id d.store → IsNumber submission.now.handset → CanBeTold submission.now.originator submission.now.source
-            → OnOk result (Shows (in_store (enter_of id split submission.now d.store) d) self.new) }
+        ensures { (d : Draft) → Represents d self.old → IsNewId id d.store → IsNumber submission.now.handset → CanBeTold submission.now.originator submission.now.source
+            → OnOk result (Represents (in_store (enter_of id split submission.now d.store) d) self.new) }
     {
         let row = message_of(self.alloc, id, self.moment, split, submission)?;
         self.messages.put_message(row)?;
@@ -86,28 +86,28 @@ impl<'a> Working<'a> {
     ) -> Result<(), AllocError>
         requires address { IsAddress submission.now.source }
         requires user_data { IsPartData body.now }
-        ensures { (d : Draft) → Shows d self.old → CanGive id submission.now number d.store → number ≤ 20
+        ensures { (d : Draft) → Represents d self.old → CanGive id submission.now number d.store → number ≤ 20
             → reference_for (handset_of submission.now.handset (handsets_in d.store)) d.store ≡ Some reference
-            → OnOk result (Shows (in_store (put_part_of id submission.now number body.now reference (with_given (handset_of submission.now.handset (handsets_in d.store)) reference d.store)) d) self.new) }
+            → OnOk result (Represents (in_store (put_part_of id submission.now number body.now reference (with_given (handset_of submission.now.handset (handsets_in d.store)) reference d.store)) d) self.new) }
     {
         let tpdu = deliver_octets(self.alloc, self.moment, submission, body)?;
         let row = part_of(id, number, reference, tpdu, body.key, submission.due);
         self.messages.put_part(row)?;
         give(
-            &mut self.shelves,
+            &mut self.queues,
             submission.handset,
             reference,
             self.moment,
         )?;
         let priority = submission.priority.level();
-        let load = Load {
+        let load = QueuedPart {
             id,
             number,
             reference,
             priority,
             due: submission.due,
         };
-        put(&mut self.shelves, submission.handset, load)?;
+        put(&mut self.queues, submission.handset, load)?;
         Ok(())
     }
 
@@ -121,7 +121,7 @@ impl<'a> Working<'a> {
     ) -> Result<bool, AllocError>
         requires address { IsAddress submission.now.source }
         requires user_data { IsPartData body.now }
-        ensures { (d : Draft) → Shows d self.old → CanGive id submission.now number d.store → number ≤ 20
+        ensures { (d : Draft) → Represents d self.old → CanGive id submission.now number d.store → number ≤ 20
             → IfOk result (Accepts (give_part_of id submission.now number body.now (handset_of submission.now.handset (handsets_in d.store)) d.store) d self.new) }
     {
         let free = self.next_reference(submission.handset)?;
@@ -144,7 +144,7 @@ impl<'a> Working<'a> {
         requires address { IsAddress submission.now.source }
         requires bodies { AreBodies submission.now bodies.now }
         requires few { length bodies.now ≤ 20 }
-        ensures { (d : Draft) → Shows d self.old → CanGive id submission.now 1 d.store
+        ensures { (d : Draft) → Represents d self.old → CanGive id submission.now 1 d.store
             → IfOk result (Accepts (give_parts_of id submission.now 1 bodies.now d.store) d self.new) }
     {
         let mut number: u8 = 0;
@@ -170,7 +170,7 @@ impl<'a> Working<'a> {
         requires submission { IsSubmission submission.now }
         requires bodies { AreBodies submission.now bodies.now }
         requires few { length bodies.now ≤ 20 }
-        ensures { (d : Draft) → Shows d self.old → IsNewId id d.store
+        ensures { (d : Draft) → Represents d self.old → IsNewId id d.store
             → IfOk result (Accepts (accept_under_of id split bodies.now submission.now d.store) d self.new) }
     {
         self.enter(id, split, submission)?;

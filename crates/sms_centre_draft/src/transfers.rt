@@ -1,20 +1,20 @@
 //! How a transfer to a handset ends (3GPP TS 24.011 8.2.5.4), and what the centre makes of it.
 ghost use Rattle.std.specs.Prelude.{◌≡◌, ℕ, Some, true, IfOk, OnOk};
 ghost use Rattle.sms_centre_rows.specs.messages.Messages.{all_done as all_done_of, message_at};
-ghost use Rattle.sms_centre_rows.specs.waiting.Lines.{filled, line_of, put_line};
+ghost use Rattle.sms_centre_rows.specs.waiting.Links.{filled, line_of, put_line};
 ghost use Rattle.sms_centre_rows.specs.waiting.Trying.{finished as finished_of, one_more as one_more_of, tried as tried_of};
 ghost use Rattle.sms_rows.specs.table.Keys.{AllDigits};
 ghost use Rattle.sms_centre_reports.specs.open_reports.Entries.{open_entry, report_entry};
 ghost use Rattle.sms_rows.specs.index.Picked.{pick_of};
 ghost use Rattle.sms_centre_rows.specs.reports.Reports.{is_open_status, report_of};
 ghost use Rattle.sms_centre_rows.specs.declared.reports.report.ReportRow.{ReportRow as ReportRowOf};
-ghost use Rattle.sms_centre_spec.specs.Draft.{Draft, in_store, messages_in, on_air, parts_in, reports_in};
+ghost use Rattle.sms_centre_spec.specs.Draft.{Draft, in_store, messages_in, on_links, parts_in, reports_in};
 ghost use Rattle.sms_centre_spec.specs.declared.verdict.Verdict.TheVariants.{Settled};
 ghost use Rattle.sms_centre_spec.specs.Transfers.{report_ended as report_ended_of};
 ghost use Rattle.sms_centre_draft.specs.Transfers.{IsOpenPart, IsOpenStatus, waiting_part as waiting_part_of, waiting_status as waiting_status_of};
-ghost use Rattle.sms_centre_draft.specs.Working.{Shows};
+ghost use Rattle.sms_centre_draft.specs.CentreDraft.{Represents};
 
-use crate::working::Working;
+use crate::centre_draft::CentreDraft;
 use sms_base::{Digits, MessageId, Moment};
 use sms_centre_reports::open_reports::ReportEntry;
 use sms_centre_rows::messages::{MessageRow, PartEntry};
@@ -78,10 +78,10 @@ fn waiting_status(
     }
 }
 
-impl<'a> Working<'a> {
+impl<'a> CentreDraft<'a> {
     /// Whether all parts of the message are done.
     pub fn all_done(&self, id: MessageId) -> bool
-        ensures { (d : Draft) → Shows d self.now → result ≡ all_done_of id (parts_in d.store) }
+        ensures { (d : Draft) → Represents d self.now → result ≡ all_done_of id (parts_in d.store) }
     {
         self.messages.all_done(id)
     }
@@ -92,7 +92,7 @@ impl<'a> Working<'a> {
         id: MessageId,
         number: u8,
     ) -> Result<Option<(PartEntry, MessageRow)>, AllocError>
-        ensures { (d : Draft) → Shows d self.now → IfOk result (IsOpenPart id number d.store) }
+        ensures { (d : Draft) → Represents d self.now → IfOk result (IsOpenPart id number d.store) }
     {
         let Some(entry) = self.messages.find_part(id, number) else {
             return Ok(None);
@@ -103,7 +103,7 @@ impl<'a> Working<'a> {
 
     // The report of that entry with its message, where it is a status report.
     fn status_of(&self, entry: ReportEntry) -> Result<Option<(ReportEntry, MessageRow)>, AllocError>
-        ensures { (d : Draft) (id : ℕ) → Shows d self.now → Some entry ≡ pick_of open_entry (report_of id (reports_in d.store)) → IfOk result (IsOpenStatus id d.store) }
+        ensures { (d : Draft) (id : ℕ) → Represents d self.now → Some entry ≡ pick_of open_entry (report_of id (reports_in d.store)) → IfOk result (IsOpenStatus id d.store) }
     {
         let message = self.messages.find(entry.id)?;
         Ok(waiting_status(entry, message))
@@ -114,7 +114,7 @@ impl<'a> Working<'a> {
         &self,
         id: MessageId,
     ) -> Result<Option<(ReportEntry, MessageRow)>, AllocError>
-        ensures { (d : Draft) → Shows d self.now → IfOk result (IsOpenStatus id d.store) }
+        ensures { (d : Draft) → Represents d self.now → IfOk result (IsOpenStatus id d.store) }
     {
         match self.reports.find(id) {
             Some(entry) => self.status_of(entry),
@@ -128,9 +128,9 @@ impl<'a> Working<'a> {
         entry: &ReportEntry,
         message: &MessageRow,
     ) -> Result<(), AllocError>
-        ensures { (d : Draft) (r : ReportRowOf) → Shows d self.old → report_of r.id (reports_in d.store) ≡ Some r → entry.now ≡ report_entry r → is_open_status r ≡ true
+        ensures { (d : Draft) (r : ReportRowOf) → Represents d self.old → report_of r.id (reports_in d.store) ≡ Some r → entry.now ≡ report_entry r → is_open_status r ≡ true
             → message_at r.id (messages_in d.store) ≡ Some message.now
-            → OnOk result (Shows (in_store (report_ended_of Settled r d.store) d) self.new) }
+            → OnOk result (Represents (in_store (report_ended_of Settled r d.store) d) self.new) }
     {
         self.status_ended(Verdict::Settled, entry, message)
     }
@@ -142,9 +142,9 @@ impl<'a> Working<'a> {
         entry: &ReportEntry,
         message: &MessageRow,
     ) -> Result<(), AllocError>
-        ensures { (d : Draft) (r : ReportRowOf) → Shows d self.old → report_of r.id (reports_in d.store) ≡ Some r → entry.now ≡ report_entry r → is_open_status r ≡ true
+        ensures { (d : Draft) (r : ReportRowOf) → Represents d self.old → report_of r.id (reports_in d.store) ≡ Some r → entry.now ≡ report_entry r → is_open_status r ≡ true
             → message_at r.id (messages_in d.store) ≡ Some message.now
-            → OnOk result (Shows (in_store (report_ended_of verdict r d.store) d) self.new) }
+            → OnOk result (Represents (in_store (report_ended_of verdict r d.store) d) self.new) }
     {
         match verdict {
             Verdict::Settled | Verdict::Refused => {
@@ -158,9 +158,9 @@ impl<'a> Working<'a> {
     /// The handset has no memory.
     pub fn fill(&mut self, handset: Digits) -> Result<(), AllocError>
         requires digits { AllDigits handset }
-        ensures { (d : Draft) → Shows d self.old → OnOk result (Shows (on_air (put_line (filled (line_of handset d.air.lines)) d.air) d) self.new) }
+        ensures { (d : Draft) → Represents d self.old → OnOk result (Represents (on_links (put_line (filled (line_of handset d.links.lines)) d.links) d) self.new) }
     {
-        self.shelves.fill(handset)?;
+        self.queues.fill(handset)?;
         Ok(())
     }
 }

@@ -15,11 +15,11 @@ use Rattle.sms_intake.specs.declared.submission.Text.{Text}
 use Rattle.sms_intake.specs.declared.submission.Text.TheVariants.{Single, Whole}
 use Rattle.sms_intake.specs.PartBodies.{HasUnits, bodies_under, is_long}
 use Rattle.sms_centre_spec.specs.Draft.{Draft, Store, messages_in, parts_in}
-use Rattle.sms_centre_spec.specs.Standing.{IsSubmission}
+use Rattle.sms_centre_spec.specs.Consistent.{IsSubmission}
 use Rattle.sms_centre_spec.specs.Submitting.{accept_as, accept_split, accept_under}
 use Rattle.sms_centre_spec.proofs.NextNumbers.{below_next_id, some_next_id}
 use Rattle.sms_centre_draft.specs.Submitting.{AreBodies, IsNewId}
-use Rattle.sms_centre_draft.specs.Working.{Shows, WorkingOf}
+use Rattle.sms_centre_draft.specs.CentreDraft.{Represents, CentreDraftOf}
 
 -- ---- one part
 
@@ -90,8 +90,8 @@ pub no_number : (n : ℕ) (b : Bool) → None ≡ (if b then Some n else None) �
 no_number n true e = absurd cc
 no_number n false e = refl
 
-pub next_new : (d : Draft) (w : WorkingOf) (id : ℕ) → Shows d w → id ≡ next_id (messages_in d.store) → IsNewId id d.store
-next_new d w id shows is m among = subst (λ (n : ℕ). m.id < n) (sym is) (below_next_id 1 m (messages_in d.store) shows.stands.message_keys among)
+pub next_new : (d : Draft) (w : CentreDraftOf) (id : ℕ) → Represents d w → id ≡ next_id (messages_in d.store) → IsNewId id d.store
+next_new d w id represents is m among = subst (λ (n : ℕ). m.id < n) (sym is) (below_next_id 1 m (messages_in d.store) represents.stands.message_keys among)
 
 -- ---- the next number, if one is left
 

@@ -6,7 +6,7 @@ use Rattle.sms_base.specs.declared.originator.Originator.{Originator}
 use Rattle.sms_base.specs.declared.originator.Originator.TheVariants.{Application, Handset}
 use Rattle.sms_centre_rows.specs.declared.messages.message.MessageRow.{MessageRow}
 use Rattle.sms_centre_rows.specs.messages.Messages.{is_pending}
-use Rattle.sms_centre_messages.specs.references.Claims.{has_pending, is_from_handset}
+use Rattle.sms_centre_messages.specs.references.ReferenceIndex.{has_pending, is_from_handset}
 use Rattle.sms_intake.specs.declared.submission.Submission.{Submission}
 use Rattle.sms_centre_spec.specs.Receiving.{is_of_reference, is_pending_double}
 

@@ -6,10 +6,10 @@ use Rattle.sms_base.specs.Among.{Among}
 use Rattle.sms_rows.specs.table.Table.{AllAbove, Rises}
 use Rattle.sms_centre_rows.specs.declared.messages.message.MessageRow.{MessageRow}
 use Rattle.sms_centre_rows.specs.messages.Messages.{message_key}
-use Rattle.sms_centre_messages.specs.held.MessagesInMemory.{is_past, past_ids}
+use Rattle.sms_centre_messages.specs.message_index.MessageIndex.{is_past, past_ids}
 use Rattle.sms_centre_draft.specs.walks.Expiring.{CoversOver, expire_at, expire_numbers}
 use Rattle.sms_centre_spec.specs.Draft.{Draft, Store, in_store, messages_in}
-use Rattle.sms_centre_draft.specs.Working.{Shows, WorkingOf}
+use Rattle.sms_centre_draft.specs.CentreDraft.{Represents, CentreDraftOf}
 
 -- ---- the numbers of those that are past, in order
 
@@ -63,19 +63,19 @@ past_covers s m among over = covers s.moment (messages_in s) m among over
 
 -- ---- what is left of the walk
 
-pub record IsLeft (d : Draft) (ids rest : List ℕ) (w : WorkingOf) : Type 0 where
+pub record IsLeft (d : Draft) (ids rest : List ℕ) (w : CentreDraftOf) : Type 0 where
   pub store : Store
-  pub shows : Shows (in_store store d) w
+  pub represents : Represents (in_store store d) w
   pub goes : expire_numbers rest store ≡ expire_numbers ids d.store
 
-pub left_next : (d : Draft) (ids rest : List ℕ) (id : ℕ) (behind : List ℕ) (w new : WorkingOf) → rest ≡ id ∷ behind → IsLeft d ids rest w
-    → ((e : Draft) → Shows e w → Shows (in_store (expire_at id e.store) e) new) → IsLeft d ids behind new
+pub left_next : (d : Draft) (ids rest : List ℕ) (id : ℕ) (behind : List ℕ) (w new : CentreDraftOf) → rest ≡ id ∷ behind → IsLeft d ids rest w
+    → ((e : Draft) → Represents e w → Represents (in_store (expire_at id e.store) e) new) → IsLeft d ids behind new
 left_next d ids rest id behind w new split left does = record {
   store = expire_at id left.store;
-  shows = does (in_store left.store d) left.shows;
+  represents = does (in_store left.store d) left.represents;
   goes = sym (ap (λ (ns : List ℕ). expire_numbers ns left.store) split) ∙ left.goes;
 }
 
-pub left_none : (d : Draft) (ids rest : List ℕ) (w : WorkingOf) → rest ≡ [] → IsLeft d ids rest w → Shows (in_store (expire_numbers ids d.store) d) w
+pub left_none : (d : Draft) (ids rest : List ℕ) (w : CentreDraftOf) → rest ≡ [] → IsLeft d ids rest w → Represents (in_store (expire_numbers ids d.store) d) w
 left_none d ids rest w none left =
-    subst (λ (s : Store). Shows (in_store s d) w) (sym (ap (λ (ns : List ℕ). expire_numbers ns left.store) none) ∙ left.goes) left.shows
+    subst (λ (s : Store). Represents (in_store s d) w) (sym (ap (λ (ns : List ℕ). expire_numbers ns left.store) none) ∙ left.goes) left.represents

@@ -3,7 +3,7 @@ use Rattle.std.proofs.Common.{◌≡◌, ℕ, Option, Some, None, refl, subst, s
 use Rattle.std.specs.Prelude.{◌&&◌}
 use Rattle.std.proofs.lemmas.Bool.{cond_both}
 use Rattle.sms_base.specs.declared.address.Address.{Address}
-use Rattle.sms_intake.specs.declared.submission.Account.{Account}
+use Rattle.sms_intake.specs.declared.submission.CentreAccount.{CentreAccount}
 use Rattle.sms_centre_rows.specs.declared.messages.message.MessageRow.{MessageRow}
 use Rattle.sms_centre_rows.specs.messages.Messages.{message_at}
 use Rattle.sms_centre_rows.specs.reports.Receipts.{is_account}
@@ -20,11 +20,11 @@ numbered_stands : (o : Option ℕ) (s : Store) → StandsThere (message_numbered
 numbered_stands None s = tt
 numbered_stands (Some id) s = at_number id s (message_at id (messages_in s)) refl
 
-own_of : (account : Account) (source : Option Address) (s : Store) (x : Option MessageRow) → StandsThere x s → StandsThere (own_message account source x) s
+own_of : (account : CentreAccount) (source : Option Address) (s : Store) (x : Option MessageRow) → StandsThere x s → StandsThere (own_message account source x) s
 own_of account source s None k = tt
 own_of account source s (Some m) k =
     cond_both (is_account account.name m.originator && is_from source m) (Some m) None (λ (o : Option MessageRow). StandsThere o s) (λ t. k) (λ t. tt)
 
-pub own_stands : (account : Account) (source : Option Address) (o : Option ℕ) (s : Store) (found : Option MessageRow) → found ≡ own_message account source (message_numbered o (messages_in s)) → StandsThere found s
+pub own_stands : (account : CentreAccount) (source : Option Address) (o : Option ℕ) (s : Store) (found : Option MessageRow) → found ≡ own_message account source (message_numbered o (messages_in s)) → StandsThere found s
 own_stands account source o s found is =
     subst (λ (x : Option MessageRow). StandsThere x s) (sym is) (own_of account source s (message_numbered o (messages_in s)) (numbered_stands o s))

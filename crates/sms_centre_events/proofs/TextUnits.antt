@@ -13,7 +13,7 @@ use Rattle.smpp_pdu.specs.declared.message.Message.{Message}
 use Rattle.smpp_pdu.specs.declared.status.CommandStatus.{CommandStatus}
 use Rattle.smpp_pdu.specs.declared.status.CommandStatus.TheVariants.{ESME_RINVMSGLEN}
 use Rattle.smpp_pdu.specs.declared.tlv.Tlvs.{Tlvs}
-use Rattle.sms_intake.specs.declared.submission.Account.{Account}
+use Rattle.sms_intake.specs.declared.submission.CentreAccount.{CentreAccount}
 use Rattle.sms_intake.specs.declared.submission.Submission.{Submission}
 use Rattle.sms_intake.specs.declared.submission.Text.{Text}
 use Rattle.sms_intake.specs.declared.submission.Text.TheVariants.{Single, Whole}
@@ -56,7 +56,7 @@ text_units : (m : Message) (t : Text) → text_in m ≡ Ok t → HasUnits t
 text_units m t e =
     cond_both (has_header m) _ _ (λ r. r ≡ Ok t → HasUnits t) (λ h f. headed_units m.data_coding _ t f) (λ h f. plain_units m.data_coding m.tlvs _ t f) e
 
-pub pdu_units : (account : Account) (now : ℕ) (m : Message) (u : Submission) → from_pdu account now m ≡ Ok u → HasUnits u.text
+pub pdu_units : (account : CentreAccount) (now : ℕ) (m : Message) (u : Submission) → from_pdu account now m ≡ Ok u → HasUnits u.text
 unfolding from_pdu judged_in
 pdu_units account now m u e =
     let judged = bind_ok (judged_in account.address now m) _ u e in

@@ -6,14 +6,14 @@ use Rattle.sms_intake.specs.declared.submission.Text.TheVariants.{Whole, Single}
 use Rattle.sms_intake.specs.declared.refusal.SubmitRefusal.TheVariants.{Congested as NoneFree}
 use Rattle.sms_centre_spec.specs.Draft.{Draft}
 use Rattle.sms_centre_spec.specs.Receiving.{refuse}
-use Rattle.sms_centre_events.specs.declared.units.Came.{Came}
-use Rattle.sms_centre_events.specs.declared.units.Came.TheVariants.{Done, Congested}
-use Rattle.sms_centre_draft.specs.Working.{Shows, WorkingOf}
+use Rattle.sms_centre_events.specs.declared.units.FrameOutcome.{FrameOutcome}
+use Rattle.sms_centre_events.specs.declared.units.FrameOutcome.TheVariants.{Done, Congested}
+use Rattle.sms_centre_draft.specs.CentreDraft.{Represents, CentreDraftOf}
 
 -- The draft that comes of it is shown; or it is the one in which the SUBMIT under that reference is refused for want of references.
-abbrev pub Comes : Draft → List ℕ → Holder → Draft → WorkingOf → Came → Type 0
-Comes after handset tag d w Done = Shows after w
-Comes after handset tag d w (Congested reference) = after ≡ refuse handset reference tag NoneFree d
+abbrev pub LeadsTo : Draft → List ℕ → Holder → Draft → CentreDraftOf → FrameOutcome → Type 0
+LeadsTo after handset tag d w Done = Represents after w
+LeadsTo after handset tag d w (Congested reference) = after ≡ refuse handset reference tag NoneFree d
 
 -- one part, whose text came with a header of its own or none
 abbrev pub IsSingle : Text → Type 0

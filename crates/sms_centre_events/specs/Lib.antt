@@ -1,5 +1,5 @@
 pub mod Answering
-pub mod Coming
+pub mod SubmitOutcomes
 pub mod Found
 pub mod Knowing
 pub mod Walking

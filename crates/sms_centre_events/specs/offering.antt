@@ -1,3 +1,3 @@
 pub mod Offered
 pub mod Stored
-pub mod Going
+pub mod Refusing

@@ -3,18 +3,18 @@ ghost use Rattle.std.specs.Prelude.{◌≡◌, nat_lt, length, IfOk};
 ghost use Rattle.sms_concat.specs.UserData.{AreUnits, capacity};
 ghost use Rattle.sms_intake.specs.PartBodies.{HasUnits, bodies_under as bodies_under_of};
 ghost use Rattle.sms_intake.specs.declared.submission.Text.TheVariants.{Single, Whole};
-ghost use Rattle.sms_centre_messages.specs.references.Claims.{Holds};
+ghost use Rattle.sms_centre_messages.specs.references.ReferenceIndex.{Represents as ReferencesRepresent};
 ghost use Rattle.sms_centre_rows.specs.messages.SplitReferences.{next_split};
 ghost use Rattle.sms_centre_spec.specs.Draft.{Draft, messages_in, parts_in};
-ghost use Rattle.sms_centre_spec.specs.Standing.{IsSubmission};
+ghost use Rattle.sms_centre_spec.specs.Consistent.{IsSubmission};
 ghost use Rattle.sms_centre_spec.specs.Submitting.{accept_as as accept_as_of, accept_split as accept_split_of, accept_under};
 ghost use Rattle.sms_centre_draft.specs.Submitting.{Accepts, IsNewId};
-ghost use Rattle.sms_centre_draft.specs.Working.{Shows};
+ghost use Rattle.sms_centre_draft.specs.CentreDraft.{Represents as DraftRepresents};
 
 use sms_alphabet::greatest_length;
 use sms_base::{MessageId, Octets};
-use sms_centre_draft::Working;
-use sms_centre_messages::references::KeptClaims;
+use sms_centre_draft::CentreDraft;
+use sms_centre_messages::references::ReferenceIndex;
 use sms_concat::Content;
 use sms_intake::{SinglePart, Submission, Text, bodies_under};
 use std::alloc::{AllocError, Global};
@@ -22,17 +22,17 @@ use std::slice;
 
 /// The message of one part under that number; false where no reference is free for it.
 pub(crate) fn accept_one(
-    working: &mut Working<'_>,
+    draft: &mut CentreDraft<'_>,
     id: MessageId,
     part: &SinglePart,
     submission: &Submission,
 ) -> Result<bool, AllocError>
     requires submission { IsSubmission submission.now }
     requires one { submission.now.text ≡ Single part.now }
-    ensures { (d : Draft) → Shows d working.old → IsNewId id d.store → IfOk result (Accepts (accept_as_of id submission.now d.store) d working.new) }
+    ensures { (d : Draft) → DraftRepresents d draft.old → IsNewId id d.store → IfOk result (Accepts (accept_as_of id submission.now d.store) d draft.new) }
 {
     let parts = slice::from_ref(part);
-    working.accept_under(id, None, parts, submission)
+    draft.accept_under(id, None, parts, submission)
 }
 
 // The content as a text, in memory of its own.
@@ -50,7 +50,7 @@ fn copy_of(alloc: Global, content: &Content) -> Result<Text, AllocError>
 // The message of that content under that number, its parts made under that reference; false where references are free for not all
 // of them.
 fn accept_content(
-    working: &mut Working<'_>,
+    draft: &mut CentreDraft<'_>,
     id: MessageId,
     split: Option<u16>,
     reference: u16,
@@ -60,12 +60,12 @@ fn accept_content(
     requires submission { IsSubmission submission.now }
     requires whole { submission.now.text ≡ Whole content.now }
     requires units { AreUnits content.now.coding content.now.units }
-    ensures { (d : Draft) → Shows d working.old → IsNewId id d.store
-        → IfOk result (Accepts (accept_under id split (bodies_under_of reference submission.now.text) submission.now d.store) d working.new) }
+    ensures { (d : Draft) → DraftRepresents d draft.old → IsNewId id d.store
+        → IfOk result (Accepts (accept_under id split (bodies_under_of reference submission.now.text) submission.now d.store) d draft.new) }
 {
-    let text = copy_of(working.alloc(), content)?;
-    let bodies = bodies_under(working.alloc(), reference, text)?;
-    working.accept_under(id, split, bodies.as_slice(), submission)
+    let text = copy_of(draft.alloc(), content)?;
+    let bodies = bodies_under(draft.alloc(), reference, text)?;
+    draft.accept_under(id, split, bodies.as_slice(), submission)
 }
 
 // Whether it doesn't fit one part.
@@ -77,8 +77,8 @@ fn is_long(content: &Content) -> bool
 
 // The message of a content that is split, under the next reference for it; false where none is free.
 fn accept_split(
-    working: &mut Working<'_>,
-    claims: &KeptClaims,
+    draft: &mut CentreDraft<'_>,
+    reference_index: &ReferenceIndex,
     id: MessageId,
     content: &Content,
     submission: &Submission,
@@ -86,13 +86,13 @@ fn accept_split(
     requires submission { IsSubmission submission.now }
     requires whole { submission.now.text ≡ Whole content.now }
     requires units { AreUnits content.now.coding content.now.units }
-    ensures { (d : Draft) → Shows d working.old → Holds claims.now (messages_in d.store) (parts_in d.store) → IsNewId id d.store
-        → IfOk result (Accepts (accept_split_of id (next_split submission.now.source submission.now.handset (messages_in d.store) (parts_in d.store)) submission.now d.store) d working.new) }
+    ensures { (d : Draft) → DraftRepresents d draft.old → ReferencesRepresent reference_index.now (messages_in d.store) (parts_in d.store) → IsNewId id d.store
+        → IfOk result (Accepts (accept_split_of id (next_split submission.now.source submission.now.handset (messages_in d.store) (parts_in d.store)) submission.now d.store) d draft.new) }
 {
-    let free = claims.next_split(&submission.source, &submission.handset);
+    let free = reference_index.next_split(&submission.source, &submission.handset);
     match free {
         Some(reference) => {
-            accept_content(working, id, Some(reference), reference, content, submission)
+            accept_content(draft, id, Some(reference), reference, content, submission)
         }
         None => Ok(false),
     }
@@ -100,8 +100,8 @@ fn accept_split(
 
 // The message of a content, which is split where it doesn't fit one part.
 fn accept_whole(
-    working: &mut Working<'_>,
-    claims: &KeptClaims,
+    draft: &mut CentreDraft<'_>,
+    reference_index: &ReferenceIndex,
     id: MessageId,
     content: &Content,
     submission: &Submission,
@@ -109,30 +109,30 @@ fn accept_whole(
     requires submission { IsSubmission submission.now }
     requires whole { submission.now.text ≡ Whole content.now }
     requires units { AreUnits content.now.coding content.now.units }
-    ensures { (d : Draft) → Shows d working.old → Holds claims.now (messages_in d.store) (parts_in d.store) → IsNewId id d.store
-        → IfOk result (Accepts (accept_as_of id submission.now d.store) d working.new) }
+    ensures { (d : Draft) → DraftRepresents d draft.old → ReferencesRepresent reference_index.now (messages_in d.store) (parts_in d.store) → IsNewId id d.store
+        → IfOk result (Accepts (accept_as_of id submission.now d.store) d draft.new) }
 {
     if is_long(content) {
-        return accept_split(working, claims, id, content, submission);
+        return accept_split(draft, reference_index, id, content, submission);
     }
-    accept_content(working, id, None, 0, content, submission)
+    accept_content(draft, id, None, 0, content, submission)
 }
 
 /// The message of the submission under that number. False where no split reference or no references are free for it;
 /// then the event is to begin anew.
 pub(crate) fn accept_as(
-    working: &mut Working<'_>,
-    claims: &KeptClaims,
+    draft: &mut CentreDraft<'_>,
+    reference_index: &ReferenceIndex,
     id: MessageId,
     submission: &Submission,
 ) -> Result<bool, AllocError>
     requires submission { IsSubmission submission.now }
     requires units { HasUnits submission.now.text }
-    ensures { (d : Draft) → Shows d working.old → Holds claims.now (messages_in d.store) (parts_in d.store) → IsNewId id d.store
-        → IfOk result (Accepts (accept_as_of id submission.now d.store) d working.new) }
+    ensures { (d : Draft) → DraftRepresents d draft.old → ReferencesRepresent reference_index.now (messages_in d.store) (parts_in d.store) → IsNewId id d.store
+        → IfOk result (Accepts (accept_as_of id submission.now d.store) d draft.new) }
 {
     match &submission.text {
-        Text::Single(part) => accept_one(working, id, part, submission),
-        Text::Whole(content) => accept_whole(working, claims, id, content, submission),
+        Text::Single(part) => accept_one(draft, id, part, submission),
+        Text::Whole(content) => accept_whole(draft, reference_index, id, content, submission),
     }
 }

@@ -5,13 +5,13 @@ ghost use Rattle.sms_centre_rows.specs.messages.SplitReferences.{is_same_address
 ghost use Rattle.sms_centre_rows.specs.reports.Receipts.{is_account as is_account_of};
 
 use sms_base::{Address, Originator};
-use sms_centre_draft::Working;
+use sms_centre_draft::CentreDraft;
 use sms_centre_rows::messages::MessageRow;
 use sms_centre_spec::Setup;
-use sms_intake::Account;
+use sms_intake::CentreAccount;
 
 /// The account at that place of the setup, from place 0 on.
-pub fn account_at(setup: &Setup, place: u8) -> Option<&Account>
+pub fn account_at(setup: &Setup, place: u8) -> Option<&CentreAccount>
     ensures { option_copied result ≡ account_at_of place setup.now.accounts }
 {
     let accounts = setup.accounts.as_slice();
@@ -23,10 +23,10 @@ pub fn account_at(setup: &Setup, place: u8) -> Option<&Account>
 }
 
 /// The account at that place of the centre's setup.
-pub(crate) fn account_of<'a>(working: &Working<'a>, place: u8) -> Option<&'a Account>
-    ensures { option_copied result ≡ account_at_of place working.now.setup.accounts }
+pub(crate) fn account_of<'a>(draft: &CentreDraft<'a>, place: u8) -> Option<&'a CentreAccount>
+    ensures { option_copied result ≡ account_at_of place draft.now.setup.accounts }
 {
-    account_at(working.setup, place)
+    account_at(draft.setup, place)
 }
 
 fn is_account(name: &[u8], originator: &Originator) -> bool

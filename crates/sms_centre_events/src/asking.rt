@@ -1,7 +1,7 @@
 //! What a submission is compared with, and the number that its message takes.
 ghost use Rattle.std.specs.Prelude.{◌≡◌, ◌&&◌, List, Some, None, if◌then◌else◌, nat_le};
-ghost use Rattle.sms_centre_messages.specs.references.Claims.{Holds};
-ghost use Rattle.sms_centre_messages.specs.held.MessagesInMemory.{Holds as HoldsMessages};
+ghost use Rattle.sms_centre_messages.specs.references.ReferenceIndex.{Represents};
+ghost use Rattle.sms_centre_messages.specs.message_index.MessageIndex.{Represents as MessagesRepresent};
 ghost use Rattle.sms_centre_rows.specs.messages.Messages.{next_id as next_id_of};
 ghost use Rattle.sms_centre_rows.specs.messages.SplitReferences.{held_splits, is_taken, wide_in};
 ghost use Rattle.sms_centre_rows.specs.declared.messages.message.MessageRow.{MessageRow as MessageRowOf};
@@ -10,21 +10,21 @@ ghost use Rattle.sms_centre_spec.specs.Receiving.{is_pending_double};
 ghost use Rattle.sms_centre_spec.specs.Submitting.{own_reference as own_reference_of};
 
 use sms_base::{MessageId, Originator};
-use sms_centre_messages::held::KeptMessages;
-use sms_centre_messages::references::KeptClaims;
+use sms_centre_messages::message_index::MessageIndex;
+use sms_centre_messages::references::ReferenceIndex;
 use sms_concat::{ConcatKey, ConcatReference};
 use sms_intake::{Submission, Text};
 
 /// Whether it is to be refused as a duplicate (3GPP TS 23.040 9.2.3.25): a message of its originator, TP-MR and
 /// destination is pending, and TP-RD is 1.
-pub(crate) fn is_duplicate(claims: &KeptClaims, submission: &Submission) -> bool
-    ensures { (ms : List MessageRowOf) (ps : List PartRowOf) → Holds claims.now ms ps → result ≡ (submission.now.rejects_duplicates && is_pending_double submission.now ms) }
+pub(crate) fn is_duplicate(reference_index: &ReferenceIndex, submission: &Submission) -> bool
+    ensures { (ms : List MessageRowOf) (ps : List PartRowOf) → Represents reference_index.now ms ps → result ≡ (submission.now.rejects_duplicates && is_pending_double submission.now ms) }
 {
     if !submission.rejects_duplicates {
         return false;
     }
     match &submission.originator {
-        Originator::Handset { message_reference } => claims.has_pending(
+        Originator::Handset { message_reference } => reference_index.has_pending(
             &submission.source.digits,
             &submission.handset,
             *message_reference,
@@ -57,17 +57,17 @@ fn own_reference(text: &Text) -> Option<u16>
 }
 
 /// Whether its header has a reference that the centre gave for its source and handset (3GPP TS 23.040 9.2.3.24.8).
-pub(crate) fn is_reference_taken(claims: &KeptClaims, submission: &Submission) -> bool
-    ensures { (ms : List MessageRowOf) (ps : List PartRowOf) → Holds claims.now ms ps
+pub(crate) fn is_reference_taken(reference_index: &ReferenceIndex, submission: &Submission) -> bool
+    ensures { (ms : List MessageRowOf) (ps : List PartRowOf) → Represents reference_index.now ms ps
         → result ≡ is_taken (own_reference_of submission.now.text) (held_splits submission.now.source submission.now.handset ms) }
 {
     let reference = own_reference(&submission.text);
-    claims.is_taken(&submission.source, &submission.handset, reference)
+    reference_index.is_taken(&submission.source, &submission.handset, reference)
 }
 
 /// The number of the next message, if one is left.
-pub(crate) fn next_id(kept: &KeptMessages) -> Option<MessageId>
-    ensures { (ms : List MessageRowOf) (ps : List PartRowOf) → HoldsMessages kept.now ms ps
+pub(crate) fn next_id(kept: &MessageIndex) -> Option<MessageId>
+    ensures { (ms : List MessageRowOf) (ps : List PartRowOf) → MessagesRepresent kept.now ms ps
         → result ≡ (if nat_le (next_id_of ms) 9999999999 then Some (next_id_of ms) else None) }
 {
     MessageId::new(kept.next_id())

@@ -5,7 +5,7 @@
 //! reports and handsets at a tick; the code walks over those that are found.
 //!
 //! Where numbers or references aren't free for all parts of a submission, the centre is left half changed. The event
-//! then begins anew and refuses the submission (`Came::Congested`, `Asked::Congested`). Three questions are answered by
+//! then begins anew and refuses the submission (`FrameOutcome::Congested`, `SubmitOutcome::Congested`). Three questions are answered by
 //! what is kept as the event begins (`specs/Knowing.antt`): whether a SUBMIT is a duplicate, whether a reference is
 //! taken, and the next number. Nothing earlier in the event changes a message or a part.
 //!
@@ -45,6 +45,6 @@ pub use accounts::account_at;
 pub use binding::bind;
 pub use frames::{frame_refused, frame_taken};
 pub use questions::{cancel, query};
-pub use submitting::{Asked, submit, submit_refused};
+pub use submitting::{SubmitOutcome, submit, submit_refused};
 pub use ticks::tick;
-pub use units::Came;
+pub use units::FrameOutcome;

@@ -8,61 +8,61 @@ ghost use Rattle.sms_centre_spec.specs.Draft.{Draft, answer_with, in_store, mess
 ghost use Rattle.sms_centre_spec.specs.Ends.{end};
 ghost use Rattle.sms_centre_spec.specs.Requests.{cancel as cancel_of, cancel_by as cancel_by_of, cancelled as cancelled_of, queried as queried_of, query as query_of, query_by as query_by_of, refused as refused_of};
 ghost use Rattle.sms_centre_events.specs.Found.{StandsThere};
-ghost use Rattle.sms_centre_draft.specs.Working.{Shows};
+ghost use Rattle.sms_centre_draft.specs.CentreDraft.{Represents};
 
 use crate::accounts::account_of;
 use crate::finding::own_message;
 use smpp_pdu::{CancelSm, CommandStatus, QuerySm};
 use sms_base::FinalState;
-use sms_centre_draft::Working;
+use sms_centre_draft::CentreDraft;
 use sms_centre_rows::messages::MessageRow;
 use sms_centre_spec::CentreAnswer;
-use sms_intake::Account;
+use sms_intake::CentreAccount;
 use std::alloc::AllocError;
 
 /// The request is refused with that status.
-pub(crate) fn refuse(working: &mut Working<'_>, status: CommandStatus)
-    ensures { (d : Draft) → Shows d working.old → Shows (refused_of status d) working.new }
+pub(crate) fn refuse(draft: &mut CentreDraft<'_>, status: CommandStatus)
+    ensures { (d : Draft) → Represents d draft.old → Represents (refused_of status d) draft.new }
 {
-    working.answer(CentreAnswer::Refused(status));
+    draft.answer(CentreAnswer::Refused(status));
 }
 
 // ---- query_sm
 
-fn queried(working: &mut Working<'_>, found: Option<MessageRow>)
-    ensures { (d : Draft) → Shows d working.old → Shows (queried_of found d) working.new }
+fn queried(draft: &mut CentreDraft<'_>, found: Option<MessageRow>)
+    ensures { (d : Draft) → Represents d draft.old → Represents (queried_of found d) draft.new }
 {
     match found {
-        Some(message) => working.answer(CentreAnswer::Queried {
+        Some(message) => draft.answer(CentreAnswer::Queried {
             id: message.id,
             state: message.state,
             done: message.done,
         }),
-        None => refuse(working, CommandStatus::ESME_RINVMSGID),
+        None => refuse(draft, CommandStatus::ESME_RINVMSGID),
     }
 }
 
 fn query_by(
-    working: &mut Working<'_>,
-    account: &Account,
+    draft: &mut CentreDraft<'_>,
+    account: &CentreAccount,
     query: &QuerySm<'_>,
 ) -> Result<(), AllocError>
-    ensures { (d : Draft) → Shows d working.old → OnOk result (Shows (query_by_of (Some account.now) query.now d) working.new) }
+    ensures { (d : Draft) → Represents d draft.old → OnOk result (Represents (query_by_of (Some account.now) query.now d) draft.new) }
 {
-    let found = own_message(working, account, &query.source, query.message_id.as_slice())?;
-    queried(working, found);
+    let found = own_message(draft, account, &query.source, query.message_id.as_slice())?;
+    queried(draft, found);
     Ok(())
 }
 
 /// Answers the state of the message that the account asks for, by its number and source. Refused are an account that
 /// isn't there (ESME_RSYSERR) and a message that isn't the account's (ESME_RINVMSGID).
-pub fn query(working: &mut Working<'_>, account: u8, query: &QuerySm<'_>) -> Result<(), AllocError>
-    ensures { (d : Draft) → Shows d working.old → OnOk result (Shows (query_of account query.now d) working.new) }
+pub fn query(draft: &mut CentreDraft<'_>, account: u8, query: &QuerySm<'_>) -> Result<(), AllocError>
+    ensures { (d : Draft) → Represents d draft.old → OnOk result (Represents (query_of account query.now d) draft.new) }
 {
-    match account_of(working, account) {
-        Some(account) => query_by(working, account, query),
+    match account_of(draft, account) {
+        Some(account) => query_by(draft, account, query),
         None => {
-            refuse(working, CommandStatus::ESME_RSYSERR);
+            refuse(draft, CommandStatus::ESME_RSYSERR);
             Ok(())
         }
     }
@@ -71,34 +71,34 @@ pub fn query(working: &mut Working<'_>, account: u8, query: &QuerySm<'_>) -> Res
 // ---- cancel_sm
 
 // The message, which is pending, is deleted.
-fn delete(working: &mut Working<'_>, message: &MessageRow) -> Result<(), AllocError>
-    ensures { (d : Draft) → Shows d working.old → message_at message.now.id (messages_in d.store) ≡ Some message.now → is_pending message.now ≡ true
-        → OnOk result (Shows (answer_with Cancelled (in_store (end Deleted message.now d.store) d)) working.new) }
+fn delete(draft: &mut CentreDraft<'_>, message: &MessageRow) -> Result<(), AllocError>
+    ensures { (d : Draft) → Represents d draft.old → message_at message.now.id (messages_in d.store) ≡ Some message.now → is_pending message.now ≡ true
+        → OnOk result (Represents (answer_with Cancelled (in_store (end Deleted message.now d.store) d)) draft.new) }
 {
-    working.end(FinalState::Deleted, message)?;
-    working.answer(CentreAnswer::Cancelled);
+    draft.end(FinalState::Deleted, message)?;
+    draft.answer(CentreAnswer::Cancelled);
     Ok(())
 }
 
-fn cancelled(working: &mut Working<'_>, message: &MessageRow) -> Result<(), AllocError>
-    ensures { (d : Draft) → Shows d working.old → message_at message.now.id (messages_in d.store) ≡ Some message.now
-        → OnOk result (Shows (cancelled_of (Some message.now) d) working.new) }
+fn cancelled(draft: &mut CentreDraft<'_>, message: &MessageRow) -> Result<(), AllocError>
+    ensures { (d : Draft) → Represents d draft.old → message_at message.now.id (messages_in d.store) ≡ Some message.now
+        → OnOk result (Represents (cancelled_of (Some message.now) d) draft.new) }
 {
     if message.state.is_none() {
-        return delete(working, message);
+        return delete(draft, message);
     }
-    refuse(working, CommandStatus::ESME_RCANCELFAIL);
+    refuse(draft, CommandStatus::ESME_RCANCELFAIL);
     Ok(())
 }
 
 // The message is deleted, if it is there and hasn't ended.
-fn cancel_found(working: &mut Working<'_>, found: Option<MessageRow>) -> Result<(), AllocError>
-    ensures { (d : Draft) → Shows d working.old → StandsThere found d.store → OnOk result (Shows (cancelled_of found d) working.new) }
+fn cancel_found(draft: &mut CentreDraft<'_>, found: Option<MessageRow>) -> Result<(), AllocError>
+    ensures { (d : Draft) → Represents d draft.old → StandsThere found d.store → OnOk result (Represents (cancelled_of found d) draft.new) }
 {
     match found {
-        Some(message) => cancelled(working, &message),
+        Some(message) => cancelled(draft, &message),
         None => {
-            refuse(working, CommandStatus::ESME_RINVMSGID);
+            refuse(draft, CommandStatus::ESME_RINVMSGID);
             Ok(())
         }
     }
@@ -111,35 +111,35 @@ fn is_empty(octets: &[u8]) -> bool
 }
 
 fn cancel_by(
-    working: &mut Working<'_>,
-    account: &Account,
+    draft: &mut CentreDraft<'_>,
+    account: &CentreAccount,
     cancel: &CancelSm<'_>,
 ) -> Result<(), AllocError>
-    ensures { (d : Draft) → Shows d working.old → OnOk result (Shows (cancel_by_of (Some account.now) cancel.now d) working.new) }
+    ensures { (d : Draft) → Represents d draft.old → OnOk result (Represents (cancel_by_of (Some account.now) cancel.now d) draft.new) }
 {
     let octets = cancel.message_id.as_slice();
     if is_empty(octets) {
-        refuse(working, CommandStatus::ESME_RCANCELFAIL);
+        refuse(draft, CommandStatus::ESME_RCANCELFAIL);
         return Ok(());
     }
-    let found = own_message(working, account, &cancel.source, octets)?;
-    cancel_found(working, found)
+    let found = own_message(draft, account, &cancel.source, octets)?;
+    cancel_found(draft, found)
 }
 
 /// Ends the message that the account asks for, by its number and source, and makes its report. Refused are an account
 /// that isn't there (ESME_RSYSERR), a request without a number and a message that has ended (ESME_RCANCELFAIL). A
 /// message that isn't the account's is refused too (ESME_RINVMSGID).
 pub fn cancel(
-    working: &mut Working<'_>,
+    draft: &mut CentreDraft<'_>,
     account: u8,
     cancel: &CancelSm<'_>,
 ) -> Result<(), AllocError>
-    ensures { (d : Draft) → Shows d working.old → OnOk result (Shows (cancel_of account cancel.now d) working.new) }
+    ensures { (d : Draft) → Represents d draft.old → OnOk result (Represents (cancel_of account cancel.now d) draft.new) }
 {
-    match account_of(working, account) {
-        Some(account) => cancel_by(working, account, cancel),
+    match account_of(draft, account) {
+        Some(account) => cancel_by(draft, account, cancel),
         None => {
-            refuse(working, CommandStatus::ESME_RSYSERR);
+            refuse(draft, CommandStatus::ESME_RSYSERR);
             Ok(())
         }
     }

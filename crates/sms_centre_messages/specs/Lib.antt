@@ -1,3 +1,3 @@
-pub mod held
+pub mod message_index
 pub mod reference_moves
 pub mod references

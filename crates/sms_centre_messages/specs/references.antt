@@ -1,4 +1,4 @@
-pub mod Claims
+pub mod ReferenceIndex
 pub mod Counts
 pub mod Keys
 pub mod Moves

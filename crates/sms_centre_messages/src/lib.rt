@@ -4,11 +4,11 @@
 //! answers as the definition does over all rows. Whatever rows it represents before a change, it represents the changed
 //! rows after it. A change within an event takes the memory that putting it in needs.
 //!
-//! - `held`: messages, parts and the moments at which they expire
+//! - `message_index`: messages, parts and the moments at which they expire
 //! - `reference_moves`: laws: what every event changes of messages and parts is a move of claims
 //! - `references`: which references and TP-MRs earlier messages claim, as counts
 #![tactic(auto)]
 
-pub mod held;
+pub mod message_index;
 pub mod reference_moves;
 pub mod references;

@@ -4,18 +4,18 @@
 //! A message that the centre split holds its reference until it is wholly delivered. The reference of a 16-bit header
 //! that arrived with a submission is barred for ever. The reference that was given last says where the search for the
 //! next one begins (3GPP TS 23.040 9.2.3.24.8). While a message of a handset is pending, its TP-MR bars another one
-//! where duplicates are rejected (9.2.3.25). `KeptClaims` counts these for each source and handset, and answers as the
+//! where duplicates are rejected (9.2.3.25). `ReferenceIndex` counts these for each source and handset, and answers as the
 //! definitions over all rows do.
 
 mod adopting;
-mod between;
-mod claims;
+mod message_ends;
+mod reference_index;
 mod counts;
 mod ends;
 mod moves;
 mod recover;
-mod spare;
+mod reserve;
 
-pub use between::{Between, Sender};
-pub use claims::KeptClaims;
-pub use spare::SpareClaims;
+pub use message_ends::{MessageEnds, Sender};
+pub use reference_index::ReferenceIndex;
+pub use reserve::ReferenceIndexReserve;

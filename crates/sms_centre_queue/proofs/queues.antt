@@ -3,7 +3,7 @@ pub mod MovedMaps
 pub mod Becoming
 pub mod Moving
 pub mod Places
-pub mod Giving
+pub mod Allocation
 pub mod MovesShown
 pub mod Asking
 pub mod Scanning

@@ -1,9 +1,9 @@
 pub mod Keys
 pub mod LineOrder
-pub mod Placing
+pub mod Queues
 pub mod Stops
-pub mod Shown
-pub mod Adopting
+pub mod Representing
+pub mod Plan
 pub mod Recovering
 pub mod Walks
 pub mod Unlined

@@ -1,17 +1,17 @@
 //! The queue of one handset: its link, its references, and what waits for it.
 //!
-//! A `Shelf` has the link with its transfer under way, the references that were given there and when, and what waits.
-//! Its calls are the functions over plain lists in `sms_centre_rows/specs/waiting/Shelves.antt`. A call that finds no
+//! A `DeliveryQueue` has the link with its transfer under way, the references that were given there and when, and what waits.
+//! Its calls are the functions over plain lists in `sms_centre_rows/specs/waiting_parts/Shelves.antt`. A call that finds no
 //! memory leaves it in no stated state: plan on a copy, and install it when all is done.
 
-mod base;
-mod earlier;
-mod given;
+mod shared_rows;
+mod earlier_references;
+mod given_references;
 mod held;
 pub mod laws;
-mod loads;
-mod shared;
-mod shelf;
-mod waiting;
+mod queued_parts;
+mod shared_parts;
+mod delivery_queue;
+mod waiting_parts;
 
-pub use shelf::Shelf;
+pub use delivery_queue::DeliveryQueue;

@@ -1,29 +1,29 @@
 //! The queues of all handsets, between events and within one.
 //!
-//! `PendingShelves` share `Shelves` as an event begins, and copy those that the event touches. Each contract is over
+//! `DeliveryQueuesDraft` share `DeliveryQueues` as an event begins, and copy those that the event touches. Each contract is over
 //! the centre's definition. Whatever handsets, references, links, frames and waiting parts they represent before a call
 //! (`specs/queues/Shown.antt`), they represent the definition's after it. `settle` gives what is committed and sent,
-//! with the memory to put it in. `Shelves::adopt` puts it in and takes none; the next event then begins with the
+//! with the memory to put it in. `DeliveryQueues::adopt` puts it in and takes none; the next event then begins with the
 //! changed rows (`laws`). `forget_lines` is for a centre that starts again: everything stays but the links.
 //!
-//! Offers, timers and recovery may concern several handsets (`Purpose`, `Stop`). An index finds those whose link is up,
+//! Offers, timers and recovery may concern several handsets (`Concern`, `ConcernedHandset`). An index finds those whose link is up,
 //! awaited or has a timer that runs. At a moment at which nothing was left to offer, only the queues that the event
 //! touched are looked at.
 
-mod ground;
+mod shared_queues;
 pub mod laws;
 mod moves;
-mod pending;
-mod placed;
+mod draft;
+mod placed_queue;
 mod questions;
 mod recover;
-mod settled;
-mod shelves;
-mod spare;
-mod stop;
-mod unlined;
+mod plan;
+mod delivery_queues;
+mod reserve;
+mod concern;
+mod without_links;
 
-pub use pending::PendingShelves;
-pub use settled::{SettledShelves, ShelvesPlan};
-pub use shelves::Shelves;
-pub use stop::{Purpose, Stop};
+pub use draft::DeliveryQueuesDraft;
+pub use plan::{DeliveryQueuesPlan, DeliveryQueuesOutcome};
+pub use delivery_queues::DeliveryQueues;
+pub use concern::{Concern, ConcernedHandset};

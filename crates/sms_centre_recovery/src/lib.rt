@@ -1,6 +1,6 @@
 //! What a centre starts with: whether it can stand on rows, and what it has in memory that isn't stored.
 //!
-//! Rows on which a centre can stand are told from others exactly, whoever wrote them. Of such rows the shelves get what waits for each
+//! Rows on which a centre can stand are told from others exactly, whoever wrote them. Of such rows the queues get what waits for each
 //! handset and its line, and the centre its moment, as the definition has them after a restart.
 //!
 //! | Module | What it has |

@@ -1,7 +1,7 @@
 mod AllEvents
 mod AsDefined
 mod Awaiting
-mod DeskEvents
+mod BindingsEvents
 mod Firm
 mod FirmEvents
 mod FirmTimes

@@ -3,9 +3,9 @@ pub mod Awaited
 pub mod Became
 pub mod Dropping
 pub mod Entries
-pub mod Going
-pub mod Pending
+pub mod DueReceipts
+pub mod OpenReportsDraft
 pub mod ReceiptMoves
-pub mod ReportsInMemory
+pub mod OpenReports
 pub mod Serving
 pub mod Updates

@@ -1,2 +1,2 @@
-pub mod Register
-pub mod Telling
+pub mod ReportLog
+pub mod Reporting

@@ -1,4 +1,4 @@
 pub mod Answering
 pub mod Awaited
-pub mod Going
+pub mod SessionReceipts
 pub mod Seats

@@ -11,12 +11,12 @@ mod accounts;
 mod entry;
 pub mod laws;
 mod made;
-mod pending;
+mod draft;
 mod receipt_move;
 mod receipts;
 mod recover;
 mod reports;
 
 pub use entry::{ReceiptEntry, ReportEntry, StatusEntry};
-pub use pending::{PendingReports, SettledReports};
-pub use reports::Reports;
+pub use draft::{OpenReportsDraft, OpenReportsPlan};
+pub use reports::OpenReports;

@@ -7,10 +7,10 @@
 //! (`specs/sessions/Awaited.antt`).
 
 mod answering;
-mod desk;
+mod bindings_draft;
 mod sending;
 mod serving;
 mod session;
 
-pub use desk::{PendingDesk, SettledDesk};
-pub use session::Seat;
+pub use bindings_draft::{BindingsDraft, BindingsPlan};
+pub use session::ReceiptSession;

@@ -1,7 +1,7 @@
 pub mod Alike
 pub mod Amending
 pub mod Dues
-pub mod GivingsSound
+pub mod AllocationsSound
 pub mod LinesShown
 pub mod Mentions
 pub mod Passing

@@ -2,9 +2,9 @@ pub mod Keys
 pub mod Revisions
 pub mod Waiting
 pub mod References
-pub mod Lines
-pub mod Shelves
+pub mod Links
+pub mod DeliveryQueues
 pub mod Trying
-pub mod SoundGivings
-pub mod Shelved
+pub mod SoundAllocations
+pub mod DeliveryQueueRows
 pub mod SoundWaiting

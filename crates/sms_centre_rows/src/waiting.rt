@@ -9,15 +9,15 @@
 
 mod handset;
 pub mod laws;
-mod line;
-mod load;
+mod handset_link;
+mod queued_part;
 mod progress;
 mod reference;
 mod revision;
 
 pub use handset::HandsetRow;
-pub use line::{Line, Sent};
-pub use load::Load;
+pub use handset_link::{HandsetLink, Sent};
+pub use queued_part::QueuedPart;
 pub use progress::Progress;
 pub use reference::ReferenceRow;
 pub use revision::Revision;

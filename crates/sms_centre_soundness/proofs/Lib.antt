@@ -4,7 +4,7 @@ pub mod AddressTested
 mod DoneTogether
 pub mod MessagesTested
 pub mod DifferTested
-pub mod GivingsTested
+pub mod AllocationsTested
 pub mod ReportsTested
 mod HoldsApart
 mod PlacesFound

@@ -10,12 +10,12 @@ use Rattle.sms_centre_rows.specs.declared.waiting.handset.HandsetRow.{HandsetRow
 use Rattle.sms_centre_rows.specs.declared.waiting.reference.ReferenceRow.{ReferenceRow}
 use Rattle.sms_centre_rows.specs.waiting.Keys.{handset_key}
 use Rattle.sms_centre_rows.specs.waiting.References.{handset_at}
-use Rattle.sms_centre_rows.specs.waiting.SoundGivings.{IsNumber, SoundGivings}
+use Rattle.sms_centre_rows.specs.waiting.SoundAllocations.{IsNumber, SoundAllocations}
 use Rattle.sms_centre_rows.proofs.waiting.Mentions.{cases_number, number_behind, number_here}
 use Rattle.sms_centre_spec.proofs.SteadyTimes.{above_among}
-use Rattle.sms_centre_soundness.specs.GivingTest.{number_key}
+use Rattle.sms_centre_soundness.specs.AllocationTest.{number_key}
 use Rattle.sms_centre_soundness.specs.WaitingTest.{Places, hold_at, place_from}
-use Rattle.sms_centre_soundness.proofs.GivingsTested.{all_digits}
+use Rattle.sms_centre_soundness.proofs.AllocationsTested.{all_digits}
 
 -- where none has the key, what was found stays
 none_from : (key : ℕ) (hs : List HandsetRow) (place : Option ℕ) → ((g : HandsetRow) → Among g hs → ¬ (key ≡ number_key g)) → place_from key hs place ≡ place
@@ -62,7 +62,7 @@ held_place : (reference : ℕ) (o : Option HandsetRow) → option_map (λ (place
 held_place reference None = refl
 held_place reference (Some h) = refl
 
-pub hold_is : (entries : List (ℕ × ℕ)) (hs : List HandsetRow) (rs : List ReferenceRow) (reference : ℕ) (number : List ℕ) → Places entries hs → SoundGivings hs rs → IsNumber number
+pub hold_is : (entries : List (ℕ × ℕ)) (hs : List HandsetRow) (rs : List ReferenceRow) (reference : ℕ) (number : List ℕ) → Places entries hs → SoundAllocations hs rs → IsNumber number
     → hold_at entries reference number ≡ held reference (handset_at number hs)
 hold_is entries hs rs reference number places sound is =
     ap (λ (o : Option ℕ). option_map (λ (place : ℕ). pair_key place reference) o)

@@ -27,11 +27,11 @@ use Rattle.sms_centre_rows.specs.reports.Waiting.{Alone, report_load, report_wai
 use Rattle.sms_centre_rows.proofs.reports.AllWaiting.{part_waits_at as part_waits, report_found, report_waits_at as report_waits, rises_all}
 use Rattle.sms_centre_rows.proofs.reports.FewWaiting.{all_few}
 use Rattle.sms_centre_rows.specs.declared.waiting.handset.HandsetRow.{HandsetRow}
-use Rattle.sms_centre_rows.specs.declared.waiting.load.Load.{Load}
+use Rattle.sms_centre_rows.specs.declared.waiting.queued_part.QueuedPart.{QueuedPart}
 use Rattle.sms_centre_rows.specs.declared.waiting.reference.ReferenceRow.{ReferenceRow}
 use Rattle.sms_centre_rows.specs.waiting.Keys.{handset_key, load_key}
 use Rattle.sms_centre_rows.specs.waiting.References.{handset_at}
-use Rattle.sms_centre_rows.specs.waiting.SoundGivings.{IsNumber, SoundGivings, reference_at}
+use Rattle.sms_centre_rows.specs.waiting.SoundAllocations.{IsNumber, SoundAllocations, reference_at}
 use Rattle.sms_centre_rows.specs.waiting.SoundWaiting.{SoundWaiting, WasGiven}
 use Rattle.sms_centre_rows.proofs.waiting.Mentions.{number_found}
 use Rattle.sms_centre_spec.specs.SoundRows.{CanBeTold}
@@ -102,12 +102,12 @@ small_reference Unsent o m r t fits = absurd cc
 module _ (entries : List (ℕ × ℕ)) (hs : List HandsetRow) (refs : List ReferenceRow) (ms : List MessageRow) (qs : List PriorityRow) (ps : List PartRow) (rs : List ReportRow) where
   pub record Stand : Type 0 where
     pub places : Places entries hs
-    pub givings : SoundGivings hs refs
+    pub allocations : SoundAllocations hs refs
     pub messages : SoundMessages ms ps qs
     pub reports : SoundReports ms rs
     pub told : (m : MessageRow) → Among m ms → CanBeTold m.originator m.source
 
-  abbrev waiting : List ℕ → List Load
+  abbrev waiting : List ℕ → List QueuedPart
   waiting n = waiting_for n ms qs ps rs
 
   module _ (s : Stand) where
@@ -178,13 +178,13 @@ module _ (entries : List (ℕ × ℕ)) (hs : List HandsetRow) (refs : List Refer
 
     -- ---- what waits comes of a part or of a report
 
-    abbrev OfPart : List ℕ → Load → Type 0
+    abbrev OfPart : List ℕ → QueuedPart → Type 0
     OfPart n l = (p : PartRow) × (Among p ps × (part_waits_at p (message_at p.id ms) ≡ Some n) × (l ≡ part_load p qs))
 
-    abbrev OfReport : List ℕ → Load → Type 0
+    abbrev OfReport : List ℕ → QueuedPart → Type 0
     OfReport n l = (r : ReportRow) × (Among r rs × (report_waits_at r (message_at r.id ms) ≡ Some n) × (l ≡ report_load r))
 
-    of_part : (n : List ℕ) (l : Load) (key : ℕ) (o : Option PartRow) → row_at part_key key ps ≡ o → part_wait n ms qs o ≡ Some l → OfPart n l
+    of_part : (n : List ℕ) (l : QueuedPart) (key : ℕ) (o : Option PartRow) → row_at part_key key ps ≡ o → part_wait n ms qs o ≡ Some l → OfPart n l
     of_part n l key None is e = absurd cc
     of_part n l key (Some p) is e = ⊎_elim
         (λ (t : waits_for n p (message_at p.id ms) ≡ true).
@@ -195,7 +195,7 @@ module _ (entries : List (ℕ × ℕ)) (hs : List HandsetRow) (refs : List Refer
         let bad : None ≡ Some l = sym (cond-false (waits_for n p (message_at p.id ms)) (Some (part_load p qs)) None t) ∙ e in absurd cc)
         (cases_Bool (waits_for n p (message_at p.id ms)))
 
-    of_report : (n : List ℕ) (l : Load) (id : ℕ) (o : Option ReportRow) → report_of id rs ≡ o → report_wait n ms o ≡ Some l → OfReport n l
+    of_report : (n : List ℕ) (l : QueuedPart) (id : ℕ) (o : Option ReportRow) → report_of id rs ≡ o → report_wait n ms o ≡ Some l → OfReport n l
     of_report n l id None is e = absurd cc
     of_report n l id (Some r) is e = ⊎_elim
         (λ (t : reports_to n r (message_at r.id ms) ≡ true).
@@ -206,7 +206,7 @@ module _ (entries : List (ℕ × ℕ)) (hs : List HandsetRow) (refs : List Refer
         let bad : None ≡ Some l = sym (cond-false (reports_to n r (message_at r.id ms)) (Some (report_load r)) None t) ∙ e in absurd cc)
         (cases_Bool (reports_to n r (message_at r.id ms)))
 
-    comes_of : (n : List ℕ) (l : Load) → Among l (waiting n) → OfPart n l ⊎ OfReport n l
+    comes_of : (n : List ℕ) (l : QueuedPart) → Among l (waiting n) → OfPart n l ⊎ OfReport n l
     comes_of n l a =
         let there : row_at load_key (load_key l) (waiting n) ≡ Some l = among_found load_key l (waiting n) (rises_all n ms qs ps rs numbered) a in
         ⊎_elim
@@ -238,7 +238,7 @@ module _ (entries : List (ℕ × ℕ)) (hs : List HandsetRow) (refs : List Refer
     held_some reference (Some h) g = (pair_key h.place reference, refl)
 
     hold_here : (reference : ℕ) (n : List ℕ) → IsNumber n → hold_at entries reference n ≡ held reference (handset_at n hs)
-    hold_here reference n is = hold_is entries hs refs reference n s.places s.givings is
+    hold_here reference n is = hold_is entries hs refs reference n s.places s.allocations is
 
     -- ---- from the tests
 
@@ -270,19 +270,19 @@ module _ (entries : List (ℕ × ℕ)) (hs : List HandsetRow) (refs : List Refer
       distinct = distinct_from (holds entries ms ps rs) pass.apart
 
       -- two that wait at one handset under one reference are one
-      apart_of : (n : List ℕ) (l k : Load) → OfPart n l ⊎ OfReport n l → OfPart n k ⊎ OfReport n k → l.reference ≡ k.reference → load_key l ≡ load_key k
+      apart_of : (n : List ℕ) (l k : QueuedPart) → OfPart n l ⊎ OfReport n l → OfPart n k ⊎ OfReport n k → l.reference ≡ k.reference → load_key l ≡ load_key k
       apart_of n l k a b e = ⊎_elim
           (λ (p : OfPart n l). ⊎_elim
           (λ (q : OfPart n k).
           let x = held_some (p.0).reference (handset_at n hs) (part_was n p.0 p.1.0 p.1.1) in
-          let refs_same : (q.0).reference ≡ (p.0).reference = sym (ap (λ (y : Load). y.reference) q.1.2) ∙ sym e ∙ ap (λ (y : Load). y.reference) p.1.2 in
+          let refs_same : (q.0).reference ≡ (p.0).reference = sym (ap (λ (y : QueuedPart). y.reference) q.1.2) ∙ sym e ∙ ap (λ (y : QueuedPart). y.reference) p.1.2 in
           let same = one_kept (part_hold entries ms) p.0 q.0 x.0 ps (distinct_front (filter_map (part_hold entries ms) ps) (filter_map (report_hold entries ms) rs) distinct) p.1.0 q.1.0
           (part_key_held n p.0 p.1.0 p.1.1 ∙ x.1)
           (part_key_held n q.0 q.1.0 q.1.1 ∙ ap (λ (y : ℕ). held y (handset_at n hs)) refs_same ∙ x.1) in
           ap load_key p.1.2 ∙ ap (λ (y : PartRow). load_key (part_load y qs)) same ∙ sym (ap load_key q.1.2))
           (λ (q : OfReport n k).
           let x = held_some (p.0).reference (handset_at n hs) (part_was n p.0 p.1.0 p.1.1) in
-          let refs_same : status_reference (q.0).kind ≡ (p.0).reference = sym (ap (λ (y : Load). y.reference) q.1.2) ∙ sym e ∙ ap (λ (y : Load). y.reference) p.1.2 in
+          let refs_same : status_reference (q.0).kind ≡ (p.0).reference = sym (ap (λ (y : QueuedPart). y.reference) q.1.2) ∙ sym e ∙ ap (λ (y : QueuedPart). y.reference) p.1.2 in
           absurd (not_both x.0 (filter_map (part_hold entries ms) ps) (filter_map (report_hold entries ms) rs) distinct
           (kept_among (part_hold entries ms) p.0 x.0 ps p.1.0 (part_key_held n p.0 p.1.0 p.1.1 ∙ x.1))
           (kept_among (report_hold entries ms) q.0 x.0 rs q.1.0 (report_key_held n q.0 q.1.0 q.1.1 ∙ ap (λ (y : ℕ). held y (handset_at n hs)) refs_same ∙ x.1))))
@@ -290,13 +290,13 @@ module _ (entries : List (ℕ × ℕ)) (hs : List HandsetRow) (refs : List Refer
           (λ (p : OfReport n l). ⊎_elim
           (λ (q : OfPart n k).
           let x = held_some (q.0).reference (handset_at n hs) (part_was n q.0 q.1.0 q.1.1) in
-          let refs_same : status_reference (p.0).kind ≡ (q.0).reference = sym (ap (λ (y : Load). y.reference) p.1.2) ∙ e ∙ ap (λ (y : Load). y.reference) q.1.2 in
+          let refs_same : status_reference (p.0).kind ≡ (q.0).reference = sym (ap (λ (y : QueuedPart). y.reference) p.1.2) ∙ e ∙ ap (λ (y : QueuedPart). y.reference) q.1.2 in
           absurd (not_both x.0 (filter_map (part_hold entries ms) ps) (filter_map (report_hold entries ms) rs) distinct
           (kept_among (part_hold entries ms) q.0 x.0 ps q.1.0 (part_key_held n q.0 q.1.0 q.1.1 ∙ x.1))
           (kept_among (report_hold entries ms) p.0 x.0 rs p.1.0 (report_key_held n p.0 p.1.0 p.1.1 ∙ ap (λ (y : ℕ). held y (handset_at n hs)) refs_same ∙ x.1))))
           (λ (q : OfReport n k).
           let x = held_some (status_reference (p.0).kind) (handset_at n hs) (report_was n p.0 p.1.0 p.1.1) in
-          let refs_same : status_reference (q.0).kind ≡ status_reference (p.0).kind = sym (ap (λ (y : Load). y.reference) q.1.2) ∙ sym e ∙ ap (λ (y : Load). y.reference) p.1.2 in
+          let refs_same : status_reference (q.0).kind ≡ status_reference (p.0).kind = sym (ap (λ (y : QueuedPart). y.reference) q.1.2) ∙ sym e ∙ ap (λ (y : QueuedPart). y.reference) p.1.2 in
           let same = one_kept (report_hold entries ms) p.0 q.0 x.0 rs (distinct_back (filter_map (part_hold entries ms) ps) (filter_map (report_hold entries ms) rs) distinct) p.1.0 q.1.0
           (report_key_held n p.0 p.1.0 p.1.1 ∙ x.1)
           (report_key_held n q.0 q.1.0 q.1.1 ∙ ap (λ (y : ℕ). held y (handset_at n hs)) refs_same ∙ x.1) in
@@ -304,16 +304,16 @@ module _ (entries : List (ℕ × ℕ)) (hs : List HandsetRow) (refs : List Refer
           b)
           a
 
-      small_of : (n : List ℕ) (l : Load) → OfPart n l ⊎ OfReport n l → l.reference < 256
+      small_of : (n : List ℕ) (l : QueuedPart) → OfPart n l ⊎ OfReport n l → l.reference < 256
       small_of n l a = ⊎_elim
-          (λ (p : OfPart n l). subst (λ (y : Load). y.reference < 256) (sym p.1.2) (part_facts n p.0 (message_at (p.0).id ms) p.1.0 refl p.1.1).small)
-          (λ (p : OfReport n l). subst (λ (y : Load). y.reference < 256) (sym p.1.2) (report_facts n p.0 (message_at (p.0).id ms) p.1.0 refl p.1.1).small)
+          (λ (p : OfPart n l). subst (λ (y : QueuedPart). y.reference < 256) (sym p.1.2) (part_facts n p.0 (message_at (p.0).id ms) p.1.0 refl p.1.1).small)
+          (λ (p : OfReport n l). subst (λ (y : QueuedPart). y.reference < 256) (sym p.1.2) (report_facts n p.0 (message_at (p.0).id ms) p.1.0 refl p.1.1).small)
           a
 
-      was_of : (n : List ℕ) (l : Load) → OfPart n l ⊎ OfReport n l → WasGiven (handset_at n hs) refs l.reference
+      was_of : (n : List ℕ) (l : QueuedPart) → OfPart n l ⊎ OfReport n l → WasGiven (handset_at n hs) refs l.reference
       was_of n l a = ⊎_elim
-          (λ (p : OfPart n l). subst (λ (y : Load). WasGiven (handset_at n hs) refs y.reference) (sym p.1.2) (part_was n p.0 p.1.0 p.1.1))
-          (λ (p : OfReport n l). subst (λ (y : Load). WasGiven (handset_at n hs) refs y.reference) (sym p.1.2) (report_was n p.0 p.1.0 p.1.1))
+          (λ (p : OfPart n l). subst (λ (y : QueuedPart). WasGiven (handset_at n hs) refs y.reference) (sym p.1.2) (part_was n p.0 p.1.0 p.1.1))
+          (λ (p : OfReport n l). subst (λ (y : QueuedPart). WasGiven (handset_at n hs) refs y.reference) (sym p.1.2) (report_was n p.0 p.1.0 p.1.1))
           a
 
       pub waiting_from : (n : List ℕ) → SoundWaiting (handset_at n hs) refs (waiting n)
@@ -350,12 +350,12 @@ module _ (entries : List (ℕ × ℕ)) (hs : List HandsetRow) (refs : List Refer
       tells_of n reference k (Some h) is e = let same : k ≡ pair_key h.place reference = cc in (h, (is, same))
 
       -- what waits under one key is one
-      one_load : (n m : List ℕ) (l j : Load) (k : ℕ) → Among l (waiting n) → Among j (waiting m) → l.reference < 256 → j.reference < 256 → Tells n l.reference k → Tells m j.reference k → load_key l ≡ load_key j
+      one_load : (n m : List ℕ) (l j : QueuedPart) (k : ℕ) → Among l (waiting n) → Among j (waiting m) → l.reference < 256 → j.reference < 256 → Tells n l.reference k → Tells m j.reference k → load_key l ≡ load_key j
       one_load n m l j k a b x y f g =
           let both = pairs_apart (f.0).place (g.0).place l.reference j.reference x y (sym f.1.1 ∙ g.1.1) in
           let one = number_found n f.0 hs f.1.0 in
           let two = number_found m g.0 hs g.1.0 in
-          let some : Some f.0 ≡ Some g.0 = sym (among_found handset_key f.0 hs s.givings.handset_keys one.0) ∙ ap (λ (i : ℕ). row_at handset_key i hs) both.0 ∙ among_found handset_key g.0 hs s.givings.handset_keys two.0 in
+          let some : Some f.0 ≡ Some g.0 = sym (among_found handset_key f.0 hs s.allocations.handset_keys one.0) ∙ ap (λ (i : ℕ). row_at handset_key i hs) both.0 ∙ among_found handset_key g.0 hs s.allocations.handset_keys two.0 in
           let row : f.0 ≡ g.0 = cc in
           let number : m ≡ n = sym two.1 ∙ ap (λ (i : HandsetRow). i.number) (sym row) ∙ one.1 in
           (sound n).apart l j a (subst (λ (i : List ℕ). Among j (waiting i)) number b) both.1

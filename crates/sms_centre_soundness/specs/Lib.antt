@@ -1,7 +1,7 @@
 pub mod AddressTest
 pub mod MessageTest
 pub mod Differing
-pub mod GivingTest
+pub mod AllocationTest
 pub mod ReportTest
 pub mod RowsTest
 pub mod WaitingTest

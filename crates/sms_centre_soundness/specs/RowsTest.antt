@@ -7,7 +7,7 @@ use Rattle.sms_base.specs.declared.originator.Originator.TheVariants.{Applicatio
 use Rattle.sms_centre_rows.specs.declared.messages.message.MessageRow.{MessageRow}
 use Rattle.sms_centre_rows.specs.declared.reports.report.ReportRow.{ReportRow}
 use Rattle.sms_centre_rows.specs.declared.waiting.reference.ReferenceRow.{ReferenceRow}
-use Rattle.sms_intake.specs.declared.submission.Account.{Account}
+use Rattle.sms_intake.specs.declared.submission.CentreAccount.{CentreAccount}
 use Rattle.sms_centre_spec.specs.declared.setup.Setup.{Setup}
 use Rattle.sms_centre_soundness.specs.AddressTest.{is_address}
 use Rattle.sms_centre_soundness.specs.MessageTest.{is_handset}
@@ -15,7 +15,7 @@ use Rattle.sms_centre_soundness.specs.MessageTest.{is_handset}
 abbrev pub is_moment : ℕ → Bool
 is_moment n = nat_le 946684800 n && nat_le n 4102444799
 
-abbrev pub has_address : Account → Bool
+abbrev pub has_address : CentreAccount → Bool
 has_address a = is_address a.address
 
 abbrev pub is_setup : Setup → Bool

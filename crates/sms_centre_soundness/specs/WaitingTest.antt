@@ -15,7 +15,7 @@ use Rattle.sms_centre_rows.specs.declared.waiting.handset.HandsetRow.{HandsetRow
 use Rattle.sms_centre_rows.specs.declared.waiting.reference.ReferenceRow.{ReferenceRow}
 use Rattle.sms_centre_rows.specs.waiting.Keys.{reference_key}
 use Rattle.sms_centre_soundness.specs.Differing.{differ}
-use Rattle.sms_centre_soundness.specs.GivingTest.{number_key}
+use Rattle.sms_centre_soundness.specs.AllocationTest.{number_key}
 
 -- ---- places of handsets
 

@@ -15,7 +15,7 @@ ghost use Rattle.sms_centre_rows.specs.reports.Waiting.{waiting_for};
 ghost use Rattle.sms_rows.specs.table.Table.{Rises};
 ghost use Rattle.sms_centre_rows.specs.waiting.Keys.{handset_key, reference_key};
 ghost use Rattle.sms_centre_rows.specs.waiting.References.{handset_at};
-ghost use Rattle.sms_centre_rows.specs.waiting.SoundGivings.{SoundGivings};
+ghost use Rattle.sms_centre_rows.specs.waiting.SoundAllocations.{SoundAllocations};
 ghost use Rattle.sms_centre_rows.specs.waiting.SoundWaiting.{SoundWaiting};
 ghost use Rattle.sms_centre_rows.specs.declared.waiting.handset.HandsetRow.{HandsetRow};
 ghost use Rattle.sms_centre_rows.specs.declared.waiting.reference.ReferenceRow.{ReferenceRow};
@@ -23,7 +23,7 @@ ghost use Rattle.std.specs.List.{list_all};
 ghost use Rattle.sms_centre_spec.specs.SoundRows.{AreSplitApart, AreTimes, CanBeTold, IsSetup};
 ghost use Rattle.sms_centre_spec.specs.declared.setup.Setup.{Setup};
 ghost use Rattle.sms_centre_soundness.specs.AddressTest.{is_address};
-ghost use Rattle.sms_centre_soundness.specs.GivingTest.{GivingsPass};
+ghost use Rattle.sms_centre_soundness.specs.AllocationTest.{AllocationsPass};
 ghost use Rattle.sms_centre_soundness.specs.MessageTest.{MessagesPass};
 ghost use Rattle.sms_centre_soundness.specs.ReportTest.{ReportsPass};
 ghost use Rattle.sms_centre_soundness.specs.RowsTest.{TimesPass, is_setup, is_told};
@@ -42,8 +42,8 @@ pub fn messages_are_tested()
 {}
 
 /// Where keys rise, handsets and references pass exactly where they are sound.
-pub fn givings_are_tested()
-    ensures { (handsets : List HandsetRow) (references : List ReferenceRow) → Rises handset_key handsets → Rises reference_key references → GivingsPass handsets references ↔ SoundGivings handsets references }
+pub fn allocations_are_tested()
+    ensures { (handsets : List HandsetRow) (references : List ReferenceRow) → Rises handset_key handsets → Rises reference_key references → AllocationsPass handsets references ↔ SoundAllocations handsets references }
 {}
 
 /// Where keys rise, reports pass exactly where they are sound.
@@ -54,7 +54,7 @@ pub fn reports_are_tested()
 /// Where everything else is sound, what waits passes exactly where it is sound for each handset.
 pub fn waiting_is_tested()
     ensures { (entries : List (ℕ × ℕ)) (handsets : List HandsetRow) (references : List ReferenceRow) (messages : List MessageRow) (priorities : List PriorityRow) (parts : List PartRow) (reports : List ReportRow)
-        → Places entries handsets → SoundGivings handsets references → SoundMessages messages parts priorities → SoundReports messages reports → ((m : MessageRow) → Among m messages → CanBeTold m.originator m.source)
+        → Places entries handsets → SoundAllocations handsets references → SoundMessages messages parts priorities → SoundReports messages reports → ((m : MessageRow) → Among m messages → CanBeTold m.originator m.source)
         → WaitingPass entries messages references parts reports ↔ ((number : List ℕ) → SoundWaiting (handset_at number handsets) references (waiting_for number messages priorities parts reports)) }
 {}
 

@@ -9,7 +9,7 @@
 //! |---|---|
 //! | `addresses`, `differ` | that an address can be written; that numbers differ |
 //! | `message_rows`, `splits` | messages, parts and priorities; split references |
-//! | `giving_rows`, `waiting_rows` | handsets and references; what waits for a handset |
+//! | `allocation_rows`, `waiting_rows` | handsets and references; what waits for a handset |
 //! | `report_rows` | receipts and status reports |
 //! | `setup_and_times` | the setup, moments and originators |
 //! | `laws` | that each test is the definition's condition |
@@ -17,7 +17,7 @@
 
 mod addresses;
 mod differ;
-mod giving_rows;
+mod allocation_rows;
 pub mod laws;
 mod message_rows;
 mod report_rows;
@@ -25,9 +25,9 @@ mod setup_and_times;
 mod splits;
 mod waiting_rows;
 
-pub use giving_rows::{are_given, are_mentioned, have_numbers_apart};
+pub use allocation_rows::{are_given, are_mentioned, have_numbers_apart};
 pub use message_rows::{are_messages, are_parts, are_priorities};
 pub use report_rows::{are_once, are_reports};
-pub use setup_and_times::{are_dated, are_made, are_submitted, are_told, is_setup};
+pub use setup_and_times::{are_dated, are_made, are_submitted, have_report_addresses, is_setup};
 pub use splits::are_split_apart;
 pub use waiting_rows::{are_parts_given, are_reports_given, have_references_apart, places_of};

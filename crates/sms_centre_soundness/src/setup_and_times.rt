@@ -10,7 +10,7 @@ use sms_centre_rows::messages::MessageRow;
 use sms_centre_rows::reports::ReportRow;
 use sms_centre_rows::waiting::ReferenceRow;
 use sms_centre_spec::Setup;
-use sms_intake::Account;
+use sms_intake::CentreAccount;
 
 fn is_moment(moment: Moment) -> bool
     ensures { result ≡ is_moment_of moment }
@@ -19,7 +19,7 @@ fn is_moment(moment: Moment) -> bool
     946_684_800 <= seconds && seconds <= 4_102_444_799
 }
 
-fn have_addresses(accounts: &[Account]) -> bool
+fn have_addresses(accounts: &[CentreAccount]) -> bool
     ensures { result ≡ list_all has_address accounts.now }
 {
     accounts.iter().all(|account| is_address(&account.address))
@@ -64,7 +64,7 @@ fn can_be_told(originator: &Originator, source: &Address) -> bool
 }
 
 /// Whether each message of a handset is from a number to which a status report can be sent.
-pub fn are_told(messages: &[MessageRow]) -> bool
+pub fn have_report_addresses(messages: &[MessageRow]) -> bool
     ensures { result ≡ list_all is_told messages.now }
 {
     messages.iter().all(|message| can_be_told(&message.originator, &message.source))

@@ -3,7 +3,7 @@ ghost use Rattle.std.specs.Prelude.{◌≡◌, ℕ, nat_eq, filter_map, if◌the
 ghost use Rattle.std.specs.List.{list_all};
 ghost use Rattle.std.specs.Map.{lookup};
 ghost use Rattle.sms_centre_soundness.specs.Differing.{differ as differ_of};
-ghost use Rattle.sms_centre_soundness.specs.GivingTest.{number_key};
+ghost use Rattle.sms_centre_soundness.specs.AllocationTest.{number_key};
 ghost use Rattle.sms_centre_soundness.specs.WaitingTest.{Places, hold_at as hold_at_of, holds as holds_of, is_row as is_row_of, part_given as part_given_of, part_hold as part_hold_of, part_waits_at as part_waits_at_of, report_given as report_given_of, report_hold as report_hold_of, report_waits_at as report_waits_at_of};
 ghost use Rattle.sms_centre_rows.specs.reports.Reports.{status_reference as status_reference_of};
 

@@ -13,12 +13,12 @@ use Rattle.sms_centre_rows.specs.declared.waiting.handset.HandsetRow.{HandsetRow
 use Rattle.sms_centre_rows.specs.waiting.References.{handset_of}
 use Rattle.sms_centre_spec.specs.declared.answer.CentreAnswer.TheVariants.{Submitted}
 use Rattle.sms_centre_spec.specs.declared.event.CentreEvent.TheVariants.{Submit}
-use Rattle.sms_intake.specs.declared.submission.Account.{Account}
+use Rattle.sms_intake.specs.declared.submission.CentreAccount.{CentreAccount}
 use Rattle.sms_intake.specs.declared.submission.SinglePart.{SinglePart}
 use Rattle.sms_intake.specs.declared.submission.Submission.{Submission}
 use Rattle.sms_centre_spec.specs.CentreEvent.{happened}
 use Rattle.sms_centre_spec.specs.Draft.{Core, Draft, Store, core_of, draft_of, handsets_in, messages_in, parts_in}
-use Rattle.sms_centre_spec.specs.Requests.{account_at, accepted, refused, submission_came, submit_by}
+use Rattle.sms_centre_spec.specs.Requests.{account_at, accepted, refused, submission_received, submit_by}
 use Rattle.sms_intake.specs.SmppIntake.{from_pdu}
 use Rattle.sms_centre_spec.specs.Submitting.{accept, accept_as, accept_split, accept_under, enter, give_part, give_parts, is_reference_taken, message_of, part_given, reference_for}
 use Rattle.sms_intake.specs.PartBodies.{bodies_under, is_long}
@@ -65,13 +65,13 @@ accepted_names : (n : ℕ) (o : Option Store) (d : Draft) → IfThere (IsThere n
 accepted_names n None d k id e = absurd cc
 accepted_names n (Some s) d k id e = let same : n ≡ id = cc in subst (λ (i : ℕ). IsThere i s) same k
 
-came_names : (u : Result Submission CommandStatus) (d : Draft) → Names (submission_came u d)
+came_names : (u : Result Submission CommandStatus) (d : Draft) → Names (submission_received u d)
 came_names (Err status) d = λ id e. absurd cc
 came_names (Ok u) d =
     cond_both (is_reference_taken u d.store) (refused ESME_RSUBMITFAIL d) (accepted (next_id (messages_in d.store)) (accept u d.store) d) Names
     (λ t id e. absurd cc) (λ t. accepted_names (next_id (messages_in d.store)) (accept u d.store) d (accept_there u d.store))
 
-by_names : (a : Option Account) (m : Message) (d : Draft) → Names (submit_by a m d)
+by_names : (a : Option CentreAccount) (m : Message) (d : Draft) → Names (submit_by a m d)
 by_names None m d = λ id e. absurd cc
 by_names (Some a) m d = came_names (from_pdu a d.store.moment m) d
 

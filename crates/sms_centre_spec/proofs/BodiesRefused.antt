@@ -5,7 +5,7 @@ use Rattle.sms_centre_spec.specs.declared.answer.CentreAnswer.TheVariants.{Submi
 use Rattle.sms_centre_spec.specs.declared.event.CentreEvent.TheVariants.{LinkUp}
 use Rattle.sms_centre_spec.specs.declared.plan_error.PlanError.TheVariants.{NoBody}
 use Rattle.sms_centre_spec.specs.Draft.{Core, Draft, core_of}
-use Rattle.sms_centre_spec.specs.CentreEvent.{submit_came, link_up, link_down}
+use Rattle.sms_centre_spec.specs.CentreEvent.{submit_received, link_up, link_down}
 use Rattle.sms_centre_spec.specs.Planning.{plan_of}
 use Rattle.sms_centre_spec.proofs.Everything.{everything}
 use Rattle.sms_centre_spec.proofs.Worked.{hex, handset_b, begun, hello_to, sent}
@@ -17,7 +17,7 @@ abbrev pub down : Core
 down = core_of (link_down handset_b (begun (handset_b ∷ [])))
 
 abbrev pub one : Draft
-one = submit_came 0 (hello_to handset_b) down
+one = submit_received 0 (hello_to handset_b) down
 
 accepted : one.answer ≡ Some (Submitted 1)
 unfolding everything
@@ -27,7 +27,7 @@ quiet : sent one ≡ []
 unfolding everything
 quiet = refl
 
-reads_none : one.air.read ≡ []
+reads_none : one.links.read ≡ []
 unfolding everything
 reads_none = refl
 
@@ -39,6 +39,6 @@ sent_else : sent (link_up handset_b (core_of one)) ≡ hex (codes "0901240100079
 unfolding everything
 sent_else = refl
 
-its_own : (submit_came 0 (hello_to handset_b) (begun (handset_b ∷ []))).air.read ≡ []
+its_own : (submit_received 0 (hello_to handset_b) (begun (handset_b ∷ []))).links.read ≡ []
 unfolding everything
 its_own = refl

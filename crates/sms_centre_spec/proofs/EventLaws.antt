@@ -1,7 +1,7 @@
 -- What every event of a centre leaves of a sound centre, whatever it is told.
 use Rattle.sms_base.specs.Among.{Among}
 use Rattle.sms_centre_rows.specs.declared.reports.delivery.Delivery.{Delivery}
-use Rattle.sms_centre_rows.specs.declared.waiting.line.Sent.{Sent}
+use Rattle.sms_centre_rows.specs.declared.waiting.handset_link.Sent.{Sent}
 use Rattle.sms_centre_spec.specs.declared.event.CentreEvent.{CentreEvent}
 use Rattle.sms_centre_spec.specs.CentreEvent.{happened}
 use Rattle.sms_centre_spec.specs.Draft.{Core, core_of}
@@ -23,8 +23,8 @@ keeps_rows event c s is = (after event c s is).store.1
 pub keeps_apart : (event : CentreEvent) (c : Core) → IsSoundCore c → IsEvent event → SoundHeld (happened event c).store
 keeps_apart event c s is = (after event c s is).store.0.stands.held
 
-pub sends_receipts : (event : CentreEvent) (c : Core) → IsSoundCore c → IsEvent event → (x : Delivery) → Among x (happened event c).desk.deliveries → IsReceiptRow (core_of (happened event c)).rows x.id
+pub sends_receipts : (event : CentreEvent) (c : Core) → IsSoundCore c → IsEvent event → (x : Delivery) → Among x (happened event c).bindings.deliveries → IsReceiptRow (core_of (happened event c)).rows x.id
 sends_receipts event c s is = (after event c s is).sides.1.sent
 
-pub sends_frames : (event : CentreEvent) (c : Core) → IsSoundCore c → IsEvent event → (f : Sent) → Among f (happened event c).air.frames → Brings f.handset f.frame.carried (core_of (happened event c)).rows
+pub sends_frames : (event : CentreEvent) (c : Core) → IsSoundCore c → IsEvent event → (f : Sent) → Among f (happened event c).links.frames → Brings f.handset f.frame.carried (core_of (happened event c)).rows
 sends_frames event c s is = (after event c s is).sides.0.sent

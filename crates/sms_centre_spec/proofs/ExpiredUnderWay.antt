@@ -3,14 +3,14 @@ use Rattle.std.proofs.Common.{◌≡◌, ◌+◌, [], ◌∷◌, Some, refl}
 use Rattle.std.specs.Prelude.{codes}
 use Rattle.sms_base.specs.declared.final_state.FinalState.TheVariants.{Expired}
 use Rattle.sms_centre_spec.specs.Draft.{Draft, core_of}
-use Rattle.sms_centre_spec.specs.CentreEvent.{submit_came, ticked}
+use Rattle.sms_centre_spec.specs.CentreEvent.{submit_received, ticked}
 use Rattle.sms_receipt.specs.ReceiptText.{receipt_text}
 use Rattle.sms_centre_spec.specs.Finals.{final_of}
 use Rattle.sms_centre_spec.proofs.Everything.{everything}
 use Rattle.sms_centre_spec.proofs.Worked.{hex, t0, handset_b, begun, sm, comes, sent, states, told, row_of}
 
 abbrev pub one : Draft
-one = submit_came 0 (sm handset_b 0 0 1 (codes "000000000030000R") (codes "hello") 0) (begun (handset_b ∷ []))
+one = submit_received 0 (sm handset_b 0 0 1 (codes "000000000030000R") (codes "hello") 0) (begun (handset_b ∷ []))
 
 abbrev pub two : Draft
 two = comes handset_b (hex (codes "8904")) (core_of one)

@@ -22,13 +22,13 @@ use Rattle.sms_centre_rows.proofs.reports.EndsWaiting.{end_waits, new_waits}
 use Rattle.sms_centre_rows.proofs.reports.ReportRows.{amended_alone, amended_other, amended_own}
 use Rattle.sms_centre_rows.proofs.reports.WaitingChanges.{part_changes, report_changes}
 use Rattle.sms_centre_rows.specs.declared.waiting.handset.HandsetRow.{HandsetRow}
-use Rattle.sms_centre_rows.specs.declared.waiting.load.Load.{Load}
+use Rattle.sms_centre_rows.specs.declared.waiting.queued_part.QueuedPart.{QueuedPart}
 use Rattle.sms_centre_rows.specs.declared.waiting.progress.Progress.{Progress}
 use Rattle.sms_centre_rows.specs.declared.waiting.reference.ReferenceRow.{ReferenceRow}
 use Rattle.sms_centre_rows.specs.waiting.Keys.{load_key}
 use Rattle.sms_centre_rows.specs.waiting.References.{handset_at}
 use Rattle.sms_centre_rows.specs.waiting.Revisions.{amended}
-use Rattle.sms_centre_rows.specs.waiting.SoundGivings.{IsNumber}
+use Rattle.sms_centre_rows.specs.waiting.SoundAllocations.{IsNumber}
 use Rattle.sms_centre_rows.specs.waiting.SoundWaiting.{SoundWaiting}
 use Rattle.sms_centre_rows.proofs.waiting.Amending.{rises_amended}
 use Rattle.sms_centre_rows.proofs.waiting.WaitingSound.{put_off_sound, withdrawn_sound, without_sound}
@@ -36,8 +36,8 @@ use Rattle.sms_centre_spec.specs.Draft.{Store, handsets_in, messages_in, parts_i
 use Rattle.sms_centre_spec.specs.Held.{SoundHeld}
 
 -- What waits under a key waited under it before, with the same reference; or nothing waits there.
-wait_sound : (row : Option HandsetRow) (rs : List ReferenceRow) (w : List Load) (key : ℕ) (o : Option Load) → SoundWaiting row rs w
-    → ((l : Load) → o ≡ Some l → (was : Load) × ((row_at load_key key w ≡ Some was) × (load_key was ≡ load_key l) × (was.reference ≡ l.reference))) → SoundWaiting row rs (waiting_as key o w)
+wait_sound : (row : Option HandsetRow) (rs : List ReferenceRow) (w : List QueuedPart) (key : ℕ) (o : Option QueuedPart) → SoundWaiting row rs w
+    → ((l : QueuedPart) → o ≡ Some l → (was : QueuedPart) × ((row_at load_key key w ≡ Some was) × (load_key was ≡ load_key l) × (was.reference ≡ l.reference))) → SoundWaiting row rs (waiting_as key o w)
 wait_sound row rs w key None sound f = without_sound row rs w key sound
 wait_sound row rs w key (Some l) sound f = let g = f l refl in put_off_sound row rs w g.0 l sound (found_among load_key key g.0 w g.1.0) g.1.1 g.1.2
 
@@ -59,17 +59,17 @@ part_far_held s p q held there done =
     let numbered : Numbered after = numbered_amended (part_key p) q (parts_in s) held.parts in
     let own = held.parts.numbers p (found_among part_key (part_key p) p (parts_in s) there) in
     record {
-      givings = held.givings;
+      allocations = held.allocations;
       parts = numbered;
       alone = held.alone;
       report_keys = held.report_keys;
       numbers = held.numbers;
       waiting = λ number.
-          let w : List Load = waiting_in number s in
+          let w : List QueuedPart = waiting_in number s in
           let o : Option MessageRow = message_at p.id (messages_in s) in
           let changes = part_changes number (messages_in s) (priorities_in s) (parts_in s) after (reports_in s) (part_reaching q p) held.parts numbered held.alone
           (part_amended p q (parts_in s) there) (λ k ne. part_amended_other p q (parts_in s) k ne) in
-          subst (λ (l : List Load). SoundWaiting (handset_at number (handsets_in s)) (references_in s) l) (sym changes)
+          subst (λ (l : List QueuedPart). SoundWaiting (handset_at number (handsets_in s)) (references_in s) l) (sym changes)
           (wait_sound (handset_at number (handsets_in s)) (references_in s) w (part_key p) (part_wait number (messages_in s) (priorities_in s) (Some (part_reaching q p))) (held.waiting number)
           (λ l e. ⊎_elim
           (λ (t : waits_for number (part_reaching q p) o ≡ true).
@@ -79,8 +79,8 @@ part_far_held s p q held there done =
           part_waits_at number (messages_in s) (priorities_in s) (parts_in s) (reports_in s) p.id p.number held.parts own.0 own.1
           ∙ ap (λ (x : Option PartRow). part_wait number (messages_in s) (priorities_in s) x) there
           ∙ cond-true (waits_for number p o) (Some (part_load p (priorities_in s))) None (still_waits number p q o done t) in
-          let found : (was : Load) × ((row_at load_key (part_key p) w ≡ Some was) × (load_key was ≡ load_key l) × (was.reference ≡ l.reference)) =
-          (part_load p (priorities_in s), (waited, ap load_key load, ap (λ (x : Load). x.reference) load)) in found)
+          let found : (was : QueuedPart) × ((row_at load_key (part_key p) w ≡ Some was) × (load_key was ≡ load_key l) × (was.reference ≡ l.reference)) =
+          (part_load p (priorities_in s), (waited, ap load_key load, ap (λ (x : QueuedPart). x.reference) load)) in found)
           (λ (t : waits_for number (part_reaching q p) o ≡ false).
           let bad : None ≡ Some l = sym (cond-false (waits_for number (part_reaching q p) o) (Some (part_load (part_reaching q p) (priorities_in s))) None t) ∙ e in absurd cc)
           (cases_Bool (waits_for number (part_reaching q p) o))));
@@ -105,17 +105,17 @@ report_far_held s r q held there done =
     let after : List ReportRow = amended report_key report_reaching (report_key r) q (reports_in s) in
     let alone : Alone after = amended_alone (report_key r) q (reports_in s) held.alone in
     record {
-      givings = held.givings;
+      allocations = held.allocations;
       parts = held.parts;
       alone = alone;
       report_keys = rises_amended report_key report_reaching (λ x y. refl) (report_key r) q (reports_in s) held.report_keys;
       numbers = held.numbers;
       waiting = λ number.
-          let w : List Load = waiting_in number s in
+          let w : List QueuedPart = waiting_in number s in
           let o : Option MessageRow = message_at r.id (messages_in s) in
           let changes = report_changes number (messages_in s) (priorities_in s) (parts_in s) (reports_in s) after (report_reaching q r) held.parts held.alone alone
           (amended_own r q (reports_in s) there) (λ id ne. amended_other id r q (reports_in s) held.report_keys there ne) in
-          subst (λ (l : List Load). SoundWaiting (handset_at number (handsets_in s)) (references_in s) l) (sym changes)
+          subst (λ (l : List QueuedPart). SoundWaiting (handset_at number (handsets_in s)) (references_in s) l) (sym changes)
           (wait_sound (handset_at number (handsets_in s)) (references_in s) w (pair_key r.id 0) (report_wait number (messages_in s) (Some (report_reaching q r))) (held.waiting number)
           (λ l e. ⊎_elim
           (λ (t : reports_to number (report_reaching q r) o ≡ true).
@@ -125,8 +125,8 @@ report_far_held s r q held there done =
           report_waits_at number (messages_in s) (priorities_in s) (parts_in s) (reports_in s) r.id held.parts held.alone
           ∙ ap (λ (x : Option ReportRow). report_wait number (messages_in s) x) there
           ∙ cond-true (reports_to number r o) (Some (report_load r)) None (still_reports number r q o done t) in
-          let found : (was : Load) × ((row_at load_key (pair_key r.id 0) w ≡ Some was) × (load_key was ≡ load_key l) × (was.reference ≡ l.reference)) =
-          (report_load r, (waited, ap load_key load, ap (λ (x : Load). x.reference) load)) in found)
+          let found : (was : QueuedPart) × ((row_at load_key (pair_key r.id 0) w ≡ Some was) × (load_key was ≡ load_key l) × (was.reference ≡ l.reference)) =
+          (report_load r, (waited, ap load_key load, ap (λ (x : QueuedPart). x.reference) load)) in found)
           (λ (t : reports_to number (report_reaching q r) o ≡ false).
           let bad : None ≡ Some l = sym (cond-false (reports_to number (report_reaching q r) o) (Some (report_load (report_reaching q r))) None t) ∙ e in absurd cc)
           (cases_Bool (reports_to number (report_reaching q r) o))));
@@ -136,7 +136,7 @@ report_far_held s r q held there done =
 
 pub ended_held : (s : Store) (m : MessageRow) (state : FinalState) (moment : ℕ) → SoundHeld s → message_at m.id (messages_in s) ≡ Some m → SoundHeld (with_message (ended state moment m) s)
 ended_held s m state moment held there = record {
-  givings = held.givings;
+  allocations = held.allocations;
   parts = held.parts;
   alone = held.alone;
   report_keys = held.report_keys;
@@ -147,7 +147,7 @@ ended_held s m state moment held there = record {
       (λ (k : Among x (messages_in s) × ¬ (message_key x ≡ message_key (ended state moment m))). held.numbers x k.0)
       (among_put message_key x (ended state moment m) (messages_in s) among);
   waiting = λ number.
-      subst (λ (l : List Load). SoundWaiting (handset_at number (handsets_in s)) (references_in s) l)
+      subst (λ (l : List QueuedPart). SoundWaiting (handset_at number (handsets_in s)) (references_in s) l)
       (sym (end_waits number (messages_in s) (priorities_in s) (parts_in s) (reports_in s) m state moment held.parts held.alone there))
       (withdrawn_sound (handset_at number (handsets_in s)) (references_in s) (waiting_in number s) m.id (held.waiting number));
 }
@@ -157,7 +157,7 @@ ended_held s m state moment held there = record {
 pub entered_held : (s : Store) (m : MessageRow) (q : PriorityRow) → SoundHeld s → q.id ≡ m.id → ((n : ℕ) → part_at m.id n (parts_in s) ≡ None) → report_of m.id (reports_in s) ≡ None → IsNumber m.handset
     → SoundHeld (with_priority q (with_message m s))
 entered_held s m q held own none free is = record {
-  givings = held.givings;
+  allocations = held.allocations;
   parts = held.parts;
   alone = held.alone;
   report_keys = held.report_keys;
@@ -166,6 +166,6 @@ entered_held s m q held own none free is = record {
       (λ (k : Among x (messages_in s) × ¬ (message_key x ≡ message_key m)). held.numbers x k.0)
       (among_put message_key x m (messages_in s) among);
   waiting = λ number.
-      subst (λ (l : List Load). SoundWaiting (handset_at number (handsets_in s)) (references_in s) l)
+      subst (λ (l : List QueuedPart). SoundWaiting (handset_at number (handsets_in s)) (references_in s) l)
       (sym (new_waits number (messages_in s) (priorities_in s) (parts_in s) (reports_in s) m q held.parts held.alone own none free)) (held.waiting number);
 }

@@ -30,7 +30,7 @@ use Rattle.sms_centre_spec.specs.Draft.{Store, handsets_in, messages_in, parts_i
 use Rattle.sms_centre_spec.specs.Ends.{end, is_wished, make_report, report_to, status_given}
 use Rattle.sms_centre_spec.specs.Keeping.{IsMessageStill, IsPartStill, IsReportStill, Keeps}
 use Rattle.sms_receipt.specs.StatusReports.{status_octets}
-use Rattle.sms_centre_spec.specs.Standing.{Stands}
+use Rattle.sms_centre_spec.specs.Consistent.{IsConsistent}
 use Rattle.sms_centre_spec.specs.Submitting.{reference_for}
 use Rattle.sms_centre_spec.specs.Transfers.{complete}
 use Rattle.sms_centre_spec.proofs.StandsKept.{CanReport, can_report, next_is_new}
@@ -110,7 +110,7 @@ end_row_keeps f n m s there pending = record {
 
 -- ---- a report comes
 
-report_row_keeps : (r : ReportRow) (s : Store) → Stands s → ((x : ReportRow) → Among x (reports_in s) → ¬ (x.id ≡ r.id)) → r.place ≡ next_place (reports_in s)
+report_row_keeps : (r : ReportRow) (s : Store) → IsConsistent s → ((x : ReportRow) → Among x (reports_in s) → ¬ (x.id ≡ r.id)) → r.place ≡ next_place (reports_in s)
     → (id : ℕ) (x : ReportRow) → report_of id (reports_in s) ≡ Some x → (y : ReportRow) × ((report_of id (put report_key r (reports_in s)) ≡ Some y) × IsReportStill x y)
 report_row_keeps r s k none next id x e =
     let at = report_found id x (reports_in s) e in
@@ -144,7 +144,7 @@ report_keeps : (o : Originator) (f : FinalState) (n : ℕ) (m : MessageRow) (s :
 report_keeps (Application account) f n m s can = made_keeps f n m Receipt false s can
 report_keeps (Handset mr) f n m s can = let h : HandsetRow = handset_of m.source.digits (handsets_in s) in status_keeps f n m h (reference_for h s) s can
 
-pub end_keeps : (f : FinalState) (m : MessageRow) (s : Store) → Stands s → message_at m.id (messages_in s) ≡ Some m → is_pending m ≡ true → Keeps (rows_of s) (rows_of (end f m s))
+pub end_keeps : (f : FinalState) (m : MessageRow) (s : Store) → IsConsistent s → message_at m.id (messages_in s) ≡ Some m → is_pending m ≡ true → Keeps (rows_of s) (rows_of (end f m s))
 end_keeps f m s k there pending =
     let e : Store = with_message (ended f s.moment m) s in
     let row : Keeps (rows_of s) (rows_of e) = end_row_keeps f s.moment m s there pending in
@@ -174,7 +174,7 @@ part_far_keeps p q s there done = record {
     still : IsPartStill p (part_reaching q p)
     still = record { reference = refl; tpdu = refl; done = done }
 
-pub report_far_keeps : (r : ReportRow) (q : Progress) (s : Store) → Stands s → report_of r.id (reports_in s) ≡ Some r → (q.is_done ≡ false → r.progress.is_done ≡ false) → Keeps (rows_of s) (rows_of (with_report_at r q s))
+pub report_far_keeps : (r : ReportRow) (q : Progress) (s : Store) → IsConsistent s → report_of r.id (reports_in s) ≡ Some r → (q.is_done ≡ false → r.progress.is_done ≡ false) → Keeps (rows_of s) (rows_of (with_report_at r q s))
 report_far_keeps r q s k there stays = record {
   messages = λ id m e. (m, (e, same_message m));
   parts = λ id n p e. (p, (e, same_part p));
@@ -200,7 +200,7 @@ report_far_keeps r q s k there stays = record {
     still : IsReportStill r (report_reaching q r)
     still = record { kind = refl; made = refl; closed = closed }
 
-pub settled_keeps : (p : PartRow) (m : MessageRow) (s : Store) → Stands (with_part_at p (finished p.progress) s) → row_at part_key (part_key p) (parts_in s) ≡ Some p → message_at p.id (messages_in s) ≡ Some m → is_pending m ≡ true
+pub settled_keeps : (p : PartRow) (m : MessageRow) (s : Store) → IsConsistent (with_part_at p (finished p.progress) s) → row_at part_key (part_key p) (parts_in s) ≡ Some p → message_at p.id (messages_in s) ≡ Some m → is_pending m ≡ true
     → Keeps (rows_of s) (rows_of (complete m (with_part_at p (finished p.progress) s)))
 settled_keeps p m s k there of pending =
     let e : Store = with_part_at p (finished p.progress) s in

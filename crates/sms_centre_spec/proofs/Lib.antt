@@ -15,7 +15,7 @@ mod ReferencesGiven
 mod RequestsAnswered
 mod Restarted
 pub mod EventLaws
-pub mod HeldGivings
+pub mod HeldAllocations
 pub mod HeldStages
 pub mod Resting
 mod SplitsApart
@@ -30,7 +30,7 @@ pub mod ReportsKept
 pub mod SmppFits
 pub mod SplitsKept
 pub mod SoundAccepted
-pub mod SoundAir
+pub mod SoundLinks
 pub mod SoundBegins
 pub mod SoundEnds
 pub mod SoundEvents

@@ -3,12 +3,12 @@ use Rattle.std.proofs.Common.{◌≡◌, ◌+◌, [], ◌∷◌, Some, None, ref
 use Rattle.std.specs.Prelude.{codes, replicate}
 use Rattle.sms_base.specs.declared.final_state.FinalState.TheVariants.{Delivered}
 use Rattle.sms_centre_spec.specs.Draft.{Draft, core_of}
-use Rattle.sms_centre_spec.specs.CentreEvent.{submit_came, ticked}
+use Rattle.sms_centre_spec.specs.CentreEvent.{submit_received, ticked}
 use Rattle.sms_centre_spec.proofs.Everything.{everything}
 use Rattle.sms_centre_spec.proofs.Worked.{hex, t0, handset_b, begun, sm, comes, sent, states, told}
 
 abbrev pub one : Draft
-one = submit_came 0 (sm handset_b 0 0 1 [] (replicate 161 97) 0) (begun (handset_b ∷ []))
+one = submit_received 0 (sm handset_b 0 0 1 [] (replicate 161 97) 0) (begun (handset_b ∷ []))
 
 abbrev pub two : Draft
 two = comes handset_b (hex (codes "89010404000129")) (core_of (comes handset_b (hex (codes "8904")) (core_of one)))

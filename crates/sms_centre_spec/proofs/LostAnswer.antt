@@ -3,12 +3,12 @@ use Rattle.std.proofs.Common.{◌≡◌, ◌+◌, [], ◌∷◌, Some, refl}
 use Rattle.std.specs.Prelude.{codes}
 use Rattle.sms_base.specs.declared.final_state.FinalState.TheVariants.{Delivered}
 use Rattle.sms_centre_spec.specs.Draft.{Draft, core_of}
-use Rattle.sms_centre_spec.specs.CentreEvent.{submit_came, ticked}
+use Rattle.sms_centre_spec.specs.CentreEvent.{submit_received, ticked}
 use Rattle.sms_centre_spec.proofs.Everything.{everything}
 use Rattle.sms_centre_spec.proofs.Worked.{hex, t0, handset_b, begun, hello_to, comes, sent, states}
 
 abbrev pub one : Draft
-one = submit_came 0 (hello_to handset_b) (begun (handset_b ∷ []))
+one = submit_received 0 (hello_to handset_b) (begun (handset_b ∷ []))
 
 abbrev pub two : Draft
 two = comes handset_b (hex (codes "8904")) (core_of one)

@@ -2,12 +2,12 @@
 use Rattle.std.proofs.Common.{◌≡◌, ◌+◌, [], ◌∷◌, refl}
 use Rattle.std.specs.Prelude.{codes}
 use Rattle.sms_centre_spec.specs.Draft.{Draft, core_of}
-use Rattle.sms_centre_spec.specs.CentreEvent.{submit_came, ticked}
+use Rattle.sms_centre_spec.specs.CentreEvent.{submit_received, ticked}
 use Rattle.sms_centre_spec.proofs.Everything.{everything}
 use Rattle.sms_centre_spec.proofs.Worked.{hex, t0, handset_b, begun, hello_to, comes, sent, attempts_of}
 
 abbrev pub one : Draft
-one = submit_came 0 (hello_to handset_b) (core_of (submit_came 0 (hello_to handset_b) (begun (handset_b ∷ []))))
+one = submit_received 0 (hello_to handset_b) (core_of (submit_received 0 (hello_to handset_b) (begun (handset_b ∷ []))))
 
 abbrev pub two : Draft
 two = comes handset_b (hex (codes "890106020041020000")) (core_of (comes handset_b (hex (codes "8904")) (core_of one)))

@@ -13,7 +13,7 @@ use Rattle.sms_centre_rows.specs.declared.messages.part.PartRow.{PartRow}
 use Rattle.sms_centre_rows.specs.declared.messages.priority.PriorityRow.{PriorityRow}
 use Rattle.sms_centre_rows.specs.messages.Messages.{is_pending, message_at, message_key, part_at, part_key, priority_key}
 use Rattle.sms_centre_rows.specs.messages.SoundMessages.{EndsAt, IsPart, IsPriority}
-use Rattle.sms_centre_rows.specs.waiting.SoundGivings.{IsNumber}
+use Rattle.sms_centre_rows.specs.waiting.SoundAllocations.{IsNumber}
 use Rattle.sms_centre_spec.proofs.DoneMarks.{all_done_put, not_all_done}
 use Rattle.sms_centre_spec.proofs.MessagesKept.{AreRows, IsTold, IsWhole, found_message, pending_undelivered, small_numbers}
 

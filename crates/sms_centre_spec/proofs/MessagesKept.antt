@@ -19,7 +19,7 @@ use Rattle.sms_centre_rows.specs.messages.SplitReferences.{is_delivered}
 use Rattle.sms_centre_rows.proofs.messages.PartRows.{part_amended, part_amended_other}
 use Rattle.sms_centre_rows.specs.declared.waiting.progress.Progress.{Progress}
 use Rattle.sms_centre_rows.specs.waiting.Revisions.{amended}
-use Rattle.sms_centre_rows.specs.waiting.SoundGivings.{IsNumber}
+use Rattle.sms_centre_rows.specs.waiting.SoundAllocations.{IsNumber}
 use Rattle.sms_centre_rows.proofs.waiting.Amending.{rises_amended}
 use Rattle.sms_centre_spec.proofs.DoneMarks.{all_done_amended, far_alike, far_apart}
 use Rattle.sms_centre_spec.proofs.NextNumbers.{among_amended}

@@ -4,12 +4,12 @@ use Rattle.std.specs.Prelude.{codes}
 use Rattle.sms_base.specs.declared.final_state.FinalState.TheVariants.{Delivered, Deleted}
 use Rattle.sms_centre_spec.specs.declared.answer.CentreAnswer.TheVariants.{Cancelled}
 use Rattle.sms_centre_spec.specs.Draft.{Draft, core_of}
-use Rattle.sms_centre_spec.specs.CentreEvent.{submit_came, cancel_came, ticked}
+use Rattle.sms_centre_spec.specs.CentreEvent.{submit_received, cancel_received, ticked}
 use Rattle.sms_centre_spec.proofs.Everything.{everything}
 use Rattle.sms_centre_spec.proofs.Worked.{hex, t0, handset_b, begun, hello_to, comes, cancel_of, sent, states}
 
 abbrev pub one : Draft
-one = submit_came 0 (hello_to handset_b) (core_of (submit_came 0 (hello_to handset_b) (core_of (submit_came 0 (hello_to handset_b) (begun (handset_b ∷ []))))))
+one = submit_received 0 (hello_to handset_b) (core_of (submit_received 0 (hello_to handset_b) (core_of (submit_received 0 (hello_to handset_b) (begun (handset_b ∷ []))))))
 
 abbrev pub two : Draft
 two = comes handset_b (hex (codes "890106020041020000")) (core_of (comes handset_b (hex (codes "8904")) (core_of one)))
@@ -19,7 +19,7 @@ unfolding everything
 more = refl
 
 abbrev pub three : Draft
-three = cancel_came 0 (cancel_of (codes "0000000003")) (core_of two)
+three = cancel_received 0 (cancel_of (codes "0000000003")) (core_of two)
 
 cancelled : three.answer ≡ Some Cancelled
 unfolding everything

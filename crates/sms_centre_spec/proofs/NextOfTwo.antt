@@ -1,6 +1,6 @@
 -- When attempts are tried again, and which of two is next.
 use Rattle.std.proofs.Common.{◌≡◌, ℕ, ◌+◌, [], ◌∷◌, Some, None, refl}
-use Rattle.sms_centre_rows.specs.declared.waiting.load.Load.{Load}
+use Rattle.sms_centre_rows.specs.declared.waiting.queued_part.QueuedPart.{QueuedPart}
 use Rattle.sms_schedule.specs.Retry.{retry_after}
 use Rattle.sms_centre_rows.specs.waiting.Waiting.{next}
 use Rattle.sms_centre_spec.proofs.Everything.{everything}
@@ -14,7 +14,7 @@ fifth : retry_after 5 t0 ≡ t0 + 3600
 unfolding everything
 fifth = refl
 
-abbrev pub scheduled : ℕ → ℕ → ℕ → Load
+abbrev pub scheduled : ℕ → ℕ → ℕ → QueuedPart
 scheduled id priority due = record { id = id; number = 1; reference = 0; priority = priority; due = due }
 
 lower : next t0 (scheduled 2 0 t0 ∷ scheduled 1 0 t0 ∷ []) ≡ Some (scheduled 1 0 t0)

@@ -4,12 +4,12 @@ use Rattle.std.specs.Prelude.{codes}
 use Rattle.sms_base.specs.declared.final_state.FinalState.TheVariants.{Delivered}
 use Rattle.sms_centre_spec.specs.declared.answer.CentreAnswer.TheVariants.{Submitted}
 use Rattle.sms_centre_spec.specs.Draft.{Draft, core_of}
-use Rattle.sms_centre_spec.specs.CentreEvent.{submit_came}
+use Rattle.sms_centre_spec.specs.CentreEvent.{submit_received}
 use Rattle.sms_centre_spec.proofs.Everything.{everything}
 use Rattle.sms_centre_spec.proofs.Worked.{hex, handset_b, begun, hello_to, comes, sent, states}
 
 abbrev pub submitted : Draft
-submitted = submit_came 0 (hello_to handset_b) (begun (handset_b ∷ []))
+submitted = submit_received 0 (hello_to handset_b) (begun (handset_b ∷ []))
 
 answer : submitted.answer ≡ Some (Submitted 1)
 unfolding everything
@@ -31,6 +31,6 @@ delivered : states acknowledged ≡ Some Delivered ∷ []
 unfolding everything
 delivered = refl
 
-receipt : acknowledged.desk.deliveries ≡ record { session = 1; id = 1 } ∷ []
+receipt : acknowledged.bindings.deliveries ≡ record { session = 1; id = 1 } ∷ []
 unfolding everything
 receipt = refl

@@ -25,22 +25,22 @@ use Rattle.smpp_pdu.specs.declared.message.Message.{Message}
 use Rattle.smpp_pdu.specs.declared.status.CommandStatus.{CommandStatus}
 use Rattle.smpp_pdu.specs.declared.status.CommandStatus.TheVariants.{ESME_RINVDSTADR, ESME_RINVESMCLASS, ESME_RINVMSGLEN, ESME_RINVPARLEN, ESME_RINVSRCADR, ESME_ROPTPARNOTALLWD}
 use Rattle.smpp_pdu.specs.declared.tlv.Tlvs.{Tlvs}
-use Rattle.sms_centre_rows.specs.declared.waiting.line.Line.{Line}
-use Rattle.sms_centre_rows.specs.waiting.Lines.{line_of}
-use Rattle.sms_centre_rows.specs.waiting.SoundGivings.{IsNumber}
+use Rattle.sms_centre_rows.specs.declared.waiting.handset_link.HandsetLink.{HandsetLink}
+use Rattle.sms_centre_rows.specs.waiting.Links.{line_of}
+use Rattle.sms_centre_rows.specs.waiting.SoundAllocations.{IsNumber}
 use Rattle.sms_centre_spec.specs.declared.event.CentreEvent.{CentreEvent}
 use Rattle.sms_centre_spec.specs.declared.event.CentreEvent.TheVariants.{Submit, Query, Cancel, Bound, Unbound, DeliverAnswered, Frame, LinkUp, LinkDown, Tick}
-use Rattle.sms_intake.specs.declared.submission.Account.{Account}
+use Rattle.sms_intake.specs.declared.submission.CentreAccount.{CentreAccount}
 use Rattle.sms_intake.specs.declared.submission.SinglePart.{SinglePart}
 use Rattle.sms_intake.specs.declared.submission.Submission.{Submission}
 use Rattle.sms_intake.specs.declared.submission.Text.{Text}
 use Rattle.sms_centre_spec.specs.Draft.{Core}
 use Rattle.sms_centre_spec.specs.Requests.{account_at}
 use Rattle.sms_centre_spec.specs.SoundCore.{HasNumber, IsEvent, IsSoundCore}
-use Rattle.sms_centre_spec.specs.Standing.{IsBody, IsSubmission}
+use Rattle.sms_centre_spec.specs.Consistent.{IsBody, IsSubmission}
 use Rattle.sms_centre_spec.specs.Submitted.{AccountGives, Gives}
 use Rattle.sms_centre_spec.proofs.SmppFits.{FitsText, content_fits, key_header, single_fits, whole_fits}
-use Rattle.sms_centre_spec.proofs.SoundAir.{line_of_handset}
+use Rattle.sms_centre_spec.proofs.SoundLinks.{line_of_handset}
 use Rattle.sms_centre_spec.proofs.SubmitFits.{frame_fits, named_number}
 use Rattle.sms_centre_spec.proofs.TextFields.{IsHeader}
 use Rattle.sms_base.specs.HandsetNumber.{names_handset}
@@ -124,7 +124,7 @@ front_fits own m f is e =
     let same = ok_is {E = CommandStatus} _ f alone.2 in
     subst (λ (x : Front). IsAddress x.source × IsNumber x.handset) same (from, to)
 
-pdu_fits : (account : Account) (now : ℕ) (m : Message) (u : Submission) → IsAddress account.address → from_pdu account now m ≡ Ok u → IsSubmission u
+pdu_fits : (account : CentreAccount) (now : ℕ) (m : Message) (u : Submission) → IsAddress account.address → from_pdu account now m ≡ Ok u → IsSubmission u
 unfolding from_pdu judged_in
 pdu_fits account now m u is e =
     let judged = bind_ok (judged_in account.address now m) _ u e in
@@ -148,12 +148,12 @@ pdu_fits account now m u is e =
 
 -- ---- events
 
-account_among : (place : ℕ) (a : Account) (accounts : List Account) → account_at place accounts ≡ Some a → Among a accounts
+account_among : (place : ℕ) (a : CentreAccount) (accounts : List CentreAccount) → account_at place accounts ≡ Some a → Among a accounts
 account_among place a [] e = absurd cc
 account_among zero a (x ∷ xs) e = let same : a ≡ x = cc in inl same
 account_among (suc place) a (x ∷ xs) e = inr (account_among place a xs e)
 
-account_fits : (place : ℕ) (accounts : List Account) (now : ℕ) (m : Message) (o : Option Account) → ((a : Account) → Among a accounts → IsAddress a.address) → account_at place accounts ≡ o → AccountGives o now m
+account_fits : (place : ℕ) (accounts : List CentreAccount) (now : ℕ) (m : Message) (o : Option CentreAccount) → ((a : CentreAccount) → Among a accounts → IsAddress a.address) → account_at place accounts ≡ o → AccountGives o now m
 account_fits place accounts now m None are e = tt
 account_fits place accounts now m (Some a) are e = λ u f. pdu_fits a now m u (are a (account_among place a accounts e)) f
 
@@ -177,7 +177,7 @@ event_gives (Bound session account receives) c s is = tt
 event_gives (Unbound session) c s is = tt
 event_gives (DeliverAnswered session id b) c s is = tt
 event_gives (Frame handset octets tag) c s is =
-    let l : Line = line_of handset c.lines in frame_fits l c.moment octets (subst (λ (n : List ℕ). IsNumber n) (sym (line_of_handset handset c.lines)) is.0) is.1
+    let l : HandsetLink = line_of handset c.lines in frame_fits l c.moment octets (subst (λ (n : List ℕ). IsNumber n) (sym (line_of_handset handset c.lines)) is.0) is.1
 event_gives (LinkUp handset) c s is = tt
 event_gives (LinkDown handset) c s is = tt
 event_gives (Tick now) c s is = is

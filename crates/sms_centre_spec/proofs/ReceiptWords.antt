@@ -7,7 +7,7 @@ use Rattle.smpp_pdu.specs.declared.body.Body.TheVariants.{DeliverSm}
 use Rattle.smpp_pdu.specs.Writing.{written}
 use Rattle.sms_centre_spec.specs.declared.answer.CentreAnswer.TheVariants.{Submitted, Refused}
 use Rattle.sms_centre_spec.specs.Draft.{Draft, core_of}
-use Rattle.sms_centre_spec.specs.CentreEvent.{submit_came}
+use Rattle.sms_centre_spec.specs.CentreEvent.{submit_received}
 use Rattle.sms_receipt.specs.ReceiptText.{receipt_text}
 use Rattle.sms_receipt.specs.Receipts.{receipt_of}
 use Rattle.sms_centre_spec.specs.Finals.{final_of}
@@ -15,7 +15,7 @@ use Rattle.sms_centre_spec.proofs.Everything.{everything}
 use Rattle.sms_centre_spec.proofs.Worked.{hex, t0, handset_b, begun, sm, hello_to, comes, sent, row_of}
 
 abbrev pub one : Draft
-one = submit_came 0 (hello_to handset_b) (begun (handset_b ∷ []))
+one = submit_received 0 (hello_to handset_b) (begun (handset_b ∷ []))
 
 abbrev pub two : Draft
 two = comes handset_b (hex (codes "890106020041020000")) (core_of (comes handset_b (hex (codes "8904")) (core_of one)))
@@ -32,30 +32,30 @@ whole : length (written (record { command_status = 0; sequence_number = 1; body 
 unfolding everything
 whole = refl
 
-esm_class : (submit_came 0 (sm handset_b 0 4 1 [] (codes "hello") 0) (begun (handset_b ∷ []))).answer ≡ Some (Refused ESME_RINVESMCLASS)
+esm_class : (submit_received 0 (sm handset_b 0 4 1 [] (codes "hello") 0) (begun (handset_b ∷ []))).answer ≡ Some (Refused ESME_RINVESMCLASS)
 unfolding everything
 esm_class = refl
 
-destination : (submit_came 0 (hello_to (codes "44A")) (begun (handset_b ∷ []))).answer ≡ Some (Refused ESME_RINVDSTADR)
+destination : (submit_received 0 (hello_to (codes "44A")) (begun (handset_b ∷ []))).answer ≡ Some (Refused ESME_RINVDSTADR)
 unfolding everything
 destination = refl
 
-absolute : (submit_came 0 (sm handset_b 0 0 1 (codes "240301005959004+") (codes "hello") 0) (begun (handset_b ∷ []))).answer ≡ Some (Submitted 1)
+absolute : (submit_received 0 (sm handset_b 0 0 1 (codes "240301005959004+") (codes "hello") 0) (begun (handset_b ∷ []))).answer ≡ Some (Submitted 1)
 unfolding everything
 absolute = refl
 
-over : (submit_came 0 (sm handset_b 0 0 1 (codes "240301005958004+") (codes "hello") 0) (begun (handset_b ∷ []))).answer ≡ Some (Refused ESME_RINVEXPIRY)
+over : (submit_received 0 (sm handset_b 0 0 1 (codes "240301005958004+") (codes "hello") 0) (begun (handset_b ∷ []))).answer ≡ Some (Refused ESME_RINVEXPIRY)
 unfolding everything
 over = refl
 
-scheduled : (submit_came 0 (record (sm handset_b 0 0 1 [] (codes "hello") 0) { schedule_delivery_time = codes "000002000000000R" }) (begun (handset_b ∷ []))).answer ≡ Some (Refused ESME_RINVSCHED)
+scheduled : (submit_received 0 (record (sm handset_b 0 0 1 [] (codes "hello") 0) { schedule_delivery_time = codes "000002000000000R" }) (begun (handset_b ∷ []))).answer ≡ Some (Refused ESME_RINVSCHED)
 unfolding everything
 scheduled = refl
 
-later : sent (submit_came 0 (record (sm handset_b 0 0 1 [] (codes "hello") 0) { schedule_delivery_time = codes "000001000000000R" }) (begun (handset_b ∷ []))) ≡ []
+later : sent (submit_received 0 (record (sm handset_b 0 0 1 [] (codes "hello") 0) { schedule_delivery_time = codes "000001000000000R" }) (begun (handset_b ∷ []))) ≡ []
 unfolding everything
 later = refl
 
-past : (submit_came 0 (sm handset_b 0 0 1 (codes "000000000000000R") (codes "hello") 0) (begun (handset_b ∷ []))).answer ≡ Some (Refused ESME_RINVEXPIRY)
+past : (submit_received 0 (sm handset_b 0 0 1 (codes "000000000000000R") (codes "hello") 0) (begun (handset_b ∷ []))).answer ≡ Some (Refused ESME_RINVEXPIRY)
 unfolding everything
 past = refl

@@ -5,7 +5,7 @@ use Rattle.smpp_pdu.specs.declared.status.CommandStatus.TheVariants.{ESME_RMSGQF
 use Rattle.sms_centre_spec.specs.declared.answer.CentreAnswer.TheVariants.{Submitted, Refused}
 use Rattle.sms_centre_rows.specs.declared.waiting.reference.ReferenceRow.{ReferenceRow}
 use Rattle.sms_centre_spec.specs.Draft.{Core, Draft, core_of}
-use Rattle.sms_centre_spec.specs.CentreEvent.{submit_came, ticked, started}
+use Rattle.sms_centre_spec.specs.CentreEvent.{submit_received, ticked, started}
 use Rattle.sms_centre_spec.proofs.Everything.{everything}
 use Rattle.sms_centre_spec.proofs.Worked.{hex, t0, handset_a, handset_b, begun, no_rows, session_one, hello_to, comes, sent}
 
@@ -18,19 +18,19 @@ given_all (suc n) = given_all n ++ record { place = 1; reference = n; last = t0 
 abbrev pub full : Core
 full = started (record no_rows { references = given_all 256; handsets = record { place = 1; number = handset_b; last_reference = 255 } ∷ [] }) (handset_b ∷ []) (session_one ∷ [])
 
-none_free : (submit_came 0 (hello_to handset_b) full).answer ≡ Some (Refused ESME_RMSGQFUL)
+none_free : (submit_received 0 (hello_to handset_b) full).answer ≡ Some (Refused ESME_RMSGQFUL)
 unfolding everything
 none_free = refl
 
-next_second : (submit_came 0 (hello_to handset_b) (core_of (ticked (t0 + 1) full))).answer ≡ Some (Submitted 1)
+next_second : (submit_received 0 (hello_to handset_b) (core_of (ticked (t0 + 1) full))).answer ≡ Some (Submitted 1)
 unfolding everything
 next_second = refl
 
 abbrev pub many : ℕ → Core → Core
 many zero c = c
-many (suc n) c = core_of (submit_came 0 (hello_to handset_b) (many n c))
+many (suc n) c = core_of (submit_received 0 (hello_to handset_b) (many n c))
 
-so_many : (submit_came 0 (hello_to handset_b) (many 60 (begun (handset_b ∷ [])))).answer ≡ Some (Submitted 61)
+so_many : (submit_received 0 (hello_to handset_b) (many 60 (begun (handset_b ∷ [])))).answer ≡ Some (Submitted 61)
 unfolding everything
 so_many = refl
 

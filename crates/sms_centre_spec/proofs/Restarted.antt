@@ -3,12 +3,12 @@ use Rattle.std.proofs.Common.{◌≡◌, [], ◌∷◌, Some, refl}
 use Rattle.std.specs.Prelude.{codes}
 use Rattle.sms_base.specs.declared.final_state.FinalState.TheVariants.{Delivered}
 use Rattle.sms_centre_spec.specs.Draft.{Core, Draft, core_of}
-use Rattle.sms_centre_spec.specs.CentreEvent.{submit_came, ticked, recovered}
+use Rattle.sms_centre_spec.specs.CentreEvent.{submit_received, ticked, recovered}
 use Rattle.sms_centre_spec.proofs.Everything.{everything}
 use Rattle.sms_centre_spec.proofs.Worked.{hex, t0, handset_b, begun, session_one, hello_to, comes, sent, states, told}
 
 abbrev pub one : Draft
-one = submit_came 0 (hello_to handset_b) (begun (handset_b ∷ []))
+one = submit_received 0 (hello_to handset_b) (begun (handset_b ∷ []))
 
 abbrev pub two : Core
 two = recovered (core_of one).rows (handset_b ∷ []) (session_one ∷ [])

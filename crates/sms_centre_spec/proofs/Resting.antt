@@ -17,8 +17,8 @@ abbrev pub base_of : Store → Rows
 base_of s = record {
   messages = s.messages.messages.base;
   parts = s.messages.parts.base;
-  references = s.givings.references.base;
-  handsets = s.givings.handsets.base;
+  references = s.allocations.references.base;
+  handsets = s.allocations.handsets.base;
   reports = s.reports.base;
   priorities = s.messages.priorities.base;
   setup = s.setup;
@@ -47,8 +47,8 @@ pub store_commits : (s : Store) → rows_after (changes_in s) (base_of s) ≡ ro
 store_commits s =
     let m = commits message_key s.messages.messages.news s.messages.messages.base in
     let p = revisions_commit part_key part_reaching s.messages.parts.news s.messages.parts.base in
-    let r = commits reference_key s.givings.references.news s.givings.references.base in
-    let h = commits handset_key s.givings.handsets.news s.givings.handsets.base in
+    let r = commits reference_key s.allocations.references.news s.allocations.references.base in
+    let h = commits handset_key s.allocations.handsets.news s.allocations.handsets.base in
     let t = revisions_commit report_key report_reaching s.reports.news s.reports.base in
     let q = commits priority_key s.messages.priorities.news s.messages.priorities.base in
     ap (λ xs. record (rows_after (changes_in s) (base_of s)) { messages = xs }) m
@@ -67,4 +67,4 @@ happened_rests event c =
 pub adopted_is : (event : CentreEvent) (c : Core) → adopted (outcome_of (happened event c)) c ≡ core_of (happened event c)
 adopted_is event c =
     let d : Draft = happened event c in
-    ap (λ (r : Rows). record { rows = r; moment = d.store.moment; lines = d.air.lines; sessions = d.desk.sessions }) (happened_rests event c)
+    ap (λ (r : Rows). record { rows = r; moment = d.store.moment; lines = d.links.lines; sessions = d.bindings.sessions }) (happened_rests event c)

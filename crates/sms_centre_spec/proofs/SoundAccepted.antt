@@ -19,7 +19,7 @@ use Rattle.sms_intake.specs.declared.submission.SinglePart.{SinglePart}
 use Rattle.sms_intake.specs.declared.submission.Submission.{Submission}
 use Rattle.sms_intake.specs.PartBodies.{deliver_octets, deliver_of}
 use Rattle.sms_centre_spec.specs.Draft.{Store, handsets_in, messages_in, parts_in, priorities_in, references_in, reports_in, waiting_in}
-use Rattle.sms_centre_spec.specs.Standing.{IsBody, IsSubmission, Stands}
+use Rattle.sms_centre_spec.specs.Consistent.{IsBody, IsSubmission, IsConsistent}
 use Rattle.sms_centre_spec.specs.Submitting.{accept, accept_as, accept_split, accept_under, enter, give_part, give_parts, message_of, part_given, reference_for}
 use Rattle.sms_intake.specs.PartBodies.{bodies_under, is_long}
 use Rattle.sms_centre_spec.proofs.MessagesEntered.{IsFirst, first_rows, part_rows}
@@ -133,7 +133,7 @@ first_sound id split u b (Some r) s c body next =
     let p : PartRow = part_row id 1 r u b s in
     let ms : List MessageRow = messages_in s in
     let there : message_at id (put message_key m ms) ≡ Some m = row_at_put message_key m ms in
-    let entered : Stands e = enter_stands id split u s c.sound.stands c.new c.fit.handset c.fit.told in
+    let entered : IsConsistent e = enter_stands id split u s c.sound.stands c.new c.fit.handset c.fit.told in
     let stands : Entered m _ = part_stands m u 1 b (Some r) e (entered, there) refl (omega arith) (omega arith) next in
     let small : r < 256 = (next_is_free h (waiting_in h.number e) (references_in e) e.moment r next).1 in
     let times : Times e = entered_times id split u s c.sound.times in

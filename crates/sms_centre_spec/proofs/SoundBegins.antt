@@ -9,15 +9,15 @@ use Rattle.sms_link.specs.LinkTurn.{LinkOf, new_link}
 use Rattle.sms_centre_rows.specs.declared.messages.message.MessageRow.{MessageRow}
 use Rattle.sms_centre_rows.specs.declared.reports.report.ReportRow.{ReportRow}
 use Rattle.sms_centre_rows.specs.reports.Receipts.{Session, session_key}
-use Rattle.sms_centre_rows.specs.declared.waiting.line.Line.{Line}
+use Rattle.sms_centre_rows.specs.declared.waiting.handset_link.HandsetLink.{HandsetLink}
 use Rattle.sms_centre_rows.specs.declared.waiting.reference.ReferenceRow.{ReferenceRow}
-use Rattle.sms_centre_rows.specs.waiting.SoundGivings.{IsNumber}
+use Rattle.sms_centre_rows.specs.waiting.SoundAllocations.{IsNumber}
 use Rattle.sms_centre_spec.specs.declared.rows.Rows.{Rows}
 use Rattle.sms_centre_spec.specs.declared.setup.Setup.{Setup}
 use Rattle.sms_centre_spec.specs.CentreEvent.{after_messages, after_references, after_reports, lines_awaited, lines_up, moment_of, recovered, started}
 use Rattle.sms_centre_spec.specs.SoundCore.{AreDifferent, AreLines, IsAnswer, IsLine, IsSession, IsSoundCore, IsUnderWay}
 use Rattle.sms_centre_spec.specs.SoundRows.{IsSetup, IsSound, first_rows}
-use Rattle.sms_centre_spec.proofs.SoundAir.{line_none}
+use Rattle.sms_centre_spec.proofs.SoundLinks.{line_none}
 
 -- ---- the moment of rows is one
 
@@ -45,14 +45,14 @@ rows_moment rows s =
 -- ---- lines of different handsets, with nothing under way
 
 -- each is of one of the handsets, with a new link
-abbrev AreNew : Rows → List (List ℕ) → List Line → Type 0
-AreNew rows ns ls = (l : Line) → Among l ls → Among l.handset ns × (l.link ≡ new_link Centre)
+abbrev AreNew : Rows → List (List ℕ) → List HandsetLink → Type 0
+AreNew rows ns ls = (l : HandsetLink) → Among l ls → Among l.handset ns × (l.link ≡ new_link Centre)
 
 awaited_new : (rows : Rows) (ns : List (List ℕ)) → AreNew rows ns (lines_awaited ns)
 awaited_new rows [] l among = absurd among
 awaited_new rows (n ∷ ns) l among = ⊎_elim
     (λ (e : l ≡ record { handset = n; is_up = false; is_awaited = true; is_full = false; link = new_link Centre }).
-    (inl (ap (λ (x : Line). x.handset) e), ap (λ (x : Line). x.link) e))
+    (inl (ap (λ (x : HandsetLink). x.handset) e), ap (λ (x : HandsetLink). x.link) e))
     (λ (a : Among l (lines_awaited ns)). let r = awaited_new rows ns l a in (inr r.0, r.1))
     among
 
@@ -60,11 +60,11 @@ up_new : (rows : Rows) (ns : List (List ℕ)) → AreNew rows ns (lines_up ns)
 up_new rows [] l among = absurd among
 up_new rows (n ∷ ns) l among = ⊎_elim
     (λ (e : l ≡ record { handset = n; is_up = true; is_awaited = false; is_full = false; link = new_link Centre }).
-    (inl (ap (λ (x : Line). x.handset) e), ap (λ (x : Line). x.link) e))
+    (inl (ap (λ (x : HandsetLink). x.handset) e), ap (λ (x : HandsetLink). x.link) e))
     (λ (a : Among l (lines_up ns)). let r = up_new rows ns l a in (inr r.0, r.1))
     among
 
-new_lines : (rows : Rows) (ns : List (List ℕ)) (ls : List Line) → AreNew rows ns ls → ((n : List ℕ) → Among n ns → IsNumber n) → (l : Line) → Among l ls → IsLine rows l
+new_lines : (rows : Rows) (ns : List (List ℕ)) (ls : List HandsetLink) → AreNew rows ns ls → ((n : List ℕ) → Among n ns → IsNumber n) → (l : HandsetLink) → Among l ls → IsLine rows l
 new_lines rows ns ls new are l among =
     let is = new l among in
     record {
@@ -114,7 +114,7 @@ first_sound setup is = record {
   times = record { submitted = λ m a. absurd a; given = λ r a. absurd a; made = λ r a. absurd a };
   messages = record { message_keys = tt; part_keys = tt; priority_keys = tt; each_message = λ m a. absurd a; each_part = λ p a. absurd a; each_priority = λ p a. absurd a };
   told = λ m a. absurd a;
-  givings = record { handset_keys = tt; reference_keys = tt; mentioned = λ h a. absurd a; given = λ r a. absurd a; apart = λ h g a b e. absurd a };
+  allocations = record { handset_keys = tt; reference_keys = tt; mentioned = λ h a. absurd a; given = λ r a. absurd a; apart = λ h g a b e. absurd a };
   reports = record { keys = tt; each = λ r a. absurd a; once = λ r s a b e. absurd a };
   waiting = λ number. record { keys = tt; small = λ l a. absurd a; given = λ l a. absurd a; apart = λ l k a b e. absurd a };
   splits = λ m n r a b e f g h i j. absurd a;

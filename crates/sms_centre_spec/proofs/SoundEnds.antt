@@ -25,7 +25,7 @@ use Rattle.sms_centre_spec.specs.Draft.{Store, handsets_in, messages_in, parts_i
 use Rattle.sms_centre_spec.specs.Ends.{end, is_wished, make_report, report_to, status_given}
 use Rattle.sms_receipt.specs.StatusReports.{status_octets, status_report_of}
 use Rattle.sms_centre_spec.specs.SoundRows.{AreSplitApart, CanBeTold, IsSetup}
-use Rattle.sms_centre_spec.specs.Standing.{Stands}
+use Rattle.sms_centre_spec.specs.Consistent.{IsConsistent}
 use Rattle.sms_centre_spec.specs.Submitting.{reference_for}
 use Rattle.sms_centre_spec.proofs.MessagesKept.{AreRows, IsTold, ended_rows, rows_sound}
 use Rattle.sms_centre_spec.proofs.NextNumbers.{some_next_place}
@@ -125,7 +125,7 @@ report_sound (Handset mr) f n m s k can told from = status_sound f n mr m (refer
 
 -- all but what its row says of its parts is sound, and its row says that once it ends so
 pub record CanEnd (f : FinalState) (m : MessageRow) (s : Store) : Type 0 where
-  pub stands : Stands s
+  pub stands : IsConsistent s
   pub rows : AreRows (λ x. ¬ (x.id ≡ m.id) → IsTold (parts_in s) x) (messages_in s) (parts_in s) (priorities_in s)
   pub told : is_delivered (Some f) ≡ all_done m.id (parts_in s)
   pub reports : SoundReports (messages_in s) (reports_in s)

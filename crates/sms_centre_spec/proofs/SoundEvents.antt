@@ -10,8 +10,8 @@ use Rattle.sms_rows.specs.table.Table.{row_at}
 use Rattle.sms_centre_rows.specs.declared.reports.report.ReportKind.{ReportKind}
 use Rattle.sms_centre_rows.specs.reports.Receipts.{session_key}
 use Rattle.sms_centre_rows.specs.reports.Reports.{is_receipt}
-use Rattle.sms_centre_rows.specs.declared.waiting.line.Line.{Line}
-use Rattle.sms_centre_rows.specs.waiting.Lines.{line_of}
+use Rattle.sms_centre_rows.specs.declared.waiting.handset_link.HandsetLink.{HandsetLink}
+use Rattle.sms_centre_rows.specs.waiting.Links.{line_of}
 use Rattle.sms_centre_spec.specs.declared.event.CentreEvent.{CentreEvent}
 use Rattle.sms_centre_spec.specs.declared.event.CentreEvent.TheVariants.{Submit, Query, Cancel, Bound, Unbound, DeliverAnswered, Frame, LinkUp, LinkDown, Tick}
 use Rattle.sms_centre_spec.specs.declared.rows.Rows.{Rows}
@@ -25,7 +25,7 @@ use Rattle.sms_centre_spec.specs.Submitted.{Gives}
 use Rattle.sms_centre_spec.proofs.Keeping.{keeps_same}
 use Rattle.sms_centre_spec.proofs.KeepingSteady.{SoundSince, since_steady}
 use Rattle.sms_centre_spec.proofs.SoundAccepted.{sound_steady}
-use Rattle.sms_centre_spec.proofs.SoundAir.{line_sound}
+use Rattle.sms_centre_spec.proofs.SoundLinks.{line_sound}
 use Rattle.sms_centre_spec.proofs.SoundOffers.{follow_sides}
 use Rattle.sms_centre_spec.proofs.SoundSides.{Sides, answered_sides, bind_sides, cancel_sides, frame_sides, lower_sides, query_sides, raise_sides, submit_sides, ticked_sides, unbind_sides}
 use Rattle.sms_centre_spec.proofs.SoundStores.{SoundStore, rows_are_past, rows_are_sound, store_sound}
@@ -120,9 +120,9 @@ event_after (DeliverAnswered session id b) c s is g =
     followed c (deliver_answered session id b (draft_of c)) (steady_event (SoundSince c.rows) (since_steady c.rows) (DeliverAnswered session id b) c (begins c s) s.now g)
     (answered_sides c.rows session id b (row_at session_key session c.sessions) (draft_of c) refl (sides_begin c s))
 event_after (Frame handset octets tag) c s is g =
-    let line : Line = line_of handset c.lines in
+    let line : HandsetLink = line_of handset c.lines in
     followed c (frame_taken octets (tag_of tag) line (draft_of c)) (steady_event (SoundSince c.rows) (since_steady c.rows) (Frame handset octets tag) c (begins c s) s.now g)
-    (frame_sides c.rows octets (tag_of tag) line (draft_of c) (line_sound c.rows handset (draft_of c).air (sides_begin c s).0 is) (sides_begin c s))
+    (frame_sides c.rows octets (tag_of tag) line (draft_of c) (line_sound c.rows handset (draft_of c).links (sides_begin c s).0 is) (sides_begin c s))
 event_after (LinkUp handset) c s is g =
     followed c (raise handset (draft_of c)) (steady_event (SoundSince c.rows) (since_steady c.rows) (LinkUp handset) c (begins c s) s.now g)
     (raise_sides c.rows handset (draft_of c) is (sides_begin c s))

@@ -22,37 +22,37 @@ use Rattle.sms_centre_rows.specs.declared.reports.delivery.Delivery.{Delivery}
 use Rattle.sms_centre_rows.specs.declared.reports.report.ReportKind.{ReportKind}
 use Rattle.sms_centre_rows.specs.declared.reports.report.ReportKind.TheVariants.{Receipt, Status, Unsent}
 use Rattle.sms_centre_rows.specs.declared.reports.report.ReportRow.{ReportRow}
-use Rattle.sms_centre_rows.specs.reports.Receipts.{Desk, Session, is_account, is_unanswered, send as send_one, send_all, send_in, send_to, session_for, waits, window}
+use Rattle.sms_centre_rows.specs.reports.Receipts.{Bindings, Session, is_account, is_unanswered, send as send_one, send_all, send_in, send_to, session_for, waits, window}
 use Rattle.sms_centre_rows.specs.reports.Reports.{is_open_receipt, is_open_status, is_receipt, is_status, report_of, status_reference}
 use Rattle.sms_centre_rows.specs.reports.Waiting.{report_load, report_wait, reports_to}
 use Rattle.sms_centre_rows.proofs.reports.AllWaiting.{part_waits_at, report_waits_at}
 use Rattle.sms_centre_rows.proofs.reports.FewWaiting.{all_few}
 use Rattle.sms_centre_rows.specs.declared.waiting.handset.HandsetRow.{HandsetRow}
-use Rattle.sms_centre_rows.specs.declared.waiting.line.Line.{Line}
-use Rattle.sms_centre_rows.specs.declared.waiting.load.Load.{Load}
+use Rattle.sms_centre_rows.specs.declared.waiting.handset_link.HandsetLink.{HandsetLink}
+use Rattle.sms_centre_rows.specs.declared.waiting.queued_part.QueuedPart.{QueuedPart}
 use Rattle.sms_centre_rows.specs.waiting.Keys.{load_key}
-use Rattle.sms_centre_rows.specs.waiting.Lines.{Air, is_ready, line_of, turned}
-use Rattle.sms_centre_rows.specs.waiting.SoundGivings.{IsNumber}
+use Rattle.sms_centre_rows.specs.waiting.Links.{Links, is_ready, line_of, turned}
+use Rattle.sms_centre_rows.specs.waiting.SoundAllocations.{IsNumber}
 use Rattle.sms_centre_rows.specs.waiting.Waiting.{if_due, is_due, next, preceding, precedes, waits_beside}
 use Rattle.sms_centre_spec.specs.declared.rows.Rows.{Rows}
 use Rattle.sms_centre_spec.specs.Draft.{Draft, Store, handsets_in, messages_in, parts_in, priorities_in, reports_in, rows_of, waiting_in}
 use Rattle.sms_centre_spec.specs.CentreEvent.{follow}
 use Rattle.sms_centre_spec.specs.Offering.{holder_of, is_made, offer_all, offer_among, offer_load, offer_on, offer_to, read_of, unit_of}
 use Rattle.sms_centre_spec.specs.SoundCore.{IsLine, IsReceiptRow, IsSentFor}
-use Rattle.sms_centre_spec.specs.Standing.{Stands}
-use Rattle.sms_centre_spec.proofs.SoundAir.{AllBring, SoundAir, SoundDesk, carrying_bring, line_sound, session_put, turn_sound}
+use Rattle.sms_centre_spec.specs.Consistent.{IsConsistent}
+use Rattle.sms_centre_spec.proofs.SoundLinks.{AllBring, SoundLinks, SoundBindings, carrying_bring, line_sound, session_put, turn_sound}
 use Rattle.sms_centre_spec.proofs.SoundSides.{Sides}
 
 -- ---- what is next waits there
 
-next_waits : (now : ℕ) (l : Load) (ls : List Load) → next now ls ≡ Some l → Among l ls
+next_waits : (now : ℕ) (l : QueuedPart) (ls : List QueuedPart) → next now ls ≡ Some l → Among l ls
 next_waits now l [] e = absurd cc
 next_waits now l (x ∷ xs) e = which (if_due now x) (next now xs) (λ y q. due y q) (λ q. next_waits now l xs q) e
   where
-    due : (y : Load) → if_due now x ≡ Some y → y ≡ x
+    due : (y : QueuedPart) → if_due now x ≡ Some y → y ≡ x
     due y q = cond_both (is_due now x) (Some x) None (λ o. o ≡ Some y → y ≡ x) (λ t f. let same : y ≡ x = cc in same) (λ t f. absurd cc) q
 
-    which : (a b : Option Load) → ((y : Load) → a ≡ Some y → y ≡ x) → (b ≡ Some l → Among l xs) → preceding a b ≡ Some l → Among l (x ∷ xs)
+    which : (a b : Option QueuedPart) → ((y : QueuedPart) → a ≡ Some y → y ≡ x) → (b ≡ Some l → Among l xs) → preceding a b ≡ Some l → Among l (x ∷ xs)
     which None b f g q = inr (g q)
     which (Some y) None f g q = let same : l ≡ y = cc in inl (same ∙ f y refl)
     which (Some y) (Some z) f g q =
@@ -61,19 +61,19 @@ next_waits now l (x ∷ xs) e = which (if_due now x) (next now xs) (λ y q. due 
 
 -- ---- what waits is a part of a message to the handset, or the status report of one of its own
 
-part_sent : (h : List ℕ) (l : Load) (o : Option PartRow) (s : Store) → part_at l.id l.number (parts_in s) ≡ o → part_wait h (messages_in s) (priorities_in s) o ≡ Some l → IsSentFor h l.reference (Part l.id l.number) (rows_of s)
+part_sent : (h : List ℕ) (l : QueuedPart) (o : Option PartRow) (s : Store) → part_at l.id l.number (parts_in s) ≡ o → part_wait h (messages_in s) (priorities_in s) o ≡ Some l → IsSentFor h l.reference (Part l.id l.number) (rows_of s)
 part_sent h l None s e w = absurd cc
 part_sent h l (Some p) s e w = of (message_at p.id (messages_in s)) refl
   where
     id : p.id ≡ l.id
     id = let k = found_key part_key (pair_key l.id l.number) p (parts_in s) e in
         cond_both (waits_for h p (message_at p.id (messages_in s))) (Some (part_load p (priorities_in s))) None (λ x. x ≡ Some l → p.id ≡ l.id)
-        (λ t f. let same : part_load p (priorities_in s) ≡ l = cc in ap (λ (y : Load). y.id) same) (λ t f. absurd cc) w
+        (λ t f. let same : part_load p (priorities_in s) ≡ l = cc in ap (λ (y : QueuedPart). y.id) same) (λ t f. absurd cc) w
 
     reference : p.reference ≡ l.reference
     reference =
         cond_both (waits_for h p (message_at p.id (messages_in s))) (Some (part_load p (priorities_in s))) None (λ x. x ≡ Some l → p.reference ≡ l.reference)
-        (λ t f. let same : part_load p (priorities_in s) ≡ l = cc in ap (λ (y : Load). y.reference) same) (λ t f. absurd cc) w
+        (λ t f. let same : part_load p (priorities_in s) ≡ l = cc in ap (λ (y : QueuedPart). y.reference) same) (λ t f. absurd cc) w
 
     is_waiting : waits_for h p (message_at p.id (messages_in s)) ≡ true
     is_waiting =
@@ -87,7 +87,7 @@ part_sent h l (Some p) s e w = of (message_at p.id (messages_in s)) refl
         let to : bytes_eq m.handset h ≡ true = (and_parts (is_pending m) (bytes_eq m.handset h) both.1).1 in
         (p, (m, (e, reference, ap (λ (i : ℕ). message_at i (messages_in s)) (sym id) ∙ q, (bytes_eq-Decides m.handset h).0 to)))
 
-report_sent : (h : List ℕ) (l : Load) (o : Option ReportRow) (s : Store) → report_of l.id (reports_in s) ≡ o → report_wait h (messages_in s) o ≡ Some l → IsSentFor h l.reference (Report l.id) (rows_of s)
+report_sent : (h : List ℕ) (l : QueuedPart) (o : Option ReportRow) (s : Store) → report_of l.id (reports_in s) ≡ o → report_wait h (messages_in s) o ≡ Some l → IsSentFor h l.reference (Report l.id) (rows_of s)
 report_sent h l None s e w = absurd cc
 report_sent h l (Some r) s e w = of (message_at r.id (messages_in s)) refl
   where
@@ -111,11 +111,11 @@ report_sent h l (Some r) s e w = of (message_at r.id (messages_in s)) refl
     of (Some m) q =
         let both = and_parts (is_open_status r) (bytes_eq m.source.digits h) (sym (ap (λ (o : Option MessageRow). reports_to h r o) q) ∙ is_waiting) in
         let kind = kind_is r.kind (and_parts (is_status r.kind) (not r.progress.is_done) both.0).0 in
-        let own : r.id ≡ l.id = ap (λ (y : Load). y.id) same in
-        let reference : status_reference r.kind ≡ l.reference = ap (λ (y : Load). y.reference) same in
+        let own : r.id ≡ l.id = ap (λ (y : QueuedPart). y.id) same in
+        let reference : status_reference r.kind ≡ l.reference = ap (λ (y : QueuedPart). y.reference) same in
         (r, (m, (kind.0, (e, kind.1 ∙ ap (λ (n : ℕ). Status n kind.0) reference, ap (λ (i : ℕ). message_at i (messages_in s)) (sym own) ∙ q, (bytes_eq-Decides m.source.digits h).0 both.1))))
 
-load_sent : (h : List ℕ) (l : Load) (s : Store) → Stands s → Among l (waiting_in h s) → IsSentFor h l.reference (holder_of l) (rows_of s)
+load_sent : (h : List ℕ) (l : QueuedPart) (s : Store) → IsConsistent s → Among l (waiting_in h s) → IsSentFor h l.reference (holder_of l) (rows_of s)
 load_sent h l s k among =
     let ms = messages_in s in
     let qs = priorities_in s in
@@ -134,41 +134,41 @@ load_sent h l s k among =
 
 -- ---- offers
 
-offered_line : (s : Store) (line : Line) (l : Load) (unit : List ℕ) → IsLine (rows_of s) line → IsSentFor line.handset l.reference (holder_of l) (rows_of s)
+offered_line : (s : Store) (line : HandsetLink) (l : QueuedPart) (unit : List ℕ) → IsLine (rows_of s) line → IsSentFor line.handset l.reference (holder_of l) (rows_of s)
     → IsLine (rows_of s) (turned (begun s.moment l.reference (holder_of l) unit line.link) line)
 offered_line s line l unit is sent =
     cond_both (is_busy line.link.links) (still line.link) (started (of_kind Data l.reference (holder_of l)) (begin_step s.moment unit line.link.links) line.link) (λ (t : Turn). IsLine (rows_of s) (turned t line))
     (λ t. record { handset = is.handset; side = is.side; under_way = is.under_way; answered = is.answered })
     (λ t. record { handset = is.handset; side = is.side; under_way = (refl, sent); answered = is.answered })
 
-offered_brings : (s : Store) (line : Line) (l : Load) (unit : List ℕ) → IsSentFor line.handset l.reference (holder_of l) (rows_of s)
+offered_brings : (s : Store) (line : HandsetLink) (l : QueuedPart) (unit : List ℕ) → IsSentFor line.handset l.reference (holder_of l) (rows_of s)
     → AllBring (rows_of s) line.handset (begun s.moment l.reference (holder_of l) unit line.link).out.frames
 offered_brings s line l unit sent =
     cond_both (is_busy line.link.links) (still line.link) (started (of_kind Data l.reference (holder_of l)) (begin_step s.moment unit line.link.links) line.link) (λ (t : Turn). AllBring (rows_of s) line.handset t.out.frames)
     (λ t f among. absurd among)
     (λ t. carrying_bring (rows_of s) line.handset (Some (of_kind Data l.reference (holder_of l))) (begin_step s.moment unit line.link.links).out.frames sent)
 
-read_sound : (s : Store) (l : Load) (air : Air) → SoundAir (rows_of s) air → SoundAir (rows_of s) (read_of l s air)
-read_sound s l air k = cond_both (is_made l s) air _ (λ (a : Air). SoundAir (rows_of s) a) (λ t. k) (λ t. record { each = k.each; apart = k.apart; sent = k.sent })
+read_sound : (s : Store) (l : QueuedPart) (links : Links) → SoundLinks (rows_of s) links → SoundLinks (rows_of s) (read_of l s links)
+read_sound s l links k = cond_both (is_made l s) links _ (λ (a : Links). SoundLinks (rows_of s) a) (λ t. k) (λ t. record { each = k.each; apart = k.apart; sent = k.sent })
 
-load_offered : (s : Store) (line : Line) (o : Option Load) (air : Air) → Stands s → SoundAir (rows_of s) air → IsLine (rows_of s) line → next s.moment (waiting_in line.handset s) ≡ o
-    → SoundAir (rows_of s) (offer_load line (waiting_in line.handset s) o s air)
-load_offered s line None air k a is e = a
-load_offered s line (Some l) air k a is e =
+load_offered : (s : Store) (line : HandsetLink) (o : Option QueuedPart) (links : Links) → IsConsistent s → SoundLinks (rows_of s) links → IsLine (rows_of s) line → next s.moment (waiting_in line.handset s) ≡ o
+    → SoundLinks (rows_of s) (offer_load line (waiting_in line.handset s) o s links)
+load_offered s line None links k a is e = a
+load_offered s line (Some l) links k a is e =
     let unit : List ℕ = unit_of l (waits_beside s.moment l (waiting_in line.handset s)) s in
     let sent : IsSentFor line.handset l.reference (holder_of l) (rows_of s) = load_sent line.handset l s k (next_waits s.moment l (waiting_in line.handset s) e) in
-    turn_sound (rows_of s) line (begun s.moment l.reference (holder_of l) unit line.link) (read_of l s air) (read_sound s l air a) (offered_line s line l unit is sent) (offered_brings s line l unit sent)
+    turn_sound (rows_of s) line (begun s.moment l.reference (holder_of l) unit line.link) (read_of l s links) (read_sound s l links a) (offered_line s line l unit is sent) (offered_brings s line l unit sent)
 
-line_offered : (s : Store) (line : Line) (air : Air) → Stands s → SoundAir (rows_of s) air → IsLine (rows_of s) line → SoundAir (rows_of s) (offer_on line s air)
-line_offered s line air k a is =
-    cond_both (is_ready line) (offer_among line (waiting_in line.handset s) s air) air (λ (x : Air). SoundAir (rows_of s) x)
-    (λ t. load_offered s line (next s.moment (waiting_in line.handset s)) air k a is refl) (λ t. a)
+line_offered : (s : Store) (line : HandsetLink) (links : Links) → IsConsistent s → SoundLinks (rows_of s) links → IsLine (rows_of s) line → SoundLinks (rows_of s) (offer_on line s links)
+line_offered s line links k a is =
+    cond_both (is_ready line) (offer_among line (waiting_in line.handset s) s links) links (λ (x : Links). SoundLinks (rows_of s) x)
+    (λ t. load_offered s line (next s.moment (waiting_in line.handset s)) links k a is refl) (λ t. a)
 
-all_offered : (s : Store) (hs : List HandsetRow) (air : Air) → Stands s → ((h : HandsetRow) → Among h hs → IsNumber h.number) → SoundAir (rows_of s) air → SoundAir (rows_of s) (offer_all hs s air)
-all_offered s [] air k are a = a
-all_offered s (h ∷ hs) air k are a =
-    all_offered s hs (offer_to h.number s air) k (λ x m. are x (inr m))
-    (line_offered s (line_of h.number air.lines) air k a (line_sound (rows_of s) h.number air a (are h (inl refl))))
+all_offered : (s : Store) (hs : List HandsetRow) (links : Links) → IsConsistent s → ((h : HandsetRow) → Among h hs → IsNumber h.number) → SoundLinks (rows_of s) links → SoundLinks (rows_of s) (offer_all hs s links)
+all_offered s [] links k are a = a
+all_offered s (h ∷ hs) links k are a =
+    all_offered s hs (offer_to h.number s links) k (λ x m. are x (inr m))
+    (line_offered s (line_of h.number links.lines) links k a (line_sound (rows_of s) h.number links a (are h (inl refl))))
 
 -- ---- receipts
 
@@ -187,10 +187,10 @@ among_end n id (x ∷ xs) among = ⊎_elim
     among
 
 module _ (rows : Rows) (moment : ℕ) where
-  sent_in : (r : ReportRow) (s : Session) (desk : Desk) → SoundDesk rows desk → Among s desk.sessions → report_of r.id rows.reports ≡ Some r → is_receipt r.kind ≡ true → SoundDesk rows (send_in r.id s desk)
-  sent_in r s desk k among there is_one =
+  sent_in : (r : ReportRow) (s : Session) (bindings : Bindings) → SoundBindings rows bindings → Among s bindings.sessions → report_of r.id rows.reports ≡ Some r → is_receipt r.kind ≡ true → SoundBindings rows (send_in r.id s bindings)
+  sent_in r s bindings k among there is_one =
       let is = k.each s among in
-      let put = session_put rows (record s { unanswered = s.unanswered ++ r.id ∷ [] }) desk k (record {
+      let put = session_put rows (record s { unanswered = s.unanswered ++ r.id ∷ [] }) bindings k (record {
         unanswered = λ n a. ⊎_elim
             (λ (b : Among n s.unanswered). is.unanswered n b)
             (λ (e : n ≡ r.id).
@@ -201,33 +201,33 @@ module _ (rows : Rows) (moment : ℕ) where
         keys = put.keys;
         each = put.each;
         sent = λ x a. ⊎_elim
-            (λ (b : Among x desk.deliveries). k.sent x b)
+            (λ (b : Among x bindings.deliveries). k.sent x b)
             (λ (e : x ≡ record { session = s.number; id = r.id }).
             let found : IsReceiptRow rows r.id = (r, (there, is_one)) in
             subst (λ (y : Delivery). IsReceiptRow rows y.id) (sym e) found)
-            (among_end x (record { session = s.number; id = r.id }) desk.deliveries a);
+            (among_end x (record { session = s.number; id = r.id }) bindings.deliveries a);
       }
 
-  sent_to : (r : ReportRow) (o : Option Session) (desk : Desk) → SoundDesk rows desk → ((s : Session) → o ≡ Some s → Among s desk.sessions) → report_of r.id rows.reports ≡ Some r → is_receipt r.kind ≡ true
-      → SoundDesk rows (send_to r.id o desk)
-  sent_to r None desk k f there is_one = k
-  sent_to r (Some s) desk k f there is_one =
-      cond_both (nat_lt (length s.unanswered) window) (send_in r.id s desk) desk (SoundDesk rows) (λ t. sent_in r s desk k (f s refl) there is_one) (λ t. k)
+  sent_to : (r : ReportRow) (o : Option Session) (bindings : Bindings) → SoundBindings rows bindings → ((s : Session) → o ≡ Some s → Among s bindings.sessions) → report_of r.id rows.reports ≡ Some r → is_receipt r.kind ≡ true
+      → SoundBindings rows (send_to r.id o bindings)
+  sent_to r None bindings k f there is_one = k
+  sent_to r (Some s) bindings k f there is_one =
+      cond_both (nat_lt (length s.unanswered) window) (send_in r.id s bindings) bindings (SoundBindings rows) (λ t. sent_in r s bindings k (f s refl) there is_one) (λ t. k)
 
-  all_sent : (rs : List ReportRow) (desk : Desk) → SoundDesk rows desk → ((r : ReportRow) → Among r rs → report_of r.id rows.reports ≡ Some r) → SoundDesk rows (send_all moment rows.messages rs desk)
-  all_sent [] desk k stand = k
-  all_sent (r ∷ rs) desk k stand =
-      let to : Option Session = session_for (message_at r.id rows.messages) desk.sessions in
-      all_sent rs (send_one moment rows.messages r desk)
-      (cond_both (waits moment r desk.sessions) (send_to r.id to desk) desk (SoundDesk rows)
-      (λ t. sent_to r to desk k (λ s e. session_there (message_at r.id rows.messages) s desk.sessions e) (stand r (inl refl))
-      (and_parts (is_receipt r.kind) (not r.progress.is_done) (and_parts (is_open_receipt r) (nat_le r.progress.due moment && not (is_unanswered r.id desk.sessions)) t).0).0) (λ t. k))
+  all_sent : (rs : List ReportRow) (bindings : Bindings) → SoundBindings rows bindings → ((r : ReportRow) → Among r rs → report_of r.id rows.reports ≡ Some r) → SoundBindings rows (send_all moment rows.messages rs bindings)
+  all_sent [] bindings k stand = k
+  all_sent (r ∷ rs) bindings k stand =
+      let to : Option Session = session_for (message_at r.id rows.messages) bindings.sessions in
+      all_sent rs (send_one moment rows.messages r bindings)
+      (cond_both (waits moment r bindings.sessions) (send_to r.id to bindings) bindings (SoundBindings rows)
+      (λ t. sent_to r to bindings k (λ s e. session_there (message_at r.id rows.messages) s bindings.sessions e) (stand r (inl refl))
+      (and_parts (is_receipt r.kind) (not r.progress.is_done) (and_parts (is_open_receipt r) (nat_le r.progress.due moment && not (is_unanswered r.id bindings.sessions)) t).0).0) (λ t. k))
       (λ x a. stand x (inr a))
 
 -- ---- both
 
-pub follow_sides : (d : Draft) → Stands d.store → ((r : ReportRow) → Among r (reports_in d.store) → report_of r.id (reports_in d.store) ≡ Some r) → Sides (rows_of d.store) d → Sides (rows_of d.store) (follow d)
+pub follow_sides : (d : Draft) → IsConsistent d.store → ((r : ReportRow) → Among r (reports_in d.store) → report_of r.id (reports_in d.store) ≡ Some r) → Sides (rows_of d.store) d → Sides (rows_of d.store) (follow d)
 follow_sides d k stand s = (
-  all_offered d.store (handsets_in d.store) d.air k (λ h among. (k.held.givings.mentioned h among).number) s.0,
-  all_sent (rows_of d.store) d.store.moment (reports_in d.store) d.desk s.1 stand,
+  all_offered d.store (handsets_in d.store) d.links k (λ h among. (k.held.allocations.mentioned h among).number) s.0,
+  all_sent (rows_of d.store) d.store.moment (reports_in d.store) d.bindings s.1 stand,
 )

@@ -32,15 +32,15 @@ use Rattle.sms_centre_rows.specs.messages.Messages.{is_pending, next_id}
 use Rattle.sms_centre_rows.specs.messages.SplitReferences.{is_among}
 use Rattle.sms_centre_rows.specs.reports.Receipts.{Session, session_key}
 use Rattle.sms_centre_rows.specs.declared.waiting.handset.HandsetRow.{HandsetRow}
-use Rattle.sms_centre_rows.specs.declared.waiting.line.Line.{Line}
-use Rattle.sms_centre_rows.specs.waiting.Lines.{Air, emptied, filled, line_at, line_of, lowered, put_line, raised as raised_line, turn_line}
+use Rattle.sms_centre_rows.specs.declared.waiting.handset_link.HandsetLink.{HandsetLink}
+use Rattle.sms_centre_rows.specs.waiting.Links.{Links, emptied, filled, line_at, line_of, lowered, put_line, raised as raised_line, turn_line}
 use Rattle.sms_centre_rows.specs.waiting.References.{handset_at}
-use Rattle.sms_centre_rows.specs.waiting.SoundGivings.{IsNumber}
+use Rattle.sms_centre_rows.specs.waiting.SoundAllocations.{IsNumber}
 use Rattle.sms_intake.specs.declared.refusal.SubmitRefusal.{SubmitRefusal}
 use Rattle.sms_intake.specs.declared.refusal.SubmitRefusal.TheVariants.{Duplicate, ReferenceTaken}
 use Rattle.sms_intake.specs.HandsetIntake.{from_read}
 use Rattle.sms_centre_spec.specs.declared.rows.Rows.{Rows}
-use Rattle.sms_intake.specs.declared.submission.Account.{Account}
+use Rattle.sms_intake.specs.declared.submission.CentreAccount.{CentreAccount}
 use Rattle.sms_intake.specs.declared.submission.Submission.{Submission}
 use Rattle.sms_centre_spec.specs.declared.verdict.Verdict.{Verdict}
 use Rattle.sms_centre_spec.specs.declared.verdict.Verdict.TheVariants.{Settled, HandsetFull, Again, Refused, Late}
@@ -48,38 +48,38 @@ use Rattle.sms_centre_spec.specs.Numbers.{id_in}
 use Rattle.sms_intake.specs.SmppIntake.{from_pdu, source_in, is_empty}
 use Rattle.sms_centre_spec.specs.Submitting.{accept, is_reference_taken}
 use Rattle.sms_centre_spec.specs.Transfers.{conclude, line_ended, verdict_on}
-use Rattle.sms_centre_spec.specs.Receiving.{is_duplicate, memory_came, refuse, reference_octet, reply, submit_accepted, submit_came as submission_from, unit_came}
-use Rattle.sms_centre_spec.specs.Requests.{account_at, accepted, cancel_by, cancelled, message_numbered, own_message, queried, query_by, submission_came, submit_by}
+use Rattle.sms_centre_spec.specs.Receiving.{is_duplicate, memory_available, refuse, reference_octet, reply, submit_accepted, submit_received as submission_from, unit_received}
+use Rattle.sms_centre_spec.specs.Requests.{account_at, accepted, cancel_by, cancelled, message_numbered, own_message, queried, query_by, submission_received, submit_by}
 use Rattle.sms_centre_spec.specs.Sessions.{answered_by, bind, bound_as, session_of, unbind, unbound_from}
 use Rattle.sms_centre_spec.specs.CentreEvent.{aged, at_moment, fire_at, fire_mentioned, fire_others, fired, frame_taken, is_mentioned, lost, lower, raise, raise_all, raised, timed_out, went_up}
-use Rattle.sms_centre_spec.specs.Draft.{Draft, Store, handsets_in, messages_in, on_air}
+use Rattle.sms_centre_spec.specs.Draft.{Draft, Store, handsets_in, messages_in, on_links}
 use Rattle.sms_centre_spec.specs.SoundCore.{IsAnswerKind, IsLine}
-use Rattle.sms_centre_spec.proofs.SoundAir.{SoundAir, SoundDesk, heard_brings, heard_line, line_found, line_sound, put_sound, replied_brings, replied_line, session_answered, session_put, session_removed, turn_sound}
+use Rattle.sms_centre_spec.proofs.SoundLinks.{SoundLinks, SoundBindings, heard_brings, heard_line, line_found, line_sound, put_sound, replied_brings, replied_line, session_answered, session_put, session_removed, turn_sound}
 
 -- lines and sessions are sound over the rows
 abbrev pub Sides : Rows → Draft → Type 0
-Sides rows d = SoundAir rows d.air × SoundDesk rows d.desk
+Sides rows d = SoundLinks rows d.links × SoundBindings rows d.bindings
 
 module _ (rows : Rows) where
   -- ---- how a transfer ends
 
-  line_ended_sides : (v : Verdict) (h : List ℕ) (air : Air) → SoundAir rows air → IsNumber h → SoundAir rows (line_ended v h air)
-  line_ended_sides Settled h air s is = s
-  line_ended_sides HandsetFull h air s is =
-      let l = line_sound rows h air s is in put_sound rows (filled (line_of h air.lines)) air s (record { handset = l.handset; side = l.side; under_way = l.under_way; answered = l.answered })
-  line_ended_sides Again h air s is = s
-  line_ended_sides Refused h air s is = s
-  line_ended_sides Late h air s is = s
+  line_ended_sides : (v : Verdict) (h : List ℕ) (links : Links) → SoundLinks rows links → IsNumber h → SoundLinks rows (line_ended v h links)
+  line_ended_sides Settled h links s is = s
+  line_ended_sides HandsetFull h links s is =
+      let l = line_sound rows h links s is in put_sound rows (filled (line_of h links.lines)) links s (record { handset = l.handset; side = l.side; under_way = l.under_way; answered = l.answered })
+  line_ended_sides Again h links s is = s
+  line_ended_sides Refused h links s is = s
+  line_ended_sides Late h links s is = s
 
   conclude_sides : (h : List ℕ) (t : Carried) (e : Ending) (d : Draft) → IsNumber h → Sides rows d → Sides rows (conclude h t e d)
-  conclude_sides h t e d is k = (line_ended_sides (verdict_on t.tag e d.store) h d.air k.0 is, k.1)
+  conclude_sides h t e d is k = (line_ended_sides (verdict_on t.tag e d.store) h d.links k.0 is, k.1)
 
   -- ---- units that open a transaction
 
   reply_sides : (h : List ℕ) (kind : Kind) (n : ℕ) (tag : Holder) (unit : List ℕ) (d : Draft) → IsAnswerKind kind → IsNumber h → Sides rows d → Sides rows (reply h kind n tag unit d)
   reply_sides h kind n tag unit d answer is k =
-      let line : Line = line_of h d.air.lines in (
-        turn_sound rows line (replied d.store.moment kind n tag unit line.link) d.air k.0 (replied_line rows d.store.moment kind n tag unit line answer (line_sound rows h d.air k.0 is))
+      let line : HandsetLink = line_of h d.links.lines in (
+        turn_sound rows line (replied d.store.moment kind n tag unit line.link) d.links k.0 (replied_line rows d.store.moment kind n tag unit line answer (line_sound rows h d.links k.0 is))
             (replied_brings rows d.store.moment kind n tag unit line answer),
         k.1,
       )
@@ -97,14 +97,14 @@ module _ (rows : Rows) where
       (λ t. cond_both (is_reference_taken u d.store) (refuse h n tag ReferenceTaken d) (submit_accepted h n tag (accept u d.store) d) (λ (e : Draft). Sides rows e)
       (λ t. reply_sides h Error n tag _ d tt is k) (λ t. accepted_sides h n tag (accept u d.store) d is k))
 
-  memory_sides : (h : List ℕ) (n : ℕ) (tag : Holder) (d : Draft) → IsNumber h → Sides rows d → Sides rows (memory_came h n tag d)
+  memory_sides : (h : List ℕ) (n : ℕ) (tag : Holder) (d : Draft) → IsNumber h → Sides rows d → Sides rows (memory_available h n tag d)
   memory_sides h n tag d is k =
       let e : Draft = reply h Ack n tag (ack_down n None) d in
       let s = reply_sides h Ack n tag (ack_down n None) d tt is k in
-      let l = line_sound rows h e.air s.0 is in
-      (put_sound rows (emptied (line_of h e.air.lines)) e.air s.0 (record { handset = l.handset; side = l.side; under_way = l.under_way; answered = l.answered }), s.1)
+      let l = line_sound rows h e.links s.0 is in
+      (put_sound rows (emptied (line_of h e.links.lines)) e.links s.0 (record { handset = l.handset; side = l.side; under_way = l.under_way; answered = l.answered }), s.1)
 
-  unit_sides : (h : List ℕ) (tag : Holder) (unit : List ℕ) (u : Result Rp RelayFault) (d : Draft) → IsNumber h → Sides rows d → Sides rows (unit_came h tag unit u d)
+  unit_sides : (h : List ℕ) (tag : Holder) (unit : List ℕ) (u : Result Rp RelayFault) (d : Draft) → IsNumber h → Sides rows d → Sides rows (unit_received h tag unit u d)
   unit_sides h tag unit (Ok (DataUnit r z t)) d is k = submission_sides h r tag (from_read h d.store.moment (tpdu_up_at InData t)) d is k
   unit_sides h tag unit (Ok (AckUnit r t)) d is k = k
   unit_sides h tag unit (Ok (ErrorUnit r z t)) d is k = k
@@ -118,15 +118,15 @@ module _ (rows : Rows) where
   up_sides h tag (Some (Opened unit)) d is k = unit_sides h tag unit (up_at unit) d is k
   up_sides h tag (Some (Ended transfer ending)) d is k = conclude_sides h transfer ending d is k
 
-  pub frame_sides : (octets : List ℕ) (tag : Holder) (l : Line) (d : Draft) → IsLine rows l → Sides rows d → Sides rows (frame_taken octets tag l d)
+  pub frame_sides : (octets : List ℕ) (tag : Holder) (l : HandsetLink) (d : Draft) → IsLine rows l → Sides rows d → Sides rows (frame_taken octets tag l d)
   frame_sides octets tag l d is k =
-      up_sides l.handset tag (taken octets l.link).out.up (on_air (turn_line l (taken octets l.link) d.air) d) is.handset
-      (turn_sound rows l (taken octets l.link) d.air k.0 (heard_line rows (take_step octets l.link.links) l is) (heard_brings rows (take_step octets l.link.links) l is), k.1)
+      up_sides l.handset tag (taken octets l.link).out.up (on_links (turn_line l (taken octets l.link) d.links) d) is.handset
+      (turn_sound rows l (taken octets l.link) d.links k.0 (heard_line rows (take_step octets l.link.links) l is) (heard_brings rows (take_step octets l.link.links) l is), k.1)
 
   pub raise_sides : (h : List ℕ) (d : Draft) → IsNumber h → Sides rows d → Sides rows (raise h d)
   raise_sides h d is k =
-      let l = line_sound rows h d.air k.0 is in
-      (put_sound rows (raised_line (line_of h d.air.lines)) d.air k.0 (record { handset = l.handset; side = l.side; under_way = l.under_way; answered = l.answered }), k.1)
+      let l = line_sound rows h d.links k.0 is in
+      (put_sound rows (raised_line (line_of h d.links.lines)) d.links k.0 (record { handset = l.handset; side = l.side; under_way = l.under_way; answered = l.answered }), k.1)
 
   lost_sides : (h : List ℕ) (o : Option Carried) (d : Draft) → IsNumber h → Sides rows d → Sides rows (lost h o d)
   lost_sides h None d is k = k
@@ -134,10 +134,10 @@ module _ (rows : Rows) where
 
   pub lower_sides : (h : List ℕ) (d : Draft) → IsNumber h → Sides rows d → Sides rows (lower h d)
   lower_sides h d is k =
-      let l : Line = line_of h d.air.lines in
-      let s = line_sound rows h d.air k.0 is in
-      lost_sides l.handset l.link.under_way (on_air (put_line (lowered l) d.air) d) s.handset
-      (put_sound rows (lowered l) d.air k.0 (record { handset = s.handset; side = refl; under_way = tt; answered = tt }), k.1)
+      let l : HandsetLink = line_of h d.links.lines in
+      let s = line_sound rows h d.links k.0 is in
+      lost_sides l.handset l.link.under_way (on_links (put_line (lowered l) d.links) d) s.handset
+      (put_sound rows (lowered l) d.links k.0 (record { handset = s.handset; side = refl; under_way = tt; answered = tt }), k.1)
 
   -- ---- a tick
 
@@ -146,22 +146,22 @@ module _ (rows : Rows) where
   timed_out_sides h (Some (Opened unit)) d is k = k
   timed_out_sides h (Some (Ended transfer ending)) d is k = conclude_sides h transfer ending d is k
 
-  fire_at_sides : (number : List ℕ) (o : Option Line) (d : Draft) → line_at number d.air.lines ≡ o → Sides rows d → Sides rows (fire_at o d)
+  fire_at_sides : (number : List ℕ) (o : Option HandsetLink) (d : Draft) → line_at number d.links.lines ≡ o → Sides rows d → Sides rows (fire_at o d)
   fire_at_sides number None d e k = k
   fire_at_sides number (Some l) d e k =
-      let is : IsLine rows l = k.0.each l (line_found number l d.air.lines e).0 in
-      timed_out_sides l.handset (fired_link d.store.moment l.link).out.up (on_air (turn_line l (fired_link d.store.moment l.link) d.air) d) is.handset
-      (turn_sound rows l (fired_link d.store.moment l.link) d.air k.0 (heard_line rows (fire_step d.store.moment l.link.links) l is) (heard_brings rows (fire_step d.store.moment l.link.links) l is), k.1)
+      let is : IsLine rows l = k.0.each l (line_found number l d.links.lines e).0 in
+      timed_out_sides l.handset (fired_link d.store.moment l.link).out.up (on_links (turn_line l (fired_link d.store.moment l.link) d.links) d) is.handset
+      (turn_sound rows l (fired_link d.store.moment l.link) d.links k.0 (heard_line rows (fire_step d.store.moment l.link.links) l is) (heard_brings rows (fire_step d.store.moment l.link.links) l is), k.1)
 
   fire_mentioned_sides : (hs : List HandsetRow) (d : Draft) → Sides rows d → Sides rows (fire_mentioned hs d)
   fire_mentioned_sides [] d k = k
   fire_mentioned_sides (h ∷ hs) d k =
-      let o : Option Line = line_at h.number d.air.lines in fire_mentioned_sides hs (fire_at o d) (fire_at_sides h.number o d refl k)
+      let o : Option HandsetLink = line_at h.number d.links.lines in fire_mentioned_sides hs (fire_at o d) (fire_at_sides h.number o d refl k)
 
-  fire_others_sides : (hs : List HandsetRow) (ls : List Line) (d : Draft) → Sides rows d → Sides rows (fire_others hs ls d)
+  fire_others_sides : (hs : List HandsetRow) (ls : List HandsetLink) (d : Draft) → Sides rows d → Sides rows (fire_others hs ls d)
   fire_others_sides hs [] d k = k
   fire_others_sides hs (l ∷ ls) d k =
-      let o : Option Line = line_at l.handset d.air.lines in
+      let o : Option HandsetLink = line_at l.handset d.links.lines in
       fire_others_sides hs ls (if is_mentioned (handset_at l.handset hs) then d else fire_at o d)
       (cond_both (is_mentioned (handset_at l.handset hs)) d (fire_at o d) (λ (e : Draft). Sides rows e) (λ t. k) (λ t. fire_at_sides l.handset o d refl k))
 
@@ -169,9 +169,9 @@ module _ (rows : Rows) where
   fired_sides d k =
       let hs : List HandsetRow = handsets_in d.store in
       let e : Draft = fire_mentioned hs d in
-      fire_others_sides hs d.air.lines e (fire_mentioned_sides hs d k)
+      fire_others_sides hs d.links.lines e (fire_mentioned_sides hs d k)
 
-  raise_all_sides : (ls : List Line) (d : Draft) → ((l : Line) → Among l ls → IsNumber l.handset) → Sides rows d → Sides rows (raise_all ls d)
+  raise_all_sides : (ls : List HandsetLink) (d : Draft) → ((l : HandsetLink) → Among l ls → IsNumber l.handset) → Sides rows d → Sides rows (raise_all ls d)
   raise_all_sides [] d are k = k
   raise_all_sides (l ∷ ls) d are k =
       raise_all_sides ls (if l.is_awaited then raise l.handset d else d) (λ x a. are x (inr a))
@@ -181,26 +181,26 @@ module _ (rows : Rows) where
   ticked_sides now d k =
       let e : Draft = fired (aged (at_moment now d)) in
       let s = fired_sides (aged (at_moment now d)) k in
-      raise_all_sides e.air.lines e (λ l among. (s.0.each l among).handset) s
+      raise_all_sides e.links.lines e (λ l among. (s.0.each l among).handset) s
 
   -- ---- sessions
 
-  pub answered_sides : (number id : ℕ) (b : Bool) (o : Option Session) (d : Draft) → row_at session_key number d.desk.sessions ≡ o → Sides rows d → Sides rows (answered_by id b o d)
+  pub answered_sides : (number id : ℕ) (b : Bool) (o : Option Session) (d : Draft) → row_at session_key number d.bindings.sessions ≡ o → Sides rows d → Sides rows (answered_by id b o d)
   answered_sides number id b None d e k = k
   answered_sides number id b (Some s) d e k =
       cond_both (is_among id s.unanswered) _ d (λ (x : Draft). Sides rows x)
-      (λ t. (k.0, session_answered rows id s d.desk k.1 (k.1.each s (found_among session_key number s d.desk.sessions e)))) (λ t. k)
+      (λ t. (k.0, session_answered rows id s d.bindings k.1 (k.1.each s (found_among session_key number s d.bindings.sessions e)))) (λ t. k)
 
   unbound_sides : (o : Option Session) (d : Draft) → Sides rows d → Sides rows (unbound_from o d)
   unbound_sides None d k = k
-  unbound_sides (Some s) d k = (k.0, session_removed rows s.number d.desk k.1)
+  unbound_sides (Some s) d k = (k.0, session_removed rows s.number d.bindings k.1)
 
   pub unbind_sides : (n : ℕ) (d : Draft) → Sides rows d → Sides rows (unbind n d)
-  unbind_sides n d k = unbound_sides (row_at session_key n d.desk.sessions) d k
+  unbind_sides n d k = unbound_sides (row_at session_key n d.bindings.sessions) d k
 
-  bound_as_sides : (n : ℕ) (b : Bool) (a : Option Account) (d : Draft) → Sides rows d → Sides rows (bound_as n b a d)
+  bound_as_sides : (n : ℕ) (b : Bool) (a : Option CentreAccount) (d : Draft) → Sides rows d → Sides rows (bound_as n b a d)
   bound_as_sides n b None d k = k
-  bound_as_sides n b (Some a) d k = (k.0, session_put rows (session_of n b a.name) d.desk k.1 (record { unanswered = λ id among. absurd among }))
+  bound_as_sides n b (Some a) d k = (k.0, session_put rows (session_of n b a.name) d.bindings k.1 (record { unanswered = λ id among. absurd among }))
 
   pub bind_sides : (n place : ℕ) (b : Bool) (d : Draft) → Sides rows d → Sides rows (bind n place b d)
   bind_sides n place b d k = bound_as_sides n b (account_at place d.store.setup.accounts) (unbind n d) (unbind_sides n d k)
@@ -211,13 +211,13 @@ module _ (rows : Rows) where
   taken_sides id None d k = k
   taken_sides id (Some s) d k = k
 
-  came_sides : (u : Result Submission CommandStatus) (d : Draft) → Sides rows d → Sides rows (submission_came u d)
+  came_sides : (u : Result Submission CommandStatus) (d : Draft) → Sides rows d → Sides rows (submission_received u d)
   came_sides (Err status) d k = k
   came_sides (Ok u) d k =
       cond_both (is_reference_taken u d.store) _ (accepted (next_id (messages_in d.store)) (accept u d.store) d) (λ (e : Draft). Sides rows e)
       (λ t. k) (λ t. taken_sides (next_id (messages_in d.store)) (accept u d.store) d k)
 
-  pub submit_sides : (a : Option Account) (m : Message) (d : Draft) → Sides rows d → Sides rows (submit_by a m d)
+  pub submit_sides : (a : Option CentreAccount) (m : Message) (d : Draft) → Sides rows d → Sides rows (submit_by a m d)
   submit_sides None m d k = k
   submit_sides (Some a) m d k = came_sides (from_pdu a d.store.moment m) d k
 
@@ -225,7 +225,7 @@ module _ (rows : Rows) where
   queried_sides None d k = k
   queried_sides (Some m) d k = k
 
-  pub query_sides : (a : Option Account) (q : QuerySm) (d : Draft) → Sides rows d → Sides rows (query_by a q d)
+  pub query_sides : (a : Option CentreAccount) (q : QuerySm) (d : Draft) → Sides rows d → Sides rows (query_by a q d)
   query_sides None q d k = k
   query_sides (Some a) q d k = queried_sides (own_message a (source_in a.address q.source) (message_numbered (id_in q.message_id) (messages_in d.store))) d k
 
@@ -233,7 +233,7 @@ module _ (rows : Rows) where
   cancelled_sides None d k = k
   cancelled_sides (Some m) d k = cond_both (is_pending m) _ _ (λ (e : Draft). Sides rows e) (λ t. k) (λ t. k)
 
-  pub cancel_sides : (a : Option Account) (q : CancelSm) (d : Draft) → Sides rows d → Sides rows (cancel_by a q d)
+  pub cancel_sides : (a : Option CentreAccount) (q : CancelSm) (d : Draft) → Sides rows d → Sides rows (cancel_by a q d)
   cancel_sides None q d k = k
   cancel_sides (Some a) q d k =
       let m : Option MessageRow = own_message a (source_in a.address q.source) (message_numbered (id_in q.message_id) (messages_in d.store)) in

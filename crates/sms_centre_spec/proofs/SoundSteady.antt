@@ -18,7 +18,7 @@ use Rattle.sms_centre_rows.specs.waiting.Revisions.{amended}
 use Rattle.sms_centre_rows.specs.waiting.Trying.{finished}
 use Rattle.sms_centre_spec.specs.Draft.{Store, messages_in, parts_in, priorities_in, reports_in, with_part_at, with_report_at}
 use Rattle.sms_centre_spec.specs.Ends.{end}
-use Rattle.sms_centre_spec.specs.Standing.{Stands}
+use Rattle.sms_centre_spec.specs.Consistent.{IsConsistent}
 use Rattle.sms_centre_spec.specs.Transfers.{complete}
 use Rattle.sms_centre_spec.proofs.MessagesKept.{AreRows, IsTold, finished_rows, found_message, pending_undelivered, put_off_rows, rows_are, rows_sound}
 use Rattle.sms_centre_spec.proofs.NextNumbers.{among_amended}
@@ -83,7 +83,7 @@ settled_sound p m s k there of pending undone =
     let found : message_at m.id ms ≡ Some m = message_own p.id m s of in
     let rows : AreRows (λ x. ¬ (x.id ≡ p.id) → IsTold (parts_in e) x) (messages_in e) (parts_in e) (priorities_in e) =
     finished_rows ms (parts_in s) (priorities_in s) p q (rows_are ms (parts_in s) (priorities_in s) k.messages) there in
-    let stands : Stands e = part_far_stands p q s k.stands there (λ t. absurd cc) in
+    let stands : IsConsistent e = part_far_stands p q s k.stands there (λ t. absurd cc) in
     let times : Times e = record { now = k.times.now; start = k.times.start; submitted = k.times.submitted; given = k.times.given; made = k.times.made } in
     cond_both (all_done m.id (parts_in e)) (end Delivered m e) e SoundStore
     (λ t. end_sound Delivered m e (record {

@@ -18,7 +18,7 @@ use Rattle.sms_centre_spec.specs.declared.rows.Rows.{Rows}
 use Rattle.sms_centre_spec.specs.CentreEvent.{after_messages, after_references, after_reports, moment_of}
 use Rattle.sms_centre_spec.specs.Draft.{Store, messages_in, parts_in, priorities_in, references_in, reports_in, rows_of, store_of}
 use Rattle.sms_centre_spec.specs.SoundRows.{AreSplitApart, IsSetup, IsSound}
-use Rattle.sms_centre_spec.specs.Standing.{Stands}
+use Rattle.sms_centre_spec.specs.Consistent.{IsConsistent}
 
 -- ---- moments of rows are past, and of the years that time stamps write
 
@@ -33,7 +33,7 @@ pub record Times (s : Store) : Type 0 where
   pub made : (r : ReportRow) → Among r (reports_in s) → IsPast s.moment r.made
 
 pub record SoundStore (s : Store) : Type 0 where
-  pub stands : Stands s
+  pub stands : IsConsistent s
   pub messages : SoundMessages (messages_in s) (parts_in s) (priorities_in s)
   pub reports : SoundReports (messages_in s) (reports_in s)
   pub splits : AreSplitApart (messages_in s)
@@ -96,7 +96,7 @@ store_sound rows moment s now past =
     record {
       stands = record {
         held = record {
-          givings = s.givings;
+          allocations = s.allocations;
           parts = numbered;
           alone = alone_from rows.messages rows.reports s.reports;
           report_keys = s.reports.keys;
@@ -135,7 +135,7 @@ rows_are_sound s k = record {
   };
   messages = k.messages;
   told = k.stands.told;
-  givings = k.stands.held.givings;
+  allocations = k.stands.held.allocations;
   reports = k.reports;
   waiting = k.stands.held.waiting;
   splits = k.splits;

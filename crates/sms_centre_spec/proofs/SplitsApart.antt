@@ -4,12 +4,12 @@ use Rattle.std.specs.Prelude.{codes, replicate}
 use Rattle.smpp_pdu.specs.declared.status.CommandStatus.TheVariants.{ESME_RSUBMITFAIL}
 use Rattle.sms_centre_spec.specs.declared.answer.CentreAnswer.TheVariants.{Submitted, Refused}
 use Rattle.sms_centre_spec.specs.Draft.{Core, Draft, core_of}
-use Rattle.sms_centre_spec.specs.CentreEvent.{submit_came}
+use Rattle.sms_centre_spec.specs.CentreEvent.{submit_received}
 use Rattle.sms_centre_spec.proofs.Everything.{everything}
 use Rattle.sms_centre_spec.proofs.Worked.{hex, handset_b, begun, sm, splits_of}
 
 abbrev pub long : Core → Draft
-long = λ c. submit_came 0 (sm handset_b 0 0 1 [] (replicate 161 97) 0) c
+long = λ c. submit_received 0 (sm handset_b 0 0 1 [] (replicate 161 97) 0) c
 
 abbrev pub one : Draft
 one = long (begun (handset_b ∷ []))
@@ -19,14 +19,14 @@ unfolding everything
 first = refl
 
 abbrev pub two : Draft
-two = submit_came 0 (sm handset_b 0 0x40 1 [] (hex (codes "0608040000020161")) 0) (core_of one)
+two = submit_received 0 (sm handset_b 0 0x40 1 [] (hex (codes "0608040000020161")) 0) (core_of one)
 
 taken : two.answer ≡ Some (Refused ESME_RSUBMITFAIL)
 unfolding everything
 taken = refl
 
 abbrev pub three : Draft
-three = submit_came 0 (sm handset_b 0 0x40 1 [] (hex (codes "0608040001020161")) 0) (core_of two)
+three = submit_received 0 (sm handset_b 0 0x40 1 [] (hex (codes "0608040001020161")) 0) (core_of two)
 
 own : three.answer ≡ Some (Submitted 2)
 unfolding everything

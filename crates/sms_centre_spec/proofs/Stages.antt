@@ -36,10 +36,10 @@ use Rattle.sms_centre_rows.specs.declared.reports.report.ReportRow.{ReportRow}
 use Rattle.sms_centre_rows.specs.reports.Receipts.{Session, all_tried, is_put_off, receipt_ended, receipts_due, session_key}
 use Rattle.sms_centre_rows.specs.reports.Reports.{is_open_status, put_report, report_of, reports_of, amend_report}
 use Rattle.sms_centre_rows.specs.declared.waiting.handset.HandsetRow.{HandsetRow}
-use Rattle.sms_centre_rows.specs.declared.waiting.line.Line.{Line}
-use Rattle.sms_centre_rows.specs.declared.waiting.load.Load.{Load}
+use Rattle.sms_centre_rows.specs.declared.waiting.handset_link.HandsetLink.{HandsetLink}
+use Rattle.sms_centre_rows.specs.declared.waiting.queued_part.QueuedPart.{QueuedPart}
 use Rattle.sms_centre_rows.specs.declared.waiting.progress.Progress.{Progress}
-use Rattle.sms_centre_rows.specs.waiting.Lines.{line_at, line_of, lowered, put_line, turn_line}
+use Rattle.sms_centre_rows.specs.waiting.Links.{line_at, line_of, lowered, put_line, turn_line}
 use Rattle.sms_centre_rows.specs.waiting.References.{handset_at, handset_of}
 use Rattle.sms_centre_rows.specs.waiting.Revisions.{Revised}
 use Rattle.sms_centre_rows.specs.waiting.Trying.{due_at, later}
@@ -47,7 +47,7 @@ use Rattle.sms_centre_spec.specs.declared.event.CentreEvent.{CentreEvent}
 use Rattle.sms_centre_spec.specs.declared.event.CentreEvent.TheVariants.{Submit, Query, Cancel, Bound, Unbound, DeliverAnswered, Frame, LinkUp, LinkDown, Tick}
 use Rattle.sms_intake.specs.declared.refusal.SubmitRefusal.{SubmitRefusal}
 use Rattle.sms_intake.specs.declared.refusal.SubmitRefusal.TheVariants.{Duplicate, ReferenceTaken}
-use Rattle.sms_intake.specs.declared.submission.Account.{Account}
+use Rattle.sms_intake.specs.declared.submission.CentreAccount.{CentreAccount}
 use Rattle.sms_intake.specs.declared.submission.SinglePart.{SinglePart}
 use Rattle.sms_intake.specs.declared.submission.Submission.{Submission}
 use Rattle.sms_centre_spec.specs.declared.verdict.Verdict.{Verdict}
@@ -59,11 +59,11 @@ use Rattle.sms_intake.specs.SmppIntake.{from_pdu, source_in, is_empty}
 use Rattle.sms_centre_spec.specs.Submitting.{accept, accept_as, accept_split, accept_under, enter, give_part, give_parts, is_reference_taken, part_given, reference_for}
 use Rattle.sms_centre_spec.specs.Ends.{end, is_wished, report, report_to, status_given}
 use Rattle.sms_centre_spec.specs.Transfers.{complete, conclude, holder_ended, part_ended, part_ended_at, part_ended_of, report_closed, report_ended, report_ended_at, verdict_on}
-use Rattle.sms_centre_spec.specs.Receiving.{all_due, due_now, is_duplicate, load_due, part_due, refuse, report_due, submit_accepted, submit_came as submission_from, unit_came}
-use Rattle.sms_centre_spec.specs.Requests.{account_at, accepted, cancel_by, cancelled, message_numbered, own_message, queried, query_by, submission_came, submit_by}
+use Rattle.sms_centre_spec.specs.Receiving.{all_due, due_now, is_duplicate, load_due, part_due, refuse, report_due, submit_accepted, submit_received as submission_from, unit_received}
+use Rattle.sms_centre_spec.specs.Requests.{account_at, accepted, cancel_by, cancelled, message_numbered, own_message, queried, query_by, submission_received, submit_by}
 use Rattle.sms_centre_spec.specs.Sessions.{answered_by, bind, bound_as, due_for, unbind, unbound_from}
 use Rattle.sms_centre_spec.specs.CentreEvent.{aged, at_moment, drop_all, expire_all, expired, fire_at, fire_line, fire_mentioned, fire_others, fired, frame_taken, happened, is_mentioned, lost, lower, raise, raise_all, raised, report_limit, tag_of, timed_out, went_up}
-use Rattle.sms_centre_spec.specs.Draft.{Core, Draft, Store, draft_of, handsets_in, messages_in, on_air, parts_in, reports_in, waiting_in, with_given, with_message, with_part, with_part_at, with_priority, with_report_at, with_reports}
+use Rattle.sms_centre_spec.specs.Draft.{Core, Draft, Store, draft_of, handsets_in, messages_in, on_links, parts_in, reports_in, waiting_in, with_given, with_message, with_part, with_part_at, with_priority, with_report_at, with_reports}
 
 -- the moves keep the fact
 pub record Closed (P : Store → Type 0) : Type 0 where
@@ -149,12 +149,12 @@ module _ (P : Store → Type 0) (c : Closed P) where
   report_due_keeps None s k = k
   report_due_keeps (Some r) s k = c.report_progress r _ s k
 
-  load_due_keeps : (l : Load) (s : Store) → P s → P (load_due l s)
+  load_due_keeps : (l : QueuedPart) (s : Store) → P s → P (load_due l s)
   load_due_keeps l s k =
       cond_both (l.number == 0) (report_due (report_of l.id (reports_in s)) s) (part_due (part_at l.id l.number (parts_in s)) s) P
       (λ t. report_due_keeps (report_of l.id (reports_in s)) s k) (λ t. part_due_keeps (part_at l.id l.number (parts_in s)) s k)
 
-  all_due_keeps : (ls : List Load) (s : Store) → P s → P (all_due ls s)
+  all_due_keeps : (ls : List QueuedPart) (s : Store) → P s → P (all_due ls s)
   all_due_keeps [] s k = k
   all_due_keeps (l ∷ ls) s k = all_due_keeps ls (load_due l s) (load_due_keeps l s k)
 
@@ -211,25 +211,25 @@ module _ (P : Store → Type 0) (c : Closed P) where
       (λ t. cond_both (is_reference_taken u d.store) (refuse h n tag ReferenceTaken d) (submit_accepted h n tag (accept u d.store) d) (λ (e : Draft). P e.store)
       (λ t. k) (λ t. submit_accepted_keeps h n tag (accept u d.store) d k (accept_keeps u d.store k)))
 
-  pub unit_came_keeps : (h : List ℕ) (tag : Holder) (unit : List ℕ) (u : Result Rp RelayFault) (d : Draft) → P d.store → P (unit_came h tag unit u d).store
-  unit_came_keeps h tag unit (Ok (DataUnit r z t)) d k = submission_from_keeps h r tag (from_read h d.store.moment (tpdu_up_at InData t)) d k
-  unit_came_keeps h tag unit (Ok (AckUnit r t)) d k = k
-  unit_came_keeps h tag unit (Ok (ErrorUnit r z t)) d k = k
-  unit_came_keeps h tag unit (Ok (Smma r)) d k = due_now_keeps h d.store k
-  unit_came_keeps h tag unit (Err f) d k = k
+  pub unit_received_keeps : (h : List ℕ) (tag : Holder) (unit : List ℕ) (u : Result Rp RelayFault) (d : Draft) → P d.store → P (unit_received h tag unit u d).store
+  unit_received_keeps h tag unit (Ok (DataUnit r z t)) d k = submission_from_keeps h r tag (from_read h d.store.moment (tpdu_up_at InData t)) d k
+  unit_received_keeps h tag unit (Ok (AckUnit r t)) d k = k
+  unit_received_keeps h tag unit (Ok (ErrorUnit r z t)) d k = k
+  unit_received_keeps h tag unit (Ok (Smma r)) d k = due_now_keeps h d.store k
+  unit_received_keeps h tag unit (Err f) d k = k
 
   -- ---- links
 
   went_up_keeps : (h : List ℕ) (tag : Holder) (u : Option Upward) (d : Draft) → P d.store → P (went_up h tag u d).store
   went_up_keeps h tag None d k = k
-  went_up_keeps h tag (Some (Opened unit)) d k = unit_came_keeps h tag unit (up_at unit) d k
+  went_up_keeps h tag (Some (Opened unit)) d k = unit_received_keeps h tag unit (up_at unit) d k
   went_up_keeps h tag (Some (Ended transfer ending)) d k = conclude_keeps h transfer ending d k
 
-  pub frame_taken_keeps : (octets : List ℕ) (tag : Holder) (l : Line) (d : Draft) → P d.store → P (frame_taken octets tag l d).store
-  frame_taken_keeps octets tag l d k = went_up_keeps l.handset tag (taken octets l.link).out.up (on_air (turn_line l (taken octets l.link) d.air) d) k
+  pub frame_taken_keeps : (octets : List ℕ) (tag : Holder) (l : HandsetLink) (d : Draft) → P d.store → P (frame_taken octets tag l d).store
+  frame_taken_keeps octets tag l d k = went_up_keeps l.handset tag (taken octets l.link).out.up (on_links (turn_line l (taken octets l.link) d.links) d) k
 
   pub raise_keeps : (h : List ℕ) (d : Draft) → P d.store → P (raise h d).store
-  raise_keeps h d k = due_now_keeps (line_of h d.air.lines).handset d.store k
+  raise_keeps h d k = due_now_keeps (line_of h d.links.lines).handset d.store k
 
   lost_keeps : (h : List ℕ) (o : Option Carried) (d : Draft) → P d.store → P (lost h o d).store
   lost_keeps h None d k = k
@@ -237,7 +237,7 @@ module _ (P : Store → Type 0) (c : Closed P) where
 
   pub lower_keeps : (h : List ℕ) (d : Draft) → P d.store → P (lower h d).store
   lower_keeps h d k =
-      let l : Line = line_of h d.air.lines in lost_keeps l.handset l.link.under_way (on_air (put_line (lowered l) d.air) d) k
+      let l : HandsetLink = line_of h d.links.lines in lost_keeps l.handset l.link.under_way (on_links (put_line (lowered l) d.links) d) k
 
   -- ---- a tick
 
@@ -261,23 +261,23 @@ module _ (P : Store → Type 0) (c : Closed P) where
   timed_out_keeps h (Some (Opened unit)) d k = k
   timed_out_keeps h (Some (Ended transfer ending)) d k = conclude_keeps h transfer ending d k
 
-  fire_line_keeps : (l : Line) (d : Draft) → P d.store → P (fire_line l d).store
+  fire_line_keeps : (l : HandsetLink) (d : Draft) → P d.store → P (fire_line l d).store
   fire_line_keeps l d k =
-      timed_out_keeps l.handset (fired_link d.store.moment l.link).out.up (on_air (turn_line l (fired_link d.store.moment l.link) d.air) d) k
+      timed_out_keeps l.handset (fired_link d.store.moment l.link).out.up (on_links (turn_line l (fired_link d.store.moment l.link) d.links) d) k
 
-  fire_at_keeps : (o : Option Line) (d : Draft) → P d.store → P (fire_at o d).store
+  fire_at_keeps : (o : Option HandsetLink) (d : Draft) → P d.store → P (fire_at o d).store
   fire_at_keeps None d k = k
   fire_at_keeps (Some l) d k = fire_line_keeps l d k
 
   fire_mentioned_keeps : (hs : List HandsetRow) (d : Draft) → P d.store → P (fire_mentioned hs d).store
   fire_mentioned_keeps [] d k = k
   fire_mentioned_keeps (h ∷ hs) d k =
-      let o : Option Line = line_at h.number d.air.lines in fire_mentioned_keeps hs (fire_at o d) (fire_at_keeps o d k)
+      let o : Option HandsetLink = line_at h.number d.links.lines in fire_mentioned_keeps hs (fire_at o d) (fire_at_keeps o d k)
 
-  fire_others_keeps : (hs : List HandsetRow) (ls : List Line) (d : Draft) → P d.store → P (fire_others hs ls d).store
+  fire_others_keeps : (hs : List HandsetRow) (ls : List HandsetLink) (d : Draft) → P d.store → P (fire_others hs ls d).store
   fire_others_keeps hs [] d k = k
   fire_others_keeps hs (l ∷ ls) d k =
-      let o : Option Line = line_at l.handset d.air.lines in
+      let o : Option HandsetLink = line_at l.handset d.links.lines in
       fire_others_keeps hs ls (if is_mentioned (handset_at l.handset hs) then d else fire_at o d)
       (cond_both (is_mentioned (handset_at l.handset hs)) d (fire_at o d) (λ (e : Draft). P e.store) (λ t. k) (λ t. fire_at_keeps o d k))
 
@@ -285,9 +285,9 @@ module _ (P : Store → Type 0) (c : Closed P) where
   fired_keeps d k =
       let hs : List HandsetRow = handsets_in d.store in
       let e : Draft = fire_mentioned hs d in
-      fire_others_keeps hs d.air.lines e (fire_mentioned_keeps hs d k)
+      fire_others_keeps hs d.links.lines e (fire_mentioned_keeps hs d k)
 
-  raise_all_keeps : (ls : List Line) (d : Draft) → P d.store → P (raise_all ls d).store
+  raise_all_keeps : (ls : List HandsetLink) (d : Draft) → P d.store → P (raise_all ls d).store
   raise_all_keeps [] d k = k
   raise_all_keeps (l ∷ ls) d k =
       raise_all_keeps ls (if l.is_awaited then raise l.handset d else d)
@@ -296,7 +296,7 @@ module _ (P : Store → Type 0) (c : Closed P) where
   pub ticked_keeps : (now : ℕ) (d : Draft) → P d.store → P (raised (fired (aged (at_moment now d)))).store
   ticked_keeps now d k =
       let e : Draft = fired (aged (at_moment now d)) in
-      raise_all_keeps e.air.lines e (fired_keeps (aged (at_moment now d)) (aged_keeps (at_moment now d) (c.moment _ d.store k)))
+      raise_all_keeps e.links.lines e (fired_keeps (aged (at_moment now d)) (aged_keeps (at_moment now d) (c.moment _ d.store k)))
 
   -- ---- sessions
 
@@ -328,12 +328,12 @@ module _ (P : Store → Type 0) (c : Closed P) where
   unbound_from_keeps (Some session) d k = all_tried_keeps d.store.moment session.unanswered d.store.reports d.store k
 
   unbind_keeps : (n : ℕ) (d : Draft) → P d.store → P (unbind n d).store
-  unbind_keeps n d k = unbound_from_keeps (row_at session_key n d.desk.sessions) d k
+  unbind_keeps n d k = unbound_from_keeps (row_at session_key n d.bindings.sessions) d k
 
   due_for_keeps : (a : List ℕ) (s : Store) → P s → P (due_for a s)
   due_for_keeps a s k = receipts_due_keeps s.moment a (messages_in s) (reports_in s) s.reports s k
 
-  bound_as_keeps : (n : ℕ) (b : Bool) (a : Option Account) (d : Draft) → P d.store → P (bound_as n b a d).store
+  bound_as_keeps : (n : ℕ) (b : Bool) (a : Option CentreAccount) (d : Draft) → P d.store → P (bound_as n b a d).store
   bound_as_keeps n b None d k = k
   bound_as_keeps n b (Some a) d k = cond_both b (due_for a.name d.store) d.store P (λ t. due_for_keeps a.name d.store k) (λ t. k)
 
@@ -346,21 +346,21 @@ module _ (P : Store → Type 0) (c : Closed P) where
   accepted_keeps id None d k l = k
   accepted_keeps id (Some s) d k l = l
 
-  submission_came_keeps : (u : Result Submission CommandStatus) (d : Draft) → P d.store → P (submission_came u d).store
-  submission_came_keeps (Err status) d k = k
-  submission_came_keeps (Ok u) d k =
+  submission_received_keeps : (u : Result Submission CommandStatus) (d : Draft) → P d.store → P (submission_received u d).store
+  submission_received_keeps (Err status) d k = k
+  submission_received_keeps (Ok u) d k =
       cond_both (is_reference_taken u d.store) _ (accepted (next_id (messages_in d.store)) (accept u d.store) d) (λ (e : Draft). P e.store)
       (λ t. k) (λ t. accepted_keeps (next_id (messages_in d.store)) (accept u d.store) d k (accept_keeps u d.store k))
 
-  submit_by_keeps : (a : Option Account) (m : Message) (d : Draft) → P d.store → P (submit_by a m d).store
+  submit_by_keeps : (a : Option CentreAccount) (m : Message) (d : Draft) → P d.store → P (submit_by a m d).store
   submit_by_keeps None m d k = k
-  submit_by_keeps (Some a) m d k = submission_came_keeps (from_pdu a d.store.moment m) d k
+  submit_by_keeps (Some a) m d k = submission_received_keeps (from_pdu a d.store.moment m) d k
 
   queried_keeps : (m : Option MessageRow) (d : Draft) → P d.store → P (queried m d).store
   queried_keeps None d k = k
   queried_keeps (Some m) d k = k
 
-  query_by_keeps : (a : Option Account) (q : QuerySm) (d : Draft) → P d.store → P (query_by a q d).store
+  query_by_keeps : (a : Option CentreAccount) (q : QuerySm) (d : Draft) → P d.store → P (query_by a q d).store
   query_by_keeps None q d k = k
   query_by_keeps (Some a) q d k =
       queried_keeps (own_message a (source_in a.address q.source) (message_numbered (id_in q.message_id) (messages_in d.store))) d k
@@ -370,7 +370,7 @@ module _ (P : Store → Type 0) (c : Closed P) where
   cancelled_keeps (Some m) d k =
       cond_both (is_pending m) _ _ (λ (e : Draft). P e.store) (λ t. end_keeps Deleted m d.store k) (λ t. k)
 
-  cancel_by_keeps : (a : Option Account) (q : CancelSm) (d : Draft) → P d.store → P (cancel_by a q d).store
+  cancel_by_keeps : (a : Option CentreAccount) (q : CancelSm) (d : Draft) → P d.store → P (cancel_by a q d).store
   cancel_by_keeps None q d k = k
   cancel_by_keeps (Some a) q d k =
       let m : Option MessageRow = own_message a (source_in a.address q.source) (message_numbered (id_in q.message_id) (messages_in d.store)) in

@@ -13,24 +13,24 @@ use Rattle.sms_centre_rows.specs.messages.SplitReferences.{next_split}
 use Rattle.sms_centre_rows.specs.declared.reports.report.ReportRow.{ReportRow}
 use Rattle.sms_centre_rows.specs.declared.waiting.handset.HandsetRow.{HandsetRow}
 use Rattle.sms_centre_rows.specs.waiting.References.{handset_of}
-use Rattle.sms_centre_rows.specs.waiting.SoundGivings.{IsNumber}
+use Rattle.sms_centre_rows.specs.waiting.SoundAllocations.{IsNumber}
 use Rattle.sms_intake.specs.declared.submission.SinglePart.{SinglePart}
 use Rattle.sms_intake.specs.declared.submission.Submission.{Submission}
 use Rattle.sms_intake.specs.PartBodies.{deliver_octets}
 use Rattle.sms_centre_spec.specs.Draft.{Store, handsets_in, messages_in, parts_in, reports_in}
 use Rattle.sms_centre_spec.specs.SoundRows.{CanBeTold}
-use Rattle.sms_centre_spec.specs.Standing.{IsSubmission, Stands}
+use Rattle.sms_centre_spec.specs.Consistent.{IsSubmission, IsConsistent}
 use Rattle.sms_centre_spec.specs.Submitting.{accept, accept_as, accept_split, accept_under, enter, give_part, give_parts, message_of, part_given, reference_for}
 use Rattle.sms_intake.specs.PartBodies.{bodies_under, is_long}
-use Rattle.sms_centre_spec.proofs.HeldGivings.{part_given_held}
+use Rattle.sms_centre_spec.proofs.HeldAllocations.{part_given_held}
 use Rattle.sms_centre_spec.proofs.HeldStages.{entered_held}
 use Rattle.sms_centre_spec.proofs.Stages.{IfThere}
 use Rattle.sms_centre_spec.proofs.NextNumbers.{below_next_id, no_part, no_report}
 
 -- ---- a message is entered
 
-pub enter_stands : (id : ℕ) (split : Option ℕ) (u : Submission) (s : Store) → Stands s → ((x : MessageRow) → Among x (messages_in s) → x.id < id) → IsNumber u.handset → CanBeTold u.originator u.source
-    → Stands (enter id split u s)
+pub enter_stands : (id : ℕ) (split : Option ℕ) (u : Submission) (s : Store) → IsConsistent s → ((x : MessageRow) → Among x (messages_in s) → x.id < id) → IsNumber u.handset → CanBeTold u.originator u.source
+    → IsConsistent (enter id split u s)
 enter_stands id split u s k below is told =
     let m : MessageRow = message_of id s.moment split u in
     let q : PriorityRow = record { id = id; priority = u.priority } in
@@ -69,7 +69,7 @@ then_there A B f (Some e) there g = g e there
 
 -- the message stands there
 abbrev pub Entered : MessageRow → Store → Type 0
-Entered m s = Stands s × (message_at m.id (messages_in s) ≡ Some m)
+Entered m s = IsConsistent s × (message_at m.id (messages_in s) ≡ Some m)
 
 pub part_stands : (m : MessageRow) (u : Submission) (n : ℕ) (b : SinglePart) (o : Option ℕ) (s : Store) → Entered m s → is_pending m ≡ true → 0 < n → n < 256
     → reference_for (handset_of m.handset (handsets_in s)) s ≡ o → IfThere (Entered m) (part_given m.id u n b (handset_of m.handset (handsets_in s)) o s)
@@ -100,31 +100,31 @@ part_stands m u n b (Some r) s k pending some small next =
     )
 
 parts_stand : (id moment : ℕ) (split : Option ℕ) (u : Submission) (n : ℕ) (bs : List SinglePart) (s : Store) → Entered (message_of id moment split u) s → 0 < n → n + length bs ≤ 256
-    → IfThere Stands (give_parts id u n bs s)
+    → IfThere IsConsistent (give_parts id u n bs s)
 parts_stand id moment split u n [] s k some few = k.0
 parts_stand id moment split u n (b ∷ bs) s k some few =
     let h : HandsetRow = handset_of u.handset (handsets_in s) in
-    then_there (Entered (message_of id moment split u)) Stands (λ (e : Store). give_parts id u (n + 1) bs e) (give_part id u n b h s)
+    then_there (Entered (message_of id moment split u)) IsConsistent (λ (e : Store). give_parts id u (n + 1) bs e) (give_part id u n b h s)
     (part_stands (message_of id moment split u) u n b (reference_for h s) s k refl some (omega (arith, few)) refl)
     (λ e g. parts_stand id moment split u (n + 1) bs e g (omega arith) (omega (arith, few)))
 
-under_stands : (id : ℕ) (split : Option ℕ) (bs : List SinglePart) (u : Submission) (s : Store) → Stands s → ((x : MessageRow) → Among x (messages_in s) → x.id < id) → IsSubmission u → length bs ≤ 20
-    → IfThere Stands (accept_under id split bs u s)
+under_stands : (id : ℕ) (split : Option ℕ) (bs : List SinglePart) (u : Submission) (s : Store) → IsConsistent s → ((x : MessageRow) → Among x (messages_in s) → x.id < id) → IsSubmission u → length bs ≤ 20
+    → IfThere IsConsistent (accept_under id split bs u s)
 under_stands id split bs u s k below fit few =
     let m : MessageRow = message_of id s.moment split u in
     parts_stand id s.moment split u 1 bs (enter id split u s)
     (enter_stands id split u s k below fit.handset fit.told, row_at_put message_key m (messages_in s)) (omega arith) (omega (arith, few))
 
-split_stands : (id : ℕ) (o : Option ℕ) (u : Submission) (s : Store) → Stands s → ((x : MessageRow) → Among x (messages_in s) → x.id < id) → IsSubmission u → IfThere Stands (accept_split id o u s)
+split_stands : (id : ℕ) (o : Option ℕ) (u : Submission) (s : Store) → IsConsistent s → ((x : MessageRow) → Among x (messages_in s) → x.id < id) → IsSubmission u → IfThere IsConsistent (accept_split id o u s)
 split_stands id None u s k below fit = tt
 split_stands id (Some r) u s k below fit = under_stands id (Some r) (bodies_under r u.text) u s k below fit (fit.few r)
 
-pub accept_stands : (u : Submission) (s : Store) → Stands s → IsSubmission u → IfThere Stands (accept u s)
+pub accept_stands : (u : Submission) (s : Store) → IsConsistent s → IsSubmission u → IfThere IsConsistent (accept u s)
 accept_stands u s k fit =
     let id : ℕ = next_id (messages_in s) in
     let below : (x : MessageRow) → Among x (messages_in s) → x.id < id = λ x among. below_next_id 1 x (messages_in s) k.message_keys among in
     let split : Option ℕ = next_split u.source u.handset (messages_in s) (parts_in s) in
-    cond_both (nat_le id 9999999999) (accept_as id u s) None (λ o. IfThere Stands o)
-    (λ t. cond_both (is_long u.text) (accept_split id split u s) (accept_under id None (bodies_under 0 u.text) u s) (λ o. IfThere Stands o)
+    cond_both (nat_le id 9999999999) (accept_as id u s) None (λ o. IfThere IsConsistent o)
+    (λ t. cond_both (is_long u.text) (accept_split id split u s) (accept_under id None (bodies_under 0 u.text) u s) (λ o. IfThere IsConsistent o)
     (λ e. split_stands id split u s k below fit) (λ e. under_stands id None (bodies_under 0 u.text) u s k below fit (fit.few 0)))
     (λ t. tt)

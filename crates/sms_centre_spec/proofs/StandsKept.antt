@@ -19,17 +19,17 @@ use Rattle.sms_centre_rows.specs.reports.Reports.{is_status, next_place, report_
 use Rattle.sms_centre_rows.specs.reports.Waiting.{IsNew}
 use Rattle.sms_centre_rows.specs.declared.waiting.progress.Progress.{Progress}
 use Rattle.sms_centre_rows.specs.waiting.References.{handset_of}
-use Rattle.sms_centre_rows.specs.waiting.SoundGivings.{IsNumber}
+use Rattle.sms_centre_rows.specs.waiting.SoundAllocations.{IsNumber}
 use Rattle.sms_centre_rows.specs.waiting.Trying.{finished}
 use Rattle.sms_centre_spec.specs.Finals.{final_of}
 use Rattle.sms_centre_spec.specs.Draft.{Store, handsets_in, messages_in, parts_in, reports_in, with_message, with_part_at, with_report_at}
 use Rattle.sms_centre_spec.specs.Ends.{end, is_wished, make_report, report_to, status_given}
 use Rattle.sms_receipt.specs.StatusReports.{status_octets}
 use Rattle.sms_centre_spec.specs.SoundRows.{CanBeTold}
-use Rattle.sms_centre_spec.specs.Standing.{Stands}
+use Rattle.sms_centre_spec.specs.Consistent.{IsConsistent}
 use Rattle.sms_centre_spec.specs.Submitting.{reference_for}
 use Rattle.sms_centre_spec.specs.Transfers.{complete}
-use Rattle.sms_centre_spec.proofs.HeldGivings.{report_made_held, status_given_held}
+use Rattle.sms_centre_spec.proofs.HeldAllocations.{report_made_held, status_given_held}
 use Rattle.sms_centre_spec.proofs.HeldStages.{ended_held, part_far_held, report_far_held}
 use Rattle.sms_centre_spec.proofs.NextNumbers.{among_amended, below_next_place}
 use Rattle.sms_centre_spec.proofs.StandsEntered.{accept_stands}
@@ -38,7 +38,7 @@ use Rattle.sms_centre_spec.proofs.Steady.{IsSteady, message_own}
 -- ---- a report is made of a message that has ended and has none
 
 pub record CanReport (f : FinalState) (n : ℕ) (m : MessageRow) (s : Store) : Type 0 where
-  pub stands : Stands s
+  pub stands : IsConsistent s
   pub there : message_at m.id (messages_in s) ≡ Some (ended f n m)
   pub none : (r : ReportRow) → Among r (reports_in s) → ¬ (r.id ≡ m.id)
 
@@ -57,7 +57,7 @@ reported f n m r s k own x among = ⊎_elim
     (λ (a : Among x (reports_in s) × ¬ (x.place ≡ r.place)). k.stands.reports x a.0)
     (among_put report_key x r (reports_in s) among)
 
-pub quiet_stands : (f : FinalState) (n : ℕ) (m : MessageRow) (kind : ReportKind) (closed : Bool) (s : Store) → CanReport f n m s → is_status kind ≡ false → Stands (make_report m.id kind closed s)
+pub quiet_stands : (f : FinalState) (n : ℕ) (m : MessageRow) (kind : ReportKind) (closed : Bool) (s : Store) → CanReport f n m s → is_status kind ≡ false → IsConsistent (make_report m.id kind closed s)
 quiet_stands f n m kind closed s k quiet =
     let r : ReportRow = record {
       place = next_place (reports_in s);
@@ -76,7 +76,7 @@ quiet_stands f n m kind closed s k quiet =
     }
 
 pub status_stands : (f : FinalState) (n : ℕ) (m : MessageRow) (o : Option ℕ) (s : Store) → CanReport f n m s → IsNumber m.source.digits
-    → reference_for (handset_of m.source.digits (handsets_in s)) s ≡ o → Stands (status_given f m (handset_of m.source.digits (handsets_in s)) o s)
+    → reference_for (handset_of m.source.digits (handsets_in s)) s ≡ o → IsConsistent (status_given f m (handset_of m.source.digits (handsets_in s)) o s)
 status_stands f n m None s k told next = quiet_stands f n m Unsent true s k refl
 status_stands f n m (Some reference) s k told next =
     let r : ReportRow = record {
@@ -95,21 +95,21 @@ status_stands f n m (Some reference) s k told next =
       reports = reported f n m r s k refl;
     }
 
-pub report_to_stands : (o : Originator) (f : FinalState) (n : ℕ) (m : MessageRow) (s : Store) → CanReport f n m s → CanBeTold o m.source → Stands (report_to o f m s)
+pub report_to_stands : (o : Originator) (f : FinalState) (n : ℕ) (m : MessageRow) (s : Store) → CanReport f n m s → CanBeTold o m.source → IsConsistent (report_to o f m s)
 report_to_stands (Application account) f n m s k told = quiet_stands f n m Receipt false s k refl
 report_to_stands (Handset r) f n m s k told = status_stands f n m (reference_for (handset_of m.source.digits (handsets_in s)) s) s k told refl
 
 -- ---- a message ends
 
 -- its row tells it, and it can be reported
-pub can_report : (f : FinalState) (m : MessageRow) (s : Store) → Stands s → message_at m.id (messages_in s) ≡ Some m → is_pending m ≡ true → CanReport f s.moment m (with_message (ended f s.moment m) s)
+pub can_report : (f : FinalState) (m : MessageRow) (s : Store) → IsConsistent s → message_at m.id (messages_in s) ≡ Some m → is_pending m ≡ true → CanReport f s.moment m (with_message (ended f s.moment m) s)
 can_report f m s k there pending =
     let w : MessageRow = ended f s.moment m in
     let after : List MessageRow = put message_key w (messages_in s) in
     let apart : (r : ReportRow) → Among r (reports_in s) → ¬ (r.id ≡ m.id) = λ r among q.
     let of = k.reports r among in
     over of.0 (sym there ∙ ap (λ (id : ℕ). message_at id (messages_in s)) (sym q) ∙ of.1.0) of.1.1 in
-    let stands : Stands (with_message w s) = record {
+    let stands : IsConsistent (with_message w s) = record {
       held = ended_held s m f s.moment k.held there;
       message_keys = rises_put message_key w (messages_in s) k.message_keys;
       told = λ x among. ⊎_elim
@@ -131,16 +131,16 @@ can_report f m s k there pending =
     over : (x : MessageRow) → Some m ≡ Some x → is_pending x ≡ false → ⊥
     over x q past = let same : m ≡ x = cc in let bad : true ≡ false = sym pending ∙ ap (λ (y : MessageRow). is_pending y) same ∙ past in absurd cc
 
-end_stands : (f : FinalState) (m : MessageRow) (s : Store) → Stands s → message_at m.id (messages_in s) ≡ Some m → is_pending m ≡ true → Stands (end f m s)
+end_stands : (f : FinalState) (m : MessageRow) (s : Store) → IsConsistent s → message_at m.id (messages_in s) ≡ Some m → is_pending m ≡ true → IsConsistent (end f m s)
 end_stands f m s k there pending =
     let e : Store = with_message (ended f s.moment m) s in
     let can = can_report f m s k there pending in
-    cond_both (is_wished m.wish f) (report_to m.originator f m e) e Stands
+    cond_both (is_wished m.wish f) (report_to m.originator f m e) e IsConsistent
     (λ t. report_to_stands m.originator f s.moment m e can (k.told m (found_among message_key m.id m (messages_in s) there))) (λ t. can.stands)
 
 -- ---- how far parts and reports are
 
-pub part_far_stands : (p : PartRow) (q : Progress) (s : Store) → Stands s → row_at part_key (part_key p) (parts_in s) ≡ Some p → (q.is_done ≡ false → p.progress.is_done ≡ false) → Stands (with_part_at p q s)
+pub part_far_stands : (p : PartRow) (q : Progress) (s : Store) → IsConsistent s → row_at part_key (part_key p) (parts_in s) ≡ Some p → (q.is_done ≡ false → p.progress.is_done ≡ false) → IsConsistent (with_part_at p q s)
 part_far_stands p q s k there done = record {
   held = part_far_held s p q k.held there done;
   message_keys = k.message_keys;
@@ -153,7 +153,7 @@ part_far_stands p q s k there done = record {
   reports = k.reports;
 }
 
-pub report_far_stands : (r : ReportRow) (q : Progress) (s : Store) → Stands s → report_of r.id (reports_in s) ≡ Some r → (q.is_done ≡ false → r.progress.is_done ≡ false) → Stands (with_report_at r q s)
+pub report_far_stands : (r : ReportRow) (q : Progress) (s : Store) → IsConsistent s → report_of r.id (reports_in s) ≡ Some r → (q.is_done ≡ false → r.progress.is_done ≡ false) → IsConsistent (with_report_at r q s)
 report_far_stands r q s k there done = record {
   held = report_far_held s r q k.held there done;
   message_keys = k.message_keys;
@@ -166,17 +166,17 @@ report_far_stands r q s k there done = record {
       (of.0, (ap (λ (id : ℕ). message_at id (messages_in s)) own ∙ of.1.0, of.1.1));
 }
 
-settled_stands : (p : PartRow) (m : MessageRow) (s : Store) → Stands s → row_at part_key (part_key p) (parts_in s) ≡ Some p → message_at p.id (messages_in s) ≡ Some m → is_pending m ≡ true
-    → Stands (complete m (with_part_at p (finished p.progress) s))
+settled_stands : (p : PartRow) (m : MessageRow) (s : Store) → IsConsistent s → row_at part_key (part_key p) (parts_in s) ≡ Some p → message_at p.id (messages_in s) ≡ Some m → is_pending m ≡ true
+    → IsConsistent (complete m (with_part_at p (finished p.progress) s))
 settled_stands p m s k there of pending =
     let e : Store = with_part_at p (finished p.progress) s in
-    let stands : Stands e = part_far_stands p (finished p.progress) s k there (λ q. absurd cc) in
-    cond_both (all_done m.id (parts_in e)) (end Delivered m e) e Stands (λ t. end_stands Delivered m e stands (message_own p.id m e of) pending) (λ t. stands)
+    let stands : IsConsistent e = part_far_stands p (finished p.progress) s k there (λ q. absurd cc) in
+    cond_both (all_done m.id (parts_in e)) (end Delivered m e) e IsConsistent (λ t. end_stands Delivered m e stands (message_own p.id m e of) pending) (λ t. stands)
 
-pub later_stands : (n : ℕ) (s : Store) → Stands s → Stands (record s { moment = n })
+pub later_stands : (n : ℕ) (s : Store) → IsConsistent s → IsConsistent (record s { moment = n })
 later_stands n s k = record {
   held = record {
-    givings = k.held.givings;
+    allocations = k.held.allocations;
     parts = k.held.parts;
     alone = k.held.alone;
     report_keys = k.held.report_keys;
@@ -189,7 +189,7 @@ later_stands n s k = record {
   reports = k.reports;
 }
 
-pub stands_steady : IsSteady Stands
+pub stands_steady : IsSteady IsConsistent
 stands_steady = record {
   stands = λ s k. k;
   accepted = accept_stands;

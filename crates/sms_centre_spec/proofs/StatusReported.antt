@@ -4,7 +4,7 @@ use Rattle.std.specs.Prelude.{codes}
 use Rattle.sms_base.specs.declared.final_state.FinalState.TheVariants.{Delivered}
 use Rattle.sms_centre_rows.specs.declared.waiting.handset.HandsetRow.{HandsetRow}
 use Rattle.sms_centre_spec.specs.Draft.{Core, Draft, core_of}
-use Rattle.sms_centre_spec.specs.CentreEvent.{submit_came, ticked}
+use Rattle.sms_centre_spec.specs.CentreEvent.{submit_received, ticked}
 use Rattle.sms_receipt.specs.StatusReports.{status_octets}
 use Rattle.sms_centre_spec.specs.Finals.{final_of}
 use Rattle.sms_centre_spec.proofs.Everything.{everything}
@@ -31,7 +31,7 @@ octets : status_octets (final_of Delivered (t0 + 2) (row_of (core_of three).rows
 unfolding everything
 octets = refl
 
-its_own : three.air.read ≡ []
+its_own : three.links.read ≡ []
 unfolding everything
 its_own = refl
 
@@ -44,7 +44,7 @@ turned (h ∷ hs) = record h { last_reference = 255 } ∷ turned hs
 abbrev pub wrapped : Core
 wrapped = core_of (ticked (t0 + 5) (record (core_of three) { rows = record (core_of three).rows { handsets = turned (core_of three).rows.handsets } }))
 
-held : references_of (core_of (submit_came 0 (hello_to handset_a) wrapped)).rows ≡ 0 ∷ 1 ∷ []
+held : references_of (core_of (submit_received 0 (hello_to handset_a) wrapped)).rows ≡ 0 ∷ 1 ∷ []
 unfolding everything
 held = refl
 

@@ -25,15 +25,15 @@ use Rattle.sms_tpdu.specs.declared.up.Up.TheVariants.{Submit, DeliverReport}
 use Rattle.sms_tpdu.specs.TpduGrammar.{IsSubmit}
 use Rattle.sms_tpdu.specs.TpduReading.{up_at as tpdu_up_at}
 use Rattle.sms_tpdu.proofs.Carriers.{up_takes}
-use Rattle.sms_centre_rows.specs.declared.waiting.line.Line.{Line}
-use Rattle.sms_centre_rows.specs.waiting.SoundGivings.{IsNumber}
+use Rattle.sms_centre_rows.specs.declared.waiting.handset_link.HandsetLink.{HandsetLink}
+use Rattle.sms_centre_rows.specs.waiting.SoundAllocations.{IsNumber}
 use Rattle.sms_intake.specs.declared.refusal.SubmitRefusal.{SubmitRefusal}
 use Rattle.sms_intake.specs.declared.refusal.SubmitRefusal.TheVariants.{NoHandset, PastLimit}
 use Rattle.sms_intake.specs.declared.submission.SinglePart.{SinglePart}
 use Rattle.sms_intake.specs.declared.submission.Submission.{Submission}
 use Rattle.sms_intake.specs.HandsetIntake.{from_read, from_submit, is_past, submission_of}
 use Rattle.sms_base.specs.HandsetNumber.{is_decimal, names_handset}
-use Rattle.sms_centre_spec.specs.Standing.{IsBody, IsSubmission}
+use Rattle.sms_centre_spec.specs.Consistent.{IsBody, IsSubmission}
 use Rattle.sms_centre_spec.specs.Submitted.{UnitGives, UpGives}
 use Rattle.sms_centre_spec.proofs.UnitOctets.{opened_octets, tpdu_octets}
 
@@ -99,5 +99,5 @@ up_fits from now None is are = tt
 up_fits from now (Some (Opened unit)) is are = unit_fits from now unit (up_at unit) is (are unit refl) refl
 up_fits from now (Some (Ended transfer ending)) is are = tt
 
-pub frame_fits : (l : Line) (now : ℕ) (frame : List ℕ) → IsNumber l.handset → AreOctets frame → UpGives l.handset now (taken frame l.link).out.up
+pub frame_fits : (l : HandsetLink) (now : ℕ) (frame : List ℕ) → IsNumber l.handset → AreOctets frame → UpGives l.handset now (taken frame l.link).out.up
 frame_fits l now frame is are = up_fits l.handset now (taken frame l.link).out.up is (λ unit e. opened_octets l.link unit frame are e)

@@ -23,14 +23,14 @@ use Rattle.sms_base.specs.declared.originator.Originator.TheVariants.{Handset}
 use Rattle.sms_centre_rows.specs.declared.messages.part.PartRow.{PartRow}
 use Rattle.sms_centre_rows.specs.messages.SoundMessages.{IsDeliver}
 use Rattle.sms_centre_rows.specs.reports.SoundReports.{IsStatus}
-use Rattle.sms_centre_rows.specs.waiting.SoundGivings.{IsNumber}
+use Rattle.sms_centre_rows.specs.waiting.SoundAllocations.{IsNumber}
 use Rattle.sms_intake.specs.declared.submission.SinglePart.{SinglePart}
 use Rattle.sms_intake.specs.declared.submission.Submission.{Submission}
 use Rattle.sms_intake.specs.PartBodies.{deliver_octets, deliver_of}
 use Rattle.sms_base.specs.HandsetNumber.{own_address}
 use Rattle.sms_receipt.specs.StatusReports.{status_octets, status_report_of}
 use Rattle.sms_centre_spec.specs.Finals.{final_of, submit_reference}
-use Rattle.sms_centre_spec.specs.Standing.{IsBody}
+use Rattle.sms_centre_spec.specs.Consistent.{IsBody}
 use Rattle.sms_centre_spec.specs.Submitting.{message_of}
 use Rattle.sms_base.specs.UtcClock.{stamp_of}
 

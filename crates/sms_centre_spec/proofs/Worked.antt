@@ -11,14 +11,14 @@ use Rattle.sms_centre_rows.specs.declared.messages.message.MessageRow.{MessageRo
 use Rattle.sms_base.specs.declared.originator.Originator.TheVariants.{Handset}
 use Rattle.sms_base.specs.declared.wish.Wish.TheVariants.{Nothing}
 use Rattle.sms_centre_rows.specs.declared.messages.part.PartRow.{PartRow}
-use Rattle.sms_centre_rows.specs.declared.waiting.line.Sent.{Sent}
+use Rattle.sms_centre_rows.specs.declared.waiting.handset_link.Sent.{Sent}
 use Rattle.sms_centre_rows.specs.declared.reports.report.ReportRow.{ReportRow}
 use Rattle.sms_centre_spec.specs.declared.rows.Rows.{Rows}
 use Rattle.sms_centre_spec.specs.declared.setup.Setup.{Setup}
 use Rattle.sms_base.specs.HandsetNumber.{own_address}
 use Rattle.sms_centre_rows.specs.reports.Receipts.{Session}
 use Rattle.sms_centre_spec.specs.Draft.{Core, Draft, messages_in, reports_in}
-use Rattle.sms_centre_spec.specs.CentreEvent.{started, frame_came}
+use Rattle.sms_centre_spec.specs.CentreEvent.{started, frame_received}
 
 -- ---- hexadecimal
 
@@ -99,7 +99,7 @@ hello_to to = sm to 0 0 1 [] (codes "hello") 0
 
 -- a frame of a handset that carries what nobody asks for here
 abbrev pub comes : List ℕ → List ℕ → Core → Draft
-comes handset octets c = frame_came handset octets (Entry 0) c
+comes handset octets c = frame_received handset octets (Entry 0) c
 
 abbrev pub cancel_of : List ℕ → CancelSm
 cancel_of id = record { service_type = []; message_id = id; source = nobody; destination = nobody }
@@ -111,7 +111,7 @@ octets_in [] = []
 octets_in (s ∷ ss) = s.frame.octets ∷ octets_in ss
 
 abbrev pub sent : Draft → List (List ℕ)
-sent d = octets_in d.air.frames
+sent d = octets_in d.links.frames
 
 abbrev pub states_in : List MessageRow → List (Option FinalState)
 states_in [] = []

@@ -19,9 +19,9 @@ use Rattle.sms_centre_rows.specs.declared.reports.report.ReportRow.{ReportRow}
 use Rattle.sms_centre_rows.specs.reports.Receipts.{Session}
 use Rattle.sms_centre_rows.specs.reports.Reports.{is_open_status}
 use Rattle.sms_centre_rows.specs.declared.waiting.handset.HandsetRow.{HandsetRow}
-use Rattle.sms_centre_rows.specs.declared.waiting.line.Line.{Line}
+use Rattle.sms_centre_rows.specs.declared.waiting.handset_link.HandsetLink.{HandsetLink}
 use Rattle.sms_centre_rows.specs.declared.waiting.reference.ReferenceRow.{ReferenceRow}
-use Rattle.sms_centre_rows.specs.waiting.Lines.{line_at, line_of, lowered, put_line, raised as raised_line, turn_line}
+use Rattle.sms_centre_rows.specs.waiting.Links.{line_at, line_of, lowered, put_line, raised as raised_line, turn_line}
 use Rattle.sms_centre_rows.specs.waiting.References.{handset_at}
 use Rattle.sms_centre_rows.specs.waiting.Trying.{later}
 use Rattle.sms_centre_spec.specs.declared.event.CentreEvent.{CentreEvent}
@@ -29,11 +29,11 @@ use Rattle.sms_centre_spec.specs.declared.event.CentreEvent.TheVariants.{Submit,
 use Rattle.sms_centre_spec.specs.declared.rows.Rows.{Rows}
 use Rattle.sms_centre_spec.specs.Ends.{end}
 use Rattle.sms_centre_spec.specs.Transfers.{conclude, report_closed}
-use Rattle.sms_centre_spec.specs.Receiving.{unit_came, due_now}
+use Rattle.sms_centre_spec.specs.Receiving.{unit_received, due_now}
 use Rattle.sms_centre_spec.specs.Offering.{offer}
 use Rattle.sms_centre_spec.specs.Requests.{submit, query, cancel}
 use Rattle.sms_centre_spec.specs.Sessions.{bind, unbind, deliver_answered, send}
-use Rattle.sms_centre_spec.specs.Draft.{Core, Draft, Store, draft_of, handsets_in, in_store, messages_in, on_air, reports_in}
+use Rattle.sms_centre_spec.specs.Draft.{Core, Draft, Store, draft_of, handsets_in, in_store, messages_in, on_links, reports_in}
 
 -- ---- after every event
 
@@ -44,17 +44,17 @@ follow d = offer (send d)
 
 abbrev pub went_up : List ℕ → Holder → Option Upward → Draft → Draft
 went_up handset tag None d = d
-went_up handset tag (Some (Opened unit)) d = unit_came handset tag unit (up_at unit) d
+went_up handset tag (Some (Opened unit)) d = unit_received handset tag unit (up_at unit) d
 went_up handset tag (Some (Ended transfer ending)) d = conclude handset transfer ending d
 
-abbrev pub frame_heard : Line → Holder → Turn → Draft → Draft
-frame_heard line tag turn d = went_up line.handset tag turn.out.up (on_air (turn_line line turn d.air) d)
+abbrev pub frame_heard : HandsetLink → Holder → Turn → Draft → Draft
+frame_heard line tag turn d = went_up line.handset tag turn.out.up (on_links (turn_line line turn d.links) d)
 
-abbrev pub frame_taken : List ℕ → Holder → Line → Draft → Draft
+abbrev pub frame_taken : List ℕ → Holder → HandsetLink → Draft → Draft
 frame_taken octets tag line d = frame_heard line tag (taken octets line.link) d
 
-abbrev pub frame_came : List ℕ → List ℕ → Holder → Core → Draft
-frame_came handset octets tag c = follow (frame_taken octets tag (line_of handset c.lines) (draft_of c))
+abbrev pub frame_received : List ℕ → List ℕ → Holder → Core → Draft
+frame_received handset octets tag c = follow (frame_taken octets tag (line_of handset c.lines) (draft_of c))
 
 -- A frame that comes without a tag, from a socket, is taken as one of entry 0, which no entry is.
 abbrev pub tag_of : Option Holder → Holder
@@ -62,11 +62,11 @@ tag_of tag = unwrap_or tag (Entry 0)
 
 -- ---- a link comes up: the handset has memory, and all that waits for it is due now
 
-abbrev pub raise_line : Line → Draft → Draft
-raise_line line d = record d { store = due_now line.handset d.store; air = put_line (raised_line line) d.air }
+abbrev pub raise_line : HandsetLink → Draft → Draft
+raise_line line d = record d { store = due_now line.handset d.store; links = put_line (raised_line line) d.links }
 
 abbrev pub raise : List ℕ → Draft → Draft
-raise handset d = raise_line (line_of handset d.air.lines) d
+raise handset d = raise_line (line_of handset d.links.lines) d
 
 abbrev pub link_up : List ℕ → Core → Draft
 link_up handset c = follow (raise handset (draft_of c))
@@ -77,11 +77,11 @@ abbrev pub lost : List ℕ → Option Carried → Draft → Draft
 lost handset None d = d
 lost handset (Some transfer) d = conclude handset transfer Lost d
 
-abbrev pub lower_line : Line → Draft → Draft
-lower_line line d = lost line.handset line.link.under_way (on_air (put_line (lowered line) d.air) d)
+abbrev pub lower_line : HandsetLink → Draft → Draft
+lower_line line d = lost line.handset line.link.under_way (on_links (put_line (lowered line) d.links) d)
 
 abbrev pub lower : List ℕ → Draft → Draft
-lower handset d = lower_line (line_of handset d.air.lines) d
+lower handset d = lower_line (line_of handset d.links.lines) d
 
 abbrev pub link_down : List ℕ → Core → Draft
 link_down handset c = follow (lower handset (draft_of c))
@@ -110,40 +110,40 @@ timed_out handset None d = d
 timed_out handset (Some (Opened unit)) d = d
 timed_out handset (Some (Ended transfer ending)) d = conclude handset transfer ending d
 
-abbrev pub line_fired : Line → Turn → Draft → Draft
-line_fired line turn d = timed_out line.handset turn.out.up (on_air (turn_line line turn d.air) d)
+abbrev pub line_fired : HandsetLink → Turn → Draft → Draft
+line_fired line turn d = timed_out line.handset turn.out.up (on_links (turn_line line turn d.links) d)
 
-abbrev pub fire_line : Line → Draft → Draft
+abbrev pub fire_line : HandsetLink → Draft → Draft
 fire_line line d = line_fired line (fired_link d.store.moment line.link) d
 
-abbrev pub fire_at : Option Line → Draft → Draft
+abbrev pub fire_at : Option HandsetLink → Draft → Draft
 fire_at None d = d
 fire_at (Some line) d = fire_line line d
 
 -- in order of first mention, then the handsets that were never given a reference
 abbrev pub fire_mentioned : List HandsetRow → Draft → Draft
 fire_mentioned [] d = d
-fire_mentioned (h ∷ hs) d = fire_mentioned hs (fire_at (line_at h.number d.air.lines) d)
+fire_mentioned (h ∷ hs) d = fire_mentioned hs (fire_at (line_at h.number d.links.lines) d)
 
 abbrev pub is_mentioned : Option HandsetRow → Bool
 is_mentioned None = false
 is_mentioned (Some h) = true
 
-abbrev pub fire_others : List HandsetRow → List Line → Draft → Draft
+abbrev pub fire_others : List HandsetRow → List HandsetLink → Draft → Draft
 fire_others hs [] d = d
 fire_others hs (l ∷ ls) d =
-    fire_others hs ls (if is_mentioned (handset_at l.handset hs) then d else fire_at (line_at l.handset d.air.lines) d)
+    fire_others hs ls (if is_mentioned (handset_at l.handset hs) then d else fire_at (line_at l.handset d.links.lines) d)
 
 abbrev pub fire_all : List HandsetRow → Draft → Draft
-fire_all hs d = fire_others hs d.air.lines (fire_mentioned hs d)
+fire_all hs d = fire_others hs d.links.lines (fire_mentioned hs d)
 
 -- links that were up before a recovery come up
-abbrev pub raise_all : List Line → Draft → Draft
+abbrev pub raise_all : List HandsetLink → Draft → Draft
 raise_all [] d = d
 raise_all (l ∷ ls) d = raise_all ls (if l.is_awaited then raise l.handset d else d)
 
 abbrev pub raised : Draft → Draft
-raised d = raise_all d.air.lines d
+raised d = raise_all d.links.lines d
 
 abbrev pub expired : Store → Store
 expired s = expire_all (messages_in s) s
@@ -162,14 +162,14 @@ ticked now c = follow (raised (fired (aged (at_moment now (draft_of c)))))
 
 -- ---- what applications want
 
-abbrev pub submit_came : ℕ → Message → Core → Draft
-submit_came account m c = follow (submit account m (draft_of c))
+abbrev pub submit_received : ℕ → Message → Core → Draft
+submit_received account m c = follow (submit account m (draft_of c))
 
-abbrev pub query_came : ℕ → QuerySm → Core → Draft
-query_came account q c = follow (query account q (draft_of c))
+abbrev pub query_received : ℕ → QuerySm → Core → Draft
+query_received account q c = follow (query account q (draft_of c))
 
-abbrev pub cancel_came : ℕ → CancelSm → Core → Draft
-cancel_came account q c = follow (cancel account q (draft_of c))
+abbrev pub cancel_received : ℕ → CancelSm → Core → Draft
+cancel_received account q c = follow (cancel account q (draft_of c))
 
 abbrev pub bound : ℕ → ℕ → Bool → Core → Draft
 bound session account receives c = follow (bind session account receives (draft_of c))
@@ -183,13 +183,13 @@ answered session id is_accepted c = follow (deliver_answered session id is_accep
 -- ---- every event
 
 abbrev pub happened : CentreEvent → Core → Draft
-happened (Submit account message) c = submit_came account message c
-happened (Query account wanted) c = query_came account wanted c
-happened (Cancel account wanted) c = cancel_came account wanted c
+happened (Submit account message) c = submit_received account message c
+happened (Query account wanted) c = query_received account wanted c
+happened (Cancel account wanted) c = cancel_received account wanted c
 happened (Bound session account receives) c = bound session account receives c
 happened (Unbound session) c = unbound session c
 happened (DeliverAnswered session id is_accepted) c = answered session id is_accepted c
-happened (Frame handset octets tag) c = frame_came handset octets (tag_of tag) c
+happened (Frame handset octets tag) c = frame_received handset octets (tag_of tag) c
 happened (LinkUp handset) c = link_up handset c
 happened (LinkDown handset) c = link_down handset c
 happened (Tick now) c = ticked now c
@@ -212,7 +212,7 @@ after_reports moment (r ∷ rs) = after_reports (max moment r.made) rs
 abbrev pub moment_of : Rows → ℕ
 moment_of rows = after_reports (after_references (after_messages rows.setup.start rows.messages) rows.references) rows.reports
 
-abbrev pub lines_awaited : List (List ℕ) → List Line
+abbrev pub lines_awaited : List (List ℕ) → List HandsetLink
 lines_awaited [] = []
 lines_awaited (n ∷ ns) =
     record { handset = n; is_up = false; is_awaited = true; is_full = false; link = new_link Centre } ∷ lines_awaited ns
@@ -227,7 +227,7 @@ recovered rows handsets sessions = record {
   sessions = sessions;
 }
 
-abbrev pub lines_up : List (List ℕ) → List Line
+abbrev pub lines_up : List (List ℕ) → List HandsetLink
 lines_up [] = []
 lines_up (n ∷ ns) =
     record { handset = n; is_up = true; is_awaited = false; is_full = false; link = new_link Centre } ∷ lines_up ns

@@ -13,17 +13,17 @@ use Rattle.sms_centre_rows.specs.declared.messages.part.PartRow.{PartRow}
 use Rattle.sms_centre_rows.specs.declared.messages.priority.PriorityRow.{PriorityRow}
 use Rattle.sms_centre_rows.specs.messages.Messages.{Messages, messages_of, parts_of, priorities_of, put_message, put_part, amend_part, put_priority, message_key, part_key, priority_key, part_reaching}
 use Rattle.sms_centre_rows.specs.declared.reports.report.ReportRow.{ReportRow}
-use Rattle.sms_centre_rows.specs.reports.Receipts.{Desk, Session}
+use Rattle.sms_centre_rows.specs.reports.Receipts.{Bindings, Session}
 use Rattle.sms_centre_rows.specs.reports.Reports.{reports_of, amend_report, report_key, report_reaching}
 use Rattle.sms_centre_rows.specs.reports.Waiting.{waiting_for}
 use Rattle.sms_centre_rows.specs.declared.waiting.handset.HandsetRow.{HandsetRow}
-use Rattle.sms_centre_rows.specs.declared.waiting.line.Line.{Line}
-use Rattle.sms_centre_rows.specs.declared.waiting.load.Load.{Load}
+use Rattle.sms_centre_rows.specs.declared.waiting.handset_link.HandsetLink.{HandsetLink}
+use Rattle.sms_centre_rows.specs.declared.waiting.queued_part.QueuedPart.{QueuedPart}
 use Rattle.sms_centre_rows.specs.declared.waiting.progress.Progress.{Progress}
 use Rattle.sms_centre_rows.specs.declared.waiting.reference.ReferenceRow.{ReferenceRow}
 use Rattle.sms_centre_rows.specs.waiting.Keys.{handset_key, reference_key}
-use Rattle.sms_centre_rows.specs.waiting.Lines.{Air}
-use Rattle.sms_centre_rows.specs.waiting.References.{Givings, handsets_of, references_of, give}
+use Rattle.sms_centre_rows.specs.waiting.Links.{Links}
+use Rattle.sms_centre_rows.specs.waiting.References.{Allocations, handsets_of, references_of, give}
 use Rattle.sms_centre_rows.specs.waiting.Revisions.{Revised, unrevised, all_revised, oldest_first as revisions_of}
 
 -- ---- a centre between two events
@@ -33,7 +33,7 @@ pub record Core : Type 0 where
   -- the greatest moment that it was told, or that its rows have seen
   pub moment : ℕ
   -- in the order in which they came
-  pub lines : List Line
+  pub lines : List HandsetLink
   -- in the order of their numbers
   pub sessions : List Session
 
@@ -44,13 +44,13 @@ pub record Store : Type 0 where
   pub setup : Setup
   pub moment : ℕ
   pub messages : Messages
-  pub givings : Givings
+  pub allocations : Allocations
   pub reports : Revised ReportRow
 
 pub record Draft : Type 0 where
   pub store : Store
-  pub air : Air
-  pub desk : Desk
+  pub links : Links
+  pub bindings : Bindings
   pub answer : Option CentreAnswer
 
 abbrev pub store_of : Rows → ℕ → Store
@@ -58,15 +58,15 @@ store_of rows moment = record {
   setup = rows.setup;
   moment = moment;
   messages = record { messages = untouched rows.messages; parts = unrevised rows.parts; priorities = untouched rows.priorities };
-  givings = record { handsets = untouched rows.handsets; references = untouched rows.references };
+  allocations = record { handsets = untouched rows.handsets; references = untouched rows.references };
   reports = unrevised rows.reports;
 }
 
 abbrev pub draft_of : Core → Draft
 draft_of c = record {
   store = store_of c.rows c.moment;
-  air = record { lines = c.lines; frames = []; read = [] };
-  desk = record { sessions = c.sessions; deliveries = [] };
+  links = record { lines = c.lines; frames = []; read = [] };
+  bindings = record { sessions = c.sessions; deliveries = [] };
   answer = None;
 }
 
@@ -75,15 +75,15 @@ abbrev pub rows_of : Store → Rows
 rows_of s = record {
   messages = messages_of s.messages;
   parts = parts_of s.messages;
-  references = references_of s.givings;
-  handsets = handsets_of s.givings;
+  references = references_of s.allocations;
+  handsets = handsets_of s.allocations;
   reports = reports_of s.reports;
   priorities = priorities_of s.messages;
   setup = s.setup;
 }
 
 abbrev pub core_of : Draft → Core
-core_of d = record { rows = rows_of d.store; moment = d.store.moment; lines = d.air.lines; sessions = d.desk.sessions }
+core_of d = record { rows = rows_of d.store; moment = d.store.moment; lines = d.links.lines; sessions = d.bindings.sessions }
 
 -- ---- what came of the rows, of each list the oldest first
 
@@ -91,8 +91,8 @@ abbrev pub changes_in : Store → Changes
 changes_in s = record {
   messages = changes_of s.messages.messages.news;
   parts = revisions_of s.messages.parts.news;
-  references = changes_of s.givings.references.news;
-  handsets = changes_of s.givings.handsets.news;
+  references = changes_of s.allocations.references.news;
+  handsets = changes_of s.allocations.handsets.news;
   reports = revisions_of s.reports.news;
   priorities = changes_of s.messages.priorities.news;
 }
@@ -121,16 +121,16 @@ abbrev pub priorities_in : Store → List PriorityRow
 priorities_in s = priorities_of s.messages
 
 abbrev pub handsets_in : Store → List HandsetRow
-handsets_in s = handsets_of s.givings
+handsets_in s = handsets_of s.allocations
 
 abbrev pub references_in : Store → List ReferenceRow
-references_in s = references_of s.givings
+references_in s = references_of s.allocations
 
 abbrev pub reports_in : Store → List ReportRow
 reports_in s = reports_of s.reports
 
 -- all that waits for a handset
-abbrev pub waiting_in : List ℕ → Store → List Load
+abbrev pub waiting_in : List ℕ → Store → List QueuedPart
 waiting_in handset s = waiting_for handset (messages_in s) (priorities_in s) (parts_in s) (reports_in s)
 
 -- ---- moves: one change of one list each, but giving, which changes two
@@ -148,7 +148,7 @@ abbrev pub with_priority : PriorityRow → Store → Store
 with_priority p s = record s { messages = put_priority p s.messages }
 
 abbrev pub with_given : HandsetRow → ℕ → Store → Store
-with_given h reference s = record s { givings = give h reference s.moment s.givings }
+with_given h reference s = record s { allocations = give h reference s.moment s.allocations }
 
 abbrev pub with_reports : Revised ReportRow → Store → Store
 with_reports reports s = record s { reports = reports }
@@ -161,8 +161,8 @@ with_report_at r progress s = with_reports (amend_report r progress s.reports) s
 abbrev pub in_store : Store → Draft → Draft
 in_store s d = record d { store = s }
 
-abbrev pub on_air : Air → Draft → Draft
-on_air air d = record d { air = air }
+abbrev pub on_links : Links → Draft → Draft
+on_links links d = record d { links = links }
 
 abbrev pub answer_with : CentreAnswer → Draft → Draft
 answer_with a d = record d { answer = Some a }

@@ -8,12 +8,12 @@ use Rattle.sms_centre_rows.specs.messages.OpenParts.{Numbered}
 use Rattle.sms_centre_rows.specs.reports.Reports.{report_key}
 use Rattle.sms_centre_rows.specs.reports.Waiting.{Alone}
 use Rattle.sms_centre_rows.specs.waiting.References.{handset_at}
-use Rattle.sms_centre_rows.specs.waiting.SoundGivings.{IsNumber, SoundGivings}
+use Rattle.sms_centre_rows.specs.waiting.SoundAllocations.{IsNumber, SoundAllocations}
 use Rattle.sms_centre_rows.specs.waiting.SoundWaiting.{SoundWaiting}
 use Rattle.sms_centre_spec.specs.Draft.{Store, handsets_in, messages_in, parts_in, references_in, reports_in, waiting_in}
 
 pub record SoundHeld (s : Store) : Type 0 where
-  pub givings : SoundGivings (handsets_in s) (references_in s)
+  pub allocations : SoundAllocations (handsets_in s) (references_in s)
   pub parts : Numbered (parts_in s)
   pub alone : Alone (reports_in s)
   pub report_keys : Rises report_key (reports_in s)

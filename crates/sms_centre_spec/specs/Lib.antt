@@ -12,7 +12,7 @@ pub mod CentreEvent
 pub mod Planning
 pub mod Held
 pub mod SoundRows
-pub mod Standing
+pub mod Consistent
 pub mod Keeping
 pub mod Submitted
 pub mod SoundCore

@@ -9,8 +9,8 @@ use Rattle.sms_centre_spec.specs.declared.plan_error.PlanError.TheVariants.{NoBo
 use Rattle.sms_centre_spec.specs.declared.rows.Changes.{Changes}
 use Rattle.sms_centre_rows.specs.declared.reports.delivery.Delivery.{Delivery}
 use Rattle.sms_centre_rows.specs.reports.Receipts.{Session}
-use Rattle.sms_centre_rows.specs.declared.waiting.line.Line.{Line}
-use Rattle.sms_centre_rows.specs.declared.waiting.line.Sent.{Sent}
+use Rattle.sms_centre_rows.specs.declared.waiting.handset_link.HandsetLink.{HandsetLink}
+use Rattle.sms_centre_rows.specs.declared.waiting.handset_link.Sent.{Sent}
 use Rattle.sms_centre_spec.specs.CentreEvent.{happened}
 use Rattle.sms_centre_spec.specs.Draft.{Core, Draft, changes_in, rows_after}
 
@@ -20,18 +20,18 @@ pub record Outcome : Type 0 where
   pub answer : Option CentreAnswer
   pub deliveries : List Delivery
   pub moment : ℕ
-  pub lines : List Line
+  pub lines : List HandsetLink
   pub sessions : List Session
 
 abbrev pub outcome_of : Draft → Outcome
 outcome_of d = record {
   changes = changes_in d.store;
-  frames = d.air.frames;
+  frames = d.links.frames;
   answer = d.answer;
-  deliveries = d.desk.deliveries;
+  deliveries = d.bindings.deliveries;
   moment = d.store.moment;
-  lines = d.air.lines;
-  sessions = d.desk.sessions;
+  lines = d.links.lines;
+  sessions = d.bindings.sessions;
 }
 
 -- the centre with the outcome put in
@@ -46,7 +46,7 @@ all_answered answers [] = true
 all_answered answers (key ∷ keys) = answers key && all_answered answers keys
 
 abbrev pub planned : (ℕ → Bool) → Draft → Result Outcome PlanError
-planned answers d = if all_answered answers d.air.read then Ok (outcome_of d) else Err NoBody
+planned answers d = if all_answered answers d.links.read then Ok (outcome_of d) else Err NoBody
 
 -- what the event leads to, with a store that answers these reads
 abbrev pub plan_of : (ℕ → Bool) → CentreEvent → Core → Result Outcome PlanError

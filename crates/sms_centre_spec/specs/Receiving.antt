@@ -21,9 +21,9 @@ use Rattle.sms_centre_rows.specs.declared.messages.part.PartRow.{PartRow}
 use Rattle.sms_centre_rows.specs.messages.Messages.{is_pending, part_at}
 use Rattle.sms_centre_rows.specs.declared.reports.report.ReportRow.{ReportRow}
 use Rattle.sms_centre_rows.specs.reports.Reports.{report_of}
-use Rattle.sms_centre_rows.specs.declared.waiting.line.Line.{Line}
-use Rattle.sms_centre_rows.specs.declared.waiting.load.Load.{Load}
-use Rattle.sms_centre_rows.specs.waiting.Lines.{Air, emptied, line_of, put_line, turn_line}
+use Rattle.sms_centre_rows.specs.declared.waiting.handset_link.HandsetLink.{HandsetLink}
+use Rattle.sms_centre_rows.specs.declared.waiting.queued_part.QueuedPart.{QueuedPart}
+use Rattle.sms_centre_rows.specs.waiting.Links.{Links, emptied, line_of, put_line, turn_line}
 use Rattle.sms_centre_rows.specs.waiting.Trying.{due_at}
 use Rattle.sms_intake.specs.declared.refusal.SubmitRefusal.{SubmitRefusal}
 use Rattle.sms_intake.specs.declared.refusal.SubmitRefusal.TheVariants.{Duplicate, ReferenceTaken, Congested}
@@ -32,7 +32,7 @@ use Rattle.sms_intake.specs.HandsetIntake.{from_read}
 use Rattle.sms_intake.specs.Refusals.{cause_of}
 use Rattle.sms_intake.specs.SubmitReports.{accepting_report, refusing_report}
 use Rattle.sms_centre_spec.specs.Submitting.{accept, is_reference_taken}
-use Rattle.sms_centre_spec.specs.Draft.{Draft, Store, messages_in, on_air, parts_in, reports_in, waiting_in, with_part_at, with_report_at}
+use Rattle.sms_centre_spec.specs.Draft.{Draft, Store, messages_in, on_links, parts_in, reports_in, waiting_in, with_part_at, with_report_at}
 
 -- ---- due now: all that waits for the handset
 
@@ -45,10 +45,10 @@ report_due None s = s
 report_due (Some r) s = with_report_at r (due_at s.moment r.progress) s
 
 -- number 0 is a status report
-abbrev pub load_due : Load → Store → Store
+abbrev pub load_due : QueuedPart → Store → Store
 load_due l s = if l.number == 0 then report_due (report_of l.id (reports_in s)) s else part_due (part_at l.id l.number (parts_in s)) s
 
-abbrev pub all_due : List Load → Store → Store
+abbrev pub all_due : List QueuedPart → Store → Store
 all_due [] s = s
 all_due (l ∷ ls) s = all_due ls (load_due l s)
 
@@ -78,12 +78,12 @@ is_duplicate submission s = submission.rejects_duplicates && is_pending_double s
 -- ---- answers
 
 -- in the transaction that the handset began
-abbrev pub reply_on : Line → ℕ → Kind → ℕ → Holder → List ℕ → Air → Air
-reply_on line moment kind reference tag unit air = turn_line line (replied moment kind reference tag unit line.link) air
+abbrev pub reply_on : HandsetLink → ℕ → Kind → ℕ → Holder → List ℕ → Links → Links
+reply_on line moment kind reference tag unit links = turn_line line (replied moment kind reference tag unit line.link) links
 
 abbrev pub reply : List ℕ → Kind → ℕ → Holder → List ℕ → Draft → Draft
 reply handset kind reference tag unit d =
-    on_air (reply_on (line_of handset d.air.lines) d.store.moment kind reference tag unit d.air) d
+    on_links (reply_on (line_of handset d.links.lines) d.store.moment kind reference tag unit d.links) d
 
 -- RP-ERROR with a SUBMIT-REPORT
 abbrev pub refuse : List ℕ → ℕ → Holder → SubmitRefusal → Draft → Draft
@@ -98,27 +98,27 @@ abbrev pub submit_accepted : List ℕ → ℕ → Holder → Option Store → Dr
 submit_accepted handset reference tag None d = refuse handset reference tag Congested d
 submit_accepted handset reference tag (Some s) d = confirm handset reference tag (record d { store = s })
 
-abbrev pub submit_came : List ℕ → ℕ → Holder → Result Submission SubmitRefusal → Draft → Draft
-submit_came handset reference tag (Err refusal) d = refuse handset reference tag refusal d
-submit_came handset reference tag (Ok s) d =
+abbrev pub submit_received : List ℕ → ℕ → Holder → Result Submission SubmitRefusal → Draft → Draft
+submit_received handset reference tag (Err refusal) d = refuse handset reference tag refusal d
+submit_received handset reference tag (Ok s) d =
     if is_duplicate s d.store then refuse handset reference tag Duplicate d
     else (if is_reference_taken s d.store then refuse handset reference tag ReferenceTaken d
     else submit_accepted handset reference tag (accept s d.store) d)
 
-abbrev pub data_came : List ℕ → ℕ → Holder → List ℕ → Draft → Draft
-data_came handset reference tag tpdu d =
-    submit_came handset reference tag (from_read handset d.store.moment (tpdu_up_at InData tpdu)) d
+abbrev pub data_received : List ℕ → ℕ → Holder → List ℕ → Draft → Draft
+data_received handset reference tag tpdu d =
+    submit_received handset reference tag (from_read handset d.store.moment (tpdu_up_at InData tpdu)) d
 
 -- ---- RP-SMMA (3GPP TS 24.011 7.3.2): the handset has memory, and all that waits for it is due now
 
-abbrev pub empty_line : List ℕ → Air → Air
-empty_line handset air = put_line (emptied (line_of handset air.lines)) air
+abbrev pub empty_line : List ℕ → Links → Links
+empty_line handset links = put_line (emptied (line_of handset links.lines)) links
 
 abbrev pub has_memory : List ℕ → Draft → Draft
-has_memory handset d = record d { store = due_now handset d.store; air = empty_line handset d.air }
+has_memory handset d = record d { store = due_now handset d.store; links = empty_line handset d.links }
 
-abbrev pub memory_came : List ℕ → ℕ → Holder → Draft → Draft
-memory_came handset reference tag d = has_memory handset (reply handset Ack reference tag (ack_down reference None) d)
+abbrev pub memory_available : List ℕ → ℕ → Holder → Draft → Draft
+memory_available handset reference tag d = has_memory handset (reply handset Ack reference tag (ack_down reference None) d)
 
 -- ---- a unit that can't be read: the cause tells a type that doesn't exist from the rest
 
@@ -138,9 +138,9 @@ abbrev pub reject : List ℕ → ℕ → Holder → RpCause → Draft → Draft
 reject handset reference tag cause d = reply handset Error reference tag (error_down reference cause None) d
 
 -- other units are dropped
-abbrev pub unit_came : List ℕ → Holder → List ℕ → Result Rp RelayFault → Draft → Draft
-unit_came handset tag unit (Ok (DataUnit reference centre tpdu)) d = data_came handset reference tag tpdu d
-unit_came handset tag unit (Ok (AckUnit reference tpdu)) d = d
-unit_came handset tag unit (Ok (ErrorUnit reference cause tpdu)) d = d
-unit_came handset tag unit (Ok (Smma reference)) d = memory_came handset reference tag d
-unit_came handset tag unit (Err fault) d = reject handset (reference_octet unit) tag (fault_cause fault) d
+abbrev pub unit_received : List ℕ → Holder → List ℕ → Result Rp RelayFault → Draft → Draft
+unit_received handset tag unit (Ok (DataUnit reference centre tpdu)) d = data_received handset reference tag tpdu d
+unit_received handset tag unit (Ok (AckUnit reference tpdu)) d = d
+unit_received handset tag unit (Ok (ErrorUnit reference cause tpdu)) d = d
+unit_received handset tag unit (Ok (Smma reference)) d = memory_available handset reference tag d
+unit_received handset tag unit (Err fault) d = reject handset (reference_octet unit) tag (fault_cause fault) d

@@ -12,7 +12,7 @@ use Rattle.sms_centre_rows.specs.messages.Messages.{is_pending, message_at, next
 use Rattle.sms_centre_rows.specs.messages.SplitReferences.{is_same_address}
 use Rattle.sms_centre_rows.specs.reports.Receipts.{is_account}
 use Rattle.sms_centre_spec.specs.declared.answer.CentreAnswer.TheVariants.{Submitted, Queried, Cancelled, Refused}
-use Rattle.sms_intake.specs.declared.submission.Account.{Account}
+use Rattle.sms_intake.specs.declared.submission.CentreAccount.{CentreAccount}
 use Rattle.sms_intake.specs.declared.submission.Submission.{Submission}
 use Rattle.sms_centre_spec.specs.Numbers.{id_in}
 use Rattle.sms_intake.specs.SmppIntake.{from_pdu, source_in, is_empty}
@@ -24,7 +24,7 @@ abbrev pub refused : CommandStatus → Draft → Draft
 refused status d = answer_with (Refused status) d
 
 -- the account at a place
-abbrev pub account_at : ℕ → List Account → Option Account
+abbrev pub account_at : ℕ → List CentreAccount → Option CentreAccount
 account_at place [] = None
 account_at zero (a ∷ others) = Some a
 account_at (suc place) (a ∷ others) = account_at place others
@@ -35,15 +35,15 @@ abbrev pub accepted : ℕ → Option Store → Draft → Draft
 accepted id None d = refused ESME_RMSGQFUL d
 accepted id (Some s) d = answer_with (Submitted id) (in_store s d)
 
-abbrev pub submission_came : Result Submission CommandStatus → Draft → Draft
-submission_came (Err status) d = refused status d
-submission_came (Ok s) d =
+abbrev pub submission_received : Result Submission CommandStatus → Draft → Draft
+submission_received (Err status) d = refused status d
+submission_received (Ok s) d =
     if is_reference_taken s d.store then refused ESME_RSUBMITFAIL d
     else accepted (next_id (messages_in d.store)) (accept s d.store) d
 
-abbrev pub submit_by : Option Account → Message → Draft → Draft
+abbrev pub submit_by : Option CentreAccount → Message → Draft → Draft
 submit_by None m d = refused ESME_RSYSERR d
-submit_by (Some account) m d = submission_came (from_pdu account d.store.moment m) d
+submit_by (Some account) m d = submission_received (from_pdu account d.store.moment m) d
 
 abbrev pub submit : ℕ → Message → Draft → Draft
 submit place m d = submit_by (account_at place d.store.setup.accounts) m d
@@ -54,7 +54,7 @@ abbrev pub is_from : Option Address → MessageRow → Bool
 is_from None m = false
 is_from (Some source) m = is_same_address source m.source
 
-abbrev pub own_message : Account → Option Address → Option MessageRow → Option MessageRow
+abbrev pub own_message : CentreAccount → Option Address → Option MessageRow → Option MessageRow
 own_message account source None = None
 own_message account source (Some m) = if is_account account.name m.originator && is_from source m then Some m else None
 
@@ -68,7 +68,7 @@ abbrev pub queried : Option MessageRow → Draft → Draft
 queried None d = refused ESME_RINVMSGID d
 queried (Some m) d = answer_with (Queried m.id m.state m.done) d
 
-abbrev pub query_by : Option Account → QuerySm → Draft → Draft
+abbrev pub query_by : Option CentreAccount → QuerySm → Draft → Draft
 query_by None q d = refused ESME_RSYSERR d
 query_by (Some account) q d =
     queried (own_message account (source_in account.address q.source) (message_numbered (id_in q.message_id) (messages_in d.store))) d
@@ -83,7 +83,7 @@ cancelled None d = refused ESME_RINVMSGID d
 cancelled (Some m) d =
     if is_pending m then answer_with Cancelled (in_store (end Deleted m d.store) d) else refused ESME_RCANCELFAIL d
 
-abbrev pub cancel_by : Option Account → CancelSm → Draft → Draft
+abbrev pub cancel_by : Option CentreAccount → CancelSm → Draft → Draft
 cancel_by None c d = refused ESME_RSYSERR d
 cancel_by (Some account) c d =
     if is_empty c.message_id then refused ESME_RCANCELFAIL d

@@ -12,20 +12,20 @@ use Rattle.sms_centre_rows.specs.messages.SplitReferences.{is_delivered}
 use Rattle.sms_centre_rows.specs.declared.reports.report.ReportRow.{ReportRow}
 use Rattle.sms_centre_rows.specs.reports.SoundReports.{SoundReports}
 use Rattle.sms_centre_rows.specs.reports.Waiting.{waiting_for}
-use Rattle.sms_centre_rows.specs.declared.waiting.load.Load.{Load}
+use Rattle.sms_centre_rows.specs.declared.waiting.queued_part.QueuedPart.{QueuedPart}
 use Rattle.sms_centre_rows.specs.declared.waiting.reference.ReferenceRow.{ReferenceRow}
 use Rattle.sms_centre_rows.specs.waiting.References.{handset_at}
-use Rattle.sms_centre_rows.specs.waiting.SoundGivings.{IsNumber, SoundGivings}
+use Rattle.sms_centre_rows.specs.waiting.SoundAllocations.{IsNumber, SoundAllocations}
 use Rattle.sms_centre_rows.specs.waiting.SoundWaiting.{SoundWaiting}
 use Rattle.sms_centre_spec.specs.declared.rows.Rows.{Rows}
-use Rattle.sms_intake.specs.declared.submission.Account.{Account}
+use Rattle.sms_intake.specs.declared.submission.CentreAccount.{CentreAccount}
 use Rattle.sms_centre_spec.specs.declared.setup.Setup.{Setup}
 
 -- what a centre is told when it starts
 pub record IsSetup (setup : Setup) : Type 0 where
   pub centre : IsAddress setup.centre
   pub start : IsMoment setup.start
-  pub accounts : (a : Account) → Among a setup.accounts → IsAddress a.address
+  pub accounts : (a : CentreAccount) → Among a setup.accounts → IsAddress a.address
 
 -- the moments of rows are of the years that time stamps write
 pub record AreTimes (messages : List MessageRow) (references : List ReferenceRow) (reports : List ReportRow) : Type 0 where
@@ -46,7 +46,7 @@ AreSplitApart messages =
     → m.split_reference ≡ Some reference → n.split_reference ≡ Some reference → is_delivered m.state ≡ false → is_delivered n.state ≡ false → m.id ≡ n.id
 
 -- all that waits for a handset
-abbrev pub all_for : List ℕ → Rows → List Load
+abbrev pub all_for : List ℕ → Rows → List QueuedPart
 all_for number rows = waiting_for number rows.messages rows.priorities rows.parts rows.reports
 
 pub record IsSound (rows : Rows) : Type 0 where
@@ -54,7 +54,7 @@ pub record IsSound (rows : Rows) : Type 0 where
   pub times : AreTimes rows.messages rows.references rows.reports
   pub messages : SoundMessages rows.messages rows.parts rows.priorities
   pub told : (m : MessageRow) → Among m rows.messages → CanBeTold m.originator m.source
-  pub givings : SoundGivings rows.handsets rows.references
+  pub allocations : SoundAllocations rows.handsets rows.references
   pub reports : SoundReports rows.messages rows.reports
   pub waiting : (number : List ℕ) → SoundWaiting (handset_at number rows.handsets) rows.references (all_for number rows)
   pub splits : AreSplitApart rows.messages

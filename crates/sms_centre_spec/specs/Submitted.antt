@@ -11,17 +11,17 @@ use Rattle.sms_relay.specs.RelayReading.{up_at}
 use Rattle.sms_tpdu.specs.declared.carrier.Carrier.TheVariants.{InData}
 use Rattle.sms_tpdu.specs.TpduReading.{up_at as tpdu_up_at}
 use Rattle.smpp_pdu.specs.declared.message.Message.{Message}
-use Rattle.sms_centre_rows.specs.declared.waiting.line.Line.{Line}
-use Rattle.sms_centre_rows.specs.waiting.Lines.{line_of}
+use Rattle.sms_centre_rows.specs.declared.waiting.handset_link.HandsetLink.{HandsetLink}
+use Rattle.sms_centre_rows.specs.waiting.Links.{line_of}
 use Rattle.sms_intake.specs.HandsetIntake.{from_read}
 use Rattle.sms_centre_spec.specs.declared.event.CentreEvent.{CentreEvent}
 use Rattle.sms_centre_spec.specs.declared.event.CentreEvent.TheVariants.{Submit, Query, Cancel, Bound, Unbound, DeliverAnswered, Frame, LinkUp, LinkDown, Tick}
-use Rattle.sms_intake.specs.declared.submission.Account.{Account}
+use Rattle.sms_intake.specs.declared.submission.CentreAccount.{CentreAccount}
 use Rattle.sms_intake.specs.declared.submission.Submission.{Submission}
 use Rattle.sms_centre_spec.specs.Draft.{Core}
 use Rattle.sms_centre_spec.specs.Requests.{account_at}
 use Rattle.sms_intake.specs.SmppIntake.{from_pdu}
-use Rattle.sms_centre_spec.specs.Standing.{IsSubmission}
+use Rattle.sms_centre_spec.specs.Consistent.{IsSubmission}
 
 -- what a unit submits
 abbrev pub UnitGives : List ℕ → ℕ → Result Rp RelayFault → Type 0
@@ -38,7 +38,7 @@ UpGives handset moment (Some (Opened unit)) = UnitGives handset moment (up_at un
 UpGives handset moment (Some (Ended transfer ending)) = Unit {0}
 
 -- the same of what an account submits
-abbrev pub AccountGives : Option Account → ℕ → Message → Type 0
+abbrev pub AccountGives : Option CentreAccount → ℕ → Message → Type 0
 AccountGives None moment m = Unit {0}
 AccountGives (Some account) moment m = (u : Submission) → from_pdu account moment m ≡ Ok u → IsSubmission u
 
@@ -50,7 +50,7 @@ Gives (Cancel account q) c = Unit {0}
 Gives (Bound session account receives) c = Unit {0}
 Gives (Unbound session) c = Unit {0}
 Gives (DeliverAnswered session id b) c = Unit {0}
-Gives (Frame handset octets tag) c = let l : Line = line_of handset c.lines in UpGives l.handset c.moment (taken octets l.link).out.up
+Gives (Frame handset octets tag) c = let l : HandsetLink = line_of handset c.lines in UpGives l.handset c.moment (taken octets l.link).out.up
 Gives (LinkUp handset) c = Unit {0}
 Gives (LinkDown handset) c = Unit {0}
 Gives (Tick now) c = IsMoment now

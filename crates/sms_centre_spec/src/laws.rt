@@ -13,8 +13,8 @@ ghost use Rattle.sms_centre_rows.specs.declared.reports.delivery.Delivery.{Deliv
 ghost use Rattle.sms_centre_rows.specs.declared.reports.report.ReportRow.{ReportRow};
 ghost use Rattle.sms_rows.specs.table.Table.{Rises, row_at};
 ghost use Rattle.sms_centre_rows.specs.waiting.References.{handset_of};
-ghost use Rattle.sms_centre_rows.specs.waiting.SoundGivings.{IsNumber};
-ghost use Rattle.sms_centre_rows.specs.declared.waiting.line.Sent.{Sent};
+ghost use Rattle.sms_centre_rows.specs.waiting.SoundAllocations.{IsNumber};
+ghost use Rattle.sms_centre_rows.specs.declared.waiting.handset_link.Sent.{Sent};
 ghost use Rattle.sms_centre_rows.specs.declared.waiting.progress.Progress.{Progress};
 ghost use Rattle.smpp_pdu.specs.declared.message.Message.{Message};
 ghost use Rattle.sms_centre_spec.specs.declared.answer.CentreAnswer.TheVariants.{Submitted};
@@ -61,13 +61,13 @@ pub fn an_event_keeps_its_promises()
     ensures kept { (event : CentreEvent) (c : Core) → IsSoundCore c → IsEvent event → Keeps c.rows (core_of (happened event c)).rows }
     ensures apart { (event : CentreEvent) (c : Core) → IsSoundCore c → IsEvent event → SoundHeld (happened event c).store }
     ensures receipts { (event : CentreEvent) (c : Core) → IsSoundCore c → IsEvent event
-        → (delivery : Delivery) → Among delivery (happened event c).desk.deliveries → IsReceiptRow (core_of (happened event c)).rows delivery.id }
+        → (delivery : Delivery) → Among delivery (happened event c).bindings.deliveries → IsReceiptRow (core_of (happened event c)).rows delivery.id }
     ensures frames { (event : CentreEvent) (c : Core) → IsSoundCore c → IsEvent event
-        → (sent : Sent) → Among sent (happened event c).air.frames → Brings sent.handset sent.frame.carried (core_of (happened event c)).rows }
+        → (sent : Sent) → Among sent (happened event c).links.frames → Brings sent.handset sent.frame.carried (core_of (happened event c)).rows }
 {}
 
 /// The number that a submission is answered with is that of a message in the rows.
-pub fn an_answered_submission_stands()
+pub fn an_answered_submission_is_stored()
     ensures { (account : ℕ) (message : Message) (c : Core) (id : ℕ) → (happened (Submit account message) c).answer ≡ Some (Submitted id)
         → (row : MessageRow) × (message_at id (core_of (happened (Submit account message) c)).rows.messages ≡ Some row) }
 {}

@@ -1,6 +1,6 @@
 //! What a centre is given when it starts.
 use sms_base::{Address, Listed, Moment};
-use sms_intake::Account;
+use sms_intake::CentreAccount;
 
 /// What a centre is given when it starts, and does not store.
 #[derive(Debug, Drop)]
@@ -9,5 +9,5 @@ pub struct Setup {
     pub centre: Address,
     /// Its first moment.
     pub start: Moment,
-    pub accounts: Listed<Account>,
+    pub accounts: Listed<CentreAccount>,
 }

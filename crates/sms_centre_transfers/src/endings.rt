@@ -7,13 +7,13 @@ ghost use Rattle.sms_centre_rows.specs.waiting.Trying.{finished as finished_of};
 ghost use Rattle.sms_base.specs.declared.holder.Holder.TheVariants.{Part, Report};
 ghost use Rattle.sms_rows.specs.table.Keys.{AllDigits};
 ghost use Rattle.sms_centre_rows.specs.declared.reports.report.ReportRow.{ReportRow as ReportRowOf};
-ghost use Rattle.sms_centre_spec.specs.Draft.{Draft, in_store, messages_in, on_air, parts_in, with_part_at};
+ghost use Rattle.sms_centre_spec.specs.Draft.{Draft, in_store, messages_in, on_links, parts_in, with_part_at};
 ghost use Rattle.sms_centre_spec.specs.Transfers.{cause_verdict as cause_verdict_of, complete as complete_of, conclude as conclude_of, ended_with as ended_with_of, is_temporary as is_temporary_of, line_ended as line_ended_of, part_ended as part_ended_of, verdict_of as verdict_of_ending, verdict_on as verdict_on_ending};
 ghost use Rattle.sms_centre_draft.specs.Transfers.{IsTelling, IsWaiting};
-ghost use Rattle.sms_centre_draft.specs.Working.{Shows};
+ghost use Rattle.sms_centre_draft.specs.CentreDraft.{Represents};
 
 use sms_base::{Carried, Digits, FinalState, Holder, MessageId};
-use sms_centre_draft::{Working, finished, tried};
+use sms_centre_draft::{CentreDraft, finished, tried};
 use sms_centre_reports::open_reports::ReportEntry;
 use sms_centre_rows::messages::{MessageRow, PartEntry};
 use sms_centre_spec::Verdict;
@@ -51,67 +51,67 @@ fn verdict_of(ending: &Ending) -> Verdict
 }
 
 // A message whose parts are all done is delivered.
-fn complete(working: &mut Working<'_>, message: &MessageRow) -> Result<(), AllocError>
-    ensures { (d : Draft) → Shows d working.old → message_at message.now.id (messages_in d.store) ≡ Some message.now → is_pending message.now ≡ true
-        → OnOk result (Shows (in_store (complete_of message.now d.store) d) working.new) }
+fn complete(draft: &mut CentreDraft<'_>, message: &MessageRow) -> Result<(), AllocError>
+    ensures { (d : Draft) → Represents d draft.old → message_at message.now.id (messages_in d.store) ≡ Some message.now → is_pending message.now ≡ true
+        → OnOk result (Represents (in_store (complete_of message.now d.store) d) draft.new) }
 {
-    if working.all_done(message.id) {
-        return working.end(FinalState::Delivered, message);
+    if draft.all_done(message.id) {
+        return draft.end(FinalState::Delivered, message);
     }
     Ok(())
 }
 
 // The part was acknowledged.
 fn part_settled(
-    working: &mut Working<'_>,
+    draft: &mut CentreDraft<'_>,
     entry: &PartEntry,
     message: &MessageRow,
 ) -> Result<(), AllocError>
-    ensures { (d : Draft) (p : PartRowOf) → Shows d working.old → part_at p.id p.number (parts_in d.store) ≡ Some p → part_entry p ≡ entry.now
+    ensures { (d : Draft) (p : PartRowOf) → Represents d draft.old → part_at p.id p.number (parts_in d.store) ≡ Some p → part_entry p ≡ entry.now
         → message_at p.id (messages_in d.store) ≡ Some message.now → is_pending message.now ≡ true
-        → OnOk result (Shows (in_store (complete_of message.now (with_part_at p (finished_of p.progress) d.store)) d) working.new) }
+        → OnOk result (Represents (in_store (complete_of message.now (with_part_at p (finished_of p.progress) d.store)) d) draft.new) }
 {
-    working.part_done(entry, message, &finished(&entry.progress))?;
-    complete(working, message)
+    draft.part_done(entry, message, &finished(&entry.progress))?;
+    complete(draft, message)
 }
 
 // A transfer of a part that waits has ended.
 fn part_ended(
-    working: &mut Working<'_>,
+    draft: &mut CentreDraft<'_>,
     verdict: Verdict,
     entry: &PartEntry,
     message: &MessageRow,
 ) -> Result<(), AllocError>
-    ensures { (d : Draft) (p : PartRowOf) → Shows d working.old → part_at p.id p.number (parts_in d.store) ≡ Some p → part_entry p ≡ entry.now
+    ensures { (d : Draft) (p : PartRowOf) → Represents d draft.old → part_at p.id p.number (parts_in d.store) ≡ Some p → part_entry p ≡ entry.now
         → message_at p.id (messages_in d.store) ≡ Some message.now → is_pending message.now ≡ true → p.progress.is_done ≡ false
-        → OnOk result (Shows (in_store (part_ended_of verdict p message.now d.store) d) working.new) }
+        → OnOk result (Represents (in_store (part_ended_of verdict p message.now d.store) d) draft.new) }
 {
     match verdict {
-        Verdict::Settled => part_settled(working, entry, message),
-        Verdict::Again => working.part_off(entry, message, &tried(working.moment, &entry.progress)),
-        Verdict::Refused => working.end(FinalState::Undeliverable, message),
+        Verdict::Settled => part_settled(draft, entry, message),
+        Verdict::Again => draft.part_off(entry, message, &tried(draft.moment, &entry.progress)),
+        Verdict::Refused => draft.end(FinalState::Undeliverable, message),
         Verdict::HandsetFull | Verdict::Late => Ok(()),
     }
 }
 
 // Nothing more is offered to a handset without memory.
 fn line_ended(
-    working: &mut Working<'_>,
+    draft: &mut CentreDraft<'_>,
     verdict: Verdict,
     handset: Digits,
 ) -> Result<(), AllocError>
     requires digits { AllDigits handset }
-    ensures { (d : Draft) → Shows d working.old → OnOk result (Shows (on_air (line_ended_of verdict handset d.air) d) working.new) }
+    ensures { (d : Draft) → Represents d draft.old → OnOk result (Represents (on_links (line_ended_of verdict handset d.links) d) draft.new) }
 {
     match verdict {
-        Verdict::HandsetFull => working.fill(handset),
+        Verdict::HandsetFull => draft.fill(handset),
         Verdict::Settled | Verdict::Again | Verdict::Refused | Verdict::Late => Ok(()),
     }
 }
 
 // The transfer of a part that waits has ended so.
 fn part_ended_at(
-    working: &mut Working<'_>,
+    draft: &mut CentreDraft<'_>,
     handset: Digits,
     id: MessageId,
     number: u8,
@@ -120,17 +120,17 @@ fn part_ended_at(
     message: &MessageRow,
 ) -> Result<(), AllocError>
     requires digits { AllDigits handset }
-    ensures { (d : Draft) (p : PartRowOf) → Shows d working.old → IsWaiting id number entry.now message.now d.store p
-        → OnOk result (Shows (ended_with_of (verdict_on_ending (Part id number) ending.now d.store) handset (Part id number) d) working.new) }
+    ensures { (d : Draft) (p : PartRowOf) → Represents d draft.old → IsWaiting id number entry.now message.now d.store p
+        → OnOk result (Represents (ended_with_of (verdict_on_ending (Part id number) ending.now d.store) handset (Part id number) d) draft.new) }
 {
     let verdict = verdict_of(ending);
-    part_ended(working, verdict, entry, message)?;
-    line_ended(working, verdict, handset)
+    part_ended(draft, verdict, entry, message)?;
+    line_ended(draft, verdict, handset)
 }
 
 // The transfer of an open status report has ended so.
 fn status_ended_at(
-    working: &mut Working<'_>,
+    draft: &mut CentreDraft<'_>,
     handset: Digits,
     id: MessageId,
     ending: &Ending,
@@ -138,29 +138,29 @@ fn status_ended_at(
     message: &MessageRow,
 ) -> Result<(), AllocError>
     requires digits { AllDigits handset }
-    ensures { (d : Draft) (r : ReportRowOf) → Shows d working.old → IsTelling id entry.now message.now d.store r
-        → OnOk result (Shows (ended_with_of (verdict_on_ending (Report id) ending.now d.store) handset (Report id) d) working.new) }
+    ensures { (d : Draft) (r : ReportRowOf) → Represents d draft.old → IsTelling id entry.now message.now d.store r
+        → OnOk result (Represents (ended_with_of (verdict_on_ending (Report id) ending.now d.store) handset (Report id) d) draft.new) }
 {
     let verdict = verdict_of(ending);
-    working.status_ended(verdict, entry, message)?;
-    line_ended(working, verdict, handset)
+    draft.status_ended(verdict, entry, message)?;
+    line_ended(draft, verdict, handset)
 }
 
 // The transfer of a part has ended.
 fn part_concluded(
-    working: &mut Working<'_>,
+    draft: &mut CentreDraft<'_>,
     handset: Digits,
     id: MessageId,
     number: u8,
     ending: &Ending,
 ) -> Result<(), AllocError>
     requires digits { AllDigits handset }
-    ensures { (d : Draft) → Shows d working.old
-        → OnOk result (Shows (ended_with_of (verdict_on_ending (Part id number) ending.now d.store) handset (Part id number) d) working.new) }
+    ensures { (d : Draft) → Represents d draft.old
+        → OnOk result (Represents (ended_with_of (verdict_on_ending (Part id number) ending.now d.store) handset (Part id number) d) draft.new) }
 {
-    match working.open_part(id, number)? {
+    match draft.open_part(id, number)? {
         Some((entry, message)) => part_ended_at(
-            working, handset, id, number, ending, &entry, &message,
+            draft, handset, id, number, ending, &entry, &message,
         ),
         None => Ok(()),
     }
@@ -168,34 +168,34 @@ fn part_concluded(
 
 // The transfer of a status report has ended.
 fn status_concluded(
-    working: &mut Working<'_>,
+    draft: &mut CentreDraft<'_>,
     handset: Digits,
     id: MessageId,
     ending: &Ending,
 ) -> Result<(), AllocError>
     requires digits { AllDigits handset }
-    ensures { (d : Draft) → Shows d working.old
-        → OnOk result (Shows (ended_with_of (verdict_on_ending (Report id) ending.now d.store) handset (Report id) d) working.new) }
+    ensures { (d : Draft) → Represents d draft.old
+        → OnOk result (Represents (ended_with_of (verdict_on_ending (Report id) ending.now d.store) handset (Report id) d) draft.new) }
 {
-    match working.open_status(id)? {
-        Some((entry, message)) => status_ended_at(working, handset, id, ending, &entry, &message),
+    match draft.open_status(id)? {
+        Some((entry, message)) => status_ended_at(draft, handset, id, ending, &entry, &message),
         None => Ok(()),
     }
 }
 
 /// The transfer to the handset has ended so; it concerns what it was for.
 pub fn conclude(
-    working: &mut Working<'_>,
+    draft: &mut CentreDraft<'_>,
     handset: Digits,
     transfer: &Carried,
     ending: &Ending,
 ) -> Result<(), AllocError>
     requires digits { AllDigits handset }
-    ensures { (d : Draft) → Shows d working.old → OnOk result (Shows (conclude_of handset transfer.now ending.now d) working.new) }
+    ensures { (d : Draft) → Represents d draft.old → OnOk result (Represents (conclude_of handset transfer.now ending.now d) draft.new) }
 {
     match transfer.tag {
-        Holder::Part(id, number) => part_concluded(working, handset, id, number, ending),
-        Holder::Report(id) => status_concluded(working, handset, id, ending),
+        Holder::Part(id, number) => part_concluded(draft, handset, id, number, ending),
+        Holder::Report(id) => status_concluded(draft, handset, id, ending),
         Holder::Entry(_) | Holder::Memory(_) => Ok(()),
     }
 }

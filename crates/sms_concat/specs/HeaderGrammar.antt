@@ -73,6 +73,6 @@ pub record AreElements (octets : List ℕ) : Type 0 where
   pub filled : spelled (elements_of octets) ≡ octets
 
 -- a test found elements that fill the octets, or the fault of which there are none
-abbrev pub Tells : Result (Unit {0}) HeaderError → Result (List Element) HeaderError → Type 0
-Tells (Ok done) read = (elements : List Element) × (read ≡ Ok elements)
-Tells (Err e) read = read ≡ Err e
+abbrev pub Tests : Result (Unit {0}) HeaderError → Result (List Element) HeaderError → Type 0
+Tests (Ok done) read = (elements : List Element) × (read ≡ Ok elements)
+Tests (Err e) read = read ≡ Err e

@@ -80,13 +80,13 @@ AreUnits Ucs2 units = Unit {0}
 AreUnits Compressed units = Unit {0}
 
 -- a content that has room behind a header of so many octets
-pub record Fits (header : ℕ) (content : Content) : Type 0 where
+pub record FitsBehind (header : ℕ) (content : Content) : Type 0 where
   pub room : data_length content.coding header (length content.units) ≤ capacity content.coding
   pub units : AreUnits content.coding content.units
 
 -- a part whose units have room behind its header
 abbrev pub HasRoom : Part → Type 0
-HasRoom part = Fits (length (header_of part.key)) part.content
+HasRoom part = FitsBehind (length (header_of part.key)) part.content
 
 -- a key whose parts are counted from 1 to the total
 abbrev pub IsKey : Option ConcatKey → Type 0

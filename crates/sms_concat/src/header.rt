@@ -2,7 +2,7 @@
 ghost use Rattle.std.specs.Prelude.{◌≡◌, ◌<◌, List, ℕ, Ok, IfOk, length};
 ghost use Rattle.sms_base.specs.Reading.{Takes};
 ghost use Rattle.sms_concat.specs.Concatenation.{key_of, element_key, counted, eight_bit_key, sixteen_bit_key};
-ghost use Rattle.sms_concat.specs.HeaderGrammar.{BeginsWith, HeaderIs, Tells, header_at, elements_in, element_in, written};
+ghost use Rattle.sms_concat.specs.HeaderGrammar.{BeginsWith, HeaderIs, Tests, header_at, elements_in, element_in, written};
 ghost use Rattle.sms_concat.specs.declared.element.Element.{Element as ElementOf};
 
 use crate::concat_key::{ConcatKey, ConcatReference};
@@ -48,7 +48,7 @@ fn element_in<'a>(cursor: &mut Cursor<'a>) -> Result<Element<'a>, HeaderError>
 
 // Whether elements fill the octets.
 fn test_elements(octets: &[u8]) -> Result<(), HeaderError>
-    ensures { Tells result (elements_in octets.now) }
+    ensures { Tests result (elements_in octets.now) }
 {
     let mut cursor = Cursor::of(octets);
     while !cursor.is_empty() {

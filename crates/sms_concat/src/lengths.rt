@@ -1,7 +1,7 @@
 //! How much a short message has room for.
 ghost use Rattle.std.specs.Prelude.{◌≡◌, ◌↔◌, true, ◌≤◌, ◌<◌, length, nat_le};
 ghost use Rattle.sms_alphabet.specs.Packing.{AreSeptets};
-ghost use Rattle.sms_concat.specs.UserData.{capacity, data_length, header_of, AreUnits, Fits, HasRoom};
+ghost use Rattle.sms_concat.specs.UserData.{capacity, data_length, header_of, AreUnits, FitsBehind, HasRoom};
 
 use crate::concat_key::{ConcatKey, ConcatReference};
 use crate::content::{Content, Part};
@@ -54,7 +54,7 @@ pub fn units_fit_behind(coding: Coding, header: usize, units: usize) -> bool
 /// each below 128, or 140 octets, the header included.
 pub fn fits_behind(header: usize, content: &Content) -> bool
     requires { header ≤ 256 }
-    ensures { (result ≡ true) ↔ Fits header content.now }
+    ensures { (result ≡ true) ↔ FitsBehind header content.now }
 {
     units_fit_behind(content.coding, header, content.units.len())
         && are_units(content.coding, content.units.as_slice())

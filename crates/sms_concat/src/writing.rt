@@ -1,7 +1,7 @@
 //! The user data of a part, written.
 ghost use Rattle.std.specs.Prelude.{◌≡◌, ◌/◌, ◌≤◌, ◌++◌, length, IfOk};
 ghost use Rattle.sms_alphabet.specs.Packing.{AreSeptets, packed};
-ghost use Rattle.sms_concat.specs.UserData.{fill_bits, data_length, capacity, header_of, body_octets, user_data_behind, IsUserData, Fits, HasRoom};
+ghost use Rattle.sms_concat.specs.UserData.{fill_bits, data_length, capacity, header_of, body_octets, user_data_behind, IsUserData, FitsBehind, HasRoom};
 
 use crate::concat_key::ConcatReference;
 use crate::content::{Content, Part, UserData};
@@ -45,7 +45,7 @@ fn data_length(coding: Coding, header: usize, units: usize) -> u8
 
 // The octets of the header and the units.
 fn body_of(alloc: Global, header: &[u8], content: &Content) -> Result<Octets, AllocError>
-    requires { Fits (length header.now) content.now }
+    requires { FitsBehind (length header.now) content.now }
     ensures { IfOk result (λ octets. octets ≡ body_octets header.now content.now.coding content.now.units) }
 {
     match content.coding {
@@ -60,7 +60,7 @@ pub fn user_data_behind(
     header: &[u8],
     content: &Content,
 ) -> Result<UserData, AllocError>
-    requires { Fits (length header.now) content.now }
+    requires { FitsBehind (length header.now) content.now }
     ensures carries { IfOk result (λ user. IsUserData header.now content.now user) }
     ensures exact { IfOk result (λ user. user ≡ user_data_behind header.now content.now) }
 {

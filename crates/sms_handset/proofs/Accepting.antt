@@ -61,14 +61,14 @@ use Rattle.sms_handset_rows.specs.outbox.References.{held_references, next_free,
 use Rattle.sms_handset_rows.specs.declared.outbox.notice.Notice.{Notice}
 use Rattle.sms_handset_rows.specs.outbox.Keys.{notice_key, out_key}
 use Rattle.sms_concat.specs.TextContent.{content_of_text}
-use Rattle.sms_handset.specs.Accepted.{Holds, IsPut, StoresAccepted, IsOfDiscarded}
+use Rattle.sms_handset.specs.Accepted.{Contains, IsPut, StoresAccepted, IsOfDiscarded}
 use Rattle.sms_handset_draft.specs.Draft.{Draft, put_entry, remove_entry, put_mark, remove_mark, put_out, Core, draft_of, link_of, with_turn, remove_out, put_counters}
 use Rattle.sms_handset_draft.specs.Storing.{free_all, drop_all, ended, count_entry, keep, store_part, store_single, completed, marked}
-use Rattle.sms_handset_draft.specs.Receiving.{accept, no_room, single_came, new_part_came, member_came, part_came, deliver_came, note, tpdu_came, acknowledge, data_came, unit_came}
+use Rattle.sms_handset_draft.specs.Receiving.{accept, no_room, single_received, new_part_received, member_received, part_received, deliver_received, note, tpdu_received, acknowledge, data_received, unit_received}
 use Rattle.sms_handset_draft.specs.MemoryAvailable.{has_room, first_notice, notice_failed, put_notice, remove_notice, notice_ended, notice_concluded, freed, want_notice}
 use Rattle.sms_handset_draft.specs.Outbox.{lapse_rows, lapse, offer_entry, is_notice_next, offer_message, offer_wanted, offer_after, follow, offer, entry_concluded, holder_concluded, transfer_ended}
 use Rattle.sms_handset_draft.specs.FramesAndTicks.{went_up, frame_heard, timed_out, at_moment, timers_fired}
-use Rattle.sms_handset.specs.HandsetEvent.{frame_came, ticked, acted, wrote, deleted, discarded}
+use Rattle.sms_handset.specs.HandsetEvent.{frame_received, ticked, acted, wrote, deleted, discarded}
 use Rattle.sms_handset.specs.declared.refusal.Refusal.{Refusal}
 use Rattle.sms_handset.specs.OwnersActs.{write_part, write_parts, count_split, fits_outbox, write_to, written, write_split, delete_out, delete_in, discard_group, discard_members, discard_in, discard_at, write, delete, discard}
 use Rattle.sms_handset.specs.declared.refusal.Refusal.TheVariants.{OutboxFull, StillOpen, NoEntry, TooManyDiscarded}
@@ -121,7 +121,7 @@ joined_from (Some ps) content e = (ps, (refl, e))
 -- ---- an entry that was put and stands
 
 abbrev Stored : Draft → List ℕ → DeliverOf → Type 0
-Stored d tpdu m = (e : Entry) × (IsPut d.changes d.rows e × Holds tpdu m e.message)
+Stored d tpdu m = (e : Entry) × (IsPut d.changes d.rows e × Contains tpdu m e.message)
 
 put_stands : (e : Entry) (d : Draft) → IsPut (put_entry e d).changes (put_entry e d).rows e
 put_stands e d = (among_end (Put e) d.changes.entries, put_among entry_key e e d.rows.entries (inl refl))
@@ -192,7 +192,7 @@ same_deliver tpdu m n a b =
     let y : Result Down TpduFault = Ok (Deliver n) in
     let e : x ≡ y = sym a ∙ b in cc
 
-single_law : (marks : List DiscardedGroup) (r : ℕ) (tag : Holder) (tpdu : List ℕ) (d : Draft) → d.changes.last ≡ [] → Law marks (single_came r tag tpdu d)
+single_law : (marks : List DiscardedGroup) (r : ℕ) (tag : Holder) (tpdu : List ℕ) (d : Draft) → d.changes.last ≡ [] → Law marks (single_received r tag tpdu d)
 single_law marks r tag tpdu d e =
     cond_both (has_room d) (accept r tag tpdu (store_single tpdu d)) (no_room r tag d) (λ (z : Draft). Law marks z)
     (λ t. accept_stores marks r tag tpdu (store_single tpdu d) e (λ m f. inr (single_stores tpdu m d)))
@@ -217,7 +217,7 @@ completed_last g es d e =
     ended_last g es (Some c) d e = dropped_last es d e
 
 new_part_law : (marks : List DiscardedGroup) (r : ℕ) (tag : Holder) (tpdu : List ℕ) (m : DeliverOf) (g : Group) (n : ℕ) (es : List Entry) (d : Draft) → d.changes.last ≡ []
-    → Reads tpdu m → 0 < n → n ≤ g.total → g.source ≡ m.originating_address → is_among n (part_numbers es) ≡ false → Law marks (new_part_came r tag tpdu g n es d)
+    → Reads tpdu m → 0 < n → n ≤ g.total → g.source ≡ m.originating_address → is_among n (part_numbers es) ≡ false → Law marks (new_part_received r tag tpdu g n es d)
 new_part_law marks r tag tpdu m g n es d e reads low high from new =
     cond_both (has_room d) (accept r tag tpdu (store_part g n tpdu es d)) (no_room r tag d) (λ (z : Draft). Law marks z)
     (λ t. accept_stores marks r tag tpdu (store_part g n tpdu es d) (completed_last g (es ++ part_entry d.rows.counters.entry g n tpdu ∷ []) (keep (part_entry d.rows.counters.entry g n tpdu) d) e)
@@ -225,9 +225,9 @@ new_part_law marks r tag tpdu m g n es d e reads low high from new =
     (λ t. none_accepted marks (no_room r tag d) e)
 
 member_law : (marks : List DiscardedGroup) (r : ℕ) (tag : Holder) (tpdu : List ℕ) (m : DeliverOf) (g : Group) (n : ℕ) (es : List Entry) (d : Draft) → d.changes.last ≡ []
-    → Reads tpdu m → 0 < n → n ≤ g.total → g.source ≡ m.originating_address → Law marks (member_came r tag tpdu g n es d)
+    → Reads tpdu m → 0 < n → n ≤ g.total → g.source ≡ m.originating_address → Law marks (member_received r tag tpdu g n es d)
 member_law marks r tag tpdu m g n es d e reads low high from =
-    cond_both (is_among n (part_numbers es)) (single_came r tag tpdu d) (new_part_came r tag tpdu g n es d) (λ (z : Draft). Law marks z)
+    cond_both (is_among n (part_numbers es)) (single_received r tag tpdu d) (new_part_received r tag tpdu g n es d) (λ (z : Draft). Law marks z)
     (λ t. single_law marks r tag tpdu d e) (λ t. new_part_law marks r tag tpdu m g n es d e reads low high from t)
 
 marked_last : (n : ℕ) (k : DiscardedGroup) (d : Draft) → d.changes.last ≡ [] → (marked n k d).changes.last ≡ []
@@ -235,11 +235,11 @@ marked_last n k d e = cond_both (all_numbers k.group.total (k.seen ++ n ∷ []))
 
 part_law : (marks : List DiscardedGroup) (r : ℕ) (tag : Holder) (tpdu : List ℕ) (m : DeliverOf) (key : ConcatKey) (o : Option DiscardedGroup) (d : Draft) → d.changes.last ≡ []
     → Reads tpdu m → key_of m ≡ Some key → mark_of (group_of m.originating_address key) marks ≡ o → 0 < key.number → key.number ≤ key.total
-    → Law marks (part_came r tag tpdu (group_of m.originating_address key) key.number o d)
+    → Law marks (part_received r tag tpdu (group_of m.originating_address key) key.number o d)
 part_law marks r tag tpdu m key None d e reads k marked low high =
     member_law marks r tag tpdu m (group_of m.originating_address key) key.number (members (group_of m.originating_address key) d.rows.entries) d e reads low high refl
 part_law marks r tag tpdu m key (Some mark) d e reads k found low high =
-    cond_both (is_among key.number mark.seen) (single_came r tag tpdu d) (accept r tag tpdu (marked key.number mark d)) (λ (z : Draft). Law marks z)
+    cond_both (is_among key.number mark.seen) (single_received r tag tpdu d) (accept r tag tpdu (marked key.number mark d)) (λ (z : Draft). Law marks z)
     (λ t. single_law marks r tag tpdu d e)
     (λ t. accept_stores marks r tag tpdu (marked key.number mark d) (marked_last key.number mark d e)
     (λ n f. inl (subst (λ (z : DeliverOf). IsOfDiscarded marks z) (same_deliver tpdu m n reads f) (key, mark, (k, found)))))
@@ -294,14 +294,14 @@ header_counts false octets = tt
 header_counts true octets = found_counts (header_at octets)
 
 deliver_law : (marks : List DiscardedGroup) (r : ℕ) (tag : Holder) (tpdu : List ℕ) (m : DeliverOf) (o : Option ConcatKey) (d : Draft) → d.changes.last ≡ [] → d.rows.marks ≡ marks
-    → Reads tpdu m → key_of m ≡ o → IsCounted o → Law marks (deliver_came r tag tpdu m o d)
+    → Reads tpdu m → key_of m ≡ o → IsCounted o → Law marks (deliver_received r tag tpdu m o d)
 deliver_law marks r tag tpdu m None d e same reads k c = single_law marks r tag tpdu d e
 deliver_law marks r tag tpdu m (Some key) d e same reads k c =
     let g : Group = group_of m.originating_address key in
     part_law marks r tag tpdu m key (mark_of g d.rows.marks) d e reads k (ap (λ (ms : List DiscardedGroup). mark_of g ms) (sym same)) c.0 c.1
 
 tpdu_law : (marks : List DiscardedGroup) (r : ℕ) (tag : Holder) (tpdu : List ℕ) (t : Result Down TpduFault) (d : Draft) → d.changes.last ≡ [] → d.rows.marks ≡ marks
-    → down_at InData tpdu ≡ t → Law marks (tpdu_came r tag tpdu t d)
+    → down_at InData tpdu ≡ t → Law marks (tpdu_received r tag tpdu t d)
 tpdu_law marks r tag tpdu (Ok (Deliver m)) d e same q =
     deliver_law marks r tag tpdu m (key_of m) d e same q refl (header_counts m.user_data_header_indicator m.user_data.octets)
 tpdu_law marks r tag tpdu (Ok (StatusReport s)) d e same q =
@@ -314,20 +314,20 @@ tpdu_law marks r tag tpdu (Ok (StatusReport s)) d e same q =
     noted_last : (status : ℕ) (o : Option OutEntry) (d : Draft) → d.changes.last ≡ [] → (note status o d).changes.last ≡ []
     noted_last status None d e = e
     noted_last status (Some o) d e = e
-tpdu_law marks r tag tpdu (Ok (SubmitReport s)) d e same q = none_accepted marks (tpdu_came r tag tpdu (Ok (SubmitReport s)) d) e
-tpdu_law marks r tag tpdu (Err f) d e same q = none_accepted marks (tpdu_came r tag tpdu (Err f) d) e
+tpdu_law marks r tag tpdu (Ok (SubmitReport s)) d e same q = none_accepted marks (tpdu_received r tag tpdu (Ok (SubmitReport s)) d) e
+tpdu_law marks r tag tpdu (Err f) d e same q = none_accepted marks (tpdu_received r tag tpdu (Err f) d) e
 
-data_law : (marks : List DiscardedGroup) (r : ℕ) (tag : Holder) (tpdu : List ℕ) (d : Draft) → d.changes.last ≡ [] → d.rows.marks ≡ marks → Law marks (data_came r tag tpdu d)
+data_law : (marks : List DiscardedGroup) (r : ℕ) (tag : Holder) (tpdu : List ℕ) (d : Draft) → d.changes.last ≡ [] → d.rows.marks ≡ marks → Law marks (data_received r tag tpdu d)
 data_law marks r tag tpdu d e same =
-    cond_both (is_double tpdu (row_at last_key r d.rows.last)) (acknowledge r tag d) (tpdu_came r tag tpdu (down_at InData tpdu) d) (λ (z : Draft). Law marks z)
+    cond_both (is_double tpdu (row_at last_key r d.rows.last)) (acknowledge r tag d) (tpdu_received r tag tpdu (down_at InData tpdu) d) (λ (z : Draft). Law marks z)
     (λ t. none_accepted marks (acknowledge r tag d) e) (λ t. tpdu_law marks r tag tpdu (down_at InData tpdu) d e same refl)
 
-unit_law : (marks : List DiscardedGroup) (tag : Holder) (unit : List ℕ) (u : Result Rp RelayFault) (d : Draft) → d.changes.last ≡ [] → d.rows.marks ≡ marks → Law marks (unit_came tag unit u d)
+unit_law : (marks : List DiscardedGroup) (tag : Holder) (unit : List ℕ) (u : Result Rp RelayFault) (d : Draft) → d.changes.last ≡ [] → d.rows.marks ≡ marks → Law marks (unit_received tag unit u d)
 unit_law marks tag unit (Ok (DataUnit r c tpdu)) d e same = data_law marks r tag tpdu d e same
 unit_law marks tag unit (Ok (AckUnit r tpdu)) d e same = none_accepted marks d e
 unit_law marks tag unit (Ok (ErrorUnit r c tpdu)) d e same = none_accepted marks d e
 unit_law marks tag unit (Ok (Smma r)) d e same = none_accepted marks d e
-unit_law marks tag unit (Err f) d e same = none_accepted marks (unit_came tag unit (Err f) d) e
+unit_law marks tag unit (Err f) d e same = none_accepted marks (unit_received tag unit (Err f) d) e
 
 -- ---- what follows touches none of these
 
@@ -414,7 +414,7 @@ up_law marks tag None d e same = none_accepted marks d e
 up_law marks tag (Some (Opened unit)) d e same = unit_law marks tag unit (unit_at unit) d e same
 up_law marks tag (Some (Ended transfer ending)) d e same = none_accepted marks (transfer_ended transfer ending d) (holder_none ending transfer.tag d e)
 
-pub frame_stores : (octets : List ℕ) (tag : Holder) (c : Core) → StoresAccepted c.rows.marks (frame_came octets tag c).changes (frame_came octets tag c).rows
+pub frame_stores : (octets : List ℕ) (tag : Holder) (c : Core) → StoresAccepted c.rows.marks (frame_received octets tag c).changes (frame_received octets tag c).rows
 frame_stores octets tag c =
     let turn : Turn = taken octets (link_of (draft_of c)) in
     let d : Draft = frame_heard tag turn (draft_of c) in

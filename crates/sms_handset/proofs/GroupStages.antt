@@ -62,9 +62,9 @@ use Rattle.sms_handset_draft.specs.GroupChanges.{stored_groups, new_part_groups,
 use Rattle.sms_handset.proofs.Accepting.{Kept, follow_kept}
 use Rattle.sms_handset_draft.specs.Outbox.{follow, entry_concluded, holder_concluded}
 use Rattle.sms_handset_draft.specs.MemoryAvailable.{has_room, notice_failed, put_notice, remove_notice, notice_ended, notice_concluded, freed, want_notice}
-use Rattle.sms_handset_draft.specs.Receiving.{accept, no_room, single_came, new_part_came, member_came, part_came, deliver_came, note, tpdu_came, acknowledge, data_came, unit_came}
+use Rattle.sms_handset_draft.specs.Receiving.{accept, no_room, single_received, new_part_received, member_received, part_received, deliver_received, note, tpdu_received, acknowledge, data_received, unit_received}
 use Rattle.sms_handset_draft.specs.FramesAndTicks.{went_up, timed_out, frame_heard, at_moment, timers_fired}
-use Rattle.sms_handset.specs.HandsetEvent.{frame_came, ticked, acted, wrote, deleted, discarded}
+use Rattle.sms_handset.specs.HandsetEvent.{frame_received, ticked, acted, wrote, deleted, discarded}
 use Rattle.sms_handset.specs.declared.refusal.Refusal.{Refusal}
 use Rattle.sms_handset.specs.OwnersActs.{write_part, write_parts, count_split, fits_outbox, write_to, written, write_split, delete_out, delete_in, discard_group, discard_members, discard_in, discard_at, write, delete, discard}
 use Rattle.sms_handset.specs.declared.refusal.Refusal.TheVariants.{OutboxFull, StillOpen, NoEntry, TooManyDiscarded}
@@ -329,58 +329,58 @@ follow_regroups r base d h = kept_goes_on r base d (follow d) (follow_kept d) h
 
 -- ---- a frame
 
-single_came_regroups : (r : ℕ) (tag : Holder) (tpdu : List ℕ) (d : Draft) → Regroups Unchanged d.rows (single_came r tag tpdu d).rows
-single_came_regroups r tag tpdu d =
+single_received_regroups : (r : ℕ) (tag : Holder) (tpdu : List ℕ) (d : Draft) → Regroups Unchanged d.rows (single_received r tag tpdu d).rows
+single_received_regroups r tag tpdu d =
     cond_both (has_room d) (accept r tag tpdu (store_single tpdu d)) (no_room r tag d) (λ (z : Draft). Regroups Unchanged d.rows z.rows)
     (λ t. single_regroups tpdu d) (λ t. nothing d.rows)
 
 new_part_regroups : (r : ℕ) (tag : Holder) (tpdu : List ℕ) (g : Group) (n : ℕ) (d : Draft)
-    → Regroups (new_part_groups tpdu g n (members g d.rows.entries) d) d.rows (new_part_came r tag tpdu g n (members g d.rows.entries) d).rows
+    → Regroups (new_part_groups tpdu g n (members g d.rows.entries) d) d.rows (new_part_received r tag tpdu g n (members g d.rows.entries) d).rows
 new_part_regroups r tag tpdu g n d =
     let es = members g d.rows.entries in
     both_cond (has_room d) (λ (q : Regrouping) (z : Draft). Regroups q d.rows z.rows) (stored_groups g n tpdu es d) Unchanged
     (accept r tag tpdu (store_part g n tpdu es d)) (no_room r tag d) (λ t. part_regroups g n tpdu d) (λ t. nothing d.rows)
 
 member_regroups : (r : ℕ) (tag : Holder) (tpdu : List ℕ) (g : Group) (n : ℕ) (d : Draft)
-    → Regroups (member_groups tpdu g n (members g d.rows.entries) d) d.rows (member_came r tag tpdu g n (members g d.rows.entries) d).rows
+    → Regroups (member_groups tpdu g n (members g d.rows.entries) d) d.rows (member_received r tag tpdu g n (members g d.rows.entries) d).rows
 member_regroups r tag tpdu g n d =
     let es = members g d.rows.entries in
     both_cond (is_among n (part_numbers es)) (λ (q : Regrouping) (z : Draft). Regroups q d.rows z.rows) Unchanged (new_part_groups tpdu g n es d)
-    (single_came r tag tpdu d) (new_part_came r tag tpdu g n es d) (λ t. single_came_regroups r tag tpdu d) (λ t. new_part_regroups r tag tpdu g n d)
+    (single_received r tag tpdu d) (new_part_received r tag tpdu g n es d) (λ t. single_received_regroups r tag tpdu d) (λ t. new_part_regroups r tag tpdu g n d)
 
 marked_regroups : (n : ℕ) (m : DiscardedGroup) (d : Draft) → Regroups Unchanged d.rows (marked n m d).rows
 marked_regroups n m d =
     cond_both (all_numbers m.group.total (m.seen ++ n ∷ [])) (remove_mark m.number d) (put_mark (record m { seen = m.seen ++ n ∷ [] }) d) (λ (z : Draft). Regroups Unchanged d.rows z.rows)
     (λ t. nothing d.rows) (λ t. nothing d.rows)
 
-part_came_regroups : (r : ℕ) (tag : Holder) (tpdu : List ℕ) (g : Group) (n : ℕ) (m : Option DiscardedGroup) (d : Draft) → Regroups (part_groups tpdu g n m d) d.rows (part_came r tag tpdu g n m d).rows
-part_came_regroups r tag tpdu g n None d = member_regroups r tag tpdu g n d
-part_came_regroups r tag tpdu g n (Some m) d =
-    cond_both (is_among n m.seen) (single_came r tag tpdu d) (accept r tag tpdu (marked n m d)) (λ (z : Draft). Regroups Unchanged d.rows z.rows)
-    (λ t. single_came_regroups r tag tpdu d) (λ t. marked_regroups n m d)
+part_received_regroups : (r : ℕ) (tag : Holder) (tpdu : List ℕ) (g : Group) (n : ℕ) (m : Option DiscardedGroup) (d : Draft) → Regroups (part_groups tpdu g n m d) d.rows (part_received r tag tpdu g n m d).rows
+part_received_regroups r tag tpdu g n None d = member_regroups r tag tpdu g n d
+part_received_regroups r tag tpdu g n (Some m) d =
+    cond_both (is_among n m.seen) (single_received r tag tpdu d) (accept r tag tpdu (marked n m d)) (λ (z : Draft). Regroups Unchanged d.rows z.rows)
+    (λ t. single_received_regroups r tag tpdu d) (λ t. marked_regroups n m d)
 
-deliver_regroups : (r : ℕ) (tag : Holder) (tpdu : List ℕ) (m : DeliverOf) (k : Option ConcatKey) (d : Draft) → Regroups (deliver_groups tpdu m k d) d.rows (deliver_came r tag tpdu m k d).rows
-deliver_regroups r tag tpdu m None d = single_came_regroups r tag tpdu d
+deliver_regroups : (r : ℕ) (tag : Holder) (tpdu : List ℕ) (m : DeliverOf) (k : Option ConcatKey) (d : Draft) → Regroups (deliver_groups tpdu m k d) d.rows (deliver_received r tag tpdu m k d).rows
+deliver_regroups r tag tpdu m None d = single_received_regroups r tag tpdu d
 deliver_regroups r tag tpdu m (Some k) d =
     let g : Group = group_of m.originating_address k in
-    part_came_regroups r tag tpdu g k.number (mark_of g d.rows.marks) d
+    part_received_regroups r tag tpdu g k.number (mark_of g d.rows.marks) d
 
 noted_regroups : (status : ℕ) (o : Option OutEntry) (d : Draft) → Regroups Unchanged d.rows (note status o d).rows
 noted_regroups status None d = nothing d.rows
 noted_regroups status (Some o) d = nothing d.rows
 
-tpdu_regroups : (r : ℕ) (tag : Holder) (tpdu : List ℕ) (t : Result Down TpduFault) (d : Draft) → Regroups (tpdu_groups tpdu t d) d.rows (tpdu_came r tag tpdu t d).rows
+tpdu_regroups : (r : ℕ) (tag : Holder) (tpdu : List ℕ) (t : Result Down TpduFault) (d : Draft) → Regroups (tpdu_groups tpdu t d) d.rows (tpdu_received r tag tpdu t d).rows
 tpdu_regroups r tag tpdu (Ok (Deliver m)) d = deliver_regroups r tag tpdu m (key_of m) d
 tpdu_regroups r tag tpdu (Ok (StatusReport s)) d = noted_regroups s.status (reported s d.rows.outbox) d
 tpdu_regroups r tag tpdu (Ok (SubmitReport s)) d = nothing d.rows
 tpdu_regroups r tag tpdu (Err f) d = nothing d.rows
 
-data_regroups : (r : ℕ) (tag : Holder) (tpdu : List ℕ) (d : Draft) → Regroups (data_groups r tpdu d) d.rows (data_came r tag tpdu d).rows
+data_regroups : (r : ℕ) (tag : Holder) (tpdu : List ℕ) (d : Draft) → Regroups (data_groups r tpdu d) d.rows (data_received r tag tpdu d).rows
 data_regroups r tag tpdu d =
     both_cond (is_double tpdu (row_at last_key r d.rows.last)) (λ (q : Regrouping) (z : Draft). Regroups q d.rows z.rows) Unchanged (tpdu_groups tpdu (down_at InData tpdu) d)
-    (acknowledge r tag d) (tpdu_came r tag tpdu (down_at InData tpdu) d) (λ t. nothing d.rows) (λ t. tpdu_regroups r tag tpdu (down_at InData tpdu) d)
+    (acknowledge r tag d) (tpdu_received r tag tpdu (down_at InData tpdu) d) (λ t. nothing d.rows) (λ t. tpdu_regroups r tag tpdu (down_at InData tpdu) d)
 
-unit_regroups : (tag : Holder) (unit : List ℕ) (u : Result Rp RelayFault) (d : Draft) → Regroups (unit_groups u d) d.rows (unit_came tag unit u d).rows
+unit_regroups : (tag : Holder) (unit : List ℕ) (u : Result Rp RelayFault) (d : Draft) → Regroups (unit_groups u d) d.rows (unit_received tag unit u d).rows
 unit_regroups tag unit (Ok (DataUnit r c tpdu)) d = data_regroups r tag tpdu d
 unit_regroups tag unit (Ok (AckUnit r tpdu)) d = nothing d.rows
 unit_regroups tag unit (Ok (ErrorUnit r c tpdu)) d = nothing d.rows
@@ -427,7 +427,7 @@ timed_out_regroups (Some (Ended transfer ending)) d = holder_concluded_regroups 
 -- ---- frames and ticks
 
 pub frame_regroups : (octets : List ℕ) (tag : Holder) (c : Core)
-    → Regroups (frame_groups (taken octets (link_of (draft_of c))) (draft_of c)) c.rows (frame_came octets tag c).rows
+    → Regroups (frame_groups (taken octets (link_of (draft_of c))) (draft_of c)) c.rows (frame_received octets tag c).rows
 frame_regroups octets tag c =
     let turn : Turn = taken octets (link_of (draft_of c)) in
     let d : Draft = with_turn turn (draft_of c) in

@@ -54,13 +54,13 @@ use Rattle.sms_handset_draft.specs.Draft.{Draft, rows_after, put_entry, remove_e
 use Rattle.sms_handset.specs.Planning.{Rests, RestsIfDone}
 use Rattle.sms_handset_draft.specs.declared.counters.Counters.{Counters}
 use Rattle.sms_handset_draft.specs.Storing.{drop_all, free_all, ended, completed, store_single, store_part, marked}
-use Rattle.sms_handset_draft.specs.Receiving.{accept, no_room, single_came, new_part_came, member_came, part_came, deliver_came, note, tpdu_came, acknowledge, data_came, unit_came}
+use Rattle.sms_handset_draft.specs.Receiving.{accept, no_room, single_received, new_part_received, member_received, part_received, deliver_received, note, tpdu_received, acknowledge, data_received, unit_received}
 use Rattle.sms_handset_draft.specs.MemoryAvailable.{has_room, notice_failed, notice_ended, notice_concluded, first_notice, freed, want_notice}
 use Rattle.sms_handset_draft.specs.Outbox.{entry_concluded, holder_concluded, lapse_rows, lapse, offer_entry, offer_message, is_notice_next, offer_wanted, offer_after, offer, follow}
 use Rattle.sms_handset.specs.OwnersActs.{write_part, write_parts, count_split, fits_outbox, write_to, written, write_split, delete_out, delete_in, discard_group, discard_members, discard_in, discard_at, write, delete, discard}
 use Rattle.sms_handset.specs.declared.refusal.Refusal.{Refusal}
 use Rattle.sms_handset_draft.specs.FramesAndTicks.{went_up, timed_out, frame_heard, at_moment, timers_fired}
-use Rattle.sms_handset.specs.HandsetEvent.{acted, frame_came, ticked, wrote, deleted, discarded}
+use Rattle.sms_handset.specs.HandsetEvent.{acted, frame_received, ticked, wrote, deleted, discarded}
 use Rattle.sms_handset.specs.declared.refusal.Refusal.TheVariants.{OutboxFull, StillOpen, NoEntry, TooManyDiscarded}
 
 -- ---- moves
@@ -150,54 +150,54 @@ accept_rests base r tag tpdu d h = put_last_rests base (record { reference = r; 
 no_room_rests : (base : Rows) (r : ℕ) (tag : Holder) (d : Draft) → Rests base d → Rests base (no_room r tag d)
 no_room_rests base r tag d h = put_counters_rests base (record d.rows.counters { is_memory_full = true }) d h
 
-single_came_rests : (base : Rows) (r : ℕ) (tag : Holder) (tpdu : List ℕ) (d : Draft) → Rests base d → Rests base (single_came r tag tpdu d)
-single_came_rests base r tag tpdu d h =
+single_received_rests : (base : Rows) (r : ℕ) (tag : Holder) (tpdu : List ℕ) (d : Draft) → Rests base d → Rests base (single_received r tag tpdu d)
+single_received_rests base r tag tpdu d h =
     cond_both (has_room d) (accept r tag tpdu (store_single tpdu d)) (no_room r tag d) (λ (z : Draft). Rests base z)
     (λ t. accept_rests base r tag tpdu (store_single tpdu d) (store_single_rests base tpdu d h)) (λ t. no_room_rests base r tag d h)
 
-new_part_came_rests : (base : Rows) (r : ℕ) (tag : Holder) (tpdu : List ℕ) (g : Group) (n : ℕ) (es : List Entry) (d : Draft) → Rests base d → Rests base (new_part_came r tag tpdu g n es d)
-new_part_came_rests base r tag tpdu g n es d h =
+new_part_received_rests : (base : Rows) (r : ℕ) (tag : Holder) (tpdu : List ℕ) (g : Group) (n : ℕ) (es : List Entry) (d : Draft) → Rests base d → Rests base (new_part_received r tag tpdu g n es d)
+new_part_received_rests base r tag tpdu g n es d h =
     cond_both (has_room d) (accept r tag tpdu (store_part g n tpdu es d)) (no_room r tag d) (λ (z : Draft). Rests base z)
     (λ t. accept_rests base r tag tpdu (store_part g n tpdu es d) (store_part_rests base g n tpdu es d h)) (λ t. no_room_rests base r tag d h)
 
-member_came_rests : (base : Rows) (r : ℕ) (tag : Holder) (tpdu : List ℕ) (g : Group) (n : ℕ) (es : List Entry) (d : Draft) → Rests base d → Rests base (member_came r tag tpdu g n es d)
-member_came_rests base r tag tpdu g n es d h =
-    cond_both (is_among n (part_numbers es)) (single_came r tag tpdu d) (new_part_came r tag tpdu g n es d) (λ (z : Draft). Rests base z)
-    (λ t. single_came_rests base r tag tpdu d h) (λ t. new_part_came_rests base r tag tpdu g n es d h)
+member_received_rests : (base : Rows) (r : ℕ) (tag : Holder) (tpdu : List ℕ) (g : Group) (n : ℕ) (es : List Entry) (d : Draft) → Rests base d → Rests base (member_received r tag tpdu g n es d)
+member_received_rests base r tag tpdu g n es d h =
+    cond_both (is_among n (part_numbers es)) (single_received r tag tpdu d) (new_part_received r tag tpdu g n es d) (λ (z : Draft). Rests base z)
+    (λ t. single_received_rests base r tag tpdu d h) (λ t. new_part_received_rests base r tag tpdu g n es d h)
 
-part_came_rests : (base : Rows) (r : ℕ) (tag : Holder) (tpdu : List ℕ) (g : Group) (n : ℕ) (m : Option DiscardedGroup) (d : Draft) → Rests base d → Rests base (part_came r tag tpdu g n m d)
-part_came_rests base r tag tpdu g n None d h = member_came_rests base r tag tpdu g n (members g d.rows.entries) d h
-part_came_rests base r tag tpdu g n (Some m) d h =
-    cond_both (is_among n m.seen) (single_came r tag tpdu d) (accept r tag tpdu (marked n m d)) (λ (z : Draft). Rests base z)
-    (λ t. single_came_rests base r tag tpdu d h) (λ t. accept_rests base r tag tpdu (marked n m d) (marked_rests base n m d h))
+part_received_rests : (base : Rows) (r : ℕ) (tag : Holder) (tpdu : List ℕ) (g : Group) (n : ℕ) (m : Option DiscardedGroup) (d : Draft) → Rests base d → Rests base (part_received r tag tpdu g n m d)
+part_received_rests base r tag tpdu g n None d h = member_received_rests base r tag tpdu g n (members g d.rows.entries) d h
+part_received_rests base r tag tpdu g n (Some m) d h =
+    cond_both (is_among n m.seen) (single_received r tag tpdu d) (accept r tag tpdu (marked n m d)) (λ (z : Draft). Rests base z)
+    (λ t. single_received_rests base r tag tpdu d h) (λ t. accept_rests base r tag tpdu (marked n m d) (marked_rests base n m d h))
 
-deliver_came_rests : (base : Rows) (r : ℕ) (tag : Holder) (tpdu : List ℕ) (m : DeliverOf) (k : Option ConcatKey) (d : Draft) → Rests base d → Rests base (deliver_came r tag tpdu m k d)
-deliver_came_rests base r tag tpdu m None d h = single_came_rests base r tag tpdu d h
-deliver_came_rests base r tag tpdu m (Some k) d h =
-    part_came_rests base r tag tpdu (group_of m.originating_address k) k.number (mark_of (group_of m.originating_address k) d.rows.marks) d h
+deliver_received_rests : (base : Rows) (r : ℕ) (tag : Holder) (tpdu : List ℕ) (m : DeliverOf) (k : Option ConcatKey) (d : Draft) → Rests base d → Rests base (deliver_received r tag tpdu m k d)
+deliver_received_rests base r tag tpdu m None d h = single_received_rests base r tag tpdu d h
+deliver_received_rests base r tag tpdu m (Some k) d h =
+    part_received_rests base r tag tpdu (group_of m.originating_address k) k.number (mark_of (group_of m.originating_address k) d.rows.marks) d h
 
 note_rests : (base : Rows) (s : ℕ) (o : Option OutEntry) (d : Draft) → Rests base d → Rests base (note s o d)
 note_rests base s None d h = h
 note_rests base s (Some o) d h = put_out_rests base (record o { status = Some s }) d h
 
-tpdu_came_rests : (base : Rows) (r : ℕ) (tag : Holder) (tpdu : List ℕ) (t : Result Down TpduFault) (d : Draft) → Rests base d → Rests base (tpdu_came r tag tpdu t d)
-tpdu_came_rests base r tag tpdu (Ok (Deliver m)) d h = deliver_came_rests base r tag tpdu m (key_of m) d h
-tpdu_came_rests base r tag tpdu (Ok (StatusReport s)) d h =
+tpdu_received_rests : (base : Rows) (r : ℕ) (tag : Holder) (tpdu : List ℕ) (t : Result Down TpduFault) (d : Draft) → Rests base d → Rests base (tpdu_received r tag tpdu t d)
+tpdu_received_rests base r tag tpdu (Ok (Deliver m)) d h = deliver_received_rests base r tag tpdu m (key_of m) d h
+tpdu_received_rests base r tag tpdu (Ok (StatusReport s)) d h =
     accept_rests base r tag tpdu (note s.status (reported s d.rows.outbox) d) (note_rests base s.status (reported s d.rows.outbox) d h)
-tpdu_came_rests base r tag tpdu (Ok (SubmitReport s)) d h = h
-tpdu_came_rests base r tag tpdu (Err f) d h = h
+tpdu_received_rests base r tag tpdu (Ok (SubmitReport s)) d h = h
+tpdu_received_rests base r tag tpdu (Err f) d h = h
 
-data_came_rests : (base : Rows) (r : ℕ) (tag : Holder) (tpdu : List ℕ) (d : Draft) → Rests base d → Rests base (data_came r tag tpdu d)
-data_came_rests base r tag tpdu d h =
-    cond_both (is_double tpdu (row_at last_key r d.rows.last)) (acknowledge r tag d) (tpdu_came r tag tpdu (down_at InData tpdu) d) (λ (z : Draft). Rests base z)
-    (λ t. h) (λ t. tpdu_came_rests base r tag tpdu (down_at InData tpdu) d h)
+data_received_rests : (base : Rows) (r : ℕ) (tag : Holder) (tpdu : List ℕ) (d : Draft) → Rests base d → Rests base (data_received r tag tpdu d)
+data_received_rests base r tag tpdu d h =
+    cond_both (is_double tpdu (row_at last_key r d.rows.last)) (acknowledge r tag d) (tpdu_received r tag tpdu (down_at InData tpdu) d) (λ (z : Draft). Rests base z)
+    (λ t. h) (λ t. tpdu_received_rests base r tag tpdu (down_at InData tpdu) d h)
 
-unit_came_rests : (base : Rows) (tag : Holder) (unit : List ℕ) (u : Result Rp RelayFault) (d : Draft) → Rests base d → Rests base (unit_came tag unit u d)
-unit_came_rests base tag unit (Ok (DataUnit r c tpdu)) d h = data_came_rests base r tag tpdu d h
-unit_came_rests base tag unit (Ok (AckUnit r tpdu)) d h = h
-unit_came_rests base tag unit (Ok (ErrorUnit r c tpdu)) d h = h
-unit_came_rests base tag unit (Ok (Smma r)) d h = h
-unit_came_rests base tag unit (Err f) d h = h
+unit_received_rests : (base : Rows) (tag : Holder) (unit : List ℕ) (u : Result Rp RelayFault) (d : Draft) → Rests base d → Rests base (unit_received tag unit u d)
+unit_received_rests base tag unit (Ok (DataUnit r c tpdu)) d h = data_received_rests base r tag tpdu d h
+unit_received_rests base tag unit (Ok (AckUnit r tpdu)) d h = h
+unit_received_rests base tag unit (Ok (ErrorUnit r c tpdu)) d h = h
+unit_received_rests base tag unit (Ok (Smma r)) d h = h
+unit_received_rests base tag unit (Err f) d h = h
 
 -- ---- the outbox
 
@@ -326,7 +326,7 @@ discard_at_rests base n (Some e) d h = discard_in_rests base n e.message d h
 
 went_up_rests : (base : Rows) (tag : Holder) (up : Option Upward) (d : Draft) → Rests base d → Rests base (went_up tag up d)
 went_up_rests base tag None d h = h
-went_up_rests base tag (Some (Opened unit)) d h = unit_came_rests base tag unit (unit_at unit) d h
+went_up_rests base tag (Some (Opened unit)) d h = unit_received_rests base tag unit (unit_at unit) d h
 went_up_rests base tag (Some (Ended transfer ending)) d h = holder_concluded_rests base ending transfer.tag d h
 
 timed_out_rests : (base : Rows) (up : Option Upward) (d : Draft) → Rests base d → Rests base (timed_out up d)
@@ -334,7 +334,7 @@ timed_out_rests base None d h = h
 timed_out_rests base (Some (Opened unit)) d h = h
 timed_out_rests base (Some (Ended transfer ending)) d h = holder_concluded_rests base ending transfer.tag d h
 
-pub frame_rests : (octets : List ℕ) (tag : Holder) (c : Core) → Rests c.rows (frame_came octets tag c)
+pub frame_rests : (octets : List ℕ) (tag : Holder) (c : Core) → Rests c.rows (frame_received octets tag c)
 frame_rests octets tag c =
     let turn : Turn = taken octets (link_of (draft_of c)) in
     follow_rests c.rows (frame_heard tag turn (draft_of c)) (went_up_rests c.rows tag turn.out.up (with_turn turn (draft_of c)) refl)

@@ -14,7 +14,7 @@ use Rattle.sms_link.specs.LinkTurn.{came_up, still_under_way, Turn, taken, fired
 use Rattle.sms_handset_draft.specs.Draft.{Draft, Core, draft_of, link_of, with_turn, HandsetOf, core_of}
 use Rattle.sms_handset.proofs.SoundDrafts.{Sound, SoundAt, outbox_moves, sound_from, sound_core}
 use Rattle.sms_handset_draft.specs.FramesAndTicks.{went_up, timed_out, frame_heard, at_moment, timers_fired}
-use Rattle.sms_handset.specs.HandsetEvent.{frame_came, ticked, acted, wrote, deleted, discarded, tag_of}
+use Rattle.sms_handset.specs.HandsetEvent.{frame_received, ticked, acted, wrote, deleted, discarded, tag_of}
 use Rattle.sms_handset.proofs.SoundReceiving.{unit_sound}
 use Rattle.sms_handset.proofs.SoundTransfers.{transfer_sound, follow_sound}
 use Rattle.sms_handset.specs.SoundCore.{IsSoundCore}
@@ -23,7 +23,7 @@ use Rattle.sms_handset.proofs.SoundActs.{SoundIfDone, write_sound, delete_sound,
 use Rattle.sms_handset.specs.OwnersActs.{write, delete, discard}
 use Rattle.sms_handset_draft.specs.declared.rows.Rows.{Rows}
 use Rattle.sms_handset_draft.specs.Outcome.{Outcome}
-use Rattle.sms_handset.specs.Planning.{IsPlanOf, Plan, Rests, adopted, RestsIfDone, Plans, OfDelete, OfDiscard, OfFrame, OfTick, OfWrite}
+use Rattle.sms_handset.specs.Planning.{IsPlanOf, PlanOf, Rests, adopted, RestsIfDone, Plans, OfDelete, OfDiscard, OfFrame, OfTick, OfWrite}
 use Rattle.sms_handset.specs.declared.refusal.PlanError.{PlanError}
 use Rattle.sms_handset.specs.declared.event.HandsetEvent.{HandsetEvent}
 use Rattle.sms_handset.specs.declared.event.HandsetEvent.TheVariants.{Frame, Tick, Write, Delete, Discard}
@@ -60,7 +60,7 @@ timed_out_sound (Some FailedUp) (Some c) d e s = transfer_sound c LostEnd d s.un
 
 -- ---- events
 
-pub frame_sound : (octets : List ℕ) (tag : Holder) (c : Core) → IsSoundCore c → SoundAt (frame_came octets tag c)
+pub frame_sound : (octets : List ℕ) (tag : Holder) (c : Core) → IsSoundCore c → SoundAt (frame_received octets tag c)
 frame_sound octets tag c s =
     let turn : Turn = taken octets (link_of (draft_of c)) in
     let step : Step = take_step octets c.links in
@@ -89,7 +89,7 @@ discarded_sound n c s = acted_sound (discard n (draft_of c)) (discard_sound n (d
 -- ---- plans
 
 -- the handset that adopts the plan is the one that the event leads to
-sound_of : (s : HandsetOf) (d : Draft) (p : Plan) → IsPlanOf d s p → Rests s.core.rows d → SoundAt d → IsSoundCore (adopted p.outcome s.core)
+sound_of : (s : HandsetOf) (d : Draft) (p : PlanOf) → IsPlanOf d s p → Rests s.core.rows d → SoundAt d → IsSoundCore (adopted p.outcome s.core)
 sound_of s d p is rests sound =
     subst (λ (o : Outcome). IsSoundCore (adopted o s.core)) (sym is.outcome)
     (subst (λ (r : Rows). IsSoundCore (record (core_of d) { rows = r })) rests (sound_core d sound))
@@ -100,21 +100,21 @@ sound_done w d e h = subst (λ (r : Result Draft Refusal). SoundIfDone r) e h
 rests_done : (base : Rows) (w : Result Draft Refusal) (d : Draft) → w ≡ Ok d → RestsIfDone base w → Rests base d
 rests_done base w d e h = subst (λ (r : Result Draft Refusal). RestsIfDone base r) e h
 
-abbrev pub AdoptsSound : HandsetOf → Plan → Type 0
+abbrev pub AdoptsSound : HandsetOf → PlanOf → Type 0
 AdoptsSound s p = IsSoundCore (adopted p.outcome s.core)
 
-pub plans_sound : (r : Result Plan PlanError) (s : HandsetOf) (w : Result Draft Refusal) → RestsIfDone s.core.rows w → SoundIfDone w → Plans r s w → IfOk r (AdoptsSound s)
+pub plans_sound : (r : Result PlanOf PlanError) (s : HandsetOf) (w : Result Draft Refusal) → RestsIfDone s.core.rows w → SoundIfDone w → Plans r s w → IfOk r (AdoptsSound s)
 plans_sound (Ok p) s w rests sound h = sound_of s h.0 p h.1.1 (rests_done s.core.rows w h.0 h.1.0 rests) (sound_done w h.0 h.1.0 sound)
 plans_sound (Err e) s w rests sound h = tt
 
-pub event_sound : (event : HandsetEvent) (r : Result Plan PlanError) (s : HandsetOf)
-    → OfFrame event (λ octets tag. Plans r s (Ok (frame_came octets (tag_of tag) s.core)))
+pub event_sound : (event : HandsetEvent) (r : Result PlanOf PlanError) (s : HandsetOf)
+    → OfFrame event (λ octets tag. Plans r s (Ok (frame_received octets (tag_of tag) s.core)))
     → OfTick event (λ now. Plans r s (Ok (ticked now s.core)))
     → OfWrite event (λ text to report. Plans r s (wrote text to report s.core))
     → OfDelete event (λ entry. Plans r s (deleted entry s.core))
     → OfDiscard event (λ entry. Plans r s (discarded entry s.core))
     → IsSoundCore s.core → IfOk r (AdoptsSound s)
-event_sound (Frame octets tag) r s a b c d e h = plans_sound r s (Ok (frame_came octets (tag_of tag) s.core)) (frame_rests octets (tag_of tag) s.core) (frame_sound octets (tag_of tag) s.core h) a
+event_sound (Frame octets tag) r s a b c d e h = plans_sound r s (Ok (frame_received octets (tag_of tag) s.core)) (frame_rests octets (tag_of tag) s.core) (frame_sound octets (tag_of tag) s.core h) a
 event_sound (Tick now) r s a b c d e h = plans_sound r s (Ok (ticked now s.core)) (tick_rests now s.core) (tick_sound now s.core h) b
 event_sound (Write text to report) r s a b c d e h = plans_sound r s (wrote text to report s.core) (write_rests text to report s.core) (wrote_sound text to report s.core h) c
 event_sound (Delete entry) r s a b c d e h = plans_sound r s (deleted entry s.core) (delete_rests entry s.core) (deleted_sound entry s.core h) d

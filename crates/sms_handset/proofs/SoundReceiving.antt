@@ -49,7 +49,7 @@ use Rattle.sms_handset_draft.specs.declared.rows.Rows.{Rows}
 use Rattle.sms_handset_draft.specs.declared.counters.Counters.{Counters}
 use Rattle.sms_handset_draft.specs.MemoryAvailable.{has_room, flag}
 use Rattle.sms_handset.proofs.RoomLeft.{room_left}
-use Rattle.sms_handset_draft.specs.Receiving.{acknowledge, refuse, no_room, accept, single_came, new_part_came, member_came, part_came, deliver_came, note, tpdu_came, data_came, fault_cause, reference_octet, unit_came}
+use Rattle.sms_handset_draft.specs.Receiving.{acknowledge, refuse, no_room, accept, single_received, new_part_received, member_received, part_received, deliver_received, note, tpdu_received, data_received, fault_cause, reference_octet, unit_received}
 use Rattle.sms_handset.proofs.Accepting.{IsCounted, header_counts}
 use Rattle.sms_handset.specs.SoundCore.{IsSendingEntry, IsSentFor, IsUnderWay}
 use Rattle.sms_handset.proofs.SoundSending.{sending_same}
@@ -168,39 +168,39 @@ accept_sound r tag tpdu d i s =
 
 -- ---- DELIVER
 
-pub single_came_sound : (r : ℕ) (tag : Holder) (tpdu : List ℕ) (d : Draft) → IsDelivered tpdu → SoundAt d → SoundAt (single_came r tag tpdu d)
-single_came_sound r tag tpdu d i s =
+pub single_received_sound : (r : ℕ) (tag : Holder) (tpdu : List ℕ) (d : Draft) → IsDelivered tpdu → SoundAt d → SoundAt (single_received r tag tpdu d)
+single_received_sound r tag tpdu d i s =
     cond_both (has_room d) (accept r tag tpdu (store_single tpdu d)) (no_room r tag d) (λ (y : Draft). SoundAt y)
     (λ t. accept_sound r tag tpdu (store_single tpdu d) (inl i) (single_sound tpdu d t i s)) (λ t. no_room_sound r tag d s)
 
-pub new_part_sound : (r : ℕ) (tag : Holder) (tpdu : List ℕ) (g : Group) (n : ℕ) (d : Draft) → IsDelivered tpdu → Fresh g n tpdu d → SoundAt d → SoundAt (new_part_came r tag tpdu g n (members g d.rows.entries) d)
+pub new_part_sound : (r : ℕ) (tag : Holder) (tpdu : List ℕ) (g : Group) (n : ℕ) (d : Draft) → IsDelivered tpdu → Fresh g n tpdu d → SoundAt d → SoundAt (new_part_received r tag tpdu g n (members g d.rows.entries) d)
 new_part_sound r tag tpdu g n d i f s =
     let es = members g d.rows.entries in
     cond_both (has_room d) (accept r tag tpdu (store_part g n tpdu es d)) (no_room r tag d) (λ (y : Draft). SoundAt y)
     (λ t. accept_sound r tag tpdu (store_part g n tpdu es d) (inl i) (part_sound g n tpdu d t f s)) (λ t. no_room_sound r tag d s)
 
 pub member_sound : (r : ℕ) (tag : Holder) (tpdu : List ℕ) (g : Group) (n : ℕ) (d : Draft) → IsDelivered tpdu → IsPartOf g n tpdu → 0 < n → n ≤ g.total → mark_of g d.rows.marks ≡ None
-    → SoundAt d → SoundAt (member_came r tag tpdu g n (members g d.rows.entries) d)
+    → SoundAt d → SoundAt (member_received r tag tpdu g n (members g d.rows.entries) d)
 member_sound r tag tpdu g n d i p low high kept s =
     let es = members g d.rows.entries in
-    cond_both (is_among n (part_numbers es)) (single_came r tag tpdu d) (new_part_came r tag tpdu g n es d) (λ (y : Draft). SoundAt y)
-    (λ t. single_came_sound r tag tpdu d i s)
+    cond_both (is_among n (part_numbers es)) (single_received r tag tpdu d) (new_part_received r tag tpdu g n es d) (λ (y : Draft). SoundAt y)
+    (λ t. single_received_sound r tag tpdu d i s)
     (λ t. new_part_sound r tag tpdu g n d i (record { part = p; low = low; high = high; new = t; kept = kept }) s)
 
-pub part_came_sound : (r : ℕ) (tag : Holder) (tpdu : List ℕ) (g : Group) (n : ℕ) (o : Option DiscardedGroup) (d : Draft) → IsDelivered tpdu → IsPartOf g n tpdu → 0 < n → n ≤ g.total → mark_of g d.rows.marks ≡ o
-    → SoundAt d → SoundAt (part_came r tag tpdu g n o d)
-part_came_sound r tag tpdu g n None d i p low high q s = member_sound r tag tpdu g n d i p low high q s
-part_came_sound r tag tpdu g n (Some m) d i p low high q s =
-    cond_both (is_among n m.seen) (single_came r tag tpdu d) (accept r tag tpdu (marked n m d)) (λ (y : Draft). SoundAt y)
-    (λ t. single_came_sound r tag tpdu d i s)
+pub part_received_sound : (r : ℕ) (tag : Holder) (tpdu : List ℕ) (g : Group) (n : ℕ) (o : Option DiscardedGroup) (d : Draft) → IsDelivered tpdu → IsPartOf g n tpdu → 0 < n → n ≤ g.total → mark_of g d.rows.marks ≡ o
+    → SoundAt d → SoundAt (part_received r tag tpdu g n o d)
+part_received_sound r tag tpdu g n None d i p low high q s = member_sound r tag tpdu g n d i p low high q s
+part_received_sound r tag tpdu g n (Some m) d i p low high q s =
+    cond_both (is_among n m.seen) (single_received r tag tpdu d) (accept r tag tpdu (marked n m d)) (λ (y : Draft). SoundAt y)
+    (λ t. single_received_sound r tag tpdu d i s)
     (λ t. accept_sound r tag tpdu (marked n m d) (inl i) (marked_sound n m g d q t s))
 
 pub deliver_sound : (r : ℕ) (tag : Holder) (tpdu : List ℕ) (m : DeliverOf) (o : Option ConcatKey) (d : Draft) → down_at InData tpdu ≡ Ok (Deliver m) → key_of m ≡ o → IsCounted o
-    → SoundAt d → SoundAt (deliver_came r tag tpdu m o d)
-deliver_sound r tag tpdu m None d e q c s = single_came_sound r tag tpdu d (m, e) s
+    → SoundAt d → SoundAt (deliver_received r tag tpdu m o d)
+deliver_sound r tag tpdu m None d e q c s = single_received_sound r tag tpdu d (m, e) s
 deliver_sound r tag tpdu m (Some key) d e q c s =
     let g : Group = group_of m.originating_address key in
-    part_came_sound r tag tpdu g key.number (mark_of g d.rows.marks) d (m, e) (m, key, (e, q, refl, refl)) c.0 c.1 refl s
+    part_received_sound r tag tpdu g key.number (mark_of g d.rows.marks) d (m, e) (m, key, (e, q, refl, refl)) c.0 c.1 refl s
 
 -- ---- STATUS-REPORT
 
@@ -240,19 +240,19 @@ note_sound status (Some o) d a s =
 
 -- ---- RP-DATA
 
-pub tpdu_sound : (r : ℕ) (tag : Holder) (tpdu : List ℕ) (t : Result Down TpduFault) (d : Draft) → down_at InData tpdu ≡ t → SoundAt d → SoundAt (tpdu_came r tag tpdu t d)
+pub tpdu_sound : (r : ℕ) (tag : Holder) (tpdu : List ℕ) (t : Result Down TpduFault) (d : Draft) → down_at InData tpdu ≡ t → SoundAt d → SoundAt (tpdu_received r tag tpdu t d)
 tpdu_sound r tag tpdu (Ok (Deliver m)) d q s = deliver_sound r tag tpdu m (key_of m) d q refl (header_counts m.user_data_header_indicator m.user_data.octets) s
 tpdu_sound r tag tpdu (Ok (StatusReport p)) d q s =
     accept_sound r tag tpdu (note p.status (reported p d.rows.outbox) d) (inr (p, q)) (note_sound p.status (reported p d.rows.outbox) d (λ x e. reported_among p d.rows.outbox x e) s)
 tpdu_sound r tag tpdu (Ok (SubmitReport p)) d q s = refuse_sound r tag InvalidMandatoryInformation 255 d s
 tpdu_sound r tag tpdu (Err f) d q s = refuse_sound r tag InvalidMandatoryInformation 255 d s
 
-pub data_sound : (r : ℕ) (tag : Holder) (tpdu : List ℕ) (d : Draft) → SoundAt d → SoundAt (data_came r tag tpdu d)
+pub data_sound : (r : ℕ) (tag : Holder) (tpdu : List ℕ) (d : Draft) → SoundAt d → SoundAt (data_received r tag tpdu d)
 data_sound r tag tpdu d s =
-    cond_both (is_double tpdu (row_at last_key r d.rows.last)) (acknowledge r tag d) (tpdu_came r tag tpdu (down_at InData tpdu) d) (λ (y : Draft). SoundAt y)
+    cond_both (is_double tpdu (row_at last_key r d.rows.last)) (acknowledge r tag d) (tpdu_received r tag tpdu (down_at InData tpdu) d) (λ (y : Draft). SoundAt y)
     (λ t. acknowledge_sound r tag d s) (λ t. tpdu_sound r tag tpdu (down_at InData tpdu) d refl s)
 
-pub unit_sound : (tag : Holder) (unit : List ℕ) (u : Result Rp RelayFault) (d : Draft) → SoundAt d → SoundAt (unit_came tag unit u d)
+pub unit_sound : (tag : Holder) (unit : List ℕ) (u : Result Rp RelayFault) (d : Draft) → SoundAt d → SoundAt (unit_received tag unit u d)
 unit_sound tag unit (Ok (DataUnit r c tpdu)) d s = data_sound r tag tpdu d s
 unit_sound tag unit (Ok (AckUnit r tpdu)) d s = s
 unit_sound tag unit (Ok (ErrorUnit r c tpdu)) d s = s

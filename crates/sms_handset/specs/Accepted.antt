@@ -19,10 +19,10 @@ use Rattle.sms_handset_draft.specs.declared.rows.Rows.{Rows}
 use Rattle.sms_handset_draft.specs.Draft.{Changes}
 
 -- The message has the DELIVER's source and user data: it is that DELIVER, or was joined from parts of which it is one.
-abbrev pub Holds : List ℕ → DeliverOf → Message → Type 0
-Holds tpdu m (Single octets) = octets ≡ tpdu
-Holds tpdu m (Part g n octets) = (octets ≡ tpdu) × (g.source ≡ m.originating_address)
-Holds tpdu m (Joined source content) =
+abbrev pub Contains : List ℕ → DeliverOf → Message → Type 0
+Contains tpdu m (Single octets) = octets ≡ tpdu
+Contains tpdu m (Part g n octets) = (octets ≡ tpdu) × (g.source ≡ m.originating_address)
+Contains tpdu m (Joined source content) =
     (source ≡ m.originating_address)
     × ((parts : List PartOf) × (part : PartOf) × ((content_joined parts ≡ Some content) × (carried_part (down_at InData tpdu) ≡ Some part) × Among part parts))
 
@@ -38,4 +38,4 @@ IsPut changes rows e = Among (Put e) changes.entries × Among e rows.entries
 abbrev pub StoresAccepted : List DiscardedGroup → Changes → Rows → Type 0
 StoresAccepted marks changes rows =
     (l : LastAccepted) → Among (Put l) changes.last → (m : DeliverOf) → down_at InData l.tpdu ≡ Ok (Deliver m)
-    → IsOfDiscarded marks m ⊎ ((e : Entry) × (IsPut changes rows e × Holds l.tpdu m e.message))
+    → IsOfDiscarded marks m ⊎ ((e : Entry) × (IsPut changes rows e × Contains l.tpdu m e.message))

@@ -11,8 +11,8 @@ use Rattle.sms_handset.specs.OwnersActs.{write, delete, discard}
 
 -- ---- a frame
 
-abbrev pub frame_came : List ℕ → Holder → Core → Draft
-frame_came octets tag c = follow (frame_heard tag (taken octets (link_of (draft_of c))) (draft_of c))
+abbrev pub frame_received : List ℕ → Holder → Core → Draft
+frame_received octets tag c = follow (frame_heard tag (taken octets (link_of (draft_of c))) (draft_of c))
 
 -- A frame that comes without a tag, from a socket, is taken as one of entry 0, which no entry is.
 abbrev pub tag_of : Option Holder → Holder

@@ -29,27 +29,27 @@ adopted o c = record {
 }
 
 -- the outcome, what becomes of what is kept beside the rows, and memory for rows and for a group that come
-pub record Plan : Type 0 where
+pub record PlanOf : Type 0 where
   pub outcome : Outcome
   pub regrouping : Regrouping
   -- how many slots are taken then
   pub taken : ℕ
-  pub spare : Room
-  pub spare_groups : ℕ
+  pub reserve : Room
+  pub reserve_groups : ℕ
 
 -- The plan's changes fit the memory of the lists and of the index, with that which the plan brings; and its
 -- change of the open groups and its count of the slots are those of its rows.
-pub record Fits (plan : Plan) (s : HandsetOf) : Type 0 where
-  pub entries : length s.core.rows.entries + length plan.outcome.changes.entries ≤ max s.room.entries plan.spare.entries
-  pub last : length s.core.rows.last + length plan.outcome.changes.last ≤ max s.room.last plan.spare.last
-  pub outbox : length s.core.rows.outbox + length plan.outcome.changes.outbox ≤ max s.room.outbox plan.spare.outbox
-  pub marks : length s.core.rows.marks + length plan.outcome.changes.marks ≤ max s.room.marks plan.spare.marks
-  pub groups : s.groups.taken + opening plan.regrouping ≤ max s.groups.capacity plan.spare_groups
+pub record Fits (plan : PlanOf) (s : HandsetOf) : Type 0 where
+  pub entries : length s.core.rows.entries + length plan.outcome.changes.entries ≤ max s.room.entries plan.reserve.entries
+  pub last : length s.core.rows.last + length plan.outcome.changes.last ≤ max s.room.last plan.reserve.last
+  pub outbox : length s.core.rows.outbox + length plan.outcome.changes.outbox ≤ max s.room.outbox plan.reserve.outbox
+  pub marks : length s.core.rows.marks + length plan.outcome.changes.marks ≤ max s.room.marks plan.reserve.marks
+  pub groups : s.groups.taken + opening plan.regrouping ≤ max s.groups.capacity plan.reserve_groups
   pub index : IsRegrouped plan.regrouping s.core.rows (rows_after plan.outcome.changes s.core.rows)
   pub slots : plan.taken ≡ slots_taken (rows_after plan.outcome.changes s.core.rows).entries
 
 -- The plan has the outcome of the event that leads to the draft, and fits the handset.
-pub record IsPlanOf (d : Draft) (s : HandsetOf) (plan : Plan) : Type 0 where
+pub record IsPlanOf (d : Draft) (s : HandsetOf) (plan : PlanOf) : Type 0 where
   pub outcome : plan.outcome ≡ outcome_of d
   pub fits : Fits plan s
 
@@ -65,13 +65,13 @@ Judges None wanted = (d : Draft) × (wanted ≡ Ok d)
 Judges (Some refusal) wanted = wanted ≡ Err refusal
 
 -- What was wanted, planned.
-abbrev pub Plans : Result Plan PlanError → HandsetOf → Result Draft Refusal → Type 0
+abbrev pub Plans : Result PlanOf PlanError → HandsetOf → Result Draft Refusal → Type 0
 Plans (Ok plan) s wanted = (d : Draft) × ((wanted ≡ Ok d) × IsPlanOf d s plan)
 Plans (Err (Refused refusal)) s wanted = wanted ≡ Err refusal
 Plans (Err NoMemory) s wanted = (d : Draft) × (wanted ≡ Ok d)
 
 -- What the plan accepts is stored in the rows that it leads to.
-abbrev pub Stores : HandsetOf → Plan → Type 0
+abbrev pub Stores : HandsetOf → PlanOf → Type 0
 Stores s plan = StoresAccepted s.core.rows.marks plan.outcome.changes (rows_after plan.outcome.changes s.core.rows)
 
 -- ---- a fact of events of one kind

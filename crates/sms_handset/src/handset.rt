@@ -2,7 +2,7 @@
 ghost use Rattle.std.specs.Prelude.{◌≡◌, ◌+◌, ◌≤◌, max, Ok, IfErr, IfOk};
 ghost use Rattle.std.specs.Str.{chars};
 ghost use Rattle.sms_handset_draft.specs.Draft.{draft_of, recovered};
-ghost use Rattle.sms_handset.specs.HandsetEvent.{deleted, discarded, frame_came as frame_came_of, tag_of, ticked as ticked_of, wrote};
+ghost use Rattle.sms_handset.specs.HandsetEvent.{deleted, discarded, frame_received as frame_received_of, tag_of, ticked as ticked_of, wrote};
 ghost use Rattle.sms_handset.specs.Planning.{adopted, Fits, IsPlanOf, Judges, OfDelete, OfDiscard, OfFrame, OfTick, OfWrite, Plans, Rests, Stores};
 ghost use Rattle.sms_base.specs.Address.{IsAddress};
 ghost use Rattle.sms_rows.specs.table.Table.{Rises, row_at};
@@ -14,10 +14,10 @@ ghost use Rattle.sms_handset.specs.OwnersActs.{JudgesText, delete as delete_of, 
 ghost use Rattle.sms_handset.specs.SoundCore.{IsSoundCore};
 ghost use Rattle.sms_handset.specs.SoundRows.{IsSetup, IsSound, RefusesRows};
 
-use crate::coming::{frame_and_follow, tick_and_follow};
+use crate::receiving::{frame_and_follow, tick_and_follow};
 use crate::deleting::{delete_and_follow, discard_and_follow};
 use crate::event::HandsetEvent;
-use crate::planned::Planned;
+use crate::plan::Plan;
 use crate::recover_error::RecoverError;
 use crate::refusal::{PlanError, Refusal};
 use crate::sound_rows::are_sound;
@@ -25,7 +25,7 @@ use crate::writing::write_and_follow;
 use sms_base::{Address, Holder, Listed, Moment};
 use sms_concat::count_text_parts;
 use sms_handset_draft::{Draft, Finished, NoMemory, Rows, Stored};
-use sms_handset_rows::inbox::{Entry, OpenGroups, Regrouping, SpareGroups, slots_in};
+use sms_handset_rows::inbox::{Entry, OpenGroups, Regrouping, OpenGroupsReserve, slots_in};
 use sms_handset_rows::outbox::{Notice, OutEntry};
 use sms_link::{Link, Outgoing, Side};
 use sms_rows::table::{Key, Table, adopt};
@@ -149,8 +149,8 @@ impl Handset {
     }
 
     /// What an event changes and sends. The handset is as it was until the plan is adopted.
-    pub fn plan(&self, event: &HandsetEvent<'_>) -> Result<Planned, PlanError>
-        ensures frame { OfFrame event.now (λ octets tag. Plans result self.now (Ok (frame_came_of octets (tag_of tag) self.now.core))) }
+    pub fn plan(&self, event: &HandsetEvent<'_>) -> Result<Plan, PlanError>
+        ensures frame { OfFrame event.now (λ octets tag. Plans result self.now (Ok (frame_received_of octets (tag_of tag) self.now.core))) }
         ensures tick { OfTick event.now (λ now. Plans result self.now (Ok (ticked_of now self.now.core))) }
         ensures write { OfWrite event.now (λ text to report. Plans result self.now (wrote text to report self.now.core)) }
         ensures delete { OfDelete event.now (λ entry. Plans result self.now (deleted entry self.now.core)) }
@@ -168,7 +168,7 @@ impl Handset {
 
     /// Puts a plan in that was made for this handset as it is, once its changes are committed: gives the frames to
     /// send. It takes no memory.
-    pub fn adopt(&mut self, planned: Planned) -> Listed<Outgoing>
+    pub fn adopt(&mut self, planned: Plan) -> Listed<Outgoing>
         requires fits { Fits planned self.old }
         ensures state { self.new.core ≡ adopted planned.outcome self.old.core }
         ensures frames { result ≡ planned.outcome.frames }
@@ -183,7 +183,7 @@ impl Handset {
             is_recovered,
             taken,
         } = planned.finished;
-        self.stored.groups.use_spare(planned.spare_groups);
+        self.stored.groups.use_reserve(planned.reserve_groups);
         self.stored.groups.apply(planned.regrouping);
         self.stored.taken = taken;
         adopt(&mut self.stored.entries, changes.entries);
@@ -218,8 +218,8 @@ impl Handset {
     }
 
     // The plan of an event, by its kind.
-    fn plan_of(&self, event: &HandsetEvent<'_>) -> Result<Planned, PlanError>
-        ensures frame { OfFrame event.now (λ octets tag. Plans result self.now (Ok (frame_came_of octets (tag_of tag) self.now.core))) }
+    fn plan_of(&self, event: &HandsetEvent<'_>) -> Result<Plan, PlanError>
+        ensures frame { OfFrame event.now (λ octets tag. Plans result self.now (Ok (frame_received_of octets (tag_of tag) self.now.core))) }
         ensures tick { OfTick event.now (λ now. Plans result self.now (Ok (ticked_of now self.now.core))) }
         ensures write { OfWrite event.now (λ text to report. Plans result self.now (wrote text to report self.now.core)) }
         ensures delete { OfDelete event.now (λ entry. Plans result self.now (deleted entry self.now.core)) }
@@ -240,38 +240,38 @@ impl Handset {
     }
 
     // The draft's outcome, with memory for the rows that come.
-    fn planned(&self, draft: Draft<'_>, regrouping: Regrouping) -> Result<Planned, NoMemory>
+    fn planned(&self, draft: Draft<'_>, regrouping: Regrouping) -> Result<Plan, NoMemory>
         requires groups { Regroups regrouping self.now.core.rows draft.rows }
         requires rests { Rests self.now.core.rows draft }
         ensures { IfOk result (IsPlanOf draft.entry self.now) }
     {
         // The call tells that the entries stand in order.
         let _in_order = self.stored.entries.as_slice();
-        let spare_groups = match self.spare_groups(&regrouping) {
-            Ok(spare_groups) => spare_groups,
+        let reserve_groups = match self.reserve_groups(&regrouping) {
+            Ok(reserve_groups) => reserve_groups,
             Err(error) => {
                 drop(draft);
                 return Err(error);
             }
         };
         let finished = draft.finish(&self.stored)?;
-        Ok(Planned {
+        Ok(Plan {
             finished,
             regrouping,
-            spare_groups,
+            reserve_groups,
         })
     }
 
     // Memory for the group that opens.
-    fn spare_groups(&self, regrouping: &Regrouping) -> Result<SpareGroups, NoMemory>
-        ensures { IfOk result (λ spare. self.now.groups.taken + opening regrouping.now ≤ max self.now.groups.capacity spare) }
+    fn reserve_groups(&self, regrouping: &Regrouping) -> Result<OpenGroupsReserve, NoMemory>
+        ensures { IfOk result (λ reserve. self.now.groups.taken + opening regrouping.now ≤ max self.now.groups.capacity reserve) }
     {
-        Ok(self.stored.groups.make_spare(self.alloc, regrouping)?)
+        Ok(self.stored.groups.make_reserve(self.alloc, regrouping)?)
     }
 
     #[tactic(auto, using(crate::proofs::GroupStages::frame_regroups, crate::proofs::Resting::frame_rests))]
-    fn plan_frame(&self, octets: &[u8], tag: Option<Holder>) -> Result<Planned, PlanError>
-        ensures plan { Plans result self.now (Ok (frame_came_of octets.now (tag_of tag) self.now.core)) }
+    fn plan_frame(&self, octets: &[u8], tag: Option<Holder>) -> Result<Plan, PlanError>
+        ensures plan { Plans result self.now (Ok (frame_received_of octets.now (tag_of tag) self.now.core)) }
         ensures fits { IfOk result (λ planned. Fits planned self.now) }
     {
         let mut draft = self.draft()?;
@@ -286,7 +286,7 @@ impl Handset {
     }
 
     #[tactic(auto, using(crate::proofs::GroupStages::tick_regroups, crate::proofs::Resting::tick_rests))]
-    fn plan_tick(&self, now: Moment) -> Result<Planned, PlanError>
+    fn plan_tick(&self, now: Moment) -> Result<Plan, PlanError>
         ensures plan { Plans result self.now (Ok (ticked_of now self.now.core)) }
         ensures fits { IfOk result (λ planned. Fits planned self.now) }
     {
@@ -330,7 +330,7 @@ impl Handset {
         }
     }
 
-    fn plan_write(&self, text: &str, to: &str, report: bool) -> Result<Planned, PlanError>
+    fn plan_write(&self, text: &str, to: &str, report: bool) -> Result<Plan, PlanError>
         ensures plan { Plans result self.now (wrote (chars text.now) (chars to.now) report self.now.core) }
         ensures fits { IfOk result (λ planned. Fits planned self.now) }
     {
@@ -385,7 +385,7 @@ impl Handset {
         None
     }
 
-    fn plan_delete(&self, entry: u32) -> Result<Planned, PlanError>
+    fn plan_delete(&self, entry: u32) -> Result<Plan, PlanError>
         ensures plan { Plans result self.now (deleted entry self.now.core) }
         ensures fits { IfOk result (λ planned. Fits planned self.now) }
     {
@@ -402,7 +402,7 @@ impl Handset {
         }
     }
 
-    fn plan_discard(&self, entry: u32) -> Result<Planned, PlanError>
+    fn plan_discard(&self, entry: u32) -> Result<Plan, PlanError>
         ensures plan { Plans result self.now (discarded entry self.now.core) }
         ensures fits { IfOk result (λ planned. Fits planned self.now) }
     {

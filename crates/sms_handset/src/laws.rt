@@ -5,7 +5,7 @@ ghost use Rattle.sms_handset_draft.specs.declared.rows.Rows.{Rows};
 ghost use Rattle.sms_handset_draft.specs.declared.setup.Setup.{Setup};
 ghost use Rattle.sms_handset.specs.Accepted.{StoresAccepted};
 ghost use Rattle.sms_handset_draft.specs.Draft.{Core, Draft};
-ghost use Rattle.sms_handset.specs.HandsetEvent.{deleted, discarded, frame_came, ticked, wrote};
+ghost use Rattle.sms_handset.specs.HandsetEvent.{deleted, discarded, frame_received, ticked, wrote};
 ghost use Rattle.sms_handset_draft.specs.Outbox.{offer_message, offer_wanted};
 ghost use Rattle.sms_handset.specs.Planning.{Rests, RestsIfDone};
 ghost use Rattle.sms_handset_draft.specs.FirstRows.{first_rows};
@@ -13,7 +13,7 @@ ghost use Rattle.sms_handset.specs.SoundRows.{IsSetup, IsSound};
 
 /// The rows that an event leads to are the rows with its changes.
 pub fn rows_are_the_changes()
-    ensures frame { (octets : List ℕ) (tag : Holder) (c : Core) → Rests c.rows (frame_came octets tag c) }
+    ensures frame { (octets : List ℕ) (tag : Holder) (c : Core) → Rests c.rows (frame_received octets tag c) }
     ensures tick { (now : ℕ) (c : Core) → Rests c.rows (ticked now c) }
     ensures write { (text to : List ℕ) (report : Bool) (c : Core) → RestsIfDone c.rows (wrote text to report c) }
     ensures delete { (entry : ℕ) (c : Core) → RestsIfDone c.rows (deleted entry c) }
@@ -23,7 +23,7 @@ pub fn rows_are_the_changes()
 /// What is accepted is stored. Changes that make a DELIVER of no discarded group the last accepted also put an entry of
 /// its source and user data, alone or joined. The entry is in the rows.
 pub fn accepted_is_stored()
-    ensures { (octets : List ℕ) (tag : Holder) (c : Core) → StoresAccepted c.rows.marks (frame_came octets tag c).changes (frame_came octets tag c).rows }
+    ensures { (octets : List ℕ) (tag : Holder) (c : Core) → StoresAccepted c.rows.marks (frame_received octets tag c).changes (frame_received octets tag c).rows }
 {}
 
 /// Sound rows are so with any setup: a handset recovers with the one that it is given then.
@@ -38,6 +38,6 @@ pub fn first_rows_are_sound()
 
 /// Where the numbers of RP-SMMA have reached their last, which is never given, no further one is sent. Messages are
 /// still sent.
-pub fn the_last_notice_holds_nothing_up()
+pub fn the_last_notice_blocks_nothing()
     ensures { (d : Draft) → d.rows.counters.notice ≡ 4294967295 → offer_wanted d ≡ offer_message d }
 {}

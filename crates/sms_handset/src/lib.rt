@@ -5,13 +5,13 @@
 //! plan is exactly that of the definition, and each refusal is the definition's. A sound handset is sound after each
 //! event, and starts again from the rows that were committed.
 //!
-//! - `coming`: frames and ticks, and what follows every event
+//! - `receiving`: frames and ticks, and what follows every event
 //! - `deleting`: deleting and discarding
 //! - `event`: the events of a handset
 //! - `handset`: the handset and its calls
 //! - `laws`: laws of a handset's events
 //! - `machine`: a handset over its store
-//! - `planned`: a plan, ready made
+//! - `plan`: a plan, ready made
 //! - `recover_error`: why rows are refused
 //! - `refusal`: why an act of the owner is refused
 //! - `sound_rows`: whether a handset can start on rows
@@ -19,13 +19,13 @@
 //! - `writing`: a text as SUBMITs in the outbox
 #![tactic(auto)]
 
-mod coming;
+mod receiving;
 mod deleting;
 mod event;
 mod handset;
 pub mod laws;
 pub mod machine;
-mod planned;
+mod plan;
 mod recover_error;
 mod refusal;
 mod sound_rows;
@@ -34,7 +34,7 @@ mod writing;
 
 pub use event::HandsetEvent;
 pub use handset::Handset;
-pub use planned::Planned;
+pub use plan::Plan;
 pub use recover_error::RecoverError;
 pub use refusal::{PlanError, Refusal};
 pub use sms_handset_draft::{Changes, Counters, NoMemory, Rows, Setup};

@@ -7,14 +7,14 @@ use Rattle.sms_link.specs.declared.ending.Upward.TheVariants.{Opened, Ended}
 use Rattle.sms_link.specs.LinkTurn.{Turn}
 use Rattle.sms_handset_draft.specs.Draft.{Draft, with_turn}
 use Rattle.sms_handset_draft.specs.Outbox.{transfer_ended}
-use Rattle.sms_handset_draft.specs.Receiving.{unit_came}
+use Rattle.sms_handset_draft.specs.Receiving.{unit_received}
 
 -- ---- a frame
 
 -- what goes up from the link: a unit that opens a transaction, or how the handset's own transfer ended
 abbrev pub went_up : Holder → Option Upward → Draft → Draft
 went_up tag None d = d
-went_up tag (Some (Opened unit)) d = unit_came tag unit (down_at unit) d
+went_up tag (Some (Opened unit)) d = unit_received tag unit (down_at unit) d
 went_up tag (Some (Ended transfer ending)) d = transfer_ended transfer ending d
 
 abbrev pub frame_heard : Holder → Turn → Draft → Draft

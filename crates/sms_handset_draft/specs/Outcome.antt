@@ -1,7 +1,7 @@
 -- What came of an event: what it changes and sends, and all that a restart forgets as it will be.
 use Rattle.std.specs.Prelude.{ℕ, List, Bool, Option}
 use Rattle.sms_base.specs.declared.carried.Carried.{Carried}
-use Rattle.sms_rows.specs.table.Pending.{FitsIn}
+use Rattle.sms_rows.specs.table.TableDraft.{FitsIn}
 use Rattle.sms_control.specs.declared.link_state.LinkState.{LinkState}
 use Rattle.sms_link.specs.declared.outgoing.Outgoing.{Outgoing}
 use Rattle.sms_handset_rows.specs.declared.outbox.notice.Notice.{Notice}
@@ -21,8 +21,8 @@ changes_in c = record {
 }
 
 -- how many rows that memory holds
-abbrev pub spare_in : SettledChanges → Room
-spare_in c = record { entries = c.entries.spare; last = c.last.spare; outbox = c.outbox.spare; marks = c.marks.spare }
+abbrev pub reserve_in : SettledChanges → Room
+reserve_in c = record { entries = c.entries.reserve; last = c.last.reserve; outbox = c.outbox.reserve; marks = c.marks.reserve }
 
 -- what came of an event
 pub record Outcome : Type 0 where

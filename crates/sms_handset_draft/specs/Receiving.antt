@@ -54,31 +54,31 @@ no_room reference tag d = refuse reference tag MemoryCapacityExceeded 211 (flag 
 -- ---- DELIVER
 
 -- a message that is no part of an open group
-abbrev pub single_came : ℕ → Holder → List ℕ → Draft → Draft
-single_came reference tag tpdu d =
+abbrev pub single_received : ℕ → Holder → List ℕ → Draft → Draft
+single_received reference tag tpdu d =
     if has_room d then accept reference tag tpdu (store_single tpdu d) else no_room reference tag d
 
 -- a part whose group has those parts so far
-abbrev pub new_part_came : ℕ → Holder → List ℕ → Group → ℕ → List Entry → Draft → Draft
-new_part_came reference tag tpdu g n es d =
+abbrev pub new_part_received : ℕ → Holder → List ℕ → Group → ℕ → List Entry → Draft → Draft
+new_part_received reference tag tpdu g n es d =
     if has_room d then accept reference tag tpdu (store_part g n tpdu es d) else no_room reference tag d
 
 -- a number that stands in its group is an entry of its own
-abbrev pub member_came : ℕ → Holder → List ℕ → Group → ℕ → List Entry → Draft → Draft
-member_came reference tag tpdu g n es d =
-    if is_among n (part_numbers es) then single_came reference tag tpdu d else new_part_came reference tag tpdu g n es d
+abbrev pub member_received : ℕ → Holder → List ℕ → Group → ℕ → List Entry → Draft → Draft
+member_received reference tag tpdu g n es d =
+    if is_among n (part_numbers es) then single_received reference tag tpdu d else new_part_received reference tag tpdu g n es d
 
 -- so is a number that was seen of a discarded group
-abbrev pub part_came : ℕ → Holder → List ℕ → Group → ℕ → Option DiscardedGroup → Draft → Draft
-part_came reference tag tpdu g n None d = member_came reference tag tpdu g n (members g d.rows.entries) d
-part_came reference tag tpdu g n (Some m) d =
-    if is_among n m.seen then single_came reference tag tpdu d else accept reference tag tpdu (marked n m d)
+abbrev pub part_received : ℕ → Holder → List ℕ → Group → ℕ → Option DiscardedGroup → Draft → Draft
+part_received reference tag tpdu g n None d = member_received reference tag tpdu g n (members g d.rows.entries) d
+part_received reference tag tpdu g n (Some m) d =
+    if is_among n m.seen then single_received reference tag tpdu d else accept reference tag tpdu (marked n m d)
 
-abbrev pub deliver_came : ℕ → Holder → List ℕ → DeliverOf → Option ConcatKey → Draft → Draft
-deliver_came reference tag tpdu m None d = single_came reference tag tpdu d
-deliver_came reference tag tpdu m (Some key) d =
+abbrev pub deliver_received : ℕ → Holder → List ℕ → DeliverOf → Option ConcatKey → Draft → Draft
+deliver_received reference tag tpdu m None d = single_received reference tag tpdu d
+deliver_received reference tag tpdu m (Some key) d =
     let g : Group = group_of m.originating_address key in
-    part_came reference tag tpdu g key.number (mark_of g d.rows.marks) d
+    part_received reference tag tpdu g key.number (mark_of g d.rows.marks) d
 
 -- ---- STATUS-REPORT
 
@@ -88,16 +88,16 @@ note status (Some o) d = put_out (record o { status = Some status }) d
 
 -- ---- RP-DATA
 
-abbrev pub tpdu_came : ℕ → Holder → List ℕ → Result Down TpduFault → Draft → Draft
-tpdu_came reference tag tpdu (Ok (Deliver m)) d = deliver_came reference tag tpdu m (key_of m) d
-tpdu_came reference tag tpdu (Ok (StatusReport r)) d = accept reference tag tpdu (note r.status (reported r d.rows.outbox) d)
-tpdu_came reference tag tpdu (Ok (SubmitReport r)) d = refuse reference tag InvalidMandatoryInformation 255 d
-tpdu_came reference tag tpdu (Err fault) d = refuse reference tag InvalidMandatoryInformation 255 d
+abbrev pub tpdu_received : ℕ → Holder → List ℕ → Result Down TpduFault → Draft → Draft
+tpdu_received reference tag tpdu (Ok (Deliver m)) d = deliver_received reference tag tpdu m (key_of m) d
+tpdu_received reference tag tpdu (Ok (StatusReport r)) d = accept reference tag tpdu (note r.status (reported r d.rows.outbox) d)
+tpdu_received reference tag tpdu (Ok (SubmitReport r)) d = refuse reference tag InvalidMandatoryInformation 255 d
+tpdu_received reference tag tpdu (Err fault) d = refuse reference tag InvalidMandatoryInformation 255 d
 
-abbrev pub data_came : ℕ → Holder → List ℕ → Draft → Draft
-data_came reference tag tpdu d =
+abbrev pub data_received : ℕ → Holder → List ℕ → Draft → Draft
+data_received reference tag tpdu d =
     if is_double tpdu (row_at last_key reference d.rows.last) then acknowledge reference tag d
-    else tpdu_came reference tag tpdu (down_at InData tpdu) d
+    else tpdu_received reference tag tpdu (down_at InData tpdu) d
 
 -- ---- a unit that opens a transaction
 
@@ -115,9 +115,9 @@ reference_octet (kind ∷ []) = 0
 reference_octet (kind ∷ reference ∷ rest) = reference
 
 -- other units are dropped
-abbrev pub unit_came : Holder → List ℕ → Result Rp RelayFault → Draft → Draft
-unit_came tag unit (Ok (DataUnit reference centre tpdu)) d = data_came reference tag tpdu d
-unit_came tag unit (Ok (AckUnit reference tpdu)) d = d
-unit_came tag unit (Ok (ErrorUnit reference cause tpdu)) d = d
-unit_came tag unit (Ok (Smma reference)) d = d
-unit_came tag unit (Err fault) d = reject (reference_octet unit) tag (fault_cause fault) d
+abbrev pub unit_received : Holder → List ℕ → Result Rp RelayFault → Draft → Draft
+unit_received tag unit (Ok (DataUnit reference centre tpdu)) d = data_received reference tag tpdu d
+unit_received tag unit (Ok (AckUnit reference tpdu)) d = d
+unit_received tag unit (Ok (ErrorUnit reference cause tpdu)) d = d
+unit_received tag unit (Ok (Smma reference)) d = d
+unit_received tag unit (Err fault) d = reject (reference_octet unit) tag (fault_cause fault) d

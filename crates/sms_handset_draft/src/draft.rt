@@ -3,7 +3,7 @@ ghost use Rattle.std.specs.Prelude.{◌≡◌, ◌++◌, ◌<◌, ◌≤◌, ◌
 ghost use Rattle.sms_base.specs.Address.{IsAddress};
 ghost use Rattle.sms_link.specs.declared.ending.Side.TheVariants.{Handset as HandsetSide};
 ghost use Rattle.sms_link.specs.LinkTurn.{fired, taken};
-ghost use Rattle.sms_rows.specs.table.Pending.{rows_in};
+ghost use Rattle.sms_rows.specs.table.TableDraft.{rows_in};
 ghost use Rattle.sms_rows.specs.table.Table.{row_at};
 ghost use Rattle.sms_handset_rows.specs.inbox.Keys.{entry_key, last_key};
 ghost use Rattle.sms_handset_draft.specs.Draft.{begin as begin_of, draft_of, link_of, no_changes, put_counters as put_counters_of, put_entry as put_entry_of, put_last as put_last_of, put_mark as put_mark_of, put_out as put_out_of, remove_entry as remove_entry_of, remove_mark as remove_mark_of, remove_out as remove_out_of, reply as reply_of, room_of, rows_of, with_turn};
@@ -23,7 +23,7 @@ use sms_base::{Address, Holder, Kind, Listed, Moment};
 use sms_handset_rows::inbox::{DiscardedGroup, Entry, Group, LastAccepted, Members, OpenGroup};
 use sms_handset_rows::outbox::{Notice, OutEntry};
 use sms_link::{Link, Outgoing, Upward};
-use sms_rows::table::{Key, Pending, Table};
+use sms_rows::table::{Key, TableDraft, Table};
 use std::alloc::Global;
 use std::marker::Model;
 
@@ -37,10 +37,10 @@ pub struct Draft<'a> {
     pub(crate) notices_wanted: u32,
     pub(crate) notices: Table<Notice>,
     pub(crate) is_recovered: bool,
-    pub(crate) entries: Pending<'a, Entry>,
-    pub(crate) last: Pending<'a, LastAccepted>,
-    pub(crate) outbox: Pending<'a, OutEntry>,
-    pub(crate) marks: Pending<'a, DiscardedGroup>,
+    pub(crate) entries: TableDraft<'a, Entry>,
+    pub(crate) last: TableDraft<'a, LastAccepted>,
+    pub(crate) outbox: TableDraft<'a, OutEntry>,
+    pub(crate) marks: TableDraft<'a, DiscardedGroup>,
     pub(crate) counters: Option<Counters>,
     /// How many slots the entries take at present.
     pub(crate) taken: u64,
@@ -102,10 +102,10 @@ impl<'a> Draft<'a> {
             notices_wanted,
             notices,
             is_recovered,
-            entries: Pending::of(alloc, &base.entries),
-            last: Pending::of(alloc, &base.last),
-            outbox: Pending::of(alloc, &base.outbox),
-            marks: Pending::of(alloc, &base.marks),
+            entries: TableDraft::of(alloc, &base.entries),
+            last: TableDraft::of(alloc, &base.last),
+            outbox: TableDraft::of(alloc, &base.outbox),
+            marks: TableDraft::of(alloc, &base.marks),
             counters: None,
             taken: base.taken,
             frames: Listed::new(alloc),
@@ -364,7 +364,7 @@ impl<'a> Draft<'a> {
 }
 
 // How many slots the entry of that number takes as the entries stand, if there is one.
-fn slots_at(entries: &Pending<'_, Entry>, number: u32) -> u8
+fn slots_at(entries: &TableDraft<'_, Entry>, number: u32) -> u8
     ensures { result ≡ slots_of (row_at entry_key number (rows_in entry_key entries.now)) }
 {
     match entries.find(Key::of(u64::from(number))) {

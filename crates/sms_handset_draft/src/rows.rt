@@ -7,7 +7,7 @@ use crate::setup::Setup;
 use sms_base::Listed;
 use sms_handset_rows::inbox::{DiscardedGroup, Entry, LastAccepted};
 use sms_handset_rows::outbox::OutEntry;
-use sms_rows::table::Settled;
+use sms_rows::table::TablePlan;
 use std::alloc::Global;
 
 /// All that a handset stores, and its setup, which is handed in.
@@ -47,9 +47,9 @@ impl Rows {
 /// What an event changes of the rows: of each list in order, and the counters if they change.
 #[derive(Drop)]
 pub struct Changes {
-    pub entries: Settled<Entry>,
-    pub last: Settled<LastAccepted>,
-    pub outbox: Settled<OutEntry>,
-    pub marks: Settled<DiscardedGroup>,
+    pub entries: TablePlan<Entry>,
+    pub last: TablePlan<LastAccepted>,
+    pub outbox: TablePlan<OutEntry>,
+    pub marks: TablePlan<DiscardedGroup>,
     pub counters: Option<Counters>,
 }

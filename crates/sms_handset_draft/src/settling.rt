@@ -1,7 +1,7 @@
 //! The changes of an event, with memory for the rows that they bring. Each function here holds few values where a
 //! growth may be refused: what is dropped there is dear to prove.
 ghost use Rattle.std.specs.Prelude.{◌≡◌, IfOk};
-ghost use Rattle.sms_rows.specs.table.Pending.{FitsIn};
+ghost use Rattle.sms_rows.specs.table.TableDraft.{FitsIn};
 ghost use Rattle.sms_handset_draft.specs.Draft.{room_of, rows_of};
 ghost use Rattle.sms_handset_draft.specs.Outcome.{HaveRoom, changes_in};
 
@@ -10,21 +10,21 @@ use crate::rows::Changes;
 use crate::stored::Stored;
 use sms_handset_rows::inbox::{DiscardedGroup, Entry, LastAccepted};
 use sms_handset_rows::outbox::OutEntry;
-use sms_rows::table::{Pending, Row, Settled, Table};
+use sms_rows::table::{TableDraft, Row, TablePlan, Table};
 use std::alloc::{AllocError, Global};
 
 // The changes of two lists.
 #[derive(Drop)]
 struct Two<A: Drop, B: Drop> {
-    first: Settled<A>,
-    second: Settled<B>,
+    first: TablePlan<A>,
+    second: TablePlan<B>,
 }
 
 fn settle_two<A: Drop + Row, B: Drop + Row>(
     alloc: Global,
-    first: Pending<'_, A>,
+    first: TableDraft<'_, A>,
     first_table: &Table<A>,
-    second: Pending<'_, B>,
+    second: TableDraft<'_, B>,
     second_table: &Table<B>,
 ) -> Result<Two<A, B>, AllocError>
     ensures first { IfOk result (λ two. two.first.changes ≡ first.entry.changes) }
@@ -57,10 +57,10 @@ fn changes_of(
 /// The changes of all lists, with memory for the rows that they bring to those of the handset.
 pub(crate) fn settle(
     alloc: Global,
-    entries: Pending<'_, Entry>,
-    last: Pending<'_, LastAccepted>,
-    outbox: Pending<'_, OutEntry>,
-    marks: Pending<'_, DiscardedGroup>,
+    entries: TableDraft<'_, Entry>,
+    last: TableDraft<'_, LastAccepted>,
+    outbox: TableDraft<'_, OutEntry>,
+    marks: TableDraft<'_, DiscardedGroup>,
     counters: Option<Counters>,
     stored: &Stored,
 ) -> Result<Changes, AllocError>

@@ -14,4 +14,4 @@
 mod frames;
 mod receiving;
 
-pub use frames::frame_came;
+pub use frames::frame_received;

@@ -7,7 +7,7 @@ ghost use Rattle.sms_tpdu.specs.declared.carrier.Carrier.TheVariants.{InData as 
 ghost use Rattle.sms_handset_draft.specs.Draft.{no_changes};
 ghost use Rattle.sms_handset_draft.specs.GroupChanges.{data_groups, deliver_groups, member_groups, new_part_groups, part_groups, tpdu_groups, unit_groups};
 ghost use Rattle.sms_handset_rows.specs.inbox.Groups.{key_of as key_of_deliver, mark_of, members as members_of};
-ghost use Rattle.sms_handset_draft.specs.Receiving.{accept as accept_of, acknowledge as acknowledge_of, data_came as data_came_of, deliver_came as deliver_came_of, fault_cause as fault_cause_of, member_came as member_came_of, new_part_came as new_part_came_of, no_room as no_room_of, note as note_of, part_came as part_came_of, reference_octet as reference_octet_of, refuse as refuse_of, reject as reject_of, single_came as single_came_of, tpdu_came as tpdu_came_of, unit_came as unit_came_of};
+ghost use Rattle.sms_handset_draft.specs.Receiving.{accept as accept_of, acknowledge as acknowledge_of, data_received as data_received_of, deliver_received as deliver_received_of, fault_cause as fault_cause_of, member_received as member_received_of, new_part_received as new_part_received_of, no_room as no_room_of, note as note_of, part_received as part_received_of, reference_octet as reference_octet_of, refuse as refuse_of, reject as reject_of, single_received as single_received_of, tpdu_received as tpdu_received_of, unit_received as unit_received_of};
 ghost use Rattle.sms_handset_rows.specs.outbox.Reports.{reported as reported_of};
 
 use sms_base::{Holder, Kind, OctetView, Octets};
@@ -90,14 +90,14 @@ fn no_room(draft: &mut Draft<'_>, reference: u8, tag: Holder) -> Result<(), NoMe
 }
 
 // A message that is no part of an open group.
-fn single_came(
+fn single_received(
     draft: &mut Draft<'_>,
     reference: u8,
     tag: Holder,
     tpdu: &[u8],
 ) -> Result<(), NoMemory>
     requires untouched { draft.old.changes ≡ no_changes }
-    ensures { OnOk result (draft.new ≡ single_came_of reference tag tpdu.now draft.old) }
+    ensures { OnOk result (draft.new ≡ single_received_of reference tag tpdu.now draft.old) }
 {
     if draft.has_room() {
         draft.store_single(tpdu)?;
@@ -108,7 +108,7 @@ fn single_came(
 }
 
 // A part whose number does not stand in its group.
-fn new_part_came(
+fn new_part_received(
     draft: &mut Draft<'_>,
     reference: u8,
     tag: Holder,
@@ -118,7 +118,7 @@ fn new_part_came(
     members: &Members<'_>,
 ) -> Result<Regrouping, NoMemory>
     requires untouched { draft.old.changes ≡ no_changes }
-    ensures moves { OnOk result (draft.new ≡ new_part_came_of reference tag tpdu.now group.now number members.now draft.old) }
+    ensures moves { OnOk result (draft.new ≡ new_part_received_of reference tag tpdu.now group.now number members.now draft.old) }
     ensures groups { IfOk result (λ change. change ≡ new_part_groups tpdu.now group.now number members.now draft.old) }
 {
     if draft.has_room() {
@@ -132,7 +132,7 @@ fn new_part_came(
 }
 
 // A part of no discarded group.
-fn member_came(
+fn member_received(
     draft: &mut Draft<'_>,
     reference: u8,
     tag: Holder,
@@ -141,20 +141,20 @@ fn member_came(
     number: u8,
 ) -> Result<Regrouping, NoMemory>
     requires untouched { draft.old.changes ≡ no_changes }
-    ensures moves { OnOk result (draft.new ≡ member_came_of reference tag tpdu.now group.now number (members_of group.now draft.old.rows.entries) draft.old) }
+    ensures moves { OnOk result (draft.new ≡ member_received_of reference tag tpdu.now group.now number (members_of group.now draft.old.rows.entries) draft.old) }
     ensures groups { IfOk result (λ change. change ≡ member_groups tpdu.now group.now number (members_of group.now draft.old.rows.entries) draft.old) }
 {
     let members = draft.members(group);
     if members.has(number) {
-        single_came(draft, reference, tag, tpdu)?;
+        single_received(draft, reference, tag, tpdu)?;
         Ok(Regrouping::Unchanged)
     } else {
-        new_part_came(draft, reference, tag, tpdu, group, number, &members)
+        new_part_received(draft, reference, tag, tpdu, group, number, &members)
     }
 }
 
 // A part of a discarded group.
-fn marked_part_came(
+fn marked_part_received(
     draft: &mut Draft<'_>,
     reference: u8,
     tag: Holder,
@@ -164,10 +164,10 @@ fn marked_part_came(
     mark: &DiscardedGroup,
 ) -> Result<(), NoMemory>
     requires untouched { draft.old.changes ≡ no_changes }
-    ensures { OnOk result (draft.new ≡ part_came_of reference tag tpdu.now group.now number (Some mark.now) draft.old) }
+    ensures { OnOk result (draft.new ≡ part_received_of reference tag tpdu.now group.now number (Some mark.now) draft.old) }
 {
     if is_among(number, mark.seen.as_slice()) {
-        single_came(draft, reference, tag, tpdu)
+        single_received(draft, reference, tag, tpdu)
     } else {
         draft.mark(number, mark)?;
         accept(draft, reference, tag, tpdu)
@@ -175,7 +175,7 @@ fn marked_part_came(
 }
 
 // A part of a long message.
-fn part_came(
+fn part_received(
     draft: &mut Draft<'_>,
     reference: u8,
     tag: Holder,
@@ -184,19 +184,19 @@ fn part_came(
     number: u8,
 ) -> Result<Regrouping, NoMemory>
     requires untouched { draft.old.changes ≡ no_changes }
-    ensures moves { OnOk result (draft.new ≡ part_came_of reference tag tpdu.now group.now number (mark_of group.now draft.old.rows.marks) draft.old) }
+    ensures moves { OnOk result (draft.new ≡ part_received_of reference tag tpdu.now group.now number (mark_of group.now draft.old.rows.marks) draft.old) }
     ensures groups { IfOk result (λ change. change ≡ part_groups tpdu.now group.now number (mark_of group.now draft.old.rows.marks) draft.old) }
 {
     match find_mark(group, draft.marks()) {
         Some(mark) => {
-            marked_part_came(draft, reference, tag, tpdu, group, number, mark)?;
+            marked_part_received(draft, reference, tag, tpdu, group, number, mark)?;
             Ok(Regrouping::Unchanged)
         }
-        None => member_came(draft, reference, tag, tpdu, group, number),
+        None => member_received(draft, reference, tag, tpdu, group, number),
     }
 }
 
-fn deliver_came(
+fn deliver_received(
     draft: &mut Draft<'_>,
     reference: u8,
     tag: Holder,
@@ -204,7 +204,7 @@ fn deliver_came(
     message: &Deliver<'_>,
 ) -> Result<Regrouping, NoMemory>
     requires untouched { draft.old.changes ≡ no_changes }
-    ensures moves { OnOk result (draft.new ≡ deliver_came_of reference tag tpdu.now message.now (key_of_deliver message.now) draft.old) }
+    ensures moves { OnOk result (draft.new ≡ deliver_received_of reference tag tpdu.now message.now (key_of_deliver message.now) draft.old) }
     ensures groups { IfOk result (λ change. change ≡ deliver_groups tpdu.now message.now (key_of_deliver message.now) draft.old) }
 {
     match key_of(
@@ -217,10 +217,10 @@ fn deliver_came(
                 reference: key.reference,
                 total: key.total,
             };
-            part_came(draft, reference, tag, tpdu, &group, key.number)
+            part_received(draft, reference, tag, tpdu, &group, key.number)
         }
         None => {
-            single_came(draft, reference, tag, tpdu)?;
+            single_received(draft, reference, tag, tpdu)?;
             Ok(Regrouping::Unchanged)
         }
     }
@@ -253,19 +253,19 @@ fn report_came(
     accept(draft, reference, tag, tpdu)
 }
 
-fn tpdu_came(
+fn tpdu_received(
     draft: &mut Draft<'_>,
     reference: u8,
     tag: Holder,
     tpdu: &[u8],
 ) -> Result<Regrouping, NoMemory>
     requires untouched { draft.old.changes ≡ no_changes }
-    ensures moves { OnOk result (draft.new ≡ tpdu_came_of reference tag tpdu.now (down_at Data tpdu.now) draft.old) }
+    ensures moves { OnOk result (draft.new ≡ tpdu_received_of reference tag tpdu.now (down_at Data tpdu.now) draft.old) }
     ensures groups { IfOk result (λ change. change ≡ tpdu_groups tpdu.now (down_at Data tpdu.now) draft.old) }
 {
     match read_down(tpdu, Carrier::InData) {
         Ok(Down::Deliver(message)) => {
-            return deliver_came(draft, reference, tag, tpdu, &message);
+            return deliver_received(draft, reference, tag, tpdu, &message);
         }
         Ok(Down::StatusReport(report)) => report_came(draft, reference, tag, tpdu, &report)?,
         _ => refuse(
@@ -280,32 +280,32 @@ fn tpdu_came(
 }
 
 // RP-DATA.
-fn data_came(
+fn data_received(
     draft: &mut Draft<'_>,
     reference: u8,
     tag: Holder,
     tpdu: &[u8],
 ) -> Result<Regrouping, NoMemory>
     requires untouched { draft.old.changes ≡ no_changes }
-    ensures moves { OnOk result (draft.new ≡ data_came_of reference tag tpdu.now draft.old) }
+    ensures moves { OnOk result (draft.new ≡ data_received_of reference tag tpdu.now draft.old) }
     ensures groups { IfOk result (λ change. change ≡ data_groups reference tpdu.now draft.old) }
 {
     if is_double(tpdu, draft.last(reference)) {
         acknowledge(draft, reference, tag)?;
         Ok(Regrouping::Unchanged)
     } else {
-        tpdu_came(draft, reference, tag, tpdu)
+        tpdu_received(draft, reference, tag, tpdu)
     }
 }
 
 /// A unit that opens a transaction of the centre's: what becomes of the open groups.
-pub(crate) fn unit_came(
+pub(crate) fn unit_received(
     draft: &mut Draft<'_>,
     tag: Holder,
     unit: &[u8],
 ) -> Result<Regrouping, NoMemory>
     requires untouched { draft.old.changes ≡ no_changes }
-    ensures moves { OnOk result (draft.new ≡ unit_came_of tag unit.now (unit_at unit.now) draft.old) }
+    ensures moves { OnOk result (draft.new ≡ unit_received_of tag unit.now (unit_at unit.now) draft.old) }
     ensures groups { IfOk result (λ change. change ≡ unit_groups (unit_at unit.now) draft.old) }
 {
     match read_unit(unit) {
@@ -315,7 +315,7 @@ pub(crate) fn unit_came(
                 unit,
                 ..
             },
-        ) => data_came(draft, reference, tag, unit.as_slice()),
+        ) => data_received(draft, reference, tag, unit.as_slice()),
         Ok(_) => Ok(Regrouping::Unchanged),
         Err(fault) => {
             reject(draft, reference_octet(unit), tag, fault_cause(fault))?;

@@ -26,6 +26,6 @@ pub use joining::joined_content;
 pub use last_accepted::{LastAccepted, is_double};
 pub use members::Members;
 pub use open_group::{OpenGroup, Regrouping, StoredPart};
-pub use open_groups::{OpenGroups, SpareGroups};
+pub use open_groups::{OpenGroups, OpenGroupsReserve};
 pub use slots::slots_in;
 pub use sound_inbox::{are_entries, are_last, are_marks, are_of_open_groups, is_apart, is_given};

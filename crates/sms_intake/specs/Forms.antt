@@ -3,7 +3,7 @@ use Rattle.std.specs.Prelude.{ℕ, length, List, Some}
 use Rattle.sms_concat.specs.declared.content.Content.{Content}
 use Rattle.sms_concat.specs.Counting.{content_with}
 use Rattle.sms_concat.specs.TextContent.{content_of_text}
-use Rattle.sms_concat.specs.UserData.{AreUnits, Fits, header_of}
+use Rattle.sms_concat.specs.UserData.{AreUnits, FitsBehind, header_of}
 use Rattle.sms_intake.specs.declared.content_form.ContentForm.{ContentForm}
 use Rattle.sms_intake.specs.declared.content_form.ContentForm.TheVariants.{Units, Characters}
 use Rattle.sms_intake.specs.declared.header_form.HeaderForm.{HeaderForm}
@@ -30,5 +30,5 @@ text_behind (Sar key) content = Single (body_behind (header_of (Some key)) (Some
 -- a header leaves room for the content
 abbrev pub HasRoomBehind : HeaderForm → Content → Type 0
 HasRoomBehind Without content = Unit {0}
-HasRoomBehind (Given header key) content = Fits (length header) content
-HasRoomBehind (Sar key) content = Fits (length (header_of (Some key))) content
+HasRoomBehind (Given header key) content = FitsBehind (length header) content
+HasRoomBehind (Sar key) content = FitsBehind (length (header_of (Some key))) content

@@ -37,7 +37,7 @@ use Rattle.sms_intake.specs.declared.refusal.SmppError.{SmppError}
 use Rattle.sms_intake.specs.declared.refusal.SmppError.TheVariants.{Refused, NoMemory}
 use Rattle.sms_intake.specs.declared.smpp_front.Front.{Front}
 use Rattle.sms_intake.specs.declared.smpp_intake.Judged.{Judged}
-use Rattle.sms_intake.specs.declared.submission.Account.{Account}
+use Rattle.sms_intake.specs.declared.submission.CentreAccount.{CentreAccount}
 use Rattle.sms_intake.specs.declared.submission.Submission.{Submission}
 use Rattle.sms_intake.specs.declared.submission.Text.{Text}
 use Rattle.sms_intake.specs.declared.submission.Text.TheVariants.{Whole, Single}
@@ -239,7 +239,7 @@ judged_in own now m = do
   due ← due_in now limit m.schedule_delivery_time
   Ok (record { front = front; text = text; limit = limit; due = due })
 
-abbrev pub submission_for : Account → Message → Judged → Submission
+abbrev pub submission_for : CentreAccount → Message → Judged → Submission
 submission_for account m j = record {
   originator = Application account.name;
   source = j.front.source;
@@ -254,7 +254,7 @@ submission_for account m j = record {
   text = j.text;
 }
 
-unfoldable pub from_pdu : Account → ℕ → Message → Result Submission CommandStatus
+unfoldable pub from_pdu : CentreAccount → ℕ → Message → Result Submission CommandStatus
 from_pdu account now m = do
   judged ← judged_in account.address now m
   Ok (submission_for account m judged)

@@ -6,7 +6,7 @@ ghost use Rattle.smpp_pdu.specs.declared.message.Message.{Message};
 ghost use Rattle.smpp_pdu.specs.declared.status.CommandStatus.{CommandStatus};
 ghost use Rattle.sms_intake.specs.PartBodies.{deliver_written};
 ghost use Rattle.sms_intake.specs.SmppIntake.{from_pdu, front_in};
-ghost use Rattle.sms_intake.specs.declared.submission.Account.{Account};
+ghost use Rattle.sms_intake.specs.declared.submission.CentreAccount.{CentreAccount};
 
 /// The written list of a DELIVER is the one that the grammar has.
 pub fn a_written_deliver_is_the_list()
@@ -15,5 +15,5 @@ pub fn a_written_deliver_is_the_list()
 
 /// What is judged before the text of a submit_sm refuses first.
 pub fn the_front_refuses_first()
-    ensures { (account : Account) (now : ℕ) (message : Message) (status : CommandStatus) → front_in account.address message ≡ Err status → from_pdu account now message ≡ Err status }
+    ensures { (account : CentreAccount) (now : ℕ) (message : Message) (status : CommandStatus) → front_in account.address message ≡ Err status → from_pdu account now message ≡ Err status }
 {}

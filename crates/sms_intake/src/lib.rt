@@ -46,5 +46,5 @@ pub use refusal::{SmppError, SubmitError, SubmitRefusal};
 pub use smpp_front::{Front, front_of};
 pub use smpp_intake::from_pdu;
 pub use smpp_times::{due_of, limit_of, wish_of};
-pub use submission::{Account, SinglePart, Submission, Text};
+pub use submission::{CentreAccount, SinglePart, Submission, Text};
 pub use submit_report::{accepting_report, refusing_report};

@@ -5,7 +5,7 @@ ghost use Rattle.sms_intake.specs.SmppIntake.{Answered, from_pdu, judged_in, sub
 use crate::refusal::SmppError;
 use crate::smpp_front::{Front, front_of};
 use crate::smpp_times::{due_of, limit_of, wish_of};
-use crate::submission::{Account, Submission};
+use crate::submission::{CentreAccount, Submission};
 use crate::text_view::TextView;
 use smpp_pdu::{CommandStatus, Message};
 use sms_base::{Address, Moment, Octets, Originator, Priority};
@@ -40,7 +40,7 @@ fn judge<'a>(own: &Address, now: Moment, message: &Message<'a>) -> Result<Judged
 // The submission of what was judged well.
 fn submission_for(
     alloc: Global,
-    account: &Account,
+    account: &CentreAccount,
     message: &Message<'_>,
     judged: &Judged<'_>,
 ) -> Result<Submission, AllocError>
@@ -75,7 +75,7 @@ fn submission_for(
 #[tactic(auto, unfolding(crate::specs::SmppIntake::from_pdu))]
 pub fn from_pdu(
     alloc: Global,
-    account: &Account,
+    account: &CentreAccount,
     now: Moment,
     message: &Message<'_>,
 ) -> Result<Submission, SmppError>

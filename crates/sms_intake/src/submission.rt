@@ -4,7 +4,7 @@ use sms_concat::{ConcatKey, Content};
 
 /// An application's account.
 #[derive(Debug, Drop)]
-pub struct Account {
+pub struct CentreAccount {
     /// Its name, the system_id of its sessions.
     pub name: Octets,
     /// The source of messages that name none.

@@ -1,7 +1,7 @@
 //! The text of a submit_sm, before any memory is taken.
 ghost use Rattle.std.specs.Prelude.{◌≡◌, ◌≤◌, IfOk, Some, drop, length, take};
 ghost use Rattle.sms_concat.specs.HeaderGrammar.{header_at};
-ghost use Rattle.sms_concat.specs.UserData.{Fits, header_of};
+ghost use Rattle.sms_concat.specs.UserData.{FitsBehind, header_of};
 ghost use Rattle.sms_intake.specs.PartBodies.{body_behind};
 ghost use Rattle.sms_intake.specs.SmppIntake.{header_read, header_size, headed_text, plain_text, said, sar_key, sar_of, single_behind, text_in, text_of, whole_of};
 
@@ -207,7 +207,7 @@ fn given_part(
     key: Option<ConcatKey>,
     content: &Content,
 ) -> Result<SinglePart, AllocError>
-    requires { Fits (length header.now) content.now }
+    requires { FitsBehind (length header.now) content.now }
     ensures { IfOk result (λ part. part ≡ body_behind header.now key content.now) }
 {
     let user = user_data_behind(alloc, header, content)?;
@@ -216,7 +216,7 @@ fn given_part(
 
 // A content behind a header of sar values.
 fn sar_part(alloc: Global, key: ConcatKey, content: Content) -> Result<SinglePart, AllocError>
-    requires { Fits (length (header_of (Some key))) content }
+    requires { FitsBehind (length (header_of (Some key))) content }
     ensures { IfOk result (λ part. part ≡ body_behind (header_of (Some key)) (Some key) content) }
 {
     let part = Part {

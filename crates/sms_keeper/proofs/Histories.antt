@@ -12,7 +12,7 @@ use Rattle.sms_keeper.specs.declared.machine.Fate.{Fate}
 use Rattle.sms_keeper.specs.declared.outs.Out.{Out}
 use Rattle.sms_keeper.specs.declared.machine.Item.{Item}
 use Rattle.sms_keeper.specs.declared.jobs.Letter.{Letter}
-use Rattle.sms_keeper.specs.declared.keeper.Line.{Line}
+use Rattle.sms_keeper.specs.declared.keeper.SeatChannel.{SeatChannel}
 use Rattle.sms_keeper.specs.Jobs.{of, is_end, has_end}
 use Rattle.sms_keeper.specs.History.{IsHistory, outs_to, answers_in, asked_by, asked, job_of, work}
 use Rattle.sms_keeper.specs.declared.keeper.Keeper.{Keeper}
@@ -90,36 +90,36 @@ module _ {O : Type 0} where
   outs_else : (k : ℕ) (xs : List (Out O)) (x : Out O) → k ≢ x.seat → outs_to k (xs ++ x ∷ []) ≡ outs_to k xs
   outs_else k xs x n = outs_to-append k xs (x ∷ []) ∙ ap (λ l. outs_to k xs ++ l) (ap (λ b. if b then x.out ∷ [] else []) (ne_eqb k x.seat n)) ∙ append-nil (outs_to k xs)
 
-  given_here : (ls : List (Line O)) (i : ℕ) (l : Line O) → i < length ls → given_at (set ls i l) i ≡ (view l.pass).given
+  given_here : (ls : List (SeatChannel O)) (i : ℕ) (l : SeatChannel O) → i < length ls → given_at (set ls i l) i ≡ (view l.pass).given
   given_here [] i l h = absurd (omega arith)
   given_here (x ∷ xs) zero l h = refl
   given_here (x ∷ xs) (suc i) l h = given_here xs i l (omega arith)
 
-  given_else : (ls : List (Line O)) (i k : ℕ) (l : Line O) → k ≢ i → given_at (set ls i l) k ≡ given_at ls k
+  given_else : (ls : List (SeatChannel O)) (i k : ℕ) (l : SeatChannel O) → k ≢ i → given_at (set ls i l) k ≡ given_at ls k
   given_else [] i k l n = refl
   given_else (x ∷ xs) zero zero l n = absurd (n refl)
   given_else (x ∷ xs) zero (suc k) l n = refl
   given_else (x ∷ xs) (suc i) zero l n = refl
   given_else (x ∷ xs) (suc i) (suc k) l n = given_else xs i k l (λ e. n (ap suc e))
 
-  pub given_get : (ls : List (Line O)) (i : ℕ) (l : Line O) → i < length ls → l ≡ get_or ls i l → given_at ls i ≡ (view l.pass).given
+  pub given_get : (ls : List (SeatChannel O)) (i : ℕ) (l : SeatChannel O) → i < length ls → l ≡ get_or ls i l → given_at ls i ≡ (view l.pass).given
   given_get [] i l h e = absurd (omega arith)
-  given_get (x ∷ xs) zero l h e = ap (λ (y : Line O). (view y.pass).given) (sym e)
+  given_get (x ∷ xs) zero l h e = ap (λ (y : SeatChannel O). (view y.pass).given) (sym e)
   given_get (x ∷ xs) (suc i) l h e = given_get xs i l (omega arith) e
 
-  pub given_snoc : (ls : List (Line O)) (l : Line O) (k : ℕ) → (view l.pass).given ≡ [] → given_at (ls ++ l ∷ []) k ≡ given_at ls k
+  pub given_snoc : (ls : List (SeatChannel O)) (l : SeatChannel O) (k : ℕ) → (view l.pass).given ≡ [] → given_at (ls ++ l ∷ []) k ≡ given_at ls k
   given_snoc [] l zero e = e
   given_snoc [] l (suc k) e = refl
   given_snoc (x ∷ xs) l zero e = refl
   given_snoc (x ∷ xs) l (suc k) e = given_snoc xs l k e
 
-  pub same_length : (us bs : List (Line O)) → IsSameLines us bs → length bs ≡ length us
-  same_length us bs e = sym (length-map bs (λ (l : Line O). l.pass.table_id)) ∙ ap length e ∙ length-map us (λ (l : Line O). l.pass.table_id)
+  pub same_length : (us bs : List (SeatChannel O)) → IsSameLines us bs → length bs ≡ length us
+  same_length us bs e = sym (length-map bs (λ (l : SeatChannel O). l.pass.table_id)) ∙ ap length e ∙ length-map us (λ (l : SeatChannel O). l.pass.table_id)
 
-  pub same_set : (us bs : List (Line O)) (i : ℕ) (l m : Line O) → IsSameLines us bs → l ≡ get_or bs i l → m.pass.table_id ≡ l.pass.table_id → IsSameLines us (set bs i m)
-  same_set us bs i l m same at e = map-set_same (λ (l : Line O). l.pass.table_id) bs i m l (e ∙ ap (λ (l : Line O). l.pass.table_id) at) ∙ same
+  pub same_set : (us bs : List (SeatChannel O)) (i : ℕ) (l m : SeatChannel O) → IsSameLines us bs → l ≡ get_or bs i l → m.pass.table_id ≡ l.pass.table_id → IsSameLines us (set bs i m)
+  same_set us bs i l m same at e = map-set_same (λ (l : SeatChannel O). l.pass.table_id) bs i m l (e ∙ ap (λ (l : SeatChannel O). l.pass.table_id) at) ∙ same
 
-  pub gave_one : (us bs : List (Line O)) (l m : Line O) (outs : List (Out O)) (o : Out O) → o.seat < length bs → l ≡ get_or bs o.seat l → (view m.pass).given ≡ (view l.pass).given ++ o.out ∷ []
+  pub gave_one : (us bs : List (SeatChannel O)) (l m : SeatChannel O) (outs : List (Out O)) (o : Out O) → o.seat < length bs → l ≡ get_or bs o.seat l → (view m.pass).given ≡ (view l.pass).given ++ o.out ∷ []
       → Gave us bs outs → Gave us (set bs o.seat m) (outs ++ o ∷ [])
   gave_one us bs l m outs o within at added h k less = ⊎_elim
       (λ here. let e : k ≡ o.seat = here.1 in ap (λ i. given_at (set bs i m) k) (sym e) ∙ given_here bs k m (subst (λ i. i < length bs) (sym e) within) ∙ added
@@ -128,20 +128,20 @@ module _ {O : Type 0} where
       (λ no. given_else bs o.seat k m no.1 ∙ h k less ∙ ap (λ g. given_at us k ++ g) (sym (outs_else k outs o no.1)))
       (eqb_tells k o.seat)
 
-  pub gave_none : (us bs : List (Line O)) (outs : List (Out O)) (o : Out O) → length us ≤ o.seat → Gave us bs outs → Gave us bs (outs ++ o ∷ [])
+  pub gave_none : (us bs : List (SeatChannel O)) (outs : List (Out O)) (o : Out O) → length us ≤ o.seat → Gave us bs outs → Gave us bs (outs ++ o ∷ [])
   gave_none us bs outs o past h k less = h k less ∙ ap (λ g. given_at us k ++ g) (sym (outs_else k outs o (λ e. absurd (omega arith))))
 
   -- a line that was not given anything
-  pub given_unset : (us : List (Line O)) (i : ℕ) (l m : Line O) → i < length us → l ≡ get_or us i l → (view m.pass).given ≡ (view l.pass).given → (k : ℕ) → given_at (set us i m) k ≡ given_at us k
+  pub given_unset : (us : List (SeatChannel O)) (i : ℕ) (l m : SeatChannel O) → i < length us → l ≡ get_or us i l → (view m.pass).given ≡ (view l.pass).given → (k : ℕ) → given_at (set us i m) k ≡ given_at us k
   given_unset us i l m within at e k = ⊎_elim
       (λ here. ap (given_at (set us i m)) here.1 ∙ given_here us i m within ∙ e ∙ sym (given_get us i l within at) ∙ ap (given_at us) (sym here.1))
       (λ no. given_else us i k m no.1)
       (eqb_tells k i)
 
-  pub gave_nothing : (us : List (Line O)) → Gave us us []
+  pub gave_nothing : (us : List (SeatChannel O)) → Gave us us []
   gave_nothing us k less = sym (append-nil (given_at us k))
 
-  pub gave_more : (us bs cs : List (Line O)) (outs : List (Out O)) (o : Out O) → IsSameLines us bs → Gave us bs outs → Gave bs cs (o ∷ []) → Gave us cs (outs ++ o ∷ [])
+  pub gave_more : (us bs cs : List (SeatChannel O)) (outs : List (Out O)) (o : Out O) → IsSameLines us bs → Gave us bs outs → Gave bs cs (o ∷ []) → Gave us cs (outs ++ o ∷ [])
   gave_more us bs cs outs o same h e k less = e k (subst (λ n. k < n) (sym (same_length us bs same)) less) ∙ ap (λ g. g ++ outs_to k (o ∷ [])) (h k less)
       ∙ append_assoc (given_at us k) (outs_to k outs) (outs_to k (o ∷ [])) ∙ ap (λ g. given_at us k ++ g) (sym (outs_to-append k outs (o ∷ [])))
 
@@ -188,8 +188,8 @@ module _ {J O : Type 0} where
 
   -- a seat that did something is still one of the keeper
   pub seat_same : (k : Keeper J O) (a b : Seat J O) → IsSameSeat a b → IsSeatOf k a → IsSeatOf k b
-  seat_same k a b same h = (same.jobs ∙ h.0, ap (λ n. slice_get (map (λ (l : Line O). l.pass.table_id) k.lines.items) n) same.number ∙ h.1 ∙ ap Some (sym same.answers))
+  seat_same k a b same h = (same.jobs ∙ h.0, ap (λ n. slice_get (map (λ (l : SeatChannel O). l.pass.table_id) k.lines.items) n) same.number ∙ h.1 ∙ ap Some (sym same.answers))
 
   -- its number is one of the keeper's seats
   pub seat_within : (k : Keeper J O) (s : Seat J O) → IsSeatOf k s → s.number < length k.lines.items
-  seat_within k s h = subst (λ n. s.number < n) (length-map k.lines.items (λ (l : Line O). l.pass.table_id)) (slice_get_within (map (λ (l : Line O). l.pass.table_id) k.lines.items) s.number s.taker.table_id h.1)
+  seat_within k s h = subst (λ n. s.number < n) (length-map k.lines.items (λ (l : SeatChannel O). l.pass.table_id)) (slice_get_within (map (λ (l : SeatChannel O). l.pass.table_id) k.lines.items) s.number s.taker.table_id h.1)

@@ -20,9 +20,9 @@ module _ {O : Type 0} where
   abbrev pub spent_view : AnswersView O
   spent_view = log false false [] []
 
-  abbrev pub Fits : ℕ → ℕ → List O → List O → ℕ → AnswersView O → Type 0
-  Fits giver taker given taken port v = (v.gives ≡ true → (port ≡ giver) × (v.given ≡ given)) × (v.takes ≡ true → (port ≡ taker) × (v.taken ≡ taken))
+  abbrev pub MatchesLog : ℕ → ℕ → List O → List O → ℕ → AnswersView O → Type 0
+  MatchesLog giver taker given taken port v = (v.gives ≡ true → (port ≡ giver) × (v.given ≡ given)) × (v.takes ≡ true → (port ≡ taker) × (v.taken ≡ taken))
 
   abbrev pub Relayed : List O → List (AnswersView O) → Type 0
   Relayed items views = (giver : ℕ) × (taker : ℕ) × (given : List O) × (taken : List O) × (given ≡ taken ++ items)
-      × ((port : ℕ) (v : AnswersView O) → get_elem? views port ≡ some v → Fits giver taker given taken port v)
+      × ((port : ℕ) (v : AnswersView O) → get_elem? views port ≡ some v → MatchesLog giver taker given taken port v)

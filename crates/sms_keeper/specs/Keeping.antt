@@ -9,22 +9,22 @@ use Rattle.sms_keeper.specs.declared.outs.Out.{Out}
 use Rattle.sms_keeper.specs.Fates.{MatchFate, WentOn, EndsRefused}
 use Rattle.sms_keeper.specs.Jobs.{of, has_end}
 use Rattle.sms_keeper.specs.History.{IsRising, asked, answers_in, outs_to, work}
-use Rattle.sms_keeper.specs.declared.keeper.Line.{Line}
+use Rattle.sms_keeper.specs.declared.keeper.SeatChannel.{SeatChannel}
 use Rattle.sms_keeper.specs.declared.keeper.Keeper.{Keeper}
 
 module _ {O : Type 0} where
   -- what the keeper gave one seat
-  abbrev pub given_at : List (Line O) → ℕ → List O
+  abbrev pub given_at : List (SeatChannel O) → ℕ → List O
   given_at [] k = []
   given_at (l ∷ ls) zero = (view l.pass).given
   given_at (l ∷ ls) (suc k) = given_at ls k
 
   -- the queues of the lines are the same
-  abbrev pub IsSameLines : List (Line O) → List (Line O) → Type 0
-  IsSameLines us bs = map (λ (l : Line O). l.pass.table_id) bs ≡ map (λ (l : Line O). l.pass.table_id) us
+  abbrev pub IsSameLines : List (SeatChannel O) → List (SeatChannel O) → Type 0
+  IsSameLines us bs = map (λ (l : SeatChannel O). l.pass.table_id) bs ≡ map (λ (l : SeatChannel O). l.pass.table_id) us
 
   -- each line was given the outs for its seat
-  abbrev pub Gave : List (Line O) → List (Line O) → List (Out O) → Type 0
+  abbrev pub Gave : List (SeatChannel O) → List (SeatChannel O) → List (Out O) → Type 0
   Gave us bs outs = (k : ℕ) → k < length us → given_at bs k ≡ given_at us k ++ outs_to k outs
 
 module _ {J O : Type 0} where

@@ -2,7 +2,7 @@
 use Rattle.std.specs.Prelude.{◌≡◌, ◌<◌, ℕ, List, [], Option, Some, None, map, slice_get}
 use Rattle.std.specs.Arc.{arc_value}
 use Rattle.crossbeam_queue.specs.Passes.{view, ruled_capacity}
-use Rattle.sms_keeper.specs.declared.keeper.Line.{Line}
+use Rattle.sms_keeper.specs.declared.keeper.SeatChannel.{SeatChannel}
 use Rattle.sms_keeper.specs.declared.keeper.Keeper.{Keeper}
 use Rattle.sms_keeper.specs.declared.machine.Item.{Item}
 use Rattle.sms_keeper.specs.History.{work, asked, answers_in}
@@ -38,7 +38,7 @@ module _ {J O : Type 0} where
 
   -- the seat is at this keeper's queues
   abbrev pub IsSeatOf : Keeper J O → Seat J O → Type 0
-  IsSeatOf k s = (s.pass.table_id ≡ k.pass.table_id) × (slice_get (map (λ (l : Line O). l.pass.table_id) k.lines.items) s.number ≡ Some s.taker.table_id)
+  IsSeatOf k s = (s.pass.table_id ≡ k.pass.table_id) × (slice_get (map (λ (l : SeatChannel O). l.pass.table_id) k.lines.items) s.number ≡ Some s.taker.table_id)
 
   -- a seat of this keeper that was not used
   pub record IsNewSeat (k : Keeper J O) (n : ℕ) (s : Seat J O) : Type 0 where

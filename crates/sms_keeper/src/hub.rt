@@ -12,7 +12,7 @@ ghost use Rattle.sms_keeper.specs.Seating.{IsNewKeeper, IsNewSeat, IsSeatOf};
 use crate::answers::{AnswersPass, AnswersQueue, Roles};
 use crate::hub_fault::HubFault;
 use crate::jobs::{JobsQueue, NextSeat};
-use crate::keeper::{Keeper, Line};
+use crate::keeper::{Keeper, SeatChannel};
 use crate::seat::Seat;
 use std::alloc::{AllocError, Global};
 use std::sync::Arc;
@@ -28,7 +28,7 @@ struct FarEnd<O> {
     bell: Arc<Parker, Global>,
 }
 
-fn open_line<O: Drop>(alloc: Global, slots: usize) -> Result<(Line<O>, FarEnd<O>), AllocError>
+fn open_line<O: Drop>(alloc: Global, slots: usize) -> Result<(SeatChannel<O>, FarEnd<O>), AllocError>
     requires { 0 < slots }
     ensures queue { IfOk result (λ r. IsPassOf (arc_value r.1.answers) r.1.taker × (r.1.taker.table_id ≡ r.0.pass.table_id)) }
     ensures slots { IfOk result (λ r. ruled_capacity (arc_value r.1.answers) ≡ slots) }
@@ -40,7 +40,7 @@ fn open_line<O: Drop>(alloc: Global, slots: usize) -> Result<(Line<O>, FarEnd<O>
     let answers = Arc::try_clone(&queue)?;
     let woken = Arc::try_clone(&bell)?;
     let taker = queue.another::<Roles>(&mut pass);
-    let line = Line { queue, pass, bell };
+    let line = SeatChannel { queue, pass, bell };
     let end = FarEnd {
         answers,
         taker,

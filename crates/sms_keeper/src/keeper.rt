@@ -39,7 +39,7 @@ pub struct Term<J, O> {
 
 /// The way to one seat: the queue of its answers, and what wakes it.
 #[derive(Drop)]
-pub struct Line<O> {
+pub struct SeatChannel<O> {
     pub(crate) queue: Arc<AnswersQueue<O>, Global>,
     pub(crate) pass: AnswersPass<O>,
     pub(crate) bell: Arc<Parker, Global>,
@@ -52,7 +52,7 @@ pub struct Line<O> {
 pub struct Keeper<J, O> {
     pub(crate) jobs: Arc<JobsQueue<J>, Global>,
     pub(crate) pass: JobsPass<J>,
-    pub(crate) lines: Vec<Line<O>>,
+    pub(crate) lines: Vec<SeatChannel<O>>,
     // Whose end mark was popped.
     pub(crate) closed: Vec<bool>,
     // The last tick.

@@ -7,7 +7,7 @@ use Rattle.sms_script.specs.declared.report.report.Report.{Report}
 use Rattle.sms_script.specs.declared.report.rows.AcceptedRow.{AcceptedRow}
 use Rattle.sms_script.specs.declared.report.rows.FrameRow.{FrameRow}
 use Rattle.sms_script.specs.declared.report.rows.JoinedRow.{JoinedRow}
-use Rattle.sms_script.specs.declared.report.rows.MessageRow.{MessageRow}
+use Rattle.sms_script.specs.declared.report.rows.ReportedMessage.{ReportedMessage}
 use Rattle.sms_script.specs.declared.report.rows.ReceiptRow.{ReceiptRow}
 use Rattle.sms_script.specs.declared.script.Script.{Script}
 use Rattle.sms_script.specs.WholeScript.{script_in}
@@ -42,7 +42,7 @@ pub record Told : Type 0 where
   pub frames : List (List ℕ)
   pub broken : Option Broken
 
-abbrev pub states_in : List MessageRow → List MessageState
+abbrev pub states_in : List ReportedMessage → List MessageState
 states_in [] = []
 states_in (m ∷ ms) = m.state ∷ states_in ms
 

@@ -1,4 +1,4 @@
 mod CentreAnswers
 mod Checks
-mod CourseAnswers
+mod PlayAnswers
 mod Unanswered

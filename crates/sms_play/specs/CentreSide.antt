@@ -15,7 +15,7 @@ use Rattle.sms_centre_rows.specs.declared.reports.delivery.Delivery.{Delivery}
 use Rattle.sms_centre_rows.specs.declared.reports.report.ReportKind.{ReportKind}
 use Rattle.sms_centre_rows.specs.declared.reports.report.ReportKind.TheVariants.{Receipt, Status as StatusReport, Unsent}
 use Rattle.sms_centre_rows.specs.declared.reports.report.ReportRow.{ReportRow}
-use Rattle.sms_centre_rows.specs.declared.waiting.line.Sent.{Sent}
+use Rattle.sms_centre_rows.specs.declared.waiting.handset_link.Sent.{Sent}
 use Rattle.sms_centre_rows.specs.declared.waiting.revision.Revision.{Revision}
 use Rattle.sms_centre_rows.specs.declared.waiting.revision.Revision.TheVariants.{Put, Amend, Remove}
 use Rattle.sms_script.specs.declared.report.answers.Answered.{Answered}
@@ -27,7 +27,7 @@ use Rattle.sms_script.specs.declared.report.rows.FrameRow.{FrameRow}
 use Rattle.sms_script.specs.declared.report.rows.GivenRow.{GivenRow}
 use Rattle.sms_centre_spec.specs.CentreEvent.{happened}
 use Rattle.sms_centre_spec.specs.Draft.{Draft, core_of, changes_in, messages_in}
-use Rattle.sms_play.specs.Course.{Course, sent, answer}
+use Rattle.sms_play.specs.PlayState.{PlayState, sent, answer}
 
 -- ---- the references that the changes give: a part's and a status report's row is put once, at its giving
 
@@ -67,28 +67,28 @@ given_by d =
 
 -- ---- the changes are committed, and the frames go out
 
-abbrev pub committed : Draft → Course → Course
+abbrev pub committed : Draft → PlayState → PlayState
 committed d c = record c { centre = core_of d; given = c.given ++ given_by d }
 
 abbrev pub all_sent : List Sent → List FrameRow → List FrameRow
 all_sent [] bag = bag
 all_sent (s ∷ ss) bag = all_sent ss (sent Down s.handset s.frame bag)
 
-abbrev pub done : Draft → Course → Course
-done d c = record (committed d c) { bag = all_sent d.air.frames c.bag }
+abbrev pub done : Draft → PlayState → PlayState
+done d c = record (committed d c) { bag = all_sent d.links.frames c.bag }
 
 -- ---- receipts: an application accepts each at once, which may let others go. A receipt is accepted once, so no more are
 -- accepted than there are.
 
-abbrev pub accepted_after : Draft → ℕ → List Delivery → Course → Course
+abbrev pub accepted_after : Draft → ℕ → List Delivery → PlayState → PlayState
 accepted_after d zero waiting c = c
 accepted_after d (suc most) [] c = c
 accepted_after d (suc most) (x ∷ waiting) c =
     let e : Draft = happened (DeliverAnswered x.session x.id true) c.centre in
-    accepted_after e most (waiting ++ e.desk.deliveries) (done e c)
+    accepted_after e most (waiting ++ e.bindings.deliveries) (done e c)
 
-abbrev pub whole : Draft → Course → Course
-whole d c = accepted_after d (length (core_of d).rows.reports) d.desk.deliveries (done d c)
+abbrev pub whole : Draft → PlayState → PlayState
+whole d c = accepted_after d (length (core_of d).rows.reports) d.bindings.deliveries (done d c)
 
 -- ---- answers to requests
 
@@ -102,10 +102,10 @@ answered_as (Queried id state moment) = Found (state_of state)
 answered_as Cancelled = Status ESME_ROK
 answered_as (Refused status) = Status status
 
-abbrev pub told : ℕ → Option CentreAnswer → Course → Course
+abbrev pub told : ℕ → Option CentreAnswer → PlayState → PlayState
 told event None c = c
 told event (Some a) c = answer event (answered_as a) c
 
 -- the centre meets an event, and nothing stops it
-abbrev pub centre_meets : ℕ → CentreEvent → Course → Course
+abbrev pub centre_meets : ℕ → CentreEvent → PlayState → PlayState
 centre_meets event e c = told event (happened e c.centre).answer (whole (happened e c.centre) c)

@@ -18,7 +18,7 @@ use Rattle.sms_handset_rows.specs.declared.outbox.out_entry.OutEntry.{OutEntry}
 use Rattle.sms_handset.specs.declared.refusal.Refusal.{Refusal}
 use Rattle.sms_handset_draft.specs.Draft.{Core, Draft, core_of}
 use Rattle.sms_handset.specs.FaultCodes.{refusal_code}
-use Rattle.sms_handset.specs.HandsetEvent.{frame_came, tag_of, ticked, wrote, deleted, discarded}
+use Rattle.sms_handset.specs.HandsetEvent.{frame_received, tag_of, ticked, wrote, deleted, discarded}
 use Rattle.sms_handset_rows.specs.outbox.Keys.{out_key}
 use Rattle.sms_link.specs.declared.outgoing.Outgoing.{Outgoing}
 use Rattle.sms_script.specs.declared.report.answers.Answered.TheVariants.{Done, Refused}
@@ -32,13 +32,13 @@ use Rattle.sms_script.specs.declared.report.rows.JoinedRow.{JoinedRow}
 use Rattle.sms_rows.specs.declared.table.change.Change.{Change}
 use Rattle.sms_rows.specs.declared.table.change.Change.TheVariants.{Put, Remove}
 use Rattle.sms_rows.specs.table.Table.{put, row_at, without}
-use Rattle.sms_play.specs.Course.{Course, Party, sent, answer, with_party}
+use Rattle.sms_play.specs.PlayState.{PlayState, Party, sent, answer, with_party}
 
 -- ---- every event
 
 -- an act of the owner may be refused
 abbrev pub happened : HandsetEvent → Core → Result Draft Refusal
-happened (Frame octets tag) c = Ok (frame_came octets (tag_of tag) c)
+happened (Frame octets tag) c = Ok (frame_received octets (tag_of tag) c)
 happened (Tick now) c = Ok (ticked now c)
 happened (Write text to report) c = wrote text to report c
 happened (Delete entry) c = deleted entry c
@@ -120,23 +120,23 @@ party_after party d = record party {
   joined = party.joined ++ joined_in party.number d.changes.entries;
 }
 
-abbrev pub committed : Party → Draft → Course → Course
+abbrev pub committed : Party → Draft → PlayState → PlayState
 committed party d c = record c { parties = with_party (party_after party d) c.parties; given = c.given ++ given_by party d }
 
 abbrev pub all_sent : List ℕ → List Outgoing → List FrameRow → List FrameRow
 all_sent handset [] bag = bag
 all_sent handset (f ∷ fs) bag = all_sent handset fs (sent Up handset f bag)
 
-abbrev pub done : Party → Draft → Course → Course
+abbrev pub done : Party → Draft → PlayState → PlayState
 done party d c = record (committed party d c) { bag = all_sent party.number d.frames c.bag }
 
 -- ---- the handset meets an event, and nothing stops it: an act of its owner is answered
 
-abbrev pub whole : Party → Result Draft Refusal → Course → Course
+abbrev pub whole : Party → Result Draft Refusal → PlayState → PlayState
 whole party (Ok d) c = done party d c
 whole party (Err refusal) c = c
 
-abbrev pub told : ℕ → Result Draft Refusal → Course → Course
+abbrev pub told : ℕ → Result Draft Refusal → PlayState → PlayState
 told event (Ok d) c = answer event Done c
 told event (Err refusal) c = answer event (Refused (refusal_code refusal)) c
 
@@ -147,7 +147,7 @@ is_owners (Write text to report) = true
 is_owners (Delete entry) = true
 is_owners (Discard entry) = true
 
-abbrev pub handset_meets : ℕ → Party → HandsetEvent → Course → Course
+abbrev pub handset_meets : ℕ → Party → HandsetEvent → PlayState → PlayState
 handset_meets event party e c =
     let d : Result Draft Refusal = happened e party.core in
     if is_owners e then told event d (whole party d c) else whole party d c

@@ -1,4 +1,4 @@
-pub mod Course
+pub mod PlayState
 pub mod CentreSide
 pub mod HandsetSide
 pub mod Meeting

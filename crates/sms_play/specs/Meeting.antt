@@ -10,7 +10,7 @@ use Rattle.smpp_pdu.specs.declared.message.Message.{Message}
 use Rattle.smpp_pdu.specs.declared.query.QuerySm.{QuerySm}
 use Rattle.sms_centre_spec.specs.declared.event.CentreEvent.{CentreEvent}
 use Rattle.sms_centre_spec.specs.declared.event.CentreEvent.TheVariants.{Submit as CentreSubmit, Query as CentreQuery, Cancel as CentreCancel, Frame as CentreFrame, Tick as CentreTick}
-use Rattle.sms_intake.specs.declared.submission.Account.{Account}
+use Rattle.sms_intake.specs.declared.submission.CentreAccount.{CentreAccount}
 use Rattle.sms_handset.specs.declared.event.HandsetEvent.{HandsetEvent}
 use Rattle.sms_handset.specs.declared.event.HandsetEvent.TheVariants.{Frame as HandsetFrame, Tick as HandsetTick, Write as HandsetWrite, Delete as HandsetDelete, Discard as HandsetDiscard}
 use Rattle.sms_script.specs.declared.report.rows.Direction.{Direction}
@@ -23,7 +23,7 @@ use Rattle.sms_script.specs.declared.event.Side.TheVariants.{Centre, Handset}
 use Rattle.sms_script.specs.declared.event.Submission.{Submission}
 use Rattle.sms_play.specs.declared.fault.PlayFault.{PlayFault}
 use Rattle.sms_play.specs.declared.fault.PlayFault.TheVariants.{NoSuchFrame, NoSuchSide, NoSuchAccount}
-use Rattle.sms_play.specs.Course.{Course, Party, party_at, frame_at}
+use Rattle.sms_play.specs.PlayState.{PlayState, Party, party_at, frame_at}
 
 -- an event of the centre, or of a handset
 pub data Meeting : Type 0 where
@@ -79,7 +79,7 @@ cancel_of id = record { service_type = []; message_id = id; source = nobody; des
 -- ---- accounts
 
 -- the place of the account of that name, from a place on
-abbrev pub account_from : ℕ → List ℕ → List Account → Option ℕ
+abbrev pub account_from : ℕ → List ℕ → List CentreAccount → Option ℕ
 account_from place name [] = None
 account_from place name (a ∷ others) = if bytes_eq a.name name then Some place else account_from (place + 1) name others
 
@@ -87,7 +87,7 @@ abbrev pub by_account : ℕ → (ℕ → CentreEvent) → Option ℕ → Result 
 by_account event request None = Err (NoSuchAccount event)
 by_account event request (Some place) = Ok (AtCentre (request place))
 
-abbrev pub asked_by : ℕ → List ℕ → (ℕ → CentreEvent) → Course → Result Meeting PlayFault
+abbrev pub asked_by : ℕ → List ℕ → (ℕ → CentreEvent) → PlayState → Result Meeting PlayFault
 asked_by event name request c = by_account event request (account_from 0 name c.centre.rows.setup.accounts)
 
 -- ---- handsets
@@ -96,7 +96,7 @@ abbrev pub by_handset : HandsetEvent → ℕ → Option Party → Result Meeting
 by_handset e event None = Err (NoSuchSide event)
 by_handset e event (Some party) = Ok (AtHandset party e)
 
-abbrev pub at_handset : ℕ → List ℕ → HandsetEvent → Course → Result Meeting PlayFault
+abbrev pub at_handset : ℕ → List ℕ → HandsetEvent → PlayState → Result Meeting PlayFault
 at_handset event number e c = by_handset e event (party_at number c.parties)
 
 -- ---- frames
@@ -106,23 +106,23 @@ tag_in None = None
 tag_in (Some carried) = Some carried.tag
 
 -- a frame goes up to the centre, or down to its handset
-abbrev pub handed_over : ℕ → Direction → FrameRow → Course → Result Meeting PlayFault
+abbrev pub handed_over : ℕ → Direction → FrameRow → PlayState → Result Meeting PlayFault
 handed_over event Up f c = Ok (AtCentre (CentreFrame f.handset f.octets (tag_in f.carried)))
 handed_over event Down f c = at_handset event f.handset (HandsetFrame f.octets (tag_in f.carried)) c
 
-abbrev pub delivered : ℕ → Option FrameRow → Course → Result Meeting PlayFault
+abbrev pub delivered : ℕ → Option FrameRow → PlayState → Result Meeting PlayFault
 delivered event None c = Err (NoSuchFrame event)
 delivered event (Some f) c = handed_over event f.direction f c
 
 -- ---- timers
 
-abbrev pub ticked : ℕ → ℕ → Side → Course → Result Meeting PlayFault
+abbrev pub ticked : ℕ → ℕ → Side → PlayState → Result Meeting PlayFault
 ticked event now Centre c = Ok (AtCentre (CentreTick now))
 ticked event now (Handset number) c = at_handset event number (HandsetTick now) c
 
 -- ---- every act
 
-abbrev pub meeting_of : ℕ → Act → Course → Result Meeting PlayFault
+abbrev pub meeting_of : ℕ → Act → PlayState → Result Meeting PlayFault
 meeting_of event (Submit s) c = asked_by event s.name (λ (place : ℕ). CentreSubmit place (submit_of s)) c
 meeting_of event (Query name id) c = asked_by event name (λ (place : ℕ). CentreQuery place (query_of id)) c
 meeting_of event (Cancel name id) c = asked_by event name (λ (place : ℕ). CentreCancel place (cancel_of id)) c

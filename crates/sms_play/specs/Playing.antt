@@ -14,7 +14,7 @@ use Rattle.sms_script.specs.declared.report.rows.AcceptedRow.{AcceptedRow}
 use Rattle.sms_script.specs.declared.report.rows.EntryState.{EntryState}
 use Rattle.sms_script.specs.declared.report.rows.EntryState.TheVariants.{Queued, Sending, Sent, Failed, Unsure}
 use Rattle.sms_script.specs.declared.report.rows.JoinedRow.{JoinedRow}
-use Rattle.sms_script.specs.declared.report.rows.MessageRow.{MessageRow as MessageLine}
+use Rattle.sms_script.specs.declared.report.rows.ReportedMessage.{ReportedMessage}
 use Rattle.sms_script.specs.declared.report.rows.OutboxRow.{OutboxRow}
 use Rattle.sms_script.specs.declared.report.rows.ReceiptRow.{ReceiptRow}
 use Rattle.sms_script.specs.declared.event.WorldEvent.{WorldEvent}
@@ -22,24 +22,24 @@ use Rattle.sms_script.specs.declared.setup.Setup.{Setup}
 use Rattle.sms_play.specs.declared.fault.PlayFault.{PlayFault}
 use Rattle.sms_play.specs.declared.fault.PlayFault.TheVariants.{BadSetup}
 use Rattle.sms_play.specs.CentreSide.{state_of}
-use Rattle.sms_play.specs.Course.{Course, Party}
+use Rattle.sms_play.specs.PlayState.{PlayState, Party}
 use Rattle.sms_play.specs.PlayedEvent.{played}
 use Rattle.sms_play.specs.Premises.{broken_by}
 use Rattle.sms_play.specs.Setups.{beginning, can_be_played}
 
 -- ---- events, from a number on
 
-abbrev pub played_on : ℕ → List WorldEvent → Course → Result Course PlayFault
+abbrev pub played_on : ℕ → List WorldEvent → PlayState → Result PlayState PlayFault
 played_on event [] c = Ok c
-played_on event (e ∷ es) c = played event e c >>= λ (d : Course). played_on (event + 1) es d
+played_on event (e ∷ es) c = played event e c >>= λ (d : PlayState). played_on (event + 1) es d
 
 -- the course that a script leads to; its events are numbered from 1
-abbrev pub course_of : Setup → List WorldEvent → Result Course PlayFault
-course_of s events = if can_be_played s then played_on 1 events (beginning s) else Err BadSetup
+abbrev pub play_state_of : Setup → List WorldEvent → Result PlayState PlayFault
+play_state_of s events = if can_be_played s then played_on 1 events (beginning s) else Err BadSetup
 
 -- ---- the report: read off the rows in the end, and what was collected on the way
 
-abbrev pub message_lines : List MessageRow → List MessageLine
+abbrev pub message_lines : List MessageRow → List ReportedMessage
 message_lines [] = []
 message_lines (m ∷ ms) = record { id = m.id; from = m.source.digits; to = m.handset; state = state_of m.state } ∷ message_lines ms
 
@@ -79,7 +79,7 @@ abbrev pub all_outbox_lines : List Party → List OutboxRow
 all_outbox_lines [] = []
 all_outbox_lines (p ∷ ps) = outbox_lines p.number p.core.rows.outbox ++ all_outbox_lines ps
 
-abbrev pub report_of : Course → Report
+abbrev pub report_of : PlayState → Report
 report_of c = record {
   answers = c.answers;
   table = message_lines c.centre.rows.messages;
@@ -92,7 +92,7 @@ report_of c = record {
 }
 
 abbrev pub play_of : Setup → List WorldEvent → Result Report PlayFault
-play_of s events = course_of s events >>= λ (c : Course). Ok (report_of c)
+play_of s events = play_state_of s events >>= λ (c : PlayState). Ok (report_of c)
 
 -- ---- the premises
 
@@ -102,10 +102,10 @@ or_later (Some broken) (Ok later) = Ok (Some broken)
 or_later (Some broken) (Err fault) = Err fault
 
 -- the first event that breaks one; faults are those of the play
-abbrev pub broken_on : ℕ → List WorldEvent → Course → Result (Option Broken) PlayFault
+abbrev pub broken_on : ℕ → List WorldEvent → PlayState → Result (Option Broken) PlayFault
 broken_on event [] c = Ok None
 broken_on event (e ∷ es) c =
-    played event e c >>= λ (d : Course). or_later (broken_by event e c d) (broken_on (event + 1) es d)
+    played event e c >>= λ (d : PlayState). or_later (broken_by event e c d) (broken_on (event + 1) es d)
 
 abbrev pub premises_of : Setup → List WorldEvent → Result (Option Broken) PlayFault
 premises_of s events = if can_be_played s then broken_on 1 events (beginning s) else Err BadSetup

@@ -26,8 +26,8 @@ use Rattle.sms_world_model.specs.Lists.{is_among}
 use Rattle.sms_world_model.specs.PartsOfKey.{number_in, numbers, of_key}
 use Rattle.sms_world_model.specs.Place.{Key, Place, place_in}
 use Rattle.sms_world_model.specs.Rounds.{rounds_of}
-use Rattle.sms_world_model.specs.World.{Accepted, Giving, pair_given}
-use Rattle.sms_play.specs.Course.{Course, Party, frame_at}
+use Rattle.sms_world_model.specs.World.{Accepted, Allocation, pair_given}
+use Rattle.sms_play.specs.PlayState.{PlayState, Party, frame_at}
 
 -- ---- timely: the latest giving of the frame's reference is to the holder for which the frame was made
 
@@ -76,12 +76,12 @@ abbrev pub is_timely_at : Option FrameRow → List GivenRow → Bool
 is_timely_at None given = true
 is_timely_at (Some f) given = is_timely f f.carried given
 
-abbrev pub hands_timely : Act → Course → Bool
+abbrev pub hands_timely : Act → PlayState → Bool
 hands_timely (Deliver number) c = is_timely_at (frame_at number c.bag) c.given
 hands_timely act c = true
 
 -- stopped events hand over, too
-abbrev pub is_timely_event : WorldEvent → Course → Bool
+abbrev pub is_timely_event : WorldEvent → PlayState → Bool
 is_timely_event (Whole act) c = hands_timely act c
 is_timely_event (Stopped stop act) c = hands_timely act c
 is_timely_event (Restart side) c = true
@@ -104,45 +104,45 @@ abbrev pub all_arrived : ℕ → List Accepted → List Accepted → Bool
 all_arrived zero ps accepted = true
 all_arrived (suc n) ps accepted = has_arrived (suc n) ps accepted && all_arrived n ps accepted
 
-abbrev pub may_begin_round : Accepted → Key → List Giving → List Accepted → Bool
+abbrev pub may_begin_round : Accepted → Key → List Allocation → List Accepted → Bool
 may_begin_round p k down accepted =
     if is_among (number_in p) (numbers (rounds_of p.handset k down).present)
     then all_arrived k.total (rounds_of p.handset k down).present (of_key p.handset k accepted)
     else true
 
-abbrev pub may_begin_at : Option Place → Accepted → List Giving → List Accepted → Bool
+abbrev pub may_begin_at : Option Place → Accepted → List Allocation → List Accepted → Bool
 may_begin_at None p down accepted = true
 may_begin_at (Some place) p down accepted = may_begin_round p place.key down accepted
 
-abbrev pub may_begin : Accepted → List Giving → List Accepted → Bool
+abbrev pub may_begin : Accepted → List Allocation → List Accepted → Bool
 may_begin p down accepted = may_begin_at (place_in p.tpdu) p down accepted
 
 -- the parts that were given, in order, over those before them
-abbrev pub are_fresh : List Giving → List Giving → List Accepted → Bool
+abbrev pub are_fresh : List Allocation → List Allocation → List Accepted → Bool
 are_fresh [] down accepted = true
-are_fresh (g ∷ givings) down accepted = may_begin (pair_given g) down accepted && are_fresh givings (g ∷ down) accepted
+are_fresh (g ∷ allocations) down accepted = may_begin (pair_given g) down accepted && are_fresh allocations (g ∷ down) accepted
 
--- ---- what the premise looks at: the parts' givings with their TPDUs, and what was accepted
+-- ---- what the premise looks at: the parts' allocations with their TPDUs, and what was accepted
 
 abbrev pub tpdu_in : Option PartRow → List ℕ
 tpdu_in None = []
 tpdu_in (Some p) = p.tpdu
 
-abbrev pub giving_of : GivenRow → List ℕ → Giving
-giving_of g tpdu = record { handset = g.handset; reference = g.reference; holder = g.holder; moment = g.moment; tpdu = compared tpdu }
+abbrev pub allocation_of : GivenRow → List ℕ → Allocation
+allocation_of g tpdu = record { handset = g.handset; reference = g.reference; holder = g.holder; moment = g.moment; tpdu = compared tpdu }
 
 -- only a part has a place in a round
-abbrev pub part_giving : List PartRow → GivenRow → Holder → List Giving
-part_giving parts g (Part id number) = giving_of g (tpdu_in (part_at id number parts)) ∷ []
-part_giving parts g (Report id) = []
-part_giving parts g (Entry number) = []
-part_giving parts g (Memory number) = []
+abbrev pub part_allocation : List PartRow → GivenRow → Holder → List Allocation
+part_allocation parts g (Part id number) = allocation_of g (tpdu_in (part_at id number parts)) ∷ []
+part_allocation parts g (Report id) = []
+part_allocation parts g (Entry number) = []
+part_allocation parts g (Memory number) = []
 
-abbrev pub part_givings : List PartRow → List GivenRow → List Giving
-part_givings parts [] = []
-part_givings parts (g ∷ given) = part_giving parts g g.holder ++ part_givings parts given
+abbrev pub part_allocations : List PartRow → List GivenRow → List Allocation
+part_allocations parts [] = []
+part_allocations parts (g ∷ given) = part_allocation parts g g.holder ++ part_allocations parts given
 
-abbrev pub newest_first : List Giving → List Giving → List Giving
+abbrev pub newest_first : List Allocation → List Allocation → List Allocation
 newest_first newest [] = newest
 newest_first newest (g ∷ gs) = newest_first (g ∷ newest) gs
 
@@ -161,14 +161,14 @@ behind (b ∷ before) [] = []
 behind (b ∷ before) (r ∷ rows) = behind before rows
 
 -- the event that led from the one course to the other begins rounds only where it may
-abbrev pub is_fresh_event : Course → Course → Bool
+abbrev pub is_fresh_event : PlayState → PlayState → Bool
 is_fresh_event before after =
-    are_fresh (part_givings after.centre.rows.parts (behind before.given after.given))
-    (newest_first [] (part_givings after.centre.rows.parts before.given)) (all_pairs before.parties)
+    are_fresh (part_allocations after.centre.rows.parts (behind before.given after.given))
+    (newest_first [] (part_allocations after.centre.rows.parts before.given)) (all_pairs before.parties)
 
 -- ---- what the event breaks: a frame is looked at before what the event gives
 
-abbrev pub broken_by : ℕ → WorldEvent → Course → Course → Option Broken
+abbrev pub broken_by : ℕ → WorldEvent → PlayState → PlayState → Option Broken
 broken_by event e before after =
     if not (is_timely_event e before) then Some (Timely event)
     else (if not (is_fresh_event before after) then Some (Reused event) else None)

@@ -3,17 +3,17 @@ use Rattle.std.specs.Prelude.{ℕ, ◌&&◌, ◌||◌, not, nat_le, nat_lt, List
 use Rattle.std.specs.List.{list_all}
 use Rattle.std.specs.Str.{bytes_eq}
 use Rattle.sms_base.specs.HandsetNumber.{is_decimal, own_address}
-use Rattle.sms_intake.specs.declared.submission.Account.{Account as CentreAccount}
+use Rattle.sms_intake.specs.declared.submission.CentreAccount.{CentreAccount}
 use Rattle.sms_centre_spec.specs.declared.setup.Setup.{Setup as CentreSetup}
 use Rattle.sms_centre_spec.specs.declared.rows.Rows.{Rows as CentreRows}
 use Rattle.sms_handset_draft.specs.declared.setup.Setup.{Setup as OwnSetup}
-use Rattle.sms_script.specs.declared.setup.Account.{Account}
+use Rattle.sms_script.specs.declared.setup.AccountSetup.{AccountSetup}
 use Rattle.sms_script.specs.declared.setup.HandsetSetup.{HandsetSetup}
 use Rattle.sms_script.specs.declared.setup.Setup.{Setup}
 use Rattle.sms_centre_spec.specs.CentreEvent.{started}
 use Rattle.sms_handset_draft.specs.Draft.{recovered as handset_recovered}
 use Rattle.sms_handset_draft.specs.FirstRows.{first_rows}
-use Rattle.sms_play.specs.Course.{Course, Party, numbers_of}
+use Rattle.sms_play.specs.PlayState.{PlayState, Party, numbers_of}
 use Rattle.sms_play.specs.PlayedEvent.{sessions_from}
 
 -- ---- which heads can be played
@@ -26,11 +26,11 @@ is_number digits = (nat_lt 0 (length digits) && nat_le (length digits) 20) && li
 abbrev pub is_moment : ℕ → Bool
 is_moment seconds = nat_le 946684800 seconds && nat_le seconds 4102444799
 
-abbrev pub has_account : List ℕ → List Account → Bool
+abbrev pub has_account : List ℕ → List AccountSetup → Bool
 has_account name [] = false
 has_account name (a ∷ others) = bytes_eq a.name name || has_account name others
 
-abbrev pub are_accounts : List Account → Bool
+abbrev pub are_accounts : List AccountSetup → Bool
 are_accounts [] = true
 are_accounts (a ∷ others) = (is_number a.number && not (has_account a.name others)) && are_accounts others
 
@@ -54,7 +54,7 @@ can_be_played s =
 
 -- ---- the beginning: all stores are new, all links up, and a session of each account is bound
 
-abbrev pub accounts_of : List Account → List CentreAccount
+abbrev pub accounts_of : List AccountSetup → List CentreAccount
 accounts_of [] = []
 accounts_of (a ∷ others) = record { name = a.name; address = own_address a.number } ∷ accounts_of others
 
@@ -72,7 +72,7 @@ parties_of s [] = []
 parties_of s (h ∷ others) =
     record { number = h.number; core = handset_recovered (first_rows (handset_setup s h)); accepted = []; joined = [] } ∷ parties_of s others
 
-abbrev pub beginning_with : Setup → List Party → Course
+abbrev pub beginning_with : Setup → List Party → PlayState
 beginning_with s parties = record {
   centre = started (no_rows (centre_setup s)) (numbers_of parties) (sessions_from 0 (accounts_of s.accounts));
   parties = parties;
@@ -81,5 +81,5 @@ beginning_with s parties = record {
   bag = [];
 }
 
-abbrev pub beginning : Setup → Course
+abbrev pub beginning : Setup → PlayState
 beginning s = beginning_with s (parties_of s s.handsets)

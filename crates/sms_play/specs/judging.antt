@@ -1,4 +1,4 @@
 pub mod RoundKeys
 pub mod Watching
-pub mod Shown
+pub mod Premises
 pub mod Judging

@@ -4,11 +4,11 @@
 //! its changes. Each is as the script's definition (`sms_play`) has it.
 
 mod frames;
-mod givings;
+mod allocations;
 mod messages;
 mod names;
 
 pub use frames::{frame_at, send_down, send_up};
-pub use givings::{note_parts, note_reports};
+pub use allocations::{note_parts, note_reports};
 pub use messages::{cancel_of, query_of, submit_of};
 pub use names::{digits_of, spell};

@@ -1,5 +1,5 @@
 pub mod Played
 pub mod Places
-pub mod Courses
+pub mod Plays
 pub mod Playing
 pub mod Looked

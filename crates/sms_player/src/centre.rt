@@ -13,10 +13,10 @@ mod starting;
 
 pub use crate::heads::laws::handsets_can_have_links;
 pub use crate::heads::{
-    Met, PlayedHandset, accepted_lines, centre_setup, joined_lines, judge, numbers_of,
+    HandsetOutcome, PlayedHandset, accepted_lines, centre_setup, joined_lines, judge, numbers_of,
     outbox_lines, with_parties,
 };
 pub use centre::PlayedCentre;
-pub use sms_centre::{Centre, CentreAnswer, CentreEvent, Setup as CentreSetup, Told};
+pub use sms_centre::{Centre, CentreAnswer, CentreEvent, Setup as CentreSetup, Outputs};
 pub use sms_store_memory::centre::MemoryKeep;
 pub use starting::{with_first_centre, with_first_keep};

@@ -5,11 +5,11 @@
 //! references that the event gave and the frames that it sends. `restart` leads to the handset that starts again on its
 //! rows. An event is left undone only where a growth was refused; the play ends then.
 
-mod kept;
+mod kept_handset;
 pub mod laws;
 mod lines;
 mod notes;
 mod played;
 
 pub use lines::{accepted_lines, joined_lines, outbox_lines};
-pub use played::{Met, PlayedHandset};
+pub use played::{HandsetOutcome, PlayedHandset};

@@ -77,7 +77,7 @@ pub fn front_down_is_truncated()
 
 /// Upwards, octets end too early only where octets may follow with which they are a unit. Octets are left over only
 /// behind a unit. Where the fault is any but the first, they are no unit whatever follows.
-pub fn faults_up_tell_what_may_follow()
+pub fn faults_up_say_what_may_follow()
     ensures truncated { (octets : List ℕ) → AreOctets octets → up_at octets ≡ Err Truncated → HasContinuation IsUp octets }
     ensures trailing { (octets : List ℕ) → AreOctets octets → up_at octets ≡ Err Trailing → HasFront IsUp octets }
     ensures other { (octets more : List ℕ) (rp : RpOf) (fault : FaultOf) → up_at octets ≡ Err fault → fault ≢ Truncated → ¬ IsUp (octets ++ more) rp }
@@ -85,7 +85,7 @@ pub fn faults_up_tell_what_may_follow()
 
 /// Downwards, octets end too early only where octets may follow with which they are a unit. Octets are left over only
 /// behind a unit. Where the fault is any but the first, they are no unit whatever follows.
-pub fn faults_down_tell_what_may_follow()
+pub fn faults_down_say_what_may_follow()
     ensures truncated { (octets : List ℕ) → AreOctets octets → down_at octets ≡ Err Truncated → HasContinuation IsDown octets }
     ensures trailing { (octets : List ℕ) → AreOctets octets → down_at octets ≡ Err Trailing → HasFront IsDown octets }
     ensures other { (octets more : List ℕ) (rp : RpOf) (fault : FaultOf) → down_at octets ≡ Err fault → fault ≢ Truncated → ¬ IsDown (octets ++ more) rp }

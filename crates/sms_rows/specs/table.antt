@@ -1,4 +1,4 @@
 pub mod Keys
-pub mod Pending
+pub mod TableDraft
 pub mod Since
 pub mod Table

@@ -8,4 +8,4 @@ mod deadline;
 mod deadlines;
 
 pub use deadline::Deadline;
-pub use deadlines::{Deadlines, SpareDeadlines};
+pub use deadlines::{Deadlines, DeadlinesReserve};

@@ -8,6 +8,6 @@ mod accounts;
 mod number;
 mod numbers;
 
-pub use accounts::{Accounts, SpareAccounts};
+pub use accounts::{Accounts, AccountsReserve};
 pub use number::Number;
-pub use numbers::{Numbers, SpareNumbers};
+pub use numbers::{Numbers, NumbersReserve};

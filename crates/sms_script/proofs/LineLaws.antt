@@ -11,7 +11,7 @@ use Rattle.sms_script.specs.ScriptReading.{word_in, field_in, done_in, side_of, 
 use Rattle.sms_script.specs.ScriptGrammar.{IsAct, stop_text, AreWords, Says, IsLine}
 use Rattle.sms_script.specs.declared.event.Act.{Act}
 use Rattle.sms_script.specs.declared.event.Side.{Side}
-use Rattle.sms_script.specs.declared.event.Stop.{Stop}
+use Rattle.sms_script.specs.declared.event.StopPoint.{StopPoint}
 use Rattle.sms_script.specs.declared.event.WorldEvent.TheVariants.{Whole, Stopped, Restart}
 use Rattle.sms_script.specs.declared.fault.LineFault.{LineFault}
 use Rattle.sms_script.specs.declared.fault.LineFault.TheVariants.{BadLine}
@@ -19,7 +19,7 @@ use Rattle.sms_script.specs.declared.keyword.Keyword.{Keyword}
 use Rattle.sms_script.specs.declared.keyword.Keyword.TheVariants.{Start as StartWord, Centre as CentreWord, Account as AccountWord, Handset as HandsetWord, Restart as RestartWord, Stopped as StoppedWord}
 use Rattle.sms_script.specs.declared.line.Line.{Line}
 use Rattle.sms_script.specs.declared.line.Line.TheVariants.{Start, Centre, Account, Handset, Event}
-use Rattle.sms_script.specs.declared.setup.Account.{Account as AccountOf}
+use Rattle.sms_script.specs.declared.setup.AccountSetup.{AccountSetup as AccountOf}
 use Rattle.sms_script.specs.declared.setup.HandsetSetup.{HandsetSetup}
 use Rattle.sms_script.proofs.WordLaws.{word_takes, word_again, field_takes, field_again, side_takes, side_again, stop_takes, stop_again, keyword_takes, keyword_again, keyword_good}
 use Rattle.sms_script.proofs.ActLaws.{Ends, ends_on, act_of_takes, act_takes, act_again}
@@ -168,7 +168,7 @@ restart_again : (of : List ℕ) (side : Side) → side_of of ≡ Ok side → Aga
 unfolding restart_in
 restart_again of side s w = rw (keyword_again RestartWord, field_again side_of of [] side w.1.0 s) refl
 
-stopped_again : (stop : Stop) (rest : List (List ℕ)) (act : Act) → IsAct rest act → Again (keyword_text StoppedWord ∷ stop_text stop ∷ rest) (Event (Stopped stop act))
+stopped_again : (stop : StopPoint) (rest : List (List ℕ)) (act : Act) → IsAct rest act → Again (keyword_text StoppedWord ∷ stop_text stop ∷ rest) (Event (Stopped stop act))
 unfolding stopped_in
 stopped_again stop rest act h w =
     rw (keyword_again StoppedWord, field_again stop_of (stop_text stop) rest stop w.1.0 (stop_again stop), act_again rest act h w.1.1) refl

@@ -20,7 +20,7 @@ use Rattle.sms_script.specs.declared.progress.Progress.{Progress}
 use Rattle.sms_script.specs.declared.progress.Stage.{Stage}
 use Rattle.sms_script.specs.declared.progress.Stage.TheVariants.{Start as AtStart, Centre as AtCentre, Accounts as InAccounts, Handsets as InHandsets, Events as InEvents}
 use Rattle.sms_script.specs.declared.script.Script.{Script}
-use Rattle.sms_script.specs.declared.setup.Account.{Account as AccountOf}
+use Rattle.sms_script.specs.declared.setup.AccountSetup.{AccountSetup as AccountOf}
 use Rattle.sms_script.specs.declared.setup.HandsetSetup.{HandsetSetup}
 use Rattle.sms_script.proofs.LineLaws.{line_takes, line_again}
 

@@ -13,8 +13,8 @@ use Rattle.sms_script.specs.ScriptReading.{word_in, field_in, validity_of, body_
 use Rattle.sms_script.specs.ScriptGrammar.{IsValidity, IsBody, IsText, IsSide, stop_text}
 use Rattle.sms_script.specs.declared.event.Side.{Side}
 use Rattle.sms_script.specs.declared.event.Side.TheVariants.{Centre, Handset}
-use Rattle.sms_script.specs.declared.event.Stop.{Stop}
-use Rattle.sms_script.specs.declared.event.Stop.TheVariants.{Before, After}
+use Rattle.sms_script.specs.declared.event.StopPoint.{StopPoint}
+use Rattle.sms_script.specs.declared.event.StopPoint.TheVariants.{Before, After}
 use Rattle.sms_script.specs.declared.fault.LineFault.{LineFault}
 use Rattle.sms_script.specs.declared.fault.LineFault.TheVariants.{BadLine}
 use Rattle.sms_script.specs.declared.keyword.Keyword.{Keyword}
@@ -120,14 +120,14 @@ pub side_again : (word : List ℕ) (side : Side) → IsSide word side → side_o
 side_again word Centre h = rw (equal_octets word (codes "centre") h) refl
 side_again word (Handset number) h = rw (unequal_octets word (codes "centre") h.0, h.1) refl
 
-pub stop_takes : (word : List ℕ) (stop : Stop) → stop_of word ≡ Ok stop → word ≡ stop_text stop
+pub stop_takes : (word : List ℕ) (stop : StopPoint) → stop_of word ≡ Ok stop → word ≡ stop_text stop
 stop_takes word stop e = by (bytes_eq word (codes "before")) (bytes_eq word (codes "after")) refl refl e where
   by : (b a : Bool) → bytes_eq word (codes "before") ≡ b → bytes_eq word (codes "after") ≡ a → cond b (Ok Before) (cond a (Ok After) (Err BadLine)) ≡ Ok stop → word ≡ stop_text stop
   by true a t u e = let same : Before ≡ stop = cc e in subst (λ s. word ≡ stop_text s) same (same_octets word (codes "before") t)
   by false true t u e = let same : After ≡ stop = cc e in subst (λ s. word ≡ stop_text s) same (same_octets word (codes "after") u)
   by false false t u e = absurd (cc)
 
-pub stop_again : (stop : Stop) → stop_of (stop_text stop) ≡ Ok stop
+pub stop_again : (stop : StopPoint) → stop_of (stop_text stop) ≡ Ok stop
 stop_again Before = refl
 stop_again After = refl
 

@@ -10,8 +10,8 @@ use Rattle.sms_script.specs.declared.event.Act.{Act}
 use Rattle.sms_script.specs.declared.event.Act.TheVariants.{Submit, Query, Cancel, Write, Delete, Discard, Deliver, Tick}
 use Rattle.sms_script.specs.declared.event.Side.{Side}
 use Rattle.sms_script.specs.declared.event.Side.TheVariants.{Centre as CentreSide, Handset as HandsetSide}
-use Rattle.sms_script.specs.declared.event.Stop.{Stop}
-use Rattle.sms_script.specs.declared.event.Stop.TheVariants.{Before, After}
+use Rattle.sms_script.specs.declared.event.StopPoint.{StopPoint}
+use Rattle.sms_script.specs.declared.event.StopPoint.TheVariants.{Before, After}
 use Rattle.sms_script.specs.declared.event.Submission.{Submission}
 use Rattle.sms_script.specs.declared.event.WorldEvent.{WorldEvent}
 use Rattle.sms_script.specs.declared.event.WorldEvent.TheVariants.{Whole, Stopped, Restart}
@@ -35,7 +35,7 @@ abbrev pub IsSide : List ℕ → Side → Type 0
 IsSide word CentreSide = word ≡ codes "centre"
 IsSide word (HandsetSide number) = ¬ (word ≡ codes "centre") × (number ≡ word)
 
-abbrev pub stop_text : Stop → List ℕ
+abbrev pub stop_text : StopPoint → List ℕ
 stop_text Before = codes "before"
 stop_text After = codes "after"
 

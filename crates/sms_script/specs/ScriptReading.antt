@@ -9,8 +9,8 @@ use Rattle.sms_script.specs.declared.event.Act.{Act}
 use Rattle.sms_script.specs.declared.event.Act.TheVariants.{Submit, Query, Cancel, Write, Delete, Discard, Deliver, Tick}
 use Rattle.sms_script.specs.declared.event.Side.{Side}
 use Rattle.sms_script.specs.declared.event.Side.TheVariants.{Centre as CentreSide, Handset as HandsetSide}
-use Rattle.sms_script.specs.declared.event.Stop.{Stop}
-use Rattle.sms_script.specs.declared.event.Stop.TheVariants.{Before, After}
+use Rattle.sms_script.specs.declared.event.StopPoint.{StopPoint}
+use Rattle.sms_script.specs.declared.event.StopPoint.TheVariants.{Before, After}
 use Rattle.sms_script.specs.declared.event.WorldEvent.TheVariants.{Whole, Stopped, Restart}
 use Rattle.sms_script.specs.declared.fault.LineFault.{LineFault}
 use Rattle.sms_script.specs.declared.fault.LineFault.TheVariants.{BadLine}
@@ -60,7 +60,7 @@ text_in word = body_of word >>= text_of
 abbrev pub side_of : List ℕ → Result Side LineFault
 side_of word = if bytes_eq word (codes "centre") then Ok CentreSide else Ok (HandsetSide word)
 
-abbrev pub stop_of : List ℕ → Result Stop LineFault
+abbrev pub stop_of : List ℕ → Result StopPoint LineFault
 stop_of word = if bytes_eq word (codes "before") then Ok Before else (if bytes_eq word (codes "after") then Ok After else Err BadLine)
 
 -- ---- acts, behind their keyword

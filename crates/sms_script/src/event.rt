@@ -67,7 +67,7 @@ pub enum Act<'a> {
 
 /// Where an act was stopped: before its store call, or after it.
 #[derive(Clone, Copy, Debug, PartialEq, Eq)]
-pub enum Stop {
+pub enum StopPoint {
     Before,
     After,
 }
@@ -76,6 +76,6 @@ pub enum Stop {
 #[derive(Debug, Drop)]
 pub enum WorldEvent<'a> {
     Whole(Act<'a>),
-    Stopped(Stop, Act<'a>),
+    Stopped(StopPoint, Act<'a>),
     Restart(Side<'a>),
 }

@@ -5,7 +5,7 @@ ghost use Rattle.sms_script.specs.Numbers.{number_of, small_of, flag_of, moment_
 ghost use Rattle.sms_script.specs.ScriptReading.{Takes, word_in, field_in, is_dash, validity_of, body_of, text_in, side_of, stop_of};
 
 use crate::cutting::Words;
-use crate::event::{Side, Stop};
+use crate::event::{Side, StopPoint};
 use crate::fault::LineFault;
 use crate::hexadecimal::{HexView, octet_of};
 use crate::number::{flag_of, moment_of, number_of, small_of};
@@ -54,13 +54,13 @@ fn side_of(word: &[u8]) -> Result<Side<'_>, LineFault>
     }
 }
 
-fn stop_of(word: &[u8]) -> Result<Stop, LineFault>
+fn stop_of(word: &[u8]) -> Result<StopPoint, LineFault>
     ensures { result ≡ stop_of word.now }
 {
     if word == b"before".as_slice() {
-        Ok(Stop::Before)
+        Ok(StopPoint::Before)
     } else if word == b"after".as_slice() {
-        Ok(Stop::After)
+        Ok(StopPoint::After)
     } else {
         Err(LineFault::BadLine)
     }
@@ -137,7 +137,7 @@ pub(crate) fn side<'a>(words: &mut Words<'a>) -> Result<Side<'a>, LineFault>
 }
 
 /// `before` or `after`.
-pub(crate) fn stop(words: &mut Words<'_>) -> Result<Stop, LineFault>
+pub(crate) fn stop(words: &mut Words<'_>) -> Result<StopPoint, LineFault>
     ensures { Takes (λ x. x) result words.new (field_in stop_of words.old) }
 {
     stop_of(words.word()?)

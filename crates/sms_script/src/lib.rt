@@ -44,9 +44,9 @@ mod script;
 mod setup;
 mod text;
 
-pub use event::{Act, Side, Stop, Submission, WorldEvent};
+pub use event::{Act, Side, StopPoint, Submission, WorldEvent};
 pub use fault::{LineFault, ScriptFault};
 pub use hexadecimal::HexView;
 pub use script::{Script, read_script};
-pub use setup::{Account, HandsetSetup, Setup};
+pub use setup::{AccountSetup, HandsetSetup, Setup};
 pub use text::TextView;

@@ -8,7 +8,7 @@ use crate::event::WorldEvent;
 use crate::fault::LineFault;
 use crate::fields::{number, side, stop, word};
 use crate::keyword::Keyword;
-use crate::setup::{Account, HandsetSetup};
+use crate::setup::{AccountSetup, HandsetSetup};
 use sms_base::OctetView;
 
 /// Octets in a line, its end not counted.
@@ -19,7 +19,7 @@ const LONGEST_LINE: usize = 16_384;
 pub(crate) enum Line<'a> {
     Start(u64),
     Centre(OctetView<'a>),
-    Account(Account<'a>),
+    Account(AccountSetup<'a>),
     Handset(HandsetSetup<'a>),
     Event(WorldEvent<'a>),
 }
@@ -47,7 +47,7 @@ fn account<'a>(words: &mut Words<'a>) -> Result<Line<'a>, LineFault>
     let name = word(words)?;
     let password = word(words)?;
     let number = word(words)?;
-    Ok(Line::Account(Account {
+    Ok(Line::Account(AccountSetup {
         name,
         password,
         number,

@@ -14,6 +14,6 @@ mod writing;
 pub use answers::{Answer, Answered, MessageState};
 pub use report::{Broken, Report, report_text};
 pub use rows::{
-    AcceptedRow, Direction, EntryState, FrameRow, GivenRow, JoinedCoding, JoinedRow, MessageRow,
+    AcceptedRow, Direction, EntryState, FrameRow, GivenRow, JoinedCoding, JoinedRow, ReportedMessage,
     OutboxRow, ReceiptRow,
 };

@@ -4,7 +4,7 @@ use sms_base::{Listed, OctetView};
 /// An application: the name and the password that it binds with, and the digits of its number. Neither it nor what holds it has a debug
 /// text, which would show the password.
 #[derive(Drop)]
-pub struct Account<'a> {
+pub struct AccountSetup<'a> {
     pub name: OctetView<'a>,
     pub password: OctetView<'a>,
     pub number: OctetView<'a>,
@@ -24,6 +24,6 @@ pub struct Setup<'a> {
     pub start: u64,
     /// The digits of the centre's number.
     pub centre: OctetView<'a>,
-    pub accounts: Listed<Account<'a>>,
+    pub accounts: Listed<AccountSetup<'a>>,
     pub handsets: Listed<HandsetSetup<'a>>,
 }

@@ -14,7 +14,7 @@ pub(crate) mod keep;
 mod migrating;
 mod opening;
 mod readying;
-mod said;
+mod kind;
 mod tables;
 
 pub use opening::in_memory;

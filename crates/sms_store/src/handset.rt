@@ -10,7 +10,7 @@ mod counters;
 mod founding;
 pub(crate) mod keep;
 mod opening;
-mod said;
+mod kind;
 
 pub use counters::CountersRow;
 pub use opening::in_memory;

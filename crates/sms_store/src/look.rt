@@ -5,7 +5,7 @@
 //! of an earlier version to the present one.
 
 mod file;
-mod looked;
+mod found;
 
 pub use file::rows_at;
-pub use looked::{Looked, look_over};
+pub use found::{Looked, look_over};

@@ -28,7 +28,7 @@ use Rattle.sqlite_typed.proofs.RowLemmas.{puts-map}
 use Rattle.sqlite_keyed.specs.Keyed.{IsKeyedBy, next_key}
 use Rattle.sqlite_keyed.proofs.ListLemmas.{map-map, filter_all, all_of, all_map}
 use Rattle.sqlite_keyed.proofs.KeyedLemmas.{IsKeyedBy-insert_by}
-use Rattle.sms_store_sql.specs.listing.Listing.{rows_where, ListOf, IsList, Holds, table_of, with_rowid}
+use Rattle.sms_store_sql.specs.listing.Listing.{rows_where, ListOf, IsList, Represents, table_of, with_rowid}
 use Rattle.sms_store_sql.specs.listing.Inside.{Ran}
 use Rattle.sms_store_sql.proofs.listing.Found.{mapped_back}
 use Rattle.sms_store_sql.proofs.listing.Trees.{insert_last, below_next, next_from}
@@ -118,7 +118,7 @@ as_they_are [] = refl
 as_they_are (p ∷ ps) = ap₂ (λ r rs. r ∷ rs) (priority_is_list.stays p) (as_they_are ps)
 
 -- what the query of the text gives
-selected : (db : Trees) (messages : List MessageRow) → Holds message_list (db 2) messages → (rows : List Row) → IsAnswer ranking (overlay db []) [] rows
+selected : (db : Trees) (messages : List MessageRow) → Represents message_list (db 2) messages → (rows : List Row) → IsAnswer ranking (overlay db []) [] rows
     → (ps : List PriorityRow) × (rows ≡ coming priority_list priority_is_list ps) × IsPermutation ps (map lowest messages)
 selected db messages held rows a =
     let source = last_table (overlay db []) 2 (with_rowid message_list.columns) (λ (e : ℤ × MessageRow). e.0) held.entries (message_is_list.own_tree db ∙ held.stored) held.keyed (at_end (overlay db [])) in

@@ -6,7 +6,7 @@ use Rattle.sqlite.specs.State.{State}
 use Rattle.sqlite.specs.Tree.{Trees}
 use Rattle.sms_rows.specs.table.Table.{put, without}
 use Rattle.sms_store_sql.specs.listing.Inside.{Alters}
-use Rattle.sms_store_sql.specs.listing.Listing.{ListOf, Holds}
+use Rattle.sms_store_sql.specs.listing.Listing.{ListOf, Represents}
 use Rattle.sms_store_sql.specs.listing.Transaction.{Leaves, IsKept}
 use Rattle.sms_store_tables.specs.centre.MetaList.{meta_list}
 use Rattle.sms_store_tables.specs.centre.FirstMetaList.{meta_list as first_list}
@@ -22,11 +22,11 @@ use Rattle.sms_store_migration.specs.Types.{Rows, Meta}
 use Rattle.sms_store_migration.proofs.Apart.{free_0, free_2, free_4, free_6, free_8, free_10, free_12}
 
 -- what a list holds it holds in the same rows
-moved : {X : Type 0} (l : ListOf X) (rows others : List Row) (xs : List X) → others ≡ rows → Holds l rows xs → Holds l others xs
-moved l rows others xs same held = subst (λ rs. Holds l rs xs) (sym same) held
+moved : {X : Type 0} (l : ListOf X) (rows others : List Row) (xs : List X) → others ≡ rows → Represents l rows xs → Represents l others xs
+moved l rows others xs same held = subst (λ rs. Represents l rs xs) (sym same) held
 
 -- the row of the store is the same in both versions
-said_now : (rows : List Row) (said : List Meta) → Holds first_list rows said → Holds meta_list rows said
+said_now : (rows : List Row) (said : List Meta) → Represents first_list rows said → Represents meta_list rows said
 said_now rows said h = record { entries = h.entries; keyed = h.keyed; stored = h.stored; shown = h.shown; rises = h.rises; fit = h.fit }
 
 pub renames : (a b c : State) → Alters meta_list (without meta_list.key 1) a b → Alters meta_list (put meta_list.key centre_meta) b c → Renames a.now c.now

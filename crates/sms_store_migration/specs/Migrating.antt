@@ -2,7 +2,7 @@
 use Rattle.std.specs.Prelude.{◌≡◌, ◌≢◌, ℕ, [], ◌∷◌, map, List}
 use Rattle.sqlite_rules.specs.Edit.{IsNoIndex}
 use Rattle.sqlite.specs.Effect.{Database}
-use Rattle.sms_store_sql.specs.listing.Listing.{Holds}
+use Rattle.sms_store_sql.specs.listing.Listing.{Represents}
 use Rattle.sms_store_sql.specs.listing.Making.{Makes}
 use Rattle.sms_store_tables.specs.centre.CentreSchema.{centre_schema, first_schema, with_priority}
 use Rattle.sms_store_tables.specs.centre.Indexing.{Indexes}
@@ -37,20 +37,20 @@ KeepsOthers tree before after = (other : ℕ) → other ≢ tree → IsNoIndex c
 -- each message has a row of priority 0
 pub record Ranked (messages : List MessageRow) (before after : Database) : Type 0 where
   pub schema : after.schema ≡ centre_schema
-  pub priorities : Holds priority_list (after.trees 12) (map lowest messages)
+  pub priorities : Represents priority_list (after.trees 12) (map lowest messages)
   pub others : KeepsOthers 12 before after
 
 abbrev pub Ranks : Database → Database → Type 0
-Ranks before after = before.schema ≡ centre_schema → before.trees 12 ≡ [] → (messages : List MessageRow) → Holds message_list (before.trees 2) messages → Ranked messages before after
+Ranks before after = before.schema ≡ centre_schema → before.trees 12 ≡ [] → (messages : List MessageRow) → Represents message_list (before.trees 2) messages → Ranked messages before after
 
 -- the row that says what the store is says version 2
 pub record Renamed (before after : Database) : Type 0 where
   pub schema : after.schema ≡ centre_schema
-  pub meta : Holds meta_list (after.trees 0) (centre_meta ∷ [])
+  pub meta : Represents meta_list (after.trees 0) (centre_meta ∷ [])
   pub others : KeepsOthers 0 before after
 
 abbrev pub Renames : Database → Database → Type 0
-Renames before after = before.schema ≡ centre_schema → Holds meta_list (before.trees 0) (first_meta ∷ []) → Renamed before after
+Renames before after = before.schema ≡ centre_schema → Represents meta_list (before.trees 0) (first_meta ∷ []) → Renamed before after
 
 abbrev pub Migrates : Database → Database → Type 0
 Migrates before after = (rows : Rows) → IsFirstStore before rows → IsStore after (migrated rows)

@@ -2,7 +2,7 @@
 use Rattle.std.specs.Prelude.{◌≡◌, [], ◌∷◌}
 use Rattle.sqlite.specs.Effect.{Database}
 use Rattle.sqlite.specs.Tree.{Trees}
-use Rattle.sms_store_sql.specs.listing.Listing.{Holds}
+use Rattle.sms_store_sql.specs.listing.Listing.{Represents}
 use Rattle.sms_store_sql.specs.declared.listing.meta.StoreKind.TheVariants.{Centre}
 use Rattle.sms_store_tables.specs.centre.CentreSchema.{centre_schema, first_schema}
 use Rattle.sms_store_tables.specs.centre.FirstMetaList.{meta_list as first_list}
@@ -22,13 +22,13 @@ centre_meta = record { version = 2; kind = Centre }
 -- The database is the store of these rows. The setup is not stored.
 pub record IsStore (db : Database) (rows : Rows) : Type 0 where
   pub schema : db.schema ≡ centre_schema
-  pub meta : Holds meta_list (db.trees 0) (centre_meta ∷ [])
-  pub messages : Holds message_list (db.trees 2) rows.messages
-  pub parts : Holds part_list (db.trees 4) rows.parts
-  pub references : Holds reference_list (db.trees 6) rows.references
-  pub handsets : Holds handset_list (db.trees 8) rows.handsets
-  pub reports : Holds report_list (db.trees 10) rows.reports
-  pub priorities : Holds priority_list (db.trees 12) rows.priorities
+  pub meta : Represents meta_list (db.trees 0) (centre_meta ∷ [])
+  pub messages : Represents message_list (db.trees 2) rows.messages
+  pub parts : Represents part_list (db.trees 4) rows.parts
+  pub references : Represents reference_list (db.trees 6) rows.references
+  pub handsets : Represents handset_list (db.trees 8) rows.handsets
+  pub reports : Represents report_list (db.trees 10) rows.reports
+  pub priorities : Represents priority_list (db.trees 12) rows.priorities
 
 -- a centre's store of version 1
 abbrev pub first_meta : Meta
@@ -37,12 +37,12 @@ first_meta = record { version = 1; kind = Centre }
 -- the database is the store of version 1 of these rows, which has no priorities
 pub record IsFirstStore (db : Database) (rows : Rows) : Type 0 where
   pub schema : db.schema ≡ first_schema
-  pub meta : Holds first_list (db.trees 0) (first_meta ∷ [])
-  pub messages : Holds message_list (db.trees 2) rows.messages
-  pub parts : Holds part_list (db.trees 4) rows.parts
-  pub references : Holds reference_list (db.trees 6) rows.references
-  pub handsets : Holds handset_list (db.trees 8) rows.handsets
-  pub reports : Holds report_list (db.trees 10) rows.reports
+  pub meta : Represents first_list (db.trees 0) (first_meta ∷ [])
+  pub messages : Represents message_list (db.trees 2) rows.messages
+  pub parts : Represents part_list (db.trees 4) rows.parts
+  pub references : Represents reference_list (db.trees 6) rows.references
+  pub handsets : Represents handset_list (db.trees 8) rows.handsets
+  pub reports : Represents report_list (db.trees 10) rows.reports
   pub priorities : rows.priorities ≡ []
 
 -- the trees are those of the store of these rows

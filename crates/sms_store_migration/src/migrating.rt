@@ -4,7 +4,7 @@ ghost use Rattle.std.specs.Prelude.{◌≡◌, ◌≢◌, ◌⊎◌, false, IfEr
 ghost use Rattle.sqlite.specs.Held.{state};
 ghost use Rattle.sqlite.specs.State.{HasCleanDisk};
 ghost use Rattle.sqlite.specs.Tree.{Trees};
-ghost use Rattle.sms_store_sql.specs.listing.Inside.{Goes, Keeps, Spares};
+ghost use Rattle.sms_store_sql.specs.listing.Inside.{MakesStep, Keeps, Spares};
 ghost use Rattle.sms_store_sql.specs.listing.Transaction.{Committed, IsKept, Leads};
 ghost use Rattle.sms_store_migration.specs.Migrating.{Migrates, Ranks, Renames, migrated};
 ghost use Rattle.sms_store_migration.specs.Versions.{AreStore, IsFirstStore};
@@ -35,7 +35,7 @@ impl Work for Migration {
 // Each message has the lowest priority.
 fn rank_messages<S: Alter>(tx: &mut Transaction<'_, S>) -> Result<(), Error>
     ensures same_reference { tx.new.conn.ghost_name ≡ tx.old.conn.ghost_name }
-    ensures done { Goes S.Store tx.old.conn.now tx.new.conn.now (Leads Ranks) result }
+    ensures done { MakesStep S.Store tx.old.conn.now tx.new.conn.now (Leads Ranks) result }
     ensures kept { Keeps S.Store tx.old.conn.now tx.new.conn.now }
     ensures survives { Spares S.Store tx.old.conn.now tx.new.conn.now }
 {
@@ -48,7 +48,7 @@ fn rank_messages<S: Alter>(tx: &mut Transaction<'_, S>) -> Result<(), Error>
 
 fn rename<S: Alter>(alloc: Global, tx: &mut Transaction<'_, S>) -> Result<(), Error>
     ensures same_reference { tx.new.conn.ghost_name ≡ tx.old.conn.ghost_name }
-    ensures done { Goes S.Store tx.old.conn.now tx.new.conn.now (Leads Renames) result }
+    ensures done { MakesStep S.Store tx.old.conn.now tx.new.conn.now (Leads Renames) result }
     ensures kept { Keeps S.Store tx.old.conn.now tx.new.conn.now }
     ensures survives { Spares S.Store tx.old.conn.now tx.new.conn.now }
 {

@@ -1,7 +1,7 @@
 //! The texts that make what version 1 lacks.
 ghost use Rattle.std.specs.Prelude.{◌≡◌};
 ghost use Rattle.sqlite.specs.Held.{state};
-ghost use Rattle.sms_store_sql.specs.listing.Inside.{Goes, Keeps, Spares};
+ghost use Rattle.sms_store_sql.specs.listing.Inside.{MakesStep, Keeps, Spares};
 ghost use Rattle.sms_store_sql.specs.listing.Transaction.{Leads};
 ghost use Rattle.sms_store_migration.specs.Migrating.{Completes, IndexesReports, MakesPriority};
 
@@ -10,7 +10,7 @@ use sqlite::{Alter, Error, Transaction};
 
 fn make_priority_table<S: Alter>(tx: &mut Transaction<'_, S>) -> Result<(), Error>
     ensures same_reference { tx.new.conn.ghost_name ≡ tx.old.conn.ghost_name }
-    ensures done { Goes S.Store tx.old.conn.now tx.new.conn.now (Leads MakesPriority) result }
+    ensures done { MakesStep S.Store tx.old.conn.now tx.new.conn.now (Leads MakesPriority) result }
     ensures kept { Keeps S.Store tx.old.conn.now tx.new.conn.now }
     ensures survives { Spares S.Store tx.old.conn.now tx.new.conn.now }
 {
@@ -24,7 +24,7 @@ fn make_priority_table<S: Alter>(tx: &mut Transaction<'_, S>) -> Result<(), Erro
 // By it the octets of a status report are found without a walk over all reports.
 fn index_reports<S: Alter>(tx: &mut Transaction<'_, S>) -> Result<(), Error>
     ensures same_reference { tx.new.conn.ghost_name ≡ tx.old.conn.ghost_name }
-    ensures done { Goes S.Store tx.old.conn.now tx.new.conn.now (Leads IndexesReports) result }
+    ensures done { MakesStep S.Store tx.old.conn.now tx.new.conn.now (Leads IndexesReports) result }
     ensures kept { Keeps S.Store tx.old.conn.now tx.new.conn.now }
     ensures survives { Spares S.Store tx.old.conn.now tx.new.conn.now }
 {
@@ -34,7 +34,7 @@ fn index_reports<S: Alter>(tx: &mut Transaction<'_, S>) -> Result<(), Error>
 /// Makes what version 1 lacks: the table of priorities, and the index of the reports by their messages.
 pub fn complete_tables<S: Alter>(tx: &mut Transaction<'_, S>) -> Result<(), Error>
     ensures same_reference { tx.new.conn.ghost_name ≡ tx.old.conn.ghost_name }
-    ensures done { Goes S.Store tx.old.conn.now tx.new.conn.now (Leads Completes) result }
+    ensures done { MakesStep S.Store tx.old.conn.now tx.new.conn.now (Leads Completes) result }
     ensures kept { Keeps S.Store tx.old.conn.now tx.new.conn.now }
     ensures survives { Spares S.Store tx.old.conn.now tx.new.conn.now }
 {

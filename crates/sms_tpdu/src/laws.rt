@@ -114,7 +114,7 @@ pub fn one_message_differs_in_one_bit()
 
 /// A TPDU in which TP-MMS was set says whether more messages wait, and is one message with the TPDU before. The last
 /// setting holds.
-pub fn more_messages_are_told()
+pub fn more_messages_is_set_once()
     ensures told { (more : Bool) (first : ℕ) → bit (octet_telling more first) 4 ≡ not more }
     ensures kept { (more : Bool) (first : ℕ) (rest : List ℕ) → bit first 4 ≡ not more → telling more (first ∷ rest) ≡ first ∷ rest }
     ensures same { (more : Bool) (octets : List ℕ) → compared (telling more octets) ≡ compared octets }

@@ -53,7 +53,7 @@ pub use deliver::{Deliver, write_deliver};
 pub use deliver_report::{DeliverReport, write_deliver_report};
 pub use down::{Down, read_down, write_down};
 pub use fault::TpduFault;
-pub use more_messages::{same_message, tell_more_messages};
+pub use more_messages::{same_message, set_more_messages};
 pub use parameters::Parameters;
 pub use status_report::{StatusReport, write_status_report};
 pub use submit::{Submit, write_submit};

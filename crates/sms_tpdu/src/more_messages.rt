@@ -33,7 +33,7 @@ pub fn same_message(one: &[u8], other: &[u8]) -> bool
 /// Sets whether more messages wait for the handset, in the octets of a DELIVER or of a STATUS-REPORT.
 ///
 /// Takes no memory.
-pub fn tell_more_messages(octets: &mut [u8], more: bool)
+pub fn set_more_messages(octets: &mut [u8], more: bool)
     ensures { octets.new ≡ telling more octets.old }
 {
     match octets {

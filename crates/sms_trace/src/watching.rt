@@ -4,7 +4,7 @@
 //! event costs as much as it adds. The scene and the judge are passed on from `sms_play::judging`.
 
 mod capture;
-mod coming;
+mod arriving;
 mod heads;
 mod ladder;
 mod lanes;

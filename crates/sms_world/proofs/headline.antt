@@ -1,5 +1,5 @@
 pub mod SmallReferences
-pub mod OctetCourses
+pub mod OctetPlays
 pub mod GoodScripts
 pub mod Parting
 pub mod Tables
@@ -29,5 +29,5 @@ pub mod SentClaims
 pub mod Claimed
 pub mod Played
 pub mod SplitJoins
-pub mod SplitCourses
+pub mod SplitPlays
 pub mod SplitClaimed

@@ -1,1 +1,1 @@
-pub mod ToldEntries
+pub mod ReportedEntries

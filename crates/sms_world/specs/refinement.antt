@@ -1,5 +1,5 @@
-pub mod CourseRuns
-pub mod CourseSight
+pub mod PlayRuns
+pub mod PlayRefinement
 pub mod Happening
-pub mod TellingLaws
-pub mod ToldGivings
+pub mod AllocationLaws
+pub mod ReportedAllocations

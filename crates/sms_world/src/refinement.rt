@@ -9,7 +9,7 @@
 //!
 //! `sms_play` also lists of each event of the centre which references its changes give, and to whom. The steps of the
 //! world give exactly these, a row for each giving, at the moment of the event. So a reference's last holder is equal
-//! in both. No two rows are of one holder, and parts are in the order of their givings
+//! in both. No two rows are of one holder, and parts are in the order of their allocations
 //! (`specs/refinement/ToldGivings.antt`). The premises rest on this.
 
 pub mod laws;

@@ -5,7 +5,7 @@ use Rattle.std.proofs.lemmas.Bool.{cases_Bool, cond-false, and_parts}
 use Rattle.std.proofs.lemmas.Slice.Eq.{bytes_eq-Decides}
 use Rattle.sms_base.specs.Among.{Among}
 use Rattle.sms_world_model.specs.Place.{Key}
-use Rattle.sms_world_model.specs.World.{is_same_handset, Giving, Sent, Accepted, Joined, EntryState, Sending, Sent_up, OutEntry, World, IsLast, pair_of}
+use Rattle.sms_world_model.specs.World.{is_same_handset, Allocation, Sent, Accepted, Joined, EntryState, Sending, Sent_up, OutEntry, World, IsLast, pair_of}
 use Rattle.sms_world_model.specs.PartsOfKey.{is_for}
 use Rattle.sms_world_model.specs.Groups.{groups_of}
 use Rattle.sms_world_model.specs.WorldStep.{Step, Submit, Take, Settle, Expire, Delete, Fail, Receipt, Status, Close, Join, Write, Remove, Offer_up, Offer_memory, Receive, Lapse, Acknowledged, Refused, after, is_entry, replaced, removed}
@@ -114,8 +114,8 @@ nothing h w v a j o u = record {
   joined_back = λ x e i. subst (λ (js : List Joined). Among x js) j i;
   entry = λ x e i. subst (λ (es : List OutEntry). Among x es) (sym o) i;
   entry_back = λ x e i. subst (λ (es : List OutEntry). Among x es) o i;
-  given = λ g e i. subst (λ (gs : List Giving). Among g gs) (sym u) i;
-  given_back = λ g e i. subst (λ (gs : List Giving). Among g gs) u i;
+  given = λ g e i. subst (λ (gs : List Allocation). Among g gs) (sym u) i;
+  given_back = λ g e i. subst (λ (gs : List Allocation). Among g gs) u i;
 }
 
 took : (h : List ℕ) (w v : World) (p : Accepted) → ¬ (p.handset ≡ h) → v.accepted ≡ p ∷ w.accepted → LeavesHandset h (record v { accepted = w.accepted }) v
@@ -175,7 +175,7 @@ step_leaves h w m (Write y r) o = record {
   entry = λ x e i. inr i;
   entry_back = λ x e i. ⊎_elim (λ (d : x ≡ y). absurd (o (ap (λ (z : OutEntry). z.handset) (sym d) ∙ e))) (λ (k : Among x w.outbox). k) i;
   given = λ g e i. inr i;
-  given_back = λ g e i. ⊎_elim (λ d. absurd (o (ap (λ (z : Giving). z.handset) (sym d) ∙ e))) (λ (k : Among g w.up). k) i;
+  given_back = λ g e i. ⊎_elim (λ d. absurd (o (ap (λ (z : Allocation). z.handset) (sym d) ∙ e))) (λ (k : Among g w.up). k) i;
 }
 step_leaves h w m (Remove y) o = record {
   last = λ p e i. i;
@@ -198,7 +198,7 @@ step_leaves h w m (Offer_memory a n r) o = record {
   entry = λ x e i. i;
   entry_back = λ x e i. i;
   given = λ g e i. inr i;
-  given_back = λ g e i. ⊎_elim (λ d. absurd (o (ap (λ (z : Giving). z.handset) (sym d) ∙ e))) (λ (k : Among g w.up). k) i;
+  given_back = λ g e i. ⊎_elim (λ d. absurd (o (ap (λ (z : Allocation). z.handset) (sym d) ∙ e))) (λ (k : Among g w.up). k) i;
 }
 step_leaves h w m (Lapse y st) o = changed h w w.bag y st o
 step_leaves h w m (Acknowledged u g y) o = changed h w w.bag y Sent_up o

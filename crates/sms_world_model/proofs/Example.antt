@@ -26,8 +26,8 @@ use Rattle.sms_world_model.specs.Submission.{Submission, Always}
 use Rattle.sms_world_model.specs.WhoseTpdu.{IsDeliverOf}
 use Rattle.sms_world_model.specs.Place.{Key, place_in}
 use Rattle.sms_world_model.specs.Carrying.{carried_in}
-use Rattle.sms_world_model.specs.World.{Final, Giving, Down, Frame, Joined, World, Stands, answer, empty, pair_of}
-use Rattle.sms_world_model.specs.References.{Ticket, part_giving}
+use Rattle.sms_world_model.specs.World.{Final, Allocation, Down, Frame, Joined, World, IsRecorded, answer, empty, pair_of}
+use Rattle.sms_world_model.specs.References.{Ticket, part_allocation}
 use Rattle.sms_world_model.specs.WorldStep.{Step, Submit, Offer, Take, Settle, Receipt, Join, data_of}
 use Rattle.sms_world_model.specs.Run.{Item, after_item, Run, end}
 use Rattle.sms_world_model.specs.Timely.{Timely}
@@ -101,8 +101,8 @@ at step = record { step = step; moment = 1709251198; stopped = false }
 abbrev t : Ticket
 t = record { reference = 0; tpdu = tpdu }
 
-abbrev g : Giving
-g = part_giving s 1709251198 1 t
+abbrev g : Allocation
+g = part_allocation s 1709251198 1 t
 
 abbrev w1 : World
 w1 = after_item empty (at (Submit s (t ∷ [])))
@@ -167,7 +167,7 @@ timely = (tt, (tt, ((g, (inl refl, refl, refl, refl)), ((g, (inl refl, refl, ref
 fresh : Fresh empty items
 fresh = (((λ k is bad. absurd (cc)), tt), (tt, (tt, (tt, (tt, (tt, tt))))))
 
-delivered : Stands (end empty items).table 1 s (Final Delivered)
+delivered : IsRecorded (end empty items).table 1 s (Final Delivered)
 delivered = refl
 
 was_told : Among (record { id = 1; state = Delivered }) (end empty items).receipts

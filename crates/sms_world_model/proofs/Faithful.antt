@@ -10,14 +10,14 @@ use Rattle.sms_tpdu.specs.declared.deliver.Deliver.{Deliver as DeliverOf}
 use Rattle.sms_tpdu.specs.declared.down.Down.TheVariants.{Deliver, StatusReport}
 use Rattle.sms_tpdu.specs.declared.user_data.UserData.{UserData}
 use Rattle.sms_tpdu.specs.TpduReading.{down_at}
-use Rattle.sms_world_model.specs.Lists.{StandsOnce, all_numbers}
+use Rattle.sms_world_model.specs.Lists.{OccursOnce, all_numbers}
 use Rattle.sms_world_model.specs.Submission.{Submission, part_at}
 use Rattle.sms_world_model.specs.WhoseTpdu.{IsDeliverOf}
-use Rattle.sms_world_model.specs.World.{State, Pending, Final, Message, Giving, Line, Down, Frame, Accepted, World, Stands, changed, SameReference, IsLatest, IsLast, give, pair_of, pair_given, empty}
-use Rattle.sms_world_model.specs.References.{IsEarlier, IsForPart, Ticket, part_giving, report_giving, CanGiveParts, given_parts}
+use Rattle.sms_world_model.specs.World.{State, Pending, Final, Message, Allocation, Line, Down, Frame, Accepted, World, IsRecorded, changed, SameReference, IsLatest, IsLast, give, pair_of, pair_given, empty}
+use Rattle.sms_world_model.specs.References.{IsEarlier, IsForPart, Ticket, part_allocation, report_allocation, CanGiveParts, given_parts}
 use Rattle.sms_world_model.specs.WorldStep.{Step, Submit, Take, Settle, Expire, Delete, Fail, Status, Receive, Can, after, CanSubmit, submitted, enter, marked, IsSent, HasReference}
 use Rattle.sms_world_model.specs.Run.{Item, after_item, Run, end}
-use Rattle.sms_world_model.specs.Timely.{IsTimely, ReadsTimely, givings, Timely}
+use Rattle.sms_world_model.specs.Timely.{IsTimely, ReadsTimely, allocations, Timely}
 use Rattle.sms_world_model.specs.Agreement.{GivenOnce, DeliveredAccepted, NoPartTwice}
 use Rattle.sms_base.specs.declared.carried.Kind.{Kind}
 use Rattle.sms_base.specs.declared.carried.Kind.TheVariants.{Ack}
@@ -35,76 +35,76 @@ DeliversOnce [] = Unit {0}
 DeliversOnce (p ∷ older) = ((d : DeliverOf) → IsDeliver p.tpdu d → ¬ Among p older) × DeliversOnce older
 
 -- part n was accepted
-abbrev pub Arrived : List Giving → List Accepted → ℕ → Submission → ℕ → Type 0
+abbrev pub Arrived : List Allocation → List Accepted → ℕ → Submission → ℕ → Type 0
 Arrived down accepted id s n =
-    (g : Giving)
+    (g : Allocation)
     × (Among g down × (g.holder ≡ Part id n) × (g.handset ≡ s.handset) × IsForPart s n g.moment g.tpdu × Among (pair_given g) accepted)
 
-abbrev pub DoneArrived : List Giving → List Accepted → ℕ → Submission → State → Type 0
+abbrev pub DoneArrived : List Allocation → List Accepted → ℕ → Submission → State → Type 0
 DoneArrived down accepted id s (Pending done) = (n : ℕ) → Among n done → Arrived down accepted id s n
 DoneArrived down accepted id s (Final Delivered) = (n : ℕ) → 0 < n → n ≤ length s.parts → Arrived down accepted id s n
 DoneArrived down accepted id s (Final Expired) = Unit {0}
 DoneArrived down accepted id s (Final Deleted) = Unit {0}
 DoneArrived down accepted id s (Final Undeliverable) = Unit {0}
 
-pub record Faithful (table : List Message) (down : List Giving) (accepted : List Accepted) : Type 0 where
+pub record Faithful (table : List Message) (down : List Allocation) (accepted : List Accepted) : Type 0 where
   pub once : DeliversOnce accepted
   -- a DELIVER that was accepted for the latest giving is the last accepted under its reference
-  pub tip : (g : Giving) (d : DeliverOf) → IsLatest g down → IsDeliver g.tpdu d → Among (pair_given g) accepted → IsLast (pair_given g) accepted
-  pub done : (id : ℕ) (s : Submission) (st : State) → Stands table id s st → DoneArrived down accepted id s st
+  pub tip : (g : Allocation) (d : DeliverOf) → IsLatest g down → IsDeliver g.tpdu d → Among (pair_given g) accepted → IsLast (pair_given g) accepted
+  pub done : (id : ℕ) (s : Submission) (st : State) → IsRecorded table id s st → DoneArrived down accepted id s st
 
 abbrev pub IsFaithful : World → Type 0
 IsFaithful w = Faithful w.table w.down w.accepted
 
--- ---- givings
+-- ---- allocations
 
-pub latest_among : (g : Giving) (gs : List Giving) → IsLatest g gs → Among g gs
+pub latest_among : (g : Allocation) (gs : List Allocation) → IsLatest g gs → Among g gs
 latest_among g [] h = h
 latest_among g (x ∷ xs) h = ⊎_elim (λ (e : g ≡ x). inl e) (λ (k : ¬ SameReference g x × IsLatest g xs). inr (latest_among g xs k.1)) h
 
-pub was_earlier : (gs : List Giving) (x : Giving) (a : List ℕ) (r m : ℕ) → IsEarlier gs a r m → Among x gs → x.handset ≡ a → x.reference ≡ r → x.moment < m
+pub was_earlier : (gs : List Allocation) (x : Allocation) (a : List ℕ) (r m : ℕ) → IsEarlier gs a r m → Among x gs → x.handset ≡ a → x.reference ≡ r → x.moment < m
 was_earlier [] x a r m f i p q = absurd i
 was_earlier (g ∷ gs) x a r m f i p q =
     ⊎_elim
     (λ (e : x ≡ g).
-    let l = f.0 (ap (λ (y : Giving). y.handset) (sym e) ∙ p) (ap (λ (y : Giving). y.reference) (sym e) ∙ q) in
-    subst (λ (y : Giving). y.moment < m) (sym e) l)
+    let l = f.0 (ap (λ (y : Allocation). y.handset) (sym e) ∙ p) (ap (λ (y : Allocation). y.reference) (sym e) ∙ q) in
+    subst (λ (y : Allocation). y.moment < m) (sym e) l)
     (λ (j : Among x gs). was_earlier gs x a r m f.1 j p q)
     i
 
-pub given_same : (gs : List Giving) (x y : Giving) → GivenOnce gs → Among x gs → Among y gs → x.handset ≡ y.handset → x.reference ≡ y.reference → x.moment ≡ y.moment → x ≡ y
+pub given_same : (gs : List Allocation) (x y : Allocation) → GivenOnce gs → Among x gs → Among y gs → x.handset ≡ y.handset → x.reference ≡ y.reference → x.moment ≡ y.moment → x ≡ y
 given_same [] x y o i j p q s = absurd i
 given_same (g ∷ gs) x y o i j p q s =
     ⊎_elim
     (λ (e : x ≡ g). ⊎_elim
     (λ (d : y ≡ g). e ∙ sym d)
     (λ (k : Among y gs).
-    let l = was_earlier gs y g.handset g.reference g.moment o.0 k (sym p ∙ ap (λ (z : Giving). z.handset) e) (sym q ∙ ap (λ (z : Giving). z.reference) e) in
-    let t : x.moment ≡ g.moment = ap (λ (z : Giving). z.moment) e in
+    let l = was_earlier gs y g.handset g.reference g.moment o.0 k (sym p ∙ ap (λ (z : Allocation). z.handset) e) (sym q ∙ ap (λ (z : Allocation). z.reference) e) in
+    let t : x.moment ≡ g.moment = ap (λ (z : Allocation). z.moment) e in
     absurd (omega (arith, l, t, s)))
     j)
     (λ (e : Among x gs). ⊎_elim
     (λ (d : y ≡ g).
-    let l = was_earlier gs x g.handset g.reference g.moment o.0 e (p ∙ ap (λ (z : Giving). z.handset) d) (q ∙ ap (λ (z : Giving). z.reference) d) in
-    let t : y.moment ≡ g.moment = ap (λ (z : Giving). z.moment) d in
+    let l = was_earlier gs x g.handset g.reference g.moment o.0 e (p ∙ ap (λ (z : Allocation). z.handset) d) (q ∙ ap (λ (z : Allocation). z.reference) d) in
+    let t : y.moment ≡ g.moment = ap (λ (z : Allocation). z.moment) d in
     absurd (omega (arith, l, t, s)))
     (λ (k : Among y gs). given_same gs x y o.1 e k p q s)
     j)
     i
 
--- ---- DELIVERs and their givings
+-- ---- DELIVERs and their allocations
 
 pub one_deliver : (tpdu : List ℕ) (d e : DeliverOf) → IsDeliver tpdu d → IsDeliver tpdu e → d ≡ e
 one_deliver tpdu d e x y = let z : Ok (Deliver d) ≡ Ok (Deliver e) = sym x ∙ y in cc
 
 -- a DELIVER that is offered has the moment of its giving
-abbrev pub HasMoment : Giving → Type 0
+abbrev pub HasMoment : Allocation → Type 0
 HasMoment g = (d : DeliverOf) → IsDeliver g.tpdu d → d.service_centre_time_stamp ≡ g.moment
 
 pub part_moment : (s : Submission) (n m : ℕ) (tpdu : List ℕ) (d : DeliverOf) → IsForPart s n m tpdu → IsDeliver tpdu d → d.service_centre_time_stamp ≡ m
 part_moment s n m tpdu d (part, x) e = ap (λ (y : DeliverOf). y.service_centre_time_stamp) (one_deliver tpdu d x.1.deliver e x.1.reads) ∙ x.1.time_stamp
 
-pub known_moment : (w : World) → IsSound w → (g : Giving) → Among g w.down → HasMoment g
+pub known_moment : (w : World) → IsSound w → (g : Allocation) → Among g w.down → HasMoment g
 known_moment w h g i d e = at g.holder (h.known g i)
   where
     at : (y : Holder) → IsKnown w.table w.receipts g y → d.service_centre_time_stamp ≡ g.moment
@@ -114,38 +114,38 @@ known_moment w h g i d e = at g.holder (h.known g i)
     at (Memory n) x = absurd x
 
 -- the giving of a pair that is a DELIVER
-pub pair_giving : (gs : List Giving) (x y : Giving) (d : DeliverOf) → GivenOnce gs → HasMoment x → HasMoment y → Among x gs → Among y gs → pair_given x ≡ pair_given y → IsDeliver x.tpdu d → x ≡ y
-pair_giving gs x y d o hx hy i j e is =
+pub pair_allocation : (gs : List Allocation) (x y : Allocation) (d : DeliverOf) → GivenOnce gs → HasMoment x → HasMoment y → Among x gs → Among y gs → pair_given x ≡ pair_given y → IsDeliver x.tpdu d → x ≡ y
+pair_allocation gs x y d o hx hy i j e is =
     let t : x.tpdu ≡ y.tpdu = ap (λ (p : Accepted). p.tpdu) e in
     given_same gs x y o i j (ap (λ (p : Accepted). p.handset) e) (ap (λ (p : Accepted). p.reference) e)
     (sym (hx d is) ∙ hy d (subst (λ z. IsDeliver z d) t is))
 
 -- ---- what changes keep
 
-arrived_more : (dn en : List Giving) (ac bc : List Accepted) (id : ℕ) (s : Submission) (n : ℕ) → ((g : Giving) → Among g dn → Among g en) → ((p : Accepted) → Among p ac → Among p bc) → Arrived dn ac id s n → Arrived en bc id s n
+arrived_more : (dn en : List Allocation) (ac bc : List Accepted) (id : ℕ) (s : Submission) (n : ℕ) → ((g : Allocation) → Among g dn → Among g en) → ((p : Accepted) → Among p ac → Among p bc) → Arrived dn ac id s n → Arrived en bc id s n
 arrived_more dn en ac bc id s n gd ga (g, x) = (g, (gd g x.0, x.1, x.2, x.3, ga (pair_given g) x.4))
 
-done_more : (dn en : List Giving) (ac bc : List Accepted) (id : ℕ) (s : Submission) (st : State) → ((g : Giving) → Among g dn → Among g en) → ((p : Accepted) → Among p ac → Among p bc) → DoneArrived dn ac id s st → DoneArrived en bc id s st
+done_more : (dn en : List Allocation) (ac bc : List Accepted) (id : ℕ) (s : Submission) (st : State) → ((g : Allocation) → Among g dn → Among g en) → ((p : Accepted) → Among p ac → Among p bc) → DoneArrived dn ac id s st → DoneArrived en bc id s st
 done_more dn en ac bc id s (Pending done) gd ga x = λ n i. arrived_more dn en ac bc id s n gd ga (x n i)
 done_more dn en ac bc id s (Final Delivered) gd ga x = λ n i l. arrived_more dn en ac bc id s n gd ga (x n i l)
 done_more dn en ac bc id s (Final Expired) gd ga x = tt
 done_more dn en ac bc id s (Final Deleted) gd ga x = tt
 done_more dn en ac bc id s (Final Undeliverable) gd ga x = tt
 
-module _ (t : List Message) (dn : List Giving) (ac : List Accepted) (h : Faithful t dn ac) where
-  faithful_table : (v : List Message) → ((id : ℕ) (s : Submission) (st : State) → Stands v id s st → DoneArrived dn ac id s st) → Faithful v dn ac
+module _ (t : List Message) (dn : List Allocation) (ac : List Accepted) (h : Faithful t dn ac) where
+  faithful_table : (v : List Message) → ((id : ℕ) (s : Submission) (st : State) → IsRecorded v id s st → DoneArrived dn ac id s st) → Faithful v dn ac
   faithful_table v new = record { once = h.once; tip = h.tip; done = new }
 
-  faithful_give : (g : Giving) → IsEarlier dn g.handset g.reference g.moment → HasMoment g → ((x : Giving) → Among x dn → HasMoment x)
+  faithful_give : (g : Allocation) → IsEarlier dn g.handset g.reference g.moment → HasMoment g → ((x : Allocation) → Among x dn → HasMoment x)
       → ((p : Accepted) → Among p ac → Offered dn p) → Faithful t (g ∷ dn) ac
   faithful_give g earlier mine moments offered = record {
     once = h.once;
     tip = λ x d l is i. ⊎_elim
         (λ (e : x ≡ g).
         let y = offered (pair_given x) i in
-        let same : pair_given g ≡ pair_given y.0 = ap (λ (z : Giving). pair_given z) (sym e) ∙ y.1.1 in
+        let same : pair_given g ≡ pair_given y.0 = ap (λ (z : Allocation). pair_given z) (sym e) ∙ y.1.1 in
         let l = was_earlier dn y.0 g.handset g.reference g.moment earlier y.1.0 (sym (ap (λ (p : Accepted). p.handset) same)) (sym (ap (λ (p : Accepted). p.reference) same)) in
-        let at : IsDeliver g.tpdu d = subst (λ (z : Giving). IsDeliver z.tpdu d) e is in
+        let at : IsDeliver g.tpdu d = subst (λ (z : Allocation). IsDeliver z.tpdu d) e is in
         let m = mine d at in
         let k = moments y.0 y.1.0 d (subst (λ z. IsDeliver z d) (ap (λ (p : Accepted). p.tpdu) same) at) in
         absurd (omega (arith, l, m, k)))
@@ -154,7 +154,7 @@ module _ (t : List Message) (dn : List Giving) (ac : List Accepted) (h : Faithfu
   }
 
   -- the pair of the latest giving of its reference comes, and is not the last
-  faithful_take : (p : Accepted) (g : Giving) → IsLatest g dn → p ≡ pair_given g → ¬ IsLast p ac → Faithful t dn (p ∷ ac)
+  faithful_take : (p : Accepted) (g : Allocation) → IsLatest g dn → p ≡ pair_given g → ¬ IsLast p ac → Faithful t dn (p ∷ ac)
   faithful_take p g latest is new = record {
     once = (
       (λ d at i. new (subst (λ (q : Accepted). IsLast q ac) (sym is)
@@ -168,26 +168,26 @@ module _ (t : List Message) (dn : List Giving) (ac : List Accepted) (h : Faithfu
         inr (
           (λ (same : (x.handset ≡ p.handset) × (x.reference ≡ p.reference)).
               let one : x ≡ g = latest_same x g dn l latest (same.0 ∙ ap (λ (q : Accepted). q.handset) is, same.1 ∙ ap (λ (q : Accepted). q.reference) is) in
-              new (subst (λ (q : Accepted). IsLast q ac) (ap (λ (z : Giving). pair_given z) one ∙ sym is) last)),
+              new (subst (λ (q : Accepted). IsLast q ac) (ap (λ (z : Allocation). pair_given z) one ∙ sym is) last)),
           last,
         ))
         i;
     done = λ id s st i. done_more dn dn ac (p ∷ ac) id s st (λ _ x. x) (λ _ x. inr x) (h.done id s st i);
   }
 
-pub offered_more : (dn en : List Giving) (p : Accepted) → ((g : Giving) → Among g dn → Among g en) → Offered dn p → Offered en p
+pub offered_more : (dn en : List Allocation) (p : Accepted) → ((g : Allocation) → Among g dn → Among g en) → Offered dn p → Offered en p
 offered_more dn en p more (g, x) = (g, (more g x.0, x.1))
 
-pub moments_more : (dn : List Giving) (g : Giving) → HasMoment g → ((x : Giving) → Among x dn → HasMoment x) → (x : Giving) → Among x (g ∷ dn) → HasMoment x
+pub moments_more : (dn : List Allocation) (g : Allocation) → HasMoment g → ((x : Allocation) → Among x dn → HasMoment x) → (x : Allocation) → Among x (g ∷ dn) → HasMoment x
 moments_more dn g mine all x i =
-    ⊎_elim (λ (e : x ≡ g). subst (λ (y : Giving). HasMoment y) (sym e) mine) (λ (j : Among x dn). all x j) i
+    ⊎_elim (λ (e : x ≡ g). subst (λ (y : Allocation). HasMoment y) (sym e) mine) (λ (j : Among x dn). all x j) i
 
-faithful_parts : (w : World) (s : Submission) (m n : ℕ) (ts : List Ticket) → IsFaithful w → ((x : Giving) → Among x w.down → HasMoment x)
+faithful_parts : (w : World) (s : Submission) (m n : ℕ) (ts : List Ticket) → IsFaithful w → ((x : Allocation) → Among x w.down → HasMoment x)
     → ((p : Accepted) → Among p w.accepted → Offered w.down p) → CanGiveParts w s m n ts
     → Faithful w.table (given_parts s m n ts w.down) w.accepted
 faithful_parts w s m n [] h moments offered can = h
 faithful_parts w s m n (t ∷ ts) h moments offered can =
-    let g : Giving = part_giving s m n t in
+    let g : Allocation = part_allocation s m n t in
     let mine : HasMoment g = (λ d e. part_moment s n m t.tpdu d can.1 e) in
     faithful_parts (give w g) s m (suc n) ts
     (faithful_give w.table w.down w.accepted h g can.0.2 mine moments offered)
@@ -203,27 +203,27 @@ faithful_submit w m s ts sound h can =
     (faithful_table w.table w.down w.accepted h v.table
     (λ id x st i. ⊎_elim
     (λ (e : (id ≡ s.id) × (x ≡ s) × (st ≡ Pending [])). subst (DoneArrived w.down w.accepted id x) (sym e.2) (λ n a. absurd a))
-    (λ (e : Stands w.table id x st). h.done id x st e)
+    (λ (e : IsRecorded w.table id x st). h.done id x st e)
     (entered_back w.table s x (Pending []) st id i)))
     (λ x i. known_moment v new x i)
     new.offered
     can.3
 
 -- what the tag of a timely frame says
-pub timely_giving : (w : World) (u : Frame) → u.line ≡ Down → IsTimely w u → (g : Giving) × (IsLatest g w.down × (g.handset ≡ u.handset) × (g.reference ≡ u.reference) × (g.holder ≡ u.tag))
-timely_giving w u l (g, x) = (g, (subst (λ y. IsLatest g (givings w y)) l x.0, x.1, x.2, x.3))
+pub timely_allocation : (w : World) (u : Frame) → u.line ≡ Down → IsTimely w u → (g : Allocation) × (IsLatest g w.down × (g.handset ≡ u.handset) × (g.reference ≡ u.reference) × (g.holder ≡ u.tag))
+timely_allocation w u l (g, x) = (g, (subst (λ y. IsLatest g (allocations w y)) l x.0, x.1, x.2, x.3))
 
-faithful_change : (w : World) (id : ℕ) (s : Submission) (done : List ℕ) (f : Message → State) → IsFaithful w → Stands w.table id s (Pending done)
+faithful_change : (w : World) (id : ℕ) (s : Submission) (done : List ℕ) (f : Message → State) → IsFaithful w → IsRecorded w.table id s (Pending done)
     → DoneArrived w.down w.accepted id s (f (record { submission = s; state = Pending done })) → Faithful (changed id f w.table) w.down w.accepted
 faithful_change w id s done f h is new =
     faithful_table w.table w.down w.accepted h (changed id f w.table)
     (λ j x st i. ⊎_elim
     (λ (e : (j ≡ id) × (x ≡ s) × (st ≡ f (record { submission = s; state = Pending done }))).
     subst (λ (y : ℕ × Submission × State). DoneArrived w.down w.accepted y.0 y.1 y.2) (λ k. (sym e.0 k, sym e.1 k, sym e.2 k)) new)
-    (λ (e : ¬ (j ≡ id) × Stands w.table j x st). h.done j x st e.1)
+    (λ (e : ¬ (j ≡ id) × IsRecorded w.table j x st). h.done j x st e.1)
     (changed_back w.table id f s x (Pending done) st j is i))
 
-marked_arrived : (dn : List Giving) (ac : List Accepted) (id : ℕ) (s : Submission) (n : ℕ) (done : List ℕ) → ((j : ℕ) → Among j done → Arrived dn ac id s j) → Arrived dn ac id s n
+marked_arrived : (dn : List Allocation) (ac : List Accepted) (id : ℕ) (s : Submission) (n : ℕ) (done : List ℕ) → ((j : ℕ) → Among j done → Arrived dn ac id s j) → Arrived dn ac id s n
     → DoneArrived dn ac id s (marked n s.parts (Pending done))
 marked_arrived dn ac id s n done old new = at (all_numbers (length s.parts) (n ∷ done)) (λ e j a l. all j (number_done (length s.parts) (n ∷ done) j e a l))
   where
@@ -235,14 +235,14 @@ marked_arrived dn ac id s n done old new = at (all_numbers (length s.parts) (n �
     at false every = all
 
 -- the acknowledged part was accepted
-settled_arrived : (w : World) (u : Frame) (g : Giving) (id n : ℕ) (s : Submission) (st : State) → IsSound w → IsTimely w u → IsSent w u Down Ack → HasReference w u g id n → Stands w.table id s st
+settled_arrived : (w : World) (u : Frame) (g : Allocation) (id n : ℕ) (s : Submission) (st : State) → IsSound w → IsTimely w u → IsSent w u Down Ack → HasReference w u g id n → IsRecorded w.table id s st
     → Arrived w.down w.accepted id s n
 settled_arrived w u g id n s st h timely sent ref is =
-    let latest = timely_giving w u sent.1 timely in
+    let latest = timely_allocation w u sent.1 timely in
     let says : Says w.down w.accepted Down Ack u = subst (λ (y : Line × Kind). Says w.down w.accepted y.0 y.1 u) (λ j. (sent.1 j, sent.2 j)) (h.sent u sent.0) in
     let mine : latest.0 ≡ g = latest_same latest.0 g w.down latest.1.0 (h.held g ref.0.0 ref.0.1) (latest.1.1 ∙ sym ref.2, latest.1.2 ∙ sym ref.3) in
     let his : says.0 ≡ g = h.single says.0 latest.0 says.1.0 (latest_among latest.0 w.down latest.1.0) (says.1.1.2 ∙ sym latest.1.3) ∙ mine in
-    let accepted : Among (pair_given g) w.accepted = subst (λ (z : Giving). Among (pair_given z) w.accepted) his says.1.2 in
+    let accepted : Among (pair_given g) w.accepted = subst (λ (z : Allocation). Among (pair_given z) w.accepted) his says.1.2 in
     let known : IsKnown w.table w.receipts g (Part id n) = subst (IsKnown w.table w.receipts g) ref.1 (h.known g ref.0.0) in
     let one = same_message w.table id known.0 s known.1 st known.2.0 is in (
       g,
@@ -261,11 +261,11 @@ pub faithful_step : (w : World) (m : ℕ) (step : Step) → IsSound w → IsFait
 faithful_step w m (Submit s ts) sound h can timely = faithful_submit w m s ts sound h can
 faithful_step w m (Receive u s ts) sound h can timely = faithful_submit w m s ts sound h can.2
 faithful_step w m (Take u) sound h can timely =
-    let latest = timely_giving w u can.0.1 timely in
+    let latest = timely_allocation w u can.0.1 timely in
     let says = says_data w u sound can.0 in
     let his : says.0 ≡ latest.0 = sound.single says.0 latest.0 says.1.0 (latest_among latest.0 w.down latest.1.0) (says.1.1.2 ∙ sym latest.1.3) in
     faithful_take w.table w.down w.accepted h (pair_of u) latest.0 latest.1.0
-    (came_for says.0 u says.1.1 says.1.2 ∙ ap (λ (z : Giving). pair_given z) his)
+    (came_for says.0 u says.1.1 says.1.2 ∙ ap (λ (z : Allocation). pair_given z) his)
     can.1
 faithful_step w m (Settle u g id n) sound h can timely =
     let x = part_named w g id n can.1.0 can.1.1 in
@@ -276,8 +276,8 @@ faithful_step w m (Delete id) sound h (s, done, x) timely = faithful_change w id
 faithful_step w m (Fail u g id n) sound h can timely =
     let x = part_named w g id n can.1.0 can.1.1 in faithful_change w id x.0 x.1 (λ e. Final Undeliverable) h x.2.0 tt
 faithful_step w m (Status s f t) sound h can timely =
-    let none : HasMoment (report_giving s m t) = (λ d e. let z : Ok (StatusReport can.3.report) ≡ Ok (Deliver d) = sym can.3.reads ∙ e in absurd (cc)) in
-    faithful_give w.table w.down w.accepted h (report_giving s m t) can.2.2 none (λ x i. known_moment w sound x i) sound.offered
+    let none : HasMoment (report_allocation s m t) = (λ d e. let z : Ok (StatusReport can.3.report) ≡ Ok (Deliver d) = sym can.3.reads ∙ e in absurd (cc)) in
+    faithful_give w.table w.down w.accepted h (report_allocation s m t) can.2.2 none (λ x i. known_moment w sound x i) sound.offered
 faithful_step w m _ sound h can timely = h
 
 pub faithful_run : (w : World) (items : List Item) → IsSound w → IsFaithful w → Run w items → Timely w items → IsFaithful (end w items)
@@ -290,7 +290,7 @@ faithful_empty = record { once = tt; tip = λ g d l. absurd l; done = λ id s st
 
 -- ---- the claims
 
-pub stands_once : (p : Accepted) (ps : List Accepted) (d : DeliverOf) → IsDeliver p.tpdu d → DeliversOnce ps → Among p ps → StandsOnce p ps
+pub stands_once : (p : Accepted) (ps : List Accepted) (d : DeliverOf) → IsDeliver p.tpdu d → DeliversOnce ps → Among p ps → OccursOnce p ps
 stands_once p [] d at o i = i
 stands_once p (x ∷ xs) d at o i =
     ⊎_elim

@@ -11,11 +11,11 @@ use Rattle.sms_world_model.specs.Lists.{is_among}
 use Rattle.sms_world_model.specs.Submission.{Submission}
 use Rattle.sms_world_model.specs.Place.{Key, Place, place_in}
 use Rattle.sms_world_model.specs.Carrying.{carried_in, with_part, joined_parts}
-use Rattle.sms_world_model.specs.World.{Giving, Accepted, Joined, World, give, pair_of, pair_given, empty}
+use Rattle.sms_world_model.specs.World.{Allocation, Accepted, Joined, World, give, pair_of, pair_given, empty}
 use Rattle.sms_world_model.specs.PartsOfKey.{number_in, is_for, of_key, numbers}
 use Rattle.sms_world_model.specs.Groups.{groups, groups_of, carried_by, parts_to}
 use Rattle.sms_world_model.specs.Rounds.{rounds, with_part_of, submitted_pairs, rounds_of, SameItems}
-use Rattle.sms_world_model.specs.References.{IsEarlier, Ticket, part_giving, CanGiveParts, given_parts}
+use Rattle.sms_world_model.specs.References.{IsEarlier, Ticket, part_allocation, CanGiveParts, given_parts}
 use Rattle.sms_world_model.specs.WorldStep.{Step, Submit, Take, Receive, Can, after, CanSubmit, submitted, enter}
 use Rattle.sms_world_model.specs.Run.{Item, after_item, Run, end}
 use Rattle.sms_world_model.specs.Timely.{Timely}
@@ -47,15 +47,15 @@ with_cases (Entry n) p q ps i = inr i
 with_cases (Memory n) p q ps i = inr i
 
 -- what is offered for a part was submitted
-pub pair_among : (dn : List Giving) (g : Giving) (id n : ℕ) → Among g dn → g.holder ≡ Part id n → Among (pair_given g) (submitted_pairs dn)
+pub pair_among : (dn : List Allocation) (g : Allocation) (id n : ℕ) → Among g dn → g.holder ≡ Part id n → Among (pair_given g) (submitted_pairs dn)
 pair_among [] g id n i e = absurd i
 pair_among (x ∷ dn) g id n i e =
     ⊎_elim
-    (λ (d : g ≡ x). with_new id n x.holder (pair_given x) (pair_given g) (submitted_pairs dn) (ap (λ (y : Giving). y.holder) (sym d) ∙ e) (ap (λ (y : Giving). pair_given y) d))
+    (λ (d : g ≡ x). with_new id n x.holder (pair_given x) (pair_given g) (submitted_pairs dn) (ap (λ (y : Allocation). y.holder) (sym d) ∙ e) (ap (λ (y : Allocation). pair_given y) d))
     (λ (j : Among g dn). with_old x.holder (pair_given x) (pair_given g) (submitted_pairs dn) (pair_among dn g id n j e))
     i
 
-pub pair_from : (dn : List Giving) (x : Accepted) → Among x (submitted_pairs dn) → (g : Giving) × (id : ℕ) × (n : ℕ) × (Among g dn × (g.holder ≡ Part id n) × (x ≡ pair_given g))
+pub pair_from : (dn : List Allocation) (x : Accepted) → Among x (submitted_pairs dn) → (g : Allocation) × (id : ℕ) × (n : ℕ) × (Among g dn × (g.holder ≡ Part id n) × (x ≡ pair_given g))
 pair_from [] x i = absurd i
 pair_from (g ∷ dn) x i =
     ⊎_elim
@@ -67,7 +67,7 @@ no_place : (o : Option Place) (p : Place) → o ≡ None → o ≡ Some p → �
 no_place o p a b = cc
 
 -- a pair with a key is that of a part
-key_part : (w : World) → IsSound w → (g : Giving) → Among g w.down → (h : List ℕ) (k : Key) → is_for h k (pair_given g) ≡ true → (id : ℕ) × (n : ℕ) × (g.holder ≡ Part id n)
+key_part : (w : World) → IsSound w → (g : Allocation) → Among g w.down → (h : List ℕ) (k : Key) → is_for h k (pair_given g) ≡ true → (id : ℕ) × (n : ℕ) × (g.holder ≡ Part id n)
 key_part w sound g i h k e = at g.holder refl (sound.known g i)
   where
     at : (y : Holder) → g.holder ≡ y → IsKnown w.table w.receipts g y → (id : ℕ) × (n : ℕ) × (g.holder ≡ Part id n)
@@ -93,7 +93,7 @@ rounds_all_within (p ∷ ps) =
 
 -- ---- groups and rounds
 
-abbrev pub MatchesAll : List Giving → List Accepted → Type 0
+abbrev pub MatchesAll : List Allocation → List Accepted → Type 0
 MatchesAll down accepted =
     (h : List ℕ) (k : Key) → Match k.total (groups_of h k accepted) (rounds_of h k down) (of_key h k accepted)
 
@@ -101,7 +101,7 @@ abbrev pub IsMatched : World → Type 0
 IsMatched w = MatchesAll w.down w.accepted
 
 -- a part that is submitted
-matches_pair : (dn : List Giving) (ac : List Accepted) (p : Accepted) → MatchesAll dn ac → MayBegin dn ac p → ¬ Among p ac
+matches_pair : (dn : List Allocation) (ac : List Accepted) (p : Accepted) → MatchesAll dn ac → MayBegin dn ac p → ¬ Among p ac
     → (h : List ℕ) (k : Key) → Match k.total (groups_of h k ac) (rounds (of_key h k (p ∷ submitted_pairs dn))) (of_key h k ac)
 matches_pair dn ac p old begins new h k =
     ⊎_elim
@@ -118,8 +118,8 @@ matches_pair dn ac p old begins new h k =
     (cases_Bool (is_for h k p))
 
 -- a DELIVER of a later moment is not that of an earlier giving
-pub not_given : (dn : List Giving) (g : Giving) (d : DeliverOf) → ((x : Giving) → Among x dn → HasMoment x) → HasMoment g → IsDeliver g.tpdu d → IsEarlier dn g.handset g.reference g.moment
-    → (x : Giving) → Among x dn → pair_given g ≡ pair_given x → ⊥
+pub not_given : (dn : List Allocation) (g : Allocation) (d : DeliverOf) → ((x : Allocation) → Among x dn → HasMoment x) → HasMoment g → IsDeliver g.tpdu d → IsEarlier dn g.handset g.reference g.moment
+    → (x : Allocation) → Among x dn → pair_given g ≡ pair_given x → ⊥
 not_given dn g d moments mine is earlier x i e =
     let l = was_earlier dn x g.handset g.reference g.moment earlier i (ap (λ (p : Accepted). p.handset) (sym e)) (ap (λ (p : Accepted). p.reference) (sym e)) in
     let m = mine d is in
@@ -127,16 +127,16 @@ not_given dn g d moments mine is earlier x i e =
     absurd (omega (arith, l, m, k))
 
 -- nor was it accepted
-pub not_yet : (dn : List Giving) (ac : List Accepted) (g : Giving) (d : DeliverOf) → ((q : Accepted) → Among q ac → Offered dn q) → ((x : Giving) → Among x dn → HasMoment x)
+pub not_yet : (dn : List Allocation) (ac : List Accepted) (g : Allocation) (d : DeliverOf) → ((q : Accepted) → Among q ac → Offered dn q) → ((x : Allocation) → Among x dn → HasMoment x)
     → HasMoment g → IsDeliver g.tpdu d → IsEarlier dn g.handset g.reference g.moment → ¬ Among (pair_given g) ac
 not_yet dn ac g d offered moments mine is earlier i = let y = offered (pair_given g) i in not_given dn g d moments mine is earlier y.0 y.1.0 y.1.1
 
-joins_parts : (w : World) (s : Submission) (m n : ℕ) (ts : List Ticket) → IsMatched w → ((x : Giving) → Among x w.down → HasMoment x)
+joins_parts : (w : World) (s : Submission) (m n : ℕ) (ts : List Ticket) → IsMatched w → ((x : Allocation) → Among x w.down → HasMoment x)
     → ((p : Accepted) → Among p w.accepted → Offered w.down p) → CanGiveParts w s m n ts → FreshParts s m n ts w.down w.accepted
     → MatchesAll (given_parts s m n ts w.down) w.accepted
 joins_parts w s m n [] h moments offered can fresh = h
 joins_parts w s m n (t ∷ ts) h moments offered can fresh =
-    let g : Giving = part_giving s m n t in
+    let g : Allocation = part_allocation s m n t in
     let mine : HasMoment g = (λ d e. part_moment s n m t.tpdu d can.1 e) in
     let deliver = can.1.1.1 in
     joins_parts (give w g) s m (suc n) ts
@@ -153,7 +153,7 @@ joins_submit w m s ts sound h can fresh =
     joins_parts v s m 1 ts h (λ x i. known_moment v new x i) new.offered can.3 fresh
 
 -- a pair is accepted that was offered for a giving, and stood nowhere
-joins_take : (w : World) (p : Accepted) (g : Giving) → IsSound w → IsMatched w → Among g w.down → p ≡ pair_given g
+joins_take : (w : World) (p : Accepted) (g : Allocation) → IsSound w → IsMatched w → Among g w.down → p ≡ pair_given g
     → ((d : DeliverOf) → IsDeliver p.tpdu d → ¬ Among p w.accepted) → MatchesAll w.down (p ∷ w.accepted)
 joins_take w p g sound h i is new b k =
     ⊎_elim

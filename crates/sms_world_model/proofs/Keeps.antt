@@ -8,8 +8,8 @@ use Rattle.sms_base.specs.declared.holder.Holder.TheVariants.{Part, Report, Entr
 use Rattle.sms_world_model.specs.Lists.{all_numbers}
 use Rattle.sms_tpdu.specs.MoreMessages.{compared}
 use Rattle.sms_world_model.specs.Submission.{Submission}
-use Rattle.sms_world_model.specs.World.{State, Pending, Final, Message, Giving, Line, Down, Up, Frame, Carried, Bare, Accepted, World, Stands, changed, IsLast, IsUnanswered, IsHeld, give, answer, pair_of, pair_given, next_number}
-use Rattle.sms_world_model.specs.References.{Ticket, part_giving, report_giving, CanGiveParts, given_parts}
+use Rattle.sms_world_model.specs.World.{State, Pending, Final, Message, Allocation, Line, Down, Up, Frame, Carried, Bare, Accepted, World, IsRecorded, changed, IsLast, IsUnanswered, IsHeld, give, answer, pair_of, pair_given, next_number}
+use Rattle.sms_world_model.specs.References.{Ticket, part_allocation, report_allocation, CanGiveParts, given_parts}
 use Rattle.sms_world_model.specs.WorldStep.{Step, Submit, Offer, Take, Take_again, Refuse, Settle, Expire, Delete, Fail, Receipt, Status, Close, Join, Write, Remove, Offer_up, Offer_memory, Repeat_memory, Receive, Reject, Memory_free, Lapse, Acknowledged, Refused, Again, Control, Can, after, CanSubmit, IsNew, submitted, enter, marked, IsSent, data_of, memory_of}
 use Rattle.sms_base.specs.declared.carried.Kind.{Kind}
 use Rattle.sms_base.specs.declared.carried.Kind.TheVariants.{Data, Ack, Error}
@@ -17,12 +17,12 @@ use Rattle.sms_world_model.proofs.Tables.{changed_grows, changed_back, entered_h
 use Rattle.sms_world_model.proofs.Sound.{Sound, IsSound, Says, IsKnown, Matches, sound_table, sound_give, sound_put, sound_bag, sound_take, sound_receipt, sound_report, sound_close}
 
 -- the parts of a submission take their references one by one
-sound_parts : (w : World) (s : Submission) (st : State) (m n : ℕ) (ts : List Ticket) → IsSound w → Stands w.table s.id s st
-    → ((x : Giving) (j : ℕ) → Among x w.down → n ≤ j → x.holder ≡ Part s.id j → ⊥) → CanGiveParts w s m n ts
+sound_parts : (w : World) (s : Submission) (st : State) (m n : ℕ) (ts : List Ticket) → IsSound w → IsRecorded w.table s.id s st
+    → ((x : Allocation) (j : ℕ) → Among x w.down → n ≤ j → x.holder ≡ Part s.id j → ⊥) → CanGiveParts w s m n ts
     → Sound w.table w.receipts w.reports (given_parts s m n ts w.down) w.accepted w.bag
 sound_parts w s st m n [] h is none can = h
 sound_parts w s st m n (t ∷ ts) h is none can =
-    let g : Giving = part_giving s m n t in
+    let g : Allocation = part_allocation s m n t in
     sound_parts (give w g) s st m (suc n) ts
     (sound_give w.table w.receipts w.reports w.down w.accepted w.bag h g
     (λ x i o. can.0.1 x (i, o))
@@ -31,11 +31,11 @@ sound_parts w s st m n (t ∷ ts) h is none can =
     (s, st, (is, can.1, refl)))
     is
     (λ x j i l e. ⊎_elim
-    (λ (d : x ≡ g). let same : Part s.id n ≡ Part s.id j = sym (ap (λ (y : Giving). y.holder) d) ∙ e in let q : n ≡ j = cc in absurd (omega arith))
+    (λ (d : x ≡ g). let same : Part s.id n ≡ Part s.id j = sym (ap (λ (y : Allocation). y.holder) d) ∙ e in let q : n ≡ j = cc in absurd (omega arith))
     (λ (i' : Among x w.down). none x j i' (omega arith) e) i)
     can.2
 
-not_given : (w : World) (id : ℕ) → IsSound w → ((s : Submission) (st : State) → Stands w.table id s st → ⊥) → (x : Giving) (j : ℕ) → Among x w.down → x.holder ≡ Part id j → ⊥
+not_given : (w : World) (id : ℕ) → IsSound w → ((s : Submission) (st : State) → IsRecorded w.table id s st → ⊥) → (x : Allocation) (j : ℕ) → Among x w.down → x.holder ≡ Part id j → ⊥
 not_given w id h none x j i e =
     let known : IsKnown w.table w.receipts x (Part id j) = subst (IsKnown w.table w.receipts x) e (h.known x i) in
     none known.0 known.1 known.2.0
@@ -51,7 +51,7 @@ sound_enter w s h new =
     back (Part id k) none (x, done, o) =
         ⊎_elim
         (λ (e : (id ≡ s.id) × (x ≡ s) × (Pending done ≡ Pending [])). absurd (none k (ap (λ (i : ℕ). Part i k) e.0)))
-        (λ (e : Stands w.table id x (Pending done)). (x, done, (e, o.1)))
+        (λ (e : IsRecorded w.table id x (Pending done)). (x, done, (e, o.1)))
         (entered_back w.table s x (Pending []) (Pending done) id o.0)
     back (Report id) none o = o
     back (Entry id) none o = o
@@ -66,7 +66,7 @@ sound_submit w m s rs h can =
     can.3
 
 -- a pending message gets on
-sound_change : (w : World) (id : ℕ) (s : Submission) (done : List ℕ) (f : Message → State) → IsSound w → Stands w.table id s (Pending done)
+sound_change : (w : World) (id : ℕ) (s : Submission) (done : List ℕ) (f : Message → State) → IsSound w → IsRecorded w.table id s (Pending done)
     → ((d : List ℕ) → f (record { submission = s; state = Pending done }) ≡ Pending d → (k : ℕ) → Among k done → Among k d)
     → IsSound (record w { table = changed id f w.table })
 sound_change w id s done f h is more =
@@ -76,8 +76,8 @@ sound_change w id s done f h is more =
     back (Part j k) (x, d, o) =
         ⊎_elim
         (λ (e : (j ≡ id) × (x ≡ s) × (Pending d ≡ f (record { submission = s; state = Pending done }))).
-        (s, done, (subst (λ i. Stands w.table i s (Pending done)) (sym e.0) is, λ a. o.1 (more d (sym e.2) k a))))
-        (λ (e : ¬ (j ≡ id) × Stands w.table j x (Pending d)). (x, d, (e.1, o.1)))
+        (s, done, (subst (λ i. IsRecorded w.table i s (Pending done)) (sym e.0) is, λ a. o.1 (more d (sym e.2) k a))))
+        (λ (e : ¬ (j ≡ id) × IsRecorded w.table j x (Pending d)). (x, d, (e.1, o.1)))
         (changed_back w.table id f s x (Pending done) (Pending d) j is o.0)
     back (Report j) o = o
     back (Entry j) o = o
@@ -91,10 +91,10 @@ final_more : (f : FinalState) (d : List ℕ) → Final f ≡ Pending d → ⊥
 final_more f d e = cc
 
 -- what part a frame's reference names
-pub part_named : (w : World) (g : Giving) (id k : ℕ) → IsHeld w g → g.holder ≡ Part id k → IsUnanswered w.table w.reports (Part id k)
+pub part_named : (w : World) (g : Allocation) (id k : ℕ) → IsHeld w g → g.holder ≡ Part id k → IsUnanswered w.table w.reports (Part id k)
 part_named w g id k held e = subst (IsUnanswered w.table w.reports) e held.1
 
-says_answer : (dn : List Giving) (ac : List Accepted) (u : Frame) (kind : Kind) (n : ℕ) (l : Line) → u.line ≡ l → Says dn ac l kind (answer u kind n) → Says dn ac u.line kind (answer u kind n)
+says_answer : (dn : List Allocation) (ac : List Accepted) (u : Frame) (kind : Kind) (n : ℕ) (l : Line) → u.line ≡ l → Says dn ac l kind (answer u kind n) → Says dn ac u.line kind (answer u kind n)
 says_answer dn ac u kind n l e x = subst (λ y. Says dn ac y kind (answer u kind n)) (sym e) x
 
 pub says_data : (w : World) (u : Frame) → IsSound w → IsSent w u Down Data → Says w.down w.accepted Down Data u
@@ -105,7 +105,7 @@ last_among p [] h = h
 last_among p (x ∷ xs) h = ⊎_elim (λ (e : p ≡ x). inl e) (λ (k : ¬ ((p.handset ≡ x.handset) × (p.reference ≡ x.reference)) × IsLast p xs). inr (last_among p xs k.1)) h
 
 -- what came is the pair of its giving
-pub came_for : (g : Giving) (u : Frame) → Matches g u → g.tpdu ≡ compared u.tpdu → pair_of u ≡ pair_given g
+pub came_for : (g : Allocation) (u : Frame) → Matches g u → g.tpdu ≡ compared u.tpdu → pair_of u ≡ pair_given g
 came_for g u m e = λ j. record { handset = sym m.0 j; reference = sym m.1 j; tpdu = sym e j }
 
 pub sound_step : (w : World) (m : ℕ) (step : Step) → IsSound w → Can w m step → IsSound (after w m step)
@@ -138,9 +138,9 @@ sound_step w m (Fail u g id k) h can =
     sound_change w id x.0 x.1 (λ e. Final Undeliverable) h x.2.0 (λ d e. absurd (final_more Undeliverable d e))
 sound_step w m (Receipt s f) h can = sound_receipt w.table w.receipts w.reports w.down w.accepted w.bag h s s.id f can.0.0 can.0.2
 sound_step w m (Status s f t) h can =
-    let g : Giving = report_giving s m t in
+    let g : Allocation = report_allocation s m t in
     let rc = record { id = s.id; state = f } ∷ w.receipts in
-    let none : (x : Giving) → Among x w.down → x.holder ≡ Report s.id → ⊥ =
+    let none : (x : Allocation) → Among x w.down → x.holder ≡ Report s.id → ⊥ =
     (λ x i e. let known : IsKnown w.table w.receipts x (Report s.id) = subst (IsKnown w.table w.receipts x) e (h.known x i) in can.0.2 known.0.0 known.0.1) in
     sound_give w.table rc (s.id ∷ w.reports) w.down w.accepted w.bag
     (sound_report w.table rc w.reports w.down w.accepted w.bag

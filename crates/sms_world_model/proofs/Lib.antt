@@ -13,7 +13,7 @@ pub mod Wholes
 pub mod Scripts
 pub mod Stops
 pub mod Frames
-pub mod Givings
+pub mod Allocations
 pub mod GroupSteps
 pub mod Apart
 pub mod Contents

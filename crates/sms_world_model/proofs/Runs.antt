@@ -2,7 +2,7 @@
 use Rattle.std.proofs.Common.{◌≡◌, ℕ, List, [], ◌∷◌, ◌++◌, Bool, true, false, cond, refl, sym, ◌∙◌, ap, subst, inr, ⊎_elim}
 use Rattle.sms_base.specs.Among.{Among}
 use Rattle.sms_base.specs.declared.final_state.FinalState.TheVariants.{Expired, Deleted, Undeliverable}
-use Rattle.sms_world_model.specs.World.{Pending, Final, Giving, Sent, Carried, World, Stands, SameReference, IsLatest, empty}
+use Rattle.sms_world_model.specs.World.{Pending, Final, Allocation, Sent, Carried, World, IsRecorded, SameReference, IsLatest, empty}
 use Rattle.sms_world_model.specs.WorldStep.{Step, Submit, Offer, Take, Take_again, Refuse, Settle, Expire, Delete, Fail, Offer_up, Offer_memory, Repeat_memory, Receive, Reject, Memory_free, Again, Control, Can, after, marked}
 use Rattle.sms_world_model.specs.Run.{Item, after_item, Run, end}
 use Rattle.sms_world_model.specs.Agreement.{MessagesStay, FinalForGood, HeldDiffer}
@@ -51,21 +51,21 @@ sound_empty = record {
   receipt = λ id f i. absurd i;
 }
 
--- two latest givings of one reference are one
-pub latest_same : (g x : Giving) (gs : List Giving) → IsLatest g gs → IsLatest x gs → SameReference g x → g ≡ x
+-- two latest allocations of one reference are one
+pub latest_same : (g x : Allocation) (gs : List Allocation) → IsLatest g gs → IsLatest x gs → SameReference g x → g ≡ x
 latest_same g x [] h k e = absurd h
 latest_same g x (y ∷ ys) h k e =
     ⊎_elim
     (λ (p : g ≡ y). ⊎_elim
     (λ (q : x ≡ y). p ∙ sym q)
-    (λ (q : ¬ SameReference x y × IsLatest x ys). absurd (q.0 (sym e.0 ∙ ap (λ (z : Giving). z.handset) p, sym e.1 ∙ ap (λ (z : Giving). z.reference) p))) k)
+    (λ (q : ¬ SameReference x y × IsLatest x ys). absurd (q.0 (sym e.0 ∙ ap (λ (z : Allocation). z.handset) p, sym e.1 ∙ ap (λ (z : Allocation). z.reference) p))) k)
     (λ (p : ¬ SameReference g y × IsLatest g ys). ⊎_elim
-    (λ (q : x ≡ y). absurd (p.0 (e.0 ∙ ap (λ (z : Giving). z.handset) q, e.1 ∙ ap (λ (z : Giving). z.reference) q)))
+    (λ (q : x ≡ y). absurd (p.0 (e.0 ∙ ap (λ (z : Allocation). z.handset) q, e.1 ∙ ap (λ (z : Allocation). z.reference) q)))
     (λ (q : ¬ SameReference x y × IsLatest x ys). latest_same g x ys p.1 q.1 e) k)
     h
 
 pub held_differ : (w : World) → IsSound w → HeldDiffer w
-held_differ w h g x i j a r = ap (λ (z : Giving). z.holder) (latest_same g x w.down (h.held g i.0 i.1) (h.held x j.0 j.1) (a, r))
+held_differ w h g x i j a r = ap (λ (z : Allocation). z.holder) (latest_same g x w.down (h.held g i.0 i.1) (h.held x j.0 j.1) (a, r))
 
 pub table_grows : (w : World) (m : ℕ) (step : Step) → Can w m step → Grows w.table (after w m step).table
 table_grows w m (Submit s rs) can = entered_grows w.table s (Pending []) can.0
@@ -82,7 +82,7 @@ pub final_stays : (w : World) (items : List Item) → Run w items → FinalForGo
 final_stays w [] run id s f h = h
 final_stays w (i ∷ is) run id s f h =
     let y = table_grows w i.moment i.step run.0 id s (Final f) h in
-    final_stays (after_item w i) is run.1 id s f (subst (λ z. Stands (after w i.moment i.step).table id s z) y.1.1 y.1.0)
+    final_stays (after_item w i) is run.1 id s f (subst (λ z. IsRecorded (after w i.moment i.step).table id s z) y.1.1 y.1.0)
 
 pub messages_stay : (w : World) (items : List Item) → Run w items → MessagesStay w (end w items)
 messages_stay w [] run id s st h = (st, h)

@@ -2,11 +2,11 @@
 use Rattle.std.proofs.Common.{◌≡◌, ℕ, List, [], ◌∷◌, ◌++◌, Bool, refl, sym, ◌∙◌, ap, subst, ⊎_elim}
 use Rattle.sms_base.specs.Among.{Among}
 use Rattle.sms_world_model.specs.Submission.{Submission}
-use Rattle.sms_world_model.specs.World.{Giving, Line, Down, Up, Frame, Sent, Carried, World, OutEntry, IsLatest, with_frames}
+use Rattle.sms_world_model.specs.World.{Allocation, Line, Down, Up, Frame, Sent, Carried, World, OutEntry, IsLatest, with_frames}
 use Rattle.sms_world_model.specs.References.{Ticket}
 use Rattle.sms_world_model.specs.WorldStep.{Step, Submit, Take, Settle, Delete, Expire, Remove, Acknowledged, Again, Control}
 use Rattle.sms_world_model.specs.Run.{Item, after_item, Run, end}
-use Rattle.sms_world_model.specs.Timely.{givings, IsTimely, ReadsTimely, Timely}
+use Rattle.sms_world_model.specs.Timely.{allocations, IsTimely, ReadsTimely, Timely}
 use Rattle.sms_world_model.specs.Fresh.{Fresh}
 use Rattle.sms_world_model.specs.ScriptRun.{Event, Submitted, Cancelled, Asked, Handed, Tick_centre, Tick_handset, Wrote, Removed, Restarted, Went, Whole, Before, After, Happening, items, Follows, IsExpiry, MayFollow, Reads, AllControl, AllMayFollow, AllWrite, IsOwn, IsInOrder, IsPlayed, is_stopped, Belongs, happened, Plays}
 use Rattle.sms_world_model.specs.ScriptPremises.{HandsTimely, PlaysTimely, PlaysFresh}
@@ -35,13 +35,13 @@ fresh_joins w (i ∷ is) b x y = (x.0, fresh_joins (after_item w i) is b x.1 y)
 
 -- ---- steps that read in time
 
-same_givings : (w : World) (bag : List Sent) (l : Line) → givings w l ≡ givings (with_frames bag w) l
-same_givings w bag Down = refl
-same_givings w bag Up = refl
+same_allocations : (w : World) (bag : List Sent) (l : Line) → allocations w l ≡ allocations (with_frames bag w) l
+same_allocations w bag Down = refl
+same_allocations w bag Up = refl
 
 -- frames alone change nothing of it
 timely_frames : (w : World) (bag : List Sent) (u : Frame) → IsTimely w u → IsTimely (with_frames bag w) u
-timely_frames w bag u (g, x) = (g, (subst (λ (gs : List Giving). IsLatest g gs) (same_givings w bag u.line) x.0, x.1, x.2, x.3))
+timely_frames w bag u (g, x) = (g, (subst (λ (gs : List Allocation). IsLatest g gs) (same_allocations w bag u.line) x.0, x.1, x.2, x.3))
 
 follow_timely : (w : World) (s : Step) → Follows s → ReadsTimely w s
 follow_timely w (Take u) f = absurd f

@@ -3,7 +3,7 @@ use Rattle.std.proofs.Common.{◌≡◌, ℕ, suc, List, [], ◌∷◌, ◌++◌
 use Rattle.sms_base.specs.Among.{Among}
 use Rattle.sms_world_model.specs.Submission.{Submission}
 use Rattle.sms_world_model.specs.World.{Frame, Sent, Carried, World, OutEntry, give, with_frames}
-use Rattle.sms_world_model.specs.References.{Ticket, part_giving, CanGiveParts}
+use Rattle.sms_world_model.specs.References.{Ticket, part_allocation, CanGiveParts}
 use Rattle.sms_world_model.specs.WorldStep.{enter, Step, Submit, Offer, Take, Take_again, Refuse, Settle, Expire, Delete, Fail, Receipt, Status, Close, Join, Write, Remove, Offer_up, Offer_memory, Repeat_memory, Receive, Reject, Memory_free, Lapse, Acknowledged, Refused, Again, Control, Can, after}
 use Rattle.sms_world_model.specs.Run.{Run, end}
 use Rattle.sms_world_model.specs.ScriptRun.{Event, Submitted, Cancelled, Asked, Handed, Tick_centre, Tick_handset, Wrote, Removed, Restarted, Went, Whole, Before, After, Happening, items, Follows, IsExpiry, MayFollow, Reads, AllControl, AllMayFollow, AllWrite, IsOwn, IsInOrder, IsPlayed}
@@ -15,7 +15,7 @@ use Rattle.sms_world_model.proofs.Runs.{bag_grows}
 
 gives_kept : (w : World) (bag : List Sent) (s : Submission) (m n : ℕ) (ts : List Ticket) → CanGiveParts w s m n ts → CanGiveParts (with_frames bag w) s m n ts
 gives_kept w bag s m n [] can = can
-gives_kept w bag s m n (t ∷ ts) can = (can.0, can.1, gives_kept (give w (part_giving s m n t)) bag s m (suc n) ts can.2)
+gives_kept w bag s m n (t ∷ ts) can = (can.0, can.1, gives_kept (give w (part_allocation s m n t)) bag s m (suc n) ts can.2)
 
 -- the frame that the step reads, or copies, is one of these
 abbrev Needs : List Sent → Step → Type 0

@@ -5,7 +5,7 @@ use Rattle.std.proofs.lemmas.Bool.{cases_eq, cond-true, cond-false, ne_eqb, eqb-
 use Rattle.sms_base.specs.Among.{Among}
 use Rattle.sms_world_model.specs.Lists.{is_among, all_numbers, without}
 use Rattle.sms_world_model.specs.Submission.{Submission}
-use Rattle.sms_world_model.specs.World.{State, Pending, Final, Message, find, Stands, changed}
+use Rattle.sms_world_model.specs.World.{State, Pending, Final, Message, find, IsRecorded, changed}
 use Rattle.sms_world_model.specs.WorldStep.{IsNew}
 
 pick : (b : Bool) (ms rest : List ℕ) (x m : ℕ) → (Among x rest → Among x ms) → Among x (cond b rest (m ∷ rest)) → Among x (m ∷ ms)
@@ -39,7 +39,7 @@ find_here id e t p = cond-true (e.submission.id == id) (Some e) (find id t) (eq-
 find_there : (id : ℕ) (e : Message) (t : List Message) → ¬ (e.submission.id ≡ id) → find id (e ∷ t) ≡ find id t
 find_there id e t p = cond-false (e.submission.id == id) (Some e) (find id t) (ne_eqb e.submission.id id p)
 
-pub new_not_found : (t : List Message) (id : ℕ) (s : Submission) (st : State) → IsNew t id → Stands t id s st → ⊥
+pub new_not_found : (t : List Message) (id : ℕ) (s : Submission) (st : State) → IsNew t id → IsRecorded t id s st → ⊥
 new_not_found [] id s st n h = cc
 new_not_found (e ∷ t) id s st n h = new_not_found t id s st n.1 (sym (find_there id e t n.0) ∙ h)
 
@@ -85,17 +85,17 @@ changed_there (x ∷ t) id f j n =
     (cases_eq x.submission.id id)
 
 -- one id has one message
-pub same_message : (t : List Message) (id : ℕ) (s x : Submission) (st y : State) → Stands t id s st → Stands t id x y → (s ≡ x) × (st ≡ y)
+pub same_message : (t : List Message) (id : ℕ) (s x : Submission) (st y : State) → IsRecorded t id s st → IsRecorded t id x y → (s ≡ x) × (st ≡ y)
 same_message t id s x st y h k =
     let e = same_some (record { submission = s; state = st }) (record { submission = x; state = y }) (sym h ∙ k) in
     (ap (λ (m : Message). m.submission) e, ap (λ (m : Message). m.state) e)
 
-pub changed_back : (t : List Message) (id : ℕ) (f : Message → State) (s x : Submission) (st y : State) (j : ℕ) → Stands t id s st → Stands (changed id f t) j x y
-    → ((j ≡ id) × (x ≡ s) × (y ≡ f (record { submission = s; state = st }))) ⊎ (¬ (j ≡ id) × Stands t j x y)
+pub changed_back : (t : List Message) (id : ℕ) (f : Message → State) (s x : Submission) (st y : State) (j : ℕ) → IsRecorded t id s st → IsRecorded (changed id f t) j x y
+    → ((j ≡ id) × (x ≡ s) × (y ≡ f (record { submission = s; state = st }))) ⊎ (¬ (j ≡ id) × IsRecorded t j x y)
 changed_back t id f s x st y j h k =
     ⊎_elim
     (λ (p : j ≡ id).
-    let e = same_some (record { submission = x; state = y }) (record { submission = s; state = f (record { submission = s; state = st }) }) (sym (subst (λ i. Stands (changed id f t) i x y) p k) ∙ changed_here t id f (record { submission = s; state = st }) h) in
+    let e = same_some (record { submission = x; state = y }) (record { submission = s; state = f (record { submission = s; state = st }) }) (sym (subst (λ i. IsRecorded (changed id f t) i x y) p k) ∙ changed_here t id f (record { submission = s; state = st }) h) in
     inl (p, ap (λ (m : Message). m.submission) e, ap (λ (m : Message). m.state) e))
     (λ (p : j ≡ id → ⊥). inr (p, sym (changed_there t id f j p) ∙ k))
     (cases_eq j id)
@@ -106,36 +106,36 @@ Later (Pending done) y = Unit {0}
 Later (Final f) y = y ≡ Final f
 
 abbrev pub Grows : List Message → List Message → Type 0
-Grows t v = (id : ℕ) (s : Submission) (st : State) → Stands t id s st → (y : State) × (Stands v id s y × Later st y)
+Grows t v = (id : ℕ) (s : Submission) (st : State) → IsRecorded t id s st → (y : State) × (IsRecorded v id s y × Later st y)
 
 pub later_same : (st : State) → Later st st
 later_same (Pending done) = tt
 later_same (Final f) = refl
 
-pub changed_grows : (t : List Message) (id : ℕ) (f : Message → State) (s : Submission) (done : List ℕ) → Stands t id s (Pending done) → Grows t (changed id f t)
+pub changed_grows : (t : List Message) (id : ℕ) (f : Message → State) (s : Submission) (done : List ℕ) → IsRecorded t id s (Pending done) → Grows t (changed id f t)
 changed_grows t id f s done h j x st k =
     ⊎_elim
     (λ (p : j ≡ id).
-    let e = same_message t id x s st (Pending done) (subst (λ i. Stands t i x st) p k) h in (
+    let e = same_message t id x s st (Pending done) (subst (λ i. IsRecorded t i x st) p k) h in (
       f (record { submission = x; state = st }),
       (
-        subst (λ i. Stands (changed id f t) i x (f (record { submission = x; state = st }))) (sym p)
-            (changed_here t id f (record { submission = x; state = st }) (subst (λ i. Stands t i x st) p k)),
+        subst (λ i. IsRecorded (changed id f t) i x (f (record { submission = x; state = st }))) (sym p)
+            (changed_here t id f (record { submission = x; state = st }) (subst (λ i. IsRecorded t i x st) p k)),
         subst (λ y. Later y (f (record { submission = x; state = st }))) (sym e.1) tt,
       ),
     ))
     (λ (p : j ≡ id → ⊥). (st, (changed_there t id f j p ∙ k, later_same st)))
     (cases_eq j id)
 
-pub entered_here : (t : List Message) (s : Submission) (st : State) → Stands (record { submission = s; state = st } ∷ t) s.id s st
+pub entered_here : (t : List Message) (s : Submission) (st : State) → IsRecorded (record { submission = s; state = st } ∷ t) s.id s st
 entered_here t s st = find_here s.id (record { submission = s; state = st }) t refl
 
 pub entered_grows : (t : List Message) (s : Submission) (st : State) → IsNew t s.id → Grows t (record { submission = s; state = st } ∷ t)
 entered_grows t s st n j x y k =
-    (y, (find_there j (record { submission = s; state = st }) t (λ p. new_not_found t s.id x y n (subst (λ i. Stands t i x y) (sym p) k)) ∙ k, later_same y))
+    (y, (find_there j (record { submission = s; state = st }) t (λ p. new_not_found t s.id x y n (subst (λ i. IsRecorded t i x y) (sym p) k)) ∙ k, later_same y))
 
-pub entered_back : (t : List Message) (s x : Submission) (st y : State) (j : ℕ) → Stands (record { submission = s; state = st } ∷ t) j x y
-    → ((j ≡ s.id) × (x ≡ s) × (y ≡ st)) ⊎ Stands t j x y
+pub entered_back : (t : List Message) (s x : Submission) (st y : State) (j : ℕ) → IsRecorded (record { submission = s; state = st } ∷ t) j x y
+    → ((j ≡ s.id) × (x ≡ s) × (y ≡ st)) ⊎ IsRecorded t j x y
 entered_back t s x st y j k =
     ⊎_elim
     (λ (p : s.id ≡ j).

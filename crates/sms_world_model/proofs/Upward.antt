@@ -15,11 +15,11 @@ use Rattle.sms_tpdu.specs.declared.user_data.UserData.{UserData}
 use Rattle.sms_tpdu.specs.TpduReading.{up_at, data_up_at, submit_at}
 use Rattle.sms_world_model.specs.Submission.{Submission}
 use Rattle.sms_world_model.specs.WhoseTpdu.{IsSubmitTo}
-use Rattle.sms_world_model.specs.World.{is_same_handset, State, Pending, Final, Message, Giving, Line, Down, Up, Frame, Sent, Carried, Bare, EntryState, Queued, Sending, Sent_up, Failed, Unsure, OutEntry, World, Stands, IsLatest, IsHeldUp, IsUnfinished, answer, next_number, empty}
-use Rattle.sms_world_model.specs.References.{IsNewHolder, entry_giving, memory_giving}
+use Rattle.sms_world_model.specs.World.{is_same_handset, State, Pending, Final, Message, Allocation, Line, Down, Up, Frame, Sent, Carried, Bare, EntryState, Queued, Sending, Sent_up, Failed, Unsure, OutEntry, World, IsRecorded, IsLatest, IsHeldUp, IsUnfinished, answer, next_number, empty}
+use Rattle.sms_world_model.specs.References.{IsNewHolder, entry_allocation, memory_allocation}
 use Rattle.sms_world_model.specs.WorldStep.{Step, Submit, Offer, Take, Take_again, Refuse, Settle, Expire, Delete, Fail, Write, Remove, Offer_up, Offer_memory, Repeat_memory, Receive, Reject, Memory_free, Lapse, Acknowledged, Refused, Again, Control, Can, after, submitted, Asks, IsSent, is_entry, replaced, removed, data_of, memory_of}
 use Rattle.sms_world_model.specs.Run.{Item, after_item, Run, end}
-use Rattle.sms_world_model.specs.Timely.{ReadsTimely, givings, Timely}
+use Rattle.sms_world_model.specs.Timely.{ReadsTimely, allocations, Timely}
 use Rattle.sms_base.specs.declared.carried.Kind.{Kind}
 use Rattle.sms_base.specs.declared.carried.Kind.TheVariants.{Data, Ack, Error}
 use Rattle.sms_world_model.proofs.Tables.{Grows, entered_here}
@@ -28,7 +28,7 @@ use Rattle.sms_world_model.proofs.Runs.{latest_same, table_grows, bag_grows}
 
 -- the table has the entry's message
 abbrev pub HasMessage : List Message → OutEntry → Type 0
-HasMessage table e = (id : ℕ) × (s : Submission) × (st : State) × (Stands table id s st × (s.source.digits ≡ e.handset) × (s.handset ≡ e.destination.digits) × (s.parts ≡ e.user_data ∷ []))
+HasMessage table e = (id : ℕ) × (s : Submission) × (st : State) × (IsRecorded table id s st × (s.source.digits ≡ e.handset) × (s.handset ≡ e.destination.digits) × (s.parts ≡ e.user_data ∷ []))
 
 -- the data of a holder at a handset
 abbrev pub AsksFor : List OutEntry → List ℕ → Holder → List ℕ → Type 0
@@ -44,9 +44,9 @@ IsTaken table outbox handset (Memory n) = Unit {0}
 IsTaken table outbox handset (Part id k) = Unit {0}
 IsTaken table outbox handset (Report id) = Unit {0}
 
-abbrev pub SaysUp : List Message → List Giving → List OutEntry → Line → Kind → Frame → Type 0
-SaysUp table up outbox Up Data u = ((g : Giving) × (Among g up × Matches g u)) × AsksFor outbox u.handset u.tag u.tpdu
-SaysUp table up outbox Up Ack u = ((g : Giving) × (Among g up × Matches g u)) × IsTaken table outbox u.handset u.tag
+abbrev pub SaysUp : List Message → List Allocation → List OutEntry → Line → Kind → Frame → Type 0
+SaysUp table up outbox Up Data u = ((g : Allocation) × (Among g up × Matches g u)) × AsksFor outbox u.handset u.tag u.tpdu
+SaysUp table up outbox Up Ack u = ((g : Allocation) × (Among g up × Matches g u)) × IsTaken table outbox u.handset u.tag
 SaysUp table up outbox Up Error u = Unit {0}
 SaysUp table up outbox Down Data u = Unit {0}
 SaysUp table up outbox Down Ack u = Unit {0}
@@ -56,11 +56,11 @@ SaysUp table up outbox Down Error u = Unit {0}
 abbrev pub SameEntry : OutEntry → OutEntry → Type 0
 SameEntry e x = (e.handset ≡ x.handset) × (e.number ≡ x.number) × (e.destination ≡ x.destination) × (e.user_data ≡ x.user_data)
 
-pub record Upward (table : List Message) (up : List Giving) (outbox : List OutEntry) (bag : List Sent) : Type 0 where
+pub record Upward (table : List Message) (up : List Allocation) (outbox : List OutEntry) (bag : List Sent) : Type 0 where
   pub sent : (u : Frame) → Among (Carried u) bag → SaysUp table up outbox u.line u.kind u
-  pub held : (g : Giving) (e : OutEntry) → Among g up → Among e outbox → g.handset ≡ e.handset → g.holder ≡ Entry e.number → IsUnfinished e.state → IsLatest g up
-  pub single : (g x : Giving) → Among g up → Among x up → g.handset ≡ x.handset → g.holder ≡ x.holder → g ≡ x
-  pub numbered : (e : OutEntry) → Among e outbox → (g : Giving) × (Among g up × (g.handset ≡ e.handset) × (g.holder ≡ Entry e.number))
+  pub held : (g : Allocation) (e : OutEntry) → Among g up → Among e outbox → g.handset ≡ e.handset → g.holder ≡ Entry e.number → IsUnfinished e.state → IsLatest g up
+  pub single : (g x : Allocation) → Among g up → Among x up → g.handset ≡ x.handset → g.holder ≡ x.holder → g ≡ x
+  pub numbered : (e : OutEntry) → Among e outbox → (g : Allocation) × (Among g up × (g.handset ≡ e.handset) × (g.holder ≡ Entry e.number))
   pub alone : (e x : OutEntry) → Among e outbox → Among x outbox → e.handset ≡ x.handset → e.number ≡ x.number → SameEntry e x
   pub done : (e : OutEntry) → Among e outbox → e.state ≡ Sent_up → HasMessage table e
 
@@ -99,7 +99,7 @@ taken_less t v oa ob a (Memory n) more from x = tt
 taken_less t v oa ob a (Part id k) more from x = tt
 taken_less t v oa ob a (Report id) more from x = tt
 
-says_up_less : (t v : List Message) (up : List Giving) (oa ob : List OutEntry) (l : Line) (k : Kind) (u : Frame) → Grows t v → ComeFrom ob oa → SaysUp t up oa l k u → SaysUp v up ob l k u
+says_up_less : (t v : List Message) (up : List Allocation) (oa ob : List OutEntry) (l : Line) (k : Kind) (u : Frame) → Grows t v → ComeFrom ob oa → SaysUp t up oa l k u → SaysUp v up ob l k u
 says_up_less t v up oa ob Up Data u more from x = (x.0, asks_less oa ob u.handset u.tag u.tpdu from x.1)
 says_up_less t v up oa ob Up Ack u more from x = (x.0, taken_less t v oa ob u.handset u.tag more from x.1)
 says_up_less t v up oa ob Up Error u more from x = tt
@@ -107,10 +107,10 @@ says_up_less t v up oa ob Down Data u more from x = tt
 says_up_less t v up oa ob Down Ack u more from x = tt
 says_up_less t v up oa ob Down Error u more from x = tt
 
-new_holder : (gs : List Giving) (a : List ℕ) (h : Holder) (x : Giving) → IsNewHolder gs a h → Among x gs → x.handset ≡ a → x.holder ≡ h → ⊥
+new_holder : (gs : List Allocation) (a : List ℕ) (h : Holder) (x : Allocation) → IsNewHolder gs a h → Among x gs → x.handset ≡ a → x.holder ≡ h → ⊥
 new_holder [] a h x n i p q = i
 new_holder (g ∷ gs) a h x n i p q =
-    ⊎_elim (λ (e : x ≡ g). n.0 (ap (λ (y : Giving). y.handset) (sym e) ∙ p, ap (λ (y : Giving). y.holder) (sym e) ∙ q)) (λ (j : Among x gs). new_holder gs a h x n.1 j p q) i
+    ⊎_elim (λ (e : x ≡ g). n.0 (ap (λ (y : Allocation). y.handset) (sym e) ∙ p, ap (λ (y : Allocation). y.holder) (sym e) ∙ q)) (λ (j : Among x gs). new_holder gs a h x n.1 j p q) i
 
 from_same : (oa : List OutEntry) → ComeFrom oa oa
 from_same oa e i = (e, (i, (refl, refl, refl, refl)))
@@ -119,7 +119,7 @@ grows_here : (t : List Message) → Grows t t
 grows_here t id s (Pending d) h = (Pending d, (h, tt))
 grows_here t id s (Final f) h = (Final f, (h, refl))
 
-module _ (t : List Message) (up : List Giving) (ob : List OutEntry) (bg : List Sent) (h : Upward t up ob bg) where
+module _ (t : List Message) (up : List Allocation) (ob : List OutEntry) (bg : List Sent) (h : Upward t up ob bg) where
   up_table : (v : List Message) → Grows t v → Upward v up ob bg
   up_table v more = record {
     sent = λ u i. says_up_less t v up ob ob u.line u.kind u more (from_same ob) (h.sent u i);
@@ -147,7 +147,7 @@ module _ (t : List Message) (up : List Giving) (ob : List OutEntry) (bg : List S
 
   -- fewer entries, or the same with other states
   up_less : (oa : List OutEntry) → ComeFrom oa ob
-      → ((g : Giving) (e : OutEntry) → Among g up → Among e oa → g.handset ≡ e.handset → g.holder ≡ Entry e.number → IsUnfinished e.state → IsLatest g up)
+      → ((g : Allocation) (e : OutEntry) → Among g up → Among e oa → g.handset ≡ e.handset → g.holder ≡ Entry e.number → IsUnfinished e.state → IsLatest g up)
       → ((e : OutEntry) → Among e oa → e.state ≡ Sent_up → HasMessage t e)
       → Upward t up oa bg
   up_less oa from held done = record {
@@ -160,9 +160,9 @@ module _ (t : List Message) (up : List Giving) (ob : List OutEntry) (bg : List S
     done = done;
   }
 
-  up_give : (g : Giving)
+  up_give : (g : Allocation)
       → IsNewHolder up g.handset g.holder
-      → ((x : Giving) (e : OutEntry) → Among x up → Among e ob → x.handset ≡ e.handset → x.holder ≡ Entry e.number → IsUnfinished e.state → x.handset ≡ g.handset → x.reference ≡ g.reference → ⊥)
+      → ((x : Allocation) (e : OutEntry) → Among x up → Among e ob → x.handset ≡ e.handset → x.holder ≡ Entry e.number → IsUnfinished e.state → x.handset ≡ g.handset → x.reference ≡ g.reference → ⊥)
       → Upward t (g ∷ up) ob bg
   up_give g new free = record {
     sent = λ u i. more u.line u.kind u (h.sent u i);
@@ -172,9 +172,9 @@ module _ (t : List Message) (up : List Giving) (ob : List OutEntry) (bg : List S
     single = λ x y i j a b. ⊎_elim
         (λ (d : x ≡ g). ⊎_elim
         (λ (c : y ≡ g). d ∙ sym c)
-        (λ (c : Among y up). absurd (new_holder up g.handset g.holder y new c (sym a ∙ ap (λ (z : Giving). z.handset) d) (sym b ∙ ap (λ (z : Giving). z.holder) d))) j)
+        (λ (c : Among y up). absurd (new_holder up g.handset g.holder y new c (sym a ∙ ap (λ (z : Allocation). z.handset) d) (sym b ∙ ap (λ (z : Allocation). z.holder) d))) j)
         (λ (d : Among x up). ⊎_elim
-        (λ (c : y ≡ g). absurd (new_holder up g.handset g.holder x new d (a ∙ ap (λ (z : Giving). z.handset) c) (b ∙ ap (λ (z : Giving). z.holder) c)))
+        (λ (c : y ≡ g). absurd (new_holder up g.handset g.holder x new d (a ∙ ap (λ (z : Allocation). z.handset) c) (b ∙ ap (λ (z : Allocation). z.holder) c)))
         (λ (c : Among y up). h.single x y d c a b) j) i;
     numbered = λ e i. let x = h.numbered e i in (x.0, (inr x.1.0, x.1.1, x.1.2));
     alone = h.alone;
@@ -193,12 +193,12 @@ entry_number : (n m : ℕ) → Entry n ≡ Entry m → n ≡ m
 entry_number n m e = cc
 
 -- a new entry with its reference: frames that were sent say nothing of it
-up_write : (t : List Message) (up : List Giving) (ob : List OutEntry) (bg : List Sent) (e : OutEntry) (r m : ℕ) → Upward t up ob bg → e.state ≡ Queued
+up_write : (t : List Message) (up : List Allocation) (ob : List OutEntry) (bg : List Sent) (e : OutEntry) (r m : ℕ) → Upward t up ob bg → e.state ≡ Queued
     → IsNewHolder up e.handset (Entry e.number)
-    → ((x : Giving) (y : OutEntry) → Among x up → Among y ob → x.handset ≡ y.handset → x.holder ≡ Entry y.number → IsUnfinished y.state → x.handset ≡ e.handset → x.reference ≡ r → ⊥)
-    → Upward t (entry_giving e m r ∷ up) (e ∷ ob) bg
+    → ((x : Allocation) (y : OutEntry) → Among x up → Among y ob → x.handset ≡ y.handset → x.holder ≡ Entry y.number → IsUnfinished y.state → x.handset ≡ e.handset → x.reference ≡ r → ⊥)
+    → Upward t (entry_allocation e m r ∷ up) (e ∷ ob) bg
 up_write t up ob bg e r m h queued new free =
-    let g : Giving = entry_giving e m r in
+    let g : Allocation = entry_allocation e m r in
     let v = up_give t up ob bg h g new free in
     record {
       sent = λ u i. with_new u.line u.kind u (h.sent u i);
@@ -221,8 +221,8 @@ up_write t up ob bg e r m h queued new free =
           (λ (c : Among y ob). h.done y c d) j;
     }
   where
-    g0 : Giving
-    g0 = entry_giving e m r
+    g0 : Allocation
+    g0 = entry_allocation e m r
 
     both_new : (x y : OutEntry) → x ≡ e → y ≡ e → SameEntry x y
     both_new x y c d =
@@ -232,10 +232,10 @@ up_write t up ob bg e r m h queued new free =
     not_old : (y : OutEntry) → Among y ob → e.handset ≡ y.handset → e.number ≡ y.number → ⊥
     not_old y d a b = let x = h.numbered y d in new_holder up e.handset (Entry e.number) x.0 new x.1.0 (x.1.1 ∙ sym a) (x.1.2 ∙ ap Entry (sym b))
 
-    other : (a : List ℕ) (hd : Holder) (x : Giving) (n : ℕ) → Among x up → x.handset ≡ a → x.holder ≡ Entry n → e.handset ≡ a → e.number ≡ n → ⊥
+    other : (a : List ℕ) (hd : Holder) (x : Allocation) (n : ℕ) → Among x up → x.handset ≡ a → x.holder ≡ Entry n → e.handset ≡ a → e.number ≡ n → ⊥
     other a hd x n i p q s o = new_holder up e.handset (Entry e.number) x new i (p ∙ sym s) (q ∙ ap Entry (sym o))
 
-    asks : (a : List ℕ) (hd : Holder) (o : List ℕ) (x : Giving) → Among x up → x.handset ≡ a → x.holder ≡ hd → AsksFor ob a hd o → AsksFor (e ∷ ob) a hd o
+    asks : (a : List ℕ) (hd : Holder) (o : List ℕ) (x : Allocation) → Among x up → x.handset ≡ a → x.holder ≡ hd → AsksFor ob a hd o → AsksFor (e ∷ ob) a hd o
     asks a (Entry n) o x i p q y = λ z j c d. ⊎_elim
         (λ (k : z ≡ e). absurd (other a (Entry n) x n i p q (ap (λ (v : OutEntry). v.handset) (sym k) ∙ c) (ap (λ (v : OutEntry). v.number) (sym k) ∙ d)))
         (λ (k : Among z ob). y z k c d) j
@@ -243,7 +243,7 @@ up_write t up ob bg e r m h queued new free =
     asks a (Part id k) o x i p q y = y
     asks a (Report id) o x i p q y = y
 
-    taken : (a : List ℕ) (hd : Holder) (x : Giving) → Among x up → x.handset ≡ a → x.holder ≡ hd → IsTaken t ob a hd → IsTaken t (e ∷ ob) a hd
+    taken : (a : List ℕ) (hd : Holder) (x : Allocation) → Among x up → x.handset ≡ a → x.holder ≡ hd → IsTaken t ob a hd → IsTaken t (e ∷ ob) a hd
     taken a (Entry n) x i p q y = λ z j c d. ⊎_elim
         (λ (k : z ≡ e). absurd (other a (Entry n) x n i p q (ap (λ (v : OutEntry). v.handset) (sym k) ∙ c) (ap (λ (v : OutEntry). v.number) (sym k) ∙ d)))
         (λ (k : Among z ob). y z k c d) j
@@ -299,8 +299,8 @@ pub removed_from : (e : OutEntry) (ob : List OutEntry) (y : OutEntry) → Among 
 removed_from e [] y i = i
 removed_from e (x ∷ xs) y i = pick_left (is_entry e x) x y (removed e xs) xs (removed_from e xs y) i
 
-up_replaced : (t : List Message) (up : List Giving) (ob : List OutEntry) (bg : List Sent) (e : OutEntry) (st : EntryState) → Upward t up ob bg
-    → ((g : Giving) → Among g up → g.handset ≡ e.handset → g.holder ≡ Entry e.number → IsUnfinished st → IsLatest g up)
+up_replaced : (t : List Message) (up : List Allocation) (ob : List OutEntry) (bg : List Sent) (e : OutEntry) (st : EntryState) → Upward t up ob bg
+    → ((g : Allocation) → Among g up → g.handset ≡ e.handset → g.holder ≡ Entry e.number → IsUnfinished st → IsLatest g up)
     → (st ≡ Sent_up → (x : OutEntry) → Among x ob → x.handset ≡ e.handset → x.number ≡ e.number → HasMessage t x)
     → Upward t up (replaced e st ob) bg
 up_replaced t up ob bg e st h latest message =
@@ -322,14 +322,14 @@ up_replaced t up ob bg e st h latest message =
     z.1.2))
 
 -- the entry that holds a reference holds the latest giving of it
-held_latest : (w : World) (g : Giving) (e : OutEntry) → IsUpward w → IsHeldUp w g e → IsLatest g w.up
+held_latest : (w : World) (g : Allocation) (e : OutEntry) → IsUpward w → IsHeldUp w g e → IsLatest g w.up
 held_latest w g e h x = h.held g e x.0 x.1 x.2 x.3 x.4
 
-one_latest : (w : World) (g : Giving) (e : OutEntry) → IsUpward w → IsHeldUp w g e → (x : Giving) → Among x w.up → x.handset ≡ e.handset → x.holder ≡ Entry e.number → IsLatest x w.up
+one_latest : (w : World) (g : Allocation) (e : OutEntry) → IsUpward w → IsHeldUp w g e → (x : Allocation) → Among x w.up → x.handset ≡ e.handset → x.holder ≡ Entry e.number → IsLatest x w.up
 one_latest w g e h held x i a b =
-    subst (λ (y : Giving). IsLatest y w.up) (h.single g x held.0 i (held.2 ∙ sym a) (held.3 ∙ sym b)) (held_latest w g e h held)
+    subst (λ (y : Allocation). IsLatest y w.up) (h.single g x held.0 i (held.2 ∙ sym a) (held.3 ∙ sym b)) (held_latest w g e h held)
 
-down_answer : (t : List Message) (up : List Giving) (ob : List OutEntry) (u : Frame) (kind : Kind) (n : ℕ) → u.line ≡ Down → SaysUp t up ob u.line kind (answer u kind n)
+down_answer : (t : List Message) (up : List Allocation) (ob : List OutEntry) (u : Frame) (kind : Kind) (n : ℕ) → u.line ≡ Down → SaysUp t up ob u.line kind (answer u kind n)
 down_answer t up ob u kind n l = subst (λ y. SaysUp t up ob y kind (answer u kind n)) (sym l) (at kind)
   where
     at : (k : Kind) → SaysUp t up ob Down k (answer u kind n)
@@ -345,7 +345,7 @@ one_submit : (o : List ℕ) (x y : SubmitOf) → up_at InData o ≡ Ok (SubmitUp
 one_submit o x y a b = let same : Ok (SubmitUp x) ≡ Ok (SubmitUp y) = sym a ∙ b in cc
 
 -- a SUBMIT that was received has its entry's message
-received : (v : World) (ob : List OutEntry) (u : Frame) (s : Submission) (st : State) (h : Holder) → Stands v.table s.id s st → Asks u s → AsksFor ob u.handset h u.tpdu → IsTaken v.table ob u.handset h
+received : (v : World) (ob : List OutEntry) (u : Frame) (s : Submission) (st : State) (h : Holder) → IsRecorded v.table s.id s st → Asks u s → AsksFor ob u.handset h u.tpdu → IsTaken v.table ob u.handset h
 received v ob u s st (Entry n) is x asks = λ e i a b.
     let y = asks e i a b in
     let same = one_submit u.tpdu x.submit y.submit x.reads y.reads in (
@@ -401,7 +401,7 @@ not_sent_3 st c e =
     c
 
 -- entries of one number have one SUBMIT
-same_data : (w : World) (g : Giving) (e : OutEntry) (o : List ℕ) → IsUpward w → IsHeldUp w g e → IsSubmitTo e.destination e.user_data o → (x : OutEntry) → Among x (replaced e Sending w.outbox) → x.handset ≡ g.handset → x.number ≡ e.number
+same_data : (w : World) (g : Allocation) (e : OutEntry) (o : List ℕ) → IsUpward w → IsHeldUp w g e → IsSubmitTo e.destination e.user_data o → (x : OutEntry) → Among x (replaced e Sending w.outbox) → x.handset ≡ g.handset → x.number ≡ e.number
     → IsSubmitTo x.destination x.user_data o
 same_data w g e o h can is x i a b =
     let z = replaced_from e Sending w.outbox x i in
@@ -430,7 +430,7 @@ up_step w m (Offer_up g e o) h can timely =
     up_put w.table w.up (replaced e Sending w.outbox) w.bag v (data_of w g Up o)
     ((g, (can.0.0, (refl, refl, refl))), subst (λ y. AsksFor (replaced e Sending w.outbox) g.handset y o) (sym can.0.3) (λ x i a b. same_data w g e o h can.0 can.1 x i a b))
 up_step w m (Offer_memory a n r) h can timely =
-    let g : Giving = memory_giving a n m r in
+    let g : Allocation = memory_allocation a n m r in
     up_put w.table (g ∷ w.up) w.outbox w.bag
     (up_give w.table w.up w.outbox w.bag h g can.0 (λ x y i j p q un c d. can.1 x y (i, j, p, q, un) c d))
     (memory_of w a n r)
@@ -458,8 +458,8 @@ up_step w m (Lapse e st) h can timely =
 up_step w m (Acknowledged u g e) h can timely =
     let x = says_up w u Ack h can.0 in
     let latest = timely.0 in
-    let mine : latest ≡ g = latest_same latest g w.up (subst (λ y. IsLatest latest (givings w y)) can.0.1 timely.1.0) (held_latest w g e h can.1.0) (timely.1.1 ∙ sym can.1.1, timely.1.2 ∙ sym can.1.2) in
-    let tag : u.tag ≡ Entry e.number = sym timely.1.3 ∙ ap (λ (z : Giving). z.holder) mine ∙ can.1.0.3 in
+    let mine : latest ≡ g = latest_same latest g w.up (subst (λ y. IsLatest latest (allocations w y)) can.0.1 timely.1.0) (held_latest w g e h can.1.0) (timely.1.1 ∙ sym can.1.1, timely.1.2 ∙ sym can.1.2) in
+    let tag : u.tag ≡ Entry e.number = sym timely.1.3 ∙ ap (λ (z : Allocation). z.holder) mine ∙ can.1.0.3 in
     let taken : IsTaken w.table w.outbox u.handset (Entry e.number) = subst (IsTaken w.table w.outbox u.handset) tag x.1 in
     up_replaced w.table w.up w.outbox w.bag e Sent_up h
     (λ g i a b un. absurd un)

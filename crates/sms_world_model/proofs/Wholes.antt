@@ -9,12 +9,12 @@ use Rattle.sms_world_model.specs.Lists.{is_among}
 use Rattle.sms_world_model.specs.Submission.{Submission, part_at}
 use Rattle.sms_world_model.specs.Place.{Key, Place, place_in}
 use Rattle.sms_world_model.specs.Carrying.{carried_in, with_part, joined_parts}
-use Rattle.sms_world_model.specs.World.{State, Pending, Message, Giving, Accepted, ReceiptOf, World, Stands, give, pair_given, empty}
+use Rattle.sms_world_model.specs.World.{State, Pending, Message, Allocation, Accepted, ReceiptOf, World, IsRecorded, give, pair_given, empty}
 use Rattle.sms_world_model.specs.PartsOfKey.{number_in, is_for, of_key, numbers}
 use Rattle.sms_world_model.specs.Groups.{carried_by, parts_to}
 use Rattle.sms_world_model.specs.Rounds.{Rounds, rounds, submitted_pairs, rounds_of}
 use Rattle.sms_world_model.specs.SplitMessages.{IsSplit, IsOf, carried_of, submitted_to}
-use Rattle.sms_world_model.specs.References.{IsEarlier, IsForPart, Ticket, part_giving, report_giving, CanGiveParts, given_parts}
+use Rattle.sms_world_model.specs.References.{IsEarlier, IsForPart, Ticket, part_allocation, report_allocation, CanGiveParts, given_parts}
 use Rattle.sms_world_model.specs.WorldStep.{Step, Submit, Settle, Expire, Delete, Fail, Status, Receive, Can, after, CanSubmit, submitted, enter}
 use Rattle.sms_world_model.specs.Run.{Item, after_item, Run, end}
 use Rattle.sms_world_model.specs.Fresh.{AllArrived, MayBegin, FreshParts, SubmitsFresh, Fresh}
@@ -32,24 +32,24 @@ use Rattle.sms_world_model.proofs.Splits.{IsWhole, whole_other, Begun, begun_mor
 
 -- ---- pairs of a message
 
-other_part : (dn : List Giving) (g : Giving) (id n i : ℕ) (x : Accepted) → g.holder ≡ Part id n → ¬ (i ≡ id) → IsOf (g ∷ dn) i x → IsOf dn i x
+other_part : (dn : List Allocation) (g : Allocation) (id n i : ℕ) (x : Accepted) → g.holder ≡ Part id n → ¬ (i ≡ id) → IsOf (g ∷ dn) i x → IsOf dn i x
 other_part dn g id n i x is apart (f, j, y) =
     ⊎_elim
-    (λ (e : f ≡ g). let q : Part i j ≡ Part id n = sym y.1 ∙ ap (λ (z : Giving). z.holder) e ∙ is in let r : i ≡ id = cc in absurd (apart r))
+    (λ (e : f ≡ g). let q : Part i j ≡ Part id n = sym y.1 ∙ ap (λ (z : Allocation). z.holder) e ∙ is in let r : i ≡ id = cc in absurd (apart r))
     (λ (a : Among f dn). (f, j, (a, y.1, y.2)))
     y.0
 
-more_of : (dn : List Giving) (g : Giving) (i : ℕ) (x : Accepted) → IsOf dn i x → IsOf (g ∷ dn) i x
+more_of : (dn : List Allocation) (g : Allocation) (i : ℕ) (x : Accepted) → IsOf dn i x → IsOf (g ∷ dn) i x
 more_of dn g i x (f, j, y) = (f, j, (inr y.0, y.1, y.2))
 
-own_part : (dn : List Giving) (g : Giving) (i : ℕ) (x : Accepted) → IsOf (g ∷ dn) i x → (x ≡ pair_given g) ⊎ IsOf dn i x
+own_part : (dn : List Allocation) (g : Allocation) (i : ℕ) (x : Accepted) → IsOf (g ∷ dn) i x → (x ≡ pair_given g) ⊎ IsOf dn i x
 own_part dn g i x (f, j, y) =
     ⊎_elim
-    (λ (e : f ≡ g). inl (y.2 ∙ ap (λ (z : Giving). pair_given z) e))
+    (λ (e : f ≡ g). inl (y.2 ∙ ap (λ (z : Allocation). pair_given z) e))
     (λ (a : Among f dn). inr (f, j, (a, y.1, y.2)))
     y.0
 
-of_among : (dn : List Giving) (i : ℕ) (x : Accepted) → IsOf dn i x → Among x (submitted_pairs dn)
+of_among : (dn : List Allocation) (i : ℕ) (x : Accepted) → IsOf dn i x → Among x (submitted_pairs dn)
 of_among dn i x (f, j, y) = subst (λ (p : Accepted). Among p (submitted_pairs dn)) (sym y.2) (pair_among dn f i j y.0 y.1)
 
 whole_same : (A B : Accepted → Type 0) (total : ℕ) (r : Rounds) → ((x : Accepted) → A x → B x) → ((x : Accepted) → B x → A x) → IsWhole A total r → IsWhole B total r
@@ -65,28 +65,28 @@ split_place s k n m tpdu split (part, x) = place_of_part s part m tpdu x.1 ∙ s
 -- ---- parts are given one by one
 
 -- split messages but this one
-abbrev Others : List Message → List Giving → List ℕ → Key → ℕ → Type 0
-Others t dn h k id = (s : Submission) (st : State) → Stands t s.id s st → IsSplit s k → s.handset ≡ h → ¬ (s.id ≡ id) → IsWhole (IsOf dn s.id) k.total (rounds_of h k dn)
+abbrev Others : List Message → List Allocation → List ℕ → Key → ℕ → Type 0
+Others t dn h k id = (s : Submission) (st : State) → IsRecorded t s.id s st → IsSplit s k → s.handset ≡ h → ¬ (s.id ≡ id) → IsWhole (IsOf dn s.id) k.total (rounds_of h k dn)
 
 -- this one, with its first n parts
 abbrev Mine : World → Submission → List ℕ → Key → ℕ → Type 0
 Mine w s h k n = IsSplit s k → s.handset ≡ h → Begun (IsOf w.down s.id) (of_key h k w.accepted) n (rounds_of h k w.down)
 
 module _ (w : World) (s : Submission) (m n : ℕ) (t : Ticket) (h : List ℕ) (k : Key)
-    (moments : (x : Giving) → Among x w.down → HasMoment x) (offered : (p : Accepted) → Among p w.accepted → Offered w.down p)
+    (moments : (x : Allocation) → Among x w.down → HasMoment x) (offered : (p : Accepted) → Among p w.accepted → Offered w.down p)
     (earlier : IsEarlier w.down s.handset t.reference m) (mine : IsForPart s (suc n) m t.tpdu) where
-  has_moment : HasMoment (part_giving s m (suc n) t)
+  has_moment : HasMoment (part_allocation s m (suc n) t)
   has_moment d e = part_moment s (suc n) m t.tpdu d mine e
 
-  pair_new : ¬ Among (pair_given (part_giving s m (suc n) t)) (submitted_pairs w.down)
+  pair_new : ¬ Among (pair_given (part_allocation s m (suc n) t)) (submitted_pairs w.down)
   pair_new i =
-      let y = pair_from w.down (pair_given (part_giving s m (suc n) t)) i in
+      let y = pair_from w.down (pair_given (part_allocation s m (suc n) t)) i in
       let deliver = mine.1.1 in
-      not_given w.down (part_giving s m (suc n) t) deliver.deliver moments has_moment deliver.reads earlier y.0 y.3.0 y.3.2
+      not_given w.down (part_allocation s m (suc n) t) deliver.deliver moments has_moment deliver.reads earlier y.0 y.3.0 y.3.2
 
-  others_part : Others w.table w.down h k s.id → Others w.table (part_giving s m (suc n) t ∷ w.down) h k s.id
+  others_part : Others w.table w.down h k s.id → Others w.table (part_allocation s m (suc n) t ∷ w.down) h k s.id
   others_part old x sx ix split at apart =
-      let g : Giving = part_giving s m (suc n) t in
+      let g : Allocation = part_allocation s m (suc n) t in
       let p : Accepted = pair_given g in
       let S = submitted_pairs w.down in
       let was = old x sx ix split at apart in
@@ -104,9 +104,9 @@ module _ (w : World) (s : Submission) (m n : ℕ) (t : Ticket) (h : List ℕ) (k
       (whole_same (IsOf w.down x.id) (IsOf (g ∷ w.down) x.id) k.total (rounds (of_key h k S)) more back was))
       (cases_Bool (is_for h k p))
 
-  mine_part : MayBegin w.down w.accepted (pair_given (part_giving s m (suc n) t)) → Mine w s h k n → Mine (give w (part_giving s m (suc n) t)) s h k (n + 1)
+  mine_part : MayBegin w.down w.accepted (pair_given (part_allocation s m (suc n) t)) → Mine w s h k n → Mine (give w (part_allocation s m (suc n) t)) s h k (n + 1)
   mine_part begins old split at =
-      let g : Giving = part_giving s m (suc n) t in
+      let g : Allocation = part_allocation s m (suc n) t in
       let p : Accepted = pair_given g in
       let S = submitted_pairs w.down in
       let deliver = mine.1.1 in
@@ -126,7 +126,7 @@ module _ (w : World) (s : Submission) (m n : ℕ) (t : Ticket) (h : List ℕ) (k
       (subst (λ a. is_among (number_in p) (numbers (rounds_of a k w.down).present) ≡ true → AllArrived k.total (rounds_of a k w.down).present (of_key a k w.accepted)) at (begins k own))
       (old split at))
 
-splits_parts : (w : World) (s : Submission) (m n : ℕ) (ts : List Ticket) (h : List ℕ) (k : Key) → ((x : Giving) → Among x w.down → HasMoment x)
+splits_parts : (w : World) (s : Submission) (m n : ℕ) (ts : List Ticket) (h : List ℕ) (k : Key) → ((x : Allocation) → Among x w.down → HasMoment x)
     → ((p : Accepted) → Among p w.accepted → Offered w.down p)
     → CanGiveParts w s m (suc n) ts → FreshParts s m (suc n) ts w.down w.accepted → n + length ts ≡ length s.parts → Others w.table w.down h k s.id → Mine w s h k n
     → Others w.table (given_parts s m (suc n) ts w.down) h k s.id × Mine (record w { down = given_parts s m (suc n) ts w.down }) s h k (length s.parts)
@@ -134,7 +134,7 @@ splits_parts w s m n [] h k moments offered can fresh all old mine =
     let e : n ≡ length s.parts = omega arith in
     (old, subst (λ i. Mine w s h k i) e mine)
 splits_parts w s m n (t ∷ ts) h k moments offered can fresh all old mine =
-    let g : Giving = part_giving s m (suc n) t in
+    let g : Allocation = part_allocation s m (suc n) t in
     let here : HasMoment g = (λ d e. part_moment s (suc n) m t.tpdu d can.1 e) in
     splits_parts (give w g) s m (suc n) ts h k
     (moments_more w.down g here moments)
@@ -165,19 +165,19 @@ whole_mine A acc total n r low e range h =
 
 -- ---- steps
 
-abbrev pub AllWhole : List Message → List Giving → Type 0
-AllWhole t dn = (h : List ℕ) (k : Key) (s : Submission) (st : State) → Stands t s.id s st → IsSplit s k → s.handset ≡ h → IsWhole (IsOf dn s.id) k.total (rounds_of h k dn)
+abbrev pub AllWhole : List Message → List Allocation → Type 0
+AllWhole t dn = (h : List ℕ) (k : Key) (s : Submission) (st : State) → IsRecorded t s.id s st → IsSplit s k → s.handset ≡ h → IsWhole (IsOf dn s.id) k.total (rounds_of h k dn)
 
 -- a message with a part stood before
-stood : (t v : List Message) (rc : List ReceiptOf) (dn : List Giving) (s : Submission) (st : State) (x : Accepted) → Grows t v → ((g : Giving) → Among g dn → IsKnown t rc g g.holder) → Stands v s.id s st → IsOf dn s.id x
-    → (y : State) × Stands t s.id s y
+stood : (t v : List Message) (rc : List ReceiptOf) (dn : List Allocation) (s : Submission) (st : State) (x : Accepted) → Grows t v → ((g : Allocation) → Among g dn → IsKnown t rc g g.holder) → IsRecorded v s.id s st → IsOf dn s.id x
+    → (y : State) × IsRecorded t s.id s y
 stood t v rc dn s st x more known is (g, j, y) =
     let z : IsKnown t rc g (Part s.id j) = subst (IsKnown t rc g) y.1 (known g y.0) in
     let u = more s.id z.0 z.1 z.2.0 in
     let same = same_message v s.id z.0 s u.0 st u.1.0 is in
-    (z.1, subst (λ (a : Submission). Stands t s.id a z.1) same.0 z.2.0)
+    (z.1, subst (λ (a : Submission). IsRecorded t s.id a z.1) same.0 z.2.0)
 
-whole_table : (t v : List Message) (rc : List ReceiptOf) (dn : List Giving) → Grows t v → ((g : Giving) → Among g dn → IsKnown t rc g g.holder) → AllWhole t dn → AllWhole v dn
+whole_table : (t v : List Message) (rc : List ReceiptOf) (dn : List Allocation) → Grows t v → ((g : Allocation) → Among g dn → IsKnown t rc g g.holder) → AllWhole t dn → AllWhole v dn
 whole_table t v rc dn more known old h k s st is split at = (
   (λ ps i x j a y b. let z = stood t v rc dn s st x more known is a in (old h k s z.0 z.1 split at).0 ps i x j a y b),
   (λ x j a. let z = stood t v rc dn s st x more known is a in (old h k s z.0 z.1 split at).1 x j a),
@@ -196,7 +196,7 @@ whole_submit w m s ts sound old can fresh h k x st is split at =
     (λ sp a. ((λ ps i y j b. none y b), inl (refl, λ y j b. none y b))) in
     ⊎_elim
     (λ (e : x.id ≡ s.id).
-    let same = same_message v.table s.id x s st (Pending []) (subst (λ i. Stands v.table i x st) e is) (entered_here w.table s (Pending [])) in
+    let same = same_message v.table s.id x s st (Pending []) (subst (λ i. IsRecorded v.table i x st) e is) (entered_here w.table s (Pending [])) in
     let split_s = subst (λ (y : Submission). IsSplit y k) same.0 split in
     subst (λ (y : Submission). IsWhole (IsOf (given_parts s m 1 ts w.down) y.id) k.total (rounds_of h k (given_parts s m 1 ts w.down))) (sym same.0)
     (whole_mine (IsOf (given_parts s m 1 ts w.down) s.id) (of_key h k w.accepted) k.total (length s.parts) (rounds_of h k (given_parts s m 1 ts w.down)) can.1 split_s.0
@@ -205,7 +205,7 @@ whole_submit w m s ts sound old can fresh h k x st is split at =
     (λ (e : x.id ≡ s.id → ⊥). done.0 x st is split at e)
     (cases_eq x.id s.id)
   where
-    not_there : (y : Submission) (sy : State) → Stands w.table s.id y sy → ⊥
+    not_there : (y : Submission) (sy : State) → IsRecorded w.table s.id y sy → ⊥
     not_there y sy i = new_not_found w.table s.id y sy can.0 i
 
 whole_step : (w : World) (m : ℕ) (step : Step) → IsSound w → AllWhole w.table w.down → Can w m step → SubmitsFresh w m step → AllWhole (after w m step).table (after w m step).down
@@ -216,11 +216,11 @@ whole_step w m (Expire id) sound old can fresh = whole_table w.table (after w m 
 whole_step w m (Delete id) sound old can fresh = whole_table w.table (after w m (Delete id)).table w.receipts w.down (table_grows w m (Delete id) can) sound.known old
 whole_step w m (Fail u g id n) sound old can fresh = whole_table w.table (after w m (Fail u g id n)).table w.receipts w.down (table_grows w m (Fail u g id n) can) sound.known old
 whole_step w m (Status s f t) sound old can fresh = λ h k x st is split at.
-    let g : Giving = report_giving s m t in
+    let g : Allocation = report_allocation s m t in
     whole_same (IsOf w.down x.id) (IsOf (g ∷ w.down) x.id) k.total (rounds_of h k w.down)
     (λ y b. more_of w.down g x.id y b)
     (λ y b. ⊎_elim
-    (λ (e : b.0 ≡ g). let q : Part x.id b.1 ≡ Report s.id = sym b.2.1 ∙ ap (λ (z : Giving). z.holder) e in absurd (cc))
+    (λ (e : b.0 ≡ g). let q : Part x.id b.1 ≡ Report s.id = sym b.2.1 ∙ ap (λ (z : Allocation). z.holder) e in absurd (cc))
     (λ (a : Among b.0 w.down). (b.0, b.1, (a, b.2.1, b.2.2))) b.2.0)
     (old h k x st is split at)
 whole_step w m _ sound old can fresh = old
@@ -243,7 +243,7 @@ one_number k a b o x y =
     same p q e = let f : p ≡ q = cc in ap (λ (z : Place). z.number) f
 
 -- the part of that number in a group of the message's parts
-carried_same : (w : World) (s : Submission) (st : State) (k : Key) (group : List Accepted) → IsSound w → Stands w.table s.id s st → IsSplit s k → Differ group → AllNumbers k.total group
+carried_same : (w : World) (s : Submission) (st : State) (k : Key) (group : List Accepted) → IsSound w → IsRecorded w.table s.id s st → IsSplit s k → Differ group → AllNumbers k.total group
     → ((y : Accepted) → Among y group → IsOf w.down s.id y) → (n : ℕ) → 0 < n → n ≤ k.total → carried_by n group ≡ carried_of s (part_at n s.parts)
 carried_same w s st k group sound is split differ all his n low high =
     let q = all n low high in

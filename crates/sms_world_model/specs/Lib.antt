@@ -17,6 +17,6 @@ pub mod ScriptRun
 pub mod ScriptPremises
 pub mod Stops
 pub mod Agreement
-pub mod KeptGivings
+pub mod KeptAllocations
 pub mod Grouping
 pub mod Sides

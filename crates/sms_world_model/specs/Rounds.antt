@@ -4,7 +4,7 @@ use Rattle.std.specs.Prelude.{ℕ, List, [], ◌∷◌, if◌then◌else◌}
 use Rattle.sms_base.specs.Among.{Among}
 use Rattle.sms_base.specs.declared.holder.Holder.{Holder}
 use Rattle.sms_base.specs.declared.holder.Holder.TheVariants.{Part, Report, Entry, Memory}
-use Rattle.sms_world_model.specs.World.{Accepted, Giving, pair_given}
+use Rattle.sms_world_model.specs.World.{Accepted, Allocation, pair_given}
 use Rattle.sms_world_model.specs.Place.{Key}
 use Rattle.sms_world_model.specs.Lists.{is_among}
 use Rattle.sms_world_model.specs.PartsOfKey.{number_in, numbers, of_key}
@@ -31,11 +31,11 @@ with_part_of (Entry n) p ps = ps
 with_part_of (Memory n) p ps = ps
 
 -- the parts that were submitted, as they are offered
-abbrev pub submitted_pairs : List Giving → List Accepted
+abbrev pub submitted_pairs : List Allocation → List Accepted
 submitted_pairs [] = []
 submitted_pairs (g ∷ older) = with_part_of g.holder (pair_given g) (submitted_pairs older)
 
-abbrev pub rounds_of : List ℕ → Key → List Giving → Rounds
+abbrev pub rounds_of : List ℕ → Key → List Allocation → Rounds
 rounds_of handset k down = rounds (of_key handset k (submitted_pairs down))
 
 -- the same items, in any order

@@ -1,7 +1,7 @@
 -- Whose steps are which, and what the steps of one side leave as it was for the others.
 use Rattle.std.specs.Prelude.{◌≡◌, ℕ, List, [], ◌∷◌}
 use Rattle.sms_base.specs.Among.{Among}
-use Rattle.sms_world_model.specs.World.{Accepted, Giving, IsLast, Joined, OutEntry, World}
+use Rattle.sms_world_model.specs.World.{Accepted, Allocation, IsLast, Joined, OutEntry, World}
 use Rattle.sms_world_model.specs.WorldStep.{Acknowledged, Again, Close, Control, Delete, Expire, Fail, Join, Lapse, Memory_free, Offer, Offer_memory, Offer_up, Receipt, Receive, Refuse, Refused, Reject, Remove, Repeat_memory, Settle, Status, Step, Submit, Take, Take_again, Write}
 use Rattle.sms_world_model.specs.Place.{Key}
 use Rattle.sms_world_model.specs.Groups.{groups_of}
@@ -59,8 +59,8 @@ pub record LeavesHandset (h : List ℕ) (w v : World) : Type 0 where
   pub joined_back : (j : Joined) → j.handset ≡ h → Among j v.joined → Among j w.joined
   pub entry : (e : OutEntry) → e.handset ≡ h → Among e w.outbox → Among e v.outbox
   pub entry_back : (e : OutEntry) → e.handset ≡ h → Among e v.outbox → Among e w.outbox
-  pub given : (g : Giving) → g.handset ≡ h → Among g w.up → Among g v.up
-  pub given_back : (g : Giving) → g.handset ≡ h → Among g v.up → Among g w.up
+  pub given : (g : Allocation) → g.handset ≡ h → Among g w.up → Among g v.up
+  pub given_back : (g : Allocation) → g.handset ≡ h → Among g v.up → Among g w.up
 
 -- what the centre has in the one world it has in the other
 pub record LeavesCentre (w v : World) : Type 0 where

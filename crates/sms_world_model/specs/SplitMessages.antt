@@ -7,7 +7,7 @@ use Rattle.sms_concat.specs.declared.content.Part.{Part as PartOf}
 use Rattle.sms_concat.specs.Splitting.{IsSplit as IsSplitInto}
 use Rattle.sms_concat.specs.UserData.{capacity}
 use Rattle.sms_tpdu.specs.declared.user_data.UserData.{UserData}
-use Rattle.sms_world_model.specs.World.{Accepted, Giving, pair_given}
+use Rattle.sms_world_model.specs.World.{Accepted, Allocation, pair_given}
 use Rattle.sms_world_model.specs.Submission.{HasPart, Submission, part_at}
 use Rattle.sms_world_model.specs.Place.{Key, place_submitted}
 use Rattle.sms_world_model.specs.Carrying.{joined_parts, part_submitted, with_part}
@@ -19,8 +19,8 @@ IsSplit s k =
     × ((n : ℕ) (part : UserData) → HasPart s n part → place_submitted s part ≡ Some (record { key = k; number = n }))
 
 -- the pair is that of a part of the message
-abbrev pub IsOf : List Giving → ℕ → Accepted → Type 0
-IsOf down id p = (g : Giving) × (n : ℕ) × (Among g down × (g.holder ≡ Part id n) × (p ≡ pair_given g))
+abbrev pub IsOf : List Allocation → ℕ → Accepted → Type 0
+IsOf down id p = (g : Allocation) × (n : ℕ) × (Among g down × (g.holder ≡ Part id n) × (p ≡ pair_given g))
 
 abbrev pub carried_of : Submission → Option UserData → Option PartOf
 carried_of s None = None

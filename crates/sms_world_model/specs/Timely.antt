@@ -2,17 +2,17 @@
 -- it was made. A frame whose reference was given to another holder since is not.
 use Rattle.std.specs.Prelude.{◌≡◌, List, [], ◌∷◌}
 use Rattle.sms_world_model.specs.WorldStep.{Acknowledged, Settle, Step, Take}
-use Rattle.sms_world_model.specs.World.{Down, Frame, Giving, IsLatest, Line, Up, World}
+use Rattle.sms_world_model.specs.World.{Down, Frame, Allocation, IsLatest, Line, Up, World}
 use Rattle.sms_world_model.specs.Run.{Item, after_item}
 
-abbrev pub givings : World → Line → List Giving
-givings w Down = w.down
-givings w Up = w.up
+abbrev pub allocations : World → Line → List Allocation
+allocations w Down = w.down
+allocations w Up = w.up
 
 -- the frame's tag is the latest holder of its reference on its line
 abbrev pub IsTimely : World → Frame → Type 0
 IsTimely w u =
-    (g : Giving) × (IsLatest g (givings w u.line) × (g.handset ≡ u.handset) × (g.reference ≡ u.reference) × (g.holder ≡ u.tag))
+    (g : Allocation) × (IsLatest g (allocations w u.line) × (g.handset ≡ u.handset) × (g.reference ≡ u.reference) × (g.holder ≡ u.tag))
 
 -- the frame that a step reads is timely, where the claims rest on it
 abbrev pub ReadsTimely : World → Step → Type 0

@@ -30,7 +30,7 @@ pub record Message : Type 0 where
 
 -- A reference (3GPP TS 24.011 8.2.3, RP-Message Reference) that was given to a holder: a part, a status report, an entry of an
 -- outbox or an RP-SMMA. The moment is the second of the giving, which a DELIVER has as its time stamp.
-pub record Giving : Type 0 where
+pub record Allocation : Type 0 where
   pub handset : List ℕ
   pub reference : ℕ
   pub holder : Holder
@@ -99,8 +99,8 @@ pub record World : Type 0 where
   -- the ids of status reports that are neither answered nor dropped
   pub reports : List ℕ
   -- references taken by the centre, and by the handsets
-  pub down : List Giving
-  pub up : List Giving
+  pub down : List Allocation
+  pub up : List Allocation
   pub accepted : List Accepted
   pub joined : List Joined
   pub outbox : List OutEntry
@@ -115,20 +115,20 @@ find id [] = None
 find id (e ∷ es) = if e.submission.id == id then Some e else find id es
 
 -- the message of that id is this one, in this state
-abbrev pub Stands : List Message → ℕ → Submission → State → Type 0
-Stands table id s st = find id table ≡ Some (record { submission = s; state = st })
+abbrev pub IsRecorded : List Message → ℕ → Submission → State → Type 0
+IsRecorded table id s st = find id table ≡ Some (record { submission = s; state = st })
 
 -- the table with another state of one message
 abbrev pub changed : ℕ → (Message → State) → List Message → List Message
 changed id f [] = []
 changed id f (e ∷ es) = (if e.submission.id == id then record { submission = e.submission; state = f e } else e) ∷ changed id f es
 
--- two givings of one reference at one handset
-abbrev pub SameReference : Giving → Giving → Type 0
+-- two allocations of one reference at one handset
+abbrev pub SameReference : Allocation → Allocation → Type 0
 SameReference g x = (g.handset ≡ x.handset) × (g.reference ≡ x.reference)
 
 -- the latest giving of its reference at its handset
-abbrev pub IsLatest : Giving → List Giving → Type 0
+abbrev pub IsLatest : Allocation → List Allocation → Type 0
 IsLatest g [] = ⊥
 IsLatest g (x ∷ older) = (g ≡ x) ⊎ (¬ SameReference g x × IsLatest g older)
 
@@ -139,13 +139,13 @@ IsLast p (x ∷ older) = (p ≡ x) ⊎ (¬ ((p.handset ≡ x.handset) × (p.refe
 
 -- a part that is pending and not done, or an open status report
 abbrev pub IsUnanswered : List Message → List ℕ → Holder → Type 0
-IsUnanswered table reports (Part id n) = (s : Submission) × (done : List ℕ) × (Stands table id s (Pending done) × ¬ Among n done)
+IsUnanswered table reports (Part id n) = (s : Submission) × (done : List ℕ) × (IsRecorded table id s (Pending done) × ¬ Among n done)
 IsUnanswered table reports (Report id) = Among id reports
 IsUnanswered table reports (Entry n) = ⊥
 IsUnanswered table reports (Memory n) = ⊥
 
 -- a reference that is held at a handset by a part or a status report
-abbrev pub IsHeld : World → Giving → Type 0
+abbrev pub IsHeld : World → Allocation → Type 0
 IsHeld w g = Among g w.down × IsUnanswered w.table w.reports g.holder
 
 abbrev pub IsUnfinished : EntryState → Type 0
@@ -156,7 +156,7 @@ IsUnfinished Failed = ⊥
 IsUnfinished Unsure = ⊥
 
 -- the reference of an unfinished entry
-abbrev pub IsHeldUp : World → Giving → OutEntry → Type 0
+abbrev pub IsHeldUp : World → Allocation → OutEntry → Type 0
 IsHeldUp w g e = Among g w.up × Among e w.outbox × (g.handset ≡ e.handset) × (g.holder ≡ Entry e.number) × IsUnfinished e.state
 
 -- a frame is sent; it never leaves the bag, and may be handed over at any time and any number of times, or never
@@ -172,13 +172,13 @@ abbrev pub pair_of : Frame → Accepted
 pair_of u = record { handset = u.handset; reference = u.reference; tpdu = compared u.tpdu }
 
 -- the pair that is offered for a giving
-abbrev pub pair_given : Giving → Accepted
+abbrev pub pair_given : Allocation → Accepted
 pair_given g = record { handset = g.handset; reference = g.reference; tpdu = g.tpdu }
 
 abbrev pub next_number : World → ℕ
 next_number w = length w.bag + 1
 
-abbrev pub give : World → Giving → World
+abbrev pub give : World → Allocation → World
 give w g = record w { down = g ∷ w.down }
 
 -- the same world, with the frames of another

@@ -12,8 +12,8 @@ use Rattle.sms_tpdu.specs.declared.up.Up.TheVariants.{Submit as SubmitUp}
 use Rattle.sms_tpdu.specs.declared.user_data.UserData.{UserData}
 use Rattle.sms_base.specs.declared.carried.Kind.{Kind}
 use Rattle.sms_base.specs.declared.carried.Kind.TheVariants.{Data, Ack, Error}
-use Rattle.sms_world_model.specs.World.{Bare, Carried, Down, EntryState, Failed, Final, Frame, Giving, IsHeld, IsHeldUp, IsLast, IsUnfinished, Joined, Line, Message, OutEntry, Pending, Queued, Sending, Sent_up, Stands, State, Unsure, Up, World, answer, changed, is_same_handset, next_number, pair_of, put}
-use Rattle.sms_world_model.specs.References.{CanGive, CanGiveParts, IsFreeUp, IsNewHolder, Ticket, entry_giving, given_parts, memory_giving, report_giving}
+use Rattle.sms_world_model.specs.World.{Bare, Carried, Down, EntryState, Failed, Final, Frame, Allocation, IsHeld, IsHeldUp, IsLast, IsUnfinished, Joined, Line, Message, OutEntry, Pending, Queued, Sending, Sent_up, IsRecorded, State, Unsure, Up, World, answer, changed, is_same_handset, next_number, pair_of, put}
+use Rattle.sms_world_model.specs.References.{CanGive, CanGiveParts, IsFreeUp, IsNewHolder, Ticket, entry_allocation, given_parts, memory_allocation, report_allocation}
 use Rattle.sms_world_model.specs.Groups.{IsEndedAt, groups_of, joined_content}
 use Rattle.sms_world_model.specs.WhoseTpdu.{IsReportOf, IsSubmitTo}
 use Rattle.sms_world_model.specs.Submission.{IsWished, Submission}
@@ -25,17 +25,17 @@ pub data Step : Type 0 where
   -- a submission, with the references and TPDUs of its parts
   Submit : (s : Submission) → (tickets : List Ticket) → Step
   -- the data of a part or of a status report
-  Offer : (g : Giving) → (tpdu : List ℕ) → Step
+  Offer : (g : Allocation) → (tpdu : List ℕ) → Step
   -- the handset accepts; answers a double; refuses
   Take : (u : Frame) → Step
   Take_again : (u : Frame) → Step
   Refuse : (u : Frame) → Step
   -- an acknowledgement settles the part that holds its reference; the last one of a message delivers it
-  Settle : (u : Frame) → (g : Giving) → (id : ℕ) → (part : ℕ) → Step
+  Settle : (u : Frame) → (g : Allocation) → (id : ℕ) → (part : ℕ) → Step
   -- a pending message ends: at its limit, by a cancel, by an error with the reference of one of its parts
   Expire : (id : ℕ) → Step
   Delete : (id : ℕ) → Step
-  Fail : (u : Frame) → (g : Giving) → (id : ℕ) → (part : ℕ) → Step
+  Fail : (u : Frame) → (g : Allocation) → (id : ℕ) → (part : ℕ) → Step
   -- a receipt that takes no reference, and one that does
   Receipt : (s : Submission) → (f : FinalState) → Step
   Status : (s : Submission) → (f : FinalState) → (t : Ticket) → Step
@@ -46,17 +46,17 @@ pub data Step : Type 0 where
   -- a handset's own messages: written, deleted, sent; and memory available (3GPP TS 24.011 7.3.2, RP-SMMA), sent and repeated
   Write : (e : OutEntry) → (reference : ℕ) → Step
   Remove : (e : OutEntry) → Step
-  Offer_up : (g : Giving) → (e : OutEntry) → (tpdu : List ℕ) → Step
+  Offer_up : (g : Allocation) → (e : OutEntry) → (tpdu : List ℕ) → Step
   Offer_memory : (handset : List ℕ) → (number : ℕ) → (reference : ℕ) → Step
-  Repeat_memory : (g : Giving) → (number : ℕ) → Step
+  Repeat_memory : (g : Allocation) → (number : ℕ) → Step
   -- the centre takes a handset's message as a submission, rejects it, acknowledges memory available
   Receive : (u : Frame) → (s : Submission) → (tickets : List Ticket) → Step
   Reject : (u : Frame) → Step
   Memory_free : (u : Frame) → Step
   -- an entry under way waits again or is given up; an answer with its reference ends it, or has it wait again
   Lapse : (e : OutEntry) → (st : EntryState) → Step
-  Acknowledged : (u : Frame) → (g : Giving) → (e : OutEntry) → Step
-  Refused : (u : Frame) → (g : Giving) → (e : OutEntry) → (st : EntryState) → Step
+  Acknowledged : (u : Frame) → (g : Allocation) → (e : OutEntry) → Step
+  Refused : (u : Frame) → (g : Allocation) → (e : OutEntry) → (st : EntryState) → Step
   -- a copy of a frame, or a frame of the layer below
   Again : (u : Frame) → Step
   Control : (handset : List ℕ) → Step
@@ -95,7 +95,7 @@ abbrev pub ended : World → ℕ → FinalState → World
 ended w id f = record w { table = changed id (λ e. Final f) w.table }
 
 abbrev pub IsPending : World → ℕ → Type 0
-IsPending w id = (s : Submission) × (done : List ℕ) × Stands w.table id s (Pending done)
+IsPending w id = (s : Submission) × (done : List ℕ) × IsRecorded w.table id s (Pending done)
 
 -- ---- frames
 
@@ -104,14 +104,14 @@ abbrev pub IsSent : World → Frame → Line → Kind → Type 0
 IsSent w u line kind = Among (Carried u) w.bag × (u.line ≡ line) × (u.kind ≡ kind)
 
 -- the frame has the reference that part n of the message holds
-abbrev pub HasReference : World → Frame → Giving → ℕ → ℕ → Type 0
+abbrev pub HasReference : World → Frame → Allocation → ℕ → ℕ → Type 0
 HasReference w u g id n = IsHeld w g × (g.holder ≡ Part id n) × (g.handset ≡ u.handset) × (g.reference ≡ u.reference)
 
 -- the frame has the reference that the entry holds
-abbrev pub HasReferenceUp : World → Frame → Giving → OutEntry → Type 0
+abbrev pub HasReferenceUp : World → Frame → Allocation → OutEntry → Type 0
 HasReferenceUp w u g e = IsHeldUp w g e × (g.handset ≡ u.handset) × (g.reference ≡ u.reference)
 
-abbrev pub data_of : World → Giving → Line → List ℕ → Frame
+abbrev pub data_of : World → Allocation → Line → List ℕ → Frame
 data_of w g line tpdu =
     record { number = next_number w; handset = g.handset; line = line; kind = Data; reference = g.reference; tpdu = tpdu; tag = g.holder }
 
@@ -127,7 +127,7 @@ HasNoReceipt w id = (f : FinalState) → Among (record { id = id; state = f }) w
 
 -- a final state for which a receipt is asked
 abbrev pub IsOwed : World → Submission → FinalState → Type 0
-IsOwed w s f = Stands w.table s.id s (Final f) × IsWished s.wish f × HasNoReceipt w s.id
+IsOwed w s f = IsRecorded w.table s.id s (Final f) × IsWished s.wish f × HasNoReceipt w s.id
 
 -- ---- the handsets' own messages
 
@@ -171,7 +171,7 @@ Can w moment (Take u) = IsSent w u Down Data × ¬ IsLast (pair_of u) w.accepted
 Can w moment (Take_again u) = IsSent w u Down Data × IsLast (pair_of u) w.accepted
 Can w moment (Refuse u) = IsSent w u Down Data × ¬ IsLast (pair_of u) w.accepted
 Can w moment (Settle u g id n) = IsSent w u Down Ack × HasReference w u g id n
-Can w moment (Expire id) = (s : Submission) × (done : List ℕ) × (Stands w.table id s (Pending done) × (s.limit ≤ moment))
+Can w moment (Expire id) = (s : Submission) × (done : List ℕ) × (IsRecorded w.table id s (Pending done) × (s.limit ≤ moment))
 Can w moment (Delete id) = IsPending w id
 Can w moment (Fail u g id n) = IsSent w u Down Error × HasReference w u g id n
 Can w moment (Receipt s f) =
@@ -212,15 +212,15 @@ after w moment (Status s f t) =
     record w {
       receipts = record { id = s.id; state = f } ∷ w.receipts;
       reports = s.id ∷ w.reports;
-      down = report_giving s moment t ∷ w.down;
+      down = report_allocation s moment t ∷ w.down;
     }
 after w moment (Close id) = record w { reports = without id w.reports }
 after w moment (Join j) = record w { joined = j ∷ w.joined }
-after w moment (Write e r) = record w { outbox = e ∷ w.outbox; up = entry_giving e moment r ∷ w.up }
+after w moment (Write e r) = record w { outbox = e ∷ w.outbox; up = entry_allocation e moment r ∷ w.up }
 after w moment (Remove e) = record w { outbox = removed e w.outbox }
 after w moment (Offer_up g e tpdu) = put (record w { outbox = replaced e Sending w.outbox }) (data_of w g Up tpdu)
 after w moment (Offer_memory handset number r) =
-    put (record w { up = memory_giving handset number moment r ∷ w.up }) (memory_of w handset number r)
+    put (record w { up = memory_allocation handset number moment r ∷ w.up }) (memory_of w handset number r)
 after w moment (Repeat_memory g number) = put w (memory_of w g.handset number g.reference)
 after w moment (Receive u s tickets) = put (submitted w moment s tickets) (answer u Ack (next_number w))
 after w moment (Reject u) = put w (answer u Error (next_number w))

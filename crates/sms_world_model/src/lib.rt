@@ -24,7 +24,7 @@ ghost use Rattle.sms_world_model.specs.Submission.{Submission};
 ghost use Rattle.sms_world_model.specs.WhoseTpdu.{IsDeliverOf, IsReportOf};
 ghost use Rattle.sms_world_model.specs.Place.{place_in};
 ghost use Rattle.sms_world_model.specs.Carrying.{carried_in};
-ghost use Rattle.sms_world_model.specs.World.{Giving, World, empty, with_frames};
+ghost use Rattle.sms_world_model.specs.World.{Allocation, World, empty, with_frames};
 ghost use Rattle.sms_world_model.specs.References.{IsEarlier};
 ghost use Rattle.sms_world_model.specs.WorldStep.{Step};
 ghost use Rattle.sms_world_model.specs.Run.{Item, Run, end};
@@ -34,7 +34,7 @@ ghost use Rattle.sms_world_model.specs.ScriptRun.{items, Event, Happening, Whole
 ghost use Rattle.sms_world_model.specs.ScriptPremises.{PlaysTimely, PlaysFresh};
 ghost use Rattle.sms_world_model.specs.Stops.{Leads, IsBeforeOrAfter};
 ghost use Rattle.sms_world_model.specs.Agreement.{MessagesStay, FinalForGood, ReceiptsAgree, HeldDiffer, HoldersOnce, GivenOnce, FramesDiffer, JoinedEnded, DeliveredAccepted, DeliveredTold, NoPartTwice, SentSubmitted, RoundsOnce, JoinedSubmitted, SplitsWhole, SplitsJoined};
-ghost use Rattle.sms_world_model.specs.KeptGivings.{LastGivings, SeesGivings, WasEarlier, IsKeptFrom};
+ghost use Rattle.sms_world_model.specs.KeptAllocations.{LastAllocations, RefinesAllocations, WasEarlier, IsKeptFrom};
 ghost use Rattle.sms_world_model.specs.Grouping.{OthersStay, IsPassed, GoesIn, Ends, NextIsNew};
 ghost use Rattle.sms_world_model.specs.Sides.{AllOfHandset, AllOfCentre, LeavesHandset, LeavesCentre};
 
@@ -116,13 +116,13 @@ pub fn restart_leaves_the_world()
     ensures { (w v : World) (m : ℕ) → Leads w (record { event = Restarted; went = Whole; moment = m }) v → v ≡ w }
 {}
 
-/// What the centre keeps of its givings says when a reference may be given again, and stays true as references are
+/// What the centre keeps of its allocations says when a reference may be given again, and stays true as references are
 /// given and time passes. After a restart any moment will do that is not before one that is kept.
-pub fn kept_givings()
-    ensures again { (kept : LastGivings) (down : List Giving) (now : ℕ) (handset : List ℕ) (reference : ℕ) → SeesGivings kept down now → WasEarlier (kept handset reference) now → IsEarlier down handset reference now }
-    ensures gave { (kept next : LastGivings) (down : List Giving) (now : ℕ) (g : Giving) → SeesGivings kept down now → IsKeptFrom kept next g → g.moment ≡ now → SeesGivings next (g ∷ down) now }
-    ensures later { (kept : LastGivings) (down : List Giving) (now later : ℕ) → SeesGivings kept down now → now ≤ later → SeesGivings kept down later }
-    ensures recovered { (kept : LastGivings) (down : List Giving) (now start : ℕ) → SeesGivings kept down now → ((handset : List ℕ) (reference second : ℕ) → kept handset reference ≡ Some second → second ≤ start) → SeesGivings kept down start }
+pub fn kept_allocations()
+    ensures again { (kept : LastAllocations) (down : List Allocation) (now : ℕ) (handset : List ℕ) (reference : ℕ) → RefinesAllocations kept down now → WasEarlier (kept handset reference) now → IsEarlier down handset reference now }
+    ensures gave { (kept next : LastAllocations) (down : List Allocation) (now : ℕ) (g : Allocation) → RefinesAllocations kept down now → IsKeptFrom kept next g → g.moment ≡ now → RefinesAllocations next (g ∷ down) now }
+    ensures later { (kept : LastAllocations) (down : List Allocation) (now later : ℕ) → RefinesAllocations kept down now → now ≤ later → RefinesAllocations kept down later }
+    ensures recovered { (kept : LastAllocations) (down : List Allocation) (now start : ℕ) → RefinesAllocations kept down now → ((handset : List ℕ) (reference second : ℕ) → kept handset reference ≡ Some second → second ≤ start) → RefinesAllocations kept down start }
 {}
 
 /// What of a TPDU is not compared says nothing of its place in a long message, of its content, or of whose it is.
@@ -134,7 +134,7 @@ pub fn compared_is_read_alike()
 {}
 
 /// How the groups of a key grow as parts are accepted. Nothing was joined at the place of the group that ends next.
-pub fn groups_go_on()
+pub fn groups_grow()
     ensures others_stay { OthersStay }
     ensures passed { IsPassed }
     ensures goes_in { GoesIn }

@@ -3,7 +3,7 @@ pub mod Staying
 pub mod Beginning
 pub mod Unseen
 pub mod Loads
-pub mod Givings
+pub mod Allocations
 pub mod References
 pub mod Offers
 pub mod LinksChange

@@ -1,7 +1,7 @@
 pub mod NoSteps
 pub mod EveryEvent
 pub mod Plans
-pub mod Courses
+pub mod Runs
 pub mod RowsAreTrue
 pub mod LinesOf
 pub mod AfterOffers

@@ -21,4 +21,4 @@ pub mod OwnersEvents
 pub mod WriteEvents
 pub mod Others
 pub mod Plans
-pub mod Courses
+pub mod Runs

@@ -1,8 +1,8 @@
 pub mod ByOctet
 pub mod FramesOut
-pub mod SeesLines
-pub mod SeesMessages
-pub mod SeesReports
-pub mod SeesGiven
-pub mod CentreSight
+pub mod RefinesLines
+pub mod RefinesMessages
+pub mod RefinesReports
+pub mod RefinesGiven
+pub mod CentreRefinement
 pub mod CentreLaws

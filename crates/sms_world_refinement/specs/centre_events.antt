@@ -1,5 +1,5 @@
-pub mod Course
-pub mod CourseEvents
+pub mod Run
+pub mod RunEvents
 pub mod FrameLaws
 pub mod Handing
 pub mod Offered

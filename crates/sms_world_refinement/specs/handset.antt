@@ -1,11 +1,11 @@
-pub mod SeesLink
-pub mod SeesOutbox
-pub mod SeesInbox
+pub mod RefinesLink
+pub mod RefinesOutbox
+pub mod RefinesInbox
 pub mod PutInOrder
-pub mod Sight
+pub mod Refinement
 pub mod Stages
 pub mod EventLaws
 pub mod StopLaws
 pub mod PlanLaws
 pub mod OthersLaws
-pub mod Course
+pub mod Run

@@ -1,3 +1,3 @@
 pub mod Keeping
-pub mod Coming
+pub mod Arriving
 pub mod OctetLaws

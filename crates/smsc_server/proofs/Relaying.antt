@@ -4,7 +4,7 @@ use Rattle.std.proofs.Common.{◌≡◌, ℕ, List, [], Option, Result, Ok, Err,
 use Rattle.sms_base.specs.Address.{IsAddress}
 use Rattle.sms_base.specs.HandsetNumber.{own_address}
 use Rattle.sms_base.specs.declared.address.Address.{Address}
-use Rattle.sms_centre.specs.state.Standing.{IsStanding, StandingOf}
+use Rattle.sms_centre.specs.state.CentreState.{Represents, CentreStateOf}
 use Rattle.sms_centre_spec.specs.CentreEvent.{started}
 use Rattle.sms_centre_spec.specs.Draft.{Core}
 use Rattle.sms_centre_spec.specs.SoundRows.{first_rows}
@@ -14,7 +14,7 @@ use Rattle.smsc_server.specs.relay_laws.Relay.{IsRelayed}
 use Rattle.smsc_server.specs.relay_laws.Relaying.{Relays, centre_for, destination_of, frame_for, handsets_for, setup_for}
 use Rattle.smsc_server.specs.declared.relay_laws.relayed.Relayed.{Relayed}
 use Rattle.sms_centre_rows.specs.reports.Receipts.{Session}
-use Rattle.sms_centre_rows.specs.waiting.SoundGivings.{IsNumber}
+use Rattle.sms_centre_rows.specs.waiting.SoundAllocations.{IsNumber}
 use Rattle.smsc_cli.specs.words.OwnAddress.{IsOwnAddress}
 use Rattle.smsc_server.specs.Sending.{SendsFor}
 
@@ -42,14 +42,14 @@ relayed_from centre from now unit relayed own is = subst (λ (a : Address). IsRe
 
 -- ---- the centre that started
 
-pub stands_as : (address : Address) (from : List ℕ) (now : ℕ) (unit : List ℕ) (rows : Rows) (handsets : List (List ℕ)) (sessions : List Session) (lent : StandingOf)
+pub stands_as : (address : Address) (from : List ℕ) (now : ℕ) (unit : List ℕ) (rows : Rows) (handsets : List (List ℕ)) (sessions : List Session) (lent : CentreStateOf)
     → rows ≡ first_rows (setup_for address now) → handsets ≡ handsets_for from (destination_of (up_at unit)) → sessions ≡ []
-    → IsStanding (started rows handsets sessions) lent → IsStanding (centre_for address from now unit) lent
+    → Represents (started rows handsets sessions) lent → Represents (centre_for address from now unit) lent
 stands_as address from now unit rows handsets sessions lent rows_are handsets_are none is =
     let same : started rows handsets sessions ≡ centre_for address from now unit = rw (rows_are, handsets_are, none) refl in
-    subst (λ (core : Core). IsStanding core lent) same is
+    subst (λ (core : Core). Represents core lent) same is
 
-pub sent_as : (address : Address) (from frame : List ℕ) (now : ℕ) (unit : List ℕ) (to : Option Address) (shown given : StandingOf) (sent : Result Relayed AllocError) → SendsFor from frame to shown sent → shown ≡ given
-    → IsStanding (centre_for address from now unit) given → frame ≡ frame_for unit → to ≡ destination_of (up_at unit) → Relays address from now unit → IfOk sent (λ r. IsRelayed address (own_address from) now unit r)
+pub sent_as : (address : Address) (from frame : List ℕ) (now : ℕ) (unit : List ℕ) (to : Option Address) (shown given : CentreStateOf) (sent : Result Relayed AllocError) → SendsFor from frame to shown sent → shown ≡ given
+    → Represents (centre_for address from now unit) given → frame ≡ frame_for unit → to ≡ destination_of (up_at unit) → Relays address from now unit → IfOk sent (λ r. IsRelayed address (own_address from) now unit r)
 sent_as address from frame now unit to shown given sent is same stands brings named relays =
-    is.is address now unit (subst (λ (s : StandingOf). IsStanding (centre_for address from now unit) s) (sym same) stands) brings named relays
+    is.is address now unit (subst (λ (s : CentreStateOf). Represents (centre_for address from now unit) s) (sym same) stands) brings named relays

@@ -3,8 +3,8 @@ ghost use Rattle.std.specs.Prelude.{◌≡◌, ℕ, [], List, IfOk};
 ghost use Rattle.sms_base.specs.Among.{Among};
 ghost use Rattle.sms_base.specs.HandsetNumber.{own_address};
 ghost use Rattle.sms_base.specs.declared.address.Address.{Address as AddressOf};
-ghost use Rattle.sms_centre.specs.state.Standing.{IsStanding};
-ghost use Rattle.sms_centre.specs.plans.Planned.{IsTold};
+ghost use Rattle.sms_centre.specs.state.CentreState.{Represents};
+ghost use Rattle.sms_centre.specs.plans.EventOutcome.{AreOutputs};
 ghost use Rattle.sms_centre_spec.specs.CentreEvent.{happened, started};
 ghost use Rattle.sms_centre_spec.specs.SoundCore.{AreDifferent, HasNumber};
 ghost use Rattle.sms_centre_spec.specs.SoundRows.{IsSound, first_rows as first_rows_of};
@@ -15,20 +15,20 @@ ghost use Rattle.sms_centre_spec.specs.declared.setup.Setup.{Setup as SetupOf};
 ghost use Rattle.sms_relay.specs.RelayReading.{up_at};
 ghost use Rattle.smsc_server.specs.relay_laws.Relay.{IsRelayed};
 ghost use Rattle.smsc_server.specs.relay_laws.Relaying.{Relays, destination_of, frame_for, handsets_for, setup_for};
-ghost use Rattle.sms_centre_rows.specs.waiting.SoundGivings.{IsNumber};
+ghost use Rattle.sms_centre_rows.specs.waiting.SoundAllocations.{IsNumber};
 
 use crate::bodies::NoBodies;
 use crate::relay_laws::{Relayed, setup_for, units_in};
 use sms_base::{Address, Digits, Moment, OctetView};
-use sms_centre::{Centre, CentreEvent, RecoverError, Rows, Told, first_rows, with_centre};
+use sms_centre::{Centre, CentreEvent, RecoverError, Rows, Outputs, first_rows, with_centre};
 use sms_rows::table::Table;
 use std::alloc::{AllocError, Global};
 
 // What the centre tells of the event. Its store refuses nothing, so that only memory can be wanting.
-fn tell(centre: &mut Centre, event: &CentreEvent<'_>) -> Result<Told, AllocError>
+fn tell(centre: &mut Centre, event: &CentreEvent<'_>) -> Result<Outputs, AllocError>
     requires { HasNumber event.now }
-    ensures { (setup : SetupOf) (handsets : List (List ℕ)) → IsStanding (started (first_rows_of setup) handsets []) centre.old
-        → IfOk result (IsTold (happened event.now (started (first_rows_of setup) handsets []))) }
+    ensures { (setup : SetupOf) (handsets : List (List ℕ)) → Represents (started (first_rows_of setup) handsets []) centre.old
+        → IfOk result (AreOutputs (happened event.now (started (first_rows_of setup) handsets []))) }
 {
     let mut bodies = NoBodies {};
     match centre.plan(event, &mut bodies) {
@@ -53,8 +53,8 @@ fn relay_by(
         octets: OctetView::of(frame),
         tag: None,
     };
-    let told = tell(centre, &event)?;
-    units_in(alloc, to, told.frames.as_slice())
+    let outputs = tell(centre, &event)?;
+    units_in(alloc, to, outputs.frames.as_slice())
 }
 
 // The rows of a centre that starts at that moment, without accounts.

@@ -8,7 +8,7 @@ ghost use Rattle.sms_base.specs.TimeStamp.{IsMoment};
 ghost use Rattle.sms_relay.specs.RelayReading.{up_at};
 ghost use Rattle.smsc_server.specs.relay_laws.Relay.{IsAnswerUnit, IsRelayed};
 ghost use Rattle.smsc_server.specs.relay_laws.Relaying.{Relays, destination_of, frame_for, handsets_for};
-ghost use Rattle.sms_centre_rows.specs.waiting.SoundGivings.{IsNumber};
+ghost use Rattle.sms_centre_rows.specs.waiting.SoundAllocations.{IsNumber};
 ghost use Rattle.smsc_cli.specs.words.OwnAddress.{IsOwnAddress};
 
 use crate::centre::relay_started;

@@ -28,13 +28,13 @@ use Rattle.sms_centre_rows.specs.messages.Messages.{message_at}
 use Rattle.sms_centre_rows.specs.declared.messages.message.MessageRow.{MessageRow}
 use Rattle.sms_receipt.specs.declared.final_message.Final.{Final}
 use Rattle.sms_centre_rows.specs.declared.reports.delivery.Delivery.{Delivery}
-use Rattle.sms_centre_rows.specs.declared.waiting.line.Sent.{Sent}
-use Rattle.smsc_service.specs.declared.asking.Asked.{Asked}
-use Rattle.smsc_service.specs.declared.asking.Asked.TheVariants.{Event, Nothing, Taken}
-use Rattle.smsc_service.specs.declared.floor.LinkSeat.{LinkSeat}
+use Rattle.sms_centre_rows.specs.declared.waiting.handset_link.Sent.{Sent}
+use Rattle.smsc_service.specs.declared.asking.SeatRequest.{SeatRequest}
+use Rattle.smsc_service.specs.declared.asking.SeatRequest.TheVariants.{Event, Nothing, Taken}
+use Rattle.smsc_service.specs.declared.seat_map.LinkSeat.{LinkSeat}
 use Rattle.smsc_service.specs.Asking.{asked, asked_by, read_as, submission}
 use Rattle.smsc_service.specs.Serving.{Serving, after, after_for, gives, gives_for}
-use Rattle.smsc_service.specs.Telling.{answer_for, answer_out, end_of, frame_out, frame_outs, receipt_out, receipt_outs, seat_for, told_at}
+use Rattle.smsc_service.specs.Replies.{answer_for, answer_out, end_of, frame_out, frame_outs, receipt_out, receipt_outs, seat_for, told_at}
 
 -- ---- an answer among what is told
 
@@ -85,7 +85,7 @@ module _ (seat : ℕ) (answer : CentreAnswer) where
 
 -- ---- what a submission asks
 
-abbrev IsSubmission : Asked → Type 0
+abbrev IsSubmission : SeatRequest → Type 0
 IsSubmission (Event event) = (account : ℕ) × ((message : Message) × (event ≡ SubmitOf account message))
 IsSubmission Nothing = Unit {0}
 IsSubmission Taken = ⊥
@@ -117,28 +117,28 @@ read_asks account (Err fault) = tt
 
 submission_asks : (s : Serving) (seat account : ℕ) (pdu : List ℕ) → IsSubmission (asked_by s.seats (JobOf seat (Submit account pdu)))
 submission_asks s seat account pdu =
-    cond_both (nat_lt seat 32) (asked s.seats seat (Submit account pdu)) Nothing (λ (a : Asked). IsSubmission a) (λ t. read_asks account (pdu_at pdu)) (λ t. tt)
+    cond_both (nat_lt seat 32) (asked s.seats seat (Submit account pdu)) Nothing (λ (a : SeatRequest). IsSubmission a) (λ t. read_asks account (pdu_at pdu)) (λ t. tt)
 
 -- ---- together
 
 module _ (s : Serving) (seat account : ℕ) (pdu : List ℕ) (to id : ℕ) where
-  abbrev Names : Asked → Fate → Type 0
+  abbrev Names : SeatRequest → Fate → Type 0
   Names a fate = Among (answer_for to (Submitted id)) (gives_for a fate s (JobOf seat (Submit account pdu)))
       → (to ≡ seat) × ((row : MessageRow) × (message_at id (after_for a fate s (JobOf seat (Submit account pdu))).core.rows.messages ≡ Some row))
 
   event_names : (event : CentreEvent) → IsSubmission (Event event) → Names (Event event) Done
   event_names event is there =
-      let told = told_answer to (Submitted id) None seat s.seats.links (happened event s.core).answer (happened event s.core).air.frames (messages_in (happened event s.core).store) (happened event s.core).desk.deliveries there in
+      let outputs = told_answer to (Submitted id) None seat s.seats.links (happened event s.core).answer (happened event s.core).links.frames (messages_in (happened event s.core).store) (happened event s.core).bindings.deliveries there in
       let named : (happened event s.core).answer ≡ Some (Submitted id) → (row : MessageRow) × (message_at id (core_of (happened event s.core)).rows.messages ≡ Some row) =
       subst (λ (ev : CentreEvent). (happened ev s.core).answer ≡ Some (Submitted id) → (row : MessageRow) × (message_at id (core_of (happened ev s.core)).rows.messages ≡ Some row))
       (sym is.1.1) (answer_names is.0 is.1.0 s.core id) in
-      (told.0, named told.1)
+      (outputs.0, named outputs.1)
 
-  failed_names : (a : Asked) (fate : Fate) → Among (answer_for to (Submitted id)) (gives_for Nothing Done s (JobOf seat (Submit account pdu))) → (to ≡ seat) × ((row : MessageRow) × (message_at id (after_for a fate s (JobOf seat (Submit account pdu))).core.rows.messages ≡ Some row))
+  failed_names : (a : SeatRequest) (fate : Fate) → Among (answer_for to (Submitted id)) (gives_for Nothing Done s (JobOf seat (Submit account pdu))) → (to ≡ seat) × ((row : MessageRow) × (message_at id (after_for a fate s (JobOf seat (Submit account pdu))).core.rows.messages ≡ Some row))
   failed_names a fate (inl e) = let k : Answer (Submitted id) ≡ Answer (RefusedBy ESME_RSYSERR) = ap (λ (o : Out Reply). o.out) e in absurd cc
   failed_names a fate (inr there) = absurd there
 
-  asked_names : (a : Asked) (fate : Fate) → IsSubmission a → Names a fate
+  asked_names : (a : SeatRequest) (fate : Fate) → IsSubmission a → Names a fate
   asked_names (Event event) Done is there = event_names event is there
   asked_names (Event event) NoMemory is there = failed_names (Event event) NoMemory there
   asked_names (Event event) Refused is there = failed_names (Event event) Refused there

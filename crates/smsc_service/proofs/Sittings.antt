@@ -8,8 +8,8 @@ use Rattle.sms_centre_rows.specs.reports.Receipts.{Session, session_key}
 use Rattle.sms_centre.specs.state.Recovering.{AreNew}
 use Rattle.sms_rows.proofs.table.Tables.{among_put}
 use Rattle.sms_rows.specs.table.Table.{put}
-use Rattle.sms_centre_rows.specs.waiting.SoundGivings.{IsNumber}
-use Rattle.smsc_service.specs.Sitting.{AreNumbers, is_among}
+use Rattle.sms_centre_rows.specs.waiting.SoundAllocations.{IsNumber}
+use Rattle.smsc_service.specs.BoundSession.{AreNumbers, is_among}
 
 among_snoc : (n : List ℕ) (ns : List (List ℕ)) (m : List ℕ) → Among n (ns ++ m ∷ []) → Among n ns ⊎ (n ≡ m)
 among_snoc n [] m (inl e) = inr e

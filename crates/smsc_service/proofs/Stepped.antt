@@ -12,10 +12,10 @@ use Rattle.sms_centre_spec.specs.Draft.{Core, Draft, core_of, rows_after}
 use Rattle.sms_centre_spec.specs.SoundRows.{IsSound}
 use Rattle.sms_centre_spec.proofs.Resting.{happened_rests}
 use Rattle.sms_centre_spec.specs.bodies.Storing.{GivesBodies}
-use Rattle.sms_centre_events.specs.offering.Going.{Goes, NoneRefused}
-use Rattle.sms_centre.specs.plans.Planned.{IsPlanned}
-use Rattle.sms_centre.specs.declared.plans.planned.Planned.{Planned}
-use Rattle.sms_centre.specs.Planning.{PlannedOf}
+use Rattle.sms_centre_events.specs.offering.Refusing.{SucceedsOrRefuses, NoneRefused}
+use Rattle.sms_centre.specs.plans.EventOutcome.{IsOutcome}
+use Rattle.sms_centre.specs.declared.plans.event_outcome.EventOutcome.{EventOutcome}
+use Rattle.sms_centre.specs.Planning.{PlanOf}
 use Rattle.sms_centre.specs.Stored.{StoresRows}
 use Rattle.smsc_service.specs.Stepping.{PlansStep, step_error_of}
 
@@ -26,17 +26,17 @@ stored body_of gives rows sound = record { parts = gives.parts rows sound; repor
 none_counted : (before after : Refusals) → NoneRefused before after → after.calls ≡ before.calls
 none_counted before after none = ⊎_elim (λ (e : after ≡ with_answer before). ap (λ (r : Refusals). r.calls) e) (λ (e : after ≡ before). ap (λ (r : Refusals). r.calls) e) none
 
-pub goes_on : (d : Draft) (keys : List ℕ) (held closed : Type 0) (before refused : Refusals) (p : PlannedOf) → Goes (λ (x : PlannedOf). IsPlanned d x.plan) keys held closed before refused (Ok p) → PlansStep held closed before refused d (Ok p)
+pub goes_on : (d : Draft) (keys : List ℕ) (held closed : Type 0) (before refused : Refusals) (p : PlanOf) → SucceedsOrRefuses (λ (x : PlanOf). IsOutcome d x.plan) keys held closed before refused (Ok p) → PlansStep held closed before refused d (Ok p)
 goes_on d keys held closed before refused p goes = (goes.0, (goes.1.0, none_counted before refused goes.1.1))
 
-pub goes_back : (d : Draft) (keys : List ℕ) (held closed : Type 0) (before refused : Refusals) (e : PlanError) → Goes (λ (x : PlannedOf). IsPlanned d x.plan) keys held closed before refused (Err e) → PlansStep held closed before refused d (Err (step_error_of e))
+pub goes_back : (d : Draft) (keys : List ℕ) (held closed : Type 0) (before refused : Refusals) (e : PlanError) → SucceedsOrRefuses (λ (x : PlanOf). IsOutcome d x.plan) keys held closed before refused (Err e) → PlansStep held closed before refused d (Err (step_error_of e))
 goes_back d keys held closed before refused NoBody goes = (goes.1, ap (λ (r : Refusals). r.calls) goes.0.1.1)
 goes_back d keys held closed before refused NoMemory goes = (goes.0, none_counted before refused goes.1)
 
 -- the rows with the changes are those after the event
-pub rows_then : (event : CentreEvent) (c : Core) (p : Planned) → IsPlanned (happened event c) p → rows_after p.changes c.rows ≡ (core_of (happened event c)).rows
+pub rows_then : (event : CentreEvent) (c : Core) (p : EventOutcome) → IsOutcome (happened event c) p → rows_after p.changes c.rows ≡ (core_of (happened event c)).rows
 rows_then event c p k = ap (λ (x : Changes). rows_after x c.rows) k.changes ∙ happened_rests event c
 
-pub stopped : (event : CentreEvent) (c : Core) (p : Planned) (changes : Changes) (left : Rows) → changes ≡ p.changes → IsPlanned (happened event c) p → (left ≡ c.rows) ⊎ (left ≡ rows_after changes c.rows) → (left ≡ c.rows) ⊎ (left ≡ (core_of (happened event c)).rows)
+pub stopped : (event : CentreEvent) (c : Core) (p : EventOutcome) (changes : Changes) (left : Rows) → changes ≡ p.changes → IsOutcome (happened event c) p → (left ≡ c.rows) ⊎ (left ≡ rows_after changes c.rows) → (left ≡ c.rows) ⊎ (left ≡ (core_of (happened event c)).rows)
 stopped event c p changes left same k (inl e) = inl e
 stopped event c p changes left same k (inr e) = inr (e ∙ ap (λ (x : Changes). rows_after x c.rows) same ∙ rows_then event c p k)

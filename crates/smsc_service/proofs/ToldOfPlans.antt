@@ -1,7 +1,7 @@
 -- What is told of a plan is what the definition tells of the event.
 use Rattle.std.proofs.Common.{◌≡◌, ap, ◌∙◌, ℕ, List, Option}
-use Rattle.sms_centre.specs.plans.Planned.{IsPlanned}
-use Rattle.sms_centre.specs.declared.plans.planned.Planned.{Planned}
+use Rattle.sms_centre.specs.plans.EventOutcome.{IsOutcome}
+use Rattle.sms_centre.specs.declared.plans.event_outcome.EventOutcome.{EventOutcome}
 use Rattle.sms_centre_spec.specs.CentreEvent.{happened}
 use Rattle.sms_centre_spec.specs.Draft.{Core, messages_in, rows_after}
 use Rattle.sms_centre_spec.specs.declared.answer.CentreAnswer.{CentreAnswer}
@@ -13,24 +13,24 @@ use Rattle.sms_centre_rows.specs.messages.Messages.{message_key}
 use Rattle.sms_centre_rows.specs.declared.messages.message.MessageRow.{MessageRow}
 use Rattle.sms_centre_rows.specs.declared.reports.delivery.Delivery.{Delivery}
 use Rattle.sms_rows.specs.table.Table.{all_applied}
-use Rattle.sms_centre_rows.specs.declared.waiting.line.Sent.{Sent}
-use Rattle.smsc_service.specs.declared.floor.LinkSeat.{LinkSeat}
+use Rattle.sms_centre_rows.specs.declared.waiting.handset_link.Sent.{Sent}
+use Rattle.smsc_service.specs.declared.seat_map.LinkSeat.{LinkSeat}
 use Rattle.smsc_service.specs.Seats.{Seats}
-use Rattle.smsc_service.specs.Telling.{told_at}
+use Rattle.smsc_service.specs.Replies.{told_at}
 
-module _ (event : CentreEvent) (c : Core) (p : Planned) (k : IsPlanned (happened event c) p) where
+module _ (event : CentreEvent) (c : Core) (p : EventOutcome) (k : IsOutcome (happened event c) p) where
   messages_then : all_applied message_key p.changes.messages c.rows.messages ≡ messages_in (happened event c).store
   messages_then = ap (λ (x : Changes). (rows_after x c.rows).messages) k.changes ∙ ap (λ (r : Rows). r.messages) (happened_rests event c)
 
   pub told_is : (risen : Option (List ℕ)) (seat : ℕ) (links : List LinkSeat)
-      → told_at risen seat links p.told.answer p.told.frames (all_applied message_key p.changes.messages c.rows.messages) p.told.deliveries
-      ≡ told_at risen seat links (happened event c).answer (happened event c).air.frames (messages_in (happened event c).store) (happened event c).desk.deliveries
+      → told_at risen seat links p.outputs.answer p.outputs.frames (all_applied message_key p.changes.messages c.rows.messages) p.outputs.deliveries
+      ≡ told_at risen seat links (happened event c).answer (happened event c).links.frames (messages_in (happened event c).store) (happened event c).bindings.deliveries
   told_is risen seat links =
       let after : List MessageRow = all_applied message_key p.changes.messages c.rows.messages in
-      ap (λ (a : Option CentreAnswer). told_at risen seat links a p.told.frames after p.told.deliveries) k.told.answer
-      ∙ ap (λ (fs : List Sent). told_at risen seat links (happened event c).answer fs after p.told.deliveries) k.told.frames
-      ∙ ap (λ (ms : List MessageRow). told_at risen seat links (happened event c).answer (happened event c).air.frames ms p.told.deliveries) messages_then
-      ∙ ap (λ (ds : List Delivery). told_at risen seat links (happened event c).answer (happened event c).air.frames (messages_in (happened event c).store) ds) k.told.deliveries
+      ap (λ (a : Option CentreAnswer). told_at risen seat links a p.outputs.frames after p.outputs.deliveries) k.outputs.answer
+      ∙ ap (λ (fs : List Sent). told_at risen seat links (happened event c).answer fs after p.outputs.deliveries) k.outputs.frames
+      ∙ ap (λ (ms : List MessageRow). told_at risen seat links (happened event c).answer (happened event c).links.frames ms p.outputs.deliveries) messages_then
+      ∙ ap (λ (ds : List Delivery). told_at risen seat links (happened event c).answer (happened event c).links.frames (messages_in (happened event c).store) ds) k.outputs.deliveries
 
 pub told_where : (risen there : Option (List ℕ)) (seat at : ℕ) (s t : Seats) (answer : Option CentreAnswer) (frames : List Sent) (messages : List MessageRow) (ds : List Delivery) → risen ≡ there → seat ≡ at → s ≡ t
     → told_at risen seat s.links answer frames messages ds ≡ told_at there at t.links answer frames messages ds

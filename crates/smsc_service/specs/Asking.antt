@@ -11,44 +11,44 @@ use Rattle.sms_centre_spec.specs.declared.jobs.job.Job.{Job}
 use Rattle.sms_centre_spec.specs.declared.jobs.job.Job.TheVariants.{Bound, Unbound, Submit, Query, Cancel, DeliverAnswered, LinkUp, LinkDown, Frame}
 use Rattle.sms_keeper.specs.declared.machine.Stimulus.{Stimulus}
 use Rattle.sms_keeper.specs.declared.machine.Stimulus.TheVariants.{Job as JobOf, Tick}
-use Rattle.smsc_service.specs.declared.asking.Asked.{Asked}
-use Rattle.smsc_service.specs.declared.asking.Asked.TheVariants.{Event, Nothing, Taken}
+use Rattle.smsc_service.specs.declared.asking.SeatRequest.{SeatRequest}
+use Rattle.smsc_service.specs.declared.asking.SeatRequest.TheVariants.{Event, Nothing, Taken}
 use Rattle.smsc_service.specs.Numbers.{is_number}
 use Rattle.smsc_service.specs.Seats.{Seats, handset_at, seat_of}
 
 -- ---- requests: the PDU that was passed up, if it is the request that it was passed up as
 
-abbrev pub submission : ℕ → Body → Asked
+abbrev pub submission : ℕ → Body → SeatRequest
 submission account (SubmitSm message) = Event (SubmitOf account message)
 submission account other = Nothing
 
-abbrev pub question : ℕ → Body → Asked
+abbrev pub question : ℕ → Body → SeatRequest
 question account (QuerySm query) = Event (QueryOf account query)
 question account other = Nothing
 
-abbrev pub withdrawal : ℕ → Body → Asked
+abbrev pub withdrawal : ℕ → Body → SeatRequest
 withdrawal account (CancelSm cancel) = Event (CancelOf account cancel)
 withdrawal account other = Nothing
 
-abbrev pub read_as : (Body → Asked) → Result Pdu PduFault → Asked
+abbrev pub read_as : (Body → SeatRequest) → Result Pdu PduFault → SeatRequest
 read_as ask (Ok pdu) = ask pdu.body
 read_as ask (Err fault) = Nothing
 
 -- ---- links
 
 -- a handset has one link
-abbrev pub link_for : Option ℕ → List ℕ → Asked
+abbrev pub link_for : Option ℕ → List ℕ → SeatRequest
 link_for (Some seat) handset = Taken
 link_for None handset = Event (LinkUpOf handset)
 
 -- what the link of the handset asks, if one stands at the seat
-abbrev pub of_handset : (List ℕ → CentreEvent) → Option (List ℕ) → Asked
+abbrev pub of_handset : (List ℕ → CentreEvent) → Option (List ℕ) → SeatRequest
 of_handset event None = Nothing
 of_handset event (Some handset) = if is_number handset then Event (event handset) else Nothing
 
 -- ---- what is asked
 
-abbrev pub asked : Seats → ℕ → Job → Asked
+abbrev pub asked : Seats → ℕ → Job → SeatRequest
 asked s seat (Bound account receives) = Event (BoundOf seat account receives)
 asked s seat Unbound = Event (UnboundOf seat)
 asked s seat (Submit account pdu) = read_as (submission account) (pdu_at pdu)
@@ -60,12 +60,12 @@ asked s seat LinkDown = of_handset (λ handset. LinkDownOf handset) (handset_at 
 asked s seat (Frame octets) = of_handset (λ handset. FrameOf handset octets None) (handset_at seat s.links)
 
 -- a hub has 32 seats
-abbrev pub asked_by : Seats → Stimulus Job → Asked
+abbrev pub asked_by : Seats → Stimulus Job → SeatRequest
 asked_by s (JobOf seat job) = if nat_lt seat 32 then asked s seat job else Nothing
 asked_by s (Tick now) = Event (TickOf now)
 
 -- where it is an event, it is one of these
-abbrev pub IfEvent : (CentreEvent → Type 0) → Asked → Type 0
+abbrev pub IfEvent : (CentreEvent → Type 0) → SeatRequest → Type 0
 IfEvent Is (Event event) = Is event
 IfEvent Is Nothing = Unit {0}
 IfEvent Is Taken = Unit {0}

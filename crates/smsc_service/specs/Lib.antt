@@ -5,7 +5,7 @@ pub mod Numbers
 pub mod Room
 pub mod Seats
 pub mod Serving
-pub mod Sitting
+pub mod BoundSession
 pub mod Starting
 pub mod Stepping
-pub mod Telling
+pub mod Replies

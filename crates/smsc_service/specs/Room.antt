@@ -1,7 +1,7 @@
 -- Memory for what a job changes.
 use Rattle.sms_rows.specs.table.Table.{HasRoom}
-use Rattle.smsc_service.specs.declared.floor.Floor.{Floor}
+use Rattle.smsc_service.specs.declared.seat_map.SeatMap.{SeatMap}
 
 -- a link and a session can come without taking memory
-abbrev pub IsReady : Floor → Type 0
-IsReady floor = HasRoom 1 floor.links × HasRoom 1 floor.sittings
+abbrev pub IsReady : SeatMap → Type 0
+IsReady seat_map = HasRoom 1 seat_map.links × HasRoom 1 seat_map.sittings

@@ -3,26 +3,26 @@ use Rattle.std.specs.Prelude.{ℕ, List, [], ◌∷◌, Option, Some, None, if�
 use Rattle.sms_centre_spec.specs.declared.jobs.job.Job.{Job}
 use Rattle.sms_centre_spec.specs.declared.jobs.job.Job.TheVariants.{Bound, Unbound, Submit, Query, Cancel, DeliverAnswered, LinkUp, LinkDown, Frame}
 use Rattle.sms_rows.specs.table.Table.{put, row_at, without}
-use Rattle.smsc_service.specs.declared.floor.Floor.{Floor}
-use Rattle.smsc_service.specs.declared.floor.LinkSeat.{LinkSeat}
-use Rattle.smsc_service.specs.declared.floor.Sitting.{Sitting}
+use Rattle.smsc_service.specs.declared.seat_map.SeatMap.{SeatMap}
+use Rattle.smsc_service.specs.declared.seat_map.LinkSeat.{LinkSeat}
+use Rattle.smsc_service.specs.declared.seat_map.BoundSession.{BoundSession}
 
 pub record Seats : Type 0 where
   pub links : List LinkSeat
-  pub sittings : List Sitting
+  pub sittings : List BoundSession
 
 abbrev pub nobody : Seats
 nobody = record { links = []; sittings = [] }
 
--- those of a floor, whatever memory it has
-abbrev pub seats_in : Floor → Seats
-seats_in floor = record { links = floor.links.rows; sittings = floor.sittings.rows }
+-- those of a seat map, whatever memory it has
+abbrev pub seats_in : SeatMap → Seats
+seats_in seat_map = record { links = seat_map.links.rows; sittings = seat_map.sittings.rows }
 
 abbrev pub link_key : LinkSeat → ℕ
 link_key link = link.seat
 
-abbrev pub sitting_key : Sitting → ℕ
-sitting_key sitting = sitting.seat
+abbrev pub bound_session_key : BoundSession → ℕ
+bound_session_key bound_session = bound_session.seat
 
 -- ---- looked up
 
@@ -48,8 +48,8 @@ raised (Some other) seat handset links = links
 
 -- what the job of the seat changes
 abbrev pub followed : ℕ → Job → Seats → Seats
-followed seat (Bound account receives) s = record s { sittings = put sitting_key (record { seat = seat; account = account; receives = receives }) s.sittings }
-followed seat Unbound s = record s { sittings = without sitting_key seat s.sittings }
+followed seat (Bound account receives) s = record s { sittings = put bound_session_key (record { seat = seat; account = account; receives = receives }) s.sittings }
+followed seat Unbound s = record s { sittings = without bound_session_key seat s.sittings }
 followed seat (Submit account pdu) s = s
 followed seat (Query account pdu) s = s
 followed seat (Cancel account pdu) s = s

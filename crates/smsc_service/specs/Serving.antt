@@ -11,16 +11,16 @@ use Rattle.sms_keeper.specs.declared.machine.Fate.TheVariants.{Done, NoMemory, R
 use Rattle.sms_keeper.specs.declared.machine.Stimulus.{Stimulus}
 use Rattle.sms_keeper.specs.declared.machine.Stimulus.TheVariants.{Job as JobOf, Tick}
 use Rattle.sms_keeper.specs.declared.outs.Out.{Out}
-use Rattle.sms_centre.specs.state.Standing.{IsStanding, StandingOf}
+use Rattle.sms_centre.specs.state.CentreState.{Represents, CentreStateOf}
 use Rattle.smsc_service.specs.declared.step_error.StepError.{StepError}
 use Rattle.smsc_service.specs.declared.step_error.StepError.TheVariants.{NoMemory as NoPlan, NoBody, Store}
-use Rattle.smsc_service.specs.declared.asking.Asked.{Asked}
-use Rattle.smsc_service.specs.declared.asking.Asked.TheVariants.{Event, Nothing, Taken}
-use Rattle.smsc_service.specs.declared.floor.Floor.{Floor}
+use Rattle.smsc_service.specs.declared.asking.SeatRequest.{SeatRequest}
+use Rattle.smsc_service.specs.declared.asking.SeatRequest.TheVariants.{Event, Nothing, Taken}
+use Rattle.smsc_service.specs.declared.seat_map.SeatMap.{SeatMap}
 use Rattle.smsc_service.specs.Asking.{asked_by}
 use Rattle.smsc_service.specs.Seats.{Seats, followed, seats_in}
-use Rattle.smsc_service.specs.Sitting.{handsets_of, sessions_of}
-use Rattle.smsc_service.specs.Telling.{failed_by, taken_by, told_by}
+use Rattle.smsc_service.specs.BoundSession.{handsets_of, sessions_of}
+use Rattle.smsc_service.specs.Replies.{failed_by, taken_by, told_by}
 
 -- a centre between two events, and who sits where
 pub record Serving : Type 0 where
@@ -39,7 +39,7 @@ followed_by (Tick now) s = s
 -- ---- what is given
 
 -- What befell the event decides: it is told what came of it, or a request has failed.
-abbrev pub gives_for : Asked → Fate → Serving → Stimulus Job → List (Out Reply)
+abbrev pub gives_for : SeatRequest → Fate → Serving → Stimulus Job → List (Out Reply)
 gives_for (Event event) Done s stimulus = told_by s.seats stimulus (happened event s.core)
 gives_for (Event event) NoMemory s stimulus = failed_by stimulus
 gives_for (Event event) Refused s stimulus = failed_by stimulus
@@ -53,7 +53,7 @@ gives s stimulus fate = gives_for (asked_by s.seats stimulus) fate s stimulus
 
 -- Want of memory changes nothing. After a refusal the centre starts again with its rows, and with the links and sessions that the job,
 -- too, left so.
-abbrev pub after_for : Asked → Fate → Serving → Stimulus Job → Serving
+abbrev pub after_for : SeatRequest → Fate → Serving → Stimulus Job → Serving
 after_for (Event event) Done s stimulus = record { core = core_of (happened event s.core); seats = followed_by stimulus s.seats }
 after_for (Event event) NoMemory s stimulus = s
 after_for (Event event) Refused s stimulus = restarted s.core.rows (followed_by stimulus s.seats)
@@ -66,21 +66,21 @@ after s stimulus fate = after_for (asked_by s.seats stimulus) fate s stimulus
 -- ---- what stands for it
 
 -- the store holds its rows, and what is kept in memory is that centre and those seats
-pub record IsServing (held : Rows → Type 0) (standing : StandingOf) (floor : Floor) (s : Serving) : Type 0 where
+pub record IsServing (held : Rows → Type 0) (centre_state : CentreStateOf) (seat_map : SeatMap) (s : Serving) : Type 0 where
   pub rows : held s.core.rows
-  pub centre : IsStanding s.core standing
-  pub seats : seats_in floor ≡ s.seats
+  pub centre : Represents s.core centre_state
+  pub seats : seats_in seat_map ≡ s.seats
 
 -- the store holds its rows, or was closed; the centre starts again with them
-pub record IsWaiting (held : Rows → Type 0) (closed : Type 0) (floor : Floor) (s : Serving) : Type 0 where
+pub record IsWaiting (held : Rows → Type 0) (closed : Type 0) (seat_map : SeatMap) (s : Serving) : Type 0 where
   pub rows : held s.core.rows ⊎ closed
   pub again : s ≡ restarted s.core.rows s.seats
-  pub seats : seats_in floor ≡ s.seats
+  pub seats : seats_in seat_map ≡ s.seats
 
 -- What came of a stimulus that asks this: what is given, and what stands after it, by what befell it.
-abbrev pub Serves : (Rows → Type 0) → Type 0 → StandingOf → Floor → Asked → Serving → Stimulus Job → Fate → List (Out Reply) → Type 0
-Serves held closed centre floor asked s stimulus fate outs =
-    (outs ≡ gives_for asked fate s stimulus) × MatchFate fate (IsServing held centre floor (after_for asked fate s stimulus)) (IsWaiting held closed floor (after_for asked fate s stimulus))
+abbrev pub Serves : (Rows → Type 0) → Type 0 → CentreStateOf → SeatMap → SeatRequest → Serving → Stimulus Job → Fate → List (Out Reply) → Type 0
+Serves held closed centre seat_map asked s stimulus fate outs =
+    (outs ≡ gives_for asked fate s stimulus) × MatchFate fate (IsServing held centre seat_map (after_for asked fate s stimulus)) (IsWaiting held closed seat_map (after_for asked fate s stimulus))
 
 -- ---- what was not planned
 

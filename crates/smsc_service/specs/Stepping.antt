@@ -5,8 +5,8 @@ use Rattle.sms_centre_spec.specs.declared.plan_error.PlanError.TheVariants.{NoBo
 use Rattle.sms_centre_spec.specs.Draft.{Draft}
 use Rattle.sms_rows.specs.keep.Refusing.{one_more}
 use Rattle.sms_rows.specs.declared.keep.refusals.Refusals.{Refusals}
-use Rattle.sms_centre.specs.plans.Planned.{IsPlanned}
-use Rattle.sms_centre.specs.Planning.{PlannedOf}
+use Rattle.sms_centre.specs.plans.EventOutcome.{IsOutcome}
+use Rattle.sms_centre.specs.Planning.{PlanOf}
 use Rattle.smsc_service.specs.declared.step_error.StepError.{StepError}
 use Rattle.smsc_service.specs.declared.step_error.StepError.TheVariants.{NoMemory, NoBody, Store}
 
@@ -21,8 +21,8 @@ OneRefused before after = after.calls ≡ one_more before.calls
 
 -- The plan is that of the draft, and the store holds its rows; or there was no memory, and it holds them; or it refused a read, and it
 -- holds them or is closed. It refused nothing else. Nothing was to be committed yet.
-abbrev pub PlansStep : Type 0 → Type 0 → Refusals → Refusals → Draft → Result PlannedOf StepError → Type 0
-PlansStep held closed before after d (Ok p) = IsPlanned d p.plan × (held × (after.calls ≡ before.calls))
+abbrev pub PlansStep : Type 0 → Type 0 → Refusals → Refusals → Draft → Result PlanOf StepError → Type 0
+PlansStep held closed before after d (Ok p) = IsOutcome d p.plan × (held × (after.calls ≡ before.calls))
 PlansStep held closed before after d (Err NoMemory) = held × (after.calls ≡ before.calls)
 PlansStep held closed before after d (Err NoBody) = (held ⊎ closed) × OneRefused before after
 PlansStep held closed before after d (Err (Store error)) = ⊥

@@ -7,7 +7,7 @@ ghost use Rattle.sms_centre_spec.specs.declared.jobs.job.Job.TheVariants.{LinkUp
 ghost use Rattle.smsc_service.specs.Asking.{IfEvent, asked as asked_of, of_handset, question, read_as, submission, withdrawal};
 ghost use Rattle.smsc_service.specs.Seats.{handset_at, seats_in};
 
-use crate::floor::Floor;
+use crate::seat_map::SeatMap;
 use crate::number::is_number;
 use smpp_pdu::{Body, Pdu};
 use sms_base::{Digits, OctetView, Octets};
@@ -16,7 +16,7 @@ use sms_centre_spec::jobs::Job;
 
 /// What is asked of the centre.
 #[derive(Drop)]
-pub enum Asked<'a> {
+pub enum SeatRequest<'a> {
     /// Something that happens to the centre.
     Event(CentreEvent<'a>),
     /// Nothing: its seat has no link, or its octets are no such request.
@@ -27,140 +27,140 @@ pub enum Asked<'a> {
 
 // ---- requests
 
-fn submission(account: u8, body: Body<'_>) -> Asked<'_>
+fn submission(account: u8, body: Body<'_>) -> SeatRequest<'_>
     ensures asked { result ≡ submission account body.entry }
     ensures number { IfEvent HasNumber result }
 {
     match body {
-        Body::SubmitSm(message) => Asked::Event(CentreEvent::Submit { account, message }),
-        _ => Asked::Nothing,
+        Body::SubmitSm(message) => SeatRequest::Event(CentreEvent::Submit { account, message }),
+        _ => SeatRequest::Nothing,
     }
 }
 
-fn question(account: u8, body: Body<'_>) -> Asked<'_>
+fn question(account: u8, body: Body<'_>) -> SeatRequest<'_>
     ensures asked { result ≡ question account body.entry }
     ensures number { IfEvent HasNumber result }
 {
     match body {
-        Body::QuerySm(query) => Asked::Event(CentreEvent::Query { account, query }),
-        _ => Asked::Nothing,
+        Body::QuerySm(query) => SeatRequest::Event(CentreEvent::Query { account, query }),
+        _ => SeatRequest::Nothing,
     }
 }
 
-fn withdrawal(account: u8, body: Body<'_>) -> Asked<'_>
+fn withdrawal(account: u8, body: Body<'_>) -> SeatRequest<'_>
     ensures asked { result ≡ withdrawal account body.entry }
     ensures number { IfEvent HasNumber result }
 {
     match body {
-        Body::CancelSm(cancel) => Asked::Event(CentreEvent::Cancel { account, cancel }),
-        _ => Asked::Nothing,
+        Body::CancelSm(cancel) => SeatRequest::Event(CentreEvent::Cancel { account, cancel }),
+        _ => SeatRequest::Nothing,
     }
 }
 
-fn submitted(account: u8, pdu: &Octets) -> Asked<'_>
+fn submitted(account: u8, pdu: &Octets) -> SeatRequest<'_>
     ensures asked { result ≡ read_as (submission account) (pdu_at pdu.entry.now) }
     ensures number { IfEvent HasNumber result }
 {
     match Pdu::read(pdu.as_slice()) {
         Ok(pdu) => submission(account, pdu.body),
-        Err(_) => Asked::Nothing,
+        Err(_) => SeatRequest::Nothing,
     }
 }
 
-fn queried(account: u8, pdu: &Octets) -> Asked<'_>
+fn queried(account: u8, pdu: &Octets) -> SeatRequest<'_>
     ensures asked { result ≡ read_as (question account) (pdu_at pdu.entry.now) }
     ensures number { IfEvent HasNumber result }
 {
     match Pdu::read(pdu.as_slice()) {
         Ok(pdu) => question(account, pdu.body),
-        Err(_) => Asked::Nothing,
+        Err(_) => SeatRequest::Nothing,
     }
 }
 
-fn cancelled(account: u8, pdu: &Octets) -> Asked<'_>
+fn cancelled(account: u8, pdu: &Octets) -> SeatRequest<'_>
     ensures asked { result ≡ read_as (withdrawal account) (pdu_at pdu.entry.now) }
     ensures number { IfEvent HasNumber result }
 {
     match Pdu::read(pdu.as_slice()) {
         Ok(pdu) => withdrawal(account, pdu.body),
-        Err(_) => Asked::Nothing,
+        Err(_) => SeatRequest::Nothing,
     }
 }
 
 // ---- links
 
 // A link for a handset comes up.
-fn raised(floor: &Floor, seat: u32, handset: Digits) -> Asked<'static>
-    ensures asked { result ≡ asked_of (seats_in floor.now) seat (LinkUpOf handset) }
+fn raised(seat_map: &SeatMap, seat: u32, handset: Digits) -> SeatRequest<'static>
+    ensures asked { result ≡ asked_of (seats_in seat_map.now) seat (LinkUpOf handset) }
     ensures number { IfEvent HasNumber result }
 {
     // The clause speaks of it.
     let _seat = seat;
     if !is_number(&handset) {
-        return Asked::Nothing;
+        return SeatRequest::Nothing;
     }
-    match floor.seat_of(handset) {
-        Some(_) => Asked::Taken,
-        None => Asked::Event(CentreEvent::LinkUp { handset }),
+    match seat_map.seat_of(handset) {
+        Some(_) => SeatRequest::Taken,
+        None => SeatRequest::Event(CentreEvent::LinkUp { handset }),
     }
 }
 
 // The link at the seat goes down.
-fn lowered(floor: &Floor, seat: u32) -> Asked<'static>
-    ensures asked { result ≡ of_handset (λ handset. LinkDownOf handset) (handset_at seat (seats_in floor.now).links) }
+fn lowered(seat_map: &SeatMap, seat: u32) -> SeatRequest<'static>
+    ensures asked { result ≡ of_handset (λ handset. LinkDownOf handset) (handset_at seat (seats_in seat_map.now).links) }
     ensures number { IfEvent HasNumber result }
 {
-    let Some(handset) = floor.handset_at(seat) else {
-        return Asked::Nothing;
+    let Some(handset) = seat_map.handset_at(seat) else {
+        return SeatRequest::Nothing;
     };
     if is_number(&handset) {
-        Asked::Event(CentreEvent::LinkDown { handset })
+        SeatRequest::Event(CentreEvent::LinkDown { handset })
     } else {
-        Asked::Nothing
+        SeatRequest::Nothing
     }
 }
 
 // A frame comes on the link at the seat.
-fn framed<'a>(floor: &Floor, seat: u32, octets: &'a Octets) -> Asked<'a>
-    ensures asked { result ≡ of_handset (λ handset. FrameOf handset octets.entry.now None) (handset_at seat (seats_in floor.now).links) }
+fn framed<'a>(seat_map: &SeatMap, seat: u32, octets: &'a Octets) -> SeatRequest<'a>
+    ensures asked { result ≡ of_handset (λ handset. FrameOf handset octets.entry.now None) (handset_at seat (seats_in seat_map.now).links) }
     ensures number { IfEvent HasNumber result }
 {
-    let Some(handset) = floor.handset_at(seat) else {
-        return Asked::Nothing;
+    let Some(handset) = seat_map.handset_at(seat) else {
+        return SeatRequest::Nothing;
     };
     if is_number(&handset) {
-        Asked::Event(CentreEvent::Frame {
+        SeatRequest::Event(CentreEvent::Frame {
             handset,
             octets: OctetView::of(octets.as_slice()),
             tag: None,
         })
     } else {
-        Asked::Nothing
+        SeatRequest::Nothing
     }
 }
 
 /// What the job of the seat asks of the centre.
-pub fn job_asks<'a>(floor: &Floor, seat: u32, job: &'a Job) -> Asked<'a>
-    ensures asked { result ≡ asked_of (seats_in floor.now) seat job.entry.now }
+pub fn job_asks<'a>(seat_map: &SeatMap, seat: u32, job: &'a Job) -> SeatRequest<'a>
+    ensures asked { result ≡ asked_of (seats_in seat_map.now) seat job.entry.now }
     ensures number { IfEvent HasNumber result }
 {
     match job {
-        Job::Bound { account, receives } => Asked::Event(CentreEvent::Bound {
+        Job::Bound { account, receives } => SeatRequest::Event(CentreEvent::Bound {
             session: seat,
             account: *account,
             receives: *receives,
         }),
-        Job::Unbound => Asked::Event(CentreEvent::Unbound { session: seat }),
+        Job::Unbound => SeatRequest::Event(CentreEvent::Unbound { session: seat }),
         Job::Submit { account, pdu } => submitted(*account, pdu),
         Job::Query { account, pdu } => queried(*account, pdu),
         Job::Cancel { account, pdu } => cancelled(*account, pdu),
-        Job::DeliverAnswered { id, is_accepted } => Asked::Event(CentreEvent::DeliverAnswered {
+        Job::DeliverAnswered { id, is_accepted } => SeatRequest::Event(CentreEvent::DeliverAnswered {
             session: seat,
             id: *id,
             is_accepted: *is_accepted,
         }),
-        Job::LinkUp { handset } => raised(floor, seat, *handset),
-        Job::LinkDown => lowered(floor, seat),
-        Job::Frame { octets } => framed(floor, seat, octets),
+        Job::LinkUp { handset } => raised(seat_map, seat, *handset),
+        Job::LinkDown => lowered(seat_map, seat),
+        Job::Frame { octets } => framed(seat_map, seat, octets),
     }
 }

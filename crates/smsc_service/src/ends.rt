@@ -3,12 +3,12 @@ ghost use Rattle.std.specs.Prelude.{◌≡◌, IfOk, option_copied};
 ghost use Rattle.sms_centre_spec.specs.Draft.{Core};
 ghost use Rattle.sms_centre_spec.specs.Finals.{submit_reference as submit_reference_of};
 ghost use Rattle.sms_centre_rows.specs.messages.Messages.{message_at, message_key};
-ghost use Rattle.sms_centre.specs.state.Standing.{IsStanding};
+ghost use Rattle.sms_centre.specs.state.CentreState.{Represents};
 ghost use Rattle.sms_rows.specs.table.Table.{all_applied, change_row, newest_of};
-ghost use Rattle.smsc_service.specs.Telling.{end_in, end_of as end_of_row};
+ghost use Rattle.smsc_service.specs.Replies.{end_in, end_of as end_of_row};
 
 use sms_base::{MessageId, Originator};
-use sms_centre::{Centre, Planned};
+use sms_centre::{Centre, Plan};
 use sms_centre_rows::messages::MessageRow;
 use sms_receipt::Final;
 use sms_rows::table::{Change, Key};
@@ -65,7 +65,7 @@ fn newest<'a>(changes: &'a [Change<MessageRow>], key: Key) -> Option<&'a Change<
 }
 
 // The newest change of the message's row that is planned.
-fn newest_in(planned: &Planned, id: MessageId) -> Option<&Change<MessageRow>>
+fn newest_in(planned: &Plan, id: MessageId) -> Option<&Change<MessageRow>>
     ensures { option_copied result ≡ newest_of message_key id planned.entry.now.plan.changes.messages }
 {
     newest(planned.changes().messages.as_slice(), Key::of(id.number()))
@@ -73,7 +73,7 @@ fn newest_in(planned: &Planned, id: MessageId) -> Option<&Change<MessageRow>>
 
 // What is told of the message as the centre has it.
 fn end_at(centre: &Centre, id: MessageId) -> Result<Option<Final>, AllocError>
-    ensures { (c : Core) → IsStanding c centre.now → IfOk result (λ end. end ≡ end_of_row (message_at id c.rows.messages)) }
+    ensures { (c : Core) → Represents c centre.now → IfOk result (λ end. end ≡ end_of_row (message_at id c.rows.messages)) }
 {
     match centre.message(id)? {
         Some(row) => Ok(end_of(&row)),
@@ -84,10 +84,10 @@ fn end_at(centre: &Centre, id: MessageId) -> Result<Option<Final>, AllocError>
 /// What a report says of the message once the plan is adopted, if it has ended then.
 pub(crate) fn end_after(
     centre: &Centre,
-    planned: &Planned,
+    planned: &Plan,
     id: MessageId,
 ) -> Result<Option<Final>, AllocError>
-    ensures { (c : Core) → IsStanding c centre.now → IfOk result (λ end. end ≡ end_of_row (message_at id (all_applied message_key planned.now.plan.changes.messages c.rows.messages))) }
+    ensures { (c : Core) → Represents c centre.now → IfOk result (λ end. end ≡ end_of_row (message_at id (all_applied message_key planned.now.plan.changes.messages c.rows.messages))) }
 {
     match newest_in(planned, id) {
         Some(change) => Ok(end_left(change)),

@@ -8,7 +8,7 @@ ghost use Rattle.sms_keeper.specs.declared.machine.Stimulus.TheVariants.{Job as 
 ghost use Rattle.sms_centre_rows.specs.messages.Messages.{message_at};
 ghost use Rattle.sms_centre_rows.specs.declared.messages.message.MessageRow.{MessageRow};
 ghost use Rattle.smsc_service.specs.Serving.{Serving, after, gives};
-ghost use Rattle.smsc_service.specs.Telling.{answer_for};
+ghost use Rattle.smsc_service.specs.Replies.{answer_for};
 
 /// Where a submission is answered by a number (submit_sm_resp with ESME_ROK, SMPP v3.4 4.4.2), the answer is for the
 /// seat that asked. A message of that number is in the rows after the step, which were committed when the outs are

@@ -7,14 +7,14 @@
 //! rows.
 //!
 //! `Service` is what a hub's keeper runs: it asks the centre for a seat's job, or lets time pass, and gives each seat
-//! its replies. Its steps are one history of the centre's definition (`specs/Serving.antt`). `Floor` keeps which
+//! its replies. Its steps are one history of the centre's definition (`specs/Serving.antt`). `SeatMap` keeps which
 //! handset's link and which session is at which seat, so that frames and receipts find their seats. `serve_with` owns a
 //! service and lends it, so that no crate above proves how a centre is dropped.
 //!
 //! - `asking`: what a job asks of the centre
 //! - `copying`: copies of replies
 //! - `ends`: the ends of messages
-//! - `floor`: which handset and which session is at which seat
+//! - `seat_map`: which handset and which session is at which seat
 //! - `laws`: laws of the service's steps
 //! - `lending`: a service that is lent
 //! - `machine`: a centre and the keep of its rows
@@ -22,18 +22,18 @@
 //! - `restarting`: a centre that starts again
 //! - `served`: what a service represents
 //! - `service`: the service and its steps
-//! - `sitting`: handsets and sessions, as a centre that starts again wants them
+//! - `bound_session`: handsets and sessions, as a centre that starts again wants them
 //! - `start_error`: why a centre does not start
 //! - `step_error`: why a step was not made
 //! - `stimuli`: what a job or tick asks, and what it gives
-//! - `telling`: which seats get which replies of a plan
+//! - `replies`: which seats get which replies of a plan
 //! - `twice`: replies twice, for the seats and for the history
 #![tactic(auto)]
 
 mod asking;
 mod copying;
 mod ends;
-mod floor;
+mod seat_map;
 pub mod laws;
 mod lending;
 mod machine;
@@ -41,24 +41,24 @@ mod number;
 mod restarting;
 mod served;
 mod service;
-mod sitting;
+mod bound_session;
 mod start_error;
 mod step_error;
 mod stimuli;
-mod telling;
+mod replies;
 mod twice;
 
-pub use asking::{Asked, job_asks};
+pub use asking::{SeatRequest, job_asks};
 pub use copying::copy_of_outs;
-pub use floor::{Floor, LinkSeat, Sitting};
+pub use seat_map::{SeatMap, LinkSeat, BoundSession};
 pub use lending::serve_with;
 pub use machine::CentreMachine;
 pub use served::Served;
 pub use service::Service;
-pub use sitting::{handsets_of, sessions_of};
+pub use bound_session::{handsets_of, sessions_of};
 pub use sms_centre::Setup;
 pub use sms_centre_spec::bodies::CentreStore;
-pub use sms_intake::Account as CentreAccount;
+pub use sms_intake::CentreAccount;
 pub use start_error::StartError;
 pub use step_error::StepError;
-pub use telling::{Asker, failed, taken, told};
+pub use replies::{Requester, failed, taken, reply_outs};

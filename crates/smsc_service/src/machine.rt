@@ -1,7 +1,7 @@
 //! A centre and the keep of its rows.
 ghost use Rattle.std.specs.Prelude.{◌≡◌, ◌⊎◌, IfOk, OnErr, OnOk};
-ghost use Rattle.sms_centre.specs.plans.Planned.{IsPlanned};
-ghost use Rattle.sms_centre.specs.state.Standing.{IsStanding};
+ghost use Rattle.sms_centre.specs.plans.EventOutcome.{IsOutcome};
+ghost use Rattle.sms_centre.specs.state.CentreState.{Represents};
 ghost use Rattle.sms_centre.specs.Planning.{Fits};
 ghost use Rattle.sms_centre_spec.specs.CentreEvent.{happened};
 ghost use Rattle.sms_centre_spec.specs.Draft.{Core, core_of};
@@ -12,7 +12,7 @@ ghost use Rattle.smsc_service.specs.Stepping.{OneRefused, PlansStep, step_error_
 ghost use Rattle.smsc_service.specs.InMachine.{centre_in, keep_in};
 
 use crate::step_error::StepError;
-use sms_centre::{Centre, CentreEvent, PlanError, Planned, Told};
+use sms_centre::{Centre, CentreEvent, PlanError, Plan, Outputs};
 use sms_centre_spec::bodies::{CentreStore, commit};
 use sms_keeper::Gate;
 
@@ -42,9 +42,9 @@ impl<K: CentreStore + Drop> CentreMachine<K> {
     }
 
     /// What the event leads to. Nothing has changed yet, but that bodies were read. A handset that the event names has a number.
-    pub fn plan(&mut self, event: &CentreEvent<'_>) -> Result<Planned, StepError>
+    pub fn plan(&mut self, event: &CentreEvent<'_>) -> Result<Plan, StepError>
         requires { HasNumber event.now }
-        ensures plan { K.is_honest (keep_in self.new) → (c : Core) → IsStanding c (centre_in self.old) → K.holds (keep_in self.old) c.rows
+        ensures plan { K.is_honest (keep_in self.new) → (c : Core) → Represents c (centre_in self.old) → K.holds (keep_in self.old) c.rows
             → PlansStep (K.holds (keep_in self.new) c.rows) (K.is_closed (keep_in self.new)) (K.refusals (keep_in self.old)) (K.refusals (keep_in self.new)) (happened event.now c) result }
         ensures fits { IfOk result (Fits (centre_in self.new)) }
         ensures event { IsEvent event.now }
@@ -58,20 +58,20 @@ impl<K: CentreStore + Drop> CentreMachine<K> {
     }
 
     /// Passes the gate, commits what the plan changes, adopts it, and only then gives what leaves.
-    pub fn carry_out<G: Gate>(&mut self, gate: &G, planned: Planned) -> Result<Told, StepError>
+    pub fn carry_out<G: Gate>(&mut self, gate: &G, planned: Plan) -> Result<Outputs, StepError>
         requires { Fits (centre_in self.old) planned }
-        ensures told { IfOk result (λ told. told ≡ planned.plan.told) }
+        ensures outputs { IfOk result (λ outputs. outputs ≡ planned.plan.outputs) }
         // What leaves was committed, and the centre is that after the event.
-        ensures committed { K.is_honest (keep_in self.new) → (event : CentreEventOf) (c : Core) → IsEvent event → IsStanding c (centre_in self.old)
-            → IsPlanned (happened event c) planned.plan → K.holds (keep_in self.old) c.rows
-            → OnOk result (K.holds (keep_in self.new) (core_of (happened event c)).rows × IsStanding (core_of (happened event c)) (centre_in self.new)) }
+        ensures committed { K.is_honest (keep_in self.new) → (event : CentreEventOf) (c : Core) → IsEvent event → Represents c (centre_in self.old)
+            → IsOutcome (happened event c) planned.plan → K.holds (keep_in self.old) c.rows
+            → OnOk result (K.holds (keep_in self.new) (core_of (happened event c)).rows × Represents (core_of (happened event c)) (centre_in self.new)) }
         // A refused commit leaves the centre, and the rows or a closed keep: a call of the keep was refused, and one alone.
         ensures err { K.is_honest (keep_in self.new) → (rows : RowsOf) → K.holds (keep_in self.old) rows
             → OnErr result (K.holds (keep_in self.new) rows ⊎ K.is_closed (keep_in self.new)) }
         ensures same { OnErr result (centre_in self.new ≡ centre_in self.old) }
         ensures refused { OnErr result (OneRefused (K.refusals (keep_in self.old)) (K.refusals (keep_in self.new))) }
         // A stop inside the commit leaves the rows from before the event or those after it, if one before it leaves the rows.
-        ensures stop { K.is_honest (keep_in self.new) → (event : CentreEventOf) (c : Core) → IsPlanned (happened event c) planned.plan
+        ensures stop { K.is_honest (keep_in self.new) → (event : CentreEventOf) (c : Core) → IsOutcome (happened event c) planned.plan
             → K.holds (keep_in self.old) c.rows → ((left : RowsOf) → K.may_leave (keep_in self.old) left → left ≡ c.rows)
             → (left : RowsOf) → K.may_leave (keep_in self.new) left → (left ≡ c.rows) ⊎ (left ≡ (core_of (happened event c)).rows) }
         ensures before { K.is_honest (keep_in self.new) → K.is_honest (keep_in self.old) }

@@ -2,7 +2,7 @@
 ghost use Rattle.std.specs.Prelude.{◌≡◌, true, bytes_eq};
 ghost use Rattle.std.specs.List.{list_all};
 ghost use Rattle.sms_base.specs.SemiOctet.{is_digit as is_digit_of};
-ghost use Rattle.sms_centre_rows.specs.waiting.SoundGivings.{IsNumber};
+ghost use Rattle.sms_centre_rows.specs.waiting.SoundAllocations.{IsNumber};
 ghost use Rattle.smsc_service.specs.Numbers.{is_number as is_number_of};
 
 use sms_base::{Digits, semi_octet_of};

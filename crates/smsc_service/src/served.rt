@@ -1,6 +1,6 @@
 //! What a service represents.
 
-use crate::floor::Floor;
+use crate::seat_map::SeatMap;
 use sms_centre_spec::Rows;
 use std::marker::Model;
 
@@ -8,7 +8,7 @@ use std::marker::Model;
 /// seat. No value of it is made.
 pub struct Served {
     pub rows: Rows,
-    pub floor: Floor,
+    pub seat_map: SeatMap,
 }
 
 impl Model for Served {
@@ -17,5 +17,5 @@ impl Model for Served {
 
     ghost Value = { Serving };
 
-    ghost view = { λ s. restarted s.rows (seats_in s.floor) };
+    ghost view = { λ s. restarted s.rows (seats_in s.seat_map) };
 }

@@ -1,25 +1,25 @@
 //! The centre as the machine of a hub.
 ghost use Rattle.std.specs.Prelude.{◌≡◌, ◌⊎◌, true, false, IfOk, OnErr, OnOk};
-ghost use Rattle.sms_centre.specs.plans.Planned.{IsPlanned};
-ghost use Rattle.sms_centre.specs.state.Standing.{IsStanding};
+ghost use Rattle.sms_centre.specs.plans.EventOutcome.{IsOutcome};
+ghost use Rattle.sms_centre.specs.state.CentreState.{Represents};
 ghost use Rattle.sms_centre.specs.Planning.{Fits};
 ghost use Rattle.sms_centre_spec.specs.CentreEvent.{happened};
 ghost use Rattle.sms_centre_spec.specs.Draft.{Core, core_of};
 ghost use Rattle.sms_centre_spec.specs.SoundCore.{HasNumber, IsEvent};
 ghost use Rattle.sms_centre_spec.specs.declared.event.CentreEvent.{CentreEvent as CentreEventOf};
 ghost use Rattle.sms_centre_spec.specs.declared.rows.Rows.{Rows as RowsOf};
-ghost use Rattle.smsc_service.specs.declared.asking.Asked.TheVariants.{Event};
+ghost use Rattle.smsc_service.specs.declared.asking.SeatRequest.TheVariants.{Event};
 ghost use Rattle.smsc_service.specs.Asking.{IfEvent};
 ghost use Rattle.smsc_service.specs.Room.{IsReady};
 ghost use Rattle.smsc_service.specs.Seats.{nobody, seats_in};
 ghost use Rattle.sms_keeper.specs.declared.machine.Fate.TheVariants.{Refused};
 ghost use Rattle.smsc_service.specs.Stepping.{OneRefused};
 ghost use Rattle.smsc_service.specs.Serving.{GivesUp, IsServing, IsWaiting, Serves, Serving, after, followed_by, gives, restarted};
-ghost use Rattle.smsc_service.specs.Telling.{failed_by, told_by};
+ghost use Rattle.smsc_service.specs.Replies.{failed_by, told_by};
 ghost use Rattle.smsc_service.specs.InService.{IsAwaitedBy, IsBroken, IsServedBy, store_in};
 
-use crate::asking::Asked;
-use crate::floor::Floor;
+use crate::asking::SeatRequest;
+use crate::seat_map::SeatMap;
 use crate::machine::CentreMachine;
 use crate::restarting::restarted_from;
 use crate::served::Served;
@@ -28,7 +28,7 @@ use crate::step_error::StepError;
 use crate::stimuli::{asked_by, follow, outs_told, turned_away, unmade};
 use crate::twice::{Twice, done, doubled};
 use sms_base::lending::put;
-use sms_centre::{Centre, CentreEvent, Planned};
+use sms_centre::{Centre, CentreEvent, Plan};
 use sms_centre_spec::bodies::CentreStore;
 use sms_centre_spec::jobs::{Job, Reply};
 use sms_keeper::{Broken, Fate, Gate, Machine, Step, Stimulus};
@@ -39,7 +39,7 @@ use std::alloc::{AllocError, Global};
 pub struct Service<K: CentreStore + Drop> {
     alloc: Global,
     machine: CentreMachine<K>,
-    floor: Floor,
+    seat_map: SeatMap,
     // The rows could not be read when they were last to be.
     is_broken: bool,
 }
@@ -48,12 +48,12 @@ pub struct Service<K: CentreStore + Drop> {
 fn is_carried_out<K: CentreStore + Drop, G: Gate>(
     machine: &mut CentreMachine<K>,
     gate: &G,
-    planned: Planned,
+    planned: Plan,
 ) -> bool
     requires { Fits machine.old.centre planned }
-    ensures committed { K.is_honest machine.new.keep → (event : CentreEventOf) (c : Core) → IsEvent event → IsStanding c machine.old.centre
-        → IsPlanned (happened event c) planned.plan → K.holds machine.old.keep c.rows
-        → result ≡ true → K.holds machine.new.keep (core_of (happened event c)).rows × IsStanding (core_of (happened event c)) machine.new.centre }
+    ensures committed { K.is_honest machine.new.keep → (event : CentreEventOf) (c : Core) → IsEvent event → Represents c machine.old.centre
+        → IsOutcome (happened event c) planned.plan → K.holds machine.old.keep c.rows
+        → result ≡ true → K.holds machine.new.keep (core_of (happened event c)).rows × Represents (core_of (happened event c)) machine.new.centre }
     ensures err { K.is_honest machine.new.keep → (rows : RowsOf) → K.holds machine.old.keep rows → result ≡ false
         → K.holds machine.new.keep rows ⊎ K.is_closed machine.new.keep }
     ensures before { K.is_honest machine.new.keep → K.is_honest machine.old.keep }
@@ -66,31 +66,31 @@ fn is_carried_out<K: CentreStore + Drop, G: Gate>(
 }
 
 // Nothing was planned.
-fn give_up(floor: &mut Floor, error: StepError, stimulus: &Stimulus<Job>) -> Step<Reply>
-    requires { IsReady floor.old }
+fn give_up(seat_map: &mut SeatMap, error: StepError, stimulus: &Stimulus<Job>) -> Step<Reply>
+    requires { IsReady seat_map.old }
     ensures alike { result.to_seats ≡ result.to_history }
     ensures history { result.to_history ≡ failed_by stimulus.now }
-    ensures floor { GivesUp error result.fate (seats_in floor.new) (seats_in floor.old) (followed_by stimulus.now (seats_in floor.old)) }
+    ensures seat_map { GivesUp error result.fate (seats_in seat_map.new) (seats_in seat_map.old) (followed_by stimulus.now (seats_in seat_map.old)) }
 {
     match error {
         StepError::NoMemory => unmade(Fate::NoMemory, stimulus),
         StepError::NoBody | StepError::Store(_) => {
-            follow(floor, stimulus);
+            follow(seat_map, stimulus);
             unmade(Fate::Refused, stimulus)
         }
     }
 }
 
 impl<K: CentreStore + Drop> Service<K> {
-    fn of(alloc: Global, keep: K, centre: Centre, floor: Floor) -> Service<K>
+    fn of(alloc: Global, keep: K, centre: Centre, seat_map: SeatMap) -> Service<K>
         ensures keep { result.machine.keep ≡ keep }
         ensures centre { result.machine.centre ≡ centre }
-        ensures floor { result.floor ≡ floor }
+        ensures seat_map { result.seat_map ≡ seat_map }
     {
         Service {
             alloc,
             machine: CentreMachine::new(keep, centre),
-            floor,
+            seat_map,
             is_broken: false,
         }
     }
@@ -105,21 +105,21 @@ impl<K: CentreStore + Drop> Service<K> {
         ensures before { IfOk result (λ service. K.is_honest (store_in service) → K.is_honest keep) }
     {
         let mut keep = keep;
-        let floor = Floor::new(alloc);
-        let centre = restarted_from(alloc, &mut keep, &floor)?;
-        Ok(Service::of(alloc, keep, centre, floor))
+        let seat_map = SeatMap::new(alloc);
+        let centre = restarted_from(alloc, &mut keep, &seat_map)?;
+        Ok(Service::of(alloc, keep, centre, seat_map))
     }
 
     // What the seats are told of the plan, made twice before anything is committed.
-    fn outs_of(&self, stimulus: &Stimulus<Job>, planned: &Planned) -> Result<Twice, AllocError>
-        ensures told { (event : CentreEventOf) (s : Serving) → IsStanding s.core self.now.machine.centre → seats_in self.now.floor ≡ s.seats
-            → IsPlanned (happened event s.core) planned.now.plan
+    fn outs_of(&self, stimulus: &Stimulus<Job>, planned: &Plan) -> Result<Twice, AllocError>
+        ensures outputs { (event : CentreEventOf) (s : Serving) → Represents s.core self.now.machine.centre → seats_in self.now.seat_map ≡ s.seats
+            → IsOutcome (happened event s.core) planned.now.plan
             → IfOk result (λ twice. twice.to_history.items ≡ told_by s.seats stimulus.now (happened event s.core)) }
         ensures alike { IfOk result (λ twice. twice.to_seats.items ≡ twice.to_history.items) }
     {
         let outs = outs_told(
             self.alloc,
-            &self.floor,
+            &self.seat_map,
             stimulus,
             &self.machine.centre,
             planned,
@@ -132,22 +132,22 @@ impl<K: CentreStore + Drop> Service<K> {
         &mut self,
         gate: &G,
         stimulus: &Stimulus<Job>,
-        planned: Planned,
+        planned: Plan,
         outs: Twice,
     ) -> Step<Reply>
         requires fits { Fits self.old.machine.centre planned }
-        requires room { IsReady self.old.floor }
+        requires room { IsReady self.old.seat_map }
         requires same { outs.to_seats.items ≡ outs.to_history.items }
         ensures alike { result.to_seats ≡ result.to_history }
         ensures before { K.is_honest self.new.machine.keep → K.is_honest self.old.machine.keep }
         ensures refused { result.fate ≡ Refused → OneRefused (K.refusals self.old.machine.keep) (K.refusals self.new.machine.keep) }
         ensures gives { K.is_honest self.new.machine.keep → (event : CentreEventOf) (s : Serving)
-            → IsServing (K.holds self.old.machine.keep) self.old.machine.centre self.old.floor s → IsEvent event
-            → IsPlanned (happened event s.core) planned.plan
+            → IsServing (K.holds self.old.machine.keep) self.old.machine.centre self.old.seat_map s → IsEvent event
+            → IsOutcome (happened event s.core) planned.plan
             → outs.to_history.items ≡ told_by s.seats stimulus.now (happened event s.core)
-            → Serves (K.holds self.new.machine.keep) (K.is_closed self.new.machine.keep) self.new.machine.centre self.new.floor (Event event) s stimulus.now result.fate result.to_history }
+            → Serves (K.holds self.new.machine.keep) (K.is_closed self.new.machine.keep) self.new.machine.centre self.new.seat_map (Event event) s stimulus.now result.fate result.to_history }
     {
-        follow(&mut self.floor, stimulus);
+        follow(&mut self.seat_map, stimulus);
         if is_carried_out(&mut self.machine, gate, planned) {
             done(outs)
         } else {
@@ -160,17 +160,17 @@ impl<K: CentreStore + Drop> Service<K> {
         &mut self,
         gate: &G,
         stimulus: &Stimulus<Job>,
-        planned: Planned,
+        planned: Plan,
     ) -> Step<Reply>
         requires fits { Fits self.old.machine.centre planned }
-        requires room { IsReady self.old.floor }
+        requires room { IsReady self.old.seat_map }
         ensures alike { result.to_seats ≡ result.to_history }
         ensures before { K.is_honest self.new.machine.keep → K.is_honest self.old.machine.keep }
         ensures refused { result.fate ≡ Refused → OneRefused (K.refusals self.old.machine.keep) (K.refusals self.new.machine.keep) }
         ensures gives { K.is_honest self.new.machine.keep → (event : CentreEventOf) (s : Serving)
-            → IsServing (K.holds self.old.machine.keep) self.old.machine.centre self.old.floor s → IsEvent event
-            → IsPlanned (happened event s.core) planned.plan
-            → Serves (K.holds self.new.machine.keep) (K.is_closed self.new.machine.keep) self.new.machine.centre self.new.floor (Event event) s stimulus.now result.fate result.to_history }
+            → IsServing (K.holds self.old.machine.keep) self.old.machine.centre self.old.seat_map s → IsEvent event
+            → IsOutcome (happened event s.core) planned.plan
+            → Serves (K.holds self.new.machine.keep) (K.is_closed self.new.machine.keep) self.new.machine.centre self.new.seat_map (Event event) s stimulus.now result.fate result.to_history }
     {
         match self.outs_of(stimulus, &planned) {
             Ok(outs) => self.carry_out(gate, stimulus, planned, outs),
@@ -189,18 +189,18 @@ impl<K: CentreStore + Drop> Service<K> {
         stimulus: &Stimulus<Job>,
     ) -> Step<Reply>
         requires number { HasNumber event.now }
-        requires room { IsReady self.old.floor }
+        requires room { IsReady self.old.seat_map }
         ensures alike { result.to_seats ≡ result.to_history }
         ensures before { K.is_honest self.new.machine.keep → K.is_honest self.old.machine.keep }
         ensures refused { K.is_honest self.new.machine.keep → (s : Serving)
-            → IsServing (K.holds self.old.machine.keep) self.old.machine.centre self.old.floor s → result.fate ≡ Refused
+            → IsServing (K.holds self.old.machine.keep) self.old.machine.centre self.old.seat_map s → result.fate ≡ Refused
             → OneRefused (K.refusals self.old.machine.keep) (K.refusals self.new.machine.keep) }
-        ensures gives { K.is_honest self.new.machine.keep → (s : Serving) → IsServing (K.holds self.old.machine.keep) self.old.machine.centre self.old.floor s
-            → Serves (K.holds self.new.machine.keep) (K.is_closed self.new.machine.keep) self.new.machine.centre self.new.floor (Event event.now) s stimulus.now result.fate result.to_history }
+        ensures gives { K.is_honest self.new.machine.keep → (s : Serving) → IsServing (K.holds self.old.machine.keep) self.old.machine.centre self.old.seat_map s
+            → Serves (K.holds self.new.machine.keep) (K.is_closed self.new.machine.keep) self.new.machine.centre self.new.seat_map (Event event.now) s stimulus.now result.fate result.to_history }
     {
         match self.machine.plan(event) {
             Ok(planned) => self.go_on(gate, stimulus, planned),
-            Err(error) => give_up(&mut self.floor, error, stimulus),
+            Err(error) => give_up(&mut self.seat_map, error, stimulus),
         }
     }
 
@@ -215,12 +215,12 @@ impl<K: CentreStore + Drop> Service<K> {
         ensures alike { result.to_seats ≡ result.to_history }
         ensures before { K.is_honest self.new.machine.keep → K.is_honest self.old.machine.keep }
         ensures refused { K.is_honest self.new.machine.keep → (s : Serving)
-            → IsServing (K.holds self.old.machine.keep) self.old.machine.centre self.old.floor s → result.fate ≡ Refused
+            → IsServing (K.holds self.old.machine.keep) self.old.machine.centre self.old.seat_map s → result.fate ≡ Refused
             → OneRefused (K.refusals self.old.machine.keep) (K.refusals self.new.machine.keep) }
-        ensures gives { K.is_honest self.new.machine.keep → (s : Serving) → IsServing (K.holds self.old.machine.keep) self.old.machine.centre self.old.floor s
-            → Serves (K.holds self.new.machine.keep) (K.is_closed self.new.machine.keep) self.new.machine.centre self.new.floor (Event event.now) s stimulus.now result.fate result.to_history }
+        ensures gives { K.is_honest self.new.machine.keep → (s : Serving) → IsServing (K.holds self.old.machine.keep) self.old.machine.centre self.old.seat_map s
+            → Serves (K.holds self.new.machine.keep) (K.is_closed self.new.machine.keep) self.new.machine.centre self.new.seat_map (Event event.now) s stimulus.now result.fate result.to_history }
     {
-        match self.floor.make_room(self.alloc) {
+        match self.seat_map.make_room(self.alloc) {
             Ok(()) => self.meet(gate, event, stimulus),
             Err(_) => unmade(Fate::NoMemory, stimulus),
         }
@@ -230,33 +230,33 @@ impl<K: CentreStore + Drop> Service<K> {
     fn serve<G: Gate>(
         &mut self,
         gate: &G,
-        asked: &Asked<'_>,
+        asked: &SeatRequest<'_>,
         stimulus: &Stimulus<Job>,
     ) -> Step<Reply>
         requires { IfEvent HasNumber asked.now }
         ensures alike { result.to_seats ≡ result.to_history }
         ensures before { K.is_honest self.new.machine.keep → K.is_honest self.old.machine.keep }
         ensures refused { K.is_honest self.new.machine.keep → (s : Serving)
-            → IsServing (K.holds self.old.machine.keep) self.old.machine.centre self.old.floor s → result.fate ≡ Refused
+            → IsServing (K.holds self.old.machine.keep) self.old.machine.centre self.old.seat_map s → result.fate ≡ Refused
             → OneRefused (K.refusals self.old.machine.keep) (K.refusals self.new.machine.keep) }
-        ensures gives { K.is_honest self.new.machine.keep → (s : Serving) → IsServing (K.holds self.old.machine.keep) self.old.machine.centre self.old.floor s
-            → Serves (K.holds self.new.machine.keep) (K.is_closed self.new.machine.keep) self.new.machine.centre self.new.floor asked.now s stimulus.now result.fate result.to_history }
+        ensures gives { K.is_honest self.new.machine.keep → (s : Serving) → IsServing (K.holds self.old.machine.keep) self.old.machine.centre self.old.seat_map s
+            → Serves (K.holds self.new.machine.keep) (K.is_closed self.new.machine.keep) self.new.machine.centre self.new.seat_map asked.now s stimulus.now result.fate result.to_history }
     {
         match asked {
-            Asked::Event(event) => self.happen(gate, event, stimulus),
-            Asked::Nothing => unmade(Fate::Done, stimulus),
-            Asked::Taken => turned_away(stimulus),
+            SeatRequest::Event(event) => self.happen(gate, event, stimulus),
+            SeatRequest::Nothing => unmade(Fate::Done, stimulus),
+            SeatRequest::Taken => turned_away(stimulus),
         }
     }
 
     // The centre starts again with the rows of the store.
     fn restart(&mut self) -> Result<(), StartError>
         ensures ok { K.is_honest self.new.machine.keep → (s : Serving)
-            → IsWaiting (K.holds self.old.machine.keep) (K.is_closed self.old.machine.keep) self.old.floor s
-            → OnOk result (IsServing (K.holds self.new.machine.keep) self.new.machine.centre self.new.floor s) }
+            → IsWaiting (K.holds self.old.machine.keep) (K.is_closed self.old.machine.keep) self.old.seat_map s
+            → OnOk result (IsServing (K.holds self.new.machine.keep) self.new.machine.centre self.new.seat_map s) }
         ensures before { K.is_honest self.new.machine.keep → K.is_honest self.old.machine.keep }
     {
-        let centre = restarted_from(self.alloc, &mut self.machine.keep, &self.floor)?;
+        let centre = restarted_from(self.alloc, &mut self.machine.keep, &self.seat_map)?;
         put(&mut self.machine.centre, centre);
         Ok(())
     }
@@ -280,7 +280,7 @@ impl<K: CentreStore + Drop> Machine<Job, Reply> for Service<K> {
     ghost after = { λ s stimulus fate. after s stimulus fate };
 
     fn step<G: Gate>(&mut self, gate: &G, stimulus: &Stimulus<Job>) -> Step<Reply> {
-        let asked = asked_by(&self.floor, stimulus);
+        let asked = asked_by(&self.seat_map, stimulus);
         self.serve(gate, &asked, stimulus)
     }
 

@@ -1,7 +1,7 @@
 //! What a stimulus asks, and what it gives.
 ghost use Rattle.std.specs.Prelude.{◌≡◌, IfOk};
-ghost use Rattle.sms_centre.specs.plans.Planned.{IsPlanned};
-ghost use Rattle.sms_centre.specs.state.Standing.{IsStanding};
+ghost use Rattle.sms_centre.specs.plans.EventOutcome.{IsOutcome};
+ghost use Rattle.sms_centre.specs.state.CentreState.{Represents};
 ghost use Rattle.sms_centre_spec.specs.CentreEvent.{happened};
 ghost use Rattle.sms_centre_spec.specs.SoundCore.{HasNumber};
 ghost use Rattle.sms_centre_spec.specs.declared.event.CentreEvent.{CentreEvent as CentreEventOf};
@@ -10,42 +10,42 @@ ghost use Rattle.smsc_service.specs.Asking.{IfEvent, asked_by as asked_by_of};
 ghost use Rattle.smsc_service.specs.Room.{IsReady};
 ghost use Rattle.smsc_service.specs.Seats.{seats_in};
 ghost use Rattle.smsc_service.specs.Serving.{Serving, followed_by};
-ghost use Rattle.smsc_service.specs.Telling.{asker, failed_by, risen_by as risen_by_of, taken_by, told_by};
+ghost use Rattle.smsc_service.specs.Replies.{asker, failed_by, risen_by as risen_by_of, taken_by, told_by};
 
-use crate::asking::{Asked, job_asks};
-use crate::floor::Floor;
-use crate::telling::{Asker, failed, taken, told};
+use crate::asking::{SeatRequest, job_asks};
+use crate::seat_map::SeatMap;
+use crate::replies::{Requester, failed, taken, reply_outs};
 use sms_base::Digits;
-use sms_centre::{Centre, CentreEvent, Planned};
+use sms_centre::{Centre, CentreEvent, Plan};
 use sms_centre_spec::jobs::{Job, Reply};
 use sms_keeper::{Fate, Out, Outs, Step, Stimulus};
 use std::alloc::{AllocError, Global};
 
 /// What the stimulus asks of the centre. A hub has 32 seats.
-pub(crate) fn asked_by<'a>(floor: &Floor, stimulus: &'a Stimulus<Job>) -> Asked<'a>
-    ensures asked { result ≡ asked_by_of (seats_in floor.now) stimulus.entry.now }
+pub(crate) fn asked_by<'a>(seat_map: &SeatMap, stimulus: &'a Stimulus<Job>) -> SeatRequest<'a>
+    ensures asked { result ≡ asked_by_of (seats_in seat_map.now) stimulus.entry.now }
     ensures number { IfEvent HasNumber result }
 {
     match stimulus {
         Stimulus::Job(seat, job) => {
             if *seat < 32 {
-                job_asks(floor, *seat as u32, job)
+                job_asks(seat_map, *seat as u32, job)
             } else {
-                Asked::Nothing
+                SeatRequest::Nothing
             }
         }
-        Stimulus::Tick(now) => Asked::Event(CentreEvent::Tick(*now)),
+        Stimulus::Tick(now) => SeatRequest::Event(CentreEvent::Tick(*now)),
     }
 }
 
 /// What the stimulus changes of who sits where.
-pub(crate) fn follow(floor: &mut Floor, stimulus: &Stimulus<Job>)
-    requires { IsReady floor.old }
-    ensures { seats_in floor.new ≡ followed_by stimulus.now (seats_in floor.old) }
+pub(crate) fn follow(seat_map: &mut SeatMap, stimulus: &Stimulus<Job>)
+    requires { IsReady seat_map.old }
+    ensures { seats_in seat_map.new ≡ followed_by stimulus.now (seats_in seat_map.old) }
 {
     if let Stimulus::Job(seat, job) = stimulus {
         if *seat < 32 {
-            floor.follow(*seat as u32, job);
+            seat_map.follow(*seat as u32, job);
         }
     }
 }
@@ -74,19 +74,19 @@ fn asker_of(stimulus: &Stimulus<Job>) -> usize
 /// The replies of the seats to the plan of an event.
 pub(crate) fn outs_told(
     alloc: Global,
-    floor: &Floor,
+    seat_map: &SeatMap,
     stimulus: &Stimulus<Job>,
     centre: &Centre,
-    planned: &Planned,
+    planned: &Plan,
 ) -> Result<Vec<Out<Reply>>, AllocError>
-    ensures { (event : CentreEventOf) (s : Serving) → IsStanding s.core centre.now → seats_in floor.now ≡ s.seats → IsPlanned (happened event s.core) planned.now.plan
+    ensures { (event : CentreEventOf) (s : Serving) → Represents s.core centre.now → seats_in seat_map.now ≡ s.seats → IsOutcome (happened event s.core) planned.now.plan
         → IfOk result (λ outs. outs.items ≡ told_by s.seats stimulus.now (happened event s.core)) }
 {
-    let asker = Asker {
+    let asker = Requester {
         risen: risen_by(stimulus),
         seat: asker_of(stimulus),
     };
-    told(alloc, floor, &asker, centre, planned)
+    reply_outs(alloc, seat_map, &asker, centre, planned)
 }
 
 fn taken_at(stimulus: &Stimulus<Job>) -> Outs<Reply>

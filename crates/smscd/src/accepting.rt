@@ -20,7 +20,7 @@ pub const MOST_OPEN: usize = 32;
 
 /// Who takes connections, and what it shares with the seats.
 #[derive(Drop)]
-pub struct Porter<R> {
+pub struct Acceptor<R> {
     pub host: HostRuntime,
     pub rt: R,
     pub ports: Ports,
@@ -35,35 +35,35 @@ pub struct Porter<R> {
 
 // What became of a look at a port.
 #[derive(Clone, Copy, PartialEq, Eq)]
-enum Came {
+enum AcceptOutcome {
     Nobody,
     Served,
     Refused,
 }
 
-impl<R: Wait> Porter<R> {
-    fn receive(&self, stream: TcpStream, side: Side) -> Came {
+impl<R: Wait> Acceptor<R> {
+    fn receive(&self, stream: TcpStream, side: Side) -> AcceptOutcome {
         if self.open.load(Ordering::SeqCst) >= MOST_OPEN {
             refuse(stream, side);
             let _ = eprint!(self.host; "smscd: refused, {MOST_OPEN} connections are open\n");
-            return Came::Refused;
+            return AcceptOutcome::Refused;
         }
         self.open.fetch_add(1, Ordering::SeqCst);
         match self.sender.send(&self.rt, Connection { stream, side }) {
-            Ok(()) => Came::Served,
-            Err(_) => Came::Nobody,
+            Ok(()) => AcceptOutcome::Served,
+            Err(_) => AcceptOutcome::Nobody,
         }
     }
 
     // Takes the next connection that waits, if there is one.
-    fn accept(&self, side: Side) -> Came {
+    fn accept(&self, side: Side) -> AcceptOutcome {
         let accepted = match side {
             Side::Application => self.ports.applications.accept(),
             Side::Handset => self.ports.links.accept(),
         };
         match accepted {
             Ok((stream, _)) => self.receive(stream, side),
-            Err(_) => Came::Nobody,
+            Err(_) => AcceptOutcome::Nobody,
         }
     }
 
@@ -82,18 +82,18 @@ impl<R: Wait> Porter<R> {
                 return;
             }
             let first = self.accept(Side::Application);
-            if first == Came::Served {
+            if first == AcceptOutcome::Served {
                 left -= 1;
             }
             let second = if left > 0 {
                 self.accept(Side::Handset)
             } else {
-                Came::Nobody
+                AcceptOutcome::Nobody
             };
-            if second == Came::Served {
+            if second == AcceptOutcome::Served {
                 left -= 1;
             }
-            if left > 0 && first == Came::Nobody && second == Came::Nobody {
+            if left > 0 && first == AcceptOutcome::Nobody && second == AcceptOutcome::Nobody {
                 self.wait();
             }
         }

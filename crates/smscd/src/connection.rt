@@ -1,5 +1,5 @@
 //! A connection that was accepted.
-use crate::doorbell::Doorbell;
+use crate::poller::Poller;
 use crate::reading::{Piece, Reading};
 use crate::refusing::refuse;
 use crate::run_fault::RunFault;
@@ -24,7 +24,7 @@ pub struct Ports {
     pub applications: TcpListener,
     pub links: TcpListener,
     /// Rings where a connection waits.
-    pub bell: Doorbell,
+    pub bell: Poller,
 }
 
 // Listens on a port of this machine alone. It is not waited for.
@@ -39,7 +39,7 @@ impl Ports {
     pub fn open(rt: &HostRuntime, smpp: u16, links: u16) -> Result<Ports, RunFault> {
         let applications = listen(rt, smpp)?;
         let links = listen(rt, links)?;
-        let bell = Doorbell::of(rt, &applications, &links)?;
+        let bell = Poller::of(rt, &applications, &links)?;
         Ok(Ports {
             applications,
             links,

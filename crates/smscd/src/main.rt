@@ -6,31 +6,31 @@
 //! - `accepting`: connections, accepted at both ports
 //! - `clock`: the time of this machine
 //! - `connection`: a connection that was accepted
-//! - `doorbell`: what wakes the thread that accepts connections
-//! - `guests`: the threads of the seats
-//! - `house`: the seats of a run with their threads, and the keeper
+//! - `poller`: what wakes the thread that accepts connections
+//! - `seat_context`: the threads of the seats
+//! - `server`: the seats of a run with their threads, and the keeper
 //! - `looking`: a look at a store, which changes nothing
 //! - `reading`: the threads that read connections
 //! - `refusing`: a connection that is refused
 //! - `run_fault`: why a run ended early
 //! - `running`: a run of the server
 //! - `setup`: the accounts of a run, as each part of it wants them
-//! - `telling`: the lines of standard error
+//! - `observing`: the lines of standard error
 #![tactic(auto)]
 
 mod accepting;
 mod clock;
 mod connection;
-mod doorbell;
-mod guests;
-mod house;
+mod poller;
+mod seat_context;
+mod server;
 mod looking;
 mod reading;
 mod refusing;
 mod run_fault;
 mod running;
 mod setup;
-mod telling;
+mod observing;
 
 use crate::looking::show_store;
 use crate::run_fault::RunFault;

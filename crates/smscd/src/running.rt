@@ -2,9 +2,9 @@
 use crate::accepting::MOST_OPEN;
 use crate::clock::{MachineClock, now};
 use crate::connection::{Connection, Ports};
-use crate::house::{House, Shared};
+use crate::server::{Server, Shared};
 use crate::run_fault::RunFault;
-use crate::setup::{Book, setup_of};
+use crate::setup::{RunAccounts, setup_of};
 use crossbeam_channel::bounded;
 use smpp_session::Accounts;
 use sms_base::Moment;
@@ -44,7 +44,7 @@ pub fn run_words<R: Threads + Wait + Copy + Send + 'static>(
     run: &ServerRun<'_>,
     accounts: &[AccountWords<'_>],
 ) -> Result<(), RunFault> {
-    let mut book = Book::new(host.alloc());
+    let mut book = RunAccounts::new(host.alloc());
     fill(&host, run, accounts, &mut book)?;
     // A run of no connection opens nothing.
     if run.sessions == 0 {
@@ -60,7 +60,7 @@ fn fill(
     host: &HostRuntime,
     run: &ServerRun<'_>,
     accounts: &[AccountWords<'_>],
-    book: &mut Book,
+    book: &mut RunAccounts,
 ) -> Result<(), RunFault> {
     book.add_all(host.alloc(), accounts)?;
     match run.accounts {
@@ -78,7 +78,7 @@ fn reading_fault(error: &io::Error) -> RunFault {
     }
 }
 
-fn add_file(host: &HostRuntime, path: &str, book: &mut Book) -> Result<(), RunFault> {
+fn add_file(host: &HostRuntime, path: &str, book: &mut RunAccounts) -> Result<(), RunFault> {
     match fs::read_to_string(host, path) {
         Ok(file) => add_text(host.alloc(), file.as_str(), book),
         Err(error) => Err(reading_fault(&error)),
@@ -86,13 +86,13 @@ fn add_file(host: &HostRuntime, path: &str, book: &mut Book) -> Result<(), RunFa
 }
 
 // The accounts of a file, behind those of the words: 32 at most, no two of one name.
-fn add_text(alloc: Global, file: &str, book: &mut Book) -> Result<(), RunFault> {
+fn add_text(alloc: Global, file: &str, book: &mut RunAccounts) -> Result<(), RunFault> {
     let mut more = Vec::new(alloc);
     add_lines(&mut more, file).map_err(file_fault)?;
     add_accounts(alloc, more.as_slice(), book)
 }
 
-fn add_accounts(alloc: Global, more: &[AccountWords<'_>], book: &mut Book) -> Result<(), RunFault> {
+fn add_accounts(alloc: Global, more: &[AccountWords<'_>], book: &mut RunAccounts) -> Result<(), RunFault> {
     let room = MOST_ACCOUNTS.saturating_sub(book.names.len());
     if more.len() > room || book.has_any(more) {
         return Err(RunFault::Accounts);
@@ -105,10 +105,10 @@ fn serve_book<R: Threads + Wait + Copy + Send + 'static>(
     host: HostRuntime,
     rt: R,
     run: &ServerRun<'_>,
-    book: Book,
+    book: RunAccounts,
     start: Moment,
 ) -> Result<(), RunFault> {
-    let Book {
+    let RunAccounts {
         logins,
         names,
         accounts,
@@ -183,7 +183,7 @@ fn serve_house<R: Threads + Wait + Copy + Send + 'static, M: Machine<Job, Reply>
     machine: &mut M,
     clock: &MachineClock,
 ) -> Result<(), RunFault> {
-    let mut house = House::new(host.alloc())?;
+    let mut house = Server::new(host.alloc())?;
     let ended = match open(host, rt, sessions, ports, shared, &mut house) {
         Ok(()) => house.keep(host, &rt, machine, clock),
         Err(fault) => Err(fault),
@@ -199,7 +199,7 @@ fn open<R: Threads + Wait + Copy + Send + 'static>(
     sessions: u32,
     ports: Ports,
     shared: &Shared,
-    house: &mut House,
+    house: &mut Server,
 ) -> Result<(), RunFault> {
     let Ok((sender, receiver)) = bounded::<Connection, _>(host.alloc(), MOST_OPEN) else {
         return Err(RunFault::NoMemory);

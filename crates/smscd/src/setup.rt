@@ -7,7 +7,7 @@ use std::alloc::{AllocError, Global};
 
 /// The accounts of a run, as each part of it wants them.
 #[derive(Drop)]
-pub struct Book {
+pub struct RunAccounts {
     /// Who may bind.
     pub logins: Vec<Login>,
     /// The names, for an operator.
@@ -36,10 +36,10 @@ fn account_of(alloc: Global, account: &AccountWords<'_>) -> Result<CentreAccount
     })
 }
 
-impl Book {
+impl RunAccounts {
     /// Nobody.
-    pub fn new(alloc: Global) -> Book {
-        Book {
+    pub fn new(alloc: Global) -> RunAccounts {
+        RunAccounts {
             logins: Vec::new(alloc),
             names: Vec::new(alloc),
             accounts: Vec::new(alloc),

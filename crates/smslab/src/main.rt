@@ -44,12 +44,12 @@ fn main(rt: HostRuntime) -> ExitCode {
 }
 
 fn failed(rt: &HostRuntime, failure: Failure) -> u8 {
-    let (status, told) = match failure {
+    let (status, outputs) = match failure {
         Failure::Usage => (2, eprint!(rt; "{USAGE}")),
         Failure::Course(trouble) => (3, eprint!(rt; "smslab: {trouble}\n")),
         Failure::Measure(error) => (3, eprint!(rt; "smslab: {error}\n")),
     };
-    match told {
+    match outputs {
         Ok(()) => status,
         Err(_) => 5,
     }

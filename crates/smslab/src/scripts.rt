@@ -39,7 +39,7 @@ const LINES: &[&str] = &[
 ];
 
 // What a script leads to: its report, or what is told of it on standard error.
-fn told(alloc: Global, script: &str) -> Result<String, AllocError> {
+fn outputs(alloc: Global, script: &str) -> Result<String, AllocError> {
     let mut input = script.as_bytes();
     let mut report: Vec<u8> = Vec::new(alloc);
     match run_sim(alloc, &mut input, &mut report) {
@@ -99,11 +99,11 @@ const CAPTURES: &[&str] = &["answer_lost"];
 
 const STOPPED: &[&str] = &["one_message", "answer_lost", "late_answer"];
 
-fn judge(rt: &HostRuntime, name: &str, kind: &str, holds: bool, told: &str) -> io::Result<()> {
+fn judge(rt: &HostRuntime, name: &str, kind: &str, holds: bool, outputs: &str) -> io::Result<()> {
     if holds {
         println!(rt; "{name}.{kind}: as expected")
     } else {
-        println!(rt; "{name}.{kind}: DIFFERS\n{told}")
+        println!(rt; "{name}.{kind}: DIFFERS\n{outputs}")
     }
 }
 
@@ -120,26 +120,26 @@ fn read(rt: &HostRuntime, name: &str, kind: &str) -> io::Result<String> {
 fn judge_report(rt: &HostRuntime, name: &str) -> io::Result<()> {
     let script = read(rt, name, "script")?;
     let report = read(rt, name, "report")?;
-    let told = told(rt.alloc(), script.as_str())?;
+    let outputs = outputs(rt.alloc(), script.as_str())?;
     judge(
         rt,
         name,
         "report",
-        told.as_str() == report.as_str(),
-        told.as_str(),
+        outputs.as_str() == report.as_str(),
+        outputs.as_str(),
     )
 }
 
 fn judge_lines(rt: &HostRuntime, name: &str) -> io::Result<()> {
     let script = read(rt, name, "script")?;
     let lines = read(rt, name, "lines")?;
-    let told = told(rt.alloc(), script.as_str())?;
+    let outputs = outputs(rt.alloc(), script.as_str())?;
     judge(
         rt,
         name,
         "lines",
-        has_lines(told.as_str(), lines.as_str()),
-        told.as_str(),
+        has_lines(outputs.as_str(), lines.as_str()),
+        outputs.as_str(),
     )
 }
 

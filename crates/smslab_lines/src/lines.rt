@@ -20,7 +20,7 @@ pub use amount::{Amount, handset_at, text_at};
 pub use meter::Meter;
 pub use one_handset::alone;
 pub use parties::{handset, moment, place_named};
-pub use requests::{Asked, asked_in, cancel, message, query};
+pub use requests::{SubmissionOptions, asked_in, cancel, message, query};
 pub use stand_in::StandIn;
 pub use summing::{Happened, sum_of};
 pub use telling::{name_of, tell};

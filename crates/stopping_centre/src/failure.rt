@@ -23,7 +23,7 @@ pub(crate) enum Failure {
 #[derive(Clone, Copy)]
 pub(crate) enum Finding {
     FirstPart,
-    Givings,
+    Allocations,
     Messages,
     NoAddress,
     NoDatabase,
@@ -61,7 +61,7 @@ impl Finding {
     pub(crate) fn text(self) -> &'static str {
         match self {
             Finding::FirstPart => "the first part is another",
-            Finding::Givings => "not two handsets and three references",
+            Finding::Allocations => "not two handsets and three references",
             Finding::Messages => "not one message",
             Finding::NoAddress => "no address",
             Finding::NoDatabase => "no database",

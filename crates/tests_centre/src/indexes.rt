@@ -12,4 +12,4 @@ mod interning;
 #[cfg(test)]
 mod names;
 #[cfg(test)]
-mod shelf;
+mod queue;

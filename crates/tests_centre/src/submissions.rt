@@ -2,7 +2,7 @@
 use crate::rows::{are, holds};
 use smpp_pdu::{CommandStatus, Message, SmeAddress, Tlvs};
 use sms_base::{Address, Moment, OctetView, Octets};
-use sms_intake::{Account, SmppError, Submission, Text, from_pdu};
+use sms_intake::{CentreAccount, SmppError, Submission, Text, from_pdu};
 use std::alloc::Global;
 use std::test::Fail;
 
@@ -87,7 +87,7 @@ fn message_of<'a>(fields: &Fields<'a>) -> Message<'a> {
 fn submitted(alloc: Global, fields: &Fields<'_>) -> Result<Result<Submission, SmppError>, Fail> {
     let address = Address::new(1, 1, "447700900001")?;
     let now = Moment::from_seconds(NOW)?;
-    let account = Account {
+    let account = CentreAccount {
         name: Octets::copy_of(alloc, b"app1")?,
         address,
     };

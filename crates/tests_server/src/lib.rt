@@ -4,7 +4,7 @@
 //! - `seats`: sessions and links at seats, without wire or hub
 //! - `server`: relay runs over readers and writers, and their words
 //! - `service`: the centre as the machine of a hub, turn by turn, over a store that fails on demand
-//! - `serving`: guests on wires that fail
+//! - `serving`: endpoints on wires that fail
 #![tactic(auto)]
 
 #[cfg(test)]

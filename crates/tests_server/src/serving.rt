@@ -1,7 +1,7 @@
-//! Tests of guests on wires that fail. A wire replaces a socket: it refuses its calls from the k-th on, takes no
+//! Tests of endpoints on wires that fail. A wire replaces a socket: it refuses its calls from the k-th on, takes no
 //! octets, or gives none.
 //!
-//! Beside the guest whose wire fails another one is at a second seat, and a keeper runs the jobs of both. Whatever call
+//! Beside the endpoint whose wire fails another one is at a second seat, and a keeper runs the jobs of both. Whatever call
 //! fails, a session that was bound is unbound once, a link that was up is down once, and the other session has all its
 //! answers. A ring of a seat's bell is noticed, whether its thread waits by then or not.
 

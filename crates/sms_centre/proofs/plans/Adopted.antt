@@ -1,18 +1,18 @@
 -- What is kept once a plan was put in is that of the centre after the event.
 use Rattle.std.proofs.Common.{◌≡◌, ℕ, List, sym, ◌∙◌, ap, subst}
 use Rattle.sms_rows.specs.table.Table.{Rises, all_applied}
-use Rattle.sms_centre_messages.specs.references.Claims.{ClaimsOf, Holds as HoldsClaims}
+use Rattle.sms_centre_messages.specs.references.ReferenceIndex.{ReferenceIndexOf, Represents as ReferencesRepresent}
 use Rattle.sms_centre_messages.specs.references.Moves.{AreMoves, ArePartMoves}
-use Rattle.sms_centre_messages.specs.reference_moves.ClaimMoves.{MoveClaims}
+use Rattle.sms_centre_messages.specs.reference_moves.ClaimMoves.{MoveReferenceIndex}
 use Rattle.sms_centre_messages.proofs.reference_moves.EventMoves.{event_moves}
-use Rattle.sms_centre_reports.specs.open_reports.ReportsInMemory.{ReportsOf, Shows as ShowsReports}
-use Rattle.sms_centre_messages.specs.held.MessagesInMemory.{Holds, KeptOf, Matches}
+use Rattle.sms_centre_reports.specs.open_reports.OpenReports.{OpenReportsOf, Represents as RepresentsReports}
+use Rattle.sms_centre_messages.specs.message_index.MessageIndex.{Represents, MessageIndexOf, Matches}
 use Rattle.sms_centre_rows.specs.declared.messages.message.MessageRow.{MessageRow}
 use Rattle.sms_centre_rows.specs.declared.messages.part.PartRow.{PartRow}
 use Rattle.sms_centre_rows.specs.messages.Messages.{message_key, part_key, part_reaching}
 use Rattle.sms_centre_rows.specs.reports.Receipts.{Session}
-use Rattle.sms_centre_queue.specs.queues.Adopting.{IsAdopted}
-use Rattle.sms_centre_queue.specs.queues.Placing.{ShelvesOf}
+use Rattle.sms_centre_queue.specs.queues.Plan.{IsAdopted}
+use Rattle.sms_centre_queue.specs.queues.Queues.{DeliveryQueuesOf}
 use Rattle.sms_centre_rows.specs.waiting.Revisions.{all_revised}
 use Rattle.sms_centre_spec.specs.declared.event.CentreEvent.{CentreEvent}
 use Rattle.sms_centre_spec.specs.declared.rows.Changes.{Changes}
@@ -23,40 +23,40 @@ use Rattle.sms_centre_spec.specs.Draft.{Core, Draft, core_of, messages_in, parts
 use Rattle.sms_centre_spec.specs.SoundCore.{IsEvent}
 use Rattle.sms_centre_spec.proofs.EventLaws.{stays_sound}
 use Rattle.sms_centre_spec.proofs.Resting.{happened_rests, happened_stands}
-use Rattle.sms_centre.specs.declared.plans.planned.Planned.{Planned}
-use Rattle.sms_centre.specs.plans.Planned.{IsPlanned}
+use Rattle.sms_centre.specs.declared.plans.event_outcome.EventOutcome.{EventOutcome}
+use Rattle.sms_centre.specs.plans.EventOutcome.{IsOutcome}
 use Rattle.sms_centre_draft.specs.Beginning.{IsCentre}
 
-module _ (event : CentreEvent) (c : Core) (p : Planned) (is : IsEvent event) (planned : IsPlanned (happened event c) p) where
+module _ (event : CentreEvent) (c : Core) (p : EventOutcome) (is : IsEvent event) (planned : IsOutcome (happened event c) p) where
   rows_are : rows_after p.changes c.rows ≡ (core_of (happened event c)).rows
   rows_are = ap (λ (x : Changes). rows_after x c.rows) planned.changes ∙ happened_rests event c
 
-  pub centre_after : (setup : Setup) (moment now : ℕ) (messages kept : KeptOf) (shelves placed : ShelvesOf) (reports known : ReportsOf) (sessions seated : List Session) → IsCentre c setup moment messages shelves reports sessions
-      → now ≡ p.left.moment
-      → ((ms : List MessageRow) (ps others : List PartRow) → Holds messages ms ps → Matches p.left.messages ps others → Holds kept (all_applied message_key p.changes.messages ms) others)
-      → IsAdopted p.left.shelves placed → known ≡ p.left.reports → seated ≡ p.left.sessions
+  pub centre_after : (setup : Setup) (moment now : ℕ) (messages kept : MessageIndexOf) (queues placed : DeliveryQueuesOf) (reports known : OpenReportsOf) (sessions seated : List Session) → IsCentre c setup moment messages queues reports sessions
+      → now ≡ p.next_state.moment
+      → ((ms : List MessageRow) (ps others : List PartRow) → Represents messages ms ps → Matches p.next_state.messages ps others → Represents kept (all_applied message_key p.changes.messages ms) others)
+      → IsAdopted p.next_state.queues placed → known ≡ p.next_state.reports → seated ≡ p.next_state.sessions
       → IsCentre (core_of (happened event c)) setup now kept placed known seated
-  centre_after setup moment now messages kept shelves placed reports known sessions seated was told holds adopted shown bound =
+  centre_after setup moment now messages kept queues placed reports known sessions seated was outputs holds adopted shown bound =
       let d : Draft = happened event c in record {
         sound = stays_sound event c was.sound is;
         setup_is = was.setup_is ∙ sym (ap (λ (r : Rows). r.setup) (happened_stands event c));
-        moment_is = told ∙ planned.left.moment;
+        moment_is = outputs ∙ planned.next_state.moment;
         messages_are =
-            subst (λ (ms : List MessageRow). Holds kept ms (parts_in d.store)) (ap (λ (r : Rows). r.messages) rows_are)
+            subst (λ (ms : List MessageRow). Represents kept ms (parts_in d.store)) (ap (λ (r : Rows). r.messages) rows_are)
             (holds c.rows.messages c.rows.parts (parts_in d.store) was.messages_are
-            (subst (λ (r : Rows). Matches p.left.messages r.parts (parts_in d.store)) (happened_stands event c) planned.left.messages));
-        shelves_are = planned.left.shelves placed adopted;
-        reports_are = subst (λ (k : ReportsOf). ShowsReports (messages_in d.store) k (reports_in d.store)) (sym shown) planned.left.reports;
-        sessions_are = bound ∙ planned.left.sessions;
+            (subst (λ (r : Rows). Matches p.next_state.messages r.parts (parts_in d.store)) (happened_stands event c) planned.next_state.messages));
+        queues_are = planned.next_state.queues placed adopted;
+        reports_are = subst (λ (k : OpenReportsOf). RepresentsReports (messages_in d.store) k (reports_in d.store)) (sym shown) planned.next_state.reports;
+        sessions_are = bound ∙ planned.next_state.sessions;
       }
 
-  pub claims_after : (setup : Setup) (moment : ℕ) (messages : KeptOf) (shelves : ShelvesOf) (reports : ReportsOf) (sessions : List Session) (claims claimed : ClaimsOf) → IsCentre c setup moment messages shelves reports sessions
-      → HoldsClaims claims c.rows.messages c.rows.parts
-      → ((ms : List MessageRow) (ps : List PartRow) → HoldsClaims claims ms ps → Rises message_key ms → Rises part_key ps → AreMoves p.changes.messages ms ps
+  pub reference_index_after : (setup : Setup) (moment : ℕ) (messages : MessageIndexOf) (queues : DeliveryQueuesOf) (reports : OpenReportsOf) (sessions : List Session) (reference_index claimed : ReferenceIndexOf) → IsCentre c setup moment messages queues reports sessions
+      → ReferencesRepresent reference_index c.rows.messages c.rows.parts
+      → ((ms : List MessageRow) (ps : List PartRow) → ReferencesRepresent reference_index ms ps → Rises message_key ms → Rises part_key ps → AreMoves p.changes.messages ms ps
       → ArePartMoves p.changes.messages p.changes.parts (all_applied message_key p.changes.messages ms) ps
-      → HoldsClaims claimed (all_applied message_key p.changes.messages ms) (all_revised part_key part_reaching p.changes.parts ps))
-      → HoldsClaims claimed (core_of (happened event c)).rows.messages (core_of (happened event c)).rows.parts
-  claims_after setup moment messages shelves reports sessions claims claimed was holds moved =
-      let moves : MoveClaims p.changes c.rows = subst (λ (x : Changes). MoveClaims x c.rows) (sym planned.changes) (event_moves event c was.sound is) in
-      subst (λ (r : Rows). HoldsClaims claimed r.messages r.parts) rows_are
+      → ReferencesRepresent claimed (all_applied message_key p.changes.messages ms) (all_revised part_key part_reaching p.changes.parts ps))
+      → ReferencesRepresent claimed (core_of (happened event c)).rows.messages (core_of (happened event c)).rows.parts
+  reference_index_after setup moment messages queues reports sessions reference_index claimed was holds moved =
+      let moves : MoveReferenceIndex p.changes c.rows = subst (λ (x : Changes). MoveReferenceIndex x c.rows) (sym planned.changes) (event_moves event c was.sound is) in
+      subst (λ (r : Rows). ReferencesRepresent claimed r.messages r.parts) rows_are
       (moved c.rows.messages c.rows.parts holds was.sound.rows.messages.message_keys was.sound.rows.messages.part_keys moves.messages moves.parts)

@@ -4,35 +4,35 @@ use Rattle.std.specs.Prelude.{slice_get}
 use Rattle.std.proofs.lemmas.List.{append_assoc}
 use Rattle.sms_centre_rows.specs.declared.messages.message.MessageRow.{MessageRow}
 use Rattle.sms_centre_rows.specs.messages.Messages.{message_at}
-use Rattle.sms_centre_reports.specs.declared.report_log.register.MadeReport.{MadeReport}
-use Rattle.sms_centre_reports.specs.report_log.Register.{made_report}
-use Rattle.sms_centre_reports.specs.report_log.Telling.{message_line, message_lines, receipt_line, receipt_lines}
-use Rattle.sms_script.specs.declared.report.rows.MessageRow.{MessageRow as MessageLine}
+use Rattle.sms_centre_reports.specs.declared.report_log.log.LoggedReport.{LoggedReport}
+use Rattle.sms_centre_reports.specs.report_log.ReportLog.{made_report}
+use Rattle.sms_centre_reports.specs.report_log.Reporting.{message_line, message_lines, receipt_line, receipt_lines}
+use Rattle.sms_script.specs.declared.report.rows.ReportedMessage.{ReportedMessage}
 use Rattle.sms_script.specs.declared.report.rows.ReceiptRow.{ReceiptRow}
 use Rattle.sms_centre_rows.specs.declared.reports.report.ReportRow.{ReportRow}
-use Rattle.sms_centre.specs.state.Lines.{line_at}
+use Rattle.sms_centre.specs.state.MessageLines.{line_at}
 
 line_next : (i : ℕ) (ms : List MessageRow) → message_lines (take (suc i) ms) ≡ message_lines (take i ms) ++ line_at (slice_get ms i)
 line_next zero [] = refl
 line_next zero (m ∷ ms) = refl
 line_next (suc i) [] = refl
-line_next (suc i) (m ∷ ms) = ap (λ (ls : List MessageLine). message_line m ∷ ls) (line_next i ms)
+line_next (suc i) (m ∷ ms) = ap (λ (ls : List ReportedMessage). message_line m ∷ ls) (line_next i ms)
 
 -- the line of the next message
 pub message_next : (i : ℕ) (ms : List MessageRow) → message_lines (take (i + 1) ms) ≡ message_lines (take i ms) ++ line_at (slice_get ms i)
 message_next i ms = ap (λ (n : ℕ). message_lines (take n ms)) (add-one i) ∙ line_next i ms
 
 module _ (ms : List MessageRow) where
-  told_next : (i : ℕ) (rows : List ReportRow) (made : MadeReport) → i < length (map made_report rows) → made ≡ get_or (map made_report rows) i made
+  told_next : (i : ℕ) (rows : List ReportRow) (made : LoggedReport) → i < length (map made_report rows) → made ≡ get_or (map made_report rows) i made
       → receipt_lines ms (take (suc i) rows) ≡ receipt_lines ms (take i rows) ++ receipt_line (message_at made.id ms)
   told_next i [] made l is = absurd (omega (arith, l))
   told_next zero (r ∷ rs) made l is =
-      append-nil (receipt_line (message_at r.id ms)) ∙ ap (λ (id : ℕ). receipt_line (message_at id ms)) (sym (ap (λ (x : MadeReport). x.id) is))
+      append-nil (receipt_line (message_at r.id ms)) ∙ ap (λ (id : ℕ). receipt_line (message_at id ms)) (sym (ap (λ (x : LoggedReport). x.id) is))
   told_next (suc i) (r ∷ rs) made l is =
       ap (λ (ls : List ReceiptRow). receipt_line (message_at r.id ms) ++ ls) (told_next i rs made (omega (arith, l)) is)
       ∙ sym (append_assoc (receipt_line (message_at r.id ms)) (receipt_lines ms (take i rs)) (receipt_line (message_at made.id ms)))
 
   -- the line of the next report
-  pub receipt_next : (i : ℕ) (rows : List ReportRow) (made : MadeReport) → i < length (map made_report rows) → made ≡ get_or (map made_report rows) i made
+  pub receipt_next : (i : ℕ) (rows : List ReportRow) (made : LoggedReport) → i < length (map made_report rows) → made ≡ get_or (map made_report rows) i made
       → receipt_lines ms (take (i + 1) rows) ≡ receipt_lines ms (take i rows) ++ receipt_line (message_at made.id ms)
   receipt_next i rows made l is = ap (λ (n : ℕ). receipt_lines ms (take n rows)) (add-one i) ∙ told_next i rows made l is

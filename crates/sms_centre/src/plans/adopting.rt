@@ -5,62 +5,62 @@ ghost use Rattle.sms_centre_spec.specs.Draft.{Core, core_of};
 ghost use Rattle.sms_centre_spec.specs.SoundCore.{IsEvent};
 ghost use Rattle.sms_centre_spec.specs.declared.event.CentreEvent.{CentreEvent as CentreEventOf};
 ghost use Rattle.sms_centre_spec.specs.declared.setup.Setup.{Setup as SetupOf};
-ghost use Rattle.sms_centre_messages.specs.references.Claims.{Holds as HoldsClaims};
-ghost use Rattle.sms_centre.specs.plans.Planned.{FitsIn, IsPlanned};
+ghost use Rattle.sms_centre_messages.specs.references.ReferenceIndex.{Represents as ReferencesRepresent};
+ghost use Rattle.sms_centre.specs.plans.EventOutcome.{FitsIn, IsOutcome};
 ghost use Rattle.sms_centre_draft.specs.Beginning.{IsCentre};
 
-use crate::plans::planned::{Left, Planned, Told};
+use crate::plans::event_outcome::{NextState, EventOutcome, Outputs};
 use sms_base::Moment;
-use sms_centre_messages::held::KeptMessages;
-use sms_centre_messages::references::KeptClaims;
-use sms_centre_queue::queues::Shelves;
-use sms_centre_reports::open_reports::Reports;
-use sms_centre_reports::sessions::Seat;
+use sms_centre_messages::message_index::MessageIndex;
+use sms_centre_messages::references::ReferenceIndex;
+use sms_centre_queue::queues::DeliveryQueues;
+use sms_centre_reports::open_reports::OpenReports;
+use sms_centre_reports::sessions::ReceiptSession;
 use sms_rows::table::Table;
 
-impl Planned {
+impl EventOutcome {
     /// Puts it into what the centre keeps, without taking memory, and gives what leaves.
     pub fn adopt(
         self,
         moment: &mut Moment,
-        messages: &mut KeptMessages,
-        claims: &mut KeptClaims,
-        shelves: &mut Shelves,
-        reports: &mut Reports,
-        sessions: &mut Table<Seat>,
-    ) -> Told
-        requires fits { FitsIn messages.old claims.old self }
-        ensures told { result ≡ self.told }
-        ensures centre { (event : CentreEventOf) (c : Core) (setup : SetupOf) → IsEvent event → IsPlanned (happened event c) self
-            → IsCentre c setup moment.old messages.old shelves.old reports.old sessions.old.rows
-            → IsCentre (core_of (happened event c)) setup moment.new messages.new shelves.new reports.new sessions.new.rows }
-        ensures holds { (event : CentreEventOf) (c : Core) (setup : SetupOf) → IsEvent event → IsPlanned (happened event c) self
-            → IsCentre c setup moment.old messages.old shelves.old reports.old sessions.old.rows → HoldsClaims claims.old c.rows.messages c.rows.parts
-            → HoldsClaims claims.new (core_of (happened event c)).rows.messages (core_of (happened event c)).rows.parts }
+        messages: &mut MessageIndex,
+        reference_index: &mut ReferenceIndex,
+        queues: &mut DeliveryQueues,
+        reports: &mut OpenReports,
+        sessions: &mut Table<ReceiptSession>,
+    ) -> Outputs
+        requires fits { FitsIn messages.old reference_index.old self }
+        ensures outputs { result ≡ self.outputs }
+        ensures centre { (event : CentreEventOf) (c : Core) (setup : SetupOf) → IsEvent event → IsOutcome (happened event c) self
+            → IsCentre c setup moment.old messages.old queues.old reports.old sessions.old.rows
+            → IsCentre (core_of (happened event c)) setup moment.new messages.new queues.new reports.new sessions.new.rows }
+        ensures holds { (event : CentreEventOf) (c : Core) (setup : SetupOf) → IsEvent event → IsOutcome (happened event c) self
+            → IsCentre c setup moment.old messages.old queues.old reports.old sessions.old.rows → ReferencesRepresent reference_index.old c.rows.messages c.rows.parts
+            → ReferencesRepresent reference_index.new (core_of (happened event c)).rows.messages (core_of (happened event c)).rows.parts }
     {
-        let Planned {
+        let EventOutcome {
             changes,
-            told,
-            left,
+            outputs,
+            next_state,
         } = self;
-        let Left {
+        let NextState {
             moment: now,
-            messages: spare,
-            claims: claimed,
-            shelves: settled,
+            messages: reserve,
+            reference_index: claimed,
+            queues: settled,
             reports: known,
             sessions: seated,
-        } = left;
-        claims.adopt(
+        } = next_state;
+        reference_index.adopt(
             claimed,
             changes.messages.as_slice(),
             changes.parts.as_slice(),
         );
-        messages.adopt(spare, changes.messages);
-        shelves.adopt(settled);
+        messages.adopt(reserve, changes.messages);
+        queues.adopt(settled);
         *moment = now;
         *reports = known;
         *sessions = seated;
-        told
+        outputs
     }
 }

@@ -1,76 +1,76 @@
 //! What an event leads to.
 ghost use Rattle.std.specs.Prelude.{◌≡◌, length, IfOk};
 ghost use Rattle.sms_centre_spec.specs.Draft.{Draft};
-ghost use Rattle.sms_centre_messages.specs.references.Moves.{Fits as FitsClaims};
-ghost use Rattle.sms_centre_messages.specs.held.MessagesInMemory.{Fits as FitsMessages, Shows as ShowsMessages};
-ghost use Rattle.sms_centre_messages.specs.held.Settling.{IsSettled};
+ghost use Rattle.sms_centre_messages.specs.references.Moves.{Fits as FitsReferenceIndex};
+ghost use Rattle.sms_centre_messages.specs.message_index.MessageIndex.{Fits as FitsMessages, DraftRepresents as RepresentsMessages};
+ghost use Rattle.sms_centre_messages.specs.message_index.Settling.{IsSettled};
 ghost use Rattle.sms_centre_rows.specs.messages.Messages.{Messages};
-ghost use Rattle.sms_centre.specs.plans.Planned.{FitsIn, IsPlanned};
-ghost use Rattle.sms_centre_queue.specs.queues.Adopting.{Fits as FitsShelves, IsSettled as IsSettledShelves};
-ghost use Rattle.sms_centre_draft.specs.Working.{Shows, WorkingOf};
+ghost use Rattle.sms_centre.specs.plans.EventOutcome.{FitsIn, IsOutcome};
+ghost use Rattle.sms_centre_queue.specs.queues.Plan.{Fits as FitsQueues, IsSettled as IsSettledQueues};
+ghost use Rattle.sms_centre_draft.specs.CentreDraft.{Represents, CentreDraftOf};
 
-use crate::plans::planned::{Left, Planned, Told};
+use crate::plans::event_outcome::{NextState, EventOutcome, Outputs};
 use sms_base::{Listed, Moment};
-use sms_centre_draft::Working;
-use sms_centre_messages::held::{KeptMessages, PendingMessages, SettledMessages};
-use sms_centre_messages::references::{KeptClaims, SpareClaims};
-use sms_centre_queue::queues::{PendingShelves, ShelvesPlan};
-use sms_centre_reports::open_reports::PendingReports;
-use sms_centre_reports::sessions::PendingDesk;
+use sms_centre_draft::CentreDraft;
+use sms_centre_messages::message_index::{MessageIndex, MessageIndexDraft, MessageIndexPlan};
+use sms_centre_messages::references::{ReferenceIndex, ReferenceIndexReserve};
+use sms_centre_queue::queues::{DeliveryQueuesDraft, DeliveryQueuesOutcome};
+use sms_centre_reports::open_reports::OpenReportsDraft;
+use sms_centre_reports::sessions::BindingsDraft;
 use sms_centre_spec::{CentreAnswer, Changes};
 use std::alloc::{AllocError, Global};
 
 // What an event changes of messages, with the memory for it and for what they lay claim to.
 #[derive(Drop)]
 struct SettledRows {
-    messages: SettledMessages,
-    claims: SpareClaims,
+    messages: MessageIndexPlan,
+    reference_index: ReferenceIndexReserve,
 }
 
-// The same, and what it leaves of the shelves.
+// The same, and what it leaves of the queues.
 #[derive(Drop)]
 struct Settled {
     rows: SettledRows,
-    plan: ShelvesPlan,
+    plan: DeliveryQueuesOutcome,
 }
 
 fn settle_rows(
     alloc: Global,
-    messages: PendingMessages<'_>,
-    kept: &KeptMessages,
-    claims: &KeptClaims,
+    messages: MessageIndexDraft<'_>,
+    kept: &MessageIndex,
+    reference_index: &ReferenceIndex,
 ) -> Result<SettledRows, AllocError>
-    ensures settled { (m : Messages) → ShowsMessages messages.entry m → IfOk result (λ rows. IsSettled m rows.messages) }
-    ensures messages { IfOk result (λ rows. FitsMessages rows.messages.spare (length rows.messages.messages) kept.now) }
-    ensures claims { IfOk result (λ rows. FitsClaims rows.claims (length rows.messages.messages) (length rows.messages.parts) claims.now) }
+    ensures settled { (m : Messages) → RepresentsMessages messages.entry m → IfOk result (λ rows. IsSettled m rows.messages) }
+    ensures messages { IfOk result (λ rows. FitsMessages rows.messages.reserve (length rows.messages.messages) kept.now) }
+    ensures reference_index { IfOk result (λ rows. FitsReferenceIndex rows.reference_index (length rows.messages.messages) (length rows.messages.parts) reference_index.now) }
 {
     let settled = messages.settle(kept)?;
-    let claims = claims.make_spare(alloc, settled.messages.len(), settled.parts.len())?;
+    let reference_index = reference_index.make_reserve(alloc, settled.messages.len(), settled.parts.len())?;
     Ok(SettledRows {
         messages: settled,
-        claims,
+        reference_index,
     })
 }
 
 fn settle_stored(
     alloc: Global,
     now: Moment,
-    messages: PendingMessages<'_>,
-    shelves: PendingShelves,
-    kept: &KeptMessages,
-    claims: &KeptClaims,
+    messages: MessageIndexDraft<'_>,
+    queues: DeliveryQueuesDraft,
+    kept: &MessageIndex,
+    reference_index: &ReferenceIndex,
 ) -> Result<Settled, AllocError>
-    ensures settled { (m : Messages) → ShowsMessages messages.entry m → IfOk result (λ settled. IsSettled m settled.rows.messages) }
-    ensures messages { IfOk result (λ settled. FitsMessages settled.rows.messages.spare (length settled.rows.messages.messages) kept.now) }
-    ensures claims { IfOk result (λ settled. FitsClaims settled.rows.claims (length settled.rows.messages.messages) (length settled.rows.messages.parts) claims.now) }
-    ensures handsets { IfOk result (λ settled. settled.plan.handsets ≡ shelves.handsets) }
-    ensures references { IfOk result (λ settled. settled.plan.references ≡ shelves.references) }
-    ensures frames { IfOk result (λ settled. settled.plan.frames ≡ shelves.frames) }
-    ensures shelves { IfOk result (λ settled. IsSettledShelves shelves settled.plan.shelves) }
-    ensures fits { IfOk result (λ settled. FitsShelves settled.plan.shelves) }
+    ensures settled { (m : Messages) → RepresentsMessages messages.entry m → IfOk result (λ settled. IsSettled m settled.rows.messages) }
+    ensures messages { IfOk result (λ settled. FitsMessages settled.rows.messages.reserve (length settled.rows.messages.messages) kept.now) }
+    ensures reference_index { IfOk result (λ settled. FitsReferenceIndex settled.rows.reference_index (length settled.rows.messages.messages) (length settled.rows.messages.parts) reference_index.now) }
+    ensures handsets { IfOk result (λ settled. settled.plan.handsets ≡ queues.handsets) }
+    ensures references { IfOk result (λ settled. settled.plan.references ≡ queues.references) }
+    ensures frames { IfOk result (λ settled. settled.plan.frames ≡ queues.frames) }
+    ensures queues { IfOk result (λ settled. IsSettledQueues queues settled.plan.queues) }
+    ensures fits { IfOk result (λ settled. FitsQueues settled.plan.queues) }
 {
-    let rows = settle_rows(alloc, messages, kept, claims)?;
-    match shelves.settle(now) {
+    let rows = settle_rows(alloc, messages, kept, reference_index)?;
+    match queues.settle(now) {
         Ok(plan) => Ok(Settled { rows, plan }),
         Err(error) => {
             drop(rows);
@@ -83,26 +83,26 @@ fn settle_stored(
 fn planned(
     moment: Moment,
     settled: Settled,
-    reports: PendingReports,
-    desk: PendingDesk,
+    reports: OpenReportsDraft,
+    bindings: BindingsDraft,
     answer: Option<CentreAnswer>,
-) -> Planned
-    ensures plans { (d : Draft) (w : WorkingOf) → Shows d w → moment ≡ w.moment → IsSettled d.store.messages settled.rows.messages → IsSettledShelves w.shelves settled.plan.shelves
-        → settled.plan.references ≡ w.shelves.references → settled.plan.handsets ≡ w.shelves.handsets → settled.plan.frames ≡ w.shelves.frames
-        → reports ≡ w.reports → desk ≡ w.desk → answer ≡ w.answer → IsPlanned d result }
-    ensures messages { result.left.messages ≡ settled.rows.messages.spare }
-    ensures claims { result.left.claims ≡ settled.rows.claims }
-    ensures shelves { result.left.shelves ≡ settled.plan.shelves }
+) -> EventOutcome
+    ensures plans { (d : Draft) (w : CentreDraftOf) → Represents d w → moment ≡ w.moment → IsSettled d.store.messages settled.rows.messages → IsSettledQueues w.queues settled.plan.queues
+        → settled.plan.references ≡ w.queues.references → settled.plan.handsets ≡ w.queues.handsets → settled.plan.frames ≡ w.queues.frames
+        → reports ≡ w.reports → bindings ≡ w.bindings → answer ≡ w.answer → IsOutcome d result }
+    ensures messages { result.next_state.messages ≡ settled.rows.messages.reserve }
+    ensures reference_index { result.next_state.reference_index ≡ settled.rows.reference_index }
+    ensures queues { result.next_state.queues ≡ settled.plan.queues }
     ensures changed { result.changes.messages ≡ settled.rows.messages.messages }
     ensures parts { result.changes.parts ≡ settled.rows.messages.parts }
 {
     let Settled { rows, plan } = settled;
-    let SettledRows { messages, claims } = rows;
+    let SettledRows { messages, reference_index } = rows;
     let known = reports.settle();
     let changed = Listed::from_vec(known.changes);
-    let seated = desk.settle();
+    let seated = bindings.settle();
     let deliveries = Listed::from_vec(seated.deliveries);
-    Planned {
+    EventOutcome {
         changes: Changes {
             messages: messages.messages,
             parts: messages.parts,
@@ -111,16 +111,16 @@ fn planned(
             reports: changed,
             priorities: messages.priorities,
         },
-        told: Told {
+        outputs: Outputs {
             frames: plan.frames,
             answer,
             deliveries,
         },
-        left: Left {
+        next_state: NextState {
             moment,
-            messages: messages.spare,
-            claims,
-            shelves: plan.shelves,
+            messages: messages.reserve,
+            reference_index,
+            queues: plan.queues,
             reports: known.reports,
             sessions: seated.sessions,
         },
@@ -130,23 +130,23 @@ fn planned(
 /// What the event leads to, with the memory to put it into what the centre keeps of messages and claims. It has what
 /// the event leaves of queues, reports and sessions.
 pub fn settle(
-    working: Working<'_>,
-    kept: &KeptMessages,
-    claims: &KeptClaims,
-) -> Result<Planned, AllocError>
-    ensures plans { (d : Draft) → Shows d working.entry → IfOk result (IsPlanned d) }
-    ensures fits { IfOk result (FitsIn kept.now claims.now) }
+    draft: CentreDraft<'_>,
+    kept: &MessageIndex,
+    reference_index: &ReferenceIndex,
+) -> Result<EventOutcome, AllocError>
+    ensures plans { (d : Draft) → Represents d draft.entry → IfOk result (IsOutcome d) }
+    ensures fits { IfOk result (FitsIn kept.now reference_index.now) }
 {
-    let Working {
+    let CentreDraft {
         alloc,
         setup: _,
         moment,
         messages,
-        shelves,
+        queues,
         reports,
-        desk,
+        bindings,
         answer,
-    } = working;
-    let settled = settle_stored(alloc, moment, messages, shelves, kept, claims)?;
-    Ok(planned(moment, settled, reports, desk, answer))
+    } = draft;
+    let settled = settle_stored(alloc, moment, messages, queues, kept, reference_index)?;
+    Ok(planned(moment, settled, reports, bindings, answer))
 }

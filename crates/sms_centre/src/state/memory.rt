@@ -1,66 +1,66 @@
 //! What a centre that starts on rows keeps of them in memory.
 ghost use Rattle.std.specs.Prelude.{ℕ, List, IfOk};
 ghost use Rattle.sms_base.specs.Among.{Among};
-ghost use Rattle.sms_centre_messages.specs.references.Claims.{Holds as HoldsClaims};
-ghost use Rattle.sms_centre_reports.specs.open_reports.ReportsInMemory.{Shows as ShowsReports};
-ghost use Rattle.sms_centre_messages.specs.held.MessagesInMemory.{Holds as HoldsMessages};
-ghost use Rattle.sms_centre_reports.specs.report_log.Register.{Holds as HoldsRegister};
-ghost use Rattle.sms_centre_queue.specs.queues.Shown.{Stands};
+ghost use Rattle.sms_centre_messages.specs.references.ReferenceIndex.{Represents as ReferencesRepresent};
+ghost use Rattle.sms_centre_reports.specs.open_reports.OpenReports.{Represents as RepresentsReports};
+ghost use Rattle.sms_centre_messages.specs.message_index.MessageIndex.{Represents as MessagesRepresent};
+ghost use Rattle.sms_centre_reports.specs.report_log.ReportLog.{Represents as LogRepresents};
+ghost use Rattle.sms_centre_queue.specs.queues.Representing.{Represents};
 ghost use Rattle.sms_centre_recovery.specs.soundness.RowsOf.{rows_of};
 ghost use Rattle.sms_centre_recovery.specs.starting.Starting.{lines_of};
-ghost use Rattle.sms_centre_rows.specs.waiting.SoundGivings.{IsNumber};
+ghost use Rattle.sms_centre_rows.specs.waiting.SoundAllocations.{IsNumber};
 ghost use Rattle.sms_centre_spec.specs.SoundCore.{AreDifferent};
 ghost use Rattle.sms_centre_spec.specs.SoundRows.{IsSound, all_for};
 
-use crate::state::shelves::shelves_of;
+use crate::state::queues::queues_of;
 use sms_base::{Digits, Moment};
-use sms_centre_messages::held::KeptMessages;
-use sms_centre_messages::references::KeptClaims;
-use sms_centre_queue::queues::Shelves;
+use sms_centre_messages::message_index::MessageIndex;
+use sms_centre_messages::references::ReferenceIndex;
+use sms_centre_queue::queues::DeliveryQueues;
 use sms_centre_recovery::soundness::RowTables;
-use sms_centre_reports::open_reports::Reports;
-use sms_centre_reports::report_log::Register;
+use sms_centre_reports::open_reports::OpenReports;
+use sms_centre_reports::report_log::ReportLog;
 use std::alloc::{AllocError, Global};
 
 #[derive(Drop)]
 struct MessageMemory {
-    messages: KeptMessages,
-    claims: KeptClaims,
+    messages: MessageIndex,
+    reference_index: ReferenceIndex,
 }
 
 #[derive(Drop)]
 struct ReportMemory {
-    reports: Reports,
-    register: Register,
+    reports: OpenReports,
+    log: ReportLog,
 }
 
 // All but what is kept of messages.
 #[derive(Drop)]
 struct OtherMemory {
-    shelves: Shelves,
-    reports: Reports,
-    register: Register,
+    queues: DeliveryQueues,
+    reports: OpenReports,
+    log: ReportLog,
 }
 
 /// What is kept of rows.
 #[derive(Drop)]
 pub(crate) struct Memory {
-    pub messages: KeptMessages,
-    pub claims: KeptClaims,
-    pub shelves: Shelves,
-    pub reports: Reports,
-    pub register: Register,
+    pub messages: MessageIndex,
+    pub reference_index: ReferenceIndex,
+    pub queues: DeliveryQueues,
+    pub reports: OpenReports,
+    pub log: ReportLog,
 }
 
 fn message_memory(alloc: Global, tables: &RowTables) -> Result<MessageMemory, AllocError>
-    ensures messages { IfOk result (λ memory. HoldsMessages memory.messages tables.now.messages.rows tables.now.parts.rows) }
-    ensures claims { IfOk result (λ memory. HoldsClaims memory.claims tables.now.messages.rows tables.now.parts.rows) }
+    ensures messages { IfOk result (λ memory. MessagesRepresent memory.messages tables.now.messages.rows tables.now.parts.rows) }
+    ensures reference_index { IfOk result (λ memory. ReferencesRepresent memory.reference_index tables.now.messages.rows tables.now.parts.rows) }
 {
     let rows = tables.messages.as_slice();
     let parts = tables.parts.as_slice();
-    let messages = KeptMessages::recover(alloc, rows, parts)?;
-    match KeptClaims::recover(alloc, &tables.messages, parts) {
-        Ok(claims) => Ok(MessageMemory { messages, claims }),
+    let messages = MessageIndex::recover(alloc, rows, parts)?;
+    match ReferenceIndex::recover(alloc, &tables.messages, parts) {
+        Ok(reference_index) => Ok(MessageMemory { messages, reference_index }),
         Err(error) => {
             drop(messages);
             Err(error)
@@ -70,14 +70,14 @@ fn message_memory(alloc: Global, tables: &RowTables) -> Result<MessageMemory, Al
 
 fn report_memory(alloc: Global, tables: &RowTables) -> Result<ReportMemory, AllocError>
     requires { IsSound (rows_of tables.now) }
-    ensures reports { IfOk result (λ memory. ShowsReports tables.now.messages.rows memory.reports tables.now.reports.rows) }
-    ensures register { IfOk result (λ memory. HoldsRegister memory.register tables.now.reports.rows) }
+    ensures reports { IfOk result (λ memory. RepresentsReports tables.now.messages.rows memory.reports tables.now.reports.rows) }
+    ensures log { IfOk result (λ memory. LogRepresents memory.log tables.now.reports.rows) }
 {
     let messages = tables.messages.as_slice();
     let rows = tables.reports.as_slice();
-    let reports = Reports::recover(alloc, messages, rows)?;
-    match Register::recover(alloc, rows) {
-        Ok(register) => Ok(ReportMemory { reports, register }),
+    let reports = OpenReports::recover(alloc, messages, rows)?;
+    match ReportLog::recover(alloc, rows) {
+        Ok(log) => Ok(ReportMemory { reports, log }),
         Err(error) => {
             drop(reports);
             Err(error)
@@ -95,16 +95,16 @@ fn other_memory(
     requires sound { IsSound (rows_of tables.now) }
     requires numbers { (number : List ℕ) → Among number handsets.now → IsNumber number }
     requires apart { AreDifferent handsets.now }
-    ensures shelves { IfOk result (λ memory. Stands tables.now.handsets.rows tables.now.references.rows (lines_of are_up handsets.now) (λ number. all_for number (rows_of tables.now)) memory.shelves) }
-    ensures reports { IfOk result (λ memory. ShowsReports tables.now.messages.rows memory.reports tables.now.reports.rows) }
-    ensures register { IfOk result (λ memory. HoldsRegister memory.register tables.now.reports.rows) }
+    ensures queues { IfOk result (λ memory. Represents tables.now.handsets.rows tables.now.references.rows (lines_of are_up handsets.now) (λ number. all_for number (rows_of tables.now)) memory.queues) }
+    ensures reports { IfOk result (λ memory. RepresentsReports tables.now.messages.rows memory.reports tables.now.reports.rows) }
+    ensures log { IfOk result (λ memory. LogRepresents memory.log tables.now.reports.rows) }
 {
     let of_reports = report_memory(alloc, tables)?;
-    match shelves_of(alloc, tables, handsets, are_up, now) {
-        Ok(shelves) => Ok(OtherMemory {
-            shelves,
+    match queues_of(alloc, tables, handsets, are_up, now) {
+        Ok(queues) => Ok(OtherMemory {
+            queues,
             reports: of_reports.reports,
-            register: of_reports.register,
+            log: of_reports.log,
         }),
         Err(error) => {
             drop(of_reports);
@@ -124,20 +124,20 @@ pub(crate) fn memory_of(
     requires sound { IsSound (rows_of tables.now) }
     requires numbers { (number : List ℕ) → Among number handsets.now → IsNumber number }
     requires apart { AreDifferent handsets.now }
-    ensures messages { IfOk result (λ memory. HoldsMessages memory.messages tables.now.messages.rows tables.now.parts.rows) }
-    ensures claims { IfOk result (λ memory. HoldsClaims memory.claims tables.now.messages.rows tables.now.parts.rows) }
-    ensures shelves { IfOk result (λ memory. Stands tables.now.handsets.rows tables.now.references.rows (lines_of are_up handsets.now) (λ number. all_for number (rows_of tables.now)) memory.shelves) }
-    ensures reports { IfOk result (λ memory. ShowsReports tables.now.messages.rows memory.reports tables.now.reports.rows) }
-    ensures register { IfOk result (λ memory. HoldsRegister memory.register tables.now.reports.rows) }
+    ensures messages { IfOk result (λ memory. MessagesRepresent memory.messages tables.now.messages.rows tables.now.parts.rows) }
+    ensures reference_index { IfOk result (λ memory. ReferencesRepresent memory.reference_index tables.now.messages.rows tables.now.parts.rows) }
+    ensures queues { IfOk result (λ memory. Represents tables.now.handsets.rows tables.now.references.rows (lines_of are_up handsets.now) (λ number. all_for number (rows_of tables.now)) memory.queues) }
+    ensures reports { IfOk result (λ memory. RepresentsReports tables.now.messages.rows memory.reports tables.now.reports.rows) }
+    ensures log { IfOk result (λ memory. LogRepresents memory.log tables.now.reports.rows) }
 {
     let of_messages = message_memory(alloc, tables)?;
     match other_memory(alloc, tables, handsets, are_up, now) {
         Ok(other) => Ok(Memory {
             messages: of_messages.messages,
-            claims: of_messages.claims,
-            shelves: other.shelves,
+            reference_index: of_messages.reference_index,
+            queues: other.queues,
             reports: other.reports,
-            register: other.register,
+            log: other.log,
         }),
         Err(error) => {
             drop(of_messages);

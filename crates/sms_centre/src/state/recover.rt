@@ -3,24 +3,24 @@ ghost use Rattle.std.specs.Prelude.{◌≡◌, ℕ, List, IfErr, IfOk};
 ghost use Rattle.sms_base.specs.Among.{Among};
 ghost use Rattle.sms_centre_recovery.specs.soundness.RowsOf.{rows_of};
 ghost use Rattle.sms_centre.specs.state.Recovering.{AreNew, RefusesRows, begun};
-ghost use Rattle.sms_centre.specs.state.Standing.{IsStanding};
-ghost use Rattle.sms_centre_rows.specs.waiting.SoundGivings.{IsNumber};
+ghost use Rattle.sms_centre.specs.state.CentreState.{Represents};
+ghost use Rattle.sms_centre_rows.specs.waiting.SoundAllocations.{IsNumber};
 ghost use Rattle.sms_centre_spec.specs.CentreEvent.{recovered, started};
 ghost use Rattle.sms_centre_spec.specs.SoundCore.{AreDifferent};
 ghost use Rattle.sms_centre_spec.specs.SoundRows.{IsSound};
 
 use crate::state::memory::memory_of;
 use crate::state::recover_error::RecoverError;
-use crate::state::standing::Standing;
+use crate::state::centre_state::CentreState;
 use sms_base::Digits;
 use sms_centre_recovery::soundness::RowTables;
 use sms_centre_recovery::starting::moment_of;
-use sms_centre_reports::sessions::Seat;
+use sms_centre_reports::sessions::ReceiptSession;
 use sms_centre_spec::{Rows, Setup};
 use sms_rows::table::Table;
 use std::alloc::{AllocError, Global};
 
-impl Standing {
+impl CentreState {
     /// The centre that starts again with these rows, if it can: `BadRows` only where they are not sound, and no centre
     /// of such rows. Want of memory may be reported before all of them is judged. Links to these handsets are up at its
     /// first tick. These sessions are bound, in which nothing was sent yet.
@@ -28,16 +28,16 @@ impl Standing {
         alloc: Global,
         rows: Rows,
         handsets: &[Digits],
-        sessions: Table<Seat>,
-    ) -> Result<Standing, RecoverError>
+        sessions: Table<ReceiptSession>,
+    ) -> Result<CentreState, RecoverError>
         requires numbers { (number : List ℕ) → Among number handsets.now → IsNumber number }
         requires apart { AreDifferent handsets.now }
         requires sessions { AreNew sessions.rows }
-        ensures standing { IfOk result (IsStanding (recovered rows handsets.now sessions.rows)) }
+        ensures centre_state { IfOk result (Represents (recovered rows handsets.now sessions.rows)) }
         ensures refused { IfErr result (λ error. RefusesRows error rows) }
     {
-        let standing = Standing::on(alloc, rows, handsets, false, sessions)?;
-        Ok(standing)
+        let centre_state = CentreState::on(alloc, rows, handsets, false, sessions)?;
+        Ok(centre_state)
     }
 
     /// The centre of the rows, where links to these handsets are up at once.
@@ -45,16 +45,16 @@ impl Standing {
         alloc: Global,
         rows: Rows,
         handsets: &[Digits],
-        sessions: Table<Seat>,
-    ) -> Result<Standing, RecoverError>
+        sessions: Table<ReceiptSession>,
+    ) -> Result<CentreState, RecoverError>
         requires numbers { (number : List ℕ) → Among number handsets.now → IsNumber number }
         requires apart { AreDifferent handsets.now }
         requires sessions { AreNew sessions.rows }
-        ensures standing { IfOk result (IsStanding (started rows handsets.now sessions.rows)) }
+        ensures centre_state { IfOk result (Represents (started rows handsets.now sessions.rows)) }
         ensures refused { IfErr result (λ error. RefusesRows error rows) }
     {
-        let standing = Standing::on(alloc, rows, handsets, true, sessions)?;
-        Ok(standing)
+        let centre_state = CentreState::on(alloc, rows, handsets, true, sessions)?;
+        Ok(centre_state)
     }
 
     fn on(
@@ -62,17 +62,17 @@ impl Standing {
         rows: Rows,
         handsets: &[Digits],
         are_up: bool,
-        sessions: Table<Seat>,
-    ) -> Result<Standing, RecoverError>
+        sessions: Table<ReceiptSession>,
+    ) -> Result<CentreState, RecoverError>
         requires numbers { (number : List ℕ) → Among number handsets.now → IsNumber number }
         requires apart { AreDifferent handsets.now }
         requires sessions { AreNew sessions.rows }
-        ensures standing { IfOk result (IsStanding (begun are_up rows handsets.now sessions.rows)) }
+        ensures centre_state { IfOk result (Represents (begun are_up rows handsets.now sessions.rows)) }
         ensures refused { IfErr result (λ error. RefusesRows error rows) }
     {
         let tables = sound_tables(alloc, rows)?;
-        let standing = Standing::on_sound(alloc, tables, handsets, are_up, sessions)?;
-        Ok(standing)
+        let centre_state = CentreState::on_sound(alloc, tables, handsets, are_up, sessions)?;
+        Ok(centre_state)
     }
 
     fn on_sound(
@@ -80,26 +80,26 @@ impl Standing {
         tables: RowTables,
         handsets: &[Digits],
         are_up: bool,
-        sessions: Table<Seat>,
-    ) -> Result<Standing, AllocError>
+        sessions: Table<ReceiptSession>,
+    ) -> Result<CentreState, AllocError>
         requires sound { IsSound (rows_of tables) }
         requires numbers { (number : List ℕ) → Among number handsets.now → IsNumber number }
         requires apart { AreDifferent handsets.now }
         requires sessions { AreNew sessions.rows }
-        ensures { IfOk result (IsStanding (begun are_up (rows_of tables) handsets.now sessions.rows)) }
+        ensures { IfOk result (Represents (begun are_up (rows_of tables) handsets.now sessions.rows)) }
     {
         // The call tells that the sessions stand in order.
         let _seats = sessions.as_slice();
         let moment = moment_of(&tables);
         match memory_of(alloc, &tables, handsets, are_up, moment) {
-            Ok(memory) => Ok(Standing {
+            Ok(memory) => Ok(CentreState {
                 setup: setup_of(tables),
                 moment,
                 messages: memory.messages,
-                claims: memory.claims,
-                shelves: memory.shelves,
+                reference_index: memory.reference_index,
+                queues: memory.queues,
                 reports: memory.reports,
-                register: memory.register,
+                log: memory.log,
                 sessions,
             }),
             Err(error) => {

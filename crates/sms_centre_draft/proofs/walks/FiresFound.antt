@@ -8,15 +8,15 @@ use Rattle.sms_link.specs.declared.ending.Upward.{Upward}
 use Rattle.sms_link.specs.declared.ending.Upward.TheVariants.{Opened, Ended}
 use Rattle.sms_link.specs.LinkTurn.{Turn, fired as fired_link, heard}
 use Rattle.sms_centre_rows.specs.declared.waiting.handset.HandsetRow.{HandsetRow}
-use Rattle.sms_centre_rows.specs.declared.waiting.line.Line.{Line}
-use Rattle.sms_centre_rows.specs.declared.waiting.line.Sent.{Sent}
-use Rattle.sms_centre_rows.specs.waiting.Lines.{Air, filled, line_at, line_of, or_new_line, turn_line, turned}
+use Rattle.sms_centre_rows.specs.declared.waiting.handset_link.HandsetLink.{HandsetLink}
+use Rattle.sms_centre_rows.specs.declared.waiting.handset_link.Sent.{Sent}
+use Rattle.sms_centre_rows.specs.waiting.Links.{Links, filled, line_at, line_of, or_new_line, turn_line, turned}
 use Rattle.sms_centre_rows.specs.waiting.References.{handset_at}
-use Rattle.sms_centre_rows.specs.waiting.SoundGivings.{SoundGivings}
+use Rattle.sms_centre_rows.specs.waiting.SoundAllocations.{SoundAllocations}
 use Rattle.sms_centre_rows.proofs.waiting.LinesShown.{line_put_other}
 use Rattle.sms_centre_rows.proofs.waiting.Mentions.{cases_number, number_behind, number_here}
-use Rattle.sms_centre_queue.specs.declared.queues.stop.Stop.{Stop}
-use Rattle.sms_centre_queue.specs.declared.queues.stop.Purpose.TheVariants.{Fire, FireUnmentioned}
+use Rattle.sms_centre_queue.specs.declared.queues.concern.ConcernedHandset.{ConcernedHandset}
+use Rattle.sms_centre_queue.specs.declared.queues.concern.Concern.TheVariants.{Fire, FireUnmentioned}
 use Rattle.sms_centre_queue.specs.queues.LineOrder.{AreLines}
 use Rattle.sms_centre_queue.specs.queues.Stops.{is_stop, line_stops, mention_stops}
 use Rattle.sms_centre_queue.specs.queues.Walks.{walk}
@@ -25,9 +25,9 @@ use Rattle.sms_centre_queue.proofs.queues.StopsApart.{lines_apart, mentions_apar
 use Rattle.sms_centre_spec.specs.declared.verdict.Verdict.{Verdict}
 use Rattle.sms_centre_spec.specs.declared.verdict.Verdict.TheVariants.{Settled, HandsetFull, Again, Refused, Late}
 use Rattle.sms_centre_spec.specs.CentreEvent.{fire_at, fire_line, fire_mentioned, fire_others, fired, is_mentioned, line_fired, timed_out}
-use Rattle.sms_centre_spec.specs.Draft.{Draft, handsets_in, on_air, references_in, waiting_in}
+use Rattle.sms_centre_spec.specs.Draft.{Draft, handsets_in, on_links, references_in, waiting_in}
 use Rattle.sms_centre_spec.specs.Transfers.{line_ended, verdict_on}
-use Rattle.sms_centre_spec.proofs.SoundAir.{line_found}
+use Rattle.sms_centre_spec.proofs.SoundLinks.{line_found}
 use Rattle.sms_centre_draft.specs.walks.Stepping.{fire_on, stops_in}
 use Rattle.sms_centre_draft.proofs.walks.Acting.{walk_acting}
 use Rattle.sms_centre_draft.proofs.walks.LinesStay.{put_same}
@@ -35,75 +35,75 @@ use Rattle.sms_centre_draft.proofs.walks.MomentStays.{conclude_moment}
 
 -- the timers of the handset's line fire, where it has one
 abbrev fire_there : List ℕ → Draft → Draft
-fire_there number d = fire_at (line_at number d.air.lines) d
+fire_there number d = fire_at (line_at number d.links.lines) d
 
 -- whether one of them is due
 abbrev concerns : List ℕ → Draft → Bool
-concerns number d = is_due d.store.moment (line_of number d.air.lines).link.links
+concerns number d = is_due d.store.moment (line_of number d.links.lines).link.links
 
 -- ---- where none is due, nothing is done
 
-still_there : (number : List ℕ) (l : Line) (d : Draft) → line_at number d.air.lines ≡ Some l → line_fired l (heard (quiet l.link.links) l.link) d ≡ d
+still_there : (number : List ℕ) (l : HandsetLink) (d : Draft) → line_at number d.links.lines ≡ Some l → line_fired l (heard (quiet l.link.links) l.link) d ≡ d
 still_there number l d is =
-    ap (λ (ls : List Line). on_air (record d.air { lines = ls; frames = d.air.frames ++ [] }) d) (put_same number l d.air.lines is)
-    ∙ ap (λ (fs : List Sent). on_air (record d.air { frames = fs }) d) (append-nil d.air.frames)
+    ap (λ (ls : List HandsetLink). on_links (record d.links { lines = ls; frames = d.links.frames ++ [] }) d) (put_same number l d.links.lines is)
+    ∙ ap (λ (fs : List Sent). on_links (record d.links { frames = fs }) d) (append-nil d.links.frames)
 
-rests_at : (number : List ℕ) (o : Option Line) (d : Draft) → line_at number d.air.lines ≡ o → is_due d.store.moment (or_new_line number o).link.links ≡ false → fire_at o d ≡ d
+rests_at : (number : List ℕ) (o : Option HandsetLink) (d : Draft) → line_at number d.links.lines ≡ o → is_due d.store.moment (or_new_line number o).link.links ≡ false → fire_at o d ≡ d
 rests_at number None d is none = refl
 rests_at number (Some l) d is none =
     ap (λ (step : Step). line_fired l (heard step l.link) d) (quiet_timers d.store.moment l.link.links none) ∙ still_there number l d is
 
 rests : (number : List ℕ) (d : Draft) → concerns number d ≡ false → fire_there number d ≡ d
-rests number d e = rests_at number (line_at number d.air.lines) d refl e
+rests number d e = rests_at number (line_at number d.links.lines) d refl e
 
 -- ---- where one is due, there is a line
 
-acts_at : (number : List ℕ) (o : Option Line) (d : Draft) → is_due d.store.moment (or_new_line number o).link.links ≡ true → fire_at o d ≡ fire_line (or_new_line number o) d
+acts_at : (number : List ℕ) (o : Option HandsetLink) (d : Draft) → is_due d.store.moment (or_new_line number o).link.links ≡ true → fire_at o d ≡ fire_line (or_new_line number o) d
 acts_at number None d e = absurd cc
 acts_at number (Some l) d e = refl
 
 acts : (number : List ℕ) (d : Draft) → concerns number d ≡ true → fire_there number d ≡ fire_on number d
-acts number d e = acts_at number (line_at number d.air.lines) d e
+acts number d e = acts_at number (line_at number d.links.lines) d e
 
 -- ---- the lines of others stay, and the moment
 
-ended_other : (v : Verdict) (handset other : List ℕ) (air : Air) → ¬ (handset ≡ other) → line_of other (line_ended v handset air).lines ≡ line_of other air.lines
-ended_other Settled handset other air ne = refl
-ended_other HandsetFull handset other air ne =
-    line_put_other other (filled (line_of handset air.lines)) air.lines (λ e. ne (sym (line_handset handset air.lines) ∙ e))
-ended_other Again handset other air ne = refl
-ended_other Refused handset other air ne = refl
-ended_other Late handset other air ne = refl
+ended_other : (v : Verdict) (handset other : List ℕ) (links : Links) → ¬ (handset ≡ other) → line_of other (line_ended v handset links).lines ≡ line_of other links.lines
+ended_other Settled handset other links ne = refl
+ended_other HandsetFull handset other links ne =
+    line_put_other other (filled (line_of handset links.lines)) links.lines (λ e. ne (sym (line_handset handset links.lines) ∙ e))
+ended_other Again handset other links ne = refl
+ended_other Refused handset other links ne = refl
+ended_other Late handset other links ne = refl
 
 -- another handset's line, and the moment, are as they were
 record Leaves (other : List ℕ) (before after : Draft) : Type 0 where
-  line : line_of other after.air.lines ≡ line_of other before.air.lines
+  line : line_of other after.links.lines ≡ line_of other before.links.lines
   moment : after.store.moment ≡ before.store.moment
 
 timed_out_leaves : (handset other : List ℕ) (u : Option Upward) (d : Draft) → ¬ (handset ≡ other) → Leaves other d (timed_out handset u d)
 timed_out_leaves handset other None d ne = record { line = refl; moment = refl }
 timed_out_leaves handset other (Some (Opened unit)) d ne = record { line = refl; moment = refl }
 timed_out_leaves handset other (Some (Ended transfer ending)) d ne = record {
-  line = ended_other (verdict_on transfer.tag ending d.store) handset other d.air ne;
+  line = ended_other (verdict_on transfer.tag ending d.store) handset other d.links ne;
   moment = conclude_moment handset transfer ending d;
 }
 
-fired_leaves : (l : Line) (turn : Turn) (other : List ℕ) (d : Draft) → ¬ (l.handset ≡ other) → Leaves other d (line_fired l turn d)
+fired_leaves : (l : HandsetLink) (turn : Turn) (other : List ℕ) (d : Draft) → ¬ (l.handset ≡ other) → Leaves other d (line_fired l turn d)
 fired_leaves l turn other d ne =
-    let after = timed_out_leaves l.handset other turn.out.up (on_air (turn_line l turn d.air) d) ne in
-    record { line = after.line ∙ line_put_other other (turned turn l) d.air.lines ne; moment = after.moment }
+    let after = timed_out_leaves l.handset other turn.out.up (on_links (turn_line l turn d.links) d) ne in
+    record { line = after.line ∙ line_put_other other (turned turn l) d.links.lines ne; moment = after.moment }
 
-at_leaves : (number other : List ℕ) (o : Option Line) (d : Draft) → line_at number d.air.lines ≡ o → ¬ (number ≡ other) → Leaves other d (fire_at o d)
+at_leaves : (number other : List ℕ) (o : Option HandsetLink) (d : Draft) → line_at number d.links.lines ≡ o → ¬ (number ≡ other) → Leaves other d (fire_at o d)
 at_leaves number other None d is ne = record { line = refl; moment = refl }
 at_leaves number other (Some l) d is ne =
-    fired_leaves l (fired_link d.store.moment l.link) other d (λ e. ne (sym (line_found number l d.air.lines is).1 ∙ e))
+    fired_leaves l (fired_link d.store.moment l.link) other d (λ e. ne (sym (line_found number l d.links.lines is).1 ∙ e))
 
 leaves : (number other : List ℕ) (d : Draft) → ¬ (number ≡ other) → Leaves other d (fire_there number d)
-leaves number other d ne = at_leaves number other (line_at number d.air.lines) d refl ne
+leaves number other d ne = at_leaves number other (line_at number d.links.lines) d refl ne
 
 due_alike : (other : List ℕ) (before after : Draft) → Leaves other before after → concerns other after ≡ concerns other before
 due_alike other before after l =
-    ap (λ (n : ℕ). is_due n (line_of other after.air.lines).link.links) l.moment ∙ ap (λ (x : Line). is_due before.store.moment x.link.links) l.line
+    ap (λ (n : ℕ). is_due n (line_of other after.links.lines).link.links) l.moment ∙ ap (λ (x : HandsetLink). is_due before.store.moment x.link.links) l.line
 
 others : (number other : List ℕ) (d : Draft) → ¬ (number ≡ other) → concerns other (fire_there number d) ≡ concerns other d
 others number other d ne = due_alike other d (fire_there number d) (leaves number other d ne)
@@ -114,10 +114,10 @@ mentioned_walks : (hs : List HandsetRow) (d : Draft) → fire_mentioned hs d ≡
 mentioned_walks [] d = refl
 mentioned_walks (h ∷ hs) d = mentioned_walks hs (fire_there h.number d)
 
-mentioned_found : (d : Draft) → SoundGivings (handsets_in d.store) (references_in d.store) → fire_mentioned (handsets_in d.store) d ≡ walk fire_on (stops_in (Fire d.store.moment) d) d
+mentioned_found : (d : Draft) → SoundAllocations (handsets_in d.store) (references_in d.store) → fire_mentioned (handsets_in d.store) d ≡ walk fire_on (stops_in (Fire d.store.moment) d) d
 mentioned_found d sound =
     mentioned_walks (handsets_in d.store) d
-    ∙ walk_acting fire_there fire_on concerns (is_stop (Fire d.store.moment) (handsets_in d.store) d.air.lines (λ (n : List ℕ). waiting_in n d.store)) (mention_stops (handsets_in d.store)) d
+    ∙ walk_acting fire_there fire_on concerns (is_stop (Fire d.store.moment) (handsets_in d.store) d.links.lines (λ (n : List ℕ). waiting_in n d.store)) (mention_stops (handsets_in d.store)) d
     (record { rests = rests; acts = acts; others = others }) (mentions_apart (handsets_in d.store) sound.handset_keys sound.apart) (λ x m. refl)
 
 -- a handset that was given none is left
@@ -140,7 +140,7 @@ module _ (hs : List HandsetRow) where
   abbrev concerns_other : List ℕ → Draft → Bool
   concerns_other number d = is_none (handset_at number hs) && concerns number d
 
-  others_walk : (n : ℕ) (ls : List Line) (d : Draft) → fire_others hs ls d ≡ walk fire_other (line_stops n ls) d
+  others_walk : (n : ℕ) (ls : List HandsetLink) (d : Draft) → fire_others hs ls d ≡ walk fire_other (line_stops n ls) d
   others_walk n [] d = refl
   others_walk n (l ∷ ls) d = others_walk (n + 1) ls (fire_other l.handset d)
 
@@ -161,12 +161,12 @@ module _ (hs : List HandsetRow) where
   due_before number None d none = sym (due_alike number d (fire_mentioned hs d) (unmentioned_left hs number d none))
   due_before number (Some h) d is = refl
 
-  others_found : (d : Draft) (ls : List Line) → AreLines ls
+  others_found : (d : Draft) (ls : List HandsetLink) → AreLines ls
       → fire_others hs ls (fire_mentioned hs d)
-      ≡ walk fire_on (filter (λ (s : Stop). is_none (handset_at s.number hs) && concerns s.number d) (line_stops 1 ls)) (fire_mentioned hs d)
+      ≡ walk fire_on (filter (λ (s : ConcernedHandset). is_none (handset_at s.number hs) && concerns s.number d) (line_stops 1 ls)) (fire_mentioned hs d)
   others_found d ls apart =
       others_walk 1 ls (fire_mentioned hs d)
-      ∙ walk_acting fire_other fire_on concerns_other (λ (s : Stop). is_none (handset_at s.number hs) && concerns s.number d) (line_stops 1 ls) (fire_mentioned hs d)
+      ∙ walk_acting fire_other fire_on concerns_other (λ (s : ConcernedHandset). is_none (handset_at s.number hs) && concerns s.number d) (line_stops 1 ls) (fire_mentioned hs d)
       (record {
         rests = λ n e t. other_rests n (handset_at n hs) e t;
         acts = λ n e t. other_acts n (handset_at n hs) e t;
@@ -176,8 +176,8 @@ module _ (hs : List HandsetRow) where
 
 -- ---- all of it
 
-pub fires_found : (d : Draft) → SoundGivings (handsets_in d.store) (references_in d.store) → AreLines d.air.lines
+pub fires_found : (d : Draft) → SoundAllocations (handsets_in d.store) (references_in d.store) → AreLines d.links.lines
     → fired d ≡ walk fire_on (stops_in (FireUnmentioned d.store.moment) d) (walk fire_on (stops_in (Fire d.store.moment) d) d)
 fires_found d sound apart =
-    others_found (handsets_in d.store) d d.air.lines apart
+    others_found (handsets_in d.store) d d.links.lines apart
     ∙ ap (λ (e : Draft). walk fire_on (stops_in (FireUnmentioned d.store.moment) d) e) (mentioned_found d sound)

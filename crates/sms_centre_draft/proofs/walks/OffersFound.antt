@@ -4,74 +4,74 @@ use Rattle.std.specs.Prelude.{◌&&◌}
 use Rattle.std.proofs.lemmas.Bool.{cond_both}
 use Rattle.sms_link.specs.LinkTurn.{begun}
 use Rattle.sms_centre_rows.specs.declared.waiting.handset.HandsetRow.{HandsetRow}
-use Rattle.sms_centre_rows.specs.declared.waiting.line.Line.{Line}
-use Rattle.sms_centre_rows.specs.declared.waiting.load.Load.{Load}
+use Rattle.sms_centre_rows.specs.declared.waiting.handset_link.HandsetLink.{HandsetLink}
+use Rattle.sms_centre_rows.specs.declared.waiting.queued_part.QueuedPart.{QueuedPart}
 use Rattle.sms_centre_rows.specs.waiting.Keys.{load_key}
-use Rattle.sms_centre_rows.specs.waiting.Lines.{Air, is_ready, line_of, read_for, turned}
-use Rattle.sms_centre_rows.specs.waiting.SoundGivings.{SoundGivings}
+use Rattle.sms_centre_rows.specs.waiting.Links.{Links, is_ready, line_of, read_for, turned}
+use Rattle.sms_centre_rows.specs.waiting.SoundAllocations.{SoundAllocations}
 use Rattle.sms_centre_rows.specs.waiting.Waiting.{next, waits_beside}
 use Rattle.sms_centre_rows.proofs.waiting.LinesShown.{line_put_other}
-use Rattle.sms_centre_queue.specs.declared.queues.stop.Purpose.TheVariants.{Offer}
+use Rattle.sms_centre_queue.specs.declared.queues.concern.Concern.TheVariants.{Offer}
 use Rattle.sms_centre_queue.specs.queues.Stops.{is_offered, is_stop, mention_stops}
 use Rattle.sms_centre_queue.specs.queues.Walks.{walk}
 use Rattle.sms_centre_queue.proofs.queues.LinesCome.{line_handset}
 use Rattle.sms_centre_queue.proofs.queues.StopsApart.{mentions_apart}
-use Rattle.sms_centre_spec.specs.Draft.{Draft, Store, handsets_in, on_air, references_in, waiting_in}
+use Rattle.sms_centre_spec.specs.Draft.{Draft, Store, handsets_in, on_links, references_in, waiting_in}
 use Rattle.sms_centre_spec.specs.Offering.{holder_of, is_made, offer, offer_all, offer_among, offer_load, offer_on, read_of, unit_of}
 use Rattle.sms_centre_draft.specs.walks.Stepping.{offer_at, stops_in}
 use Rattle.sms_centre_draft.proofs.walks.Acting.{walk_acting}
 
 -- whether something is offered to the handset
 abbrev concerns : List ℕ → Draft → Bool
-concerns number d = is_offered d.store.moment (line_of number d.air.lines) (waiting_in number d.store)
+concerns number d = is_offered d.store.moment (line_of number d.links.lines) (waiting_in number d.store)
 
-walks : (hs : List HandsetRow) (d : Draft) → on_air (offer_all hs d.store d.air) d ≡ walk offer_at (mention_stops hs) d
+walks : (hs : List HandsetRow) (d : Draft) → on_links (offer_all hs d.store d.links) d ≡ walk offer_at (mention_stops hs) d
 walks [] d = refl
 walks (h ∷ hs) d = walks hs (offer_at h.number d)
 
 -- nothing is due
-none_offered : (line : Line) (loads : List Load) (o : Option Load) (s : Store) (air : Air) → is_some o ≡ false → offer_load line loads o s air ≡ air
-none_offered line loads None s air e = refl
-none_offered line loads (Some l) s air e = absurd cc
+none_offered : (line : HandsetLink) (loads : List QueuedPart) (o : Option QueuedPart) (s : Store) (links : Links) → is_some o ≡ false → offer_load line loads o s links ≡ links
+none_offered line loads None s links e = refl
+none_offered line loads (Some l) s links e = absurd cc
 
-rests_on : (number : List ℕ) (line : Line) (s : Store) (air : Air) → line.handset ≡ number → is_offered s.moment line (waiting_in number s) ≡ false → offer_on line s air ≡ air
-rests_on number line s air own e =
-    cond_both (is_ready line) (offer_among line (waiting_in line.handset s) s air) air (λ (a : Air). a ≡ air)
+rests_on : (number : List ℕ) (line : HandsetLink) (s : Store) (links : Links) → line.handset ≡ number → is_offered s.moment line (waiting_in number s) ≡ false → offer_on line s links ≡ links
+rests_on number line s links own e =
+    cond_both (is_ready line) (offer_among line (waiting_in line.handset s) s links) links (λ (a : Links). a ≡ links)
     (λ t.
     let none : is_some (next s.moment (waiting_in number s)) ≡ false = sym (ap (λ (b : Bool). b && is_some (next s.moment (waiting_in number s))) t) ∙ e in
     let here : is_some (next s.moment (waiting_in line.handset s)) ≡ false = ap (λ (n : List ℕ). is_some (next s.moment (waiting_in n s))) own ∙ none in
-    none_offered line (waiting_in line.handset s) (next s.moment (waiting_in line.handset s)) s air here)
+    none_offered line (waiting_in line.handset s) (next s.moment (waiting_in line.handset s)) s links here)
     (λ t. refl)
 
 rests : (number : List ℕ) (d : Draft) → concerns number d ≡ false → offer_at number d ≡ d
-rests number d e = ap (λ (a : Air). on_air a d) (rests_on number (line_of number d.air.lines) d.store d.air (line_handset number d.air.lines) e)
+rests number d e = ap (λ (a : Links). on_links a d) (rests_on number (line_of number d.links.lines) d.store d.links (line_handset number d.links.lines) e)
 
 -- ---- the lines of others stay
 
 -- reading touches no line
-read_lines : (l : Load) (s : Store) (air : Air) → (read_of l s air).lines ≡ air.lines
-read_lines l s air = cond_both (is_made l s) air (read_for (load_key l) air) (λ (a : Air). a.lines ≡ air.lines) (λ t. refl) (λ t. refl)
+read_lines : (l : QueuedPart) (s : Store) (links : Links) → (read_of l s links).lines ≡ links.lines
+read_lines l s links = cond_both (is_made l s) links (read_for (load_key l) links) (λ (a : Links). a.lines ≡ links.lines) (λ t. refl) (λ t. refl)
 
-load_other : (line : Line) (loads : List Load) (o : Option Load) (s : Store) (air : Air) (other : List ℕ) → ¬ (line.handset ≡ other) → line_of other (offer_load line loads o s air).lines ≡ line_of other air.lines
-load_other line loads None s air other ne = refl
-load_other line loads (Some l) s air other ne =
-    line_put_other other (turned (begun s.moment l.reference (holder_of l) (unit_of l (waits_beside s.moment l loads) s) line.link) line) (read_of l s air).lines ne
-    ∙ ap (λ (ls : List Line). line_of other ls) (read_lines l s air)
+load_other : (line : HandsetLink) (loads : List QueuedPart) (o : Option QueuedPart) (s : Store) (links : Links) (other : List ℕ) → ¬ (line.handset ≡ other) → line_of other (offer_load line loads o s links).lines ≡ line_of other links.lines
+load_other line loads None s links other ne = refl
+load_other line loads (Some l) s links other ne =
+    line_put_other other (turned (begun s.moment l.reference (holder_of l) (unit_of l (waits_beside s.moment l loads) s) line.link) line) (read_of l s links).lines ne
+    ∙ ap (λ (ls : List HandsetLink). line_of other ls) (read_lines l s links)
 
-on_other : (line : Line) (s : Store) (air : Air) (other : List ℕ) → ¬ (line.handset ≡ other) → line_of other (offer_on line s air).lines ≡ line_of other air.lines
-on_other line s air other ne =
-    cond_both (is_ready line) (offer_among line (waiting_in line.handset s) s air) air (λ (a : Air). line_of other a.lines ≡ line_of other air.lines)
-    (λ t. load_other line (waiting_in line.handset s) (next s.moment (waiting_in line.handset s)) s air other ne) (λ t. refl)
+on_other : (line : HandsetLink) (s : Store) (links : Links) (other : List ℕ) → ¬ (line.handset ≡ other) → line_of other (offer_on line s links).lines ≡ line_of other links.lines
+on_other line s links other ne =
+    cond_both (is_ready line) (offer_among line (waiting_in line.handset s) s links) links (λ (a : Links). line_of other a.lines ≡ line_of other links.lines)
+    (λ t. load_other line (waiting_in line.handset s) (next s.moment (waiting_in line.handset s)) s links other ne) (λ t. refl)
 
 others : (number other : List ℕ) (d : Draft) → ¬ (number ≡ other) → concerns other (offer_at number d) ≡ concerns other d
 others number other d ne =
-    ap (λ (l : Line). is_offered d.store.moment l (waiting_in other d.store))
-    (on_other (line_of number d.air.lines) d.store d.air other (λ e. ne (sym (line_handset number d.air.lines) ∙ e)))
+    ap (λ (l : HandsetLink). is_offered d.store.moment l (waiting_in other d.store))
+    (on_other (line_of number d.links.lines) d.store d.links other (λ e. ne (sym (line_handset number d.links.lines) ∙ e)))
 
 -- ---- all of it
 
-pub offers_found : (d : Draft) → SoundGivings (handsets_in d.store) (references_in d.store) → offer d ≡ walk offer_at (stops_in (Offer d.store.moment) d) d
+pub offers_found : (d : Draft) → SoundAllocations (handsets_in d.store) (references_in d.store) → offer d ≡ walk offer_at (stops_in (Offer d.store.moment) d) d
 offers_found d sound =
     walks (handsets_in d.store) d
-    ∙ walk_acting offer_at offer_at concerns (is_stop (Offer d.store.moment) (handsets_in d.store) d.air.lines (λ (n : List ℕ). waiting_in n d.store)) (mention_stops (handsets_in d.store)) d
+    ∙ walk_acting offer_at offer_at concerns (is_stop (Offer d.store.moment) (handsets_in d.store) d.links.lines (λ (n : List ℕ). waiting_in n d.store)) (mention_stops (handsets_in d.store)) d
     (record { rests = rests; acts = λ n e t. refl; others = others }) (mentions_apart (handsets_in d.store) sound.handset_keys sound.apart) (λ x m. refl)

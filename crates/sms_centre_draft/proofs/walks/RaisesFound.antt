@@ -3,10 +3,10 @@ use Rattle.std.proofs.Common.{◌≡◌, ℕ, ◌+◌, List, [], ◌∷◌, Bool
 use Rattle.std.specs.Prelude.{filter}
 use Rattle.std.proofs.lemmas.Bool.{cases_Bool, cond-true, cond-false}
 use Rattle.sms_base.specs.Among.{Among}
-use Rattle.sms_centre_rows.specs.declared.waiting.line.Line.{Line}
-use Rattle.sms_centre_rows.specs.waiting.Lines.{line_of}
-use Rattle.sms_centre_queue.specs.declared.queues.stop.Stop.{Stop}
-use Rattle.sms_centre_queue.specs.declared.queues.stop.Purpose.TheVariants.{Awaited}
+use Rattle.sms_centre_rows.specs.declared.waiting.handset_link.HandsetLink.{HandsetLink}
+use Rattle.sms_centre_rows.specs.waiting.Links.{line_of}
+use Rattle.sms_centre_queue.specs.declared.queues.concern.ConcernedHandset.{ConcernedHandset}
+use Rattle.sms_centre_queue.specs.declared.queues.concern.Concern.TheVariants.{Awaited}
 use Rattle.sms_centre_queue.specs.queues.LineOrder.{AreLines}
 use Rattle.sms_centre_queue.specs.queues.Stops.{line_stops}
 use Rattle.sms_centre_queue.specs.queues.Walks.{walk}
@@ -15,27 +15,27 @@ use Rattle.sms_centre_spec.specs.Draft.{Draft}
 use Rattle.sms_centre_draft.specs.walks.Stepping.{stops_in}
 use Rattle.sms_centre_draft.proofs.walks.LinesStay.{line_own}
 
-module _ (all : List Line) where
+module _ (all : List HandsetLink) where
   -- its line was up before a recovery, as the walk begins
-  abbrev is_awaited_at : Stop → Bool
+  abbrev is_awaited_at : ConcernedHandset → Bool
   is_awaited_at s = (line_of s.number all).is_awaited
 
-  walks : (n : ℕ) (ls : List Line) (d : Draft) → ((l : Line) → Among l ls → line_of l.handset all ≡ l) → raise_all ls d ≡ walk raise (filter is_awaited_at (line_stops n ls)) d
+  walks : (n : ℕ) (ls : List HandsetLink) (d : Draft) → ((l : HandsetLink) → Among l ls → line_of l.handset all ≡ l) → raise_all ls d ≡ walk raise (filter is_awaited_at (line_stops n ls)) d
   walks n [] d own = refl
   walks n (l ∷ ls) d own =
-      let s : Stop = record { order = n; number = l.handset } in
-      let rest : List Stop = filter is_awaited_at (line_stops (n + 1) ls) in
-      let same : is_awaited_at s ≡ l.is_awaited = ap (λ (x : Line). x.is_awaited) (own l (inl refl)) in
+      let s : ConcernedHandset = record { order = n; number = l.handset } in
+      let rest : List ConcernedHandset = filter is_awaited_at (line_stops (n + 1) ls) in
+      let same : is_awaited_at s ≡ l.is_awaited = ap (λ (x : HandsetLink). x.is_awaited) (own l (inl refl)) in
       ⊎_elim
       (λ (t : l.is_awaited ≡ true).
       ap (λ (e : Draft). raise_all ls e) (cond-true l.is_awaited (raise l.handset d) d t)
       ∙ walks (n + 1) ls (raise l.handset d) (λ x m. own x (inr m))
-      ∙ sym (ap (λ (ss : List Stop). walk raise ss d) (cond-true (is_awaited_at s) (s ∷ rest) rest (same ∙ t))))
+      ∙ sym (ap (λ (ss : List ConcernedHandset). walk raise ss d) (cond-true (is_awaited_at s) (s ∷ rest) rest (same ∙ t))))
       (λ (t : l.is_awaited ≡ false).
       ap (λ (e : Draft). raise_all ls e) (cond-false l.is_awaited (raise l.handset d) d t)
       ∙ walks (n + 1) ls d (λ x m. own x (inr m))
-      ∙ sym (ap (λ (ss : List Stop). walk raise ss d) (cond-false (is_awaited_at s) (s ∷ rest) rest (same ∙ t))))
+      ∙ sym (ap (λ (ss : List ConcernedHandset). walk raise ss d) (cond-false (is_awaited_at s) (s ∷ rest) rest (same ∙ t))))
       (cases_Bool l.is_awaited)
 
-pub raises_found : (d : Draft) → AreLines d.air.lines → raised d ≡ walk raise (stops_in Awaited d) d
-raises_found d apart = walks d.air.lines 1 d.air.lines d (λ l m. line_own l d.air.lines apart m)
+pub raises_found : (d : Draft) → AreLines d.links.lines → raised d ≡ walk raise (stops_in Awaited d) d
+raises_found d apart = walks d.links.lines 1 d.links.lines d (λ l m. line_own l d.links.lines apart m)

@@ -2,18 +2,18 @@
 ghost use Rattle.std.specs.Prelude.{◌≡◌, ◌+◌, ◌++◌, ◌∷◌, [], ℕ, List, None, Some, true};
 ghost use Rattle.std.specs.List.Sorted.{IsNonDecreasing};
 ghost use Rattle.sms_centre_reports.specs.open_reports.Entries.{status_key, status_until};
-ghost use Rattle.sms_centre_reports.specs.open_reports.ReportsInMemory.{ReportsOf, Shows};
+ghost use Rattle.sms_centre_reports.specs.open_reports.OpenReports.{OpenReportsOf, Represents};
 ghost use Rattle.sms_centre_reports.specs.declared.open_reports.entry.StatusEntry.{StatusEntry};
 ghost use Rattle.sms_rows.specs.index.First.{first_such, is_past_from};
 ghost use Rattle.sms_centre_rows.specs.messages.Messages.{message_key};
 ghost use Rattle.sms_centre_rows.specs.reports.Reports.{is_open_status, report_of};
 ghost use Rattle.sms_centre_rows.specs.declared.reports.report.ReportRow.{ReportRow};
 ghost use Rattle.sms_rows.specs.table.Table.{Rises};
-ghost use Rattle.sms_centre_rows.specs.waiting.SoundGivings.{SoundGivings};
+ghost use Rattle.sms_centre_rows.specs.waiting.SoundAllocations.{SoundAllocations};
 ghost use Rattle.sms_centre_queue.specs.queues.LineOrder.{AreLines};
 ghost use Rattle.sms_centre_queue.specs.queues.Walks.{walk};
-ghost use Rattle.sms_centre_queue.specs.declared.queues.stop.Stop.{Stop};
-ghost use Rattle.sms_centre_queue.specs.declared.queues.stop.Purpose.TheVariants.{Awaited, Fire, FireUnmentioned, Offer};
+ghost use Rattle.sms_centre_queue.specs.declared.queues.concern.ConcernedHandset.{ConcernedHandset};
+ghost use Rattle.sms_centre_queue.specs.declared.queues.concern.Concern.TheVariants.{Awaited, Fire, FireUnmentioned, Offer};
 ghost use Rattle.sms_centre_spec.specs.CentreEvent.{dropped, expired, fired, raise, raised};
 ghost use Rattle.sms_centre_spec.specs.Draft.{Draft, Store, handsets_in, messages_in, references_in, reports_in};
 ghost use Rattle.sms_centre_spec.specs.Offering.{offer};
@@ -22,16 +22,16 @@ ghost use Rattle.sms_centre_draft.specs.walks.Expiring.{CoversOver, expire_numbe
 ghost use Rattle.sms_centre_draft.specs.walks.OldReports.{drop_from};
 ghost use Rattle.sms_centre_draft.specs.walks.Stepping.{fire_on, offer_at, stops_in};
 
-use sms_centre_reports::open_reports::laws::old_reports_are_dropped_by_what_is_kept;
+use sms_centre_reports::open_reports::laws::the_open_reports_find_old_ones;
 
 /// A walk over one more stop is the walk before it, then a step at that stop.
-pub fn a_walk_goes_on<D: Drop>()
-    ensures { (step : List ℕ → D → D) (stops : List Stop) (stop : Stop) (d : D) → walk step (stops ++ stop ∷ []) d ≡ step stop.number (walk step stops d) }
+pub fn a_walk_takes_one_more_step<D: Drop>()
+    ensures { (step : List ℕ → D → D) (stops : List ConcernedHandset) (stop : ConcernedHandset) (d : D) → walk step (stops ++ stop ∷ []) d ≡ step stop.number (walk step stops d) }
 {}
 
 /// Offers concern only those handsets whose link is ready and for which something is due as the offers begin.
-pub fn offers_go_to_those_found()
-    ensures { (d : Draft) → SoundGivings (handsets_in d.store) (references_in d.store) → offer d ≡ walk offer_at (stops_in (Offer d.store.moment) d) d }
+pub fn offers_concern_those_found()
+    ensures { (d : Draft) → SoundAllocations (handsets_in d.store) (references_in d.store) → offer d ≡ walk offer_at (stops_in (Offer d.store.moment) d) d }
 {}
 
 /// Timers fire only at those links at which one is due as the walk begins: first at those of the handsets that had been
@@ -39,13 +39,13 @@ pub fn offers_go_to_those_found()
 /// message, or make a status report for another handset, which then has been given a reference. It makes no other timer
 /// due, and moves no handset.
 pub fn timers_fire_at_those_found()
-    ensures { (d : Draft) → SoundGivings (handsets_in d.store) (references_in d.store) → AreLines d.air.lines
+    ensures { (d : Draft) → SoundAllocations (handsets_in d.store) (references_in d.store) → AreLines d.links.lines
         → fired d ≡ walk fire_on (stops_in (FireUnmentioned d.store.moment) d) (walk fire_on (stops_in (Fire d.store.moment) d) d) }
 {}
 
 /// The links that were up before a recovery are up again: those that are found as the walk begins.
-pub fn lines_come_up_where_found()
-    ensures { (d : Draft) → AreLines d.air.lines → raised d ≡ walk raise (stops_in Awaited d) d }
+pub fn links_rise_where_found()
+    ensures { (d : Draft) → AreLines d.links.lines → raised d ≡ walk raise (stops_in Awaited d) d }
 {}
 
 /// Messages expire by their numbers. Any numbers in order serve among which are those of all messages whose time is
@@ -58,9 +58,9 @@ pub fn messages_expire_by_numbers()
 /// and then those behind it. Where none is found, none is dropped any more.
 pub fn old_reports_are_dropped_where_found()
     ensures begins { (s : Store) → dropped s ≡ drop_from 0 s }
-    ensures next { (s : Store) (kept : ReportsOf) (first : ℕ) (e : StatusEntry) → Shows (messages_in s) kept (reports_in s) → first_such (is_past_from status_key status_until first s.moment) kept.statuses ≡ Some e
+    ensures next { (s : Store) (kept : OpenReportsOf) (first : ℕ) (e : StatusEntry) → Represents (messages_in s) kept (reports_in s) → first_such (is_past_from status_key status_until first s.moment) kept.statuses ≡ Some e
         → (r : ReportRow) × ((report_of e.id (reports_in s) ≡ Some r) × (is_open_status r ≡ true) × (drop_from first s ≡ drop_from (e.place + 1) (report_closed r s))) }
-    ensures none { (s : Store) (kept : ReportsOf) (first : ℕ) → Shows (messages_in s) kept (reports_in s) → first_such (is_past_from status_key status_until first s.moment) kept.statuses ≡ None → drop_from first s ≡ s }
+    ensures none { (s : Store) (kept : OpenReportsOf) (first : ℕ) → Represents (messages_in s) kept (reports_in s) → first_such (is_past_from status_key status_until first s.moment) kept.statuses ≡ None → drop_from first s ≡ s }
 {
-    old_reports_are_dropped_by_what_is_kept();
+    the_open_reports_find_old_ones();
 }

@@ -5,62 +5,62 @@ use Rattle.sms_base.specs.Among.{Among}
 use Rattle.sms_rows.specs.keep.Refusing.{with_answer, with_read}
 use Rattle.sms_rows.specs.declared.keep.refusals.Refusals.{Refusals}
 use Rattle.sms_base.specs.declared.holder.Holder.{Holder}
-use Rattle.sms_centre_queue.specs.queues.Placing.{PendingOf as ShelvesOf}
-use Rattle.sms_centre_queue.specs.queues.Shown.{Shows as ShowsShelves}
-use Rattle.sms_centre_rows.specs.declared.waiting.line.Line.{Line}
-use Rattle.sms_centre_rows.specs.declared.waiting.load.Load.{Load}
+use Rattle.sms_centre_queue.specs.queues.Queues.{DeliveryQueuesDraftOf as QueuesOf}
+use Rattle.sms_centre_queue.specs.queues.Representing.{DraftRepresents as RepresentsQueues}
+use Rattle.sms_centre_rows.specs.declared.waiting.handset_link.HandsetLink.{HandsetLink}
+use Rattle.sms_centre_rows.specs.declared.waiting.queued_part.QueuedPart.{QueuedPart}
 use Rattle.sms_centre_rows.specs.waiting.Keys.{load_key}
-use Rattle.sms_centre_rows.specs.waiting.Lines.{Air, is_ready, line_of, read_for, turn_line}
+use Rattle.sms_centre_rows.specs.waiting.Links.{Links, is_ready, line_of, read_for, turn_line}
 use Rattle.sms_link.specs.LinkTurn.{begun}
-use Rattle.sms_centre_rows.specs.waiting.References.{Givings}
+use Rattle.sms_centre_rows.specs.waiting.References.{Allocations}
 use Rattle.sms_centre_rows.specs.waiting.Waiting.{if_due, is_due, next, preceding, precedes}
 use Rattle.sms_centre_spec.specs.declared.plan_error.PlanError.{PlanError}
 use Rattle.sms_centre_spec.specs.declared.plan_error.PlanError.TheVariants.{NoBody, NoMemory}
-use Rattle.sms_centre_spec.specs.Draft.{Draft, Store, on_air, waiting_in}
+use Rattle.sms_centre_spec.specs.Draft.{Draft, Store, on_links, waiting_in}
 use Rattle.sms_centre_spec.specs.Offering.{holder_of, is_made, offer_load, read_of, tpdu_of}
-use Rattle.sms_centre_spec.proofs.SoundAir.{line_of_handset}
+use Rattle.sms_centre_spec.proofs.SoundLinks.{line_of_handset}
 use Rattle.sms_centre_draft.specs.walks.Stepping.{offer_at}
-use Rattle.sms_centre_events.specs.offering.Going.{Goes, NoneRefused, UnlessMemory}
+use Rattle.sms_centre_events.specs.offering.Refusing.{SucceedsOrRefuses, NoneRefused, UnlessMemory}
 use Rattle.sms_centre_events.specs.offering.Offered.{next_for, offer_in, offer_next}
-use Rattle.sms_centre_draft.specs.Working.{Shows, WorkingOf, all_waiting}
+use Rattle.sms_centre_draft.specs.CentreDraft.{Represents, CentreDraftOf, all_waiting}
 use Rattle.sms_centre_draft.proofs.Shown.{aired_shown}
 use Rattle.sms_centre_events.specs.offering.Stored.{made_tpdu}
 
 -- ---- the next one is offered
 
-one_way : (b : Bool) (line : Line) (waiting : List Load) (s : Store) (air : Air)
-    → cond b (offer_load line waiting (next s.moment waiting) s air) air ≡ offer_load line waiting (cond b (next s.moment waiting) None) s air
-one_way true line waiting s air = refl
-one_way false line waiting s air = refl
+one_way : (b : Bool) (line : HandsetLink) (waiting : List QueuedPart) (s : Store) (links : Links)
+    → cond b (offer_load line waiting (next s.moment waiting) s links) links ≡ offer_load line waiting (cond b (next s.moment waiting) None) s links
+one_way true line waiting s links = refl
+one_way false line waiting s links = refl
 
 pub offer_is_next : (handset : List ℕ) (d : Draft) → offer_at handset d ≡ offer_next handset (next_for handset d) d
 offer_is_next handset d =
-    let line : Line = line_of handset d.air.lines in
-    ap (λ (air : Air). on_air air d)
-    (ap (λ (n : List ℕ). cond (is_ready line) (offer_load line (waiting_in n d.store) (next d.store.moment (waiting_in n d.store)) d.store d.air) d.air) (line_of_handset handset d.air.lines)
-    ∙ one_way (is_ready line) line (waiting_in handset d.store) d.store d.air)
+    let line : HandsetLink = line_of handset d.links.lines in
+    ap (λ (links : Links). on_links links d)
+    (ap (λ (n : List ℕ). cond (is_ready line) (offer_load line (waiting_in n d.store) (next d.store.moment (waiting_in n d.store)) d.store d.links) d.links) (line_of_handset handset d.links.lines)
+    ∙ one_way (is_ready line) line (waiting_in handset d.store) d.store d.links)
 
-next_waits : (now : ℕ) (l : Load) (ls : List Load) → next now ls ≡ Some l → Among l ls
+next_waits : (now : ℕ) (l : QueuedPart) (ls : List QueuedPart) → next now ls ≡ Some l → Among l ls
 next_waits now l [] e = absurd cc
 next_waits now l (x ∷ xs) e = which (if_due now x) (next now xs) (λ y q. due y q) (λ q. next_waits now l xs q) e
   where
-    due : (y : Load) → if_due now x ≡ Some y → y ≡ x
+    due : (y : QueuedPart) → if_due now x ≡ Some y → y ≡ x
     due y q = cond_both (is_due now x) (Some x) None (λ o. o ≡ Some y → y ≡ x) (λ t f. let same : y ≡ x = cc in same) (λ t f. absurd cc) q
 
-    which : (a b : Option Load) → ((y : Load) → a ≡ Some y → y ≡ x) → (b ≡ Some l → Among l xs) → preceding a b ≡ Some l → Among l (x ∷ xs)
+    which : (a b : Option QueuedPart) → ((y : QueuedPart) → a ≡ Some y → y ≡ x) → (b ≡ Some l → Among l xs) → preceding a b ≡ Some l → Among l (x ∷ xs)
     which None b f g q = inr (g q)
     which (Some y) None f g q = let same : l ≡ y = cc in inl (same ∙ f y refl)
     which (Some y) (Some z) f g q =
         cond_both (precedes z y) z y (λ w. Some w ≡ Some l → Among l (x ∷ xs))
         (λ t h. inr (g h)) (λ t h. let same : l ≡ y = cc in inl (same ∙ f y refl)) q
 
-next_by : (b : Bool) (now : ℕ) (l : Load) (ls : List Load) → cond b (next now ls) None ≡ Some l → Among l ls
+next_by : (b : Bool) (now : ℕ) (l : QueuedPart) (ls : List QueuedPart) → cond b (next now ls) None ≡ Some l → Among l ls
 next_by true now l ls e = next_waits now l ls e
 next_by false now l ls e = absurd cc
 
 -- it waits for the handset
-pub next_among : (handset : List ℕ) (l : Load) (d : Draft) → next_for handset d ≡ Some l → Among l (waiting_in handset d.store)
-next_among handset l d e = next_by (is_ready (line_of handset d.air.lines)) d.store.moment l (waiting_in handset d.store) e
+pub next_among : (handset : List ℕ) (l : QueuedPart) (d : Draft) → next_for handset d ≡ Some l → Among l (waiting_in handset d.store)
+next_among handset l d e = next_by (is_ready (line_of handset d.links.lines)) d.store.moment l (waiting_in handset d.store) e
 
 -- ---- what is read
 
@@ -72,51 +72,51 @@ among_last : {A : Type 0} (x : A) (xs : List A) → Among x (xs ++ x ∷ [])
 among_last x [] = inl refl
 among_last x (z ∷ xs) = inr (among_last x xs)
 
-still_by : (b : Bool) (key k : ℕ) (air : Air) → Among k air.read → Among k (cond b air (read_for key air)).read
-still_by true key k air among = among
-still_by false key k air among = among_front k air.read (key ∷ []) among
+still_by : (b : Bool) (key k : ℕ) (links : Links) → Among k links.read → Among k (cond b links (read_for key links)).read
+still_by true key k links among = among
+still_by false key k links among = among_front k links.read (key ∷ []) among
 
-pub still_read : (l : Load) (s : Store) (k : ℕ) (air : Air) → Among k air.read → Among k (read_of l s air).read
-still_read l s k air among = still_by (is_made l s) (load_key l) k air among
+pub still_read : (l : QueuedPart) (s : Store) (k : ℕ) (links : Links) → Among k links.read → Among k (read_of l s links).read
+still_read l s k links among = still_by (is_made l s) (load_key l) k links among
 
-pub is_read : (l : Load) (s : Store) (air : Air) → is_made l s ≡ false → Among (load_key l) (read_of l s air).read
-is_read l s air e =
-    subst (λ (b : Bool). Among (load_key l) (cond b air (read_for (load_key l) air)).read) (sym e) (among_last (load_key l) air.read)
+pub is_read : (l : QueuedPart) (s : Store) (links : Links) → is_made l s ≡ false → Among (load_key l) (read_of l s links).read
+is_read l s links e =
+    subst (λ (b : Bool). Among (load_key l) (cond b links (read_for (load_key l) links)).read) (sym e) (among_last (load_key l) links.read)
 
-offered_reads : (handset : List ℕ) (o : Option Load) (d : Draft) (k : ℕ) → Among k d.air.read → Among k (offer_next handset o d).air.read
+offered_reads : (handset : List ℕ) (o : Option QueuedPart) (d : Draft) (k : ℕ) → Among k d.links.read → Among k (offer_next handset o d).links.read
 offered_reads handset None d k among = among
-offered_reads handset (Some l) d k among = still_read l d.store k d.air among
+offered_reads handset (Some l) d k among = still_read l d.store k d.links among
 
-pub offer_reads : (handset : List ℕ) (d : Draft) (k : ℕ) → Among k d.air.read → Among k (offer_at handset d).air.read
-offer_reads handset d k among = subst (λ (e : Draft). Among k e.air.read) (sym (offer_is_next handset d)) (offered_reads handset (next_for handset d) d k among)
+pub offer_reads : (handset : List ℕ) (d : Draft) (k : ℕ) → Among k d.links.read → Among k (offer_at handset d).links.read
+offer_reads handset d k among = subst (λ (e : Draft). Among k e.links.read) (sym (offer_is_next handset d)) (offered_reads handset (next_for handset d) d k among)
 
 -- ---- reads are not seen on lines
 
-lines_by : (b : Bool) (key : ℕ) (air : Air) → (cond b air (read_for key air)).lines ≡ air.lines
-lines_by true key air = refl
-lines_by false key air = refl
+lines_by : (b : Bool) (key : ℕ) (links : Links) → (cond b links (read_for key links)).lines ≡ links.lines
+lines_by true key links = refl
+lines_by false key links = refl
 
-pub read_lines : (l : Load) (s : Store) (air : Air) → (read_of l s air).lines ≡ air.lines
-read_lines l s air = lines_by (is_made l s) (load_key l) air
+pub read_lines : (l : QueuedPart) (s : Store) (links : Links) → (read_of l s links).lines ≡ links.lines
+read_lines l s links = lines_by (is_made l s) (load_key l) links
 
-shown_by : (b : Bool) (key : ℕ) (g : Givings) (air : Air) (waiting : List ℕ → List Load) (p : ShelvesOf) → ShowsShelves g air waiting p → ShowsShelves g (cond b air (read_for key air)) waiting p
-shown_by true key g air waiting p shows = shows
-shown_by false key g air waiting p shows = record {
-  sound = shows.sound;
-  each = shows.each;
-  named = shows.named;
-  next_place = shows.next_place;
-  handsets = shows.handsets;
-  references = shows.references;
-  frames = shows.frames;
-  lines = shows.lines;
-  digits = shows.digits;
-  apart = shows.apart;
-  indexed = shows.indexed;
+shown_by : (b : Bool) (key : ℕ) (g : Allocations) (links : Links) (waiting : List ℕ → List QueuedPart) (p : QueuesOf) → RepresentsQueues g links waiting p → RepresentsQueues g (cond b links (read_for key links)) waiting p
+shown_by true key g links waiting p represents = represents
+shown_by false key g links waiting p represents = record {
+  sound = represents.sound;
+  each = represents.each;
+  named = represents.named;
+  next_place = represents.next_place;
+  handsets = represents.handsets;
+  references = represents.references;
+  frames = represents.frames;
+  lines = represents.lines;
+  digits = represents.digits;
+  apart = represents.apart;
+  indexed = represents.indexed;
 }
 
-pub read_shown : (l : Load) (s : Store) (g : Givings) (air : Air) (waiting : List ℕ → List Load) (p : ShelvesOf) → ShowsShelves g air waiting p → ShowsShelves g (read_of l s air) waiting p
-read_shown l s g air waiting p shows = shown_by (is_made l s) (load_key l) g air waiting p shows
+pub read_shown : (l : QueuedPart) (s : Store) (g : Allocations) (links : Links) (waiting : List ℕ → List QueuedPart) (p : QueuesOf) → RepresentsQueues g links waiting p → RepresentsQueues g (read_of l s links) waiting p
+read_shown l s g links waiting p represents = shown_by (is_made l s) (load_key l) g links waiting p represents
 
 -- ---- how steps end
 
@@ -131,23 +131,23 @@ none_since first before after none then = ⊎_elim
 pub read_since : (key : ℕ) (first before after : Refusals) → NoneRefused first before → after ≡ with_read key before → after ≡ with_read key first
 read_since key first before after none is = ⊎_elim (λ (n : before ≡ with_answer first). is ∙ ap (λ (r : Refusals). with_read key r) n) (λ (s : before ≡ first). is ∙ ap (λ (r : Refusals). with_read key r) s) none
 
-pub goes_on : {A : Type 0} (ok : A → Type 0) (keys : List ℕ) (held closed : Type 0) (before refused : Refusals) (r : Result A PlanError) → UnlessMemory ok r → held → NoneRefused before refused → Goes ok keys held closed before refused r
+pub goes_on : {A : Type 0} (ok : A → Type 0) (keys : List ℕ) (held closed : Type 0) (before refused : Refusals) (r : Result A PlanError) → UnlessMemory ok r → held → NoneRefused before refused → SucceedsOrRefuses ok keys held closed before refused r
 goes_on ok keys held closed before refused (Ok x) is holds none = (is, (holds, none))
 goes_on ok keys held closed before refused (Err NoBody) is holds none = absurd is
 goes_on ok keys held closed before refused (Err NoMemory) is holds none = (holds, none)
 
 pub goes_off : {A B : Type 0} (ok : A → Type 0) (then : B → Type 0) (keys more : List ℕ) (held closed : Type 0) (first before refused : Refusals) (e : PlanError) → NoneRefused first before → ((k : ℕ) → Among k keys → Among k more)
-    → Goes ok keys held closed before refused (Err e) → Goes then more held closed first refused (Err e)
+    → SucceedsOrRefuses ok keys held closed before refused (Err e) → SucceedsOrRefuses then more held closed first refused (Err e)
 goes_off ok then keys more held closed first before refused NoBody none into goes = let n = goes.0 in ((n.0, (into n.0 n.1.0, read_since n.0 first before refused none n.1.1)), goes.1)
 goes_off ok then keys more held closed first before refused NoMemory none into goes = (goes.0, none_since first before refused none goes.1)
 
 pub short_off : {A B : Type 0} (ok : A → Type 0) (then : B → Type 0) (keys : List ℕ) (held closed : Type 0) (refused : Refusals) (e : PlanError) → UnlessMemory ok (Err e) → held
-    → Goes then keys held closed refused refused (Err e)
+    → SucceedsOrRefuses then keys held closed refused refused (Err e)
 short_off ok then keys held closed refused NoBody is holds = absurd is
 short_off ok then keys held closed refused NoMemory is holds = (holds, inr refl)
 
 pub goes_wide : {A : Type 0} (ok : A → Type 0) (keys more : List ℕ) (held closed : Type 0) (before refused : Refusals) (r : Result A PlanError) → ((k : ℕ) → Among k keys → Among k more)
-    → Goes ok keys held closed before refused r → Goes ok more held closed before refused r
+    → SucceedsOrRefuses ok keys held closed before refused r → SucceedsOrRefuses ok more held closed before refused r
 goes_wide ok keys more held closed before refused (Ok x) into goes = goes
 goes_wide ok keys more held closed before refused (Err NoBody) into goes = let n = goes.0 in ((n.0, (into n.0 n.1.0, n.1.1)), goes.1)
 goes_wide ok keys more held closed before refused (Err NoMemory) into goes = goes
@@ -167,21 +167,21 @@ unmade_by : (b : Bool) (t : List ℕ) → None ≡ cond b (Some t) None → b �
 unmade_by true t e = absurd cc
 unmade_by false t e = refl
 
-pub made_some : (x : List ℕ) (l : Load) (s : Store) → Some x ≡ made_tpdu l s → x ≡ tpdu_of l s
+pub made_some : (x : List ℕ) (l : QueuedPart) (s : Store) → Some x ≡ made_tpdu l s → x ≡ tpdu_of l s
 made_some x l s e = made_by (is_made l s) x (tpdu_of l s) e
 
-pub made_none : (l : Load) (s : Store) → None ≡ made_tpdu l s → is_made l s ≡ false
+pub made_none : (l : QueuedPart) (s : Store) → None ≡ made_tpdu l s → is_made l s ≡ false
 made_none l s e = unmade_by (is_made l s) (tpdu_of l s) e
 
 -- ---- a transaction begins
 
-pub begun_shown : (handset : List ℕ) (l : Load) (unit : List ℕ) (now : ℕ) (tag : Holder) (d : Draft) (w : WorkingOf) (shelves : ShelvesOf) → Shows d w → now ≡ d.store.moment → tag ≡ holder_of l
-    → ShowsShelves d.store.givings
-    (turn_line (line_of handset (read_of l d.store d.air).lines) (begun now l.reference tag unit (line_of handset (read_of l d.store d.air).lines).link) (read_of l d.store d.air)) (all_waiting d.store) shelves
-    → Shows (offer_in handset unit l d) (record w { shelves = shelves })
-begun_shown handset l unit now tag d w shelves shows is held placed =
-    let air : Air = read_of l d.store d.air in
-    aired_shown d w (turn_line (line_of handset d.air.lines) (begun d.store.moment l.reference (holder_of l) unit (line_of handset d.air.lines).link) air) shelves shows
-    (subst (λ (ls : List Line). ShowsShelves d.store.givings (turn_line (line_of handset ls) (begun d.store.moment l.reference (holder_of l) unit (line_of handset ls).link) air) (all_waiting d.store) shelves) (read_lines l d.store d.air)
-    (subst (λ (n : ℕ). ShowsShelves d.store.givings (turn_line (line_of handset air.lines) (begun n l.reference (holder_of l) unit (line_of handset air.lines).link) air) (all_waiting d.store) shelves) is
-    (subst (λ (t : Holder). ShowsShelves d.store.givings (turn_line (line_of handset air.lines) (begun now l.reference t unit (line_of handset air.lines).link) air) (all_waiting d.store) shelves) held placed)))
+pub begun_shown : (handset : List ℕ) (l : QueuedPart) (unit : List ℕ) (now : ℕ) (tag : Holder) (d : Draft) (w : CentreDraftOf) (queues : QueuesOf) → Represents d w → now ≡ d.store.moment → tag ≡ holder_of l
+    → RepresentsQueues d.store.allocations
+    (turn_line (line_of handset (read_of l d.store d.links).lines) (begun now l.reference tag unit (line_of handset (read_of l d.store d.links).lines).link) (read_of l d.store d.links)) (all_waiting d.store) queues
+    → Represents (offer_in handset unit l d) (record w { queues = queues })
+begun_shown handset l unit now tag d w queues represents is held placed =
+    let links : Links = read_of l d.store d.links in
+    aired_shown d w (turn_line (line_of handset d.links.lines) (begun d.store.moment l.reference (holder_of l) unit (line_of handset d.links.lines).link) links) queues represents
+    (subst (λ (ls : List HandsetLink). RepresentsQueues d.store.allocations (turn_line (line_of handset ls) (begun d.store.moment l.reference (holder_of l) unit (line_of handset ls).link) links) (all_waiting d.store) queues) (read_lines l d.store d.links)
+    (subst (λ (n : ℕ). RepresentsQueues d.store.allocations (turn_line (line_of handset links.lines) (begun n l.reference (holder_of l) unit (line_of handset links.lines).link) links) (all_waiting d.store) queues) is
+    (subst (λ (t : Holder). RepresentsQueues d.store.allocations (turn_line (line_of handset links.lines) (begun now l.reference t unit (line_of handset links.lines).link) links) (all_waiting d.store) queues) held placed)))

@@ -5,7 +5,7 @@ use Rattle.sms_base.specs.Among.{Among}
 use Rattle.sms_centre_spec.specs.declared.plan_error.PlanError.TheVariants.{NoBody}
 use Rattle.sms_centre_spec.specs.Draft.{Draft}
 use Rattle.sms_centre_spec.specs.Planning.{all_answered, outcome_of, planned}
-use Rattle.sms_centre_events.specs.offering.Going.{answers_but}
+use Rattle.sms_centre_events.specs.offering.Refusing.{answers_but}
 
 all_true : (keys : List ℕ) → all_answered (answers_but None) keys ≡ true
 all_true [] = refl
@@ -25,9 +25,9 @@ one_false key (k ∷ ks) among = ⊎_elim
 pub answered_is : (d : Draft) (refused : Option ℕ) → refused ≡ None → planned (answers_but refused) d ≡ Ok (outcome_of d)
 answered_is d refused none =
     ap (λ (o : Option ℕ). planned (answers_but o) d) none
-    ∙ ap (λ (b : Bool). cond b (Ok (outcome_of d)) (Err NoBody)) (all_true d.air.read)
+    ∙ ap (λ (b : Bool). cond b (Ok (outcome_of d)) (Err NoBody)) (all_true d.links.read)
 
-pub refused_is : (d : Draft) (refused : Option ℕ) (key : ℕ) → Among key d.air.read → refused ≡ Some key → planned (answers_but refused) d ≡ Err NoBody
+pub refused_is : (d : Draft) (refused : Option ℕ) (key : ℕ) → Among key d.links.read → refused ≡ Some key → planned (answers_but refused) d ≡ Err NoBody
 refused_is d refused key among is =
     ap (λ (o : Option ℕ). planned (answers_but o) d) is
-    ∙ ap (λ (b : Bool). cond b (Ok (outcome_of d)) (Err NoBody)) (one_false key d.air.read among)
+    ∙ ap (λ (b : Bool). cond b (Ok (outcome_of d)) (Err NoBody)) (one_false key d.links.read among)

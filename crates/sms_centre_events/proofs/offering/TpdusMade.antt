@@ -22,9 +22,9 @@ use Rattle.sms_centre_rows.specs.reports.SoundReports.{FitsOriginator}
 use Rattle.sms_centre_rows.proofs.reports.AllWaiting.{part_waits_at, report_found, report_waits_at}
 use Rattle.sms_centre_rows.proofs.reports.FewWaiting.{all_few}
 use Rattle.sms_centre_rows.specs.reports.Waiting.{report_load, report_wait, reports_to}
-use Rattle.sms_centre_reports.specs.open_reports.Pending.{is_made as report_is_made, tpdu_in, tpdu_made}
-use Rattle.sms_centre_messages.specs.held.Puts.{put_in, tpdu_of as tpdu_of_part, tpdu_put}
-use Rattle.sms_centre_rows.specs.declared.waiting.load.Load.{Load}
+use Rattle.sms_centre_reports.specs.open_reports.OpenReportsDraft.{is_made as report_is_made, tpdu_in, tpdu_made}
+use Rattle.sms_centre_messages.specs.message_index.Puts.{put_in, tpdu_of as tpdu_of_part, tpdu_put}
+use Rattle.sms_centre_rows.specs.declared.waiting.queued_part.QueuedPart.{QueuedPart}
 use Rattle.sms_centre_rows.specs.declared.waiting.progress.Progress.{Progress}
 use Rattle.sms_centre_rows.specs.declared.waiting.revision.Revision.{Revision}
 use Rattle.sms_centre_rows.specs.declared.waiting.revision.Revision.TheVariants.{Put, Amend, Remove}
@@ -34,16 +34,16 @@ use Rattle.sms_centre_rows.proofs.waiting.Amending.{row_at_amended, row_at_amend
 use Rattle.sms_centre_spec.specs.Draft.{Store, messages_in, parts_in, priorities_in, reports_in, rows_of, waiting_in}
 use Rattle.sms_centre_spec.specs.Offering.{is_made, part_tpdu, puts_part, puts_report, report_tpdu, tpdu_of}
 use Rattle.sms_centre_spec.specs.SoundRows.{IsSound}
-use Rattle.sms_centre_spec.specs.Standing.{Stands}
+use Rattle.sms_centre_spec.specs.Consistent.{IsConsistent}
 use Rattle.sms_centre_events.specs.offering.Stored.{Stores, made_tpdu}
 use Rattle.sms_centre_events.proofs.offering.Unput.{PutsNone, stood}
 
 -- ---- what waits is a part, or a status report
 
-there_load : (h : List ℕ) (l : Load) (s : Store) → Stands s → Among l (waiting_in h s) → row_at load_key (load_key l) (waiting_in h s) ≡ Some l
+there_load : (h : List ℕ) (l : QueuedPart) (s : Store) → IsConsistent s → Among l (waiting_in h s) → row_at load_key (load_key l) (waiting_in h s) ≡ Some l
 there_load h l s stands among = among_found load_key l (waiting_in h s) (stands.held.waiting h).keys among
 
-part_there : (h : List ℕ) (l : Load) (s : Store) → Stands s → Among l (waiting_in h s) → (l.number == 0) ≡ false → (p : PartRow) × (part_at l.id l.number (parts_in s) ≡ Some p)
+part_there : (h : List ℕ) (l : QueuedPart) (s : Store) → IsConsistent s → Among l (waiting_in h s) → (l.number == 0) ≡ false → (p : PartRow) × (part_at l.id l.number (parts_in s) ≡ Some p)
 part_there h l s stands among nonzero = of (part_at l.id l.number (parts_in s)) refl
   where
     waits : part_wait h (messages_in s) (priorities_in s) (part_at l.id l.number (parts_in s)) ≡ Some l
@@ -56,7 +56,7 @@ part_there h l s stands among nonzero = of (part_at l.id l.number (parts_in s)) 
     of None e = let none : None ≡ Some l = sym (ap (λ (o : Option PartRow). part_wait h (messages_in s) (priorities_in s) o) e) ∙ waits in absurd cc
     of (Some p) e = (p, e)
 
-report_there : (h : List ℕ) (l : Load) (s : Store) → Stands s → Among l (waiting_in h s) → (l.number == 0) ≡ true → (r : ReportRow) × ((report_of l.id (reports_in s) ≡ Some r) × (is_status r.kind ≡ true))
+report_there : (h : List ℕ) (l : QueuedPart) (s : Store) → IsConsistent s → Among l (waiting_in h s) → (l.number == 0) ≡ true → (r : ReportRow) × ((report_of l.id (reports_in s) ≡ Some r) × (is_status r.kind ≡ true))
 report_there h l s stands among is = of (report_of l.id (reports_in s)) refl
   where
     waits : report_wait h (messages_in s) (report_of l.id (reports_in s)) ≡ Some l
@@ -129,7 +129,7 @@ made_by : (key : ℕ) (news : List (Revision PartRow)) (base : List PartRow) (p 
 made_by key news base p there None e = refl
 made_by key news base p there (Some q) e = ap (λ (t : List ℕ). Some t) (sym (put_tpdu key news base p q e there))
 
-pub part_made : (h : List ℕ) (l : Load) (s : Store) → Stands s → Among l (waiting_in h s) → (l.number == 0) ≡ false → tpdu_put (load_key l) s.messages.parts.news ≡ made_tpdu l s
+pub part_made : (h : List ℕ) (l : QueuedPart) (s : Store) → IsConsistent s → Among l (waiting_in h s) → (l.number == 0) ≡ false → tpdu_put (load_key l) s.messages.parts.news ≡ made_tpdu l s
 part_made h l s stands among nonzero =
     let there = part_there h l s stands among nonzero in
     let news = s.messages.parts.news in
@@ -152,7 +152,7 @@ same_octets : (o : Option ReportRow) → tpdu_in o ≡ report_tpdu o
 same_octets None = refl
 same_octets (Some r) = refl
 
-pub report_made_is : (l : Load) (s : Store) → (l.number == 0) ≡ true → tpdu_made l.id s.reports ≡ made_tpdu l s
+pub report_made_is : (l : QueuedPart) (s : Store) → (l.number == 0) ≡ true → tpdu_made l.id s.reports ≡ made_tpdu l s
 report_made_is l s is =
     let octets : tpdu_of l s ≡ tpdu_in (report_of l.id (reports_in s)) =
     cond-true (l.number == 0) (report_tpdu (report_of l.id (reports_in s))) (part_tpdu (part_at l.id l.number (parts_in s))) is ∙ sym (same_octets (report_of l.id (reports_in s))) in
@@ -188,7 +188,7 @@ reports_unput id kind (Put r ∷ news) e =
 reports_unput id kind (Amend n progress ∷ news) e = reports_unput id kind news e
 reports_unput id kind (Remove n ∷ news) e = reports_unput id kind news e
 
-part_stored : (body : ℕ → Option (List ℕ)) (h : List ℕ) (l : Load) (s : Store) → Stores body s → Stands s → Among l (waiting_in h s) → (l.number == 0) ≡ false → is_made l s ≡ false
+part_stored : (body : ℕ → Option (List ℕ)) (h : List ℕ) (l : QueuedPart) (s : Store) → Stores body s → IsConsistent s → Among l (waiting_in h s) → (l.number == 0) ≡ false → is_made l s ≡ false
     → body (load_key l) ≡ Some (tpdu_of l s)
 part_stored body h l s stored stands among nonzero unmade =
     let there = part_there h l s stands among nonzero in
@@ -201,7 +201,7 @@ part_stored body h l s stored stands among nonzero unmade =
     ap body (sym row.1.1.0) ∙ stored.parts row.0 row.1.0 ∙ ap (λ (t : List ℕ). Some t)
     (row.1.1.1 ∙ sym (cond-false (l.number == 0) (report_tpdu (report_of l.id (reports_in s))) (part_tpdu (part_at l.id l.number (parts_in s))) nonzero ∙ ap part_tpdu there.1))
 
-report_stored : (body : ℕ → Option (List ℕ)) (h : List ℕ) (l : Load) (s : Store) → Stores body s → Stands s → Among l (waiting_in h s) → (l.number == 0) ≡ true → is_made l s ≡ false
+report_stored : (body : ℕ → Option (List ℕ)) (h : List ℕ) (l : QueuedPart) (s : Store) → Stores body s → IsConsistent s → Among l (waiting_in h s) → (l.number == 0) ≡ true → is_made l s ≡ false
     → body (load_key l) ≡ Some (tpdu_of l s)
 report_stored body h l s stored stands among is unmade =
     let there = report_there h l s stands among is in
@@ -216,7 +216,7 @@ report_stored body h l s stored stands among is unmade =
     (ap (λ (k : ReportKind). status_tpdu k) row.1.1.1
     ∙ sym (cond-true (l.number == 0) (report_tpdu (report_of l.id (reports_in s))) (part_tpdu (part_at l.id l.number (parts_in s))) is ∙ ap report_tpdu there.1.0))
 
-pub load_stored : (body : ℕ → Option (List ℕ)) (h : List ℕ) (l : Load) (s : Store) → Stores body s → Stands s → Among l (waiting_in h s) → is_made l s ≡ false → body (load_key l) ≡ Some (tpdu_of l s)
+pub load_stored : (body : ℕ → Option (List ℕ)) (h : List ℕ) (l : QueuedPart) (s : Store) → Stores body s → IsConsistent s → Among l (waiting_in h s) → is_made l s ≡ false → body (load_key l) ≡ Some (tpdu_of l s)
 load_stored body h l s stored stands among unmade = by (l.number == 0) refl
   where
     by : (b : Bool) → (l.number == 0) ≡ b → body (load_key l) ≡ Some (tpdu_of l s)
@@ -231,7 +231,7 @@ fits_status (Status reference tpdu) (Application account) m r e fits = absurd fi
 fits_status (Status reference tpdu) (Handset n) m r e fits = fits.1.1.fits
 fits_status Unsent o m r e fits = absurd cc
 
-pub tpdu_short : (h : List ℕ) (l : Load) (s : Store) → IsSound (rows_of s) → Stands s → Among l (waiting_in h s) → length (tpdu_of l s) ≤ 200
+pub tpdu_short : (h : List ℕ) (l : QueuedPart) (s : Store) → IsSound (rows_of s) → IsConsistent s → Among l (waiting_in h s) → length (tpdu_of l s) ≤ 200
 tpdu_short h l s sound stands among = by (l.number == 0) refl
   where
     by : (b : Bool) → (l.number == 0) ≡ b → length (tpdu_of l s) ≤ 200

@@ -2,68 +2,68 @@
 use Rattle.std.proofs.Common.{◌≡◌, ℕ, ◌∷◌, List, [], refl, sym, ◌∙◌, ap, subst, inl, inr, ⊎_elim}
 use Rattle.sms_base.specs.Among.{Among}
 use Rattle.sms_rows.specs.declared.keep.refusals.Refusals.{Refusals}
-use Rattle.sms_centre_queue.specs.declared.queues.stop.Stop.{Stop}
-use Rattle.sms_centre_queue.specs.declared.queues.stop.Purpose.TheVariants.{Offer}
+use Rattle.sms_centre_queue.specs.declared.queues.concern.ConcernedHandset.{ConcernedHandset}
+use Rattle.sms_centre_queue.specs.declared.queues.concern.Concern.TheVariants.{Offer}
 use Rattle.sms_centre_queue.specs.queues.Stops.{is_stop, mention_stops}
 use Rattle.sms_centre_queue.specs.queues.Walks.{walk}
-use Rattle.sms_centre_queue.proofs.queues.Giving.{number_digits}
+use Rattle.sms_centre_queue.proofs.queues.Allocation.{number_digits}
 use Rattle.sms_centre_queue.proofs.queues.Scanning.{among_filter}
 use Rattle.sms_centre_rows.specs.declared.waiting.handset.HandsetRow.{HandsetRow}
 use Rattle.sms_centre_spec.specs.Draft.{Draft, handsets_in}
 use Rattle.sms_centre_draft.specs.walks.Stepping.{offer_at, stops_in}
 use Rattle.sms_centre_draft.proofs.walks.Acting.{walk_keeps}
 use Rattle.sms_centre_events.specs.offering.Stored.{AreDigits}
-use Rattle.sms_centre_draft.specs.Working.{Shows, WorkingOf, all_waiting}
+use Rattle.sms_centre_draft.specs.CentreDraft.{Represents, CentreDraftOf, all_waiting}
 use Rattle.sms_rows.specs.table.Keys.{AllDigits}
-use Rattle.sms_centre_events.specs.offering.Going.{NoneRefused}
+use Rattle.sms_centre_events.specs.offering.Refusing.{NoneRefused}
 use Rattle.sms_centre_events.proofs.offering.OneOffer.{none_since, offer_reads}
 
 -- what is left of a walk, where the store holds what it held, and refused nothing since that read
-pub record IsLeft (d : Draft) (stops rest : List Stop) (held : Type 0) (first refused : Refusals) (w : WorkingOf) : Type 0 where
+pub record IsLeft (d : Draft) (stops rest : List ConcernedHandset) (held : Type 0) (first refused : Refusals) (w : CentreDraftOf) : Type 0 where
   pub draft : Draft
-  pub shows : Shows draft w
+  pub represents : Represents draft w
   pub same : draft.store ≡ d.store
   pub digits : AreDigits rest
   pub goes : walk offer_at rest draft ≡ walk offer_at stops d
   pub holds : held
   pub none : NoneRefused first refused
 
-pub left_next : (d : Draft) (stops rest : List Stop) (s : Stop) (behind : List Stop) (held then : Type 0) (first refused now : Refusals) (w new : WorkingOf) → rest ≡ s ∷ behind → (left : IsLeft d stops rest held first refused w)
-    → Shows (offer_at s.number left.draft) new → then → NoneRefused refused now → IsLeft d stops behind then first now new
-left_next d stops rest s behind held then first refused now w new split left shows holds none = record {
+pub left_next : (d : Draft) (stops rest : List ConcernedHandset) (s : ConcernedHandset) (behind : List ConcernedHandset) (held then : Type 0) (first refused now : Refusals) (w new : CentreDraftOf) → rest ≡ s ∷ behind → (left : IsLeft d stops rest held first refused w)
+    → Represents (offer_at s.number left.draft) new → then → NoneRefused refused now → IsLeft d stops behind then first now new
+left_next d stops rest s behind held then first refused now w new split left represents holds none = record {
   draft = offer_at s.number left.draft;
-  shows = shows;
+  represents = represents;
   same = left.same;
-  digits = λ x among. left.digits x (subst (λ (ss : List Stop). Among x ss) (sym split) (inr among));
-  goes = sym (ap (λ (ss : List Stop). walk offer_at ss left.draft) split) ∙ left.goes;
+  digits = λ x among. left.digits x (subst (λ (ss : List ConcernedHandset). Among x ss) (sym split) (inr among));
+  goes = sym (ap (λ (ss : List ConcernedHandset). walk offer_at ss left.draft) split) ∙ left.goes;
   holds = holds;
   none = none_since first refused now left.none none;
 }
 
-pub first_digits : (d : Draft) (stops rest : List Stop) (s : Stop) (behind : List Stop) (held : Type 0) (first refused : Refusals) (w : WorkingOf) → rest ≡ s ∷ behind → IsLeft d stops rest held first refused w → AllDigits s.number
-first_digits d stops rest s behind held first refused w split left = left.digits s (subst (λ (ss : List Stop). Among s ss) (sym split) (inl refl))
+pub first_digits : (d : Draft) (stops rest : List ConcernedHandset) (s : ConcernedHandset) (behind : List ConcernedHandset) (held : Type 0) (first refused : Refusals) (w : CentreDraftOf) → rest ≡ s ∷ behind → IsLeft d stops rest held first refused w → AllDigits s.number
+first_digits d stops rest s behind held first refused w split left = left.digits s (subst (λ (ss : List ConcernedHandset). Among s ss) (sym split) (inl refl))
 
-pub left_none : (d : Draft) (stops rest : List Stop) (held : Type 0) (first refused : Refusals) (w : WorkingOf) → rest ≡ [] → IsLeft d stops rest held first refused w → Shows (walk offer_at stops d) w
+pub left_none : (d : Draft) (stops rest : List ConcernedHandset) (held : Type 0) (first refused : Refusals) (w : CentreDraftOf) → rest ≡ [] → IsLeft d stops rest held first refused w → Represents (walk offer_at stops d) w
 left_none d stops rest held first refused w none left =
-    subst (λ (e : Draft). Shows e w) (sym (ap (λ (ss : List Stop). walk offer_at ss left.draft) none) ∙ left.goes) left.shows
+    subst (λ (e : Draft). Represents e w) (sym (ap (λ (ss : List ConcernedHandset). walk offer_at ss left.draft) none) ∙ left.goes) left.represents
 
 -- what was read on the way is read in the end
-pub reads_last : (d : Draft) (stops rest : List Stop) (s : Stop) (behind : List Stop) (held : Type 0) (first refused : Refusals) (w : WorkingOf) (k : ℕ) → rest ≡ s ∷ behind → (left : IsLeft d stops rest held first refused w)
-    → Among k (offer_at s.number left.draft).air.read → Among k (walk offer_at stops d).air.read
+pub reads_last : (d : Draft) (stops rest : List ConcernedHandset) (s : ConcernedHandset) (behind : List ConcernedHandset) (held : Type 0) (first refused : Refusals) (w : CentreDraftOf) (k : ℕ) → rest ≡ s ∷ behind → (left : IsLeft d stops rest held first refused w)
+    → Among k (offer_at s.number left.draft).links.read → Among k (walk offer_at stops d).links.read
 reads_last d stops rest s behind held first refused w k split left among =
-    subst (λ (e : Draft). Among k e.air.read) (sym (ap (λ (ss : List Stop). walk offer_at ss left.draft) split) ∙ left.goes)
-    (walk_keeps (λ (e : Draft). Among k e.air.read) offer_at behind (offer_at s.number left.draft) (λ number e read. offer_reads number e k read) among)
+    subst (λ (e : Draft). Among k e.links.read) (sym (ap (λ (ss : List ConcernedHandset). walk offer_at ss left.draft) split) ∙ left.goes)
+    (walk_keeps (λ (e : Draft). Among k e.links.read) offer_at behind (offer_at s.number left.draft) (λ number e read. offer_reads number e k read) among)
 
 -- ---- those that are found have digits
 
 mentioned_digits : (hs : List HandsetRow) → ((h : HandsetRow) → Among h hs → AllDigits h.number) → AreDigits (mention_stops hs)
 mentioned_digits [] each s among = absurd among
 mentioned_digits (h ∷ hs) each s among = ⊎_elim
-    (λ (e : s ≡ _). subst (λ (x : Stop). AllDigits x.number) (sym e) (each h (inl refl)))
+    (λ (e : s ≡ _). subst (λ (x : ConcernedHandset). AllDigits x.number) (sym e) (each h (inl refl)))
     (λ (a : Among s (mention_stops hs)). mentioned_digits hs (λ x b. each x (inr b)) s a)
     among
 
-pub found_digits : (now : ℕ) (d : Draft) (w : WorkingOf) → Shows d w → AreDigits (stops_in (Offer now) d)
-found_digits now d w shows s among =
-    mentioned_digits (handsets_in d.store) (λ h a. number_digits h.number (shows.stands.held.givings.mentioned h a).number) s
-    (among_filter (is_stop (Offer now) (handsets_in d.store) d.air.lines (all_waiting d.store)) s (mention_stops (handsets_in d.store)) among).0
+pub found_digits : (now : ℕ) (d : Draft) (w : CentreDraftOf) → Represents d w → AreDigits (stops_in (Offer now) d)
+found_digits now d w represents s among =
+    mentioned_digits (handsets_in d.store) (λ h a. number_digits h.number (represents.stands.held.allocations.mentioned h a).number) s
+    (among_filter (is_stop (Offer now) (handsets_in d.store) d.links.lines (all_waiting d.store)) s (mention_stops (handsets_in d.store)) among).0

@@ -1,14 +1,14 @@
 -- The TPDUs that the store gives, and those that the event made.
 use Rattle.std.specs.Prelude.{◌≡◌, ℕ, List, if◌then◌else◌, true, Option, Some, None}
 use Rattle.sms_base.specs.Among.{Among}
-use Rattle.sms_centre_queue.specs.declared.queues.stop.Stop.{Stop}
+use Rattle.sms_centre_queue.specs.declared.queues.concern.ConcernedHandset.{ConcernedHandset}
 use Rattle.sms_rows.specs.table.Keys.{AllDigits, pair_key}
 use Rattle.sms_centre_rows.specs.declared.messages.part.PartRow.{PartRow}
 use Rattle.sms_centre_rows.specs.messages.Messages.{part_key}
 use Rattle.sms_centre_rows.specs.declared.reports.report.ReportRow.{ReportRow}
 use Rattle.sms_centre_rows.specs.reports.Reports.{is_status, status_tpdu}
 use Rattle.sms_tpdu.specs.AddressGrammar.{relay_address}
-use Rattle.sms_centre_rows.specs.declared.waiting.load.Load.{Load}
+use Rattle.sms_centre_rows.specs.declared.waiting.queued_part.QueuedPart.{QueuedPart}
 use Rattle.sms_centre_spec.specs.Draft.{Store, rows_of}
 use Rattle.sms_centre_spec.specs.Offering.{is_made, tpdu_of}
 use Rattle.sms_centre_spec.specs.SoundRows.{IsSound}
@@ -20,7 +20,7 @@ pub record Stores (body : ℕ → Option (List ℕ)) (s : Store) : Type 0 where
   pub reports : (r : ReportRow) → Among r s.reports.base → is_status r.kind ≡ true → body (pair_key r.id 0) ≡ Some (status_tpdu r.kind)
 
 -- the TPDU of what waits, if the event made it
-abbrev pub made_tpdu : Load → Store → Option (List ℕ)
+abbrev pub made_tpdu : QueuedPart → Store → Option (List ℕ)
 made_tpdu l s = if is_made l s then Some (tpdu_of l s) else None
 
 -- What offers rest on: sound rows, a store that gives the TPDUs of those as the event began, and the centre's address as it is sent.
@@ -30,5 +30,5 @@ pub record CanOffer {Rows : Type 0} (body_of : Rows → ℕ → Option (List ℕ
   pub centre_is : centre ≡ relay_address s.setup.centre
 
 -- each has digits
-abbrev pub AreDigits : List Stop → Type 0
-AreDigits stops = (s : Stop) → Among s stops → AllDigits s.number
+abbrev pub AreDigits : List ConcernedHandset → Type 0
+AreDigits stops = (s : ConcernedHandset) → Among s stops → AllDigits s.number

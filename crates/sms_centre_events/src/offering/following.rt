@@ -6,30 +6,30 @@ ghost use Rattle.sms_centre_spec.specs.CentreEvent.{follow as follow_of};
 ghost use Rattle.sms_centre_spec.specs.Draft.{Draft};
 ghost use Rattle.sms_centre_spec.specs.Offering.{offer as offer_of};
 ghost use Rattle.sms_centre_spec.specs.Sessions.{send as send_of};
-ghost use Rattle.sms_centre_events.specs.offering.Going.{Goes, UnlessMemory};
+ghost use Rattle.sms_centre_events.specs.offering.Refusing.{SucceedsOrRefuses, UnlessMemory};
 ghost use Rattle.sms_centre_events.specs.offering.Stored.{AreDigits, CanOffer};
-ghost use Rattle.sms_centre_draft.specs.Working.{Shows};
+ghost use Rattle.sms_centre_draft.specs.CentreDraft.{Represents};
 
 use crate::offering::offers::offer_at;
-use sms_centre_draft::Working;
-use sms_centre_draft::walks::laws::offers_go_to_those_found;
-use sms_centre_queue::queues::{Purpose, Stop};
+use sms_centre_draft::CentreDraft;
+use sms_centre_draft::walks::laws::offers_concern_those_found;
+use sms_centre_queue::queues::{Concern, ConcernedHandset};
 use sms_centre_spec::PlanError;
 use sms_rows::keep::BodyKeep;
 
 // Offers go to these handsets, one after the other.
 fn offer_each<B: BodyKeep>(
-    working: &mut Working<'_>,
+    draft: &mut CentreDraft<'_>,
     bodies: &mut B,
     centre: &[u8],
-    stops: &[Stop],
+    stops: &[ConcernedHandset],
 ) -> Result<(), PlanError>
-    ensures goes { B.is_honest bodies.new → (d : Draft) (rows : B.Rows) → Shows d working.old → AreDigits stops.now → CanOffer B.body_of rows centre.now d.store → B.holds bodies.old rows
-        → Goes (λ _. Shows (walk offer_at_of stops.now d) working.new) (walk offer_at_of stops.now d).air.read (B.holds bodies.new rows) (B.is_closed bodies.new) (B.refusals bodies.old) (B.refusals bodies.new) result }
+    ensures goes { B.is_honest bodies.new → (d : Draft) (rows : B.Rows) → Represents d draft.old → AreDigits stops.now → CanOffer B.body_of rows centre.now d.store → B.holds bodies.old rows
+        → SucceedsOrRefuses (λ _. Represents (walk offer_at_of stops.now d) draft.new) (walk offer_at_of stops.now d).links.read (B.holds bodies.new rows) (B.is_closed bodies.new) (B.refusals bodies.old) (B.refusals bodies.new) result }
     ensures before { B.is_honest bodies.new → B.is_honest bodies.old }
 {
     for stop in stops {
-        match offer_at(working, bodies, centre, stop.number) {
+        match offer_at(draft, bodies, centre, stop.number) {
             Ok(()) => {}
             Err(error) => return Err(error),
         }
@@ -39,27 +39,27 @@ fn offer_each<B: BodyKeep>(
 
 // To each handset whose line is ready the next that is due is offered.
 fn offer<B: BodyKeep>(
-    working: &mut Working<'_>,
+    draft: &mut CentreDraft<'_>,
     bodies: &mut B,
     centre: &[u8],
 ) -> Result<(), PlanError>
-    ensures goes { B.is_honest bodies.new → (d : Draft) (rows : B.Rows) → Shows d working.old → CanOffer B.body_of rows centre.now d.store → B.holds bodies.old rows
-        → Goes (λ _. Shows (offer_of d) working.new) (offer_of d).air.read (B.holds bodies.new rows) (B.is_closed bodies.new) (B.refusals bodies.old) (B.refusals bodies.new) result }
+    ensures goes { B.is_honest bodies.new → (d : Draft) (rows : B.Rows) → Represents d draft.old → CanOffer B.body_of rows centre.now d.store → B.holds bodies.old rows
+        → SucceedsOrRefuses (λ _. Represents (offer_of d) draft.new) (offer_of d).links.read (B.holds bodies.new rows) (B.is_closed bodies.new) (B.refusals bodies.old) (B.refusals bodies.new) result }
     ensures before { B.is_honest bodies.new → B.is_honest bodies.old }
 {
-    offers_go_to_those_found();
-    let now = working.now();
-    match working.stops(&Purpose::Offer(now)) {
-        Ok(stops) => offer_each(working, bodies, centre, stops.as_slice()),
+    offers_concern_those_found();
+    let now = draft.now();
+    match draft.stops(&Concern::Offer(now)) {
+        Ok(stops) => offer_each(draft, bodies, centre, stops.as_slice()),
         Err(_) => Err(PlanError::NoMemory),
     }
 }
 
 // Receipts that are due go.
-fn send_receipts(working: &mut Working<'_>) -> Result<(), PlanError>
-    ensures { (d : Draft) → Shows d working.old → UnlessMemory (λ _. Shows (send_of d) working.new) result }
+fn send_receipts(draft: &mut CentreDraft<'_>) -> Result<(), PlanError>
+    ensures { (d : Draft) → Represents d draft.old → UnlessMemory (λ _. Represents (send_of d) draft.new) result }
 {
-    match working.send() {
+    match draft.send() {
         Ok(()) => Ok(()),
         Err(_) => Err(PlanError::NoMemory),
     }
@@ -73,16 +73,16 @@ fn send_receipts(working: &mut Working<'_>) -> Result<(), PlanError>
 /// store holds what it held. Or the store refused to read a body that the definition reads (`NoBody`), and is unchanged
 /// or closed. Or there was no memory, and the store refused nothing. After an error the event is given up.
 pub fn follow<B: BodyKeep>(
-    working: &mut Working<'_>,
+    draft: &mut CentreDraft<'_>,
     bodies: &mut B,
     centre: &[u8],
 ) -> Result<(), PlanError>
-    ensures goes { B.is_honest bodies.new → (d : Draft) (rows : B.Rows) → Shows d working.old → CanOffer B.body_of rows centre.now d.store → B.holds bodies.old rows
-        → Goes (λ _. Shows (follow_of d) working.new) (follow_of d).air.read (B.holds bodies.new rows) (B.is_closed bodies.new) (B.refusals bodies.old) (B.refusals bodies.new) result }
+    ensures goes { B.is_honest bodies.new → (d : Draft) (rows : B.Rows) → Represents d draft.old → CanOffer B.body_of rows centre.now d.store → B.holds bodies.old rows
+        → SucceedsOrRefuses (λ _. Represents (follow_of d) draft.new) (follow_of d).links.read (B.holds bodies.new rows) (B.is_closed bodies.new) (B.refusals bodies.old) (B.refusals bodies.new) result }
     ensures before { B.is_honest bodies.new → B.is_honest bodies.old }
 {
-    match send_receipts(working) {
-        Ok(()) => offer(working, bodies, centre),
+    match send_receipts(draft) {
+        Ok(()) => offer(draft, bodies, centre),
         Err(error) => Err(error),
     }
 }

@@ -4,91 +4,91 @@ ghost use Rattle.sms_base.specs.Among.{Among};
 ghost use Rattle.sms_rows.specs.table.Keys.{AllDigits};
 ghost use Rattle.sms_centre_draft.specs.walks.Stepping.{offer_at as offer_at_of};
 ghost use Rattle.sms_centre_spec.specs.Draft.{Draft, waiting_in};
-ghost use Rattle.sms_centre_events.specs.offering.Going.{Goes};
+ghost use Rattle.sms_centre_events.specs.offering.Refusing.{SucceedsOrRefuses};
 ghost use Rattle.sms_centre_events.specs.offering.Offered.{next_for as next_for_of, offer_next};
 ghost use Rattle.sms_centre_events.specs.offering.Stored.{CanOffer};
 ghost use Rattle.sms_centre_rows.specs.waiting.Waiting.{waits_beside};
-ghost use Rattle.sms_centre_draft.specs.Working.{Shows};
+ghost use Rattle.sms_centre_draft.specs.CentreDraft.{Represents};
 
 use crate::offering::reading::tpdu;
 use crate::offering::units::send;
 use sms_base::Digits;
-use sms_centre_draft::{Working, are_digits};
-use sms_centre_rows::waiting::Load;
+use sms_centre_draft::{CentreDraft, are_digits};
+use sms_centre_rows::waiting::QueuedPart;
 use sms_centre_spec::PlanError;
 use sms_rows::keep::BodyKeep;
 
 // The next that is due for the handset, if its line is ready.
-fn next_for(working: &Working<'_>, handset: &Digits) -> Option<Load>
+fn next_for(draft: &CentreDraft<'_>, handset: &Digits) -> Option<QueuedPart>
     requires digits { AllDigits handset.now }
-    ensures { (d : Draft) → Shows d working.now → result ≡ next_for_of handset.now d }
+    ensures { (d : Draft) → Represents d draft.now → result ≡ next_for_of handset.now d }
 {
-    if !working.shelves.is_ready(handset) {
+    if !draft.queues.is_ready(handset) {
         return None;
     }
-    working.shelves.next(handset, working.now())
+    draft.queues.next(handset, draft.now())
 }
 
 // Whether another is due beside it.
-fn has_more(working: &Working<'_>, handset: &Digits, load: &Load) -> bool
+fn has_more(draft: &CentreDraft<'_>, handset: &Digits, load: &QueuedPart) -> bool
     requires digits { AllDigits handset.now }
-    ensures { (d : Draft) → Shows d working.now → result ≡ waits_beside d.store.moment load.now (waiting_in handset.now d.store) }
+    ensures { (d : Draft) → Represents d draft.now → result ≡ waits_beside d.store.moment load.now (waiting_in handset.now d.store) }
 {
-    working.shelves.waits_beside(handset, working.now(), load)
+    draft.queues.waits_beside(handset, draft.now(), load)
 }
 
 // That one is offered.
 fn offer_load<B: BodyKeep>(
-    working: &mut Working<'_>,
+    draft: &mut CentreDraft<'_>,
     bodies: &mut B,
     centre: &[u8],
     handset: Digits,
-    load: &Load,
+    load: &QueuedPart,
 ) -> Result<(), PlanError>
     requires digits { AllDigits handset }
-    ensures goes { B.is_honest bodies.new → (d : Draft) (rows : B.Rows) → Shows d working.old → CanOffer B.body_of rows centre.now d.store → Among load.now (waiting_in handset d.store)
+    ensures goes { B.is_honest bodies.new → (d : Draft) (rows : B.Rows) → Represents d draft.old → CanOffer B.body_of rows centre.now d.store → Among load.now (waiting_in handset d.store)
         → B.holds bodies.old rows
-        → Goes (λ _. Shows (offer_next handset (Some load.now) d) working.new) (offer_next handset (Some load.now) d).air.read (B.holds bodies.new rows) (B.is_closed bodies.new) (B.refusals bodies.old) (B.refusals bodies.new) result }
+        → SucceedsOrRefuses (λ _. Represents (offer_next handset (Some load.now) d) draft.new) (offer_next handset (Some load.now) d).links.read (B.holds bodies.new rows) (B.is_closed bodies.new) (B.refusals bodies.old) (B.refusals bodies.new) result }
     ensures before { B.is_honest bodies.new → B.is_honest bodies.old }
 {
-    let more = has_more(working, &handset, load);
-    match tpdu(working, bodies, load) {
-        Ok(tpdu) => send(working, centre, handset, load, more, tpdu),
+    let more = has_more(draft, &handset, load);
+    match tpdu(draft, bodies, load) {
+        Ok(tpdu) => send(draft, centre, handset, load, more, tpdu),
         Err(error) => Err(error),
     }
 }
 
 // The next that is due for the handset is offered, if its line is ready.
 fn offer_to<B: BodyKeep>(
-    working: &mut Working<'_>,
+    draft: &mut CentreDraft<'_>,
     bodies: &mut B,
     centre: &[u8],
     handset: Digits,
 ) -> Result<(), PlanError>
     requires digits { AllDigits handset }
-    ensures goes { B.is_honest bodies.new → (d : Draft) (rows : B.Rows) → Shows d working.old → CanOffer B.body_of rows centre.now d.store → B.holds bodies.old rows
-        → Goes (λ _. Shows (offer_at_of handset d) working.new) (offer_at_of handset d).air.read (B.holds bodies.new rows) (B.is_closed bodies.new) (B.refusals bodies.old) (B.refusals bodies.new) result }
+    ensures goes { B.is_honest bodies.new → (d : Draft) (rows : B.Rows) → Represents d draft.old → CanOffer B.body_of rows centre.now d.store → B.holds bodies.old rows
+        → SucceedsOrRefuses (λ _. Represents (offer_at_of handset d) draft.new) (offer_at_of handset d).links.read (B.holds bodies.new rows) (B.is_closed bodies.new) (B.refusals bodies.old) (B.refusals bodies.new) result }
     ensures before { B.is_honest bodies.new → B.is_honest bodies.old }
 {
-    match next_for(working, &handset) {
-        Some(load) => offer_load(working, bodies, centre, handset, &load),
+    match next_for(draft, &handset) {
+        Some(load) => offer_load(draft, bodies, centre, handset, &load),
         None => Ok(()),
     }
 }
 
 /// Offers the next due part to `handset`. A handset whose number isn't digits has no link, and gets none.
 pub(crate) fn offer_at<B: BodyKeep>(
-    working: &mut Working<'_>,
+    draft: &mut CentreDraft<'_>,
     bodies: &mut B,
     centre: &[u8],
     handset: Digits,
 ) -> Result<(), PlanError>
-    ensures goes { B.is_honest bodies.new → (d : Draft) (rows : B.Rows) → Shows d working.old → AllDigits handset → CanOffer B.body_of rows centre.now d.store → B.holds bodies.old rows
-        → Goes (λ _. Shows (offer_at_of handset d) working.new) (offer_at_of handset d).air.read (B.holds bodies.new rows) (B.is_closed bodies.new) (B.refusals bodies.old) (B.refusals bodies.new) result }
+    ensures goes { B.is_honest bodies.new → (d : Draft) (rows : B.Rows) → Represents d draft.old → AllDigits handset → CanOffer B.body_of rows centre.now d.store → B.holds bodies.old rows
+        → SucceedsOrRefuses (λ _. Represents (offer_at_of handset d) draft.new) (offer_at_of handset d).links.read (B.holds bodies.new rows) (B.is_closed bodies.new) (B.refusals bodies.old) (B.refusals bodies.new) result }
     ensures before { B.is_honest bodies.new → B.is_honest bodies.old }
 {
     if !are_digits(handset.as_slice()) {
         return Ok(());
     }
-    offer_to(working, bodies, centre, handset)
+    offer_to(draft, bodies, centre, handset)
 }

@@ -3,13 +3,13 @@ ghost use Rattle.std.specs.Prelude.{◌≡◌, ◌∷◌, ℕ, List, None, Some,
 ghost use Rattle.sms_base.specs.Among.{Among};
 ghost use Rattle.sms_centre_spec.specs.Draft.{Draft, waiting_in};
 ghost use Rattle.sms_centre_spec.specs.Offering.{read_of, tpdu_of};
-ghost use Rattle.sms_centre_events.specs.offering.Going.{Goes, UnlessMemory};
+ghost use Rattle.sms_centre_events.specs.offering.Refusing.{SucceedsOrRefuses, UnlessMemory};
 ghost use Rattle.sms_centre_events.specs.offering.Stored.{CanOffer, made_tpdu};
-ghost use Rattle.sms_centre_draft.specs.Working.{Shows};
+ghost use Rattle.sms_centre_draft.specs.CentreDraft.{Represents};
 
 use sms_base::Octets;
-use sms_centre_draft::Working;
-use sms_centre_rows::waiting::Load;
+use sms_centre_draft::CentreDraft;
+use sms_centre_rows::waiting::QueuedPart;
 use sms_centre_spec::PlanError;
 use sms_rows::keep::BodyKeep;
 use sms_rows::table::{Key, Row};
@@ -17,7 +17,7 @@ use sms_rows::table::{Key, Row};
 // The body of that key, which stands in the store.
 fn read<B: BodyKeep>(bodies: &mut B, key: Key) -> Result<Octets, PlanError>
     ensures goes { B.is_honest bodies.new → (rows : B.Rows) (tpdu : List ℕ) → B.holds bodies.old rows → B.body_of rows key ≡ Some tpdu
-        → Goes (λ octets. octets ≡ tpdu) (key ∷ []) (B.holds bodies.new rows) (B.is_closed bodies.new) (B.refusals bodies.old) (B.refusals bodies.new) result }
+        → SucceedsOrRefuses (λ octets. octets ≡ tpdu) (key ∷ []) (B.holds bodies.new rows) (B.is_closed bodies.new) (B.refusals bodies.old) (B.refusals bodies.new) result }
     ensures before { B.is_honest bodies.new → B.is_honest bodies.old }
 {
     match bodies.body(key) {
@@ -28,37 +28,37 @@ fn read<B: BodyKeep>(bodies: &mut B, key: Key) -> Result<Octets, PlanError>
 }
 
 // The TPDU of what waits, if the event made it.
-fn made<'w>(working: &'w Working<'_>, load: &Load) -> Option<&'w [u8]>
-    ensures { (d : Draft) (handset : List ℕ) → Shows d working.now → Among load.now (waiting_in handset d.store) → option_copied result ≡ made_tpdu load.now d.store }
+fn made<'w>(draft: &'w CentreDraft<'_>, load: &QueuedPart) -> Option<&'w [u8]>
+    ensures { (d : Draft) (handset : List ℕ) → Represents d draft.now → Among load.now (waiting_in handset d.store) → option_copied result ≡ made_tpdu load.now d.store }
 {
     if load.number == 0 {
-        return working.reports.tpdu_made(load.id);
+        return draft.reports.tpdu_made(load.id);
     }
-    working.messages.tpdu_put(load.id, load.number)
+    draft.messages.tpdu_put(load.id, load.number)
 }
 
 /// The TPDU of what waits for a handset: the event made it, or it is read.
 pub(crate) fn tpdu<B: BodyKeep>(
-    working: &Working<'_>,
+    draft: &CentreDraft<'_>,
     bodies: &mut B,
-    load: &Load,
+    load: &QueuedPart,
 ) -> Result<Octets, PlanError>
-    ensures goes { B.is_honest bodies.new → (d : Draft) (rows : B.Rows) (centre handset : List ℕ) → Shows d working.now → Among load.now (waiting_in handset d.store) → CanOffer B.body_of rows centre d.store
+    ensures goes { B.is_honest bodies.new → (d : Draft) (rows : B.Rows) (centre handset : List ℕ) → Represents d draft.now → Among load.now (waiting_in handset d.store) → CanOffer B.body_of rows centre d.store
         → B.holds bodies.old rows
-        → Goes (λ octets. octets ≡ tpdu_of load.now d.store) (read_of load.now d.store d.air).read (B.holds bodies.new rows) (B.is_closed bodies.new) (B.refusals bodies.old) (B.refusals bodies.new) result }
+        → SucceedsOrRefuses (λ octets. octets ≡ tpdu_of load.now d.store) (read_of load.now d.store d.links).read (B.holds bodies.new rows) (B.is_closed bodies.new) (B.refusals bodies.old) (B.refusals bodies.new) result }
     ensures before { B.is_honest bodies.new → B.is_honest bodies.old }
 {
-    match made(working, load) {
-        Some(octets) => copied(working, octets),
+    match made(draft, load) {
+        Some(octets) => copied(draft, octets),
         None => read(bodies, load.key()),
     }
 }
 
 // Octets in memory of their own.
-fn copied(working: &Working<'_>, octets: &[u8]) -> Result<Octets, PlanError>
+fn copied(draft: &CentreDraft<'_>, octets: &[u8]) -> Result<Octets, PlanError>
     ensures { UnlessMemory (λ copy. copy ≡ octets.now) result }
 {
-    match Octets::copy_of(working.alloc(), octets) {
+    match Octets::copy_of(draft.alloc(), octets) {
         Ok(octets) => Ok(octets),
         Err(_) => Err(PlanError::NoMemory),
     }

@@ -5,16 +5,16 @@ ghost use Rattle.sms_rows.specs.table.Keys.{AllDigits};
 ghost use Rattle.sms_tpdu.specs.MoreMessages.{telling};
 ghost use Rattle.sms_centre_spec.specs.Draft.{Draft};
 ghost use Rattle.sms_centre_spec.specs.Offering.{holder_of as holder_of_load};
-ghost use Rattle.sms_centre_events.specs.offering.Going.{UnlessMemory};
+ghost use Rattle.sms_centre_events.specs.offering.Refusing.{UnlessMemory};
 ghost use Rattle.sms_centre_events.specs.offering.Offered.{offer_in};
-ghost use Rattle.sms_centre_draft.specs.Working.{Shows};
+ghost use Rattle.sms_centre_draft.specs.CentreDraft.{Represents};
 
 use sms_base::{Digits, Holder, OctetView, Octets};
-use sms_centre_draft::Working;
-use sms_centre_rows::waiting::Load;
+use sms_centre_draft::CentreDraft;
+use sms_centre_rows::waiting::QueuedPart;
 use sms_centre_spec::PlanError;
 use sms_relay::{Rp, write_down};
-use sms_tpdu::tell_more_messages;
+use sms_tpdu::set_more_messages;
 use std::alloc::{AllocError, Global};
 
 // The TPDU tells whether more waits.
@@ -22,7 +22,7 @@ fn told(tpdu: Octets, more: bool) -> Octets
     ensures { result ≡ telling more tpdu }
 {
     let mut octets = tpdu.into_vec();
-    tell_more_messages(octets.as_mut_slice(), more);
+    set_more_messages(octets.as_mut_slice(), more);
     Octets::from_vec(octets)
 }
 
@@ -72,7 +72,7 @@ fn unit(
 }
 
 // Number 0 is a status report.
-fn holder_of(load: &Load) -> Holder
+fn holder_of(load: &QueuedPart) -> Holder
     ensures { result ≡ holder_of_load load.now }
 {
     match load.number {
@@ -83,36 +83,36 @@ fn holder_of(load: &Load) -> Holder
 
 // A transaction to the handset begins with the unit.
 fn begun(
-    working: &mut Working<'_>,
+    draft: &mut CentreDraft<'_>,
     handset: Digits,
-    load: &Load,
+    load: &QueuedPart,
     unit: &[u8],
 ) -> Result<(), AllocError>
     requires digits { AllDigits handset }
     requires some { 0 < length unit.now }
     requires fits { length unit.now ≤ 248 }
-    ensures { (d : Draft) → Shows d working.old → OnOk result (Shows (offer_in handset unit.now load.now d) working.new) }
+    ensures { (d : Draft) → Represents d draft.old → OnOk result (Represents (offer_in handset unit.now load.now d) draft.new) }
 {
-    let now = working.now();
+    let now = draft.now();
     let holder = holder_of(load);
-    working
-        .shelves
+    draft
+        .queues
         .begin(handset, now, load.reference, holder, unit)?;
     Ok(())
 }
 
 fn begin(
-    working: &mut Working<'_>,
+    draft: &mut CentreDraft<'_>,
     handset: Digits,
-    load: &Load,
+    load: &QueuedPart,
     unit: &[u8],
 ) -> Result<(), PlanError>
     requires digits { AllDigits handset }
     requires some { 0 < length unit.now }
     requires fits { length unit.now ≤ 248 }
-    ensures { (d : Draft) → Shows d working.old → UnlessMemory (λ _. Shows (offer_in handset unit.now load.now d) working.new) result }
+    ensures { (d : Draft) → Represents d draft.old → UnlessMemory (λ _. Represents (offer_in handset unit.now load.now d) draft.new) result }
 {
-    match begun(working, handset, load, unit) {
+    match begun(draft, handset, load, unit) {
         Ok(()) => Ok(()),
         Err(_) => Err(PlanError::NoMemory),
     }
@@ -120,19 +120,19 @@ fn begin(
 
 /// Offers what waits to the handset: its TPDU is sent in a transaction of its own, and says whether more waits.
 pub(crate) fn send(
-    working: &mut Working<'_>,
+    draft: &mut CentreDraft<'_>,
     centre: &[u8],
     handset: Digits,
-    load: &Load,
+    load: &QueuedPart,
     more: bool,
     tpdu: Octets,
 ) -> Result<(), PlanError>
     requires digits { AllDigits handset }
-    ensures { (d : Draft) → Shows d working.old → 2 ≤ length centre.now → length centre.now ≤ 11 → length tpdu ≤ 200
-        → UnlessMemory (λ _. Shows (offer_in handset (data_down load.now.reference centre.now (telling more tpdu)) load.now d) working.new) result }
+    ensures { (d : Draft) → Represents d draft.old → 2 ≤ length centre.now → length centre.now ≤ 11 → length tpdu ≤ 200
+        → UnlessMemory (λ _. Represents (offer_in handset (data_down load.now.reference centre.now (telling more tpdu)) load.now d) draft.new) result }
 {
-    match unit(working.alloc(), load.reference, centre, tpdu, more) {
-        Ok(unit) => begin(working, handset, load, unit.as_slice()),
+    match unit(draft.alloc(), load.reference, centre, tpdu, more) {
+        Ok(unit) => begin(draft, handset, load, unit.as_slice()),
         Err(error) => Err(error),
     }
 }

@@ -16,12 +16,12 @@ use Rattle.sms_centre_spec.proofs.Keeping.{keeps_same}
 use Rattle.sms_centre_spec.proofs.PduFits.{event_gives}
 use Rattle.sms_centre_spec.proofs.SoundStores.{store_sound}
 use Rattle.sms_centre_spec.proofs.SteadyEvents.{steady_event}
-use Rattle.sms_centre_messages.specs.reference_moves.ClaimMoves.{MoveClaims}
+use Rattle.sms_centre_messages.specs.reference_moves.ClaimMoves.{MoveReferenceIndex}
 use Rattle.sms_centre_messages.proofs.reference_moves.Counting.{few_messages}
 use Rattle.sms_centre_messages.proofs.reference_moves.MovesSteady.{Moving, MovingSince, moving_steady}
 use Rattle.sms_centre_messages.proofs.reference_moves.Newest.{moves_committed, parts_committed}
 
-pub event_moves : (event : CentreEvent) (c : Core) → IsSoundCore c → IsEvent event → MoveClaims (changes_in (happened event c).store) c.rows
+pub event_moves : (event : CentreEvent) (c : Core) → IsSoundCore c → IsEvent event → MoveReferenceIndex (changes_in (happened event c).store) c.rows
 event_moves event c sound is =
     let s : Store = (happened event c).store in
     let m : Messages = s.messages in

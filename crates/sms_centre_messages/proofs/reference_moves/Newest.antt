@@ -14,7 +14,7 @@ use Rattle.sms_centre_rows.specs.declared.waiting.revision.Revision.{Revision}
 use Rattle.sms_centre_rows.specs.declared.waiting.revision.Revision.TheVariants.{Put as PutPart, Amend, Remove as RemovePart}
 use Rattle.sms_centre_rows.specs.waiting.Revisions.{all_revised, oldest_first as revisions_of, revised, rows_after as parts_after}
 use Rattle.sms_centre_rows.proofs.waiting.Revising.{revisions_commit}
-use Rattle.sms_centre_messages.specs.references.Claims.{AreFew}
+use Rattle.sms_centre_messages.specs.references.ReferenceIndex.{AreFew}
 use Rattle.sms_centre_messages.specs.references.Moves.{AreMoves, ArePartMoves, IsMove, IsPartMove}
 
 -- ---- of messages

@@ -19,10 +19,10 @@ use Rattle.sms_centre_rows.specs.declared.messages.part.PartRow.{PartRow}
 use Rattle.sms_centre_rows.specs.messages.Messages.{message_at, message_key, part_key, part_reaching}
 use Rattle.sms_centre_rows.specs.declared.waiting.progress.Progress.{Progress}
 use Rattle.sms_centre_rows.specs.waiting.Revisions.{all_revised, amended, revised}
-use Rattle.sms_centre_messages.specs.declared.references.between.Between.{Between}
-use Rattle.sms_centre_messages.specs.references.Claims.{ClaimsOf, Holds, came_with, came_with_any, total}
+use Rattle.sms_centre_messages.specs.declared.references.message_ends.MessageEnds.{MessageEnds}
+use Rattle.sms_centre_messages.specs.references.ReferenceIndex.{ReferenceIndexOf, Represents, came_with, came_with_any, total}
 use Rattle.sms_centre_messages.specs.references.Keys.{is_same, key_of, pair_of}
-use Rattle.sms_centre_messages.specs.references.Moves.{AreMoves, ArePartMoves, Fits, HasRoomFor, IsMove, IsPartMove, SpareOf, Takes}
+use Rattle.sms_centre_messages.specs.references.Moves.{AreMoves, ArePartMoves, Fits, HasRoomFor, IsMove, IsPartMove, ReferenceIndexReserveOf, Takes}
 use Rattle.sms_centre_messages.proofs.references.Written.{same_key, same_here}
 
 -- ---- memory
@@ -30,19 +30,19 @@ use Rattle.sms_centre_messages.proofs.references.Written.{same_key, same_here}
 apart : IsEquivalence is_same
 apart = decided is_same (λ a b. (same_key a b, same_here a b))
 
-put_all : (done es : List (Between × ℕ)) → IsDistinct is_same (keys_of (done ++ es)) → insert_all is_same done es ≡ done ++ es
+put_all : (done es : List (MessageEnds × ℕ)) → IsDistinct is_same (keys_of (done ++ es)) → insert_all is_same done es ≡ done ++ es
 put_all done [] d = sym (append-nil done)
 put_all done (e ∷ es) d =
     let one : insert_entry is_same done e.0 e.1 ≡ done ++ e ∷ [] =
     insert_entry-absent is_same e.0 e.1 done (absent_from_lookup (is_same e.0) done (absent_before apart done es e d)) in
     let same : (done ++ e ∷ []) ++ es ≡ done ++ e ∷ es = append_assoc done (e ∷ []) es in
-    ap (λ (l : List (Between × ℕ)). insert_all is_same l es) one
-    ∙ put_all (done ++ e ∷ []) es (subst (λ (l : List (Between × ℕ)). IsDistinct is_same (keys_of l)) (sym same) d) ∙ same
+    ap (λ (l : List (MessageEnds × ℕ)). insert_all is_same l es) one
+    ∙ put_all (done ++ e ∷ []) es (subst (λ (l : List (MessageEnds × ℕ)). IsDistinct is_same (keys_of l)) (sym same) d) ∙ same
 
-pub moved_all : (empty es new : List (Between × ℕ)) → empty ≡ [] → IsDistinct is_same (keys_of es) → new ≡ insert_all is_same empty es → new ≡ es
-moved_all empty es new e d n = n ∙ ap (λ (l : List (Between × ℕ)). insert_all is_same l es) e ∙ put_all [] es d
+pub moved_all : (empty es new : List (MessageEnds × ℕ)) → empty ≡ [] → IsDistinct is_same (keys_of es) → new ≡ insert_all is_same empty es → new ≡ es
+moved_all empty es new e d n = n ∙ ap (λ (l : List (MessageEnds × ℕ)). insert_all is_same l es) e ∙ put_all [] es d
 
-pub room_taken : (s : SpareOf) (messages parts : ℕ) (old new : ClaimsOf) → Fits s messages parts old → Takes s old new → HasRoomFor messages parts new
+pub room_taken : (s : ReferenceIndexReserveOf) (messages parts : ℕ) (old new : ReferenceIndexOf) → Fits s messages parts old → Takes s old new → HasRoomFor messages parts new
 room_taken s messages parts old new fits takes = record {
   held = omega (arith, fits.held, takes.held_room);
   own = omega (arith, fits.own, takes.own_room);
@@ -51,7 +51,7 @@ room_taken s messages parts old new fits takes = record {
   pending = omega (arith, fits.pending, takes.pending_room);
 }
 
-pub holds_taken : (s : SpareOf) (old new : ClaimsOf) (ms : List MessageRow) (ps : List PartRow) → Takes s old new → Holds old ms ps → Holds new ms ps
+pub holds_taken : (s : ReferenceIndexReserveOf) (old new : ReferenceIndexOf) (ms : List MessageRow) (ps : List PartRow) → Takes s old new → Represents old ms ps → Represents new ms ps
 holds_taken s old new ms ps takes h = record {
   held = λ key. takes.held key ∙ h.held key;
   own = λ key. takes.own key ∙ h.own key;
@@ -71,7 +71,7 @@ total_amended f n q (p ∷ ps) same =
     either true = same p
     either false = refl
 
-pub holds_amended : (k : ClaimsOf) (n : ℕ) (q : Progress) (ms : List MessageRow) (ps : List PartRow) → Holds k ms ps → Holds k ms (amended part_key part_reaching n q ps)
+pub holds_amended : (k : ReferenceIndexOf) (n : ℕ) (q : Progress) (ms : List MessageRow) (ps : List PartRow) → Represents k ms ps → Represents k ms (amended part_key part_reaching n q ps)
 holds_amended k n q ms ps h = record {
   held = h.held;
   own = λ key. h.own key ∙ sym (total_amended (came_with key ms) n q ps (λ p. refl));
@@ -92,7 +92,7 @@ came_as messages base ms id m is newest =
 
 -- ---- one change after the other
 
-pub less_room : (n p a b : ℕ) (k : ClaimsOf) → a ≤ n → b ≤ p → HasRoomFor n p k → HasRoomFor a b k
+pub less_room : (n p a b : ℕ) (k : ReferenceIndexOf) → a ≤ n → b ≤ p → HasRoomFor n p k → HasRoomFor a b k
 less_room n p a b k less few room = record {
   held = let l = room.held in omega (arith, less, l);
   own = let l = room.own in omega (arith, few, l);
@@ -105,16 +105,16 @@ next_of : {A : Type 0} (xs : List A) (i : ℕ) (x : A) → i < length xs → x �
 next_of xs i x l is = drop_more xs i x l ∙ ap (λ y. y ∷ drop (i + 1) xs) (sym is)
 
 -- so far the changes lead from these messages to those
-pub LeadsTo : List (Change MessageRow) → ℕ → ClaimsOf → List MessageRow → List PartRow → Type 0
+pub LeadsTo : List (Change MessageRow) → ℕ → ReferenceIndexOf → List MessageRow → List PartRow → Type 0
 LeadsTo messages i k ms ps =
-    (rows : List MessageRow) × (Holds k rows ps × (Rises message_key rows × (AreMoves (drop i messages) rows ps × (all_applied message_key (drop i messages) rows ≡ all_applied message_key messages ms))))
+    (rows : List MessageRow) × (Represents k rows ps × (Rises message_key rows × (AreMoves (drop i messages) rows ps × (all_applied message_key (drop i messages) rows ≡ all_applied message_key messages ms))))
 
-pub leads_first : (messages : List (Change MessageRow)) (k : ClaimsOf) (ms : List MessageRow) (ps : List PartRow) → Holds k ms ps → Rises message_key ms → AreMoves messages ms ps → LeadsTo messages 0 k ms ps
+pub leads_first : (messages : List (Change MessageRow)) (k : ReferenceIndexOf) (ms : List MessageRow) (ps : List PartRow) → Represents k ms ps → Rises message_key ms → AreMoves messages ms ps → LeadsTo messages 0 k ms ps
 unfolding LeadsTo
 leads_first messages k ms ps h rises moves = (ms, (h, (rises, (moves, refl))))
 
-pub leads_on : (messages : List (Change MessageRow)) (i : ℕ) (change : Change MessageRow) (old new : ClaimsOf) (ms : List MessageRow) (ps : List PartRow) → i < length messages → change ≡ get_or messages i change
-    → ((rows : List MessageRow) (others : List PartRow) → Holds old rows others → Rises message_key rows → IsMove change rows others → Holds new (applied message_key change rows) others)
+pub leads_on : (messages : List (Change MessageRow)) (i : ℕ) (change : Change MessageRow) (old new : ReferenceIndexOf) (ms : List MessageRow) (ps : List PartRow) → i < length messages → change ≡ get_or messages i change
+    → ((rows : List MessageRow) (others : List PartRow) → Represents old rows others → Rises message_key rows → IsMove change rows others → Represents new (applied message_key change rows) others)
     → LeadsTo messages i old ms ps → LeadsTo messages (i + 1) new ms ps
 unfolding LeadsTo
 leads_on messages i change old new ms ps l is step so_far =
@@ -133,17 +133,17 @@ leads_on messages i change old new ms ps l is step so_far =
       ),
     )
 
-pub leads_last : (messages : List (Change MessageRow)) (i : ℕ) (k : ClaimsOf) (ms : List MessageRow) (ps : List PartRow) → length messages ≤ i → LeadsTo messages i k ms ps → Holds k (all_applied message_key messages ms) ps
+pub leads_last : (messages : List (Change MessageRow)) (i : ℕ) (k : ReferenceIndexOf) (ms : List MessageRow) (ps : List PartRow) → length messages ≤ i → LeadsTo messages i k ms ps → Represents k (all_applied message_key messages ms) ps
 unfolding LeadsTo
 leads_last messages i k ms ps l so_far =
-    subst (λ (rows : List MessageRow). Holds k rows ps) (sym (at_drop_all (λ (cs : List (Change MessageRow)). all_applied message_key cs so_far.0) messages i l) ∙ so_far.1.1.1.1) so_far.1.0
+    subst (λ (rows : List MessageRow). Represents k rows ps) (sym (at_drop_all (λ (cs : List (Change MessageRow)). all_applied message_key cs so_far.0) messages i l) ∙ so_far.1.1.1.1) so_far.1.0
 
 -- so do those of parts
-pub PartsLeadTo : List (Change MessageRow) → List (Revision PartRow) → ℕ → ClaimsOf → List MessageRow → List PartRow → Type 0
+pub PartsLeadTo : List (Change MessageRow) → List (Revision PartRow) → ℕ → ReferenceIndexOf → List MessageRow → List PartRow → Type 0
 PartsLeadTo messages parts i k ms ps =
-    (rows : List PartRow) × (Holds k ms rows × (Rises part_key rows × (ArePartMoves messages (drop i parts) ms rows × (all_revised part_key part_reaching (drop i parts) rows ≡ all_revised part_key part_reaching parts ps))))
+    (rows : List PartRow) × (Represents k ms rows × (Rises part_key rows × (ArePartMoves messages (drop i parts) ms rows × (all_revised part_key part_reaching (drop i parts) rows ≡ all_revised part_key part_reaching parts ps))))
 
-pub parts_first : (messages : List (Change MessageRow)) (parts : List (Revision PartRow)) (k : ClaimsOf) (ms : List MessageRow) (ps : List PartRow) → Holds k ms ps → Rises part_key ps → ArePartMoves messages parts ms ps → PartsLeadTo messages parts 0 k ms ps
+pub parts_first : (messages : List (Change MessageRow)) (parts : List (Revision PartRow)) (k : ReferenceIndexOf) (ms : List MessageRow) (ps : List PartRow) → Represents k ms ps → Rises part_key ps → ArePartMoves messages parts ms ps → PartsLeadTo messages parts 0 k ms ps
 unfolding PartsLeadTo
 parts_first messages parts k ms ps h rises moves = (ps, (h, (rises, (moves, refl))))
 
@@ -152,8 +152,8 @@ rises_moved messages (PutPart p) ms ps move rises = rises_put part_key p ps rise
 rises_moved messages (Amend n q) ms ps move rises = rises_amended part_key part_reaching (λ x y. refl) n q ps rises
 rises_moved messages (RemovePart n) ms ps move rises = elim move [ ]
 
-pub parts_on : (messages : List (Change MessageRow)) (parts : List (Revision PartRow)) (i : ℕ) (r : Revision PartRow) (old new : ClaimsOf) (ms : List MessageRow) (ps : List PartRow) → i < length parts → r ≡ get_or parts i r
-    → ((others : List PartRow) → Holds old ms others → Rises part_key others → IsPartMove messages r ms others → Holds new ms (revised part_key part_reaching r others))
+pub parts_on : (messages : List (Change MessageRow)) (parts : List (Revision PartRow)) (i : ℕ) (r : Revision PartRow) (old new : ReferenceIndexOf) (ms : List MessageRow) (ps : List PartRow) → i < length parts → r ≡ get_or parts i r
+    → ((others : List PartRow) → Represents old ms others → Rises part_key others → IsPartMove messages r ms others → Represents new ms (revised part_key part_reaching r others))
     → PartsLeadTo messages parts i old ms ps → PartsLeadTo messages parts (i + 1) new ms ps
 unfolding PartsLeadTo
 parts_on messages parts i r old new ms ps l is step so_far =
@@ -172,7 +172,7 @@ parts_on messages parts i r old new ms ps l is step so_far =
       ),
     )
 
-pub parts_last : (messages : List (Change MessageRow)) (parts : List (Revision PartRow)) (i : ℕ) (k : ClaimsOf) (ms : List MessageRow) (ps : List PartRow) → length parts ≤ i → PartsLeadTo messages parts i k ms ps → Holds k ms (all_revised part_key part_reaching parts ps)
+pub parts_last : (messages : List (Change MessageRow)) (parts : List (Revision PartRow)) (i : ℕ) (k : ReferenceIndexOf) (ms : List MessageRow) (ps : List PartRow) → length parts ≤ i → PartsLeadTo messages parts i k ms ps → Represents k ms (all_revised part_key part_reaching parts ps)
 unfolding PartsLeadTo
 parts_last messages parts i k ms ps l so_far =
-    subst (λ (rows : List PartRow). Holds k ms rows) (sym (at_drop_all (λ (rs : List (Revision PartRow)). all_revised part_key part_reaching rs so_far.0) parts i l) ∙ so_far.1.1.1.1) so_far.1.0
+    subst (λ (rows : List PartRow). Represents k ms rows) (sym (at_drop_all (λ (rs : List (Revision PartRow)). all_revised part_key part_reaching rs so_far.0) parts i l) ∙ so_far.1.1.1.1) so_far.1.0

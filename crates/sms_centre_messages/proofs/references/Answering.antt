@@ -6,12 +6,12 @@ use Rattle.sms_centre_rows.specs.declared.messages.message.MessageRow.{MessageRo
 use Rattle.sms_centre_rows.specs.declared.messages.part.PartRow.{PartRow}
 use Rattle.sms_centre_rows.specs.messages.SplitReferences.{first_free_split, held_splits, is_among, last_split, own_splits, start_after}
 use Rattle.std.proofs.lemmas.Bool.{cond-true, cond-false}
-use Rattle.sms_centre_messages.specs.references.Claims.{ClaimsOf, Holds, has_pending, last_code}
+use Rattle.sms_centre_messages.specs.references.ReferenceIndex.{ReferenceIndexOf, Represents, has_pending, last_code}
 use Rattle.sms_centre_messages.specs.references.Counts.{counted}
 use Rattle.sms_centre_messages.specs.references.Keys.{key_of, pair_of}
 use Rattle.sms_centre_messages.proofs.references.Tallies.{among_counted, held_counted, held_length, length_append, own_counted, own_length, pending_counted}
 
-pub holds_nothing : (k : ClaimsOf) → ((key : _) → counted key k.held ≡ 0) → ((key : _) → counted key k.own ≡ 0) → ((key : _) → counted key k.barred ≡ 0) → ((key : _) → counted key k.last ≡ 0) → ((key : _) → counted key k.pending ≡ 0) → Holds k [] []
+pub holds_nothing : (k : ReferenceIndexOf) → ((key : _) → counted key k.held ≡ 0) → ((key : _) → counted key k.own ≡ 0) → ((key : _) → counted key k.barred ≡ 0) → ((key : _) → counted key k.last ≡ 0) → ((key : _) → counted key k.pending ≡ 0) → Represents k [] []
 holds_nothing k held own barred last pending = record {
   held = held;
   own = own;
@@ -20,7 +20,7 @@ holds_nothing k held own barred last pending = record {
   pending = λ source handset reference. pending (pair_of source handset reference);
 }
 
-module _ (k : ClaimsOf) (ms : List MessageRow) (ps : List PartRow) (h : Holds k ms ps) where
+module _ (k : ReferenceIndexOf) (ms : List MessageRow) (ps : List PartRow) (h : Represents k ms ps) where
   pub held_answer : (source : Address) (handset : List ℕ) (n : ℕ) → nat_lt 0 (counted (key_of source handset n) k.held) ≡ is_among n (held_splits source handset ms)
   held_answer source handset n =
       ap (λ (c : ℕ). nat_lt 0 c) (h.held (key_of source handset n) ∙ sym (held_counted source handset n ms)) ∙ sym (among_counted n (held_splits source handset ms))

@@ -16,8 +16,8 @@ use Rattle.sms_centre_rows.specs.declared.messages.message.MessageRow.{MessageRo
 use Rattle.sms_centre_rows.specs.declared.messages.part.PartRow.{PartRow}
 use Rattle.sms_centre_rows.specs.messages.Messages.{ended, is_pending, message_at, message_key, part_key}
 use Rattle.sms_centre_rows.specs.messages.SplitReferences.{is_between, is_delivered, last_split, or_later, unless_split, wide_in}
-use Rattle.sms_centre_messages.specs.declared.references.between.Between.{Between}
-use Rattle.sms_centre_messages.specs.references.Claims.{AreFew, BarsLess, BringsBar, BringsOwn, Brought, ClaimsOf, Ended, Holds, HoldsLess, PendsLess, still, came_with, came_with_any, holds, holds_any, last_code, is_from_handset, is_of, is_reference, repeats, total, wide_of}
+use Rattle.sms_centre_messages.specs.declared.references.message_ends.MessageEnds.{MessageEnds}
+use Rattle.sms_centre_messages.specs.references.ReferenceIndex.{AreFew, BarsLess, BringsBar, BringsOwn, Brought, ReferenceIndexOf, Ended, Represents, HoldsLess, PendsLess, still, came_with, came_with_any, holds, holds_any, last_code, is_from_handset, is_of, is_reference, repeats, total, wide_of}
 use Rattle.sms_centre_messages.specs.references.Counts.{CountsOf, IsAdded, IsTaken, counted, one_if}
 use Rattle.sms_centre_messages.specs.references.Keys.{is_same_sender, key_of, pair_of}
 use Rattle.sms_centre_messages.proofs.references.Entering.{at_most_one, none_any, none_first, plus_none, same_both, total_few, total_same, turned_back}
@@ -135,8 +135,8 @@ less_held true true r = omega arith
 less_held true false r = refl
 less_held false a r = omega arith
 
-pub holds_ended : (m : MessageRow) (state : FinalState) (moment : ℕ) (old new : ClaimsOf) (ms : List MessageRow) (ps : List PartRow) → Ended m state old new → Holds old ms ps → Rises message_key ms → message_at m.id ms ≡ Some m
-    → is_pending m ≡ true → is_delivered m.state ≡ false → Holds new (put message_key (ended state moment m) ms) ps
+pub holds_ended : (m : MessageRow) (state : FinalState) (moment : ℕ) (old new : ReferenceIndexOf) (ms : List MessageRow) (ps : List PartRow) → Ended m state old new → Represents old ms ps → Rises message_key ms → message_at m.id ms ≡ Some m
+    → is_pending m ≡ true → is_delivered m.state ≡ false → Represents new (put message_key (ended state moment m) ms) ps
 holds_ended m state moment old new ms ps ends h rises there open' undelivered =
     let later : MessageRow = ended state moment m in
     record {
@@ -178,16 +178,16 @@ undelivered : (o : Option FinalState) → is_none o ≡ true → is_delivered o 
 undelivered None e = refl
 undelivered (Some state) e = absurd (true≢false (sym e))
 
-held_still : (m : MessageRow) (key : Between) → is_pending m ≡ true → holds key (still m) ≡ holds key m
+held_still : (m : MessageRow) (key : MessageEnds) → is_pending m ≡ true → holds key (still m) ≡ holds key m
 held_still m key open' = ap (λ (d : Bool). one_if (is_of key m && (not d && is_reference key.number m.split_reference))) (sym (undelivered m.state open'))
 
-barred_still : (m : MessageRow) (key : Between) → is_pending m ≡ true → holds_any key (still m) ≡ holds_any key m
+barred_still : (m : MessageRow) (key : MessageEnds) → is_pending m ≡ true → holds_any key (still m) ≡ holds_any key m
 barred_still m key open' = ap (λ (d : Bool). one_if (is_of key m && (not d && is_some m.split_reference))) (sym (undelivered m.state open'))
 
 pending_still : (m : MessageRow) (source handset : List ℕ) (n : ℕ) → is_pending m ≡ true → one_if (repeats source handset n (still m)) ≡ one_if (repeats source handset n m)
 pending_still m source handset n open' = ap (λ (b : Bool). one_if (b && (is_from_handset n m.originator && (bytes_eq source m.source.digits && bytes_eq handset m.handset)))) (sym open')
 
-ended_as : (m : MessageRow) (state : FinalState) (old new : ClaimsOf) → is_pending m ≡ true → Ended (still m) state old new → Ended m state old new
+ended_as : (m : MessageRow) (state : FinalState) (old new : ReferenceIndexOf) → is_pending m ≡ true → Ended (still m) state old new → Ended m state old new
 ended_as m state old new open' e = record {
   held = λ key. e.held key ∙ ap (λ (n : ℕ). counted key old.held - (if is_delivered (Some state) then n else 0)) (held_still m key open');
   barred = λ source handset. e.barred source handset ∙ ap (λ (n : ℕ). counted (key_of source handset 0) old.barred - (if is_delivered (Some state) then n else 0)) (barred_still m (key_of source handset 0) open');
@@ -196,15 +196,15 @@ ended_as m state old new open' e = record {
   own = e.own;
 }
 
-pub holds_after_end : (row m : MessageRow) (state : FinalState) (moment : ℕ) (old new : ClaimsOf) (ms : List MessageRow) (ps : List PartRow) → Ended (still row) state old new → Holds old ms ps → Rises message_key ms → message_at m.id ms ≡ Some m
-    → is_pending m ≡ true → still row ≡ still m → Holds new (put message_key (ended state moment m) ms) ps
+pub holds_after_end : (row m : MessageRow) (state : FinalState) (moment : ℕ) (old new : ReferenceIndexOf) (ms : List MessageRow) (ps : List PartRow) → Ended (still row) state old new → Represents old ms ps → Rises message_key ms → message_at m.id ms ≡ Some m
+    → is_pending m ≡ true → still row ≡ still m → Represents new (put message_key (ended state moment m) ms) ps
 holds_after_end row m state moment old new ms ps e h rises there open' same =
     holds_ended m state moment old new ms ps (ended_as m state old new open' (subst (λ (r : MessageRow). Ended r state old new) same e)) h rises there open' (undelivered m.state open')
 
 -- ---- a part comes
 
-pub holds_brought : (m : MessageRow) (p : PartRow) (old new : ClaimsOf) (ms : List MessageRow) (ps : List PartRow) → Brought m p.key old new → Holds old ms ps → Rises part_key ps → message_at p.id ms ≡ Some m
-    → row_at part_key (part_key p) ps ≡ None → AreFew ms ps → Holds new ms (put part_key p ps)
+pub holds_brought : (m : MessageRow) (p : PartRow) (old new : ReferenceIndexOf) (ms : List MessageRow) (ps : List PartRow) → Brought m p.key old new → Represents old ms ps → Rises part_key ps → message_at p.id ms ≡ Some m
+    → row_at part_key (part_key p) ps ≡ None → AreFew ms ps → Represents new ms (put part_key p ps)
 holds_brought m p old new ms ps brought h rises there absent few = record {
   held = λ key. ap (λ (k : CountsOf). counted key k) brought.held ∙ h.held key;
   own = λ key.

@@ -14,7 +14,7 @@ use Rattle.sms_centre_rows.specs.declared.messages.message.MessageRow.{MessageRo
 use Rattle.sms_centre_rows.specs.declared.messages.part.PartRow.{PartRow}
 use Rattle.sms_centre_rows.specs.messages.Messages.{is_pending, message_at, message_key}
 use Rattle.sms_centre_rows.specs.messages.SplitReferences.{is_between, is_delivered, last_split, or_later}
-use Rattle.sms_centre_messages.specs.references.Claims.{AreFew, BarsMore, ClaimsOf, ComesBehind, Entered, GivesLast, Holds, HoldsMore, PendsMore, came_with_any, code_or, holds, holds_any, is_from_handset, is_of, is_reference, last_code, repeats, total, wide_of}
+use Rattle.sms_centre_messages.specs.references.ReferenceIndex.{AreFew, BarsMore, ReferenceIndexOf, ComesBehind, Entered, GivesLast, Represents, HoldsMore, PendsMore, came_with_any, code_or, holds, holds_any, is_from_handset, is_of, is_reference, last_code, repeats, total, wide_of}
 use Rattle.sms_centre_messages.specs.references.Counts.{CountsOf, IsAdded, IsSet, counted, one_if}
 use Rattle.sms_centre_messages.specs.references.Keys.{is_same_sender, key_of, pair_of}
 use Rattle.sms_centre_messages.proofs.references.Behind.{put_last}
@@ -63,7 +63,7 @@ same_parts f m ms ps none =
     total_same (λ p. f p (message_at p.id (put message_key m ms))) (λ p. f p (message_at p.id ms)) ps
     (λ p a. ap (λ (o : Option MessageRow). f p o) (row_at_put_other message_key p.id m ms (λ (e : m.id ≡ p.id). none p a (sym e))))
 
-pub holds_entered : (m : MessageRow) (old new : ClaimsOf) (ms : List MessageRow) (ps : List PartRow) → Entered m old new → Holds old ms ps → ComesBehind m ms ps → AreFew ms ps → Holds new (put message_key m ms) ps
+pub holds_entered : (m : MessageRow) (old new : ReferenceIndexOf) (ms : List MessageRow) (ps : List PartRow) → Entered m old new → Represents old ms ps → ComesBehind m ms ps → AreFew ms ps → Represents new (put message_key m ms) ps
 holds_entered m old new ms ps entered h behind few = record {
   held = λ key.
       let there = h.held key in

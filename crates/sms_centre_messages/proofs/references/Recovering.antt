@@ -7,7 +7,7 @@ use Rattle.sms_rows.proofs.table.Tables.{row_behind}
 use Rattle.sms_centre_rows.specs.declared.messages.message.MessageRow.{MessageRow}
 use Rattle.sms_centre_rows.specs.declared.messages.part.PartRow.{PartRow}
 use Rattle.sms_centre_rows.specs.messages.Messages.{message_at, message_key, part_key}
-use Rattle.sms_centre_messages.specs.references.Claims.{AreFew, ClaimsOf, ComesBehind, Holds, came_with, came_with_any, is_reference, wide_of}
+use Rattle.sms_centre_messages.specs.references.ReferenceIndex.{AreFew, ReferenceIndexOf, ComesBehind, Represents, came_with, came_with_any, is_reference, wide_of}
 use Rattle.sms_centre_messages.specs.references.Counts.{one_if}
 use Rattle.sms_centre_messages.specs.references.Keys.{key_of}
 use Rattle.sms_centre_messages.proofs.references.Behind.{put_last}
@@ -53,11 +53,11 @@ rises_take key (suc i) (x ∷ xs) rises = (above_take (key x) i xs rises.0, rise
   above_take n (suc j) (y ∷ ys) above = (above.0, above_take n j ys above.1)
 
 -- the next message comes
-pub entered_next : (i : ℕ) (rows : List MessageRow) (row : MessageRow) (old new : ClaimsOf) → Rises message_key rows → i < length rows → row ≡ get_or rows i row → length rows < 18446744073709551615
-    → ((ms : List MessageRow) (ps : List PartRow) → Holds old ms ps → ComesBehind row ms ps → AreFew ms ps → Holds new (put message_key row ms) ps) → Holds old (take i rows) [] → Holds new (take (i + 1) rows) []
+pub entered_next : (i : ℕ) (rows : List MessageRow) (row : MessageRow) (old new : ReferenceIndexOf) → Rises message_key rows → i < length rows → row ≡ get_or rows i row → length rows < 18446744073709551615
+    → ((ms : List MessageRow) (ps : List PartRow) → Represents old ms ps → ComesBehind row ms ps → AreFew ms ps → Represents new (put message_key row ms) ps) → Represents old (take i rows) [] → Represents new (take (i + 1) rows) []
 entered_next i rows row old new rises l is few step h =
     let short = take_few i rows in
-    subst (λ (ms : List MessageRow). Holds new ms []) (ap (λ (r : MessageRow). put message_key r (take i rows)) is ∙ put_next message_key i rows row rises l)
+    subst (λ (ms : List MessageRow). Represents new ms []) (ap (λ (r : MessageRow). put message_key r (take i rows)) is ∙ put_next message_key i rows row rises l)
     (step (take i rows) [] h
     (record {
       last = λ other a. subst (λ (r : MessageRow). other.id < r.id) (sym is) (before_lower message_key i rows row other rises l a);
@@ -66,18 +66,18 @@ entered_next i rows row old new rises l is few step h =
     (omega (arith, short, few)))
 
 -- the next part comes
-pub brought_next : (i : ℕ) (parts : List PartRow) (part : PartRow) (old new : ClaimsOf) (ms : List MessageRow) → Rises part_key parts → i < length parts → part ≡ get_or parts i part → AreFew ms parts
-    → ((ps : List PartRow) → Holds old ms ps → Rises part_key ps → row_at part_key (part_key part) ps ≡ None → AreFew ms ps → Holds new ms (put part_key part ps))
-    → Holds old ms (take i parts) → Holds new ms (take (i + 1) parts)
+pub brought_next : (i : ℕ) (parts : List PartRow) (part : PartRow) (old new : ReferenceIndexOf) (ms : List MessageRow) → Rises part_key parts → i < length parts → part ≡ get_or parts i part → AreFew ms parts
+    → ((ps : List PartRow) → Represents old ms ps → Rises part_key ps → row_at part_key (part_key part) ps ≡ None → AreFew ms ps → Represents new ms (put part_key part ps))
+    → Represents old ms (take i parts) → Represents new ms (take (i + 1) parts)
 brought_next i parts part old new ms rises l is few step h =
     let short = take_few i parts in
-    subst (λ (ps : List PartRow). Holds new ms ps) (ap (λ (r : PartRow). put part_key r (take i parts)) is ∙ put_next part_key i parts part rises l)
+    subst (λ (ps : List PartRow). Represents new ms ps) (ap (λ (r : PartRow). put part_key r (take i parts)) is ∙ put_next part_key i parts part rises l)
     (step (take i parts) h (rises_take part_key i parts rises)
     (ap (λ (r : PartRow). row_at part_key (part_key r) (take i parts)) is ∙ next_absent part_key i parts part rises l)
     (omega (arith, short, few)))
 
 -- a part without its message lays claim to nothing
-pub holds_unfound : (p : PartRow) (k : ClaimsOf) (ms : List MessageRow) (ps : List PartRow) → Holds k ms ps → Rises part_key ps → message_at p.id ms ≡ None → row_at part_key (part_key p) ps ≡ None → Holds k ms (put part_key p ps)
+pub holds_unfound : (p : PartRow) (k : ReferenceIndexOf) (ms : List MessageRow) (ps : List PartRow) → Represents k ms ps → Rises part_key ps → message_at p.id ms ≡ None → row_at part_key (part_key p) ps ≡ None → Represents k ms (put part_key p ps)
 holds_unfound p k ms ps h rises none new = record {
   held = h.held;
   own = λ key.

@@ -6,7 +6,7 @@ use Rattle.sms_centre_rows.specs.declared.messages.message.MessageRow.{MessageRo
 use Rattle.sms_centre_rows.specs.declared.messages.part.PartRow.{PartRow}
 use Rattle.sms_centre_rows.specs.messages.Messages.{message_at}
 use Rattle.sms_centre_rows.specs.messages.SplitReferences.{held_splits, is_among, is_between, is_delivered, optional, own_splits, own_wide}
-use Rattle.sms_centre_messages.specs.references.Claims.{came_with, came_with_any, has_pending, holds, holds_any, is_reference, repeats, total, wide_of}
+use Rattle.sms_centre_messages.specs.references.ReferenceIndex.{came_with, came_with_any, has_pending, holds, holds_any, is_reference, repeats, total, wide_of}
 use Rattle.sms_centre_messages.specs.references.Counts.{one_if}
 use Rattle.sms_centre_messages.specs.references.Keys.{key_of}
 

@@ -7,13 +7,13 @@ use Rattle.std.specs.Str.{bytes_eq}
 use Rattle.std.proofs.lemmas.Bool.{cases_Bool, and_from, and_parts, cond-true, cond-false}
 use Rattle.std.proofs.lemmas.Bool.Decides.{nat_tests}
 use Rattle.std.proofs.lemmas.Slice.Eq.{bytes_eq-Decides}
-use Rattle.sms_centre_messages.specs.declared.references.between.Between.{Between}
+use Rattle.sms_centre_messages.specs.declared.references.message_ends.MessageEnds.{MessageEnds}
 use Rattle.sms_centre_messages.specs.references.Counts.{CountsOf, IsAdded, IsSet, IsTaken, counted, one_if}
 use Rattle.sms_centre_messages.specs.references.Keys.{is_same, is_same_sender}
 
 -- ---- keys
 
-abbrev made : ℕ → ℕ → List ℕ → List ℕ → ℕ → Between
+abbrev made : ℕ → ℕ → List ℕ → List ℕ → ℕ → MessageEnds
 made kind plan source handset number = record {
   source = record { type_of_number = kind; plan = plan; digits = record { digits = source } };
   handset = record { digits = handset };
@@ -23,7 +23,7 @@ made kind plan source handset number = record {
 same_number : (a b : ℕ) → nat_eq a b ≡ true → a ≡ b
 same_number a b e = grind (arith, nat_tests)
 
-pub same_key : (a b : Between) → is_same a b ≡ true → a ≡ b
+pub same_key : (a b : MessageEnds) → is_same a b ≡ true → a ≡ b
 same_key a b e =
     let parts = and_parts (is_same_sender a.source b.source) (bytes_eq a.handset.digits b.handset.digits && nat_eq a.number b.number) e in
     let sender = and_parts (nat_eq a.source.type_of_number b.source.type_of_number) (nat_eq a.source.plan b.source.plan && bytes_eq a.source.digits.digits b.source.digits.digits) parts.0 in
@@ -43,16 +43,16 @@ unwrapped : (b : Bool) (x y : Option ℕ) (n : ℕ) → unwrap_or x 0 ≡ n → 
 unwrapped true x y n e = e
 unwrapped false x y n e = refl
 
-pub set_to : (key : Between) (w : Option ℕ) (n : ℕ) (old new : CountsOf) → unwrap_or w 0 ≡ n
-    → ((q : Between) → lookup (is_same q) new.entries ≡ cond (is_same key q) w (lookup (is_same q) old.entries)) → IsSet key n old new
+pub set_to : (key : MessageEnds) (w : Option ℕ) (n : ℕ) (old new : CountsOf) → unwrap_or w 0 ≡ n
+    → ((q : MessageEnds) → lookup (is_same q) new.entries ≡ cond (is_same key q) w (lookup (is_same q) old.entries)) → IsSet key n old new
 set_to key w n old new e written = λ q.
     ap (λ (o : Option ℕ). unwrap_or o 0) (written q) ∙ unwrapped (is_same key q) w (lookup (is_same q) old.entries) n e
 
-pub added_set : (key : Between) (more : ℕ) (old new : CountsOf) → more ≡ counted key old + 1 → IsSet key more old new → IsAdded key old new
+pub added_set : (key : MessageEnds) (more : ℕ) (old new : CountsOf) → more ≡ counted key old + 1 → IsSet key more old new → IsAdded key old new
 added_set key more old new e set = λ q small. ⊎_elim
     (λ (t : is_same key q ≡ true).
     let there = set q ∙ cond-true (is_same key q) more (counted q old) t in
-    let same : counted key old ≡ counted q old = ap (λ (k : Between). counted k old) (same_key key q t) in
+    let same : counted key old ≡ counted q old = ap (λ (k : MessageEnds). counted k old) (same_key key q t) in
     let one : one_if (is_same key q) ≡ 1 = ap one_if t in
     omega (arith, there, e, same, one))
     (λ (f : is_same key q ≡ false).
@@ -61,19 +61,19 @@ added_set key more old new e set = λ q small. ⊎_elim
     omega (arith, there, none))
     (cases_Bool (is_same key q))
 
-pub added_full : (key : Between) (old : CountsOf) → 18446744073709551615 ≤ counted key old → IsAdded key old old
+pub added_full : (key : MessageEnds) (old : CountsOf) → 18446744073709551615 ≤ counted key old → IsAdded key old old
 added_full key old full = λ q small. ⊎_elim
     (λ (t : is_same key q ≡ true).
-    let same : counted key old ≡ counted q old = ap (λ (k : Between). counted k old) (same_key key q t) in
+    let same : counted key old ≡ counted q old = ap (λ (k : MessageEnds). counted k old) (same_key key q t) in
     absurd (omega (arith, small, full, same)))
     (λ (f : is_same key q ≡ false). let none : one_if (is_same key q) ≡ 0 = ap one_if f in omega (arith, none))
     (cases_Bool (is_same key q))
 
-pub taken_set : (key : Between) (less : ℕ) (old new : CountsOf) → less ≡ counted key old - 1 → IsSet key less old new → IsTaken key old new
+pub taken_set : (key : MessageEnds) (less : ℕ) (old new : CountsOf) → less ≡ counted key old - 1 → IsSet key less old new → IsTaken key old new
 taken_set key less old new e set = λ q. ⊎_elim
     (λ (t : is_same key q ≡ true).
     let there = set q ∙ cond-true (is_same key q) less (counted q old) t in
-    let same : counted key old ≡ counted q old = ap (λ (k : Between). counted k old) (same_key key q t) in
+    let same : counted key old ≡ counted q old = ap (λ (k : MessageEnds). counted k old) (same_key key q t) in
     let one : one_if (is_same key q) ≡ 1 = ap one_if t in
     there ∙ e ∙ omega (arith, same, one))
     (λ (f : is_same key q ≡ false).
@@ -83,13 +83,13 @@ taken_set key less old new e set = λ q. ⊎_elim
     (cases_Bool (is_same key q))
 
 -- what stands there isn't missing
-pub not_missing : (key : Between) (k : CountsOf) → lookup (is_same key) k.entries ≡ None → 1 < counted key k → ⊥
+pub not_missing : (key : MessageEnds) (k : CountsOf) → lookup (is_same key) k.entries ≡ None → 1 < counted key k → ⊥
 not_missing key k none some =
     let zero : counted key k ≡ 0 = ap (λ (o : Option ℕ). unwrap_or o 0) none in
     omega (arith, zero, some)
 
-pub same_here : (a b : Between) → a ≡ b → is_same a b ≡ true
-same_here a b e = subst (λ (k : Between). is_same a k ≡ true) e
+pub same_here : (a b : MessageEnds) → a ≡ b → is_same a b ≡ true
+same_here a b e = subst (λ (k : MessageEnds). is_same a k ≡ true) e
     (and_from (is_same_sender a.source a.source) (bytes_eq a.handset.digits a.handset.digits && nat_eq a.number a.number)
     (and_from (nat_eq a.source.type_of_number a.source.type_of_number) (nat_eq a.source.plan a.source.plan && bytes_eq a.source.digits.digits a.source.digits.digits)
     (eq-eqb a.source.type_of_number a.source.type_of_number refl)

@@ -3,11 +3,11 @@ use Rattle.std.specs.Prelude.{ℕ, nat_eq, ◌&&◌, List, Bool}
 use Rattle.std.specs.Str.{bytes_eq}
 use Rattle.sms_base.specs.AddressKind.{type_number}
 use Rattle.sms_base.specs.declared.address.Address.{Address}
-use Rattle.sms_centre_messages.specs.declared.references.between.Between.{Between}
-use Rattle.sms_centre_messages.specs.declared.references.between.Sender.{Sender}
+use Rattle.sms_centre_messages.specs.declared.references.message_ends.MessageEnds.{MessageEnds}
+use Rattle.sms_centre_messages.specs.declared.references.message_ends.Sender.{Sender}
 
 -- a number of a source and a handset
-abbrev pub key_of : Address → List ℕ → ℕ → Between
+abbrev pub key_of : Address → List ℕ → ℕ → MessageEnds
 key_of source handset number = record {
   source = record { type_of_number = type_number source.ton; plan = source.npi; digits = record { digits = source.digits } };
   handset = record { digits = handset };
@@ -15,7 +15,7 @@ key_of source handset number = record {
 }
 
 -- a number of the digits of a source and a handset
-abbrev pub pair_of : List ℕ → List ℕ → ℕ → Between
+abbrev pub pair_of : List ℕ → List ℕ → ℕ → MessageEnds
 pair_of source handset number = record {
   source = record { type_of_number = 0; plan = 0; digits = record { digits = source } };
   handset = record { digits = handset };
@@ -25,5 +25,5 @@ pair_of source handset number = record {
 abbrev pub is_same_sender : Sender → Sender → Bool
 is_same_sender a b = nat_eq a.type_of_number b.type_of_number && (nat_eq a.plan b.plan && bytes_eq a.digits.digits b.digits.digits)
 
-abbrev pub is_same : Between → Between → Bool
+abbrev pub is_same : MessageEnds → MessageEnds → Bool
 is_same a b = is_same_sender a.source b.source && (bytes_eq a.handset.digits b.handset.digits && nat_eq a.number b.number)

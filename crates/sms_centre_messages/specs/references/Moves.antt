@@ -10,8 +10,8 @@ use Rattle.sms_centre_rows.specs.messages.Messages.{ended, is_pending, message_a
 use Rattle.sms_centre_rows.specs.declared.waiting.revision.Revision.{Revision}
 use Rattle.sms_centre_rows.specs.declared.waiting.revision.Revision.TheVariants.{Put as PutPart, Amend, Remove as RemovePart}
 use Rattle.sms_centre_rows.specs.waiting.Revisions.{revised}
-use Rattle.sms_centre_messages.specs.declared.references.between.Between.{Between}
-use Rattle.sms_centre_messages.specs.references.Claims.{AreFew, ClaimsOf, ComesBehind}
+use Rattle.sms_centre_messages.specs.declared.references.message_ends.MessageEnds.{MessageEnds}
+use Rattle.sms_centre_messages.specs.references.ReferenceIndex.{AreFew, ReferenceIndexOf, ComesBehind}
 use Rattle.sms_centre_messages.specs.references.Counts.{Makes, Suffices, counted}
 
 -- ---- changes of messages
@@ -45,7 +45,7 @@ ArePartMoves changes (r ∷ rs) ms ps = IsPartMove changes r ms ps × ArePartMov
 
 -- ---- memory
 
-pub record SpareOf : Type 0 where
+pub record ReferenceIndexReserveOf : Type 0 where
   pub held : ℕ
   pub own : ℕ
   pub barred : ℕ
@@ -53,7 +53,7 @@ pub record SpareOf : Type 0 where
   pub pending : ℕ
 
 -- it is memory for so many changes of messages and of parts
-pub record Fits (s : SpareOf) (messages parts : ℕ) (k : ClaimsOf) : Type 0 where
+pub record Fits (s : ReferenceIndexReserveOf) (messages parts : ℕ) (k : ReferenceIndexOf) : Type 0 where
   pub held : Suffices messages s.held k.held
   pub own : Suffices parts s.own k.own
   pub barred : Suffices (messages + parts) s.barred k.barred
@@ -61,7 +61,7 @@ pub record Fits (s : SpareOf) (messages parts : ℕ) (k : ClaimsOf) : Type 0 whe
   pub pending : Suffices messages s.pending k.pending
 
 -- so many changes take no memory
-pub record HasRoomFor (messages parts : ℕ) (k : ClaimsOf) : Type 0 where
+pub record HasRoomFor (messages parts : ℕ) (k : ReferenceIndexOf) : Type 0 where
   pub held : messages ≤ k.held.room
   pub own : parts ≤ k.own.room
   pub barred : messages + parts ≤ k.barred.room
@@ -69,14 +69,14 @@ pub record HasRoomFor (messages parts : ℕ) (k : ClaimsOf) : Type 0 where
   pub pending : messages ≤ k.pending.room
 
 -- the memory was taken in
-pub record Takes (s : SpareOf) (old new : ClaimsOf) : Type 0 where
-  pub held : (key : Between) → counted key new.held ≡ counted key old.held
+pub record Takes (s : ReferenceIndexReserveOf) (old new : ReferenceIndexOf) : Type 0 where
+  pub held : (key : MessageEnds) → counted key new.held ≡ counted key old.held
   pub held_room : Makes s.held old.held new.held
-  pub own : (key : Between) → counted key new.own ≡ counted key old.own
+  pub own : (key : MessageEnds) → counted key new.own ≡ counted key old.own
   pub own_room : Makes s.own old.own new.own
-  pub barred : (key : Between) → counted key new.barred ≡ counted key old.barred
+  pub barred : (key : MessageEnds) → counted key new.barred ≡ counted key old.barred
   pub barred_room : Makes s.barred old.barred new.barred
-  pub last : (key : Between) → counted key new.last ≡ counted key old.last
+  pub last : (key : MessageEnds) → counted key new.last ≡ counted key old.last
   pub last_room : Makes s.last old.last new.last
-  pub pending : (key : Between) → counted key new.pending ≡ counted key old.pending
+  pub pending : (key : MessageEnds) → counted key new.pending ≡ counted key old.pending
   pub pending_room : Makes s.pending old.pending new.pending

@@ -1,6 +1,6 @@
 //! What an event leaves, put in without taking memory.
 ghost use Rattle.std.specs.Prelude.{◌≡◌, ◌+◌, ℕ, List, Some, None, length, option_copied};
-ghost use Rattle.sms_centre_messages.specs.references.Claims.{AreFew, ComesBehind, Holds};
+ghost use Rattle.sms_centre_messages.specs.references.ReferenceIndex.{AreFew, ComesBehind, Represents};
 ghost use Rattle.sms_centre_messages.specs.references.Moves.{AreMoves, ArePartMoves, Fits, HasRoomFor, IsMove, IsMoveTo, IsPartMove};
 ghost use Rattle.sms_centre_rows.specs.messages.Messages.{message_at, message_key, part_key, part_reaching};
 ghost use Rattle.sms_centre_rows.specs.declared.messages.message.MessageRow.{MessageRow as MessageRowOf};
@@ -9,27 +9,27 @@ ghost use Rattle.sms_rows.specs.table.Table.{Rises, all_applied, applied, newest
 ghost use Rattle.sms_centre_rows.specs.waiting.Revisions.{all_revised, revised};
 ghost use Rattle.sms_centre_rows.specs.declared.waiting.revision.Revision.TheVariants.{Put as PutPart};
 
-use crate::references::claims::KeptClaims;
-use crate::references::spare::SpareClaims;
+use crate::references::reference_index::ReferenceIndex;
+use crate::references::reserve::ReferenceIndexReserve;
 use sms_centre_rows::messages::{MessageRow, PartRow};
 use sms_centre_rows::waiting::Revision;
 use sms_rows::table::{Change, Key};
 
-impl KeptClaims {
+impl ReferenceIndex {
     /// Puts the changes of messages and of parts in, without taking memory. A pending message is new, behind all
     /// others; one that has an end was pending before. A part is new with its message.
     pub fn adopt(
         &mut self,
-        spare: SpareClaims,
+        reserve: ReferenceIndexReserve,
         messages: &[Change<MessageRow>],
         parts: &[Revision<PartRow>],
     )
-        requires { Fits spare (length messages.now) (length parts.now) self.old }
-        ensures { (ms : List MessageRowOf) (ps : List PartRowOf) → Holds self.old ms ps → Rises message_key ms → Rises part_key ps → AreMoves messages.now ms ps
+        requires { Fits reserve (length messages.now) (length parts.now) self.old }
+        ensures { (ms : List MessageRowOf) (ps : List PartRowOf) → Represents self.old ms ps → Rises message_key ms → Rises part_key ps → AreMoves messages.now ms ps
             → ArePartMoves messages.now parts.now (all_applied message_key messages.now ms) ps
-            → Holds self.new (all_applied message_key messages.now ms) (all_revised part_key part_reaching parts.now ps) }
+            → Represents self.new (all_applied message_key messages.now ms) (all_revised part_key part_reaching parts.now ps) }
     {
-        self.take_in(spare);
+        self.take_in(reserve);
         self.apply_all(messages, parts.len());
         self.apply_parts(parts, messages);
     }
@@ -37,7 +37,7 @@ impl KeptClaims {
     // The changes of messages, where so many of parts are to come.
     fn apply_all(&mut self, messages: &[Change<MessageRow>], parts: usize)
         requires { HasRoomFor (length messages.now) parts self.old }
-        ensures holds { (ms : List MessageRowOf) (ps : List PartRowOf) → Holds self.old ms ps → Rises message_key ms → AreMoves messages.now ms ps → Holds self.new (all_applied message_key messages.now ms) ps }
+        ensures holds { (ms : List MessageRowOf) (ps : List PartRowOf) → Represents self.old ms ps → Rises message_key ms → AreMoves messages.now ms ps → Represents self.new (all_applied message_key messages.now ms) ps }
         ensures room { HasRoomFor 0 parts self.new }
     {
         for change in messages {
@@ -47,7 +47,7 @@ impl KeptClaims {
 
     fn apply(&mut self, change: &Change<MessageRow>)
         requires { HasRoomFor 1 0 self.old }
-        ensures holds { (ms : List MessageRowOf) (ps : List PartRowOf) → Holds self.old ms ps → Rises message_key ms → IsMove change.now ms ps → Holds self.new (applied message_key change.now ms) ps }
+        ensures holds { (ms : List MessageRowOf) (ps : List PartRowOf) → Represents self.old ms ps → Rises message_key ms → IsMove change.now ms ps → Represents self.new (applied message_key change.now ms) ps }
         ensures room { (n p : ℕ) → HasRoomFor (n + 1) p self.old → HasRoomFor n p self.new }
     {
         if let Change::Put(row) = change {
@@ -57,7 +57,7 @@ impl KeptClaims {
 
     fn put(&mut self, row: &MessageRow)
         requires { HasRoomFor 1 0 self.old }
-        ensures holds { (ms : List MessageRowOf) (ps : List PartRowOf) → Holds self.old ms ps → Rises message_key ms → IsMoveTo row.now.state row.now ms ps → Holds self.new (put message_key row.now ms) ps }
+        ensures holds { (ms : List MessageRowOf) (ps : List PartRowOf) → Represents self.old ms ps → Rises message_key ms → IsMoveTo row.now.state row.now ms ps → Represents self.new (put message_key row.now ms) ps }
         ensures room { (n p : ℕ) → HasRoomFor (n + 1) p self.old → HasRoomFor n p self.new }
     {
         match row.state {
@@ -68,7 +68,7 @@ impl KeptClaims {
 
     fn enter_ready(&mut self, row: &MessageRow)
         requires { HasRoomFor 1 0 self.old }
-        ensures holds { (ms : List MessageRowOf) (ps : List PartRowOf) → Holds self.old ms ps → ComesBehind row.now ms ps → AreFew ms ps → Holds self.new (put message_key row.now ms) ps }
+        ensures holds { (ms : List MessageRowOf) (ps : List PartRowOf) → Represents self.old ms ps → ComesBehind row.now ms ps → AreFew ms ps → Represents self.new (put message_key row.now ms) ps }
         ensures room { (n p : ℕ) → HasRoomFor (n + 1) p self.old → HasRoomFor n p self.new }
     {
         match self.enter(row) {
@@ -80,8 +80,8 @@ impl KeptClaims {
     // The changes of parts, whose messages came by the others.
     fn apply_parts(&mut self, parts: &[Revision<PartRow>], messages: &[Change<MessageRow>])
         requires { HasRoomFor 0 (length parts.now) self.old }
-        ensures { (base ms : List MessageRowOf) (ps : List PartRowOf) → ms ≡ all_applied message_key messages.now base → Holds self.old ms ps → Rises part_key ps → ArePartMoves messages.now parts.now ms ps
-            → Holds self.new ms (all_revised part_key part_reaching parts.now ps) }
+        ensures { (base ms : List MessageRowOf) (ps : List PartRowOf) → ms ≡ all_applied message_key messages.now base → Represents self.old ms ps → Rises part_key ps → ArePartMoves messages.now parts.now ms ps
+            → Represents self.new ms (all_revised part_key part_reaching parts.now ps) }
     {
         for revision in parts {
             self.apply_part(revision, messages);
@@ -90,8 +90,8 @@ impl KeptClaims {
 
     fn apply_part(&mut self, revision: &Revision<PartRow>, messages: &[Change<MessageRow>])
         requires { HasRoomFor 0 1 self.old }
-        ensures holds { (base ms : List MessageRowOf) (ps : List PartRowOf) → ms ≡ all_applied message_key messages.now base → Holds self.old ms ps → Rises part_key ps
-            → IsPartMove messages.now revision.now ms ps → Holds self.new ms (revised part_key part_reaching revision.now ps) }
+        ensures holds { (base ms : List MessageRowOf) (ps : List PartRowOf) → ms ≡ all_applied message_key messages.now base → Represents self.old ms ps → Rises part_key ps
+            → IsPartMove messages.now revision.now ms ps → Represents self.new ms (revised part_key part_reaching revision.now ps) }
         ensures room { (n : ℕ) → HasRoomFor 0 (n + 1) self.old → HasRoomFor 0 n self.new }
     {
         match revision {
@@ -103,8 +103,8 @@ impl KeptClaims {
 
     fn put_part(&mut self, part: &PartRow, messages: &[Change<MessageRow>])
         requires { HasRoomFor 0 1 self.old }
-        ensures holds { (base ms : List MessageRowOf) (ps : List PartRowOf) → ms ≡ all_applied message_key messages.now base → Holds self.old ms ps → Rises part_key ps
-            → IsPartMove messages.now (PutPart part.now) ms ps → Holds self.new ms (put part_key part.now ps) }
+        ensures holds { (base ms : List MessageRowOf) (ps : List PartRowOf) → ms ≡ all_applied message_key messages.now base → Represents self.old ms ps → Rises part_key ps
+            → IsPartMove messages.now (PutPart part.now) ms ps → Represents self.new ms (put part_key part.now ps) }
         ensures room { (n : ℕ) → HasRoomFor 0 (n + 1) self.old → HasRoomFor 0 n self.new }
     {
         if let Some(Change::Put(message)) = newest(messages, Key::of(part.id.number())) {
@@ -114,8 +114,8 @@ impl KeptClaims {
 
     fn bring_ready(&mut self, message: &MessageRow, part: &PartRow)
         requires { HasRoomFor 0 1 self.old }
-        ensures holds { (ms : List MessageRowOf) (ps : List PartRowOf) → Holds self.old ms ps → Rises part_key ps → message_at part.now.id ms ≡ Some message.now
-            → row_at part_key (part_key part.now) ps ≡ None → AreFew ms ps → Holds self.new ms (put part_key part.now ps) }
+        ensures holds { (ms : List MessageRowOf) (ps : List PartRowOf) → Represents self.old ms ps → Rises part_key ps → message_at part.now.id ms ≡ Some message.now
+            → row_at part_key (part_key part.now) ps ≡ None → AreFew ms ps → Represents self.new ms (put part_key part.now ps) }
         ensures room { (n : ℕ) → HasRoomFor 0 (n + 1) self.old → HasRoomFor 0 n self.new }
     {
         match self.bring(message, &part.key) {

@@ -1,9 +1,9 @@
 //! Counts under keys.
 ghost use Rattle.std.specs.Prelude.{◌≡◌, ◌+◌, ◌<◌, ◌≤◌, ℕ, IsOk, OnOk};
 ghost use Rattle.sms_centre_messages.specs.references.Counts.{CountsOf, IsAdded, IsSet, IsTaken, counted};
-ghost use Rattle.sms_centre_messages.specs.declared.references.between.Between.{Between as BetweenOf};
+ghost use Rattle.sms_centre_messages.specs.declared.references.message_ends.MessageEnds.{MessageEnds as BetweenOf};
 
-use crate::references::between::Between;
+use crate::references::message_ends::MessageEnds;
 use indexmap::IndexMap;
 use std::alloc::{AllocError, Global};
 use std::marker::Model;
@@ -11,7 +11,7 @@ use std::marker::Model;
 // Counts under keys, 0 under those that nothing stands under, which take no memory.
 #[derive(Drop)]
 pub(crate) struct Counts {
-    pub(crate) map: IndexMap<Between, u64>,
+    pub(crate) map: IndexMap<MessageEnds, u64>,
 }
 
 impl Model for Counts {
@@ -34,7 +34,7 @@ impl Counts {
     }
 
     // What stands under the key.
-    pub(crate) fn of(&self, key: &Between) -> u64
+    pub(crate) fn of(&self, key: &MessageEnds) -> u64
         ensures { result ≡ counted key.now self.now }
     {
         match self.map.get(key) {
@@ -44,7 +44,7 @@ impl Counts {
     }
 
     // So much is to stand under the key.
-    pub(crate) fn set(&mut self, key: Between, count: u64) -> Result<(), AllocError>
+    pub(crate) fn set(&mut self, key: MessageEnds, count: u64) -> Result<(), AllocError>
         ensures set { OnOk result (IsSet key count self.old self.new) }
         ensures room { OnOk result (self.old.room ≤ self.new.room + 1) }
         ensures ready { 0 < self.old.room → IsOk result }
@@ -58,7 +58,7 @@ impl Counts {
     }
 
     // One more stands under the key.
-    pub(crate) fn add(&mut self, key: Between) -> Result<(), AllocError>
+    pub(crate) fn add(&mut self, key: MessageEnds) -> Result<(), AllocError>
         ensures added { OnOk result (IsAdded key self.old self.new) }
         ensures room { OnOk result (self.old.room ≤ self.new.room + 1) }
         ensures ready { 0 < self.old.room → IsOk result }
@@ -72,7 +72,7 @@ impl Counts {
     }
 
     // One less stands under the key.
-    pub(crate) fn take(&mut self, key: Between)
+    pub(crate) fn take(&mut self, key: MessageEnds)
         ensures taken { IsTaken key self.old self.new }
         ensures room { self.old.room ≤ self.new.room + 1 }
     {

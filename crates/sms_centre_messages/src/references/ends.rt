@@ -1,6 +1,6 @@
 //! Claims that end with their messages, and claims of new parts.
 ghost use Rattle.std.specs.Prelude.{◌≡◌, ◌+◌, ◌<◌, ◌≤◌, ℕ, List, Some, true, IsOk, OnOk};
-ghost use Rattle.sms_centre_messages.specs.references.Claims.{AreFew, BarsLess, BringsBar, BringsOwn, Brought, Ended, Holds, HoldsLess, PendsLess, still};
+ghost use Rattle.sms_centre_messages.specs.references.ReferenceIndex.{AreFew, BarsLess, BringsBar, BringsOwn, Brought, Ended, Represents, HoldsLess, PendsLess, still};
 ghost use Rattle.sms_centre_messages.specs.references.Moves.{HasRoomFor};
 ghost use Rattle.sms_centre_rows.specs.messages.Messages.{ended, is_pending, message_at, message_key, part_key};
 ghost use Rattle.sms_centre_rows.specs.messages.SplitReferences.{unless_split, wide_in, wide_reference};
@@ -8,8 +8,8 @@ ghost use Rattle.sms_centre_rows.specs.declared.messages.message.MessageRow.{Mes
 ghost use Rattle.sms_centre_rows.specs.declared.messages.part.PartRow.{PartRow as PartRowOf};
 ghost use Rattle.sms_rows.specs.table.Table.{Rises, put, row_at};
 
-use crate::references::between::Between;
-use crate::references::claims::KeptClaims;
+use crate::references::message_ends::MessageEnds;
+use crate::references::reference_index::ReferenceIndex;
 use crate::references::counts::Counts;
 use crate::references::moves::is_delivered;
 use sms_base::{FinalState, Originator};
@@ -17,11 +17,11 @@ use sms_centre_rows::messages::MessageRow;
 use sms_concat::{ConcatKey, ConcatReference};
 use std::alloc::AllocError;
 
-impl KeptClaims {
+impl ReferenceIndex {
     /// A message that is pending ends so. The row is the one before its end, or the one after it.
     pub fn end(&mut self, row: &MessageRow, state: FinalState)
-        ensures holds { (ms : List MessageRowOf) (ps : List PartRowOf) (m : MessageRowOf) (moment : ℕ) → Holds self.old ms ps → Rises message_key ms → message_at m.id ms ≡ Some m → is_pending m ≡ true
-            → still row.now ≡ still m → Holds self.new (put message_key (ended state moment m) ms) ps }
+        ensures holds { (ms : List MessageRowOf) (ps : List PartRowOf) (m : MessageRowOf) (moment : ℕ) → Represents self.old ms ps → Rises message_key ms → message_at m.id ms ≡ Some m → is_pending m ≡ true
+            → still row.now ≡ still m → Represents self.new (put message_key (ended state moment m) ms) ps }
         ensures room { (n p : ℕ) → HasRoomFor (n + 1) p self.old → HasRoomFor n p self.new }
     {
         self.count_out(row, state);
@@ -39,8 +39,8 @@ impl KeptClaims {
 
     /// Adds a part of that message, with that key.
     pub fn bring(&mut self, message: &MessageRow, key: &Option<ConcatKey>) -> Result<(), AllocError>
-        ensures holds { (ms : List MessageRowOf) (ps : List PartRowOf) (p : PartRowOf) → Holds self.old ms ps → Rises part_key ps → message_at p.id ms ≡ Some message.now → p.key ≡ key.now
-            → row_at part_key (part_key p) ps ≡ None → AreFew ms ps → OnOk result (Holds self.new ms (put part_key p ps)) }
+        ensures holds { (ms : List MessageRowOf) (ps : List PartRowOf) (p : PartRowOf) → Represents self.old ms ps → Rises part_key ps → message_at p.id ms ≡ Some message.now → p.key ≡ key.now
+            → row_at part_key (part_key p) ps ≡ None → AreFew ms ps → OnOk result (Represents self.new ms (put part_key p ps)) }
         ensures room { (n p : ℕ) → HasRoomFor n (p + 1) self.old → OnOk result (HasRoomFor n p self.new) }
         ensures ready { HasRoomFor 0 1 self.old → IsOk result }
     {
@@ -75,7 +75,7 @@ fn drop_held(held: &mut Counts, row: &MessageRow, state: FinalState)
     if !is_delivered(&Some(state)) {
         return;
     }
-    held.take(Between::of(&row.source, &row.handset, reference));
+    held.take(MessageEnds::of(&row.source, &row.handset, reference));
 }
 
 // That it held one.
@@ -89,7 +89,7 @@ fn drop_barred(barred: &mut Counts, row: &MessageRow, state: FinalState)
     if !is_delivered(&Some(state)) {
         return;
     }
-    barred.take(Between::of(&row.source, &row.handset, 0));
+    barred.take(MessageEnds::of(&row.source, &row.handset, 0));
 }
 
 // The TP-MR of a handset's message.
@@ -98,7 +98,7 @@ fn drop_pending(pending: &mut Counts, row: &MessageRow)
     ensures room { pending.old.room ≤ pending.new.room + 1 }
 {
     if let Originator::Handset { message_reference } = &row.originator {
-        pending.take(Between::of_digits(
+        pending.take(MessageEnds::of_digits(
             &row.source.digits,
             &row.handset,
             u16::from(*message_reference),
@@ -140,7 +140,7 @@ fn count_own(
     let Some(reference) = own_reference(message, key) else {
         return Ok(());
     };
-    own.add(Between::of(&message.source, &message.handset, reference))?;
+    own.add(MessageEnds::of(&message.source, &message.handset, reference))?;
     Ok(())
 }
 
@@ -156,6 +156,6 @@ fn count_bar(
     let Some(_) = own_reference(message, key) else {
         return Ok(());
     };
-    barred.add(Between::of(&message.source, &message.handset, 0))?;
+    barred.add(MessageEnds::of(&message.source, &message.handset, 0))?;
     Ok(())
 }

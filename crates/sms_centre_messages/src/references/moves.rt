@@ -1,6 +1,6 @@
 //! Claims that are new or end.
 ghost use Rattle.std.specs.Prelude.{◌≡◌, ◌+◌, ◌<◌, ◌≤◌, ℕ, List, IsOk, OnOk};
-ghost use Rattle.sms_centre_messages.specs.references.Claims.{AreFew, BarsMore, ComesBehind, Entered, GivesLast, Holds, HoldsMore, PendsMore};
+ghost use Rattle.sms_centre_messages.specs.references.ReferenceIndex.{AreFew, BarsMore, ComesBehind, Entered, GivesLast, Represents, HoldsMore, PendsMore};
 ghost use Rattle.sms_centre_messages.specs.references.Moves.{HasRoomFor};
 ghost use Rattle.sms_centre_rows.specs.messages.Messages.{message_key};
 ghost use Rattle.sms_centre_rows.specs.declared.messages.message.MessageRow.{MessageRow as MessageRowOf};
@@ -8,17 +8,17 @@ ghost use Rattle.sms_centre_rows.specs.declared.messages.part.PartRow.{PartRow a
 ghost use Rattle.sms_rows.specs.table.Table.{put};
 ghost use Rattle.sms_centre_rows.specs.messages.SplitReferences.{is_delivered as is_delivered_of};
 
-use crate::references::between::Between;
-use crate::references::claims::KeptClaims;
+use crate::references::message_ends::MessageEnds;
+use crate::references::reference_index::ReferenceIndex;
 use crate::references::counts::Counts;
 use sms_base::{FinalState, Originator};
 use sms_centre_rows::messages::MessageRow;
 use std::alloc::AllocError;
 
-impl KeptClaims {
+impl ReferenceIndex {
     /// Adds a message behind all others, with no parts yet.
     pub fn enter(&mut self, row: &MessageRow) -> Result<(), AllocError>
-        ensures holds { (ms : List MessageRowOf) (ps : List PartRowOf) → Holds self.old ms ps → ComesBehind row.now ms ps → AreFew ms ps → OnOk result (Holds self.new (put message_key row.now ms) ps) }
+        ensures holds { (ms : List MessageRowOf) (ps : List PartRowOf) → Represents self.old ms ps → ComesBehind row.now ms ps → AreFew ms ps → OnOk result (Represents self.new (put message_key row.now ms) ps) }
         ensures room { (n p : ℕ) → HasRoomFor (n + 1) p self.old → OnOk result (HasRoomFor n p self.new) }
         ensures ready { HasRoomFor 1 0 self.old → IsOk result }
     {
@@ -65,7 +65,7 @@ fn count_held(held: &mut Counts, row: &MessageRow) -> Result<(), AllocError>
     if is_delivered(&row.state) {
         return Ok(());
     }
-    held.add(Between::of(&row.source, &row.handset, reference))?;
+    held.add(MessageEnds::of(&row.source, &row.handset, reference))?;
     Ok(())
 }
 
@@ -81,7 +81,7 @@ fn count_barred(barred: &mut Counts, row: &MessageRow) -> Result<(), AllocError>
     if is_delivered(&row.state) {
         return Ok(());
     }
-    barred.add(Between::of(&row.source, &row.handset, 0))?;
+    barred.add(MessageEnds::of(&row.source, &row.handset, 0))?;
     Ok(())
 }
 
@@ -95,7 +95,7 @@ fn note_last(last: &mut Counts, row: &MessageRow) -> Result<(), AllocError>
         return Ok(());
     };
     let code = code_of(reference);
-    last.set(Between::of(&row.source, &row.handset, 0), code)?;
+    last.set(MessageEnds::of(&row.source, &row.handset, 0), code)?;
     Ok(())
 }
 
@@ -117,7 +117,7 @@ fn count_pending(pending: &mut Counts, row: &MessageRow) -> Result<(), AllocErro
     }
     match &row.originator {
         Originator::Application { .. } => Ok(()),
-        Originator::Handset { message_reference } => pending.add(Between::of_digits(
+        Originator::Handset { message_reference } => pending.add(MessageEnds::of_digits(
             &row.source.digits,
             &row.handset,
             u16::from(*message_reference),

@@ -1,24 +1,24 @@
 //! What rows of a store lay claim to.
 ghost use Rattle.std.specs.Prelude.{◌≡◌, ◌<◌, [], List, None, IfOk, OnOk, length};
-ghost use Rattle.sms_centre_messages.specs.references.Claims.{AreFew, Holds};
+ghost use Rattle.sms_centre_messages.specs.references.ReferenceIndex.{AreFew, Represents};
 ghost use Rattle.sms_centre_rows.specs.messages.Messages.{message_key, part_key};
 ghost use Rattle.sms_centre_rows.specs.declared.messages.part.PartRow.{PartRow as PartRowOf};
 ghost use Rattle.sms_rows.specs.table.Table.{Rises, put, row_at};
 
-use crate::references::claims::KeptClaims;
+use crate::references::reference_index::ReferenceIndex;
 use sms_centre_rows::messages::{MessageRow, PartRow};
 use sms_rows::table::{Key, Table};
 use std::alloc::{AllocError, Global};
 
-impl KeptClaims {
+impl ReferenceIndex {
     /// The claims of the messages and the parts, which are in the order of their keys. It costs a logarithm for each.
     pub fn recover(
         alloc: Global,
         messages: &Table<MessageRow>,
         parts: &[PartRow],
-    ) -> Result<KeptClaims, AllocError>
+    ) -> Result<ReferenceIndex, AllocError>
         requires { Rises part_key parts.now }
-        ensures { IfOk result (λ kept. Holds kept messages.now.rows parts.now) }
+        ensures { IfOk result (λ kept. Represents kept messages.now.rows parts.now) }
     {
         let rows = messages.as_slice();
         let Some(all) = rows.len().checked_add(parts.len()) else {
@@ -27,14 +27,14 @@ impl KeptClaims {
         if all == usize::MAX {
             return Err(AllocError);
         }
-        let mut kept = KeptClaims::new(alloc);
+        let mut kept = ReferenceIndex::new(alloc);
         kept.enter_each(rows)?;
         kept.bring_each(parts, messages)?;
         Ok(kept)
     }
 
     fn enter_each(&mut self, rows: &[MessageRow]) -> Result<(), AllocError>
-        ensures { Holds self.old [] [] → Rises message_key rows.now → length rows.now < 18446744073709551615 → OnOk result (Holds self.new rows.now []) }
+        ensures { Represents self.old [] [] → Rises message_key rows.now → length rows.now < 18446744073709551615 → OnOk result (Represents self.new rows.now []) }
     {
         for row in rows {
             self.enter(row)?;
@@ -47,7 +47,7 @@ impl KeptClaims {
         parts: &[PartRow],
         messages: &Table<MessageRow>,
     ) -> Result<(), AllocError>
-        ensures { Holds self.old messages.now.rows [] → Rises part_key parts.now → AreFew messages.now.rows parts.now → OnOk result (Holds self.new messages.now.rows parts.now) }
+        ensures { Represents self.old messages.now.rows [] → Rises part_key parts.now → AreFew messages.now.rows parts.now → OnOk result (Represents self.new messages.now.rows parts.now) }
     {
         for part in parts {
             self.bring_found(part, messages)?;
@@ -61,8 +61,8 @@ impl KeptClaims {
         part: &PartRow,
         messages: &Table<MessageRow>,
     ) -> Result<(), AllocError>
-        ensures { (ps : List PartRowOf) → Holds self.old messages.now.rows ps → Rises part_key ps → row_at part_key (part_key part.now) ps ≡ None → AreFew messages.now.rows ps
-            → OnOk result (Holds self.new messages.now.rows (put part_key part.now ps)) }
+        ensures { (ps : List PartRowOf) → Represents self.old messages.now.rows ps → Rises part_key ps → row_at part_key (part_key part.now) ps ≡ None → AreFew messages.now.rows ps
+            → OnOk result (Represents self.new messages.now.rows (put part_key part.now ps)) }
     {
         match messages.find(Key::of(part.id.number())) {
             Some(message) => self.bring(message, &part.key),

@@ -6,7 +6,7 @@ use Rattle.std.proofs.lemmas.Bool.{cases_eq, cond-false, ne_eqb}
 use Rattle.sms_rows.specs.table.Keys.{pair_key}
 use Rattle.sms_rows.specs.table.Table.{Rises, insert, put, row_at, without}
 use Rattle.sms_rows.proofs.table.Tables.{insert_behind, rises_put, rises_without, row_behind, row_here, without_behind}
-use Rattle.sms_centre_rows.specs.declared.waiting.load.Load.{Load}
+use Rattle.sms_centre_rows.specs.declared.waiting.queued_part.QueuedPart.{QueuedPart}
 use Rattle.sms_centre_rows.specs.waiting.Keys.{load_key}
 use Rattle.sms_centre_rows.specs.waiting.Waiting.{is_due, is_part_of, is_same, waits_beside, withdrawn}
 use Rattle.sms_centre_rows.proofs.waiting.Withdrawing.{rises_withdrawn}
@@ -68,7 +68,7 @@ or_assoc : (a b c : Bool) → (a || (b || c)) ≡ ((a || b) || c)
 or_assoc true b c = refl
 or_assoc false b c = refl
 
-pub beside_parted : (now : ℕ) (chosen : Load) (ls ks : List Load) → waits_beside now chosen (ls ++ ks) ≡ (waits_beside now chosen ls || waits_beside now chosen ks)
+pub beside_parted : (now : ℕ) (chosen : QueuedPart) (ls ks : List QueuedPart) → waits_beside now chosen (ls ++ ks) ≡ (waits_beside now chosen ls || waits_beside now chosen ks)
 beside_parted now chosen [] ks = refl
 beside_parted now chosen (l ∷ ls) ks =
     ap (λ b. (is_due now l && not (is_same l chosen)) || b) (beside_parted now chosen ls ks)
@@ -76,14 +76,14 @@ beside_parted now chosen (l ∷ ls) ks =
 
 -- ---- the parts of a message wait no more
 
-pub withdrawn_parted : (id : ℕ) (ls ks : List Load) → AllBelow load_key (pair_key id 0) ls → withdrawn id (ls ++ ks) ≡ ls ++ withdrawn id ks
+pub withdrawn_parted : (id : ℕ) (ls ks : List QueuedPart) → AllBelow load_key (pair_key id 0) ls → withdrawn id (ls ++ ks) ≡ ls ++ withdrawn id ks
 withdrawn_parted id [] ks below = refl
 withdrawn_parted id (l ∷ ls) ks below =
     let another : ¬ (l.id ≡ id) = λ e. absurd (omega (arith, e, below.0)) in
     let other : is_part_of id l ≡ false = ap (λ (b : Bool). b && not (l.number == 0)) (ne_eqb l.id id another) in
     cond-false (is_part_of id l) (withdrawn id (ls ++ ks)) (l ∷ withdrawn id (ls ++ ks)) other
-    ∙ ap (λ (r : List Load). l ∷ r) (withdrawn_parted id ls ks below.1)
+    ∙ ap (λ (r : List QueuedPart). l ∷ r) (withdrawn_parted id ls ks below.1)
 
-pub rises_withdrawn_parted : (id : ℕ) (ls ks : List Load) → AllBelow load_key (pair_key id 0) ls → Rises load_key (ls ++ ks) → Rises load_key (ls ++ withdrawn id ks)
+pub rises_withdrawn_parted : (id : ℕ) (ls ks : List QueuedPart) → AllBelow load_key (pair_key id 0) ls → Rises load_key (ls ++ ks) → Rises load_key (ls ++ withdrawn id ks)
 rises_withdrawn_parted id ls ks below rises =
-    subst (λ (r : List Load). Rises load_key r) (withdrawn_parted id ls ks below) (rises_withdrawn id (ls ++ ks) rises)
+    subst (λ (r : List QueuedPart). Rises load_key r) (withdrawn_parted id ls ks below) (rises_withdrawn id (ls ++ ks) rises)

@@ -1,4 +1,4 @@
--- Looking at the shelves that were touched and at those of the index finds all handsets that an event concerns.
+-- Looking at the queues that were touched and at those of the index finds all handsets that an event concerns.
 use Rattle.std.proofs.Common.{◌≡◌, ℕ, ◌≤◌, ◌<◌, List, [], ◌∷◌, Bool, true, false, nat_eq, Option, Some, None, refl, sym, ◌∙◌, ap, subst, ⊎_elim, cond, is_some, is_none, eq-eqb, arith}
 use Rattle.std.specs.Map.{lookup}
 use Rattle.std.specs.Option.{option_or}
@@ -12,58 +12,58 @@ use Rattle.sms_rows.specs.table.Keys.{AllDigits, digits_key}
 use Rattle.sms_rows.specs.table.Table.{Rises, row_at}
 use Rattle.sms_rows.proofs.table.Tables.{among_found}
 use Rattle.sms_centre_rows.specs.declared.waiting.handset.HandsetRow.{HandsetRow}
-use Rattle.sms_centre_rows.specs.declared.waiting.line.Line.{Line}
-use Rattle.sms_centre_rows.specs.declared.waiting.load.Load.{Load}
+use Rattle.sms_centre_rows.specs.declared.waiting.handset_link.HandsetLink.{HandsetLink}
+use Rattle.sms_centre_rows.specs.declared.waiting.queued_part.QueuedPart.{QueuedPart}
 use Rattle.sms_centre_rows.specs.declared.waiting.reference.ReferenceRow.{ReferenceRow}
 use Rattle.sms_centre_rows.specs.waiting.Keys.{handset_key}
-use Rattle.sms_centre_rows.specs.waiting.Lines.{Air, is_ready, line_of}
-use Rattle.sms_centre_rows.specs.waiting.References.{Givings, handset_at, handsets_of, references_of}
+use Rattle.sms_centre_rows.specs.waiting.Links.{Links, is_ready, line_of}
+use Rattle.sms_centre_rows.specs.waiting.References.{Allocations, handset_at, handsets_of, references_of}
 use Rattle.sms_centre_rows.specs.waiting.Waiting.{if_due, next, preceding}
 use Rattle.sms_centre_rows.proofs.waiting.Mentions.{number_found, number_none}
-use Rattle.sms_centre_queue.specs.declared.queues.placed.Placed.{Placed}
-use Rattle.sms_centre_queue.specs.declared.queues.stop.Stop.{Stop}
-use Rattle.sms_centre_queue.specs.declared.queues.stop.Purpose.{Purpose}
-use Rattle.sms_centre_queue.specs.declared.queues.stop.Purpose.TheVariants.{Offer, Fire, FireUnmentioned, Awaited}
+use Rattle.sms_centre_queue.specs.declared.queues.placed_queue.PlacedQueue.{PlacedQueue}
+use Rattle.sms_centre_queue.specs.declared.queues.concern.ConcernedHandset.{ConcernedHandset}
+use Rattle.sms_centre_queue.specs.declared.queues.concern.Concern.{Concern}
+use Rattle.sms_centre_queue.specs.declared.queues.concern.Concern.TheVariants.{Offer, Fire, FireUnmentioned, Awaited}
 use Rattle.sms_centre_queue.specs.queues.Keys.{stop_key}
 use Rattle.sms_centre_queue.specs.queues.LineOrder.{came_in}
-use Rattle.sms_centre_queue.specs.queues.Placing.{PendingOf, at, is_listed, new_placed, or_new, placed_of, under}
-use Rattle.sms_centre_queue.specs.queues.Shown.{Indexed, Shows, ShowsPlaced}
+use Rattle.sms_centre_queue.specs.queues.Queues.{DeliveryQueuesDraftOf, at, is_listed, new_placed, or_new, placed_of, under}
+use Rattle.sms_centre_queue.specs.queues.Representing.{Indexed, DraftRepresents, RepresentsPlaced}
 use Rattle.sms_centre_queue.specs.queues.Stops.{all_noted, found, is_active, is_stop, is_wanted, line_place, line_stops, mention_stops, order_of, place_of, rests_for, scanned, stop_at, stop_if, stop_in, stops_of}
-use Rattle.sms_centre_queue.proofs.queues.Giving.{number_digits}
+use Rattle.sms_centre_queue.proofs.queues.Allocation.{number_digits}
 use Rattle.sms_centre_queue.proofs.queues.LinesCome.{line_handset}
 use Rattle.sms_centre_queue.proofs.queues.Scanning.{empty_before, empty_there, among_filter, filter_among, kept_noted, noted_there, rises_filter, rises_noted, same_rows, seen_noted}
 use Rattle.sms_centre_queue.proofs.queues.StopOrder.{among_line_stop, among_mention, line_stop_among, lines_rise, mention_among, mentions_rise}
 
--- ---- the stop at one shelf
+-- ---- the stop at one queue
 
 -- it is wanted, and stands in the order
-record IsStopAt (purpose : Purpose) (q : Placed) (x : Stop) : Type 0 where
-  is : is_wanted purpose q.shelf.row q.shelf.line q.shelf.waiting ≡ true
+record IsStopAt (purpose : Concern) (q : PlacedQueue) (x : ConcernedHandset) : Type 0 where
+  is : is_wanted purpose q.queue.row q.queue.line q.queue.waiting ≡ true
   order : order_of purpose q ≡ Some x.order
-  number : x.number ≡ q.shelf.line.handset
+  number : x.number ≡ q.queue.line.handset
 
-stop_seen : (purpose : Purpose) (q : Placed) (x : Stop) → stop_at purpose q ≡ Some x → IsStopAt purpose q x
+stop_seen : (purpose : Concern) (q : PlacedQueue) (x : ConcernedHandset) → stop_at purpose q ≡ Some x → IsStopAt purpose q x
 stop_seen purpose q x e = ⊎_elim
-    (λ (t : is_wanted purpose q.shelf.row q.shelf.line q.shelf.waiting ≡ true).
-    by t (order_of purpose q) refl (sym (cond-true (is_wanted purpose q.shelf.row q.shelf.line q.shelf.waiting) (stop_in q (order_of purpose q)) None t) ∙ e))
-    (λ (t : is_wanted purpose q.shelf.row q.shelf.line q.shelf.waiting ≡ false).
-    let bad : None ≡ Some x = sym (cond-false (is_wanted purpose q.shelf.row q.shelf.line q.shelf.waiting) (stop_in q (order_of purpose q)) None t) ∙ e in absurd cc)
-    (cases_Bool (is_wanted purpose q.shelf.row q.shelf.line q.shelf.waiting))
+    (λ (t : is_wanted purpose q.queue.row q.queue.line q.queue.waiting ≡ true).
+    by t (order_of purpose q) refl (sym (cond-true (is_wanted purpose q.queue.row q.queue.line q.queue.waiting) (stop_in q (order_of purpose q)) None t) ∙ e))
+    (λ (t : is_wanted purpose q.queue.row q.queue.line q.queue.waiting ≡ false).
+    let bad : None ≡ Some x = sym (cond-false (is_wanted purpose q.queue.row q.queue.line q.queue.waiting) (stop_in q (order_of purpose q)) None t) ∙ e in absurd cc)
+    (cases_Bool (is_wanted purpose q.queue.row q.queue.line q.queue.waiting))
   where
-    by : is_wanted purpose q.shelf.row q.shelf.line q.shelf.waiting ≡ true → (o : Option ℕ) → order_of purpose q ≡ o → stop_in q o ≡ Some x → IsStopAt purpose q x
+    by : is_wanted purpose q.queue.row q.queue.line q.queue.waiting ≡ true → (o : Option ℕ) → order_of purpose q ≡ o → stop_in q o ≡ Some x → IsStopAt purpose q x
     by t None is s = absurd cc
     by t (Some n) is s =
-        let same : Some (record { order = n; number = q.shelf.line.handset }) ≡ Some x = s in
-        let one : record { order = n; number = q.shelf.line.handset } ≡ x = cc in
-        record { is = t; order = is ∙ ap (λ (y : Stop). Some y.order) one; number = sym (ap (λ (y : Stop). y.number) one) }
+        let same : Some (record { order = n; number = q.queue.line.handset }) ≡ Some x = s in
+        let one : record { order = n; number = q.queue.line.handset } ≡ x = cc in
+        record { is = t; order = is ∙ ap (λ (y : ConcernedHandset). Some y.order) one; number = sym (ap (λ (y : ConcernedHandset). y.number) one) }
 
-stop_made : (purpose : Purpose) (q : Placed) (x : Stop) → IsStopAt purpose q x → stop_at purpose q ≡ Some x
+stop_made : (purpose : Concern) (q : PlacedQueue) (x : ConcernedHandset) → IsStopAt purpose q x → stop_at purpose q ≡ Some x
 stop_made purpose q x s =
-    cond-true (is_wanted purpose q.shelf.row q.shelf.line q.shelf.waiting) (stop_in q (order_of purpose q)) None s.is
+    cond-true (is_wanted purpose q.queue.row q.queue.line q.queue.waiting) (stop_in q (order_of purpose q)) None s.is
     ∙ ap (λ (o : Option ℕ). stop_in q o) s.order ∙ ap (λ (n : List ℕ). Some (record { order = x.order; number = n })) (sym s.number)
 
 -- nothing was heard of it
-no_order : (purpose : Purpose) (number : List ℕ) → order_of purpose (new_placed number) ≡ None
+no_order : (purpose : Concern) (number : List ℕ) → order_of purpose (new_placed number) ≡ None
 no_order (Offer now) number = refl
 no_order (Fire now) number = refl
 no_order (FireUnmentioned now) number = refl
@@ -71,13 +71,13 @@ no_order Awaited number = refl
 
 -- ---- what such an event can concern stands in the index
 
-ready_up : (l : Line) → is_ready l ≡ true → l.is_up ≡ true
+ready_up : (l : HandsetLink) → is_ready l ≡ true → l.is_up ≡ true
 ready_up l e = (and_parts l.is_up (not l.is_full && not (is_busy l.link.links)) e).0
 
-active_up : (l : Line) → l.is_up ≡ true → is_active l ≡ true
+active_up : (l : HandsetLink) → l.is_up ≡ true → is_active l ≡ true
 active_up l t = cond-true l.is_up true (cond l.is_awaited true (is_timed l.link.links)) t
 
-active_timed : (l : Line) → is_timed l.link.links ≡ true → is_active l ≡ true
+active_timed : (l : HandsetLink) → is_timed l.link.links ≡ true → is_active l ≡ true
 active_timed l t = ⊎_elim
     (λ (u : l.is_up ≡ true). active_up l u)
     (λ (u : l.is_up ≡ false). cond-false l.is_up true (cond l.is_awaited true (is_timed l.link.links)) u ∙ ⊎_elim
@@ -86,14 +86,14 @@ active_timed l t = ⊎_elim
     (cases_Bool l.is_awaited))
     (cases_Bool l.is_up)
 
-active_awaited : (l : Line) → l.is_awaited ≡ true → is_active l ≡ true
+active_awaited : (l : HandsetLink) → l.is_awaited ≡ true → is_active l ≡ true
 active_awaited l a = ⊎_elim
     (λ (u : l.is_up ≡ true). active_up l u)
     (λ (u : l.is_up ≡ false). cond-false l.is_up true (cond l.is_awaited true (is_timed l.link.links)) u
     ∙ cond-true l.is_awaited true (is_timed l.link.links) a)
     (cases_Bool l.is_up)
 
-wanted_active : (purpose : Purpose) (row : Option HandsetRow) (l : Line) (ls : List Load) → is_wanted purpose row l ls ≡ true → is_active l ≡ true
+wanted_active : (purpose : Concern) (row : Option HandsetRow) (l : HandsetLink) (ls : List QueuedPart) → is_wanted purpose row l ls ≡ true → is_active l ≡ true
 wanted_active (Offer now) row l ls e = active_up l (ready_up l (and_parts (is_ready l) (is_some (next now ls)) e).0)
 wanted_active (Fire now) row l ls e = active_timed l (due_is_timed now l.link.links e)
 wanted_active (FireUnmentioned now) row l ls e = active_timed l (due_is_timed now l.link.links (and_parts (is_none row) (is_due now l.link.links) e).1)
@@ -101,22 +101,22 @@ wanted_active Awaited row l ls e = active_awaited l e
 
 -- ---- what is due is due later on
 
-either_some : (a b : Option Load) → is_some (preceding a b) ≡ is_some a || is_some b
+either_some : (a b : Option QueuedPart) → is_some (preceding a b) ≡ is_some a || is_some b
 either_some None b = refl
 either_some (Some a) None = refl
 either_some (Some a) (Some b) = refl
 
-if_due_later : (now moment : ℕ) (l : Load) → now ≤ moment → is_some (if_due now l) ≡ true → is_some (if_due moment l) ≡ true
+if_due_later : (now moment : ℕ) (l : QueuedPart) → now ≤ moment → is_some (if_due now l) ≡ true → is_some (if_due moment l) ≡ true
 if_due_later now moment l later e = ⊎_elim
     (λ (t : nat_le l.due now ≡ true).
     let before = leb-true l.due now t in
     let still : nat_le l.due moment ≡ true = le-leb l.due moment (omega (arith, before, later)) in
-    ap (λ (o : Option Load). is_some o) (cond-true (nat_le l.due moment) (Some l) None still))
+    ap (λ (o : Option QueuedPart). is_some o) (cond-true (nat_le l.due moment) (Some l) None still))
     (λ (t : nat_le l.due now ≡ false).
-    let bad : false ≡ true = sym (ap (λ (o : Option Load). is_some o) (cond-false (nat_le l.due now) (Some l) None t)) ∙ e in absurd cc)
+    let bad : false ≡ true = sym (ap (λ (o : Option QueuedPart). is_some o) (cond-false (nat_le l.due now) (Some l) None t)) ∙ e in absurd cc)
     (cases_Bool (nat_le l.due now))
 
-next_later : (now moment : ℕ) (ls : List Load) → now ≤ moment → is_some (next now ls) ≡ true → is_some (next moment ls) ≡ true
+next_later : (now moment : ℕ) (ls : List QueuedPart) → now ≤ moment → is_some (next now ls) ≡ true → is_some (next moment ls) ≡ true
 next_later now moment [] later e = e
 next_later now moment (l ∷ ls) later e =
     either_some (if_due moment l) (next moment ls)
@@ -128,27 +128,27 @@ next_later now moment (l ∷ ls) later e =
     both false b true d e f g = refl
     both false b false d e f g = g e
 
-offer_later : (now moment : ℕ) (q : Placed) (x : Stop) → now ≤ moment → stop_at (Offer now) q ≡ Some x → stop_at (Offer moment) q ≡ Some x
+offer_later : (now moment : ℕ) (q : PlacedQueue) (x : ConcernedHandset) → now ≤ moment → stop_at (Offer now) q ≡ Some x → stop_at (Offer moment) q ≡ Some x
 offer_later now moment q x later e =
     let s = stop_seen (Offer now) q x e in
-    let parts = and_parts (is_ready q.shelf.line) (is_some (next now q.shelf.waiting)) s.is in
+    let parts = and_parts (is_ready q.queue.line) (is_some (next now q.queue.waiting)) s.is in
     stop_made (Offer moment) q x (record {
-      is = and_from (is_ready q.shelf.line) (is_some (next moment q.shelf.waiting)) parts.0 (next_later now moment q.shelf.waiting later parts.1);
+      is = and_from (is_ready q.queue.line) (is_some (next moment q.queue.waiting)) parts.0 (next_later now moment q.queue.waiting later parts.1);
       order = s.order;
       number = s.number;
     })
 
--- ---- the shelf of a stop
+-- ---- the queue of a stop
 
 -- the handset stands in the order, and the event concerns it
-abbrev IsFound : Purpose → Givings → Air → (List ℕ → List Load) → Stop → Type 0
-IsFound purpose g air w x = Among x (stops_of purpose (handsets_of g) air.lines) × (is_stop purpose (handsets_of g) air.lines w x ≡ true)
+abbrev IsFound : Concern → Allocations → Links → (List ℕ → List QueuedPart) → ConcernedHandset → Type 0
+IsFound purpose g links w x = Among x (stops_of purpose (handsets_of g) links.lines) × (is_stop purpose (handsets_of g) links.lines w x ≡ true)
 
-stops_rise : (purpose : Purpose) (g : Givings) (air : Air) (w : List ℕ → List Load) (p : PendingOf) → Shows g air w p → Rises stop_key (stops_of purpose (handsets_of g) air.lines)
-stops_rise (Offer now) g air w p shows = mentions_rise (handsets_of g) shows.sound.handset_keys
-stops_rise (Fire now) g air w p shows = mentions_rise (handsets_of g) shows.sound.handset_keys
-stops_rise (FireUnmentioned now) g air w p shows = lines_rise 1 air.lines
-stops_rise Awaited g air w p shows = lines_rise 1 air.lines
+stops_rise : (purpose : Concern) (g : Allocations) (links : Links) (w : List ℕ → List QueuedPart) (p : DeliveryQueuesDraftOf) → DraftRepresents g links w p → Rises stop_key (stops_of purpose (handsets_of g) links.lines)
+stops_rise (Offer now) g links w p represents = mentions_rise (handsets_of g) represents.sound.handset_keys
+stops_rise (Fire now) g links w p represents = mentions_rise (handsets_of g) represents.sound.handset_keys
+stops_rise (FireUnmentioned now) g links w p represents = lines_rise 1 links.lines
+stops_rise Awaited g links w p represents = lines_rise 1 links.lines
 
 -- a handset of the rows is found under its number
 row_found : (hs : List HandsetRow) (h : HandsetRow) (o : Option HandsetRow) → Rises handset_key hs → ((f g : HandsetRow) → Among f hs → Among g hs → f.number ≡ g.number → f.place ≡ g.place) → Among h hs
@@ -166,11 +166,11 @@ place_some number hs (Some h) k is e =
     let place : Some h.place ≡ Some k = e in
     let same : h.place ≡ k = cc in
     let there = number_found number h hs is in
-    subst (λ (s : Stop). Among s (mention_stops hs))
+    subst (λ (s : ConcernedHandset). Among s (mention_stops hs))
     (ap (λ (n : ℕ). record { order = n; number = h.number }) same ∙ ap (λ (n : List ℕ). record { order = k; number = n }) there.1)
     (mention_among h hs there.0)
 
-line_some : (number : List ℕ) (ls : List Line) (came k : ℕ) → came_in number ls ≡ came → line_place came ≡ Some k → Among (record { order = k; number = number }) (line_stops 1 ls)
+line_some : (number : List ℕ) (ls : List HandsetLink) (came k : ℕ) → came_in number ls ≡ came → line_place came ≡ Some k → Among (record { order = k; number = number }) (line_stops 1 ls)
 line_some number ls came k is e = ⊎_elim
     (λ (t : (came == 0) ≡ true). let bad : None ≡ Some k = sym (cond-true (came == 0) None (Some came) t) ∙ e in absurd cc)
     (λ (t : (came == 0) ≡ false).
@@ -186,75 +186,75 @@ line_some number ls came k is e = ⊎_elim
         (λ (e : n ≡ 0 → ⊥). omega (arith, e))
         (cases_eq n 0)
 
--- a shelf that shows a handset has a stop only in the handset's place
-stop_placed : (purpose : Purpose) (number : List ℕ) (hs : List HandsetRow) (rs : List ReferenceRow) (ls : List Load) (lines : List Line) (q : Placed) (k : ℕ)
-    → ShowsPlaced number hs rs ls lines q → order_of purpose q ≡ Some k → Among (record { order = k; number = number }) (stops_of purpose hs lines)
-stop_placed (Offer now) number hs rs ls lines q k shows e = place_some number hs q.shelf.row k (sym shows.shelf.row) e
-stop_placed (Fire now) number hs rs ls lines q k shows e = place_some number hs q.shelf.row k (sym shows.shelf.row) e
-stop_placed (FireUnmentioned now) number hs rs ls lines q k shows e = line_some number lines q.came k (sym shows.came) e
-stop_placed Awaited number hs rs ls lines q k shows e = line_some number lines q.came k (sym shows.came) e
+-- a queue that shows a handset has a stop only in the handset's place
+stop_placed : (purpose : Concern) (number : List ℕ) (hs : List HandsetRow) (rs : List ReferenceRow) (ls : List QueuedPart) (lines : List HandsetLink) (q : PlacedQueue) (k : ℕ)
+    → RepresentsPlaced number hs rs ls lines q → order_of purpose q ≡ Some k → Among (record { order = k; number = number }) (stops_of purpose hs lines)
+stop_placed (Offer now) number hs rs ls lines q k represents e = place_some number hs q.queue.row k (sym represents.queue.row) e
+stop_placed (Fire now) number hs rs ls lines q k represents e = place_some number hs q.queue.row k (sym represents.queue.row) e
+stop_placed (FireUnmentioned now) number hs rs ls lines q k represents e = line_some number lines q.came k (sym represents.came) e
+stop_placed Awaited number hs rs ls lines q k represents e = line_some number lines q.came k (sym represents.came) e
 
 -- whether it is wanted is told by what it shows
-wanted_shown : (purpose : Purpose) (number : List ℕ) (g : Givings) (air : Air) (w : List ℕ → List Load) (q : Placed) → ShowsPlaced number (handsets_of g) (references_of g) (w number) air.lines q
-    → is_wanted purpose q.shelf.row q.shelf.line q.shelf.waiting ≡ is_wanted purpose (handset_at number (handsets_of g)) (line_of number air.lines) (w number)
-wanted_shown purpose number g air w q shows =
-    ap (λ (o : Option HandsetRow). is_wanted purpose o q.shelf.line q.shelf.waiting) shows.shelf.row
-    ∙ ap (λ (l : Line). is_wanted purpose (handset_at number (handsets_of g)) l q.shelf.waiting) shows.shelf.line
-    ∙ ap (λ (ls : List Load). is_wanted purpose (handset_at number (handsets_of g)) (line_of number air.lines) ls) shows.shelf.loads
+wanted_shown : (purpose : Concern) (number : List ℕ) (g : Allocations) (links : Links) (w : List ℕ → List QueuedPart) (q : PlacedQueue) → RepresentsPlaced number (handsets_of g) (references_of g) (w number) links.lines q
+    → is_wanted purpose q.queue.row q.queue.line q.queue.waiting ≡ is_wanted purpose (handset_at number (handsets_of g)) (line_of number links.lines) (w number)
+wanted_shown purpose number g links w q represents =
+    ap (λ (o : Option HandsetRow). is_wanted purpose o q.queue.line q.queue.waiting) represents.queue.row
+    ∙ ap (λ (l : HandsetLink). is_wanted purpose (handset_at number (handsets_of g)) l q.queue.waiting) represents.queue.line
+    ∙ ap (λ (ls : List QueuedPart). is_wanted purpose (handset_at number (handsets_of g)) (line_of number links.lines) ls) represents.queue.loads
 
 -- ---- what is seen is found
 
-seen_found : (purpose : Purpose) (g : Givings) (air : Air) (w : List ℕ → List Load) (p : PendingOf) (x : Stop) (key : ℕ) (o : Option Placed) → Shows g air w p → at key p ≡ o → stop_if purpose o ≡ Some x
-    → IsFound purpose g air w x
-seen_found purpose g air w p x key None shows is e = absurd cc
-seen_found purpose g air w p x key (Some q) shows is e =
-    let named = shows.named key q is in
-    let number : List ℕ = q.shelf.line.handset in
-    let here : placed_of number p ≡ q = ap (λ (o : Option Placed). or_new number o) (ap (λ (k : ℕ). at k p) named.key_is ∙ is) in
-    let one : ShowsPlaced number (handsets_of g) (references_of g) (w number) air.lines q =
-    subst (λ (y : Placed). ShowsPlaced number (handsets_of g) (references_of g) (w number) air.lines y) here (shows.each number named.digits) in
+seen_found : (purpose : Concern) (g : Allocations) (links : Links) (w : List ℕ → List QueuedPart) (p : DeliveryQueuesDraftOf) (x : ConcernedHandset) (key : ℕ) (o : Option PlacedQueue) → DraftRepresents g links w p → at key p ≡ o → stop_if purpose o ≡ Some x
+    → IsFound purpose g links w x
+seen_found purpose g links w p x key None represents is e = absurd cc
+seen_found purpose g links w p x key (Some q) represents is e =
+    let named = represents.named key q is in
+    let number : List ℕ = q.queue.line.handset in
+    let here : placed_of number p ≡ q = ap (λ (o : Option PlacedQueue). or_new number o) (ap (λ (k : ℕ). at k p) named.key_is ∙ is) in
+    let one : RepresentsPlaced number (handsets_of g) (references_of g) (w number) links.lines q =
+    subst (λ (y : PlacedQueue). RepresentsPlaced number (handsets_of g) (references_of g) (w number) links.lines y) here (represents.each number named.digits) in
     let s = stop_seen purpose q x e in
     let x_is : record { order = x.order; number = number } ≡ x = ap (λ (n : List ℕ). record { order = x.order; number = n }) (sym s.number) in (
-      subst (λ (y : Stop). Among y (stops_of purpose (handsets_of g) air.lines)) x_is (stop_placed purpose number (handsets_of g) (references_of g) (w number) air.lines q x.order one s.order),
-      subst (λ (n : List ℕ). is_wanted purpose (handset_at n (handsets_of g)) (line_of n air.lines) (w n) ≡ true) (sym s.number) (sym (wanted_shown purpose number g air w q one) ∙ s.is),
+      subst (λ (y : ConcernedHandset). Among y (stops_of purpose (handsets_of g) links.lines)) x_is (stop_placed purpose number (handsets_of g) (references_of g) (w number) links.lines q x.order one s.order),
+      subst (λ (n : List ℕ). is_wanted purpose (handset_at n (handsets_of g)) (line_of n links.lines) (w n) ≡ true) (sym s.number) (sym (wanted_shown purpose number g links w q one) ∙ s.is),
     )
 
--- ---- what is to be found has its shelf
+-- ---- what is to be found has its queue
 
-abbrev IsPlaced : Purpose → Placed → Stop → Type 0
+abbrev IsPlaced : Concern → PlacedQueue → ConcernedHandset → Type 0
 IsPlaced purpose q x = order_of purpose q ≡ Some x.order
 
-digits_stop : (purpose : Purpose) (g : Givings) (air : Air) (w : List ℕ → List Load) (p : PendingOf) (x : Stop) → Shows g air w p → Among x (stops_of purpose (handsets_of g) air.lines)
-    → AllDigits x.number × ((q : Placed) → ShowsPlaced x.number (handsets_of g) (references_of g) (w x.number) air.lines q → IsPlaced purpose q x)
-digits_stop purpose g air w p x shows m = by purpose m where
+digits_stop : (purpose : Concern) (g : Allocations) (links : Links) (w : List ℕ → List QueuedPart) (p : DeliveryQueuesDraftOf) (x : ConcernedHandset) → DraftRepresents g links w p → Among x (stops_of purpose (handsets_of g) links.lines)
+    → AllDigits x.number × ((q : PlacedQueue) → RepresentsPlaced x.number (handsets_of g) (references_of g) (w x.number) links.lines q → IsPlaced purpose q x)
+digits_stop purpose g links w p x represents m = by purpose m where
   mention : Among x (mention_stops (handsets_of g))
-      → AllDigits x.number × ((q : Placed) → ShowsPlaced x.number (handsets_of g) (references_of g) (w x.number) air.lines q → place_of q.shelf.row ≡ Some x.order)
+      → AllDigits x.number × ((q : PlacedQueue) → RepresentsPlaced x.number (handsets_of g) (references_of g) (w x.number) links.lines q → place_of q.queue.row ≡ Some x.order)
   mention m =
       let r = among_mention x (handsets_of g) m in
       let h : HandsetRow = r.0 in
-      let number : x.number ≡ h.number = ap (λ (s : Stop). s.number) r.1.1 in
-      let order : x.order ≡ h.place = ap (λ (s : Stop). s.order) r.1.1 in
-      let is = (shows.sound.mentioned h r.1.0).number in (
+      let number : x.number ≡ h.number = ap (λ (s : ConcernedHandset). s.number) r.1.1 in
+      let order : x.order ≡ h.place = ap (λ (s : ConcernedHandset). s.order) r.1.1 in
+      let is = (represents.sound.mentioned h r.1.0).number in (
         subst AllDigits (sym number) (number_digits h.number is),
         λ q s.
-            ap place_of (s.shelf.row ∙ ap (λ (n : List ℕ). handset_at n (handsets_of g)) number
-            ∙ row_found (handsets_of g) h (handset_at h.number (handsets_of g)) shows.sound.handset_keys shows.sound.apart r.1.0 refl)
+            ap place_of (s.queue.row ∙ ap (λ (n : List ℕ). handset_at n (handsets_of g)) number
+            ∙ row_found (handsets_of g) h (handset_at h.number (handsets_of g)) represents.sound.handset_keys represents.sound.apart r.1.0 refl)
             ∙ ap (λ (n : ℕ). Some n) (sym order),
       )
 
-  line : Among x (line_stops 1 air.lines)
-      → AllDigits x.number × ((q : Placed) → ShowsPlaced x.number (handsets_of g) (references_of g) (w x.number) air.lines q → line_place q.came ≡ Some x.order)
+  line : Among x (line_stops 1 links.lines)
+      → AllDigits x.number × ((q : PlacedQueue) → RepresentsPlaced x.number (handsets_of g) (references_of g) (w x.number) links.lines q → line_place q.came ≡ Some x.order)
   line m =
-      let r = among_line_stop 1 x air.lines (omega arith) shows.apart m in (
-        subst AllDigits (sym r.1.1) (shows.digits r.0 r.1.0),
+      let r = among_line_stop 1 x links.lines (omega arith) represents.apart m in (
+        subst AllDigits (sym r.1.1) (represents.digits r.0 r.1.0),
         λ q s.
             let came : q.came ≡ x.order = s.came ∙ r.1.2 in
             let some : (q.came == 0) ≡ false = ne_eqb q.came 0 (λ e. let l = r.1.3 in absurd (omega (arith, e, came, l))) in
             cond-false (q.came == 0) None (Some q.came) some ∙ ap (λ (n : ℕ). Some n) came,
       )
 
-  by : (purpose : Purpose) → Among x (stops_of purpose (handsets_of g) air.lines)
-      → AllDigits x.number × ((q : Placed) → ShowsPlaced x.number (handsets_of g) (references_of g) (w x.number) air.lines q → IsPlaced purpose q x)
+  by : (purpose : Concern) → Among x (stops_of purpose (handsets_of g) links.lines)
+      → AllDigits x.number × ((q : PlacedQueue) → RepresentsPlaced x.number (handsets_of g) (references_of g) (w x.number) links.lines q → IsPlaced purpose q x)
   by (Offer now) m = mention m
   by (Fire now) m = mention m
   by (FireUnmentioned now) m = line m
@@ -263,11 +263,11 @@ digits_stop purpose g air w p x shows m = by purpose m where
 -- ---- where it is looked for
 
 -- a stop is among those that are looked at: touched, or in the index where it is looked through
-looked_at : (purpose : Purpose) (p : PendingOf) (key : ℕ) (x : Stop) (touched base : Option Placed) → Indexed p.base → ((s : Stop) → ((k : ℕ) × (stop_if purpose (at k p) ≡ Some s)) → stop_key x ≡ stop_key s → x ≡ s)
-    → under key p.touched ≡ touched → under key p.base.shelves ≡ base → stop_if purpose (option_or touched base) ≡ Some x → Among x (scanned purpose p)
+looked_at : (purpose : Concern) (p : DeliveryQueuesDraftOf) (key : ℕ) (x : ConcernedHandset) (touched base : Option PlacedQueue) → Indexed p.base → ((s : ConcernedHandset) → ((k : ℕ) × (stop_if purpose (at k p) ≡ Some s)) → stop_key x ≡ stop_key s → x ≡ s)
+    → under key p.touched ≡ touched → under key p.base.queues ≡ base → stop_if purpose (option_or touched base) ≡ Some x → Among x (scanned purpose p)
 looked_at purpose p key x (Some q) base indexed alone there below e =
-    let is : at key p ≡ Some q = ap (λ (o : Option Placed). option_or o (under key p.base.shelves)) there in
-    let seen : stop_if purpose (at key p) ≡ Some x = ap (λ (o : Option Placed). stop_if purpose o) is ∙ e in
+    let is : at key p ≡ Some q = ap (λ (o : Option PlacedQueue). option_or o (under key p.base.queues)) there in
+    let seen : stop_if purpose (at key p) ≡ Some x = ap (λ (o : Option PlacedQueue). stop_if purpose o) is ∙ e in
     let early : Among x (all_noted purpose p p.touched []) = noted_there purpose p x key q p.touched [] alone there seen in
     either (rests_for purpose p.base.rested) early (kept_noted purpose p x p.base.index (all_noted purpose p p.touched []) alone early)
   where
@@ -278,15 +278,15 @@ looked_at purpose p key x (Some q) base indexed alone there below e =
 looked_at purpose p key x None None indexed alone there below e = absurd cc
 looked_at purpose p key x None (Some q) indexed alone there below e =
     let is : at key p ≡ Some q =
-    ap (λ (o : Option Placed). option_or o (under key p.base.shelves)) there ∙ below in
-    let seen : stop_if purpose (at key p) ≡ Some x = ap (λ (o : Option Placed). stop_if purpose o) is ∙ e in
+    ap (λ (o : Option PlacedQueue). option_or o (under key p.base.queues)) there ∙ below in
+    let seen : stop_if purpose (at key p) ≡ Some x = ap (λ (o : Option PlacedQueue). stop_if purpose o) is ∙ e in
     ⊎_elim
     (λ (t : rests_for purpose p.base.rested ≡ true). absurd (resting purpose p.base.rested refl t e))
     (λ (t : rests_for purpose p.base.rested ≡ false).
     let s = stop_seen purpose q x e in
-    let listed : is_listed key p.base.index ≡ true = indexed.active key q below (wanted_active purpose q.shelf.row q.shelf.line q.shelf.waiting s.is) in
+    let listed : is_listed key p.base.index ≡ true = indexed.active key q below (wanted_active purpose q.queue.row q.queue.line q.queue.waiting s.is) in
     let there_is = some_there (lookup (nat_eq key) p.base.index) refl listed in
-    subst (λ (l : List Stop). Among x l)
+    subst (λ (l : List ConcernedHandset). Among x l)
     (sym (cond-false (rests_for purpose p.base.rested) (all_noted purpose p p.touched []) (all_noted purpose p p.base.index (all_noted purpose p p.touched [])) t))
     (noted_there purpose p x key there_is.0 p.base.index (all_noted purpose p p.touched []) alone there_is.1 seen))
     (cases_Bool (rests_for purpose p.base.rested))
@@ -295,7 +295,7 @@ looked_at purpose p key x None (Some q) indexed alone there below e =
     some_there None i t = absurd cc
     some_there (Some v) i t = (v, i)
 
-    resting : (purpose : Purpose) (m : Option ℕ) → p.base.rested ≡ m → rests_for purpose m ≡ true → stop_at purpose q ≡ Some x → ⊥
+    resting : (purpose : Concern) (m : Option ℕ) → p.base.rested ≡ m → rests_for purpose m ≡ true → stop_at purpose q ≡ Some x → ⊥
     resting (Offer now) None i t s = absurd cc
     resting (Offer now) (Some moment) i t s =
         let later = leb-true now moment t in
@@ -306,7 +306,7 @@ looked_at purpose p key x None (Some q) indexed alone there below e =
 
 -- ---- both
 
-scan_rises : (purpose : Purpose) (p : PendingOf) → Rises stop_key (scanned purpose p)
+scan_rises : (purpose : Concern) (p : DeliveryQueuesDraftOf) → Rises stop_key (scanned purpose p)
 scan_rises purpose p = by (rests_for purpose p.base.rested) where
   early : Rises stop_key (all_noted purpose p p.touched [])
   early = rises_noted purpose p p.touched [] tt
@@ -315,7 +315,7 @@ scan_rises purpose p = by (rests_for purpose p.base.rested) where
   by true = early
   by false = rises_noted purpose p p.base.index (all_noted purpose p p.touched []) early
 
-scan_seen : (purpose : Purpose) (p : PendingOf) (x : Stop) → Among x (scanned purpose p) → (key : ℕ) × (stop_if purpose (at key p) ≡ Some x)
+scan_seen : (purpose : Concern) (p : DeliveryQueuesDraftOf) (x : ConcernedHandset) → Among x (scanned purpose p) → (key : ℕ) × (stop_if purpose (at key p) ≡ Some x)
 scan_seen purpose p x m = by (rests_for purpose p.base.rested) m where
   early : Among x (all_noted purpose p p.touched []) → (key : ℕ) × (stop_if purpose (at key p) ≡ Some x)
   early m = ⊎_elim
@@ -327,50 +327,50 @@ scan_seen purpose p x m = by (rests_for purpose p.base.rested) m where
   by true m = early m
   by false m = ⊎_elim early (λ (s : (key : ℕ) × (stop_if purpose (at key p) ≡ Some x)). s) (seen_noted purpose p x p.base.index (all_noted purpose p p.touched []) m)
 
-pub scan_finds : (purpose : Purpose) (g : Givings) (air : Air) (w : List ℕ → List Load) (p : PendingOf) → Shows g air w p → scanned purpose p ≡ found purpose (handsets_of g) air.lines w
-scan_finds purpose g air w p shows =
-    let rises = stops_rise purpose g air w p shows in
-    same_rows stop_key (scanned purpose p) (found purpose (handsets_of g) air.lines w) (scan_rises purpose p)
-    (rises_filter (is_stop purpose (handsets_of g) air.lines w) stop_key (stops_of purpose (handsets_of g) air.lines) rises)
+pub scan_finds : (purpose : Concern) (g : Allocations) (links : Links) (w : List ℕ → List QueuedPart) (p : DeliveryQueuesDraftOf) → DraftRepresents g links w p → scanned purpose p ≡ found purpose (handsets_of g) links.lines w
+scan_finds purpose g links w p represents =
+    let rises = stops_rise purpose g links w p represents in
+    same_rows stop_key (scanned purpose p) (found purpose (handsets_of g) links.lines w) (scan_rises purpose p)
+    (rises_filter (is_stop purpose (handsets_of g) links.lines w) stop_key (stops_of purpose (handsets_of g) links.lines) rises)
     (λ x m.
     let s = scan_seen purpose p x m in
-    let f = seen_found purpose g air w p x s.0 (at s.0 p) shows refl s.1 in
-    filter_among (is_stop purpose (handsets_of g) air.lines w) x (stops_of purpose (handsets_of g) air.lines) f.0 f.1)
+    let f = seen_found purpose g links w p x s.0 (at s.0 p) represents refl s.1 in
+    filter_among (is_stop purpose (handsets_of g) links.lines w) x (stops_of purpose (handsets_of g) links.lines) f.0 f.1)
     (λ x m.
-    let f = among_filter (is_stop purpose (handsets_of g) air.lines w) x (stops_of purpose (handsets_of g) air.lines) m in
-    let d = digits_stop purpose g air w p x shows f.0 in
-    let q : Placed = placed_of x.number p in
-    let one = shows.each x.number d.0 in
+    let f = among_filter (is_stop purpose (handsets_of g) links.lines w) x (stops_of purpose (handsets_of g) links.lines) m in
+    let d = digits_stop purpose g links w p x represents f.0 in
+    let q : PlacedQueue = placed_of x.number p in
+    let one = represents.each x.number d.0 in
     let made : stop_at purpose q ≡ Some x = stop_made purpose q x (record {
-      is = wanted_shown purpose x.number g air w q one ∙ f.1;
+      is = wanted_shown purpose x.number g links w q one ∙ f.1;
       order = d.1 q one;
-      number = sym (ap (λ (l : Line). l.handset) one.shelf.line ∙ line_handset x.number air.lines);
+      number = sym (ap (λ (l : HandsetLink). l.handset) one.queue.line ∙ line_handset x.number links.lines);
     }) in
-    looked_at purpose p (digits_key x.number) x (under (digits_key x.number) p.touched) (under (digits_key x.number) p.base.shelves) shows.indexed
-    (λ s seen same. alone g air w p x s shows rises f.0 (seen_found purpose g air w p s seen.0 (at seen.0 p) shows refl seen.1).0 same)
+    looked_at purpose p (digits_key x.number) x (under (digits_key x.number) p.touched) (under (digits_key x.number) p.base.queues) represents.indexed
+    (λ s seen same. alone g links w p x s represents rises f.0 (seen_found purpose g links w p s seen.0 (at seen.0 p) represents refl seen.1).0 same)
     refl refl (there purpose x.number (at (digits_key x.number) p) x made))
   where
     -- stops in the same place are the same
-    alone : (g : Givings) (air : Air) (w : List ℕ → List Load) (p : PendingOf) (x s : Stop) → Shows g air w p → Rises stop_key (stops_of purpose (handsets_of g) air.lines)
-        → Among x (stops_of purpose (handsets_of g) air.lines) → Among s (stops_of purpose (handsets_of g) air.lines) → stop_key x ≡ stop_key s → x ≡ s
-    alone g air w p x s shows rises m n e =
-        let one : Some x ≡ Some s = sym (among_found stop_key x (stops_of purpose (handsets_of g) air.lines) rises m)
-        ∙ ap (λ (k : ℕ). row_at stop_key k (stops_of purpose (handsets_of g) air.lines)) e ∙ among_found stop_key s (stops_of purpose (handsets_of g) air.lines) rises n in
+    alone : (g : Allocations) (links : Links) (w : List ℕ → List QueuedPart) (p : DeliveryQueuesDraftOf) (x s : ConcernedHandset) → DraftRepresents g links w p → Rises stop_key (stops_of purpose (handsets_of g) links.lines)
+        → Among x (stops_of purpose (handsets_of g) links.lines) → Among s (stops_of purpose (handsets_of g) links.lines) → stop_key x ≡ stop_key s → x ≡ s
+    alone g links w p x s represents rises m n e =
+        let one : Some x ≡ Some s = sym (among_found stop_key x (stops_of purpose (handsets_of g) links.lines) rises m)
+        ∙ ap (λ (k : ℕ). row_at stop_key k (stops_of purpose (handsets_of g) links.lines)) e ∙ among_found stop_key s (stops_of purpose (handsets_of g) links.lines) rises n in
         cc
 
-    -- the shelf of a stop is there
-    there : (purpose : Purpose) (number : List ℕ) (o : Option Placed) (x : Stop) → stop_at purpose (or_new number o) ≡ Some x → stop_if purpose o ≡ Some x
+    -- the queue of a stop is there
+    there : (purpose : Concern) (number : List ℕ) (o : Option PlacedQueue) (x : ConcernedHandset) → stop_at purpose (or_new number o) ≡ Some x → stop_if purpose o ≡ Some x
     there purpose number None x e =
         let s = stop_seen purpose (new_placed number) x e in
         let bad : None ≡ Some x.order = sym (no_order purpose number) ∙ s.order in absurd cc
     there purpose number (Some q) x e = e
 
 -- where nothing was found, nothing is left
-pub nothing_left : (purpose : Purpose) (p : PendingOf) (key : ℕ) (touched base : Option Placed) → Indexed p.base → scanned purpose p ≡ [] → under key p.touched ≡ touched → under key p.base.shelves ≡ base
+pub nothing_left : (purpose : Concern) (p : DeliveryQueuesDraftOf) (key : ℕ) (touched base : Option PlacedQueue) → Indexed p.base → scanned purpose p ≡ [] → under key p.touched ≡ touched → under key p.base.queues ≡ base
     → stop_if purpose (option_or touched base) ≡ None
 nothing_left purpose p key (Some q) base indexed none there below =
-    let is : at key p ≡ Some q = ap (λ (o : Option Placed). option_or o (under key p.base.shelves)) there in
-    ap (λ (o : Option Placed). stop_if purpose o) (sym is) ∙ empty_there purpose p key q p.touched [] (early (rests_for purpose p.base.rested) none) there
+    let is : at key p ≡ Some q = ap (λ (o : Option PlacedQueue). option_or o (under key p.base.queues)) there in
+    ap (λ (o : Option PlacedQueue). stop_if purpose o) (sym is) ∙ empty_there purpose p key q p.touched [] (early (rests_for purpose p.base.rested) none) there
   where
     early : (b : Bool) → (if b then all_noted purpose p p.touched [] else all_noted purpose p p.base.index (all_noted purpose p p.touched [])) ≡ [] → all_noted purpose p p.touched [] ≡ []
     early true e = e
@@ -378,13 +378,13 @@ nothing_left purpose p key (Some q) base indexed none there below =
 nothing_left purpose p key None None indexed none there below = refl
 nothing_left purpose p key None (Some q) indexed none there below = by (stop_at purpose q) refl where
   is : at key p ≡ Some q
-  is = ap (λ (o : Option Placed). option_or o (under key p.base.shelves)) there ∙ below
+  is = ap (λ (o : Option PlacedQueue). option_or o (under key p.base.queues)) there ∙ below
 
   some_there : (o : Option (Unit {0})) → lookup (nat_eq key) p.base.index ≡ o → is_some o ≡ true → (v : Unit {0}) × (lookup (nat_eq key) p.base.index ≡ Some v)
   some_there None i t = absurd cc
   some_there (Some v) i t = (v, i)
 
-  resting : (purpose : Purpose) (m : Option ℕ) (x : Stop) → p.base.rested ≡ m → rests_for purpose m ≡ true → stop_at purpose q ≡ Some x → ⊥
+  resting : (purpose : Concern) (m : Option ℕ) (x : ConcernedHandset) → p.base.rested ≡ m → rests_for purpose m ≡ true → stop_at purpose q ≡ Some x → ⊥
   resting (Offer now) None x i t s = absurd cc
   resting (Offer now) (Some moment) x i t s =
       let later = leb-true now moment t in
@@ -393,15 +393,15 @@ nothing_left purpose p key None (Some q) indexed none there below = by (stop_at 
   resting (FireUnmentioned now) m x i t s = absurd cc
   resting Awaited m x i t s = absurd cc
 
-  by : (o : Option Stop) → stop_at purpose q ≡ o → o ≡ None
+  by : (o : Option ConcernedHandset) → stop_at purpose q ≡ o → o ≡ None
   by None e = refl
   by (Some x) e = ⊎_elim
       (λ (t : rests_for purpose p.base.rested ≡ true). absurd (resting purpose p.base.rested x refl t e))
       (λ (t : rests_for purpose p.base.rested ≡ false).
       let s = stop_seen purpose q x e in
-      let listed : is_listed key p.base.index ≡ true = indexed.active key q below (wanted_active purpose q.shelf.row q.shelf.line q.shelf.waiting s.is) in
+      let listed : is_listed key p.base.index ≡ true = indexed.active key q below (wanted_active purpose q.queue.row q.queue.line q.queue.waiting s.is) in
       let v = some_there (lookup (nat_eq key) p.base.index) refl listed in
       let all : all_noted purpose p p.base.index (all_noted purpose p p.touched []) ≡ [] =
       sym (cond-false (rests_for purpose p.base.rested) (all_noted purpose p p.touched []) (all_noted purpose p p.base.index (all_noted purpose p p.touched [])) t) ∙ none in
-      sym e ∙ ap (λ (o : Option Placed). stop_if purpose o) (sym is) ∙ empty_there purpose p key v.0 p.base.index (all_noted purpose p p.touched []) all v.1)
+      sym e ∙ ap (λ (o : Option PlacedQueue). stop_if purpose o) (sym is) ∙ empty_there purpose p key v.0 p.base.index (all_noted purpose p p.touched []) all v.1)
       (cases_Bool (rests_for purpose p.base.rested))

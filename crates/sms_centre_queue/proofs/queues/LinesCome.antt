@@ -5,12 +5,12 @@ use Rattle.std.proofs.lemmas.Bool.{cases_Bool, cond-true, cond-false, ne_eqb}
 use Rattle.std.proofs.lemmas.Slice.Eq.{bytes_eq-Decides}
 use Rattle.sms_base.specs.Among.{Among}
 use Rattle.sms_rows.specs.table.Keys.{AllDigits}
-use Rattle.sms_centre_rows.specs.declared.waiting.line.Line.{Line}
-use Rattle.sms_centre_rows.specs.waiting.Lines.{line_at, line_of, or_new_line, with_line}
+use Rattle.sms_centre_rows.specs.declared.waiting.handset_link.HandsetLink.{HandsetLink}
+use Rattle.sms_centre_rows.specs.waiting.Links.{line_at, line_of, or_new_line, with_line}
 use Rattle.sms_centre_rows.proofs.waiting.LinesShown.{line_behind, line_here, put_at_other}
 use Rattle.sms_centre_rows.proofs.waiting.Mentions.{cases_number}
 use Rattle.sms_centre_queue.specs.queues.LineOrder.{AreLines, came_from}
-use Rattle.sms_centre_queue.specs.queues.Placing.{lines_now}
+use Rattle.sms_centre_queue.specs.queues.Queues.{lines_now}
 
 -- ---- one line
 
@@ -20,28 +20,28 @@ differ a b ne = ⊎_elim
     (λ (t : bytes_eq a b ≡ false). t)
     (cases_Bool (bytes_eq a b))
 
-pub put_here : (line l : Line) (ls : List Line) → l.handset ≡ line.handset → with_line line (l ∷ ls) ≡ line ∷ ls
+pub put_here : (line l : HandsetLink) (ls : List HandsetLink) → l.handset ≡ line.handset → with_line line (l ∷ ls) ≡ line ∷ ls
 put_here line l ls e = cond-true (bytes_eq l.handset line.handset) (line ∷ ls) (l ∷ with_line line ls) ((bytes_eq-Decides l.handset line.handset).1 e)
 
-pub put_behind : (line l : Line) (ls : List Line) → ¬ (l.handset ≡ line.handset) → with_line line (l ∷ ls) ≡ l ∷ with_line line ls
+pub put_behind : (line l : HandsetLink) (ls : List HandsetLink) → ¬ (l.handset ≡ line.handset) → with_line line (l ∷ ls) ≡ l ∷ with_line line ls
 put_behind line l ls ne = cond-false (bytes_eq l.handset line.handset) (line ∷ ls) (l ∷ with_line line ls) (differ l.handset line.handset ne)
 
-pub came_here : (place : ℕ) (number : List ℕ) (l : Line) (ls : List Line) → l.handset ≡ number → came_from place number (l ∷ ls) ≡ place
+pub came_here : (place : ℕ) (number : List ℕ) (l : HandsetLink) (ls : List HandsetLink) → l.handset ≡ number → came_from place number (l ∷ ls) ≡ place
 came_here place number l ls e = cond-true (bytes_eq l.handset number) place (came_from (place + 1) number ls) ((bytes_eq-Decides l.handset number).1 e)
 
-pub came_behind : (place : ℕ) (number : List ℕ) (l : Line) (ls : List Line) → ¬ (l.handset ≡ number) → came_from place number (l ∷ ls) ≡ came_from (place + 1) number ls
+pub came_behind : (place : ℕ) (number : List ℕ) (l : HandsetLink) (ls : List HandsetLink) → ¬ (l.handset ≡ number) → came_from place number (l ∷ ls) ≡ came_from (place + 1) number ls
 came_behind place number l ls ne = cond-false (bytes_eq l.handset number) place (came_from (place + 1) number ls) (differ l.handset number ne)
 
 -- ---- the places
 
-pub came_other : (place : ℕ) (number : List ℕ) (line : Line) (ls : List Line) → ¬ (line.handset ≡ number) → came_from place number (with_line line ls) ≡ came_from place number ls
+pub came_other : (place : ℕ) (number : List ℕ) (line : HandsetLink) (ls : List HandsetLink) → ¬ (line.handset ≡ number) → came_from place number (with_line line ls) ≡ came_from place number ls
 came_other place number line [] ne = came_behind place number line [] ne
 came_other place number line (l ∷ ls) ne = ⊎_elim
     (λ (e : l.handset ≡ line.handset).
-    ap (λ (r : List Line). came_from place number r) (put_here line l ls e) ∙ came_behind place number line ls ne
+    ap (λ (r : List HandsetLink). came_from place number r) (put_here line l ls e) ∙ came_behind place number line ls ne
     ∙ sym (came_behind place number l ls (λ q. ne (sym e ∙ q))))
     (λ (e : l.handset ≡ line.handset → ⊥).
-    ap (λ (r : List Line). came_from place number r) (put_behind line l ls e) ∙ ⊎_elim
+    ap (λ (r : List HandsetLink). came_from place number r) (put_behind line l ls e) ∙ ⊎_elim
     (λ (t : l.handset ≡ number). came_here place number l (with_line line ls) t ∙ sym (came_here place number l ls t))
     (λ (t : l.handset ≡ number → ⊥).
     came_behind place number l (with_line line ls) t ∙ came_other (place + 1) number line ls ne ∙ sym (came_behind place number l ls t))
@@ -55,15 +55,15 @@ place_behind came behind = cond (came == 0) behind came
 stays_at : (came behind : ℕ) → 0 < came → place_behind came behind ≡ came
 stays_at came behind some = cond-false (came == 0) behind came (ne_eqb came 0 (λ e. absurd (omega (arith, some))))
 
-pub came_own : (place : ℕ) (line : Line) (ls : List Line) → 0 < place → came_from place line.handset (with_line line ls) ≡ place_behind (came_from place line.handset ls) (length ls + place)
-came_own place line [] some = let behind : place ≡ length {A = Line} [] + place = omega arith in came_here place line.handset line [] refl ∙ behind
+pub came_own : (place : ℕ) (line : HandsetLink) (ls : List HandsetLink) → 0 < place → came_from place line.handset (with_line line ls) ≡ place_behind (came_from place line.handset ls) (length ls + place)
+came_own place line [] some = let behind : place ≡ length {A = HandsetLink} [] + place = omega arith in came_here place line.handset line [] refl ∙ behind
 came_own place line (l ∷ ls) some = ⊎_elim
     (λ (e : l.handset ≡ line.handset).
-    ap (λ (r : List Line). came_from place line.handset r) (put_here line l ls e) ∙ came_here place line.handset line ls refl
+    ap (λ (r : List HandsetLink). came_from place line.handset r) (put_here line l ls e) ∙ came_here place line.handset line ls refl
     ∙ sym (ap (λ (n : ℕ). place_behind n (length (l ∷ ls) + place)) (came_here place line.handset l ls e) ∙ stays_at place (length (l ∷ ls) + place) some))
     (λ (e : l.handset ≡ line.handset → ⊥).
     let one_more : length ls + (place + 1) ≡ length (l ∷ ls) + place = omega arith in
-    ap (λ (r : List Line). came_from place line.handset r) (put_behind line l ls e) ∙ came_behind place line.handset l (with_line line ls) e
+    ap (λ (r : List HandsetLink). came_from place line.handset r) (put_behind line l ls e) ∙ came_behind place line.handset l (with_line line ls) e
     ∙ came_own (place + 1) line ls (omega arith)
     ∙ ap (λ (n : ℕ). place_behind (came_from (place + 1) line.handset ls) n) one_more
     ∙ sym (ap (λ (n : ℕ). place_behind n (length (l ∷ ls) + place)) (came_behind place line.handset l ls e)))
@@ -71,18 +71,18 @@ came_own place line (l ∷ ls) some = ⊎_elim
 
 -- ---- how many lines there are
 
-pub line_count : (place : ℕ) (line : Line) (ls : List Line) → 0 < place → length (with_line line ls) ≡ lines_now (came_from place line.handset ls) (length ls)
+pub line_count : (place : ℕ) (line : HandsetLink) (ls : List HandsetLink) → 0 < place → length (with_line line ls) ≡ lines_now (came_from place line.handset ls) (length ls)
 line_count place line [] some = refl
 line_count place line (l ∷ ls) some = ⊎_elim
     (λ (e : l.handset ≡ line.handset).
-    ap (λ (r : List Line). length r) (put_here line l ls e)
+    ap (λ (r : List HandsetLink). length r) (put_here line l ls e)
     ∙ sym (ap (λ (n : ℕ). lines_now n (length (l ∷ ls))) (came_here place line.handset l ls e)
     ∙ cond-false (place == 0) (length (l ∷ ls) + 1) (length (l ∷ ls)) (ne_eqb place 0 (λ z. absurd (omega (arith, some))))))
     (λ (e : l.handset ≡ line.handset → ⊥).
     let n : ℕ = came_from (place + 1) line.handset ls in
     let one_more : length ls + 1 ≡ length (l ∷ ls) = omega arith in
     let behind : length (l ∷ with_line line ls) ≡ length (with_line line ls) + 1 = omega arith in
-    ap (λ (r : List Line). length r) (put_behind line l ls e) ∙ behind ∙ ap (λ (m : ℕ). m + 1) (line_count (place + 1) line ls (omega arith))
+    ap (λ (r : List HandsetLink). length r) (put_behind line l ls e) ∙ behind ∙ ap (λ (m : ℕ). m + 1) (line_count (place + 1) line ls (omega arith))
     ∙ grows n (length ls) ∙ ap (λ (m : ℕ). lines_now n m) one_more ∙ sym (ap (λ (m : ℕ). lines_now m (length (l ∷ ls))) (came_behind place line.handset l ls e)))
     (cases_number l.handset line.handset)
   where
@@ -94,23 +94,23 @@ line_count place line (l ∷ ls) some = ⊎_elim
 
 -- ---- what holds of all lines
 
-pub digits_put : (line : Line) (ls : List Line) → AllDigits line.handset → ((l : Line) → Among l ls → AllDigits l.handset) → (l : Line) → Among l (with_line line ls) → AllDigits l.handset
+pub digits_put : (line : HandsetLink) (ls : List HandsetLink) → AllDigits line.handset → ((l : HandsetLink) → Among l ls → AllDigits l.handset) → (l : HandsetLink) → Among l (with_line line ls) → AllDigits l.handset
 digits_put line [] d f l m = ⊎_elim
-    (λ (e : l ≡ line). subst (λ (x : Line). AllDigits x.handset) (sym e) d)
+    (λ (e : l ≡ line). subst (λ (x : HandsetLink). AllDigits x.handset) (sym e) d)
     (λ (r : Among l []). elim r [ ])
     m
 digits_put line (x ∷ xs) d f l m = ⊎_elim
     (λ (e : x.handset ≡ line.handset). ⊎_elim
-    (λ (q : l ≡ line). subst (λ (y : Line). AllDigits y.handset) (sym q) d)
+    (λ (q : l ≡ line). subst (λ (y : HandsetLink). AllDigits y.handset) (sym q) d)
     (λ (r : Among l xs). f l (inr r))
-    (subst (λ (r : List Line). Among l r) (put_here line x xs e) m))
+    (subst (λ (r : List HandsetLink). Among l r) (put_here line x xs e) m))
     (λ (e : x.handset ≡ line.handset → ⊥). ⊎_elim
     (λ (q : l ≡ x). f l (inl q))
     (λ (r : Among l (with_line line xs)). digits_put line xs d (λ y n. f y (inr n)) l r)
-    (subst (λ (r : List Line). Among l r) (put_behind line x xs e) m))
+    (subst (λ (r : List HandsetLink). Among l r) (put_behind line x xs e) m))
     (cases_number x.handset line.handset)
 
-pub apart_put : (line : Line) (ls : List Line) → AreLines ls → AreLines (with_line line ls)
+pub apart_put : (line : HandsetLink) (ls : List HandsetLink) → AreLines ls → AreLines (with_line line ls)
 apart_put line [] a = (refl, tt)
 apart_put line (l ∷ ls) a = ⊎_elim
     (λ (e : l.handset ≡ line.handset).
@@ -123,9 +123,9 @@ apart_put line (l ∷ ls) a = ⊎_elim
 
 -- ---- a line is that of its handset
 
-pub line_handset : (number : List ℕ) (ls : List Line) → (line_of number ls).handset ≡ number
+pub line_handset : (number : List ℕ) (ls : List HandsetLink) → (line_of number ls).handset ≡ number
 line_handset number [] = refl
 line_handset number (l ∷ ls) = ⊎_elim
-    (λ (e : l.handset ≡ number). ap (λ (o : Option Line). (or_new_line number o).handset) (line_here number l ls e) ∙ e)
-    (λ (e : l.handset ≡ number → ⊥). ap (λ (o : Option Line). (or_new_line number o).handset) (line_behind number l ls e) ∙ line_handset number ls)
+    (λ (e : l.handset ≡ number). ap (λ (o : Option HandsetLink). (or_new_line number o).handset) (line_here number l ls e) ∙ e)
+    (λ (e : l.handset ≡ number → ⊥). ap (λ (o : Option HandsetLink). (or_new_line number o).handset) (line_behind number l ls e) ∙ line_handset number ls)
     (cases_number l.handset number)

@@ -1,11 +1,11 @@
--- One key comes into the index or goes, and one shelf comes under its key.
+-- One key comes into the index or goes, and one queue comes under its key.
 use Rattle.std.proofs.Common.{◌≡◌, ℕ, List, [], ◌∷◌, length, Bool, true, false, nat_eq, Option, Some, refl, sym, ◌∙◌, ap, subst, ⊎_elim, cond, is_some, eq-eqb, arith}
 use Rattle.std.specs.Map.{lookup}
 use Rattle.std.proofs.lemmas.Bool.{cases_eq, ne_eqb}
-use Rattle.sms_centre_queue.specs.declared.queues.placed.Placed.{Placed}
-use Rattle.sms_centre_queue.specs.declared.queues.stop.Stop.{Stop}
-use Rattle.sms_centre_queue.specs.declared.queues.stop.Purpose.TheVariants.{Offer}
-use Rattle.sms_centre_queue.specs.queues.Placing.{PendingOf, is_listed, under}
+use Rattle.sms_centre_queue.specs.declared.queues.placed_queue.PlacedQueue.{PlacedQueue}
+use Rattle.sms_centre_queue.specs.declared.queues.concern.ConcernedHandset.{ConcernedHandset}
+use Rattle.sms_centre_queue.specs.declared.queues.concern.Concern.TheVariants.{Offer}
+use Rattle.sms_centre_queue.specs.queues.Queues.{DeliveryQueuesDraftOf, is_listed, under}
 use Rattle.sms_centre_queue.specs.queues.Stops.{scanned}
 
 pub swapped : (a b : ℕ) → nat_eq a b ≡ nat_eq b a
@@ -27,15 +27,15 @@ listed_as key k w active old new is written =
     ap is_some (written k) ∙ over_cond (nat_eq key k) w (lookup (nat_eq k) old)
     ∙ ap (λ (b : Bool). cond b (is_some w) (is_listed k old)) (swapped key k) ∙ ap (λ (b : Bool). cond (nat_eq k key) b (is_listed k old)) is
 
-pub placed_as : (key k : ℕ) (placed : Placed) (old new : List (ℕ × Placed)) → Written key (Some placed) old new → under k new ≡ cond (nat_eq k key) (Some placed) (under k old)
+pub placed_as : (key k : ℕ) (placed : PlacedQueue) (old new : List (ℕ × PlacedQueue)) → Written key (Some placed) old new → under k new ≡ cond (nat_eq k key) (Some placed) (under k old)
 placed_as key k placed old new written = written k ∙ ap (λ (b : Bool). cond b (Some placed) (under k old)) (swapped key k)
 
 -- a moment at which nothing was found
-no_rows : (stops : List Stop) → length stops ≡ 0 → stops ≡ []
+no_rows : (stops : List ConcernedHandset) → length stops ≡ 0 → stops ≡ []
 no_rows [] e = refl
 no_rows (s ∷ ss) e = absurd (omega (arith, e))
 
-pub nothing_at : (now moment : ℕ) (stops : List Stop) (p : PendingOf) → stops ≡ scanned (Offer now) p → length stops ≡ 0 → Some now ≡ Some moment → scanned (Offer moment) p ≡ []
+pub nothing_at : (now moment : ℕ) (stops : List ConcernedHandset) (p : DeliveryQueuesDraftOf) → stops ≡ scanned (Offer now) p → length stops ≡ 0 → Some now ≡ Some moment → scanned (Offer moment) p ≡ []
 nothing_at now moment stops p is none same =
     let e : now ≡ moment = cc in
     subst (λ (n : ℕ). scanned (Offer n) p ≡ []) e (sym is ∙ no_rows stops none)

@@ -8,7 +8,7 @@ use Rattle.sms_centre_rows.specs.declared.waiting.handset.HandsetRow.{HandsetRow
 use Rattle.sms_centre_rows.specs.waiting.Keys.{handset_key}
 use Rattle.sms_centre_rows.specs.waiting.References.{handset_at, mentioned, or_new_handset, place_after}
 use Rattle.sms_centre_rows.proofs.waiting.Mentions.{below_next_place, number_found}
-use Rattle.sms_centre_queue.specs.queues.Placing.{places_now}
+use Rattle.sms_centre_queue.specs.queues.Queues.{places_now}
 
 pub above_among : (place : ℕ) (g : HandsetRow) (hs : List HandsetRow) → AllAbove handset_key place hs → Among g hs → place < g.place
 above_among place g [] above m = elim m [ ]

@@ -1,4 +1,4 @@
--- What is noted on a way over shelves.
+-- What is noted on a way over queues.
 use Rattle.std.proofs.Common.{◌≡◌, ◌⊎◌, ℕ, List, [], ◌∷◌, Bool, true, false, nat_eq, Option, Some, None, refl, sym, ◌∙◌, ap, subst, inl, inr, ⊎_elim, eqb-true}
 use Rattle.std.specs.Map.{lookup}
 use Rattle.std.specs.Prelude.{filter}
@@ -7,10 +7,10 @@ use Rattle.sms_base.specs.Among.{Among}
 use Rattle.sms_rows.specs.table.Table.{AllAbove, Rises, put, row_at}
 use Rattle.sms_rows.proofs.table.Tables.{among_found, among_put, found_among, found_key, put_among, rises_put}
 use Rattle.sms_centre_rows.proofs.waiting.Alike.{rises_alike}
-use Rattle.sms_centre_queue.specs.declared.queues.stop.Stop.{Stop}
-use Rattle.sms_centre_queue.specs.declared.queues.stop.Purpose.{Purpose}
+use Rattle.sms_centre_queue.specs.declared.queues.concern.ConcernedHandset.{ConcernedHandset}
+use Rattle.sms_centre_queue.specs.declared.queues.concern.Concern.{Concern}
 use Rattle.sms_centre_queue.specs.queues.Keys.{stop_key}
-use Rattle.sms_centre_queue.specs.queues.Placing.{PendingOf, at}
+use Rattle.sms_centre_queue.specs.queues.Queues.{DeliveryQueuesDraftOf, at}
 use Rattle.sms_centre_queue.specs.queues.Stops.{all_noted, noted, stop_if}
 
 -- ---- rows with the same members
@@ -66,75 +66,75 @@ module _ {A : Type 0} (test : A → Bool) where
 
 -- ---- what is noted
 
-module _ (purpose : Purpose) (p : PendingOf) where
-  -- it is the stop at a shelf
-  abbrev Seen : Stop → Type 0
+module _ (purpose : Concern) (p : DeliveryQueuesDraftOf) where
+  -- it is the stop at a queue
+  abbrev Seen : ConcernedHandset → Type 0
   Seen x = (key : ℕ) × (stop_if purpose (at key p) ≡ Some x)
 
   -- no other stop is in its place
-  abbrev Alone : Stop → Type 0
-  Alone x = (s : Stop) → Seen s → stop_key x ≡ stop_key s → x ≡ s
+  abbrev Alone : ConcernedHandset → Type 0
+  Alone x = (s : ConcernedHandset) → Seen s → stop_key x ≡ stop_key s → x ≡ s
 
-  kept_once : (x : Stop) (o : Option Stop) (key : ℕ) (stops : List Stop) → Alone x → stop_if purpose (at key p) ≡ o → Among x stops → Among x (noted o stops)
+  kept_once : (x : ConcernedHandset) (o : Option ConcernedHandset) (key : ℕ) (stops : List ConcernedHandset) → Alone x → stop_if purpose (at key p) ≡ o → Among x stops → Among x (noted o stops)
   kept_once x None key stops alone is m = m
   kept_once x (Some s) key stops alone is m = ⊎_elim
       (λ (e : stop_key x ≡ stop_key s). put_among stop_key x s stops (inl (alone s (key, is) e)))
       (λ (e : stop_key x ≡ stop_key s → ⊥). put_among stop_key x s stops (inr (m, e)))
       (cases_eq (stop_key x) (stop_key s))
 
-never_empty : (s : Stop) (stops : List Stop) → put stop_key s stops ≡ [] → ⊥
-never_empty s stops e = elim (subst (λ (l : List Stop). Among s l) e (put_among stop_key s s stops (inl refl))) [ ]
+never_empty : (s : ConcernedHandset) (stops : List ConcernedHandset) → put stop_key s stops ≡ [] → ⊥
+never_empty s stops e = elim (subst (λ (l : List ConcernedHandset). Among s l) e (put_among stop_key s s stops (inl refl))) [ ]
 
-noted_empty : (o : Option Stop) (stops : List Stop) → noted o stops ≡ [] → (o ≡ None) × (stops ≡ [])
+noted_empty : (o : Option ConcernedHandset) (stops : List ConcernedHandset) → noted o stops ≡ [] → (o ≡ None) × (stops ≡ [])
 noted_empty None stops e = (refl, e)
 noted_empty (Some s) stops e = absurd (never_empty s stops e)
 
-module _ {A : Type 0} (purpose : Purpose) (p : PendingOf) where
-  pub rises_noted : (es : List (ℕ × A)) (stops : List Stop) → Rises stop_key stops → Rises stop_key (all_noted purpose p es stops)
+module _ {A : Type 0} (purpose : Concern) (p : DeliveryQueuesDraftOf) where
+  pub rises_noted : (es : List (ℕ × A)) (stops : List ConcernedHandset) → Rises stop_key stops → Rises stop_key (all_noted purpose p es stops)
   rises_noted [] stops r = r
   rises_noted (e ∷ es) stops r = rises_noted es (noted (stop_if purpose (at e.0 p)) stops) (one (stop_if purpose (at e.0 p))) where
-    one : (o : Option Stop) → Rises stop_key (noted o stops)
+    one : (o : Option ConcernedHandset) → Rises stop_key (noted o stops)
     one None = r
     one (Some s) = rises_put stop_key s stops r
 
-  pub seen_noted : (x : Stop) (es : List (ℕ × A)) (stops : List Stop) → Among x (all_noted purpose p es stops) → Among x stops ⊎ Seen purpose p x
+  pub seen_noted : (x : ConcernedHandset) (es : List (ℕ × A)) (stops : List ConcernedHandset) → Among x (all_noted purpose p es stops) → Among x stops ⊎ Seen purpose p x
   seen_noted x [] stops m = inl m
   seen_noted x (e ∷ es) stops m = ⊎_elim
       (λ (n : Among x (noted (stop_if purpose (at e.0 p)) stops)). one (stop_if purpose (at e.0 p)) refl n)
       (λ (s : Seen purpose p x). inr s)
       (seen_noted x es (noted (stop_if purpose (at e.0 p)) stops) m)
     where
-      one : (o : Option Stop) → stop_if purpose (at e.0 p) ≡ o → Among x (noted o stops) → Among x stops ⊎ Seen purpose p x
+      one : (o : Option ConcernedHandset) → stop_if purpose (at e.0 p) ≡ o → Among x (noted o stops) → Among x stops ⊎ Seen purpose p x
       one None is n = inl n
       one (Some s) is n = ⊎_elim
-          (λ (q : x ≡ s). let there : Seen purpose p x = (e.0, is ∙ ap (λ (y : Stop). Some y) (sym q)) in inr there)
+          (λ (q : x ≡ s). let there : Seen purpose p x = (e.0, is ∙ ap (λ (y : ConcernedHandset). Some y) (sym q)) in inr there)
           (λ (k : Among x stops × ¬ (stop_key x ≡ stop_key s)). inl k.0)
           (among_put stop_key x s stops n)
 
-  pub kept_noted : (x : Stop) (es : List (ℕ × A)) (stops : List Stop) → Alone purpose p x → Among x stops → Among x (all_noted purpose p es stops)
+  pub kept_noted : (x : ConcernedHandset) (es : List (ℕ × A)) (stops : List ConcernedHandset) → Alone purpose p x → Among x stops → Among x (all_noted purpose p es stops)
   kept_noted x [] stops alone m = m
   kept_noted x (e ∷ es) stops alone m =
       kept_noted x es (noted (stop_if purpose (at e.0 p)) stops) alone (kept_once purpose p x (stop_if purpose (at e.0 p)) e.0 stops alone refl m)
 
-  pub noted_there : (x : Stop) (key : ℕ) (v : A) (es : List (ℕ × A)) (stops : List Stop) → Alone purpose p x → lookup (nat_eq key) es ≡ Some v → stop_if purpose (at key p) ≡ Some x
+  pub noted_there : (x : ConcernedHandset) (key : ℕ) (v : A) (es : List (ℕ × A)) (stops : List ConcernedHandset) → Alone purpose p x → lookup (nat_eq key) es ≡ Some v → stop_if purpose (at key p) ≡ Some x
       → Among x (all_noted purpose p es stops)
   noted_there x key v [] stops alone found is = absurd cc
   noted_there x key v (e ∷ es) stops alone found is = ⊎_elim
       (λ (t : nat_eq key e.0 ≡ true).
       let here : stop_if purpose (at e.0 p) ≡ Some x = subst (λ (k : ℕ). stop_if purpose (at k p) ≡ Some x) (eqb-true key e.0 t) is in
       kept_noted x es (noted (stop_if purpose (at e.0 p)) stops) alone
-      (subst (λ (o : Option Stop). Among x (noted o stops)) (sym here) (put_among stop_key x x stops (inl refl))))
+      (subst (λ (o : Option ConcernedHandset). Among x (noted o stops)) (sym here) (put_among stop_key x x stops (inl refl))))
       (λ (t : nat_eq key e.0 ≡ false).
       noted_there x key v es (noted (stop_if purpose (at e.0 p)) stops) alone (sym (cond-false (nat_eq key e.0) (Some e.1) (lookup (nat_eq key) es) t) ∙ found) is)
       (cases_Bool (nat_eq key e.0))
 
   -- ---- nothing was noted
 
-  pub empty_before : (es : List (ℕ × A)) (stops : List Stop) → all_noted purpose p es stops ≡ [] → stops ≡ []
+  pub empty_before : (es : List (ℕ × A)) (stops : List ConcernedHandset) → all_noted purpose p es stops ≡ [] → stops ≡ []
   empty_before [] stops e = e
   empty_before (x ∷ es) stops e = (noted_empty (stop_if purpose (at x.0 p)) stops (empty_before es (noted (stop_if purpose (at x.0 p)) stops) e)).1
 
-  pub empty_there : (key : ℕ) (v : A) (es : List (ℕ × A)) (stops : List Stop) → all_noted purpose p es stops ≡ [] → lookup (nat_eq key) es ≡ Some v → stop_if purpose (at key p) ≡ None
+  pub empty_there : (key : ℕ) (v : A) (es : List (ℕ × A)) (stops : List ConcernedHandset) → all_noted purpose p es stops ≡ [] → lookup (nat_eq key) es ≡ Some v → stop_if purpose (at key p) ≡ None
   empty_there key v [] stops e found = absurd cc
   empty_there key v (x ∷ es) stops e found = ⊎_elim
       (λ (t : nat_eq key x.0 ≡ true).

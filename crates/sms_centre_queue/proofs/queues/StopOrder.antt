@@ -3,12 +3,12 @@ use Rattle.std.proofs.Common.{◌≡◌, ℕ, ◌+◌, ◌<◌, List, [], ◌∷
 use Rattle.sms_base.specs.Among.{Among}
 use Rattle.sms_rows.specs.table.Table.{AllAbove, Rises}
 use Rattle.sms_centre_rows.specs.declared.waiting.handset.HandsetRow.{HandsetRow}
-use Rattle.sms_centre_rows.specs.declared.waiting.line.Line.{Line}
+use Rattle.sms_centre_rows.specs.declared.waiting.handset_link.HandsetLink.{HandsetLink}
 use Rattle.sms_centre_rows.specs.waiting.Keys.{handset_key}
-use Rattle.sms_centre_rows.specs.waiting.Lines.{line_at}
+use Rattle.sms_centre_rows.specs.waiting.Links.{line_at}
 use Rattle.sms_centre_rows.proofs.waiting.LinesShown.{line_behind, line_here}
 use Rattle.sms_centre_rows.proofs.waiting.Mentions.{cases_number}
-use Rattle.sms_centre_queue.specs.declared.queues.stop.Stop.{Stop}
+use Rattle.sms_centre_queue.specs.declared.queues.concern.ConcernedHandset.{ConcernedHandset}
 use Rattle.sms_centre_queue.specs.queues.Keys.{stop_key}
 use Rattle.sms_centre_queue.specs.queues.LineOrder.{AreLines, came_from}
 use Rattle.sms_centre_queue.specs.queues.Stops.{line_stops, mention_stops}
@@ -16,7 +16,7 @@ use Rattle.sms_centre_queue.proofs.queues.LinesCome.{came_behind, came_here}
 
 -- ---- handsets
 
-abbrev pub mention_stop : HandsetRow → Stop
+abbrev pub mention_stop : HandsetRow → ConcernedHandset
 mention_stop h = record { order = h.place; number = h.number }
 
 mention_above : (n : ℕ) (hs : List HandsetRow) → AllAbove handset_key n hs → AllAbove stop_key n (mention_stops hs)
@@ -31,7 +31,7 @@ pub mention_among : (h : HandsetRow) (hs : List HandsetRow) → Among h hs → A
 mention_among h [] m = elim m [ ]
 mention_among h (g ∷ gs) m = ⊎_elim (λ (e : h ≡ g). inl (ap mention_stop e)) (λ (r : Among h gs). inr (mention_among h gs r)) m
 
-pub among_mention : (s : Stop) (hs : List HandsetRow) → Among s (mention_stops hs) → (h : HandsetRow) × (Among h hs × (s ≡ mention_stop h))
+pub among_mention : (s : ConcernedHandset) (hs : List HandsetRow) → Among s (mention_stops hs) → (h : HandsetRow) × (Among h hs × (s ≡ mention_stop h))
 among_mention s [] m = elim m [ ]
 among_mention s (h ∷ hs) m = ⊎_elim
     (λ (e : s ≡ mention_stop h). (h, (inl refl, e)))
@@ -40,16 +40,16 @@ among_mention s (h ∷ hs) m = ⊎_elim
 
 -- ---- lines
 
-lines_above : (m n : ℕ) (ls : List Line) → m < n → AllAbove stop_key m (line_stops n ls)
+lines_above : (m n : ℕ) (ls : List HandsetLink) → m < n → AllAbove stop_key m (line_stops n ls)
 lines_above m n [] l = tt
 lines_above m n (x ∷ xs) l = (l, lines_above m (n + 1) xs (omega (arith, l)))
 
-pub lines_rise : (n : ℕ) (ls : List Line) → Rises stop_key (line_stops n ls)
+pub lines_rise : (n : ℕ) (ls : List HandsetLink) → Rises stop_key (line_stops n ls)
 lines_rise n [] = tt
 lines_rise n (l ∷ ls) = (lines_above n (n + 1) ls (omega arith), lines_rise (n + 1) ls)
 
 -- the place of a line that came is that of its stop
-pub line_stop_among : (n k : ℕ) (number : List ℕ) (ls : List Line) → came_from n number ls ≡ k → 0 < k → Among (record { order = k; number = number }) (line_stops n ls)
+pub line_stop_among : (n k : ℕ) (number : List ℕ) (ls : List HandsetLink) → came_from n number ls ≡ k → 0 < k → Among (record { order = k; number = number }) (line_stops n ls)
 line_stop_among n k number [] e some = absurd (omega (arith, e, some))
 line_stop_among n k number (l ∷ ls) e some = ⊎_elim
     (λ (t : l.handset ≡ number).
@@ -59,23 +59,23 @@ line_stop_among n k number (l ∷ ls) e some = ⊎_elim
     (λ (t : l.handset ≡ number → ⊥). inr (line_stop_among (n + 1) k number ls (sym (came_behind n number l ls t) ∙ e) some))
     (cases_number l.handset number)
 
-pub none_later : (n : ℕ) (number : List ℕ) (l : Line) (ls : List Line) → line_at number ls ≡ None → Among l ls → l.handset ≡ number → ⊥
+pub none_later : (n : ℕ) (number : List ℕ) (l : HandsetLink) (ls : List HandsetLink) → line_at number ls ≡ None → Among l ls → l.handset ≡ number → ⊥
 none_later n number l [] none m e = elim m [ ]
 none_later n number l (x ∷ xs) none m e = ⊎_elim
     (λ (t : x.handset ≡ number). let bad : Some x ≡ None = sym (line_here number x xs t) ∙ none in absurd cc)
     (λ (t : x.handset ≡ number → ⊥). ⊎_elim
-    (λ (q : l ≡ x). t (ap (λ (y : Line). y.handset) (sym q) ∙ e))
+    (λ (q : l ≡ x). t (ap (λ (y : HandsetLink). y.handset) (sym q) ∙ e))
     (λ (r : Among l xs). none_later n number l xs (sym (line_behind number x xs t) ∙ none) r e)
     m)
     (cases_number x.handset number)
 
 -- each stop of lines is that of one that came in that place
-pub among_line_stop : (n : ℕ) (s : Stop) (ls : List Line) → 0 < n → AreLines ls → Among s (line_stops n ls) → (l : Line) × (Among l ls × (s.number ≡ l.handset) × (came_from n s.number ls ≡ s.order) × (0 < s.order))
+pub among_line_stop : (n : ℕ) (s : ConcernedHandset) (ls : List HandsetLink) → 0 < n → AreLines ls → Among s (line_stops n ls) → (l : HandsetLink) × (Among l ls × (s.number ≡ l.handset) × (came_from n s.number ls ≡ s.order) × (0 < s.order))
 among_line_stop n s [] some apart m = elim m [ ]
 among_line_stop n s (l ∷ ls) some apart m = ⊎_elim
     (λ (e : s ≡ record { order = n; number = l.handset }).
-    let number : s.number ≡ l.handset = ap (λ (x : Stop). x.number) e in
-    let order : s.order ≡ n = ap (λ (x : Stop). x.order) e in
+    let number : s.number ≡ l.handset = ap (λ (x : ConcernedHandset). x.number) e in
+    let order : s.order ≡ n = ap (λ (x : ConcernedHandset). x.order) e in
     (l, (inl refl, number, came_here n s.number l ls (sym number) ∙ sym order, omega (arith, order, some))))
     (λ (r : Among s (line_stops (n + 1) ls)).
     let q = among_line_stop (n + 1) s ls (omega arith) apart.1 r in

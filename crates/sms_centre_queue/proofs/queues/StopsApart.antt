@@ -2,10 +2,10 @@
 use Rattle.std.proofs.Common.{ℕ, ◌+◌, ◌<◌, List, [], ◌∷◌, refl, sym, ◌∙◌, ap, inl, inr, arith}
 use Rattle.sms_rows.specs.table.Table.{Rises}
 use Rattle.sms_centre_rows.specs.declared.waiting.handset.HandsetRow.{HandsetRow}
-use Rattle.sms_centre_rows.specs.declared.waiting.line.Line.{Line}
+use Rattle.sms_centre_rows.specs.declared.waiting.handset_link.HandsetLink.{HandsetLink}
 use Rattle.sms_centre_rows.specs.waiting.Keys.{handset_key}
-use Rattle.sms_centre_rows.specs.waiting.SoundGivings.{AreApart as AreRowsApart}
-use Rattle.sms_centre_queue.specs.declared.queues.stop.Stop.{Stop}
+use Rattle.sms_centre_rows.specs.waiting.SoundAllocations.{AreApart as AreRowsApart}
+use Rattle.sms_centre_queue.specs.declared.queues.concern.ConcernedHandset.{ConcernedHandset}
 use Rattle.sms_centre_queue.specs.queues.LineOrder.{AreLines}
 use Rattle.sms_centre_queue.specs.queues.Stops.{line_stops, mention_stops}
 use Rattle.sms_centre_queue.specs.queues.Walks.{AreApart}
@@ -17,14 +17,14 @@ mentions_apart [] rises apart = tt
 mentions_apart (h ∷ hs) rises apart = (
   λ t m e.
       let r = among_mention t hs m in
-      let number = ap (λ (s : Stop). s.number) r.1.1 in
+      let number = ap (λ (s : ConcernedHandset). s.number) r.1.1 in
       let place = apart h r.0 (inl refl) (inr r.1.0) (e ∙ number) in
       let above = above_among h.place r.0 hs rises.0 r.1.0 in
       absurd (omega (arith, place, above)),
   mentions_apart hs rises.1 (λ f g a b e. apart f g (inr a) (inr b) e),
 )
 
-pub lines_apart : (n : ℕ) (ls : List Line) → 0 < n → AreLines ls → AreApart (line_stops n ls)
+pub lines_apart : (n : ℕ) (ls : List HandsetLink) → 0 < n → AreLines ls → AreApart (line_stops n ls)
 lines_apart n [] some apart = tt
 lines_apart n (l ∷ ls) some apart = (
   λ t m e.

@@ -1,11 +1,11 @@
--- What waits, as a shelf keeps it: what copies share, and what came behind it.
+-- What waits, as a queue keeps it: what copies share, and what came behind it.
 use Rattle.std.specs.Prelude.{◌++◌, List}
-use Rattle.sms_centre_rows.specs.declared.waiting.load.Load.{Load}
+use Rattle.sms_centre_rows.specs.declared.waiting.queued_part.QueuedPart.{QueuedPart}
 
-pub record WaitingOf : Type 0 where
-  pub base : List Load
-  pub newer : List Load
+pub record WaitingPartsOf : Type 0 where
+  pub base : List QueuedPart
+  pub newer : List QueuedPart
 
 -- all that waits
-abbrev pub loads_of : WaitingOf → List Load
+abbrev pub loads_of : WaitingPartsOf → List QueuedPart
 loads_of w = w.base ++ w.newer

@@ -4,25 +4,25 @@ use Rattle.std.specs.Prelude.{ℕ, ◌+◌, ◌==◌, ◌&&◌, filter, List, []
 use Rattle.sms_control.specs.DueTimers.{is_due, is_timed}
 use Rattle.sms_rows.specs.table.Table.{put}
 use Rattle.sms_centre_rows.specs.declared.waiting.handset.HandsetRow.{HandsetRow}
-use Rattle.sms_centre_rows.specs.declared.waiting.line.Line.{Line}
-use Rattle.sms_centre_rows.specs.declared.waiting.load.Load.{Load}
-use Rattle.sms_centre_rows.specs.waiting.Lines.{is_ready, line_of}
+use Rattle.sms_centre_rows.specs.declared.waiting.handset_link.HandsetLink.{HandsetLink}
+use Rattle.sms_centre_rows.specs.declared.waiting.queued_part.QueuedPart.{QueuedPart}
+use Rattle.sms_centre_rows.specs.waiting.Links.{is_ready, line_of}
 use Rattle.sms_centre_rows.specs.waiting.References.{handset_at}
 use Rattle.sms_centre_rows.specs.waiting.Waiting.{next}
-use Rattle.sms_centre_queue.specs.declared.queues.placed.Placed.{Placed}
-use Rattle.sms_centre_queue.specs.declared.queues.stop.Stop.{Stop}
-use Rattle.sms_centre_queue.specs.declared.queues.stop.Purpose.{Purpose}
-use Rattle.sms_centre_queue.specs.declared.queues.stop.Purpose.TheVariants.{Offer, Fire, FireUnmentioned, Awaited}
+use Rattle.sms_centre_queue.specs.declared.queues.placed_queue.PlacedQueue.{PlacedQueue}
+use Rattle.sms_centre_queue.specs.declared.queues.concern.ConcernedHandset.{ConcernedHandset}
+use Rattle.sms_centre_queue.specs.declared.queues.concern.Concern.{Concern}
+use Rattle.sms_centre_queue.specs.declared.queues.concern.Concern.TheVariants.{Offer, Fire, FireUnmentioned, Awaited}
 use Rattle.sms_centre_queue.specs.queues.Keys.{stop_key}
-use Rattle.sms_centre_queue.specs.queues.Placing.{PendingOf, at}
+use Rattle.sms_centre_queue.specs.queues.Queues.{DeliveryQueuesDraftOf, at}
 
 -- ---- whether it concerns a handset, told by its row, its line and what waits for it
 
 -- the line is ready, and something is due
-abbrev pub is_offered : ℕ → Line → List Load → Bool
+abbrev pub is_offered : ℕ → HandsetLink → List QueuedPart → Bool
 is_offered now line waiting = is_ready line && is_some (next now waiting)
 
-abbrev pub is_wanted : Purpose → Option HandsetRow → Line → List Load → Bool
+abbrev pub is_wanted : Concern → Option HandsetRow → HandsetLink → List QueuedPart → Bool
 is_wanted (Offer now) row line waiting = is_offered now line waiting
 is_wanted (Fire now) row line waiting = is_due now line.link.links
 is_wanted (FireUnmentioned now) row line waiting = is_none row && is_due now line.link.links
@@ -30,16 +30,16 @@ is_wanted Awaited row line waiting = line.is_awaited
 
 -- ---- all handsets, in their order
 
-abbrev pub mention_stops : List HandsetRow → List Stop
+abbrev pub mention_stops : List HandsetRow → List ConcernedHandset
 mention_stops [] = []
 mention_stops (h ∷ hs) = record { order = h.place; number = h.number } ∷ mention_stops hs
 
 -- where the first line has that place
-abbrev pub line_stops : ℕ → List Line → List Stop
+abbrev pub line_stops : ℕ → List HandsetLink → List ConcernedHandset
 line_stops place [] = []
 line_stops place (l ∷ ls) = record { order = place; number = l.handset } ∷ line_stops (place + 1) ls
 
-abbrev pub stops_of : Purpose → List HandsetRow → List Line → List Stop
+abbrev pub stops_of : Concern → List HandsetRow → List HandsetLink → List ConcernedHandset
 stops_of (Offer now) handsets lines = mention_stops handsets
 stops_of (Fire now) handsets lines = mention_stops handsets
 stops_of (FireUnmentioned now) handsets lines = line_stops 1 lines
@@ -47,19 +47,19 @@ stops_of Awaited handsets lines = line_stops 1 lines
 
 -- ---- those that it concerns
 
-abbrev pub is_stop : Purpose → List HandsetRow → List Line → (List ℕ → List Load) → Stop → Bool
+abbrev pub is_stop : Concern → List HandsetRow → List HandsetLink → (List ℕ → List QueuedPart) → ConcernedHandset → Bool
 is_stop purpose handsets lines waiting s = is_wanted purpose (handset_at s.number handsets) (line_of s.number lines) (waiting s.number)
 
-abbrev pub found : Purpose → List HandsetRow → List Line → (List ℕ → List Load) → List Stop
+abbrev pub found : Concern → List HandsetRow → List HandsetLink → (List ℕ → List QueuedPart) → List ConcernedHandset
 found purpose handsets lines waiting = filter (is_stop purpose handsets lines waiting) (stops_of purpose handsets lines)
 
--- ---- found by looking at few shelves
+-- ---- found by looking at few queues
 
 -- such an event can concern it
-abbrev pub is_active : Line → Bool
+abbrev pub is_active : HandsetLink → Bool
 is_active line = if line.is_up then true else (if line.is_awaited then true else is_timed line.link.links)
 
--- where the shelf stands in the order, if it does
+-- where the queue stands in the order, if it does
 abbrev pub place_of : Option HandsetRow → Option ℕ
 place_of None = None
 place_of (Some h) = Some h.place
@@ -67,46 +67,46 @@ place_of (Some h) = Some h.place
 abbrev pub line_place : ℕ → Option ℕ
 line_place came = if came == 0 then None else Some came
 
-abbrev pub order_of : Purpose → Placed → Option ℕ
-order_of (Offer now) placed = place_of placed.shelf.row
-order_of (Fire now) placed = place_of placed.shelf.row
+abbrev pub order_of : Concern → PlacedQueue → Option ℕ
+order_of (Offer now) placed = place_of placed.queue.row
+order_of (Fire now) placed = place_of placed.queue.row
 order_of (FireUnmentioned now) placed = line_place placed.came
 order_of Awaited placed = line_place placed.came
 
-abbrev pub stop_in : Placed → Option ℕ → Option Stop
+abbrev pub stop_in : PlacedQueue → Option ℕ → Option ConcernedHandset
 stop_in placed None = None
-stop_in placed (Some order) = Some (record { order = order; number = placed.shelf.line.handset })
+stop_in placed (Some order) = Some (record { order = order; number = placed.queue.line.handset })
 
--- the stop at a shelf, if it is one
-abbrev pub stop_at : Purpose → Placed → Option Stop
+-- the stop at a queue, if it is one
+abbrev pub stop_at : Concern → PlacedQueue → Option ConcernedHandset
 stop_at purpose placed =
-    if is_wanted purpose placed.shelf.row placed.shelf.line placed.shelf.waiting then stop_in placed (order_of purpose placed) else None
+    if is_wanted purpose placed.queue.row placed.queue.line placed.queue.waiting then stop_in placed (order_of purpose placed) else None
 
-abbrev pub stop_if : Purpose → Option Placed → Option Stop
+abbrev pub stop_if : Concern → Option PlacedQueue → Option ConcernedHandset
 stop_if purpose None = None
 stop_if purpose (Some placed) = stop_at purpose placed
 
-abbrev pub noted : Option Stop → List Stop → List Stop
+abbrev pub noted : Option ConcernedHandset → List ConcernedHandset → List ConcernedHandset
 noted None stops = stops
 noted (Some s) stops = put stop_key s stops
 
--- the stops among the shelves of these keys, beside others
-abbrev pub all_noted : {A : Type 0} → Purpose → PendingOf → List (ℕ × A) → List Stop → List Stop
+-- the stops among the queues of these keys, beside others
+abbrev pub all_noted : {A : Type 0} → Concern → DeliveryQueuesDraftOf → List (ℕ × A) → List ConcernedHandset → List ConcernedHandset
 all_noted purpose p [] stops = stops
 all_noted purpose p (e ∷ es) stops = all_noted purpose p es (noted (stop_if purpose (at e.0 p)) stops)
 
 -- ---- a moment at which nothing was left to offer
 
 -- nothing is left at an earlier one either
-abbrev pub rests_for : Purpose → Option ℕ → Bool
+abbrev pub rests_for : Concern → Option ℕ → Bool
 rests_for (Offer now) None = false
 rests_for (Offer now) (Some moment) = nat_le now moment
 rests_for (Fire now) moment = false
 rests_for (FireUnmentioned now) moment = false
 rests_for Awaited moment = false
 
--- the shelves that the event touched, and those of the index where they have to be looked at
-abbrev pub scanned : Purpose → PendingOf → List Stop
+-- the queues that the event touched, and those of the index where they have to be looked at
+abbrev pub scanned : Concern → DeliveryQueuesDraftOf → List ConcernedHandset
 scanned purpose p =
-    let touched : List Stop = all_noted purpose p p.touched [] in
+    let touched : List ConcernedHandset = all_noted purpose p p.touched [] in
     if rests_for purpose p.base.rested then touched else all_noted purpose p p.base.index touched

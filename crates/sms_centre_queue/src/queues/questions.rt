@@ -3,66 +3,66 @@ ghost use Rattle.std.specs.Prelude.{◌≡◌, ◌+◌, ℕ, List, [], IfOk};
 ghost use Rattle.sms_rows.specs.table.Keys.{AllDigits, pair_key};
 ghost use Rattle.sms_rows.specs.table.Table.{row_at};
 ghost use Rattle.sms_centre_rows.specs.waiting.Keys.{load_key};
-ghost use Rattle.sms_centre_rows.specs.waiting.Lines.{Air, is_ready as is_ready_of, line_of};
-ghost use Rattle.sms_centre_rows.specs.waiting.References.{Givings, handset_of, handsets_of, next_reference as next_reference_of, references_of};
+ghost use Rattle.sms_centre_rows.specs.waiting.Links.{Links, is_ready as is_ready_of, line_of};
+ghost use Rattle.sms_centre_rows.specs.waiting.References.{Allocations, handset_of, handsets_of, next_reference as next_reference_of, references_of};
 ghost use Rattle.sms_centre_rows.specs.waiting.Waiting.{next as next_of, waits_beside as waits_beside_of};
-ghost use Rattle.sms_centre_rows.specs.declared.waiting.load.Load.{Load as LoadOf};
-ghost use Rattle.sms_centre_queue.specs.queues.Placing.{placed_of, reference_of};
-ghost use Rattle.sms_centre_queue.specs.queues.Shown.{Shows};
+ghost use Rattle.sms_centre_rows.specs.declared.waiting.queued_part.QueuedPart.{QueuedPart as LoadOf};
+ghost use Rattle.sms_centre_queue.specs.queues.Queues.{placed_of, reference_of};
+ghost use Rattle.sms_centre_queue.specs.queues.Representing.{DraftRepresents};
 ghost use Rattle.sms_centre_queue.specs.queues.Stops.{found};
 
-use crate::queues::pending::PendingShelves;
-use crate::queues::placed::Placed;
-use crate::queues::stop::{Purpose, Stop};
+use crate::queues::draft::DeliveryQueuesDraft;
+use crate::queues::placed_queue::PlacedQueue;
+use crate::queues::concern::{Concern, ConcernedHandset};
 use sms_base::{Carried, Digits, MessageId, Moment};
-use sms_centre_rows::waiting::Load;
+use sms_centre_rows::waiting::QueuedPart;
 use sms_rows::table::Key;
 use std::alloc::AllocError;
 
-impl PendingShelves {
+impl DeliveryQueuesDraft {
     /// What waits for the handset, in the order of messages and numbers, in memory of its own.
-    pub fn waiting(&self, number: &Digits) -> Result<Vec<Load>, AllocError>
+    pub fn waiting(&self, number: &Digits) -> Result<Vec<QueuedPart>, AllocError>
         requires digits { AllDigits number.now }
-        ensures { (g : Givings) (air : Air) (waiting : List ℕ → List LoadOf) → Shows g air waiting self.now
+        ensures { (g : Allocations) (links : Links) (waiting : List ℕ → List LoadOf) → DraftRepresents g links waiting self.now
             → IfOk result (λ loads. loads.items ≡ waiting number.now) }
     {
         match self.placed(Key::digits(number).number()) {
-            Some(placed) => placed.shelf.waiting(),
+            Some(placed) => placed.queue.waiting(),
             None => Ok(Vec::new(self.alloc)),
         }
     }
 
-    /// The load of that message and number, if it waits for the handset.
-    pub fn load(&self, number: &Digits, id: MessageId, load: u8) -> Option<Load>
+    /// The queued part of that message and number, if it waits for the handset.
+    pub fn load(&self, number: &Digits, id: MessageId, load: u8) -> Option<QueuedPart>
         requires digits { AllDigits number.now }
-        ensures { (g : Givings) (air : Air) (waiting : List ℕ → List LoadOf) → Shows g air waiting self.now
+        ensures { (g : Allocations) (links : Links) (waiting : List ℕ → List LoadOf) → DraftRepresents g links waiting self.now
             → result ≡ row_at load_key (pair_key id load) (waiting number.now) }
     {
         match self.placed(Key::digits(number).number()) {
-            Some(placed) => placed.shelf.load(id, load),
+            Some(placed) => placed.queue.load(id, load),
             None => None,
         }
     }
 
     /// Of all that is due for the handset, the first to be offered.
-    pub fn next(&self, number: &Digits, now: Moment) -> Option<Load>
+    pub fn next(&self, number: &Digits, now: Moment) -> Option<QueuedPart>
         requires digits { AllDigits number.now }
-        ensures { (g : Givings) (air : Air) (waiting : List ℕ → List LoadOf) → Shows g air waiting self.now → result ≡ next_of now (waiting number.now) }
+        ensures { (g : Allocations) (links : Links) (waiting : List ℕ → List LoadOf) → DraftRepresents g links waiting self.now → result ≡ next_of now (waiting number.now) }
     {
         match self.placed(Key::digits(number).number()) {
-            Some(placed) => placed.shelf.next(now),
+            Some(placed) => placed.queue.next(now),
             None => None,
         }
     }
 
     /// Whether another one is due beside it.
-    pub fn waits_beside(&self, number: &Digits, now: Moment, chosen: &Load) -> bool
+    pub fn waits_beside(&self, number: &Digits, now: Moment, chosen: &QueuedPart) -> bool
         requires digits { AllDigits number.now }
-        ensures { (g : Givings) (air : Air) (waiting : List ℕ → List LoadOf) → Shows g air waiting self.now
+        ensures { (g : Allocations) (links : Links) (waiting : List ℕ → List LoadOf) → DraftRepresents g links waiting self.now
             → result ≡ waits_beside_of now chosen.now (waiting number.now) }
     {
         match self.placed(Key::digits(number).number()) {
-            Some(placed) => placed.shelf.waits_beside(now, chosen),
+            Some(placed) => placed.queue.waits_beside(now, chosen),
             None => false,
         }
     }
@@ -70,11 +70,11 @@ impl PendingShelves {
     /// Whether something may be offered to the handset.
     pub fn is_ready(&self, number: &Digits) -> bool
         requires digits { AllDigits number.now }
-        ensures { (g : Givings) (air : Air) (waiting : List ℕ → List LoadOf) → Shows g air waiting self.now
-            → result ≡ is_ready_of (line_of number.now air.lines) }
+        ensures { (g : Allocations) (links : Links) (waiting : List ℕ → List LoadOf) → DraftRepresents g links waiting self.now
+            → result ≡ is_ready_of (line_of number.now links.lines) }
     {
         match self.placed(Key::digits(number).number()) {
-            Some(placed) => placed.shelf.line().is_ready(),
+            Some(placed) => placed.queue.line().is_ready(),
             None => false,
         }
     }
@@ -82,11 +82,11 @@ impl PendingShelves {
     /// What the transaction to the handset carries that is under way.
     pub fn under_way(&self, number: &Digits) -> Option<Carried>
         requires digits { AllDigits number.now }
-        ensures { (g : Givings) (air : Air) (waiting : List ℕ → List LoadOf) → Shows g air waiting self.now
-            → result ≡ (line_of number.now air.lines).link.under_way }
+        ensures { (g : Allocations) (links : Links) (waiting : List ℕ → List LoadOf) → DraftRepresents g links waiting self.now
+            → result ≡ (line_of number.now links.lines).link.under_way }
     {
         match self.placed(Key::digits(number).number()) {
-            Some(placed) => placed.shelf.line().link.under_way(),
+            Some(placed) => placed.queue.line().link.under_way(),
             None => None,
         }
     }
@@ -95,30 +95,30 @@ impl PendingShelves {
     /// handset gets none.
     pub fn next_reference(&self, number: Digits, now: Moment) -> Result<Option<u8>, AllocError>
         requires digits { AllDigits number }
-        ensures { IfOk result (λ reference. (g : Givings) (air : Air) (waiting : List ℕ → List LoadOf) → Shows g air waiting self.now
+        ensures { IfOk result (λ reference. (g : Allocations) (links : Links) (waiting : List ℕ → List LoadOf) → DraftRepresents g links waiting self.now
             → reference ≡ next_reference_of (handset_of number (handsets_of g)) (waiting number) (references_of g) now) }
     {
-        let reference = self.shelf_reference(number, now)?;
+        let reference = self.queue_reference(number, now)?;
         Ok(reference)
     }
 
-    fn shelf_reference(&self, number: Digits, now: Moment) -> Result<Option<u8>, AllocError>
+    fn queue_reference(&self, number: Digits, now: Moment) -> Result<Option<u8>, AllocError>
         ensures { IfOk result (λ reference. reference ≡ reference_of (placed_of number self.now) self.now.next_place now) }
     {
         match self.placed(Key::digits(&number).number()) {
             Some(placed) => self.reference_at(placed, now),
             None => {
-                let placed = Placed::new(self.alloc, number);
+                let placed = PlacedQueue::new(self.alloc, number);
                 self.reference_at(&placed, now)
             }
         }
     }
 
-    fn reference_at(&self, placed: &Placed, now: Moment) -> Result<Option<u8>, AllocError>
+    fn reference_at(&self, placed: &PlacedQueue, now: Moment) -> Result<Option<u8>, AllocError>
         ensures { IfOk result (λ reference. reference ≡ reference_of placed.now self.now.next_place now) }
     {
         match self.row_for(placed) {
-            Some(row) => Ok(placed.shelf.next_reference(&row, now)),
+            Some(row) => Ok(placed.queue.next_reference(&row, now)),
             None => Err(AllocError),
         }
     }
@@ -126,9 +126,9 @@ impl PendingShelves {
     /// The handsets that such an event concerns, in the order in which it walks over them. It looks at the queues that
     /// were touched. It also looks at those of the index where something may have become due since it looked at them
     /// last.
-    pub fn stops(&self, purpose: &Purpose) -> Result<Vec<Stop>, AllocError>
-        ensures { IfOk result (λ stops. (g : Givings) (air : Air) (waiting : List ℕ → List LoadOf) → Shows g air waiting self.now
-            → stops.items ≡ found purpose.now (handsets_of g) air.lines waiting) }
+    pub fn stops(&self, purpose: &Concern) -> Result<Vec<ConcernedHandset>, AllocError>
+        ensures { IfOk result (λ stops. (g : Allocations) (links : Links) (waiting : List ℕ → List LoadOf) → DraftRepresents g links waiting self.now
+            → stops.items ≡ found purpose.now (handsets_of g) links.lines waiting) }
     {
         let stops = self.scan(purpose)?;
         Ok(stops)

@@ -2,55 +2,55 @@
 ghost use Rattle.std.specs.Prelude.{◌≡◌, ℕ, [], None, Some, nat_eq, if◌then◌else◌, IfOk, OnOk};
 ghost use Rattle.sms_rows.specs.table.Keys.{digits_key};
 ghost use Rattle.sms_centre_rows.specs.waiting.References.{place_after};
-ghost use Rattle.sms_centre_rows.specs.waiting.SoundGivings.{SoundGivings};
-ghost use Rattle.sms_centre_queue.specs.queues.Placing.{under};
+ghost use Rattle.sms_centre_rows.specs.waiting.SoundAllocations.{SoundAllocations};
+ghost use Rattle.sms_centre_queue.specs.queues.Queues.{under};
 ghost use Rattle.sms_centre_queue.specs.queues.Recovering.{AreBare, given_at, restored, restored_all};
-ghost use Rattle.sms_centre_queue.specs.queues.Shown.{Stands};
+ghost use Rattle.sms_centre_queue.specs.queues.Representing.{Represents};
 
-use crate::queue::Shelf;
-use crate::queues::ground::Ground;
-use crate::queues::placed::Placed;
-use crate::queues::shelves::Shelves;
+use crate::queue::DeliveryQueue;
+use crate::queues::shared_queues::SharedQueues;
+use crate::queues::placed_queue::PlacedQueue;
+use crate::queues::delivery_queues::DeliveryQueues;
 use indexmap::IndexMap;
 use sms_centre_rows::waiting::{HandsetRow, ReferenceRow};
 use sms_rows::table::{Key, Table};
 use std::alloc::{AllocError, Global};
 use std::sync::Arc;
 
-impl Shelves {
+impl DeliveryQueues {
     /// The queues of the handsets of the rows, with the references that were given there. Nothing waits for them yet,
-    /// and they have no links: `PendingShelves` adds these, as in an event.
+    /// and they have no links: `DeliveryQueuesDraft` adds these, as in an event.
     pub fn recover(
         alloc: Global,
         handsets: &[HandsetRow],
         references: &Table<ReferenceRow>,
-    ) -> Result<Shelves, AllocError>
-        requires sound { SoundGivings handsets.now references.now.rows }
-        ensures { IfOk result (λ shelves. Stands handsets.now references.now.rows [] (λ number. []) shelves) }
+    ) -> Result<DeliveryQueues, AllocError>
+        requires sound { SoundAllocations handsets.now references.now.rows }
+        ensures { IfOk result (λ queues. Represents handsets.now references.now.rows [] (λ number. []) queues) }
     {
         let next_place = place_behind(handsets);
-        let shelves = shelves_of(alloc, handsets, references)?;
-        let stood = Shelves::bare(alloc, shelves, next_place)?;
+        let queues = queues_of(alloc, handsets, references)?;
+        let stood = DeliveryQueues::bare(alloc, queues, next_place)?;
         Ok(stood)
     }
 
-    // These shelves, which no event concerns that isn't their own.
+    // These queues, which no event concerns that isn't their own.
     fn bare(
         alloc: Global,
-        shelves: IndexMap<u128, Placed>,
+        queues: IndexMap<u128, PlacedQueue>,
         next_place: u64,
-    ) -> Result<Shelves, AllocError>
-        ensures { IfOk result (AreBare shelves.entries next_place) }
+    ) -> Result<DeliveryQueues, AllocError>
+        ensures { IfOk result (AreBare queues.entries next_place) }
     {
         let ground = Arc::new(
             alloc,
-            Ground {
-                shelves,
+            SharedQueues {
+                queues,
                 index: IndexMap::new(alloc),
                 rested: None,
             },
         )?;
-        Ok(Shelves {
+        Ok(DeliveryQueues {
             alloc,
             ground,
             touched: IndexMap::new(alloc),
@@ -71,54 +71,54 @@ fn place_behind(handsets: &[HandsetRow]) -> u64
     place
 }
 
-fn shelves_of(
+fn queues_of(
     alloc: Global,
     handsets: &[HandsetRow],
     references: &Table<ReferenceRow>,
-) -> Result<IndexMap<u128, Placed>, AllocError>
-    ensures { IfOk result (λ shelves. (key : ℕ) → under key shelves.entries ≡ restored_all key handsets.now references.now.rows None) }
+) -> Result<IndexMap<u128, PlacedQueue>, AllocError>
+    ensures { IfOk result (λ queues. (key : ℕ) → under key queues.entries ≡ restored_all key handsets.now references.now.rows None) }
 {
-    let mut shelves = IndexMap::with_capacity(alloc, handsets.len())?;
+    let mut queues = IndexMap::with_capacity(alloc, handsets.len())?;
     for handset in handsets {
-        restore(alloc, &mut shelves, handset, references)?;
+        restore(alloc, &mut queues, handset, references)?;
     }
-    Ok(shelves)
+    Ok(queues)
 }
 
 fn restore(
     alloc: Global,
-    shelves: &mut IndexMap<u128, Placed>,
+    queues: &mut IndexMap<u128, PlacedQueue>,
     handset: &HandsetRow,
     references: &Table<ReferenceRow>,
 ) -> Result<(), AllocError>
-    ensures { OnOk result ((key : ℕ) → under key shelves.new.entries
-        ≡ (if nat_eq key (digits_key handset.now.number) then Some (restored handset.now references.now.rows) else under key shelves.old.entries)) }
+    ensures { OnOk result ((key : ℕ) → under key queues.new.entries
+        ≡ (if nat_eq key (digits_key handset.now.number) then Some (restored handset.now references.now.rows) else under key queues.old.entries)) }
 {
     let placed = restored_there(alloc, handset, references)?;
-    insert(shelves, Key::digits(&handset.number).number(), placed)
+    insert(queues, Key::digits(&handset.number).number(), placed)
 }
 
 #[tactic(auto, using(crate::proofs::queues::Listing::placed_as))]
-fn insert(shelves: &mut IndexMap<u128, Placed>, key: u128, placed: Placed) -> Result<(), AllocError>
-    ensures { OnOk result ((k : ℕ) → under k shelves.new.entries ≡ (if nat_eq k key then Some placed else under k shelves.old.entries)) }
+fn insert(queues: &mut IndexMap<u128, PlacedQueue>, key: u128, placed: PlacedQueue) -> Result<(), AllocError>
+    ensures { OnOk result ((k : ℕ) → under k queues.new.entries ≡ (if nat_eq k key then Some placed else under k queues.old.entries)) }
 {
-    match shelves.insert(key, placed) {
+    match queues.insert(key, placed) {
         Ok(_) => Ok(()),
         Err(_) => Err(AllocError),
     }
 }
 
-// The shelf of the handset, with the references that were given there.
+// The queue of the handset, with the references that were given there.
 fn restored_there(
     alloc: Global,
     handset: &HandsetRow,
     references: &Table<ReferenceRow>,
-) -> Result<Placed, AllocError>
+) -> Result<PlacedQueue, AllocError>
     ensures { IfOk result (λ placed. placed ≡ restored handset.now references.now.rows) }
 {
     let given = given_there(alloc, handset, references)?;
-    let shelf = Shelf::of_row(alloc, *handset, given)?;
-    Ok(Placed { shelf, came: 0 })
+    let queue = DeliveryQueue::of_row(alloc, *handset, given)?;
+    Ok(PlacedQueue { queue, came: 0 })
 }
 
 // The references that were given at the handset.

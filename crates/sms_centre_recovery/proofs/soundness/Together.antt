@@ -7,7 +7,7 @@ use Rattle.sms_centre_rows.specs.declared.messages.message.MessageRow.{MessageRo
 use Rattle.sms_centre_rows.specs.messages.SoundMessages.{SoundMessages}
 use Rattle.sms_centre_rows.specs.reports.SoundReports.{SoundReports}
 use Rattle.sms_centre_rows.specs.waiting.References.{handset_at}
-use Rattle.sms_centre_rows.specs.waiting.SoundGivings.{SoundGivings}
+use Rattle.sms_centre_rows.specs.waiting.SoundAllocations.{SoundAllocations}
 use Rattle.sms_centre_rows.specs.waiting.SoundWaiting.{SoundWaiting}
 use Rattle.sms_centre_spec.specs.declared.rows.Rows.{Rows}
 use Rattle.sms_centre_spec.specs.SoundRows.{AreSplitApart, AreTimes, CanBeTold, IsSetup, IsSound, all_for}
@@ -44,7 +44,7 @@ three_to x y z inner out a b c p q r i o e f g = o ∙ and_from x inner (p ∙ e
 -- what waits, where all else is sound
 abbrev pub WaitingTold : Rows → Bool → Type 0
 WaitingTold rows b =
-    SoundGivings rows.handsets rows.references → SoundMessages rows.messages rows.parts rows.priorities → SoundReports rows.messages rows.reports
+    SoundAllocations rows.handsets rows.references → SoundMessages rows.messages rows.parts rows.priorities → SoundReports rows.messages rows.reports
     → ((m : MessageRow) → Among m rows.messages → CanBeTold m.originator m.source)
     → (b ≡ true → (number : List ℕ) → SoundWaiting (handset_at number rows.handsets) rows.references (all_for number rows))
     × (((number : List ℕ) → SoundWaiting (handset_at number rows.handsets) rows.references (all_for number rows)) → b ≡ true)
@@ -67,27 +67,27 @@ pub alone_to : (rows : Rows) (setup times told messages one two out : Bool) → 
 alone_to rows setup times told messages one two out s t d m a b o sound =
     o ∙ and_from one two (a ∙ and_from setup times (s.1 sound.setup) (t.1 sound.times)) (b ∙ and_from told messages (d.1 sound.told) (m.1 sound.messages))
 
-pub beside_tells : (rows : Rows) (givings reports splits waiting three four out : Bool)
-    → Tells givings (SoundGivings rows.handsets rows.references) → Tells reports (SoundReports rows.messages rows.reports) → Tells splits (AreSplitApart rows.messages) → WaitingTold rows waiting
-    → three ≡ givings && reports → four ≡ splits && waiting → out ≡ three && four → StandsAlone rows → Tells out (IsSound rows)
-beside_tells rows givings reports splits waiting three four out g r p w e f o alone = (
+pub beside_tells : (rows : Rows) (allocations reports splits waiting three four out : Bool)
+    → Tells allocations (SoundAllocations rows.handsets rows.references) → Tells reports (SoundReports rows.messages rows.reports) → Tells splits (AreSplitApart rows.messages) → WaitingTold rows waiting
+    → three ≡ allocations && reports → four ≡ splits && waiting → out ≡ three && four → StandsAlone rows → Tells out (IsSound rows)
+beside_tells rows allocations reports splits waiting three four out g r p w e f o alone = (
   λ x.
       let top = and_parts three four (sym o ∙ x) in
-      let x3 = and_parts givings reports (sym e ∙ top.0) in
+      let x3 = and_parts allocations reports (sym e ∙ top.0) in
       let x4 = and_parts splits waiting (sym f ∙ top.1) in
       record {
         setup = alone.setup;
         times = alone.times;
         messages = alone.sound;
         told = alone.told;
-        givings = g.0 x3.0;
+        allocations = g.0 x3.0;
         reports = r.0 x3.1;
         waiting = (w (g.0 x3.0) alone.sound (r.0 x3.1) alone.told).0 x4.1;
         splits = p.0 x4.0;
       },
   λ sound.
-      o ∙ and_from three four (e ∙ and_from givings reports (g.1 sound.givings) (r.1 sound.reports))
-      (f ∙ and_from splits waiting (p.1 sound.splits) ((w sound.givings sound.messages sound.reports sound.told).1 sound.waiting)),
+      o ∙ and_from three four (e ∙ and_from allocations reports (g.1 sound.allocations) (r.1 sound.reports))
+      (f ∙ and_from splits waiting (p.1 sound.splits) ((w sound.allocations sound.messages sound.reports sound.told).1 sound.waiting)),
 )
 
 -- what does not stand alone is not sound

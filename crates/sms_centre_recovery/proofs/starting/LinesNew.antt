@@ -3,8 +3,8 @@ use Rattle.std.proofs.Common.{◌≡◌, ℕ, zero, suc, ◌+◌, ◌<◌, List,
 use Rattle.std.proofs.lemmas.List.{take_more}
 use Rattle.sms_base.specs.Among.{Among}
 use Rattle.sms_centre_queue.proofs.queues.LinesCome.{put_behind}
-use Rattle.sms_centre_rows.specs.declared.waiting.line.Line.{Line}
-use Rattle.sms_centre_rows.specs.waiting.Lines.{line_at, line_of, new_line, or_new_line, with_line}
+use Rattle.sms_centre_rows.specs.declared.waiting.handset_link.HandsetLink.{HandsetLink}
+use Rattle.sms_centre_rows.specs.waiting.Links.{line_at, line_of, new_line, or_new_line, with_line}
 use Rattle.sms_centre_rows.proofs.waiting.LinesShown.{line_behind}
 use Rattle.sms_centre_spec.specs.CentreEvent.{lines_awaited, lines_up}
 use Rattle.sms_centre_spec.specs.SoundCore.{AreDifferent}
@@ -36,17 +36,17 @@ line_last : (up : Bool) (ns : List (List ℕ)) (n : List ℕ) → (Among n ns �
 line_last true [] n ne = refl
 line_last true (k ∷ ks) n ne =
     put_behind (connected true (new_line n)) (connected true (new_line k)) (lines_up ks) (λ (e : k ≡ n). ne (inl (sym e)))
-    ∙ ap (λ (ls : List Line). connected true (new_line k) ∷ ls) (line_last true ks n (λ a. ne (inr a)))
+    ∙ ap (λ (ls : List HandsetLink). connected true (new_line k) ∷ ls) (line_last true ks n (λ a. ne (inr a)))
 line_last false [] n ne = refl
 line_last false (k ∷ ks) n ne =
     put_behind (connected false (new_line n)) (connected false (new_line k)) (lines_awaited ks) (λ (e : k ≡ n). ne (inl (sym e)))
-    ∙ ap (λ (ls : List Line). connected false (new_line k) ∷ ls) (line_last false ks n (λ a. ne (inr a)))
+    ∙ ap (λ (ls : List HandsetLink). connected false (new_line k) ∷ ls) (line_last false ks n (λ a. ne (inr a)))
 
 pub next_line : (up : Bool) (i : ℕ) (ns : List (List ℕ)) (n : List ℕ) → AreDifferent ns → i < length ns → n ≡ get_or ns i n
     → with_line (connected up (line_of n (lines_of up (take i ns)))) (lines_of up (take i ns)) ≡ lines_of up (take (i + 1) ns)
 next_line up i ns n apart l is =
     let new : Among n (take i ns) → ⊥ = λ a. not_before i ns n apart l (subst (λ (k : List ℕ). Among k (take i ns)) is a) in
-    ap (λ (o : Option Line). with_line (connected up (or_new_line n o)) (lines_of up (take i ns))) (line_absent up (take i ns) n new)
+    ap (λ (o : Option HandsetLink). with_line (connected up (or_new_line n o)) (lines_of up (take i ns))) (line_absent up (take i ns) n new)
     ∙ line_last up (take i ns) n new
     ∙ ap (λ (k : List ℕ). lines_of up (take i ns ++ k ∷ [])) is
     ∙ ap (λ (ks : List (List ℕ)). lines_of up ks) (sym (take_more ns i n l))

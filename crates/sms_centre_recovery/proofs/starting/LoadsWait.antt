@@ -22,12 +22,12 @@ use Rattle.sms_centre_rows.specs.declared.reports.report.ReportRow.{ReportRow}
 use Rattle.sms_centre_rows.specs.reports.Reports.{is_open_status, is_status}
 use Rattle.sms_centre_rows.specs.reports.SoundReports.{FitsOriginator}
 use Rattle.sms_centre_rows.specs.reports.Waiting.{report_load, reports_to, with_reports}
-use Rattle.sms_centre_queue.specs.queues.Shown.{Waits}
-use Rattle.sms_centre_queue.proofs.queues.Giving.{number_digits}
+use Rattle.sms_centre_queue.specs.queues.Representing.{Waits}
+use Rattle.sms_centre_queue.proofs.queues.Allocation.{number_digits}
 use Rattle.sms_centre_queue.proofs.queues.LinesCome.{differ}
-use Rattle.sms_centre_rows.specs.declared.waiting.load.Load.{Load}
+use Rattle.sms_centre_rows.specs.declared.waiting.queued_part.QueuedPart.{QueuedPart}
 use Rattle.sms_centre_rows.specs.waiting.Keys.{load_key}
-use Rattle.sms_centre_rows.specs.waiting.SoundGivings.{IsNumber}
+use Rattle.sms_centre_rows.specs.waiting.SoundAllocations.{IsNumber}
 use Rattle.sms_centre_spec.specs.declared.rows.Rows.{Rows}
 use Rattle.sms_centre_spec.specs.SoundRows.{CanBeTold, IsSound}
 
@@ -61,7 +61,7 @@ module _ (ms : List MessageRow) (qs : List PriorityRow) where
   part_waits p m ps found waits rises =
       let is : waits_for m.handset p (message_at p.id ms) ≡ true = ap (λ (o : Option MessageRow). waits_for m.handset p o) found ∙ waits_own p m waits in
       let own : parts_waiting m.handset ms qs (p ∷ ps) ≡ part_load p qs ∷ parts_waiting m.handset ms qs ps = cond-true (waits_for m.handset p (message_at p.id ms)) (part_load p qs ∷ parts_waiting m.handset ms qs ps) (parts_waiting m.handset ms qs ps) is in
-      let order : Rises load_key (part_load p qs ∷ parts_waiting m.handset ms qs ps) = subst (λ (ls : List Load). Rises load_key ls) own (rises_waiting m.handset ms qs (p ∷ ps) rises) in (
+      let order : Rises load_key (part_load p qs ∷ parts_waiting m.handset ms qs ps) = subst (λ (ls : List QueuedPart). Rises load_key ls) own (rises_waiting m.handset ms qs (p ∷ ps) rises) in (
         own ∙ sym (put_first load_key (part_load p qs) (parts_waiting m.handset ms qs ps) order.0),
         λ other ne. cond-false (waits_for other p (message_at p.id ms)) (part_load p qs ∷ parts_waiting other ms qs ps) (parts_waiting other ms qs ps)
             (ap (λ (o : Option MessageRow). waits_for other p o) found ∙ waits_other other p m ne),
@@ -69,7 +69,7 @@ module _ (ms : List MessageRow) (qs : List PriorityRow) where
 
 -- ---- status reports
 
-module _ (ms : List MessageRow) (w : List ℕ → List Load) where
+module _ (ms : List MessageRow) (w : List ℕ → List QueuedPart) where
   reports_own : (r : ReportRow) (m : MessageRow) → is_open_status r ≡ true → reports_to m.source.digits r (Some m) ≡ true
   reports_own r m t = and_from (is_open_status r) (bytes_eq m.source.digits m.source.digits) t ((bytes_eq-Decides m.source.digits m.source.digits).1 refl)
 

@@ -5,7 +5,7 @@ ghost use Rattle.sms_centre_rows.specs.messages.SoundMessages.{SoundMessages};
 ghost use Rattle.sms_centre_rows.specs.declared.messages.message.MessageRow.{MessageRow as MessageRowOf};
 ghost use Rattle.sms_centre_rows.specs.reports.SoundReports.{SoundReports};
 ghost use Rattle.sms_centre_rows.specs.waiting.References.{handset_at};
-ghost use Rattle.sms_centre_rows.specs.waiting.SoundGivings.{SoundGivings};
+ghost use Rattle.sms_centre_rows.specs.waiting.SoundAllocations.{SoundAllocations};
 ghost use Rattle.sms_centre_rows.specs.waiting.SoundWaiting.{SoundWaiting};
 ghost use Rattle.sms_centre_spec.specs.SoundRows.{AreSplitApart, AreTimes, CanBeTold, IsSetup, IsSound, all_for};
 ghost use Rattle.sms_centre_recovery.specs.soundness.RowsOf.{KeysRise, StandsAlone, rows_of};
@@ -16,7 +16,7 @@ use sms_centre_rows::waiting::{HandsetRow, ReferenceRow};
 use sms_centre_soundness::{
     are_dated, are_given, are_made, are_mentioned, are_messages, are_once, are_parts,
     are_parts_given, are_priorities, are_reports, are_reports_given, are_split_apart,
-    are_submitted, are_told, have_numbers_apart, have_references_apart, is_setup, places_of,
+    are_submitted, have_report_addresses, have_numbers_apart, have_references_apart, is_setup, places_of,
 };
 use sms_centre_spec::{Rows, Setup};
 use sms_rows::table::{Table, rises};
@@ -94,8 +94,8 @@ impl RowTables {
         both(messages, both(parts, priorities))
     }
 
-    fn has_givings(&self, alloc: Global) -> Result<bool, AllocError>
-        ensures { IfOk result (λ b. (b ≡ true) ↔ SoundGivings self.now.handsets.rows self.now.references.rows) }
+    fn has_allocations(&self, alloc: Global) -> Result<bool, AllocError>
+        ensures { IfOk result (λ b. (b ≡ true) ↔ SoundAllocations self.now.handsets.rows self.now.references.rows) }
     {
         let mentioned = are_mentioned(self.handsets.as_slice(), &self.references);
         let given = are_given(self.references.as_slice(), &self.handsets);
@@ -113,7 +113,7 @@ impl RowTables {
 
     // Where a centre can stand on all else.
     fn has_waiting(&self, alloc: Global) -> Result<bool, AllocError>
-        ensures { IfOk result (λ b. SoundGivings self.now.handsets.rows self.now.references.rows → SoundMessages self.now.messages.rows self.now.parts.rows self.now.priorities.rows
+        ensures { IfOk result (λ b. SoundAllocations self.now.handsets.rows self.now.references.rows → SoundMessages self.now.messages.rows self.now.parts.rows self.now.priorities.rows
             → SoundReports self.now.messages.rows self.now.reports.rows → ((m : MessageRowOf) → Among m self.now.messages.rows → CanBeTold m.originator m.source)
             → (b ≡ true) ↔ ((number : List ℕ) → SoundWaiting (handset_at number self.now.handsets.rows) self.now.references.rows (all_for number (rows_of self.now)))) }
     {
@@ -150,7 +150,7 @@ impl RowTables {
     fn has_tellable(&self) -> bool
         ensures { (result ≡ true) ↔ ((m : MessageRowOf) → Among m self.now.messages.rows → CanBeTold m.originator m.source) }
     {
-        are_told(self.messages.as_slice())
+        have_report_addresses(self.messages.as_slice())
     }
 
     fn has_setup(&self) -> bool
@@ -175,11 +175,11 @@ impl RowTables {
     fn stands_beside(&self, alloc: Global) -> Result<bool, AllocError>
         ensures { IfOk result (λ b. StandsAlone (rows_of self.now) → (b ≡ true) ↔ IsSound (rows_of self.now)) }
     {
-        let givings = self.has_givings(alloc)?;
+        let allocations = self.has_allocations(alloc)?;
         let reports = self.has_reports(alloc)?;
         let splits = self.has_splits(alloc)?;
         let waiting = self.has_waiting(alloc)?;
-        Ok(both(both(givings, reports), both(splits, waiting)))
+        Ok(both(both(allocations, reports), both(splits, waiting)))
     }
 
     /// Whether the rows are sound. It takes time linear in them, up to a logarithm. What can be judged without memory

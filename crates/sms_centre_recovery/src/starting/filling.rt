@@ -7,20 +7,20 @@ ghost use Rattle.sms_centre_rows.specs.declared.messages.part.PartRow.{PartRow a
 ghost use Rattle.sms_centre_rows.specs.reports.Reports.{is_open_status as is_open_status_of, status_reference as status_reference_of};
 ghost use Rattle.sms_centre_rows.specs.reports.Waiting.{report_load as report_load_of, with_reports};
 ghost use Rattle.sms_centre_rows.specs.declared.reports.report.ReportRow.{ReportRow as ReportRowOf};
-ghost use Rattle.sms_centre_queue.specs.queues.Shown.{Shows};
+ghost use Rattle.sms_centre_queue.specs.queues.Representing.{DraftRepresents};
 ghost use Rattle.sms_centre_recovery.specs.soundness.RowsOf.{rows_of};
 ghost use Rattle.sms_rows.specs.table.Table.{Rises};
-ghost use Rattle.sms_centre_rows.specs.waiting.Lines.{Air};
-ghost use Rattle.sms_centre_rows.specs.waiting.References.{Givings};
-ghost use Rattle.sms_centre_rows.specs.declared.waiting.load.Load.{Load as LoadOf};
+ghost use Rattle.sms_centre_rows.specs.waiting.Links.{Links};
+ghost use Rattle.sms_centre_rows.specs.waiting.References.{Allocations};
+ghost use Rattle.sms_centre_rows.specs.declared.waiting.queued_part.QueuedPart.{QueuedPart as LoadOf};
 ghost use Rattle.sms_centre_spec.specs.SoundRows.{IsSound};
 
 use crate::soundness::RowTables;
 use sms_base::MessageId;
-use sms_centre_queue::queues::PendingShelves;
+use sms_centre_queue::queues::DeliveryQueuesDraft;
 use sms_centre_rows::messages::{MessageRow, PartRow};
 use sms_centre_rows::reports::{ReportKind, ReportRow};
-use sms_centre_rows::waiting::Load;
+use sms_centre_rows::waiting::QueuedPart;
 use sms_rows::table::Key;
 use std::alloc::AllocError;
 
@@ -41,10 +41,10 @@ fn priority_of(tables: &RowTables, id: MessageId) -> u8
     }
 }
 
-fn part_load(tables: &RowTables, part: &PartRow) -> Load
+fn part_load(tables: &RowTables, part: &PartRow) -> QueuedPart
     ensures { result ≡ part_load_of part.now tables.now.priorities.rows }
 {
-    Load {
+    QueuedPart {
         id: part.id,
         number: part.number,
         reference: part.reference,
@@ -57,12 +57,12 @@ fn part_load(tables: &RowTables, part: &PartRow) -> Load
 fn put_part(
     tables: &RowTables,
     part: &PartRow,
-    shelves: &mut PendingShelves,
+    queues: &mut DeliveryQueuesDraft,
 ) -> Result<(), AllocError>
     requires { IsSound (rows_of tables.now) }
-    ensures { OnOk result ((g : Givings) (air : Air) (ps : List PartRowOf) → Rises part_key (part.now ∷ ps)
-        → Shows g air (λ number. parts_waiting number tables.now.messages.rows tables.now.priorities.rows ps) shelves.old
-        → Shows g air (λ number. parts_waiting number tables.now.messages.rows tables.now.priorities.rows (part.now ∷ ps)) shelves.new) }
+    ensures { OnOk result ((g : Allocations) (links : Links) (ps : List PartRowOf) → Rises part_key (part.now ∷ ps)
+        → DraftRepresents g links (λ number. parts_waiting number tables.now.messages.rows tables.now.priorities.rows ps) queues.old
+        → DraftRepresents g links (λ number. parts_waiting number tables.now.messages.rows tables.now.priorities.rows (part.now ∷ ps)) queues.new) }
 {
     let Some(message) = tables.messages.find(Key::of(part.id.number())) else {
         return Ok(());
@@ -70,7 +70,7 @@ fn put_part(
     if !waits(part, message) {
         return Ok(());
     }
-    shelves.put(message.handset, part_load(tables, part))
+    queues.put(message.handset, part_load(tables, part))
 }
 
 /// Adds all of these parts that wait, where nothing does. The last is added first, so that each next one is in front of
@@ -78,16 +78,16 @@ fn put_part(
 pub fn put_parts(
     tables: &RowTables,
     parts: &[PartRow],
-    shelves: &mut PendingShelves,
+    queues: &mut DeliveryQueuesDraft,
 ) -> Result<(), AllocError>
     requires sound { IsSound (rows_of tables.now) }
     requires order { Rises part_key parts.now }
-    ensures { OnOk result ((g : Givings) (air : Air) → Shows g air (λ number. []) shelves.old
-        → Shows g air (λ number. parts_waiting number tables.now.messages.rows tables.now.priorities.rows parts.now) shelves.new) }
+    ensures { OnOk result ((g : Allocations) (links : Links) → DraftRepresents g links (λ number. []) queues.old
+        → DraftRepresents g links (λ number. parts_waiting number tables.now.messages.rows tables.now.priorities.rows parts.now) queues.new) }
 {
     for i in 0..parts.len() {
         let part = &parts[parts.len() - 1 - i];
-        put_part(tables, part, shelves)?;
+        put_part(tables, part, queues)?;
     }
     Ok(())
 }
@@ -109,10 +109,10 @@ fn status_reference(report: &ReportRow) -> u8
     }
 }
 
-fn report_load(report: &ReportRow) -> Load
+fn report_load(report: &ReportRow) -> QueuedPart
     ensures { result ≡ report_load_of report.now }
 {
-    Load {
+    QueuedPart {
         id: report.id,
         number: 0,
         reference: status_reference(report),
@@ -125,13 +125,13 @@ fn report_load(report: &ReportRow) -> Load
 fn put_report(
     tables: &RowTables,
     report: &ReportRow,
-    shelves: &mut PendingShelves,
+    queues: &mut DeliveryQueuesDraft,
 ) -> Result<(), AllocError>
     requires sound { IsSound (rows_of tables.now) }
     requires there { Among report.now tables.now.reports.rows }
-    ensures { OnOk result ((g : Givings) (air : Air) (rs : List ReportRowOf) (waiting : List ℕ → List LoadOf)
-        → Shows g air (λ number. with_reports number tables.now.messages.rows rs (waiting number)) shelves.old
-        → Shows g air (λ number. with_reports number tables.now.messages.rows (report.now ∷ rs) (waiting number)) shelves.new) }
+    ensures { OnOk result ((g : Allocations) (links : Links) (rs : List ReportRowOf) (waiting : List ℕ → List LoadOf)
+        → DraftRepresents g links (λ number. with_reports number tables.now.messages.rows rs (waiting number)) queues.old
+        → DraftRepresents g links (λ number. with_reports number tables.now.messages.rows (report.now ∷ rs) (waiting number)) queues.new) }
 {
     if !is_open_status(report) {
         return Ok(());
@@ -139,23 +139,23 @@ fn put_report(
     let Some(message) = tables.messages.find(Key::of(report.id.number())) else {
         return Ok(());
     };
-    shelves.put(message.source.digits, report_load(report))
+    queues.put(message.source.digits, report_load(report))
 }
 
 /// Adds all of these status reports that wait, beside what waits already. The last is added first.
 pub fn put_reports(
     tables: &RowTables,
     reports: &[ReportRow],
-    shelves: &mut PendingShelves,
+    queues: &mut DeliveryQueuesDraft,
 ) -> Result<(), AllocError>
     requires sound { IsSound (rows_of tables.now) }
     requires there { (r : ReportRowOf) → Among r reports.now → Among r tables.now.reports.rows }
-    ensures { OnOk result ((g : Givings) (air : Air) (waiting : List ℕ → List LoadOf) → Shows g air waiting shelves.old
-        → Shows g air (λ number. with_reports number tables.now.messages.rows reports.now (waiting number)) shelves.new) }
+    ensures { OnOk result ((g : Allocations) (links : Links) (waiting : List ℕ → List LoadOf) → DraftRepresents g links waiting queues.old
+        → DraftRepresents g links (λ number. with_reports number tables.now.messages.rows reports.now (waiting number)) queues.new) }
 {
     for i in 0..reports.len() {
         let report = &reports[reports.len() - 1 - i];
-        put_report(tables, report, shelves)?;
+        put_report(tables, report, queues)?;
     }
     Ok(())
 }

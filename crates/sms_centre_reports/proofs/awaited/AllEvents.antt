@@ -5,13 +5,13 @@ use Rattle.sms_rows.proofs.table.Tables.{found_among}
 use Rattle.sms_centre_rows.specs.declared.messages.message.MessageRow.{MessageRow}
 use Rattle.sms_centre_rows.specs.messages.Messages.{message_at}
 use Rattle.sms_base.specs.declared.originator.Originator.{Originator}
-use Rattle.sms_centre_rows.specs.reports.Receipts.{Desk, Session, session_key}
+use Rattle.sms_centre_rows.specs.reports.Receipts.{Bindings, Session, session_key}
 use Rattle.sms_centre_rows.specs.reports.Reports.{reports_of}
 use Rattle.sms_centre_rows.specs.reports.Waiting.{Alone}
-use Rattle.sms_centre_rows.specs.waiting.Lines.{line_of}
-use Rattle.sms_intake.specs.declared.submission.Account.{Account}
+use Rattle.sms_centre_rows.specs.waiting.Links.{line_of}
+use Rattle.sms_intake.specs.declared.submission.CentreAccount.{CentreAccount}
 use Rattle.sms_centre_reports.specs.open_reports.Entries.{account_in, account_of}
-use Rattle.sms_centre_reports.specs.sessions.Answering.{desk_answered, desk_bound, desk_unbound, reports_answered, reports_bound, reports_unbound}
+use Rattle.sms_centre_reports.specs.sessions.Answering.{bindings_answered, bindings_bound, bindings_unbound, reports_answered, reports_bound, reports_unbound}
 use Rattle.sms_centre_reports.specs.sessions.Awaited.{AreAwaited}
 use Rattle.sms_centre_spec.specs.declared.event.CentreEvent.{CentreEvent}
 use Rattle.sms_centre_spec.specs.declared.event.CentreEvent.TheVariants.{Submit, Query, Cancel, Bound, Unbound, DeliverAnswered, Frame, LinkUp, LinkDown, Tick}
@@ -29,7 +29,7 @@ use Rattle.sms_centre_reports.specs.awaited.Events.{IsNoAnswer}
 use Rattle.sms_centre_reports.specs.awaited.Moving.{moved_to}
 use Rattle.sms_centre_reports.proofs.awaited.AsDefined.{answered_as, bound_so, none_bound, unbound_as}
 use Rattle.sms_centre_reports.proofs.awaited.Awaiting.{all_sent, answers_keep, bind_keeps, ends_keep}
-use Rattle.sms_centre_reports.proofs.awaited.DeskEvents.{cancel_by_desk, frame_taken_desk, lower_desk, query_by_desk, submit_by_desk, ticked_desk}
+use Rattle.sms_centre_reports.proofs.awaited.BindingsEvents.{cancel_by_bindings, frame_taken_bindings, lower_bindings, query_by_bindings, submit_by_bindings, ticked_bindings}
 use Rattle.sms_centre_reports.proofs.awaited.FirmEvents.{firm_event}
 use Rattle.sms_centre_reports.proofs.awaited.OpenStays.{OpenSince, Stay, open_firm, stay_same}
 
@@ -59,20 +59,20 @@ awaited_still before after ss keeps stay k = record {
 -- ---- after every event receipts go
 
 abbrev IsAwaiting : Draft → Type 0
-IsAwaiting d = AreAwaited (messages_in d.store) (reports_in d.store) d.desk.sessions
+IsAwaiting d = AreAwaited (messages_in d.store) (reports_in d.store) d.bindings.sessions
 
 followed : (d : Draft) → Alone (reports_in d.store) → IsAwaiting d → IsAwaiting (follow d)
-followed d alone k = all_sent d.store.moment (messages_in d.store) (reports_in d.store) alone (reports_in d.store) d.desk (λ r m. m) k
+followed d alone k = all_sent d.store.moment (messages_in d.store) (reports_in d.store) alone (reports_in d.store) d.bindings (λ r m. m) k
 
 -- of an event that leaves the sessions as they are
-left : (event : CentreEvent) (c : Core) (d : Draft) → IsSoundCore c → IsEvent event → IsNoAnswer event → d.desk ≡ (draft_of c).desk → happened event c ≡ follow d → AreAwaited c.rows.messages c.rows.reports c.sessions → IsAwaiting (happened event c)
+left : (event : CentreEvent) (c : Core) (d : Draft) → IsSoundCore c → IsEvent event → IsNoAnswer event → d.bindings ≡ (draft_of c).bindings → happened event c ≡ follow d → AreAwaited c.rows.messages c.rows.reports c.sessions → IsAwaiting (happened event c)
 left event c d s is plain same e k =
     let after : Rows = (core_of (happened event c)).rows in
     let kept : AreAwaited (messages_in (follow d).store) (reports_in (follow d).store) c.sessions =
     subst (λ (x : Draft). AreAwaited (messages_in x.store) (reports_in x.store) c.sessions) e (awaited_still c.rows after c.sessions (keeps_rows event c s is) (open_stays event c s is plain) k) in
     let alone : Alone (reports_in (follow d).store) = subst (λ (x : Draft). Alone (reports_in x.store)) e (keeps_apart event c s is).alone in
     subst (λ (x : Draft). IsAwaiting x) (sym e)
-    (followed d alone (subst (λ (x : Desk). AreAwaited (messages_in d.store) (reports_in d.store) x.sessions) (sym same) kept))
+    (followed d alone (subst (λ (x : Bindings). AreAwaited (messages_in d.store) (reports_in d.store) x.sessions) (sym same) kept))
 
 -- of an event of the sessions
 moved : (event : CentreEvent) (c : Core) (d e : Draft) → IsSoundCore c → IsEvent event → happened event c ≡ follow d → d ≡ e → IsAwaiting e → IsAwaiting (happened event c)
@@ -83,36 +83,36 @@ moved event c d e s is f g k =
 pub awaited_after : (event : CentreEvent) (c : Core) → IsSoundCore c → IsEvent event → AreAwaited c.rows.messages c.rows.reports c.sessions
     → AreAwaited (core_of (happened event c)).rows.messages (core_of (happened event c)).rows.reports (core_of (happened event c)).sessions
 awaited_after (Submit account m) c s is k =
-    left (Submit account m) c (submit account m (draft_of c)) s is tt (submit_by_desk (account_at account c.rows.setup.accounts) m (draft_of c)) refl k
+    left (Submit account m) c (submit account m (draft_of c)) s is tt (submit_by_bindings (account_at account c.rows.setup.accounts) m (draft_of c)) refl k
 awaited_after (Query account q) c s is k =
-    left (Query account q) c (query account q (draft_of c)) s is tt (query_by_desk (account_at account c.rows.setup.accounts) q (draft_of c)) refl k
+    left (Query account q) c (query account q (draft_of c)) s is tt (query_by_bindings (account_at account c.rows.setup.accounts) q (draft_of c)) refl k
 awaited_after (Cancel account q) c s is k =
-    left (Cancel account q) c (cancel account q (draft_of c)) s is tt (cancel_by_desk (account_at account c.rows.setup.accounts) q (draft_of c)) refl k
+    left (Cancel account q) c (cancel account q (draft_of c)) s is tt (cancel_by_bindings (account_at account c.rows.setup.accounts) q (draft_of c)) refl k
 awaited_after (Bound session account receives) c s is k = by (account_at account c.rows.setup.accounts) refl where
-  ended : AreAwaited c.rows.messages (reports_of (reports_unbound session c.moment c.sessions (draft_of c).store.reports)) (desk_unbound session (draft_of c).desk).sessions
-  ended = ends_keep c.rows.messages c.moment (row_at session_key session c.sessions) (draft_of c).desk (draft_of c).store.reports (λ x e. found_among session_key session x c.sessions e) k
+  ended : AreAwaited c.rows.messages (reports_of (reports_unbound session c.moment c.sessions (draft_of c).store.reports)) (bindings_unbound session (draft_of c).bindings).sessions
+  ended = ends_keep c.rows.messages c.moment (row_at session_key session c.sessions) (draft_of c).bindings (draft_of c).store.reports (λ x e. found_among session_key session x c.sessions e) k
 
-  by : (o : Option Account) → account_at account c.rows.setup.accounts ≡ o
+  by : (o : Option CentreAccount) → account_at account c.rows.setup.accounts ≡ o
       → AreAwaited (core_of (happened (Bound session account receives) c)).rows.messages (core_of (happened (Bound session account receives) c)).rows.reports (core_of (happened (Bound session account receives) c)).sessions
   by None e =
-      moved (Bound session account receives) c (bind session account receives (draft_of c)) (moved_to (reports_unbound session c.moment c.sessions (draft_of c).store.reports) (desk_unbound session (draft_of c).desk) (draft_of c)) s is refl
+      moved (Bound session account receives) c (bind session account receives (draft_of c)) (moved_to (reports_unbound session c.moment c.sessions (draft_of c).store.reports) (bindings_unbound session (draft_of c).bindings) (draft_of c)) s is refl
       (none_bound session account receives (draft_of c) e ∙ unbound_as (row_at session_key session c.sessions) (draft_of c)) ended
   by (Some a) e =
       moved (Bound session account receives) c (bind session account receives (draft_of c))
-      (moved_to (reports_bound session a.name receives c.moment c.sessions c.rows.messages (draft_of c).store.reports) (desk_bound session a.name receives (draft_of c).desk) (draft_of c)) s is refl
+      (moved_to (reports_bound session a.name receives c.moment c.sessions c.rows.messages (draft_of c).store.reports) (bindings_bound session a.name receives (draft_of c).bindings) (draft_of c)) s is refl
       (bound_so session account receives a (draft_of c) e)
-      (bind_keeps c.rows.messages session c.moment a.name receives (desk_unbound session (draft_of c).desk) (reports_unbound session c.moment c.sessions (draft_of c).store.reports) ended)
+      (bind_keeps c.rows.messages session c.moment a.name receives (bindings_unbound session (draft_of c).bindings) (reports_unbound session c.moment c.sessions (draft_of c).store.reports) ended)
 awaited_after (Unbound session) c s is k =
-    moved (Unbound session) c (unbind session (draft_of c)) (moved_to (reports_unbound session c.moment c.sessions (draft_of c).store.reports) (desk_unbound session (draft_of c).desk) (draft_of c)) s is refl
+    moved (Unbound session) c (unbind session (draft_of c)) (moved_to (reports_unbound session c.moment c.sessions (draft_of c).store.reports) (bindings_unbound session (draft_of c).bindings) (draft_of c)) s is refl
     (unbound_as (row_at session_key session c.sessions) (draft_of c))
-    (ends_keep c.rows.messages c.moment (row_at session_key session c.sessions) (draft_of c).desk (draft_of c).store.reports (λ x e. found_among session_key session x c.sessions e) k)
+    (ends_keep c.rows.messages c.moment (row_at session_key session c.sessions) (draft_of c).bindings (draft_of c).store.reports (λ x e. found_among session_key session x c.sessions e) k)
 awaited_after (DeliverAnswered session id b) c s is k =
     moved (DeliverAnswered session id b) c (deliver_answered session id b (draft_of c))
-    (moved_to (reports_answered session id b c.moment c.sessions (draft_of c).store.reports) (desk_answered session id (draft_of c).desk) (draft_of c)) s is refl
+    (moved_to (reports_answered session id b c.moment c.sessions (draft_of c).store.reports) (bindings_answered session id (draft_of c).bindings) (draft_of c)) s is refl
     (answered_as id b (row_at session_key session c.sessions) (draft_of c))
-    (answers_keep c.rows.messages c.moment b (draft_of c).store.reports s.rows.reports.keys id (row_at session_key session c.sessions) (draft_of c).desk (λ x e. found_among session_key session x c.sessions e) k)
+    (answers_keep c.rows.messages c.moment b (draft_of c).store.reports s.rows.reports.keys id (row_at session_key session c.sessions) (draft_of c).bindings (λ x e. found_among session_key session x c.sessions e) k)
 awaited_after (Frame handset octets tag) c s is k =
-    left (Frame handset octets tag) c (frame_taken octets (tag_of tag) (line_of handset c.lines) (draft_of c)) s is tt (frame_taken_desk octets (tag_of tag) (line_of handset c.lines) (draft_of c)) refl k
+    left (Frame handset octets tag) c (frame_taken octets (tag_of tag) (line_of handset c.lines) (draft_of c)) s is tt (frame_taken_bindings octets (tag_of tag) (line_of handset c.lines) (draft_of c)) refl k
 awaited_after (LinkUp handset) c s is k = left (LinkUp handset) c (raise handset (draft_of c)) s is tt refl refl k
-awaited_after (LinkDown handset) c s is k = left (LinkDown handset) c (lower handset (draft_of c)) s is tt (lower_desk handset (draft_of c)) refl k
-awaited_after (Tick now) c s is k = left (Tick now) c (raised (fired (aged (at_moment now (draft_of c))))) s is tt (ticked_desk now (draft_of c)) refl k
+awaited_after (LinkDown handset) c s is k = left (LinkDown handset) c (lower handset (draft_of c)) s is tt (lower_bindings handset (draft_of c)) refl k
+awaited_after (Tick now) c s is k = left (Tick now) c (raised (fired (aged (at_moment now (draft_of c))))) s is tt (ticked_bindings now (draft_of c)) refl k

@@ -12,7 +12,7 @@ use Rattle.sms_centre_rows.specs.declared.messages.message.MessageRow.{MessageRo
 use Rattle.sms_centre_rows.specs.messages.Messages.{message_at}
 use Rattle.sms_centre_rows.specs.messages.SplitReferences.{is_among}
 use Rattle.sms_centre_rows.specs.declared.reports.report.ReportRow.{ReportRow}
-use Rattle.sms_centre_rows.specs.reports.Receipts.{Desk, Session, all_tried, answered_in, is_account, is_put_off, is_unanswered, put_session, receipt_ended, receipt_tried, receipts_due, send, send_all, send_in, send_to, session_for, session_key, waits, window, without_id}
+use Rattle.sms_centre_rows.specs.reports.Receipts.{Bindings, Session, all_tried, answered_in, is_account, is_put_off, is_unanswered, put_session, receipt_ended, receipt_tried, receipts_due, send, send_all, send_in, send_to, session_for, session_key, waits, window, without_id}
 use Rattle.sms_centre_rows.specs.reports.Reports.{amend_report, is_open_receipt, is_receipt, report_key, report_of, reports_of}
 use Rattle.sms_centre_rows.specs.reports.Waiting.{Alone}
 use Rattle.sms_centre_rows.proofs.reports.AllWaiting.{report_found}
@@ -21,7 +21,7 @@ use Rattle.sms_centre_reports.specs.open_reports.Awaited.{IsAwaited}
 use Rattle.sms_centre_reports.specs.open_reports.Entries.{account_in, account_of}
 use Rattle.sms_centre_reports.proofs.open_reports.Keeping.{alone_found}
 use Rattle.sms_centre_reports.proofs.open_reports.ReceiptsMoved.{awaited_behind, still_awaited}
-use Rattle.sms_centre_reports.specs.sessions.Answering.{desk_answered_by, desk_unbound_from, reports_answered_by, reports_due, reports_unbound_from, session_new}
+use Rattle.sms_centre_reports.specs.sessions.Answering.{bindings_answered_by, bindings_unbound_from, reports_answered_by, reports_due, reports_unbound_from, session_new}
 use Rattle.sms_centre_reports.specs.sessions.Awaited.{AreAwaited}
 use Rattle.sms_centre_reports.proofs.sessions.Ending.{is_among_so}
 use Rattle.sms_centre_rows.specs.declared.waiting.progress.Progress.{Progress}
@@ -131,15 +131,15 @@ module _ (ms : List MessageRow) (rows after : List ReportRow) (ss : List Session
 -- ---- receipts go
 
 module _ (moment : ℕ) (ms : List MessageRow) (rows : List ReportRow) (alone : Alone rows) where
-  sent_in : (r : ReportRow) (s : Session) (desk : Desk) → Among r rows → waits moment r desk.sessions ≡ true → session_for (message_at r.id ms) desk.sessions ≡ Some s → AreAwaited ms rows desk.sessions
-      → AreAwaited ms rows (send_in r.id s desk).sessions
-  sent_in r s desk m w e k =
-      let parts = and_parts (is_open_receipt r) (nat_le r.progress.due moment && not (is_unanswered r.id desk.sessions)) w in
-      let unsent = not_so (is_unanswered r.id desk.sessions) (and_parts (nat_le r.progress.due moment) (not (is_unanswered r.id desk.sessions)) parts.1).1 in
-      let there = serves (message_at r.id ms) s desk.sessions e in
+  sent_in : (r : ReportRow) (s : Session) (bindings : Bindings) → Among r rows → waits moment r bindings.sessions ≡ true → session_for (message_at r.id ms) bindings.sessions ≡ Some s → AreAwaited ms rows bindings.sessions
+      → AreAwaited ms rows (send_in r.id s bindings).sessions
+  sent_in r s bindings m w e k =
+      let parts = and_parts (is_open_receipt r) (nat_le r.progress.due moment && not (is_unanswered r.id bindings.sessions)) w in
+      let unsent = not_so (is_unanswered r.id bindings.sessions) (and_parts (nat_le r.progress.due moment) (not (is_unanswered r.id bindings.sessions)) parts.1).1 in
+      let there = serves (message_at r.id ms) s bindings.sessions e in
       let mine : IsAwaited ms rows s.account r.id = record { report = (r, (alone_found r rows alone m, parts.0)); account_is = there.1 } in
-      let nowhere : (x : Session) → Among x desk.sessions → ¬ Among r.id x.unanswered = λ x n l. let bad : true ≡ false = sym (unanswered_is r.id x desk.sessions n l) ∙ unsent in absurd cc in
-      one_changes ms rows rows desk.sessions s (s.unanswered ++ r.id ∷ [])
+      let nowhere : (x : Session) → Among x bindings.sessions → ¬ Among r.id x.unanswered = λ x n l. let bad : true ≡ false = sym (unanswered_is r.id x bindings.sessions n l) ∙ unsent in absurd cc in
+      one_changes ms rows rows bindings.sessions s (s.unanswered ++ r.id ∷ [])
       (λ id n. ⊎_elim
       (λ (l : Among id s.unanswered). k.each s there.0 id l)
       (λ (f : id ≡ r.id). subst (λ (i : ℕ). IsAwaited ms rows s.account i) (sym f) mine)
@@ -153,18 +153,18 @@ module _ (moment : ℕ) (ms : List MessageRow) (rows : List ReportRow) (alone : 
       ))
       k.apart
 
-  sent_to : (r : ReportRow) (o : Option Session) (desk : Desk) → Among r rows → waits moment r desk.sessions ≡ true → session_for (message_at r.id ms) desk.sessions ≡ o → AreAwaited ms rows desk.sessions
-      → AreAwaited ms rows (send_to r.id o desk).sessions
-  sent_to r None desk m w e k = k
-  sent_to r (Some s) desk m w e k =
-      cond_both (nat_lt (length s.unanswered) window) (send_in r.id s desk) desk (λ (d : Desk). AreAwaited ms rows d.sessions) (λ t. sent_in r s desk m w e k) (λ t. k)
+  sent_to : (r : ReportRow) (o : Option Session) (bindings : Bindings) → Among r rows → waits moment r bindings.sessions ≡ true → session_for (message_at r.id ms) bindings.sessions ≡ o → AreAwaited ms rows bindings.sessions
+      → AreAwaited ms rows (send_to r.id o bindings).sessions
+  sent_to r None bindings m w e k = k
+  sent_to r (Some s) bindings m w e k =
+      cond_both (nat_lt (length s.unanswered) window) (send_in r.id s bindings) bindings (λ (d : Bindings). AreAwaited ms rows d.sessions) (λ t. sent_in r s bindings m w e k) (λ t. k)
 
-  pub all_sent : (rs : List ReportRow) (desk : Desk) → ((r : ReportRow) → Among r rs → Among r rows) → AreAwaited ms rows desk.sessions → AreAwaited ms rows (send_all moment ms rs desk).sessions
-  all_sent [] desk among k = k
-  all_sent (r ∷ rs) desk among k =
-      all_sent rs (send moment ms r desk) (λ x m. among x (inr m))
-      (cond_both (waits moment r desk.sessions) (send_to r.id (session_for (message_at r.id ms) desk.sessions) desk) desk (λ (d : Desk). AreAwaited ms rows d.sessions)
-      (λ w. sent_to r (session_for (message_at r.id ms) desk.sessions) desk (among r (inl refl)) w refl k) (λ w. k))
+  pub all_sent : (rs : List ReportRow) (bindings : Bindings) → ((r : ReportRow) → Among r rs → Among r rows) → AreAwaited ms rows bindings.sessions → AreAwaited ms rows (send_all moment ms rs bindings).sessions
+  all_sent [] bindings among k = k
+  all_sent (r ∷ rs) bindings among k =
+      all_sent rs (send moment ms r bindings) (λ x m. among x (inr m))
+      (cond_both (waits moment r bindings.sessions) (send_to r.id (session_for (message_at r.id ms) bindings.sessions) bindings) bindings (λ (d : Bindings). AreAwaited ms rows d.sessions)
+      (λ w. sent_to r (session_for (message_at r.id ms) bindings.sessions) bindings (among r (inl refl)) w refl k) (λ w. k))
 
 -- ---- an answer
 
@@ -192,17 +192,17 @@ module _ (ms : List MessageRow) (moment : ℕ) (b : Bool) (t : Revised ReportRow
       ))
       k.apart
 
-  pub answers_keep : (id : ℕ) (o : Option Session) (desk : Desk) → ((s : Session) → o ≡ Some s → Among s desk.sessions) → AreAwaited ms (reports_of t) desk.sessions
-      → AreAwaited ms (reports_of (reports_answered_by id b moment o t)) (desk_answered_by id o desk).sessions
-  answers_keep id None desk there k = k
-  answers_keep id (Some s) desk there k = ⊎_elim
+  pub answers_keep : (id : ℕ) (o : Option Session) (bindings : Bindings) → ((s : Session) → o ≡ Some s → Among s bindings.sessions) → AreAwaited ms (reports_of t) bindings.sessions
+      → AreAwaited ms (reports_of (reports_answered_by id b moment o t)) (bindings_answered_by id o bindings).sessions
+  answers_keep id None bindings there k = k
+  answers_keep id (Some s) bindings there k = ⊎_elim
       (λ (e : is_among id s.unanswered ≡ true).
-      subst (λ (u : Revised ReportRow). AreAwaited ms (reports_of u) (desk_answered_by id (Some s) desk).sessions) (sym (cond-true (is_among id s.unanswered) (receipt_ended b moment (report_of id (reports_of t)) t) t e))
-      (subst (λ (d : Desk). AreAwaited ms (reports_of (receipt_ended b moment (report_of id (reports_of t)) t)) d.sessions) (sym (cond-true (is_among id s.unanswered) (answered_in id s desk) desk e))
-      (answered_one id s desk.sessions (there s refl) k e)))
+      subst (λ (u : Revised ReportRow). AreAwaited ms (reports_of u) (bindings_answered_by id (Some s) bindings).sessions) (sym (cond-true (is_among id s.unanswered) (receipt_ended b moment (report_of id (reports_of t)) t) t e))
+      (subst (λ (d : Bindings). AreAwaited ms (reports_of (receipt_ended b moment (report_of id (reports_of t)) t)) d.sessions) (sym (cond-true (is_among id s.unanswered) (answered_in id s bindings) bindings e))
+      (answered_one id s bindings.sessions (there s refl) k e)))
       (λ (e : is_among id s.unanswered ≡ false).
-      subst (λ (u : Revised ReportRow). AreAwaited ms (reports_of u) (desk_answered_by id (Some s) desk).sessions) (sym (cond-false (is_among id s.unanswered) (receipt_ended b moment (report_of id (reports_of t)) t) t e))
-      (subst (λ (d : Desk). AreAwaited ms (reports_of t) d.sessions) (sym (cond-false (is_among id s.unanswered) (answered_in id s desk) desk e)) k))
+      subst (λ (u : Revised ReportRow). AreAwaited ms (reports_of u) (bindings_answered_by id (Some s) bindings).sessions) (sym (cond-false (is_among id s.unanswered) (receipt_ended b moment (report_of id (reports_of t)) t) t e))
+      (subst (λ (d : Bindings). AreAwaited ms (reports_of t) d.sessions) (sym (cond-false (is_among id s.unanswered) (answered_in id s bindings) bindings e)) k))
       (cases_Bool (is_among id s.unanswered))
 
 -- ---- a session ends
@@ -215,12 +215,12 @@ all_behind ms moment mine name (n ∷ ids) id t all k =
     all_behind ms moment mine name ids id (receipt_ended false moment (report_of n (reports_of t)) t)
     (λ i m. awaited_behind ms t moment mine mine i n here (all i (inr m))) (awaited_behind ms t moment mine name id n here k)
 
-pub ends_keep : (ms : List MessageRow) (moment : ℕ) (o : Option Session) (desk : Desk) (t : Revised ReportRow) → ((s : Session) → o ≡ Some s → Among s desk.sessions) → AreAwaited ms (reports_of t) desk.sessions
-    → AreAwaited ms (reports_of (reports_unbound_from moment o t)) (desk_unbound_from o desk).sessions
-ends_keep ms moment None desk t there k = k
-ends_keep ms moment (Some s) desk t there k = record {
-  each = λ x m id l. all_behind ms moment s.account x.account s.unanswered id t (λ n i. k.each s (there s refl) n i) (k.each x (among_without session_key x s.number desk.sessions m).0 id l);
-  apart = λ x y m n id l i. k.apart x y (among_without session_key x s.number desk.sessions m).0 (among_without session_key y s.number desk.sessions n).0 id l i;
+pub ends_keep : (ms : List MessageRow) (moment : ℕ) (o : Option Session) (bindings : Bindings) (t : Revised ReportRow) → ((s : Session) → o ≡ Some s → Among s bindings.sessions) → AreAwaited ms (reports_of t) bindings.sessions
+    → AreAwaited ms (reports_of (reports_unbound_from moment o t)) (bindings_unbound_from o bindings).sessions
+ends_keep ms moment None bindings t there k = k
+ends_keep ms moment (Some s) bindings t there k = record {
+  each = λ x m id l. all_behind ms moment s.account x.account s.unanswered id t (λ n i. k.each s (there s refl) n i) (k.each x (among_without session_key x s.number bindings.sessions m).0 id l);
+  apart = λ x y m n id l i. k.apart x y (among_without session_key x s.number bindings.sessions m).0 (among_without session_key y s.number bindings.sessions n).0 id l i;
 }
 
 -- ---- a session is bound
@@ -237,10 +237,10 @@ due_behind ms moment account name id (r ∷ rs) t k =
     undone (Some m) e =
         not_so r.progress.is_done (and_parts (is_receipt r.kind) (not r.progress.is_done) (and_parts (is_open_receipt r) (is_account account m.originator && nat_lt moment r.progress.due) e).0).1
 
-pub bind_keeps : (ms : List MessageRow) (session moment : ℕ) (account : List ℕ) (receives : Bool) (desk : Desk) (t : Revised ReportRow) → AreAwaited ms (reports_of t) desk.sessions
-    → AreAwaited ms (reports_of (reports_due account receives moment ms t)) (put_session (session_new session receives account) desk).sessions
-bind_keeps ms session moment account receives desk t k =
-    one_changes ms (reports_of t) (reports_of (reports_due account receives moment ms t)) desk.sessions (session_new session receives account) []
+pub bind_keeps : (ms : List MessageRow) (session moment : ℕ) (account : List ℕ) (receives : Bool) (bindings : Bindings) (t : Revised ReportRow) → AreAwaited ms (reports_of t) bindings.sessions
+    → AreAwaited ms (reports_of (reports_due account receives moment ms t)) (put_session (session_new session receives account) bindings).sessions
+bind_keeps ms session moment account receives bindings t k =
+    one_changes ms (reports_of t) (reports_of (reports_due account receives moment ms t)) bindings.sessions (session_new session receives account) []
     (λ id m. elim m [ ])
     (λ x m ne id l. (
       cond_both receives (receipts_due moment account ms (reports_of t) t) t (λ (u : Revised ReportRow). IsAwaited ms (reports_of u) x.account id)

@@ -18,7 +18,7 @@ use Rattle.sms_centre_rows.specs.messages.OpenParts.{is_open_part}
 use Rattle.sms_centre_rows.specs.messages.SplitReferences.{is_delivered}
 use Rattle.sms_centre_rows.specs.declared.reports.report.ReportRow.{ReportRow}
 use Rattle.sms_centre_rows.specs.reports.Reports.{is_open_status, report_of}
-use Rattle.sms_centre_rows.specs.declared.waiting.load.Load.{Load}
+use Rattle.sms_centre_rows.specs.declared.waiting.queued_part.QueuedPart.{QueuedPart}
 use Rattle.sms_centre_rows.specs.declared.waiting.progress.Progress.{Progress}
 use Rattle.sms_centre_rows.specs.waiting.Trying.{due_at, finished, tried}
 use Rattle.sms_intake.specs.declared.submission.Submission.{Submission}
@@ -27,7 +27,7 @@ use Rattle.sms_centre_spec.specs.declared.verdict.Verdict.TheVariants.{Settled, 
 use Rattle.sms_centre_spec.specs.Draft.{Store, messages_in, parts_in, reports_in, waiting_in, with_part_at, with_report_at}
 use Rattle.sms_centre_spec.specs.Ends.{end}
 use Rattle.sms_centre_spec.specs.Receiving.{all_due, due_now, load_due, part_due, report_due}
-use Rattle.sms_centre_spec.specs.Standing.{IsSubmission, Stands}
+use Rattle.sms_centre_spec.specs.Consistent.{IsSubmission, IsConsistent}
 use Rattle.sms_centre_spec.specs.Submitting.{accept}
 use Rattle.sms_centre_spec.specs.Transfers.{complete, holder_ended, is_open, is_open_part_at, is_open_status_at, part_ended, part_ended_at, part_ended_of, report_ended, report_ended_at, verdict_of, verdict_on}
 use Rattle.sms_centre_spec.proofs.Stages.{IfThere}
@@ -36,7 +36,7 @@ use Rattle.sms_centre_spec.proofs.Steady.{message_own, part_own, report_own}
 -- a fact of stores that each stage keeps, with what the stage is reached with; a report stays as closed as it is, or is a status
 -- report that is open
 pub record IsFirm (P : Store → Type 0) : Type 0 where
-  pub stands : (s : Store) → P s → Stands s
+  pub stands : (s : Store) → P s → IsConsistent s
   pub accepted : (u : Submission) (s : Store) → P s → IsSubmission u → IfThere P (accept u s)
   -- a pending message ends without all its parts
   pub ended : (f : FinalState) (m : MessageRow) (s : Store) → P s → message_at m.id (messages_in s) ≡ Some m → is_pending m ≡ true → is_delivered (Some f) ≡ false → P (end f m s)
@@ -125,12 +125,12 @@ module _ (P : Store → Type 0) (c : IsFirm P) where
   report_due_firm id None s k there = k
   report_due_firm id (Some r) s k there = c.report_far r (due_at s.moment r.progress) s k (report_own id r s there) (inl refl)
 
-  load_due_firm : (l : Load) (s : Store) → P s → P (load_due l s)
+  load_due_firm : (l : QueuedPart) (s : Store) → P s → P (load_due l s)
   load_due_firm l s k =
       cond_both (l.number == 0) (report_due (report_of l.id (reports_in s)) s) (part_due (part_at l.id l.number (parts_in s)) s) P
       (λ t. report_due_firm l.id (report_of l.id (reports_in s)) s k refl) (λ t. part_due_firm (pair_key l.id l.number) (part_at l.id l.number (parts_in s)) s k refl)
 
-  all_due_firm : (ls : List Load) (s : Store) → P s → P (all_due ls s)
+  all_due_firm : (ls : List QueuedPart) (s : Store) → P s → P (all_due ls s)
   all_due_firm [] s k = k
   all_due_firm (l ∷ ls) s k = all_due_firm ls (load_due l s) (load_due_firm l s k)
 

@@ -27,26 +27,26 @@ use Rattle.sms_centre_rows.specs.declared.messages.message.MessageRow.{MessageRo
 use Rattle.sms_centre_rows.specs.messages.Messages.{is_pending, message_at, next_id}
 use Rattle.sms_centre_rows.specs.reports.Receipts.{Session, is_account, session_key}
 use Rattle.sms_centre_rows.specs.declared.waiting.handset.HandsetRow.{HandsetRow}
-use Rattle.sms_centre_rows.specs.declared.waiting.line.Line.{Line}
-use Rattle.sms_centre_rows.specs.waiting.Lines.{line_at, line_of, lowered, put_line, turn_line}
+use Rattle.sms_centre_rows.specs.declared.waiting.handset_link.HandsetLink.{HandsetLink}
+use Rattle.sms_centre_rows.specs.waiting.Links.{line_at, line_of, lowered, put_line, turn_line}
 use Rattle.sms_centre_rows.specs.waiting.References.{handset_at}
 use Rattle.sms_intake.specs.HandsetIntake.{from_read}
 use Rattle.sms_centre_spec.specs.declared.event.CentreEvent.{CentreEvent}
 use Rattle.sms_centre_spec.specs.declared.event.CentreEvent.TheVariants.{Submit, Query, Cancel, Bound, Unbound, DeliverAnswered, Frame, LinkUp, LinkDown, Tick}
 use Rattle.sms_intake.specs.declared.refusal.SubmitRefusal.{SubmitRefusal}
 use Rattle.sms_intake.specs.declared.refusal.SubmitRefusal.TheVariants.{Duplicate, ReferenceTaken}
-use Rattle.sms_intake.specs.declared.submission.Account.{Account}
+use Rattle.sms_intake.specs.declared.submission.CentreAccount.{CentreAccount}
 use Rattle.sms_intake.specs.declared.submission.Submission.{Submission}
 use Rattle.sms_centre_spec.specs.Numbers.{id_in}
 use Rattle.sms_intake.specs.SmppIntake.{from_pdu, source_in, is_empty}
 use Rattle.sms_centre_spec.specs.Submitting.{accept, is_reference_taken}
 use Rattle.sms_centre_spec.specs.Transfers.{conclude}
-use Rattle.sms_centre_spec.specs.Receiving.{is_duplicate, refuse, submit_accepted, submit_came as submission_from, unit_came}
-use Rattle.sms_centre_spec.specs.Requests.{account_at, accepted, cancel_by, cancelled, is_from, message_numbered, own_message, queried, query_by, submission_came, submit_by}
+use Rattle.sms_centre_spec.specs.Receiving.{is_duplicate, refuse, submit_accepted, submit_received as submission_from, unit_received}
+use Rattle.sms_centre_spec.specs.Requests.{account_at, accepted, cancel_by, cancelled, is_from, message_numbered, own_message, queried, query_by, submission_received, submit_by}
 use Rattle.sms_centre_spec.specs.Sessions.{bind, bound_as, due_for, unbind, unbound_from}
 use Rattle.sms_centre_spec.specs.CentreEvent.{tag_of, aged, at_moment, expired, fire_at, fire_line, fire_mentioned, fire_others, fired, frame_taken, happened, is_mentioned, lost, lower, raise, raise_all, raised, timed_out, went_up}
-use Rattle.sms_centre_spec.specs.Draft.{Core, Draft, Store, draft_of, handsets_in, messages_in, on_air}
-use Rattle.sms_centre_spec.specs.Standing.{IsSubmission}
+use Rattle.sms_centre_spec.specs.Draft.{Core, Draft, Store, draft_of, handsets_in, messages_in, on_links}
+use Rattle.sms_centre_spec.specs.Consistent.{IsSubmission}
 use Rattle.sms_centre_spec.specs.Submitted.{AccountGives, Gives, UnitGives, UpGives}
 use Rattle.sms_centre_spec.proofs.Stages.{IfThere}
 use Rattle.sms_centre_spec.proofs.Steady.{message_own}
@@ -74,25 +74,25 @@ module _ (P : Store → Type 0) (c : IsFirm P) where
       (λ t. cond_both (is_reference_taken u d.store) (refuse h n tag ReferenceTaken d) (submit_accepted h n tag (accept u d.store) d) (λ (e : Draft). P e.store)
       (λ t. k) (λ t. submit_accepted_firm h n tag (accept u d.store) d k (c.accepted u d.store k (g u refl))))
 
-  unit_came_firm : (h : List ℕ) (tag : Holder) (unit : List ℕ) (u : Result Rp RelayFault) (d : Draft) → P d.store → UnitGives h d.store.moment u → P (unit_came h tag unit u d).store
-  unit_came_firm h tag unit (Ok (DataUnit r z t)) d k g = submission_from_firm h r tag (from_read h d.store.moment (tpdu_up_at InData t)) d k g
-  unit_came_firm h tag unit (Ok (AckUnit r t)) d k g = k
-  unit_came_firm h tag unit (Ok (ErrorUnit r z t)) d k g = k
-  unit_came_firm h tag unit (Ok (Smma r)) d k g = due_now_firm P c h d.store k
-  unit_came_firm h tag unit (Err f) d k g = k
+  unit_received_firm : (h : List ℕ) (tag : Holder) (unit : List ℕ) (u : Result Rp RelayFault) (d : Draft) → P d.store → UnitGives h d.store.moment u → P (unit_received h tag unit u d).store
+  unit_received_firm h tag unit (Ok (DataUnit r z t)) d k g = submission_from_firm h r tag (from_read h d.store.moment (tpdu_up_at InData t)) d k g
+  unit_received_firm h tag unit (Ok (AckUnit r t)) d k g = k
+  unit_received_firm h tag unit (Ok (ErrorUnit r z t)) d k g = k
+  unit_received_firm h tag unit (Ok (Smma r)) d k g = due_now_firm P c h d.store k
+  unit_received_firm h tag unit (Err f) d k g = k
 
   -- ---- links
 
   went_up_firm : (h : List ℕ) (tag : Holder) (u : Option Upward) (d : Draft) → P d.store → UpGives h d.store.moment u → P (went_up h tag u d).store
   went_up_firm h tag None d k g = k
-  went_up_firm h tag (Some (Opened unit)) d k g = unit_came_firm h tag unit (up_at unit) d k g
+  went_up_firm h tag (Some (Opened unit)) d k g = unit_received_firm h tag unit (up_at unit) d k g
   went_up_firm h tag (Some (Ended transfer ending)) d k g = conclude_firm h transfer ending d k
 
-  frame_taken_firm : (octets : List ℕ) (tag : Holder) (l : Line) (d : Draft) → P d.store → UpGives l.handset d.store.moment (taken octets l.link).out.up → P (frame_taken octets tag l d).store
-  frame_taken_firm octets tag l d k g = went_up_firm l.handset tag (taken octets l.link).out.up (on_air (turn_line l (taken octets l.link) d.air) d) k g
+  frame_taken_firm : (octets : List ℕ) (tag : Holder) (l : HandsetLink) (d : Draft) → P d.store → UpGives l.handset d.store.moment (taken octets l.link).out.up → P (frame_taken octets tag l d).store
+  frame_taken_firm octets tag l d k g = went_up_firm l.handset tag (taken octets l.link).out.up (on_links (turn_line l (taken octets l.link) d.links) d) k g
 
   raise_firm : (h : List ℕ) (d : Draft) → P d.store → P (raise h d).store
-  raise_firm h d k = due_now_firm P c (line_of h d.air.lines).handset d.store k
+  raise_firm h d k = due_now_firm P c (line_of h d.links.lines).handset d.store k
 
   lost_firm : (h : List ℕ) (o : Option Carried) (d : Draft) → P d.store → P (lost h o d).store
   lost_firm h None d k = k
@@ -100,7 +100,7 @@ module _ (P : Store → Type 0) (c : IsFirm P) where
 
   lower_firm : (h : List ℕ) (d : Draft) → P d.store → P (lower h d).store
   lower_firm h d k =
-      let l : Line = line_of h d.air.lines in lost_firm l.handset l.link.under_way (on_air (put_line (lowered l) d.air) d) k
+      let l : HandsetLink = line_of h d.links.lines in lost_firm l.handset l.link.under_way (on_links (put_line (lowered l) d.links) d) k
 
   -- ---- a tick
 
@@ -109,23 +109,23 @@ module _ (P : Store → Type 0) (c : IsFirm P) where
   timed_out_firm h (Some (Opened unit)) d k = k
   timed_out_firm h (Some (Ended transfer ending)) d k = conclude_firm h transfer ending d k
 
-  fire_line_firm : (l : Line) (d : Draft) → P d.store → P (fire_line l d).store
+  fire_line_firm : (l : HandsetLink) (d : Draft) → P d.store → P (fire_line l d).store
   fire_line_firm l d k =
-      timed_out_firm l.handset (fired_link d.store.moment l.link).out.up (on_air (turn_line l (fired_link d.store.moment l.link) d.air) d) k
+      timed_out_firm l.handset (fired_link d.store.moment l.link).out.up (on_links (turn_line l (fired_link d.store.moment l.link) d.links) d) k
 
-  fire_at_firm : (o : Option Line) (d : Draft) → P d.store → P (fire_at o d).store
+  fire_at_firm : (o : Option HandsetLink) (d : Draft) → P d.store → P (fire_at o d).store
   fire_at_firm None d k = k
   fire_at_firm (Some l) d k = fire_line_firm l d k
 
   fire_mentioned_firm : (hs : List HandsetRow) (d : Draft) → P d.store → P (fire_mentioned hs d).store
   fire_mentioned_firm [] d k = k
   fire_mentioned_firm (h ∷ hs) d k =
-      let o : Option Line = line_at h.number d.air.lines in fire_mentioned_firm hs (fire_at o d) (fire_at_firm o d k)
+      let o : Option HandsetLink = line_at h.number d.links.lines in fire_mentioned_firm hs (fire_at o d) (fire_at_firm o d k)
 
-  fire_others_firm : (hs : List HandsetRow) (ls : List Line) (d : Draft) → P d.store → P (fire_others hs ls d).store
+  fire_others_firm : (hs : List HandsetRow) (ls : List HandsetLink) (d : Draft) → P d.store → P (fire_others hs ls d).store
   fire_others_firm hs [] d k = k
   fire_others_firm hs (l ∷ ls) d k =
-      let o : Option Line = line_at l.handset d.air.lines in
+      let o : Option HandsetLink = line_at l.handset d.links.lines in
       fire_others_firm hs ls (if is_mentioned (handset_at l.handset hs) then d else fire_at o d)
       (cond_both (is_mentioned (handset_at l.handset hs)) d (fire_at o d) (λ (e : Draft). P e.store) (λ t. k) (λ t. fire_at_firm o d k))
 
@@ -133,9 +133,9 @@ module _ (P : Store → Type 0) (c : IsFirm P) where
   fired_firm d k =
       let hs : List HandsetRow = handsets_in d.store in
       let e : Draft = fire_mentioned hs d in
-      fire_others_firm hs d.air.lines e (fire_mentioned_firm hs d k)
+      fire_others_firm hs d.links.lines e (fire_mentioned_firm hs d k)
 
-  raise_all_firm : (ls : List Line) (d : Draft) → P d.store → P (raise_all ls d).store
+  raise_all_firm : (ls : List HandsetLink) (d : Draft) → P d.store → P (raise_all ls d).store
   raise_all_firm [] d k = k
   raise_all_firm (l ∷ ls) d k =
       raise_all_firm ls (if l.is_awaited then raise l.handset d else d)
@@ -150,7 +150,7 @@ module _ (P : Store → Type 0) (c : IsFirm P) where
       let a : Draft = aged (at_moment now d) in
       let e : Draft = fired a in
       let later = at_moment_firm now d.store k was is in
-      raise_all_firm e.air.lines e (fired_firm a (dropped_firm P c (expired (at_moment now d).store) (expired_firm P c (at_moment now d).store later)))
+      raise_all_firm e.links.lines e (fired_firm a (dropped_firm P c (expired (at_moment now d).store) (expired_firm P c (at_moment now d).store later)))
 
   -- ---- sessions
 
@@ -159,9 +159,9 @@ module _ (P : Store → Type 0) (c : IsFirm P) where
   unbound_from_firm (Some session) d k = all_tried_firm P c d.store.moment session.unanswered d.store.reports d.store k
 
   unbind_firm : (n : ℕ) (d : Draft) → P d.store → P (unbind n d).store
-  unbind_firm n d k = unbound_from_firm (row_at session_key n d.desk.sessions) d k
+  unbind_firm n d k = unbound_from_firm (row_at session_key n d.bindings.sessions) d k
 
-  bound_as_firm : (n : ℕ) (b : Bool) (a : Option Account) (d : Draft) → P d.store → P (bound_as n b a d).store
+  bound_as_firm : (n : ℕ) (b : Bool) (a : Option CentreAccount) (d : Draft) → P d.store → P (bound_as n b a d).store
   bound_as_firm n b None d k = k
   bound_as_firm n b (Some a) d k = cond_both b (due_for a.name d.store) d.store P (λ t. due_for_firm P c a.name d.store k) (λ t. k)
 
@@ -174,21 +174,21 @@ module _ (P : Store → Type 0) (c : IsFirm P) where
   accepted_firm id None d k l = k
   accepted_firm id (Some s) d k l = l
 
-  submission_came_firm : (u : Result Submission CommandStatus) (d : Draft) → P d.store → ((x : Submission) → u ≡ Ok x → IsSubmission x) → P (submission_came u d).store
-  submission_came_firm (Err status) d k g = k
-  submission_came_firm (Ok u) d k g =
+  submission_received_firm : (u : Result Submission CommandStatus) (d : Draft) → P d.store → ((x : Submission) → u ≡ Ok x → IsSubmission x) → P (submission_received u d).store
+  submission_received_firm (Err status) d k g = k
+  submission_received_firm (Ok u) d k g =
       cond_both (is_reference_taken u d.store) _ (accepted (next_id (messages_in d.store)) (accept u d.store) d) (λ (e : Draft). P e.store)
       (λ t. k) (λ t. accepted_firm (next_id (messages_in d.store)) (accept u d.store) d k (c.accepted u d.store k (g u refl)))
 
-  submit_by_firm : (a : Option Account) (m : Message) (d : Draft) → P d.store → AccountGives a d.store.moment m → P (submit_by a m d).store
+  submit_by_firm : (a : Option CentreAccount) (m : Message) (d : Draft) → P d.store → AccountGives a d.store.moment m → P (submit_by a m d).store
   submit_by_firm None m d k g = k
-  submit_by_firm (Some a) m d k g = submission_came_firm (from_pdu a d.store.moment m) d k g
+  submit_by_firm (Some a) m d k g = submission_received_firm (from_pdu a d.store.moment m) d k g
 
   queried_firm : (m : Option MessageRow) (d : Draft) → P d.store → P (queried m d).store
   queried_firm None d k = k
   queried_firm (Some m) d k = k
 
-  query_by_firm : (a : Option Account) (q : QuerySm) (d : Draft) → P d.store → P (query_by a q d).store
+  query_by_firm : (a : Option CentreAccount) (q : QuerySm) (d : Draft) → P d.store → P (query_by a q d).store
   query_by_firm None q d k = k
   query_by_firm (Some a) q d k =
       queried_firm (own_message a (source_in a.address q.source) (message_numbered (id_in q.message_id) (messages_in d.store))) d k
@@ -202,12 +202,12 @@ module _ (P : Store → Type 0) (c : IsFirm P) where
   numbered_there None m s e = absurd cc
   numbered_there (Some id) m s e = message_own id m s e
 
-  own_there : (a : Account) (source : Option Address) (o : Option MessageRow) (m : MessageRow) → own_message a source o ≡ Some m → o ≡ Some m
+  own_there : (a : CentreAccount) (source : Option Address) (o : Option MessageRow) (m : MessageRow) → own_message a source o ≡ Some m → o ≡ Some m
   own_there a source None m e = absurd cc
   own_there a source (Some x) m e =
       cond_both (is_account a.name x.originator && is_from source x) (Some x) None (λ (o : Option MessageRow). o ≡ Some m → Some x ≡ Some m) (λ t f. f) (λ t f. absurd cc) e
 
-  cancel_by_firm : (a : Option Account) (q : CancelSm) (d : Draft) → P d.store → P (cancel_by a q d).store
+  cancel_by_firm : (a : Option CentreAccount) (q : CancelSm) (d : Draft) → P d.store → P (cancel_by a q d).store
   cancel_by_firm None q d k = k
   cancel_by_firm (Some a) q d k =
       let o : Option MessageRow = message_numbered (id_in q.message_id) (messages_in d.store) in

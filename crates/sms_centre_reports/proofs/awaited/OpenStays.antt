@@ -27,7 +27,7 @@ use Rattle.sms_centre_reports.proofs.open_reports.Becoming.{became_made}
 use Rattle.sms_centre_reports.proofs.open_reports.Keeping.{no_status}
 use Rattle.sms_centre_spec.specs.Draft.{Store, handsets_in, messages_in, parts_in, reports_in, with_message, with_part_at}
 use Rattle.sms_centre_spec.specs.Ends.{end, is_wished, report_to, status_given}
-use Rattle.sms_centre_spec.specs.Standing.{Stands}
+use Rattle.sms_centre_spec.specs.Consistent.{IsConsistent}
 use Rattle.sms_centre_spec.specs.Submitting.{accept, accept_as, accept_split, accept_under, enter, give_part, give_parts, part_given, reference_for}
 use Rattle.sms_centre_spec.proofs.Stages.{IfThere}
 use Rattle.sms_centre_spec.proofs.StandsEntered.{then_there}
@@ -40,7 +40,7 @@ pub record Stay (before after : List ReportRow) : Type 0 where
   pub stays : (id : ℕ) (r : ReportRow) → report_of id before ≡ Some r → is_open_receipt r ≡ true → (x : ReportRow) × ((report_of id after ≡ Some x) × (is_open_receipt x ≡ true))
 
 abbrev pub OpenSince : List ReportRow → Store → Type 0
-OpenSince base s = Stands s × Stay base (reports_in s)
+OpenSince base s = IsConsistent s × Stay base (reports_in s)
 
 pub stay_same : (rows : List ReportRow) → Stay rows rows
 stay_same rows = record { stays = λ id r e is. (r, (e, is)) }
@@ -105,7 +105,7 @@ module _ (Q : List ReportRow → Type 0) (f : FinalState) (m : MessageRow) where
 one_message : (a b : MessageRow) → Some a ≡ Some b → a ≡ b
 one_message a b e = cc
 
-no_report : (m : MessageRow) (s : Store) → Stands s → message_at m.id (messages_in s) ≡ Some m → is_pending m ≡ true → report_of m.id (reports_in s) ≡ None
+no_report : (m : MessageRow) (s : Store) → IsConsistent s → message_at m.id (messages_in s) ≡ Some m → is_pending m ≡ true → report_of m.id (reports_in s) ≡ None
 no_report m s k there pending = by (report_of m.id (reports_in s)) refl where
   by : (o : Option ReportRow) → report_of m.id (reports_in s) ≡ o → report_of m.id (reports_in s) ≡ None
   by None e = e
@@ -126,7 +126,7 @@ put_stays base rows r keys alone place none k =
     apart : (x : ReportRow) → None ≡ Some x → ⊥
     apart x e = absurd cc
 
-end_stays : (base : List ReportRow) (f : FinalState) (m : MessageRow) (s : Store) → Stands s → message_at m.id (messages_in s) ≡ Some m → is_pending m ≡ true → Stay base (reports_in s) → Stay base (reports_in (end f m s))
+end_stays : (base : List ReportRow) (f : FinalState) (m : MessageRow) (s : Store) → IsConsistent s → message_at m.id (messages_in s) ≡ Some m → is_pending m ≡ true → Stay base (reports_in s) → Stay base (reports_in (end f m s))
 end_stays base f m s k there pending stay =
     end_makes (λ (rows : List ReportRow). Stay base rows) f m s stay
     (λ r own place. put_stays base (reports_in s) r k.held.report_keys k.held.alone place (ap (λ (i : ℕ). report_of i (reports_in s)) own ∙ no_report m s k there pending) stay)
@@ -178,11 +178,11 @@ stays_closed r q how e = ⊎_elim
 pub open_firm : (base : List ReportRow) → IsFirm (OpenSince base)
 open_firm base = record {
   stands = λ s k. k.0;
-  accepted = λ u s k fit. both_there Stands (λ (e : Store). Stay base (reports_in e)) (accept u s) (stands_steady.accepted u s k.0 fit) (accept_leaves (λ (rows : List ReportRow). Stay base rows) u s k.1);
+  accepted = λ u s k fit. both_there IsConsistent (λ (e : Store). Stay base (reports_in e)) (accept u s) (stands_steady.accepted u s k.0 fit) (accept_leaves (λ (rows : List ReportRow). Stay base rows) u s k.1);
   ended = λ f m s k there pending partly. (stands_steady.ended f m s k.0 there pending partly, end_stays base f m s k.0 there pending k.1);
   settled = λ p m s k there of pending undone.
       let own : message_at m.id (messages_in s) ≡ Some m = message_own p.id m s of in
-      let far : Stands (with_part_at p (finished p.progress) s) = part_far_stands p (finished p.progress) s k.0 there (λ t. absurd cc) in (
+      let far : IsConsistent (with_part_at p (finished p.progress) s) = part_far_stands p (finished p.progress) s k.0 there (λ t. absurd cc) in (
         stands_steady.settled p m s k.0 there of pending undone,
         cond_both (all_done m.id (parts_in (with_part_at p (finished p.progress) s))) (end Delivered m (with_part_at p (finished p.progress) s)) (with_part_at p (finished p.progress) s)
             (λ (e : Store). Stay base (reports_in e)) (λ t. end_stays base Delivered m (with_part_at p (finished p.progress) s) far own pending k.1) (λ t. k.1),

@@ -12,7 +12,7 @@ use Rattle.sms_centre_rows.specs.reports.Reports.{amend_report, is_open_status, 
 use Rattle.sms_centre_reports.specs.declared.open_reports.entry.StatusEntry.{StatusEntry}
 use Rattle.sms_centre_reports.specs.open_reports.Dropping.{drop_old, is_old}
 use Rattle.sms_centre_reports.specs.open_reports.Entries.{status_entry, status_key, status_limit, status_until}
-use Rattle.sms_centre_reports.specs.open_reports.ReportsInMemory.{ReportsOf, Shows}
+use Rattle.sms_centre_reports.specs.open_reports.OpenReports.{OpenReportsOf, Represents}
 use Rattle.sms_centre_reports.proofs.open_reports.Amended.{amend_each, amends_end, amends_on}
 use Rattle.sms_centre_reports.proofs.open_reports.Keeping.{kept_where, status_place}
 use Rattle.sms_centre_reports.proofs.open_reports.Serving.{among_kept, kept_among}
@@ -73,15 +73,15 @@ module _ (test : StatusEntry → Bool) where
 abbrev kept_of : ReportRow → StatusEntry
 kept_of r = record { place = r.place; id = r.id; until = later r.made status_limit }
 
-module _ (first moment : ℕ) (ms : List MessageRow) (kept : ReportsOf) (rows : List ReportRow) (shows : Shows ms kept rows) where
+module _ (first moment : ℕ) (ms : List MessageRow) (kept : OpenReportsOf) (rows : List ReportRow) (represents : Represents ms kept rows) where
   statuses_rise : Rises status_key kept.statuses
-  statuses_rise = subst (λ (es : List StatusEntry). Rises status_key es) (sym shows.statuses) (picked_rises report_key status_key status_entry status_place rows shows.keys)
+  statuses_rise = subst (λ (es : List StatusEntry). Rises status_key es) (sym represents.statuses) (picked_rises report_key status_key status_entry status_place rows represents.keys)
 
   old_kept : (r : ReportRow) → Among r rows → first ≤ r.place → is_old moment r ≡ true → (f : StatusEntry) × ((first_such (is_past_from status_key status_until first moment) kept.statuses ≡ Some f) × (f.place ≤ r.place))
   old_kept r m l e =
       let parts = and_parts (is_open_status r) (nat_le (later r.made status_limit) moment) e in
       let entry : status_entry r ≡ Some (kept_of r) = cond-true (is_open_status r) (Some (kept_of r)) None parts.0 in
-      let there : Among (kept_of r) kept.statuses = subst (λ (es : List StatusEntry). Among (kept_of r) es) (sym shows.statuses) (kept_among status_entry r (kept_of r) rows m entry) in
+      let there : Among (kept_of r) kept.statuses = subst (λ (es : List StatusEntry). Among (kept_of r) es) (sym represents.statuses) (kept_among status_entry r (kept_of r) rows m entry) in
       let passing : is_past_from status_key status_until first moment (kept_of r) ≡ true = cond-true (nat_le first r.place) (nat_le (later r.made status_limit) moment) false (le-leb first r.place l) ∙ parts.1 in
       reaches (is_past_from status_key status_until first moment) (kept_of r) kept.statuses statuses_rise there passing
 
@@ -95,7 +95,7 @@ module _ (first moment : ℕ) (ms : List MessageRow) (kept : ReportsOf) (rows : 
       (cases_Bool (is_old moment x))
 
   pub none_dropped : (t : Revised ReportRow) → first_such (is_past_from status_key status_until first moment) kept.statuses ≡ None → drop_old moment (rows_from report_key first rows) t ≡ t
-  none_dropped t e = walk_is moment (rows_from report_key first rows) t ∙ amends_end (is_old moment) closed first rows t shows.keys (λ r m l. none_old None e r m l (λ f q. absurd cc))
+  none_dropped t e = walk_is moment (rows_from report_key first rows) t ∙ amends_end (is_old moment) closed first rows t represents.keys (λ r m l. none_old None e r m l (λ f q. absurd cc))
 
   past_parts : (e : StatusEntry) → is_past_from status_key status_until first moment e ≡ true → (first ≤ e.place) × (nat_le e.until moment ≡ true)
   past_parts e t = ⊎_elim
@@ -107,7 +107,7 @@ module _ (first moment : ℕ) (ms : List MessageRow) (kept : ReportsOf) (rows : 
       → (r : ReportRow) × ((Among r rows × (status_entry r ≡ Some e)) × (drop_old moment (rows_from report_key first rows) t ≡ drop_old moment (rows_from report_key (e.place + 1) rows) (amend_report r (finished r.progress) t)))
   one_dropped t e q =
       let f = found (is_past_from status_key status_until first moment) e kept.statuses q in
-      let row = among_kept status_entry e rows (subst (λ (es : List StatusEntry). Among e es) shows.statuses f.0) in
+      let row = among_kept status_entry e rows (subst (λ (es : List StatusEntry). Among e es) represents.statuses f.0) in
       let r : ReportRow = row.0 in
       let so = kept_where (is_open_status r) (kept_of r) e row.1.1 in
       let place : r.place ≡ e.place = ap (λ (x : StatusEntry). x.place) so.1 in
@@ -117,7 +117,7 @@ module _ (first moment : ℕ) (ms : List MessageRow) (kept : ReportsOf) (rows : 
         (
           (row.1.0, row.1.1),
           walk_is moment (rows_from report_key first rows) t
-              ∙ amends_on (is_old moment) closed first rows r t shows.keys row.1.0 (subst (λ (n : ℕ). first ≤ n) (sym place) past.0)
+              ∙ amends_on (is_old moment) closed first rows r t represents.keys row.1.0 (subst (λ (n : ℕ). first ≤ n) (sym place) past.0)
               (λ x m l before. none_old (Some e) q x m l (λ g h. let same : e ≡ g = one_entry e g h in subst (λ (y : StatusEntry). x.place < y.place) same (omega (arith, before, place)))) old
               ∙ sym (walk_is moment (rows_from report_key (r.place + 1) rows) (amend_report r (finished r.progress) t))
               ∙ ap (λ (n : ℕ). drop_old moment (rows_from report_key (n + 1) rows) (amend_report r (finished r.progress) t)) place,

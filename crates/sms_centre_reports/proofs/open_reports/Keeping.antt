@@ -19,7 +19,7 @@ use Rattle.sms_centre_reports.specs.declared.open_reports.entry.ReceiptEntry.{Re
 use Rattle.sms_centre_reports.specs.declared.open_reports.entry.ReportEntry.{ReportEntry}
 use Rattle.sms_centre_reports.specs.declared.open_reports.entry.StatusEntry.{StatusEntry}
 use Rattle.sms_centre_reports.specs.open_reports.Entries.{account_in, entry_key, is_named, is_open, open_entry, receipt_entry, receipt_key, report_entry, status_entry, status_key, status_limit}
-use Rattle.sms_centre_reports.specs.open_reports.ReportsInMemory.{AccountOf, IsWithReceipt, ReportsOf, Shows, receipts_at}
+use Rattle.sms_centre_reports.specs.open_reports.OpenReports.{AccountOf, IsWithReceipt, OpenReportsOf, Represents, receipts_at}
 use Rattle.sms_centre_reports.proofs.open_reports.Becoming.{none_of}
 use Rattle.sms_centre_rows.specs.waiting.Trying.{later}
 
@@ -111,14 +111,14 @@ module _ (rows after : List ReportRow) (r : ReportRow) (keys : Rises report_key 
       (cases_eq r.id id)
 
   -- a receipt
-  pub kept_receipt : (ms : List MessageRow) (name : List ℕ) (kept : ReportsOf) (accounts : List AccountOf) (next : ℕ) → Shows ms kept rows → is_receipt r.kind ≡ true
+  pub kept_receipt : (ms : List MessageRow) (name : List ℕ) (kept : OpenReportsOf) (accounts : List AccountOf) (next : ℕ) → Represents ms kept rows → is_receipt r.kind ≡ true
       → ((other : List ℕ) → ¬ (other ≡ name) → is_named other (account_in (message_at r.id ms)) ≡ false) → IsWithReceipt name r.place (receipt_entry name ms r) kept.accounts accounts → next ≡ next_place after
-      → Shows ms (record { open_reports = set_at entry_key r.id (open_entry r) kept.open_reports; statuses = kept.statuses; accounts = accounts; next = next }) after
-  kept_receipt ms name kept accounts next shows is_one foreign with is_next = record {
+      → Represents ms (record { open_reports = set_at entry_key r.id (open_entry r) kept.open_reports; statuses = kept.statuses; accounts = accounts; next = next }) after
+  kept_receipt ms name kept accounts next represents is_one foreign with is_next = record {
     keys = became.keys;
     alone = became.alone;
-    by_message = open_set kept.open_reports shows.by_message;
-    statuses = shows.statuses ∙ sym (unpicked status_key status_entry status_place (status_none r (no_status r.kind is_one))
+    by_message = open_set kept.open_reports represents.by_message;
+    statuses = represents.statuses ∙ sym (unpicked status_key status_entry status_place (status_none r (no_status r.kind is_one))
         (λ b e. status_none b (no_status b.kind (ap (λ (k : ReportKind). is_receipt k) (became.was b e).1 ∙ is_one))));
     receipts = λ other. by_name other (names_apart other name);
     next = is_next;
@@ -134,38 +134,38 @@ module _ (rows after : List ReportRow) (r : ReportRow) (keys : Rises report_key 
 
     by_name : (other : List ℕ) → (other ≡ name) ⊎ (other ≡ name → ⊥) → receipts_at other accounts ≡ picked (receipt_entry other ms) after
     by_name other (inl e) = subst (λ (n : List ℕ). receipts_at n accounts ≡ picked (receipt_entry n ms) after) (sym e)
-        (with.own ∙ ap (λ (es : List ReceiptEntry). set_at receipt_key r.place (receipt_entry name ms r) es) (shows.receipts name)
+        (with.own ∙ ap (λ (es : List ReceiptEntry). set_at receipt_key r.place (receipt_entry name ms r) es) (represents.receipts name)
         ∙ sym (repicked receipt_key (receipt_entry name ms) (receipt_place name ms)))
-    by_name other (inr ne) = with.others other ne ∙ shows.receipts other ∙ sym (unpicked receipt_key (receipt_entry other ms) (receipt_place other ms) (not_of other ne r refl)
+    by_name other (inr ne) = with.others other ne ∙ represents.receipts other ∙ sym (unpicked receipt_key (receipt_entry other ms) (receipt_place other ms) (not_of other ne r refl)
         (λ b e. not_of other ne b (became.was b e).0))
 
   -- a status report
-  pub kept_status : (ms : List MessageRow) (kept : ReportsOf) (next : ℕ) → Shows ms kept rows → is_status r.kind ≡ true → next ≡ next_place after
-      → Shows ms (record { open_reports = set_at entry_key r.id (open_entry r) kept.open_reports; statuses = set_at status_key r.place (status_entry r) kept.statuses; accounts = kept.accounts; next = next }) after
-  kept_status ms kept next shows is_one is_next = record {
+  pub kept_status : (ms : List MessageRow) (kept : OpenReportsOf) (next : ℕ) → Represents ms kept rows → is_status r.kind ≡ true → next ≡ next_place after
+      → Represents ms (record { open_reports = set_at entry_key r.id (open_entry r) kept.open_reports; statuses = set_at status_key r.place (status_entry r) kept.statuses; accounts = kept.accounts; next = next }) after
+  kept_status ms kept next represents is_one is_next = record {
     keys = became.keys;
     alone = became.alone;
-    by_message = open_set kept.open_reports shows.by_message;
-    statuses = ap (λ (es : List StatusEntry). set_at status_key r.place (status_entry r) es) shows.statuses ∙ sym (repicked status_key status_entry status_place);
-    receipts = λ name. shows.receipts name ∙ sym (unpicked receipt_key (receipt_entry name ms) (receipt_place name ms) (receipt_none name ms r (no_receipt r.kind is_one))
+    by_message = open_set kept.open_reports represents.by_message;
+    statuses = ap (λ (es : List StatusEntry). set_at status_key r.place (status_entry r) es) represents.statuses ∙ sym (repicked status_key status_entry status_place);
+    receipts = λ name. represents.receipts name ∙ sym (unpicked receipt_key (receipt_entry name ms) (receipt_place name ms) (receipt_none name ms r (no_receipt r.kind is_one))
         (λ b e. receipt_none name ms b (no_receipt b.kind (ap (λ (k : ReportKind). is_status k) (became.was b e).1 ∙ is_one))));
     next = is_next;
   }
 
   -- one that is closed, of a message that had none
-  pub kept_closed : (ms : List MessageRow) (kept : ReportsOf) (next : ℕ) → Shows ms kept rows → is_open_receipt r ≡ false → is_open_status r ≡ false → report_of r.id rows ≡ None
+  pub kept_closed : (ms : List MessageRow) (kept : OpenReportsOf) (next : ℕ) → Represents ms kept rows → is_open_receipt r ≡ false → is_open_status r ≡ false → report_of r.id rows ≡ None
       → ((b : ReportRow) → row_at report_key r.place rows ≡ Some b → ⊥) → next ≡ next_place after
-      → Shows ms (record { open_reports = kept.open_reports; statuses = kept.statuses; accounts = kept.accounts; next = next }) after
-  kept_closed ms kept next shows neither nor none there is_next = record {
+      → Represents ms (record { open_reports = kept.open_reports; statuses = kept.statuses; accounts = kept.accounts; next = next }) after
+  kept_closed ms kept next represents neither nor none there is_next = record {
     keys = became.keys;
     alone = became.alone;
     by_message = λ id. ⊎_elim
         (λ (e : r.id ≡ id). subst (λ (n : ℕ). row_at entry_key n kept.open_reports ≡ pick_of open_entry (report_of n after)) e
-        (shows.by_message r.id ∙ ap (λ (o : Option ReportRow). pick_of open_entry o) none ∙ sym closed ∙ sym (ap (λ (o : Option ReportRow). pick_of open_entry o) became.here)))
-        (λ (e : r.id ≡ id → ⊥). shows.by_message id ∙ sym (ap (λ (o : Option ReportRow). pick_of open_entry o) (became.others id e)))
+        (represents.by_message r.id ∙ ap (λ (o : Option ReportRow). pick_of open_entry o) none ∙ sym closed ∙ sym (ap (λ (o : Option ReportRow). pick_of open_entry o) became.here)))
+        (λ (e : r.id ≡ id → ⊥). represents.by_message id ∙ sym (ap (λ (o : Option ReportRow). pick_of open_entry o) (became.others id e)))
         (cases_eq r.id id);
-    statuses = shows.statuses ∙ sym (unpicked status_key status_entry status_place (cond-false (is_open_status r) (Some (record { place = r.place; id = r.id; until = later r.made status_limit })) None nor) (λ b e. absurd (there b e)));
-    receipts = λ name. shows.receipts name ∙ sym (unpicked receipt_key (receipt_entry name ms) (receipt_place name ms)
+    statuses = represents.statuses ∙ sym (unpicked status_key status_entry status_place (cond-false (is_open_status r) (Some (record { place = r.place; id = r.id; until = later r.made status_limit })) None nor) (λ b e. absurd (there b e)));
+    receipts = λ name. represents.receipts name ∙ sym (unpicked receipt_key (receipt_entry name ms) (receipt_place name ms)
         (cond-false (is_open_receipt r && is_named name (account_in (message_at r.id ms))) (Some (record { place = r.place; id = r.id; due = r.progress.due })) None
         (ap (λ (b : Bool). b && is_named name (account_in (message_at r.id ms))) neither)) (λ b e. absurd (there b e)));
     next = is_next;
@@ -186,15 +186,15 @@ picked_alike one two [] f = refl
 picked_alike one two (r ∷ rows) f =
     ap (λ (o : Option _). before_all o (picked one rows)) (f r (inl refl)) ∙ ap (λ (es : List _). before_all (two r) es) (picked_alike one two rows (λ s m. f s (inr m)))
 
-pub other_messages : (ms others : List MessageRow) (kept : ReportsOf) (rows : List ReportRow) → Shows ms kept rows
-    → ((r : ReportRow) → report_of r.id rows ≡ Some r → account_in (message_at r.id others) ≡ account_in (message_at r.id ms)) → Shows others kept rows
-other_messages ms others kept rows shows same = record {
-  keys = shows.keys;
-  alone = shows.alone;
-  by_message = shows.by_message;
-  statuses = shows.statuses;
-  receipts = λ name. shows.receipts name ∙ picked_alike (receipt_entry name ms) (receipt_entry name others) rows (λ r m.
+pub other_messages : (ms others : List MessageRow) (kept : OpenReportsOf) (rows : List ReportRow) → Represents ms kept rows
+    → ((r : ReportRow) → report_of r.id rows ≡ Some r → account_in (message_at r.id others) ≡ account_in (message_at r.id ms)) → Represents others kept rows
+other_messages ms others kept rows represents same = record {
+  keys = represents.keys;
+  alone = represents.alone;
+  by_message = represents.by_message;
+  statuses = represents.statuses;
+  receipts = λ name. represents.receipts name ∙ picked_alike (receipt_entry name ms) (receipt_entry name others) rows (λ r m.
       ap (λ (o : Option (List ℕ)). if is_open_receipt r && is_named name o then Some (record { place = r.place; id = r.id; due = r.progress.due }) else None)
-      (sym (same r (alone_found r rows shows.alone m))));
-  next = shows.next;
+      (sym (same r (alone_found r rows represents.alone m))));
+  next = represents.next;
 }

@@ -11,7 +11,7 @@ use Rattle.sms_centre_rows.specs.reports.Reports.{report_key, report_of, report_
 use Rattle.sms_centre_rows.specs.reports.Waiting.{Alone}
 use Rattle.sms_centre_reports.specs.open_reports.Became.{Became}
 use Rattle.sms_centre_reports.specs.declared.open_reports.made.MadeEntry.{MadeEntry}
-use Rattle.sms_centre_reports.specs.open_reports.Pending.{IsNotedAs, PendingOf, Stays, Tells, is_made, made_in, made_key, put_at, put_of, tpdu_in, tpdu_made}
+use Rattle.sms_centre_reports.specs.open_reports.OpenReportsDraft.{IsNotedAs, OpenReportsDraftOf, Stays, DraftRepresents, is_made, made_in, made_key, put_at, put_of, tpdu_in, tpdu_made}
 use Rattle.sms_centre_reports.specs.open_reports.Entries.{account_in}
 use Rattle.sms_centre_rows.specs.messages.Messages.{message_at}
 use Rattle.sms_centre_reports.proofs.open_reports.Becoming.{became_far}
@@ -123,7 +123,7 @@ made_is id r (Put s ∷ news) e = ⊎_elim
 made_is id r (Amend n q ∷ news) e = made_is id r news e
 made_is id r (Remove n ∷ news) e = made_is id r news e
 
-module _ (ms : List MessageRow) (p : PendingOf) (t : Revised ReportRow) (tells : Tells ms p t) (id : ℕ) where
+module _ (ms : List MessageRow) (p : OpenReportsDraftOf) (t : Revised ReportRow) (tells : DraftRepresents ms p t) (id : ℕ) where
   noted_as : (o : Option MadeEntry) → row_at made_key id p.made ≡ o → IsNotedAs o id p.changes t.news
   noted_as o e = subst (λ (x : Option MadeEntry). IsNotedAs x id p.changes t.news) e (tells.noted id)
 
@@ -149,8 +149,8 @@ module _ (ms : List MessageRow) (p : PendingOf) (t : Revised ReportRow) (tells :
 
 -- ---- messages change
 
-pub told_of_others : (ms others : List MessageRow) (p : PendingOf) (t : Revised ReportRow) → Tells ms p t
-    → ((r : ReportRow) → report_of r.id (reports_of t) ≡ Some r → account_in (message_at r.id others) ≡ account_in (message_at r.id ms)) → Tells others p t
+pub told_of_others : (ms others : List MessageRow) (p : OpenReportsDraftOf) (t : Revised ReportRow) → DraftRepresents ms p t
+    → ((r : ReportRow) → report_of r.id (reports_of t) ≡ Some r → account_in (message_at r.id others) ≡ account_in (message_at r.id ms)) → DraftRepresents others p t
 told_of_others ms others p t tells same = record {
   kept = other_messages ms others p.kept (reports_of t) tells.kept same;
   changes = tells.changes;

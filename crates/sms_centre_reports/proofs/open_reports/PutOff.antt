@@ -16,8 +16,8 @@ use Rattle.sms_centre_rows.specs.reports.Receipts.{is_account, is_put_off, recei
 use Rattle.sms_centre_rows.specs.reports.Reports.{amend_report, is_open_receipt, report_key, report_of, reports_of}
 use Rattle.sms_centre_reports.specs.declared.open_reports.entry.ReceiptEntry.{ReceiptEntry}
 use Rattle.sms_centre_reports.specs.open_reports.Entries.{account_in, account_of, is_named, receipt_due, receipt_entry, receipt_key}
-use Rattle.sms_centre_reports.specs.open_reports.ReportsInMemory.{ReportsOf, Shows, receipts_at}
-use Rattle.sms_centre_reports.specs.open_reports.Pending.{PendingOf, Tells}
+use Rattle.sms_centre_reports.specs.open_reports.OpenReports.{OpenReportsOf, Represents, receipts_at}
+use Rattle.sms_centre_reports.specs.open_reports.OpenReportsDraft.{OpenReportsDraftOf, DraftRepresents}
 use Rattle.sms_centre_reports.proofs.open_reports.Amended.{amend_each, amends_end, amends_on, from_amended, from_first}
 use Rattle.sms_centre_reports.proofs.open_reports.Keeping.{alone_found, kept_where, receipt_place}
 use Rattle.sms_centre_reports.proofs.open_reports.Serving.{among_kept, first_found, first_reaches, kept_among, kept_of}
@@ -79,9 +79,9 @@ module _ (moment : ℕ) (name : List ℕ) (ms : List MessageRow) where
       (λ (l : nat_le first e.place ≡ false). let bad : false ≡ true = sym (cond-false (nat_le first e.place) (nat_lt moment e.due) false l) ∙ t in absurd cc)
       (cases_Bool (nat_le first e.place))
 
-  module _ (first : ℕ) (kept : ReportsOf) (rows : List ReportRow) (shows : Shows ms kept rows) where
+  module _ (first : ℕ) (kept : OpenReportsOf) (rows : List ReportRow) (represents : Represents ms kept rows) where
     receipts_rise : Rises receipt_key (receipts_at name kept.accounts)
-    receipts_rise = subst (λ (es : List ReceiptEntry). Rises receipt_key es) (sym (shows.receipts name)) (picked_rises report_key receipt_key (receipt_entry name ms) (receipt_place name ms) rows shows.keys)
+    receipts_rise = subst (λ (es : List ReceiptEntry). Rises receipt_key es) (sym (represents.receipts name)) (picked_rises report_key receipt_key (receipt_entry name ms) (receipt_place name ms) rows represents.keys)
 
     due_kept : (r : ReportRow) → Among r rows → first ≤ r.place → test r ≡ true
         → (f : ReceiptEntry) × ((first_such (is_ahead_from receipt_key receipt_due first moment) (receipts_at name kept.accounts) ≡ Some f) × (f.place ≤ r.place))
@@ -89,7 +89,7 @@ module _ (moment : ℕ) (name : List ℕ) (ms : List MessageRow) where
         let parts = and_parts (is_open_receipt r && is_named name (account_in (message_at r.id ms))) (nat_lt moment r.progress.due) (sym (put_off_is moment name r (message_at r.id ms)) ∙ e) in
         let entry : receipt_entry name ms r ≡ Some (kept_of r) = cond-true (is_open_receipt r && is_named name (account_in (message_at r.id ms))) (Some (kept_of r)) None parts.0 in
         let there : Among (kept_of r) (receipts_at name kept.accounts) =
-        subst (λ (es : List ReceiptEntry). Among (kept_of r) es) (sym (shows.receipts name)) (kept_among (receipt_entry name ms) r (kept_of r) rows m entry) in
+        subst (λ (es : List ReceiptEntry). Among (kept_of r) es) (sym (represents.receipts name)) (kept_among (receipt_entry name ms) r (kept_of r) rows m entry) in
         let passing : is_ahead_from receipt_key receipt_due first moment (kept_of r) ≡ true = cond-true (nat_le first r.place) (nat_lt moment r.progress.due) false (le-leb first r.place l) ∙ parts.1 in
         first_reaches (is_ahead_from receipt_key receipt_due first moment) (kept_of r) (receipts_at name kept.accounts) receipts_rise there passing
 
@@ -104,13 +104,13 @@ module _ (moment : ℕ) (name : List ℕ) (ms : List MessageRow) where
         (cases_Bool (test x))
 
     pub none_comes : (t : Revised ReportRow) → first_such (is_ahead_from receipt_key receipt_due first moment) (receipts_at name kept.accounts) ≡ None → receipts_due moment name ms (rows_from report_key first rows) t ≡ t
-    none_comes t e = walk_is (rows_from report_key first rows) t ∙ amends_end test reach first rows t shows.keys (λ r m l. none_due None e r m l (λ f q. absurd cc))
+    none_comes t e = walk_is (rows_from report_key first rows) t ∙ amends_end test reach first rows t represents.keys (λ r m l. none_due None e r m l (λ f q. absurd cc))
 
     pub one_comes : (t : Revised ReportRow) (e : ReceiptEntry) → first_such (is_ahead_from receipt_key receipt_due first moment) (receipts_at name kept.accounts) ≡ Some e
         → (r : ReportRow) × ComesDue first moment name ms rows t e r
     one_comes t e q =
         let f = first_found (is_ahead_from receipt_key receipt_due first moment) e (receipts_at name kept.accounts) q in
-        let row = among_kept (receipt_entry name ms) e rows (subst (λ (es : List ReceiptEntry). Among e es) (shows.receipts name) f.0) in
+        let row = among_kept (receipt_entry name ms) e rows (subst (λ (es : List ReceiptEntry). Among e es) (represents.receipts name) f.0) in
         let r : ReportRow = row.0 in
         let so = kept_where (is_open_receipt r && is_named name (account_in (message_at r.id ms))) (kept_of r) e row.1.1 in
         let own = and_parts (is_open_receipt r) (is_named name (account_in (message_at r.id ms))) so.0 in
@@ -120,14 +120,14 @@ module _ (moment : ℕ) (name : List ℕ) (ms : List MessageRow) where
         ∙ and_from (is_open_receipt r && is_named name (account_in (message_at r.id ms))) (nat_lt moment r.progress.due) so.0 (ap (λ (x : ReceiptEntry). nat_lt moment x.due) so.1 ∙ ahead.1) in (
           r,
           record {
-            there = alone_found r rows shows.alone row.1.0;
+            there = alone_found r rows represents.alone row.1.0;
             open_still = own.0;
             account = named_own name (account_in (message_at r.id ms)) own.1;
             message = ap (λ (x : ReceiptEntry). x.id) so.1;
             place = place;
             behind = ahead.0;
             walk = walk_is (rows_from report_key first rows) t
-                ∙ amends_on test reach first rows r t shows.keys row.1.0 (subst (λ (n : ℕ). first ≤ n) (sym place) ahead.0)
+                ∙ amends_on test reach first rows r t represents.keys row.1.0 (subst (λ (n : ℕ). first ≤ n) (sym place) ahead.0)
                 (λ x m l before. none_due (Some e) q x m l (λ g h. let same : e ≡ g = one_of e g h in subst (λ (y : ReceiptEntry). x.place < y.place) same (omega (arith, before, place)))) due
                 ∙ sym (walk_is (rows_from report_key (r.place + 1) rows) (amend_report r (due_at moment r.progress) t));
           },
@@ -139,18 +139,18 @@ module _ (moment : ℕ) (name : List ℕ) (ms : List MessageRow) where
   pub record Comes (first : ℕ) (t u : Revised ReportRow) : Type 0 where
     pub left : receipts_due moment name ms (rows_from report_key first (reports_of u)) u ≡ receipts_due moment name ms (reports_of t) t
 
-  abbrev pub IsOnTheWay : ℕ → PendingOf → Revised ReportRow → Type 0
-  IsOnTheWay first p t = (u : Revised ReportRow) × (Tells ms p u × Comes first t u)
+  abbrev pub IsOnTheWay : ℕ → OpenReportsDraftOf → Revised ReportRow → Type 0
+  IsOnTheWay first p t = (u : Revised ReportRow) × (DraftRepresents ms p u × Comes first t u)
 
-  pub way_begins : (p : PendingOf) (t : Revised ReportRow) → Tells ms p t → IsOnTheWay 0 p t
+  pub way_begins : (p : OpenReportsDraftOf) (t : Revised ReportRow) → DraftRepresents ms p t → IsOnTheWay 0 p t
   way_begins p t tells = (t, (tells, record { left = ap (λ (rs : List ReportRow). receipts_due moment name ms rs t) (from_first (reports_of t)) }))
 
-  pub way_ends : (first : ℕ) (p : PendingOf) (t : Revised ReportRow) → IsOnTheWay first p t → first_such (is_ahead_from receipt_key receipt_due first moment) (receipts_at name p.kept.accounts) ≡ None
-      → Tells ms p (receipts_due moment name ms (reports_of t) t)
-  way_ends first p t way e = subst (λ (v : Revised ReportRow). Tells ms p v) (sym (none_comes first p.kept (reports_of way.0) way.1.0.kept way.0 e) ∙ way.1.1.left) way.1.0
+  pub way_ends : (first : ℕ) (p : OpenReportsDraftOf) (t : Revised ReportRow) → IsOnTheWay first p t → first_such (is_ahead_from receipt_key receipt_due first moment) (receipts_at name p.kept.accounts) ≡ None
+      → DraftRepresents ms p (receipts_due moment name ms (reports_of t) t)
+  way_ends first p t way e = subst (λ (v : Revised ReportRow). DraftRepresents ms p v) (sym (none_comes first p.kept (reports_of way.0) way.1.0.kept way.0 e) ∙ way.1.1.left) way.1.0
 
-  pub way_on : (first : ℕ) (p q : PendingOf) (t : Revised ReportRow) (e : ReceiptEntry) → IsOnTheWay first p t → first_such (is_ahead_from receipt_key receipt_due first moment) (receipts_at name p.kept.accounts) ≡ Some e
-      → ((u : Revised ReportRow) (r : ReportRow) → Tells ms p u → report_of e.id (reports_of u) ≡ Some r → is_open_receipt r ≡ true → account_in (message_at e.id ms) ≡ Some name → Tells ms q (amend_report r (due_at moment r.progress) u))
+  pub way_on : (first : ℕ) (p q : OpenReportsDraftOf) (t : Revised ReportRow) (e : ReceiptEntry) → IsOnTheWay first p t → first_such (is_ahead_from receipt_key receipt_due first moment) (receipts_at name p.kept.accounts) ≡ Some e
+      → ((u : Revised ReportRow) (r : ReportRow) → DraftRepresents ms p u → report_of e.id (reports_of u) ≡ Some r → is_open_receipt r ≡ true → account_in (message_at e.id ms) ≡ Some name → DraftRepresents ms q (amend_report r (due_at moment r.progress) u))
       → IsOnTheWay (e.place + 1) q t
   way_on first p q t e way is moves =
       let u : Revised ReportRow = way.0 in

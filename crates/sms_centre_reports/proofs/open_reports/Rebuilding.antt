@@ -13,7 +13,7 @@ use Rattle.sms_centre_rows.specs.reports.Reports.{is_receipt, report_key, report
 use Rattle.sms_centre_rows.specs.reports.SoundReports.{FitsOriginator, SoundReports}
 use Rattle.sms_centre_rows.proofs.reports.AllWaiting.{report_found}
 use Rattle.sms_centre_reports.specs.open_reports.Entries.{account_in, account_of}
-use Rattle.sms_centre_reports.specs.open_reports.ReportsInMemory.{ReportsOf, Shows}
+use Rattle.sms_centre_reports.specs.open_reports.OpenReports.{OpenReportsOf, Represents}
 use Rattle.sms_centre_reports.proofs.open_reports.Walking.{above_one}
 
 -- ---- rows before one stand lower
@@ -62,9 +62,9 @@ module _ (ms : List MessageRow) (r : ReportRow) (done rest : List ReportRow) (so
       (own.0, ap (λ (o : Option MessageRow). account_in o) is.1.0 ∙ own.1)
 
   -- one more row is read
-  pub read_on : (name : List ℕ) (before after : ReportsOf) → ((other : List ℕ) → account_in (message_at r.id ms) ≡ Some other → name ≡ other) → Shows ms before done
-      → (((s : ReportRow) → Among s done → s.place < r.place) → report_of r.id done ≡ None → (is_receipt r.kind ≡ true → account_in (message_at r.id ms) ≡ Some name) → Shows ms after (done ++ r ∷ []))
-      → Shows ms after (done ++ r ∷ [])
-  read_on name before after own shows adds =
+  pub read_on : (name : List ℕ) (before after : OpenReportsOf) → ((other : List ℕ) → account_in (message_at r.id ms) ≡ Some other → name ≡ other) → Represents ms before done
+      → (((s : ReportRow) → Among s done → s.place < r.place) → report_of r.id done ≡ None → (is_receipt r.kind ≡ true → account_in (message_at r.id ms) ≡ Some name) → Represents ms after (done ++ r ∷ []))
+      → Represents ms after (done ++ r ∷ [])
+  read_on name before after own represents adds =
       adds (λ s m. stands_before s r done rest sound.keys m) none_yet
       (λ e. let there = account_there e in there.1 ∙ ap (λ (n : List ℕ). Some n) (sym (own there.0 there.1)))

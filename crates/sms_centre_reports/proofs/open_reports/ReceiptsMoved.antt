@@ -16,7 +16,7 @@ use Rattle.sms_centre_reports.specs.declared.open_reports.entry.ReportEntry.{Rep
 use Rattle.sms_centre_reports.specs.declared.open_reports.receipt_move.ReceiptMove.{ReceiptMove}
 use Rattle.sms_centre_reports.specs.declared.open_reports.receipt_move.ReceiptMove.TheVariants.{Accepted, PutOff}
 use Rattle.sms_centre_reports.specs.open_reports.Entries.{account_in, is_open, open_entry, report_entry}
-use Rattle.sms_centre_reports.specs.open_reports.Pending.{PendingOf, Tells}
+use Rattle.sms_centre_reports.specs.open_reports.OpenReportsDraft.{OpenReportsDraftOf, DraftRepresents}
 use Rattle.sms_centre_reports.specs.open_reports.ReceiptMoves.{moved}
 use Rattle.sms_centre_rows.specs.declared.waiting.progress.Progress.{Progress}
 use Rattle.sms_centre_rows.specs.waiting.Revisions.{Revised, amended}
@@ -33,27 +33,27 @@ one_entry a b e = cc
 pub never_missed : (id : ℕ) (r : ReportRow) (rows : List ReportRow) → None ≡ pick_of open_entry (report_of id rows) → report_of id rows ≡ Some r → is_open_receipt r ≡ true → ⊥
 never_missed id r rows e there is = let bad : None ≡ Some (report_entry r) = e ∙ open_found id r rows there is in absurd cc
 
-pub moves_so : (ms : List MessageRow) (q : PendingOf) (t : Revised ReportRow) (r : ReportRow) (becomes : ReceiptMove) (far : Progress) (entry : ReportEntry) (name : List ℕ) (id : ℕ)
+pub moves_so : (ms : List MessageRow) (q : OpenReportsDraftOf) (t : Revised ReportRow) (r : ReportRow) (becomes : ReceiptMove) (far : Progress) (entry : ReportEntry) (name : List ℕ) (id : ℕ)
     → far ≡ moved becomes entry.progress → Some entry ≡ pick_of open_entry (report_of id (reports_of t)) → report_of id (reports_of t) ≡ Some r → is_open_receipt r ≡ true → account_in (message_at id ms) ≡ Some name
-    → ((s : ReportRow) → report_of s.id (reports_of t) ≡ Some s → entry ≡ report_entry s → is_receipt s.kind ≡ true → account_in (message_at s.id ms) ≡ Some name → Tells ms q (amend_report s far t))
-    → Tells ms q (amend_report r (moved becomes r.progress) t)
+    → ((s : ReportRow) → report_of s.id (reports_of t) ≡ Some s → entry ≡ report_entry s → is_receipt s.kind ≡ true → account_in (message_at s.id ms) ≡ Some name → DraftRepresents ms q (amend_report s far t))
+    → DraftRepresents ms q (amend_report r (moved becomes r.progress) t)
 moves_so ms q t r becomes far entry name id reaches found there is account moves =
     let same : entry ≡ report_entry r = one_entry entry (report_entry r) (found ∙ open_found id r (reports_of t) there is) in
     let own : r.id ≡ id = (report_found id r (reports_of t) there).1 in
-    subst (λ (p : Progress). Tells ms q (amend_report r p t)) (reaches ∙ ap (λ (e : ReportEntry). moved becomes e.progress) same)
+    subst (λ (p : Progress). DraftRepresents ms q (amend_report r p t)) (reaches ∙ ap (λ (e : ReportEntry). moved becomes e.progress) same)
     (moves r (subst (λ (n : ℕ). report_of n (reports_of t) ≡ Some r) (sym own) there) same (and_parts (is_receipt r.kind) (not r.progress.is_done) is).0
     (subst (λ (n : ℕ). account_in (message_at n ms) ≡ Some name) (sym own) account))
 
 -- ---- it ends
 
-pub ends_so : (ms : List MessageRow) (q : PendingOf) (t : Revised ReportRow) (b : Bool) (now : ℕ) (name : List ℕ) (id : ℕ) (becomes : ReceiptMove) → ((p : Progress) → moved becomes p ≡ (if b then moved Accepted p else moved (PutOff now) p))
+pub ends_so : (ms : List MessageRow) (q : OpenReportsDraftOf) (t : Revised ReportRow) (b : Bool) (now : ℕ) (name : List ℕ) (id : ℕ) (becomes : ReceiptMove) → ((p : Progress) → moved becomes p ≡ (if b then moved Accepted p else moved (PutOff now) p))
     → IsAwaited ms (reports_of t) name id
-    → ((r : ReportRow) → report_of id (reports_of t) ≡ Some r → is_open_receipt r ≡ true → account_in (message_at id ms) ≡ Some name → Tells ms q (amend_report r (moved becomes r.progress) t))
-    → Tells ms q (receipt_ended b now (report_of id (reports_of t)) t)
+    → ((r : ReportRow) → report_of id (reports_of t) ≡ Some r → is_open_receipt r ≡ true → account_in (message_at id ms) ≡ Some name → DraftRepresents ms q (amend_report r (moved becomes r.progress) t))
+    → DraftRepresents ms q (receipt_ended b now (report_of id (reports_of t)) t)
 ends_so ms q t b now name id becomes is awaited moves =
     let r : ReportRow = awaited.report.0 in
-    subst (λ (o : Option ReportRow). Tells ms q (receipt_ended b now o t)) (sym awaited.report.1.0)
-    (subst (λ (p : Progress). Tells ms q (amend_report r p t)) (is r.progress) (moves r awaited.report.1.0 awaited.report.1.1 awaited.account_is))
+    subst (λ (o : Option ReportRow). DraftRepresents ms q (receipt_ended b now o t)) (sym awaited.report.1.0)
+    (subst (λ (p : Progress). DraftRepresents ms q (amend_report r p t)) (is r.progress) (moves r awaited.report.1.0 awaited.report.1.1 awaited.account_is))
 
 -- ---- others are still awaited
 
@@ -92,17 +92,17 @@ module _ (ms : List MessageRow) (now : ℕ) (name : List ℕ) where
     pub left : all_tried now ids u ≡ all_tried now all t
     pub awaited : (id : ℕ) → Among id ids → IsAwaited ms (reports_of u) name id
 
-  abbrev pub IsPuttingOff : List ℕ → List ℕ → PendingOf → Revised ReportRow → Type 0
-  IsPuttingOff ids all p t = (u : Revised ReportRow) × (Tells ms p u × Leaves ids all t u)
+  abbrev pub IsPuttingOff : List ℕ → List ℕ → OpenReportsDraftOf → Revised ReportRow → Type 0
+  IsPuttingOff ids all p t = (u : Revised ReportRow) × (DraftRepresents ms p u × Leaves ids all t u)
 
-  pub puts_none : (all : List ℕ) (p : PendingOf) (t : Revised ReportRow) → Tells ms p t → ((id : ℕ) → Among id all → IsAwaited ms (reports_of t) name id) → IsPuttingOff all all p t
+  pub puts_none : (all : List ℕ) (p : OpenReportsDraftOf) (t : Revised ReportRow) → DraftRepresents ms p t → ((id : ℕ) → Among id all → IsAwaited ms (reports_of t) name id) → IsPuttingOff all all p t
   puts_none all p t tells awaited = (t, (tells, record { left = refl; awaited = awaited }))
 
-  pub puts_all : (all : List ℕ) (p : PendingOf) (t : Revised ReportRow) → IsPuttingOff [] all p t → Tells ms p (all_tried now all t)
-  puts_all all p t way = subst (λ (v : Revised ReportRow). Tells ms p v) way.1.1.left way.1.0
+  pub puts_all : (all : List ℕ) (p : OpenReportsDraftOf) (t : Revised ReportRow) → IsPuttingOff [] all p t → DraftRepresents ms p (all_tried now all t)
+  puts_all all p t way = subst (λ (v : Revised ReportRow). DraftRepresents ms p v) way.1.1.left way.1.0
 
-  pub puts_one : (id : ℕ) (ids all : List ℕ) (p q : PendingOf) (t : Revised ReportRow) → IsPuttingOff (id ∷ ids) all p t
-      → ((u : Revised ReportRow) → Tells ms p u → IsAwaited ms (reports_of u) name id → Tells ms q (receipt_ended false now (report_of id (reports_of u)) u)) → IsPuttingOff ids all q t
+  pub puts_one : (id : ℕ) (ids all : List ℕ) (p q : OpenReportsDraftOf) (t : Revised ReportRow) → IsPuttingOff (id ∷ ids) all p t
+      → ((u : Revised ReportRow) → DraftRepresents ms p u → IsAwaited ms (reports_of u) name id → DraftRepresents ms q (receipt_ended false now (report_of id (reports_of u)) u)) → IsPuttingOff ids all q t
   puts_one id ids all p q t way ends =
       let u : Revised ReportRow = way.0 in
       let here = way.1.1.awaited id (inl refl) in (

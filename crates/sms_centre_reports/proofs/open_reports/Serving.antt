@@ -15,13 +15,13 @@ use Rattle.sms_base.specs.declared.originator.Originator.{Originator}
 use Rattle.sms_base.specs.declared.originator.Originator.TheVariants.{Application, Handset}
 use Rattle.sms_centre_rows.specs.messages.Messages.{message_at}
 use Rattle.sms_centre_rows.specs.declared.reports.report.ReportRow.{ReportRow}
-use Rattle.sms_centre_rows.specs.reports.Receipts.{Desk, Session, is_account, is_unanswered, send_all, send_in, session_for, session_key, waits, window}
+use Rattle.sms_centre_rows.specs.reports.Receipts.{Bindings, Session, is_account, is_unanswered, send_all, send_in, session_for, session_key, waits, window}
 use Rattle.sms_centre_rows.specs.reports.Reports.{is_open_receipt, report_key}
 use Rattle.sms_centre_reports.specs.declared.open_reports.entry.ReceiptEntry.{ReceiptEntry}
 use Rattle.sms_centre_reports.specs.open_reports.Entries.{account_in, account_of, is_named, receipt_due, receipt_entry, receipt_key}
-use Rattle.sms_centre_reports.specs.open_reports.ReportsInMemory.{ReportsOf, Shows, receipts_at}
+use Rattle.sms_centre_reports.specs.open_reports.OpenReports.{OpenReportsOf, Represents, receipts_at}
 use Rattle.sms_centre_reports.specs.open_reports.Serving.{Next, earlier, is_ready, is_session, next_among, next_from, next_in, serving}
-use Rattle.sms_centre_reports.specs.open_reports.Going.{goes_in, with_room}
+use Rattle.sms_centre_reports.specs.open_reports.DueReceipts.{goes_in, with_room}
 use Rattle.sms_centre_reports.proofs.open_reports.Keeping.{kept_where, receipt_place}
 use Rattle.sms_centre_reports.proofs.open_reports.Walking.{walk_ends, walk_on}
 
@@ -261,9 +261,9 @@ so_past first moment e l d = cond-true (nat_le first e.place) (nat_le e.due mome
 abbrev pub kept_of : ReportRow → ReceiptEntry
 kept_of r = record { place = r.place; id = r.id; due = r.progress.due }
 
-module _ (first moment : ℕ) (ms : List MessageRow) (kept : ReportsOf) (rows : List ReportRow) (shows : Shows ms kept rows) (ss : List Session) where
+module _ (first moment : ℕ) (ms : List MessageRow) (kept : OpenReportsOf) (rows : List ReportRow) (represents : Represents ms kept rows) (ss : List Session) where
   pub receipts_rise : (name : List ℕ) → Rises receipt_key (receipts_at name kept.accounts)
-  receipts_rise name = subst (λ (es : List ReceiptEntry). Rises receipt_key es) (sym (shows.receipts name)) (picked_rises report_key receipt_key (receipt_entry name ms) (receipt_place name ms) rows shows.keys)
+  receipts_rise name = subst (λ (es : List ReceiptEntry). Rises receipt_key es) (sym (represents.receipts name)) (picked_rises report_key receipt_key (receipt_entry name ms) (receipt_place name ms) rows represents.keys)
 
   account_case : (x : ReportRow) (s : Session) → session_for (message_at x.id ms) ss ≡ Some s → (name : List ℕ) × (account_in (message_at x.id ms) ≡ Some name)
   account_case x s e = by (account_in (message_at x.id ms)) refl where
@@ -282,7 +282,7 @@ module _ (first moment : ℕ) (ms : List MessageRow) (kept : ReportsOf) (rows : 
       let entry : receipt_entry s.account ms x ≡ Some (kept_of x) =
       cond-true (is_open_receipt x && is_named s.account (account_in (message_at x.id ms))) (Some (kept_of x)) None (and_from (is_open_receipt x) (is_named s.account (account_in (message_at x.id ms))) goes.opened named) in
       let there : Among (kept_of x) (receipts_at s.account kept.accounts) =
-      subst (λ (es : List ReceiptEntry). Among (kept_of x) es) (sym (shows.receipts s.account)) (kept_among (receipt_entry s.account ms) x (kept_of x) rows m entry) in
+      subst (λ (es : List ReceiptEntry). Among (kept_of x) es) (sym (represents.receipts s.account)) (kept_among (receipt_entry s.account ms) x (kept_of x) rows m entry) in
       let ready : is_ready first moment ss (kept_of x) ≡ true =
       and_from (is_past_from receipt_key receipt_due first moment (kept_of x)) (not (is_unanswered x.id ss)) (so_past first moment (kept_of x) l goes.due) (true_not (is_unanswered x.id ss) goes.unsent) in
       let reached = first_reaches (is_ready first moment ss) (kept_of x) (receipts_at s.account kept.accounts) (receipts_rise s.account) there ready in
@@ -307,7 +307,7 @@ module _ (first moment : ℕ) (ms : List MessageRow) (kept : ReportsOf) (rows : 
       let parts = and_parts (is_session s (serving s.account ss)) (nat_lt (length s.unanswered) window) t in
       let f = first_found (is_ready first moment ss) e (receipts_at s.account kept.accounts)
       (sym (cond-true (is_session s (serving s.account ss) && nat_lt (length s.unanswered) window) (first_such (is_ready first moment ss) (receipts_at s.account kept.accounts)) None t) ∙ q) in
-      let row = among_kept (receipt_entry s.account ms) e rows (subst (λ (es : List ReceiptEntry). Among e es) (shows.receipts s.account) f.0) in
+      let row = among_kept (receipt_entry s.account ms) e rows (subst (λ (es : List ReceiptEntry). Among e es) (represents.receipts s.account) f.0) in
       let r : ReportRow = row.0 in
       let kept_so = kept_where (is_open_receipt r && is_named s.account (account_in (message_at r.id ms))) (kept_of r) e row.1.1 in
       let shut = and_parts (is_open_receipt r) (is_named s.account (account_in (message_at r.id ms))) kept_so.0 in
@@ -427,20 +427,20 @@ module _ (first moment : ℕ) (ms : List MessageRow) (kept : ReportsOf) (rows : 
       let bad : None ≡ Some n.receipt = sym (cond-false (is_session s (serving s.account ss) && nat_lt (length s.unanswered) window) (first_such (is_ready first moment ss) (receipts_at s.account kept.accounts)) None t) ∙ here in absurd cc)
       (cases_Bool (is_session s (serving s.account ss) && nat_lt (length s.unanswered) window))
 
-  pub sends_end : (desk : Desk) → desk.sessions ≡ ss → next_among first moment ss kept.accounts ss ≡ None → send_all moment ms (rows_from report_key first rows) desk ≡ desk
-  sends_end desk same e = walk_ends moment ms first rows desk shows.keys (λ r m l.
+  pub sends_end : (bindings : Bindings) → bindings.sessions ≡ ss → next_among first moment ss kept.accounts ss ≡ None → send_all moment ms (rows_from report_key first rows) bindings ≡ bindings
+  sends_end bindings same e = walk_ends moment ms first rows bindings represents.keys (λ r m l.
       subst (λ (sessions : List Session). goes_in moment ms sessions r ≡ None) (sym same) (none_before None e r m l (λ n q. absurd cc)))
 
-  pub sends_on : (desk : Desk) (n : Next) → desk.sessions ≡ ss → Rises session_key ss → next_among first moment ss kept.accounts ss ≡ Some n
-      → send_all moment ms (rows_from report_key first rows) desk ≡ send_all moment ms (rows_from report_key (n.receipt.place + 1) rows) (send_in n.receipt.id n.session desk)
-  sends_on desk n same rises e =
+  pub sends_on : (bindings : Bindings) (n : Next) → bindings.sessions ≡ ss → Rises session_key ss → next_among first moment ss kept.accounts ss ≡ Some n
+      → send_all moment ms (rows_from report_key first rows) bindings ≡ send_all moment ms (rows_from report_key (n.receipt.place + 1) rows) (send_in n.receipt.id n.session bindings)
+  sends_on bindings n same rises e =
       let is = next_is n ss e in
       let f = found_goes n.session n.receipt rises is.0 is.1 in
       let place : f.0.place ≡ n.receipt.place = ap (λ (x : ReceiptEntry). x.place) f.1.0.1 in
       let id : f.0.id ≡ n.receipt.id = ap (λ (x : ReceiptEntry). x.id) f.1.0.1 in
-      walk_on moment ms first rows f.0 n.session desk shows.keys f.1.0.0 f.1.1.0
+      walk_on moment ms first rows f.0 n.session bindings represents.keys f.1.0.0 f.1.1.0
       (λ x m l before. subst (λ (sessions : List Session). goes_in moment ms sessions x ≡ None) (sym same)
       (none_before (Some n) e x m l (λ k q. let one : n ≡ k = one_of n k q in subst (λ (y : Next). x.place < y.receipt.place) one (omega (arith, before, place)))))
       (subst (λ (sessions : List Session). goes_in moment ms sessions f.0 ≡ Some n.session) (sym same) (so_goes moment ms ss f.0 n.session f.1.1.1))
-      ∙ ap (λ (k : ℕ). send_all moment ms (rows_from report_key (k + 1) rows) (send_in f.0.id n.session desk)) place
-      ∙ ap (λ (k : ℕ). send_all moment ms (rows_from report_key (n.receipt.place + 1) rows) (send_in k n.session desk)) id
+      ∙ ap (λ (k : ℕ). send_all moment ms (rows_from report_key (k + 1) rows) (send_in f.0.id n.session bindings)) place
+      ∙ ap (λ (k : ℕ). send_all moment ms (rows_from report_key (n.receipt.place + 1) rows) (send_in k n.session bindings)) id

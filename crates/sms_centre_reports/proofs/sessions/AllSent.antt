@@ -8,24 +8,24 @@ use Rattle.sms_rows.specs.table.Table.{Rises, row_at, rows_from}
 use Rattle.sms_rows.proofs.table.Tables.{among_found, found_key}
 use Rattle.sms_centre_rows.specs.declared.messages.message.MessageRow.{MessageRow}
 use Rattle.sms_centre_rows.specs.declared.reports.report.ReportRow.{ReportRow}
-use Rattle.sms_centre_rows.specs.reports.Receipts.{Desk, Session, put_session, send_all, send_in, session_key, window}
+use Rattle.sms_centre_rows.specs.reports.Receipts.{Bindings, Session, put_session, send_all, send_in, session_key, window}
 use Rattle.sms_centre_rows.specs.declared.reports.delivery.Delivery.{Delivery}
 use Rattle.sms_centre_rows.specs.reports.Reports.{report_key, reports_of}
-use Rattle.sms_centre_reports.specs.open_reports.Pending.{PendingOf, Tells}
+use Rattle.sms_centre_reports.specs.open_reports.OpenReportsDraft.{OpenReportsDraftOf, DraftRepresents}
 use Rattle.sms_centre_reports.specs.open_reports.Serving.{Next, is_ready, is_session, next_among, next_from, next_in, serving}
-use Rattle.sms_centre_reports.specs.open_reports.ReportsInMemory.{AccountOf, receipts_at}
+use Rattle.sms_centre_reports.specs.open_reports.OpenReports.{AccountOf, receipts_at}
 use Rattle.sms_centre_reports.specs.declared.open_reports.entry.ReceiptEntry.{ReceiptEntry}
 use Rattle.sms_centre_reports.proofs.open_reports.Amended.{from_first}
 use Rattle.sms_centre_reports.proofs.open_reports.Serving.{next_is, sends_end, sends_on}
-use Rattle.sms_centre_reports.specs.declared.sessions.sending.Going.{Going}
-use Rattle.sms_centre_reports.specs.sessions.Going.{going_of}
+use Rattle.sms_centre_reports.specs.declared.sessions.sending.ReceiptToSend.{ReceiptToSend}
+use Rattle.sms_centre_reports.specs.sessions.SessionReceipts.{going_of}
 use Rattle.sms_centre_rows.specs.waiting.Revisions.{Revised}
 
-one_going : (a b : Going) → Some a ≡ Some b → a ≡ b
+one_going : (a b : ReceiptToSend) → Some a ≡ Some b → a ≡ b
 one_going a b e = cc
 
 -- it goes in the session of some next
-some_next : (o : Option Next) (g : Going) → Some g ≡ option_map going_of o → (n : Next) × ((o ≡ Some n) × (g ≡ going_of n))
+some_next : (o : Option Next) (g : ReceiptToSend) → Some g ≡ option_map going_of o → (n : Next) × ((o ≡ Some n) × (g ≡ going_of n))
 some_next None g e = absurd cc
 some_next (Some n) g e = (n, (refl, one_going g (going_of n) e))
 
@@ -33,28 +33,28 @@ none_next : (o : Option Next) → None ≡ option_map going_of o → o ≡ None
 none_next None e = refl
 none_next (Some n) e = absurd cc
 
-module _ (moment : ℕ) (ms : List MessageRow) (p : PendingOf) (t : Revised ReportRow) (tells : Tells ms p t) where
+module _ (moment : ℕ) (ms : List MessageRow) (p : OpenReportsDraftOf) (t : Revised ReportRow) (tells : DraftRepresents ms p t) where
   -- what is sent from a place on
-  abbrev pub rest : ℕ → Desk → Desk
-  rest first desk = send_all moment ms (rows_from report_key first (reports_of t)) desk
+  abbrev pub rest : ℕ → Bindings → Bindings
+  rest first bindings = send_all moment ms (rows_from report_key first (reports_of t)) bindings
 
-  pub rest_all : (desk : Desk) → rest 0 desk ≡ send_all moment ms (reports_of t) desk
-  rest_all desk = ap (λ (rs : List ReportRow). send_all moment ms rs desk) (from_first (reports_of t))
+  pub rest_all : (bindings : Bindings) → rest 0 bindings ≡ send_all moment ms (reports_of t) bindings
+  rest_all bindings = ap (λ (rs : List ReportRow). send_all moment ms rs bindings) (from_first (reports_of t))
 
-  pub rest_ends : (first : ℕ) (desk : Desk) → None ≡ option_map going_of (next_among first moment desk.sessions p.kept.accounts desk.sessions) → rest first desk ≡ desk
-  rest_ends first desk e =
-      sends_end first moment ms p.kept (reports_of t) tells.kept desk.sessions desk refl (none_next (next_among first moment desk.sessions p.kept.accounts desk.sessions) e)
+  pub rest_ends : (first : ℕ) (bindings : Bindings) → None ≡ option_map going_of (next_among first moment bindings.sessions p.kept.accounts bindings.sessions) → rest first bindings ≡ bindings
+  rest_ends first bindings e =
+      sends_end first moment ms p.kept (reports_of t) tells.kept bindings.sessions bindings refl (none_next (next_among first moment bindings.sessions p.kept.accounts bindings.sessions) e)
 
-  pub rest_on : (first : ℕ) (desk after : Desk) (g : Going) → Rises session_key desk.sessions → Some g ≡ option_map going_of (next_among first moment desk.sessions p.kept.accounts desk.sessions)
-      → ((s : Session) → row_at session_key g.session desk.sessions ≡ Some s → after ≡ send_in g.receipt.id s desk) → rest (g.receipt.place + 1) after ≡ rest first desk
-  rest_on first desk after g rises e sends =
-      let some = some_next (next_among first moment desk.sessions p.kept.accounts desk.sessions) g e in
+  pub rest_on : (first : ℕ) (bindings after : Bindings) (g : ReceiptToSend) → Rises session_key bindings.sessions → Some g ≡ option_map going_of (next_among first moment bindings.sessions p.kept.accounts bindings.sessions)
+      → ((s : Session) → row_at session_key g.session bindings.sessions ≡ Some s → after ≡ send_in g.receipt.id s bindings) → rest (g.receipt.place + 1) after ≡ rest first bindings
+  rest_on first bindings after g rises e sends =
+      let some = some_next (next_among first moment bindings.sessions p.kept.accounts bindings.sessions) g e in
       let n : Next = some.0 in
-      let there = next_is first moment ms p.kept (reports_of t) tells.kept desk.sessions n desk.sessions some.1.0 in
-      let found : row_at session_key g.session desk.sessions ≡ Some n.session = ap (λ (x : Going). row_at session_key x.session desk.sessions) some.1.1 ∙ among_found session_key n.session desk.sessions rises there.0 in
-      ap (λ (x : Desk). rest (g.receipt.place + 1) x) (sends n.session found)
-      ∙ ap (λ (x : Going). rest (x.receipt.place + 1) (send_in x.receipt.id n.session desk)) some.1.1
-      ∙ sym (sends_on first moment ms p.kept (reports_of t) tells.kept desk.sessions desk n refl rises some.1.0)
+      let there = next_is first moment ms p.kept (reports_of t) tells.kept bindings.sessions n bindings.sessions some.1.0 in
+      let found : row_at session_key g.session bindings.sessions ≡ Some n.session = ap (λ (x : ReceiptToSend). row_at session_key x.session bindings.sessions) some.1.1 ∙ among_found session_key n.session bindings.sessions rises there.0 in
+      ap (λ (x : Bindings). rest (g.receipt.place + 1) x) (sends n.session found)
+      ∙ ap (λ (x : ReceiptToSend). rest (x.receipt.place + 1) (send_in x.receipt.id n.session bindings)) some.1.1
+      ∙ sym (sends_on first moment ms p.kept (reports_of t) tells.kept bindings.sessions bindings n refl rises some.1.0)
 
 -- ---- what goes first in a session
 
@@ -83,12 +83,12 @@ module _ (first moment : ℕ) (ss : List Session) (accounts : List AccountOf) (s
 one_session : (a b : Session) → Some a ≡ Some b → a ≡ b
 one_session a b e = cc
 
-pub sent_so : (desk : Desk) (sessions : List Session) (before news : List Delivery) (seat sent s : Session) (number id : ℕ) → Some seat ≡ row_at session_key number desk.sessions → row_at session_key number desk.sessions ≡ Some s
-    → sent ≡ record seat { unanswered = seat.unanswered ++ id ∷ [] } → record { sessions = sessions; deliveries = before } ≡ put_session sent desk → news ≡ before ++ record { session = number; id = id } ∷ []
-    → record { sessions = sessions; deliveries = news } ≡ send_in id s desk
-sent_so desk sessions before news seat sent s number id found there is puts pushes =
+pub sent_so : (bindings : Bindings) (sessions : List Session) (before news : List Delivery) (seat sent s : Session) (number id : ℕ) → Some seat ≡ row_at session_key number bindings.sessions → row_at session_key number bindings.sessions ≡ Some s
+    → sent ≡ record seat { unanswered = seat.unanswered ++ id ∷ [] } → record { sessions = sessions; deliveries = before } ≡ put_session sent bindings → news ≡ before ++ record { session = number; id = id } ∷ []
+    → record { sessions = sessions; deliveries = news } ≡ send_in id s bindings
+sent_so bindings sessions before news seat sent s number id found there is puts pushes =
     let same : seat ≡ s = one_session seat s (found ∙ there) in
-    let own : number ≡ s.number = sym (found_key session_key number s desk.sessions there) in
+    let own : number ≡ s.number = sym (found_key session_key number s bindings.sessions there) in
     let so : sent ≡ record s { unanswered = s.unanswered ++ id ∷ [] } = is ∙ ap (λ (x : Session). record x { unanswered = x.unanswered ++ id ∷ [] }) same in
     ap (λ (ds : List Delivery). record { sessions = sessions; deliveries = ds }) (pushes ∙ ap (λ (n : ℕ). before ++ record { session = n; id = id } ∷ []) own)
-    ∙ ap (λ (d : Desk). record { sessions = d.sessions; deliveries = d.deliveries ++ record { session = s.number; id = id } ∷ [] }) (puts ∙ ap (λ (x : Session). put_session x desk) so)
+    ∙ ap (λ (d : Bindings). record { sessions = d.sessions; deliveries = d.deliveries ++ record { session = s.number; id = id } ∷ [] }) (puts ∙ ap (λ (x : Session). put_session x bindings) so)

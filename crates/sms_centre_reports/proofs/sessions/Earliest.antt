@@ -4,42 +4,42 @@ use Rattle.std.specs.Option.{option_map}
 use Rattle.std.specs.Prelude.{nat_le, if◌then◌else◌, IfSome}
 use Rattle.std.proofs.lemmas.Bool.{cases_Bool, cases_lt, cond-true, cond-false, le-leb, leb-true}
 use Rattle.sms_centre_reports.specs.open_reports.Serving.{Next, earlier}
-use Rattle.sms_centre_reports.specs.declared.sessions.sending.Going.{Going}
-use Rattle.sms_centre_reports.specs.sessions.Going.{earlier_going, going_of}
+use Rattle.sms_centre_reports.specs.declared.sessions.sending.ReceiptToSend.{ReceiptToSend}
+use Rattle.sms_centre_reports.specs.sessions.SessionReceipts.{earlier_going, going_of}
 
-abbrev one : Going → Going → Going
+abbrev one : ReceiptToSend → ReceiptToSend → ReceiptToSend
 one a b = if nat_le a.receipt.place b.receipt.place then a else b
 
-first_one : (a b : Going) → a.receipt.place ≤ b.receipt.place → one a b ≡ a
+first_one : (a b : ReceiptToSend) → a.receipt.place ≤ b.receipt.place → one a b ≡ a
 first_one a b l = cond-true (nat_le a.receipt.place b.receipt.place) a b (le-leb a.receipt.place b.receipt.place l)
 
-other_one : (a b : Going) → b.receipt.place < a.receipt.place → one a b ≡ b
+other_one : (a b : ReceiptToSend) → b.receipt.place < a.receipt.place → one a b ≡ b
 other_one a b l = ⊎_elim
     (λ (t : nat_le a.receipt.place b.receipt.place ≡ true). let k = leb-true a.receipt.place b.receipt.place t in absurd (omega (arith, k, l)))
     (λ (t : nat_le a.receipt.place b.receipt.place ≡ false). cond-false (nat_le a.receipt.place b.receipt.place) a b t)
     (cases_Bool (nat_le a.receipt.place b.receipt.place))
 
-one_of_three : (a b c : Going) → one (one a b) c ≡ one a (one b c)
+one_of_three : (a b c : ReceiptToSend) → one (one a b) c ≡ one a (one b c)
 one_of_three a b c = ⊎_elim
     (λ (l : b.receipt.place < a.receipt.place).
-    ap (λ (x : Going). one x c) (other_one a b l) ∙ ⊎_elim
-    (λ (k : c.receipt.place < b.receipt.place). other_one b c k ∙ sym (ap (λ (x : Going). one a x) (other_one b c k) ∙ other_one a c (omega (arith, k, l))))
-    (λ (k : b.receipt.place ≤ c.receipt.place). first_one b c k ∙ sym (ap (λ (x : Going). one a x) (first_one b c k) ∙ other_one a b l))
+    ap (λ (x : ReceiptToSend). one x c) (other_one a b l) ∙ ⊎_elim
+    (λ (k : c.receipt.place < b.receipt.place). other_one b c k ∙ sym (ap (λ (x : ReceiptToSend). one a x) (other_one b c k) ∙ other_one a c (omega (arith, k, l))))
+    (λ (k : b.receipt.place ≤ c.receipt.place). first_one b c k ∙ sym (ap (λ (x : ReceiptToSend). one a x) (first_one b c k) ∙ other_one a b l))
     (cases_lt c.receipt.place b.receipt.place))
     (λ (l : a.receipt.place ≤ b.receipt.place).
-    ap (λ (x : Going). one x c) (first_one a b l) ∙ ⊎_elim
-    (λ (k : c.receipt.place < b.receipt.place). sym (ap (λ (x : Going). one a x) (other_one b c k)))
-    (λ (k : b.receipt.place ≤ c.receipt.place). first_one a c (omega (arith, k, l)) ∙ sym (ap (λ (x : Going). one a x) (first_one b c k) ∙ first_one a b l))
+    ap (λ (x : ReceiptToSend). one x c) (first_one a b l) ∙ ⊎_elim
+    (λ (k : c.receipt.place < b.receipt.place). sym (ap (λ (x : ReceiptToSend). one a x) (other_one b c k)))
+    (λ (k : b.receipt.place ≤ c.receipt.place). first_one a c (omega (arith, k, l)) ∙ sym (ap (λ (x : ReceiptToSend). one a x) (first_one b c k) ∙ first_one a b l))
     (cases_lt c.receipt.place b.receipt.place))
     (cases_lt b.receipt.place a.receipt.place)
 
-of_three : (a b c : Option Going) → earlier_going (earlier_going a b) c ≡ earlier_going a (earlier_going b c)
+of_three : (a b c : Option ReceiptToSend) → earlier_going (earlier_going a b) c ≡ earlier_going a (earlier_going b c)
 of_three None b c = refl
 of_three (Some a) None c = refl
 of_three (Some a) (Some b) None = refl
-of_three (Some a) (Some b) (Some c) = ap (λ (x : Going). Some x) (one_of_three a b c)
+of_three (Some a) (Some b) (Some c) = ap (λ (x : ReceiptToSend). Some x) (one_of_three a b c)
 
-pub or_none : (a : Option Going) → earlier_going a None ≡ a
+pub or_none : (a : Option ReceiptToSend) → earlier_going a None ≡ a
 or_none None = refl
 or_none (Some a) = refl
 
@@ -48,22 +48,22 @@ of_next None b = refl
 of_next (Some a) None = refl
 of_next (Some a) (Some b) = ⊎_elim
     (λ (t : nat_le a.receipt.place b.receipt.place ≡ true).
-    ap (λ (n : Next). Some (going_of n)) (cond-true (nat_le a.receipt.place b.receipt.place) a b t) ∙ sym (ap (λ (g : Going). Some g) (cond-true (nat_le a.receipt.place b.receipt.place) (going_of a) (going_of b) t)))
+    ap (λ (n : Next). Some (going_of n)) (cond-true (nat_le a.receipt.place b.receipt.place) a b t) ∙ sym (ap (λ (g : ReceiptToSend). Some g) (cond-true (nat_le a.receipt.place b.receipt.place) (going_of a) (going_of b) t)))
     (λ (t : nat_le a.receipt.place b.receipt.place ≡ false).
-    ap (λ (n : Next). Some (going_of n)) (cond-false (nat_le a.receipt.place b.receipt.place) a b t) ∙ sym (ap (λ (g : Going). Some g) (cond-false (nat_le a.receipt.place b.receipt.place) (going_of a) (going_of b) t)))
+    ap (λ (n : Next). Some (going_of n)) (cond-false (nat_le a.receipt.place b.receipt.place) a b t) ∙ sym (ap (λ (g : ReceiptToSend). Some g) (cond-false (nat_le a.receipt.place b.receipt.place) (going_of a) (going_of b) t)))
     (cases_Bool (nat_le a.receipt.place b.receipt.place))
 
 -- one more session was looked at
-pub best_on : (best g now : Option Going) (a b : Option Next) → now ≡ earlier_going best g → g ≡ option_map going_of a → earlier_going now (option_map going_of b) ≡ earlier_going best (option_map going_of (earlier a b))
+pub best_on : (best g now : Option ReceiptToSend) (a b : Option Next) → now ≡ earlier_going best g → g ≡ option_map going_of a → earlier_going now (option_map going_of b) ≡ earlier_going best (option_map going_of (earlier a b))
 best_on best g now a b is e =
-    ap (λ (o : Option Going). earlier_going o (option_map going_of b)) is ∙ of_three best g (option_map going_of b)
-    ∙ ap (λ (o : Option Going). earlier_going best (earlier_going o (option_map going_of b))) e ∙ ap (λ (o : Option Going). earlier_going best o) (sym (of_next a b))
+    ap (λ (o : Option ReceiptToSend). earlier_going o (option_map going_of b)) is ∙ of_three best g (option_map going_of b)
+    ∙ ap (λ (o : Option ReceiptToSend). earlier_going best (earlier_going o (option_map going_of b))) e ∙ ap (λ (o : Option ReceiptToSend). earlier_going best o) (sym (of_next a b))
 
 -- of two that stand no earlier than a place
-pub both_behind : (first : ℕ) (a b : Option Going) → IfSome a (λ (g : Going). first ≤ g.receipt.place) → IfSome b (λ (g : Going). first ≤ g.receipt.place) → IfSome (earlier_going a b) (λ (g : Going). first ≤ g.receipt.place)
+pub both_behind : (first : ℕ) (a b : Option ReceiptToSend) → IfSome a (λ (g : ReceiptToSend). first ≤ g.receipt.place) → IfSome b (λ (g : ReceiptToSend). first ≤ g.receipt.place) → IfSome (earlier_going a b) (λ (g : ReceiptToSend). first ≤ g.receipt.place)
 both_behind first None b h k = k
 both_behind first (Some a) None h k = h
 both_behind first (Some a) (Some b) h k = ⊎_elim
-    (λ (l : b.receipt.place < a.receipt.place). subst (λ (g : Going). first ≤ g.receipt.place) (sym (other_one a b l)) k)
-    (λ (l : a.receipt.place ≤ b.receipt.place). subst (λ (g : Going). first ≤ g.receipt.place) (sym (first_one a b l)) h)
+    (λ (l : b.receipt.place < a.receipt.place). subst (λ (g : ReceiptToSend). first ≤ g.receipt.place) (sym (other_one a b l)) k)
+    (λ (l : a.receipt.place ≤ b.receipt.place). subst (λ (g : ReceiptToSend). first ≤ g.receipt.place) (sym (first_one a b l)) h)
     (cases_lt b.receipt.place a.receipt.place)

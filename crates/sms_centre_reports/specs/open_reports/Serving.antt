@@ -5,7 +5,7 @@ use Rattle.sms_rows.specs.index.First.{first_such, is_past_from}
 use Rattle.sms_centre_rows.specs.reports.Receipts.{Session, is_unanswered, window}
 use Rattle.sms_centre_reports.specs.declared.open_reports.entry.ReceiptEntry.{ReceiptEntry}
 use Rattle.sms_centre_reports.specs.open_reports.Entries.{receipt_due, receipt_key}
-use Rattle.sms_centre_reports.specs.open_reports.ReportsInMemory.{AccountOf, receipts_at}
+use Rattle.sms_centre_reports.specs.open_reports.OpenReports.{AccountOf, receipts_at}
 
 -- the first session that receives for the account
 abbrev pub serving : List ℕ → List Session → Option Session

@@ -9,7 +9,7 @@ use Rattle.sms_centre_reports.specs.declared.open_reports.entry.ReceiptEntry.{Re
 use Rattle.sms_centre_reports.specs.declared.open_reports.entry.ReportEntry.{ReportEntry}
 use Rattle.sms_centre_reports.specs.declared.open_reports.entry.StatusEntry.{StatusEntry}
 use Rattle.sms_centre_reports.specs.open_reports.Entries.{entry_key, receipt_key, report_entry, status_key, status_limit}
-use Rattle.sms_centre_reports.specs.open_reports.ReportsInMemory.{AccountOf, ReportsOf}
+use Rattle.sms_centre_reports.specs.open_reports.OpenReports.{AccountOf, OpenReportsOf}
 use Rattle.sms_centre_rows.specs.declared.waiting.progress.Progress.{Progress}
 use Rattle.sms_centre_rows.specs.waiting.Trying.{later}
 
@@ -42,7 +42,7 @@ status_of e = if e.progress.is_done then None else Some (record { place = e.plac
 
 -- ---- a report
 
-abbrev pub keeping_receipt : List ℕ → ReportEntry → ReportsOf → ReportsOf
+abbrev pub keeping_receipt : List ℕ → ReportEntry → OpenReportsOf → OpenReportsOf
 keeping_receipt name e kept = record {
   open_reports = set_at entry_key e.id (unless_done e) kept.open_reports;
   statuses = kept.statuses;
@@ -50,7 +50,7 @@ keeping_receipt name e kept = record {
   next = kept.next;
 }
 
-abbrev pub keeping_status : ReportEntry → ReportsOf → ReportsOf
+abbrev pub keeping_status : ReportEntry → OpenReportsOf → OpenReportsOf
 keeping_status e kept = record {
   open_reports = set_at entry_key e.id (unless_done e) kept.open_reports;
   statuses = set_at status_key e.place (status_of e) kept.statuses;
@@ -60,11 +60,11 @@ keeping_status e kept = record {
 
 -- ---- a row that is read
 
-abbrev pub keeping_of : ReportKind → List ℕ → ReportRow → ReportsOf → ReportsOf
+abbrev pub keeping_of : ReportKind → List ℕ → ReportRow → OpenReportsOf → OpenReportsOf
 keeping_of Receipt name r kept = keeping_receipt name (report_entry r) kept
 keeping_of (Status reference tpdu) name r kept = keeping_status (report_entry r) kept
 keeping_of Unsent name r kept = kept
 
 -- what is closed is not kept
-abbrev pub keeping : List ℕ → ReportRow → ReportsOf → ReportsOf
+abbrev pub keeping : List ℕ → ReportRow → OpenReportsOf → OpenReportsOf
 keeping name r kept = if r.progress.is_done then kept else keeping_of r.kind name r kept

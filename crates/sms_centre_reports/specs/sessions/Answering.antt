@@ -4,18 +4,18 @@ use Rattle.sms_rows.specs.table.Table.{row_at}
 use Rattle.sms_centre_rows.specs.declared.messages.message.MessageRow.{MessageRow}
 use Rattle.sms_centre_rows.specs.messages.SplitReferences.{is_among}
 use Rattle.sms_centre_rows.specs.declared.reports.report.ReportRow.{ReportRow}
-use Rattle.sms_centre_rows.specs.reports.Receipts.{Desk, Session, all_tried, answered_in, put_session, receipt_ended, receipts_due, remove_session, session_key}
+use Rattle.sms_centre_rows.specs.reports.Receipts.{Bindings, Session, all_tried, answered_in, put_session, receipt_ended, receipts_due, remove_session, session_key}
 use Rattle.sms_centre_rows.specs.reports.Reports.{report_of, reports_of}
 use Rattle.sms_centre_rows.specs.waiting.Revisions.{Revised}
 
 -- ---- an answer to a receipt: what wasn't sent in the session isn't answered there
 
-abbrev pub desk_answered_by : ℕ → Option Session → Desk → Desk
-desk_answered_by id None desk = desk
-desk_answered_by id (Some s) desk = if is_among id s.unanswered then answered_in id s desk else desk
+abbrev pub bindings_answered_by : ℕ → Option Session → Bindings → Bindings
+bindings_answered_by id None bindings = bindings
+bindings_answered_by id (Some s) bindings = if is_among id s.unanswered then answered_in id s bindings else bindings
 
-abbrev pub desk_answered : ℕ → ℕ → Desk → Desk
-desk_answered session id desk = desk_answered_by id (row_at session_key session desk.sessions) desk
+abbrev pub bindings_answered : ℕ → ℕ → Bindings → Bindings
+bindings_answered session id bindings = bindings_answered_by id (row_at session_key session bindings.sessions) bindings
 
 abbrev pub reports_answered_by : ℕ → Bool → ℕ → Option Session → Revised ReportRow → Revised ReportRow
 reports_answered_by id is_accepted moment None t = t
@@ -26,12 +26,12 @@ reports_answered session id is_accepted moment sessions t = reports_answered_by 
 
 -- ---- a session ends
 
-abbrev pub desk_unbound_from : Option Session → Desk → Desk
-desk_unbound_from None desk = desk
-desk_unbound_from (Some s) desk = remove_session s.number desk
+abbrev pub bindings_unbound_from : Option Session → Bindings → Bindings
+bindings_unbound_from None bindings = bindings
+bindings_unbound_from (Some s) bindings = remove_session s.number bindings
 
-abbrev pub desk_unbound : ℕ → Desk → Desk
-desk_unbound session desk = desk_unbound_from (row_at session_key session desk.sessions) desk
+abbrev pub bindings_unbound : ℕ → Bindings → Bindings
+bindings_unbound session bindings = bindings_unbound_from (row_at session_key session bindings.sessions) bindings
 
 abbrev pub reports_unbound_from : ℕ → Option Session → Revised ReportRow → Revised ReportRow
 reports_unbound_from moment None t = t
@@ -45,8 +45,8 @@ reports_unbound session moment sessions t = reports_unbound_from moment (row_at 
 abbrev pub session_new : ℕ → Bool → List ℕ → Session
 session_new number receives account = record { number = number; account = account; receives = receives; unanswered = [] }
 
-abbrev pub desk_bound : ℕ → List ℕ → Bool → Desk → Desk
-desk_bound session account receives desk = put_session (session_new session receives account) (desk_unbound session desk)
+abbrev pub bindings_bound : ℕ → List ℕ → Bool → Bindings → Bindings
+bindings_bound session account receives bindings = put_session (session_new session receives account) (bindings_unbound session bindings)
 
 -- the receipts of the account that wait for their minute are due, if the session takes them
 abbrev pub reports_due : List ℕ → Bool → ℕ → List MessageRow → Revised ReportRow → Revised ReportRow

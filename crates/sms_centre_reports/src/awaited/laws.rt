@@ -1,16 +1,16 @@
 //! Laws of what sessions wait for, over definitions alone.
 ghost use Rattle.std.specs.Prelude.{◌≡◌, ℕ, Bool, List, [], None, Some, true, if◌then◌else◌};
 ghost use Rattle.sms_base.specs.Among.{Among};
-ghost use Rattle.sms_intake.specs.declared.submission.Account.{Account};
+ghost use Rattle.sms_intake.specs.declared.submission.CentreAccount.{CentreAccount};
 ghost use Rattle.sms_centre_rows.specs.declared.messages.message.MessageRow.{MessageRow};
-ghost use Rattle.sms_centre_rows.specs.reports.Receipts.{Desk, Session, send_all};
+ghost use Rattle.sms_centre_rows.specs.reports.Receipts.{Bindings, Session, send_all};
 ghost use Rattle.sms_centre_rows.specs.reports.Reports.{is_open_receipt, report_key, report_of, reports_of};
 ghost use Rattle.sms_centre_rows.specs.reports.Waiting.{Alone};
 ghost use Rattle.sms_centre_rows.specs.declared.reports.report.ReportRow.{ReportRow};
 ghost use Rattle.sms_rows.specs.table.Table.{Rises};
 ghost use Rattle.sms_centre_rows.specs.waiting.Revisions.{Revised};
-ghost use Rattle.sms_centre_reports.specs.open_reports.Pending.{tpdu_made};
-ghost use Rattle.sms_centre_reports.specs.sessions.Answering.{desk_answered, desk_bound, desk_unbound, reports_answered, reports_bound, reports_unbound};
+ghost use Rattle.sms_centre_reports.specs.open_reports.OpenReportsDraft.{tpdu_made};
+ghost use Rattle.sms_centre_reports.specs.sessions.Answering.{bindings_answered, bindings_bound, bindings_unbound, reports_answered, reports_bound, reports_unbound};
 ghost use Rattle.sms_centre_reports.specs.sessions.Awaited.{AreAwaited};
 ghost use Rattle.sms_centre_spec.specs.declared.event.CentreEvent.{CentreEvent};
 ghost use Rattle.sms_centre_spec.specs.CentreEvent.{happened};
@@ -26,10 +26,10 @@ ghost use Rattle.sms_centre_reports.specs.awaited.Moving.{moved_to};
 /// the calls of the sessions say.
 pub fn sessions_touch_reports_and_sessions()
     ensures answered { (session id : ℕ) (is_accepted : Bool) (d : Draft)
-        → deliver_answered session id is_accepted d ≡ moved_to (reports_answered session id is_accepted d.store.moment d.desk.sessions d.store.reports) (desk_answered session id d.desk) d }
-    ensures unbound { (session : ℕ) (d : Draft) → unbind session d ≡ moved_to (reports_unbound session d.store.moment d.desk.sessions d.store.reports) (desk_unbound session d.desk) d }
-    ensures bound { (session place : ℕ) (receives : Bool) (account : Account) (d : Draft) → account_at place d.store.setup.accounts ≡ Some account
-        → bind session place receives d ≡ moved_to (reports_bound session account.name receives d.store.moment d.desk.sessions (messages_in d.store) d.store.reports) (desk_bound session account.name receives d.desk) d }
+        → deliver_answered session id is_accepted d ≡ moved_to (reports_answered session id is_accepted d.store.moment d.bindings.sessions d.store.reports) (bindings_answered session id d.bindings) d }
+    ensures unbound { (session : ℕ) (d : Draft) → unbind session d ≡ moved_to (reports_unbound session d.store.moment d.bindings.sessions d.store.reports) (bindings_unbound session d.bindings) d }
+    ensures bound { (session place : ℕ) (receives : Bool) (account : CentreAccount) (d : Draft) → account_at place d.store.setup.accounts ≡ Some account
+        → bind session place receives d ≡ moved_to (reports_bound session account.name receives d.store.moment d.bindings.sessions (messages_in d.store) d.store.reports) (bindings_bound session account.name receives d.bindings) d }
     ensures no_account { (session place : ℕ) (receives : Bool) (d : Draft) → account_at place d.store.setup.accounts ≡ None → bind session place receives d ≡ unbind session d }
 {}
 
@@ -41,13 +41,13 @@ pub fn what_is_made_is_not_read()
 /// What was sent and not answered is an open receipt of its session's account, and was sent in that session alone. It
 /// stays so once receipts were sent, one was answered, or a session ended or was bound.
 pub fn what_is_awaited_stays_so()
-    ensures sent { (moment : ℕ) (messages : List MessageRow) (rows : List ReportRow) (desk : Desk) → Alone rows → AreAwaited messages rows desk.sessions → AreAwaited messages rows (send_all moment messages rows desk).sessions }
-    ensures answered { (messages : List MessageRow) (session id moment : ℕ) (is_accepted : Bool) (t : Revised ReportRow) (desk : Desk) → Rises report_key (reports_of t) → AreAwaited messages (reports_of t) desk.sessions
-        → AreAwaited messages (reports_of (reports_answered session id is_accepted moment desk.sessions t)) (desk_answered session id desk).sessions }
-    ensures unbound { (messages : List MessageRow) (session moment : ℕ) (t : Revised ReportRow) (desk : Desk) → AreAwaited messages (reports_of t) desk.sessions
-        → AreAwaited messages (reports_of (reports_unbound session moment desk.sessions t)) (desk_unbound session desk).sessions }
-    ensures bound { (messages : List MessageRow) (session moment : ℕ) (account : List ℕ) (receives : Bool) (t : Revised ReportRow) (desk : Desk) → AreAwaited messages (reports_of t) desk.sessions
-        → AreAwaited messages (reports_of (reports_bound session account receives moment desk.sessions messages t)) (desk_bound session account receives desk).sessions }
+    ensures sent { (moment : ℕ) (messages : List MessageRow) (rows : List ReportRow) (bindings : Bindings) → Alone rows → AreAwaited messages rows bindings.sessions → AreAwaited messages rows (send_all moment messages rows bindings).sessions }
+    ensures answered { (messages : List MessageRow) (session id moment : ℕ) (is_accepted : Bool) (t : Revised ReportRow) (bindings : Bindings) → Rises report_key (reports_of t) → AreAwaited messages (reports_of t) bindings.sessions
+        → AreAwaited messages (reports_of (reports_answered session id is_accepted moment bindings.sessions t)) (bindings_answered session id bindings).sessions }
+    ensures unbound { (messages : List MessageRow) (session moment : ℕ) (t : Revised ReportRow) (bindings : Bindings) → AreAwaited messages (reports_of t) bindings.sessions
+        → AreAwaited messages (reports_of (reports_unbound session moment bindings.sessions t)) (bindings_unbound session bindings).sessions }
+    ensures bound { (messages : List MessageRow) (session moment : ℕ) (account : List ℕ) (receives : Bool) (t : Revised ReportRow) (bindings : Bindings) → AreAwaited messages (reports_of t) bindings.sessions
+        → AreAwaited messages (reports_of (reports_bound session account receives moment bindings.sessions messages t)) (bindings_bound session account receives bindings).sessions }
 {}
 
 /// Sessions in which nothing was sent yet, as they are when a centre starts, wait for nothing.

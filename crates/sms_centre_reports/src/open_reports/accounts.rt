@@ -1,6 +1,6 @@
 //! The open receipts of accounts.
 ghost use Rattle.std.specs.Prelude.{◌≡◌, [], ◌∷◌, IfOk};
-ghost use Rattle.sms_centre_reports.specs.open_reports.ReportsInMemory.{receipts_at};
+ghost use Rattle.sms_centre_reports.specs.open_reports.OpenReports.{receipts_at};
 ghost use Rattle.sms_centre_reports.specs.open_reports.Updates.{with_receipt};
 ghost use Rattle.sms_rows.specs.index.First.{first_such, is_ahead_from, is_past_from};
 ghost use Rattle.sms_centre_reports.specs.open_reports.Entries.{receipt_due, receipt_key};
@@ -16,22 +16,22 @@ use std::sync::Arc;
 /// Accounts with their open receipts, which copies share.
 #[cycle(accounts)]
 #[derive(Drop)]
-pub(crate) struct Accounts {
-    first: Option<Arc<Account>>,
+pub(crate) struct ReceiptsByAccount {
+    first: Option<Arc<AccountReceipts>>,
 }
 
 // An account, and all behind it.
 #[cycle(accounts)]
 #[derive(Drop)]
-pub(crate) struct Account {
+pub(crate) struct AccountReceipts {
     pub(crate) name: Arc<Octets>,
     pub(crate) receipts: Index<ReceiptEntry>,
-    pub(crate) next: Accounts,
+    pub(crate) next: ReceiptsByAccount,
 }
 
-impl Model for Accounts {
+impl Model for ReceiptsByAccount {
     ghost use Rattle.std.specs.Prelude.{List, length};
-    ghost use Rattle.sms_centre_reports.specs.open_reports.ReportsInMemory.{AccountOf};
+    ghost use Rattle.sms_centre_reports.specs.open_reports.OpenReports.{AccountOf};
 
     ghost Value = { List AccountOf };
 
@@ -46,22 +46,22 @@ impl Model for Accounts {
     ghost size_decreases = { λ a h. Prim.grind arith };
 }
 
-impl Accounts {
-    pub(crate) fn new() -> Accounts
+impl ReceiptsByAccount {
+    pub(crate) fn new() -> ReceiptsByAccount
         ensures { result ≡ [] }
     {
-        Accounts { first: None }
+        ReceiptsByAccount { first: None }
     }
 
     /// A copy that shares all accounts.
-    pub(crate) fn share(&self) -> Result<Accounts, AllocError>
+    pub(crate) fn share(&self) -> Result<ReceiptsByAccount, AllocError>
         ensures { IfOk result (λ copy. copy ≡ self.now) }
     {
         match &self.first {
-            None => Ok(Accounts { first: None }),
+            None => Ok(ReceiptsByAccount { first: None }),
             Some(account) => {
                 let account = Arc::try_clone(account)?;
-                Ok(Accounts {
+                Ok(ReceiptsByAccount {
                     first: Some(account),
                 })
             }
@@ -75,7 +75,7 @@ impl Accounts {
         let Some(account) = &self.first else {
             return None;
         };
-        let account: &Account = account;
+        let account: &AccountReceipts = account;
         if account.name.as_slice() == name {
             account.receipts.first_past(first, now)
         } else {
@@ -90,7 +90,7 @@ impl Accounts {
         let Some(account) = &self.first else {
             return None;
         };
-        let account: &Account = account;
+        let account: &AccountReceipts = account;
         if account.name.as_slice() == name {
             account.receipts.first_ahead(first, now)
         } else {
@@ -105,13 +105,13 @@ impl Accounts {
         name: &[u8],
         place: u64,
         entry: Option<ReceiptEntry>,
-    ) -> Result<Accounts, AllocError>
+    ) -> Result<ReceiptsByAccount, AllocError>
         ensures { IfOk result (λ accounts. accounts ≡ with_receipt name.now place entry self.now) }
     {
         let Some(account) = &self.first else {
             return alone(alloc, name, entry);
         };
-        let account: &Account = account;
+        let account: &AccountReceipts = account;
         let mut receipts = account.receipts.share()?;
         if account.name.as_slice() == name {
             receipts.set(Key::of(place), entry)?;
@@ -124,17 +124,17 @@ impl Accounts {
 }
 
 // The account with that receipt alone, or no account.
-fn alone(alloc: Global, name: &[u8], entry: Option<ReceiptEntry>) -> Result<Accounts, AllocError>
+fn alone(alloc: Global, name: &[u8], entry: Option<ReceiptEntry>) -> Result<ReceiptsByAccount, AllocError>
     ensures { IfOk result (λ accounts. accounts ≡ with_receipt name.now 0 entry []) }
 {
     let Some(entry) = entry else {
-        return Ok(Accounts::new());
+        return Ok(ReceiptsByAccount::new());
     };
     let name = Octets::copy_of(alloc, name)?;
     let name = Arc::new(alloc, name)?;
     let mut receipts = Index::new(alloc);
     receipts.put(entry)?;
-    in_front(alloc, &name, receipts, Accounts::new())
+    in_front(alloc, &name, receipts, ReceiptsByAccount::new())
 }
 
 // The account before all others.
@@ -142,20 +142,20 @@ fn in_front(
     alloc: Global,
     name: &Arc<Octets>,
     receipts: Index<ReceiptEntry>,
-    next: Accounts,
-) -> Result<Accounts, AllocError>
+    next: ReceiptsByAccount,
+) -> Result<ReceiptsByAccount, AllocError>
     ensures { IfOk result (λ accounts. accounts ≡ record { name = name.now.value; receipts = receipts } ∷ next) }
 {
     let name = Arc::try_clone(name)?;
     let account = Arc::new(
         alloc,
-        Account {
+        AccountReceipts {
             name,
             receipts,
             next,
         },
     )?;
-    Ok(Accounts {
+    Ok(ReceiptsByAccount {
         first: Some(account),
     })
 }

@@ -1,30 +1,30 @@
 //! What is kept of reports, rebuilt from the rows of a store.
 ghost use Rattle.std.specs.Prelude.{◌≡◌, ℕ, List, Some, IfOk, nat_lt, option_copied};
 ghost use Rattle.sms_centre_reports.specs.open_reports.Entries.{account_in};
-ghost use Rattle.sms_centre_reports.specs.open_reports.ReportsInMemory.{Shows};
+ghost use Rattle.sms_centre_reports.specs.open_reports.OpenReports.{Represents};
 ghost use Rattle.sms_centre_rows.specs.messages.Messages.{message_at, message_key};
 ghost use Rattle.sms_centre_rows.specs.reports.SoundReports.{SoundReports};
 ghost use Rattle.sms_rows.specs.table.Table.{Rises};
 
-use crate::open_reports::reports::Reports;
+use crate::open_reports::reports::OpenReports;
 use sms_base::{MessageId, Originator};
 use sms_centre_rows::messages::MessageRow;
 use sms_centre_rows::reports::ReportRow;
 use std::alloc::{AllocError, Global};
 
-impl Reports {
+impl OpenReports {
     /// The open reports of sound rows, with their messages in the order of their numbers. It costs a logarithm for
     /// each.
     pub fn recover(
         alloc: Global,
         messages: &[MessageRow],
         rows: &[ReportRow],
-    ) -> Result<Reports, AllocError>
+    ) -> Result<OpenReports, AllocError>
         requires messages { Rises message_key messages.now }
         requires reports { SoundReports messages.now rows.now }
-        ensures { IfOk result (λ reports. Shows messages.now reports rows.now) }
+        ensures { IfOk result (λ reports. Represents messages.now reports rows.now) }
     {
-        let mut reports = Reports::new(alloc);
+        let mut reports = OpenReports::new(alloc);
         for row in rows {
             let account = account_name(messages, row.id);
             reports.add(row, account)?;

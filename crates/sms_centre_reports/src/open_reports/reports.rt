@@ -4,7 +4,7 @@ ghost use Rattle.sms_rows.specs.index.First.{first_such, is_ahead_from, is_past_
 ghost use Rattle.sms_rows.specs.index.Picked.{pick_of};
 ghost use Rattle.sms_base.specs.Among.{Among};
 ghost use Rattle.sms_centre_reports.specs.open_reports.Entries.{account_in, entry_key, open_entry, receipt_due, receipt_key, report_entry, status_key, status_until};
-ghost use Rattle.sms_centre_reports.specs.open_reports.ReportsInMemory.{Shows, receipts_at};
+ghost use Rattle.sms_centre_reports.specs.open_reports.OpenReports.{Represents, receipts_at};
 ghost use Rattle.sms_centre_reports.specs.open_reports.Updates.{keeping, keeping_receipt, keeping_status, receipt_of, status_of, unless_done};
 ghost use Rattle.sms_centre_rows.specs.declared.messages.message.MessageRow.{MessageRow as MessageRowOf};
 ghost use Rattle.sms_centre_rows.specs.messages.Messages.{message_at};
@@ -12,7 +12,7 @@ ghost use Rattle.sms_centre_rows.specs.reports.Reports.{is_receipt, report_of};
 ghost use Rattle.sms_centre_rows.specs.declared.reports.report.ReportRow.{ReportRow as ReportRowOf};
 ghost use Rattle.sms_rows.specs.table.Table.{row_at};
 
-use crate::open_reports::accounts::Accounts;
+use crate::open_reports::accounts::ReceiptsByAccount;
 use crate::open_reports::entry::{ReceiptEntry, ReportEntry, StatusEntry};
 use sms_base::{MessageId, Moment};
 use sms_centre_rows::reports::{ReportKind, ReportRow};
@@ -68,44 +68,44 @@ impl ReportEntry {
 /// The open reports, without their TPDUs. They are found by their messages, by their accounts and by the moment at
 /// which they are dropped. Copies share them, so that an event changes a copy at the cost of what it touches.
 #[derive(Drop)]
-pub struct Reports {
+pub struct OpenReports {
     alloc: Global,
     open_reports: Index<ReportEntry>,
     statuses: Index<StatusEntry>,
-    accounts: Accounts,
+    accounts: ReceiptsByAccount,
     next: u64,
 }
 
-impl Model for Reports {
-    ghost use Rattle.sms_centre_reports.specs.open_reports.ReportsInMemory.{ReportsOf};
+impl Model for OpenReports {
+    ghost use Rattle.sms_centre_reports.specs.open_reports.OpenReports.{OpenReportsOf};
 
-    ghost Value = { ReportsOf };
+    ghost Value = { OpenReportsOf };
 
     ghost view = { λ r. record { open_reports = r.open_reports; statuses = r.statuses; accounts = r.accounts; next = r.next } };
 }
 
-impl Reports {
+impl OpenReports {
     /// No reports.
-    pub fn new(alloc: Global) -> Reports
-        ensures { (messages : List MessageRowOf) → Shows messages result [] }
+    pub fn new(alloc: Global) -> OpenReports
+        ensures { (messages : List MessageRowOf) → Represents messages result [] }
     {
-        Reports {
+        OpenReports {
             alloc,
             open_reports: Index::new(alloc),
             statuses: Index::new(alloc),
-            accounts: Accounts::new(),
+            accounts: ReceiptsByAccount::new(),
             next: 1,
         }
     }
 
     /// A copy that shares all reports. It costs equally much however many there are.
-    pub fn share(&self) -> Result<Reports, AllocError>
+    pub fn share(&self) -> Result<OpenReports, AllocError>
         ensures { IfOk result (λ copy. copy ≡ self.now) }
     {
         let open_reports = self.open_reports.share()?;
         let statuses = self.statuses.share()?;
         let accounts = self.accounts.share()?;
-        Ok(Reports {
+        Ok(OpenReports {
             alloc: self.alloc,
             open_reports,
             statuses,
@@ -117,7 +117,7 @@ impl Reports {
     /// The report of the message, if it is open.
     pub fn find(&self, id: MessageId) -> Option<ReportEntry>
         ensures kept { result ≡ row_at entry_key id self.now.open_reports }
-        ensures found { (messages : List MessageRowOf) (rows : List ReportRowOf) → Shows messages self.now rows → result ≡ pick_of open_entry (report_of id rows) }
+        ensures found { (messages : List MessageRowOf) (rows : List ReportRowOf) → Represents messages self.now rows → result ≡ pick_of open_entry (report_of id rows) }
     {
         self.open_reports.find(Key::of(id.number()))
     }
@@ -200,8 +200,8 @@ impl Reports {
 
     /// Adds a row behind all others; a receipt is of a message of that account.
     pub fn add(&mut self, row: &ReportRow, account: &[u8]) -> Result<(), AllocError>
-        ensures { (messages : List MessageRowOf) (rows : List ReportRowOf) → Shows messages self.old rows → ((s : ReportRowOf) → Among s rows → s.place < row.now.place) → report_of row.now.id rows ≡ None
-            → (is_receipt row.now.kind ≡ true → account_in (message_at row.now.id messages) ≡ Some account.now) → OnOk result (Shows messages self.new (rows ++ row.now ∷ [])) }
+        ensures { (messages : List MessageRowOf) (rows : List ReportRowOf) → Represents messages self.old rows → ((s : ReportRowOf) → Among s rows → s.place < row.now.place) → report_of row.now.id rows ≡ None
+            → (is_receipt row.now.kind ≡ true → account_in (message_at row.now.id messages) ≡ Some account.now) → OnOk result (Represents messages self.new (rows ++ row.now ∷ [])) }
     {
         self.keep(row, account)?;
         self.go_behind(row.place)?;

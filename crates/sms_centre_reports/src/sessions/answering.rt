@@ -1,33 +1,33 @@
 //! Receipts are answered, and sessions end and are bound.
 ghost use Rattle.std.specs.Prelude.{◌≡◌, List, OnOk};
-ghost use Rattle.sms_centre_reports.specs.open_reports.Pending.{Tells};
+ghost use Rattle.sms_centre_reports.specs.open_reports.OpenReportsDraft.{DraftRepresents};
 ghost use Rattle.sms_centre_rows.specs.declared.messages.message.MessageRow.{MessageRow as MessageRowOf};
 ghost use Rattle.sms_centre_rows.specs.reports.Reports.{reports_of};
 ghost use Rattle.sms_centre_rows.specs.declared.reports.report.ReportRow.{ReportRow as ReportRowOf};
-ghost use Rattle.sms_centre_reports.specs.sessions.Answering.{desk_answered, desk_bound, desk_unbound, reports_answered, reports_bound, reports_unbound};
+ghost use Rattle.sms_centre_reports.specs.sessions.Answering.{bindings_answered, bindings_bound, bindings_unbound, reports_answered, reports_bound, reports_unbound};
 ghost use Rattle.sms_centre_reports.specs.sessions.Awaited.{AreAwaited};
 ghost use Rattle.sms_centre_rows.specs.waiting.Revisions.{Revised};
 
-use crate::open_reports::PendingReports;
-use crate::sessions::desk::PendingDesk;
-use crate::sessions::session::Seat;
+use crate::open_reports::OpenReportsDraft;
+use crate::sessions::bindings_draft::BindingsDraft;
+use crate::sessions::session::ReceiptSession;
 use sms_base::{MessageId, Moment};
 use std::alloc::AllocError;
 
-impl PendingDesk {
+impl BindingsDraft {
     /// The receipt of the message was accepted in the session, or was refused and is sent again after a minute. What
     /// wasn't sent in the session isn't answered there.
     pub fn deliver_answered(
         &mut self,
-        reports: &mut PendingReports,
+        reports: &mut OpenReportsDraft,
         session: u32,
         id: MessageId,
         is_accepted: bool,
         now: Moment,
     ) -> Result<(), AllocError>
-        ensures desk { OnOk result (self.new ≡ desk_answered session id self.old) }
-        ensures reports { (messages : List MessageRowOf) (t : Revised ReportRowOf) → Tells messages reports.old t → AreAwaited messages (reports_of t) self.old.sessions
-            → OnOk result (Tells messages reports.new (reports_answered session id is_accepted now self.old.sessions t)) }
+        ensures bindings { OnOk result (self.new ≡ bindings_answered session id self.old) }
+        ensures reports { (messages : List MessageRowOf) (t : Revised ReportRowOf) → DraftRepresents messages reports.old t → AreAwaited messages (reports_of t) self.old.sessions
+            → OnOk result (DraftRepresents messages reports.new (reports_answered session id is_accepted now self.old.sessions t)) }
     {
         let Some(seat) = self.session(session) else {
             return Ok(());
@@ -45,13 +45,13 @@ impl PendingDesk {
     /// minute.
     pub fn unbind(
         &mut self,
-        reports: &mut PendingReports,
+        reports: &mut OpenReportsDraft,
         session: u32,
         now: Moment,
     ) -> Result<(), AllocError>
-        ensures desk { OnOk result (self.new ≡ desk_unbound session self.old) }
-        ensures reports { (messages : List MessageRowOf) (t : Revised ReportRowOf) → Tells messages reports.old t → AreAwaited messages (reports_of t) self.old.sessions
-            → OnOk result (Tells messages reports.new (reports_unbound session now self.old.sessions t)) }
+        ensures bindings { OnOk result (self.new ≡ bindings_unbound session self.old) }
+        ensures reports { (messages : List MessageRowOf) (t : Revised ReportRowOf) → DraftRepresents messages reports.old t → AreAwaited messages (reports_of t) self.old.sessions
+            → OnOk result (DraftRepresents messages reports.new (reports_unbound session now self.old.sessions t)) }
     {
         let Some(seat) = self.session(session) else {
             return Ok(());
@@ -65,21 +65,21 @@ impl PendingDesk {
     /// the account that wait for their minute are due now.
     pub fn bind(
         &mut self,
-        reports: &mut PendingReports,
+        reports: &mut OpenReportsDraft,
         session: u32,
         account: &[u8],
         receives: bool,
         now: Moment,
     ) -> Result<(), AllocError>
-        ensures desk { OnOk result (self.new ≡ desk_bound session account.now receives self.old) }
-        ensures reports { (messages : List MessageRowOf) (t : Revised ReportRowOf) → Tells messages reports.old t → AreAwaited messages (reports_of t) self.old.sessions
-            → OnOk result (Tells messages reports.new (reports_bound session account.now receives now self.old.sessions messages t)) }
+        ensures bindings { OnOk result (self.new ≡ bindings_bound session account.now receives self.old) }
+        ensures reports { (messages : List MessageRowOf) (t : Revised ReportRowOf) → DraftRepresents messages reports.old t → AreAwaited messages (reports_of t) self.old.sessions
+            → OnOk result (DraftRepresents messages reports.new (reports_bound session account.now receives now self.old.sessions messages t)) }
     {
         self.unbind(reports, session, now)?;
         if receives {
             reports.hasten_receipts(account, now)?;
         }
-        let seat = Seat::new(self.alloc, session, account, receives)?;
+        let seat = ReceiptSession::new(self.alloc, session, account, receives)?;
         self.put(seat)?;
         Ok(())
     }

@@ -1,21 +1,21 @@
 //! Receipts are sent: the oldest first, each in the session that serves its account.
 ghost use Rattle.std.specs.Prelude.{◌≡◌, ◌≤◌, List, Some, IfOk, IfSome, OnOk, option_map};
 ghost use Rattle.sms_centre_reports.specs.open_reports.Entries.{receipt_key};
-ghost use Rattle.sms_centre_reports.specs.open_reports.ReportsInMemory.{receipts_at};
-ghost use Rattle.sms_centre_reports.specs.open_reports.Pending.{Tells};
+ghost use Rattle.sms_centre_reports.specs.open_reports.OpenReports.{receipts_at};
+ghost use Rattle.sms_centre_reports.specs.open_reports.OpenReportsDraft.{DraftRepresents};
 ghost use Rattle.sms_centre_reports.specs.open_reports.Serving.{is_ready, is_session, next_among, next_from, next_in, serving};
 ghost use Rattle.sms_rows.specs.index.First.{first_such};
 ghost use Rattle.sms_centre_rows.specs.declared.messages.message.MessageRow.{MessageRow as MessageRowOf};
 ghost use Rattle.sms_centre_rows.specs.reports.Receipts.{Session, send_all, send_in, session_key};
 ghost use Rattle.sms_centre_rows.specs.reports.Reports.{reports_of};
 ghost use Rattle.sms_centre_rows.specs.declared.reports.report.ReportRow.{ReportRow as ReportRowOf};
-ghost use Rattle.sms_centre_reports.specs.sessions.Going.{earlier_going, going_of};
+ghost use Rattle.sms_centre_reports.specs.sessions.SessionReceipts.{earlier_going, going_of};
 ghost use Rattle.sms_rows.specs.table.Table.{Rises, row_at};
 ghost use Rattle.sms_centre_rows.specs.waiting.Revisions.{Revised};
 
-use crate::open_reports::{PendingReports, ReceiptEntry};
-use crate::sessions::desk::PendingDesk;
-use crate::sessions::session::Seat;
+use crate::open_reports::{OpenReportsDraft, ReceiptEntry};
+use crate::sessions::bindings_draft::BindingsDraft;
+use crate::sessions::session::ReceiptSession;
 use sms_base::{MessageId, Moment};
 use sms_centre_rows::reports::Delivery;
 use std::alloc::AllocError;
@@ -25,16 +25,16 @@ const WINDOW: usize = 10;
 
 /// A receipt to send, in the session of that number.
 #[derive(Clone, Copy)]
-pub(crate) struct Going {
+pub(crate) struct ReceiptToSend {
     pub(crate) session: u32,
     pub(crate) receipt: ReceiptEntry,
 }
 
-impl PendingDesk {
+impl BindingsDraft {
     /// Sends the receipts that are due, the oldest first, each in the first session that receives for its account, if
     /// that has room. It costs what it sends, and a look at each session.
-    pub fn send(&mut self, reports: &PendingReports, now: Moment) -> Result<(), AllocError>
-        ensures { (messages : List MessageRowOf) (t : Revised ReportRowOf) → Tells messages reports.now t → OnOk result (self.new ≡ send_all now messages (reports_of t) self.old) }
+    pub fn send(&mut self, reports: &OpenReportsDraft, now: Moment) -> Result<(), AllocError>
+        ensures { (messages : List MessageRowOf) (t : Revised ReportRowOf) → DraftRepresents messages reports.now t → OnOk result (self.new ≡ send_all now messages (reports_of t) self.old) }
     {
         let mut first = 0;
         'sending: loop {
@@ -42,7 +42,7 @@ impl PendingDesk {
             let Some(going) = next else {
                 return Ok(());
             };
-            let Going { session, receipt } = going;
+            let ReceiptToSend { session, receipt } = going;
             self.send_in(session, receipt.id)?;
             first = receipt.place_behind()?;
         }
@@ -67,11 +67,11 @@ impl PendingDesk {
     // The receipt from that place on that goes first, and the session in which it goes.
     fn next(
         &self,
-        reports: &PendingReports,
+        reports: &OpenReportsDraft,
         first: u64,
         now: Moment,
-    ) -> Result<Option<Going>, AllocError>
-        ensures next { (messages : List MessageRowOf) (t : Revised ReportRowOf) → Tells messages reports.now t → IfOk result (λ going. going ≡ option_map going_of (next_among first now self.now.sessions reports.now.kept.accounts self.now.sessions)) }
+    ) -> Result<Option<ReceiptToSend>, AllocError>
+        ensures next { (messages : List MessageRowOf) (t : Revised ReportRowOf) → DraftRepresents messages reports.now t → IfOk result (λ going. going ≡ option_map going_of (next_among first now self.now.sessions reports.now.kept.accounts self.now.sessions)) }
         ensures behind { IfOk result (λ going. IfSome going (λ g. first ≤ g.receipt.place)) }
         ensures order { Rises session_key self.now.sessions }
     {
@@ -87,19 +87,19 @@ impl PendingDesk {
     // The receipt from that place on that goes first in the session.
     fn next_in(
         &self,
-        reports: &PendingReports,
-        seat: &Seat,
+        reports: &OpenReportsDraft,
+        seat: &ReceiptSession,
         first: u64,
         now: Moment,
-    ) -> Result<Option<Going>, AllocError>
+    ) -> Result<Option<ReceiptToSend>, AllocError>
         ensures behind { IfOk result (λ going. IfSome going (λ g. first ≤ g.receipt.place)) }
-        ensures next { (messages : List MessageRowOf) (t : Revised ReportRowOf) → Tells messages reports.now t → IfOk result (λ going. going ≡ option_map going_of (next_from seat.now (next_in first now self.now.sessions reports.now.kept.accounts seat.now))) }
+        ensures next { (messages : List MessageRowOf) (t : Revised ReportRowOf) → DraftRepresents messages reports.now t → IfOk result (λ going. going ≡ option_map going_of (next_from seat.now (next_in first now self.now.sessions reports.now.kept.accounts seat.now))) }
     {
         if !self.serves(seat) || seat.unanswered().len() >= WINDOW {
             return Ok(None);
         }
         match self.first_ready(reports, seat.account(), first, now)? {
-            Some(receipt) => Ok(Some(Going {
+            Some(receipt) => Ok(Some(ReceiptToSend {
                 session: seat.number(),
                 receipt,
             })),
@@ -108,7 +108,7 @@ impl PendingDesk {
     }
 
     // Whether it is the first session that receives for its account.
-    fn serves(&self, seat: &Seat) -> bool
+    fn serves(&self, seat: &ReceiptSession) -> bool
         ensures { result ≡ is_session seat.now (serving seat.now.account self.now.sessions) }
     {
         match self.serving(seat.account()) {
@@ -120,13 +120,13 @@ impl PendingDesk {
     // The first receipt of the account from that place on that is due and was not sent yet.
     fn first_ready(
         &self,
-        reports: &PendingReports,
+        reports: &OpenReportsDraft,
         account: &[u8],
         first: u64,
         now: Moment,
     ) -> Result<Option<ReceiptEntry>, AllocError>
         ensures behind { IfOk result (λ receipt. IfSome receipt (λ r. first ≤ r.place)) }
-        ensures next { (messages : List MessageRowOf) (t : Revised ReportRowOf) → Tells messages reports.now t → IfOk result (λ receipt. receipt ≡ first_such (is_ready first now self.now.sessions) (receipts_at account.now reports.now.kept.accounts)) }
+        ensures next { (messages : List MessageRowOf) (t : Revised ReportRowOf) → DraftRepresents messages reports.now t → IfOk result (λ receipt. receipt ≡ first_such (is_ready first now self.now.sessions) (receipts_at account.now reports.now.kept.accounts)) }
     {
         let mut from = first;
         'passing: loop {
@@ -142,7 +142,7 @@ impl PendingDesk {
 }
 
 // The one of the two whose receipt was made earlier.
-fn earlier(one: Option<Going>, other: Option<Going>) -> Option<Going>
+fn earlier(one: Option<ReceiptToSend>, other: Option<ReceiptToSend>) -> Option<ReceiptToSend>
     ensures { result ≡ earlier_going one other }
 {
     let Some(first) = one else {

@@ -12,7 +12,7 @@ use std::sync::Arc;
 
 // What is kept of a session.
 #[derive(Drop)]
-pub(crate) struct Seated {
+pub(crate) struct SessionEntry {
     number: u32,
     account: Arc<Octets>,
     receives: bool,
@@ -21,11 +21,11 @@ pub(crate) struct Seated {
 
 /// A session that is bound, and the messages whose receipts were sent in it and not answered yet. Copies share it.
 #[derive(Drop)]
-pub struct Seat {
-    seated: Arc<Seated>,
+pub struct ReceiptSession {
+    seated: Arc<SessionEntry>,
 }
 
-impl Model for Seat {
+impl Model for ReceiptSession {
     ghost use Rattle.sms_centre_rows.specs.reports.Receipts.{Session};
 
     ghost Value = { Session };
@@ -35,7 +35,7 @@ impl Model for Seat {
     ghost view = { λ s. seat_of s.seated.value };
 }
 
-impl Row for Seat {
+impl Row for ReceiptSession {
     ghost key = { session_key };
 
     fn key(&self) -> Key {
@@ -43,36 +43,36 @@ impl Row for Seat {
     }
 }
 
-impl Seat {
+impl ReceiptSession {
     /// A session of the account, in which nothing was sent yet.
     pub fn new(
         alloc: Global,
         number: u32,
         account: &[u8],
         receives: bool,
-    ) -> Result<Seat, AllocError>
+    ) -> Result<ReceiptSession, AllocError>
         ensures { IfOk result (λ s. s ≡ record { number = number; account = account.now; receives = receives; unanswered = [] }) }
     {
         let account = Octets::copy_of(alloc, account)?;
         let account = Arc::new(alloc, account)?;
         let seated = Arc::new(
             alloc,
-            Seated {
+            SessionEntry {
                 number,
                 account,
                 receives,
                 unanswered: Listed::new(alloc),
             },
         )?;
-        Ok(Seat { seated })
+        Ok(ReceiptSession { seated })
     }
 
     /// A copy that shares the session's state.
-    pub fn share(&self) -> Result<Seat, AllocError>
+    pub fn share(&self) -> Result<ReceiptSession, AllocError>
         ensures { IfOk result (λ copy. copy ≡ self.now) }
     {
         let seated = Arc::try_clone(&self.seated)?;
-        Ok(Seat { seated })
+        Ok(ReceiptSession { seated })
     }
 
     /// Its number.
@@ -104,24 +104,24 @@ impl Seat {
     }
 
     // The session with these unanswered.
-    fn with_unanswered(&self, alloc: Global, unanswered: Vec<MessageId>) -> Result<Seat, AllocError>
+    fn with_unanswered(&self, alloc: Global, unanswered: Vec<MessageId>) -> Result<ReceiptSession, AllocError>
         ensures { IfOk result (λ s. s ≡ record self.now { unanswered = unanswered.items }) }
     {
         let account = Arc::try_clone(&self.seated.account)?;
         let seated = Arc::new(
             alloc,
-            Seated {
+            SessionEntry {
                 number: self.seated.number,
                 account,
                 receives: self.seated.receives,
                 unanswered: Listed::from_vec(unanswered),
             },
         )?;
-        Ok(Seat { seated })
+        Ok(ReceiptSession { seated })
     }
 
     /// The session once the message's receipt was sent in it.
-    pub fn with(&self, alloc: Global, id: MessageId) -> Result<Seat, AllocError>
+    pub fn with(&self, alloc: Global, id: MessageId) -> Result<ReceiptSession, AllocError>
         ensures { IfOk result (λ s. s ≡ record self.now { unanswered = self.now.unanswered ++ id ∷ [] }) }
     {
         let mut unanswered = Vec::from_slice(alloc, self.unanswered())?;
@@ -130,7 +130,7 @@ impl Seat {
     }
 
     /// The session once the message's receipt was answered.
-    pub fn without(&self, alloc: Global, id: MessageId) -> Result<Seat, AllocError>
+    pub fn without(&self, alloc: Global, id: MessageId) -> Result<ReceiptSession, AllocError>
         ensures { IfOk result (λ s. s ≡ record self.now { unanswered = without_id id self.now.unanswered }) }
     {
         let unanswered = others(alloc, self.unanswered(), id)?;

@@ -14,7 +14,7 @@ use Rattle.sms_centre_rows.specs.reports.Reports.{report_of}
 use Rattle.sms_centre_rows.specs.messages.OpenParts.{Numbered}
 use Rattle.sms_centre_rows.specs.reports.Waiting.{Alone, report_load, report_wait, reports_to, waiting_as, waiting_for}
 use Rattle.sms_centre_rows.proofs.reports.AllWaiting.{part_waits_at, report_waits_at, rises_all}
-use Rattle.sms_centre_rows.specs.declared.waiting.load.Load.{Load}
+use Rattle.sms_centre_rows.specs.declared.waiting.queued_part.QueuedPart.{QueuedPart}
 use Rattle.sms_centre_rows.specs.waiting.Keys.{load_key}
 use Rattle.sms_centre_rows.specs.waiting.Waiting.{withdrawn}
 use Rattle.sms_centre_rows.proofs.waiting.Alike.{pairs_alike}
@@ -22,33 +22,33 @@ use Rattle.sms_centre_rows.proofs.waiting.Withdrawing.{AreFew, rises_withdrawn, 
 
 -- ---- one key
 
-rises_as : (key : ℕ) (o : Option Load) (ls : List Load) → Rises load_key ls → Rises load_key (waiting_as key o ls)
+rises_as : (key : ℕ) (o : Option QueuedPart) (ls : List QueuedPart) → Rises load_key ls → Rises load_key (waiting_as key o ls)
 rises_as key None ls rises = rises_without load_key key ls rises
 rises_as key (Some l) ls rises = rises_put load_key l ls rises
 
 -- what waits there has the key
-abbrev pub IsUnder : ℕ → Option Load → Type 0
+abbrev pub IsUnder : ℕ → Option QueuedPart → Type 0
 IsUnder key None = Unit {0}
 IsUnder key (Some l) = load_key l ≡ key
 
-as_here : (key : ℕ) (o : Option Load) (ls : List Load) → IsUnder key o → row_at load_key key (waiting_as key o ls) ≡ o
+as_here : (key : ℕ) (o : Option QueuedPart) (ls : List QueuedPart) → IsUnder key o → row_at load_key key (waiting_as key o ls) ≡ o
 as_here key None ls under = row_at_without load_key key ls
 as_here key (Some l) ls under = subst (λ (n : ℕ). row_at load_key n (put load_key l ls) ≡ Some l) under (row_at_put load_key l ls)
 
-as_other : (key k : ℕ) (o : Option Load) (ls : List Load) → IsUnder key o → ¬ (key ≡ k) → row_at load_key k (waiting_as key o ls) ≡ row_at load_key k ls
+as_other : (key k : ℕ) (o : Option QueuedPart) (ls : List QueuedPart) → IsUnder key o → ¬ (key ≡ k) → row_at load_key k (waiting_as key o ls) ≡ row_at load_key k ls
 as_other key k None ls under ne = row_at_without_other load_key key k ls ne
 as_other key k (Some l) ls under ne = row_at_put_other load_key k l ls (λ e. ne (sym under ∙ e))
 
 part_under : (h : List ℕ) (ms : List MessageRow) (qs : List PriorityRow) (p : PartRow) → IsUnder (part_key p) (part_wait h ms qs (Some p))
 part_under h ms qs p = ⊎_elim
-    (λ (t : waits_for h p (message_at p.id ms) ≡ true). subst (λ (o : Option Load). IsUnder (part_key p) o) (sym (cond-true (waits_for h p (message_at p.id ms)) (Some (part_load p qs)) None t)) (let e : part_key p ≡ part_key p = refl in e))
-    (λ (t : waits_for h p (message_at p.id ms) ≡ false). subst (λ (o : Option Load). IsUnder (part_key p) o) (sym (cond-false (waits_for h p (message_at p.id ms)) (Some (part_load p qs)) None t)) tt)
+    (λ (t : waits_for h p (message_at p.id ms) ≡ true). subst (λ (o : Option QueuedPart). IsUnder (part_key p) o) (sym (cond-true (waits_for h p (message_at p.id ms)) (Some (part_load p qs)) None t)) (let e : part_key p ≡ part_key p = refl in e))
+    (λ (t : waits_for h p (message_at p.id ms) ≡ false). subst (λ (o : Option QueuedPart). IsUnder (part_key p) o) (sym (cond-false (waits_for h p (message_at p.id ms)) (Some (part_load p qs)) None t)) tt)
     (cases_Bool (waits_for h p (message_at p.id ms)))
 
 report_under : (h : List ℕ) (ms : List MessageRow) (r : ReportRow) → IsUnder (pair_key r.id 0) (report_wait h ms (Some r))
 report_under h ms r = ⊎_elim
-    (λ (t : reports_to h r (message_at r.id ms) ≡ true). subst (λ (o : Option Load). IsUnder (pair_key r.id 0) o) (sym (cond-true (reports_to h r (message_at r.id ms)) (Some (report_load r)) None t)) (let e : pair_key r.id 0 ≡ pair_key r.id 0 = refl in e))
-    (λ (t : reports_to h r (message_at r.id ms) ≡ false). subst (λ (o : Option Load). IsUnder (pair_key r.id 0) o) (sym (cond-false (reports_to h r (message_at r.id ms)) (Some (report_load r)) None t)) tt)
+    (λ (t : reports_to h r (message_at r.id ms) ≡ true). subst (λ (o : Option QueuedPart). IsUnder (pair_key r.id 0) o) (sym (cond-true (reports_to h r (message_at r.id ms)) (Some (report_load r)) None t)) (let e : pair_key r.id 0 ≡ pair_key r.id 0 = refl in e))
+    (λ (t : reports_to h r (message_at r.id ms) ≡ false). subst (λ (o : Option QueuedPart). IsUnder (pair_key r.id 0) o) (sym (cond-false (reports_to h r (message_at r.id ms)) (Some (report_load r)) None t)) tt)
     (cases_Bool (reports_to h r (message_at r.id ms)))
 
 -- ---- a number is 0 or greater
@@ -131,7 +131,7 @@ pub message_ends : (h : List ℕ) (ms others : List MessageRow) (qs : List Prior
     → AreFew (waiting_for h ms qs ps rs)
     → waiting_for h others qs ps rs ≡ withdrawn id (waiting_for h ms qs ps rs)
 message_ends h ms others qs ps rs id numbered alone own parts reports few =
-    let w : List Load = waiting_for h ms qs ps rs in
+    let w : List QueuedPart = waiting_for h ms qs ps rs in
     pairs_alike load_key (waiting_for h others qs ps rs) (withdrawn id w) (rises_all h others qs ps rs numbered) (rises_withdrawn id w (rises_all h ms qs ps rs numbered))
     (by_numbers (λ (i n : ℕ). row_at load_key (pair_key i n) (waiting_for h others qs ps rs) ≡ row_at load_key (pair_key i n) (withdrawn id w))
     (λ i. report_waits_at h others qs ps rs i numbered alone ∙ reports i ∙ sym (report_waits_at h ms qs ps rs i numbered alone)

@@ -8,7 +8,7 @@ use Rattle.sms_rows.proofs.table.Tables.{among_found, among_without, insert_behi
 use Rattle.sms_centre_rows.specs.declared.waiting.handset.HandsetRow.{HandsetRow}
 use Rattle.sms_centre_rows.specs.waiting.Keys.{handset_key}
 use Rattle.sms_centre_rows.specs.waiting.References.{handset_at, or_new_handset, place_after}
-use Rattle.sms_centre_rows.specs.waiting.SoundGivings.{AreApart}
+use Rattle.sms_centre_rows.specs.waiting.SoundAllocations.{AreApart}
 
 -- ---- one row
 

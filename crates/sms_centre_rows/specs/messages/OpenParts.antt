@@ -7,7 +7,7 @@ use Rattle.sms_centre_rows.specs.declared.messages.message.MessageRow.{MessageRo
 use Rattle.sms_centre_rows.specs.declared.messages.part.PartRow.{PartRow}
 use Rattle.sms_centre_rows.specs.declared.messages.priority.PriorityRow.{PriorityRow}
 use Rattle.sms_centre_rows.specs.messages.Messages.{is_pending, message_at, part_key, priority_of}
-use Rattle.sms_centre_rows.specs.declared.waiting.load.Load.{Load}
+use Rattle.sms_centre_rows.specs.declared.waiting.queued_part.QueuedPart.{QueuedPart}
 
 -- it isn't done, and its message is pending
 abbrev pub is_open_part : PartRow → Option MessageRow → Bool
@@ -19,7 +19,7 @@ abbrev pub waits_for : List ℕ → PartRow → Option MessageRow → Bool
 waits_for handset p None = false
 waits_for handset p (Some m) = not p.progress.is_done && (is_pending m && bytes_eq m.handset handset)
 
-abbrev pub part_load : PartRow → List PriorityRow → Load
+abbrev pub part_load : PartRow → List PriorityRow → QueuedPart
 part_load p priorities = record {
   id = p.id;
   number = p.number;
@@ -29,12 +29,12 @@ part_load p priorities = record {
 }
 
 -- what waits of a part, if it stands there
-abbrev pub part_wait : List ℕ → List MessageRow → List PriorityRow → Option PartRow → Option Load
+abbrev pub part_wait : List ℕ → List MessageRow → List PriorityRow → Option PartRow → Option QueuedPart
 part_wait handset messages priorities None = None
 part_wait handset messages priorities (Some p) = if waits_for handset p (message_at p.id messages) then Some (part_load p priorities) else None
 
 -- in the order of messages and numbers
-abbrev pub parts_waiting : List ℕ → List MessageRow → List PriorityRow → List PartRow → List Load
+abbrev pub parts_waiting : List ℕ → List MessageRow → List PriorityRow → List PartRow → List QueuedPart
 parts_waiting handset messages priorities [] = []
 parts_waiting handset messages priorities (p ∷ ps) =
     if waits_for handset p (message_at p.id messages) then part_load p priorities ∷ parts_waiting handset messages priorities ps

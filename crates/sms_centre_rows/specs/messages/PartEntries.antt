@@ -3,7 +3,7 @@ use Rattle.std.specs.Prelude.{◌≡◌, ℕ, zero, suc, ◌<◌, ◌≤◌, ◌
 use Rattle.sms_base.specs.Among.{Among}
 use Rattle.sms_rows.specs.declared.table.change.Change.TheVariants.{Put as PutRow}
 use Rattle.sms_rows.specs.table.Keys.{pair_key}
-use Rattle.sms_rows.specs.table.Pending.{PendingOf, changed, rows_in}
+use Rattle.sms_rows.specs.table.TableDraft.{TableDraftOf, changed, rows_in}
 use Rattle.sms_rows.specs.table.Table.{Rises, row_at}
 use Rattle.sms_centre_rows.specs.declared.messages.part.PartRow.{PartRow}
 use Rattle.sms_centre_rows.specs.declared.messages.parts.PartEntry.{PartEntry}
@@ -24,7 +24,7 @@ entry_reaching progress e = record e { progress = progress }
 
 -- the parts in the middle of an event, and what it changed of them, the oldest first
 pub record PartsOf : Type 0 where
-  pub entries : PendingOf PartEntry
+  pub entries : TableDraftOf PartEntry
   pub changes : List (Revision PartRow)
 
 abbrev pub rows_now : PartsOf → List PartEntry
@@ -53,7 +53,7 @@ done_to id (suc n) entries = is_done_entry (row_at entry_key (pair_key id (suc n
 -- ---- what they are of the rows
 
 -- they are the parts of those rows without their TPDUs, and the changes are theirs
-pub record Tells (p : PartsOf) (t : Revised PartRow) : Type 0 where
+pub record Represents (p : PartsOf) (t : Revised PartRow) : Type 0 where
   pub entries : rows_now p ≡ map part_entry (rows_of part_key part_reaching t)
   pub changes : p.changes ≡ oldest_first t.news
 

@@ -14,7 +14,7 @@ use Rattle.sms_centre_rows.specs.declared.messages.part.PartRow.{PartRow}
 use Rattle.sms_centre_rows.specs.declared.messages.priority.PriorityRow.{PriorityRow}
 use Rattle.sms_centre_rows.specs.messages.Messages.{all_done, message_at, message_key, part_at, part_key, priority_key}
 use Rattle.sms_centre_rows.specs.messages.SplitReferences.{is_delivered}
-use Rattle.sms_centre_rows.specs.waiting.SoundGivings.{IsNumber}
+use Rattle.sms_centre_rows.specs.waiting.SoundAllocations.{IsNumber}
 
 -- ---- messages
 

@@ -31,15 +31,15 @@ abbrev pub session_key : Session → ℕ
 session_key s = s.number
 
 -- the sessions in the order of their numbers, and what was sent in them so far
-pub record Desk : Type 0 where
+pub record Bindings : Type 0 where
   pub sessions : List Session
   pub deliveries : List Delivery
 
-abbrev pub put_session : Session → Desk → Desk
-put_session s desk = record desk { sessions = put session_key s desk.sessions }
+abbrev pub put_session : Session → Bindings → Bindings
+put_session s bindings = record bindings { sessions = put session_key s bindings.sessions }
 
-abbrev pub remove_session : ℕ → Desk → Desk
-remove_session number desk = record desk { sessions = without session_key number desk.sessions }
+abbrev pub remove_session : ℕ → Bindings → Bindings
+remove_session number bindings = record bindings { sessions = without session_key number bindings.sessions }
 
 -- ---- which receipts wait
 
@@ -67,29 +67,29 @@ session_for (Some m) (s ∷ ss) = if s.receives && is_account s.account m.origin
 abbrev pub window : ℕ
 window = 10
 
-abbrev pub send_in : ℕ → Session → Desk → Desk
-send_in id s desk = record {
-  sessions = put session_key (record s { unanswered = s.unanswered ++ id ∷ [] }) desk.sessions;
-  deliveries = desk.deliveries ++ record { session = s.number; id = id } ∷ [];
+abbrev pub send_in : ℕ → Session → Bindings → Bindings
+send_in id s bindings = record {
+  sessions = put session_key (record s { unanswered = s.unanswered ++ id ∷ [] }) bindings.sessions;
+  deliveries = bindings.deliveries ++ record { session = s.number; id = id } ∷ [];
 }
 
 -- a session whose window is full holds it up
-abbrev pub send_to : ℕ → Option Session → Desk → Desk
-send_to id None desk = desk
-send_to id (Some s) desk = if nat_lt (length s.unanswered) window then send_in id s desk else desk
+abbrev pub send_to : ℕ → Option Session → Bindings → Bindings
+send_to id None bindings = bindings
+send_to id (Some s) bindings = if nat_lt (length s.unanswered) window then send_in id s bindings else bindings
 
-abbrev pub send : ℕ → List MessageRow → ReportRow → Desk → Desk
-send moment messages r desk =
-    if waits moment r desk.sessions then send_to r.id (session_for (message_at r.id messages) desk.sessions) desk else desk
+abbrev pub send : ℕ → List MessageRow → ReportRow → Bindings → Bindings
+send moment messages r bindings =
+    if waits moment r bindings.sessions then send_to r.id (session_for (message_at r.id messages) bindings.sessions) bindings else bindings
 
 -- no session has more unanswered than its window holds
-abbrev pub AreWindowed : Desk → Type 0
-AreWindowed desk = (s : Session) → Among s desk.sessions → length s.unanswered ≤ window
+abbrev pub AreWindowed : Bindings → Type 0
+AreWindowed bindings = (s : Session) → Among s bindings.sessions → length s.unanswered ≤ window
 
 -- in the order in which they were made
-abbrev pub send_all : ℕ → List MessageRow → List ReportRow → Desk → Desk
-send_all moment messages [] desk = desk
-send_all moment messages (r ∷ rs) desk = send_all moment messages rs (send moment messages r desk)
+abbrev pub send_all : ℕ → List MessageRow → List ReportRow → Bindings → Bindings
+send_all moment messages [] bindings = bindings
+send_all moment messages (r ∷ rs) bindings = send_all moment messages rs (send moment messages r bindings)
 
 -- ---- answers
 
@@ -108,8 +108,8 @@ abbrev pub without_id : ℕ → List ℕ → List ℕ
 without_id id [] = []
 without_id id (n ∷ ns) = if n == id then without_id id ns else n ∷ without_id id ns
 
-abbrev pub answered_in : ℕ → Session → Desk → Desk
-answered_in id s desk = put_session (record s { unanswered = without_id id s.unanswered }) desk
+abbrev pub answered_in : ℕ → Session → Bindings → Bindings
+answered_in id s bindings = put_session (record s { unanswered = without_id id s.unanswered }) bindings
 
 -- ---- the session ends: its receipts go again
 

@@ -11,7 +11,7 @@ use Rattle.sms_centre_rows.specs.messages.Messages.{message_at}
 use Rattle.sms_centre_rows.specs.messages.OpenParts.{parts_waiting}
 use Rattle.sms_centre_rows.specs.declared.reports.report.ReportRow.{ReportRow}
 use Rattle.sms_centre_rows.specs.reports.Reports.{is_open_status, status_reference}
-use Rattle.sms_centre_rows.specs.declared.waiting.load.Load.{Load}
+use Rattle.sms_centre_rows.specs.declared.waiting.queued_part.QueuedPart.{QueuedPart}
 use Rattle.sms_centre_rows.specs.waiting.Keys.{load_key}
 
 -- it goes to the handset that sent the message
@@ -20,28 +20,28 @@ reports_to handset r None = false
 reports_to handset r (Some m) = is_open_status r && bytes_eq m.source.digits handset
 
 -- number 0, and the lowest priority
-abbrev pub report_load : ReportRow → Load
+abbrev pub report_load : ReportRow → QueuedPart
 report_load r = record { id = r.id; number = 0; reference = status_reference r.kind; priority = 0; due = r.progress.due }
 
-abbrev pub with_reports : List ℕ → List MessageRow → List ReportRow → List Load → List Load
+abbrev pub with_reports : List ℕ → List MessageRow → List ReportRow → List QueuedPart → List QueuedPart
 with_reports handset messages [] loads = loads
 with_reports handset messages (r ∷ rs) loads =
     if reports_to handset r (message_at r.id messages) then put load_key (report_load r) (with_reports handset messages rs loads)
     else with_reports handset messages rs loads
 
-abbrev pub waiting_for : List ℕ → List MessageRow → List PriorityRow → List PartRow → List ReportRow → List Load
+abbrev pub waiting_for : List ℕ → List MessageRow → List PriorityRow → List PartRow → List ReportRow → List QueuedPart
 waiting_for handset messages priorities parts reports =
     with_reports handset messages reports (parts_waiting handset messages priorities parts)
 
 -- ---- what becomes of it
 
 -- what waits of a status report, if it stands there
-abbrev pub report_wait : List ℕ → List MessageRow → Option ReportRow → Option Load
+abbrev pub report_wait : List ℕ → List MessageRow → Option ReportRow → Option QueuedPart
 report_wait handset messages None = None
 report_wait handset messages (Some r) = if reports_to handset r (message_at r.id messages) then Some (report_load r) else None
 
 -- under the key waits that, or nothing
-abbrev pub waiting_as : ℕ → Option Load → List Load → List Load
+abbrev pub waiting_as : ℕ → Option QueuedPart → List QueuedPart → List QueuedPart
 waiting_as key None loads = without load_key key loads
 waiting_as key (Some l) loads = put load_key l loads
 

@@ -2,7 +2,7 @@
 use Rattle.std.specs.Prelude.{ℕ}
 use Rattle.sms_rows.specs.table.Keys.{pair_key}
 use Rattle.sms_centre_rows.specs.declared.waiting.handset.HandsetRow.{HandsetRow}
-use Rattle.sms_centre_rows.specs.declared.waiting.load.Load.{Load}
+use Rattle.sms_centre_rows.specs.declared.waiting.queued_part.QueuedPart.{QueuedPart}
 use Rattle.sms_centre_rows.specs.declared.waiting.reference.ReferenceRow.{ReferenceRow}
 
 -- handsets stand in the order in which they were mentioned first
@@ -14,5 +14,5 @@ abbrev pub reference_key : ReferenceRow → ℕ
 reference_key r = pair_key r.place r.reference
 
 -- a part's number is below 256, and a status report's is 0
-abbrev pub load_key : Load → ℕ
+abbrev pub load_key : QueuedPart → ℕ
 load_key l = pair_key l.id l.number

@@ -5,7 +5,7 @@ use Rattle.sms_rows.specs.table.Keys.{pair_key}
 use Rattle.sms_rows.specs.table.Since.{Since, put_in, rows_of}
 use Rattle.sms_rows.specs.table.Table.{row_at}
 use Rattle.sms_centre_rows.specs.declared.waiting.handset.HandsetRow.{HandsetRow}
-use Rattle.sms_centre_rows.specs.declared.waiting.load.Load.{Load}
+use Rattle.sms_centre_rows.specs.declared.waiting.queued_part.QueuedPart.{QueuedPart}
 use Rattle.sms_centre_rows.specs.declared.waiting.reference.ReferenceRow.{ReferenceRow}
 use Rattle.sms_centre_rows.specs.waiting.Keys.{handset_key, reference_key}
 
@@ -31,12 +31,12 @@ handset_of number hs = or_new_handset number (place_after 1 hs) (handset_at numb
 -- ---- which may be given
 
 -- something that waits there holds it
-abbrev pub is_held : ℕ → List Load → Bool
+abbrev pub is_held : ℕ → List QueuedPart → Bool
 is_held reference [] = false
 is_held reference (l ∷ ls) = (l.reference == reference) || is_held reference ls
 
 -- the flags of all references say which of them are held
-abbrev pub AreHeld : List Bool → List Load → Type 0
+abbrev pub AreHeld : List Bool → List QueuedPart → Type 0
 AreHeld held waiting = (r : ℕ) → r < 256 → slice_get held r ≡ Some (is_held r waiting)
 
 -- it was not given last in an earlier second
@@ -44,7 +44,7 @@ abbrev pub is_late : ℕ → Option ReferenceRow → Bool
 is_late moment None = false
 is_late moment (Some r) = nat_le moment r.last
 
-abbrev pub is_free : HandsetRow → List Load → List ReferenceRow → ℕ → ℕ → Bool
+abbrev pub is_free : HandsetRow → List QueuedPart → List ReferenceRow → ℕ → ℕ → Bool
 is_free h waiting references moment reference =
     not (is_held reference waiting) && not (is_late moment (row_at reference_key (pair_key h.place reference) references))
 
@@ -59,20 +59,20 @@ first_passing passes zero reference = None
 first_passing passes (suc turns) reference = if passes reference then Some reference else first_passing passes turns (following reference)
 
 -- the next after the one that was given last
-abbrev pub next_reference : HandsetRow → List Load → List ReferenceRow → ℕ → Option ℕ
+abbrev pub next_reference : HandsetRow → List QueuedPart → List ReferenceRow → ℕ → Option ℕ
 next_reference h waiting references moment = first_passing (is_free h waiting references moment) 256 (following h.last_reference)
 
 -- ---- giving it
 
 -- the handsets and the references that were given, in the middle of an event
-pub record Givings : Type 0 where
+pub record Allocations : Type 0 where
   pub handsets : Since HandsetRow
   pub references : Since ReferenceRow
 
-abbrev pub handsets_of : Givings → List HandsetRow
+abbrev pub handsets_of : Allocations → List HandsetRow
 handsets_of g = rows_of handset_key g.handsets
 
-abbrev pub references_of : Givings → List ReferenceRow
+abbrev pub references_of : Allocations → List ReferenceRow
 references_of g = rows_of reference_key g.references
 
 abbrev pub mentioned : HandsetRow → ℕ → HandsetRow
@@ -81,7 +81,7 @@ mentioned h reference = record h { last_reference = reference }
 abbrev pub given_row : HandsetRow → ℕ → ℕ → ReferenceRow
 given_row h reference moment = record { place = h.place; reference = reference; last = moment }
 
-abbrev pub give : HandsetRow → ℕ → ℕ → Givings → Givings
+abbrev pub give : HandsetRow → ℕ → ℕ → Allocations → Allocations
 give h reference moment g = record {
   handsets = put_in (mentioned h reference) g.handsets;
   references = put_in (given_row h reference moment) g.references;

@@ -6,7 +6,7 @@ ghost use Rattle.sms_centre_rows.specs.messages.OpenParts.{Numbered, part_wait};
 ghost use Rattle.sms_centre_rows.specs.declared.messages.message.MessageRow.{MessageRow};
 ghost use Rattle.sms_centre_rows.specs.declared.messages.part.PartRow.{PartRow};
 ghost use Rattle.sms_centre_rows.specs.declared.messages.priority.PriorityRow.{PriorityRow};
-ghost use Rattle.sms_centre_rows.specs.reports.Receipts.{AreWindowed, Desk, send_all};
+ghost use Rattle.sms_centre_rows.specs.reports.Receipts.{AreWindowed, Bindings, send_all};
 ghost use Rattle.sms_centre_rows.specs.reports.Reports.{report_key, report_of, report_reaching};
 ghost use Rattle.sms_centre_rows.specs.reports.Waiting.{Alone, IsNew, report_wait, waiting_as, waiting_for};
 ghost use Rattle.sms_centre_rows.specs.declared.reports.report.ReportRow.{ReportRow};
@@ -18,7 +18,7 @@ ghost use Rattle.sms_centre_rows.specs.declared.waiting.progress.Progress.{Progr
 
 /// A part that is new, or is so far, waits for its handset exactly where it is undone and its message is pending. All
 /// else waits as before.
-pub fn a_part_waits_as_it_stands()
+pub fn a_part_waits_while_it_is_undone()
     ensures put { (handset : List ℕ) (messages : List MessageRow) (priorities : List PriorityRow) (parts : List PartRow) (reports : List ReportRow) (p : PartRow)
         → Numbered parts → Alone reports → 0 < p.number → p.number < 256
         → waiting_for handset messages priorities (put part_key p parts) reports ≡ waiting_as (part_key p) (part_wait handset messages priorities (Some p)) (waiting_for handset messages priorities parts reports) }
@@ -30,7 +30,7 @@ pub fn a_part_waits_as_it_stands()
 
 /// A report that is new, or is so far, waits for its handset exactly where it is an open status report. All else waits
 /// as before.
-pub fn a_report_waits_as_it_stands()
+pub fn a_report_waits_while_it_is_open()
     ensures put { (handset : List ℕ) (messages : List MessageRow) (priorities : List PriorityRow) (parts : List PartRow) (reports : List ReportRow) (r : ReportRow)
         → Numbered parts → Alone reports → IsNew reports r
         → waiting_for handset messages priorities parts (put report_key r reports) ≡ waiting_as (pair_key r.id 0) (report_wait handset messages (Some r)) (waiting_for handset messages priorities parts reports) }
@@ -56,5 +56,5 @@ pub fn a_new_message_leaves_what_waits()
 
 /// Receipts that are sent never pass the window of a session.
 pub fn windows_are_never_passed()
-    ensures { (moment : ℕ) (messages : List MessageRow) (reports : List ReportRow) (desk : Desk) → AreWindowed desk → AreWindowed (send_all moment messages reports desk) }
+    ensures { (moment : ℕ) (messages : List MessageRow) (reports : List ReportRow) (bindings : Bindings) → AreWindowed bindings → AreWindowed (send_all moment messages reports bindings) }
 {}

@@ -4,62 +4,62 @@ ghost use Rattle.std.specs.Prelude.{Option, Some, ◌≡◌, ◌<◌, ◌∷◌,
 ghost use Rattle.sms_base.specs.Among.{Among};
 ghost use Rattle.sms_rows.specs.table.Table.{put, without};
 ghost use Rattle.sms_centre_rows.specs.waiting.Keys.{handset_key, load_key, reference_key};
-ghost use Rattle.sms_centre_rows.specs.waiting.Lines.{with_line};
+ghost use Rattle.sms_centre_rows.specs.waiting.Links.{with_line};
 ghost use Rattle.sms_centre_rows.specs.waiting.References.{given_row, handset_of, mentioned, next_reference};
-ghost use Rattle.sms_centre_rows.specs.waiting.Shelved.{Shows, row_for};
-ghost use Rattle.sms_centre_rows.specs.waiting.Shelves.{ShelfOf, shelf_given, shelf_on};
-ghost use Rattle.sms_centre_rows.specs.waiting.SoundGivings.{IsNumber, SoundGivings};
+ghost use Rattle.sms_centre_rows.specs.waiting.DeliveryQueueRows.{Represents, row_for};
+ghost use Rattle.sms_centre_rows.specs.waiting.DeliveryQueues.{DeliveryQueueOf, queue_given, queue_on};
+ghost use Rattle.sms_centre_rows.specs.waiting.SoundAllocations.{IsNumber, SoundAllocations};
 ghost use Rattle.sms_centre_rows.specs.waiting.SoundWaiting.{SoundWaiting};
 ghost use Rattle.sms_centre_rows.specs.waiting.Waiting.{all_at_once, withdrawn};
 ghost use Rattle.sms_centre_rows.specs.declared.waiting.handset.HandsetRow.{HandsetRow};
-ghost use Rattle.sms_centre_rows.specs.declared.waiting.line.Line.{Line};
-ghost use Rattle.sms_centre_rows.specs.declared.waiting.load.Load.{Load};
+ghost use Rattle.sms_centre_rows.specs.declared.waiting.handset_link.HandsetLink.{HandsetLink};
+ghost use Rattle.sms_centre_rows.specs.declared.waiting.queued_part.QueuedPart.{QueuedPart};
 ghost use Rattle.sms_centre_rows.specs.declared.waiting.reference.ReferenceRow.{ReferenceRow};
 
-/// The next reference of a handset over all rows is that of its shelf.
-pub fn a_shelf_knows_the_next_reference()
-    ensures { (number : List ℕ) (handsets : List HandsetRow) (references : List ReferenceRow) (waiting : List Load) (lines : List Line) (s : ShelfOf) (now : ℕ)
-        → SoundGivings handsets references → Shows number handsets references waiting lines s
+/// The next reference of a handset over all rows is that of its queue.
+pub fn a_queue_knows_the_next_reference()
+    ensures { (number : List ℕ) (handsets : List HandsetRow) (references : List ReferenceRow) (waiting : List QueuedPart) (lines : List HandsetLink) (s : DeliveryQueueOf) (now : ℕ)
+        → SoundAllocations handsets references → Represents number handsets references waiting lines s
         → next_reference (handset_of number handsets) waiting references now ≡ next_reference (row_for number handsets s) s.waiting s.given now }
 {}
 
-/// A reference that is given is given on the shelf of its handset, and all other shelves stay as they are.
-pub fn a_giving_stays_on_its_shelf()
-    ensures own { (number : List ℕ) (handsets : List HandsetRow) (references : List ReferenceRow) (waiting : List Load) (lines : List Line) (s : ShelfOf) (reference now : ℕ)
-        → SoundGivings handsets references → reference < 256 → Shows number handsets references waiting lines s
-        → Shows number (put handset_key (mentioned (handset_of number handsets) reference) handsets) (put reference_key (given_row (handset_of number handsets) reference now) references)
-        waiting lines (shelf_given (row_for number handsets s) reference now s) }
-    ensures others { (number other : List ℕ) (handsets : List HandsetRow) (references : List ReferenceRow) (waiting : List Load) (lines : List Line) (s : ShelfOf) (reference now : ℕ)
-        → SoundGivings handsets references → reference < 256 → ¬ (number ≡ other) → Shows other handsets references waiting lines s
-        → Shows other (put handset_key (mentioned (handset_of number handsets) reference) handsets) (put reference_key (given_row (handset_of number handsets) reference now) references)
+/// A reference that is given is given on the queue of its handset, and all other queues stay as they are.
+pub fn an_allocation_stays_on_its_queue()
+    ensures own { (number : List ℕ) (handsets : List HandsetRow) (references : List ReferenceRow) (waiting : List QueuedPart) (lines : List HandsetLink) (s : DeliveryQueueOf) (reference now : ℕ)
+        → SoundAllocations handsets references → reference < 256 → Represents number handsets references waiting lines s
+        → Represents number (put handset_key (mentioned (handset_of number handsets) reference) handsets) (put reference_key (given_row (handset_of number handsets) reference now) references)
+        waiting lines (queue_given (row_for number handsets s) reference now s) }
+    ensures others { (number other : List ℕ) (handsets : List HandsetRow) (references : List ReferenceRow) (waiting : List QueuedPart) (lines : List HandsetLink) (s : DeliveryQueueOf) (reference now : ℕ)
+        → SoundAllocations handsets references → reference < 256 → ¬ (number ≡ other) → Represents other handsets references waiting lines s
+        → Represents other (put handset_key (mentioned (handset_of number handsets) reference) handsets) (put reference_key (given_row (handset_of number handsets) reference now) references)
         waiting lines s }
 {}
 
 /// A giving leaves sound handsets and references sound.
-pub fn a_giving_is_sound()
+pub fn an_allocation_is_sound()
     ensures { (number : List ℕ) (handsets : List HandsetRow) (references : List ReferenceRow) (reference now : ℕ)
-        → SoundGivings handsets references → IsNumber number → reference < 256
-        → SoundGivings (put handset_key (mentioned (handset_of number handsets) reference) handsets) (put reference_key (given_row (handset_of number handsets) reference now) references) }
+        → SoundAllocations handsets references → IsNumber number → reference < 256
+        → SoundAllocations (put handset_key (mentioned (handset_of number handsets) reference) handsets) (put reference_key (given_row (handset_of number handsets) reference now) references) }
 {}
 
-/// A line that changes changes on the shelf of its handset, and all other shelves stay as they are.
-pub fn a_line_stays_on_its_shelf()
-    ensures own { (handsets : List HandsetRow) (references : List ReferenceRow) (waiting : List Load) (lines : List Line) (line : Line) (s : ShelfOf)
-        → Shows line.handset handsets references waiting lines s → Shows line.handset handsets references waiting (with_line line lines) (shelf_on line s) }
-    ensures others { (other : List ℕ) (handsets : List HandsetRow) (references : List ReferenceRow) (waiting : List Load) (lines : List Line) (line : Line) (s : ShelfOf)
-        → ¬ (line.handset ≡ other) → Shows other handsets references waiting lines s → Shows other handsets references waiting (with_line line lines) s }
+/// A line that changes changes on the queue of its handset, and all other queues stay as they are.
+pub fn a_link_stays_on_its_queue()
+    ensures own { (handsets : List HandsetRow) (references : List ReferenceRow) (waiting : List QueuedPart) (lines : List HandsetLink) (line : HandsetLink) (s : DeliveryQueueOf)
+        → Represents line.handset handsets references waiting lines s → Represents line.handset handsets references waiting (with_line line lines) (queue_on line s) }
+    ensures others { (other : List ℕ) (handsets : List HandsetRow) (references : List ReferenceRow) (waiting : List QueuedPart) (lines : List HandsetLink) (line : HandsetLink) (s : DeliveryQueueOf)
+        → ¬ (line.handset ≡ other) → Represents other handsets references waiting lines s → Represents other handsets references waiting (with_line line lines) s }
 {}
 
 /// What waits for a handset holds references that were given there, all different, whatever becomes of it. One more may
 /// take the next reference, one may be put off, one or all parts of a message may wait no more, and all may be due at
 /// once.
-pub fn what_waits_holds_references_apart()
-    ensures more { (row : Option HandsetRow) (h : HandsetRow) (references : List ReferenceRow) (waiting : List Load) (l : Load) (now : ℕ)
+pub fn waiting_parts_have_distinct_references()
+    ensures more { (row : Option HandsetRow) (h : HandsetRow) (references : List ReferenceRow) (waiting : List QueuedPart) (l : QueuedPart) (now : ℕ)
         → SoundWaiting row references waiting → ((g : HandsetRow) → row ≡ Some g → g.place ≡ h.place) → next_reference h waiting references now ≡ Some l.reference
         → SoundWaiting (Some (mentioned h l.reference)) (put reference_key (given_row h l.reference now) references) (put load_key l waiting) }
-    ensures put_off { (row : Option HandsetRow) (references : List ReferenceRow) (waiting : List Load) (was l : Load)
+    ensures put_off { (row : Option HandsetRow) (references : List ReferenceRow) (waiting : List QueuedPart) (was l : QueuedPart)
         → SoundWaiting row references waiting → Among was waiting → load_key was ≡ load_key l → was.reference ≡ l.reference → SoundWaiting row references (put load_key l waiting) }
-    ensures fewer { (row : Option HandsetRow) (references : List ReferenceRow) (waiting : List Load) (key : ℕ) → SoundWaiting row references waiting → SoundWaiting row references (without load_key key waiting) }
-    ensures withdrawn { (row : Option HandsetRow) (references : List ReferenceRow) (waiting : List Load) (id : ℕ) → SoundWaiting row references waiting → SoundWaiting row references (withdrawn id waiting) }
-    ensures at_once { (row : Option HandsetRow) (references : List ReferenceRow) (waiting : List Load) (now : ℕ) → SoundWaiting row references waiting → SoundWaiting row references (all_at_once now waiting) }
+    ensures fewer { (row : Option HandsetRow) (references : List ReferenceRow) (waiting : List QueuedPart) (key : ℕ) → SoundWaiting row references waiting → SoundWaiting row references (without load_key key waiting) }
+    ensures withdrawn { (row : Option HandsetRow) (references : List ReferenceRow) (waiting : List QueuedPart) (id : ℕ) → SoundWaiting row references waiting → SoundWaiting row references (withdrawn id waiting) }
+    ensures at_once { (row : Option HandsetRow) (references : List ReferenceRow) (waiting : List QueuedPart) (now : ℕ) → SoundWaiting row references waiting → SoundWaiting row references (all_at_once now waiting) }
 {}

@@ -3,7 +3,7 @@ ghost use Rattle.std.specs.Prelude.{◌≡◌, IfOk};
 
 use crate::Setup;
 use sms_base::{Listed, Octets};
-use sms_intake::Account;
+use sms_intake::CentreAccount;
 use std::alloc::{AllocError, Global};
 
 /// The octets, in memory of their own.
@@ -13,17 +13,17 @@ pub fn copy_of_octets(alloc: Global, octets: &Octets) -> Result<Octets, AllocErr
     Octets::copy_of(alloc, octets.as_slice())
 }
 
-fn copy_of_account(alloc: Global, account: &Account) -> Result<Account, AllocError>
+fn copy_of_account(alloc: Global, account: &CentreAccount) -> Result<CentreAccount, AllocError>
     ensures { IfOk result (λ copy. copy ≡ account.now) }
 {
     let name = copy_of_octets(alloc, &account.name)?;
-    Ok(Account {
+    Ok(CentreAccount {
         name,
         address: account.address,
     })
 }
 
-fn copy_of_accounts(alloc: Global, accounts: &[Account]) -> Result<Vec<Account>, AllocError>
+fn copy_of_accounts(alloc: Global, accounts: &[CentreAccount]) -> Result<Vec<CentreAccount>, AllocError>
     ensures { IfOk result (λ copies. copies.items ≡ accounts.now) }
 {
     let mut copies = Vec::new(alloc);

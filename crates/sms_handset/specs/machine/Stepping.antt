@@ -5,7 +5,7 @@ use Rattle.sms_handset_draft.specs.Draft.{Core, Draft, HandsetOf, rows_after}
 use Rattle.sms_handset_draft.specs.Outcome.{changes_in, outcome_of}
 use Rattle.sms_handset_draft.specs.declared.rows.Changes.{Changes}
 use Rattle.sms_handset_draft.specs.declared.rows.Rows.{Rows}
-use Rattle.sms_handset.specs.HandsetEvent.{deleted, discarded, frame_came, tag_of, ticked, wrote}
+use Rattle.sms_handset.specs.HandsetEvent.{deleted, discarded, frame_received, tag_of, ticked, wrote}
 use Rattle.sms_handset.specs.Planning.{adopted}
 use Rattle.sms_handset.specs.declared.event.HandsetEvent.{HandsetEvent}
 use Rattle.sms_handset.specs.declared.event.HandsetEvent.TheVariants.{Frame, Tick, Write, Delete, Discard}
@@ -21,7 +21,7 @@ MakesTheChanges after = (changes : Changes) (rows : Rows) → after changes rows
 
 -- what the definition of a handset does with an event
 abbrev pub happened : HandsetEvent → Core → Result Draft Refusal
-happened (Frame octets tag) c = Ok (frame_came octets (tag_of tag) c)
+happened (Frame octets tag) c = Ok (frame_received octets (tag_of tag) c)
 happened (Tick now) c = Ok (ticked now c)
 happened (Write text to report) c = wrote text to report c
 happened (Delete entry) c = deleted entry c

@@ -12,7 +12,7 @@ ghost use Rattle.sms_handset.specs.machine.InMachine.{core_in, handset_in, keep_
 
 use crate::machine::start_error::StartError;
 use crate::machine::step_error::StepError;
-use crate::{Changes, Handset, HandsetEvent, PlanError, Planned, Rows, Setup};
+use crate::{Changes, Handset, HandsetEvent, PlanError, Plan, Rows, Setup};
 use sms_base::Listed;
 use sms_link::Outgoing;
 use sms_rows::keep::{Keep, KeepError};
@@ -104,7 +104,7 @@ impl<K: Keep<Rows = Rows, Changes = Changes> + Drop> HandsetMachine<K> {
         self.keep.load()
     }
 
-    fn plan(&self, event: &HandsetEvent<'_>) -> Result<Planned, PlanError>
+    fn plan(&self, event: &HandsetEvent<'_>) -> Result<Plan, PlanError>
         ensures plan { Plans result (handset_in self.now) (happened event.now (core_in self.now)) }
         ensures fits { IfOk result (λ planned. Fits planned (handset_in self.now)) }
         ensures sound { IsSoundCore (core_in self.now) → IfOk result (λ planned. IsSoundCore (adopted planned.outcome (core_in self.now))) }

@@ -39,11 +39,11 @@ impl Model for OpenGroups {
 
 /// Memory for open groups that no index uses yet, seen by contracts as how many it holds.
 #[derive(Drop)]
-pub struct SpareGroups {
+pub struct OpenGroupsReserve {
     map: IndexMap<u32, OpenGroup>,
 }
 
-impl Model for SpareGroups {
+impl Model for OpenGroupsReserve {
     ghost use Rattle.std.specs.Prelude.{◌≡◌, ℕ, []};
     ghost use Rattle.indexmap.specs.IndexMap.{spare};
 
@@ -139,7 +139,7 @@ impl OpenGroups {
     }
 
     /// Memory for the change where the index has too little, else none.
-    pub fn make_spare(&self, alloc: Global, change: &Regrouping) -> Result<SpareGroups, AllocError>
+    pub fn make_reserve(&self, alloc: Global, change: &Regrouping) -> Result<OpenGroupsReserve, AllocError>
         ensures { IfOk result (λ spare. length self.now.groups + opening change.now ≤ max self.now.capacity spare) }
     {
         let len = self.by_first_part.len();
@@ -149,11 +149,11 @@ impl OpenGroups {
             0
         };
         let map = IndexMap::with_capacity(alloc, wanted)?;
-        Ok(SpareGroups { map })
+        Ok(OpenGroupsReserve { map })
     }
 
     /// Moves the groups into the memory where it is larger than the index's own, without taking memory.
-    pub fn use_spare(&mut self, spare: SpareGroups)
+    pub fn use_reserve(&mut self, spare: OpenGroupsReserve)
         ensures groups { (n : ℕ) → under self.new n ≡ under self.old n }
         ensures taken { length self.new.groups ≡ length self.old.groups }
         ensures room { max self.old.capacity spare ≤ self.new.capacity }

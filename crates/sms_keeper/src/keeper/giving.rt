@@ -4,7 +4,7 @@ ghost use Rattle.crossbeam_queue.specs.Passes.{view};
 ghost use Rattle.sms_keeper.specs.Answers.{taker_view};
 ghost use Rattle.sms_keeper.specs.Keeping.{IsSameLines, Gave};
 
-use super::Line;
+use super::SeatChannel;
 use crate::answers::{AnswersPass, gather, give};
 use crate::outs::{Held, Out, Outs};
 use std::alloc::{AllocError, Global};
@@ -12,7 +12,7 @@ use std::sync::Wait;
 use std::thread::Parker;
 use std::time::Duration;
 
-impl<O: Drop> Line<O> {
+impl<O: Drop> SeatChannel<O> {
     // Gives an answer, and waits while the seat has no room for it.
     fn give<R: Wait>(&mut self, rt: &R, answer: O)
         ensures same { self.new.pass.table_id ≡ self.old.pass.table_id }
@@ -53,7 +53,7 @@ impl<O: Drop> Line<O> {
 }
 
 // Gives an answer to its seat, if there is one.
-fn give_one<O: Drop, R: Wait>(rt: &R, lines: &mut Vec<Line<O>>, out: Out<O>)
+fn give_one<O: Drop, R: Wait>(rt: &R, lines: &mut Vec<SeatChannel<O>>, out: Out<O>)
     ensures same { IsSameLines lines.old.items lines.new.items }
     ensures given { Gave lines.old.items lines.new.items (out ∷ []) }
 {
@@ -64,7 +64,7 @@ fn give_one<O: Drop, R: Wait>(rt: &R, lines: &mut Vec<Line<O>>, out: Out<O>)
 }
 
 // Gives each answer to its seat.
-fn give_all<O: Drop, R: Wait>(rt: &R, lines: &mut Vec<Line<O>>, outs: Vec<Out<O>>)
+fn give_all<O: Drop, R: Wait>(rt: &R, lines: &mut Vec<SeatChannel<O>>, outs: Vec<Out<O>>)
     ensures same { IsSameLines lines.old.items lines.new.items }
     ensures given { Gave lines.old.items lines.new.items outs.items }
 {
@@ -74,7 +74,7 @@ fn give_all<O: Drop, R: Wait>(rt: &R, lines: &mut Vec<Line<O>>, outs: Vec<Out<O>
 }
 
 /// Gives the outs of a step to their seats.
-pub(super) fn give_outs<O: Drop, R: Wait>(rt: &R, lines: &mut Vec<Line<O>>, outs: Outs<O>)
+pub(super) fn give_outs<O: Drop, R: Wait>(rt: &R, lines: &mut Vec<SeatChannel<O>>, outs: Outs<O>)
     ensures same { IsSameLines lines.old.items lines.new.items }
     ensures given { Gave lines.old.items lines.new.items outs }
 {

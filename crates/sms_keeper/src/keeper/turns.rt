@@ -18,7 +18,7 @@ use std::time::Duration;
 
 // What a turn of the keeper did. Where nothing was asked, its fate is Done.
 #[derive(Drop)]
-struct Turn {
+struct KeeperStep {
     jobs: u32,
     fate: Fate,
 }
@@ -78,7 +78,7 @@ impl<J: Drop, O: Drop> Keeper<J, O> {
         clock: &C,
         now: Moment,
         history: &mut Vec<Item<J, O>>,
-    ) -> Turn
+    ) -> KeeperStep
         requires room { vec_len history.old < vec_capacity history.old }
         requires shown { C.shows clock.now now }
         requires not_due { ¬ IsLater self.old.last now }
@@ -94,9 +94,9 @@ impl<J: Drop, O: Drop> Keeper<J, O> {
                     Some(job) => {
                         let stimulus = Stimulus::Job(seat, job);
                         let fate = self.handle(rt, machine, gate, history, stimulus);
-                        Turn { jobs: 1, fate }
+                        KeeperStep { jobs: 1, fate }
                     }
-                    None => Turn {
+                    None => KeeperStep {
                         jobs: 0,
                         fate: Fate::Done,
                     },
@@ -104,7 +104,7 @@ impl<J: Drop, O: Drop> Keeper<J, O> {
             }
             None => {
                 self.bell.park_timeout(rt, Duration::from_millis(20));
-                Turn {
+                KeeperStep {
                     jobs: 0,
                     fate: Fate::Done,
                 }
@@ -131,7 +131,7 @@ impl<J: Drop, O: Drop> Keeper<J, O> {
         gate: &G,
         clock: &C,
         history: &mut Vec<Item<J, O>>,
-    ) -> Turn
+    ) -> KeeperStep
         requires room { vec_len history.old < vec_capacity history.old }
         ensures turn { IsTurn (C.shows clock.now)
             (λ more. M.is_honest machine.new → LeadsBy M.gives M.after result.fate (M.stands machine.old) more (M.stands machine.new) (M.resumes machine.new))
@@ -142,7 +142,7 @@ impl<J: Drop, O: Drop> Keeper<J, O> {
         if self.is_due(now) {
             let fate = self.handle(rt, machine, gate, history, Stimulus::Tick(now));
             self.last = Some(now);
-            return Turn { jobs: 0, fate };
+            return KeeperStep { jobs: 0, fate };
         }
         self.serve(rt, machine, gate, clock, now, history)
     }

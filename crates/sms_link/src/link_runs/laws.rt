@@ -30,7 +30,7 @@ pub fn a_frame_is_sent_three_times_at_most()
 /// An answer, CP-DATA to the originator, is passed up exactly where its identifier is that of the transaction under
 /// way. The transfer that this transaction carries ends then, as the answer's unit says (`own`). An answer of another
 /// identifier is never passed up, nor is one where no transaction is under way (`other`).
-pub fn an_answer_comes_up_under_its_own_identifier()
+pub fn an_answer_reaches_only_its_own_transaction()
     ensures own { (side : Side) (calls : List LinkCall) (frame unit : List ℕ) (identifier : ℕ) (transfer : Carried)
         → cp_at frame ≡ Ok (DataUnit (in_transaction ToOriginator identifier) unit)
         → IsUnderWay identifier transfer (under_way_after calls side)
@@ -55,7 +55,7 @@ pub fn only_what_is_under_way_ends()
 
 /// An answer that was taken is acknowledged alone until another answer is taken (3GPP TS 24.011 5.3.2). Whatever else
 /// is called, its frame, repeated, is answered by CP-ACK of its transaction and nothing else.
-/// `an_answer_comes_up_under_its_own_identifier` says when it is passed up again: only where a transaction of its
+/// `an_answer_reaches_only_its_own_transaction` says when it is passed up again: only where a transaction of its
 /// identifier is under way again.
 pub fn a_taken_answer_is_acknowledged_alone()
     ensures { (side : Side) (before after : List LinkCall) (answer : List ℕ) (identifier : ℕ)

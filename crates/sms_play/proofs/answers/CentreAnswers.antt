@@ -8,7 +8,7 @@ use Rattle.smpp_pdu.specs.declared.message.Message.{Message}
 use Rattle.smpp_pdu.specs.declared.query.QuerySm.{QuerySm}
 use Rattle.smpp_pdu.specs.declared.status.CommandStatus.{CommandStatus}
 use Rattle.smpp_pdu.specs.declared.status.CommandStatus.TheVariants.{ESME_RCANCELFAIL, ESME_RSUBMITFAIL, ESME_RSYSERR}
-use Rattle.sms_intake.specs.declared.submission.Account.{Account}
+use Rattle.sms_intake.specs.declared.submission.CentreAccount.{CentreAccount}
 use Rattle.sms_intake.specs.declared.submission.Submission.{Submission}
 use Rattle.sms_intake.specs.SmppIntake.{from_pdu, is_empty, source_in}
 use Rattle.sms_centre_rows.specs.declared.messages.message.MessageRow.{MessageRow}
@@ -18,7 +18,7 @@ use Rattle.sms_centre_spec.specs.declared.answer.CentreAnswer.TheVariants.{Cance
 use Rattle.sms_centre_spec.specs.Draft.{Draft, Store, answer_with, in_store, messages_in}
 use Rattle.sms_centre_spec.specs.Ends.{end}
 use Rattle.sms_centre_spec.specs.Numbers.{id_in}
-use Rattle.sms_centre_spec.specs.Requests.{account_at, accepted, cancel_by, cancelled, message_numbered, own_message, queried, query_by, refused, submission_came, submit_by}
+use Rattle.sms_centre_spec.specs.Requests.{account_at, accepted, cancel_by, cancelled, message_numbered, own_message, queried, query_by, refused, submission_received, submit_by}
 use Rattle.sms_centre_spec.specs.Submitting.{accept, is_reference_taken}
 use Rattle.sms_play.specs.Meeting.{account_from}
 use Rattle.sms_play.proofs.answers.Checks.{IsOther, pdu_other}
@@ -29,11 +29,11 @@ IsOtherAnswer o = o ≡ Some (Refused ESME_RSYSERR) → ⊥
 
 -- ---- an account that a name has is at its place
 
-steps : (place i : ℕ) (name : List ℕ) (accounts : List Account) → account_from place name accounts ≡ Some i → (k : ℕ) × ((i ≡ place + k) × ((a : Account) × (account_at k accounts ≡ Some a)))
+steps : (place i : ℕ) (name : List ℕ) (accounts : List CentreAccount) → account_from place name accounts ≡ Some i → (k : ℕ) × ((i ≡ place + k) × ((a : CentreAccount) × (account_at k accounts ≡ Some a)))
 steps place i name [] e = absurd cc
 steps place i name (a ∷ others) e =
     cond_both (bytes_eq a.name name) (Some place) (account_from (place + 1) name others)
-    (λ (o : Option ℕ). o ≡ Some i → (k : ℕ) × ((i ≡ place + k) × ((b : Account) × (account_at k (a ∷ others) ≡ Some b))))
+    (λ (o : Option ℕ). o ≡ Some i → (k : ℕ) × ((i ≡ place + k) × ((b : CentreAccount) × (account_at k (a ∷ others) ≡ Some b))))
     (λ t q. let same : i ≡ place = cc q in (0, (same ∙ none_more place, (a, refl))))
     (λ t q. let x = steps (place + 1) i name others q in (suc x.0, (x.1.0 ∙ one_more place x.0, x.1.1)))
     e
@@ -44,7 +44,7 @@ steps place i name (a ∷ others) e =
     one_more : (p k : ℕ) → p + 1 + k ≡ p + suc k
     one_more p k = omega arith
 
-pub account_there : (place : ℕ) (name : List ℕ) (accounts : List Account) → account_from 0 name accounts ≡ Some place → (a : Account) × (account_at place accounts ≡ Some a)
+pub account_there : (place : ℕ) (name : List ℕ) (accounts : List CentreAccount) → account_from 0 name accounts ≡ Some place → (a : CentreAccount) × (account_at place accounts ≡ Some a)
 account_there place name accounts e =
     let x = steps 0 place name accounts e in
     let same : place ≡ x.0 = from_none place x.0 x.1.0 in
@@ -59,13 +59,13 @@ accepted_other : (id : ℕ) (o : Option Store) (d : Draft) → IsOtherAnswer (ac
 accepted_other id None d e = cc
 accepted_other id (Some s) d e = cc
 
-came_other : (r : Result Submission CommandStatus) (d : Draft) → IsOther r → IsOtherAnswer (submission_came r d).answer
+came_other : (r : Result Submission CommandStatus) (d : Draft) → IsOther r → IsOtherAnswer (submission_received r d).answer
 came_other (Err status) d other e = let same : status ≡ ESME_RSYSERR = cc in other (ap (λ (s : CommandStatus). Err s) same)
 came_other (Ok u) d other e =
     let n : ℕ = next_id (messages_in d.store) in
     cond_both (is_reference_taken u d.store) (refused ESME_RSUBMITFAIL d) (accepted n (accept u d.store) d) (λ (x : Draft). IsOtherAnswer x.answer) (λ t q. cc q) (λ t. accepted_other n (accept u d.store) d) e
 
-pub submit_other : (o : Option Account) (a : Account) (m : Message) (d : Draft) → o ≡ Some a → IsOtherAnswer (submit_by o m d).answer
+pub submit_other : (o : Option CentreAccount) (a : CentreAccount) (m : Message) (d : Draft) → o ≡ Some a → IsOtherAnswer (submit_by o m d).answer
 submit_other None a m d there e = cc
 submit_other (Some x) a m d there e = came_other (from_pdu x d.store.moment m) d (pdu_other x d.store.moment m) e
 
@@ -75,7 +75,7 @@ queried_other : (o : Option MessageRow) (d : Draft) → IsOtherAnswer (queried o
 queried_other None d e = cc
 queried_other (Some m) d e = cc
 
-pub query_other : (o : Option Account) (a : Account) (q : QuerySm) (d : Draft) → o ≡ Some a → IsOtherAnswer (query_by o q d).answer
+pub query_other : (o : Option CentreAccount) (a : CentreAccount) (q : QuerySm) (d : Draft) → o ≡ Some a → IsOtherAnswer (query_by o q d).answer
 query_other None a q d there e = cc
 query_other (Some x) a q d there e = queried_other (own_message x (source_in x.address q.source) (message_numbered (id_in q.message_id) (messages_in d.store))) d e
 
@@ -86,7 +86,7 @@ cancelled_other None d e = cc
 cancelled_other (Some m) d e =
     cond_both (is_pending m) (answer_with Cancelled (in_store (end Deleted m d.store) d)) (refused ESME_RCANCELFAIL d) (λ (x : Draft). IsOtherAnswer x.answer) (λ t q. cc q) (λ t q. cc q) e
 
-pub cancel_other : (o : Option Account) (a : Account) (q : CancelSm) (d : Draft) → o ≡ Some a → IsOtherAnswer (cancel_by o q d).answer
+pub cancel_other : (o : Option CentreAccount) (a : CentreAccount) (q : CancelSm) (d : Draft) → o ≡ Some a → IsOtherAnswer (cancel_by o q d).answer
 cancel_other None a q d there e = cc
 cancel_other (Some x) a q d there e =
     let m : Option MessageRow = own_message x (source_in x.address q.source) (message_numbered (id_in q.message_id) (messages_in d.store)) in

@@ -23,7 +23,7 @@ use Rattle.smpp_pdu.specs.declared.status.CommandStatus.{CommandStatus}
 use Rattle.smpp_pdu.specs.declared.status.CommandStatus.TheVariants.{ESME_RINVDSTADR, ESME_RINVESMCLASS, ESME_RINVEXPIRY, ESME_RINVMSGLEN, ESME_RINVPARLEN, ESME_RINVSCHED, ESME_RINVSRCADR, ESME_ROPTPARNOTALLWD, ESME_RSUBMITFAIL, ESME_RSYSERR}
 use Rattle.smpp_pdu.specs.declared.tlv.Tlvs.{Tlvs}
 use Rattle.sms_tpdu.specs.ValidityTable.{later}
-use Rattle.sms_intake.specs.declared.submission.Account.{Account}
+use Rattle.sms_intake.specs.declared.submission.CentreAccount.{CentreAccount}
 use Rattle.sms_intake.specs.declared.submission.Text.TheVariants.{Single, Whole}
 use Rattle.sms_intake.specs.PartBodies.{body_behind}
 use Rattle.sms_intake.specs.SmppIntake.{address_in, are_below, are_whole, before, class_at, content_at, due_in, from_pdu, front_in, handset_named, has_header, has_sar_lengths, has_too_much, headed_text, header_read, header_size, is_ascii, is_empty, judged_in, limit_in, limited, octets_at, plain_text, sar_key, septets_at, single_behind, source_in, splits, text_at, text_in, text_of, ucs2_at, whole_of}
@@ -144,6 +144,6 @@ judged_other own now m e =
     (λ limit e3. then_other (due_in now limit m.schedule_delivery_time) _ e3 (due_other now limit m.schedule_delivery_time)
     (λ due e4. cc e4))))
 
-pub pdu_other : (account : Account) (now : ℕ) (m : Message) → IsOther (from_pdu account now m)
+pub pdu_other : (account : CentreAccount) (now : ℕ) (m : Message) → IsOther (from_pdu account now m)
 unfolding from_pdu
 pdu_other account now m e = then_other (judged_in account.address now m) _ e (judged_other account.address now m) (λ judged e1. cc e1)

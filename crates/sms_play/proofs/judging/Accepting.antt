@@ -3,12 +3,12 @@ use Rattle.std.proofs.Common.{◌≡◌, ℕ, zero, suc, ◌<◌, ◌≤◌, ari
 use Rattle.std.specs.Prelude.{◌||◌, if◌then◌else◌, slice_index}
 use Rattle.std.proofs.lemmas.List.{get_or_past}
 use Rattle.std.proofs.lemmas.Bool.{cases_eq, cond-false, cond-true, eq-eqb, ne_eqb}
-use Rattle.sms_play.specs.Course.{Party}
+use Rattle.sms_play.specs.PlayState.{Party}
 use Rattle.sms_play.specs.Premises.{all_pairs, has_pair, is_same_pair, pairs_of}
 use Rattle.sms_script.specs.declared.report.rows.AcceptedRow.{AcceptedRow}
 use Rattle.sms_world_model.specs.World.{Accepted}
 use Rattle.sms_play.specs.growth.Growth.{AcceptMore}
-use Rattle.sms_play.specs.judging.Shown.{NoneAccepted, accepted_at}
+use Rattle.sms_play.specs.judging.Premises.{NoneAccepted, accepted_at}
 use Rattle.sms_play.specs.judging.Judging.{AreCounts, looked}
 use Rattle.sms_play.specs.judging.Watching.{HasAccepted, pair_accepted, pair_in}
 use Rattle.sms_play.specs.declared.judging.watch.Pair.{Pair}

@@ -13,9 +13,9 @@ use Rattle.sms_play.specs.Premises.{has_pair, is_of_reference, is_same_pair, is_
 use Rattle.sms_tpdu.specs.MoreMessages.{compared}
 use Rattle.sms_world_model.specs.World.{Accepted}
 use Rattle.sms_play.specs.judging.RoundKeys.{is_same_round}
-use Rattle.sms_play.specs.judging.Watching.{HasAccepted, HasHolders, giving_at, is_same_giving, is_same_pair_in, is_up, or_no_members, pair_accepted, pair_in, round_at}
+use Rattle.sms_play.specs.judging.Watching.{HasAccepted, HasHolders, allocation_at, is_same_allocation, is_same_pair_in, is_up, or_no_members, pair_accepted, pair_in, round_at}
 use Rattle.sms_play.specs.declared.judging.rounds.RoundKey.{RoundKey}
-use Rattle.sms_play.specs.declared.judging.watch.Giving.{Giving}
+use Rattle.sms_play.specs.declared.judging.watch.Allocation.{Allocation}
 use Rattle.sms_play.specs.declared.judging.watch.Member.{Member}
 use Rattle.sms_play.specs.declared.judging.watch.Pair.{Pair}
 use Rattle.sms_play.proofs.judging.Members.{turned}
@@ -27,7 +27,7 @@ same_side Down Up = refl
 same_side Down Down = refl
 
 of_row : (g : GivenRow) (handset : List ℕ) (side : Direction) (reference : ℕ)
-    → is_same_giving (giving_at g.handset g.direction g.reference) (giving_at handset side reference) ≡ is_of_reference handset side reference g
+    → is_same_allocation (allocation_at g.handset g.direction g.reference) (allocation_at handset side reference) ≡ is_of_reference handset side reference g
 of_row g handset side reference = ap (λ (b : Bool). bytes_eq g.handset handset && (b && (g.reference == reference))) (same_side g.direction side)
 
 last_over : (last : Option Holder) (handset : List ℕ) (side : Direction) (reference : ℕ) (given : List GivenRow) (g : GivenRow)
@@ -36,14 +36,14 @@ last_over last handset side reference [] g = refl
 last_over last handset side reference (x ∷ given) g =
     last_over (if is_of_reference handset side reference x then Some x.holder else last) handset side reference given g
 
-pub holders_on : (given : List GivenRow) (g : GivenRow) (up : Bool) (old new : List (Giving × Holder)) → up ≡ is_up g.direction → HasHolders given old
-    → ((q : Giving) → lookup (is_same_giving q) new ≡ cond (is_same_giving (record { handset = record { digits = g.handset }; is_up = up; reference = g.reference }) q) (Some g.holder) (lookup (is_same_giving q) old))
+pub holders_on : (given : List GivenRow) (g : GivenRow) (up : Bool) (old new : List (Allocation × Holder)) → up ≡ is_up g.direction → HasHolders given old
+    → ((q : Allocation) → lookup (is_same_allocation q) new ≡ cond (is_same_allocation (record { handset = record { digits = g.handset }; is_up = up; reference = g.reference }) q) (Some g.holder) (lookup (is_same_allocation q) old))
     → HasHolders (given ++ g ∷ []) new
 holders_on given g up old new is was put handset side reference =
-    let here : is_same_giving (record { handset = record { digits = g.handset }; is_up = up; reference = g.reference }) (giving_at handset side reference) ≡ is_of_reference handset side reference g =
-    ap (λ (b : Bool). is_same_giving (record { handset = record { digits = g.handset }; is_up = b; reference = g.reference }) (giving_at handset side reference)) is ∙ of_row g handset side reference in
+    let here : is_same_allocation (record { handset = record { digits = g.handset }; is_up = up; reference = g.reference }) (allocation_at handset side reference) ≡ is_of_reference handset side reference g =
+    ap (λ (b : Bool). is_same_allocation (record { handset = record { digits = g.handset }; is_up = b; reference = g.reference }) (allocation_at handset side reference)) is ∙ of_row g handset side reference in
     let last = was handset side reference in
-    put (giving_at handset side reference) ∙ (λ j. cond (here j) (Some g.holder) (last j)) ∙ sym (last_over None handset side reference given g)
+    put (allocation_at handset side reference) ∙ (λ j. cond (here j) (Some g.holder) (last j)) ∙ sym (last_over None handset side reference given g)
 
 found_on : (b c : Bool) (o : Option (Unit {0})) → is_some o ≡ c → is_some (cond b (Some tt) o) ≡ (b || c)
 found_on true c o e = refl

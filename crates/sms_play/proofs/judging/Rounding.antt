@@ -16,7 +16,7 @@ use Rattle.sms_world_model.specs.Lists.{is_among}
 use Rattle.sms_world_model.specs.Place.{Key, Place as PlaceOf, has_key, is_same_key, number_of as number_of_place, place_in}
 use Rattle.sms_world_model.specs.PartsOfKey.{is_for, number_in, numbers, of_key}
 use Rattle.sms_world_model.specs.Rounds.{Rounds, rounded, rounds, rounds_of, submitted_pairs, with_part_of}
-use Rattle.sms_world_model.specs.World.{Accepted, Giving, is_same_handset, pair_given}
+use Rattle.sms_world_model.specs.World.{Accepted, Allocation, is_same_handset, pair_given}
 use Rattle.sms_world_model.proofs.Keys.{same_key}
 use Rattle.sms_play.specs.judging.RoundKeys.{is_same_round, is_wide, number_of, placed_at, round_key}
 use Rattle.sms_play.specs.judging.Watching.{AreNumbered, HasAccepted, HasRounds, IsPart, IsPlacedAs, IsPut, Offers, all_arrived_in, begins_in, member_numbers, newest, pair_in, round_at, with_member}
@@ -58,7 +58,7 @@ module _ (p : Accepted) (place : PlaceOf) (there : place_in p.tpdu ≡ Some plac
   its_number : number_in p ≡ place.number
   its_number = ap (λ (o : Option PlaceOf). number_of_place o) there
 
-  pub begins_as : (ms : List Member) (entries : List (Pair × Unit {0})) (down : List Giving) (accepted : List Accepted) → AreNumbered ms → HasAccepted accepted entries
+  pub begins_as : (ms : List Member) (entries : List (Pair × Unit {0})) (down : List Allocation) (accepted : List Accepted) → AreNumbered ms → HasAccepted accepted entries
       → newest [] ms ≡ (rounds_of p.handset place.key down).present
       → begins_in (record { key = round_key p.handset place.key; number = place.number }) ms entries ≡ may_begin p down accepted
   begins_as ms entries down accepted numbered has same =
@@ -84,13 +84,13 @@ module _ (p : Accepted) (place : PlaceOf) (there : place_in p.tpdu ≡ Some plac
       let q : place.key ≡ k = same_key place.key k (ap (λ (o : Option PlaceOf). has_key k o) (sym there) ∙ x.1) in
       λ j. round_key (h j) (q j)
 
-  on_top : (g : Giving) (down : List Giving) (h : Holder) → IsPart h → pair_given g ≡ p → with_part_of h (pair_given g) (submitted_pairs down) ≡ p ∷ submitted_pairs down
+  on_top : (g : Allocation) (down : List Allocation) (h : Holder) → IsPart h → pair_given g ≡ p → with_part_of h (pair_given g) (submitted_pairs down) ≡ p ∷ submitted_pairs down
   on_top g down (Part id n) i e = ap (λ (z : Accepted). z ∷ submitted_pairs down) e
   on_top g down (Report id) i e = absurd i
   on_top g down (Entry n) i e = absurd i
   on_top g down (Memory n) i e = absurd i
 
-  module _ (m : Member) (old new : List (RoundKey × List Member)) (g : Giving) (down : List Giving) (offers : Offers p g) (rounds_old : HasRounds down old)
+  module _ (m : Member) (old new : List (RoundKey × List Member)) (g : Allocation) (down : List Allocation) (offers : Offers p g) (rounds_old : HasRounds down old)
       (put : IsPut (round_key p.handset place.key) m old new) (pair : pair_in m.pair ≡ p) (number : m.number ≡ place.number) where
     more : (handset : List ℕ) (k : Key) → rounds_of handset k (g ∷ down) ≡ rounds (of_key handset k (p ∷ submitted_pairs down))
     more handset k = ap (λ (z : List Accepted). rounds (of_key handset k z)) (on_top g down g.holder offers.part offers.pair)
@@ -127,7 +127,7 @@ module _ (p : Accepted) (place : PlaceOf) (there : place_in p.tpdu ≡ Some plac
 
 -- what has no place in a round
 module _ (p : Accepted) (none : place_in p.tpdu ≡ None) where
-  pub begins_any : (down : List Giving) (accepted : List Accepted) → true ≡ may_begin p down accepted
+  pub begins_any : (down : List Allocation) (accepted : List Accepted) → true ≡ may_begin p down accepted
   begins_any down accepted = sym (ap (λ (o : Option PlaceOf). may_begin_at o p down accepted) none)
 
   not_for : (handset : List ℕ) (k : Key) → is_for handset k p ≡ false
@@ -137,7 +137,7 @@ module _ (p : Accepted) (none : place_in p.tpdu ≡ None) where
       never true = refl
       never false = refl
 
-  same_pairs : (g : Giving) (down : List Giving) (h : Holder) → IsPart h → pair_given g ≡ p → (handset : List ℕ) (k : Key)
+  same_pairs : (g : Allocation) (down : List Allocation) (h : Holder) → IsPart h → pair_given g ≡ p → (handset : List ℕ) (k : Key)
       → of_key handset k (with_part_of h (pair_given g) (submitted_pairs down)) ≡ of_key handset k (submitted_pairs down)
   same_pairs g down (Part id n) i e handset k =
       ap (λ (z : Accepted). of_key handset k (z ∷ submitted_pairs down)) e
@@ -146,7 +146,7 @@ module _ (p : Accepted) (none : place_in p.tpdu ≡ None) where
   same_pairs g down (Entry n) i e handset k = absurd i
   same_pairs g down (Memory n) i e handset k = absurd i
 
-  pub rounds_stay : (entries : List (RoundKey × List Member)) (g : Giving) (down : List Giving) → Offers p g → HasRounds down entries → HasRounds (g ∷ down) entries
+  pub rounds_stay : (entries : List (RoundKey × List Member)) (g : Allocation) (down : List Allocation) → Offers p g → HasRounds down entries → HasRounds (g ∷ down) entries
   rounds_stay entries g down offers was handset k =
       let x = was handset k in
       let is : rounds_of handset k (g ∷ down) ≡ rounds_of handset k down = ap rounds (same_pairs g down g.holder offers.part offers.pair handset k) in

@@ -4,7 +4,7 @@ use Rattle.std.specs.Prelude.{IfSome, is_some}
 use Rattle.std.specs.Option.{option_map}
 use Rattle.std.proofs.lemmas.Bool.{cond-true, cond-false, ltb-false, ltb-true, ne_eqb}
 use Rattle.sms_script.specs.declared.report.rows.FrameRow.{FrameRow}
-use Rattle.sms_play.specs.Course.{frame_at}
+use Rattle.sms_play.specs.PlayState.{frame_at}
 use Rattle.sms_play.specs.staging.Numbering.{AreNumbered}
 
 pub frame_from : (first k number : ℕ) (bag : List FrameRow) → AreNumbered first bag → number ≡ k + first → frame_at number bag ≡ slice_get bag k

@@ -5,7 +5,7 @@ use Rattle.sms_base.specs.declared.holder.Holder.TheVariants.{Part, Report, Entr
 use Rattle.sms_centre_spec.specs.SoundCore.{IsEvent, IsSoundCore}
 use Rattle.sms_centre_rows.specs.declared.messages.part.PartRow.{PartRow}
 use Rattle.sms_centre_rows.specs.messages.Messages.{part_at}
-use Rattle.sms_play.specs.Course.{Course, Party}
+use Rattle.sms_play.specs.PlayState.{PlayState, Party}
 use Rattle.sms_play.specs.Meeting.{Meeting, AtCentre, AtHandset, meeting_of}
 use Rattle.sms_play.specs.PlayedEvent.{played}
 use Rattle.sms_play.specs.declared.fault.PlayFault.{PlayFault}
@@ -38,7 +38,7 @@ AcceptMore (p ∷ ps) [] = ⊥
 AcceptMore (p ∷ ps) (q ∷ qs) = ((more : List AcceptedRow) × (q.accepted ≡ p.accepted ++ more)) × AcceptMore ps qs
 
 -- What was given and accepted stays, in order; parts stay as they are; and the parts that are given references now are there.
-pub record GoesOn (before after : Course) : Type 0 where
+pub record GoesOn (before after : PlayState) : Type 0 where
   pub more : List GivenRow
   pub given : after.given ≡ before.given ++ more
   pub parts : PartsStay before.centre.rows.parts after.centre.rows.parts
@@ -53,10 +53,10 @@ TellsCentre (Ok (AtCentre e)) = IsEvent e
 TellsCentre (Ok (AtHandset party e)) = Unit {0}
 TellsCentre (Err fault) = Unit {0}
 
-abbrev pub IsFit : ℕ → WorldEvent → Course → Type 0
+abbrev pub IsFit : ℕ → WorldEvent → PlayState → Type 0
 IsFit number (Whole act) c = TellsCentre (meeting_of number act c)
 IsFit number (Stopped stop act) c = TellsCentre (meeting_of number act c)
 IsFit number (Restart side) c = Unit {0}
 
 abbrev pub GrowthLaw : Type 0
-GrowthLaw = (number : ℕ) (e : WorldEvent) (c d : Course) → IsSoundCore c.centre → IsFit number e c → played number e c ≡ Ok d → GoesOn c d
+GrowthLaw = (number : ℕ) (e : WorldEvent) (c d : PlayState) → IsSoundCore c.centre → IsFit number e c → played number e c ≡ Ok d → GoesOn c d

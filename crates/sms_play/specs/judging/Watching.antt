@@ -16,11 +16,11 @@ use Rattle.sms_world_model.specs.Place.{Key, Place as PlaceOf}
 use Rattle.sms_world_model.specs.Lists.{is_among}
 use Rattle.sms_world_model.specs.PartsOfKey.{number_in}
 use Rattle.sms_world_model.specs.Rounds.{rounds_of}
-use Rattle.sms_world_model.specs.World.{Accepted, Giving as GivingOf, pair_given}
+use Rattle.sms_world_model.specs.World.{Accepted, Allocation as AllocationOf, pair_given}
 use Rattle.sms_play.specs.judging.RoundKeys.{is_same_round, round_key}
 use Rattle.sms_play.specs.declared.judging.rounds.Place.{Place}
 use Rattle.sms_play.specs.declared.judging.rounds.RoundKey.{RoundKey}
-use Rattle.sms_play.specs.declared.judging.watch.Giving.{Giving}
+use Rattle.sms_play.specs.declared.judging.watch.Allocation.{Allocation}
 use Rattle.sms_play.specs.declared.judging.watch.Member.{Member}
 use Rattle.sms_play.specs.declared.judging.watch.Pair.{Pair}
 use Rattle.sms_play.specs.declared.judging.watch.Watch.{Watch}
@@ -32,16 +32,16 @@ is_up Up = true
 is_up Down = false
 
 -- a reference of a side at a handset
-abbrev pub giving_at : List ℕ → Direction → ℕ → Giving
-giving_at handset side reference = record { handset = record { digits = handset }; is_up = is_up side; reference = reference }
+abbrev pub allocation_at : List ℕ → Direction → ℕ → Allocation
+allocation_at handset side reference = record { handset = record { digits = handset }; is_up = is_up side; reference = reference }
 
-abbrev pub is_same_giving : Giving → Giving → Bool
-is_same_giving a b = bytes_eq a.handset.digits b.handset.digits && (beq a.is_up b.is_up && nat_eq a.reference b.reference)
+abbrev pub is_same_allocation : Allocation → Allocation → Bool
+is_same_allocation a b = bytes_eq a.handset.digits b.handset.digits && (beq a.is_up b.is_up && nat_eq a.reference b.reference)
 
 -- each reference has its last holder
-abbrev pub HasHolders : List GivenRow → List (Giving × Holder) → Type 0
+abbrev pub HasHolders : List GivenRow → List (Allocation × Holder) → Type 0
 HasHolders given entries = (handset : List ℕ) (side : Direction) (reference : ℕ)
-    → lookup (is_same_giving (giving_at handset side reference)) entries ≡ last_holder None handset side reference given
+    → lookup (is_same_allocation (allocation_at handset side reference)) entries ≡ last_holder None handset side reference given
 
 -- ---- what was accepted
 
@@ -82,7 +82,7 @@ AreNumbered [] = Unit {0}
 AreNumbered (m ∷ ms) = (m.number ≡ number_in (pair_in m.pair)) × AreNumbered ms
 
 -- each key has its present round
-abbrev pub HasRounds : List GivingOf → List (RoundKey × List Member) → Type 0
+abbrev pub HasRounds : List AllocationOf → List (RoundKey × List Member) → Type 0
 HasRounds down entries = (handset : List ℕ) (k : Key)
     → (newest [] (round_at (round_key handset k) entries) ≡ (rounds_of handset k down).present) × AreNumbered (round_at (round_key handset k) entries)
 
@@ -114,7 +114,7 @@ IsPut key m old new = (k : RoundKey) → round_at k new ≡ (if is_same_round ke
 -- ---- all of it
 
 -- these references were given, these parts submitted and these accepted
-pub record Watches (given : List GivenRow) (down : List GivingOf) (accepted : List Accepted) (w : Watch) : Type 0 where
+pub record Watches (given : List GivenRow) (down : List AllocationOf) (accepted : List Accepted) (w : Watch) : Type 0 where
   pub holders : HasHolders given w.holders.entries
   pub rounds : HasRounds down w.rounds.entries
   pub pairs : HasAccepted accepted w.accepted.entries
@@ -126,7 +126,7 @@ IsPart (Report id) = ⊥
 IsPart (Entry number) = ⊥
 IsPart (Memory number) = ⊥
 
-pub record Offers (p : Accepted) (g : GivingOf) : Type 0 where
+pub record Offers (p : Accepted) (g : AllocationOf) : Type 0 where
   pub part : IsPart g.holder
   pub pair : pair_given g ≡ p
 

@@ -1,14 +1,14 @@
 //! Whether the premises of the claims hold at each event.
 ghost use Rattle.std.specs.Prelude.{◌≡◌, ◌&&◌, ◌<◌, ◌≤◌, ◌++◌, ◌∷◌, [], ℕ, nat_eq, List, Option, None, Some, IfOk, OnOk, drop, length, slice_index, if◌then◌else◌};
 ghost use Rattle.sms_play.specs.growth.Growth.{GoesOn};
-ghost use Rattle.sms_play.specs.judging.Shown.{IsNew, or_first, reused};
+ghost use Rattle.sms_play.specs.judging.Premises.{IsNew, or_first, reused};
 ghost use Rattle.sms_play.specs.judging.Judging.{Judged, Knows, KnowsTo};
 ghost use Rattle.sms_play.specs.judging.Watching.{Watches};
-ghost use Rattle.sms_play.specs.Course.{Course, frame_at as frame_at_number};
-ghost use Rattle.sms_play.specs.Premises.{are_fresh, hands_timely as hands_timely_of, is_fresh_event, is_timely_at, is_timely_event, newest_first, pairs_of, part_giving, part_givings};
+ghost use Rattle.sms_play.specs.PlayState.{PlayState, frame_at as frame_at_number};
+ghost use Rattle.sms_play.specs.Premises.{are_fresh, hands_timely as hands_timely_of, is_fresh_event, is_timely_at, is_timely_event, newest_first, pairs_of, part_allocation, part_allocations};
 ghost use Rattle.sms_script.specs.declared.report.report.Broken.{Broken as BrokenOf};
 ghost use Rattle.sms_script.specs.declared.report.rows.GivenRow.{GivenRow as GivenRowOf};
-ghost use Rattle.sms_world_model.specs.World.{Accepted, Giving};
+ghost use Rattle.sms_world_model.specs.World.{Accepted, Allocation};
 
 use crate::judging::scene::{Scene, Watcher};
 use crate::judging::watch::Watch;
@@ -46,10 +46,10 @@ fn behind<T>(rows: &[T], count: usize) -> &[T]
 
 // A part that was given a reference may begin a round only where it may; the rounds go on with it.
 fn submit<S: Scene>(watch: &mut Watch, row: &GivenRow, scene: &S) -> Result<bool, AllocError>
-    ensures begins { (c : Course) (given : List GivenRowOf) (down : List Giving) (accepted : List Accepted) → S.shows scene.now c → Watches given down accepted watch.old
-        → IfOk result (λ may. may ≡ are_fresh (part_giving c.centre.rows.parts row.now row.now.holder) down accepted) }
-    ensures watch { (c : Course) (given : List GivenRowOf) (down : List Giving) (accepted : List Accepted) → S.shows scene.now c → Watches given down accepted watch.old
-        → OnOk result (Watches given (newest_first down (part_giving c.centre.rows.parts row.now row.now.holder)) accepted watch.new) }
+    ensures begins { (c : PlayState) (given : List GivenRowOf) (down : List Allocation) (accepted : List Accepted) → S.represents scene.now c → Watches given down accepted watch.old
+        → IfOk result (λ may. may ≡ are_fresh (part_allocation c.centre.rows.parts row.now row.now.holder) down accepted) }
+    ensures watch { (c : PlayState) (given : List GivenRowOf) (down : List Allocation) (accepted : List Accepted) → S.represents scene.now c → Watches given down accepted watch.old
+        → OnOk result (Watches given (newest_first down (part_allocation c.centre.rows.parts row.now row.now.holder)) accepted watch.new) }
 {
     match row.holder {
         Holder::Part(id, part) => match scene.part_tpdu(id, part) {
@@ -65,10 +65,10 @@ fn submit<S: Scene>(watch: &mut Watch, row: &GivenRow, scene: &S) -> Result<bool
 
 // Whether what was given begins a round only where it may.
 fn look_at_row<S: Scene>(watch: &mut Watch, row: &GivenRow, scene: &S) -> Result<bool, AllocError>
-    ensures begins { (c : Course) (given : List GivenRowOf) (down : List Giving) (accepted : List Accepted) → S.shows scene.now c → Watches given down accepted watch.old
-        → IfOk result (λ may. may ≡ are_fresh (part_giving c.centre.rows.parts row.now row.now.holder) down accepted) }
-    ensures watch { (c : Course) (given : List GivenRowOf) (down : List Giving) (accepted : List Accepted) → S.shows scene.now c → Watches given down accepted watch.old
-        → OnOk result (Watches (given ++ row.now ∷ []) (newest_first down (part_giving c.centre.rows.parts row.now row.now.holder)) accepted watch.new) }
+    ensures begins { (c : PlayState) (given : List GivenRowOf) (down : List Allocation) (accepted : List Accepted) → S.represents scene.now c → Watches given down accepted watch.old
+        → IfOk result (λ may. may ≡ are_fresh (part_allocation c.centre.rows.parts row.now row.now.holder) down accepted) }
+    ensures watch { (c : PlayState) (given : List GivenRowOf) (down : List Allocation) (accepted : List Accepted) → S.represents scene.now c → Watches given down accepted watch.old
+        → OnOk result (Watches (given ++ row.now ∷ []) (newest_first down (part_allocation c.centre.rows.parts row.now row.now.holder)) accepted watch.new) }
 {
     let may = submit(watch, row, scene)?;
     watch.note_given(row)?;
@@ -80,10 +80,10 @@ fn look_at_given<S: Scene>(
     rows: &[GivenRow],
     scene: &S,
 ) -> Result<bool, AllocError>
-    ensures begins { (c : Course) (given : List GivenRowOf) (down : List Giving) (accepted : List Accepted) → S.shows scene.now c → Watches given down accepted watch.old
-        → IfOk result (λ fresh. fresh ≡ are_fresh (part_givings c.centre.rows.parts rows.now) down accepted) }
-    ensures watch { (c : Course) (given : List GivenRowOf) (down : List Giving) (accepted : List Accepted) → S.shows scene.now c → Watches given down accepted watch.old
-        → OnOk result (Watches (given ++ rows.now) (newest_first down (part_givings c.centre.rows.parts rows.now)) accepted watch.new) }
+    ensures begins { (c : PlayState) (given : List GivenRowOf) (down : List Allocation) (accepted : List Accepted) → S.represents scene.now c → Watches given down accepted watch.old
+        → IfOk result (λ fresh. fresh ≡ are_fresh (part_allocations c.centre.rows.parts rows.now) down accepted) }
+    ensures watch { (c : PlayState) (given : List GivenRowOf) (down : List Allocation) (accepted : List Accepted) → S.represents scene.now c → Watches given down accepted watch.old
+        → OnOk result (Watches (given ++ rows.now) (newest_first down (part_allocations c.centre.rows.parts rows.now)) accepted watch.new) }
 {
     let mut fresh = true;
     for row in rows {
@@ -96,7 +96,7 @@ fn look_at_given<S: Scene>(
 // ---- what was accepted
 
 fn look_at_accepted(watch: &mut Watch, rows: &[AcceptedRow]) -> Result<(), AllocError>
-    ensures { (given : List GivenRowOf) (down : List Giving) (accepted : List Accepted) → Watches given down accepted watch.old → OnOk result (Watches given down (pairs_of accepted rows.now) watch.new) }
+    ensures { (given : List GivenRowOf) (down : List Allocation) (accepted : List Accepted) → Watches given down accepted watch.old → OnOk result (Watches given down (pairs_of accepted rows.now) watch.new) }
 {
     for row in rows {
         watch.note_accepted(row)?;
@@ -131,7 +131,7 @@ fn note_looked_at(counts: &mut Vec<usize>, place: usize, count: usize) -> Result
 impl Judge {
     /// Nothing was looked at yet.
     pub fn new(alloc: Global) -> Judge
-        ensures { (c : Course) → IsNew c → Judged None c result }
+        ensures { (c : PlayState) → IsNew c → Judged None c result }
     {
         Judge {
             watch: Watch::new(alloc),
@@ -143,13 +143,13 @@ impl Judge {
 
     /// The first event that broke a premise.
     pub fn broken(&self) -> Option<Broken>
-        ensures { (broken : Option BrokenOf) (c : Course) → Judged broken c self.now → result ≡ broken }
+        ensures { (broken : Option BrokenOf) (c : PlayState) → Judged broken c self.now → result ≡ broken }
     {
         self.broken
     }
 
     fn is_frame_timely<S: Scene>(&self, number: u64, scene: &S) -> bool
-        ensures { (c : Course) → S.shows scene.now c → Knows c self.now → result ≡ is_timely_at (frame_at_number number c.bag) c.given }
+        ensures { (c : PlayState) → S.represents scene.now c → Knows c self.now → result ≡ is_timely_at (frame_at_number number c.bag) c.given }
     {
         match frame_at(number, scene.bag()) {
             Some(frame) => self.watch.is_timely(frame),
@@ -158,7 +158,7 @@ impl Judge {
     }
 
     fn hands_timely<S: Scene>(&self, act: &Act<'_>, scene: &S) -> bool
-        ensures { (c : Course) → S.shows scene.now c → Knows c self.now → result ≡ hands_timely_of act.now c }
+        ensures { (c : PlayState) → S.represents scene.now c → Knows c self.now → result ≡ hands_timely_of act.now c }
     {
         match act {
             Act::Deliver(number) => self.is_frame_timely(*number, scene),
@@ -168,7 +168,7 @@ impl Judge {
 
     // A stopped event hands over, too.
     fn is_timely<S: Scene>(&self, event: &WorldEvent<'_>, scene: &S) -> bool
-        ensures { (c : Course) → S.shows scene.now c → Knows c self.now → result ≡ is_timely_event event.now c }
+        ensures { (c : PlayState) → S.represents scene.now c → Knows c self.now → result ≡ is_timely_event event.now c }
     {
         match event {
             WorldEvent::Whole(act) => self.hands_timely(act, scene),
@@ -187,8 +187,8 @@ impl Judge {
 
     // What the event gave. Whether that begins rounds only where it may.
     fn take_given<S: Scene>(&mut self, scene: &S) -> Result<bool, AllocError>
-        ensures begins { (before after : Course) → S.shows scene.now after → GoesOn before after → Knows before self.old → IfOk result (λ fresh. fresh ≡ is_fresh_event before after) }
-        ensures knows { (before after : Course) → S.shows scene.now after → GoesOn before after → Knows before self.old → OnOk result (KnowsTo 0 before after self.new) }
+        ensures begins { (before after : PlayState) → S.represents scene.now after → GoesOn before after → Knows before self.old → IfOk result (λ fresh. fresh ≡ is_fresh_event before after) }
+        ensures knows { (before after : PlayState) → S.represents scene.now after → GoesOn before after → Knows before self.old → OnOk result (KnowsTo 0 before after self.new) }
         ensures broken { self.new.broken ≡ self.old.broken }
     {
         let all = scene.given();
@@ -201,7 +201,7 @@ impl Judge {
     // What the handset at that place accepted.
     fn take_accepted_at(&mut self, place: usize, rows: &[AcceptedRow]) -> Result<(), AllocError>
         requires { place ≤ length self.old.accepted.items }
-        ensures watch { (given : List GivenRowOf) (down : List Giving) (accepted : List Accepted) → Watches given down accepted self.old.watch
+        ensures watch { (given : List GivenRowOf) (down : List Allocation) (accepted : List Accepted) → Watches given down accepted self.old.watch
             → OnOk result (Watches given down (pairs_of accepted (drop (slice_index self.old.accepted.items place) rows.now)) self.new.watch) }
         ensures counts { OnOk result ((other : ℕ) → slice_index self.new.accepted.items other ≡ (if nat_eq place other then length rows.now else slice_index self.old.accepted.items other)) }
         ensures places { OnOk result (place < length self.new.accepted.items) }
@@ -215,7 +215,7 @@ impl Judge {
 
     // What the event had accepted.
     fn take_accepted<S: Scene>(&mut self, scene: &S) -> Result<(), AllocError>
-        ensures knows { (before after : Course) → S.shows scene.now after → GoesOn before after → KnowsTo 0 before after self.old → OnOk result (Knows after self.new) }
+        ensures knows { (before after : PlayState) → S.represents scene.now after → GoesOn before after → KnowsTo 0 before after self.old → OnOk result (Knows after self.new) }
         ensures broken { self.new.broken ≡ self.old.broken }
     {
         for place in 0..scene.handsets() {
@@ -226,7 +226,7 @@ impl Judge {
 
     // What the event submitted is looked at before what it had accepted.
     fn look<S: Scene>(&mut self, number: u64, scene: &S) -> Result<(), AllocError>
-        ensures { (before after : Course) → S.shows scene.now after → GoesOn before after → Judged None before self.old → OnOk result (Judged (reused number before after) after self.new) }
+        ensures { (before after : PlayState) → S.represents scene.now after → GoesOn before after → Judged None before self.old → OnOk result (Judged (reused number before after) after self.new) }
     {
         let is_fresh = self.take_given(scene)?;
         self.take_accepted(scene)?;

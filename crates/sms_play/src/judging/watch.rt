@@ -4,25 +4,25 @@ ghost use Rattle.std.specs.Map.{lookup};
 ghost use Rattle.sms_base.specs.declared.holder.Holder.{Holder as HolderOf};
 ghost use Rattle.sms_play.specs.judging.RoundKeys.{is_same_round, placed_at};
 ghost use Rattle.sms_play.specs.declared.judging.rounds.RoundKey.{RoundKey as RoundKeyOf};
-ghost use Rattle.sms_play.specs.judging.Watching.{HasHolders, IsPlacedAs, IsPut, Offers, Watches, all_arrived_in, arrived_in, begins_in, is_accepted as is_accepted_in, is_same_giving, is_up, member_numbers, pair_accepted, pair_in, round_at};
+ghost use Rattle.sms_play.specs.judging.Watching.{HasHolders, IsPlacedAs, IsPut, Offers, Watches, all_arrived_in, arrived_in, begins_in, is_accepted as is_accepted_in, is_same_allocation, is_up, member_numbers, pair_accepted, pair_in, round_at};
 ghost use Rattle.sms_play.specs.Premises.{giver, is_held_by, is_same_holder, is_timely as is_timely_of, may_begin as may_begin_of};
 ghost use Rattle.sms_script.specs.declared.report.rows.GivenRow.{GivenRow as GivenRowOf};
 ghost use Rattle.sms_tpdu.specs.MoreMessages.{compared};
 ghost use Rattle.sms_world_model.specs.Lists.{is_among};
 ghost use Rattle.sms_world_model.specs.Place.{Place as PlaceOf, place_in as place_in_octets};
-ghost use Rattle.sms_world_model.specs.World.{Accepted, Giving as GivingOf};
+ghost use Rattle.sms_world_model.specs.World.{Accepted, Allocation as AllocationOf};
 
 use crate::judging::rounds::{Place, RoundKey, place_in};
 use indexmap::IndexMap;
 use sms_base::{Digits, Holder, Kind, Listed};
 use sms_rows::interning::Number;
 use sms_script::report::{AcceptedRow, Direction, FrameRow, GivenRow};
-use sms_tpdu::tell_more_messages;
+use sms_tpdu::set_more_messages;
 use std::alloc::{AllocError, Global};
 
 // A reference at a handset, given by the side that sends that way.
 #[derive(Clone, Copy, PartialEq, Eq, Hash)]
-pub(crate) struct Giving {
+pub(crate) struct Allocation {
     pub(crate) handset: Number,
     pub(crate) is_up: bool,
     pub(crate) reference: u8,
@@ -47,7 +47,7 @@ pub(crate) struct Member {
 #[derive(Drop)]
 pub(crate) struct Watch {
     alloc: Global,
-    pub(crate) holders: IndexMap<Giving, Holder>,
+    pub(crate) holders: IndexMap<Allocation, Holder>,
     pub(crate) rounds: IndexMap<RoundKey, Listed<Member>>,
     pub(crate) accepted: IndexMap<Pair, ()>,
 }
@@ -83,7 +83,7 @@ fn pair_of(alloc: Global, handset: Digits, reference: u8, tpdu: &[u8]) -> Result
     ensures { IfOk result (λ pair. pair_in pair ≡ record { handset = handset; reference = reference; tpdu = compared tpdu.now }) }
 {
     let mut tpdu = Vec::from_slice(alloc, tpdu)?;
-    tell_more_messages(tpdu.as_mut_slice(), false);
+    set_more_messages(tpdu.as_mut_slice(), false);
     Ok(Pair {
         handset: Number { digits: handset },
         reference,
@@ -180,11 +180,11 @@ impl Watch {
     }
 
     // Whether the reference was given to that holder last.
-    fn is_held(&self, giving: &Giving, holder: Holder) -> bool
-        ensures { result ≡ is_held_by holder (lookup (is_same_giving giving.now) self.now.holders.entries) }
+    fn is_held(&self, allocation: &Allocation, holder: Holder) -> bool
+        ensures { result ≡ is_held_by holder (lookup (is_same_allocation allocation.now) self.now.holders.entries) }
     {
         holders_are_told_apart();
-        match self.holders.get(giving) {
+        match self.holders.get(allocation) {
             Some(last) => holder == *last,
             None => false,
         }
@@ -197,34 +197,34 @@ impl Watch {
         let Some(carried) = frame.carried else {
             return true;
         };
-        let giving = Giving {
+        let allocation = Allocation {
             handset: Number {
                 digits: frame.handset,
             },
             is_up: is_given_up(frame.direction, carried.kind),
             reference: carried.reference,
         };
-        self.is_held(&giving, carried.tag)
+        self.is_held(&allocation, carried.tag)
     }
 
     /// A reference was given.
     pub(crate) fn note_given(&mut self, row: &GivenRow) -> Result<(), AllocError>
-        ensures { (given : List GivenRowOf) (down : List GivingOf) (accepted : List Accepted) → Watches given down accepted self.old → OnOk result (Watches (given ++ row.now ∷ []) down accepted self.new) }
+        ensures { (given : List GivenRowOf) (down : List AllocationOf) (accepted : List Accepted) → Watches given down accepted self.old → OnOk result (Watches (given ++ row.now ∷ []) down accepted self.new) }
     {
-        let giving = Giving {
+        let allocation = Allocation {
             handset: Number {
                 digits: row.handset,
             },
             is_up: goes_up(row.direction),
             reference: row.reference,
         };
-        self.holders.insert(giving, row.holder)?;
+        self.holders.insert(allocation, row.holder)?;
         Ok(())
     }
 
     /// A handset accepted that.
     pub(crate) fn note_accepted(&mut self, row: &AcceptedRow) -> Result<(), AllocError>
-        ensures { (given : List GivenRowOf) (down : List GivingOf) (accepted : List Accepted) → Watches given down accepted self.old → OnOk result (Watches given down (pair_accepted row.now ∷ accepted) self.new) }
+        ensures { (given : List GivenRowOf) (down : List AllocationOf) (accepted : List Accepted) → Watches given down accepted self.old → OnOk result (Watches given down (pair_accepted row.now ∷ accepted) self.new) }
     {
         let pair = pair_of(self.alloc, row.handset, row.reference, row.tpdu.as_slice())?;
         self.accepted.insert(pair, ())?;
@@ -284,7 +284,7 @@ impl Watch {
 
     // The part goes on in the present round of its key, or begins the next.
     fn put(&mut self, place: &Place, pair: Pair) -> Result<(), AllocError>
-        ensures { (given : List GivenRowOf) (down : List GivingOf) (accepted : List Accepted) (p : PlaceOf) (g : GivingOf) → Watches given down accepted self.old → place_in_octets (pair_in pair).tpdu ≡ Some p
+        ensures { (given : List GivenRowOf) (down : List AllocationOf) (accepted : List Accepted) (p : PlaceOf) (g : AllocationOf) → Watches given down accepted self.old → place_in_octets (pair_in pair).tpdu ≡ Some p
             → IsPlacedAs place.now (pair_in pair).handset p → Offers (pair_in pair) g → OnOk result (Watches given (g ∷ down) accepted self.new) }
     {
         let number = place.number;
@@ -296,9 +296,9 @@ impl Watch {
 
     // The part is submitted at that place.
     fn enter(&mut self, place: &Place, pair: Pair) -> Result<bool, AllocError>
-        ensures begins { (given : List GivenRowOf) (down : List GivingOf) (accepted : List Accepted) (p : PlaceOf) → Watches given down accepted self.old → place_in_octets (pair_in pair).tpdu ≡ Some p
+        ensures begins { (given : List GivenRowOf) (down : List AllocationOf) (accepted : List Accepted) (p : PlaceOf) → Watches given down accepted self.old → place_in_octets (pair_in pair).tpdu ≡ Some p
             → IsPlacedAs place.now (pair_in pair).handset p → IfOk result (λ may. may ≡ may_begin_of (pair_in pair) down accepted) }
-        ensures put { (given : List GivenRowOf) (down : List GivingOf) (accepted : List Accepted) (p : PlaceOf) (g : GivingOf) → Watches given down accepted self.old → place_in_octets (pair_in pair).tpdu ≡ Some p
+        ensures put { (given : List GivenRowOf) (down : List AllocationOf) (accepted : List Accepted) (p : PlaceOf) (g : AllocationOf) → Watches given down accepted self.old → place_in_octets (pair_in pair).tpdu ≡ Some p
             → IsPlacedAs place.now (pair_in pair).handset p → Offers (pair_in pair) g → OnOk result (Watches given (g ∷ down) accepted self.new) }
     {
         let may = self.may_begin(place);
@@ -314,9 +314,9 @@ impl Watch {
         reference: u8,
         tpdu: &[u8],
     ) -> Result<bool, AllocError>
-        ensures begins { (given : List GivenRowOf) (down : List GivingOf) (accepted : List Accepted) → Watches given down accepted self.old
+        ensures begins { (given : List GivenRowOf) (down : List AllocationOf) (accepted : List Accepted) → Watches given down accepted self.old
             → IfOk result (λ may. may ≡ may_begin_of (record { handset = handset; reference = reference; tpdu = compared tpdu.now }) down accepted) }
-        ensures put { (given : List GivenRowOf) (down : List GivingOf) (accepted : List Accepted) (g : GivingOf) → Watches given down accepted self.old
+        ensures put { (given : List GivenRowOf) (down : List AllocationOf) (accepted : List Accepted) (g : AllocationOf) → Watches given down accepted self.old
             → Offers (record { handset = handset; reference = reference; tpdu = compared tpdu.now }) g → OnOk result (Watches given (g ∷ down) accepted self.new) }
     {
         let pair = pair_of(self.alloc, handset, reference, tpdu)?;

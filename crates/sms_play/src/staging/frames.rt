@@ -1,7 +1,7 @@
 //! The frames that were sent, by number.
 ghost use Rattle.std.specs.Prelude.{◌≡◌, OnOk, option_copied};
 ghost use Rattle.sms_play.specs.CentreSide.{all_sent as all_sent_down};
-ghost use Rattle.sms_play.specs.Course.{frame_at as frame_at_number, sent as sent_of};
+ghost use Rattle.sms_play.specs.PlayState.{frame_at as frame_at_number, sent as sent_of};
 ghost use Rattle.sms_play.specs.HandsetSide.{all_sent as all_sent_up};
 ghost use Rattle.sms_play.specs.staging.Numbering.{AreNumbered};
 

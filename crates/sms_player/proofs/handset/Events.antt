@@ -5,17 +5,17 @@ use Rattle.sms_base.specs.declared.holder.Holder.{Holder}
 use Rattle.sms_handset_draft.specs.Draft.{Core, Draft, core_of}
 use Rattle.sms_handset_draft.specs.declared.rows.Rows.{Rows}
 use Rattle.sms_handset_draft.specs.Outcome.{Outcome, outcome_of}
-use Rattle.sms_handset.specs.HandsetEvent.{deleted, discarded, frame_came, ticked, wrote}
+use Rattle.sms_handset.specs.HandsetEvent.{deleted, discarded, frame_received, ticked, wrote}
 use Rattle.sms_handset.specs.Planning.{Rests, RestsIfDone, adopted}
 use Rattle.sms_handset.specs.declared.event.HandsetEvent.{HandsetEvent}
 use Rattle.sms_handset.specs.declared.event.HandsetEvent.TheVariants.{Frame, Tick, Write, Delete, Discard}
 use Rattle.sms_handset.specs.declared.refusal.Refusal.{Refusal}
 use Rattle.sms_handset.specs.HandsetEvent.{tag_of}
-use Rattle.sms_play.specs.Course.{Party}
+use Rattle.sms_play.specs.PlayState.{Party}
 use Rattle.sms_play.specs.HandsetSide.{accepted_in, entries_given, given_by, happened, joined_in, memories_given, party_after}
 use Rattle.sms_player.specs.handset.Meeting.{Meets, moment_after}
-use Rattle.sms_player.specs.declared.handset.played.Met.{Met}
-use Rattle.sms_player.specs.declared.handset.played.Met.TheVariants.{Done}
+use Rattle.sms_player.specs.declared.handset.played.HandsetOutcome.{HandsetOutcome}
+use Rattle.sms_player.specs.declared.handset.played.HandsetOutcome.TheVariants.{Done}
 use Rattle.sms_script.specs.declared.report.rows.AcceptedRow.{AcceptedRow}
 use Rattle.sms_script.specs.declared.report.rows.GivenRow.{GivenRow}
 use Rattle.sms_script.specs.declared.report.rows.JoinedRow.{JoinedRow}
@@ -33,7 +33,7 @@ keeps_moments event c d e = subst (λ (r : Result Draft Refusal). StaysIfDone (m
 
 -- the rows of each event by its kind
 pub event_rests :
-    (frame : (octets : List ℕ) (tag : Holder) (c : Core) → Rests c.rows (frame_came octets tag c))
+    (frame : (octets : List ℕ) (tag : Holder) (c : Core) → Rests c.rows (frame_received octets tag c))
     (tick : (now : ℕ) (c : Core) → Rests c.rows (ticked now c))
     (write : (text to : List ℕ) (report : Bool) (c : Core) → RestsIfDone c.rows (wrote text to report c))
     (delete : (entry : ℕ) (c : Core) → RestsIfDone c.rows (deleted entry c))
@@ -70,7 +70,7 @@ given_is party before after d o moment is time given =
     ∙ append_assoc before (entries_given party.number d.moment party.core.rows.outbox d.changes.outbox) (memories_given party.number d.moment party.core.rows.counters.notice d.frames)
 
 -- a plan of the event that was carried out
-pub meets_planned : {E : Type 0} (res : Result Met E) (old new : Party) (before after : List GivenRow) (wanted : Result Draft Refusal) (d : Draft) (o : Outcome) (moment : ℕ)
+pub meets_planned : {E : Type 0} (res : Result HandsetOutcome E) (old new : Party) (before after : List GivenRow) (wanted : Result Draft Refusal) (d : Draft) (o : Outcome) (moment : ℕ)
     → wanted ≡ Ok d → o ≡ outcome_of d → RestsIfDone old.core.rows wanted → d.moment ≡ moment → new.number ≡ old.number
     → IfOk res (λ met. met ≡ Done o.frames)
     → OnOk res (new.core ≡ adopted o old.core)
@@ -84,6 +84,6 @@ meets_planned {E} (Ok met) old new before after wanted d o moment w is rests tim
     (core ∙ ap (λ (x : Outcome). adopted x old.core) is ∙ adopted_is wanted d old.core rests w)
     (accepted ∙ ap (λ (x : Outcome). old.accepted ++ accepted_in old.number x.changes.last) is)
     (joined ∙ ap (λ (x : Outcome). old.joined ++ joined_in old.number x.changes.entries) is) in
-    subst (λ (x : Met). Meets {E = E} (Ok x) old new before after wanted) (sym m)
+    subst (λ (x : HandsetOutcome). Meets {E = E} (Ok x) old new before after wanted) (sym m)
     (d, (w, ap (λ (x : Outcome). x.frames) is, done, given_is old before after d o moment is time given))
 meets_planned {E} (Err e) old new before after wanted d o moment w is rests time number m core accepted joined given = tt

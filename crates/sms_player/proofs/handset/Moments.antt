@@ -50,13 +50,13 @@ use Rattle.sms_concat.specs.TextContent.{content_of_text}
 use Rattle.sms_handset_draft.specs.Draft.{Draft, put_entry, remove_entry, put_last, put_out, remove_out, put_mark, remove_mark, put_counters, Core, draft_of, link_of, with_turn}
 use Rattle.sms_handset_draft.specs.declared.counters.Counters.{Counters}
 use Rattle.sms_handset_draft.specs.Storing.{drop_all, free_all, ended, completed, store_single, store_part, marked}
-use Rattle.sms_handset_draft.specs.Receiving.{accept, no_room, single_came, new_part_came, member_came, part_came, deliver_came, note, tpdu_came, acknowledge, data_came, unit_came}
+use Rattle.sms_handset_draft.specs.Receiving.{accept, no_room, single_received, new_part_received, member_received, part_received, deliver_received, note, tpdu_received, acknowledge, data_received, unit_received}
 use Rattle.sms_handset_draft.specs.MemoryAvailable.{has_room, notice_failed, notice_ended, notice_concluded, first_notice, freed, want_notice}
 use Rattle.sms_handset_draft.specs.Outbox.{entry_concluded, holder_concluded, lapse_rows, lapse, offer_entry, offer_message, is_notice_next, offer_wanted, offer_after, offer, follow}
 use Rattle.sms_handset.specs.OwnersActs.{write_part, write_parts, count_split, fits_outbox, write_to, written, write_split, delete_out, delete_in, discard_group, discard_members, discard_in, discard_at, write, delete, discard}
 use Rattle.sms_handset.specs.declared.refusal.Refusal.{Refusal}
 use Rattle.sms_handset_draft.specs.FramesAndTicks.{went_up, timed_out, frame_heard, at_moment, timers_fired}
-use Rattle.sms_handset.specs.HandsetEvent.{acted, frame_came, ticked, wrote, deleted, discarded}
+use Rattle.sms_handset.specs.HandsetEvent.{acted, frame_received, ticked, wrote, deleted, discarded}
 use Rattle.sms_handset.specs.declared.refusal.Refusal.TheVariants.{OutboxFull, StillOpen, NoEntry, TooManyDiscarded}
 
 -- ---- the moment stands
@@ -141,54 +141,54 @@ accept_stays base r tag tpdu d h = put_last_stays base (record { reference = r; 
 no_room_stays : (base : ℕ) (r : ℕ) (tag : Holder) (d : Draft) → Stays base d → Stays base (no_room r tag d)
 no_room_stays base r tag d h = put_counters_stays base (record d.rows.counters { is_memory_full = true }) d h
 
-single_came_stays : (base : ℕ) (r : ℕ) (tag : Holder) (tpdu : List ℕ) (d : Draft) → Stays base d → Stays base (single_came r tag tpdu d)
-single_came_stays base r tag tpdu d h =
+single_received_stays : (base : ℕ) (r : ℕ) (tag : Holder) (tpdu : List ℕ) (d : Draft) → Stays base d → Stays base (single_received r tag tpdu d)
+single_received_stays base r tag tpdu d h =
     cond_both (has_room d) (accept r tag tpdu (store_single tpdu d)) (no_room r tag d) (λ (z : Draft). Stays base z)
     (λ t. accept_stays base r tag tpdu (store_single tpdu d) (store_single_stays base tpdu d h)) (λ t. no_room_stays base r tag d h)
 
-new_part_came_stays : (base : ℕ) (r : ℕ) (tag : Holder) (tpdu : List ℕ) (g : Group) (n : ℕ) (es : List Entry) (d : Draft) → Stays base d → Stays base (new_part_came r tag tpdu g n es d)
-new_part_came_stays base r tag tpdu g n es d h =
+new_part_received_stays : (base : ℕ) (r : ℕ) (tag : Holder) (tpdu : List ℕ) (g : Group) (n : ℕ) (es : List Entry) (d : Draft) → Stays base d → Stays base (new_part_received r tag tpdu g n es d)
+new_part_received_stays base r tag tpdu g n es d h =
     cond_both (has_room d) (accept r tag tpdu (store_part g n tpdu es d)) (no_room r tag d) (λ (z : Draft). Stays base z)
     (λ t. accept_stays base r tag tpdu (store_part g n tpdu es d) (store_part_stays base g n tpdu es d h)) (λ t. no_room_stays base r tag d h)
 
-member_came_stays : (base : ℕ) (r : ℕ) (tag : Holder) (tpdu : List ℕ) (g : Group) (n : ℕ) (es : List Entry) (d : Draft) → Stays base d → Stays base (member_came r tag tpdu g n es d)
-member_came_stays base r tag tpdu g n es d h =
-    cond_both (is_among n (part_numbers es)) (single_came r tag tpdu d) (new_part_came r tag tpdu g n es d) (λ (z : Draft). Stays base z)
-    (λ t. single_came_stays base r tag tpdu d h) (λ t. new_part_came_stays base r tag tpdu g n es d h)
+member_received_stays : (base : ℕ) (r : ℕ) (tag : Holder) (tpdu : List ℕ) (g : Group) (n : ℕ) (es : List Entry) (d : Draft) → Stays base d → Stays base (member_received r tag tpdu g n es d)
+member_received_stays base r tag tpdu g n es d h =
+    cond_both (is_among n (part_numbers es)) (single_received r tag tpdu d) (new_part_received r tag tpdu g n es d) (λ (z : Draft). Stays base z)
+    (λ t. single_received_stays base r tag tpdu d h) (λ t. new_part_received_stays base r tag tpdu g n es d h)
 
-part_came_stays : (base : ℕ) (r : ℕ) (tag : Holder) (tpdu : List ℕ) (g : Group) (n : ℕ) (m : Option DiscardedGroup) (d : Draft) → Stays base d → Stays base (part_came r tag tpdu g n m d)
-part_came_stays base r tag tpdu g n None d h = member_came_stays base r tag tpdu g n (members g d.rows.entries) d h
-part_came_stays base r tag tpdu g n (Some m) d h =
-    cond_both (is_among n m.seen) (single_came r tag tpdu d) (accept r tag tpdu (marked n m d)) (λ (z : Draft). Stays base z)
-    (λ t. single_came_stays base r tag tpdu d h) (λ t. accept_stays base r tag tpdu (marked n m d) (marked_stays base n m d h))
+part_received_stays : (base : ℕ) (r : ℕ) (tag : Holder) (tpdu : List ℕ) (g : Group) (n : ℕ) (m : Option DiscardedGroup) (d : Draft) → Stays base d → Stays base (part_received r tag tpdu g n m d)
+part_received_stays base r tag tpdu g n None d h = member_received_stays base r tag tpdu g n (members g d.rows.entries) d h
+part_received_stays base r tag tpdu g n (Some m) d h =
+    cond_both (is_among n m.seen) (single_received r tag tpdu d) (accept r tag tpdu (marked n m d)) (λ (z : Draft). Stays base z)
+    (λ t. single_received_stays base r tag tpdu d h) (λ t. accept_stays base r tag tpdu (marked n m d) (marked_stays base n m d h))
 
-deliver_came_stays : (base : ℕ) (r : ℕ) (tag : Holder) (tpdu : List ℕ) (m : DeliverOf) (k : Option ConcatKey) (d : Draft) → Stays base d → Stays base (deliver_came r tag tpdu m k d)
-deliver_came_stays base r tag tpdu m None d h = single_came_stays base r tag tpdu d h
-deliver_came_stays base r tag tpdu m (Some k) d h =
-    part_came_stays base r tag tpdu (group_of m.originating_address k) k.number (mark_of (group_of m.originating_address k) d.rows.marks) d h
+deliver_received_stays : (base : ℕ) (r : ℕ) (tag : Holder) (tpdu : List ℕ) (m : DeliverOf) (k : Option ConcatKey) (d : Draft) → Stays base d → Stays base (deliver_received r tag tpdu m k d)
+deliver_received_stays base r tag tpdu m None d h = single_received_stays base r tag tpdu d h
+deliver_received_stays base r tag tpdu m (Some k) d h =
+    part_received_stays base r tag tpdu (group_of m.originating_address k) k.number (mark_of (group_of m.originating_address k) d.rows.marks) d h
 
 note_stays : (base : ℕ) (s : ℕ) (o : Option OutEntry) (d : Draft) → Stays base d → Stays base (note s o d)
 note_stays base s None d h = h
 note_stays base s (Some o) d h = put_out_stays base (record o { status = Some s }) d h
 
-tpdu_came_stays : (base : ℕ) (r : ℕ) (tag : Holder) (tpdu : List ℕ) (t : Result Down TpduFault) (d : Draft) → Stays base d → Stays base (tpdu_came r tag tpdu t d)
-tpdu_came_stays base r tag tpdu (Ok (Deliver m)) d h = deliver_came_stays base r tag tpdu m (key_of m) d h
-tpdu_came_stays base r tag tpdu (Ok (StatusReport s)) d h =
+tpdu_received_stays : (base : ℕ) (r : ℕ) (tag : Holder) (tpdu : List ℕ) (t : Result Down TpduFault) (d : Draft) → Stays base d → Stays base (tpdu_received r tag tpdu t d)
+tpdu_received_stays base r tag tpdu (Ok (Deliver m)) d h = deliver_received_stays base r tag tpdu m (key_of m) d h
+tpdu_received_stays base r tag tpdu (Ok (StatusReport s)) d h =
     accept_stays base r tag tpdu (note s.status (reported s d.rows.outbox) d) (note_stays base s.status (reported s d.rows.outbox) d h)
-tpdu_came_stays base r tag tpdu (Ok (SubmitReport s)) d h = h
-tpdu_came_stays base r tag tpdu (Err f) d h = h
+tpdu_received_stays base r tag tpdu (Ok (SubmitReport s)) d h = h
+tpdu_received_stays base r tag tpdu (Err f) d h = h
 
-data_came_stays : (base : ℕ) (r : ℕ) (tag : Holder) (tpdu : List ℕ) (d : Draft) → Stays base d → Stays base (data_came r tag tpdu d)
-data_came_stays base r tag tpdu d h =
-    cond_both (is_double tpdu (row_at last_key r d.rows.last)) (acknowledge r tag d) (tpdu_came r tag tpdu (down_at InData tpdu) d) (λ (z : Draft). Stays base z)
-    (λ t. h) (λ t. tpdu_came_stays base r tag tpdu (down_at InData tpdu) d h)
+data_received_stays : (base : ℕ) (r : ℕ) (tag : Holder) (tpdu : List ℕ) (d : Draft) → Stays base d → Stays base (data_received r tag tpdu d)
+data_received_stays base r tag tpdu d h =
+    cond_both (is_double tpdu (row_at last_key r d.rows.last)) (acknowledge r tag d) (tpdu_received r tag tpdu (down_at InData tpdu) d) (λ (z : Draft). Stays base z)
+    (λ t. h) (λ t. tpdu_received_stays base r tag tpdu (down_at InData tpdu) d h)
 
-unit_came_stays : (base : ℕ) (tag : Holder) (unit : List ℕ) (u : Result Rp RelayFault) (d : Draft) → Stays base d → Stays base (unit_came tag unit u d)
-unit_came_stays base tag unit (Ok (DataUnit r c tpdu)) d h = data_came_stays base r tag tpdu d h
-unit_came_stays base tag unit (Ok (AckUnit r tpdu)) d h = h
-unit_came_stays base tag unit (Ok (ErrorUnit r c tpdu)) d h = h
-unit_came_stays base tag unit (Ok (Smma r)) d h = h
-unit_came_stays base tag unit (Err f) d h = h
+unit_received_stays : (base : ℕ) (tag : Holder) (unit : List ℕ) (u : Result Rp RelayFault) (d : Draft) → Stays base d → Stays base (unit_received tag unit u d)
+unit_received_stays base tag unit (Ok (DataUnit r c tpdu)) d h = data_received_stays base r tag tpdu d h
+unit_received_stays base tag unit (Ok (AckUnit r tpdu)) d h = h
+unit_received_stays base tag unit (Ok (ErrorUnit r c tpdu)) d h = h
+unit_received_stays base tag unit (Ok (Smma r)) d h = h
+unit_received_stays base tag unit (Err f) d h = h
 
 -- ---- the outbox
 
@@ -317,7 +317,7 @@ discard_at_stays base n (Some e) d h = discard_in_stays base n e.message d h
 
 went_up_stays : (base : ℕ) (tag : Holder) (up : Option Upward) (d : Draft) → Stays base d → Stays base (went_up tag up d)
 went_up_stays base tag None d h = h
-went_up_stays base tag (Some (Opened unit)) d h = unit_came_stays base tag unit (unit_at unit) d h
+went_up_stays base tag (Some (Opened unit)) d h = unit_received_stays base tag unit (unit_at unit) d h
 went_up_stays base tag (Some (Ended transfer ending)) d h = holder_concluded_stays base ending transfer.tag d h
 
 timed_out_stays : (base : ℕ) (up : Option Upward) (d : Draft) → Stays base d → Stays base (timed_out up d)
@@ -325,7 +325,7 @@ timed_out_stays base None d h = h
 timed_out_stays base (Some (Opened unit)) d h = h
 timed_out_stays base (Some (Ended transfer ending)) d h = holder_concluded_stays base ending transfer.tag d h
 
-pub frame_stays : (octets : List ℕ) (tag : Holder) (c : Core) → Stays c.moment (frame_came octets tag c)
+pub frame_stays : (octets : List ℕ) (tag : Holder) (c : Core) → Stays c.moment (frame_received octets tag c)
 frame_stays octets tag c =
     let turn : Turn = taken octets (link_of (draft_of c)) in
     follow_stays c.moment (frame_heard tag turn (draft_of c)) (went_up_stays c.moment tag turn.out.up (with_turn turn (draft_of c)) refl)

@@ -12,14 +12,14 @@ use Rattle.sms_base.specs.declared.address.Address.{Address}
 use Rattle.sms_base.specs.HandsetNumber.{is_decimal, own_address}
 use Rattle.sms_base.specs.SemiOctet.{is_digit}
 use Rattle.sms_base.specs.TimeStamp.{IsMoment}
-use Rattle.sms_centre_rows.specs.waiting.SoundGivings.{IsNumber}
-use Rattle.sms_intake.specs.declared.submission.Account.{Account as CentreAccount}
-use Rattle.sms_script.specs.declared.setup.Account.{Account}
+use Rattle.sms_centre_rows.specs.waiting.SoundAllocations.{IsNumber}
+use Rattle.sms_intake.specs.declared.submission.CentreAccount.{CentreAccount}
+use Rattle.sms_script.specs.declared.setup.AccountSetup.{AccountSetup}
 use Rattle.sms_script.specs.declared.setup.HandsetSetup.{HandsetSetup}
 use Rattle.sms_script.specs.declared.setup.Setup.{Setup}
 use Rattle.sms_centre_spec.specs.SoundCore.{AreDifferent}
 use Rattle.sms_centre_spec.specs.SoundRows.{IsSetup}
-use Rattle.sms_play.specs.Course.{numbers_of}
+use Rattle.sms_play.specs.PlayState.{numbers_of}
 use Rattle.sms_play.specs.Setups.{accounts_of, are_accounts, are_handsets, can_be_played, centre_setup, has_account, has_handset, is_handset, is_moment, is_number, parties_of}
 use Rattle.sms_player.specs.heads.Heads.{AreHandsets}
 
@@ -83,22 +83,22 @@ moment_is seconds e =
 
 -- ---- accounts
 
-pub first_account : (a : Account) (others : List Account) → are_accounts (a ∷ others) ≡ true → (is_number a.number ≡ true) × (are_accounts others ≡ true)
+pub first_account : (a : AccountSetup) (others : List AccountSetup) → are_accounts (a ∷ others) ≡ true → (is_number a.number ≡ true) × (are_accounts others ≡ true)
 first_account a others e =
     let p = and_parts (is_number a.number && not (has_account a.name others)) (are_accounts others) e in
     ((and_parts (is_number a.number) (not (has_account a.name others)) p.0).0, p.1)
 
 -- the account at a place, and those behind it
-pub account_good : (accounts : List Account) (i : ℕ) (a : Account) → i < length accounts → a ≡ get_or accounts i a → are_accounts (drop i accounts) ≡ true → (is_number a.number ≡ true) × (are_accounts (drop (i + 1) accounts) ≡ true)
-account_good accounts i a low is good = first_account a (drop (i + 1) accounts) (subst (λ (rest : List Account). are_accounts rest ≡ true) (drop_one accounts i a low is) good)
+pub account_good : (accounts : List AccountSetup) (i : ℕ) (a : AccountSetup) → i < length accounts → a ≡ get_or accounts i a → are_accounts (drop i accounts) ≡ true → (is_number a.number ≡ true) × (are_accounts (drop (i + 1) accounts) ≡ true)
+account_good accounts i a low is good = first_account a (drop (i + 1) accounts) (subst (λ (rest : List AccountSetup). are_accounts rest ≡ true) (drop_one accounts i a low is) good)
 
-accounts_are : (accounts : List Account) → are_accounts accounts ≡ true → (a : CentreAccount) → Among a (accounts_of accounts) → IsAddress a.address
+accounts_are : (accounts : List AccountSetup) → are_accounts accounts ≡ true → (a : CentreAccount) → Among a (accounts_of accounts) → IsAddress a.address
 accounts_are [] e a i = absurd i
 accounts_are (x ∷ xs) e a i =
     let p = first_account x xs e in
     ⊎_elim (λ q. subst (λ (z : CentreAccount). IsAddress z.address) (sym q) (number_is x.number p.0)) (λ (j : Among a (accounts_of xs)). accounts_are xs p.1 a j) i
 
-accounts_count : (accounts : List Account) → length (accounts_of accounts) ≡ length accounts
+accounts_count : (accounts : List AccountSetup) → length (accounts_of accounts) ≡ length accounts
 accounts_count [] = refl
 accounts_count (x ∷ xs) = ap (λ (n : ℕ). suc n) (accounts_count xs)
 

@@ -4,14 +4,14 @@ use Rattle.std.specs.Prelude.{◌⊎◌}
 use Rattle.sms_base.specs.Among.{Among}
 use Rattle.sms_link.specs.declared.outgoing.Outgoing.{Outgoing}
 use Rattle.sms_play.specs.CentreSide.{all_sent as all_sent_down}
-use Rattle.sms_play.specs.Course.{sent}
+use Rattle.sms_play.specs.PlayState.{sent}
 use Rattle.sms_play.specs.HandsetSide.{all_sent as all_sent_up}
-use Rattle.sms_player.specs.playing.Courses.{AreFrom}
+use Rattle.sms_player.specs.playing.Plays.{AreFrom}
 use Rattle.sms_script.specs.declared.report.rows.Direction.{Direction}
 use Rattle.sms_script.specs.declared.report.rows.Direction.TheVariants.{Down, Up}
 use Rattle.sms_script.specs.declared.report.rows.FrameRow.{FrameRow}
 use Rattle.sms_play.specs.staging.Numbering.{AreNumbered}
-use Rattle.sms_centre_rows.specs.declared.waiting.line.Sent.{Sent}
+use Rattle.sms_centre_rows.specs.declared.waiting.handset_link.Sent.{Sent}
 
 numbered_behind : (n : ℕ) (bag : List FrameRow) (f : FrameRow) → AreNumbered n bag → f.number ≡ length bag + n → AreNumbered n (bag ++ f ∷ [])
 numbered_behind n [] f h e = let q : f.number ≡ 0 + n = e in (omega (arith, q), tt)

@@ -8,7 +8,7 @@ use Rattle.sms_play.specs.growth.Growth.{TellsCentre}
 use Rattle.sms_handset.specs.declared.event.HandsetEvent.{HandsetEvent}
 use Rattle.sms_handset.specs.declared.event.HandsetEvent.TheVariants.{Delete as HandsetDelete, Discard as HandsetDiscard, Tick as HandsetTick, Write as HandsetWrite}
 use Rattle.std.specs.Str.{chars}
-use Rattle.sms_play.specs.Course.{Course, Party, party_at}
+use Rattle.sms_play.specs.PlayState.{PlayState, Party, party_at}
 use Rattle.sms_play.specs.Meeting.{account_from, by_account, by_handset, cancel_of, meeting_of, query_of, submit_of}
 use Rattle.sms_script.specs.declared.event.Act.{Act}
 use Rattle.sms_script.specs.declared.event.Act.TheVariants.{Cancel, Deliver, Delete, Discard, Query, Submit, Tick, Write}
@@ -41,7 +41,7 @@ BringsNone (Discard handset entry) = Unit {0}
 BringsNone (Deliver number) = ⊥
 BringsNone (Tick side now) = ⊥
 
-fits_bare : (event : ℕ) (act : Act) (c : Course) → BringsNone act → TellsCentre (meeting_of event act c)
+fits_bare : (event : ℕ) (act : Act) (c : PlayState) → BringsNone act → TellsCentre (meeting_of event act c)
 fits_bare event (Submit s) c none = requests_fit event (λ (place : ℕ). CentreSubmit place (submit_of s)) (account_from 0 s.name c.centre.rows.setup.accounts) (λ place. tt)
 fits_bare event (Query name id) c none = requests_fit event (λ (place : ℕ). CentreQuery place (query_of id)) (account_from 0 name c.centre.rows.setup.accounts) (λ place. tt)
 fits_bare event (Cancel name id) c none = requests_fit event (λ (place : ℕ). CentreCancel place (cancel_of id)) (account_from 0 name c.centre.rows.setup.accounts) (λ place. tt)
@@ -52,11 +52,11 @@ fits_bare event (Deliver number) c none = absurd none
 fits_bare event (Tick side now) c none = absurd none
 
 -- an act that is one of them
-pub fits_as : {X E : Type 0} (res : Result X E) (event : ℕ) (act bare : Act) (c : Course) → act ≡ bare → BringsNone bare → OnOk res (TellsCentre (meeting_of event act c))
+pub fits_as : {X E : Type 0} (res : Result X E) (event : ℕ) (act bare : Act) (c : PlayState) → act ≡ bare → BringsNone bare → OnOk res (TellsCentre (meeting_of event act c))
 fits_as res event act bare c is none =
     anyhow res (TellsCentre (meeting_of event act c)) (subst (λ (a : Act). TellsCentre (meeting_of event a c)) (sym is) (fits_bare event bare c none))
 
 -- a tick of a handset
-pub handset_ticks : (event now : ℕ) (side : Side) (number : List ℕ) (c : Course) → side ≡ Handset number → TellsCentre (meeting_of event (Tick side now) c)
+pub handset_ticks : (event now : ℕ) (side : Side) (number : List ℕ) (c : PlayState) → side ≡ Handset number → TellsCentre (meeting_of event (Tick side now) c)
 handset_ticks event now side number c is =
     subst (λ (s : Side). TellsCentre (meeting_of event (Tick s now) c)) (sym is) (handsets_fit event (HandsetTick now) (party_at number c.parties))

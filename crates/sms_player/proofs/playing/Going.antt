@@ -9,53 +9,53 @@ use Rattle.sms_centre_spec.specs.declared.rows.Rows.{Rows}
 use Rattle.sms_centre_spec.specs.declared.event.CentreEvent.TheVariants.{DeliverAnswered}
 use Rattle.sms_handset.specs.declared.event.HandsetEvent.{HandsetEvent}
 use Rattle.sms_play.specs.CentreSide.{accepted_after, answered_as, centre_meets, committed, done, given_by, told, whole}
-use Rattle.sms_play.specs.Course.{Course, Party, answer}
+use Rattle.sms_play.specs.PlayState.{PlayState, Party, answer}
 use Rattle.sms_play.specs.Meeting.{AtCentre, AtHandset, Meeting, account_from, asked_by, at_handset, by_account, by_handset, meeting_of}
 use Rattle.sms_play.specs.PlayedEvent.{centre_restarted, sessions_from}
 use Rattle.sms_play.specs.declared.fault.PlayFault.{PlayFault}
 use Rattle.sms_play.specs.declared.fault.PlayFault.TheVariants.{NoSuchAccount, NoSuchSide}
-use Rattle.sms_player.specs.playing.Courses.{Shows}
+use Rattle.sms_player.specs.playing.Plays.{Represents as PlayRepresents}
 use Rattle.sms_player.specs.playing.Places.{IsFirstAt, place_from}
 use Rattle.sms_player.specs.playing.Played.{PlayingOf}
 use Rattle.sms_player.specs.playing.Playing.{LeadsTo, acted, goes, met_as, or_no_memory}
-use Rattle.sms_player.specs.centre.Shown.{IsPlayed, PlayedOf}
+use Rattle.sms_player.specs.centre.PlayedCentre.{Represents as PlayedRepresents, PlayedOf}
 use Rattle.sms_player.proofs.playing.Placed.{IsThere, none_there, there}
 use Rattle.sms_player.proofs.playing.Showing.{answered_behind, centre_begun_again, centre_committed}
 use Rattle.sms_script.specs.declared.report.answers.Answered.{Answered}
 use Rattle.sms_script.specs.declared.report.rows.GivenRow.{GivenRow}
 use Rattle.sms_centre_rows.specs.declared.reports.delivery.Delivery.{Delivery}
 use Rattle.sms_script.specs.declared.event.Act.{Act}
-use Rattle.sms_script.specs.declared.event.Stop.{Stop}
+use Rattle.sms_script.specs.declared.event.StopPoint.{StopPoint}
 
 -- ---- the centre
 
-module _ (c : Course) (p : PlayingOf) (s : Shows c p) where
-  pub committed_as : {A E : Type 0} (res : Result A E) (d : Draft) (centre : PlayedOf) (given : List GivenRow) → OnOk res (IsPlayed (core_of d) centre.centre centre.rows) → centre.handsets ≡ p.centre.handsets → OnOk res (given ≡ p.given ++ given_by d)
-      → OnOk res (Shows (committed d c) (record p { centre = centre; given = given }))
+module _ (c : PlayState) (p : PlayingOf) (s : PlayRepresents c p) where
+  pub committed_as : {A E : Type 0} (res : Result A E) (d : Draft) (centre : PlayedOf) (given : List GivenRow) → OnOk res (PlayedRepresents (core_of d) centre.centre centre.rows) → centre.handsets ≡ p.centre.handsets → OnOk res (given ≡ p.given ++ given_by d)
+      → OnOk res (PlayRepresents (committed d c) (record p { centre = centre; given = given }))
   committed_as (Ok x) d centre given played same told = centre_committed c p s d centre given played same told
   committed_as (Err e) d centre given played same told = tt
 
-  pub restarted_as : {A E : Type 0} (res : Result A E) (centre : PlayedOf) → OnOk res (IsPlayed (recovered c.centre.rows p.centre.handsets (sessions_from 0 c.centre.rows.setup.accounts)) centre.centre centre.rows) → centre.handsets ≡ p.centre.handsets
-      → OnOk res (Shows (centre_restarted c) (record p { centre = centre }))
+  pub restarted_as : {A E : Type 0} (res : Result A E) (centre : PlayedOf) → OnOk res (PlayedRepresents (recovered c.centre.rows p.centre.handsets (sessions_from 0 c.centre.rows.setup.accounts)) centre.centre centre.rows) → centre.handsets ≡ p.centre.handsets
+      → OnOk res (PlayRepresents (centre_restarted c) (record p { centre = centre }))
   restarted_as (Ok x) centre played same = centre_begun_again c p s centre played same
   restarted_as (Err e) centre played same = tt
 
-  pub answered_next : {A E : Type 0} (res : Result A E) (q : PlayingOf) (event : ℕ) (answered : Answered) → OnOk res (q ≡ record p { answers = p.answers ++ record { event = event; answered = answered } ∷ [] }) → OnOk res (Shows (answer event answered c) q)
-  answered_next (Ok x) q event answered e = subst (λ (x : PlayingOf). Shows (answer event answered c) x) (sym e) (answered_behind c p s event answered)
+  pub answered_next : {A E : Type 0} (res : Result A E) (q : PlayingOf) (event : ℕ) (answered : Answered) → OnOk res (q ≡ record p { answers = p.answers ++ record { event = event; answered = answered } ∷ [] }) → OnOk res (PlayRepresents (answer event answered c) q)
+  answered_next (Ok x) q event answered e = subst (λ (x : PlayingOf). PlayRepresents (answer event answered c) x) (sym e) (answered_behind c p s event answered)
   answered_next (Err e) q event answered is = tt
 
-  pub told_some : {A E : Type 0} (res : Result A E) (q : PlayingOf) (event : ℕ) (o : Option CentreAnswer) (a : CentreAnswer) (answered : Answered) → o ≡ Some a → answered ≡ answered_as a → OnOk res (q ≡ record p { answers = p.answers ++ record { event = event; answered = answered } ∷ [] }) → OnOk res (Shows (told event o c) q)
+  pub told_some : {A E : Type 0} (res : Result A E) (q : PlayingOf) (event : ℕ) (o : Option CentreAnswer) (a : CentreAnswer) (answered : Answered) → o ≡ Some a → answered ≡ answered_as a → OnOk res (q ≡ record p { answers = p.answers ++ record { event = event; answered = answered } ∷ [] }) → OnOk res (PlayRepresents (told event o c) q)
   told_some res q event o a answered is as_told e =
-      subst (λ (x : Option CentreAnswer). OnOk res (Shows (told event x c) q)) (sym is)
-      (subst (λ (x : Answered). OnOk res (Shows (answer event x c) q)) as_told (answered_next res q event answered e))
+      subst (λ (x : Option CentreAnswer). OnOk res (PlayRepresents (told event x c) q)) (sym is)
+      (subst (λ (x : Answered). OnOk res (PlayRepresents (answer event x c) q)) as_told (answered_next res q event answered e))
 
-  pub told_none : (event : ℕ) (o : Option CentreAnswer) → o ≡ None → Shows (told event o c) p
-  told_none event o is = subst (λ (x : Option CentreAnswer). Shows (told event x c) p) (sym is) s
+  pub told_none : (event : ℕ) (o : Option CentreAnswer) → o ≡ None → PlayRepresents (told event o c) p
+  told_none event o is = subst (λ (x : Option CentreAnswer). PlayRepresents (told event x c) p) (sym is) s
 
 -- ---- receipts that are accepted one after another
 
 -- none waits
-pub none_waits : (d : Draft) (most : ℕ) (c : Course) → accepted_after d most [] c ≡ c
+pub none_waits : (d : Draft) (most : ℕ) (c : PlayState) → accepted_after d most [] c ≡ c
 none_waits d zero c = refl
 none_waits d (suc most) c = refl
 
@@ -66,7 +66,7 @@ none_behind (x ∷ xs) zero l = absurd (omega (arith, l))
 none_behind (x ∷ xs) (suc n) l = none_behind xs n (omega (arith, l))
 
 -- all that wait were accepted
-pub all_accepted : (d : Draft) (most place : ℕ) (waiting : List Delivery) (c : Course) → length waiting ≤ place → accepted_after d most (drop place waiting) c ≡ c
+pub all_accepted : (d : Draft) (most place : ℕ) (waiting : List Delivery) (c : PlayState) → length waiting ≤ place → accepted_after d most (drop place waiting) c ≡ c
 all_accepted d most place waiting c l = ap (λ (xs : List Delivery). accepted_after d most xs c) (none_behind waiting place l) ∙ none_waits d most c
 
 drop_append : {A : Type 0} (xs ys : List A) (n : ℕ) → n ≤ length xs → drop n (xs ++ ys) ≡ drop n xs ++ ys
@@ -75,17 +75,17 @@ drop_append [] ys (suc n) l = absurd (omega (arith, l))
 drop_append (x ∷ xs) ys (suc n) l = drop_append xs ys n (omega (arith, l))
 
 -- the next is accepted, and those that it lets go wait behind the others
-pub next_accepted : (d : Draft) (most place : ℕ) (waiting more : List Delivery) (x : Delivery) (c : Course) → place < length waiting → place < most → x ≡ get_or waiting place x
-    → more ≡ (happened (DeliverAnswered x.session x.id true) c.centre).desk.deliveries
+pub next_accepted : (d : Draft) (most place : ℕ) (waiting more : List Delivery) (x : Delivery) (c : PlayState) → place < length waiting → place < most → x ≡ get_or waiting place x
+    → more ≡ (happened (DeliverAnswered x.session x.id true) c.centre).bindings.deliveries
     → accepted_after d (most - place) (drop place waiting) c
     ≡ accepted_after (happened (DeliverAnswered x.session x.id true) c.centre) (most - (place + 1)) (drop (place + 1) (waiting ++ more)) (done (happened (DeliverAnswered x.session x.id true) c.centre) c)
-next_accepted d most place waiting more x c low left is lets =
+next_accepted d most place waiting more x c low next_state is lets =
     let e : Draft = happened (DeliverAnswered x.session x.id true) c.centre in
-    let one : most - place ≡ suc (most - (place + 1)) = omega (arith, left) in
+    let one : most - place ≡ suc (most - (place + 1)) = omega (arith, next_state) in
     let q : suc place ≡ place + 1 = omega arith in
     let split : drop place waiting ≡ x ∷ drop (place + 1) waiting =
     drop-cons waiting place x low ∙ ap (λ (y : Delivery). y ∷ drop (suc place) waiting) (sym is) ∙ ap (λ (n : ℕ). x ∷ drop n waiting) q in
-    let rest : drop (place + 1) (waiting ++ more) ≡ drop (place + 1) waiting ++ e.desk.deliveries =
+    let rest : drop (place + 1) (waiting ++ more) ≡ drop (place + 1) waiting ++ e.bindings.deliveries =
     drop_append waiting more (place + 1) (omega (arith, low)) ∙ ap (λ (ys : List Delivery). drop (place + 1) waiting ++ ys) lets in
     ap (λ (n : ℕ). accepted_after d n (drop place waiting) c) one
     ∙ ap (λ (xs : List Delivery). accepted_after d (suc (most - (place + 1))) xs c) split
@@ -93,7 +93,7 @@ next_accepted d most place waiting more x c low left is lets =
 
 -- ---- handsets, by their numbers
 
-module _ (stop : Option Stop) (event : ℕ) (act : Act) (e : HandsetEvent) (number : List ℕ) (c : Course) (meant : meeting_of event act c ≡ at_handset event number e c) where
+module _ (stop : Option StopPoint) (event : ℕ) (act : Act) (e : HandsetEvent) (number : List ℕ) (c : PlayState) (meant : meeting_of event act c ≡ at_handset event number e c) where
   -- there is none
   pub no_side : (q : PlayingOf) (parties : List Party) → parties ≡ c.parties → place_from 0 number parties ≡ None → LeadsTo {X = Unit {0}} (Err (NoSuchSide event)) q (acted stop event act c)
   no_side q parties same none =
@@ -114,25 +114,25 @@ module _ (stop : Option Stop) (event : ℕ) (act : Act) (e : HandsetEvent) (numb
       )
 
 -- what was done is what was wanted
-pub leads : {X E : Type 0} (res : Result X E) (event : ℕ) (q : PlayingOf) (d : Course) (wanted : Result Course PlayFault) → wanted ≡ Ok d → OnOk res (Shows d q) → LeadsTo (or_no_memory event res) q wanted
+pub leads : {X E : Type 0} (res : Result X E) (event : ℕ) (q : PlayingOf) (d : PlayState) (wanted : Result PlayState PlayFault) → wanted ≡ Ok d → OnOk res (PlayRepresents d q) → LeadsTo (or_no_memory event res) q wanted
 leads (Ok x) event q d wanted is s = (d, (is, s))
 leads (Err e) event q d wanted is s = tt
 
 -- the centre met an event: receipts were accepted, and the answer was told
-pub centre_met : {X E : Type 0} (res : Result X E) (event : ℕ) (e : CentreEvent) (c : Course) (p q : PlayingOf) (deliveries : List Delivery) (o : Option CentreAnswer)
-    → deliveries ≡ (happened e c.centre).desk.deliveries → o ≡ (happened e c.centre).answer
-    → Shows (accepted_after (happened e c.centre) (length (done (happened e c.centre) c).centre.rows.reports) deliveries (done (happened e c.centre) c)) p
-    → ((d : Course) → Shows d p → OnOk res (Shows (told event o d) q))
-    → OnOk res (Shows (centre_meets event e c) q)
+pub centre_met : {X E : Type 0} (res : Result X E) (event : ℕ) (e : CentreEvent) (c : PlayState) (p q : PlayingOf) (deliveries : List Delivery) (o : Option CentreAnswer)
+    → deliveries ≡ (happened e c.centre).bindings.deliveries → o ≡ (happened e c.centre).answer
+    → PlayRepresents (accepted_after (happened e c.centre) (length (done (happened e c.centre) c).centre.rows.reports) deliveries (done (happened e c.centre) c)) p
+    → ((d : PlayState) → PlayRepresents d p → OnOk res (PlayRepresents (told event o d) q))
+    → OnOk res (PlayRepresents (centre_meets event e c) q)
 centre_met res event e c p q deliveries o same alike shown tells =
     let d : Draft = happened e c.centre in
     let most : ℕ = length (done d c).centre.rows.reports in
-    let now : Shows (whole d c) p = subst (λ (xs : List Delivery). Shows (accepted_after d most xs (done d c)) p) same shown in
-    subst (λ (x : Option CentreAnswer). OnOk res (Shows (told event x (whole d c)) q)) alike (tells (whole d c) now)
+    let now : PlayRepresents (whole d c) p = subst (λ (xs : List Delivery). PlayRepresents (accepted_after d most xs (done d c)) p) same shown in
+    subst (λ (x : Option CentreAnswer). OnOk res (PlayRepresents (told event x (whole d c)) q)) alike (tells (whole d c) now)
 
 -- ---- accounts, by their names
 
-module _ (stop : Option Stop) (event : ℕ) (act : Act) (name : List ℕ) (request : ℕ → CentreEvent) (c : Course) (meant : meeting_of event act c ≡ asked_by event name request c) where
+module _ (stop : Option StopPoint) (event : ℕ) (act : Act) (name : List ℕ) (request : ℕ → CentreEvent) (c : PlayState) (meant : meeting_of event act c ≡ asked_by event name request c) where
   pub no_account : (q : PlayingOf) (rows : Rows) → rows ≡ c.centre.rows → None ≡ account_from 0 name rows.setup.accounts → LeadsTo {X = Unit {0}} (Err (NoSuchAccount event)) q (acted stop event act c)
   no_account q rows same none =
       ap (λ (m : Result Meeting PlayFault). goes stop event act m c) meant
@@ -144,45 +144,45 @@ module _ (stop : Option Stop) (event : ℕ) (act : Act) (name : List ℕ) (reque
       ∙ ap (λ (o : Option ℕ). goes stop event act (by_account event request o) c) (sym (is ∙ ap (λ (r : Rows). account_from 0 name r.setup.accounts) same))
 
 -- the same, of what is told of it
-pub or_none : {X E : Type 0} (res : Result X E) (told : Result X PlayFault) (event : ℕ) (q : PlayingOf) (d : Course) (wanted : Result Course PlayFault) → told ≡ or_no_memory event res → wanted ≡ Ok d → OnOk res (Shows d q) → LeadsTo told q wanted
+pub or_none : {X E : Type 0} (res : Result X E) (told : Result X PlayFault) (event : ℕ) (q : PlayingOf) (d : PlayState) (wanted : Result PlayState PlayFault) → told ≡ or_no_memory event res → wanted ≡ Ok d → OnOk res (PlayRepresents d q) → LeadsTo told q wanted
 or_none res told event q d wanted e is s = subst (λ (r : Result _ PlayFault). LeadsTo r q wanted) (sym e) (leads res event q d wanted is s)
 
 -- ---- receipts, one after another
 
 -- So many receipts were looked at: what the script in play shows is a course from which those that wait lead where all lead.
-pub record Accepts (d : Draft) (total : ℕ) (deliveries : List Delivery) (c : Course) (most place : ℕ) (waiting : List Delivery) (p : PlayingOf) : Type 0 where
-  pub now : Course
+pub record Accepts (d : Draft) (total : ℕ) (deliveries : List Delivery) (c : PlayState) (most place : ℕ) (waiting : List Delivery) (p : PlayingOf) : Type 0 where
+  pub now : PlayState
   pub by : Draft
-  pub shows : Shows now p
+  pub represents : PlayRepresents now p
   pub goes : accepted_after d total deliveries c ≡ accepted_after by (most - place) (drop place waiting) now
 
-pub none_accepted : (d : Draft) (total most : ℕ) (deliveries waiting : List Delivery) (c : Course) (p : PlayingOf) → Shows c p → most ≡ total → waiting ≡ deliveries → Accepts d total deliveries c most 0 waiting p
+pub none_accepted : (d : Draft) (total most : ℕ) (deliveries waiting : List Delivery) (c : PlayState) (p : PlayingOf) → PlayRepresents c p → most ≡ total → waiting ≡ deliveries → Accepts d total deliveries c most 0 waiting p
 none_accepted d total most deliveries waiting c p shown as_many same = record {
   now = c;
   by = d;
-  shows = shown;
+  represents = shown;
   goes = ap (λ (n : ℕ). accepted_after d n deliveries c) (omega (arith, as_many)) ∙ ap (λ (xs : List Delivery). accepted_after d (most - 0) xs c) (sym same);
 }
 
-pub all_looked_at : (d : Draft) (total most place : ℕ) (deliveries waiting : List Delivery) (c : Course) (p : PlayingOf) → Accepts d total deliveries c most place waiting p → length waiting ≤ place → Shows (accepted_after d total deliveries c) p
+pub all_looked_at : (d : Draft) (total most place : ℕ) (deliveries waiting : List Delivery) (c : PlayState) (p : PlayingOf) → Accepts d total deliveries c most place waiting p → length waiting ≤ place → PlayRepresents (accepted_after d total deliveries c) p
 all_looked_at d total most place deliveries waiting c p a l =
-    subst (λ (x : Course). Shows x p) (sym (a.goes ∙ all_accepted a.by (most - place) place waiting a.now l)) a.shows
+    subst (λ (x : PlayState). PlayRepresents x p) (sym (a.goes ∙ all_accepted a.by (most - place) place waiting a.now l)) a.represents
 
-pub no_more : (d : Draft) (total most place : ℕ) (deliveries waiting : List Delivery) (c : Course) (p : PlayingOf) → Accepts d total deliveries c most place waiting p → most ≤ place → Shows (accepted_after d total deliveries c) p
+pub no_more : (d : Draft) (total most place : ℕ) (deliveries waiting : List Delivery) (c : PlayState) (p : PlayingOf) → Accepts d total deliveries c most place waiting p → most ≤ place → PlayRepresents (accepted_after d total deliveries c) p
 no_more d total most place deliveries waiting c p a l =
     let none : most - place ≡ zero = omega (arith, l) in
-    subst (λ (x : Course). Shows x p) (sym (a.goes ∙ ap (λ (n : ℕ). accepted_after a.by n (drop place waiting) a.now) none)) a.shows
+    subst (λ (x : PlayState). PlayRepresents x p) (sym (a.goes ∙ ap (λ (n : ℕ). accepted_after a.by n (drop place waiting) a.now) none)) a.represents
 
-pub accepts_next : (d : Draft) (total most place : ℕ) (deliveries waiting more later : List Delivery) (x : Delivery) (c : Course) (p q : PlayingOf) → (a : Accepts d total deliveries c most place waiting p) → place < length waiting → place < most → x ≡ get_or waiting place x
-    → more ≡ (happened (DeliverAnswered x.session x.id true) a.now.centre).desk.deliveries → later ≡ waiting ++ more
-    → Shows (done (happened (DeliverAnswered x.session x.id true) a.now.centre) a.now) q → Accepts d total deliveries c most (place + 1) later q
-accepts_next d total most place deliveries waiting more later x c p q a low left is lets same shown =
+pub accepts_next : (d : Draft) (total most place : ℕ) (deliveries waiting more later : List Delivery) (x : Delivery) (c : PlayState) (p q : PlayingOf) → (a : Accepts d total deliveries c most place waiting p) → place < length waiting → place < most → x ≡ get_or waiting place x
+    → more ≡ (happened (DeliverAnswered x.session x.id true) a.now.centre).bindings.deliveries → later ≡ waiting ++ more
+    → PlayRepresents (done (happened (DeliverAnswered x.session x.id true) a.now.centre) a.now) q → Accepts d total deliveries c most (place + 1) later q
+accepts_next d total most place deliveries waiting more later x c p q a low next_state is lets same shown =
     let e : Draft = happened (DeliverAnswered x.session x.id true) a.now.centre in
     record {
       now = done e a.now;
       by = e;
-      shows = shown;
+      represents = shown;
       goes =
-          a.goes ∙ next_accepted a.by most place waiting more x a.now low left is lets
+          a.goes ∙ next_accepted a.by most place waiting more x a.now low next_state is lets
           ∙ ap (λ (xs : List Delivery). accepted_after e (most - (place + 1)) (drop (place + 1) xs) (done e a.now)) (sym same);
     }

@@ -11,11 +11,11 @@ use Rattle.sms_centre_spec.specs.SoundCore.{IsEvent}
 use Rattle.sms_centre_spec.specs.declared.event.CentreEvent.TheVariants.{Frame as CentreFrame}
 use Rattle.sms_play.specs.growth.Growth.{TellsCentre}
 use Rattle.sms_handset.specs.declared.event.HandsetEvent.TheVariants.{Frame as HandsetFrame}
-use Rattle.sms_play.specs.Course.{Course, Party, frame_at, numbers_of, party_at}
+use Rattle.sms_play.specs.PlayState.{PlayState, Party, frame_at, numbers_of, party_at}
 use Rattle.sms_play.specs.Meeting.{AtCentre, AtHandset, by_handset, handed_over, tag_in}
 use Rattle.sms_play.specs.declared.fault.PlayFault.{PlayFault}
 use Rattle.sms_play.specs.declared.fault.PlayFault.TheVariants.{NoSuchSide}
-use Rattle.sms_player.specs.playing.Courses.{Shows}
+use Rattle.sms_player.specs.playing.Plays.{Represents}
 use Rattle.sms_player.specs.playing.Places.{IsFirstAt, place_from}
 use Rattle.sms_player.specs.playing.Played.{PlayingOf}
 use Rattle.sms_player.specs.playing.Playing.{Hands, IsFrame, LeadsTo, goes, met_as, or_no_memory}
@@ -27,8 +27,8 @@ use Rattle.sms_script.specs.declared.report.rows.Direction.{Direction}
 use Rattle.sms_script.specs.declared.report.rows.Direction.TheVariants.{Down, Up}
 use Rattle.sms_script.specs.declared.report.rows.FrameRow.{FrameRow}
 use Rattle.sms_script.specs.declared.event.Act.TheVariants.{Deliver}
-use Rattle.sms_script.specs.declared.event.Stop.{Stop}
-use Rattle.sms_centre_rows.specs.waiting.SoundGivings.{IsNumber}
+use Rattle.sms_script.specs.declared.event.StopPoint.{StopPoint}
+use Rattle.sms_centre_rows.specs.waiting.SoundAllocations.{IsNumber}
 
 -- ---- what the bag has of it
 
@@ -79,7 +79,7 @@ pub record IsAt (place : ℕ) (number : List ℕ) (ps : List Party) : Type 0 whe
   pub number_is : party.number ≡ number
   pub found : party_at number ps ≡ Some party
 
-module _ (stop : Option Stop) (event number : ℕ) (c : Course) (p : PlayingOf) (s : Shows c p) (h : Handed) (f : FrameRow) (i : Among f c.bag) (is : IsFrame h f) where
+module _ (stop : Option StopPoint) (event number : ℕ) (c : PlayState) (p : PlayingOf) (s : Represents c p) (h : Handed) (f : FrameRow) (i : Among f c.bag) (is : IsFrame h f) where
   -- its place among the handsets of the course
   place_is : place_from 0 f.handset c.parties ≡ place_from 0 h.handset p.parties
   place_is = sym (ap (λ (ps : List Party). place_from 0 f.handset ps) s.parties) ∙ sym (ap (λ (n : List ℕ). place_from 0 n p.parties) is.handset)
@@ -112,25 +112,25 @@ module _ (stop : Option Stop) (event number : ℕ) (c : Course) (p : PlayingOf) 
       ∙ ap (λ (o : List ℕ). goes stop event (Deliver number) (Ok (AtHandset party (HandsetFrame o (tag_in f.carried)))) c) (sym is.octets)
       ∙ ap (λ (t : Option Holder). goes stop event (Deliver number) (Ok (AtHandset party (HandsetFrame h.octets t))) c) (sym is.tag)
 
-  pub goes_up : {X E : Type 0} (res : Result X E) (told : Result X PlayFault) (q : PlayingOf) (party : Party) → party.number ≡ f.handset → h.direction ≡ Up → told ≡ or_no_memory event res
-      → OnOk res (Shows (met_as stop event (Deliver number) (AtCentre (CentreFrame party.number h.octets h.tag)) c) q) → LeadsTo told q (goes stop event (Deliver number) (handed_over event f.direction f c) c)
-  goes_up res told q party named up e shown =
-      or_none res told event q (met_as stop event (Deliver number) (AtCentre (CentreFrame party.number h.octets h.tag)) c) (goes stop event (Deliver number) (handed_over event f.direction f c) c) e (up_is party.number named up) shown
+  pub goes_up : {X E : Type 0} (res : Result X E) (outputs : Result X PlayFault) (q : PlayingOf) (party : Party) → party.number ≡ f.handset → h.direction ≡ Up → outputs ≡ or_no_memory event res
+      → OnOk res (Represents (met_as stop event (Deliver number) (AtCentre (CentreFrame party.number h.octets h.tag)) c) q) → LeadsTo outputs q (goes stop event (Deliver number) (handed_over event f.direction f c) c)
+  goes_up res outputs q party named up e shown =
+      or_none res outputs event q (met_as stop event (Deliver number) (AtCentre (CentreFrame party.number h.octets h.tag)) c) (goes stop event (Deliver number) (handed_over event f.direction f c) c) e (up_is party.number named up) shown
 
-  pub goes_down : {X E : Type 0} (res : Result X E) (told : Result X PlayFault) (q : PlayingOf) (party : Party) → party_at f.handset c.parties ≡ Some party → h.direction ≡ Down → told ≡ or_no_memory event res
-      → OnOk res (Shows (met_as stop event (Deliver number) (AtHandset party (HandsetFrame h.octets h.tag)) c) q) → LeadsTo told q (goes stop event (Deliver number) (handed_over event f.direction f c) c)
-  goes_down res told q party found down e shown =
-      or_none res told event q (met_as stop event (Deliver number) (AtHandset party (HandsetFrame h.octets h.tag)) c) (goes stop event (Deliver number) (handed_over event f.direction f c) c) e (down_is party found down) shown
+  pub goes_down : {X E : Type 0} (res : Result X E) (outputs : Result X PlayFault) (q : PlayingOf) (party : Party) → party_at f.handset c.parties ≡ Some party → h.direction ≡ Down → outputs ≡ or_no_memory event res
+      → OnOk res (Represents (met_as stop event (Deliver number) (AtHandset party (HandsetFrame h.octets h.tag)) c) q) → LeadsTo outputs q (goes stop event (Deliver number) (handed_over event f.direction f c) c)
+  goes_down res outputs q party found down e shown =
+      or_none res outputs event q (met_as stop event (Deliver number) (AtHandset party (HandsetFrame h.octets h.tag)) c) (goes stop event (Deliver number) (handed_over event f.direction f c) c) e (down_is party found down) shown
 
   -- what the centre is told of it is an event
-  pub fits_up : {X : Type 0} (told : Result X PlayFault) (party : Party) → party.number ≡ f.handset → h.direction ≡ Up → IsEvent (CentreFrame party.number h.octets h.tag) → OnOk told (TellsCentre (handed_over event f.direction f c))
-  fits_up told party named up fit =
-      anyhow told (TellsCentre (handed_over event f.direction f c))
+  pub fits_up : {X : Type 0} (outputs : Result X PlayFault) (party : Party) → party.number ≡ f.handset → h.direction ≡ Up → IsEvent (CentreFrame party.number h.octets h.tag) → OnOk outputs (TellsCentre (handed_over event f.direction f c))
+  fits_up outputs party named up fit =
+      anyhow outputs (TellsCentre (handed_over event f.direction f c))
       (subst (λ (d : Direction). TellsCentre (handed_over event d f c)) (sym up ∙ is.direction)
       (subst (λ (n : List ℕ). IsNumber n) named fit.0, subst (λ (o : List ℕ). AreOctets o) is.octets fit.1))
 
-  pub fits_down : {X : Type 0} (told : Result X PlayFault) → h.direction ≡ Down → OnOk told (TellsCentre (handed_over event f.direction f c))
-  fits_down told down =
-      anyhow told (TellsCentre (handed_over event f.direction f c))
+  pub fits_down : {X : Type 0} (outputs : Result X PlayFault) → h.direction ≡ Down → OnOk outputs (TellsCentre (handed_over event f.direction f c))
+  fits_down outputs down =
+      anyhow outputs (TellsCentre (handed_over event f.direction f c))
       (subst (λ (d : Direction). TellsCentre (handed_over event d f c)) (sym down ∙ is.direction)
       (handsets_fit event (HandsetFrame f.octets (tag_in f.carried)) (party_at f.handset c.parties)))

@@ -4,7 +4,7 @@ use Rattle.std.specs.Str.{bytes_eq}
 use Rattle.std.proofs.lemmas.Bool.{cases_Bool, cond-false, cond-true}
 use Rattle.std.proofs.lemmas.Slice.Eq.{bytes_eq-Decides}
 use Rattle.sms_base.specs.Among.{Among}
-use Rattle.sms_play.specs.Course.{Party, numbers_of, party_at, with_party}
+use Rattle.sms_play.specs.PlayState.{Party, numbers_of, party_at, with_party}
 use Rattle.sms_player.specs.playing.Places.{IsFirstAt, place_from}
 
 same_number : (p q : Party) → p ≡ q → bytes_eq p.number q.number ≡ true

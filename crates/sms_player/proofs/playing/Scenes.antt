@@ -1,7 +1,7 @@
 -- What there is to see of a script in play is what its course has.
 use Rattle.std.proofs.Common.{◌≡◌, ℕ, zero, suc, ◌≤◌, List, [], ◌∷◌, get_or, length, arith, refl, ap}
-use Rattle.sms_play.specs.judging.Shown.{accepted_at}
-use Rattle.sms_play.specs.Course.{Party}
+use Rattle.sms_play.specs.judging.Premises.{accepted_at}
+use Rattle.sms_play.specs.PlayState.{Party}
 
 -- the handset that stands at a place has accepted what is accepted there
 pub accepted_is : (place : ℕ) (ps : List Party) (p : Party) → ((d : Party) → p ≡ get_or ps place d) → p.accepted ≡ accepted_at place ps

@@ -5,15 +5,15 @@ use Rattle.sms_handset.specs.declared.event.HandsetEvent.{HandsetEvent}
 use Rattle.sms_handset.specs.declared.event.HandsetEvent.TheVariants.{Frame, Tick, Write, Delete, Discard}
 use Rattle.sms_handset.specs.declared.refusal.Refusal.{Refusal}
 use Rattle.sms_handset.specs.Planning.{RestsIfDone}
-use Rattle.sms_play.specs.Course.{Party}
+use Rattle.sms_play.specs.PlayState.{Party}
 use Rattle.sms_play.specs.HandsetSide.{given_by, happened, party_after}
-use Rattle.sms_player.specs.declared.handset.played.Met.{Met}
-use Rattle.sms_player.specs.declared.handset.played.Met.TheVariants.{Done, Refused}
+use Rattle.sms_player.specs.declared.handset.played.HandsetOutcome.{HandsetOutcome}
+use Rattle.sms_player.specs.declared.handset.played.HandsetOutcome.TheVariants.{Done, Refused}
 use Rattle.sms_script.specs.declared.report.rows.GivenRow.{GivenRow}
 
 -- The handset after what was wanted, with the references that it gave behind those before, and the frames that go out; or it is
 -- refused alike, and nothing has changed; or there was no memory.
-abbrev pub Meets : {E : Type 0} → Result Met E → Party → Party → List GivenRow → List GivenRow → Result Draft Refusal → Type 0
+abbrev pub Meets : {E : Type 0} → Result HandsetOutcome E → Party → Party → List GivenRow → List GivenRow → Result Draft Refusal → Type 0
 Meets (Ok (Done frames)) old new before after wanted =
     (d : Draft) × ((wanted ≡ Ok d) × (frames ≡ d.frames) × (new ≡ party_after old d) × (after ≡ before ++ given_by old d))
 Meets (Ok (Refused refusal)) old new before after wanted = (wanted ≡ Err refusal) × (new ≡ old) × (after ≡ before)

@@ -4,11 +4,11 @@ use Rattle.sms_base.specs.Among.{Among}
 use Rattle.sms_centre_spec.specs.SoundCore.{AreDifferent}
 use Rattle.sms_handset_draft.specs.Draft.{recovered}
 use Rattle.sms_handset_draft.specs.FirstRows.{first_rows}
-use Rattle.sms_play.specs.Course.{Party, numbers_of}
+use Rattle.sms_play.specs.PlayState.{Party, numbers_of}
 use Rattle.sms_play.specs.Setups.{can_be_played, handset_setup, parties_of}
 use Rattle.sms_script.specs.declared.setup.HandsetSetup.{HandsetSetup}
 use Rattle.sms_script.specs.declared.setup.Setup.{Setup}
-use Rattle.sms_centre_rows.specs.waiting.SoundGivings.{IsNumber}
+use Rattle.sms_centre_rows.specs.waiting.SoundAllocations.{IsNumber}
 
 -- where it begins, exactly if it can be played
 abbrev pub Judges : Option ℕ → Setup → Type 0

@@ -1,7 +1,7 @@
 -- Where handsets stand among those of a script.
 use Rattle.std.specs.Prelude.{◌≡◌, ℕ, ◌+◌, zero, suc, List, [], ◌∷◌, false, Option, Some, None, if◌then◌else◌}
 use Rattle.std.specs.Str.{bytes_eq}
-use Rattle.sms_play.specs.Course.{Party}
+use Rattle.sms_play.specs.PlayState.{Party}
 
 -- the place of the first handset of that number, from a place on
 abbrev pub place_from : ℕ → List ℕ → List Party → Option ℕ

@@ -1,7 +1,7 @@
 -- What stands in memory while a script is played.
 use Rattle.std.specs.Prelude.{List}
-use Rattle.sms_play.specs.Course.{Party}
-use Rattle.sms_player.specs.centre.Shown.{PlayedOf}
+use Rattle.sms_play.specs.PlayState.{Party}
+use Rattle.sms_player.specs.centre.PlayedCentre.{PlayedOf}
 use Rattle.sms_script.specs.declared.report.answers.Answer.{Answer}
 use Rattle.sms_script.specs.declared.report.rows.FrameRow.{FrameRow}
 use Rattle.sms_script.specs.declared.report.rows.GivenRow.{GivenRow}

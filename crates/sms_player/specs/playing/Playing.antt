@@ -4,29 +4,29 @@ use Rattle.sms_base.specs.Reading.{◌>>=◌}
 use Rattle.sms_centre_spec.specs.Draft.{Draft as CentreDraft}
 use Rattle.sms_centre_spec.specs.declared.answer.CentreAnswer.{CentreAnswer}
 use Rattle.sms_centre_rows.specs.declared.reports.delivery.Delivery.{Delivery}
-use Rattle.sms_centre_rows.specs.declared.waiting.line.Sent.{Sent}
+use Rattle.sms_centre_rows.specs.declared.waiting.handset_link.Sent.{Sent}
 use Rattle.sms_handset_draft.specs.Draft.{Draft}
 use Rattle.sms_handset.specs.declared.refusal.Refusal.{Refusal}
 use Rattle.sms_play.specs.declared.fault.PlayFault.{PlayFault}
 use Rattle.sms_play.specs.declared.fault.PlayFault.TheVariants.{BadSetup, NoMemory, NoSuchAccount, NoSuchFrame, NoSuchSide}
-use Rattle.sms_play.specs.Course.{Course, Party}
+use Rattle.sms_play.specs.PlayState.{PlayState, Party}
 use Rattle.sms_play.specs.HandsetSide.{committed}
 use Rattle.sms_play.specs.Meeting.{Meeting, meeting_of, tag_in}
 use Rattle.sms_play.specs.PlayedEvent.{met, stopped}
-use Rattle.sms_player.specs.declared.handset.played.Met.{Met}
-use Rattle.sms_player.specs.declared.handset.played.Met.TheVariants.{Done, Refused}
+use Rattle.sms_player.specs.declared.handset.played.HandsetOutcome.{HandsetOutcome}
+use Rattle.sms_player.specs.declared.handset.played.HandsetOutcome.TheVariants.{Done, Refused}
 use Rattle.sms_player.specs.declared.playing.acts.Handed.{Handed}
 use Rattle.sms_script.specs.declared.report.rows.FrameRow.{FrameRow}
 use Rattle.sms_script.specs.declared.event.Act.{Act}
-use Rattle.sms_script.specs.declared.event.Stop.{Stop}
-use Rattle.sms_player.specs.playing.Courses.{Shows}
+use Rattle.sms_script.specs.declared.event.StopPoint.{StopPoint}
+use Rattle.sms_player.specs.playing.Plays.{Represents}
 use Rattle.sms_player.specs.playing.Played.{PlayingOf}
 
 -- what the centre tells of an event beside the changes of its rows
 pub record Tells (d : CentreDraft) (out : List Sent) (said : Option CentreAnswer) (receipts : List Delivery) : Type 0 where
-  pub frames : out ≡ d.air.frames
+  pub frames : out ≡ d.links.frames
   pub answer : said ≡ d.answer
-  pub deliveries : receipts ≡ d.desk.deliveries
+  pub deliveries : receipts ≡ d.bindings.deliveries
 
 -- what is handed over of a frame
 pub record IsFrame (h : Handed) (f : FrameRow) : Type 0 where
@@ -36,20 +36,20 @@ pub record IsFrame (h : Handed) (f : FrameRow) : Type 0 where
   pub tag : h.tag ≡ tag_in f.carried
 
 -- an act, done or stopped
-abbrev pub met_as : Option Stop → ℕ → Act → Meeting → Course → Course
+abbrev pub met_as : Option StopPoint → ℕ → Act → Meeting → PlayState → PlayState
 met_as None event act meeting c = met event meeting c
 met_as (Some stop) event act meeting c = stopped event act stop meeting c
 
 -- the same, if the act concerns a side
-abbrev pub goes : Option Stop → ℕ → Act → Result Meeting PlayFault → Course → Result Course PlayFault
+abbrev pub goes : Option StopPoint → ℕ → Act → Result Meeting PlayFault → PlayState → Result PlayState PlayFault
 goes stop event act meeting c = meeting >>= λ (m : Meeting). Ok (met_as stop event act m c)
 
-abbrev pub acted : Option Stop → ℕ → Act → Course → Result Course PlayFault
+abbrev pub acted : Option StopPoint → ℕ → Act → PlayState → Result PlayState PlayFault
 acted stop event act c = goes stop event act (meeting_of event act c) c
 
 -- the course that was wanted is shown, or the fault is told that it has, or there was no memory for it
-abbrev pub LeadsTo : {X : Type 0} → Result X PlayFault → PlayingOf → Result Course PlayFault → Type 0
-LeadsTo (Ok done) new wanted = (d : Course) × ((wanted ≡ Ok d) × Shows d new)
+abbrev pub LeadsTo : {X : Type 0} → Result X PlayFault → PlayingOf → Result PlayState PlayFault → Type 0
+LeadsTo (Ok done) new wanted = (d : PlayState) × ((wanted ≡ Ok d) × Represents d new)
 LeadsTo (Err (NoMemory event)) new wanted = Unit {0}
 LeadsTo (Err (NoSuchFrame event)) new wanted = wanted ≡ Err (NoSuchFrame event)
 LeadsTo (Err (NoSuchSide event)) new wanted = wanted ≡ Err (NoSuchSide event)
@@ -70,6 +70,6 @@ Hands (Some h) (Some f) = IsFrame h f
 
 -- What a handset of the course does with an event, so far as its rows go: the course with that committed is shown, with the frames
 -- that go out; or it is refused alike, and the course is shown as it was.
-abbrev pub MeetsAs : Met → Party → Course → PlayingOf → Result Draft Refusal → Type 0
-MeetsAs (Done frames) party c new wanted = (d : Draft) × ((wanted ≡ Ok d) × (frames ≡ d.frames) × Shows (committed party d c) new)
-MeetsAs (Refused refusal) party c new wanted = (wanted ≡ Err refusal) × Shows c new
+abbrev pub MeetsAs : HandsetOutcome → Party → PlayState → PlayingOf → Result Draft Refusal → Type 0
+MeetsAs (Done frames) party c new wanted = (d : Draft) × ((wanted ≡ Ok d) × (frames ≡ d.frames) × Represents (committed party d c) new)
+MeetsAs (Refused refusal) party c new wanted = (wanted ≡ Err refusal) × Represents c new

@@ -1,7 +1,7 @@
 //! The centre of a script in play.
 ghost use Rattle.std.specs.Prelude.{◌≡◌, ◌≤◌, ◌++◌, length, IfOk, OnOk, option_copied, option_map};
-ghost use Rattle.sms_centre.specs.plans.Planned.{IsTold};
-ghost use Rattle.sms_centre_reports.specs.report_log.Telling.{message_lines, receipt_lines};
+ghost use Rattle.sms_centre.specs.plans.EventOutcome.{AreOutputs};
+ghost use Rattle.sms_centre_reports.specs.report_log.Reporting.{message_lines, receipt_lines};
 ghost use Rattle.sms_store_memory.specs.centre.RowsInKeep.{rows_in};
 ghost use Rattle.sms_centre_spec.specs.CentreEvent.{happened, recovered};
 ghost use Rattle.sms_centre_spec.specs.Draft.{Core, core_of};
@@ -10,15 +10,15 @@ ghost use Rattle.sms_player.specs.heads.Heads.{AreHandsets};
 ghost use Rattle.sms_centre_rows.specs.messages.Messages.{message_at, part_at};
 ghost use Rattle.sms_play.specs.CentreSide.{given_by};
 ghost use Rattle.sms_play.specs.PlayedEvent.{sessions_from};
-ghost use Rattle.sms_player.specs.centre.Shown.{IsPlayed, Stands};
+ghost use Rattle.sms_player.specs.centre.PlayedCentre.{Represents, IsSomeCentre};
 
 use crate::centre::{events, starting};
 use sms_base::{Digits, Listed, MessageId};
-use sms_centre::{Centre, CentreEvent, Told};
+use sms_centre::{Centre, CentreEvent, Outputs};
 use sms_centre_rows::messages::MessageRow;
-use sms_intake::Account;
+use sms_intake::CentreAccount;
 use sms_rows::table::Key;
-use sms_script::report::{GivenRow, MessageRow as MessageLine, ReceiptRow};
+use sms_script::report::{GivenRow, ReportedMessage, ReceiptRow};
 use sms_store_memory::centre::MemoryKeep;
 use std::alloc::{AllocError, Global};
 use std::marker::Model;
@@ -35,13 +35,13 @@ pub struct PlayedCentre<'a> {
 impl<'a> Model for PlayedCentre<'a> {
     ghost use Rattle.sms_store_memory.specs.centre.RowsInKeep.{rows_in};
     ghost use Rattle.sms_player.specs.heads.Heads.{AreHandsets};
-    ghost use Rattle.sms_player.specs.centre.Shown.{PlayedOf, Stands};
+    ghost use Rattle.sms_player.specs.centre.PlayedCentre.{PlayedOf, IsSomeCentre};
 
     ghost Value = { PlayedOf };
 
     ghost view = { λ p. record { centre = p.centre.now; rows = rows_in p.keep.now; handsets = p.handsets.now } };
 
-    ghost invariant = { λ p. Stands p.centre.now (rows_in p.keep.now) × AreHandsets p.handsets.now };
+    ghost invariant = { λ p. IsSomeCentre p.centre.now (rows_in p.keep.now) × AreHandsets p.handsets.now };
 }
 
 impl<'a> PlayedCentre<'a> {
@@ -52,7 +52,7 @@ impl<'a> PlayedCentre<'a> {
         keep: &'a mut MemoryKeep,
         handsets: &'a [Digits],
     ) -> PlayedCentre<'a>
-        requires stands { Stands centre.old (rows_in keep.old) }
+        requires stands { IsSomeCentre centre.old (rows_in keep.old) }
         requires handsets { AreHandsets handsets.now }
         ensures { result ≡ record { centre = centre.old; rows = rows_in keep.old; handsets = handsets.now } }
     {
@@ -65,7 +65,7 @@ impl<'a> PlayedCentre<'a> {
     }
 
     /// The accounts of its setup.
-    pub fn accounts(&self) -> &[Account]
+    pub fn accounts(&self) -> &[CentreAccount]
         ensures accounts { result.now ≡ self.now.rows.setup.accounts }
         ensures few { length result.now ≤ 32 }
     {
@@ -100,8 +100,8 @@ impl<'a> PlayedCentre<'a> {
     ///
     /// # Errors
     /// A growth was refused.
-    pub fn table(&self) -> Result<Listed<MessageLine>, AllocError>
-        ensures { (c : Core) → IsPlayed c self.now.centre self.now.rows → IfOk result (λ table. table ≡ message_lines c.rows.messages) }
+    pub fn table(&self) -> Result<Listed<ReportedMessage>, AllocError>
+        ensures { (c : Core) → Represents c self.now.centre self.now.rows → IfOk result (λ table. table ≡ message_lines c.rows.messages) }
     {
         self.centre.table()
     }
@@ -111,7 +111,7 @@ impl<'a> PlayedCentre<'a> {
     /// # Errors
     /// A growth was refused.
     pub fn receipts(&self) -> Result<Listed<ReceiptRow>, AllocError>
-        ensures { (c : Core) → IsPlayed c self.now.centre self.now.rows → IfOk result (λ receipts. receipts ≡ receipt_lines c.rows.messages c.rows.reports) }
+        ensures { (c : Core) → Represents c self.now.centre self.now.rows → IfOk result (λ receipts. receipts ≡ receipt_lines c.rows.messages c.rows.reports) }
     {
         self.centre.receipts()
     }
@@ -125,11 +125,11 @@ impl<'a> PlayedCentre<'a> {
         &mut self,
         event: &CentreEvent<'_>,
         given: &mut Listed<GivenRow>,
-    ) -> Result<Told, AllocError>
+    ) -> Result<Outputs, AllocError>
         requires { HasNumber event.now }
-        ensures told { (c : Core) → IsPlayed c self.old.centre self.old.rows → IfOk result (IsTold (happened event.now c)) }
-        ensures played { (c : Core) → IsPlayed c self.old.centre self.old.rows → OnOk result (IsPlayed (core_of (happened event.now c)) self.new.centre self.new.rows) }
-        ensures given { (c : Core) → IsPlayed c self.old.centre self.old.rows → OnOk result (given.new ≡ given.old ++ given_by (happened event.now c)) }
+        ensures outputs { (c : Core) → Represents c self.old.centre self.old.rows → IfOk result (AreOutputs (happened event.now c)) }
+        ensures played { (c : Core) → Represents c self.old.centre self.old.rows → OnOk result (Represents (core_of (happened event.now c)) self.new.centre self.new.rows) }
+        ensures given { (c : Core) → Represents c self.old.centre self.old.rows → OnOk result (given.new ≡ given.old ++ given_by (happened event.now c)) }
         ensures handsets { self.new.handsets ≡ self.old.handsets }
     {
         events::meet(self.centre, self.keep, event, given)
@@ -141,7 +141,7 @@ impl<'a> PlayedCentre<'a> {
     /// # Errors
     /// A growth was refused.
     pub fn restart(&mut self) -> Result<(), AllocError>
-        ensures played { (c : Core) → IsPlayed c self.old.centre self.old.rows → OnOk result (IsPlayed (recovered c.rows self.old.handsets (sessions_from 0 c.rows.setup.accounts)) self.new.centre self.new.rows) }
+        ensures played { (c : Core) → Represents c self.old.centre self.old.rows → OnOk result (Represents (recovered c.rows self.old.handsets (sessions_from 0 c.rows.setup.accounts)) self.new.centre self.new.rows) }
         ensures handsets { self.new.handsets ≡ self.old.handsets }
     {
         starting::restart(self.alloc, self.centre, self.keep, self.handsets)

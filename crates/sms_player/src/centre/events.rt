@@ -1,7 +1,7 @@
 //! What a centre on rows in memory does with an event.
 ghost use Rattle.std.specs.Prelude.{◌≡◌, ◌++◌, IfOk, OnErr, OnOk};
-ghost use Rattle.sms_centre.specs.plans.Planned.{IsPlanned, IsTold};
-ghost use Rattle.sms_centre.specs.state.Standing.{IsStanding};
+ghost use Rattle.sms_centre.specs.plans.EventOutcome.{IsOutcome, AreOutputs};
+ghost use Rattle.sms_centre.specs.state.CentreState.{Represents as StateRepresents};
 ghost use Rattle.sms_centre.specs.Planning.{Fits};
 ghost use Rattle.sms_store_memory.specs.centre.RowsInKeep.{rows_in};
 ghost use Rattle.sms_centre_spec.specs.CentreEvent.{happened};
@@ -9,11 +9,11 @@ ghost use Rattle.sms_centre_spec.specs.Draft.{Core, core_of, rows_after};
 ghost use Rattle.sms_centre_spec.specs.SoundCore.{HasNumber, IsEvent};
 ghost use Rattle.sms_centre_spec.specs.declared.event.CentreEvent.{CentreEvent as CentreEventOf};
 ghost use Rattle.sms_play.specs.CentreSide.{parts_given, reports_given, given_by};
-ghost use Rattle.sms_player.specs.centre.Shown.{IsPlayed, Stands};
+ghost use Rattle.sms_player.specs.centre.PlayedCentre.{Represents as PlayedRepresents, IsSomeCentre};
 
 use sms_base::{Listed, Moment};
-use sms_centre::laws::what_stands_is_known;
-use sms_centre::{Centre, CentreEvent, Changes, Planned, Told};
+use sms_centre::laws::a_state_meets_what_events_require;
+use sms_centre::{Centre, CentreEvent, Changes, Plan, Outputs};
 use sms_centre_spec::bodies::laws::sound_rows_have_their_octets;
 use sms_centre_spec::laws::what_is_adopted_is_what_happened;
 use sms_play::staging::{note_parts, note_reports};
@@ -27,14 +27,14 @@ fn plan(
     centre: &Centre,
     keep: &mut MemoryKeep,
     event: &CentreEvent<'_>,
-) -> Result<Planned, AllocError>
+) -> Result<Plan, AllocError>
     requires { HasNumber event.now }
-    ensures plan { (c : Core) → IsPlayed c centre.now (rows_in keep.old) → IfOk result (λ p. IsPlanned (happened event.now c) p.plan) }
-    ensures same { (c : Core) → IsPlayed c centre.now (rows_in keep.old) → rows_in keep.new ≡ c.rows }
+    ensures plan { (c : Core) → PlayedRepresents c centre.now (rows_in keep.old) → IfOk result (λ p. IsOutcome (happened event.now c) p.plan) }
+    ensures same { (c : Core) → PlayedRepresents c centre.now (rows_in keep.old) → rows_in keep.new ≡ c.rows }
     ensures fits { IfOk result (Fits centre.now) }
     ensures event { IsEvent event.now }
 {
-    what_stands_is_known();
+    a_state_meets_what_events_require();
     sound_rows_have_their_octets();
     match centre.plan(event, keep) {
         Ok(planned) => Ok(planned),
@@ -68,10 +68,10 @@ fn note_changes(
 
 fn note(
     keep: &MemoryKeep,
-    planned: &Planned,
+    planned: &Plan,
     given: &mut Listed<GivenRow>,
 ) -> Result<(), AllocError>
-    ensures { OnOk result (given.new ≡ (given.old ++ parts_given planned.now.plan.left.moment (rows_in keep.now).messages planned.now.plan.changes.parts) ++ reports_given planned.now.plan.left.moment (rows_in keep.now).messages planned.now.plan.changes.reports) }
+    ensures { OnOk result (given.new ≡ (given.old ++ parts_given planned.now.plan.next_state.moment (rows_in keep.now).messages planned.now.plan.changes.parts) ++ reports_given planned.now.plan.next_state.moment (rows_in keep.now).messages planned.now.plan.changes.reports) }
 {
     note_changes(planned.moment(), keep, planned.changes(), given)?;
     Ok(())
@@ -81,18 +81,18 @@ fn note(
 fn put_in(
     centre: &mut Centre,
     keep: &MemoryKeep,
-    planned: Planned,
+    planned: Plan,
     given: &mut Listed<GivenRow>,
-) -> Result<Told, AllocError>
+) -> Result<Outputs, AllocError>
     requires { Fits centre.old planned }
-    ensures told { IfOk result (λ told. told ≡ planned.plan.told) }
-    ensures standing { (event : CentreEventOf) (c : Core) → IsStanding c centre.old → IsEvent event → IsPlanned (happened event c) planned.plan → IsStanding (core_of (happened event c)) centre.new }
-    ensures given { OnOk result (given.new ≡ (given.old ++ parts_given planned.plan.left.moment (rows_in keep.now).messages planned.plan.changes.parts) ++ reports_given planned.plan.left.moment (rows_in keep.now).messages planned.plan.changes.reports) }
+    ensures outputs { IfOk result (λ outputs. outputs ≡ planned.plan.outputs) }
+    ensures centre_state { (event : CentreEventOf) (c : Core) → StateRepresents c centre.old → IsEvent event → IsOutcome (happened event c) planned.plan → StateRepresents (core_of (happened event c)) centre.new }
+    ensures given { OnOk result (given.new ≡ (given.old ++ parts_given planned.plan.next_state.moment (rows_in keep.now).messages planned.plan.changes.parts) ++ reports_given planned.plan.next_state.moment (rows_in keep.now).messages planned.plan.changes.reports) }
 {
     let noted = note(keep, &planned, given);
-    let told = centre.adopt(planned);
+    let outputs = centre.adopt(planned);
     match noted {
-        Ok(()) => Ok(told),
+        Ok(()) => Ok(outputs),
         Err(error) => Err(error),
     }
 }
@@ -101,14 +101,14 @@ fn put_in(
 fn carry_out(
     centre: &mut Centre,
     keep: &mut MemoryKeep,
-    planned: Planned,
+    planned: Plan,
     given: &mut Listed<GivenRow>,
-) -> Result<Told, AllocError>
+) -> Result<Outputs, AllocError>
     requires { Fits centre.old planned }
-    ensures told { IfOk result (λ told. told ≡ planned.plan.told) }
-    ensures done { (event : CentreEventOf) (c : Core) → IsPlayed c centre.old (rows_in keep.old) → IsEvent event → IsPlanned (happened event c) planned.plan → OnOk result (IsPlayed (core_of (happened event c)) centre.new (rows_in keep.new)) }
-    ensures stands { (event : CentreEventOf) (c : Core) → IsPlayed c centre.old (rows_in keep.old) → IsEvent event → IsPlanned (happened event c) planned.plan → Stands centre.new (rows_in keep.new) }
-    ensures given { (event : CentreEventOf) (c : Core) → IsPlayed c centre.old (rows_in keep.old) → IsPlanned (happened event c) planned.plan → OnOk result (given.new ≡ given.old ++ given_by (happened event c)) }
+    ensures outputs { IfOk result (λ outputs. outputs ≡ planned.plan.outputs) }
+    ensures done { (event : CentreEventOf) (c : Core) → PlayedRepresents c centre.old (rows_in keep.old) → IsEvent event → IsOutcome (happened event c) planned.plan → OnOk result (PlayedRepresents (core_of (happened event c)) centre.new (rows_in keep.new)) }
+    ensures stands { (event : CentreEventOf) (c : Core) → PlayedRepresents c centre.old (rows_in keep.old) → IsEvent event → IsOutcome (happened event c) planned.plan → IsSomeCentre centre.new (rows_in keep.new) }
+    ensures given { (event : CentreEventOf) (c : Core) → PlayedRepresents c centre.old (rows_in keep.old) → IsOutcome (happened event c) planned.plan → OnOk result (given.new ≡ given.old ++ given_by (happened event c)) }
 {
     what_is_adopted_is_what_happened();
     match commit(keep, planned.changes()) {
@@ -127,13 +127,13 @@ pub(crate) fn meet(
     keep: &mut MemoryKeep,
     event: &CentreEvent<'_>,
     given: &mut Listed<GivenRow>,
-) -> Result<Told, AllocError>
+) -> Result<Outputs, AllocError>
     requires number { HasNumber event.now }
-    requires stands { Stands centre.old (rows_in keep.old) }
-    ensures told { (c : Core) → IsPlayed c centre.old (rows_in keep.old) → IfOk result (IsTold (happened event.now c)) }
-    ensures played { (c : Core) → IsPlayed c centre.old (rows_in keep.old) → OnOk result (IsPlayed (core_of (happened event.now c)) centre.new (rows_in keep.new)) }
-    ensures given { (c : Core) → IsPlayed c centre.old (rows_in keep.old) → OnOk result (given.new ≡ given.old ++ given_by (happened event.now c)) }
-    ensures stands { Stands centre.new (rows_in keep.new) }
+    requires stands { IsSomeCentre centre.old (rows_in keep.old) }
+    ensures outputs { (c : Core) → PlayedRepresents c centre.old (rows_in keep.old) → IfOk result (AreOutputs (happened event.now c)) }
+    ensures played { (c : Core) → PlayedRepresents c centre.old (rows_in keep.old) → OnOk result (PlayedRepresents (core_of (happened event.now c)) centre.new (rows_in keep.new)) }
+    ensures given { (c : Core) → PlayedRepresents c centre.old (rows_in keep.old) → OnOk result (given.new ≡ given.old ++ given_by (happened event.now c)) }
+    ensures stands { IsSomeCentre centre.new (rows_in keep.new) }
 {
     match plan(centre, keep, event) {
         Ok(planned) => carry_out(centre, keep, planned, given),

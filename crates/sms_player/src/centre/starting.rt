@@ -2,19 +2,19 @@
 ghost use Rattle.std.specs.Prelude.{◌≡◌, ◌≤◌, length, IfOk, OnOk};
 ghost use Rattle.std.specs.Fn.{FnOnceReturnsAtMut};
 ghost use Rattle.sms_centre.specs.state.Recovering.{AreNew};
-ghost use Rattle.sms_centre.specs.state.Standing.{IsStanding};
+ghost use Rattle.sms_centre.specs.state.CentreState.{Represents as StateRepresents};
 ghost use Rattle.sms_store_memory.specs.centre.RowsInKeep.{rows_in};
 ghost use Rattle.sms_centre_spec.specs.CentreEvent.{moment_of as moment_of_rows, recovered, started};
 ghost use Rattle.sms_centre_spec.specs.Draft.{Core};
 ghost use Rattle.sms_centre_spec.specs.SoundRows.{IsSetup, IsSound, first_rows as first_rows_of};
 ghost use Rattle.sms_player.specs.heads.Heads.{AreHandsets};
 ghost use Rattle.sms_play.specs.PlayedEvent.{sessions_from};
-ghost use Rattle.sms_player.specs.centre.Shown.{IsPlayed, Stands};
+ghost use Rattle.sms_player.specs.centre.PlayedCentre.{Represents as PlayedRepresents, IsSomeCentre};
 
 use crate::centre::sessions::sessions_of;
 use sms_base::lending::lend;
 use sms_base::{Digits, Moment};
-use sms_centre::{Centre, RecoverError, Rows, Seat, Setup, first_rows, with_centre};
+use sms_centre::{Centre, RecoverError, Rows, ReceiptSession, Setup, first_rows, with_centre};
 use sms_centre_recovery::starting::moment_among;
 use sms_centre_spec::octets::copy_of_setup;
 use sms_rows::table::Table;
@@ -28,14 +28,14 @@ fn lend_started<R, W: FnOnce(&mut Centre) -> R>(
     alloc: Global,
     rows: Rows,
     handsets: &[Digits],
-    sessions: Table<Seat>,
+    sessions: Table<ReceiptSession>,
     work: W,
 ) -> Result<R, AllocError>
     requires sound { IsSound rows }
     requires handsets { AreHandsets handsets.now }
     requires sessions { AreNew sessions.rows }
-    requires work { (lent : _) → IsStanding (started rows handsets.now sessions.rows) lent.now → W.pre work lent }
-    ensures { IfOk result (λ given. (lent : _) × (left : _) × IsStanding (started rows handsets.now sessions.rows) lent × FnOnceReturnsAtMut W.FnOnce work lent given left) }
+    requires work { (lent : _) → StateRepresents (started rows handsets.now sessions.rows) lent.now → W.pre work lent }
+    ensures { IfOk result (λ given. (lent : _) × (next_state : _) × StateRepresents (started rows handsets.now sessions.rows) lent × FnOnceReturnsAtMut W.FnOnce work lent given next_state) }
 {
     match with_centre(alloc, rows, handsets, sessions, work) {
         Ok(given) => Ok(given),
@@ -58,9 +58,9 @@ pub fn with_first_centre<R, W: FnOnce(&mut Centre) -> R>(
     requires setup { IsSetup setup.now }
     requires few { length setup.now.accounts ≤ 32 }
     requires handsets { AreHandsets handsets.now }
-    requires work { (lent : _) → IsStanding (started (first_rows_of setup.now) handsets.now (sessions_from 0 setup.now.accounts)) lent.now → W.pre work lent }
+    requires work { (lent : _) → StateRepresents (started (first_rows_of setup.now) handsets.now (sessions_from 0 setup.now.accounts)) lent.now → W.pre work lent }
     // What is given is what the work gives of a centre that stands on these rows.
-    ensures { IfOk result (λ given. (lent : _) × (left : _) × IsStanding (started (first_rows_of setup.now) handsets.now (sessions_from 0 setup.now.accounts)) lent × FnOnceReturnsAtMut W.FnOnce work lent given left) }
+    ensures { IfOk result (λ given. (lent : _) × (next_state : _) × StateRepresents (started (first_rows_of setup.now) handsets.now (sessions_from 0 setup.now.accounts)) lent × FnOnceReturnsAtMut W.FnOnce work lent given next_state) }
 {
     let sessions = sessions_of(alloc, setup.accounts.as_slice())?;
     let rows = first_rows(alloc, copy_of_setup(alloc, setup)?);
@@ -77,7 +77,7 @@ pub fn with_first_keep<R, W: FnOnce(&mut MemoryKeep) -> R>(
     work: W,
 ) -> Result<R, AllocError>
     requires { (lent : _) → rows_in lent.now ≡ first_rows_of setup.now → W.pre work lent }
-    ensures { IfOk result (λ given. (lent : _) × (left : _) × (rows_in lent ≡ first_rows_of setup.now) × FnOnceReturnsAtMut W.FnOnce work lent given left) }
+    ensures { IfOk result (λ given. (lent : _) × (next_state : _) × (rows_in lent ≡ first_rows_of setup.now) × FnOnceReturnsAtMut W.FnOnce work lent given next_state) }
 {
     let setup = copy_of_setup(alloc, setup)?;
     Ok(lend(MemoryKeep::new(alloc, setup), work))
@@ -104,10 +104,10 @@ pub(crate) fn restart(
     keep: &MemoryKeep,
     handsets: &[Digits],
 ) -> Result<(), AllocError>
-    requires stands { Stands centre.old (rows_in keep.now) }
+    requires stands { IsSomeCentre centre.old (rows_in keep.now) }
     requires handsets { AreHandsets handsets.now }
-    ensures played { (c : Core) → IsPlayed c centre.old (rows_in keep.now) → OnOk result (IsPlayed (recovered c.rows handsets.now (sessions_from 0 c.rows.setup.accounts)) centre.new (rows_in keep.now)) }
-    ensures stands { Stands centre.new (rows_in keep.now) }
+    ensures played { (c : Core) → PlayedRepresents c centre.old (rows_in keep.now) → OnOk result (PlayedRepresents (recovered c.rows handsets.now (sessions_from 0 c.rows.setup.accounts)) centre.new (rows_in keep.now)) }
+    ensures stands { IsSomeCentre centre.new (rows_in keep.now) }
 {
     let moment = moment_of(keep);
     let sessions = sessions_of(alloc, keep.setup().accounts.as_slice())?;

@@ -4,7 +4,7 @@ ghost use Rattle.sms_player.specs.handset.Meeting.{KeepsMomentsLaw, RestsLaw};
 use sms_handset::laws::rows_are_the_changes;
 
 /// Only ticks change the moment, and it never decreases.
-pub fn moments_come_by_ticks()
+pub fn only_ticks_advance_time()
     ensures { KeepsMomentsLaw }
 {}
 

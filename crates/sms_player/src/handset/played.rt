@@ -9,14 +9,14 @@ ghost use Rattle.sms_handset.specs.Planning.{Fits, adopted};
 ghost use Rattle.sms_handset.specs.SoundCore.{IsSoundCore};
 ghost use Rattle.sms_handset.specs.declared.refusal.Refusal.TheVariants.{NoEntry};
 ghost use Rattle.sms_play.specs.HandsetSide.{accepted_in, entries_given, happened, joined_in, memories_given};
-ghost use Rattle.sms_player.specs.declared.handset.played.Met.TheVariants.{Done as DoneOf};
+ghost use Rattle.sms_player.specs.declared.handset.played.HandsetOutcome.TheVariants.{Done as DoneOf};
 ghost use Rattle.sms_player.specs.handset.Meeting.{Meets};
 
-use crate::handset::kept::KeptHandset;
-use crate::handset::laws::{moments_come_by_ticks, rows_rest_on_the_changes};
+use crate::handset::kept_handset::KeptHandset;
+use crate::handset::laws::{only_ticks_advance_time, rows_rest_on_the_changes};
 use crate::handset::notes::{History, note_entries, note_history, note_memories};
 use sms_base::{Address, Digits, Listed, Moment};
-use sms_handset::{HandsetEvent, PlanError, Planned, Refusal, Setup};
+use sms_handset::{HandsetEvent, PlanError, Plan, Refusal, Setup};
 use sms_handset_rows::outbox::OutEntry;
 use sms_link::Outgoing;
 use sms_script::report::{AcceptedRow, GivenRow, JoinedRow};
@@ -35,7 +35,7 @@ pub struct PlayedHandset {
 impl Model for PlayedHandset {
     ghost use Rattle.sms_base.specs.Address.{IsAddress};
     ghost use Rattle.sms_base.specs.HandsetNumber.{own_address};
-    ghost use Rattle.sms_play.specs.Course.{Party};
+    ghost use Rattle.sms_play.specs.PlayState.{Party};
 
     ghost Value = { Party };
 
@@ -46,7 +46,7 @@ impl Model for PlayedHandset {
 
 /// What a handset did with an event.
 #[derive(Drop)]
-pub enum Met {
+pub enum HandsetOutcome {
     /// These frames are sent.
     Done(Listed<Outgoing>),
     /// The act of its owner is refused.
@@ -59,7 +59,7 @@ fn note(
     number: Digits,
     moment: Moment,
     kept: &KeptHandset,
-    planned: &Planned,
+    planned: &Plan,
     history: &mut History,
     given: &mut Listed<GivenRow>,
 ) -> Result<(), AllocError>
@@ -85,12 +85,12 @@ fn send(
     next: u32,
     frames: Listed<Outgoing>,
     given: &mut Listed<GivenRow>,
-) -> Result<Met, AllocError>
+) -> Result<HandsetOutcome, AllocError>
     ensures met { IfOk result (λ met. met ≡ DoneOf frames) }
     ensures given { OnOk result (given.new ≡ given.old ++ memories_given number moment next frames) }
 {
     note_memories(number, moment, next, frames.as_slice(), given)?;
-    Ok(Met::Done(frames))
+    Ok(HandsetOutcome::Done(frames))
 }
 
 // The plan of an event is carried out.
@@ -99,10 +99,10 @@ fn carry_out(
     number: Digits,
     moment: Moment,
     kept: &mut KeptHandset,
-    planned: Planned,
+    planned: Plan,
     history: &mut History,
     given: &mut Listed<GivenRow>,
-) -> Result<Met, AllocError>
+) -> Result<HandsetOutcome, AllocError>
     requires fits { Fits planned kept.old }
     requires sound { IsSoundCore (adopted planned.outcome kept.old.core) }
     requires moment { moment ≡ planned.outcome.moment }
@@ -190,10 +190,10 @@ impl PlayedHandset {
         &mut self,
         event: &HandsetEvent<'_>,
         given: &mut Listed<GivenRow>,
-    ) -> Result<Met, AllocError>
+    ) -> Result<HandsetOutcome, AllocError>
         ensures { Meets result self.old self.new given.old given.new (happened event.now self.old.core) }
     {
-        moments_come_by_ticks();
+        only_ticks_advance_time();
         rows_rest_on_the_changes();
         let moment = self.kept.moment_after(event);
         match self.kept.plan(event) {
@@ -206,7 +206,7 @@ impl PlayedHandset {
                 &mut self.history,
                 given,
             ),
-            Err(PlanError::Refused(refusal)) => Ok(Met::Refused(refusal)),
+            Err(PlanError::Refused(refusal)) => Ok(HandsetOutcome::Refused(refusal)),
             Err(PlanError::NoMemory) => Err(AllocError),
         }
     }

@@ -7,12 +7,12 @@ ghost use Rattle.sms_play.specs.Setups.{accounts_of as accounts_of_head, are_acc
 
 use sms_base::{Address, Listed, Moment, Octets};
 use sms_centre_spec::Setup as CentreSetup;
-use sms_intake::Account as CentreAccount;
+use sms_intake::CentreAccount;
 use sms_play::staging::digits_of;
-use sms_script::{Account, Setup};
+use sms_script::{AccountSetup, Setup};
 use std::alloc::{AllocError, Global};
 
-fn account_of(alloc: Global, account: &Account<'_>) -> Result<CentreAccount, AllocError>
+fn account_of(alloc: Global, account: &AccountSetup<'_>) -> Result<CentreAccount, AllocError>
     requires { length account.now.number ≤ 20 }
     ensures { IfOk result (λ made. made ≡ record { name = account.now.name; address = own_address account.now.number }) }
 {
@@ -23,7 +23,7 @@ fn account_of(alloc: Global, account: &Account<'_>) -> Result<CentreAccount, All
     })
 }
 
-fn accounts_of(alloc: Global, accounts: &[Account<'_>]) -> Result<Listed<CentreAccount>, AllocError>
+fn accounts_of(alloc: Global, accounts: &[AccountSetup<'_>]) -> Result<Listed<CentreAccount>, AllocError>
     requires { are_accounts_of accounts.now ≡ true }
     ensures { IfOk result (λ made. made ≡ accounts_of_head accounts.now) }
 {

@@ -4,7 +4,7 @@ ghost use Rattle.std.specs.Fn.{FnOnceReturnsAtMut};
 ghost use Rattle.sms_base.specs.Address.{IsAddress};
 ghost use Rattle.sms_base.specs.HandsetNumber.{own_address};
 ghost use Rattle.sms_player.specs.heads.Heads.{party_of as party_of_head};
-ghost use Rattle.sms_play.specs.Course.{numbers_of as numbers_of_parties};
+ghost use Rattle.sms_play.specs.PlayState.{numbers_of as numbers_of_parties};
 ghost use Rattle.sms_play.specs.Setups.{are_handsets as are_handsets_of, can_be_played, is_handset as is_handset_of, is_number as is_number_of, parties_of as parties_of_head};
 
 use crate::handset::PlayedHandset;
@@ -110,7 +110,7 @@ pub fn with_parties<R, W: FnOnce(&mut Vec<PlayedHandset>) -> R>(
     requires start { start ≡ setup.now.start }
     requires work { (lent : _) → lent.now.items ≡ parties_of_head setup.now setup.now.handsets → W.pre work lent }
     // What is given is what the work gives of these handsets.
-    ensures given { IfOk result (λ given. (lent : _) × (left : _) × (lent.items ≡ parties_of_head setup.now setup.now.handsets) × FnOnceReturnsAtMut W.FnOnce work lent given left) }
+    ensures given { IfOk result (λ given. (lent : _) × (next_state : _) × (lent.items ≡ parties_of_head setup.now setup.now.handsets) × FnOnceReturnsAtMut W.FnOnce work lent given next_state) }
 {
     let parties = parties_of(alloc, setup, start)?;
     Ok(lend(parties, work))

@@ -6,7 +6,7 @@ ghost use Rattle.sms_player.specs.heads.Heads.{Judges};
 ghost use Rattle.sms_play.specs.Setups.{are_accounts as are_accounts_of, are_handsets as are_handsets_of, can_be_played, has_account as has_account_of, has_handset as has_handset_of, is_handset as is_handset_of, is_moment as is_moment_of, is_number as is_number_of};
 
 use sms_base::Moment;
-use sms_script::{Account, HandsetSetup, Setup};
+use sms_script::{AccountSetup, HandsetSetup, Setup};
 
 fn are_decimal(digits: &[u8]) -> bool
     ensures { result ≡ list_all is_decimal digits.now }
@@ -21,7 +21,7 @@ fn is_number(digits: &[u8]) -> bool
     (0 < digits.len() && digits.len() <= 20) && are_decimal(digits)
 }
 
-fn has_account(name: &[u8], accounts: &[Account<'_>]) -> bool
+fn has_account(name: &[u8], accounts: &[AccountSetup<'_>]) -> bool
     ensures { result ≡ has_account_of name.now accounts.now }
 {
     for account in accounts {
@@ -32,7 +32,7 @@ fn has_account(name: &[u8], accounts: &[Account<'_>]) -> bool
     false
 }
 
-fn are_accounts(accounts: &[Account<'_>]) -> bool
+fn are_accounts(accounts: &[AccountSetup<'_>]) -> bool
     ensures { result ≡ are_accounts_of accounts.now }
 {
     match accounts {

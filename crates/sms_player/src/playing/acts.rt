@@ -11,10 +11,10 @@ ghost use Rattle.sms_play.specs.growth.Growth.{IsFit, TellsCentre};
 ghost use Rattle.sms_handset.specs.HandsetEvent.{deleted as deleted_of, discarded as discarded_of};
 ghost use Rattle.sms_handset.specs.declared.refusal.Refusal.TheVariants.{NoEntry};
 ghost use Rattle.sms_handset.specs.declared.event.HandsetEvent.TheVariants.{Frame as HandsetFrame, Write as HandsetWrite, Delete as HandsetDelete, Discard as HandsetDiscard};
-ghost use Rattle.sms_play.specs.Course.{Course, Party, frame_at as frame_at_number};
+ghost use Rattle.sms_play.specs.PlayState.{PlayState, Party, frame_at as frame_at_number};
 ghost use Rattle.sms_play.specs.Meeting.{AtCentre, AtHandset, account_from, handed_over, is_answered as is_answered_act, meeting_of, submit_of as submit_of_submission, tag_in as tag_in_of};
 ghost use Rattle.sms_play.specs.PlayedEvent.{played, restart as restart_of};
-ghost use Rattle.sms_player.specs.playing.Courses.{Shows};
+ghost use Rattle.sms_player.specs.playing.Plays.{Represents};
 ghost use Rattle.sms_player.specs.playing.Places.{IsFirstAt, place_from};
 ghost use Rattle.sms_player.specs.playing.Playing.{Hands, IsFrame, LeadsTo, acted, goes, met_as, or_no_memory as or_no_memory_of};
 ghost use Rattle.sms_script.specs.declared.report.rows.FrameRow.{FrameRow as FrameRowOf};
@@ -32,7 +32,7 @@ use sms_handset::{HandsetEvent, TextView};
 use sms_play::PlayFault;
 use sms_play::staging::{cancel_of, frame_at, query_of, submit_of};
 use sms_script::report::Direction;
-use sms_script::{Act, Side, Stop, Submission, TextView as TextWord, WorldEvent};
+use sms_script::{Act, Side, StopPoint, Submission, TextView as TextWord, WorldEvent};
 use std::alloc::{AllocError, Global};
 use std::str::from_utf8;
 
@@ -151,11 +151,11 @@ impl<'a> Playing<'a> {
     fn submit(
         &mut self,
         event: u64,
-        stop: Option<Stop>,
+        stop: Option<StopPoint>,
         account: u8,
         submission: &Submission<'_>,
     ) -> Result<(), AllocError>
-        ensures { (c : Course) → Shows c self.old → OnOk result (Shows (met_as stop event (ActSubmit submission.now) (AtCentre (CentreSubmit account (submit_of_submission submission.now))) c) self.new) }
+        ensures { (c : PlayState) → Represents c self.old → OnOk result (Represents (met_as stop event (ActSubmit submission.now) (AtCentre (CentreSubmit account (submit_of_submission submission.now))) c) self.new) }
     {
         let octets = submission.message.octets(self.alloc)?;
         let happening = CentreEvent::Submit {
@@ -173,10 +173,10 @@ impl<'a> Playing<'a> {
     fn submitted(
         &mut self,
         event: u64,
-        stop: Option<Stop>,
+        stop: Option<StopPoint>,
         submission: &Submission<'_>,
     ) -> Result<(), PlayFault>
-        ensures { (c : Course) → Shows c self.old → LeadsTo result self.new (acted stop event (ActSubmit submission.now) c) }
+        ensures { (c : PlayState) → Represents c self.old → LeadsTo result self.new (acted stop event (ActSubmit submission.now) c) }
     {
         match self.account(submission.name.as_slice()) {
             Some(account) => or_no_memory(event, self.submit(event, stop, account, submission)),
@@ -187,11 +187,11 @@ impl<'a> Playing<'a> {
     fn queried(
         &mut self,
         event: u64,
-        stop: Option<Stop>,
+        stop: Option<StopPoint>,
         name: &[u8],
         id: &[u8],
     ) -> Result<(), PlayFault>
-        ensures { (c : Course) → Shows c self.old → LeadsTo result self.new (acted stop event (ActQuery name.now id.now) c) }
+        ensures { (c : PlayState) → Represents c self.old → LeadsTo result self.new (acted stop event (ActQuery name.now id.now) c) }
     {
         match self.account(name) {
             Some(account) => {
@@ -206,11 +206,11 @@ impl<'a> Playing<'a> {
     fn cancelled(
         &mut self,
         event: u64,
-        stop: Option<Stop>,
+        stop: Option<StopPoint>,
         name: &[u8],
         id: &[u8],
     ) -> Result<(), PlayFault>
-        ensures { (c : Course) → Shows c self.old → LeadsTo result self.new (acted stop event (ActCancel name.now id.now) c) }
+        ensures { (c : PlayState) → Represents c self.old → LeadsTo result self.new (acted stop event (ActCancel name.now id.now) c) }
     {
         match self.account(name) {
             Some(account) => {
@@ -227,14 +227,14 @@ impl<'a> Playing<'a> {
     fn write_text(
         &mut self,
         event: u64,
-        stop: Option<Stop>,
+        stop: Option<StopPoint>,
         place: usize,
         to: &str,
         report: bool,
         text: &str,
     ) -> Result<(), AllocError>
         requires { place < length self.old.parties }
-        ensures { (c : Course) (party : Party) (act : ActOf) → Shows c self.old → IsFirstAt place party c.parties → is_answered_act act ≡ true → OnOk result (Shows (met_as stop event act (AtHandset party (HandsetWrite (chars text.now) (chars to.now) report)) c) self.new) }
+        ensures { (c : PlayState) (party : Party) (act : ActOf) → Represents c self.old → IsFirstAt place party c.parties → is_answered_act act ≡ true → OnOk result (Represents (met_as stop event act (AtHandset party (HandsetWrite (chars text.now) (chars to.now) report)) c) self.new) }
     {
         let happening = HandsetEvent::Write {
             text: TextView::of(text),
@@ -247,14 +247,14 @@ impl<'a> Playing<'a> {
     fn write(
         &mut self,
         event: u64,
-        stop: Option<Stop>,
+        stop: Option<StopPoint>,
         place: usize,
         to: &[u8],
         report: bool,
         text: &TextWord<'_>,
     ) -> Result<(), AllocError>
         requires { place < length self.old.parties }
-        ensures { (c : Course) (party : Party) (act : ActOf) → Shows c self.old → IsFirstAt place party c.parties → is_answered_act act ≡ true → OnOk result (Shows (met_as stop event act (AtHandset party (HandsetWrite (chars text.now) to.now report)) c) self.new) }
+        ensures { (c : PlayState) (party : Party) (act : ActOf) → Represents c self.old → IsFirstAt place party c.parties → is_answered_act act ≡ true → OnOk result (Represents (met_as stop event act (AtHandset party (HandsetWrite (chars text.now) to.now report)) c) self.new) }
     {
         let to = text_of(self.alloc, to)?;
         let octets = text.octets(self.alloc)?;
@@ -264,12 +264,12 @@ impl<'a> Playing<'a> {
     fn delete(
         &mut self,
         event: u64,
-        stop: Option<Stop>,
+        stop: Option<StopPoint>,
         place: usize,
         entry: u64,
     ) -> Result<(), AllocError>
         requires { place < length self.old.parties }
-        ensures { (c : Course) (party : Party) (act : ActOf) → Shows c self.old → IsFirstAt place party c.parties → is_answered_act act ≡ true → OnOk result (Shows (met_as stop event act (AtHandset party (HandsetDelete entry)) c) self.new) }
+        ensures { (c : PlayState) (party : Party) (act : ActOf) → Represents c self.old → IsFirstAt place party c.parties → is_answered_act act ≡ true → OnOk result (Represents (met_as stop event act (AtHandset party (HandsetDelete entry)) c) self.new) }
     {
         match u32::try_from(entry) {
             Ok(entry) => self.at_handset(event, stop, place, &HandsetEvent::Delete { entry }),
@@ -283,12 +283,12 @@ impl<'a> Playing<'a> {
     fn discard(
         &mut self,
         event: u64,
-        stop: Option<Stop>,
+        stop: Option<StopPoint>,
         place: usize,
         entry: u64,
     ) -> Result<(), AllocError>
         requires { place < length self.old.parties }
-        ensures { (c : Course) (party : Party) (act : ActOf) → Shows c self.old → IsFirstAt place party c.parties → is_answered_act act ≡ true → OnOk result (Shows (met_as stop event act (AtHandset party (HandsetDiscard entry)) c) self.new) }
+        ensures { (c : PlayState) (party : Party) (act : ActOf) → Represents c self.old → IsFirstAt place party c.parties → is_answered_act act ≡ true → OnOk result (Represents (met_as stop event act (AtHandset party (HandsetDiscard entry)) c) self.new) }
     {
         match u32::try_from(entry) {
             Ok(entry) => self.at_handset(event, stop, place, &HandsetEvent::Discard { entry }),
@@ -302,13 +302,13 @@ impl<'a> Playing<'a> {
     fn written(
         &mut self,
         event: u64,
-        stop: Option<Stop>,
+        stop: Option<StopPoint>,
         handset: &[u8],
         to: &[u8],
         report: bool,
         text: &TextWord<'_>,
     ) -> Result<(), PlayFault>
-        ensures { (c : Course) → Shows c self.old → LeadsTo result self.new (acted stop event (ActWrite handset.now to.now report text.now) c) }
+        ensures { (c : PlayState) → Represents c self.old → LeadsTo result self.new (acted stop event (ActWrite handset.now to.now report text.now) c) }
     {
         let Some(place) = self.party(handset) else {
             return Err(PlayFault::NoSuchSide { event });
@@ -319,11 +319,11 @@ impl<'a> Playing<'a> {
     fn deleted(
         &mut self,
         event: u64,
-        stop: Option<Stop>,
+        stop: Option<StopPoint>,
         handset: &[u8],
         entry: u64,
     ) -> Result<(), PlayFault>
-        ensures { (c : Course) → Shows c self.old → LeadsTo result self.new (acted stop event (ActDelete handset.now entry) c) }
+        ensures { (c : PlayState) → Represents c self.old → LeadsTo result self.new (acted stop event (ActDelete handset.now entry) c) }
     {
         let Some(place) = self.party(handset) else {
             return Err(PlayFault::NoSuchSide { event });
@@ -334,11 +334,11 @@ impl<'a> Playing<'a> {
     fn discarded(
         &mut self,
         event: u64,
-        stop: Option<Stop>,
+        stop: Option<StopPoint>,
         handset: &[u8],
         entry: u64,
     ) -> Result<(), PlayFault>
-        ensures { (c : Course) → Shows c self.old → LeadsTo result self.new (acted stop event (ActDiscard handset.now entry) c) }
+        ensures { (c : PlayState) → Represents c self.old → LeadsTo result self.new (acted stop event (ActDiscard handset.now entry) c) }
     {
         let Some(place) = self.party(handset) else {
             return Err(PlayFault::NoSuchSide { event });
@@ -349,7 +349,7 @@ impl<'a> Playing<'a> {
     // ---- frames
 
     fn handed(&self, number: u64) -> Result<Option<Handed>, AllocError>
-        ensures { (c : Course) → Shows c self.now → IfOk result (λ handed. Hands handed (frame_at_number number c.bag)) }
+        ensures { (c : PlayState) → Represents c self.now → IfOk result (λ handed. Hands handed (frame_at_number number c.bag)) }
     {
         match frame_at(number, &self.bag) {
             None => Ok(None),
@@ -369,12 +369,12 @@ impl<'a> Playing<'a> {
     fn hand_up(
         &mut self,
         event: u64,
-        stop: Option<Stop>,
+        stop: Option<StopPoint>,
         place: usize,
         handed: &Handed,
     ) -> Result<(), AllocError>
         requires { place < length self.old.parties }
-        ensures shows { (c : Course) (party : Party) (act : ActOf) → Shows c self.old → IsFirstAt place party c.parties → is_answered_act act ≡ false → OnOk result (Shows (met_as stop event act (AtCentre (CentreFrame party.number handed.now.octets handed.now.tag)) c) self.new) }
+        ensures represents { (c : PlayState) (party : Party) (act : ActOf) → Represents c self.old → IsFirstAt place party c.parties → is_answered_act act ≡ false → OnOk result (Represents (met_as stop event act (AtCentre (CentreFrame party.number handed.now.octets handed.now.tag)) c) self.new) }
         ensures event { (party : Party) → IsFirstAt place party self.old.parties → IsEvent (CentreFrame party.number handed.now.octets handed.now.tag) }
     {
         let handset = self.number_at(place);
@@ -390,12 +390,12 @@ impl<'a> Playing<'a> {
     fn hand_down(
         &mut self,
         event: u64,
-        stop: Option<Stop>,
+        stop: Option<StopPoint>,
         place: usize,
         handed: &Handed,
     ) -> Result<(), AllocError>
         requires { place < length self.old.parties }
-        ensures { (c : Course) (party : Party) (act : ActOf) → Shows c self.old → IsFirstAt place party c.parties → is_answered_act act ≡ false → OnOk result (Shows (met_as stop event act (AtHandset party (HandsetFrame handed.now.octets handed.now.tag)) c) self.new) }
+        ensures { (c : PlayState) (party : Party) (act : ActOf) → Represents c self.old → IsFirstAt place party c.parties → is_answered_act act ≡ false → OnOk result (Represents (met_as stop event act (AtHandset party (HandsetFrame handed.now.octets handed.now.tag)) c) self.new) }
     {
         let happening = HandsetEvent::Frame {
             octets: OctetView::of(handed.octets.as_slice()),
@@ -407,11 +407,11 @@ impl<'a> Playing<'a> {
     fn hand_over(
         &mut self,
         event: u64,
-        stop: Option<Stop>,
+        stop: Option<StopPoint>,
         handed: &Handed,
     ) -> Result<(), PlayFault>
-        ensures leads { (c : Course) (f : FrameRowOf) (number : ℕ) → Shows c self.old → Among f c.bag → IsFrame handed.now f → LeadsTo result self.new (goes stop event (ActDeliver number) (handed_over event f.direction f c) c) }
-        ensures fit { (c : Course) (f : FrameRowOf) → Shows c self.old → Among f c.bag → IsFrame handed.now f → OnOk result (TellsCentre (handed_over event f.direction f c)) }
+        ensures leads { (c : PlayState) (f : FrameRowOf) (number : ℕ) → Represents c self.old → Among f c.bag → IsFrame handed.now f → LeadsTo result self.new (goes stop event (ActDeliver number) (handed_over event f.direction f c) c) }
+        ensures fit { (c : PlayState) (f : FrameRowOf) → Represents c self.old → Among f c.bag → IsFrame handed.now f → OnOk result (TellsCentre (handed_over event f.direction f c)) }
     {
         let Some(place) = self.party_of(&handed.handset) else {
             return Err(PlayFault::NoSuchSide { event });
@@ -422,9 +422,9 @@ impl<'a> Playing<'a> {
         }
     }
 
-    fn delivered(&mut self, event: u64, stop: Option<Stop>, number: u64) -> Result<(), PlayFault>
-        ensures leads { (c : Course) → Shows c self.old → LeadsTo result self.new (acted stop event (ActDeliver number) c) }
-        ensures fit { (c : Course) → Shows c self.old → OnOk result (TellsCentre (meeting_of event (ActDeliver number) c)) }
+    fn delivered(&mut self, event: u64, stop: Option<StopPoint>, number: u64) -> Result<(), PlayFault>
+        ensures leads { (c : PlayState) → Represents c self.old → LeadsTo result self.new (acted stop event (ActDeliver number) c) }
+        ensures fit { (c : PlayState) → Represents c self.old → OnOk result (TellsCentre (meeting_of event (ActDeliver number) c)) }
     {
         match self.handed(number) {
             Ok(Some(handed)) => self.hand_over(event, stop, &handed),
@@ -438,11 +438,11 @@ impl<'a> Playing<'a> {
     fn handset_ticked(
         &mut self,
         event: u64,
-        stop: Option<Stop>,
+        stop: Option<StopPoint>,
         number: &[u8],
         now: Moment,
     ) -> Result<(), PlayFault>
-        ensures { (c : Course) → Shows c self.old → LeadsTo result self.new (acted stop event (ActTick (SideHandset number.now) now) c) }
+        ensures { (c : PlayState) → Represents c self.old → LeadsTo result self.new (acted stop event (ActTick (SideHandset number.now) now) c) }
     {
         let Some(place) = self.party(number) else {
             return Err(PlayFault::NoSuchSide { event });
@@ -454,12 +454,12 @@ impl<'a> Playing<'a> {
     fn ticked(
         &mut self,
         event: u64,
-        stop: Option<Stop>,
+        stop: Option<StopPoint>,
         side: &Side<'_>,
         now: Moment,
     ) -> Result<(), PlayFault>
-        ensures leads { (c : Course) → Shows c self.old → LeadsTo result self.new (acted stop event (ActTick side.now now) c) }
-        ensures fit { (c : Course) → TellsCentre (meeting_of event (ActTick side.now now) c) }
+        ensures leads { (c : PlayState) → Represents c self.old → LeadsTo result self.new (acted stop event (ActTick side.now now) c) }
+        ensures fit { (c : PlayState) → TellsCentre (meeting_of event (ActTick side.now now) c) }
     {
         match side {
             Side::Centre => {
@@ -473,9 +473,9 @@ impl<'a> Playing<'a> {
 
     // ---- every event
 
-    fn act(&mut self, event: u64, stop: Option<Stop>, act: &Act<'_>) -> Result<(), PlayFault>
-        ensures leads { (c : Course) → Shows c self.old → LeadsTo result self.new (acted stop event act.now c) }
-        ensures fit { (c : Course) → Shows c self.old → OnOk result (TellsCentre (meeting_of event act.now c)) }
+    fn act(&mut self, event: u64, stop: Option<StopPoint>, act: &Act<'_>) -> Result<(), PlayFault>
+        ensures leads { (c : PlayState) → Represents c self.old → LeadsTo result self.new (acted stop event act.now c) }
+        ensures fit { (c : PlayState) → Represents c self.old → OnOk result (TellsCentre (meeting_of event act.now c)) }
     {
         match act {
             Act::Submit(submission) => self.submitted(event, stop, submission),
@@ -506,7 +506,7 @@ impl<'a> Playing<'a> {
     }
 
     fn restart(&mut self, event: u64, side: &Side<'_>) -> Result<(), PlayFault>
-        ensures { (c : Course) → Shows c self.old → LeadsTo result self.new (restart_of event side.now c) }
+        ensures { (c : PlayState) → Represents c self.old → LeadsTo result self.new (restart_of event side.now c) }
     {
         match side {
             Side::Centre => or_no_memory(event, self.restart_centre()),
@@ -519,9 +519,9 @@ impl<'a> Playing<'a> {
 
     /// The event of that number is played.
     pub(crate) fn play(&mut self, number: u64, event: &WorldEvent<'_>) -> Result<(), PlayFault>
-        ensures leads { (c : Course) → Shows c self.old → LeadsTo result self.new (played number event.now c) }
+        ensures leads { (c : PlayState) → Represents c self.old → LeadsTo result self.new (played number event.now c) }
         // What the centre is told of it is an event.
-        ensures fit { (c : Course) → Shows c self.old → OnOk result (IsFit number event.now c) }
+        ensures fit { (c : PlayState) → Represents c self.old → OnOk result (IsFit number event.now c) }
     {
         match event {
             WorldEvent::Whole(act) => self.act(number, None, act),

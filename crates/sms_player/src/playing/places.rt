@@ -5,17 +5,17 @@ ghost use Rattle.sms_base.specs.Address.{IsAddress};
 ghost use Rattle.sms_base.specs.HandsetNumber.{own_address};
 ghost use Rattle.sms_handset.specs.HandsetEvent.{deleted, discarded};
 ghost use Rattle.sms_handset.specs.declared.refusal.Refusal.TheVariants.{NoEntry};
-ghost use Rattle.sms_play.specs.Course.{Party};
+ghost use Rattle.sms_play.specs.PlayState.{Party};
 ghost use Rattle.sms_play.specs.Meeting.{account_from};
 ghost use Rattle.sms_player.specs.playing.Places.{IsFirstAt, place_from};
 
 use crate::centre::PlayedHandset;
 use sms_base::Digits;
-use sms_intake::Account;
+use sms_intake::CentreAccount;
 use sms_play::staging::spell;
 
 /// The place of the account of that name.
-pub(crate) fn account_place(name: &[u8], accounts: &[Account]) -> Option<u8>
+pub(crate) fn account_place(name: &[u8], accounts: &[CentreAccount]) -> Option<u8>
     requires { length accounts.now ≤ 32 }
     ensures { result ≡ account_from 0 name.now accounts.now }
 {

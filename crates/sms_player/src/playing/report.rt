@@ -1,19 +1,19 @@
 //! What a script led to.
 ghost use Rattle.std.specs.Prelude.{◌≡◌, IfOk};
-ghost use Rattle.sms_play.specs.Course.{Course};
+ghost use Rattle.sms_play.specs.PlayState.{PlayState};
 ghost use Rattle.sms_play.specs.Playing.{accepted_lines as accepted_lines_of, all_outbox_lines, joined_lines as joined_lines_of, message_lines, receipt_lines, report_of};
-ghost use Rattle.sms_player.specs.playing.Courses.{Shows};
+ghost use Rattle.sms_player.specs.playing.Plays.{Represents};
 
 use crate::centre::{accepted_lines, joined_lines, outbox_lines};
 use crate::playing::playing::Playing;
 use sms_base::Listed;
-use sms_script::report::{AcceptedRow, JoinedRow, MessageRow, OutboxRow, ReceiptRow, Report};
+use sms_script::report::{AcceptedRow, JoinedRow, ReportedMessage, OutboxRow, ReceiptRow, Report};
 use std::alloc::AllocError;
 
 // What is read off the two sides.
 #[derive(Drop)]
 struct Read {
-    table: Listed<MessageRow>,
+    table: Listed<ReportedMessage>,
     accepted: Listed<AcceptedRow>,
     joined: Listed<JoinedRow>,
     receipts: Listed<ReceiptRow>,
@@ -22,8 +22,8 @@ struct Read {
 
 impl<'a> Playing<'a> {
     fn read(&self) -> Result<Read, AllocError>
-        ensures table { (c : Course) → Shows c self.now → IfOk result (λ read. read.table ≡ message_lines c.centre.rows.messages) }
-        ensures receipts { (c : Course) → Shows c self.now → IfOk result (λ read. read.receipts ≡ receipt_lines c.centre.rows.messages c.centre.rows.reports) }
+        ensures table { (c : PlayState) → Represents c self.now → IfOk result (λ read. read.table ≡ message_lines c.centre.rows.messages) }
+        ensures receipts { (c : PlayState) → Represents c self.now → IfOk result (λ read. read.receipts ≡ receipt_lines c.centre.rows.messages c.centre.rows.reports) }
         ensures accepted { IfOk result (λ read. read.accepted ≡ accepted_lines_of self.now.parties) }
         ensures joined { IfOk result (λ read. read.joined ≡ joined_lines_of self.now.parties) }
         ensures outboxes { IfOk result (λ read. read.outboxes ≡ all_outbox_lines self.now.parties) }
@@ -48,7 +48,7 @@ impl<'a> Playing<'a> {
     /// # Errors
     /// A growth was refused.
     pub fn report(self) -> Result<Report, AllocError>
-        ensures { (c : Course) → Shows c self.entry → IfOk result (λ report. report ≡ report_of c) }
+        ensures { (c : PlayState) → Represents c self.entry → IfOk result (λ report. report ≡ report_of c) }
     {
         let read = self.read()?;
         Ok(Report {

@@ -9,18 +9,18 @@ ghost use Rattle.sms_handset.specs.declared.event.HandsetEvent.{HandsetEvent as 
 ghost use Rattle.sms_handset.specs.declared.refusal.Refusal.TheVariants.{NoEntry};
 ghost use Rattle.sms_handset_draft.specs.Draft.{Draft as HandsetDraftOf, recovered as handset_recovered};
 ghost use Rattle.sms_play.specs.CentreSide.{accepted_after, answered_as as answered_as_of, centre_meets as centre_meets_of, committed, done as done_of, state_of as state_of_message, told as told_of};
-ghost use Rattle.sms_play.specs.Course.{Course, Party, answer as answer_of};
+ghost use Rattle.sms_play.specs.PlayState.{PlayState, Party, answer as answer_of};
 ghost use Rattle.sms_play.specs.HandsetSide.{all_sent as all_sent_up, committed as handset_committed, done as handset_done, handset_meets as handset_meets_of, happened as handset_happened, is_owners as is_owners_of};
 ghost use Rattle.sms_play.specs.Meeting.{AtCentre, AtHandset, is_answered as is_answered_act};
 ghost use Rattle.sms_play.specs.PlayedEvent.{centre_restarted, kept, party_restarted, restarted};
 ghost use Rattle.sms_player.specs.handset.Meeting.{Meets};
-ghost use Rattle.sms_player.specs.playing.Courses.{Shows};
+ghost use Rattle.sms_player.specs.playing.Plays.{Represents};
 ghost use Rattle.sms_player.specs.playing.Places.{IsFirstAt};
 ghost use Rattle.sms_player.specs.playing.Playing.{MeetsAs, Tells, met_as};
 ghost use Rattle.sms_script.specs.declared.report.answers.Answered.TheVariants.{Done as AnsweredDone, Refused as AnsweredRefused, Stopped as AnsweredStopped};
 ghost use Rattle.sms_script.specs.declared.event.Act.{Act as ActOf};
 
-use crate::centre::{CentreAnswer, CentreEvent, Met, PlayedHandset, Told};
+use crate::centre::{CentreAnswer, CentreEvent, HandsetOutcome, PlayedHandset, Outputs};
 use crate::playing::playing::Playing;
 use smpp_pdu::CommandStatus;
 use sms_base::{Digits, FinalState, Listed, OctetView};
@@ -28,7 +28,7 @@ use sms_centre_rows::reports::Delivery;
 use sms_handset::{HandsetEvent, Refusal};
 use sms_link::Outgoing;
 use sms_play::staging::{send_down, send_up};
-use sms_script::Stop;
+use sms_script::StopPoint;
 use sms_script::report::{Answered, GivenRow, MessageState};
 use std::alloc::AllocError;
 
@@ -92,7 +92,7 @@ fn meet_at(
     place: usize,
     happening: &HandsetEvent<'_>,
     given: &mut Listed<GivenRow>,
-) -> Result<Met, AllocError>
+) -> Result<HandsetOutcome, AllocError>
     requires { place < length parties.old }
     ensures length { length parties.new ≡ length parties.old }
     ensures meets { (party : Party) → IsFirstAt place party parties.old → (now : Party) × ((parties.new ≡ slice_set parties.old place now) × Meets result party now given.old given.new (handset_happened happening.now party.core)) }
@@ -113,46 +113,46 @@ impl<'a> Playing<'a> {
     // ---- the centre
 
     // The frames of the centre go out.
-    fn send(&mut self, told: Told) -> Result<Heard, AllocError>
-        ensures shows { (c : Course) (d : DraftOf) → Shows (committed d c) self.old → told.frames ≡ d.air.frames → OnOk result (Shows (done_of d c) self.new) }
-        ensures deliveries { IfOk result (λ heard. heard.deliveries ≡ told.deliveries) }
-        ensures answer { IfOk result (λ heard. heard.answer ≡ told.answer) }
+    fn send(&mut self, outputs: Outputs) -> Result<Heard, AllocError>
+        ensures represents { (c : PlayState) (d : DraftOf) → Represents (committed d c) self.old → outputs.frames ≡ d.links.frames → OnOk result (Represents (done_of d c) self.new) }
+        ensures deliveries { IfOk result (λ heard. heard.deliveries ≡ outputs.deliveries) }
+        ensures answer { IfOk result (λ heard. heard.answer ≡ outputs.answer) }
     {
-        let Told {
+        let Outputs {
             frames,
             answer,
             deliveries,
-        } = told;
+        } = outputs;
         send_down(frames, &mut self.bag)?;
         Ok(Heard { answer, deliveries })
     }
 
     // The centre meets an event, and its rows change; its frames are to go out.
-    fn commit_centre(&mut self, happening: &CentreEvent<'_>) -> Result<Told, AllocError>
+    fn commit_centre(&mut self, happening: &CentreEvent<'_>) -> Result<Outputs, AllocError>
         requires { HasNumber happening.now }
-        ensures shows { (c : Course) → Shows c self.old → OnOk result (Shows (committed (happened happening.now c.centre) c) self.new) }
-        ensures told { (c : Course) → Shows c self.old → IfOk result (λ told. Tells (happened happening.now c.centre) told.frames told.answer told.deliveries) }
+        ensures represents { (c : PlayState) → Represents c self.old → OnOk result (Represents (committed (happened happening.now c.centre) c) self.new) }
+        ensures outputs { (c : PlayState) → Represents c self.old → IfOk result (λ outputs. Tells (happened happening.now c.centre) outputs.frames outputs.answer outputs.deliveries) }
     {
-        let told = self.centre.meet(happening, &mut self.given)?;
-        Ok(told)
+        let outputs = self.centre.meet(happening, &mut self.given)?;
+        Ok(outputs)
     }
 
     // The same, and its frames go out.
     fn hear(&mut self, happening: &CentreEvent<'_>) -> Result<Heard, AllocError>
         requires { HasNumber happening.now }
-        ensures shows { (c : Course) → Shows c self.old → OnOk result (Shows (done_of (happened happening.now c.centre) c) self.new) }
-        ensures deliveries { (c : Course) → Shows c self.old → IfOk result (λ heard. heard.deliveries ≡ (happened happening.now c.centre).desk.deliveries) }
-        ensures answer { (c : Course) → Shows c self.old → IfOk result (λ heard. heard.answer ≡ (happened happening.now c.centre).answer) }
+        ensures represents { (c : PlayState) → Represents c self.old → OnOk result (Represents (done_of (happened happening.now c.centre) c) self.new) }
+        ensures deliveries { (c : PlayState) → Represents c self.old → IfOk result (λ heard. heard.deliveries ≡ (happened happening.now c.centre).bindings.deliveries) }
+        ensures answer { (c : PlayState) → Represents c self.old → IfOk result (λ heard. heard.answer ≡ (happened happening.now c.centre).answer) }
     {
-        let told = self.commit_centre(happening)?;
-        let heard = self.send(told)?;
+        let outputs = self.commit_centre(happening)?;
+        let heard = self.send(outputs)?;
         Ok(heard)
     }
 
     // The application accepts the receipt at once. Gives the receipts that this lets go.
     fn accept(&mut self, delivery: Delivery) -> Result<Listed<Delivery>, AllocError>
-        ensures shows { (c : Course) → Shows c self.old → OnOk result (Shows (done_of (happened (DeliverAnswered delivery.session delivery.id true) c.centre) c) self.new) }
-        ensures more { (c : Course) → Shows c self.old → IfOk result (λ more. more ≡ (happened (DeliverAnswered delivery.session delivery.id true) c.centre).desk.deliveries) }
+        ensures represents { (c : PlayState) → Represents c self.old → OnOk result (Represents (done_of (happened (DeliverAnswered delivery.session delivery.id true) c.centre) c) self.new) }
+        ensures more { (c : PlayState) → Represents c self.old → IfOk result (λ more. more ≡ (happened (DeliverAnswered delivery.session delivery.id true) c.centre).bindings.deliveries) }
     {
         let event = CentreEvent::DeliverAnswered {
             session: delivery.session,
@@ -166,7 +166,7 @@ impl<'a> Playing<'a> {
 
     // Receipts are accepted one after another, as many as there are at most.
     fn accept_all(&mut self, deliveries: Listed<Delivery>) -> Result<(), AllocError>
-        ensures { (c : Course) (d : DraftOf) → Shows c self.old → OnOk result (Shows (accepted_after d (length c.centre.rows.reports) deliveries c) self.new) }
+        ensures { (c : PlayState) (d : DraftOf) → Represents c self.old → OnOk result (Represents (accepted_after d (length c.centre.rows.reports) deliveries c) self.new) }
     {
         let mut waiting = deliveries.into_vec();
         let most = self.centre.count_reports();
@@ -181,7 +181,7 @@ impl<'a> Playing<'a> {
     }
 
     fn tell(&mut self, event: u64, answer: Option<CentreAnswer>) -> Result<(), AllocError>
-        ensures { (c : Course) → Shows c self.old → OnOk result (Shows (told_of event answer c) self.new) }
+        ensures { (c : PlayState) → Represents c self.old → OnOk result (Represents (told_of event answer c) self.new) }
     {
         match answer {
             Some(answer) => self.answer(event, answered_as(answer)),
@@ -192,7 +192,7 @@ impl<'a> Playing<'a> {
     // The centre meets an event, and nothing stops it.
     fn centre_meets(&mut self, event: u64, happening: &CentreEvent<'_>) -> Result<(), AllocError>
         requires { HasNumber happening.now }
-        ensures { (c : Course) → Shows c self.old → OnOk result (Shows (centre_meets_of event happening.now c) self.new) }
+        ensures { (c : PlayState) → Represents c self.old → OnOk result (Represents (centre_meets_of event happening.now c) self.new) }
     {
         let heard = self.hear(happening)?;
         let Heard { answer, deliveries } = heard;
@@ -202,19 +202,19 @@ impl<'a> Playing<'a> {
 
     /// The centre starts again on its rows.
     pub(crate) fn restart_centre(&mut self) -> Result<(), AllocError>
-        ensures { (c : Course) → Shows c self.old → OnOk result (Shows (centre_restarted c) self.new) }
+        ensures { (c : PlayState) → Represents c self.old → OnOk result (Represents (centre_restarted c) self.new) }
     {
         self.centre.restart()
     }
 
     // The centre is stopped at an event, and starts again.
-    fn stop_centre(&mut self, stop: Stop, happening: &CentreEvent<'_>) -> Result<(), AllocError>
+    fn stop_centre(&mut self, stop: StopPoint, happening: &CentreEvent<'_>) -> Result<(), AllocError>
         requires { HasNumber happening.now }
-        ensures { (c : Course) → Shows c self.old → OnOk result (Shows (centre_restarted (kept stop (AtCentre happening.now) c)) self.new) }
+        ensures { (c : PlayState) → Represents c self.old → OnOk result (Represents (centre_restarted (kept stop (AtCentre happening.now) c)) self.new) }
     {
         match stop {
-            Stop::Before => self.restart_centre(),
-            Stop::After => {
+            StopPoint::Before => self.restart_centre(),
+            StopPoint::After => {
                 self.commit_centre(happening)?;
                 self.restart_centre()
             }
@@ -222,7 +222,7 @@ impl<'a> Playing<'a> {
     }
 
     fn answer_stop(&mut self, event: u64, is_answered: bool) -> Result<(), AllocError>
-        ensures { (c : Course) → Shows c self.old → OnOk result (Shows (if is_answered then answer_of event AnsweredStopped c else c) self.new) }
+        ensures { (c : PlayState) → Represents c self.old → OnOk result (Represents (if is_answered then answer_of event AnsweredStopped c else c) self.new) }
     {
         if is_answered {
             self.answer(event, Answered::Stopped)
@@ -235,12 +235,12 @@ impl<'a> Playing<'a> {
     pub(crate) fn at_centre(
         &mut self,
         event: u64,
-        stop: Option<Stop>,
+        stop: Option<StopPoint>,
         is_answered: bool,
         happening: &CentreEvent<'_>,
     ) -> Result<(), AllocError>
         requires { HasNumber happening.now }
-        ensures { (c : Course) (act : ActOf) → Shows c self.old → is_answered_act act ≡ is_answered → OnOk result (Shows (met_as stop event act (AtCentre happening.now) c) self.new) }
+        ensures { (c : PlayState) (act : ActOf) → Represents c self.old → is_answered_act act ≡ is_answered → OnOk result (Represents (met_as stop event act (AtCentre happening.now) c) self.new) }
     {
         match stop {
             None => self.centre_meets(event, happening),
@@ -258,10 +258,10 @@ impl<'a> Playing<'a> {
         &mut self,
         place: usize,
         happening: &HandsetEvent<'_>,
-    ) -> Result<Met, AllocError>
+    ) -> Result<HandsetOutcome, AllocError>
         requires { place < length self.old.parties }
         ensures as_many { length self.new.parties ≡ length self.old.parties }
-        ensures meets { (c : Course) (party : Party) → Shows c self.old → IsFirstAt place party c.parties → IfOk result (λ met. MeetsAs met party c self.new (handset_happened happening.now party.core)) }
+        ensures meets { (c : PlayState) (party : Party) → Represents c self.old → IsFirstAt place party c.parties → IfOk result (λ met. MeetsAs met party c self.new (handset_happened happening.now party.core)) }
     {
         meet_at(self.parties, place, happening, &mut self.given)
     }
@@ -269,7 +269,7 @@ impl<'a> Playing<'a> {
     /// The handset at that place starts again on its rows.
     pub(crate) fn restart_handset(&mut self, place: usize) -> Result<(), AllocError>
         requires { place < length self.old.parties }
-        ensures { (c : Course) (party : Party) → Shows c self.old → IsFirstAt place party c.parties → OnOk result (Shows (party_restarted party c) self.new) }
+        ensures { (c : PlayState) (party : Party) → Represents c self.old → IsFirstAt place party c.parties → OnOk result (Represents (party_restarted party c) self.new) }
     {
         restart_at(self.parties, place)
     }
@@ -289,7 +289,7 @@ impl<'a> Playing<'a> {
         frames: Listed<Outgoing>,
         is_owners: bool,
     ) -> Result<(), AllocError>
-        ensures { (c : Course) (party : Party) (d : HandsetDraftOf) (place : ℕ) → IsFirstAt place party c.parties → Shows (handset_committed party d c) self.old → number ≡ party.number → frames ≡ d.frames → OnOk result (Shows (if is_owners then answer_of event AnsweredDone (handset_done party d c) else handset_done party d c) self.new) }
+        ensures { (c : PlayState) (party : Party) (d : HandsetDraftOf) (place : ℕ) → IsFirstAt place party c.parties → Represents (handset_committed party d c) self.old → number ≡ party.number → frames ≡ d.frames → OnOk result (Represents (if is_owners then answer_of event AnsweredDone (handset_done party d c) else handset_done party d c) self.new) }
     {
         self.sent_up(number, frames)?;
         if is_owners {
@@ -306,28 +306,28 @@ impl<'a> Playing<'a> {
         happening: &HandsetEvent<'_>,
     ) -> Result<(), AllocError>
         requires { place < length self.old.parties }
-        ensures { (c : Course) (party : Party) → Shows c self.old → IsFirstAt place party c.parties → OnOk result (Shows (handset_meets_of event party happening.now c) self.new) }
+        ensures { (c : PlayState) (party : Party) → Represents c self.old → IsFirstAt place party c.parties → OnOk result (Represents (handset_meets_of event party happening.now c) self.new) }
     {
         let number = self.number_at(place);
         let met = self.commit_handset(place, happening)?;
         match met {
-            Met::Done(frames) => self.done(event, number, frames, is_owners(happening)),
-            Met::Refused(refusal) => self.answer(event, refused_as(refusal)),
+            HandsetOutcome::Done(frames) => self.done(event, number, frames, is_owners(happening)),
+            HandsetOutcome::Refused(refusal) => self.answer(event, refused_as(refusal)),
         }
     }
 
     fn stop_handset(
         &mut self,
         place: usize,
-        stop: Stop,
+        stop: StopPoint,
         happening: &HandsetEvent<'_>,
     ) -> Result<(), AllocError>
         requires { place < length self.old.parties }
-        ensures { (c : Course) (party : Party) → Shows c self.old → IsFirstAt place party c.parties → OnOk result (Shows (restarted (AtHandset party happening.now) (kept stop (AtHandset party happening.now) c)) self.new) }
+        ensures { (c : PlayState) (party : Party) → Represents c self.old → IsFirstAt place party c.parties → OnOk result (Represents (restarted (AtHandset party happening.now) (kept stop (AtHandset party happening.now) c)) self.new) }
     {
         match stop {
-            Stop::Before => self.restart_handset(place),
-            Stop::After => {
+            StopPoint::Before => self.restart_handset(place),
+            StopPoint::After => {
                 self.commit_handset(place, happening)?;
                 self.restart_handset(place)
             }
@@ -338,12 +338,12 @@ impl<'a> Playing<'a> {
     pub(crate) fn at_handset(
         &mut self,
         event: u64,
-        stop: Option<Stop>,
+        stop: Option<StopPoint>,
         place: usize,
         happening: &HandsetEvent<'_>,
     ) -> Result<(), AllocError>
         requires { place < length self.old.parties }
-        ensures { (c : Course) (party : Party) (act : ActOf) → Shows c self.old → IsFirstAt place party c.parties → is_answered_act act ≡ is_owners_of happening.now → OnOk result (Shows (met_as stop event act (AtHandset party happening.now) c) self.new) }
+        ensures { (c : PlayState) (party : Party) (act : ActOf) → Represents c self.old → IsFirstAt place party c.parties → is_answered_act act ≡ is_owners_of happening.now → OnOk result (Represents (met_as stop event act (AtHandset party happening.now) c) self.new) }
     {
         match stop {
             None => self.handset_meets(event, place, happening),
@@ -358,11 +358,11 @@ impl<'a> Playing<'a> {
     pub(crate) fn no_entry(
         &mut self,
         event: u64,
-        stop: Option<Stop>,
+        stop: Option<StopPoint>,
         place: usize,
     ) -> Result<(), AllocError>
         requires { place < length self.old.parties }
-        ensures { (c : Course) (party : Party) (act : ActOf) (e : HandsetEventOf) → Shows c self.old → IsFirstAt place party c.parties → is_answered_act act ≡ true → is_owners_of e ≡ true → handset_happened e party.core ≡ Err NoEntry → OnOk result (Shows (met_as stop event act (AtHandset party e) c) self.new) }
+        ensures { (c : PlayState) (party : Party) (act : ActOf) (e : HandsetEventOf) → Represents c self.old → IsFirstAt place party c.parties → is_answered_act act ≡ true → is_owners_of e ≡ true → handset_happened e party.core ≡ Err NoEntry → OnOk result (Represents (met_as stop event act (AtHandset party e) c) self.new) }
     {
         match stop {
             None => self.answer(event, refused_as(Refusal::NoEntry)),

@@ -1,10 +1,10 @@
 //! Events one after another, with somebody who looks on.
 ghost use Rattle.std.specs.Prelude.{Ok, Option, OnOk};
-ghost use Rattle.sms_play.specs.judging.Shown.{or_first, untimely};
-ghost use Rattle.sms_play.specs.Course.{Course};
+ghost use Rattle.sms_play.specs.judging.Premises.{or_first, untimely};
+ghost use Rattle.sms_play.specs.PlayState.{PlayState};
 ghost use Rattle.sms_play.specs.PlayedEvent.{played};
 ghost use Rattle.sms_play.specs.Playing.{played_on};
-ghost use Rattle.sms_player.specs.playing.Courses.{Shows};
+ghost use Rattle.sms_player.specs.playing.Plays.{Represents};
 ghost use Rattle.sms_player.specs.playing.Looked.{FollowsAll, FollowsOne};
 ghost use Rattle.sms_player.specs.playing.Playing.{LeadsTo};
 ghost use Rattle.sms_script.specs.declared.report.report.Broken.{Broken};
@@ -12,19 +12,19 @@ ghost use Rattle.sms_script.specs.declared.report.report.Broken.{Broken};
 use crate::playing::acts::or_no_memory;
 use crate::playing::playing::Playing;
 use sms_base::{Listed, MessageId};
-use sms_centre::laws::what_stands_is_known;
+use sms_centre::laws::a_state_meets_what_events_require;
 use sms_centre_rows::messages::MessageRow;
 use sms_centre_rows::reports::Delivery;
 use sms_play::PlayFault;
-use sms_play::growth::laws::an_event_goes_on;
+use sms_play::growth::laws::an_event_extends_the_play;
 use sms_play::judging::{Scene, Watcher};
 use sms_script::WorldEvent;
 use sms_script::report::{AcceptedRow, Answer, FrameRow, GivenRow};
 
 impl<'a> Scene for Playing<'a> {
-    ghost use Rattle.sms_player.specs.playing.Courses.{Shows};
+    ghost use Rattle.sms_player.specs.playing.Plays.{Represents};
 
-    ghost shows = { λ playing c. Shows c playing };
+    ghost represents = { λ playing c. Represents c playing };
 
     fn answers(&self) -> &[Answer] {
         self.answers.as_slice()
@@ -69,12 +69,12 @@ fn play_one<W: Watcher>(
     number: u64,
     event: &WorldEvent<'_>,
 ) -> Result<(), PlayFault>
-    ensures leads { (c : Course) → Shows c playing.old → LeadsTo result playing.new (played number event.now c) }
-    ensures seen { (c : Course) (broken : Option Broken) → Shows c playing.old → W.has_seen watcher.old (or_first broken (untimely number event.now c)) c
+    ensures leads { (c : PlayState) → Represents c playing.old → LeadsTo result playing.new (played number event.now c) }
+    ensures seen { (c : PlayState) (broken : Option Broken) → Represents c playing.old → W.has_seen watcher.old (or_first broken (untimely number event.now c)) c
         → OnOk result (FollowsOne (W.has_seen watcher.new) playing.new broken number event.now c) }
 {
-    what_stands_is_known();
-    an_event_goes_on();
+    a_state_meets_what_events_require();
+    an_event_extends_the_play();
     match playing.play(number, event) {
         Ok(()) => or_no_memory(number, watcher.after(number, event, playing)),
         Err(fault) => Err(fault),
@@ -87,8 +87,8 @@ fn one<W: Watcher>(
     number: u64,
     event: &WorldEvent<'_>,
 ) -> Result<(), PlayFault>
-    ensures leads { (c : Course) → Shows c playing.old → LeadsTo result playing.new (played number event.now c) }
-    ensures seen { (c : Course) (broken : Option Broken) → Shows c playing.old → W.has_seen watcher.old broken c
+    ensures leads { (c : PlayState) → Represents c playing.old → LeadsTo result playing.new (played number event.now c) }
+    ensures seen { (c : PlayState) (broken : Option Broken) → Represents c playing.old → W.has_seen watcher.old broken c
         → OnOk result (FollowsOne (W.has_seen watcher.new) playing.new broken number event.now c) }
 {
     match watcher.before(number, event, playing) {
@@ -106,9 +106,9 @@ pub fn play_all<W: Watcher>(
     watcher: &mut W,
     events: &[WorldEvent<'_>],
 ) -> Result<(), PlayFault>
-    ensures leads { (c : Course) → Shows c playing.old → LeadsTo result playing.new (played_on 1 events.now c) }
+    ensures leads { (c : PlayState) → Represents c playing.old → LeadsTo result playing.new (played_on 1 events.now c) }
     // Who looks on has seen what the definition decides of them.
-    ensures seen { (c : Course) (broken : Option Broken) → Shows c playing.old → W.has_seen watcher.old broken c
+    ensures seen { (c : PlayState) (broken : Option Broken) → Represents c playing.old → W.has_seen watcher.old broken c
         → OnOk result (FollowsAll (W.has_seen watcher.new) playing.new broken events.now c) }
 {
     for place in 0..events.len() {

@@ -3,7 +3,7 @@ use Rattle.std.proofs.Common.{◌≡◌, ◌⊎◌, ℕ, zero, suc, ◌+◌, ◌
 use Rattle.std.specs.Prelude.{◌==◌, nat_lt, nat_le, max, ◌*◌}
 use Rattle.std.proofs.lemmas.Bool.{cases_eq, cases_lt, lt-leb, cond-true, cond-false, ne_eqb, lt-ltb, le-ltb}
 use Rattle.sms_base.specs.Among.{Among}
-use Rattle.sms_rows.specs.table.Table.{row_at, without, insert, put, AllAbove, Rises, applied, all_applied, change_key, change_row, latest, newest_of, left_by, RowsInMemory, HasRoom, spare_for}
+use Rattle.sms_rows.specs.table.Table.{row_at, without, insert, put, AllAbove, Rises, applied, all_applied, change_key, change_row, latest, newest_of, left_by, RowsInMemory, HasRoom, reserve_for}
 use Rattle.sms_rows.specs.declared.table.change.Change.{Change}
 use Rattle.sms_rows.specs.declared.table.change.Change.TheVariants.{Put, Remove}
 
@@ -312,10 +312,10 @@ module _ {A : Type 0} (key : A → ℕ) where
       ap (λ (o : Option (Change A)). latest (cond (change_key key c == n) (Some c) None) o) (newest_at n j cs d (omega arith) none e)
 
 -- memory that was taken for more rows has room for them
-pub spare_has_room : {A : Type 0} (extra capacity : ℕ) (table : RowsInMemory A) → max table.capacity (spare_for extra table) ≤ capacity → HasRoom extra (record table { capacity = capacity })
-spare_has_room extra capacity table h = ⊎_elim
+pub reserve_has_room : {A : Type 0} (extra capacity : ℕ) (table : RowsInMemory A) → max table.capacity (reserve_for extra table) ≤ capacity → HasRoom extra (record table { capacity = capacity })
+reserve_has_room extra capacity table h = ⊎_elim
     (λ (l : table.capacity < length table.rows + extra).
-    let spare = cond-false (nat_le (length table.rows + extra) table.capacity) 0 (2 * length table.rows + extra) (lt-leb (length table.rows + extra) table.capacity l) in
-    omega (arith, spare, h))
+    let reserve = cond-false (nat_le (length table.rows + extra) table.capacity) 0 (2 * length table.rows + extra) (lt-leb (length table.rows + extra) table.capacity l) in
+    omega (arith, reserve, h))
     (λ (l : length table.rows + extra ≤ table.capacity). omega (arith, h))
     (cases_lt table.capacity (length table.rows + extra))

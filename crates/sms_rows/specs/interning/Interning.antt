@@ -31,8 +31,8 @@ pub record Interned {A : Type 0} (old : InternedOf A) (value : A) (place : ℕ) 
 
 -- with that much memory beside its own, so many more can come without taking memory
 abbrev pub Suffices : {A : Type 0} → ℕ → ℕ → InternedOf A → Type 0
-Suffices extra spare t = length t.values + extra ≤ max (length t.values + t.room) spare
+Suffices extra reserve t = length t.values + extra ≤ max (length t.values + t.room) reserve
 
 -- it took the memory in
 abbrev pub Makes : {A : Type 0} → ℕ → InternedOf A → InternedOf A → Type 0
-Makes spare old new = max (length old.values + old.room) spare ≤ length old.values + new.room
+Makes reserve old new = max (length old.values + old.room) reserve ≤ length old.values + new.room

@@ -73,8 +73,8 @@ HasRoom extra table = length table.rows + extra ≤ table.capacity
 
 -- memory to be taken beside a table's for that many rows more: none where the table has room, else enough for twice
 -- its rows and the others, so that a row that comes costs the same however many stand there
-abbrev pub spare_for : {A : Type 0} → ℕ → RowsInMemory A → ℕ
-spare_for extra table = if nat_le (length table.rows + extra) table.capacity then 0 else 2 * length table.rows + extra
+abbrev pub reserve_for : {A : Type 0} → ℕ → RowsInMemory A → ℕ
+reserve_for extra table = if nat_le (length table.rows + extra) table.capacity then 0 else 2 * length table.rows + extra
 
 -- ---- changes
 

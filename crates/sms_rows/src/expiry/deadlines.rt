@@ -33,11 +33,11 @@ impl Model for Deadlines {
 
 /// Memory for deadlines that no heap uses yet, seen by contracts as how many it holds.
 #[derive(Drop)]
-pub struct SpareDeadlines {
+pub struct DeadlinesReserve {
     heap: BinaryHeap<Reverse<Deadline>>,
 }
 
-impl Model for SpareDeadlines {
+impl Model for DeadlinesReserve {
     ghost use Rattle.std.specs.Prelude.{◌≡◌, ℕ, []};
     ghost use Rattle.std.specs.BinaryHeap.{heap_capacity, heap_items};
 
@@ -109,13 +109,13 @@ impl Deadlines {
     }
 
     /// Memory for that many deadlines more where the own is too small for them, else none.
-    pub fn make_spare(&self, alloc: Global, extra: usize) -> Result<SpareDeadlines, AllocError>
-        ensures { IfOk result (λ spare. length self.now.items + extra ≤ max self.now.capacity spare) }
+    pub fn make_reserve(&self, alloc: Global, extra: usize) -> Result<DeadlinesReserve, AllocError>
+        ensures { IfOk result (λ reserve. length self.now.items + extra ≤ max self.now.capacity reserve) }
     {
         let len = self.heap.len();
         if extra <= self.heap.capacity() - len {
             let heap = BinaryHeap::new(alloc);
-            return Ok(SpareDeadlines { heap });
+            return Ok(DeadlinesReserve { heap });
         }
         let Some(wanted) = len.checked_add(extra) else {
             return Err(AllocError);
@@ -124,17 +124,17 @@ impl Deadlines {
             return Err(AllocError);
         };
         let heap = BinaryHeap::with_capacity(alloc, capacity)?;
-        Ok(SpareDeadlines { heap })
+        Ok(DeadlinesReserve { heap })
     }
 
     /// Moves the deadlines into the memory where it is larger than the own, without taking memory.
-    pub fn use_spare(&mut self, spare: SpareDeadlines)
+    pub fn use_reserve(&mut self, reserve: DeadlinesReserve)
         ensures items { (deadline : DeadlineOf) → Among deadline self.old.items → Among deadline self.new.items }
         ensures len { length self.new.items ≡ length self.old.items }
         ensures exact { IsPermutation self.old.items self.new.items }
-        ensures capacity { max self.old.capacity spare ≤ self.new.capacity }
+        ensures capacity { max self.old.capacity reserve ≤ self.new.capacity }
     {
-        let mut heap = spare.heap;
+        let mut heap = reserve.heap;
         if self.heap.capacity() < heap.capacity() {
             match heap.append(&mut self.heap) {
                 Ok(()) => self.heap = heap,

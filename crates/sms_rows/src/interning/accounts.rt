@@ -24,11 +24,11 @@ impl Model for Accounts {
 
 /// Memory for names that no list uses yet, seen by contracts as how many it holds.
 #[derive(Drop)]
-pub struct SpareAccounts {
+pub struct AccountsReserve {
     names: Vec<Octets>,
 }
 
-impl Model for SpareAccounts {
+impl Model for AccountsReserve {
     ghost use Rattle.std.specs.Prelude.{◌≡◌, ℕ, [], vec_capacity};
 
     ghost Value = { ℕ };
@@ -94,13 +94,13 @@ impl Accounts {
     }
 
     /// Memory for that many names more where the own is too small for them, else none.
-    pub fn make_spare(&self, alloc: Global, extra: usize) -> Result<SpareAccounts, AllocError>
-        ensures { IfOk result (λ spare. Suffices extra spare self.now) }
+    pub fn make_reserve(&self, alloc: Global, extra: usize) -> Result<AccountsReserve, AllocError>
+        ensures { IfOk result (λ reserve. Suffices extra reserve self.now) }
     {
         let len = self.names.len();
         if extra <= self.names.capacity() - len {
             let names = Vec::new(alloc);
-            return Ok(SpareAccounts { names });
+            return Ok(AccountsReserve { names });
         }
         let Some(wanted) = len.checked_add(extra) else {
             return Err(AllocError);
@@ -109,16 +109,16 @@ impl Accounts {
             return Err(AllocError);
         };
         let names = Vec::with_capacity(alloc, capacity)?;
-        Ok(SpareAccounts { names })
+        Ok(AccountsReserve { names })
     }
 
     /// Moves the names into the memory where it is larger than the own, without taking memory.
-    pub fn use_spare(&mut self, spare: SpareAccounts)
+    pub fn use_reserve(&mut self, reserve: AccountsReserve)
         ensures values { Keeps self.old.values self.new.values }
         ensures same { self.new.values ≡ self.old.values }
-        ensures room { Makes spare self.old self.new }
+        ensures room { Makes reserve self.old self.new }
     {
-        let mut names = spare.names;
+        let mut names = reserve.names;
         if self.names.capacity() < names.capacity() {
             match names.append(&mut self.names) {
                 Ok(()) => self.names = names,

@@ -27,11 +27,11 @@ impl Model for Numbers {
 
 /// Memory for numbers that no set uses yet, seen by contracts as how many it holds.
 #[derive(Drop)]
-pub struct SpareNumbers {
+pub struct NumbersReserve {
     set: IndexSet<Number>,
 }
 
-impl Model for SpareNumbers {
+impl Model for NumbersReserve {
     ghost use Rattle.std.specs.Prelude.{◌≡◌, ℕ, []};
     ghost use Rattle.indexmap.specs.IndexSet.{spare};
 
@@ -95,13 +95,13 @@ impl Numbers {
     }
 
     /// Memory for that many numbers more where the own is too small for them, else none.
-    pub fn make_spare(&self, alloc: Global, extra: usize) -> Result<SpareNumbers, AllocError>
+    pub fn make_reserve(&self, alloc: Global, extra: usize) -> Result<NumbersReserve, AllocError>
         ensures { IfOk result (λ spare. Suffices extra spare self.now) }
     {
         let len = self.set.len();
         if extra <= self.set.capacity() - len {
             let set = IndexSet::new(alloc);
-            return Ok(SpareNumbers { set });
+            return Ok(NumbersReserve { set });
         }
         let Some(wanted) = len.checked_add(extra) else {
             return Err(AllocError);
@@ -110,11 +110,11 @@ impl Numbers {
             return Err(AllocError);
         };
         let set = IndexSet::with_capacity(alloc, capacity)?;
-        Ok(SpareNumbers { set })
+        Ok(NumbersReserve { set })
     }
 
     /// Moves the numbers into the memory where it is larger than the own, without taking memory.
-    pub fn use_spare(&mut self, spare: SpareNumbers)
+    pub fn use_reserve(&mut self, spare: NumbersReserve)
         ensures values { Keeps self.old.values self.new.values }
         ensures same { self.new.values ≡ self.old.values }
         ensures room { Makes spare self.old self.new }

@@ -1,8 +1,8 @@
 //! Copies of rows, and of changes of them.
 ghost use Rattle.std.specs.Prelude.{◌≡◌, IfOk, OnOk};
-ghost use Rattle.sms_rows.specs.table.Pending.{FitsIn, changed};
+ghost use Rattle.sms_rows.specs.table.TableDraft.{FitsIn, changed};
 
-use crate::table::{Change, Pending, Row, Settled, Table};
+use crate::table::{Change, TableDraft, Row, TablePlan, Table};
 use std::alloc::{AllocError, Global};
 
 /// A row that can be copied, in a keep of the kind `K`.
@@ -28,7 +28,7 @@ pub fn copy_of_rows<K, T: Drop + CopiedRow<K>>(
 
 fn add_copy<K, T: Drop + CopiedRow<K>>(
     alloc: Global,
-    pending: &mut Pending<'_, T>,
+    pending: &mut TableDraft<'_, T>,
     change: &Change<T>,
 ) -> Result<(), AllocError>
     ensures { OnOk result (pending.new ≡ changed change.now pending.old) }
@@ -40,15 +40,15 @@ fn add_copy<K, T: Drop + CopiedRow<K>>(
 }
 
 /// The changes, copied, with the memory that the table needs for them.
-pub fn settled_copy<K, T: Drop + CopiedRow<K>>(
+pub fn prepared_copy<K, T: Drop + CopiedRow<K>>(
     alloc: Global,
     table: &Table<T>,
     changes: &[Change<T>],
-) -> Result<Settled<T>, AllocError>
+) -> Result<TablePlan<T>, AllocError>
     ensures changes { IfOk result (λ settled. settled.changes ≡ changes.now) }
     ensures fits { IfOk result (λ settled. FitsIn settled table.now) }
 {
-    let mut pending = Pending::of(alloc, table);
+    let mut pending = TableDraft::of(alloc, table);
     for change in changes {
         add_copy::<K, T>(alloc, &mut pending, change)?;
     }

@@ -2,7 +2,7 @@
 ghost use Rattle.std.specs.Prelude.{◌≡◌, ◌<◌, ◌≤◌, ℕ, List, length, max};
 ghost use Rattle.sms_rows.specs.table.Keys.{AllDigits, digits_key, pair_key};
 ghost use Rattle.sms_rows.specs.table.Since.{oldest_first, rows_after};
-ghost use Rattle.sms_rows.specs.table.Table.{HasRoom, RowsInMemory, Rises, all_applied, left_by, newest_of, row_at, spare_for};
+ghost use Rattle.sms_rows.specs.table.Table.{HasRoom, RowsInMemory, Rises, all_applied, left_by, newest_of, row_at, reserve_for};
 ghost use Rattle.sms_rows.specs.declared.table.change.Change.{Change};
 
 use crate::table::table::Row;
@@ -18,8 +18,8 @@ pub fn row_after_changes<T: Row + Drop>()
 {}
 
 /// Memory that was taken for more rows has room for them.
-pub fn spare_has_room<T: Row + Drop>()
-    ensures { (extra capacity : ℕ) (table : RowsInMemory T) → max table.capacity (spare_for extra table) ≤ capacity → HasRoom extra (record table { capacity = capacity }) }
+pub fn reserve_has_room<T: Row + Drop>()
+    ensures { (extra capacity : ℕ) (table : RowsInMemory T) → max table.capacity (reserve_for extra table) ≤ capacity → HasRoom extra (record table { capacity = capacity }) }
 {}
 
 /// Keys of two parts are equal only where the parts are.

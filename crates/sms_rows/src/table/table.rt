@@ -1,6 +1,6 @@
 //! Tables: rows by their keys.
 ghost use Rattle.std.specs.Prelude.{◌≡◌, ◌↔◌, ℕ, ◌+◌, ◌*◌, ◌<◌, ◌≤◌, true, [], nat_lt, length, drop, max, vec_capacity, MatchResult, OnOk, OnErr, IsOk, IfOk, IfErr, option_copied};
-ghost use Rattle.sms_rows.specs.table.Table.{HasRoom, IsAt, IsGap, Rises, all_applied, applied, put, row_at, rows_between, rows_from, spare_for, without};
+ghost use Rattle.sms_rows.specs.table.Table.{HasRoom, IsAt, IsGap, Rises, all_applied, applied, put, row_at, rows_between, rows_from, reserve_for, without};
 
 use crate::table::change::Change;
 use crate::table::key::Key;
@@ -20,7 +20,7 @@ pub trait Row {
 /// Rows in the order of their keys, at most one a key, found in logarithmic time.
 ///
 /// Contracts see the rows and how many of them the table's memory holds. So a plan of changes can be made first, with a
-/// `Spare` where the memory is too small. It is carried out later without taking memory.
+/// `TableReserve` where the memory is too small. It is carried out later without taking memory.
 #[derive(Drop)]
 pub struct Table<T: Drop + Row> {
     items: Vec<T>,
@@ -200,14 +200,14 @@ impl<T: Drop + Row> Table<T> {
     }
 
     /// Memory for that many rows more where the table's own is too small for them, else none.
-    pub fn make_spare(&self, alloc: Global, extra: usize) -> Result<Spare<T>, AllocError>
-        ensures ok { IfOk result (λ spare. spare ≡ spare_for extra self.now) }
+    pub fn make_reserve(&self, alloc: Global, extra: usize) -> Result<TableReserve<T>, AllocError>
+        ensures ok { IfOk result (λ reserve. reserve ≡ reserve_for extra self.now) }
         ensures err { OnErr result (self.now.capacity < length self.now.rows + extra) }
     {
         let len = self.items.len();
         if extra <= self.items.capacity() - len {
             let items = Vec::new(alloc);
-            return Ok(Spare { items });
+            return Ok(TableReserve { items });
         }
         let Some(wanted) = len.checked_add(extra) else {
             return Err(AllocError);
@@ -216,15 +216,15 @@ impl<T: Drop + Row> Table<T> {
             return Err(AllocError);
         };
         let items = Vec::with_capacity(alloc, capacity)?;
-        Ok(Spare { items })
+        Ok(TableReserve { items })
     }
 
     /// Moves the rows into the memory where it is larger than the table's own, without taking memory.
-    pub fn use_spare(&mut self, spare: Spare<T>)
+    pub fn use_reserve(&mut self, reserve: TableReserve<T>)
         ensures rows { self.new.rows ≡ self.old.rows }
-        ensures capacity { max self.old.capacity spare ≤ self.new.capacity }
+        ensures capacity { max self.old.capacity reserve ≤ self.new.capacity }
     {
-        let mut items = spare.items;
+        let mut items = reserve.items;
         if self.items.capacity() < items.capacity() {
             match items.append(&mut self.items) {
                 Ok(()) => self.items = items,
@@ -236,11 +236,11 @@ impl<T: Drop + Row> Table<T> {
 
 /// Memory for rows that no table uses yet, seen by contracts as how many rows it holds.
 #[derive(Drop)]
-pub struct Spare<T: Drop> {
+pub struct TableReserve<T: Drop> {
     items: Vec<T>,
 }
 
-impl<T: Drop> Model for Spare<T> {
+impl<T: Drop> Model for TableReserve<T> {
     ghost use Rattle.std.specs.Prelude.{◌≡◌, ℕ, [], vec_capacity};
 
     ghost Value = { ℕ };

@@ -23,7 +23,7 @@ use Rattle.sms_script.specs.declared.report.rows.FrameRow.{FrameRow}
 use Rattle.sms_script.specs.declared.report.rows.JoinedCoding.{JoinedCoding}
 use Rattle.sms_script.specs.declared.report.rows.JoinedCoding.TheVariants.{Septets, Octets, Ucs2}
 use Rattle.sms_script.specs.declared.report.rows.JoinedRow.{JoinedRow}
-use Rattle.sms_script.specs.declared.report.rows.MessageRow.{MessageRow}
+use Rattle.sms_script.specs.declared.report.rows.ReportedMessage.{ReportedMessage}
 use Rattle.sms_script.specs.declared.report.rows.OutboxRow.{OutboxRow}
 use Rattle.sms_script.specs.declared.report.rows.ReceiptRow.{ReceiptRow}
 
@@ -109,7 +109,7 @@ answered_text Stopped = codes "STOPPED"
 abbrev pub answer_line : Answer → List ℕ
 answer_line a = codes "answer " ++ decimal a.event ++ codes " " ++ answered_text a.answered ++ codes "\n"
 
-abbrev pub message_line : MessageRow → List ℕ
+abbrev pub message_line : ReportedMessage → List ℕ
 message_line m =
     codes "message " ++ id_text m.id ++ codes " " ++ encode_utf8_all m.from ++ codes " " ++ encode_utf8_all m.to ++ codes " " ++ state_text m.state ++ codes "\n"
 

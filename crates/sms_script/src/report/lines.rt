@@ -4,7 +4,7 @@ ghost use Rattle.sms_script.specs.report.ReportText.{status_text, final_text, st
 
 use crate::report::answers::{Answer, Answered, MessageState};
 use crate::report::rows::{
-    AcceptedRow, Direction, EntryState, FrameRow, JoinedCoding, JoinedRow, MessageRow, OutboxRow,
+    AcceptedRow, Direction, EntryState, FrameRow, JoinedCoding, JoinedRow, ReportedMessage, OutboxRow,
     ReceiptRow,
 };
 use crate::report::writing::{put_body, put_characters, put_id, put_number, put_octets};
@@ -122,7 +122,7 @@ pub(crate) fn put_answer(out: &mut Octets, answer: &Answer) -> Result<(), AllocE
     out.append(b"\n")
 }
 
-pub(crate) fn put_message(out: &mut Octets, message: &MessageRow) -> Result<(), AllocError>
+pub(crate) fn put_message(out: &mut Octets, message: &ReportedMessage) -> Result<(), AllocError>
     ensures { OnOk result (out.new ≡ out.old ++ message_line message.now) }
 {
     out.append(b"message ")?;

@@ -7,7 +7,7 @@ use crate::report::lines::{
     put_accepted, put_answer, put_frame, put_joined, put_message, put_outbox, put_receipt,
 };
 use crate::report::rows::{
-    AcceptedRow, FrameRow, GivenRow, JoinedRow, MessageRow, OutboxRow, ReceiptRow,
+    AcceptedRow, FrameRow, GivenRow, JoinedRow, ReportedMessage, OutboxRow, ReceiptRow,
 };
 use crate::report::writing::put_number;
 use sms_base::{Listed, Octets};
@@ -28,7 +28,7 @@ pub struct Report {
     /// By event.
     pub answers: Listed<Answer>,
     /// By id.
-    pub table: Listed<MessageRow>,
+    pub table: Listed<ReportedMessage>,
     /// By handset in the order of the script's head, then in the order of their arrival.
     pub accepted: Listed<AcceptedRow>,
     /// Likewise.
@@ -52,7 +52,7 @@ fn put_answers(out: &mut Octets, answers: &[Answer]) -> Result<(), AllocError>
     Ok(())
 }
 
-fn put_table(out: &mut Octets, table: &[MessageRow]) -> Result<(), AllocError>
+fn put_table(out: &mut Octets, table: &[ReportedMessage]) -> Result<(), AllocError>
     ensures { OnOk result (out.new ≡ out.old ++ lines message_line table.now) }
 {
     for message in table {

@@ -4,7 +4,7 @@ use sms_base::{Carried, Digits, FinalState, Holder, MessageId, Moment, Octets};
 
 /// A message at the centre.
 #[derive(Debug, Drop)]
-pub struct MessageRow {
+pub struct ReportedMessage {
     pub id: MessageId,
     /// The digits or the name of its source.
     pub from: Digits,

@@ -1,7 +1,7 @@
 -- What a load finds.
 use Rattle.std.proofs.Common.{◌≡◌, List, sym, subst, ◌∙◌}
 use Rattle.sqlite.specs.Effect.{Database}
-use Rattle.sms_store_sql.specs.listing.Listing.{ListOf, Holds}
+use Rattle.sms_store_sql.specs.listing.Listing.{ListOf, Represents}
 use Rattle.sms_store.specs.centre.CentreRows.{IsStoreWith}
 use Rattle.sms_store_tables.specs.centre.MessageList.{message_list}
 use Rattle.sms_store_tables.specs.centre.PartList.{part_list}
@@ -13,10 +13,10 @@ use Rattle.sms_store.specs.centre.Types.{Rows, Setup, MessageRow, PartRow, Refer
 
 -- a load that finds the list of a tree
 abbrev pub FindsIn : {X : Type 0} → ListOf X → Database → List X → Type 0
-FindsIn {X} l db found = (xs : List X) → Holds l (db.trees l.table.tree) xs → found ≡ xs
+FindsIn {X} l db found = (xs : List X) → Represents l (db.trees l.table.tree) xs → found ≡ xs
 
-moved : {X : Type 0} (l : ListOf X) (a b : Database) (xs : List X) → b ≡ a → Holds l (a.trees l.table.tree) xs → Holds l (b.trees l.table.tree) xs
-moved l a b xs same held = subst (λ (d : Database). Holds l (d.trees l.table.tree) xs) (sym same) held
+moved : {X : Type 0} (l : ListOf X) (a b : Database) (xs : List X) → b ≡ a → Represents l (a.trees l.table.tree) xs → Represents l (b.trees l.table.tree) xs
+moved l a b xs same held = subst (λ (d : Database). Represents l (d.trees l.table.tree) xs) (sym same) held
 
 -- the rows that are found are those of the store
 pub found_rows : (setup : Setup) (rows : Rows) (db : Database) → IsStoreWith setup db rows → {b c d e f : Database} → b ≡ db → c ≡ db → d ≡ db → e ≡ db → f ≡ db

@@ -8,7 +8,7 @@ use Rattle.sqlite_rules.specs.Edit.{IsNoIndex}
 use Rattle.sms_rows.specs.table.Table.{put}
 use Rattle.sms_store_sql.specs.schema.Blank.{no_tables}
 use Rattle.sms_store_sql.specs.listing.Inside.{Alters, Ran}
-use Rattle.sms_store_sql.specs.listing.Listing.{ListOf, Holds}
+use Rattle.sms_store_sql.specs.listing.Listing.{ListOf, Represents}
 use Rattle.sms_store_sql.proofs.listing.Making.{makes}
 use Rattle.sms_store_tables.specs.centre.CentreSchema.{with_meta, with_message, with_part, with_reference, with_handset, first_schema, centre_schema, create_meta, create_message, create_part, create_reference, create_handset, create_report, meta_made, message_made, part_made, reference_made, handset_made, report_made, adds_meta, adds_message, adds_part, adds_reference, adds_handset, adds_report}
 use Rattle.sms_store_tables.specs.centre.MetaList.{meta_list}
@@ -66,11 +66,11 @@ tables_made a b c p q has =
       made.empty,
     )
 
-pub holds_none : {X : Type 0} (l : ListOf X) (rows : List Row) → rows ≡ [] → Holds l rows []
+pub holds_none : {X : Type 0} (l : ListOf X) (rows : List Row) → rows ≡ [] → Represents l rows []
 holds_none l rows none = record { entries = []; keyed = tt; stored = none; shown = IsPermutation-refl []; rises = tt; fit = tt }
 
 module _ (a b : State) (p : Alters meta_list (put meta_list.key centre_meta) a b) (has : a.now.schema ≡ centre_schema) where
-  blank_still : {X : Type 0} (m : ListOf X) → m.table.tree ≢ 0 → IsNoIndex centre_schema m.table.tree → a.now.trees m.table.tree ≡ [] → Holds m (b.now.trees m.table.tree) []
+  blank_still : {X : Type 0} (m : ListOf X) → m.table.tree ≢ 0 → IsNoIndex centre_schema m.table.tree → a.now.trees m.table.tree ≡ [] → Represents m (b.now.trees m.table.tree) []
   blank_still m apart free none = other meta_list refl (put meta_list.key centre_meta) a b p m [] has apart free (holds_none m _ none)
 
 pub declared : (a b : State) → Alters meta_list (put meta_list.key centre_meta) a b → Declares a.now b.now

@@ -5,7 +5,7 @@ use Rattle.sqlite.specs.Tree.{Trees}
 use Rattle.sqlite.specs.State.{State}
 use Rattle.sqlite_rules.specs.Edit.{IsNoIndex}
 use Rattle.sms_store_sql.specs.listing.Inside.{Alters}
-use Rattle.sms_store_sql.specs.listing.Listing.{ListOf, Holds}
+use Rattle.sms_store_sql.specs.listing.Listing.{ListOf, Represents}
 use Rattle.sms_store_sql.specs.listing.Transaction.{Leads, IsOfOne}
 use Rattle.sms_store_sql.proofs.listing.Once.{holds_once}
 use Rattle.sms_store_migration.proofs.Apart.{free_0, free_2, free_4, free_6, free_8, free_10, free_12}
@@ -31,10 +31,10 @@ turns_then a b c f g p q = record {
 module _ {X : Type 0} (l : ListOf X) (here : l.table.schema ≡ centre_schema) (change : List X → List X) (old new : State) (alters : Alters l change old new) where
   -- every other list is as it was
   pub other : {Y : Type 0} (m : ListOf Y) (ys : List Y) → old.now.schema ≡ centre_schema → m.table.tree ≢ l.table.tree → IsNoIndex centre_schema m.table.tree
-      → Holds m (old.now.trees m.table.tree) ys → Holds m (new.now.trees m.table.tree) ys
+      → Represents m (old.now.trees m.table.tree) ys → Represents m (new.now.trees m.table.tree) ys
   other m ys has apart free held =
       let same = alters.others (has ∙ sym here) m.table.tree apart (subst (λ s. IsNoIndex s m.table.tree) (sym here) free) in
-      subst (λ rows. Holds m rows ys) (sym same) held
+      subst (λ rows. Represents m rows ys) (sym same) held
 
 pub messages_turn : (change : List MessageRow → List MessageRow) (old new : State) → Alters message_list change old new → Leads (Turns (λ rows. record rows { messages = change rows.messages })) old new
 messages_turn change old new alters = record {

@@ -8,7 +8,7 @@ use Rattle.sqlite_rules.specs.Edit.{IsNoIndex}
 use Rattle.sms_rows.specs.table.Table.{put}
 use Rattle.sms_store_sql.specs.schema.Blank.{no_tables}
 use Rattle.sms_store_sql.specs.listing.Inside.{Alters, Ran}
-use Rattle.sms_store_sql.specs.listing.Listing.{ListOf, Holds}
+use Rattle.sms_store_sql.specs.listing.Listing.{ListOf, Represents}
 use Rattle.sms_store_sql.specs.listing.Transaction.{Leads}
 use Rattle.sms_store_sql.proofs.listing.Making.{makes}
 use Rattle.sms_store_tables.specs.handset.HandsetSchema.{with_meta, with_entry, with_last, with_out, with_mark, handset_schema, create_meta, create_entry, create_last, create_out, create_mark, create_count, meta_made, entry_made, last_made, out_made, mark_made, count_made, adds_meta, adds_entry, adds_last, adds_out, adds_mark, adds_count}
@@ -64,15 +64,15 @@ last_made_too a b c d p q r has first =
 pub tables_made : (a b c : Database) → MakesFirst a b → MakesLast b c → Tabulates a c
 tables_made a b c p q has = let first = p has in q first.0 first.1
 
-holds_none : {X : Type 0} (l : ListOf X) (rows : List Row) → rows ≡ [] → Holds l rows []
+holds_none : {X : Type 0} (l : ListOf X) (rows : List Row) → rows ≡ [] → Represents l rows []
 holds_none l rows none = record { entries = []; keyed = tt; stored = none; shown = IsPermutation-refl []; rises = tt; fit = tt }
 
 module _ (a b : State) (p : Alters meta_list (put meta_list.key handset_meta) a b) (has : a.now.schema ≡ handset_schema) where
-  blank_still : {X : Type 0} (m : ListOf X) → m.table.tree ≢ 0 → IsNoIndex handset_schema m.table.tree → a.now.trees m.table.tree ≡ [] → Holds m (b.now.trees m.table.tree) []
+  blank_still : {X : Type 0} (m : ListOf X) → m.table.tree ≢ 0 → IsNoIndex handset_schema m.table.tree → a.now.trees m.table.tree ≡ [] → Represents m (b.now.trees m.table.tree) []
   blank_still m apart free none = other meta_list refl (put meta_list.key handset_meta) a b p m [] has apart free (holds_none m _ none)
 
 module _ (b c : State) (q : Alters count_list (put count_list.key (counters_row first_counters)) b c) (has : b.now.schema ≡ handset_schema) where
-  held_still : {X : Type 0} (m : ListOf X) (xs : List X) → m.table.tree ≢ 10 → IsNoIndex handset_schema m.table.tree → Holds m (b.now.trees m.table.tree) xs → Holds m (c.now.trees m.table.tree) xs
+  held_still : {X : Type 0} (m : ListOf X) (xs : List X) → m.table.tree ≢ 10 → IsNoIndex handset_schema m.table.tree → Represents m (b.now.trees m.table.tree) xs → Represents m (c.now.trees m.table.tree) xs
   held_still m xs apart free held = other count_list refl (put count_list.key (counters_row first_counters)) b c q m xs has apart free held
 
 pub declared : (a b c : State) → Alters meta_list (put meta_list.key handset_meta) a b → Alters count_list (put count_list.key (counters_row first_counters)) b c → Declares a.now c.now

@@ -6,7 +6,7 @@ use Rattle.sqlite.specs.State.{State}
 use Rattle.sqlite_rules.specs.Edit.{IsNoIndex}
 use Rattle.sms_rows.specs.table.Table.{put}
 use Rattle.sms_store_sql.specs.listing.Inside.{Alters}
-use Rattle.sms_store_sql.specs.listing.Listing.{ListOf, Holds}
+use Rattle.sms_store_sql.specs.listing.Listing.{ListOf, Represents}
 use Rattle.sms_store_sql.specs.listing.Transaction.{Leads, IsOfOne}
 use Rattle.sms_store_sql.proofs.listing.Once.{holds_once}
 use Rattle.sms_store_tables.specs.handset.HandsetSchema.{handset_schema}
@@ -51,10 +51,10 @@ free_10 = (λ (e : 1 ≡ 10). omega (arith, e), (λ (e : 3 ≡ 10). omega (arith
 module _ {X : Type 0} (l : ListOf X) (here : l.table.schema ≡ handset_schema) (change : List X → List X) (old new : State) (alters : Alters l change old new) where
   -- every other list is as it was
   pub other : {Y : Type 0} (m : ListOf Y) (ys : List Y) → old.now.schema ≡ handset_schema → m.table.tree ≢ l.table.tree → IsNoIndex handset_schema m.table.tree
-      → Holds m (old.now.trees m.table.tree) ys → Holds m (new.now.trees m.table.tree) ys
+      → Represents m (old.now.trees m.table.tree) ys → Represents m (new.now.trees m.table.tree) ys
   other m ys has apart free held =
       let same = alters.others (has ∙ sym here) m.table.tree apart (subst (λ s. IsNoIndex s m.table.tree) (sym here) free) in
-      subst (λ rows. Holds m rows ys) (sym same) held
+      subst (λ rows. Represents m rows ys) (sym same) held
 
 pub entries_turn : (change : List Entry → List Entry) (old new : State) → Alters entry_list change old new → Leads (Turns (λ rows. record rows { entries = change rows.entries })) old new
 entries_turn change old new alters = record {

@@ -8,7 +8,7 @@ use Rattle.sqlite_wal.specs.Recovery.{Image}
 use Rattle.sqlite.specs.Files.{HoldsDatabase}
 use Rattle.sms_rows.specs.declared.keep.error.KeepError.{KeepError}
 use Rattle.sms_rows.specs.declared.keep.error.KeepError.TheVariants.{OldVersion}
-use Rattle.sms_store_sql.specs.listing.Listing.{ListOf, Holds}
+use Rattle.sms_store_sql.specs.listing.Listing.{ListOf, Represents}
 use Rattle.sms_store_sql.specs.listing.Transaction.{IsKept}
 use Rattle.sms_store_sql.specs.declared.listing.meta.StoreKind.TheVariants.{Centre}
 use Rattle.sms_store_sql.specs.schema.Blank.{no_tables}
@@ -22,7 +22,7 @@ use Rattle.sms_store.specs.centre.Types.{Rows, Setup, Meta, first_rows}
 -- the tables are these, and what it says of itself is judged so by one who wants a centre's store of that version
 pub record Says (schema : Schema) (l : ListOf Meta) (version : ℕ) (judgement : Result (Unit {0}) KeepError) (db : Database) : Type 0 where
   pub tables : db.schema ≡ schema
-  pub said : (said : List Meta) → Holds l (db.trees 0) said → judged Centre version said ≡ judgement
+  pub said : (said : List Meta) → Represents l (db.trees 0) said → judged Centre version said ≡ judgement
 
 -- it has the tables of version 2, or those of version 1
 abbrev pub SaysNow : ℕ → Result (Unit {0}) KeepError → Database → Type 0
@@ -63,4 +63,4 @@ Refuses least _ s = ⊤
 
 -- what is found of what a store says of itself
 abbrev pub FindsSaid : ListOf Meta → Database → List Meta → Type 0
-FindsSaid l db found = (said : List Meta) → Holds l (db.trees 0) said → found ≡ said
+FindsSaid l db found = (said : List Meta) → Represents l (db.trees 0) said → found ≡ said

@@ -1,7 +1,7 @@
 -- The rows of a handset in its store.
 use Rattle.std.specs.Prelude.{◌≡◌, [], ◌∷◌}
 use Rattle.sqlite.specs.Effect.{Database}
-use Rattle.sms_store_sql.specs.listing.Listing.{Holds}
+use Rattle.sms_store_sql.specs.listing.Listing.{Represents}
 use Rattle.sms_store_sql.specs.declared.listing.meta.StoreKind.TheVariants.{Handset}
 use Rattle.sms_store_sql.specs.schema.Blank.{no_tables}
 use Rattle.sms_store_tables.specs.handset.HandsetSchema.{handset_schema}
@@ -23,12 +23,12 @@ counters_row c = record { counters = c }
 -- The database is the store of these rows. The setup is not stored.
 pub record IsStore (db : Database) (rows : Rows) : Type 0 where
   pub schema : db.schema ≡ handset_schema
-  pub meta : Holds meta_list (db.trees 0) (handset_meta ∷ [])
-  pub entries : Holds entry_list (db.trees 2) rows.entries
-  pub last : Holds last_list (db.trees 4) rows.last
-  pub outbox : Holds out_list (db.trees 6) rows.outbox
-  pub marks : Holds mark_list (db.trees 8) rows.marks
-  pub counters : Holds count_list (db.trees 10) (counters_row rows.counters ∷ [])
+  pub meta : Represents meta_list (db.trees 0) (handset_meta ∷ [])
+  pub entries : Represents entry_list (db.trees 2) rows.entries
+  pub last : Represents last_list (db.trees 4) rows.last
+  pub outbox : Represents out_list (db.trees 6) rows.outbox
+  pub marks : Represents mark_list (db.trees 8) rows.marks
+  pub counters : Represents count_list (db.trees 10) (counters_row rows.counters ∷ [])
 
 -- and the setup is this
 abbrev pub IsStoreWith : Setup → Database → Rows → Type 0

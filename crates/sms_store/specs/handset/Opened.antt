@@ -7,7 +7,7 @@ use Rattle.sqlite_wal.specs.Recovery.{Image}
 use Rattle.sqlite.specs.Files.{HoldsDatabase}
 use Rattle.sms_rows.specs.declared.keep.error.KeepError.{KeepError}
 use Rattle.sms_rows.specs.declared.keep.error.KeepError.TheVariants.{OldVersion}
-use Rattle.sms_store_sql.specs.listing.Listing.{Holds}
+use Rattle.sms_store_sql.specs.listing.Listing.{Represents}
 use Rattle.sms_store_sql.specs.listing.Transaction.{IsKept}
 use Rattle.sms_store_sql.specs.declared.listing.meta.StoreKind.TheVariants.{Handset}
 use Rattle.sms_store_sql.specs.schema.Blank.{no_tables}
@@ -20,7 +20,7 @@ use Rattle.sms_store.specs.handset.Types.{Rows, Setup, Meta, first_rows}
 -- the tables are those of a handset's store, and what it says of itself is judged so
 pub record Says (judgement : Result (Unit {0}) KeepError) (db : Database) : Type 0 where
   pub schema : db.schema ≡ handset_schema
-  pub said : (said : List Meta) → Holds meta_list (db.trees 0) said → judged Handset 1 said ≡ judgement
+  pub said : (said : List Meta) → Represents meta_list (db.trees 0) said → judged Handset 1 said ≡ judgement
 
 pub record Opened (setup : Setup) (old : Database) (new : State) : Type 0 where
   -- a database without tables became the store of a handset's first rows
@@ -41,4 +41,4 @@ Refuses _ s = ⊤
 
 -- what is found of what a store says of itself
 abbrev pub FindsSaid : Database → List Meta → Type 0
-FindsSaid db found = (said : List Meta) → Holds meta_list (db.trees 0) said → found ≡ said
+FindsSaid db found = (said : List Meta) → Represents meta_list (db.trees 0) said → found ≡ said

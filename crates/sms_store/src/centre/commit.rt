@@ -1,7 +1,7 @@
 //! The changes of an event, as one transaction.
 ghost use Rattle.std.specs.Prelude.{◌≡◌};
 ghost use Rattle.sqlite.specs.Held.{state};
-ghost use Rattle.sms_store_sql.specs.listing.Inside.{Goes, Keeps, Spares};
+ghost use Rattle.sms_store_sql.specs.listing.Inside.{MakesStep, Keeps, Spares};
 ghost use Rattle.sms_store_sql.specs.listing.Transaction.{Leads};
 ghost use Rattle.sms_rows.specs.table.Table.{all_applied};
 ghost use Rattle.sms_centre_rows.specs.waiting.Revisions.{all_revised};
@@ -44,7 +44,7 @@ fn write_messages<S: Alter>(
     changes: &[Change<MessageRow>],
 ) -> Result<(), Error>
     ensures same_reference { tx.new.conn.ghost_name ≡ tx.old.conn.ghost_name }
-    ensures done { Goes S.Store tx.old.conn.now tx.new.conn.now (Leads (Turns (λ rows. record rows { messages = all_applied message_key changes.now rows.messages }))) result }
+    ensures done { MakesStep S.Store tx.old.conn.now tx.new.conn.now (Leads (Turns (λ rows. record rows { messages = all_applied message_key changes.now rows.messages }))) result }
     ensures kept { Keeps S.Store tx.old.conn.now tx.new.conn.now }
     ensures survives { Spares S.Store tx.old.conn.now tx.new.conn.now }
 {
@@ -57,7 +57,7 @@ fn write_parts<S: Alter>(
     revisions: &[Revision<PartRow>],
 ) -> Result<(), Error>
     ensures same_reference { tx.new.conn.ghost_name ≡ tx.old.conn.ghost_name }
-    ensures done { Goes S.Store tx.old.conn.now tx.new.conn.now (Leads (Turns (λ rows. record rows { parts = all_revised part_key part_reaching revisions.now rows.parts }))) result }
+    ensures done { MakesStep S.Store tx.old.conn.now tx.new.conn.now (Leads (Turns (λ rows. record rows { parts = all_revised part_key part_reaching revisions.now rows.parts }))) result }
     ensures kept { Keeps S.Store tx.old.conn.now tx.new.conn.now }
     ensures survives { Spares S.Store tx.old.conn.now tx.new.conn.now }
 {
@@ -70,7 +70,7 @@ fn write_references<S: Alter>(
     changes: &[Change<ReferenceRow>],
 ) -> Result<(), Error>
     ensures same_reference { tx.new.conn.ghost_name ≡ tx.old.conn.ghost_name }
-    ensures done { Goes S.Store tx.old.conn.now tx.new.conn.now (Leads (Turns (λ rows. record rows { references = all_applied reference_key changes.now rows.references }))) result }
+    ensures done { MakesStep S.Store tx.old.conn.now tx.new.conn.now (Leads (Turns (λ rows. record rows { references = all_applied reference_key changes.now rows.references }))) result }
     ensures kept { Keeps S.Store tx.old.conn.now tx.new.conn.now }
     ensures survives { Spares S.Store tx.old.conn.now tx.new.conn.now }
 {
@@ -83,7 +83,7 @@ fn write_handsets<S: Alter>(
     changes: &[Change<HandsetRow>],
 ) -> Result<(), Error>
     ensures same_reference { tx.new.conn.ghost_name ≡ tx.old.conn.ghost_name }
-    ensures done { Goes S.Store tx.old.conn.now tx.new.conn.now (Leads (Turns (λ rows. record rows { handsets = all_applied handset_key changes.now rows.handsets }))) result }
+    ensures done { MakesStep S.Store tx.old.conn.now tx.new.conn.now (Leads (Turns (λ rows. record rows { handsets = all_applied handset_key changes.now rows.handsets }))) result }
     ensures kept { Keeps S.Store tx.old.conn.now tx.new.conn.now }
     ensures survives { Spares S.Store tx.old.conn.now tx.new.conn.now }
 {
@@ -96,7 +96,7 @@ fn write_reports<S: Alter>(
     revisions: &[Revision<ReportRow>],
 ) -> Result<(), Error>
     ensures same_reference { tx.new.conn.ghost_name ≡ tx.old.conn.ghost_name }
-    ensures done { Goes S.Store tx.old.conn.now tx.new.conn.now (Leads (Turns (λ rows. record rows { reports = all_revised report_key report_reaching revisions.now rows.reports }))) result }
+    ensures done { MakesStep S.Store tx.old.conn.now tx.new.conn.now (Leads (Turns (λ rows. record rows { reports = all_revised report_key report_reaching revisions.now rows.reports }))) result }
     ensures kept { Keeps S.Store tx.old.conn.now tx.new.conn.now }
     ensures survives { Spares S.Store tx.old.conn.now tx.new.conn.now }
 {
@@ -109,7 +109,7 @@ fn write_priorities<S: Alter>(
     changes: &[Change<PriorityRow>],
 ) -> Result<(), Error>
     ensures same_reference { tx.new.conn.ghost_name ≡ tx.old.conn.ghost_name }
-    ensures done { Goes S.Store tx.old.conn.now tx.new.conn.now (Leads (Turns (λ rows. record rows { priorities = all_applied priority_key changes.now rows.priorities }))) result }
+    ensures done { MakesStep S.Store tx.old.conn.now tx.new.conn.now (Leads (Turns (λ rows. record rows { priorities = all_applied priority_key changes.now rows.priorities }))) result }
     ensures kept { Keeps S.Store tx.old.conn.now tx.new.conn.now }
     ensures survives { Spares S.Store tx.old.conn.now tx.new.conn.now }
 {

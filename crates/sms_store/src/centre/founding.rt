@@ -1,7 +1,7 @@
 //! A new store: its tables, and what it says of itself.
 ghost use Rattle.std.specs.Prelude.{◌≡◌};
 ghost use Rattle.sqlite.specs.Held.{state};
-ghost use Rattle.sms_store_sql.specs.listing.Inside.{Goes, Keeps, Spares};
+ghost use Rattle.sms_store_sql.specs.listing.Inside.{MakesStep, Keeps, Spares};
 ghost use Rattle.sms_store_sql.specs.listing.Transaction.{Leads};
 ghost use Rattle.sms_store.specs.centre.CentreRows.{Founds};
 ghost use Rattle.sms_store.specs.centre.Founding.{Declares, Tabulates};
@@ -28,7 +28,7 @@ impl Work for Founding {
 
 fn make_tables<S: Alter>(tx: &mut Transaction<'_, S>) -> Result<(), Error>
     ensures same_reference { tx.new.conn.ghost_name ≡ tx.old.conn.ghost_name }
-    ensures done { Goes S.Store tx.old.conn.now tx.new.conn.now (Leads Tabulates) result }
+    ensures done { MakesStep S.Store tx.old.conn.now tx.new.conn.now (Leads Tabulates) result }
     ensures kept { Keeps S.Store tx.old.conn.now tx.new.conn.now }
     ensures survives { Spares S.Store tx.old.conn.now tx.new.conn.now }
 {
@@ -40,7 +40,7 @@ fn make_tables<S: Alter>(tx: &mut Transaction<'_, S>) -> Result<(), Error>
 // What the store is.
 fn declare<S: Alter>(alloc: Global, tx: &mut Transaction<'_, S>) -> Result<(), Error>
     ensures same_reference { tx.new.conn.ghost_name ≡ tx.old.conn.ghost_name }
-    ensures done { Goes S.Store tx.old.conn.now tx.new.conn.now (Leads Declares) result }
+    ensures done { MakesStep S.Store tx.old.conn.now tx.new.conn.now (Leads Declares) result }
     ensures kept { Keeps S.Store tx.old.conn.now tx.new.conn.now }
     ensures survives { Spares S.Store tx.old.conn.now tx.new.conn.now }
 {

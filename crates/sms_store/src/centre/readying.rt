@@ -11,7 +11,7 @@ ghost use Rattle.sms_store.specs.centre.Opened.{IsFounded, IsOpened, Refused, Re
 ghost use Rattle.sms_store.specs.centre.Stopping.{IsAsItWas, LeavesStore};
 
 use crate::centre::founding::Founding;
-use crate::centre::said::{Said, SaidFirst};
+use crate::centre::kind::{Said, SaidFirst};
 use sms_rows::keep::KeepError;
 use sms_store_sql::listing::{StoreKind, load_cause_of, look, transact, write_cause_of};
 use sms_store_sql::schema::{is_blank, judge};

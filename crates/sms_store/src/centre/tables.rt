@@ -1,7 +1,7 @@
 //! The texts that make the tables.
 ghost use Rattle.std.specs.Prelude.{◌≡◌};
 ghost use Rattle.sqlite.specs.Held.{state};
-ghost use Rattle.sms_store_sql.specs.listing.Inside.{Goes, Keeps, Spares};
+ghost use Rattle.sms_store_sql.specs.listing.Inside.{MakesStep, Keeps, Spares};
 ghost use Rattle.sms_store_sql.specs.listing.Transaction.{Leads};
 ghost use Rattle.sms_store.specs.centre.Founding.{MakesFirst, MakesNext};
 
@@ -10,7 +10,7 @@ use sqlite::{Alter, Error, Transaction};
 
 pub(crate) fn make_first_tables<S: Alter>(tx: &mut Transaction<'_, S>) -> Result<(), Error>
     ensures same_reference { tx.new.conn.ghost_name ≡ tx.old.conn.ghost_name }
-    ensures done { Goes S.Store tx.old.conn.now tx.new.conn.now (Leads MakesFirst) result }
+    ensures done { MakesStep S.Store tx.old.conn.now tx.new.conn.now (Leads MakesFirst) result }
     ensures kept { Keeps S.Store tx.old.conn.now tx.new.conn.now }
     ensures survives { Spares S.Store tx.old.conn.now tx.new.conn.now }
 {
@@ -33,7 +33,7 @@ pub(crate) fn make_first_tables<S: Alter>(tx: &mut Transaction<'_, S>) -> Result
 
 pub(crate) fn make_next_tables<S: Alter>(tx: &mut Transaction<'_, S>) -> Result<(), Error>
     ensures same_reference { tx.new.conn.ghost_name ≡ tx.old.conn.ghost_name }
-    ensures done { Goes S.Store tx.old.conn.now tx.new.conn.now (Leads MakesNext) result }
+    ensures done { MakesStep S.Store tx.old.conn.now tx.new.conn.now (Leads MakesNext) result }
     ensures kept { Keeps S.Store tx.old.conn.now tx.new.conn.now }
     ensures survives { Spares S.Store tx.old.conn.now tx.new.conn.now }
 {

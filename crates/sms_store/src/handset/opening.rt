@@ -16,7 +16,7 @@ ghost use Rattle.sms_store.specs.handset.InKeep.{connection_in, setup_in, state_
 
 use crate::handset::founding::Founding;
 use crate::handset::keep::HandsetKeep;
-use crate::handset::said::Said;
+use crate::handset::kind::Said;
 use sms_handset::Setup;
 use sms_rows::keep::{KeepError, Refusals};
 use sms_store_sql::listing::{StoreKind, load_cause_of, look, transact, write_cause_of};

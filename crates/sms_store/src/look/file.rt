@@ -1,5 +1,5 @@
 //! A look at the store at a path.
-use crate::look::looked::look_over;
+use crate::look::found::look_over;
 use sms_base::{Address, Listed, Moment};
 use sms_centre_spec::{Rows, Setup};
 use sms_rows::keep::KeepError;

@@ -1,10 +1,10 @@
 -- The rows that a keep in memory has.
-use Rattle.sms_rows.specs.table.Pending.{FitsIn}
+use Rattle.sms_rows.specs.table.TableDraft.{FitsIn}
 use Rattle.sms_store_memory.specs.revising.Readied.{FitsIn as CanRevise}
 use Rattle.sms_centre_spec.specs.declared.rows.Changes.{Changes}
 use Rattle.sms_centre_spec.specs.declared.rows.Rows.{Rows}
 use Rattle.sms_store_memory.specs.declared.centre.keep.MemoryKeep.{MemoryKeep}
-use Rattle.sms_store_memory.specs.declared.centre.keep.Readied.{Readied}
+use Rattle.sms_store_memory.specs.declared.centre.keep.PreparedChanges.{PreparedChanges}
 
 abbrev pub rows_in : MemoryKeep → Rows
 rows_in keep = record {
@@ -18,7 +18,7 @@ rows_in keep = record {
 }
 
 -- the changes that were made ready
-abbrev pub changes_of : Readied → Changes
+abbrev pub changes_of : PreparedChanges → Changes
 changes_of r = record {
   messages = r.messages.changes;
   parts = r.parts.revisions;
@@ -29,7 +29,7 @@ changes_of r = record {
 }
 
 -- they can be made without taking memory
-pub record AreReady (r : Readied) (keep : MemoryKeep) : Type 0 where
+pub record AreReady (r : PreparedChanges) (keep : MemoryKeep) : Type 0 where
   pub messages : FitsIn r.messages keep.messages
   pub parts : CanRevise r.parts keep.parts
   pub references : FitsIn r.references keep.references

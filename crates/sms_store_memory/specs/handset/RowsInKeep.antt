@@ -1,5 +1,5 @@
 -- The rows that a keep in memory has.
-use Rattle.sms_rows.specs.table.Pending.{FitsIn}
+use Rattle.sms_rows.specs.table.TableDraft.{FitsIn}
 use Rattle.sms_handset_draft.specs.declared.rows.Rows.{Rows}
 use Rattle.sms_handset_draft.specs.declared.rows.Changes.{Changes}
 use Rattle.sms_store_memory.specs.declared.handset.keep.MemoryKeep.{MemoryKeep}

@@ -6,8 +6,8 @@ use Rattle.sms_centre_rows.specs.declared.waiting.revision.Revision.{Revision}
 -- the changes, and how many rows the memory holds that comes with them
 pub record ReadyOf (A : Type 0) : Type 0 where
   pub revisions : List (Revision A)
-  pub spare : ℕ
+  pub reserve : ℕ
 
 -- they can be made without taking memory
 abbrev pub FitsIn : {A : Type 0} → ReadyOf A → RowsInMemory A → Type 0
-FitsIn r table = length table.rows + length r.revisions ≤ max table.capacity r.spare
+FitsIn r table = length table.rows + length r.revisions ≤ max table.capacity r.reserve

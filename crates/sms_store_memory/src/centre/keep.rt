@@ -13,8 +13,8 @@ use sms_centre_rows::waiting::{HandsetRow, ReferenceRow};
 use sms_centre_spec::octets::copy_of_setup;
 use sms_centre_spec::{Changes, Rows, Setup};
 use sms_rows::keep::{Keep, KeepError, Refusals};
-use sms_rows::memory::{copy_of_rows, settled_copy};
-use sms_rows::table::{Settled, Table, adopt};
+use sms_rows::memory::{copy_of_rows, prepared_copy};
+use sms_rows::table::{TablePlan, Table, adopt};
 use std::alloc::{AllocError, Global};
 
 /// The rows of a centre, in memory.
@@ -34,13 +34,13 @@ pub struct MemoryKeep {
 
 // The changes of an event, copied, with the memory for them.
 #[derive(Drop)]
-pub(crate) struct Readied {
-    messages: Settled<MessageRow>,
+pub(crate) struct PreparedChanges {
+    messages: TablePlan<MessageRow>,
     parts: Ready<PartRow>,
-    references: Settled<ReferenceRow>,
-    handsets: Settled<HandsetRow>,
+    references: TablePlan<ReferenceRow>,
+    handsets: TablePlan<HandsetRow>,
     reports: Ready<ReportRow>,
-    priorities: Settled<PriorityRow>,
+    priorities: TablePlan<PriorityRow>,
 }
 
 impl MemoryKeep {
@@ -110,34 +110,34 @@ impl MemoryKeep {
         &self.setup
     }
 
-    fn readied(&self, changes: &Changes) -> Result<Readied, AllocError>
+    fn readied(&self, changes: &Changes) -> Result<PreparedChanges, AllocError>
         ensures same { IfOk result (λ readied. changes_of readied ≡ changes.now) }
         ensures ready { IfOk result (λ readied. AreReady readied self.now) }
     {
         let alloc = self.alloc;
-        let messages = settled_copy::<MemoryKeep, MessageRow>(
+        let messages = prepared_copy::<MemoryKeep, MessageRow>(
             alloc,
             &self.messages,
             changes.messages.as_slice(),
         )?;
         let parts = ready_copy(alloc, &self.parts, changes.parts.as_slice())?;
-        let references = settled_copy::<MemoryKeep, ReferenceRow>(
+        let references = prepared_copy::<MemoryKeep, ReferenceRow>(
             alloc,
             &self.references,
             changes.references.as_slice(),
         )?;
-        let handsets = settled_copy::<MemoryKeep, HandsetRow>(
+        let handsets = prepared_copy::<MemoryKeep, HandsetRow>(
             alloc,
             &self.handsets,
             changes.handsets.as_slice(),
         )?;
         let reports = ready_copy(alloc, &self.reports, changes.reports.as_slice())?;
-        let priorities = settled_copy::<MemoryKeep, PriorityRow>(
+        let priorities = prepared_copy::<MemoryKeep, PriorityRow>(
             alloc,
             &self.priorities,
             changes.priorities.as_slice(),
         )?;
-        Ok(Readied {
+        Ok(PreparedChanges {
             messages,
             parts,
             references,
@@ -147,7 +147,7 @@ impl MemoryKeep {
         })
     }
 
-    fn take(&mut self, readied: Readied)
+    fn take(&mut self, readied: PreparedChanges)
         requires { AreReady readied self.old }
         ensures rows { rows_in self.new ≡ rows_after (changes_of readied) (rows_in self.old) }
         ensures refusals { self.new.refusals ≡ self.old.refusals }

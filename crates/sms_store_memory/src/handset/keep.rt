@@ -10,7 +10,7 @@ use sms_handset::{Changes, Counters, Rows, Setup};
 use sms_handset_rows::inbox::{DiscardedGroup, Entry, LastAccepted};
 use sms_handset_rows::outbox::OutEntry;
 use sms_rows::keep::{Keep, KeepError, Refusals};
-use sms_rows::memory::{copy_of_rows, settled_copy};
+use sms_rows::memory::{copy_of_rows, prepared_copy};
 use sms_rows::table::{Table, adopt};
 use std::alloc::{AllocError, Global};
 
@@ -79,22 +79,22 @@ impl MemoryKeep {
         ensures ready { IfOk result (λ settled. AreReady settled self.now) }
     {
         let alloc = self.alloc;
-        let entries = settled_copy::<MemoryKeep, Entry>(
+        let entries = prepared_copy::<MemoryKeep, Entry>(
             alloc,
             &self.entries,
             changes.entries.changes(),
         )?;
-        let last = settled_copy::<MemoryKeep, LastAccepted>(
+        let last = prepared_copy::<MemoryKeep, LastAccepted>(
             alloc,
             &self.last,
             changes.last.changes(),
         )?;
-        let outbox = settled_copy::<MemoryKeep, OutEntry>(
+        let outbox = prepared_copy::<MemoryKeep, OutEntry>(
             alloc,
             &self.outbox,
             changes.outbox.changes(),
         )?;
-        let marks = settled_copy::<MemoryKeep, DiscardedGroup>(
+        let marks = prepared_copy::<MemoryKeep, DiscardedGroup>(
             alloc,
             &self.marks,
             changes.marks.changes(),

@@ -5,7 +5,7 @@ ghost use Rattle.sms_centre_rows.specs.waiting.Revisions.{all_revised};
 
 use crate::revising::revising::{Reaching, revise_all};
 use sms_centre_rows::waiting::Revision;
-use sms_rows::table::{Row, Spare, Table};
+use sms_rows::table::{Row, TableReserve, Table};
 use std::alloc::{AllocError, Global};
 use std::marker::Model;
 
@@ -13,7 +13,7 @@ use std::marker::Model;
 #[derive(Drop)]
 pub struct Ready<T: Drop> {
     revisions: Vec<Revision<T>>,
-    spare: Spare<T>,
+    reserve: TableReserve<T>,
 }
 
 impl<T: Drop> Model for Ready<T> {
@@ -21,7 +21,7 @@ impl<T: Drop> Model for Ready<T> {
 
     ghost Value = { ReadyOf T };
 
-    ghost view = { λ r. record { revisions = r.revisions.items; spare = r.spare } };
+    ghost view = { λ r. record { revisions = r.revisions.items; reserve = r.reserve } };
 }
 
 impl<T: Drop + Row> Ready<T> {
@@ -34,8 +34,8 @@ impl<T: Drop + Row> Ready<T> {
         ensures revisions { IfOk result (λ ready. ready.revisions ≡ revisions.items) }
         ensures fits { IfOk result (λ ready. FitsIn ready table.now) }
     {
-        let spare = table.make_spare(alloc, revisions.len())?;
-        Ok(Ready { revisions, spare })
+        let reserve = table.make_reserve(alloc, revisions.len())?;
+        Ok(Ready { revisions, reserve })
     }
 }
 
@@ -44,6 +44,6 @@ pub fn adopt_revisions<K, T: Drop + Reaching<K>>(table: &mut Table<T>, ready: Re
     requires { FitsIn ready table.old }
     ensures { table.new.rows ≡ all_revised T.key T.reaching ready.revisions table.old.rows }
 {
-    table.use_spare(ready.spare);
+    table.use_reserve(ready.reserve);
     revise_all::<K, T>(table, ready.revisions);
 }

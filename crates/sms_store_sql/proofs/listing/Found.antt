@@ -24,7 +24,7 @@ use Rattle.sqlite_typed.proofs.AnswerLemmas.{last_table, at_end, matches_are}
 use Rattle.sqlite_keyed.proofs.ListLemmas.{map-map, filter_all, all_of, along_permutation, all_weaker}
 use Rattle.sqlite_keyed.proofs.SortLemmas.{sorted_unique}
 use Rattle.sms_rows.specs.table.Table.{Rises}
-use Rattle.sms_store_sql.specs.listing.Listing.{ListOf, IsList, Holds, with_rowid, whole_table}
+use Rattle.sms_store_sql.specs.listing.Listing.{ListOf, IsList, Represents, with_rowid, whole_table}
 
 -- ---- lists
 
@@ -111,7 +111,7 @@ shown_unchanged sql params old new rows plain h =
 -- ---- the rows of a list
 
 pub finds : {X : Type 0} (l : ListOf X) (is : IsList l) (old new : State) (rows : List Row) → old.now.schema ≡ l.table.schema → Shown l.table.select [] old new rows
-    → (xs : List X) → Holds l (old.now.trees l.table.tree) xs → (ps : List X) × (rows ≡ map l.columns ps) × IsPermutation xs ps × AllByRecursion l.Fits ps
+    → (xs : List X) → Represents l (old.now.trees l.table.tree) xs → (ps : List X) × (rows ≡ map l.columns ps) × IsPermutation xs ps × AllByRecursion l.Fits ps
 finds {X} l is old new rows has h xs held =
     let t = l.table in
     let q = whole_table t.tree t.shown in

@@ -6,7 +6,7 @@ use Rattle.std.specs.Ordering.{nat_cmp, is_lt}
 use Rattle.std.proofs.lemmas.Bool.Decides.{nat_tests}
 use Rattle.sqlite.specs.Order.{Row}
 use Rattle.sms_rows.specs.table.Table.{Rises}
-use Rattle.sms_store_sql.specs.listing.Listing.{ListOf, IsList, Holds, with_rowid}
+use Rattle.sms_store_sql.specs.listing.Listing.{ListOf, IsList, Represents, with_rowid}
 use Rattle.sms_store_sql.proofs.listing.Found.{sorted_is}
 
 rising_sorted : {X : Type 0} (key : X → ℕ) (ys : List X) → Rises key ys → IsSortedByKey key nat_cmp ys
@@ -28,7 +28,7 @@ module _ {X : Type 0} (l : ListOf X) (is : IsList l) where
       let first : l.columns e.1 ≡ l.columns f.1 = cc in
       ap₂ (λ x xs. x ∷ xs) (sym (is.told e.1 p.0) ∙ ap l.reads first ∙ is.told f.1 q.0) (same_values es fs p.1 q.1 cc)
 
-  pub holds_once : (rows others : List Row) (xs ys : List X) → rows ≡ others → Holds l rows xs → Holds l others ys → xs ≡ ys
+  pub holds_once : (rows others : List Row) (xs ys : List X) → rows ≡ others → Represents l rows xs → Represents l others ys → xs ≡ ys
   holds_once rows others xs ys same p q =
       let values = same_values p.entries q.entries p.fit q.fit (sym p.stored ∙ same ∙ q.stored) in
       sorted_is l.key _ xs ys p.shown (rising_sorted l.key xs p.rises) (subst (λ vs. IsPermutation vs ys) (sym values) q.shown) q.rises

@@ -13,7 +13,7 @@ use Rattle.sqlite.proofs.Callers.{reads_as}
 use Rattle.sqlite_typed.proofs.AnswerLemmas.{last_table, at_end, matches_are}
 use Rattle.sqlite_keyed.proofs.ListLemmas.{map-map, along_permutation, IsPermutation-filter}
 use Rattle.sms_rows.specs.table.Table.{Rises, row_at}
-use Rattle.sms_store_sql.specs.listing.Listing.{rows_where, ListOf, IsList, Holds, with_rowid}
+use Rattle.sms_store_sql.specs.listing.Listing.{rows_where, ListOf, IsList, Represents, with_rowid}
 use Rattle.sms_store_sql.specs.listing.Finding.{FindsOne, first_of}
 use Rattle.sms_store_sql.proofs.listing.Found.{mapped_back, all_permuted}
 use Rattle.sms_store_sql.proofs.listing.Perms.{all_mapped}
@@ -81,7 +81,7 @@ module _ {X : Type 0} (key : X → ℕ) (n : ℕ) where
 -- ---- the row of a key
 
 pub finds_row : {X : Type 0} (l : ListOf X) (is : IsList l) (text : List ℕ) (one : FindsOne l text) (n : ℕ) (old new : State) (rows : List Row) → old.now.schema ≡ l.table.schema
-    → Shown text (l.key_columns n) old new rows → (xs : List X) → Holds l (old.now.trees l.table.tree) xs → (ps : List X) × (rows ≡ map l.columns ps) × (first_of ps ≡ row_at l.key n xs) × AllByRecursion l.Fits ps
+    → Shown text (l.key_columns n) old new rows → (xs : List X) → Represents l (old.now.trees l.table.tree) xs → (ps : List X) × (rows ≡ map l.columns ps) × (first_of ps ≡ row_at l.key n xs) × AllByRecursion l.Fits ps
 finds_row {X} l is text one n old new rows ours h xs held =
     let t = l.table in
     let params = l.key_columns n in

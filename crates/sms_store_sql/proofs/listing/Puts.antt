@@ -4,7 +4,7 @@ use Rattle.std.proofs.lemmas.Bool.Decides.{nat_tests}
 use Rattle.sqlite.specs.State.{State}
 use Rattle.sms_rows.specs.table.Table.{Rises, insert, put}
 use Rattle.sms_rows.proofs.table.Tables.{rises_put}
-use Rattle.sms_store_sql.specs.listing.Listing.{ListOf, IsList, Holds}
+use Rattle.sms_store_sql.specs.listing.Listing.{ListOf, IsList, Represents}
 use Rattle.sms_store_sql.specs.listing.Inside.{RanOn, Alters}
 use Rattle.sms_store_sql.proofs.listing.Changed.{none_there, one_there}
 use Rattle.sms_store_sql.proofs.listing.Statements.{inserts}
@@ -34,7 +34,7 @@ module _ {X : Type 0} (l : ListOf X) (is : IsList l) (x : X) (fits : l.Fits x) w
       record {
         inside = h.inside;
         schema = it.schema;
-        changed = λ has xs held. subst (Holds l (b.now.trees l.table.tree)) (one_there l.key x xs held.rises (subst (λ n. 0 < n) (it.counted has xs held) some)) (it.changed has xs held);
+        changed = λ has xs held. subst (Represents l (b.now.trees l.table.tree)) (one_there l.key x xs held.rises (subst (λ n. 0 < n) (it.counted has xs held) some)) (it.changed has xs held);
         others = it.others;
       }
 
@@ -49,7 +49,7 @@ module _ {X : Type 0} (l : ListOf X) (is : IsList l) (x : X) (fits : l.Fits x) w
         changed = λ has xs held.
             let none = none_there l.key x xs (sym (it.counted has xs held)) in
             let same : insert l.key x xs ≡ put l.key x xs = ap (insert l.key x) (sym none.1) in
-            let mid = subst (Holds l (b.now.trees l.table.tree)) none.0 (it.changed has xs held) in
-            subst (Holds l (c.now.trees l.table.tree)) same (add.changed (it.schema has) xs mid (subst (Rises l.key) (sym same) (rises_put l.key x xs held.rises)));
+            let mid = subst (Represents l (b.now.trees l.table.tree)) none.0 (it.changed has xs held) in
+            subst (Represents l (c.now.trees l.table.tree)) same (add.changed (it.schema has) xs mid (subst (Rises l.key) (sym same) (rises_put l.key x xs held.rises)));
         others = λ has tree other free. add.others (it.schema has) tree other free ∙ it.others has tree other free;
       }

@@ -13,7 +13,7 @@ use Rattle.sqlite_typed.proofs.AnswerLemmas.{last_table, at_end, matches_are}
 use Rattle.sqlite_keyed.proofs.ListLemmas.{map-map, all-filter, IsPermutation-filter}
 use Rattle.sms_rows.specs.table.Table.{Rises}
 use Rattle.sms_store_sql.specs.listing.Columns.{number}
-use Rattle.sms_store_sql.specs.listing.Listing.{rows_where, ListOf, IsList, Holds, with_rowid}
+use Rattle.sms_store_sql.specs.listing.Listing.{rows_where, ListOf, IsList, Represents, with_rowid}
 use Rattle.sms_store_sql.specs.listing.Seeking.{SeeksBy}
 use Rattle.sms_store_sql.proofs.listing.Found.{mapped_back, all_permuted}
 use Rattle.sms_store_sql.proofs.listing.OneRow.{has, kept_values, all_having}
@@ -29,7 +29,7 @@ rises_among key p (x ∷ xs) h =
     ]
 
 pub seeks_rows : {X : Type 0} (l : ListOf X) (is : IsList l) (mark : X → ℕ) (text : List ℕ) (tests : List Term) (by : SeeksBy l mark text tests) (n : ℕ) (old new : State) (rows : List Row)
-    → old.now.schema ≡ l.table.schema → Shown text (number n ∷ []) old new rows → (xs : List X) → Holds l (old.now.trees l.table.tree) xs
+    → old.now.schema ≡ l.table.schema → Shown text (number n ∷ []) old new rows → (xs : List X) → Represents l (old.now.trees l.table.tree) xs
     → (ps : List X) × (rows ≡ map l.columns ps) × IsPermutation ps (filter (has mark n) xs) × AllByRecursion l.Fits ps
 seeks_rows {X} l is mark text tests by n old new rows ours h xs held =
     let t = l.table in

@@ -18,7 +18,7 @@ use Rattle.sqlite_rules.specs.Edit.{next_rowid}
 use Rattle.sqlite_trees.specs.Tree.{put_row}
 use Rattle.sqlite.proofs.Callers.{runs_as, statement_of, one_step}
 use Rattle.sms_rows.specs.table.Table.{Rises, without, insert}
-use Rattle.sms_store_sql.specs.listing.Listing.{ListOf, IsList, Holds, table_of, rowids_where}
+use Rattle.sms_store_sql.specs.listing.Listing.{ListOf, IsList, Represents, table_of, rowids_where}
 use Rattle.sms_store_sql.specs.listing.Inside.{Ran, Alters}
 use Rattle.sms_store_sql.proofs.listing.Perms.{all_mapped}
 use Rattle.sms_store_sql.proofs.listing.Trees.{passes, left_is, holds_left, holds_more}
@@ -34,7 +34,7 @@ same_value e = cc
 -- what an insertion does, where no row has the key
 pub record Adds {X : Type 0} (l : ListOf X) (x : X) (old new : State) : Type 0 where
   pub schema : old.now.schema ≡ l.table.schema → new.now.schema ≡ l.table.schema
-  pub changed : old.now.schema ≡ l.table.schema → (xs : List X) → Holds l (old.now.trees l.table.tree) xs → Rises l.key (insert l.key x xs) → Holds l (new.now.trees l.table.tree) (insert l.key x xs)
+  pub changed : old.now.schema ≡ l.table.schema → (xs : List X) → Represents l (old.now.trees l.table.tree) xs → Rises l.key (insert l.key x xs) → Represents l (new.now.trees l.table.tree) (insert l.key x xs)
   pub others : old.now.schema ≡ l.table.schema → (tree : ℕ) → tree ≢ l.table.tree → IsNoIndex l.table.schema tree → new.now.trees tree ≡ old.now.trees tree
 
 module _ {X : Type 0} (l : ListOf X) (is : IsList l) (old new : State) where
@@ -42,7 +42,7 @@ module _ {X : Type 0} (l : ListOf X) (is : IsList l) (old new : State) where
   deletes n h = record { inside = h.inside; schema = λ has. (done has).0; changed = λ has. (done has).1; others = λ has. (done has).2 }
     where
       done : old.now.schema ≡ l.table.schema → (new.now.schema ≡ l.table.schema)
-          × ((xs : List X) → Holds l (old.now.trees l.table.tree) xs → Holds l (new.now.trees l.table.tree) (without l.key n xs))
+          × ((xs : List X) → Represents l (old.now.trees l.table.tree) xs → Represents l (new.now.trees l.table.tree) (without l.key n xs))
           × ((tree : ℕ) → tree ≢ l.table.tree → IsNoIndex l.table.schema tree → new.now.trees tree ≡ old.now.trees tree)
       done has =
           let t = l.table in
@@ -73,7 +73,7 @@ module _ {X : Type 0} (l : ListOf X) (is : IsList l) (old new : State) where
   inserts x fits h = record { schema = λ has. (done has).0; changed = λ has. (done has).1; others = λ has. (done has).2 }
     where
       done : old.now.schema ≡ l.table.schema → (new.now.schema ≡ l.table.schema)
-          × ((xs : List X) → Holds l (old.now.trees l.table.tree) xs → Rises l.key (insert l.key x xs) → Holds l (new.now.trees l.table.tree) (insert l.key x xs))
+          × ((xs : List X) → Represents l (old.now.trees l.table.tree) xs → Rises l.key (insert l.key x xs) → Represents l (new.now.trees l.table.tree) (insert l.key x xs))
           × ((tree : ℕ) → tree ≢ l.table.tree → IsNoIndex l.table.schema tree → new.now.trees tree ≡ old.now.trees tree)
       done has =
           let t = l.table in

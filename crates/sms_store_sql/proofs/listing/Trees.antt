@@ -20,7 +20,7 @@ use Rattle.sqlite_keyed.proofs.KeyedLemmas.{IsKeyedBy-insert_by, IsKeyedBy-delet
 use Rattle.sqlite_keyed.proofs.WriteLemmas.{removes_delete}
 use Rattle.sms_rows.specs.table.Table.{Rises, without, insert}
 use Rattle.sms_rows.proofs.table.Tables.{rises_without}
-use Rattle.sms_store_sql.specs.listing.Listing.{ListOf, Holds, with_rowid, rowids_where}
+use Rattle.sms_store_sql.specs.listing.Listing.{ListOf, Represents, with_rowid, rowids_where}
 use Rattle.sms_store_sql.proofs.listing.Perms.{permuted_without, permuted_more, all_without, all_end, left_values}
 
 -- the order of the ids does not matter
@@ -84,9 +84,9 @@ pub next_from : {X : Type 0} (columns : X → Row) (xs : List (ℤ × X)) (a : �
 next_from columns [] a = refl
 next_from columns (x ∷ xs) a = next_from columns xs (x.0 +ℤ pos 1)
 
-module _ {X : Type 0} (l : ListOf X) (old : List Row) (xs : List X) (held : Holds l old xs) where
+module _ {X : Type 0} (l : ListOf X) (old : List Row) (xs : List X) (held : Represents l old xs) where
   pub holds_left : (n : ℕ) (p : ℤ × X → Bool) (rows : List Row) → AllByRecursion (λ (e : ℤ × X). p e ≡ (l.key e.1 == n)) held.entries
-      → rows ≡ map (with_rowid l.columns) (delete_where p held.entries) → Holds l rows (without l.key n xs)
+      → rows ≡ map (with_rowid l.columns) (delete_where p held.entries) → Represents l rows (without l.key n xs)
   holds_left n p rows agree is =
       let left = left_values l.key n p held.entries agree in
       record {
@@ -98,7 +98,7 @@ module _ {X : Type 0} (l : ListOf X) (old : List Row) (xs : List X) (held : Hold
         fit = subst (AllByRecursion l.Fits) (sym left) (all_without l.key l.Fits n _ held.fit);
       }
 
-  pub holds_more : (x : X) (rows : List Row) → l.Fits x → Rises l.key (insert l.key x xs) → rows ≡ put_row (Int (next_rowid old) ∷ l.columns x) old → Holds l rows (insert l.key x xs)
+  pub holds_more : (x : X) (rows : List Row) → l.Fits x → Rises l.key (insert l.key x xs) → rows ≡ put_row (Int (next_rowid old) ∷ l.columns x) old → Represents l rows (insert l.key x xs)
   holds_more x rows fits rises is =
       let id = λ (e : ℤ × X). e.0 in
       let value = λ (e : ℤ × X). e.1 in

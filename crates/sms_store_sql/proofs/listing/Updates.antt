@@ -27,7 +27,7 @@ use Rattle.sqlite_keyed.specs.Lists.{update_where, delete_where, without_key}
 use Rattle.sqlite_keyed.proofs.ListLemmas.{map-map, IsPermutation-filter as filtered}
 use Rattle.sqlite_keyed.proofs.KeyedLemmas.{IsKeyedBy-update_where}
 use Rattle.sqlite_keyed.proofs.WriteLemmas.{removes_delete}
-use Rattle.sms_store_sql.specs.listing.Listing.{ListOf, IsList, Holds, table_of, with_rowid, rows_where}
+use Rattle.sms_store_sql.specs.listing.Listing.{ListOf, IsList, Represents, table_of, with_rowid, rows_where}
 use Rattle.sms_store_sql.proofs.listing.Changed.{none_updated, one_updated, numbered_given, turned, values_turned, all_turned, rises_turned}
 use Rattle.sms_store_sql.proofs.listing.Columns.{cast_int}
 use Rattle.sms_store_sql.proofs.listing.Found.{mapped_back}
@@ -38,8 +38,8 @@ use Rattle.sms_store_sql.proofs.listing.Statements.{went, same_value}
 -- The row of the key becomes another, in place, and the count tells how many rows have the key.
 pub record Turns {X : Type 0} (l : ListOf X) (n : ℕ) (becomes : X → X) (count : ℕ) (old new : State) : Type 0 where
   pub schema : old.now.schema ≡ l.table.schema → new.now.schema ≡ l.table.schema
-  pub changed : old.now.schema ≡ l.table.schema → (xs : List X) → Holds l (old.now.trees l.table.tree) xs → Holds l (new.now.trees l.table.tree) (map (turned l.key n becomes) xs)
-  pub counted : old.now.schema ≡ l.table.schema → (xs : List X) → Holds l (old.now.trees l.table.tree) xs → count ≡ length (filter (has l.key n) xs)
+  pub changed : old.now.schema ≡ l.table.schema → (xs : List X) → Represents l (old.now.trees l.table.tree) xs → Represents l (new.now.trees l.table.tree) (map (turned l.key n becomes) xs)
+  pub counted : old.now.schema ≡ l.table.schema → (xs : List X) → Represents l (old.now.trees l.table.tree) xs → count ≡ length (filter (has l.key n) xs)
   pub others : old.now.schema ≡ l.table.schema → (tree : ℕ) → tree ≢ l.table.tree → IsNoIndex l.table.schema tree → new.now.trees tree ≡ old.now.trees tree
 
 -- What makes a text, with its values, one that makes the row of a key another. The first two hold by computation.
@@ -72,7 +72,7 @@ module _ {X : Type 0} (l : ListOf X) (is : IsList l) (text : List ℕ) (params :
   stays : (r : ℤ) (x : X) → cast_row (table_of l.table) (Int r ∷ l.columns x) ≡ Int r ∷ l.columns x
   stays r x = ap₂ (λ v vs. v ∷ vs) (cast_int r) (ap (drop 1) (is.stays x))
 
-  module _ (db : Trees) (xs : List X) (held : Holds l (db l.table.tree) xs) where
+  module _ (db : Trees) (xs : List X) (held : Represents l (db l.table.tree) xs) where
     agree : AllByRecursion (λ (e : ℤ × X). passes e ≡ (l.key e.1 == n)) held.entries
     agree = all_mapped value l.Fits (λ (e : ℤ × X). passes e ≡ (l.key e.1 == n)) (λ e fits. one.finds e.0 e.1 fits) held.entries held.fit
 
@@ -129,7 +129,7 @@ module _ {X : Type 0} (l : ListOf X) (is : IsList l) (text : List ℕ) (params :
         ap (λ (rs : List Row). length rs) (numbered_given (map (λ s. cast_row (table_of l.table) (drop 1 s)) rows) (without_all (db l.table.tree) (ids_of rows)))
         ∙ length-map rows _ ∙ ap (λ (rs : List Row). length rs) are ∙ length-map (filter passes held.entries) given ∙ as_many
 
-    holds_turned : (rows : List Row) → rows ≡ map (with_rowid l.columns) (update_where passes next held.entries) → Holds l rows (map (turned l.key n becomes) xs)
+    holds_turned : (rows : List Row) → rows ≡ map (with_rowid l.columns) (update_where passes next held.entries) → Represents l rows (map (turned l.key n becomes) xs)
     holds_turned rows are =
         let values = values_turned l.key n becomes passes held.entries agree in
         record {
@@ -145,7 +145,7 @@ module _ {X : Type 0} (l : ListOf X) (is : IsList l) (text : List ℕ) (params :
   updates old new count h = record { schema = λ has. (done has).0; changed = λ has xs held. ((done has).1 xs held).0; counted = λ has xs held. ((done has).1 xs held).1; others = λ has. (done has).2 }
     where
       done : old.now.schema ≡ l.table.schema → (new.now.schema ≡ l.table.schema)
-          × ((xs : List X) → Holds l (old.now.trees l.table.tree) xs → Holds l (new.now.trees l.table.tree) (map (turned l.key n becomes) xs) × (count ≡ length (filter (has l.key n) xs)))
+          × ((xs : List X) → Represents l (old.now.trees l.table.tree) xs → Represents l (new.now.trees l.table.tree) (map (turned l.key n becomes) xs) × (count ≡ length (filter (has l.key n) xs)))
           × ((tree : ℕ) → tree ≢ l.table.tree → IsNoIndex l.table.schema tree → new.now.trees tree ≡ old.now.trees tree)
       done has =
           let t = l.table in

@@ -6,7 +6,7 @@ use Rattle.sqlite.specs.Order.{Row}
 use Rattle.sqlite.specs.State.{State, HasCleanDisk, Shows, IsUnchanged, Executes, KeepsCommit, Survives}
 use Rattle.sqlite.specs.Held.{Held, state}
 use Rattle.sqlite_rules.specs.Edit.{IsNoIndex}
-use Rattle.sms_store_sql.specs.listing.Listing.{ListOf, Holds}
+use Rattle.sms_store_sql.specs.listing.Listing.{ListOf, Represents}
 
 -- the statement ran, and the transaction goes on
 pub record Ran (sql : List ℕ) (params : Row) (old new : State) : Type 0 where
@@ -23,13 +23,13 @@ pub record RanOn (sql : List ℕ) (params : Row) (count : ℕ) (old new : State)
 pub record Alters {X : Type 0} (l : ListOf X) (change : List X → List X) (old new : State) : Type 0 where
   pub inside : Shows old new new.now old.committed true
   pub schema : old.now.schema ≡ l.table.schema → new.now.schema ≡ l.table.schema
-  pub changed : old.now.schema ≡ l.table.schema → (xs : List X) → Holds l (old.now.trees l.table.tree) xs → Holds l (new.now.trees l.table.tree) (change xs)
+  pub changed : old.now.schema ≡ l.table.schema → (xs : List X) → Represents l (old.now.trees l.table.tree) xs → Represents l (new.now.trees l.table.tree) (change xs)
   pub others : old.now.schema ≡ l.table.schema → (tree : ℕ) → tree ≢ l.table.tree → IsNoIndex l.table.schema tree → new.now.trees tree ≡ old.now.trees tree
 
 module _ {S : Type 0} (g : Ghosts S) (old new : Held S) where
   -- a call inside an open transaction makes the step, where it answers Ok
-  abbrev pub Goes : (State → State → Type 0) → Result (Unit {0}) Error → Type 0
-  Goes Step result = HasCleanDisk (state g new) → IsTrue (state g old).is_open → IsTrue (state g old).in_transaction → OnOk result (Step (state g old) (state g new))
+  abbrev pub MakesStep : (State → State → Type 0) → Result (Unit {0}) Error → Type 0
+  MakesStep Step result = HasCleanDisk (state g new) → IsTrue (state g old).is_open → IsTrue (state g old).in_transaction → OnOk result (Step (state g old) (state g new))
 
   -- and so does one that tells a number
   abbrev pub Counts : (ℕ → State → State → Type 0) → Result ℕ Error → Type 0
@@ -38,7 +38,7 @@ module _ {S : Type 0} (g : Ghosts S) (old new : Held S) where
   -- a call that only reads finds the list, where it answers Ok
   abbrev pub Finds : {X Y : Type 0} → ListOf X → (Y → List X) → Result Y Error → Type 0
   Finds {X} l read result = HasCleanDisk (state g new) → (state g old).now.schema ≡ l.table.schema
-      → IfOk result (λ y. IsUnchanged (state g old) (state g new) × ((xs : List X) → Holds l ((state g old).now.trees l.table.tree) xs → read y ≡ xs))
+      → IfOk result (λ y. IsUnchanged (state g old) (state g new) × ((xs : List X) → Represents l ((state g old).now.trees l.table.tree) xs → read y ≡ xs))
 
   -- and a failure changes nothing, or has rolled back
   abbrev pub Stays : {X : Type 0} → ListOf X → Type 0

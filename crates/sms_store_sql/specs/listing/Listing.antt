@@ -132,7 +132,7 @@ abbrev pub with_rowid : {X : Type 0} → (X → Row) → ℤ × X → Row
 with_rowid columns e = Int e.0 ∷ columns e.1
 
 -- The rows of the tree are those of the list, each under a rowid of its own; the list is in the order of its keys.
-pub record Holds {X : Type 0} (l : ListOf X) (rows : List Row) (xs : List X) : Type 0 where
+pub record Represents {X : Type 0} (l : ListOf X) (rows : List Row) (xs : List X) : Type 0 where
   pub entries : List (ℤ × X)
   pub keyed : IsKeyedBy (λ (e : ℤ × X). e.0) entries
   pub stored : rows ≡ map (with_rowid l.columns) entries

@@ -5,7 +5,7 @@ ghost use Rattle.sqlite.specs.Held.{state};
 ghost use Rattle.sqlite.specs.State.{FailsToQuery, HasCleanDisk, IsTooLate, IsUnchanged, Shown};
 ghost use Rattle.sms_store_sql.specs.listing.Finding.{FindsOne, first_of};
 ghost use Rattle.sms_store_sql.specs.listing.Inside.{Spares, Stays};
-ghost use Rattle.sms_store_sql.specs.listing.Listing.{Holds};
+ghost use Rattle.sms_store_sql.specs.listing.Listing.{Represents};
 ghost use Rattle.sms_rows.specs.table.Table.{row_at};
 
 use crate::listing::list::StoredRow;
@@ -49,7 +49,7 @@ pub fn find<K, T: Drop + FoundRow<K>, S: Alter>(
 ) -> Result<Option<T>, Error>
     ensures same_reference { tx.new.conn.ghost_name ≡ tx.old.conn.ghost_name }
     ensures found { HasCleanDisk (state S.Store tx.new.conn.now) → (state S.Store tx.old.conn.now).now.schema ≡ T.list.table.schema
-        → IfOk result (λ row. IsUnchanged (state S.Store tx.old.conn.now) (state S.Store tx.new.conn.now) × ((xs : List T) → Holds T.list ((state S.Store tx.old.conn.now).now.trees T.list.table.tree) xs → row ≡ row_at T.list.key key xs)) }
+        → IfOk result (λ row. IsUnchanged (state S.Store tx.old.conn.now) (state S.Store tx.new.conn.now) × ((xs : List T) → Represents T.list ((state S.Store tx.old.conn.now).now.trees T.list.table.tree) xs → row ≡ row_at T.list.key key xs)) }
     ensures kept { Stays S.Store tx.old.conn.now tx.new.conn.now T.list }
     ensures survives { Spares S.Store tx.old.conn.now tx.new.conn.now }
 {

@@ -2,7 +2,7 @@
 ghost use Rattle.std.specs.Prelude.{◌≡◌, IfOk};
 ghost use Rattle.sqlite.specs.Held.{state};
 ghost use Rattle.sqlite.specs.Values.{bound};
-ghost use Rattle.sms_store_sql.specs.listing.Inside.{Alters, Counts, Goes, Keeps, Ran, RanOn, Spares};
+ghost use Rattle.sms_store_sql.specs.listing.Inside.{Alters, Counts, MakesStep, Keeps, Ran, RanOn, Spares};
 ghost use Rattle.sms_rows.specs.table.Table.{all_applied, applied, put as put_row, without};
 
 use crate::listing::list::StoredRow;
@@ -18,7 +18,7 @@ pub fn run<S: Alter>(
     params: &[ValueRef<'_>],
 ) -> Result<(), Error>
     ensures same_reference { tx.new.conn.ghost_name ≡ tx.old.conn.ghost_name }
-    ensures done { Goes S.Store tx.old.conn.now tx.new.conn.now (Ran sql.now (bound params.now)) result }
+    ensures done { MakesStep S.Store tx.old.conn.now tx.new.conn.now (Ran sql.now (bound params.now)) result }
     ensures kept { Keeps S.Store tx.old.conn.now tx.new.conn.now }
     ensures survives { Spares S.Store tx.old.conn.now tx.new.conn.now }
 {
@@ -46,7 +46,7 @@ pub fn remove<K, T: Drop + StoredRow<K>, S: Alter>(
     key: Key,
 ) -> Result<(), Error>
     ensures same_reference { tx.new.conn.ghost_name ≡ tx.old.conn.ghost_name }
-    ensures done { Goes S.Store tx.old.conn.now tx.new.conn.now (Alters T.list (without T.list.key key)) result }
+    ensures done { MakesStep S.Store tx.old.conn.now tx.new.conn.now (Alters T.list (without T.list.key key)) result }
     ensures kept { Keeps S.Store tx.old.conn.now tx.new.conn.now }
     ensures survives { Spares S.Store tx.old.conn.now tx.new.conn.now }
 {
@@ -60,7 +60,7 @@ pub fn put<K, T: Drop + StoredRow<K>, S: Alter>(
     row: &T,
 ) -> Result<(), Error>
     ensures same_reference { tx.new.conn.ghost_name ≡ tx.old.conn.ghost_name }
-    ensures done { Goes S.Store tx.old.conn.now tx.new.conn.now (Alters T.list (put_row T.list.key row.now)) result }
+    ensures done { MakesStep S.Store tx.old.conn.now tx.new.conn.now (Alters T.list (put_row T.list.key row.now)) result }
     ensures kept { Keeps S.Store tx.old.conn.now tx.new.conn.now }
     ensures survives { Spares S.Store tx.old.conn.now tx.new.conn.now }
 {
@@ -80,7 +80,7 @@ pub fn change<K, T: Drop + StoredRow<K>, S: Alter>(
     change: &Change<T>,
 ) -> Result<(), Error>
     ensures same_reference { tx.new.conn.ghost_name ≡ tx.old.conn.ghost_name }
-    ensures done { Goes S.Store tx.old.conn.now tx.new.conn.now (Alters T.list (applied T.list.key change.now)) result }
+    ensures done { MakesStep S.Store tx.old.conn.now tx.new.conn.now (Alters T.list (applied T.list.key change.now)) result }
     ensures kept { Keeps S.Store tx.old.conn.now tx.new.conn.now }
     ensures survives { Spares S.Store tx.old.conn.now tx.new.conn.now }
 {
@@ -97,7 +97,7 @@ pub fn write<K, T: Drop + StoredRow<K>, S: Alter>(
     changes: &[Change<T>],
 ) -> Result<(), Error>
     ensures same_reference { tx.new.conn.ghost_name ≡ tx.old.conn.ghost_name }
-    ensures done { Goes S.Store tx.old.conn.now tx.new.conn.now (Alters T.list (all_applied T.list.key changes.now)) result }
+    ensures done { MakesStep S.Store tx.old.conn.now tx.new.conn.now (Alters T.list (all_applied T.list.key changes.now)) result }
     ensures kept { Keeps S.Store tx.old.conn.now tx.new.conn.now }
     ensures survives { Spares S.Store tx.old.conn.now tx.new.conn.now }
 {

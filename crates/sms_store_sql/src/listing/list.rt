@@ -1,7 +1,7 @@
 //! What a list says of its table.
 ghost use Rattle.std.specs.Prelude.{◌≡◌, IfOk};
 ghost use Rattle.sqlite.specs.Held.{state};
-ghost use Rattle.sms_store_sql.specs.listing.Inside.{Counts, Goes, Keeps, Ran, RanOn, Spares};
+ghost use Rattle.sms_store_sql.specs.listing.Inside.{Counts, MakesStep, Keeps, Ran, RanOn, Spares};
 ghost use Rattle.sms_store_sql.specs.listing.Listing.{IsList, ListOf};
 
 use sms_rows::table::{Key, Row};
@@ -16,7 +16,7 @@ pub trait StoredRow<K>: Row {
     /// Runs the text that removes the row of a key.
     fn delete<S: Alter>(tx: &mut Transaction<'_, S>, key: Key) -> Result<(), Error>
         ensures same_reference { tx.new.conn.ghost_name ≡ tx.old.conn.ghost_name }
-        ensures done { Goes S.Store tx.old.conn.now tx.new.conn.now (Ran list.table.delete (list.key_columns key)) result }
+        ensures done { MakesStep S.Store tx.old.conn.now tx.new.conn.now (Ran list.table.delete (list.key_columns key)) result }
         ensures kept { Keeps S.Store tx.old.conn.now tx.new.conn.now }
         ensures survives { Spares S.Store tx.old.conn.now tx.new.conn.now };
 

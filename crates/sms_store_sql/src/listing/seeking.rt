@@ -5,7 +5,7 @@ ghost use Rattle.sqlite.specs.State.{HasCleanDisk, IsUnchanged, Shown};
 ghost use Rattle.sqlite.specs.Term.{Term};
 ghost use Rattle.sms_store_sql.specs.listing.Columns.{number as as_number};
 ghost use Rattle.sms_store_sql.specs.listing.Inside.{Spares, Stays};
-ghost use Rattle.sms_store_sql.specs.listing.Listing.{Holds};
+ghost use Rattle.sms_store_sql.specs.listing.Listing.{Represents};
 ghost use Rattle.sms_store_sql.specs.listing.Seeking.{SeeksBy};
 
 use crate::listing::list::StoredRow;
@@ -43,7 +43,7 @@ pub fn seek<K, T: Drop + SoughtRow<K>, S: Alter>(
 ) -> Result<Vec<T>, Error>
     ensures same_reference { tx.new.conn.ghost_name ≡ tx.old.conn.ghost_name }
     ensures found { HasCleanDisk (state S.Store tx.new.conn.now) → (state S.Store tx.old.conn.now).now.schema ≡ T.list.table.schema
-        → IfOk result (λ rows. IsUnchanged (state S.Store tx.old.conn.now) (state S.Store tx.new.conn.now) × ((xs : List T) → Holds T.list ((state S.Store tx.old.conn.now).now.trees T.list.table.tree) xs → rows.items ≡ filter (λ x. T.mark x == number) xs)) }
+        → IfOk result (λ rows. IsUnchanged (state S.Store tx.old.conn.now) (state S.Store tx.new.conn.now) × ((xs : List T) → Represents T.list ((state S.Store tx.old.conn.now).now.trees T.list.table.tree) xs → rows.items ≡ filter (λ x. T.mark x == number) xs)) }
     ensures kept { Stays S.Store tx.old.conn.now tx.new.conn.now T.list }
     ensures survives { Spares S.Store tx.old.conn.now tx.new.conn.now }
 {

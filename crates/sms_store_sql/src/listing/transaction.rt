@@ -4,7 +4,7 @@ ghost use Rattle.sqlite.specs.State.{HasCleanDisk, IsUnchanged, KeepsCommit, Sho
 ghost use Rattle.sqlite.specs.Effect.{Database};
 ghost use Rattle.sqlite.specs.Schema.{Schema};
 ghost use Rattle.sqlite.specs.Held.{state};
-ghost use Rattle.sms_store_sql.specs.listing.Inside.{Goes, Keeps, Spares};
+ghost use Rattle.sms_store_sql.specs.listing.Inside.{MakesStep, Keeps, Spares};
 ghost use Rattle.sms_store_sql.specs.listing.Transaction.{Committed, Leads, Leaves};
 
 use sqlite::{Alter, Connection, Error, ErrorCode, Transaction};
@@ -18,7 +18,7 @@ pub trait Work {
     /// Makes the change, in as many statements as it takes.
     fn run<S: Alter>(&self, alloc: Global, tx: &mut Transaction<'_, S>) -> Result<(), Error>
         ensures same_reference { tx.new.conn.ghost_name ≡ tx.old.conn.ghost_name }
-        ensures done { Goes S.Store tx.old.conn.now tx.new.conn.now (Leads (changes self.now)) result }
+        ensures done { MakesStep S.Store tx.old.conn.now tx.new.conn.now (Leads (changes self.now)) result }
         ensures kept { Keeps S.Store tx.old.conn.now tx.new.conn.now }
         ensures survives { Spares S.Store tx.old.conn.now tx.new.conn.now };
 }

@@ -5,7 +5,7 @@ use Rattle.sqlite.specs.Term.{Term}
 use Rattle.sqlite.specs.State.{State}
 use Rattle.sms_centre_rows.specs.declared.waiting.progress.Progress.{Progress}
 use Rattle.sms_centre_rows.specs.waiting.Revisions.{amended}
-use Rattle.sms_store_sql.specs.listing.Listing.{ListOf, IsList, Holds}
+use Rattle.sms_store_sql.specs.listing.Listing.{ListOf, IsList, Represents}
 use Rattle.sms_store_sql.specs.listing.Inside.{Ran, Alters}
 use Rattle.sms_store_sql.proofs.listing.Changed.{turned}
 use Rattle.sms_store_sql.proofs.listing.Updates.{TurnsOne, updates}
@@ -32,6 +32,6 @@ module _ {X : Type 0} (l : ListOf X) (is : IsList l) (text : List ℕ) (reaching
       record {
         inside = h.inside;
         schema = it.schema;
-        changed = λ has xs held. subst (Holds l (new.now.trees l.table.tree)) (sym (amended_each xs)) (it.changed has xs held);
+        changed = λ has xs held. subst (Represents l (new.now.trees l.table.tree)) (sym (amended_each xs)) (it.changed has xs held);
         others = it.others;
       }

@@ -4,7 +4,7 @@ ghost use Rattle.sqlite.specs.Held.{state};
 ghost use Rattle.sqlite.specs.Order.{Row as RowOf};
 ghost use Rattle.sqlite.specs.Term.{Term};
 ghost use Rattle.sms_store_tables.specs.amending.Amending.{AmendsOne};
-ghost use Rattle.sms_store_sql.specs.listing.Inside.{Alters, Goes, Keeps, Ran, Spares};
+ghost use Rattle.sms_store_sql.specs.listing.Inside.{Alters, MakesStep, Keeps, Ran, Spares};
 ghost use Rattle.sms_centre_rows.specs.waiting.Revisions.{all_revised, amended, revised};
 ghost use Rattle.sms_centre_rows.specs.declared.waiting.progress.Progress.{Progress as ProgressOf};
 
@@ -35,7 +35,7 @@ pub trait AmendedRow<K>: StoredRow<K> {
         progress: Progress,
     ) -> Result<(), Error>
         ensures same_reference { tx.new.conn.ghost_name ≡ tx.old.conn.ghost_name }
-        ensures done { Goes S.Store tx.old.conn.now tx.new.conn.now (Ran amendment (Self.list.key_columns key ++ progress_columns progress)) result }
+        ensures done { MakesStep S.Store tx.old.conn.now tx.new.conn.now (Ran amendment (Self.list.key_columns key ++ progress_columns progress)) result }
         ensures kept { Keeps S.Store tx.old.conn.now tx.new.conn.now }
         ensures survives { Spares S.Store tx.old.conn.now tx.new.conn.now };
 
@@ -50,7 +50,7 @@ pub fn amend<K, T: Drop + AmendedRow<K>, S: Alter>(
     progress: Progress,
 ) -> Result<(), Error>
     ensures same_reference { tx.new.conn.ghost_name ≡ tx.old.conn.ghost_name }
-    ensures done { Goes S.Store tx.old.conn.now tx.new.conn.now (Alters T.list (amended T.list.key T.reaching key progress)) result }
+    ensures done { MakesStep S.Store tx.old.conn.now tx.new.conn.now (Alters T.list (amended T.list.key T.reaching key progress)) result }
     ensures kept { Keeps S.Store tx.old.conn.now tx.new.conn.now }
     ensures survives { Spares S.Store tx.old.conn.now tx.new.conn.now }
 {
@@ -64,7 +64,7 @@ pub fn revise<K, T: Drop + AmendedRow<K>, S: Alter>(
     revision: &Revision<T>,
 ) -> Result<(), Error>
     ensures same_reference { tx.new.conn.ghost_name ≡ tx.old.conn.ghost_name }
-    ensures done { Goes S.Store tx.old.conn.now tx.new.conn.now (Alters T.list (revised T.list.key T.reaching revision.now)) result }
+    ensures done { MakesStep S.Store tx.old.conn.now tx.new.conn.now (Alters T.list (revised T.list.key T.reaching revision.now)) result }
     ensures kept { Keeps S.Store tx.old.conn.now tx.new.conn.now }
     ensures survives { Spares S.Store tx.old.conn.now tx.new.conn.now }
 {
@@ -82,7 +82,7 @@ pub fn write_revisions<K, T: Drop + AmendedRow<K>, S: Alter>(
     revisions: &[Revision<T>],
 ) -> Result<(), Error>
     ensures same_reference { tx.new.conn.ghost_name ≡ tx.old.conn.ghost_name }
-    ensures done { Goes S.Store tx.old.conn.now tx.new.conn.now (Alters T.list (all_revised T.list.key T.reaching revisions.now)) result }
+    ensures done { MakesStep S.Store tx.old.conn.now tx.new.conn.now (Alters T.list (all_revised T.list.key T.reaching revisions.now)) result }
     ensures kept { Keeps S.Store tx.old.conn.now tx.new.conn.now }
     ensures survives { Spares S.Store tx.old.conn.now tx.new.conn.now }
 {

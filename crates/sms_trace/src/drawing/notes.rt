@@ -69,7 +69,7 @@ fn stands_word(has_pdu: bool) -> &'static str {
 
 /// A request of an application.
 #[derive(Clone, Copy)]
-pub struct Asked {
+pub struct RequestNote {
     /// The name of its command.
     pub command: &'static str,
     /// Its sequence number, which its answer bears, too.
@@ -85,7 +85,7 @@ pub enum Heading {
     /// The frame arrived before.
     Again,
     /// It is a request.
-    Request(Asked),
+    Request(RequestNote),
 }
 
 /// The event of that number.
@@ -100,7 +100,7 @@ pub fn event_text(
         Heading::None => format!(in alloc; "{number}. {line}"),
         Heading::Again => format!(in alloc; "{number}. {line}, again"),
         Heading::Request(asked) => {
-            let Asked {
+            let RequestNote {
                 command,
                 sequence,
                 has_pdu,
@@ -112,7 +112,7 @@ pub fn event_text(
 }
 
 /// The answer to a request.
-pub fn response_text(alloc: Global, asked: &Asked, answered: &str) -> Result<String, AllocError> {
+pub fn response_text(alloc: Global, asked: &RequestNote, answered: &str) -> Result<String, AllocError> {
     let command = asked.command;
     let sequence = asked.sequence;
     let stands = stands_word(asked.has_pdu);

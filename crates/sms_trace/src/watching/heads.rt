@@ -1,7 +1,7 @@
 //! The places of accounts and handsets in the head of a script, and the act of an event.
 use sms_base::{Digits, Octets};
 use sms_play::staging::spell;
-use sms_script::{Account, Act, HandsetSetup, Setup, WorldEvent};
+use sms_script::{AccountSetup, Act, HandsetSetup, Setup, WorldEvent};
 use std::alloc::{AllocError, Global};
 
 /// The names of the accounts and the numbers of the handsets, in the order of the head.
@@ -11,7 +11,7 @@ pub(crate) struct Places {
     handsets: Vec<Octets>,
 }
 
-fn names_of(alloc: Global, accounts: &[Account<'_>]) -> Result<Vec<Octets>, AllocError> {
+fn names_of(alloc: Global, accounts: &[AccountSetup<'_>]) -> Result<Vec<Octets>, AllocError> {
     let mut names = Vec::new(alloc);
     for account in accounts {
         names.push(Octets::copy_of(alloc, account.name.as_slice())?)?;

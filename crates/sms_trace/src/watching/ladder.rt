@@ -1,11 +1,11 @@
 //! A run over a script, written as a ladder.
 use crate::drawing::notes::{
-    Asked, Heading, answered_text, event_text, frame_text, receipt_answer_text, receipt_text,
+    RequestNote, Heading, answered_text, event_text, frame_text, receipt_answer_text, receipt_text,
     response_text,
 };
 use crate::drawing::{Row, SentSoFar, Stroke, Text, put_name, put_row};
 use crate::sessions::SequenceNumbers;
-use crate::watching::coming::{row_of, row_of_event};
+use crate::watching::arriving::{row_of, row_of_event};
 use crate::watching::heads::act_of;
 use crate::watching::lanes::Lanes;
 use crate::watching::requests::{Request, has_pdu, request_of};
@@ -110,9 +110,9 @@ impl Ladder {
         act: &Act<'_>,
         request: &Request<'_>,
         sequence: u32,
-    ) -> Result<Asked, AllocError> {
+    ) -> Result<RequestNote, AllocError> {
         let has_pdu = has_pdu(self.alloc, act)?;
-        Ok(Asked {
+        Ok(RequestNote {
             command: request.command,
             sequence,
             has_pdu,

@@ -78,9 +78,9 @@ use Rattle.sms_handset_draft.specs.Draft.{Core, Draft, begin, draft_of, link_of,
 use Rattle.sms_handset_draft.specs.FramesAndTicks.{at_moment, frame_heard, timed_out, timers_fired, went_up}
 use Rattle.sms_handset_draft.specs.MemoryAvailable.{first_notice, flag, freed, has_room, most_notices, notice_concluded, notice_ended, notice_failed, put_notice, remove_notice, send_notice, want_notice}
 use Rattle.sms_handset_draft.specs.Outbox.{entry_concluded, follow, holder_concluded, is_notice_next, lapse, lapse_rows, offer, offer_after, offer_entry, offer_message, offer_wanted}
-use Rattle.sms_handset_draft.specs.Receiving.{accept, acknowledge, data_came, deliver_came, fault_cause, member_came, new_part_came, no_room, note, part_came, reference_octet, refuse, reject, single_came, tpdu_came, unit_came}
+use Rattle.sms_handset_draft.specs.Receiving.{accept, acknowledge, data_received, deliver_received, fault_cause, member_received, new_part_received, no_room, note, part_received, reference_octet, refuse, reject, single_received, tpdu_received, unit_received}
 use Rattle.sms_handset_draft.specs.Storing.{completed, drop_all, ended, free_all, keep, marked, store_part, store_single}
-use Rattle.sms_handset.specs.HandsetEvent.{acted, frame_came, tag_of, ticked}
+use Rattle.sms_handset.specs.HandsetEvent.{acted, frame_received, tag_of, ticked}
 use Rattle.sms_handset.specs.OwnersActs.{count_split, delete, delete_in, delete_out, discard, discard_at, discard_group, discard_in, discard_members, fits_outbox, write, write_part, write_parts, write_split, write_to, written}
 use Rattle.sms_handset.specs.SoundCore.{IsSentFor, IsSoundCore, IsUnderWay}
 use Rattle.sms_handset.specs.declared.event.HandsetEvent.{HandsetEvent}
@@ -93,7 +93,7 @@ use Rattle.sms_handset.proofs.SoundEvents.{timed_out_sound, went_up_sound}
 use Rattle.sms_handset.proofs.SoundTransfers.{IsDue, first_due_is, lapse_settles}
 use Rattle.sms_play.specs.HandsetSide.{entries_given, happened, memories_given}
 use Rattle.sms_play.specs.Premises.{last_holder}
-use Rattle.sms_world.specs.entries.ToldEntries.{AreBelow, EventLaw, TellsEntries}
+use Rattle.sms_world.specs.entries.ReportedEntries.{AreBelow, EventLaw, TellsEntries}
 use Rattle.sms_world.proofs.entries.RowsGiven.{all_reference, appended, carrying_told, copies_told, entries_new, entries_old, entries_removed, last_other, last_over, last_own, memories_over, nothing_more, numbered_told}
 
 -- ---- plain facts of rows
@@ -311,20 +311,20 @@ module _ (h : List ℕ) (given : List GivenRow) (base : List OutEntry) (next : �
   -- ---- what comes
 
   module _ (reference : ℕ) (tag : Holder) (tpdu : List ℕ) where
-    single : (d : Draft) → TellsAt d → TellsAt (single_came reference tag tpdu d)
+    single : (d : Draft) → TellsAt d → TellsAt (single_received reference tag tpdu d)
     single d s = either (has_room d) _ _ (accepts reference tag tpdu (store_single tpdu d) s) (no_room_told reference tag d s)
 
-    new_part : (g : Group) (n : ℕ) (es : List Entry) (d : Draft) → TellsAt d → TellsAt (new_part_came reference tag tpdu g n es d)
+    new_part : (g : Group) (n : ℕ) (es : List Entry) (d : Draft) → TellsAt d → TellsAt (new_part_received reference tag tpdu g n es d)
     new_part g n es d s = either (has_room d) _ _ (accepts reference tag tpdu (store_part g n tpdu es d) (stores_part g n tpdu es d s)) (no_room_told reference tag d s)
 
-    member : (g : Group) (n : ℕ) (es : List Entry) (d : Draft) → TellsAt d → TellsAt (member_came reference tag tpdu g n es d)
+    member : (g : Group) (n : ℕ) (es : List Entry) (d : Draft) → TellsAt d → TellsAt (member_received reference tag tpdu g n es d)
     member g n es d s = either (is_among n (part_numbers es)) _ _ (single d s) (new_part g n es d s)
 
-    part : (g : Group) (n : ℕ) (m : Option DiscardedGroup) (d : Draft) → TellsAt d → TellsAt (part_came reference tag tpdu g n m d)
+    part : (g : Group) (n : ℕ) (m : Option DiscardedGroup) (d : Draft) → TellsAt d → TellsAt (part_received reference tag tpdu g n m d)
     part g n None d s = member g n (members g d.rows.entries) d s
     part g n (Some m) d s = either (is_among n m.seen) _ _ (single d s) (accepts reference tag tpdu (marked n m d) (marks n m d s))
 
-    deliver : (m : DeliverOf) (k : Option ConcatKey) (d : Draft) → TellsAt d → TellsAt (deliver_came reference tag tpdu m k d)
+    deliver : (m : DeliverOf) (k : Option ConcatKey) (d : Draft) → TellsAt d → TellsAt (deliver_received reference tag tpdu m k d)
     deliver m None d s = single d s
     deliver m (Some key) d s = part (group_of m.originating_address key) key.number (mark_of (group_of m.originating_address key) d.rows.marks) d s
 
@@ -333,16 +333,16 @@ module _ (h : List ℕ) (given : List GivenRow) (base : List OutEntry) (next : �
     notes status r (Some o) d e s =
         out_put o (record o { status = Some status }) d (among_found out_key o d.rows.outbox s.order (reported_among r d.rows.outbox o e)) (refl, refl) (λ u. u) s
 
-    tpdu_comes : (t : Result Down TpduFault) (d : Draft) → TellsAt d → TellsAt (tpdu_came reference tag tpdu t d)
+    tpdu_comes : (t : Result Down TpduFault) (d : Draft) → TellsAt d → TellsAt (tpdu_received reference tag tpdu t d)
     tpdu_comes (Ok (Deliver m)) d s = deliver m (key_of m) d s
     tpdu_comes (Ok (StatusReport p)) d s = accepts reference tag tpdu (note p.status (reported p d.rows.outbox) d) (notes p.status p (reported p d.rows.outbox) d refl s)
     tpdu_comes (Ok (SubmitReport p)) d s = refuses reference tag InvalidMandatoryInformation 255 d s
     tpdu_comes (Err fault) d s = refuses reference tag InvalidMandatoryInformation 255 d s
 
-    data_comes : (d : Draft) → TellsAt d → TellsAt (data_came reference tag tpdu d)
+    data_comes : (d : Draft) → TellsAt d → TellsAt (data_received reference tag tpdu d)
     data_comes d s = either (is_double tpdu (row_at last_key reference d.rows.last)) _ _ (acknowledges reference tag d s) (tpdu_comes (down_at InData tpdu) d s)
 
-  unit_comes : (tag : Holder) (unit : List ℕ) (r : Result Rp RelayFault) (d : Draft) → TellsAt d → TellsAt (unit_came tag unit r d)
+  unit_comes : (tag : Holder) (unit : List ℕ) (r : Result Rp RelayFault) (d : Draft) → TellsAt d → TellsAt (unit_received tag unit r d)
   unit_comes tag unit (Ok (DataUnit reference centre tpdu)) d s = data_comes reference tag tpdu d s
   unit_comes tag unit (Ok (AckUnit reference tpdu)) d s = s
   unit_comes tag unit (Ok (ErrorUnit reference cause tpdu)) d s = s
@@ -646,7 +646,7 @@ module _ (h : List ℕ) (given : List GivenRow) (base : List OutEntry) (next : �
       held = λ o i u. ap (λ (z : List GivenRow). last_holder None h Up o.reference z) (nothing_more given) ∙ tells o i u;
     }
 
-    comes : (octets : List ℕ) (tag : Holder) → HoldsAt (frame_came octets tag c)
+    comes : (octets : List ℕ) (tag : Holder) → HoldsAt (frame_received octets tag c)
     comes octets tag =
         let turn : Turn = taken octets (link_of (draft_of c)) in
         let step : Step = take_step octets c.links in

@@ -5,7 +5,7 @@ use Rattle.std.proofs.lemmas.Bool.{both_ways, cases_Bool, cond-false, cond-true}
 use Rattle.std.proofs.lemmas.Slice.Eq.{bytes_eq-Decides}
 use Rattle.sms_base.specs.Among.{Among}
 use Rattle.sms_centre_spec.specs.SoundCore.{AreDifferent}
-use Rattle.sms_play.specs.Course.{Course, Party, numbers_of}
+use Rattle.sms_play.specs.PlayState.{PlayState, Party, numbers_of}
 use Rattle.sms_play.specs.Premises.{all_pairs, pairs_of}
 use Rattle.sms_world_model.specs.PartsOfKey.{is_for, of_key}
 use Rattle.sms_world_model.specs.Place.{Key}
@@ -13,7 +13,7 @@ use Rattle.sms_world_model.specs.World.{Accepted, World}
 use Rattle.sms_world_model.proofs.Keys.{for_is}
 use Rattle.sms_world_model.proofs.Places.{of_key_in, of_key_out}
 use Rattle.sms_world_refinement.specs.handset.PutInOrder.{accepted_at}
-use Rattle.sms_world.specs.refinement.CourseSight.{CourseSees}
+use Rattle.sms_world.specs.refinement.PlayRefinement.{PlayRefines}
 use Rattle.sms_world.proofs.headline.Takers.{TakersThere}
 
 -- ---- one list behind another
@@ -125,7 +125,7 @@ one_of h (n ∷ ns) P f g = ⊎_elim
     one_of h ns P (λ i. f (inr i)) (λ no_one. g (λ i. ⊎_elim (λ (e : h ≡ n). both_ways (bytes_eq h n) t ((bytes_eq-Decides h n).1 e)) (λ (j : Among h ns). no_one j) i)))
     (cases_Bool (bytes_eq h n))
 
-pub same_accepted : (c : Course) (w : World) → CourseSees c w → TakersThere c w → (h : List ℕ) (k : Key) → of_key h k (all_pairs c.parties) ≡ of_key h k w.accepted
+pub same_accepted : (c : PlayState) (w : World) → PlayRefines c w → TakersThere c w → (h : List ℕ) (k : Key) → of_key h k (all_pairs c.parties) ≡ of_key h k w.accepted
 same_accepted c w s takers h k =
     let seen : AreSeen w.accepted c.parties = λ p i. (s.parties p i).accepted in
     one_of h (numbers_of c.parties) (of_key h k (all_pairs c.parties) ≡ of_key h k w.accepted)

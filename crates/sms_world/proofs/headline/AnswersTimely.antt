@@ -23,23 +23,23 @@ use Rattle.sms_script.specs.declared.event.WorldEvent.TheVariants.{Whole, Stoppe
 use Rattle.sms_rows.proofs.table.Tables.{found_among, found_key}
 use Rattle.sms_handset.specs.declared.event.HandsetEvent.{HandsetEvent}
 use Rattle.sms_play.specs.declared.fault.PlayFault.{PlayFault}
-use Rattle.sms_play.specs.Course.{Course, Party, frame_at, party_at}
+use Rattle.sms_play.specs.PlayState.{PlayState, Party, frame_at, party_at}
 use Rattle.sms_play.specs.Meeting.{Meeting, by_handset, delivered, handed_over, meeting_of}
 use Rattle.sms_play.specs.PlayedEvent.{met, played, stopped}
 use Rattle.sms_play.specs.Premises.{giver, hands_timely, is_held_by, is_timely, is_timely_at, is_timely_event, last_holder}
 use Rattle.sms_world.proofs.premises.TimelyFrames.{held_is}
 use Rattle.sms_world_model.specs.ScriptRun.{Event, Handed}
-use Rattle.sms_world_model.specs.Timely.{IsTimely, givings}
-use Rattle.sms_world_model.specs.World.{Carried, Down, Frame, Giving, IsLatest, IsUnfinished, Line, OutEntry, Sent, Up, World}
+use Rattle.sms_world_model.specs.Timely.{IsTimely, allocations}
+use Rattle.sms_world_model.specs.World.{Carried, Down, Frame, Allocation, IsLatest, IsUnfinished, Line, OutEntry, Sent, Up, World}
 use Rattle.sms_world_model.specs.WorldStep.{HasReferenceUp}
 use Rattle.sms_world_model.proofs.Upward.{IsUpward}
 use Rattle.sms_world_refinement.specs.frames.Between.{frame_down, frame_up}
 use Rattle.sms_world_refinement.specs.frames.FramesUp.{line_up}
-use Rattle.sms_world_refinement.specs.handset.SeesOutbox.{state_of}
-use Rattle.sms_world.specs.refinement.CourseSight.{CourseSees, sent_by, sent_row}
+use Rattle.sms_world_refinement.specs.handset.RefinesOutbox.{state_of}
+use Rattle.sms_world.specs.refinement.PlayRefinement.{PlayRefines, sent_by, sent_row}
 use Rattle.sms_world.specs.refinement.Happening.{event_of, happening_of}
 use Rattle.sms_world.proofs.refinement.Bags.{frame_found, row_seen}
-use Rattle.sms_world.proofs.refinement.Events.{ok_course}
+use Rattle.sms_world.proofs.refinement.Events.{ok_play}
 use Rattle.sms_world.proofs.refinement.Parties.{party_found}
 use Rattle.sms_world.proofs.headline.DecidedTimely.{number_by, number_sent, numbered_there, one_number}
 use Rattle.sms_world.proofs.headline.HeldReferences.{AllTell}
@@ -47,7 +47,7 @@ use Rattle.sms_world.proofs.headline.HeldReferences.{AllTell}
 -- an acknowledgement that is handed over, under a reference that an entry holds, is timely
 abbrev pub HandsAnswers : World → Event → Type 0
 HandsAnswers w (Handed n) =
-    (u : Frame) → Among (Carried u) w.bag → u.number ≡ n → u.line ≡ Up → u.kind ≡ Ack → (g : Giving) (e : OutEntry) → HasReferenceUp w u g e → IsTimely w u
+    (u : Frame) → Among (Carried u) w.bag → u.number ≡ n → u.line ≡ Up → u.kind ≡ Ack → (g : Allocation) (e : OutEntry) → HasReferenceUp w u g e → IsTimely w u
 HandsAnswers w _ = Unit {0}
 
 is_open : (p : EntryState) → IsUnfinished (state_of p) → is_unfinished p ≡ true
@@ -63,15 +63,15 @@ some_holder a b e = cc
 same_frame : (u v : Frame) → Carried u ≡ Carried v → u ≡ v
 same_frame u v e = cc
 
-module _ (c : Course) (w : World) (s : CourseSees c w) (tells : AllTell c) (upward : IsUpward w) (u : Frame) (line : u.line ≡ Up) (kind : u.kind ≡ Ack) (g : Giving) (e : OutEntry) (has : HasReferenceUp w u g e) where
-  up_givings : (l : Line) → l ≡ Up → w.up ≡ givings w l
-  up_givings l q = ap (λ (z : Line). givings w z) (sym q)
+module _ (c : PlayState) (w : World) (s : PlayRefines c w) (tells : AllTell c) (upward : IsUpward w) (u : Frame) (line : u.line ≡ Up) (kind : u.kind ≡ Ack) (g : Allocation) (e : OutEntry) (has : HasReferenceUp w u g e) where
+  up_allocations : (l : Line) → l ≡ Up → w.up ≡ allocations w l
+  up_allocations l q = ap (λ (z : Line). allocations w z) (sym q)
 
   -- the entry's row says to whom the reference was given last
   answer_is : (h : List ℕ) (x : Carries) (q : Party) → Among q c.parties → q.number ≡ h → u.handset ≡ h → u.reference ≡ x.reference → u.tag ≡ x.tag
       → last_holder None h UpRow x.reference c.given ≡ Some x.tag → IsTimely w u
   answer_is h x q there number handset reference tag last =
-      let out = (s.parties q there).sees.out in
+      let out = (s.parties q there).refines.out in
       let own : g.handset ≡ q.number = has.1 ∙ handset ∙ sym number in
       let row = out.only e has.0.1 (sym has.0.2 ∙ own) in
       let o : OutRow = row.0 in
@@ -82,7 +82,7 @@ module _ (c : Course) (w : World) (s : CourseSees c w) (tells : AllTell c) (upwa
       let one : x.reference ≡ o.reference = sym reference ∙ sym has.2 ∙ same in
       let holder : x.tag ≡ Entry e.number =
       some_holder x.tag (Entry o.number) (sym last ∙ (λ j. last_holder None (sym number j) UpRow (one j) c.given) ∙ told) ∙ ap (λ (z : ℕ). Entry z) name in
-      (g, (subst (λ (gs : List Giving). IsLatest g gs) (up_givings u.line line) (upward.held g e has.0.0 has.0.1 has.0.2 has.0.3 has.0.4), has.1, has.2, has.0.3 ∙ sym holder ∙ sym tag))
+      (g, (subst (λ (gs : List Allocation). IsLatest g gs) (up_allocations u.line line) (upward.held g e has.0.0 has.0.1 has.0.2 has.0.3 has.0.4), has.1, has.2, has.0.3 ∙ sym holder ∙ sym tag))
 
   abbrev Held : FrameRow → Direction → Carries → Type 0
   Held f side x = is_held_by x.tag (last_holder None f.handset side x.reference c.given) ≡ true
@@ -125,11 +125,11 @@ module _ (c : Course) (w : World) (s : CourseSees c w) (tells : AllTell c) (upwa
 
 -- ---- an event
 
-some_meeting : (r : Result Meeting PlayFault) (f : Meeting → Course) (d : Course) → (r >>= λ (m : Meeting). ok_course (f m)) ≡ ok_course d → (m : Meeting) × (r ≡ Ok m)
+some_meeting : (r : Result Meeting PlayFault) (f : Meeting → PlayState) (d : PlayState) → (r >>= λ (m : Meeting). ok_play (f m)) ≡ ok_play d → (m : Meeting) × (r ≡ Ok m)
 some_meeting (Ok m) f d e = (m, refl)
 some_meeting (Err fault) f d e = absurd cc
 
-hands_act : (n : ℕ) (act : Act) (c : Course) (w : World) (m : Meeting) → CourseSees c w → AllTell c → IsUpward w → hands_timely act c ≡ true → meeting_of n act c ≡ Ok m → HandsAnswers w (event_of act)
+hands_act : (n : ℕ) (act : Act) (c : PlayState) (w : World) (m : Meeting) → PlayRefines c w → AllTell c → IsUpward w → hands_timely act c ≡ true → meeting_of n act c ≡ Ok m → HandsAnswers w (event_of act)
 hands_act n (Submit x) c w m s tells up t q = tt
 hands_act n (Query name id) c w m s tells up t q = tt
 hands_act n (Cancel name id) c w m s tells up t q = tt
@@ -140,7 +140,7 @@ hands_act n (Deliver number) c w m s tells up t q = λ u i own line kind g e has
 hands_act n (Tick Centre now) c w m s tells up t q = tt
 hands_act n (Tick (Handset h) now) c w m s tells up t q = tt
 
-pub hands_answers : (n : ℕ) (e : WorldEvent) (c d : Course) (w : World) (moment : ℕ) → CourseSees c w → AllTell c → IsUpward w → is_timely_event e c ≡ true → played n e c ≡ ok_course d → HandsAnswers w (happening_of e moment).event
+pub hands_answers : (n : ℕ) (e : WorldEvent) (c d : PlayState) (w : World) (moment : ℕ) → PlayRefines c w → AllTell c → IsUpward w → is_timely_event e c ≡ true → played n e c ≡ ok_play d → HandsAnswers w (happening_of e moment).event
 hands_answers n (Whole act) c d w moment s tells up t q = let m = some_meeting (meeting_of n act c) (λ x. met n x c) d q in hands_act n act c w m.0 s tells up t m.1
 hands_answers n (Stopped stop act) c d w moment s tells up t q = let m = some_meeting (meeting_of n act c) (λ x. stopped n act stop x c) d q in hands_act n act c w m.0 s tells up t m.1
 hands_answers n (Restart side) c d w moment s tells up t q = tt

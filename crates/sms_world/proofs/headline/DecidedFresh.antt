@@ -6,23 +6,23 @@ use Rattle.sms_base.specs.declared.holder.Holder.{Holder}
 use Rattle.sms_base.specs.declared.holder.Holder.TheVariants.{Part, Report, Entry, Memory}
 use Rattle.sms_script.specs.declared.report.rows.GivenRow.{GivenRow}
 use Rattle.sms_centre_rows.specs.declared.messages.part.PartRow.{PartRow}
-use Rattle.sms_play.specs.Course.{Course}
-use Rattle.sms_play.specs.Premises.{all_pairs, are_fresh, behind, is_fresh_event, may_begin, newest_first, part_giving as giving_told, part_givings}
+use Rattle.sms_play.specs.PlayState.{PlayState}
+use Rattle.sms_play.specs.Premises.{all_pairs, are_fresh, behind, is_fresh_event, may_begin, newest_first, part_allocation as allocation_told, part_allocations}
 use Rattle.sms_world.proofs.premises.FreshRounds.{begins_decided}
 use Rattle.sms_world_model.specs.Fresh.{AllArrived, FreshParts, SubmitsFresh}
 use Rattle.sms_world_model.specs.Lists.{is_among}
 use Rattle.sms_world_model.specs.PartsOfKey.{is_for, number_in, numbers, of_key}
 use Rattle.sms_world_model.specs.Place.{Key}
-use Rattle.sms_world_model.specs.References.{Ticket, given_parts, part_giving}
+use Rattle.sms_world_model.specs.References.{Ticket, given_parts, part_allocation}
 use Rattle.sms_world_model.specs.Rounds.{rounds, submitted_pairs, with_part_of}
 use Rattle.sms_world_model.specs.Run.{after_item, end}
 use Rattle.sms_world_model.specs.ScriptRun.{items}
 use Rattle.sms_world_model.specs.Submission.{Submission}
-use Rattle.sms_world_model.specs.World.{Accepted, Giving, World, pair_given}
+use Rattle.sms_world_model.specs.World.{Accepted, Allocation, World, pair_given}
 use Rattle.sms_world_model.specs.WorldStep.{Receive, Step, Submit, after}
-use Rattle.sms_world.specs.refinement.TellingLaws.{NoneSubmits, OneSubmits, Submits}
+use Rattle.sms_world.specs.refinement.AllocationLaws.{NoneSubmits, OneSubmits, Submits}
 use Rattle.sms_world.proofs.refinement.Growing.{GrownOnce, in_rest, steps_grow}
-use Rattle.sms_world.specs.refinement.CourseSight.{CourseSees}
+use Rattle.sms_world.specs.refinement.PlayRefinement.{PlayRefines}
 use Rattle.sms_world.proofs.headline.AcceptedPairs.{same_accepted}
 use Rattle.sms_world.proofs.headline.PairsTold.{newest_over, pairs_told}
 use Rattle.sms_world.proofs.headline.Takers.{TakersThere}
@@ -77,20 +77,20 @@ tops_apart (x ∷ xs) (y ∷ ys) zs us n e =
     let head : x ≡ y = same_head x y zs us r.1 in
     ((λ j. head j ∷ r.0 j), same_rest x y zs us r.1)
 
--- ---- givings of parts
+-- ---- allocations of parts
 
-abbrev pairs : List Giving → List Accepted
+abbrev pairs : List Allocation → List Accepted
 pairs [] = []
 pairs (g ∷ gs) = pair_given g ∷ pairs gs
 
-abbrev AreParts : List Giving → Type 0
+abbrev AreParts : List Allocation → Type 0
 AreParts [] = Unit {0}
 AreParts (g ∷ gs) = ((id : ℕ) × (n : ℕ) × (g.holder ≡ Part id n)) × AreParts gs
 
-one_pair : (g : Giving) (down : List Giving) → (id : ℕ) × (n : ℕ) × (g.holder ≡ Part id n) → submitted_pairs (g ∷ down) ≡ pair_given g ∷ submitted_pairs down
+one_pair : (g : Allocation) (down : List Allocation) → (id : ℕ) × (n : ℕ) × (g.holder ≡ Part id n) → submitted_pairs (g ∷ down) ≡ pair_given g ∷ submitted_pairs down
 one_pair g down (id, n, e) = ap (λ (h : Holder). with_part_of h (pair_given g) (submitted_pairs down)) e
 
-all_begin : (gs down : List Giving) (accepted : List Accepted) → AreParts gs → are_fresh gs down accepted ≡ true → AllBegin (pairs gs) (submitted_pairs down) accepted
+all_begin : (gs down : List Allocation) (accepted : List Accepted) → AreParts gs → are_fresh gs down accepted ≡ true → AllBegin (pairs gs) (submitted_pairs down) accepted
 all_begin [] down accepted parts e = tt
 all_begin (g ∷ gs) down accepted parts e =
     let x = and_parts (may_begin (pair_given g) down accepted) (are_fresh gs (g ∷ down) accepted) e in (
@@ -98,32 +98,32 @@ all_begin (g ∷ gs) down accepted parts e =
       subst (λ (z : List Accepted). AllBegin (pairs gs) z accepted) (one_pair g down parts.0) (all_begin gs (g ∷ down) accepted parts.1 x.1),
     )
 
-newest_pairs : (gs down : List Giving) → AreParts gs → submitted_pairs (newest_first down gs) ≡ on_top (pairs gs) (submitted_pairs down)
+newest_pairs : (gs down : List Allocation) → AreParts gs → submitted_pairs (newest_first down gs) ≡ on_top (pairs gs) (submitted_pairs down)
 newest_pairs [] down parts = refl
 newest_pairs (g ∷ gs) down parts = newest_pairs gs (g ∷ down) parts.1 ∙ ap (λ (z : List Accepted). on_top (pairs gs) z) (one_pair g down parts.0)
 
-both_parts : (xs ys : List Giving) → AreParts xs → AreParts ys → AreParts (xs ++ ys)
+both_parts : (xs ys : List Allocation) → AreParts xs → AreParts ys → AreParts (xs ++ ys)
 both_parts [] ys a b = b
 both_parts (x ∷ xs) ys a b = (a.0, both_parts xs ys a.1 b)
 
-told_parts : (rows : List PartRow) (r : GivenRow) (h : Holder) → r.holder ≡ h → AreParts (giving_told rows r h)
+told_parts : (rows : List PartRow) (r : GivenRow) (h : Holder) → r.holder ≡ h → AreParts (allocation_told rows r h)
 told_parts rows r (Part id n) e = ((id, n, e), tt)
 told_parts rows r (Report id) e = tt
 told_parts rows r (Entry n) e = tt
 told_parts rows r (Memory n) e = tt
 
-all_parts : (rows : List PartRow) (given : List GivenRow) → AreParts (part_givings rows given)
+all_parts : (rows : List PartRow) (given : List GivenRow) → AreParts (part_allocations rows given)
 all_parts rows [] = tt
-all_parts rows (r ∷ given) = both_parts (giving_told rows r r.holder) (part_givings rows given) (told_parts rows r r.holder refl) (all_parts rows given)
+all_parts rows (r ∷ given) = both_parts (allocation_told rows r r.holder) (part_allocations rows given) (told_parts rows r r.holder refl) (all_parts rows given)
 
-appended : (xs ys zs : List Giving) → (xs ++ ys) ++ zs ≡ xs ++ (ys ++ zs)
+appended : (xs ys zs : List Allocation) → (xs ++ ys) ++ zs ≡ xs ++ (ys ++ zs)
 appended [] ys zs = refl
-appended (x ∷ xs) ys zs = ap (λ (z : List Giving). x ∷ z) (appended xs ys zs)
+appended (x ∷ xs) ys zs = ap (λ (z : List Allocation). x ∷ z) (appended xs ys zs)
 
-givings_over : (rows : List PartRow) (xs ys : List GivenRow) → part_givings rows (xs ++ ys) ≡ part_givings rows xs ++ part_givings rows ys
-givings_over rows [] ys = refl
-givings_over rows (r ∷ xs) ys =
-    ap (λ (z : List Giving). giving_told rows r r.holder ++ z) (givings_over rows xs ys) ∙ sym (appended (giving_told rows r r.holder) (part_givings rows xs) (part_givings rows ys))
+allocations_over : (rows : List PartRow) (xs ys : List GivenRow) → part_allocations rows (xs ++ ys) ≡ part_allocations rows xs ++ part_allocations rows ys
+allocations_over rows [] ys = refl
+allocations_over rows (r ∷ xs) ys =
+    ap (λ (z : List Allocation). allocation_told rows r r.holder ++ z) (allocations_over rows xs ys) ∙ sym (appended (allocation_told rows r r.holder) (part_allocations rows xs) (part_allocations rows ys))
 
 behind_all : (xs ys : List GivenRow) → behind xs (xs ++ ys) ≡ ys
 behind_all [] ys = refl
@@ -133,15 +133,15 @@ behind_all (x ∷ xs) ys = behind_all xs ys
 
 abbrev ticket_pairs : Submission → ℕ → ℕ → List Ticket → List Accepted
 ticket_pairs s m n [] = []
-ticket_pairs s m n (t ∷ ts) = pair_given (part_giving s m n t) ∷ ticket_pairs s m (suc n) ts
+ticket_pairs s m n (t ∷ ts) = pair_given (part_allocation s m n t) ∷ ticket_pairs s m (suc n) ts
 
-fresh_parts : (s : Submission) (m n : ℕ) (ts : List Ticket) (down : List Giving) (accepted : List Accepted) → AllBegin (ticket_pairs s m n ts) (submitted_pairs down) accepted → FreshParts s m n ts down accepted
+fresh_parts : (s : Submission) (m n : ℕ) (ts : List Ticket) (down : List Allocation) (accepted : List Accepted) → AllBegin (ticket_pairs s m n ts) (submitted_pairs down) accepted → FreshParts s m n ts down accepted
 fresh_parts s m n [] down accepted all = tt
-fresh_parts s m n (t ∷ ts) down accepted all = (all.0, fresh_parts s m (suc n) ts (part_giving s m n t ∷ down) accepted all.1)
+fresh_parts s m n (t ∷ ts) down accepted all = (all.0, fresh_parts s m (suc n) ts (part_allocation s m n t ∷ down) accepted all.1)
 
-parts_pairs : (s : Submission) (m n : ℕ) (ts : List Ticket) (down : List Giving) → submitted_pairs (given_parts s m n ts down) ≡ on_top (ticket_pairs s m n ts) (submitted_pairs down)
+parts_pairs : (s : Submission) (m n : ℕ) (ts : List Ticket) (down : List Allocation) → submitted_pairs (given_parts s m n ts down) ≡ on_top (ticket_pairs s m n ts) (submitted_pairs down)
 parts_pairs s m n [] down = refl
-parts_pairs s m n (t ∷ ts) down = parts_pairs s m (suc n) ts (part_giving s m n t ∷ down)
+parts_pairs s m n (t ∷ ts) down = parts_pairs s m (suc n) ts (part_allocation s m n t ∷ down)
 
 abbrev taken_pairs : ℕ → Step → List Accepted
 taken_pairs m (Submit s ts) = ticket_pairs s m 1 ts
@@ -189,27 +189,27 @@ by_submission w m _ f = tt
 
 -- ---- an event
 
-pub decided_fresh : (c d : Course) (w : World) (m : ℕ) (b : Bool) (steps : List Step) (more : List GivenRow) → CourseSees c w → CourseSees d (end w (items m b steps)) → TakersThere c w → OneSubmits steps
+pub decided_fresh : (c d : PlayState) (w : World) (m : ℕ) (b : Bool) (steps : List Step) (more : List GivenRow) → PlayRefines c w → PlayRefines d (end w (items m b steps)) → TakersThere c w → OneSubmits steps
     → d.given ≡ c.given ++ more → is_fresh_event c d ≡ true → (x : Step) → Among x steps → SubmitsFresh w m x
 decided_fresh c d w m b steps more before later takers one grows fresh x i =
     by_submission w m x (λ is.
     let v : World = end w (items m b steps) in
     let rows : List PartRow = d.centre.rows.parts in
     let once : GrownOnce m w.down v.down = steps_grow w m b steps one in
-    let old : List Giving = newest_first [] (part_givings rows c.given) in
-    let new : List Giving = part_givings rows more in
+    let old : List Allocation = newest_first [] (part_allocations rows c.given) in
+    let new : List Allocation = part_allocations rows more in
     let was : submitted_pairs old ≡ submitted_pairs w.down =
-    pairs_told d v later c.given w.down before.down.parts (λ g j. subst (λ (ds : List Giving). Among g ds) (sym once.grown.is) (in_rest g once.grown.more w.down j)) in
-    let now : submitted_pairs (newest_first [] (part_givings rows d.given)) ≡ submitted_pairs v.down = pairs_told d v later d.given v.down later.down.parts (λ g j. j) in
+    pairs_told d v later c.given w.down before.down.parts (λ g j. subst (λ (ds : List Allocation). Among g ds) (sym once.grown.is) (in_rest g once.grown.more w.down j)) in
+    let now : submitted_pairs (newest_first [] (part_allocations rows d.given)) ≡ submitted_pairs v.down = pairs_told d v later d.given v.down later.down.parts (λ g j. j) in
     let parts : AreParts new = all_parts rows more in
-    let split : newest_first [] (part_givings rows d.given) ≡ newest_first old new =
-    ap (λ (z : List GivenRow). newest_first [] (part_givings rows z)) grows ∙ ap (λ (z : List Giving). newest_first [] z) (givings_over rows c.given more)
-    ∙ newest_over [] (part_givings rows c.given) new in
+    let split : newest_first [] (part_allocations rows d.given) ≡ newest_first old new =
+    ap (λ (z : List GivenRow). newest_first [] (part_allocations rows z)) grows ∙ ap (λ (z : List Allocation). newest_first [] z) (allocations_over rows c.given more)
+    ∙ newest_over [] (part_allocations rows c.given) new in
     let tops : on_top (pairs new) (submitted_pairs w.down) ≡ on_top (taken_pairs m x) (submitted_pairs w.down) =
-    ap (λ (z : List Accepted). on_top (pairs new) z) (sym was) ∙ sym (newest_pairs new old parts) ∙ ap (λ (z : List Giving). submitted_pairs z) (sym split) ∙ now ∙ steps_pairs w m b steps one x i is in
+    ap (λ (z : List Accepted). on_top (pairs new) z) (sym was) ∙ sym (newest_pairs new old parts) ∙ ap (λ (z : List Allocation). submitted_pairs z) (sym split) ∙ now ∙ steps_pairs w m b steps one x i is in
     let same : pairs new ≡ taken_pairs m x = (tops_apart (pairs new) (taken_pairs m x) (submitted_pairs w.down) (submitted_pairs w.down) refl tops).0 in
     let decided : are_fresh new old (all_pairs c.parties) ≡ true =
-    ap (λ (z : List GivenRow). are_fresh (part_givings rows z) old (all_pairs c.parties)) (sym (ap (λ (z : List GivenRow). behind c.given z) grows ∙ behind_all c.given more)) ∙ fresh in
+    ap (λ (z : List GivenRow). are_fresh (part_allocations rows z) old (all_pairs c.parties)) (sym (ap (λ (z : List GivenRow). behind c.given z) grows ∙ behind_all c.given more)) ∙ fresh in
     let all : AllBegin (pairs new) (submitted_pairs old) (all_pairs c.parties) = all_begin new old (all_pairs c.parties) parts decided in
     begin_alike (all_pairs c.parties) w.accepted (same_accepted c w before takers) (taken_pairs m x) (submitted_pairs w.down)
     (subst (λ (z : List Accepted). AllBegin (taken_pairs m x) z (all_pairs c.parties)) was (subst (λ (z : List Accepted). AllBegin z (submitted_pairs old) (all_pairs c.parties)) same all)))

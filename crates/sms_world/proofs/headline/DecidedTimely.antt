@@ -14,20 +14,20 @@ use Rattle.sms_script.specs.declared.event.Act.TheVariants.{Submit, Query, Cance
 use Rattle.sms_script.specs.declared.event.Side.TheVariants.{Centre, Handset}
 use Rattle.sms_script.specs.declared.event.WorldEvent.{WorldEvent}
 use Rattle.sms_script.specs.declared.event.WorldEvent.TheVariants.{Whole, Stopped, Restart}
-use Rattle.sms_play.specs.Course.{Course, frame_at}
+use Rattle.sms_play.specs.PlayState.{PlayState, frame_at}
 use Rattle.sms_play.specs.Premises.{giver, hands_timely, is_held_by, is_timely, is_timely_at, is_timely_event, last_holder}
 use Rattle.sms_world.proofs.premises.TimelyFrames.{held_is}
 use Rattle.sms_world_model.specs.ScriptRun.{Handed}
-use Rattle.sms_world_model.specs.Timely.{IsTimely, givings}
-use Rattle.sms_world_model.specs.World.{Bare, Carried, Down, Frame, Giving, IsLatest, Line, Sent, Up, World, empty}
+use Rattle.sms_world_model.specs.Timely.{IsTimely, allocations}
+use Rattle.sms_world_model.specs.World.{Bare, Carried, Down, Frame, Allocation, IsLatest, Line, Sent, Up, World, empty}
 use Rattle.sms_world_refinement.specs.frames.Between.{frame_down, frame_up}
 use Rattle.sms_world_refinement.specs.frames.FramesDown.{line_down}
 use Rattle.sms_world_refinement.specs.frames.FramesUp.{line_up}
 use Rattle.sms_world_model.proofs.Frames.{Numbered, numbered_run}
-use Rattle.sms_world.specs.refinement.CourseSight.{CourseSees, all_seen, sent_by, sent_row}
+use Rattle.sms_world.specs.refinement.PlayRefinement.{PlayRefines, all_seen, sent_by, sent_row}
 use Rattle.sms_world.specs.refinement.Happening.{event_of, happening_of}
 use Rattle.sms_world.proofs.refinement.Bags.{frame_found, row_seen}
-use Rattle.sms_world.specs.refinement.TellingLaws.{IsReached}
+use Rattle.sms_world.specs.refinement.AllocationLaws.{IsReached}
 use Rattle.sms_world.proofs.refinement.Latest.{latest_is}
 use Rattle.sms_world.proofs.headline.FaithfulRuns.{HandsDown}
 
@@ -79,9 +79,9 @@ record IsOfRow (u : Frame) (f : FrameRow) (x : Carries) : Type 0 where
   reference : u.reference ≡ x.reference
   tag : u.tag ≡ x.tag
 
-module _ (c : Course) (w : World) (s : CourseSees c w) (u : Frame) (line : u.line ≡ Down) where
-  down_givings : (l : Line) → l ≡ Down → w.down ≡ givings w l
-  down_givings l e = ap (λ (z : Line). givings w z) (sym e)
+module _ (c : PlayState) (w : World) (s : PlayRefines c w) (u : Frame) (line : u.line ≡ Down) where
+  down_allocations : (l : Line) → l ≡ Down → w.down ≡ allocations w l
+  down_allocations l e = ap (λ (z : Line). allocations w z) (sym e)
 
   abbrev Held : FrameRow → Direction → Carries → Type 0
   Held f side x = is_held_by x.tag (last_holder None f.handset side x.reference c.given) ≡ true
@@ -89,7 +89,7 @@ module _ (c : Course) (w : World) (s : CourseSees c w) (u : Frame) (line : u.lin
   told_down : (f : FrameRow) (x : Carries) → Held f DownRow x → IsOfRow u f x → IsTimely w u
   told_down f x e k =
       let g = latest_is f.handset x.reference x.tag w.down (sym (s.down.last f.handset x.reference) ∙ held_is x.tag (last_holder None f.handset DownRow x.reference c.given) e) in
-      (g.0, (subst (λ (gs : List Giving). IsLatest g.0 gs) (down_givings u.line line) g.1.0, g.1.1 ∙ sym k.handset, g.1.2 ∙ sym k.reference, g.1.3 ∙ sym k.tag))
+      (g.0, (subst (λ (gs : List Allocation). IsLatest g.0 gs) (down_allocations u.line line) g.1.0, g.1.1 ∙ sym k.handset, g.1.2 ∙ sym k.reference, g.1.3 ∙ sym k.tag))
 
   up_is : (f : FrameRow) (x : Carries) (k : Kind) → u.line ≡ line_up k → Held f (giver UpRow k) x → IsOfRow u f x → IsTimely w u
   up_is f x Data l e k = let bad : Up ≡ Down = sym l ∙ line in absurd cc
@@ -135,7 +135,7 @@ none_found n (x ∷ xs) e f i q = ⊎_elim
     i)
     (cases_Bool (x.number == n))
 
-module _ (c : Course) (w : World) (s : CourseSees c w) (n : ℕ) where
+module _ (c : PlayState) (w : World) (s : PlayRefines c w) (n : ℕ) where
   hands_at : (o : Option FrameRow) → frame_at n c.bag ≡ o → is_timely_at o c.given ≡ true → HandsDown w (Handed n)
   hands_at None e t u i q line = ⊎_elim
       (λ none. absurd none)
@@ -150,7 +150,7 @@ module _ (c : Course) (w : World) (s : CourseSees c w) (n : ℕ) where
       let same : sent_row f ≡ Carried u = one_number w.bag (sent_row f) (Carried u) (numbered_there w s.reached) there i number in
       by_row c w s u line f f.direction f.carried same (held_by c w s u line f f.carried t)
 
-hands_act : (act : Act) (c : Course) (w : World) → CourseSees c w → hands_timely act c ≡ true → HandsDown w (event_of act)
+hands_act : (act : Act) (c : PlayState) (w : World) → PlayRefines c w → hands_timely act c ≡ true → HandsDown w (event_of act)
 hands_act (Submit x) c w s e = tt
 hands_act (Query name id) c w s e = tt
 hands_act (Cancel name id) c w s e = tt
@@ -161,7 +161,7 @@ hands_act (Deliver n) c w s e = hands_at c w s n (frame_at n c.bag) refl e
 hands_act (Tick Centre now) c w s e = tt
 hands_act (Tick (Handset h) now) c w s e = tt
 
-pub hands_down : (e : WorldEvent) (c : Course) (w : World) (m : ℕ) → CourseSees c w → is_timely_event e c ≡ true → HandsDown w (happening_of e m).event
+pub hands_down : (e : WorldEvent) (c : PlayState) (w : World) (m : ℕ) → PlayRefines c w → is_timely_event e c ≡ true → HandsDown w (happening_of e m).event
 hands_down (Whole act) c w m s e = hands_act act c w s e
 hands_down (Stopped stop act) c w m s e = hands_act act c w s e
 hands_down (Restart side) c w m s e = tt

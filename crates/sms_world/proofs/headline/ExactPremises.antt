@@ -7,13 +7,13 @@ use Rattle.sms_script.specs.declared.report.report.Broken.TheVariants.{Reused, T
 use Rattle.sms_script.specs.declared.event.WorldEvent.{WorldEvent}
 use Rattle.sms_play.specs.declared.fault.PlayFault.{PlayFault}
 use Rattle.sms_play.specs.declared.fault.PlayFault.TheVariants.{BadSetup}
-use Rattle.sms_play.specs.Course.{Course}
+use Rattle.sms_play.specs.PlayState.{PlayState}
 use Rattle.sms_play.specs.PlayedEvent.{played}
 use Rattle.sms_play.specs.Playing.{broken_on, or_later, played_on, premises_of}
 use Rattle.sms_play.specs.Premises.{broken_by, is_fresh_event, is_timely_event}
 use Rattle.sms_play.specs.Setups.{beginning, can_be_played}
-use Rattle.sms_world.specs.refinement.CourseRuns.{IfPlayed}
-use Rattle.sms_world.proofs.refinement.Events.{ok_course}
+use Rattle.sms_world.specs.refinement.PlayRuns.{IfPlayed}
+use Rattle.sms_world.proofs.refinement.Events.{ok_play}
 use Rattle.sms_world.specs.headline.Claims.{AllTimely}
 use Rattle.sms_world.specs.headline.DecidedPremises.{AllFresh, Breaks, BreaksFirst, FirstLaw, NoneLaw, Plays}
 
@@ -58,11 +58,11 @@ looked_some n t f (Timely k) l =
 looked_some n t f (Reused k) l =
     ap (λ (x : Bool). looked n x f) l.1 ∙ ap (λ (x : Bool). looked n true x) l.2 ∙ ap (λ (x : ℕ). Some (Reused x)) (sym l.0)
 
-breaks_of : (n : ℕ) (e : WorldEvent) (c d : Course) (b : Broken) → Looks n (is_timely_event e c) (is_fresh_event c d) b → Breaks n e c d b
+breaks_of : (n : ℕ) (e : WorldEvent) (c d : PlayState) (b : Broken) → Looks n (is_timely_event e c) (is_fresh_event c d) b → Breaks n e c d b
 breaks_of n e c d (Timely k) l = l
 breaks_of n e c d (Reused k) l = l
 
-of_breaks : (n : ℕ) (e : WorldEvent) (c d : Course) (b : Broken) → Breaks n e c d b → Looks n (is_timely_event e c) (is_fresh_event c d) b
+of_breaks : (n : ℕ) (e : WorldEvent) (c d : PlayState) (b : Broken) → Breaks n e c d b → Looks n (is_timely_event e c) (is_fresh_event c d) b
 of_breaks n e c d (Timely k) l = l
 of_breaks n e c d (Reused k) l = l
 
@@ -89,54 +89,54 @@ ok_later (Some b) later o e = (Some b, ap (λ (z : Decided). or_later (Some b) z
 
 -- ---- the event that comes first
 
-after_played : {A : Type 0} (r : Result Course PlayFault) (f : Course → Result A PlayFault) (y : A) → (r >>= f) ≡ Ok y → (d : Course) × ((r ≡ ok_course d) × (f d ≡ Ok y))
+after_played : {A : Type 0} (r : Result PlayState PlayFault) (f : PlayState → Result A PlayFault) (y : A) → (r >>= f) ≡ Ok y → (d : PlayState) × ((r ≡ ok_play d) × (f d ≡ Ok y))
 after_played (Ok d) f y e = (d, (refl, e))
 after_played (Err fault) f y e = absurd cc
 
-if_played : (r : Result Course PlayFault) (P : Course → Type 0) → ((d : Course) → r ≡ ok_course d → P d) → IfPlayed r P
+if_played : (r : Result PlayState PlayFault) (P : PlayState → Type 0) → ((d : PlayState) → r ≡ ok_play d → P d) → IfPlayed r P
 if_played (Ok d) P g = g d refl
 if_played (Err fault) P g = tt
 
-at_played : (r : Result Course PlayFault) (P : Course → Type 0) (d : Course) → r ≡ ok_course d → IfPlayed r P → P d
-at_played r P d e h = subst (λ (z : Result Course PlayFault). IfPlayed z P) e h
+at_played : (r : Result PlayState PlayFault) (P : PlayState → Type 0) (d : PlayState) → r ≡ ok_play d → IfPlayed r P → P d
+at_played r P d e h = subst (λ (z : Result PlayState PlayFault). IfPlayed z P) e h
 
 -- it was played, and then the others
-abbrev next : ℕ → WorldEvent → List WorldEvent → Course → Course → Decided
+abbrev next : ℕ → WorldEvent → List WorldEvent → PlayState → PlayState → Decided
 next n e es c d = or_later (broken_by n e c d) (broken_on (n + 1) es d)
 
-behind : (n : ℕ) (e : WorldEvent) (es : List WorldEvent) (c d : Course) → played n e c ≡ ok_course d → broken_on n (e ∷ es) c ≡ next n e es c d
-behind n e es c d q = ap (λ (r : Result Course PlayFault). r >>= λ (x : Course). next n e es c x) q
+behind : (n : ℕ) (e : WorldEvent) (es : List WorldEvent) (c d : PlayState) → played n e c ≡ ok_play d → broken_on n (e ∷ es) c ≡ next n e es c d
+behind n e es c d q = ap (λ (r : Result PlayState PlayFault). r >>= λ (x : PlayState). next n e es c x) q
 
 -- ---- whether it plays
 
-plays_told : (n : ℕ) (es : List WorldEvent) (c : Course) (o : Option Broken) → broken_on n es c ≡ answers o → (d : Course) × (played_on n es c ≡ ok_course d)
+plays_told : (n : ℕ) (es : List WorldEvent) (c : PlayState) (o : Option Broken) → broken_on n es c ≡ answers o → (d : PlayState) × (played_on n es c ≡ ok_play d)
 plays_told n [] c o e = (c, refl)
 plays_told n (x ∷ es) c o e =
-    let p = after_played (played n x c) (λ (d : Course). next n x es c d) o e in
+    let p = after_played (played n x c) (λ (d : PlayState). next n x es c d) o e in
     let l = later_ok (broken_by n x c p.0) (broken_on (n + 1) es p.0) o p.1.1 in
     let r = plays_told (n + 1) es p.0 l.0 l.1 in
-    (r.0, ap (λ (z : Result Course PlayFault). z >>= λ (d : Course). played_on (n + 1) es d) p.1.0 ∙ r.1)
+    (r.0, ap (λ (z : Result PlayState PlayFault). z >>= λ (d : PlayState). played_on (n + 1) es d) p.1.0 ∙ r.1)
 
-told_plays : (n : ℕ) (es : List WorldEvent) (c d : Course) → played_on n es c ≡ ok_course d → (o : Option Broken) × (broken_on n es c ≡ answers o)
+told_plays : (n : ℕ) (es : List WorldEvent) (c d : PlayState) → played_on n es c ≡ ok_play d → (o : Option Broken) × (broken_on n es c ≡ answers o)
 told_plays n [] c d e = (None, refl)
 told_plays n (x ∷ es) c d e =
-    let p = after_played (played n x c) (λ (z : Course). played_on (n + 1) es z) d e in
+    let p = after_played (played n x c) (λ (z : PlayState). played_on (n + 1) es z) d e in
     let r = told_plays (n + 1) es p.0 d p.1.1 in
     let l = ok_later (broken_by n x c p.0) (broken_on (n + 1) es p.0) r.0 r.1 in
     (l.0, behind n x es c p.0 p.1.0 ∙ l.1)
 
 -- ---- both hold
 
-all_timely : (n : ℕ) (es : List WorldEvent) (c : Course) → broken_on n es c ≡ answers None → AllTimely n es c
+all_timely : (n : ℕ) (es : List WorldEvent) (c : PlayState) → broken_on n es c ≡ answers None → AllTimely n es c
 all_timely n [] c e = tt
 all_timely n (x ∷ es) c e =
-    let p = after_played (played n x c) (λ (d : Course). next n x es c d) None e in
+    let p = after_played (played n x c) (λ (d : PlayState). next n x es c d) None e in
     let l = later_none (broken_by n x c p.0) (broken_on (n + 1) es p.0) p.1.1 in (
       (none_looked n (is_timely_event x c) (is_fresh_event c p.0) l.0).0,
       if_played (played n x c) (λ d. AllTimely (n + 1) es d) (λ d q. all_timely (n + 1) es d (later_none (broken_by n x c d) (broken_on (n + 1) es d) (sym (behind n x es c d q) ∙ e)).1),
     )
 
-all_fresh : (n : ℕ) (es : List WorldEvent) (c : Course) → broken_on n es c ≡ answers None → AllFresh n es c
+all_fresh : (n : ℕ) (es : List WorldEvent) (c : PlayState) → broken_on n es c ≡ answers None → AllFresh n es c
 all_fresh n [] c e = tt
 all_fresh n (x ∷ es) c e =
     if_played (played n x c) (λ d. (is_fresh_event c d ≡ true) × AllFresh (n + 1) es d)
@@ -144,10 +144,10 @@ all_fresh n (x ∷ es) c e =
     let l = later_none (broken_by n x c d) (broken_on (n + 1) es d) (sym (behind n x es c d q) ∙ e) in
     ((none_looked n (is_timely_event x c) (is_fresh_event c d) l.0).1, all_fresh (n + 1) es d l.1))
 
-none_told : (n : ℕ) (es : List WorldEvent) (c d : Course) → played_on n es c ≡ ok_course d → AllTimely n es c → AllFresh n es c → broken_on n es c ≡ answers None
+none_told : (n : ℕ) (es : List WorldEvent) (c d : PlayState) → played_on n es c ≡ ok_play d → AllTimely n es c → AllFresh n es c → broken_on n es c ≡ answers None
 none_told n [] c d e t f = refl
 none_told n (x ∷ es) c d e t f =
-    let p = after_played (played n x c) (λ (z : Course). played_on (n + 1) es z) d e in
+    let p = after_played (played n x c) (λ (z : PlayState). played_on (n + 1) es z) d e in
     let later = at_played (played n x c) (λ z. AllTimely (n + 1) es z) p.0 p.1.0 t.1 in
     let fresh = at_played (played n x c) (λ z. (is_fresh_event c z ≡ true) × AllFresh (n + 1) es z) p.0 p.1.0 f in
     behind n x es c p.0 p.1.0
@@ -156,10 +156,10 @@ none_told n (x ∷ es) c d e t f =
 
 -- ---- one is broken
 
-first_breaks : (n : ℕ) (es : List WorldEvent) (c : Course) (b : Broken) → broken_on n es c ≡ answers (Some b) → BreaksFirst n es c b
+first_breaks : (n : ℕ) (es : List WorldEvent) (c : PlayState) (b : Broken) → broken_on n es c ≡ answers (Some b) → BreaksFirst n es c b
 first_breaks n [] c b e = absurd cc
 first_breaks n (x ∷ es) c b e =
-    let p = after_played (played n x c) (λ (d : Course). next n x es c d) (Some b) e in (
+    let p = after_played (played n x c) (λ (d : PlayState). next n x es c d) (Some b) e in (
       p.0,
       (
         p.1.0,
@@ -171,14 +171,14 @@ first_breaks n (x ∷ es) c b e =
       ),
     )
 
-same_played : (r : Result Course PlayFault) (a b : Course) → r ≡ ok_course a → r ≡ ok_course b → a ≡ b
-same_played r a b e q = let both : ok_course a ≡ ok_course b = sym e ∙ q in cc
+same_played : (r : Result PlayState PlayFault) (a b : PlayState) → r ≡ ok_play a → r ≡ ok_play b → a ≡ b
+same_played r a b e q = let both : ok_play a ≡ ok_play b = sym e ∙ q in cc
 
-breaks_told : (n : ℕ) (es : List WorldEvent) (c d : Course) (b : Broken) → played_on n es c ≡ ok_course d → BreaksFirst n es c b → broken_on n es c ≡ answers (Some b)
+breaks_told : (n : ℕ) (es : List WorldEvent) (c d : PlayState) (b : Broken) → played_on n es c ≡ ok_play d → BreaksFirst n es c b → broken_on n es c ≡ answers (Some b)
 breaks_told n [] c d b e k = absurd k
 breaks_told n (x ∷ es) c d b e (z, k) =
-    let p = after_played (played n x c) (λ (y : Course). played_on (n + 1) es y) d e in
-    let plays : played_on (n + 1) es z ≡ ok_course d = subst (λ (y : Course). played_on (n + 1) es y ≡ ok_course d) (same_played (played n x c) p.0 z p.1.0 k.0) p.1.1 in
+    let p = after_played (played n x c) (λ (y : PlayState). played_on (n + 1) es y) d e in
+    let plays : played_on (n + 1) es z ≡ ok_play d = subst (λ (y : PlayState). played_on (n + 1) es y ≡ ok_play d) (same_played (played n x c) p.0 z p.1.0 k.0) p.1.1 in
     behind n x es c z k.0
     ∙ ⊎_elim
     (λ (l : Breaks n x c z b).

@@ -5,8 +5,8 @@ use Rattle.sms_world_model.specs.Run.{Run, after_item, end}
 use Rattle.sms_world_model.specs.ScriptRun.{After, AllControl, AllMayFollow, Asked, Before, Belongs, Cancelled, Event, Follows, Handed, Happening, IsInOrder, Reads, Removed, Restarted, Submitted, Tick_centre, Tick_handset, Went, Whole, Wrote, happened, is_stopped, items}
 use Rattle.std.specs.Prelude.{◌⊎◌}
 use Rattle.sms_world_model.specs.ScriptPremises.{HandsTimely}
-use Rattle.sms_world_model.specs.Timely.{IsTimely, ReadsTimely, Timely, givings}
-use Rattle.sms_world_model.specs.World.{Carried, Down, Frame, Giving, IsLatest, Line, Sent, Up, World, with_frames}
+use Rattle.sms_world_model.specs.Timely.{IsTimely, ReadsTimely, Timely, allocations}
+use Rattle.sms_world_model.specs.World.{Carried, Down, Frame, Allocation, IsLatest, Line, Sent, Up, World, with_frames}
 use Rattle.sms_world_model.specs.WorldStep.{Acknowledged, Again, Can, Control, Fail, Memory_free, Receive, Refuse, Refused, Reject, Settle, Step, Take, Take_again}
 use Rattle.sms_world_model.proofs.Faithful.{IsFaithful, faithful_run, faithful_step}
 use Rattle.sms_world_model.proofs.Runs.{sound_run}
@@ -36,12 +36,12 @@ control_timely w m b (Again u ∷ ss) c = (tt, control_timely (after_item w (rec
 control_timely w m b (Control a ∷ ss) c = (tt, control_timely (after_item w (record { step = Control a; moment = m; stopped = b })) m b ss c.1)
 control_timely w m b (_ ∷ ss) c = absurd c.0
 
-same_givings : (w : World) (bag : List Sent) (l : Line) → givings w l ≡ givings (with_frames bag w) l
-same_givings w bag Down = refl
-same_givings w bag Up = refl
+same_allocations : (w : World) (bag : List Sent) (l : Line) → allocations w l ≡ allocations (with_frames bag w) l
+same_allocations w bag Down = refl
+same_allocations w bag Up = refl
 
 timely_frames : (w : World) (bag : List Sent) (u : Frame) → IsTimely w u → IsTimely (with_frames bag w) u
-timely_frames w bag u (g, x) = (g, (subst (λ (gs : List Giving). IsLatest g gs) (same_givings w bag u.line) x.0, x.1, x.2, x.3))
+timely_frames w bag u (g, x) = (g, (subst (λ (gs : List Allocation). IsLatest g gs) (same_allocations w bag u.line) x.0, x.1, x.2, x.3))
 
 pub stays_timely : (w : World) (m : ℕ) (b : Bool) (ss : List Step) (u : Frame) → AllControl ss → IsTimely w u → IsTimely (end w (items m b ss)) u
 stays_timely w m b [] u c t = t

@@ -8,7 +8,7 @@ use Rattle.sms_base.specs.Reading.{◌>>=◌}
 use Rattle.sms_script.specs.declared.report.rows.JoinedRow.{JoinedRow}
 use Rattle.sms_script.specs.declared.event.WorldEvent.{WorldEvent}
 use Rattle.sms_play.specs.declared.fault.PlayFault.{PlayFault}
-use Rattle.sms_play.specs.Course.{Course, Party}
+use Rattle.sms_play.specs.PlayState.{PlayState, Party}
 use Rattle.sms_play.specs.PlayedEvent.{played}
 use Rattle.sms_play.specs.Playing.{played_on}
 use Rattle.sms_play.specs.Premises.{is_fresh_event, is_timely_event}
@@ -25,12 +25,12 @@ use Rattle.sms_world_model.proofs.Sound.{IsSound}
 use Rattle.sms_world_model.proofs.Wholes.{AllWhole, splits_whole}
 use Rattle.sms_world_refinement.specs.centre_events.TruthfulRows.{pair_in_row}
 use Rattle.sms_world_refinement.specs.handset.PutInOrder.{JoinedText, joined_at, text_of}
-use Rattle.sms_world.specs.refinement.TellingLaws.{OneSubmits}
+use Rattle.sms_world.specs.refinement.AllocationLaws.{OneSubmits}
 use Rattle.sms_world.proofs.refinement.Telling.{sound_there}
-use Rattle.sms_world.specs.refinement.CourseRuns.{AllHandOctets, AreGood, IfPlayed}
-use Rattle.sms_world.specs.refinement.CourseSight.{CourseSees, row_joined, rows_joined}
+use Rattle.sms_world.specs.refinement.PlayRuns.{AllHandOctets, AreGood, IfPlayed}
+use Rattle.sms_world.specs.refinement.PlayRefinement.{PlayRefines, row_joined, rows_joined}
 use Rattle.sms_world.specs.refinement.Happening.{HandsOctets, IsGoodEvent, happening_of}
-use Rattle.sms_world.proofs.refinement.Events.{event_leads, ok_course, same_course}
+use Rattle.sms_world.proofs.refinement.Events.{event_leads, ok_play, same_play}
 use Rattle.sms_world.proofs.refinement.OneSubmission.{played_once}
 use Rattle.sms_world.specs.headline.Claims.{AllTimely, AreJoinedRounds, HaveNoneInCommon, IsJoinedRound, JoinedWhole, rounds_told}
 use Rattle.sms_world.specs.headline.DecidedPremises.{AllFresh}
@@ -47,15 +47,15 @@ use Rattle.sms_world.proofs.headline.WholeRuns.{event_whole}
 
 -- ---- one event, and then the others
 
-abbrev pub Matches : Course → Type 0
-Matches d = (v : World) × (CourseSees d v × IsFaithful v × TakersThere d v × IsMatched v × AllWhole v.table v.down)
+abbrev pub Matches : PlayState → Type 0
+Matches d = (v : World) × (PlayRefines d v × IsFaithful v × TakersThere d v × IsMatched v × AllWhole v.table v.down)
 
 belongs_once : (w : World) (h : Happening) (went : Went) (steps : List Step) → Belongs w h went steps → OneSubmits steps
 belongs_once w h Whole steps b = played_once w h.event steps b
 belongs_once w h After steps b = played_once w h.event steps b
 belongs_once w h Before steps b = subst (λ (ss : List Step). OneSubmits ss) (sym b) tt
 
-event_matches : (n : ℕ) (e : WorldEvent) (c d : Course) (w : World) → CourseSees c w → IsGoodEvent e → HandsOctets e c → is_timely_event e c ≡ true → is_fresh_event c d ≡ true → played n e c ≡ ok_course d
+event_matches : (n : ℕ) (e : WorldEvent) (c d : PlayState) (w : World) → PlayRefines c w → IsGoodEvent e → HandsOctets e c → is_timely_event e c ≡ true → is_fresh_event c d ≡ true → played n e c ≡ ok_play d
     → IsFaithful w → TakersThere c w → IsMatched w → AllWhole w.table w.down → Matches d
 event_matches n e c d w s good octets timely fresh q f takers matched whole =
     let l = event_leads n e c d w s good octets q in
@@ -75,18 +75,18 @@ event_matches n e c d w s good octets timely fresh q f takers matched whole =
       ),
     )
 
-then_matches : (n : ℕ) (e : WorldEvent) (c d : Course) (w : World) (more : Course → Result Course PlayFault) (Octets Timely Fresh : Course → Type 0)
-    → ((x : Course) (v : World) → CourseSees x v → IsFaithful v → TakersThere x v → IsMatched v → AllWhole v.table v.down → Octets x → Timely x → Fresh x → more x ≡ ok_course d → Matches d)
-    → CourseSees c w → IsGoodEvent e → HandsOctets e c → is_timely_event e c ≡ true → IsFaithful w → TakersThere c w → IsMatched w → AllWhole w.table w.down → (r : Result Course PlayFault) → played n e c ≡ r
-    → IfPlayed r Octets → IfPlayed r Timely → IfPlayed r (λ x. (is_fresh_event c x ≡ true) × Fresh x) → (r >>= λ (x : Course). more x) ≡ ok_course d → Matches d
+then_matches : (n : ℕ) (e : WorldEvent) (c d : PlayState) (w : World) (more : PlayState → Result PlayState PlayFault) (Octets Timely Fresh : PlayState → Type 0)
+    → ((x : PlayState) (v : World) → PlayRefines x v → IsFaithful v → TakersThere x v → IsMatched v → AllWhole v.table v.down → Octets x → Timely x → Fresh x → more x ≡ ok_play d → Matches d)
+    → PlayRefines c w → IsGoodEvent e → HandsOctets e c → is_timely_event e c ≡ true → IsFaithful w → TakersThere c w → IsMatched w → AllWhole w.table w.down → (r : Result PlayState PlayFault) → played n e c ≡ r
+    → IfPlayed r Octets → IfPlayed r Timely → IfPlayed r (λ x. (is_fresh_event c x ≡ true) × Fresh x) → (r >>= λ (x : PlayState). more x) ≡ ok_play d → Matches d
 then_matches n e c d w more Octets Timely Fresh go s good octets timely f takers matched whole (Ok x) is later in_time fresh q =
     let y = event_matches n e c x w s good octets timely fresh.0 is f takers matched whole in go x y.0 y.1.0 y.1.1 y.1.2 y.1.3 y.1.4 later in_time fresh.1 q
 then_matches n e c d w more Octets Timely Fresh go s good octets timely f takers matched whole (Err fault) is later in_time fresh q = absurd cc
 
-pub all_match : (n : ℕ) (es : List WorldEvent) (c d : Course) (w : World) → CourseSees c w → AreGood es → AllHandOctets n es c → AllTimely n es c → AllFresh n es c → IsFaithful w → TakersThere c w → IsMatched w
-    → AllWhole w.table w.down → played_on n es c ≡ ok_course d → Matches d
+pub all_match : (n : ℕ) (es : List WorldEvent) (c d : PlayState) (w : World) → PlayRefines c w → AreGood es → AllHandOctets n es c → AllTimely n es c → AllFresh n es c → IsFaithful w → TakersThere c w → IsMatched w
+    → AllWhole w.table w.down → played_on n es c ≡ ok_play d → Matches d
 all_match n [] c d w s good octets timely fresh f takers matched whole q =
-    let same : c ≡ d = same_course c d q in (w, (subst (λ (z : Course). CourseSees z w) same s, f, subst (λ (z : Course). TakersThere z w) same takers, matched, whole))
+    let same : c ≡ d = same_play c d q in (w, (subst (λ (z : PlayState). PlayRefines z w) same s, f, subst (λ (z : PlayState). TakersThere z w) same takers, matched, whole))
 all_match n (e ∷ es) c d w s good octets timely fresh f takers matched whole q =
     then_matches n e c d w (λ x. played_on (n + 1) es x) (λ x. AllHandOctets (n + 1) es x) (λ x. AllTimely (n + 1) es x) (λ x. AllFresh (n + 1) es x)
     (λ x v k g h i u o t r p. all_match (n + 1) es x d v k good.1 o t r g h i u p)
@@ -94,7 +94,7 @@ all_match n (e ∷ es) c d w s good octets timely fresh f takers matched whole q
 
 -- ---- each joined message is one round
 
-module _ (c : Course) (w : World) (s : CourseSees c w) (matched : IsMatched w) (all_whole : AllWhole w.table w.down) (q : Party) (there : Among q c.parties) where
+module _ (c : PlayState) (w : World) (s : PlayRefines c w) (matched : IsMatched w) (all_whole : AllWhole w.table w.down) (q : Party) (there : Among q c.parties) where
   -- what the course tells of rounds is the world's
   same_rounds : (k : Key) → rounds_of q.number k w.down ≡ rounds_told c q k
   same_rounds k = ap (λ (z : List Accepted). rounds (of_key q.number k z)) (sym (pairs_told c w s c.given w.down s.down.parts (λ g i. i)))
@@ -195,7 +195,7 @@ module _ (c : Course) (w : World) (s : CourseSees c w) (matched : IsMatched w) (
     rounds_apart gs rs all.1 o.1,
   )
 
-pub joined_whole : (c : Course) (w : World) → CourseSees c w → IsFaithful w → IsMatched w → AllWhole w.table w.down → JoinedWhole c
+pub joined_whole : (c : PlayState) (w : World) → PlayRefines c w → IsFaithful w → IsMatched w → AllWhole w.table w.down → JoinedWhole c
 joined_whole c w s f matched whole q there =
     let all = all_rounds c w s matched whole q there w.joined (λ j i. i) in
     let placed = placed_there w s.reached in (

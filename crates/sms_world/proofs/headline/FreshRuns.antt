@@ -7,7 +7,7 @@ use Rattle.sms_world_model.specs.Run.{Run, after_item, end}
 use Rattle.sms_world_model.specs.ScriptRun.{After, AllControl, AllMayFollow, AllWrite, Asked, Before, Belongs, Cancelled, Event, Follows, Handed, Happening, IsControl, IsExpiry, IsInOrder, IsOwn, IsPlayed, MayFollow, Reads, Removed, Restarted, Submitted, Tick_centre, Tick_handset, Went, Whole, Wrote, items}
 use Rattle.sms_world_model.specs.Submission.{Submission}
 use Rattle.sms_world_model.specs.Timely.{IsTimely}
-use Rattle.sms_world_model.specs.World.{Accepted, Carried, Frame, Giving, OutEntry, World}
+use Rattle.sms_world_model.specs.World.{Accepted, Carried, Frame, Allocation, OutEntry, World}
 use Rattle.sms_world_model.specs.WorldStep.{Can, Delete, Receive, Remove, Status, Step, Submit, Take, after}
 use Rattle.sms_world_model.proofs.Faithful.{IsFaithful, faithful_run, faithful_step}
 use Rattle.sms_world_model.proofs.Joins.{IsMatched, joins_step}
@@ -101,8 +101,8 @@ control_leaves w m b (s ∷ ss) c =
 
 -- so what was fresh before them is so behind them
 pub still_fresh : (w v : World) (m : ℕ) (s : Step) → v.down ≡ w.down → v.accepted ≡ w.accepted → SubmitsFresh w m s → SubmitsFresh v m s
-still_fresh w v m (Submit s ts) e q f = subst (λ (z : List Giving × List Accepted). FreshParts s m 1 ts z.0 z.1) (λ j. (sym e j, sym q j)) f
-still_fresh w v m (Receive u s ts) e q f = subst (λ (z : List Giving × List Accepted). FreshParts s m 1 ts z.0 z.1) (λ j. (sym e j, sym q j)) f
+still_fresh w v m (Submit s ts) e q f = subst (λ (z : List Allocation × List Accepted). FreshParts s m 1 ts z.0 z.1) (λ j. (sym e j, sym q j)) f
+still_fresh w v m (Receive u s ts) e q f = subst (λ (z : List Allocation × List Accepted). FreshParts s m 1 ts z.0 z.1) (λ j. (sym e j, sym q j)) f
 still_fresh w v m _ e q f = tt
 
 -- ---- an event's own step

@@ -8,8 +8,8 @@ use Rattle.sms_centre_rows.specs.declared.reports.delivery.Delivery.{Delivery}
 use Rattle.sms_script.specs.declared.event.Act.{Act}
 use Rattle.sms_script.specs.declared.event.Side.{Side}
 use Rattle.sms_script.specs.declared.event.Side.TheVariants.{Centre, Handset}
-use Rattle.sms_script.specs.declared.event.Stop.{Stop}
-use Rattle.sms_script.specs.declared.event.Stop.TheVariants.{Before, After}
+use Rattle.sms_script.specs.declared.event.StopPoint.{StopPoint}
+use Rattle.sms_script.specs.declared.event.StopPoint.TheVariants.{Before, After}
 use Rattle.sms_script.specs.declared.event.WorldEvent.{WorldEvent}
 use Rattle.sms_script.specs.declared.event.WorldEvent.TheVariants.{Whole, Stopped, Restart}
 use Rattle.sms_centre_spec.specs.CentreEvent.{happened as centre_happened}
@@ -22,14 +22,14 @@ use Rattle.sms_handset.specs.declared.refusal.Refusal.{Refusal}
 use Rattle.sms_handset_draft.specs.Draft.{Draft}
 use Rattle.sms_play.specs.declared.fault.PlayFault.{PlayFault}
 use Rattle.sms_play.specs.CentreSide.{accepted_after, centre_meets, done as centre_done, given_by as centre_given, told as centre_told, whole as centre_whole}
-use Rattle.sms_play.specs.Course.{Course, Party, answer, party_at}
+use Rattle.sms_play.specs.PlayState.{PlayState, Party, answer, party_at}
 use Rattle.sms_play.specs.HandsetSide.{given_by, handset_meets, happened, is_owners, told, whole}
 use Rattle.sms_play.specs.Meeting.{AtCentre, AtHandset, Meeting, is_answered, meeting_of}
 use Rattle.sms_play.specs.PlayedEvent.{handset_kept, handset_restarted, handset_restarts, kept, met, played, restart, restarted, stopped}
-use Rattle.sms_world.proofs.refinement.Events.{ok_course, same_course}
+use Rattle.sms_world.proofs.refinement.Events.{ok_play, same_play}
 
 -- these rows, and more behind them
-abbrev GoesOn : List GivenRow → Course → Type 0
+abbrev GoesOn : List GivenRow → PlayState → Type 0
 GoesOn rows c = (more : List GivenRow) × (c.given ≡ rows ++ more)
 
 appended : (xs ys zs : List GivenRow) → (xs ++ ys) ++ zs ≡ xs ++ (ys ++ zs)
@@ -46,85 +46,85 @@ module _ (rows : List GivenRow) (n : ℕ) where
 
   -- ---- the centre
 
-  accepted_on : (d : CentreDraft) (most : ℕ) (waiting : List Delivery) (c : Course) → GoesOn rows c → GoesOn rows (accepted_after d most waiting c)
+  accepted_on : (d : CentreDraft) (most : ℕ) (waiting : List Delivery) (c : PlayState) → GoesOn rows c → GoesOn rows (accepted_after d most waiting c)
   accepted_on d zero waiting c k = k
   accepted_on d (suc most) [] c k = k
   accepted_on d (suc most) (x ∷ waiting) c k =
       let e : CentreDraft = centre_happened (DeliverAnswered x.session x.id true) c.centre in
-      accepted_on e most (waiting ++ e.desk.deliveries) (centre_done e c) (more_rows c.given (centre_given e) k)
+      accepted_on e most (waiting ++ e.bindings.deliveries) (centre_done e c) (more_rows c.given (centre_given e) k)
 
-  centre_told_on : (a : Option CentreAnswer) (c : Course) → GoesOn rows c → GoesOn rows (centre_told n a c)
+  centre_told_on : (a : Option CentreAnswer) (c : PlayState) → GoesOn rows c → GoesOn rows (centre_told n a c)
   centre_told_on None c k = k
   centre_told_on (Some a) c k = k
 
-  centre_on : (e : CentreEvent) (c : Course) → GoesOn rows c → GoesOn rows (centre_meets n e c)
+  centre_on : (e : CentreEvent) (c : PlayState) → GoesOn rows c → GoesOn rows (centre_meets n e c)
   centre_on e c k =
       let d : CentreDraft = centre_happened e c.centre in
-      centre_told_on d.answer (centre_whole d c) (accepted_on d _ d.desk.deliveries (centre_done d c) (more_rows c.given (centre_given d) k))
+      centre_told_on d.answer (centre_whole d c) (accepted_on d _ d.bindings.deliveries (centre_done d c) (more_rows c.given (centre_given d) k))
 
   -- ---- a handset
 
-  whole_on : (p : Party) (r : Result Draft Refusal) (c : Course) → GoesOn rows c → GoesOn rows (whole p r c)
+  whole_on : (p : Party) (r : Result Draft Refusal) (c : PlayState) → GoesOn rows c → GoesOn rows (whole p r c)
   whole_on p (Ok d) c k = more_rows c.given (given_by p d) k
   whole_on p (Err refusal) c k = k
 
-  kept_on : (p : Party) (r : Result Draft Refusal) (c : Course) → GoesOn rows c → GoesOn rows (handset_kept p r c)
+  kept_on : (p : Party) (r : Result Draft Refusal) (c : PlayState) → GoesOn rows c → GoesOn rows (handset_kept p r c)
   kept_on p (Ok d) c k = more_rows c.given (given_by p d) k
   kept_on p (Err refusal) c k = k
 
-  told_on : (r : Result Draft Refusal) (c : Course) → GoesOn rows c → GoesOn rows (told n r c)
+  told_on : (r : Result Draft Refusal) (c : PlayState) → GoesOn rows c → GoesOn rows (told n r c)
   told_on (Ok d) c k = k
   told_on (Err refusal) c k = k
 
-  handset_on : (p : Party) (e : HandsetEvent) (c : Course) → GoesOn rows c → GoesOn rows (handset_meets n p e c)
+  handset_on : (p : Party) (e : HandsetEvent) (c : PlayState) → GoesOn rows c → GoesOn rows (handset_meets n p e c)
   handset_on p e c k =
       let r : Result Draft Refusal = happened e p.core in
       let w : GoesOn rows (whole p r c) = whole_on p r c k in
-      cond_both (is_owners e) (told n r (whole p r c)) (whole p r c) (λ (z : Course). GoesOn rows z) (λ t. told_on r (whole p r c) w) (λ t. w)
+      cond_both (is_owners e) (told n r (whole p r c)) (whole p r c) (λ (z : PlayState). GoesOn rows z) (λ t. told_on r (whole p r c) w) (λ t. w)
 
   -- ---- restarts and stops
 
-  restarted_on : (o : Option Party) (c : Course) → GoesOn rows c → GoesOn rows (handset_restarted o c)
+  restarted_on : (o : Option Party) (c : PlayState) → GoesOn rows c → GoesOn rows (handset_restarted o c)
   restarted_on None c k = k
   restarted_on (Some p) c k = k
 
-  back_on : (m : Meeting) (c : Course) → GoesOn rows c → GoesOn rows (restarted m c)
+  back_on : (m : Meeting) (c : PlayState) → GoesOn rows c → GoesOn rows (restarted m c)
   back_on (AtCentre e) c k = k
   back_on (AtHandset p e) c k = restarted_on (party_at p.number c.parties) c k
 
-  stop_on : (stop : Stop) (m : Meeting) (c : Course) → GoesOn rows c → GoesOn rows (kept stop m c)
+  stop_on : (stop : StopPoint) (m : Meeting) (c : PlayState) → GoesOn rows c → GoesOn rows (kept stop m c)
   stop_on Before m c k = k
   stop_on After (AtCentre e) c k = more_rows c.given (centre_given (centre_happened e c.centre)) k
   stop_on After (AtHandset p e) c k = kept_on p (happened e p.core) c k
 
-  stopped_on : (act : Act) (stop : Stop) (m : Meeting) (c : Course) → GoesOn rows c → GoesOn rows (stopped n act stop m c)
+  stopped_on : (act : Act) (stop : StopPoint) (m : Meeting) (c : PlayState) → GoesOn rows c → GoesOn rows (stopped n act stop m c)
   stopped_on act stop m c k =
-      let d : Course = restarted m (kept stop m c) in
+      let d : PlayState = restarted m (kept stop m c) in
       let o : GoesOn rows d = back_on m (kept stop m c) (stop_on stop m c k) in
-      cond_both (is_answered act) (answer n AnsweredStopped d) d (λ (z : Course). GoesOn rows z) (λ t. o) (λ t. o)
+      cond_both (is_answered act) (answer n AnsweredStopped d) d (λ (z : PlayState). GoesOn rows z) (λ t. o) (λ t. o)
 
-  met_on : (m : Meeting) (c : Course) → GoesOn rows c → GoesOn rows (met n m c)
+  met_on : (m : Meeting) (c : PlayState) → GoesOn rows c → GoesOn rows (met n m c)
   met_on (AtCentre e) c k = centre_on e c k
   met_on (AtHandset p e) c k = handset_on p e c k
 
   -- ---- each event
 
-  then_on : (r : Result Meeting PlayFault) (f : Meeting → Course) (d : Course) → ((m : Meeting) → GoesOn rows (f m)) → (r >>= λ (m : Meeting). ok_course (f m)) ≡ ok_course d → GoesOn rows d
-  then_on (Ok m) f d g e = subst (λ (z : Course). GoesOn rows z) (same_course (f m) d e) (g m)
+  then_on : (r : Result Meeting PlayFault) (f : Meeting → PlayState) (d : PlayState) → ((m : Meeting) → GoesOn rows (f m)) → (r >>= λ (m : Meeting). ok_play (f m)) ≡ ok_play d → GoesOn rows d
+  then_on (Ok m) f d g e = subst (λ (z : PlayState). GoesOn rows z) (same_play (f m) d e) (g m)
   then_on (Err fault) f d g e = absurd cc
 
-  handset_back : (o : Option Party) (c d : Course) → GoesOn rows c → handset_restarts n o c ≡ Ok d → GoesOn rows d
+  handset_back : (o : Option Party) (c d : PlayState) → GoesOn rows c → handset_restarts n o c ≡ Ok d → GoesOn rows d
   handset_back None c d k q = absurd cc
-  handset_back (Some p) c d k q = subst (λ (z : Course). GoesOn rows z) (same_course _ d q) k
+  handset_back (Some p) c d k q = subst (λ (z : PlayState). GoesOn rows z) (same_play _ d q) k
 
-  side_back : (side : Side) (c d : Course) → GoesOn rows c → restart n side c ≡ Ok d → GoesOn rows d
-  side_back Centre c d k q = subst (λ (z : Course). GoesOn rows z) (same_course _ d q) k
+  side_back : (side : Side) (c d : PlayState) → GoesOn rows c → restart n side c ≡ Ok d → GoesOn rows d
+  side_back Centre c d k q = subst (λ (z : PlayState). GoesOn rows z) (same_play _ d q) k
   side_back (Handset h) c d k q = handset_back (party_at h c.parties) c d k q
 
-  event_on : (e : WorldEvent) (c d : Course) → GoesOn rows c → played n e c ≡ ok_course d → GoesOn rows d
+  event_on : (e : WorldEvent) (c d : PlayState) → GoesOn rows c → played n e c ≡ ok_play d → GoesOn rows d
   event_on (Whole act) c d k q = then_on (meeting_of n act c) (λ m. met n m c) d (λ m. met_on m c k) q
   event_on (Stopped stop act) c d k q = then_on (meeting_of n act c) (λ m. stopped n act stop m c) d (λ m. stopped_on act stop m c k) q
   event_on (Restart side) c d k q = side_back side c d k q
 
-pub given_grows : (n : ℕ) (e : WorldEvent) (c d : Course) → played n e c ≡ ok_course d → (more : List GivenRow) × (d.given ≡ c.given ++ more)
+pub given_grows : (n : ℕ) (e : WorldEvent) (c d : PlayState) → played n e c ≡ ok_play d → (more : List GivenRow) × (d.given ≡ c.given ++ more)
 given_grows n e c d q = event_on c.given n e c d ([], nothing c.given) q

@@ -4,20 +4,20 @@ use Rattle.sms_base.specs.Among.{Among}
 use Rattle.sms_script.specs.declared.report.rows.Direction.{Direction}
 use Rattle.sms_script.specs.declared.report.rows.Direction.TheVariants.{Down}
 use Rattle.sms_script.specs.declared.report.rows.GivenRow.{GivenRow}
-use Rattle.sms_play.specs.Course.{Course}
+use Rattle.sms_play.specs.PlayState.{PlayState}
 use Rattle.sms_play.specs.Premises.{is_same_side}
-use Rattle.sms_world_model.specs.World.{Giving, World}
+use Rattle.sms_world_model.specs.World.{Allocation, World}
 use Rattle.sms_world_model.proofs.Faithful.{given_same}
 use Rattle.sms_world_model.proofs.Sound.{IsSound}
-use Rattle.sms_world.specs.refinement.ToldGivings.{HoldersDiffer, IsDown, IsToldOf}
+use Rattle.sms_world.specs.refinement.ReportedAllocations.{HoldersDiffer, IsDown, IsToldOf}
 use Rattle.sms_world.proofs.refinement.Telling.{sound_there}
-use Rattle.sms_world.specs.refinement.CourseSight.{CourseSees}
+use Rattle.sms_world.specs.refinement.PlayRefinement.{PlayRefines}
 use Rattle.sms_world.specs.headline.Claims.{GivenOnce}
 
 is_down : (d : Direction) → d ≡ Down → is_same_side d Down ≡ true
 is_down d e = ap (λ (z : Direction). is_same_side z Down) e
 
-rows_once : (w : World) → IsSound w → (rows : List GivenRow) → ((g : GivenRow) → Among g rows → IsDown g → (x : Giving) × (Among x w.down × IsToldOf g x)) → HoldersDiffer rows → GivenOnce rows
+rows_once : (w : World) → IsSound w → (rows : List GivenRow) → ((g : GivenRow) → Among g rows → IsDown g → (x : Allocation) × (Among x w.down × IsToldOf g x)) → HoldersDiffer rows → GivenOnce rows
 rows_once w sound [] each differ = tt
 rows_once w sound (g ∷ rows) each differ = (
   λ y i a b handset reference moment.
@@ -25,9 +25,9 @@ rows_once w sound (g ∷ rows) each differ = (
       let z = each y (inr i) (is_down y.direction b) in
       let same : x.0 ≡ z.0 =
       given_same w.down x.0 z.0 sound.given x.1.0 z.1.0 (x.1.1.handset ∙ handset ∙ sym z.1.1.handset) (x.1.1.reference ∙ reference ∙ sym z.1.1.reference) (x.1.1.moment ∙ moment ∙ sym z.1.1.moment) in
-      differ.0 (is_down g.direction a) y i (is_down y.direction b) (sym x.1.1.holder ∙ ap (λ (v : Giving). v.holder) same ∙ z.1.1.holder),
+      differ.0 (is_down g.direction a) y i (is_down y.direction b) (sym x.1.1.holder ∙ ap (λ (v : Allocation). v.holder) same ∙ z.1.1.holder),
   rows_once w sound rows (λ y i. each y (inr i)) differ.1,
 )
 
-pub given_once : (c : Course) (w : World) → CourseSees c w → GivenOnce c.given
+pub given_once : (c : PlayState) (w : World) → PlayRefines c w → GivenOnce c.given
 given_once c w s = rows_once w (sound_there w s.reached) c.given s.down.each s.down.differ

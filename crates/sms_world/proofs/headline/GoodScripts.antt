@@ -21,12 +21,12 @@ use Rattle.sms_script.specs.declared.event.WorldEvent.TheVariants.{Whole, Stoppe
 use Rattle.sms_script.specs.declared.fault.LineFault.{LineFault}
 use Rattle.sms_script.specs.declared.fault.LineFault.TheVariants.{BadLine}
 use Rattle.sms_script.specs.declared.script.Script.{Script}
-use Rattle.sms_script.specs.declared.setup.Account.{Account}
+use Rattle.sms_script.specs.declared.setup.AccountSetup.{AccountSetup}
 use Rattle.sms_script.specs.declared.setup.HandsetSetup.{HandsetSetup}
 use Rattle.sms_script.proofs.ScriptLaws.{script_found}
-use Rattle.sms_world.specs.refinement.CourseRuns.{AreGood}
+use Rattle.sms_world.specs.refinement.PlayRuns.{AreGood}
 use Rattle.sms_world.specs.refinement.Happening.{IsGoodAct, IsGoodEvent, IsGoodTick}
-use Rattle.sms_world.proofs.headline.OctetCourses.{AreTexts, IsTextAct, IsTextEvent}
+use Rattle.sms_world.proofs.headline.OctetPlays.{AreTexts, IsTextAct, IsTextEvent}
 
 abbrev read : ℕ → Result ℕ LineFault
 read n = Ok n
@@ -134,10 +134,10 @@ rest [] = []
 rest (x ∷ []) = []
 rest (x ∷ y ∷ zs) = zs
 
-abbrev script_of : ℕ → List ℕ → List Account → List HandsetSetup → List WorldEvent → Script
+abbrev script_of : ℕ → List ℕ → List AccountSetup → List HandsetSetup → List WorldEvent → Script
 script_of start centre accounts handsets events = record { setup = record { start = start; centre = centre; accounts = accounts; handsets = handsets }; events = events }
 
-in_lines : (start : ℕ) (centre : List ℕ) (accounts : List Account) (handsets : List HandsetSetup) (events : List WorldEvent) (x : WorldEvent) → Among x events
+in_lines : (start : ℕ) (centre : List ℕ) (accounts : List AccountSetup) (handsets : List HandsetSetup) (events : List WorldEvent) (x : WorldEvent) → Among x events
     → Among (event_line x) (rest (script_lines (script_of start centre accounts handsets events)))
 in_lines start centre [] [] events x i = in_map event_line x events i
 in_lines start centre [] (h ∷ hs) events x i = inr (in_lines start centre [] hs events x i)

@@ -12,17 +12,17 @@ use Rattle.sms_centre_rows.specs.declared.reports.report.ReportKind.{ReportKind}
 use Rattle.sms_rows.proofs.table.Tables.{among_found, found_key}
 use Rattle.sms_tpdu.specs.MoreMessages.{compared}
 use Rattle.sms_world_model.specs.Agreement.{HeldDiffer as WorldHeldDiffer}
-use Rattle.sms_world_model.specs.World.{Giving, IsHeld, IsUnanswered, Pending, Stands, State, World}
+use Rattle.sms_world_model.specs.World.{Allocation, IsHeld, IsUnanswered, Pending, IsRecorded, State, World}
 use Rattle.sms_world_refinement.proofs.centre.ByOctets.{by_octet_is}
-use Rattle.sms_world_refinement.specs.centre.CentreSight.{CentreSees}
-use Rattle.sms_world_refinement.specs.centre.SeesGiven.{given_part, given_report}
-use Rattle.sms_world_refinement.specs.centre.SeesMessages.{IsStateOf, PartSeen, part_seen, parts_by}
-use Rattle.sms_world_refinement.specs.centre.SeesReports.{ReportSeen, report_seen, reports_by}
+use Rattle.sms_world_refinement.specs.centre.CentreRefinement.{CentreRefines}
+use Rattle.sms_world_refinement.specs.centre.RefinesGiven.{given_part, given_report}
+use Rattle.sms_world_refinement.specs.centre.RefinesMessages.{IsStateOf, PartSeen, part_seen, parts_by}
+use Rattle.sms_world_refinement.specs.centre.RefinesReports.{ReportSeen, report_seen, reports_by}
 use Rattle.sms_world.specs.headline.Claims.{Holds}
 
 -- the world holds it, for the same
 abbrev IsHeldFor : World → List ℕ → ℕ → Holder → Type 0
-IsHeldFor w h r holder = (g : Giving) × (IsHeld w g × (g.handset ≡ h) × (g.reference ≡ r) × (g.holder ≡ holder))
+IsHeldFor w h r holder = (g : Allocation) × (IsHeld w g × (g.handset ≡ h) × (g.reference ≡ r) × (g.holder ≡ holder))
 
 not_done : true ≡ false → ⊥
 not_done e = absurd cc
@@ -30,7 +30,7 @@ not_done e = absurd cc
 small_number : (n : ℕ) → n ≤ 20 → n < 256
 small_number n l = omega (arith, l)
 
-module _ (c : Core) (w : World) (sound : IsSoundCore c) (s : CentreSees w (draft_of c) w) where
+module _ (c : Core) (w : World) (sound : IsSoundCore c) (s : CentreRefines w (draft_of c) w) where
   part_held : (h : List ℕ) (r id number : ℕ) → Holds c.rows h r (Part id number) → IsHeldFor w h r (Part id number)
   part_held h r id number (p, m, x) =
       let small : p.number < 256 = small_number p.number ((sound.rows.messages.each_part p x.0).few) in
@@ -42,13 +42,13 @@ module _ (c : Core) (w : World) (sound : IsSoundCore c) (s : CentreSees w (draft
       let own : m.id ≡ id = found_key message_key id m c.rows.messages x.5 in
       let y = s.rows.table.there id m x.5 in
       let pending : IsStateOf None (parts_by c.rows.parts id) y.1 = subst (λ (o : Option FinalState). IsStateOf o (parts_by c.rows.parts id) y.1) x.6 y.2.2 in
-      let stands : Stands w.table id y.0 (Pending pending.0) =
-      subst (λ (k : ℕ). Stands w.table k y.0 (Pending pending.0)) own (subst (λ (z : State). Stands w.table m.id y.0 z) pending.1.0 y.2.0) in
+      let stands : IsRecorded w.table id y.0 (Pending pending.0) =
+      subst (λ (k : ℕ). IsRecorded w.table k y.0 (Pending pending.0)) own (subst (λ (z : State). IsRecorded w.table m.id y.0 z) pending.1.0 y.2.0) in
       let open_one : IsUnanswered w.table w.reports (Part id number) =
       (y.0, pending.0, (stands, λ i. not_done (sym ((pending.1.1 number seen there).1 i) ∙ x.4))) in
       let mine : given_part m number seen g.0 ≡ record (given_part m number seen g.0) { holder = Part id number } = λ j. record (given_part m number seen g.0) { holder = Part (own j) number } in (
         record (given_part m number seen g.0) { holder = Part id number },
-        ((subst (λ (z : Giving). Among z w.down) mine g.1, open_one), x.7, x.3, refl),
+        ((subst (λ (z : Allocation). Among z w.down) mine g.1, open_one), x.7, x.3, refl),
       )
 
   report_held : (h : List ℕ) (r id : ℕ) → Holds c.rows h r (Report id) → IsHeldFor w h r (Report id)
@@ -60,7 +60,7 @@ module _ (c : Core) (w : World) (sound : IsSoundCore c) (s : CentreSees w (draft
       let status : is_status q.kind ≡ true = ap (λ (k : ReportKind). is_status k) x.1 in
       let mine : given_report m r tpdu g.0 ≡ record (given_report m r tpdu g.0) { holder = Report id } = λ j. record (given_report m r tpdu g.0) { holder = Report (own j) } in (
         record (given_report m r tpdu g.0) { holder = Report id },
-        ((subst (λ (z : Giving). Among z w.down) mine g.1, s.rows.reports.still id seen there status x.2), x.4, refl, refl),
+        ((subst (λ (z : Allocation). Among z w.down) mine g.1, s.rows.reports.still id seen there status x.2), x.4, refl, refl),
       )
 
   held_for : (h : List ℕ) (r : ℕ) (a : Holder) → Holds c.rows h r a → IsHeldFor w h r a

@@ -30,8 +30,8 @@ use Rattle.sms_script.specs.declared.event.Act.{Act}
 use Rattle.sms_script.specs.declared.event.Act.TheVariants.{Submit as SubmitAct, Query, Cancel, Write as WriteAct, Delete as DeleteAct, Discard as DiscardAct, Deliver, Tick as TickAct}
 use Rattle.sms_script.specs.declared.event.Side.{Side}
 use Rattle.sms_script.specs.declared.event.Side.TheVariants.{Centre, Handset}
-use Rattle.sms_script.specs.declared.event.Stop.{Stop}
-use Rattle.sms_script.specs.declared.event.Stop.TheVariants.{Before, After}
+use Rattle.sms_script.specs.declared.event.StopPoint.{StopPoint}
+use Rattle.sms_script.specs.declared.event.StopPoint.TheVariants.{Before, After}
 use Rattle.sms_script.specs.declared.event.WorldEvent.{WorldEvent}
 use Rattle.sms_script.specs.declared.event.WorldEvent.TheVariants.{Whole, Stopped, Restart}
 use Rattle.sms_rows.specs.declared.table.change.Change.{Change}
@@ -51,16 +51,16 @@ use Rattle.sms_handset.specs.declared.refusal.Refusal.{Refusal}
 use Rattle.sms_handset_draft.specs.Draft.{Draft, recovered}
 use Rattle.sms_play.specs.declared.fault.PlayFault.{PlayFault}
 use Rattle.sms_play.specs.CentreSide.{accepted_after, centre_meets, done as centre_done, given_by as centre_given, parts_given, report_given, reports_given, source_in, told as centre_told, whole as centre_whole}
-use Rattle.sms_play.specs.Course.{Course, Party, answer, frame_at, numbers_of, party_at, with_party}
+use Rattle.sms_play.specs.PlayState.{PlayState, Party, answer, frame_at, numbers_of, party_at, with_party}
 use Rattle.sms_play.specs.HandsetSide.{carried_given, committed, data_given, entries_given, entry_given, given_by, handset_meets, happened, is_owners, memories_given, memory_given, party_after, told, whole}
 use Rattle.sms_play.specs.Meeting.{AtCentre, AtHandset, Meeting, by_account, by_handset, delivered, handed_over, is_answered, meeting_of, tag_in}
 use Rattle.sms_play.specs.PlayedEvent.{handset_kept, handset_restarted, handset_restarts, kept, met, party_restarted, played, restart, restarted, stopped}
 use Rattle.sms_play.specs.Premises.{is_of_reference, is_same_side, last_holder}
 use Rattle.sms_world_model.specs.World.{World}
-use Rattle.sms_world.specs.refinement.CourseSight.{CourseSees}
-use Rattle.sms_world.proofs.refinement.Events.{ok_course, same_course}
+use Rattle.sms_world.specs.refinement.PlayRefinement.{PlayRefines}
+use Rattle.sms_world.proofs.refinement.Events.{ok_play, same_play}
 use Rattle.sms_world.proofs.refinement.Parties.{party_found, with_among, with_numbers}
-use Rattle.sms_world.specs.entries.ToldEntries.{AreBelow, TellsEntries}
+use Rattle.sms_world.specs.entries.ReportedEntries.{AreBelow, TellsEntries}
 use Rattle.sms_world.proofs.entries.EntriesTold.{event_told}
 use Rattle.sms_world.proofs.entries.RowsGiven.{last_over}
 
@@ -167,17 +167,17 @@ other_elsewhere h p d ne =
 
 -- ---- a course
 
-abbrev pub AllTell : Course → Type 0
+abbrev pub AllTell : PlayState → Type 0
 AllTell c = (q : Party) → Among q c.parties → TellsEntries q.number q.core.rows.outbox c.given
 
 -- and no two handsets have one number
-abbrev Apart : Course → Type 0
+abbrev Apart : PlayState → Type 0
 Apart c = AreDifferent (numbers_of c.parties) × AllTell c
 
 abbrev IsReady : Party → Type 0
 IsReady p = IsSoundCore p.core × AreBelow p.core.rows.counters.notice p.core.notices
 
-still_apart : (z : Party) (c : Course) → AreDifferent (numbers_of c.parties) → AreDifferent (numbers_of (with_party z c.parties))
+still_apart : (z : Party) (c : PlayState) → AreDifferent (numbers_of c.parties) → AreDifferent (numbers_of (with_party z c.parties))
 still_apart z c apart = subst (λ (ns : List (List ℕ)). AreDifferent ns) (sym (with_numbers z c.parties)) apart
 
 abbrev ok_meeting : Meeting → Result Meeting PlayFault
@@ -187,35 +187,35 @@ same_meeting : (a b : Meeting) → ok_meeting a ≡ ok_meeting b → a ≡ b
 same_meeting a b e = cc
 
 -- of whom a meeting is
-abbrev IsOfParties : Course → Meeting → Type 0
+abbrev IsOfParties : PlayState → Meeting → Type 0
 IsOfParties c (AtCentre e) = Unit {0}
 IsOfParties c (AtHandset p e) = Among p c.parties
 
 module _ (n : ℕ) where
   -- ---- the centre
 
-  centre_gives : (d : CentreDraft) (c : Course) → Apart c → Apart (centre_done d c)
+  centre_gives : (d : CentreDraft) (c : PlayState) → Apart c → Apart (centre_done d c)
   centre_gives d c k = (k.0, λ q i. tells_still q.number q.core.rows.outbox c.given (centre_given d) (centre_elsewhere q.number d) (k.1 q i))
 
-  accepted_apart : (d : CentreDraft) (most : ℕ) (waiting : List Delivery) (c : Course) → Apart c → Apart (accepted_after d most waiting c)
+  accepted_apart : (d : CentreDraft) (most : ℕ) (waiting : List Delivery) (c : PlayState) → Apart c → Apart (accepted_after d most waiting c)
   accepted_apart d zero waiting c k = k
   accepted_apart d (suc most) [] c k = k
   accepted_apart d (suc most) (x ∷ waiting) c k =
       let e : CentreDraft = centre_happened (DeliverAnswered x.session x.id true) c.centre in
-      accepted_apart e most (waiting ++ e.desk.deliveries) (centre_done e c) (centre_gives e c k)
+      accepted_apart e most (waiting ++ e.bindings.deliveries) (centre_done e c) (centre_gives e c k)
 
-  centre_told_apart : (a : Option CentreAnswer) (c : Course) → Apart c → Apart (centre_told n a c)
+  centre_told_apart : (a : Option CentreAnswer) (c : PlayState) → Apart c → Apart (centre_told n a c)
   centre_told_apart None c k = k
   centre_told_apart (Some a) c k = k
 
-  centre_apart : (e : CentreEvent) (c : Course) → Apart c → Apart (centre_meets n e c)
+  centre_apart : (e : CentreEvent) (c : PlayState) → Apart c → Apart (centre_meets n e c)
   centre_apart e c k =
       let d : CentreDraft = centre_happened e c.centre in
-      centre_told_apart d.answer (centre_whole d c) (accepted_apart d _ d.desk.deliveries (centre_done d c) (centre_gives d c k))
+      centre_told_apart d.answer (centre_whole d c) (accepted_apart d _ d.bindings.deliveries (centre_done d c) (centre_gives d c k))
 
   -- ---- a handset
 
-  commits : (p : Party) (e : HandsetEvent) (d : Draft) (c : Course) → Among p c.parties → IsReady p → happened e p.core ≡ Ok d → Apart c → Apart (committed p d c)
+  commits : (p : Party) (e : HandsetEvent) (d : Draft) (c : PlayState) → Among p c.parties → IsReady p → happened e p.core ≡ Ok d → Apart c → Apart (committed p d c)
   commits p e d c there ready q k =
       let z : Party = party_after p d in (
         still_apart z c k.0,
@@ -226,27 +226,27 @@ module _ (n : ℕ) where
             (with_among z c.parties k.0 x i),
       )
 
-  whole_apart : (p : Party) (e : HandsetEvent) (r : Result Draft Refusal) (c : Course) → Among p c.parties → IsReady p → happened e p.core ≡ r → Apart c → Apart (whole p r c)
+  whole_apart : (p : Party) (e : HandsetEvent) (r : Result Draft Refusal) (c : PlayState) → Among p c.parties → IsReady p → happened e p.core ≡ r → Apart c → Apart (whole p r c)
   whole_apart p e (Ok d) c there ready q k = commits p e d c there ready q k
   whole_apart p e (Err refusal) c there ready q k = k
 
-  kept_apart : (p : Party) (e : HandsetEvent) (r : Result Draft Refusal) (c : Course) → Among p c.parties → IsReady p → happened e p.core ≡ r → Apart c → Apart (handset_kept p r c)
+  kept_apart : (p : Party) (e : HandsetEvent) (r : Result Draft Refusal) (c : PlayState) → Among p c.parties → IsReady p → happened e p.core ≡ r → Apart c → Apart (handset_kept p r c)
   kept_apart p e (Ok d) c there ready q k = commits p e d c there ready q k
   kept_apart p e (Err refusal) c there ready q k = k
 
-  told_apart : (r : Result Draft Refusal) (c : Course) → Apart c → Apart (told n r c)
+  told_apart : (r : Result Draft Refusal) (c : PlayState) → Apart c → Apart (told n r c)
   told_apart (Ok d) c k = k
   told_apart (Err refusal) c k = k
 
-  handset_apart : (p : Party) (e : HandsetEvent) (c : Course) → Among p c.parties → IsReady p → Apart c → Apart (handset_meets n p e c)
+  handset_apart : (p : Party) (e : HandsetEvent) (c : PlayState) → Among p c.parties → IsReady p → Apart c → Apart (handset_meets n p e c)
   handset_apart p e c there ready k =
       let r : Result Draft Refusal = happened e p.core in
       let w : Apart (whole p r c) = whole_apart p e r c there ready refl k in
-      cond_both (is_owners e) (told n r (whole p r c)) (whole p r c) (λ (z : Course). Apart z) (λ t. told_apart r (whole p r c) w) (λ t. w)
+      cond_both (is_owners e) (told n r (whole p r c)) (whole p r c) (λ (z : PlayState). Apart z) (λ t. told_apart r (whole p r c) w) (λ t. w)
 
   -- ---- restarts and stops
 
-  party_apart : (p : Party) (c : Course) → Among p c.parties → Apart c → Apart (party_restarted p c)
+  party_apart : (p : Party) (c : PlayState) → Among p c.parties → Apart c → Apart (party_restarted p c)
   party_apart p c there k =
       let z : Party = record p { core = recovered p.core.rows } in (
         still_apart z c k.0,
@@ -256,25 +256,25 @@ module _ (n : ℕ) where
             (with_among z c.parties k.0 x i),
       )
 
-  restarted_apart : (h : List ℕ) (o : Option Party) (c : Course) → party_at h c.parties ≡ o → Apart c → Apart (handset_restarted o c)
+  restarted_apart : (h : List ℕ) (o : Option Party) (c : PlayState) → party_at h c.parties ≡ o → Apart c → Apart (handset_restarted o c)
   restarted_apart h None c e k = k
   restarted_apart h (Some p) c e k = party_apart p c (party_found h c.parties p e).0 k
 
-  back_apart : (m : Meeting) (c : Course) → Apart c → Apart (restarted m c)
+  back_apart : (m : Meeting) (c : PlayState) → Apart c → Apart (restarted m c)
   back_apart (AtCentre e) c k = k
   back_apart (AtHandset p e) c k = restarted_apart p.number (party_at p.number c.parties) c refl k
 
-  module _ (c : Course) (ready : (p : Party) → Among p c.parties → IsReady p) (k : Apart c) where
-    stop_apart : (stop : Stop) (m : Meeting) → IsOfParties c m → Apart (kept stop m c)
+  module _ (c : PlayState) (ready : (p : Party) → Among p c.parties → IsReady p) (k : Apart c) where
+    stop_apart : (stop : StopPoint) (m : Meeting) → IsOfParties c m → Apart (kept stop m c)
     stop_apart Before m is = k
     stop_apart After (AtCentre e) is = centre_gives (centre_happened e c.centre) c k
     stop_apart After (AtHandset p e) is = kept_apart p e (happened e p.core) c is (ready p is) refl k
 
-    stopped_apart : (act : Act) (stop : Stop) (m : Meeting) → IsOfParties c m → Apart (stopped n act stop m c)
+    stopped_apart : (act : Act) (stop : StopPoint) (m : Meeting) → IsOfParties c m → Apart (stopped n act stop m c)
     stopped_apart act stop m is =
-        let d : Course = restarted m (kept stop m c) in
+        let d : PlayState = restarted m (kept stop m c) in
         let o : Apart d = back_apart m (kept stop m c) (stop_apart stop m is) in
-        cond_both (is_answered act) (answer n AnsweredStopped d) d (λ (z : Course). Apart z) (λ t. o) (λ t. o)
+        cond_both (is_answered act) (answer n AnsweredStopped d) d (λ (z : PlayState). Apart z) (λ t. o) (λ t. o)
 
     met_apart : (m : Meeting) → IsOfParties c m → Apart (met n m c)
     met_apart (AtCentre e) is = centre_apart e c k
@@ -314,27 +314,27 @@ module _ (n : ℕ) where
 
     -- ---- each event
 
-    then_apart : (r : Result Meeting PlayFault) (f : Meeting → Course) (d : Course) → ((m : Meeting) → r ≡ Ok m → Apart (f m)) → (r >>= λ (m : Meeting). ok_course (f m)) ≡ ok_course d → Apart d
-    then_apart (Ok m) f d g e = subst (λ (z : Course). Apart z) (same_course (f m) d e) (g m refl)
+    then_apart : (r : Result Meeting PlayFault) (f : Meeting → PlayState) (d : PlayState) → ((m : Meeting) → r ≡ Ok m → Apart (f m)) → (r >>= λ (m : Meeting). ok_play (f m)) ≡ ok_play d → Apart d
+    then_apart (Ok m) f d g e = subst (λ (z : PlayState). Apart z) (same_play (f m) d e) (g m refl)
     then_apart (Err fault) f d g e = absurd cc
 
-    handset_back : (h : List ℕ) (o : Option Party) (d : Course) → party_at h c.parties ≡ o → handset_restarts n o c ≡ Ok d → Apart d
+    handset_back : (h : List ℕ) (o : Option Party) (d : PlayState) → party_at h c.parties ≡ o → handset_restarts n o c ≡ Ok d → Apart d
     handset_back h None d e q = absurd cc
-    handset_back h (Some p) d e q = subst (λ (z : Course). Apart z) (same_course _ d q) (party_apart p c (party_found h c.parties p e).0 k)
+    handset_back h (Some p) d e q = subst (λ (z : PlayState). Apart z) (same_play _ d q) (party_apart p c (party_found h c.parties p e).0 k)
 
-    side_back : (side : Side) (d : Course) → restart n side c ≡ Ok d → Apart d
-    side_back Centre d q = subst (λ (z : Course). Apart z) (same_course _ d q) k
+    side_back : (side : Side) (d : PlayState) → restart n side c ≡ Ok d → Apart d
+    side_back Centre d q = subst (λ (z : PlayState). Apart z) (same_play _ d q) k
     side_back (Handset h) d q = handset_back h (party_at h c.parties) d refl q
 
-    event_apart : (e : WorldEvent) (d : Course) → played n e c ≡ ok_course d → Apart d
+    event_apart : (e : WorldEvent) (d : PlayState) → played n e c ≡ ok_play d → Apart d
     event_apart (Whole act) d q = then_apart (meeting_of n act c) (λ m. met n m c) d (λ m i. met_apart m (of_act act m i)) q
     event_apart (Stopped stop act) d q = then_apart (meeting_of n act c) (λ m. stopped n act stop m c) d (λ m i. stopped_apart act stop m (of_act act m i)) q
     event_apart (Restart side) d q = side_back side d q
 
-all_ready : (c : Course) (w : World) → CourseSees c w → (p : Party) → Among p c.parties → IsReady p
+all_ready : (c : PlayState) (w : World) → PlayRefines c w → (p : Party) → Among p c.parties → IsReady p
 all_ready c w s p i =
     let k = s.parties p i in
-    (k.sound, λ n j. let g = k.sees.notices.given n j in k.sees.notices.used n.number _ g.1 refl refl)
+    (k.sound, λ n j. let g = k.refines.notices.given n j in k.refines.notices.used n.number _ g.1 refl refl)
 
-pub held_told : (n : ℕ) (e : WorldEvent) (c d : Course) (w : World) → CourseSees c w → played n e c ≡ ok_course d → AllTell c → AllTell d
+pub held_told : (n : ℕ) (e : WorldEvent) (c d : PlayState) (w : World) → PlayRefines c w → played n e c ≡ ok_play d → AllTell c → AllTell d
 held_told n e c d w s q tells = (event_apart n c (all_ready c w s) (s.apart, tells) e d q).1

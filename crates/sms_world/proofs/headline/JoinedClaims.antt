@@ -15,13 +15,13 @@ use Rattle.sms_rows.proofs.table.Tables.{found_among, found_key}
 use Rattle.sms_tpdu.specs.MoreMessages.{compared}
 use Rattle.sms_tpdu.specs.declared.deliver.Deliver.{Deliver as DeliverOf}
 use Rattle.sms_tpdu.specs.declared.user_data.UserData.{UserData}
-use Rattle.sms_play.specs.Course.{Course, Party}
+use Rattle.sms_play.specs.PlayState.{PlayState, Party}
 use Rattle.sms_world_model.specs.Groups.{Groups, IsEndedAt, groups, groups_of}
 use Rattle.sms_world_model.specs.PartsOfKey.{is_for, number_in, of_key}
 use Rattle.sms_world_model.specs.Place.{Key, Place, place_in}
 use Rattle.sms_world_model.specs.Submission.{HasPart, Submission}
 use Rattle.sms_world_model.specs.WhoseTpdu.{IsDeliverOf}
-use Rattle.sms_world_model.specs.World.{Accepted, Giving, Joined, Stands, World, empty, pair_given}
+use Rattle.sms_world_model.specs.World.{Accepted, Allocation, Joined, IsRecorded, World, empty, pair_given}
 use Rattle.sms_world_model.specs.WorldStep.{HasNotJoined}
 use Rattle.sms_world_model.proofs.Faithful.{DeliversOnce, IsDeliver, IsFaithful, one_deliver}
 use Rattle.sms_world_model.proofs.Keys.{deliver_for, for_is, report_place}
@@ -30,13 +30,13 @@ use Rattle.sms_world_model.proofs.Rounds.{by_cases, within}
 use Rattle.sms_world_model.proofs.Sound.{IsKnown, IsSound}
 use Rattle.sms_world_model.proofs.Tables.{same_message}
 use Rattle.sms_world_refinement.proofs.centre.ByOctets.{by_octet_some}
-use Rattle.sms_world_refinement.specs.centre.SeesMessages.{PartSeen, part_seen}
+use Rattle.sms_world_refinement.specs.centre.RefinesMessages.{PartSeen, part_seen}
 use Rattle.sms_world_refinement.specs.centre_events.TruthfulRows.{pair_in_row}
 use Rattle.sms_world_refinement.specs.handset.PutInOrder.{JoinedText, accepted_at, joined_at, text_of}
-use Rattle.sms_world.specs.refinement.TellingLaws.{IsReached}
+use Rattle.sms_world.specs.refinement.AllocationLaws.{IsReached}
 use Rattle.sms_world.proofs.refinement.Telling.{sound_there}
 use Rattle.sms_world.proofs.refinement.Bags.{among_last}
-use Rattle.sms_world.specs.refinement.CourseSight.{CourseSees, row_joined, rows_joined}
+use Rattle.sms_world.specs.refinement.PlayRefinement.{PlayRefines, row_joined, rows_joined}
 use Rattle.sms_world.specs.headline.Claims.{AreJoinedFrom, HaveNoneInCommon, IsJoinedFrom, IsPartOf, JoinedOfParts, JoinedOnce}
 
 pub placed_there : (w : World) → IsReached w → IsPlaced w
@@ -78,12 +78,12 @@ same_id a b n k l m e = omega (arith, l, m, e)
 same_number : (a b n k : ℕ) → n < 256 → k < 256 → 256 * a + n ≡ 256 * b + k → n ≡ k
 same_number a b n k l m e = omega (arith, l, m, e)
 
-module _ (c : Course) (w : World) (s : CourseSees c w) (q : Party) (there : Among q c.parties) (key : Key) (x : Accepted) (in_world : Among x w.accepted) (own : is_for q.number key x ≡ true) where
+module _ (c : PlayState) (w : World) (s : PlayRefines c w) (q : Party) (there : Among q c.parties) (key : Key) (x : Accepted) (in_world : Among x w.accepted) (own : is_for q.number key x ≡ true) where
   sound : IsSound w
   sound = sound_there w s.reached
 
   -- a part of one of the messages was given it
-  of_part : (g : Giving) (id n : ℕ) → Among g w.down → g.holder ≡ Part id n → x ≡ pair_given g → IsKnown w.table w.receipts g (Part id n) → IsPartOf c q key x
+  of_part : (g : Allocation) (id n : ℕ) → Among g w.down → g.holder ≡ Part id n → x ≡ pair_given g → IsKnown w.table w.receipts g (Part id n) → IsPartOf c q key x
   of_part g id n among holder pair known =
       let row = s.centre.rows.holders.of_part g id n among holder in
       let m : MessageRow = row.0 in
@@ -100,7 +100,7 @@ module _ (c : Course) (w : World) (s : CourseSees c w) (q : Party) (there : Amon
       let seen : row.1 ≡ seen_of p = some_seen row.1 (seen_of p) (sym found.1.1) in
       let as_row : x ≡ pair_in_row m p = pair ∙ ap pair_given row.2.2 ∙ (λ t. record { handset = m.handset; reference = (seen t).reference; tpdu = (seen t).tpdu }) in
       let at = s.centre.rows.table.there id m row.2.0 in
-      let same = same_message w.table id known.0 at.0 known.1 at.1 known.2.0 (subst (λ (k : ℕ). Stands w.table k at.0 at.1) m_id at.2.0) in
+      let same = same_message w.table id known.0 at.0 known.1 at.1 known.2.0 (subst (λ (k : ℕ). IsRecorded w.table k at.0 at.1) m_id at.2.0) in
       let part : UserData = known.2.1.0 in
       let has : HasPart at.0 p.number part = subst (λ (k : ℕ). HasPart at.0 k part) (sym p_number) (subst (λ (u : Submission). HasPart u n part) same.0 known.2.1.1.0) in
       let tpdu : g.tpdu ≡ (pair_in_row m p).tpdu = ap (λ (z : Accepted). z.tpdu) (sym pair ∙ as_row) in
@@ -123,11 +123,11 @@ module _ (c : Course) (w : World) (s : CourseSees c w) (q : Party) (there : Amon
         submitted = (at.0, part, g.moment, (at.2.1, has, deliver));
       }
 
-  not_report : (g : Giving) → x ≡ pair_given g → place_in g.tpdu ≡ None → ⊥
+  not_report : (g : Allocation) → x ≡ pair_given g → place_in g.tpdu ≡ None → ⊥
   not_report g pair none =
       some_none (record { key = key; number = number_in x }) (sym (for_is q.number key x own).1 ∙ ap (λ (z : Accepted). place_in z.tpdu) pair ∙ none)
 
-  of_holder : (g : Giving) (h : Holder) → g.holder ≡ h → Among g w.down → x ≡ pair_given g → IsKnown w.table w.receipts g h → IsPartOf c q key x
+  of_holder : (g : Allocation) (h : Holder) → g.holder ≡ h → Among g w.down → x ≡ pair_given g → IsKnown w.table w.receipts g h → IsPartOf c q key x
   of_holder g (Part id n) e among pair known = of_part g id n among e pair known
   of_holder g (Report id) e among pair known = absurd (not_report g pair (report_place g.tpdu known.1.0 known.1.1))
   of_holder g (Entry n) e among pair known = absurd known
@@ -138,7 +138,7 @@ module _ (c : Course) (w : World) (s : CourseSees c w) (q : Party) (there : Amon
 
 -- ---- each joined message
 
-module _ (c : Course) (w : World) (s : CourseSees c w) (q : Party) (there : Among q c.parties) where
+module _ (c : PlayState) (w : World) (s : PlayRefines c w) (q : Party) (there : Among q c.parties) where
   pub group_part : (j : Joined) → Among j w.joined → j.handset ≡ q.number → (x : Accepted) → Among x j.group → IsPartOf c q j.key x
   group_part j i own x k =
       let ended = group_ended w (placed_there w s.reached) j i in
@@ -153,13 +153,13 @@ abbrev pub groups_at : List ℕ → List Joined → List (List Accepted)
 groups_at h [] = []
 groups_at h (j ∷ js) = if bytes_eq j.handset h then groups_at h js ++ j.group ∷ [] else groups_at h js
 
-one_more : (c : Course) (q : Party) (rs : List JoinedRow) (gs : List (List Accepted)) (r : JoinedRow) (g : List Accepted) → AreJoinedFrom c q rs gs → IsJoinedFrom c q r g → AreJoinedFrom c q (rs ++ r ∷ []) (gs ++ g ∷ [])
+one_more : (c : PlayState) (q : Party) (rs : List JoinedRow) (gs : List (List Accepted)) (r : JoinedRow) (g : List Accepted) → AreJoinedFrom c q rs gs → IsJoinedFrom c q r g → AreJoinedFrom c q (rs ++ r ∷ []) (gs ++ g ∷ [])
 one_more c q [] [] r g all is = (is, tt)
 one_more c q [] (x ∷ gs) r g all is = absurd all
 one_more c q (x ∷ rs) [] r g all is = absurd all
 one_more c q (x ∷ rs) (y ∷ gs) r g all is = (all.0, one_more c q rs gs r g all.1 is)
 
-all_joined : (c : Course) (q : Party) (js : List Joined) → ((j : Joined) → Among j js → j.handset ≡ q.number → IsJoinedFrom c q (row_joined q.number (text_of j)) j.group)
+all_joined : (c : PlayState) (q : Party) (js : List Joined) → ((j : Joined) → Among j js → j.handset ≡ q.number → IsJoinedFrom c q (row_joined q.number (text_of j)) j.group)
     → AreJoinedFrom c q (rows_joined q.number (joined_at q.number js)) (groups_at q.number js)
 all_joined c q [] each = tt
 all_joined c q (j ∷ js) each =
@@ -175,12 +175,12 @@ all_joined c q (j ∷ js) each =
     (subst (λ (z : List (List Accepted)). AreJoinedFrom c q (rows_joined h (joined_at h js)) z) (sym (cond-false (bytes_eq j.handset h) (groups_at h js ++ j.group ∷ []) (groups_at h js) t)) older))
     (cases_Bool (bytes_eq j.handset h))
 
-are_joined : (c : Course) (w : World) (s : CourseSees c w) (q : Party) → Among q c.parties → AreJoinedFrom c q q.joined (groups_at q.number w.joined)
+are_joined : (c : PlayState) (w : World) (s : PlayRefines c w) (q : Party) → Among q c.parties → AreJoinedFrom c q q.joined (groups_at q.number w.joined)
 are_joined c w s q there =
     subst (λ (rows : List JoinedRow). AreJoinedFrom c q rows (groups_at q.number w.joined)) (sym (s.parties q there).joined)
     (all_joined c q w.joined (λ j i own. joined_from c w s q there j i own))
 
-pub joined_of_parts : (c : Course) (w : World) → CourseSees c w → JoinedOfParts c
+pub joined_of_parts : (c : PlayState) (w : World) → PlayRefines c w → JoinedOfParts c
 joined_of_parts c w s q there = (groups_at q.number w.joined, are_joined c w s q there)
 
 -- ---- no part stands in two groups, while none was accepted twice
@@ -297,7 +297,7 @@ all_apart w placed f h (j ∷ js) inside once =
     subst (λ (z : List (List Accepted)). HaveNoneInCommon z) (sym (cond-false (bytes_eq j.handset h) (groups_at h js ++ j.group ∷ []) (groups_at h js) t)) older)
     (cases_Bool (bytes_eq j.handset h))
 
-pub joined_once : (c : Course) (w : World) → CourseSees c w → IsFaithful w → JoinedOnce c
+pub joined_once : (c : PlayState) (w : World) → PlayRefines c w → IsFaithful w → JoinedOnce c
 joined_once c w s f q there =
     let placed = placed_there w s.reached in
     (groups_at q.number w.joined, (are_joined c w s q there, all_apart w placed f q.number w.joined (λ j i. i) placed.once))

@@ -12,22 +12,22 @@ use Rattle.sms_rows.proofs.table.KeyLaws.{pairs_apart}
 use Rattle.sms_rows.proofs.table.Tables.{among_found, found_among, found_key}
 use Rattle.sms_tpdu.specs.MoreMessages.{compared}
 use Rattle.sms_tpdu.specs.declared.user_data.UserData.{UserData}
-use Rattle.sms_play.specs.Course.{Course}
+use Rattle.sms_play.specs.PlayState.{PlayState}
 use Rattle.sms_world_model.specs.Place.{Key, place_in, place_submitted}
 use Rattle.sms_world_model.specs.SplitMessages.{IsOf, IsSplit}
 use Rattle.sms_world_model.specs.Submission.{HasPart, Submission, part_at as user_data_at}
-use Rattle.sms_world_model.specs.World.{Accepted, Giving, Stands, State, World, pair_given}
+use Rattle.sms_world_model.specs.World.{Accepted, Allocation, IsRecorded, State, World, pair_given}
 use Rattle.sms_world_model.proofs.Alike.{place_alike}
 use Rattle.sms_world_model.proofs.Faithful.{part_within}
 use Rattle.sms_world_model.proofs.Keys.{bounds, is_for_place, number_placed, place_of_part}
 use Rattle.sms_world_model.proofs.Sound.{IsKnown, IsSound}
 use Rattle.sms_world_model.proofs.Tables.{same_message}
 use Rattle.sms_world_refinement.proofs.centre.ByOctets.{by_octet_is, by_octet_some}
-use Rattle.sms_world_refinement.specs.centre.SeesGiven.{given_part}
-use Rattle.sms_world_refinement.specs.centre.SeesMessages.{IsRowOf, PartSeen, part_seen, parts_by}
+use Rattle.sms_world_refinement.specs.centre.RefinesGiven.{given_part}
+use Rattle.sms_world_refinement.specs.centre.RefinesMessages.{IsRowOf, PartSeen, part_seen, parts_by}
 use Rattle.sms_world_refinement.specs.centre_events.TruthfulRows.{pair_in_row}
 use Rattle.sms_world.proofs.refinement.Telling.{sound_there}
-use Rattle.sms_world.specs.refinement.CourseSight.{CourseSees}
+use Rattle.sms_world.specs.refinement.PlayRefinement.{PlayRefines}
 use Rattle.sms_world.specs.headline.Claims.{IsLongMessage}
 
 small : (n : ℕ) → n ≤ 20 → n < 256
@@ -65,7 +65,7 @@ none_or_some n ne = omega (arith, ne)
 not_above : (a b : ℕ) → a ≡ 0 → a ≤ b
 not_above a b e = omega (arith, e)
 
-module _ (c : Course) (w : World) (s : CourseSees c w) where
+module _ (c : PlayState) (w : World) (s : PlayRefines c w) where
   sound : IsSound w
   sound = sound_there w s.reached
 
@@ -89,10 +89,10 @@ module _ (c : Course) (w : World) (s : CourseSees c w) where
     there = among_found message_key m c.centre.rows.messages s.sound.rows.messages.message_keys i
 
     -- a part's pair was given to it
-    giving_of : (p : PartRow) → Among p c.centre.rows.parts → p.id ≡ m.id → (g : Giving) × (Among g w.down × (g.holder ≡ Part m.id p.number) × (pair_given g ≡ pair_in_row m p))
-    giving_of p j e = let g = s.centre.rows.holders.part m.id p.number m (seen_of p) there (seen_at m.id p j e) in (given_part m p.number (seen_of p) g.0, (g.1, refl, refl))
+    allocation_of : (p : PartRow) → Among p c.centre.rows.parts → p.id ≡ m.id → (g : Allocation) × (Among g w.down × (g.holder ≡ Part m.id p.number) × (pair_given g ≡ pair_in_row m p))
+    allocation_of p j e = let g = s.centre.rows.holders.part m.id p.number m (seen_of p) there (seen_at m.id p j e) in (given_part m p.number (seen_of p) g.0, (g.1, refl, refl))
 
-    module _ (u : Submission) (st : State) (stands : Stands w.table m.id u st) (is : IsRowOf m u)
+    module _ (u : Submission) (st : State) (stands : IsRecorded w.table m.id u st) (is : IsRowOf m u)
         (rows : (n : ℕ) (x : PartSeen) → parts_by c.centre.rows.parts m.id n ≡ Some x → (part : UserData) × HasPart u n part)
         (only : (n : ℕ) (part : UserData) → HasPart u n part → (x : PartSeen) × (parts_by c.centre.rows.parts m.id n ≡ Some x)) where
       -- each part stands at its place
@@ -101,7 +101,7 @@ module _ (c : Course) (w : World) (s : CourseSees c w) where
           let x = only n part has in
           let row = row_of m.id n x.0 x.1 in
           let p : PartRow = row.0 in
-          let g = giving_of p row.1.0 row.1.1 in
+          let g = allocation_of p row.1.0 row.1.1 in
           let known : IsKnown w.table w.receipts g.0 (Part m.id p.number) = subst (IsKnown w.table w.receipts g.0) g.1.1 (sound.known g.0 g.1.0) in
           let mine : known.0 ≡ u = (same_message w.table m.id known.0 u known.1 st known.2.0 stands).0 in
           let his : HasPart u n known.2.1.0 = subst (λ (z : Submission × ℕ). HasPart z.0 z.1 known.2.1.0) (λ j. (mine j, row.1.2 j)) known.2.1.1.0 in
@@ -158,7 +158,7 @@ module _ (c : Course) (w : World) (s : CourseSees c w) where
         )
 
     -- so it is a message that was split, in the world
-    pub long_split : (u : Submission) × (st : State) × (Stands w.table u.id u st × IsSplit u key × (u.handset ≡ m.handset)
+    pub long_split : (u : Submission) × (st : State) × (IsRecorded w.table u.id u st × IsSplit u key × (u.handset ≡ m.handset)
         × ((p : PartRow) → Among p c.centre.rows.parts → p.id ≡ m.id → IsOf w.down u.id (pair_in_row m p))
         × ((y : Accepted) → IsOf w.down u.id y → (x : PartRow) × (Among x c.centre.rows.parts × (x.id ≡ m.id) × (y ≡ pair_in_row m x))))
     long_split =
@@ -168,10 +168,10 @@ module _ (c : Course) (w : World) (s : CourseSees c w) where
           u,
           t.1,
           (
-            subst (λ (k : ℕ). Stands w.table k u t.1) (sym id) t.2.0,
+            subst (λ (k : ℕ). IsRecorded w.table k u t.1) (sym id) t.2.0,
             split u t.1 t.2.0 t.2.1 t.2.3.there t.2.3.only,
             t.2.1.handset,
-            λ p j e. let g = giving_of p j e in (g.0, p.number, (g.1.0, g.1.1 ∙ ap (λ (k : ℕ). Part k p.number) (sym id), sym g.1.2)),
+            λ p j e. let g = allocation_of p j e in (g.0, p.number, (g.1.0, g.1.1 ∙ ap (λ (k : ℕ). Part k p.number) (sym id), sym g.1.2)),
             λ y of. part_row y (subst (λ (k : ℕ). IsOf w.down k y) id of),
           ),
         )

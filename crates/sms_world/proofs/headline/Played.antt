@@ -6,9 +6,9 @@ use Rattle.sms_script.specs.declared.event.WorldEvent.{WorldEvent}
 use Rattle.sms_script.specs.declared.script.Script.{Script}
 use Rattle.sms_script.specs.WholeScript.{script_in}
 use Rattle.sms_play.specs.declared.fault.PlayFault.{PlayFault}
-use Rattle.sms_play.specs.Course.{Course}
-use Rattle.sms_play.specs.Playing.{course_of, premises_of, report_of}
-use Rattle.sms_world.proofs.refinement.Events.{ok_course}
+use Rattle.sms_play.specs.PlayState.{PlayState}
+use Rattle.sms_play.specs.Playing.{play_state_of, premises_of, report_of}
+use Rattle.sms_world.proofs.refinement.Events.{ok_play}
 use Rattle.sms_world.specs.headline.HeadlineLaws.{AlwaysHolds, HoldsInTime, IsScript, LeadsOn, PlayedLaw}
 use Rattle.sms_world.proofs.headline.Claimed.{delivered_is, given_is, held_is, joined_is, joined_once_is, joined_whole_is, lines_are, once_is, receipts_are, sent_is, told_is}
 use Rattle.sms_world.proofs.headline.ExactPremises.{none_is}
@@ -26,11 +26,11 @@ same_report : (a b : Report) → ok_report a ≡ ok_report b → a ≡ b
 same_report a b e = cc
 
 -- the course that the report is of
-pub of_course : (r : Result Course PlayFault) (report : Report) → (r >>= λ (c : Course). ok_report (report_of c)) ≡ ok_report report → (c : Course) × ((r ≡ ok_course c) × (report ≡ report_of c))
-of_course (Ok c) report e = (c, (refl, sym (same_report (report_of c) report e)))
-of_course (Err fault) report e = absurd cc
+pub of_play : (r : Result PlayState PlayFault) (report : Report) → (r >>= λ (c : PlayState). ok_report (report_of c)) ≡ ok_report report → (c : PlayState) × ((r ≡ ok_play c) × (report ≡ report_of c))
+of_play (Ok c) report e = (c, (refl, sym (same_report (report_of c) report e)))
+of_play (Err fault) report e = absurd cc
 
-module _ (text : List ℕ) (script : Script) (reads : script_in text ≡ Ok script) (c : Course) (leads : course_of script.setup script.events ≡ ok_course c) where
+module _ (text : List ℕ) (script : Script) (reads : script_in text ≡ Ok script) (c : PlayState) (leads : play_state_of script.setup script.events ≡ ok_play c) where
   is : IsScript text script script.events []
   is = record { reads = reads; events = nothing_more script.events }
 
@@ -62,5 +62,5 @@ module _ (text : List ℕ) (script : Script) (reads : script_in text ≡ Ok scri
 
 pub played_is : PlayedLaw
 played_is text script report reads plays =
-    let x = of_course (course_of script.setup script.events) report plays in
+    let x = of_play (play_state_of script.setup script.events) report plays in
     (x.0, (x.1.0, x.1.1, always text script reads x.0 x.1.0, λ hold. in_time text script reads x.0 x.1.0 hold))

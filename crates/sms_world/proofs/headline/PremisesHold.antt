@@ -8,12 +8,12 @@ use Rattle.sms_script.specs.declared.report.report.Broken.TheVariants.{Timely}
 use Rattle.sms_script.specs.declared.event.WorldEvent.{WorldEvent}
 use Rattle.sms_play.specs.declared.fault.PlayFault.{PlayFault}
 use Rattle.sms_play.specs.declared.fault.PlayFault.TheVariants.{BadSetup}
-use Rattle.sms_play.specs.Course.{Course}
+use Rattle.sms_play.specs.PlayState.{PlayState}
 use Rattle.sms_play.specs.PlayedEvent.{played}
 use Rattle.sms_play.specs.Playing.{broken_on, or_later}
 use Rattle.sms_play.specs.Premises.{broken_by, is_timely_event}
 use Rattle.sms_play.specs.Setups.{beginning, can_be_played}
-use Rattle.sms_world.specs.refinement.CourseRuns.{IfPlayed}
+use Rattle.sms_world.specs.refinement.PlayRuns.{IfPlayed}
 use Rattle.sms_world.specs.headline.Claims.{AllTimely}
 use Rattle.sms_world.specs.headline.HeadlineLaws.{PremisesLaw}
 
@@ -36,13 +36,13 @@ timely_now : (n : ℕ) (b : Bool) (rest : Option Broken) → (if not b then Some
 timely_now n true rest e = refl
 timely_now n false rest e = absurd cc
 
-then_hold : (n : ℕ) (e : WorldEvent) (es : List WorldEvent) (c : Course) → ((d : Course) → broken_on (n + 1) es d ≡ hold → AllTimely (n + 1) es d) → (r : Result Course PlayFault)
-    → (r >>= λ (d : Course). or_later (broken_by n e c d) (broken_on (n + 1) es d)) ≡ hold → (is_timely_event e c ≡ true) × IfPlayed r (λ d. AllTimely (n + 1) es d)
+then_hold : (n : ℕ) (e : WorldEvent) (es : List WorldEvent) (c : PlayState) → ((d : PlayState) → broken_on (n + 1) es d ≡ hold → AllTimely (n + 1) es d) → (r : Result PlayState PlayFault)
+    → (r >>= λ (d : PlayState). or_later (broken_by n e c d) (broken_on (n + 1) es d)) ≡ hold → (is_timely_event e c ≡ true) × IfPlayed r (λ d. AllTimely (n + 1) es d)
 then_hold n e es c more (Err fault) q = absurd cc
 then_hold n e es c more (Ok d) q =
     let p = both_none (broken_by n e c d) (broken_on (n + 1) es d) q in (timely_now n (is_timely_event e c) _ p.0, more d p.1)
 
-all_hold : (n : ℕ) (es : List WorldEvent) (c : Course) → broken_on n es c ≡ hold → AllTimely n es c
+all_hold : (n : ℕ) (es : List WorldEvent) (c : PlayState) → broken_on n es c ≡ hold → AllTimely n es c
 all_hold n [] c q = tt
 all_hold n (e ∷ es) c q = then_hold n e es c (λ d p. all_hold (n + 1) es d p) (played n e c) q
 

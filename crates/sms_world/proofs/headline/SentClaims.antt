@@ -19,7 +19,7 @@ use Rattle.sms_tpdu.specs.MoreMessages.{compared}
 use Rattle.sms_tpdu.specs.TpduReading.{submit_at}
 use Rattle.sms_tpdu.specs.declared.user_data.UserData.{UserData}
 use Rattle.sms_play.specs.declared.fault.PlayFault.{PlayFault}
-use Rattle.sms_play.specs.Course.{Course, Party}
+use Rattle.sms_play.specs.PlayState.{PlayState, Party}
 use Rattle.sms_play.specs.PlayedEvent.{played}
 use Rattle.sms_play.specs.Playing.{played_on}
 use Rattle.sms_play.specs.Premises.{is_timely_event}
@@ -27,20 +27,20 @@ use Rattle.sms_world_model.specs.Run.{end}
 use Rattle.sms_world_model.specs.ScriptRun.{Happening, happened}
 use Rattle.sms_world_model.specs.Submission.{HasPart, Submission, part_at as user_data_at}
 use Rattle.sms_world_model.specs.WhoseTpdu.{IsDeliverOf}
-use Rattle.sms_world_model.specs.World.{Giving, Stands, State, World, empty}
+use Rattle.sms_world_model.specs.World.{Allocation, IsRecorded, State, World, empty}
 use Rattle.sms_world_model.proofs.Faithful.{part_within}
 use Rattle.sms_world_model.proofs.Sound.{IsKnown, IsSound}
 use Rattle.sms_world_model.proofs.Tables.{same_message}
 use Rattle.sms_world_model.proofs.Upward.{IsUpward}
 use Rattle.sms_world_refinement.proofs.centre.ByOctets.{by_octet_is, by_octet_some}
-use Rattle.sms_world_refinement.specs.centre.SeesGiven.{given_part}
-use Rattle.sms_world_refinement.specs.centre.SeesMessages.{IsRowOf, PartSeen, part_seen}
-use Rattle.sms_world_refinement.specs.handset.SeesOutbox.{entry_seen, state_of, user_data_in}
+use Rattle.sms_world_refinement.specs.centre.RefinesGiven.{given_part}
+use Rattle.sms_world_refinement.specs.centre.RefinesMessages.{IsRowOf, PartSeen, part_seen}
+use Rattle.sms_world_refinement.specs.handset.RefinesOutbox.{entry_seen, state_of, user_data_in}
 use Rattle.sms_world.proofs.refinement.Telling.{sound_there}
-use Rattle.sms_world.specs.refinement.CourseRuns.{AllHandOctets, AreGood, IfPlayed}
-use Rattle.sms_world.specs.refinement.CourseSight.{CourseSees}
+use Rattle.sms_world.specs.refinement.PlayRuns.{AllHandOctets, AreGood, IfPlayed}
+use Rattle.sms_world.specs.refinement.PlayRefinement.{PlayRefines}
 use Rattle.sms_world.specs.refinement.Happening.{HandsOctets, IsGoodEvent, happening_of}
-use Rattle.sms_world.proofs.refinement.Events.{event_leads, ok_course, same_course}
+use Rattle.sms_world.proofs.refinement.Events.{event_leads, ok_play, same_play}
 use Rattle.sms_world.specs.headline.Claims.{AllTimely, IsMessageOf, SentSubmitted}
 use Rattle.sms_world.proofs.headline.AnswersTimely.{hands_answers}
 use Rattle.sms_world.proofs.headline.DecidedTimely.{hands_down}
@@ -49,10 +49,10 @@ use Rattle.sms_world.proofs.headline.UpwardRuns.{event_upward}
 
 -- ---- one event, and then the others
 
-abbrev pub Sends : Course → Type 0
-Sends d = (v : World) × (CourseSees d v × IsUpward v × AllTell d)
+abbrev pub Sends : PlayState → Type 0
+Sends d = (v : World) × (PlayRefines d v × IsUpward v × AllTell d)
 
-event_sends : (n : ℕ) (e : WorldEvent) (c d : Course) (w : World) → CourseSees c w → IsGoodEvent e → HandsOctets e c → is_timely_event e c ≡ true → played n e c ≡ ok_course d → IsUpward w → AllTell c → Sends d
+event_sends : (n : ℕ) (e : WorldEvent) (c d : PlayState) (w : World) → PlayRefines c w → IsGoodEvent e → HandsOctets e c → is_timely_event e c ≡ true → played n e c ≡ ok_play d → IsUpward w → AllTell c → Sends d
 event_sends n e c d w s good octets timely q up tells =
     let l = event_leads n e c d w s good octets q in
     let h : Happening = happening_of e c.centre.moment in (
@@ -64,17 +64,17 @@ event_sends n e c d w s good octets timely q up tells =
       ),
     )
 
-then_sends : (n : ℕ) (e : WorldEvent) (c d : Course) (w : World) (more : Course → Result Course PlayFault) (Octets Timely : Course → Type 0)
-    → ((x : Course) (v : World) → CourseSees x v → IsUpward v → AllTell x → Octets x → Timely x → more x ≡ ok_course d → Sends d)
-    → CourseSees c w → IsGoodEvent e → HandsOctets e c → is_timely_event e c ≡ true → IsUpward w → AllTell c → (r : Result Course PlayFault) → played n e c ≡ r → IfPlayed r Octets → IfPlayed r Timely
-    → (r >>= λ (x : Course). more x) ≡ ok_course d → Sends d
+then_sends : (n : ℕ) (e : WorldEvent) (c d : PlayState) (w : World) (more : PlayState → Result PlayState PlayFault) (Octets Timely : PlayState → Type 0)
+    → ((x : PlayState) (v : World) → PlayRefines x v → IsUpward v → AllTell x → Octets x → Timely x → more x ≡ ok_play d → Sends d)
+    → PlayRefines c w → IsGoodEvent e → HandsOctets e c → is_timely_event e c ≡ true → IsUpward w → AllTell c → (r : Result PlayState PlayFault) → played n e c ≡ r → IfPlayed r Octets → IfPlayed r Timely
+    → (r >>= λ (x : PlayState). more x) ≡ ok_play d → Sends d
 then_sends n e c d w more Octets Timely go s good octets timely up tells (Ok x) is later in_time q =
     let y = event_sends n e c x w s good octets timely is up tells in go x y.0 y.1.0 y.1.1 y.1.2 later in_time q
 then_sends n e c d w more Octets Timely go s good octets timely up tells (Err fault) is later in_time q = absurd cc
 
-pub all_send : (n : ℕ) (es : List WorldEvent) (c d : Course) (w : World) → CourseSees c w → AreGood es → AllHandOctets n es c → AllTimely n es c → IsUpward w → AllTell c → played_on n es c ≡ ok_course d → Sends d
+pub all_send : (n : ℕ) (es : List WorldEvent) (c d : PlayState) (w : World) → PlayRefines c w → AreGood es → AllHandOctets n es c → AllTimely n es c → IsUpward w → AllTell c → played_on n es c ≡ ok_play d → Sends d
 all_send n [] c d w s good octets timely up tells q =
-    let same : c ≡ d = same_course c d q in (w, (subst (λ (z : Course). CourseSees z w) same s, up, subst (λ (z : Course). AllTell z) same tells))
+    let same : c ≡ d = same_play c d q in (w, (subst (λ (z : PlayState). PlayRefines z w) same s, up, subst (λ (z : PlayState). AllTell z) same tells))
 all_send n (e ∷ es) c d w s good octets timely up tells q =
     then_sends n e c d w (λ x. played_on (n + 1) es x) (λ x. AllHandOctets (n + 1) es x) (λ x. AllTimely (n + 1) es x) (λ x v k u t o r p. all_send (n + 1) es x d v k good.1 o r u t p)
     s good.0 octets.0 timely.0 up tells (played n e c) refl octets.1 timely.1 q
@@ -106,7 +106,7 @@ row_seen : (o : Option PartRow) (x : PartSeen) → part_seen o ≡ Some x → (p
 row_seen None x e = absurd (no_row x e)
 row_seen (Some p) x e = (p, refl)
 
-module _ (c : Course) (w : World) (s : CourseSees c w) (up : IsUpward w) (q : Party) (o : OutRow) (there : Among q c.parties) (i : Among o q.core.rows.outbox) (sent : o.state ≡ Sent) where
+module _ (c : PlayState) (w : World) (s : PlayRefines c w) (up : IsUpward w) (q : Party) (o : OutRow) (there : Among q c.parties) (i : Among o q.core.rows.outbox) (sent : o.state ≡ Sent) where
   abbrev text : UserData
   text = user_data_in (submit_at o.tpdu)
 
@@ -114,15 +114,15 @@ module _ (c : Course) (w : World) (s : CourseSees c w) (up : IsUpward w) (q : Pa
   sound = sound_there w s.reached
 
   entry : Among (entry_seen q.number o) w.outbox
-  entry = (s.parties q there).sees.out.there o.number o (among_found out_key o q.core.rows.outbox (s.parties q there).sound.rows.out_keys i)
+  entry = (s.parties q there).refines.out.there o.number o (among_found out_key o q.core.rows.outbox (s.parties q there).sound.rows.out_keys i)
 
   -- the part of a message that has one
-  module _ (id : ℕ) (u : Submission) (st : State) (stands : Stands w.table id u st) (one : u.parts ≡ text ∷ []) (source : u.source.digits ≡ q.number) (handset : u.handset ≡ o.destination.digits) where
+  module _ (id : ℕ) (u : Submission) (st : State) (stands : IsRecorded w.table id u st) (one : u.parts ≡ text ∷ []) (source : u.source.digits ≡ q.number) (handset : u.handset ≡ o.destination.digits) where
     of_message : (m : MessageRow) → message_at id c.centre.rows.messages ≡ Some m → (p : PartRow) × IsMessageOf c q o m p
     of_message m at =
         let t = s.centre.rows.table.there id m at in
         let m_id : m.id ≡ id = found_key message_key id m c.centre.rows.messages at in
-        let same : t.0 ≡ u = (same_message w.table id t.0 u t.1 st (subst (λ (k : ℕ). Stands w.table k t.0 t.1) m_id t.2.0) stands).0 in
+        let same : t.0 ≡ u = (same_message w.table id t.0 u t.1 st (subst (λ (k : ℕ). IsRecorded w.table k t.0 t.1) m_id t.2.0) stands).0 in
         let is : IsRowOf m u = subst (λ (z : Submission). IsRowOf m z) same t.2.1 in
         let first : HasPart u 1 text = ap (λ (z : List UserData). user_data_at 1 z) one in
         let seen = t.2.3.only 1 text (subst (λ (z : Submission). HasPart z 1 text) (sym same) first) in
@@ -133,9 +133,9 @@ module _ (c : Course) (w : World) (s : CourseSees c w) (up : IsUpward w) (q : Pa
         let key : pair_key p.id p.number ≡ pair_key id 1 = found_key part_key (pair_key id 1) p c.centre.rows.parts row.1 in
         let own = pairs_apart p.id id p.number 1 (small p.number ((s.sound.rows.messages.each_part p p_there).few)) one_is_small key in
         let g = s.centre.rows.holders.part id 1 m seen.0 at seen.1 in
-        let x : Giving = given_part m 1 seen.0 g.0 in
+        let x : Allocation = given_part m 1 seen.0 g.0 in
         let known : IsKnown w.table w.receipts x (Part m.id 1) = sound.known x g.1 in
-        let mine : known.0 ≡ u = (same_message w.table id known.0 u known.1 st (subst (λ (k : ℕ). Stands w.table k known.0 known.1) m_id known.2.0) stands).0 in
+        let mine : known.0 ≡ u = (same_message w.table id known.0 u known.1 st (subst (λ (k : ℕ). IsRecorded w.table k known.0 known.1) m_id known.2.0) stands).0 in
         let part : UserData = known.2.1.0 in
         let has : HasPart u 1 part = subst (λ (z : Submission). HasPart z 1 part) mine known.2.1.1.0 in
         let is_data : part ≡ text = (let both : Some part ≡ Some text = sym has ∙ first in cc) in
@@ -169,11 +169,11 @@ module _ (c : Course) (w : World) (s : CourseSees c w) (up : IsUpward w) (q : Pa
       let y = of_message x.0 x.1 x.2 x.3.0 x.3.3 x.3.1 x.3.2 row.0 row.1 in
       (row.0, y.0, y.1)
 
-pub sent_submitted : (c : Course) (w : World) → CourseSees c w → IsUpward w → SentSubmitted c
+pub sent_submitted : (c : PlayState) (w : World) → PlayRefines c w → IsUpward w → SentSubmitted c
 sent_submitted c w s up q o there i sent = message_there c w s up q o there i sent
 
 -- ---- at the beginning no handset has an entry
 
-pub none_tell : (c : Course) → CourseSees c empty → AllTell c
+pub none_tell : (c : PlayState) → PlayRefines c empty → AllTell c
 none_tell c s q i o j u =
-    absurd ((s.parties q i).sees.out.there o.number o (among_found out_key o q.core.rows.outbox (s.parties q i).sound.rows.out_keys j))
+    absurd ((s.parties q i).refines.out.there o.number o (among_found out_key o q.core.rows.outbox (s.parties q i).sound.rows.out_keys j))

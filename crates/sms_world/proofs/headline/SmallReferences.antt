@@ -3,30 +3,30 @@ use Rattle.std.proofs.Common.{◌≡◌, ℕ, suc, ◌<◌, List, [], ◌∷◌,
 use Rattle.sms_base.specs.Among.{Among}
 use Rattle.sms_base.specs.declared.carried.Kind.{Kind}
 use Rattle.sms_base.specs.declared.carried.Kind.TheVariants.{Data}
-use Rattle.sms_world_model.specs.References.{CanGiveParts, Ticket, given_parts, part_giving, report_giving}
+use Rattle.sms_world_model.specs.References.{CanGiveParts, Ticket, given_parts, part_allocation, report_allocation}
 use Rattle.sms_world_model.specs.Run.{Item, Run, after_item, end}
 use Rattle.sms_world_model.specs.Submission.{Submission}
-use Rattle.sms_world_model.specs.World.{Carried, Down, Frame, Giving, Line, World, empty, give}
+use Rattle.sms_world_model.specs.World.{Carried, Down, Frame, Allocation, Line, World, empty, give}
 use Rattle.sms_world_model.specs.WorldStep.{Can, Receive, Status, Step, Submit, after, enter}
 use Rattle.sms_world_model.proofs.Sound.{Says}
-use Rattle.sms_world.specs.refinement.TellingLaws.{IsReached}
+use Rattle.sms_world.specs.refinement.AllocationLaws.{IsReached}
 use Rattle.sms_world.proofs.refinement.Telling.{sound_there}
 
-abbrev AreSmall : List Giving → Type 0
-AreSmall down = (g : Giving) → Among g down → g.reference < 256
+abbrev AreSmall : List Allocation → Type 0
+AreSmall down = (g : Allocation) → Among g down → g.reference < 256
 
-one_more : (x : Giving) (down : List Giving) → x.reference < 256 → AreSmall down → AreSmall (x ∷ down)
-one_more x down l all g i = ⊎_elim (λ (e : g ≡ x). subst (λ (z : Giving). z.reference < 256) (sym e) l) (λ (j : Among g down). all g j) i
+one_more : (x : Allocation) (down : List Allocation) → x.reference < 256 → AreSmall down → AreSmall (x ∷ down)
+one_more x down l all g i = ⊎_elim (λ (e : g ≡ x). subst (λ (z : Allocation). z.reference < 256) (sym e) l) (λ (j : Among g down). all g j) i
 
-parts_small : (w : World) (s : Submission) (m n : ℕ) (ts : List Ticket) (down : List Giving) → CanGiveParts w s m n ts → AreSmall down → AreSmall (given_parts s m n ts down)
+parts_small : (w : World) (s : Submission) (m n : ℕ) (ts : List Ticket) (down : List Allocation) → CanGiveParts w s m n ts → AreSmall down → AreSmall (given_parts s m n ts down)
 parts_small w s m n [] down can all = all
 parts_small w s m n (t ∷ ts) down can all =
-    parts_small (give w (part_giving s m n t)) s m (suc n) ts (part_giving s m n t ∷ down) can.2 (one_more (part_giving s m n t) down can.0.0 all)
+    parts_small (give w (part_allocation s m n t)) s m (suc n) ts (part_allocation s m n t ∷ down) can.2 (one_more (part_allocation s m n t) down can.0.0 all)
 
 step_small : (w : World) (m : ℕ) (step : Step) → Can w m step → AreSmall w.down → AreSmall (after w m step).down
 step_small w m (Submit s ts) can all = parts_small (enter w s) s m 1 ts w.down can.3 all
 step_small w m (Receive u s ts) can all = parts_small (enter w s) s m 1 ts w.down can.2.3 all
-step_small w m (Status s f t) can all = one_more (report_giving s m t) w.down can.2.0 all
+step_small w m (Status s f t) can all = one_more (report_allocation s m t) w.down can.2.0 all
 step_small w m _ can all = all
 
 run_small : (w : World) (is : List Item) → Run w is → AreSmall w.down → AreSmall (end w is).down

@@ -19,7 +19,7 @@ use Rattle.sms_script.specs.declared.script.Script.{Script}
 use Rattle.sms_script.specs.declared.setup.Setup.{Setup}
 use Rattle.sms_play.specs.declared.fault.PlayFault.{PlayFault}
 use Rattle.sms_play.specs.CentreSide.{done as centre_done, whole as centre_whole}
-use Rattle.sms_play.specs.Course.{Course}
+use Rattle.sms_play.specs.PlayState.{PlayState}
 use Rattle.sms_play.specs.Meeting.{AtCentre, Meeting, by_account, meeting_of, submit_of}
 use Rattle.sms_play.specs.PlayedEvent.{met, played}
 use Rattle.sms_play.specs.Playing.{played_on}
@@ -27,11 +27,11 @@ use Rattle.sms_play.specs.Setups.{beginning}
 use Rattle.sms_world_model.specs.Run.{end}
 use Rattle.sms_world_model.specs.ScriptRun.{happened as happened_in}
 use Rattle.sms_world_model.specs.World.{World, empty}
-use Rattle.sms_world.specs.refinement.CourseRuns.{AllHandOctets, AreGood, IfPlayed}
-use Rattle.sms_world.specs.refinement.CourseSight.{CourseSees}
+use Rattle.sms_world.specs.refinement.PlayRuns.{AllHandOctets, AreGood, IfPlayed}
+use Rattle.sms_world.specs.refinement.PlayRefinement.{PlayRefines}
 use Rattle.sms_world.specs.refinement.Happening.{happening_of}
 use Rattle.sms_world.proofs.refinement.Beginnings.{begins}
-use Rattle.sms_world.proofs.refinement.Events.{event_leads, ok_course, same_course}
+use Rattle.sms_world.proofs.refinement.Events.{event_leads, ok_play, same_play}
 use Rattle.sms_world.proofs.refinement.Runs.{run_leads}
 use Rattle.sms_world_refinement.specs.splits.SplitRows.{IsSplitOf, SplitsStand}
 use Rattle.sms_world_refinement.proofs.splits.SplitEvents.{splits_stand}
@@ -41,45 +41,45 @@ use Rattle.sms_world.proofs.headline.Claimed.{can_play, matches, script_hands}
 use Rattle.sms_world.proofs.headline.FreshClaims.{joined_whole}
 use Rattle.sms_world.proofs.headline.GoodScripts.{script_good}
 use Rattle.sms_world.proofs.headline.Parting.{others_good, parted}
-use Rattle.sms_world.proofs.headline.SplitCourses.{accepted_kept, all_kept, centre_told_kept}
+use Rattle.sms_world.proofs.headline.SplitPlays.{accepted_kept, all_kept, centre_told_kept}
 use Rattle.sms_world.proofs.headline.SplitJoins.{split_long, splits_joined}
 
 -- what a course leads from and to
-pub record Between (some others : List WorldEvent) (c d : Course) : Type 0 where
+pub record Between (some others : List WorldEvent) (c d : PlayState) : Type 0 where
   pub first_world : World
-  pub first_sees : CourseSees c first_world
+  pub first_refines : PlayRefines c first_world
   pub goods : AreGood others
   pub octets : AllHandOctets (1 + length some) others c
-  pub leads : played_on (1 + length some) others c ≡ ok_course d
+  pub leads : played_on (1 + length some) others c ≡ ok_play d
   pub stands : SplitsStand c.centre.rows.messages c.centre.rows.parts
 
-pub between : (text : List ℕ) (script : Script) (some others : List WorldEvent) (c d : Course) → IsScript text script some others → LeadsOn script some c d → Between some others c d
+pub between : (text : List ℕ) (script : Script) (some others : List WorldEvent) (c d : PlayState) → IsScript text script some others → LeadsOn script some c d → Between some others c d
 between text script some others c d is on =
     let s : Setup = script.setup in
-    let start : Course = beginning s in
+    let start : PlayState = beginning s in
     let good : AreGood script.events = script_good text script is.reads in
     let goods = others_good some others (subst (λ (es : List WorldEvent). AreGood es) is.events good) in
     let here = can_play s some c on.here in
     let there = can_play s script.events d on.there in
     let p = parted some others 1 start d (subst (λ (es : List WorldEvent). AllHandOctets 1 es start) is.events (script_hands text script is.reads there.can))
-    (subst (λ (es : List WorldEvent). played_on 1 es start ≡ ok_course d) is.events there.leads) in
-    let same : p.between ≡ c = same_course p.between c (sym p.first ∙ here.leads) in
-    let sees : CourseSees start empty = begins s here.can in
-    let x = run_leads 1 some start c empty sees goods.0 p.first_octets here.leads in
+    (subst (λ (es : List WorldEvent). played_on 1 es start ≡ ok_play d) is.events there.leads) in
+    let same : p.between ≡ c = same_play p.between c (sym p.first ∙ here.leads) in
+    let refines : PlayRefines start empty = begins s here.can in
+    let x = run_leads 1 some start c empty refines goods.0 p.first_octets here.leads in
     record {
       first_world = x.0;
-      first_sees = x.1.1;
+      first_refines = x.1.1;
       goods = goods.1;
-      octets = subst (λ (z : Course). AllHandOctets (1 + length some) others z) same p.then_octets;
-      leads = subst (λ (z : Course). played_on (1 + length some) others z ≡ ok_course d) same p.then;
-      stands = all_kept SplitsStand splits_stand 1 some start c empty sees (λ m r i e. absurd i) goods.0 p.first_octets here.leads;
+      octets = subst (λ (z : PlayState). AllHandOctets (1 + length some) others z) same p.then_octets;
+      leads = subst (λ (z : PlayState). played_on (1 + length some) others z ≡ ok_play d) same p.then;
+      stands = all_kept SplitsStand splits_stand 1 some start c empty refines (λ m r i e. absurd i) goods.0 p.first_octets here.leads;
     }
 
 pub split_long_is : SplitLongLaw
 split_long_is text script some others c d is on m reference i e =
     let b = between text script some others c d is on in
     let x = b.stands m reference i e in
-    (x.0, split_long c b.first_world b.first_sees m reference x.0 x.1)
+    (x.0, split_long c b.first_world b.first_refines m reference x.0 x.1)
 
 -- ---- it stays
 
@@ -97,24 +97,24 @@ text_kept id content reference event c sound is (x, (at, k)) =
 pub split_stays_is : SplitStaysLaw
 split_stays_is text script some others c d is on m content reference at k =
     let b = between text script some others c d is on in
-    all_kept (HasText m.id content reference) (text_kept m.id content reference) (1 + length some) others c d b.first_world b.first_sees (m, (at, k)) b.goods b.octets b.leads
+    all_kept (HasText m.id content reference) (text_kept m.id content reference) (1 + length some) others c d b.first_world b.first_refines (m, (at, k)) b.goods b.octets b.leads
 
 -- ---- it becomes so
 
 -- what comes of the first event, and then of the others
-pub record First (n : ℕ) (e : WorldEvent) (c d : Course) (others : List WorldEvent) : Type 0 where
-  pub next : Course
-  pub is : played n e c ≡ ok_course next
+pub record First (n : ℕ) (e : WorldEvent) (c d : PlayState) (others : List WorldEvent) : Type 0 where
+  pub next : PlayState
+  pub is : played n e c ≡ ok_play next
   pub octets : AllHandOctets (n + 1) others next
-  pub leads : played_on (n + 1) others next ≡ ok_course d
+  pub leads : played_on (n + 1) others next ≡ ok_play d
 
-pub first_of : (n : ℕ) (e : WorldEvent) (c d : Course) (others : List WorldEvent) (r : Result Course PlayFault) → played n e c ≡ r → IfPlayed r (λ x. AllHandOctets (n + 1) others x)
-    → (r >>= λ (x : Course). played_on (n + 1) others x) ≡ ok_course d → First n e c d others
+pub first_of : (n : ℕ) (e : WorldEvent) (c d : PlayState) (others : List WorldEvent) (r : Result PlayState PlayFault) → played n e c ≡ r → IfPlayed r (λ x. AllHandOctets (n + 1) others x)
+    → (r >>= λ (x : PlayState). played_on (n + 1) others x) ≡ ok_play d → First n e c d others
 first_of n e c d others (Ok x) is octets q = record { next = x; is = is; octets = octets; leads = q }
 first_of n e c d others (Err fault) is octets q = absurd cc
 
-met_next : (r : Result Meeting PlayFault) (m : Meeting) (f : Meeting → Course) (d : Course) → r ≡ Ok m → (r >>= λ (x : Meeting). ok_course (f x)) ≡ ok_course d → f m ≡ d
-met_next (Ok x) m f d e q = let same : x ≡ m = cc in ap f (sym same) ∙ same_course (f x) d q
+met_next : (r : Result Meeting PlayFault) (m : Meeting) (f : Meeting → PlayState) (d : PlayState) → r ≡ Ok m → (r >>= λ (x : Meeting). ok_play (f x)) ≡ ok_play d → f m ≡ d
+met_next (Ok x) m f d e q = let same : x ≡ m = cc in ap f (sym same) ∙ same_play (f x) d q
 met_next (Err fault) m f d e q = absurd cc
 
 pub split_text_is : SplitTextLaw
@@ -124,7 +124,7 @@ split_text_is text script some others s c d place account u content is on named 
     let b = between text script some (e ∷ others) c d is on in
     let f = first_of n e c d others (played n e c) refl b.octets.1 b.leads in
     let event : CentreEvent = CentreSubmit place (submit_of s) in
-    let sound : IsSoundCore c.centre = b.first_sees.sound in
+    let sound : IsSoundCore c.centre = b.first_refines.sound in
     let after : Draft = happened event c.centre in
     let meets : meeting_of n (Submit s) c ≡ Ok (AtCentre event) = ap (λ (o : Option ℕ). by_account n (λ (p : ℕ). CentreSubmit p (submit_of s)) o) named in
     let next : met n (AtCentre event) c ≡ f.next = met_next (meeting_of n (Submit s) c) (AtCentre event) (λ m. met n m c) f.next meets f.is in
@@ -135,10 +135,10 @@ split_text_is text script some others s c d place account u content is on named 
     let P : List MessageRow → List PartRow → Type 0 = HasText m.id content t.0 in
     let keeps = text_kept m.id content t.0 in
     let now : P (met n (AtCentre event) c).centre.rows.messages (met n (AtCentre event) c).centre.rows.parts =
-    centre_told_kept P keeps n after.answer (centre_whole after c) (accepted_kept P keeps n after _ after.desk.deliveries (centre_done after c) (stays_sound event c.centre sound tt) made) in
-    let l = event_leads n e c f.next b.first_world b.first_sees b.goods.0 b.octets.0 f.is in
+    centre_told_kept P keeps n after.answer (centre_whole after c) (accepted_kept P keeps n after _ after.bindings.deliveries (centre_done after c) (stays_sound event c.centre sound tt) made) in
+    let l = event_leads n e c f.next b.first_world b.first_refines b.goods.0 b.octets.0 f.is in
     let x = all_kept P keeps (n + 1) others f.next d (end b.first_world (happened_in (happening_of e c.centre.moment) l.0)) l.1.2
-    (subst (λ (z : Course). P z.centre.rows.messages z.centre.rows.parts) next now) b.goods.1 f.octets f.leads in
+    (subst (λ (z : PlayState). P z.centre.rows.messages z.centre.rows.parts) next now) b.goods.1 f.octets f.leads in
     (x.0, t.0, x.1)
 
 -- ---- what handsets join

@@ -13,7 +13,7 @@ use Rattle.sms_centre_rows.specs.declared.messages.part.PartRow.{PartRow}
 use Rattle.sms_script.specs.declared.report.rows.JoinedRow.{JoinedRow}
 use Rattle.sms_rows.specs.table.Keys.{pair_key}
 use Rattle.sms_rows.proofs.table.Tables.{among_found, found_among, found_key}
-use Rattle.sms_play.specs.Course.{Course, Party}
+use Rattle.sms_play.specs.PlayState.{PlayState, Party}
 use Rattle.sms_play.specs.HandsetSide.{coding_of}
 use Rattle.sms_world_model.specs.Carrying.{carried_in, joined_parts, with_part}
 use Rattle.sms_world_model.specs.Groups.{carried_by, parts_to}
@@ -23,7 +23,7 @@ use Rattle.sms_world_model.specs.World.{Accepted, World}
 use Rattle.sms_world_model.proofs.Alike.{carried_alike, place_alike}
 use Rattle.sms_world_model.proofs.Keys.{for_is, number_placed}
 use Rattle.sms_world_refinement.specs.centre_events.TruthfulRows.{pair_in_row}
-use Rattle.sms_world.specs.refinement.CourseSight.{CourseSees}
+use Rattle.sms_world.specs.refinement.PlayRefinement.{PlayRefines}
 use Rattle.sms_world_refinement.specs.splits.SplitRows.{IsSplitOf, IsSplitUnder, split_key}
 use Rattle.sms_world.specs.headline.Claims.{AreJoinedRounds, IsJoinedRound, IsLongMessage, JoinedWhole}
 use Rattle.sms_world.specs.headline.SplitClaims.{AllSaySplit, SaysSplit, SplitsJoined}
@@ -111,7 +111,7 @@ one_key_of k l a b o x y = same (record { key = k; number = a }) (record { key =
 
 -- ---- one round
 
-module _ (c : Course) (w : World) (s : CourseSees c w) where
+module _ (c : PlayState) (w : World) (s : PlayRefines c w) where
   few : (p : PartRow) → Among p c.centre.rows.parts → p.number ≤ 20
   few p i = (s.sound.rows.messages.each_part p i).few
 

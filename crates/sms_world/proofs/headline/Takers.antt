@@ -16,10 +16,10 @@ use Rattle.sms_script.specs.declared.event.WorldEvent.{WorldEvent}
 use Rattle.sms_script.specs.declared.event.WorldEvent.TheVariants.{Whole as WholeAct, Stopped as StoppedAct, Restart}
 use Rattle.sms_handset.specs.declared.event.HandsetEvent.{HandsetEvent}
 use Rattle.sms_play.specs.declared.fault.PlayFault.{PlayFault}
-use Rattle.sms_play.specs.Course.{Course, Party, frame_at, numbers_of, party_at}
+use Rattle.sms_play.specs.PlayState.{PlayState, Party, frame_at, numbers_of, party_at}
 use Rattle.sms_play.specs.Meeting.{Meeting, by_handset, delivered, handed_over, meeting_of}
 use Rattle.sms_play.specs.PlayedEvent.{met, played, stopped}
-use Rattle.sms_world_model.specs.Lists.{StandsOnce}
+use Rattle.sms_world_model.specs.Lists.{OccursOnce}
 use Rattle.sms_world_model.specs.Run.{Run, after_item, end}
 use Rattle.sms_world_model.specs.ScriptRun.{After, AllControl, AllMayFollow, AllWrite, Asked, Before, Belongs, Cancelled, Event, Follows, Handed, Happening, IsControl, IsExpiry, IsInOrder, IsOwn, IsPlayed, MayFollow, Reads, Removed, Restarted, Submitted, Tick_centre, Tick_handset, Went, Whole, Wrote, happened, is_stopped, items}
 use Rattle.sms_world_model.specs.World.{Accepted, Carried, Down, Frame, OutEntry, Sent, Up, World, pair_of}
@@ -28,10 +28,10 @@ use Rattle.sms_world_model.specs.Submission.{Submission}
 use Rattle.sms_world_model.specs.WorldStep.{Can, Delete, Remove, Step, Submit, Take, after}
 use Rattle.sms_world_refinement.specs.frames.Between.{frame_down, frame_up}
 use Rattle.sms_world_refinement.specs.frames.FramesUp.{line_up}
-use Rattle.sms_world.specs.refinement.CourseSight.{CourseSees, sent_by, sent_row}
+use Rattle.sms_world.specs.refinement.PlayRefinement.{PlayRefines, sent_by, sent_row}
 use Rattle.sms_world.specs.refinement.Happening.{event_of, happening_of}
 use Rattle.sms_world.proofs.refinement.Bags.{frame_found, row_seen}
-use Rattle.sms_world.proofs.refinement.Events.{ok_course}
+use Rattle.sms_world.proofs.refinement.Events.{ok_play}
 use Rattle.sms_world.proofs.refinement.Parties.{number_there, party_found}
 use Rattle.sms_world.proofs.headline.DecidedTimely.{number_by, number_sent, numbered_there, one_number}
 use Rattle.sms_world.proofs.headline.SameHandsets.{handsets_stay}
@@ -167,13 +167,13 @@ steps_take P w m b (s ∷ ss) t run a i = ⊎_elim
 
 -- ---- in a course
 
-abbrev pub TakersThere : Course → World → Type 0
+abbrev pub TakersThere : PlayState → World → Type 0
 TakersThere c w = (a : Accepted) → Among a w.accepted → Among a.handset (numbers_of c.parties)
 
 same_frame : (u v : Frame) → Carried u ≡ Carried v → u ≡ v
 same_frame u v e = cc
 
-module _ (c : Course) (w : World) (s : CourseSees c w) (n : ℕ) (u : Frame) (line : u.line ≡ Down) (kind : u.kind ≡ Data) where
+module _ (c : PlayState) (w : World) (s : PlayRefines c w) (n : ℕ) (u : Frame) (line : u.line ≡ Down) (kind : u.kind ≡ Data) where
   party_takes : (h : List ℕ) (e : HandsetEvent) (o : Option Party) (m : Meeting) → party_at h c.parties ≡ o → by_handset e n o ≡ Ok m → Among h (numbers_of c.parties)
   party_takes h e None m at q = absurd cc
   party_takes h e (Some p) m at q =
@@ -214,16 +214,16 @@ module _ (c : Course) (w : World) (s : CourseSees c w) (n : ℕ) (u : Frame) (li
   act_takes (Tick Centre now) m q h = absurd h
   act_takes (Tick (Handset from) now) m q h = absurd h
 
-  some_meeting : (r : Result Meeting PlayFault) (f : Meeting → Course) (d : Course) → (r >>= λ (m : Meeting). ok_course (f m)) ≡ ok_course d → (m : Meeting) × (r ≡ Ok m)
+  some_meeting : (r : Result Meeting PlayFault) (f : Meeting → PlayState) (d : PlayState) → (r >>= λ (m : Meeting). ok_play (f m)) ≡ ok_play d → (m : Meeting) × (r ≡ Ok m)
   some_meeting (Ok m) f d e = (m, refl)
   some_meeting (Err fault) f d e = absurd cc
 
-  event_takes : (e : WorldEvent) (d : Course) (moment : ℕ) → played n e c ≡ ok_course d → HandsOver w (happening_of e moment).event u → Among u.handset (numbers_of c.parties)
+  event_takes : (e : WorldEvent) (d : PlayState) (moment : ℕ) → played n e c ≡ ok_play d → HandsOver w (happening_of e moment).event u → Among u.handset (numbers_of c.parties)
   event_takes (WholeAct act) d moment q h = let m = some_meeting (meeting_of n act c) (λ x. met n x c) d q in act_takes act m.0 m.1 h
   event_takes (StoppedAct stop act) d moment q h = let m = some_meeting (meeting_of n act c) (λ x. stopped n act stop x c) d q in act_takes act m.0 m.1 h
   event_takes (Restart side) d moment q h = absurd h
 
-pub takers_stay : (n : ℕ) (e : WorldEvent) (c d : Course) (w : World) (moment : ℕ) (steps : List Step) → CourseSees c w → played n e c ≡ ok_course d
+pub takers_stay : (n : ℕ) (e : WorldEvent) (c d : PlayState) (w : World) (moment : ℕ) (steps : List Step) → PlayRefines c w → played n e c ≡ ok_play d
     → Belongs w (happening_of e moment) (happening_of e moment).went steps → Run w (happened (happening_of e moment) steps) → TakersThere c w → TakersThere d (end w (happened (happening_of e moment) steps))
 takers_stay n e c d w moment steps s q belongs run there a i =
     let h : Happening = happening_of e moment in
@@ -240,6 +240,6 @@ pub of_number : (h : List ℕ) (ps : List Party) → Among h (numbers_of ps) →
 of_number h [] i = absurd i
 of_number h (p ∷ ps) i = ⊎_elim (λ (e : h ≡ p.number). (p, (inl refl, sym e))) (λ (j : Among h (numbers_of ps)). let x = of_number h ps j in (x.0, (inr x.1.0, x.1.1))) i
 
-pub stands_among : (x : Accepted) (ps : List Accepted) → StandsOnce x ps → Among x ps
+pub stands_among : (x : Accepted) (ps : List Accepted) → OccursOnce x ps → Among x ps
 stands_among x [] o = absurd o
-stands_among x (p ∷ ps) o = ⊎_elim (λ (a : (x ≡ p) × ¬ Among x ps). inl a.0) (λ (a : ¬ (x ≡ p) × StandsOnce x ps). inr (stands_among x ps a.1)) o
+stands_among x (p ∷ ps) o = ⊎_elim (λ (a : (x ≡ p) × ¬ Among x ps). inl a.0) (λ (a : ¬ (x ≡ p) × OccursOnce x ps). inr (stands_among x ps a.1)) o

@@ -13,28 +13,28 @@ use Rattle.sms_centre_rows.specs.declared.messages.message.MessageRow.{MessageRo
 use Rattle.sms_centre_rows.specs.declared.messages.part.PartRow.{PartRow}
 use Rattle.sms_script.specs.declared.event.WorldEvent.{WorldEvent}
 use Rattle.sms_play.specs.declared.fault.PlayFault.{PlayFault}
-use Rattle.sms_play.specs.Course.{Course}
+use Rattle.sms_play.specs.PlayState.{PlayState}
 use Rattle.sms_play.specs.PlayedEvent.{played}
 use Rattle.sms_play.specs.Playing.{played_on}
 use Rattle.sms_play.specs.Premises.{is_timely_event}
 use Rattle.sms_rows.proofs.table.Tables.{among_found}
 use Rattle.sms_tpdu.specs.MoreMessages.{compared}
 use Rattle.sms_world_model.specs.Agreement.{DeliveredAccepted}
-use Rattle.sms_world_model.specs.Lists.{StandsOnce}
+use Rattle.sms_world_model.specs.Lists.{OccursOnce}
 use Rattle.sms_world_model.specs.Run.{end}
 use Rattle.sms_world_model.specs.ScriptRun.{Happening, happened}
 use Rattle.sms_world_model.specs.WhoseTpdu.{IsDeliverOf}
-use Rattle.sms_world_model.specs.World.{Accepted, Final, Giving, Stands, State, World, pair_given}
+use Rattle.sms_world_model.specs.World.{Accepted, Final, Allocation, IsRecorded, State, World, pair_given}
 use Rattle.sms_world_model.proofs.Faithful.{IsFaithful, delivered_accepted}
-use Rattle.sms_world_refinement.specs.centre.SeesMessages.{IsStateOf, PartSeen, part_seen, parts_by}
+use Rattle.sms_world_refinement.specs.centre.RefinesMessages.{IsStateOf, PartSeen, part_seen, parts_by}
 use Rattle.sms_world_refinement.proofs.centre.ByOctets.{by_octet_is}
 use Rattle.sms_world_refinement.specs.centre_events.TruthfulRows.{IsAsSubmitted, pair_in_row}
 use Rattle.sms_world_refinement.specs.handset.PutInOrder.{accepted_at}
 use Rattle.sms_world.proofs.refinement.Telling.{sound_there}
-use Rattle.sms_world.specs.refinement.CourseRuns.{AllHandOctets, AreGood, IfPlayed}
-use Rattle.sms_world.specs.refinement.CourseSight.{CourseSees}
+use Rattle.sms_world.specs.refinement.PlayRuns.{AllHandOctets, AreGood, IfPlayed}
+use Rattle.sms_world.specs.refinement.PlayRefinement.{PlayRefines}
 use Rattle.sms_world.specs.refinement.Happening.{HandsOctets, IsGoodEvent, happening_of}
-use Rattle.sms_world.proofs.refinement.Events.{event_leads, ok_course, same_course}
+use Rattle.sms_world.proofs.refinement.Events.{event_leads, ok_play, same_play}
 use Rattle.sms_world.specs.headline.Claims.{AllTimely, DeliveredOnce}
 use Rattle.sms_world.proofs.headline.DecidedTimely.{hands_down}
 use Rattle.sms_world.proofs.headline.FaithfulRuns.{event_faithful}
@@ -42,10 +42,10 @@ use Rattle.sms_world.proofs.headline.Takers.{TakersThere, of_number, stands_amon
 
 -- ---- one event, and then the others
 
-abbrev pub Reaches : Course → Type 0
-Reaches d = (v : World) × (CourseSees d v × IsFaithful v × TakersThere d v)
+abbrev pub Reaches : PlayState → Type 0
+Reaches d = (v : World) × (PlayRefines d v × IsFaithful v × TakersThere d v)
 
-event_reaches : (n : ℕ) (e : WorldEvent) (c d : Course) (w : World) → CourseSees c w → IsGoodEvent e → HandsOctets e c → is_timely_event e c ≡ true → played n e c ≡ ok_course d → IsFaithful w → TakersThere c w → Reaches d
+event_reaches : (n : ℕ) (e : WorldEvent) (c d : PlayState) (w : World) → PlayRefines c w → IsGoodEvent e → HandsOctets e c → is_timely_event e c ≡ true → played n e c ≡ ok_play d → IsFaithful w → TakersThere c w → Reaches d
 event_reaches n e c d w s good octets timely q f takers =
     let l = event_leads n e c d w s good octets q in
     let h : Happening = happening_of e c.centre.moment in (
@@ -57,37 +57,37 @@ event_reaches n e c d w s good octets timely q f takers =
       ),
     )
 
-then_reaches : (n : ℕ) (e : WorldEvent) (c d : Course) (w : World) (more : Course → Result Course PlayFault) (Octets Timely : Course → Type 0)
-    → ((x : Course) (v : World) → CourseSees x v → IsFaithful v → TakersThere x v → Octets x → Timely x → more x ≡ ok_course d → Reaches d)
-    → CourseSees c w → IsGoodEvent e → HandsOctets e c → is_timely_event e c ≡ true → IsFaithful w → TakersThere c w → (r : Result Course PlayFault) → played n e c ≡ r → IfPlayed r Octets → IfPlayed r Timely
-    → (r >>= λ (x : Course). more x) ≡ ok_course d → Reaches d
+then_reaches : (n : ℕ) (e : WorldEvent) (c d : PlayState) (w : World) (more : PlayState → Result PlayState PlayFault) (Octets Timely : PlayState → Type 0)
+    → ((x : PlayState) (v : World) → PlayRefines x v → IsFaithful v → TakersThere x v → Octets x → Timely x → more x ≡ ok_play d → Reaches d)
+    → PlayRefines c w → IsGoodEvent e → HandsOctets e c → is_timely_event e c ≡ true → IsFaithful w → TakersThere c w → (r : Result PlayState PlayFault) → played n e c ≡ r → IfPlayed r Octets → IfPlayed r Timely
+    → (r >>= λ (x : PlayState). more x) ≡ ok_play d → Reaches d
 then_reaches n e c d w more Octets Timely go s good octets timely f takers (Ok x) is later in_time q =
     let y = event_reaches n e c x w s good octets timely is f takers in go x y.0 y.1.0 y.1.1 y.1.2 later in_time q
 then_reaches n e c d w more Octets Timely go s good octets timely f takers (Err fault) is later in_time q = absurd cc
 
-pub all_reach : (n : ℕ) (es : List WorldEvent) (c d : Course) (w : World) → CourseSees c w → AreGood es → AllHandOctets n es c → AllTimely n es c → IsFaithful w → TakersThere c w → played_on n es c ≡ ok_course d → Reaches d
+pub all_reach : (n : ℕ) (es : List WorldEvent) (c d : PlayState) (w : World) → PlayRefines c w → AreGood es → AllHandOctets n es c → AllTimely n es c → IsFaithful w → TakersThere c w → played_on n es c ≡ ok_play d → Reaches d
 all_reach n [] c d w s good octets timely f takers q =
-    (w, (subst (λ (z : Course). CourseSees z w) (same_course c d q) s, f, subst (λ (z : Course). TakersThere z w) (same_course c d q) takers))
+    (w, (subst (λ (z : PlayState). PlayRefines z w) (same_play c d q) s, f, subst (λ (z : PlayState). TakersThere z w) (same_play c d q) takers))
 all_reach n (e ∷ es) c d w s good octets timely f takers q =
     then_reaches n e c d w (λ x. played_on (n + 1) es x) (λ x. AllHandOctets (n + 1) es x) (λ x. AllTimely (n + 1) es x) (λ x v k g h o t p. all_reach (n + 1) es x d v k good.1 o t g h p)
     s good.0 octets.0 timely.0 f takers (played n e c) refl octets.1 timely.1 q
 
 -- ---- of one handset
 
-own_once : (h : List ℕ) (x : Accepted) (ps : List Accepted) → x.handset ≡ h → StandsOnce x ps → StandsOnce x (accepted_at h ps)
+own_once : (h : List ℕ) (x : Accepted) (ps : List Accepted) → x.handset ≡ h → OccursOnce x ps → OccursOnce x (accepted_at h ps)
 own_once h x [] e o = o
 own_once h x (p ∷ ps) e o = ⊎_elim
     (λ (t : bytes_eq p.handset h ≡ true).
-    subst (λ (z : List Accepted). StandsOnce x z) (sym (cond-true (bytes_eq p.handset h) (p ∷ accepted_at h ps) (accepted_at h ps) t))
+    subst (λ (z : List Accepted). OccursOnce x z) (sym (cond-true (bytes_eq p.handset h) (p ∷ accepted_at h ps) (accepted_at h ps) t))
     (⊎_elim
     (λ (a : (x ≡ p) × ¬ Among x ps). inl (a.0, λ i. a.1 (within h x ps i)))
-    (λ (a : ¬ (x ≡ p) × StandsOnce x ps). inr (a.0, own_once h x ps e a.1))
+    (λ (a : ¬ (x ≡ p) × OccursOnce x ps). inr (a.0, own_once h x ps e a.1))
     o))
     (λ (t : bytes_eq p.handset h ≡ false).
-    subst (λ (z : List Accepted). StandsOnce x z) (sym (cond-false (bytes_eq p.handset h) (p ∷ accepted_at h ps) (accepted_at h ps) t))
+    subst (λ (z : List Accepted). OccursOnce x z) (sym (cond-false (bytes_eq p.handset h) (p ∷ accepted_at h ps) (accepted_at h ps) t))
     (⊎_elim
     (λ (a : (x ≡ p) × ¬ Among x ps). absurd (both_ways (bytes_eq p.handset h) t ((bytes_eq-Decides p.handset h).1 (ap (λ (z : Accepted). z.handset) (sym a.0) ∙ e))))
-    (λ (a : ¬ (x ≡ p) × StandsOnce x ps). own_once h x ps e a.1)
+    (λ (a : ¬ (x ≡ p) × OccursOnce x ps). own_once h x ps e a.1)
     o))
     (cases_Bool (bytes_eq p.handset h))
   where
@@ -115,7 +115,7 @@ some_seen a b e = cc
 abbrev seen_of : PartRow → PartSeen
 seen_of p = record { reference = p.reference; tpdu = compared p.tpdu; is_done = p.progress.is_done }
 
-module _ (c : Course) (w : World) (s : CourseSees c w) (all : DeliveredAccepted w) (m : MessageRow) (p : PartRow) (i : Among m c.centre.rows.messages) (ended : m.state ≡ Some Delivered)
+module _ (c : PlayState) (w : World) (s : PlayRefines c w) (all : DeliveredAccepted w) (m : MessageRow) (p : PartRow) (i : Among m c.centre.rows.messages) (ended : m.state ≡ Some Delivered)
     (j : Among p c.centre.rows.parts) (of : p.id ≡ m.id) where
   there : message_at m.id c.centre.rows.messages ≡ Some m
   there = among_found message_key m c.centre.rows.messages s.sound.rows.messages.message_keys i
@@ -127,26 +127,26 @@ module _ (c : Course) (w : World) (s : CourseSees c w) (all : DeliveredAccepted 
   seen = by_octet_is p.number (part_seen (part_at m.id p.number c.centre.rows.parts)) (small p.number ((s.sound.rows.messages.each_part p j).few)) ∙ ap part_seen at
 
   -- what was given to the part says what its row says
-  given_is : (g : Giving) → Among g w.down → g.holder ≡ Part m.id p.number → pair_given g ≡ pair_in_row m p
+  given_is : (g : Allocation) → Among g w.down → g.holder ≡ Part m.id p.number → pair_given g ≡ pair_in_row m p
   given_is g among holder =
       let x = s.centre.rows.holders.of_part g m.id p.number among holder in
       let row : x.0 ≡ m = some_message x.0 m (sym x.2.0 ∙ there) in
       let part : x.1 ≡ seen_of p = some_seen x.1 (seen_of p) (sym x.2.1 ∙ seen) in
       ap pair_given x.2.2 ∙ (λ t. record { handset = (row t).handset; reference = (part t).reference; tpdu = (part t).tpdu })
 
-  pub delivered_row : StandsOnce (pair_in_row m p) w.accepted × IsAsSubmitted m p.number p
+  pub delivered_row : OccursOnce (pair_in_row m p) w.accepted × IsAsSubmitted m p.number p
   delivered_row =
       let x = s.centre.rows.table.there m.id m there in
       let final : IsStateOf (Some Delivered) (parts_by c.centre.rows.parts m.id) x.1 = subst (λ (o : Option FinalState). IsStateOf o (parts_by c.centre.rows.parts m.id) x.1) ended x.2.2 in
-      let stands : Stands w.table m.id x.0 (Final Delivered) = subst (λ (z : State). Stands w.table m.id x.0 z) final x.2.0 in
+      let stands : IsRecorded w.table m.id x.0 (Final Delivered) = subst (λ (z : State). IsRecorded w.table m.id x.0 z) final x.2.0 in
       let has = x.2.3.there p.number (seen_of p) seen in
       let y = all m.id x.0 p.number has.0 stands has.1 in
       let same : pair_given y.0 ≡ pair_in_row m p = given_is y.0 y.1.0 y.1.1 in (
-        subst (λ (a : Accepted). StandsOnce a w.accepted) same y.1.4,
+        subst (λ (a : Accepted). OccursOnce a w.accepted) same y.1.4,
         (x.0, has.0, y.0.moment, (x.2.1, has.1, subst (λ (a : Accepted). IsDeliverOf x.0 has.0 y.0.moment a.tpdu) same y.1.3)),
       )
 
-pub delivered_once : (c : Course) (w : World) → CourseSees c w → IsFaithful w → TakersThere c w → DeliveredOnce c
+pub delivered_once : (c : PlayState) (w : World) → PlayRefines c w → IsFaithful w → TakersThere c w → DeliveredOnce c
 delivered_once c w s f takers m p i ended j of =
     let x = delivered_row c w s (delivered_accepted w f) m p i ended j of in
     let q = of_number m.handset c.parties (takers (pair_in_row m p) (stands_among (pair_in_row m p) w.accepted x.0)) in (
@@ -154,7 +154,7 @@ delivered_once c w s f takers m p i ended j of =
       (
         q.1.0,
         q.1.1,
-        subst (λ (ps : List Accepted). StandsOnce (pair_in_row m p) ps) (s.parties q.0 q.1.0).accepted (own_once q.0.number (pair_in_row m p) w.accepted (sym q.1.1) x.0),
+        subst (λ (ps : List Accepted). OccursOnce (pair_in_row m p) ps) (s.parties q.0 q.1.0).accepted (own_once q.0.number (pair_in_row m p) w.accepted (sym q.1.1) x.0),
         x.1,
       ),
     )

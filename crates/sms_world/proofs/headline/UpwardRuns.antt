@@ -7,7 +7,7 @@ use Rattle.sms_world_model.specs.Run.{Run, after_item, end}
 use Rattle.sms_world_model.specs.ScriptRun.{After, AllControl, Asked, Before, Belongs, Cancelled, Event, Handed, Happening, IsInOrder, Reads, Removed, Restarted, Submitted, Tick_centre, Tick_handset, Went, Whole, Wrote, happened, is_stopped, items}
 use Rattle.sms_world_model.specs.ScriptPremises.{HandsTimely}
 use Rattle.sms_world_model.specs.Timely.{IsTimely, ReadsTimely}
-use Rattle.sms_world_model.specs.World.{Carried, Down, Frame, Giving, OutEntry, Up, World}
+use Rattle.sms_world_model.specs.World.{Carried, Down, Frame, Allocation, OutEntry, Up, World}
 use Rattle.sms_world_model.specs.WorldStep.{Acknowledged, Again, Can, Control, HasReferenceUp, Settle, Step, Take}
 use Rattle.sms_world_model.proofs.Scripts.{script_timely}
 use Rattle.sms_world_model.proofs.Upward.{IsUpward, up_run}
@@ -23,11 +23,11 @@ control_leaves w m b (_ ∷ ss) c = absurd c.0
 
 -- what the step that reads the frame asks of it
 module _ (w v : World) (u : Frame) (same : (v.up ≡ w.up) × (v.outbox ≡ w.outbox)) (more : IsTimely w u → IsTimely v u) (hands : u.line ≡ Down → IsTimely w u)
-    (answers : u.line ≡ Up → u.kind ≡ Ack → (g : Giving) (e : OutEntry) → HasReferenceUp w u g e → IsTimely w u) where
-  held_before : (x : Frame) (g : Giving) (e : OutEntry) → x ≡ u → HasReferenceUp v x g e → HasReferenceUp w u g e
+    (answers : u.line ≡ Up → u.kind ≡ Ack → (g : Allocation) (e : OutEntry) → HasReferenceUp w u g e → IsTimely w u) where
+  held_before : (x : Frame) (g : Allocation) (e : OutEntry) → x ≡ u → HasReferenceUp v x g e → HasReferenceUp w u g e
   held_before x g e r has = (
     (
-      subst (λ (gs : List Giving). Among g gs) same.0 has.0.0,
+      subst (λ (gs : List Allocation). Among g gs) same.0 has.0.0,
       subst (λ (es : List OutEntry). Among e es) same.1 has.0.1,
       has.0.2,
       has.0.3,

@@ -14,16 +14,16 @@ use Rattle.sms_centre_rows.specs.messages.Messages.{message_key, part_at, part_k
 use Rattle.sms_centre_rows.specs.declared.messages.message.MessageRow.{MessageRow}
 use Rattle.sms_centre_rows.specs.declared.messages.part.PartRow.{PartRow}
 use Rattle.sms_script.specs.declared.report.answers.MessageState.TheVariants.{Final}
-use Rattle.sms_script.specs.declared.report.rows.MessageRow.{MessageRow as MessageLine}
+use Rattle.sms_script.specs.declared.report.rows.ReportedMessage.{ReportedMessage}
 use Rattle.sms_script.specs.declared.event.Act.{Act}
 use Rattle.sms_script.specs.declared.event.Act.TheVariants.{Submit, Query, Cancel, Write, Delete, Discard, Deliver, Tick}
-use Rattle.sms_script.specs.declared.event.Stop.TheVariants.{After, Before}
+use Rattle.sms_script.specs.declared.event.StopPoint.TheVariants.{After, Before}
 use Rattle.sms_script.specs.declared.event.WorldEvent.{WorldEvent}
 use Rattle.sms_script.specs.declared.event.WorldEvent.TheVariants.{Whole, Stopped, Restart}
 use Rattle.sms_script.specs.declared.setup.Setup.{Setup}
 use Rattle.sms_play.specs.CentreSide.{state_of}
-use Rattle.sms_play.specs.Course.{Course}
-use Rattle.sms_world.specs.refinement.CourseSight.{CourseSees}
+use Rattle.sms_play.specs.PlayState.{PlayState}
+use Rattle.sms_world.specs.refinement.PlayRefinement.{PlayRefines}
 use Rattle.sms_world_refinement.specs.centre_events.TruthfulRows.{pair_in_row}
 use Rattle.sms_world.specs.headline.Claims.{DeliveredOnce, IsAcceptedOnce}
 use Rattle.sms_world.proofs.headline.Claimed.{delivered_is, run_is}
@@ -45,7 +45,7 @@ one_is_small : 1 < 256
 one_is_small = omega arith
 
 -- each part of the message was accepted once
-module _ (c : Course) (m : MessageRow) (few : (p : PartRow) → Among p c.centre.rows.parts → p.number < 256) (once : (p : PartRow) → Among p c.centre.rows.parts → p.id ≡ m.id → IsAcceptedOnce c m p) where
+module _ (c : PlayState) (m : MessageRow) (few : (p : PartRow) → Among p c.centre.rows.parts → p.number < 256) (once : (p : PartRow) → Among p c.centre.rows.parts → p.id ≡ m.id → IsAcceptedOnce c m p) where
   -- also the one of that number
   at_number : (n : ℕ) (p : PartRow) → n < 256 → part_at m.id n c.centre.rows.parts ≡ Some p → IsAcceptedOnce c m p
   at_number n p low at =
@@ -61,7 +61,7 @@ module _ (c : Course) (m : MessageRow) (few : (p : PartRow) → Among p c.centre
       let o = at_number n p.0 low p.1.0 in
       (pair_in_row m p.0, ((o.0, (o.1.0, o.1.1, o.1.2)), p.1.1))
 
-  act_accepted : (act : Act) (before : Course) (makes : ActMakes act before m c.centre.rows.parts) → ActAccepted act c before m makes
+  act_accepted : (act : Act) (before : PlayState) (makes : ActMakes act before m c.centre.rows.parts) → ActAccepted act c before m makes
   act_accepted (Submit s) before makes = all_accepted makes.submission makes.is.reference makes.is.few makes.is.each
   act_accepted (Query name id) before makes = absurd makes
   act_accepted (Cancel name id) before makes = absurd makes
@@ -73,7 +73,7 @@ module _ (c : Course) (m : MessageRow) (few : (p : PartRow) → Among p c.centre
       let found : SubmitAccepted c m makes.submit = (pair_in_row m makes.part, ((o.0, (o.1.0, o.1.1, o.1.2)), makes.carries)) in found
   act_accepted (Tick side now) before makes = absurd makes
 
-  pub was_accepted : (e : WorldEvent) (before : Course) (makes : Makes e before m c.centre.rows.parts) → WasAccepted e c before m makes
+  pub was_accepted : (e : WorldEvent) (before : PlayState) (makes : Makes e before m c.centre.rows.parts) → WasAccepted e c before m makes
   was_accepted (Whole act) before makes = act_accepted act before makes
   was_accepted (Stopped Before act) before makes = absurd makes
   was_accepted (Stopped After act) before makes = act_accepted act before makes
@@ -84,7 +84,7 @@ ended_so None f e = absurd cc
 ended_so (Some g) f e =
     let same : g ≡ f = cc in ap (λ (z : FinalState). Some z) same
 
-delivered_of : (s : Setup) (events : List WorldEvent) (c : Course) (m : MessageRow) → ((p : PartRow) → Among p c.centre.rows.parts → p.number < 256) → DeliveredOnce c → ComeOfEvents s events c
+delivered_of : (s : Setup) (events : List WorldEvent) (c : PlayState) (m : MessageRow) → ((p : PartRow) → Among p c.centre.rows.parts → p.number < 256) → DeliveredOnce c → ComeOfEvents s events c
     → Among m c.centre.rows.messages → m.state ≡ Some Delivered → IsDeliveredFrom s events c m
 delivered_of s events c m few once come i e =
     let o = come m i in (o, was_accepted c m few (λ p j of. once m p i e j of) o.event o.before o.makes)
@@ -92,7 +92,7 @@ delivered_of s events c m few once come i e =
 pub delivered_from : DeliveredLaw
 delivered_from text script some others c d is on timely =
     let x = run_is text script some others c d is on in
-    let k : CourseSees c x.0 = x.2.1 in
+    let k : PlayRefines c x.0 = x.2.1 in
     let few : (p : PartRow) → Among p c.centre.rows.parts → p.number < 256 = λ p i. small p.number ((k.sound.rows.messages.each_part p i).few) in
     let once : DeliveredOnce c = delivered_is text script some others c d is on timely in
     let come : ComeOfEvents script.setup some c = origin_is text script some others c d is on in (
@@ -102,5 +102,5 @@ delivered_from text script some others c d is on timely =
           (f.message, (among, f.id, delivered_of script.setup some c f.message few once come among (f.state ∙ ap (λ (z : FinalState). Some z) e))),
       λ l i e.
           let r = row_of_line l c.centre.rows.messages i in
-          (r.0, (r.1.0, sym (ap (λ (z : MessageLine). z.id) r.1.1), delivered_of script.setup some c r.0 few once come r.1.0 (ended_so r.0.state Delivered (sym (ap (λ (z : MessageLine). z.state) r.1.1) ∙ e)))),
+          (r.0, (r.1.0, sym (ap (λ (z : ReportedMessage). z.id) r.1.1), delivered_of script.setup some c r.0 few once come r.1.0 (ended_so r.0.state Delivered (sym (ap (λ (z : ReportedMessage). z.state) r.1.1) ∙ e)))),
     )

@@ -8,7 +8,7 @@ use Rattle.sms_base.specs.declared.final_state.FinalState.TheVariants.{Deleted, 
 use Rattle.sms_world_model.specs.Run.{Run, after_item, end}
 use Rattle.sms_world_model.specs.ScriptRun.{After, Asked, Before, Belongs, Cancelled, Event, Handed, Happening, IsInOrder, IsOwn, IsPlayed, Reads, Removed, Restarted, Submitted, Tick_centre, Tick_handset, Went, Whole, Wrote, is_stopped, items}
 use Rattle.sms_world_model.specs.Submission.{Submission}
-use Rattle.sms_world_model.specs.World.{Carried, Final, Frame, Message, OutEntry, Pending, Stands, State, Up, World, changed, find}
+use Rattle.sms_world_model.specs.World.{Carried, Final, Frame, Message, OutEntry, Pending, IsRecorded, State, Up, World, changed, find}
 use Rattle.sms_world_model.specs.WorldStep.{Asks, Can, Delete, Expire, Fail, Receive, Remove, Settle, Step, Submit, Take, after, marked}
 use Rattle.sms_world_model.proofs.Tables.{entered_back}
 use Rattle.sms_world.proofs.headline.FaithfulRuns.{end_parts, run_parts}
@@ -16,14 +16,14 @@ use Rattle.sms_world.proofs.headline.FreshRuns.{AllQuiet, HandsOne, IsQuiet, con
 
 -- the message of that id is that submission, whatever its state
 abbrev pub IsInTable : ℕ → Submission → List Message → Type 0
-IsInTable id u table = (st : State) × Stands table id u st
+IsInTable id u table = (st : State) × IsRecorded table id u st
 
 -- ---- a message whose state changes
 
 one_message : (x y : Message) → Some x ≡ Some y → x ≡ y
 one_message x y e = cc
 
-still_here : (id : ℕ) (e : Message) (z : State) (es rest : List Message) (u : Submission) (st : State) → (Stands rest id u st → IsInTable id u es) → Stands (record { submission = e.submission; state = z } ∷ rest) id u st → IsInTable id u (e ∷ es)
+still_here : (id : ℕ) (e : Message) (z : State) (es rest : List Message) (u : Submission) (st : State) → (IsRecorded rest id u st → IsInTable id u es) → IsRecorded (record { submission = e.submission; state = z } ∷ rest) id u st → IsInTable id u (e ∷ es)
 still_here id e z es rest u st more k =
     let y : Message = record { submission = e.submission; state = z } in
     let x : Message = record { submission = u; state = st } in
@@ -37,17 +37,17 @@ still_here id e z es rest u st more k =
     let found : IsInTable id u (e ∷ es) = (was.0, cond-false (e.submission.id == id) (Some e) (find id es) t ∙ was.1) in found)
     (cases_Bool (e.submission.id == id))
 
-changed_still : (j : ℕ) (f : Message → State) (t : List Message) (id : ℕ) (u : Submission) (st : State) → Stands (changed j f t) id u st → IsInTable id u t
+changed_still : (j : ℕ) (f : Message → State) (t : List Message) (id : ℕ) (u : Submission) (st : State) → IsRecorded (changed j f t) id u st → IsInTable id u t
 changed_still j f [] id u st k = absurd cc
 changed_still j f (e ∷ es) id u st k =
-    cond_both (e.submission.id == j) (record { submission = e.submission; state = f e }) e (λ (y : Message). Stands (y ∷ changed j f es) id u st → IsInTable id u (e ∷ es))
+    cond_both (e.submission.id == j) (record { submission = e.submission; state = f e }) e (λ (y : Message). IsRecorded (y ∷ changed j f es) id u st → IsInTable id u (e ∷ es))
     (λ b h. still_here id e (f e) es (changed j f es) u st (λ q. changed_still j f es id u st q) h)
     (λ b h. still_here id e e.state es (changed j f es) u st (λ q. changed_still j f es id u st q) h)
     k
 
 -- ---- steps that take in no message
 
-quiet_was : (w : World) (m : ℕ) (s : Step) (id : ℕ) (u : Submission) (st : State) → IsQuiet s → Stands (after w m s).table id u st → IsInTable id u w.table
+quiet_was : (w : World) (m : ℕ) (s : Step) (id : ℕ) (u : Submission) (st : State) → IsQuiet s → IsRecorded (after w m s).table id u st → IsInTable id u w.table
 quiet_was w m (Submit x ts) id u st q k = absurd q
 quiet_was w m (Receive f x ts) id u st q k = absurd q
 quiet_was w m (Take f) id u st q k = absurd q
@@ -81,14 +81,14 @@ Enters w Restarted u = ⊥
 
 module _ (w v : World) (m : ℕ) (id : ℕ) (u : Submission) where
   module _ (n : ℕ) (f : Frame) (there : Among (Carried f) w.bag) (number : f.number ≡ n) where
-    read_was : (s : Step) (st : State) → Reads f s → Can v m s → Stands (after v m s).table id u st → IsInTable id u v.table ⊎ Enters w (Handed n) u
+    read_was : (s : Step) (st : State) → Reads f s → Can v m s → IsRecorded (after v m s).table id u st → IsInTable id u v.table ⊎ Enters w (Handed n) u
     read_was (Submit x ts) st r can k = absurd r
     read_was (Receive g x ts) st r can k = ⊎_elim
         (λ (e : (id ≡ x.id) × (u ≡ x) × (st ≡ Pending [])).
         let asks : Asks f u = subst (λ (z : Frame × Submission). Asks z.0 z.1) (λ j. (r j, sym e.1 j)) can.1 in
         let found : IsInTable id u v.table ⊎ Enters w (Handed n) u =
         inr (f, (there, number, ap (λ (z : Frame). z.line) (sym r) ∙ can.0.1, ap (λ (z : Frame). z.kind) (sym r) ∙ can.0.2, asks)) in found)
-        (λ (old : Stands v.table id u st). let found : IsInTable id u v.table ⊎ Enters w (Handed n) u = inl (st, old) in found)
+        (λ (old : IsRecorded v.table id u st). let found : IsInTable id u v.table ⊎ Enters w (Handed n) u = inl (st, old) in found)
         (entered_back v.table x u (Pending []) st id k)
     read_was (Settle g h j i) st r can k = inl (changed_still j (λ (e : Message). marked i e.submission.parts e.state) v.table id u st k)
     read_was (Fail g h j i) st r can k = inl (changed_still j (λ (e : Message). Final Undeliverable) v.table id u st k)

@@ -3,7 +3,7 @@ use Rattle.std.proofs.Common.{◌≡◌, ◌⊎◌, inl, inr, ℕ, ◌+◌, List
 use Rattle.sms_base.specs.Reading.{◌>>=◌}
 use Rattle.sms_rows.proofs.table.Tables.{found_key}
 use Rattle.smpp_pdu.specs.declared.message.Message.{Message as Pdu}
-use Rattle.sms_intake.specs.declared.submission.Account.{Account}
+use Rattle.sms_intake.specs.declared.submission.CentreAccount.{CentreAccount}
 use Rattle.sms_intake.specs.declared.submission.Submission.{Submission as Submitted}
 use Rattle.sms_intake.specs.SmppIntake.{from_pdu}
 use Rattle.sms_centre_rows.specs.messages.Messages.{message_at, message_key}
@@ -17,29 +17,29 @@ use Rattle.sms_centre_spec.specs.Requests.{account_at}
 use Rattle.sms_centre_spec.specs.SoundCore.{IsEvent, IsSoundCore}
 use Rattle.sms_script.specs.declared.event.Act.TheVariants.{Submit, Query, Cancel, Write, Delete, Discard, Deliver, Tick}
 use Rattle.sms_script.specs.declared.event.Side.TheVariants.{Centre, Handset}
-use Rattle.sms_script.specs.declared.event.Stop.TheVariants.{After, Before}
+use Rattle.sms_script.specs.declared.event.StopPoint.TheVariants.{After, Before}
 use Rattle.sms_script.specs.declared.event.Submission.{Submission as ScriptSubmission}
 use Rattle.sms_script.specs.declared.event.WorldEvent.{WorldEvent}
 use Rattle.sms_script.specs.declared.event.WorldEvent.TheVariants.{Whole, Stopped, Restart}
-use Rattle.sms_play.specs.Course.{Course}
+use Rattle.sms_play.specs.PlayState.{PlayState}
 use Rattle.sms_play.specs.Meeting.{AtCentre, Meeting, account_from, by_account, submit_of}
 use Rattle.sms_play.specs.PlayedEvent.{met, played, stopped}
 use Rattle.sms_play.specs.Playing.{played_on}
 use Rattle.sms_world_model.specs.Run.{end}
 use Rattle.sms_world_model.specs.ScriptRun.{Handed, Happening, happened as happened_in}
 use Rattle.sms_world_model.specs.Submission.{Submission}
-use Rattle.sms_world_model.specs.World.{Stands, World}
+use Rattle.sms_world_model.specs.World.{IsRecorded, World}
 use Rattle.sms_world_model.proofs.Runs.{messages_stay}
 use Rattle.sms_world_model.proofs.Scripts.{script_steps}
-use Rattle.sms_world.specs.refinement.CourseRuns.{AllHandOctets, AreGood, happenings}
-use Rattle.sms_world.specs.refinement.CourseSight.{CourseSees}
+use Rattle.sms_world.specs.refinement.PlayRuns.{AllHandOctets, AreGood, happenings}
+use Rattle.sms_world.specs.refinement.PlayRefinement.{PlayRefines}
 use Rattle.sms_world.specs.refinement.Happening.{HandsOctets, IsGoodEvent, happening_of}
-use Rattle.sms_world.proofs.refinement.Events.{event_leads, ok_course, same_course}
+use Rattle.sms_world.proofs.refinement.Events.{event_leads, ok_play, same_play}
 use Rattle.sms_world.proofs.refinement.Runs.{run_leads}
 use Rattle.sms_world_refinement.specs.submissions.SubmittedRows.{IsSubmitted}
 use Rattle.sms_world_refinement.proofs.submissions.NewMessages.{made_is}
 use Rattle.sms_world_refinement.proofs.submissions.StaysSubmitted.{HasSubmitted, stays_submitted}
-use Rattle.sms_world.proofs.headline.SplitCourses.{all_kept}
+use Rattle.sms_world.proofs.headline.SplitPlays.{all_kept}
 use Rattle.sms_world.specs.origins.Origins.{IsOfApplication, IsOfHandset, Makes}
 use Rattle.sms_world.proofs.origins.Entered.{Enters, EntersAs, IsInTable, event_was}
 use Rattle.sms_world.proofs.origins.HandsetMessages.{of_handset}
@@ -60,33 +60,33 @@ submitted_kept id u event c sound is (x, (at, k)) =
 -- ---- a submit_sm, that went to its end or was stopped behind its store call
 
 -- the account's place, and what the rows are then
-pub record SubmitLeads (s : ScriptSubmission) (c next : Course) : Type 0 where
+pub record SubmitLeads (s : ScriptSubmission) (c next : PlayState) : Type 0 where
   pub place : ℕ
   pub named : account_from 0 s.name c.centre.rows.setup.accounts ≡ Some place
   pub rows : rows_of next ≡ rows_in (happened (CentreSubmit place (submit_of s)) c.centre).store
 
-account_met : (n : ℕ) (pdu : Pdu) (o : Option ℕ) (f : Meeting → Course) (next : Course) → (by_account n (λ (place : ℕ). CentreSubmit place pdu) o >>= λ (m : Meeting). ok_course (f m)) ≡ ok_course next
+account_met : (n : ℕ) (pdu : Pdu) (o : Option ℕ) (f : Meeting → PlayState) (next : PlayState) → (by_account n (λ (place : ℕ). CentreSubmit place pdu) o >>= λ (m : Meeting). ok_play (f m)) ≡ ok_play next
     → (place : ℕ) × ((o ≡ Some place) × (f (AtCentre (CentreSubmit place pdu)) ≡ next))
 account_met n pdu None f next e = absurd cc
-account_met n pdu (Some place) f next e = (place, (refl, same_course (f (AtCentre (CentreSubmit place pdu))) next e))
+account_met n pdu (Some place) f next e = (place, (refl, same_play (f (AtCentre (CentreSubmit place pdu))) next e))
 
-pub whole_leads : (n : ℕ) (s : ScriptSubmission) (c next : Course) → played n (Whole (Submit s)) c ≡ ok_course next → SubmitLeads s c next
+pub whole_leads : (n : ℕ) (s : ScriptSubmission) (c next : PlayState) → played n (Whole (Submit s)) c ≡ ok_play next → SubmitLeads s c next
 whole_leads n s c next q =
     let x = account_met n (submit_of s) (account_from 0 s.name c.centre.rows.setup.accounts) (λ m. met n m c) next q in
-    record { place = x.0; named = x.1.0; rows = ap (λ (z : Course). rows_of z) (sym x.1.1) ∙ meets_leaves n (CentreSubmit x.0 (submit_of s)) c }
+    record { place = x.0; named = x.1.0; rows = ap (λ (z : PlayState). rows_of z) (sym x.1.1) ∙ meets_leaves n (CentreSubmit x.0 (submit_of s)) c }
 
-pub stopped_leads : (n : ℕ) (s : ScriptSubmission) (c next : Course) → played n (Stopped After (Submit s)) c ≡ ok_course next → SubmitLeads s c next
+pub stopped_leads : (n : ℕ) (s : ScriptSubmission) (c next : PlayState) → played n (Stopped After (Submit s)) c ≡ ok_play next → SubmitLeads s c next
 stopped_leads n s c next q =
     let x = account_met n (submit_of s) (account_from 0 s.name c.centre.rows.setup.accounts) (λ m. stopped n (Submit s) After m c) next q in
-    record { place = x.0; named = x.1.0; rows = ap (λ (z : Course). rows_of z) (sym x.1.1) }
+    record { place = x.0; named = x.1.0; rows = ap (λ (z : PlayState). rows_of z) (sym x.1.1) }
 
 -- ---- one event, and then the others
 
-abbrev pub StoodIn : Course → ℕ → Type 0
+abbrev pub StoodIn : PlayState → ℕ → Type 0
 StoodIn c id = (x : MessageRow) × (message_at id c.centre.rows.messages ≡ Some x)
 
-module _ (n : ℕ) (e : WorldEvent) (es : List WorldEvent) (c next d : Course) (w : World) (s : CourseSees c w) (good : IsGoodEvent e) (octets : HandsOctets e c) (is : played n e c ≡ ok_course next)
-    (goods : AreGood es) (more : AllHandOctets (n + 1) es next) (leads : played_on (n + 1) es next ≡ ok_course d) (m : MessageRow) (at : message_at m.id d.centre.rows.messages ≡ Some m) where
+module _ (n : ℕ) (e : WorldEvent) (es : List WorldEvent) (c next d : PlayState) (w : World) (s : PlayRefines c w) (good : IsGoodEvent e) (octets : HandsOctets e c) (is : played n e c ≡ ok_play next)
+    (goods : AreGood es) (more : AllHandOctets (n + 1) es next) (leads : played_on (n + 1) es next ≡ ok_play d) (m : MessageRow) (at : message_at m.id d.centre.rows.messages ≡ Some m) where
   abbrev h : Happening
   h = happening_of e c.centre.moment
 
@@ -101,7 +101,7 @@ module _ (n : ℕ) (e : WorldEvent) (es : List WorldEvent) (c next d : Course) (
       ⊎_elim
       (λ (old : message_at y.id c.centre.rows.messages ≡ Some y).
       let found : StoodIn c m.id ⊎ IsOfApplication x c m d.centre.rows.parts = inl (y, ap (λ (i : ℕ). message_at i c.centre.rows.messages) (sym own) ∙ old) in found)
-      (λ (z : (account : Account) × (u : Submitted)
+      (λ (z : (account : CentreAccount) × (u : Submitted)
       × ((account_at k.place c.centre.rows.setup.accounts ≡ Some account) × (from_pdu account c.centre.moment (submit_of x) ≡ Ok u) × IsSubmitted u y (parts_in (happened event c.centre).store))).
       let u : Submitted = z.1 in
       let l = event_leads n e c next w s good octets is in
@@ -120,7 +120,7 @@ module _ (n : ℕ) (e : WorldEvent) (es : List WorldEvent) (c next d : Course) (
       let y = run_leads (n + 1) es next d v l.1.2 goods more leads in
       let z = script_steps v y.0 (happenings (n + 1) es next) y.1.0 in
       let later = messages_stay v z.0 z.1.0 m.id u st stands in
-      let still : Stands y.0.table m.id u later.0 = subst (λ (t : World). Stands t.table m.id u later.0) z.1.1 later.1 in
+      let still : IsRecorded y.0.table m.id u later.0 = subst (λ (t : World). IsRecorded t.table m.id u later.0) z.1.1 later.1 in
       of_handset d y.0 y.1.1 u later.0 f x.4 m at still number c w s x.0 x.1 x.2 x.3
 
   either_makes : (event : WorldEvent) → event ≡ e → StoodIn next m.id → (u : Submission) → IsInTable m.id u (end w (happened_in h (event_leads n e c next w s good octets is).0)).table

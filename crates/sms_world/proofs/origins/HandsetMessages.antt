@@ -21,19 +21,19 @@ use Rattle.sms_tpdu.specs.MoreMessages.{compared}
 use Rattle.sms_tpdu.specs.TpduReading.{up_at}
 use Rattle.sms_tpdu.specs.declared.carrier.Carrier.TheVariants.{InData}
 use Rattle.sms_tpdu.specs.declared.user_data.UserData.{UserData}
-use Rattle.sms_play.specs.Course.{Course}
+use Rattle.sms_play.specs.PlayState.{PlayState}
 use Rattle.sms_world_model.specs.Submission.{HasPart, Submission, part_at as user_data_at}
 use Rattle.sms_world_model.specs.WhoseTpdu.{IsDeliverOf}
-use Rattle.sms_world_model.specs.World.{Carried, Frame, Giving, Sent, Stands, State, Up, World}
+use Rattle.sms_world_model.specs.World.{Carried, Frame, Allocation, Sent, IsRecorded, State, Up, World}
 use Rattle.sms_world_model.specs.WorldStep.{Asks}
 use Rattle.sms_world_model.proofs.Faithful.{part_within}
 use Rattle.sms_world_model.proofs.Sound.{IsKnown, IsSound}
 use Rattle.sms_world_model.proofs.Tables.{same_message}
 use Rattle.sms_world_refinement.proofs.centre.ByOctets.{by_octet_is, by_octet_some}
-use Rattle.sms_world_refinement.specs.centre.SeesGiven.{given_part}
-use Rattle.sms_world_refinement.specs.centre.SeesMessages.{IsRowOf, PartSeen, part_seen}
+use Rattle.sms_world_refinement.specs.centre.RefinesGiven.{given_part}
+use Rattle.sms_world_refinement.specs.centre.RefinesMessages.{IsRowOf, PartSeen, part_seen}
 use Rattle.sms_world.proofs.refinement.Telling.{sound_there}
-use Rattle.sms_world.specs.refinement.CourseSight.{CourseSees, sent_by, sent_row}
+use Rattle.sms_world.specs.refinement.PlayRefinement.{PlayRefines, sent_by, sent_row}
 use Rattle.sms_world.proofs.headline.DecidedTimely.{row_from}
 use Rattle.sms_world.specs.origins.Origins.{IsOfHandset}
 
@@ -73,7 +73,7 @@ module _ (f : FrameRow) (u : Frame) (line : u.line ≡ Up) (data_is : u.kind ≡
       let q : frame_down f.handset f.number f.octets x ≡ u = same_frame (frame_down f.handset f.number f.octets x) u e in
       absurd (not_down x.kind (ap (λ (z : Frame). z.kind) q ∙ data_is) (ap (λ (z : Frame). z.line) q ∙ line))
 
-row_of : (c : Course) (w : World) (u : Frame) → CourseSees c w → Among (Carried u) w.bag → u.line ≡ Up → u.kind ≡ Data → (f : FrameRow) × (Among f c.bag × IsRowUp f u)
+row_of : (c : PlayState) (w : World) (u : Frame) → PlayRefines c w → Among (Carried u) w.bag → u.line ≡ Up → u.kind ≡ Data → (f : FrameRow) × (Among f c.bag × IsRowUp f u)
 row_of c w u s i line data_is = ⊎_elim
     (λ none. absurd none)
     (λ (y : (f : FrameRow) × (Among f c.bag × (sent_row f ≡ Carried u))). (y.0, (y.1.0, row_by y.0 u line data_is y.0.direction y.0.carried refl y.1.1)))
@@ -107,7 +107,7 @@ row_seen None x e = absurd (no_row x e)
 row_seen (Some p) x e = (p, refl)
 
 -- what the rows have of a message of one part
-record OnePart (c : Course) (m : MessageRow) (u : Submission) (text : UserData) : Type 0 where
+record OnePart (c : PlayState) (m : MessageRow) (u : Submission) (text : UserData) : Type 0 where
   part : PartRow
   part_there : part_at m.id 1 c.centre.rows.parts ≡ Some part
   alone : (p : PartRow) → Among p c.centre.rows.parts → p.id ≡ m.id → p ≡ part
@@ -116,7 +116,7 @@ record OnePart (c : Course) (m : MessageRow) (u : Submission) (text : UserData) 
   deliver : IsDeliverOf u text moment (compared part.tpdu)
 
 -- at a course that sees the message in the world's table, its one part is a DELIVER of the SUBMIT
-module _ (c : Course) (w : World) (s : CourseSees c w) (u : Submission) (st : State) (f : Frame) (asks : Asks f u) (m : MessageRow) (at : message_at m.id c.centre.rows.messages ≡ Some m) (stands : Stands w.table m.id u st) where
+module _ (c : PlayState) (w : World) (s : PlayRefines c w) (u : Submission) (st : State) (f : Frame) (asks : Asks f u) (m : MessageRow) (at : message_at m.id c.centre.rows.messages ≡ Some m) (stands : IsRecorded w.table m.id u st) where
   abbrev text : UserData
   text = asks.submit.user_data
 
@@ -133,7 +133,7 @@ module _ (c : Course) (w : World) (s : CourseSees c w) (u : Submission) (st : St
       let row = row_seen (part_at m.id 1 c.centre.rows.parts) seen.0 octet.1 in
       let p : PartRow = row.0 in
       let g = s.centre.rows.holders.part m.id 1 m seen.0 at seen.1 in
-      let x : Giving = given_part m 1 seen.0 g.0 in
+      let x : Allocation = given_part m 1 seen.0 g.0 in
       let known : IsKnown w.table w.receipts x (Part m.id 1) = sound.known x g.1 in
       let mine : known.0 ≡ u = (same_message w.table m.id known.0 u known.1 st known.2.0 stands).0 in
       let part : UserData = known.2.1.0 in
@@ -157,9 +157,9 @@ module _ (c : Course) (w : World) (s : CourseSees c w) (u : Submission) (st : St
         deliver = subst (λ (z : Submission × UserData × List ℕ). IsDeliverOf z.0 z.1 g.0 z.2) (λ j. (mine j, is_data j, seen_is j)) known.2.1.1.1;
       }
 
-  pub of_handset : (n : ℕ) (before : Course) (v : World) → CourseSees before v → Among (Carried f) v.bag → f.number ≡ n → f.line ≡ Up → f.kind ≡ Data → IsOfHandset n before m c.centre.rows.parts
-  of_handset n before v sees there number line data_is =
-      let r = row_of before v f sees there line data_is in
+  pub of_handset : (n : ℕ) (before : PlayState) (v : World) → PlayRefines before v → Among (Carried f) v.bag → f.number ≡ n → f.line ≡ Up → f.kind ≡ Data → IsOfHandset n before m c.centre.rows.parts
+  of_handset n before v refines there number line data_is =
+      let r = row_of before v f refines there line data_is in
       let o = one_part in
       record {
         frame = r.0;

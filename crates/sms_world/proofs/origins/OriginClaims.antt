@@ -5,7 +5,7 @@ use Rattle.sms_base.specs.Reading.{◌>>=◌}
 use Rattle.sms_base.proofs.Steps.{ok_is}
 use Rattle.smpp_pdu.specs.declared.status.CommandStatus.{CommandStatus}
 use Rattle.sms_rows.proofs.table.Tables.{among_found, found_among, found_key}
-use Rattle.sms_intake.specs.declared.submission.Account.{Account}
+use Rattle.sms_intake.specs.declared.submission.CentreAccount.{CentreAccount}
 use Rattle.sms_intake.specs.declared.submission.Submission.{Submission as Submitted}
 use Rattle.sms_intake.specs.SmppIntake.{from_pdu}
 use Rattle.sms_centre_rows.specs.messages.Messages.{message_at, message_key, next_id}
@@ -22,7 +22,7 @@ use Rattle.sms_script.specs.declared.event.Submission.{Submission as ScriptSubmi
 use Rattle.sms_script.specs.declared.event.WorldEvent.{WorldEvent}
 use Rattle.sms_script.specs.declared.setup.Setup.{Setup}
 use Rattle.sms_play.specs.declared.fault.PlayFault.{PlayFault}
-use Rattle.sms_play.specs.Course.{Course}
+use Rattle.sms_play.specs.PlayState.{PlayState}
 use Rattle.sms_play.specs.Meeting.{submit_of}
 use Rattle.sms_play.specs.PlayedEvent.{played}
 use Rattle.sms_play.specs.Playing.{played_on}
@@ -30,17 +30,17 @@ use Rattle.sms_play.specs.Setups.{beginning, can_be_played}
 use Rattle.sms_world_model.specs.Run.{end}
 use Rattle.sms_world_model.specs.ScriptRun.{happened as happened_in}
 use Rattle.sms_world_model.specs.World.{World, empty}
-use Rattle.sms_world.specs.refinement.CourseRuns.{AllHandOctets, AreGood}
-use Rattle.sms_world.specs.refinement.CourseSight.{CourseSees}
+use Rattle.sms_world.specs.refinement.PlayRuns.{AllHandOctets, AreGood}
+use Rattle.sms_world.specs.refinement.PlayRefinement.{PlayRefines}
 use Rattle.sms_world.specs.refinement.Happening.{happening_of}
 use Rattle.sms_world.proofs.refinement.Beginnings.{begins}
-use Rattle.sms_world.proofs.refinement.Events.{event_leads, ok_course, same_course}
+use Rattle.sms_world.proofs.refinement.Events.{event_leads, ok_play, same_play}
 use Rattle.sms_world.proofs.refinement.Runs.{run_leads}
 use Rattle.sms_world.proofs.headline.Claimed.{can_play, script_hands, unplayed}
 use Rattle.sms_world.proofs.headline.GoodScripts.{script_good}
 use Rattle.sms_world.proofs.headline.Parting.{others_good, parted}
 use Rattle.sms_world.proofs.headline.SplitClaimed.{between, first_of}
-use Rattle.sms_world.proofs.headline.SplitCourses.{all_kept}
+use Rattle.sms_world.proofs.headline.SplitPlays.{all_kept}
 use Rattle.sms_world_refinement.specs.submissions.SubmittedRows.{IsSubmitted}
 use Rattle.sms_world_refinement.proofs.submissions.NewMessages.{made_is}
 use Rattle.sms_world_refinement.proofs.submissions.StaysSubmitted.{HasSubmitted}
@@ -52,18 +52,18 @@ use Rattle.sms_world.proofs.origins.Unmoved.{Rows, rows_in, rows_of}
 -- ---- along a course
 
 -- one of the events, from a course on, made the message
-record IsFound (n : ℕ) (events : List WorldEvent) (c : Course) (m : MessageRow) (parts : List PartRow) : Type 0 where
+record IsFound (n : ℕ) (events : List WorldEvent) (c : PlayState) (m : MessageRow) (parts : List PartRow) : Type 0 where
   some : List WorldEvent
   event : WorldEvent
   others : List WorldEvent
   among : events ≡ some ++ event ∷ others
-  before : Course
-  leads : played_on n some c ≡ ok_course before
+  before : PlayState
+  leads : played_on n some c ≡ ok_play before
   makes : Makes event before m parts
 
-traced : (n : ℕ) (es : List WorldEvent) (c d : Course) (w : World) (m : MessageRow) → CourseSees c w → AreGood es → AllHandOctets n es c → played_on n es c ≡ ok_course d → message_at m.id d.centre.rows.messages ≡ Some m
+traced : (n : ℕ) (es : List WorldEvent) (c d : PlayState) (w : World) (m : MessageRow) → PlayRefines c w → AreGood es → AllHandOctets n es c → played_on n es c ≡ ok_play d → message_at m.id d.centre.rows.messages ≡ Some m
     → StoodIn c m.id ⊎ IsFound n es c m d.centre.rows.parts
-traced n [] c d w m s good octets q at = inl (m, ap (λ (z : Course). message_at m.id z.centre.rows.messages) (same_course c d q) ∙ at)
+traced n [] c d w m s good octets q at = inl (m, ap (λ (z : PlayState). message_at m.id z.centre.rows.messages) (same_play c d q) ∙ at)
 traced n (e ∷ es) c d w m s good octets q at =
     let f = first_of n e c d es (played n e c) refl octets.1 q in
     let l = event_leads n e c f.next w s good.0 octets.0 f.is in
@@ -80,7 +80,7 @@ traced n (e ∷ es) c d w m s good octets q at =
       others = x.others;
       among = ap (λ (z : List WorldEvent). e ∷ z) x.among;
       before = x.before;
-      leads = ap (λ (r : Result Course PlayFault). r >>= λ (y : Course). played_on (n + 1) x.some y) f.is ∙ x.leads;
+      leads = ap (λ (r : Result PlayState PlayFault). r >>= λ (y : PlayState). played_on (n + 1) x.some y) f.is ∙ x.leads;
       makes = x.makes;
     }) in found)
     (traced (n + 1) es f.next d (end w (happened_in (happening_of e c.centre.moment) l.0)) m l.1.2 good.1 f.octets f.leads at)
@@ -93,15 +93,15 @@ none_there s m (x, at) = cc
 pub origin_is : OriginLaw
 origin_is text script some others c d is on m i =
     let s : Setup = script.setup in
-    let start : Course = beginning s in
+    let start : PlayState = beginning s in
     let good : AreGood script.events = script_good text script is.reads in
     let goods = others_good some others (subst (λ (es : List WorldEvent). AreGood es) is.events good) in
     let here = can_play s some c on.here in
     let there = can_play s script.events d on.there in
     let p = parted some others 1 start d (subst (λ (es : List WorldEvent). AllHandOctets 1 es start) is.events (script_hands text script is.reads there.can))
-    (subst (λ (es : List WorldEvent). played_on 1 es start ≡ ok_course d) is.events there.leads) in
-    let sees : CourseSees start empty = begins s here.can in
-    let x = run_leads 1 some start c empty sees goods.0 p.first_octets here.leads in
+    (subst (λ (es : List WorldEvent). played_on 1 es start ≡ ok_play d) is.events there.leads) in
+    let refines : PlayRefines start empty = begins s here.can in
+    let x = run_leads 1 some start c empty refines goods.0 p.first_octets here.leads in
     let at : message_at m.id c.centre.rows.messages ≡ Some m = among_found message_key m c.centre.rows.messages x.1.1.sound.rows.messages.message_keys i in
     ⊎_elim
     (λ (old : StoodIn start m.id). absurd (none_there s m old))
@@ -115,16 +115,16 @@ origin_is text script some others c d is on m i =
       leads = cond-true (can_be_played s) (played_on 1 f.some start) unplayed here.can ∙ f.leads;
       makes = f.makes;
     } in found)
-    (traced 1 some start c empty m sees goods.0 p.first_octets here.leads at)
+    (traced 1 some start c empty m refines goods.0 p.first_octets here.leads at)
 
 -- ---- what a submit_sm reads as is kept
 
-event_submits : (n : ℕ) (e : WorldEvent) (s : ScriptSubmission) (c next : Course) → Submits e s → played n e c ≡ ok_course next → SubmitLeads s c next
+event_submits : (n : ℕ) (e : WorldEvent) (s : ScriptSubmission) (c next : PlayState) → Submits e s → played n e c ≡ ok_play next → SubmitLeads s c next
 event_submits n e s c next (inl same) q = whole_leads n s c next (ap (λ (z : WorldEvent). played n z c) (sym same) ∙ q)
 event_submits n e s c next (inr same) q = stopped_leads n s c next (ap (λ (z : WorldEvent). played n z c) (sym same) ∙ q)
 
 -- the new message is that submission
-new_one : (place : ℕ) (c : Core) (s : ScriptSubmission) (account : Account) (u : Submitted) (m : MessageRow) → IsSoundCore c → account_at place c.rows.setup.accounts ≡ Some account → from_pdu account c.moment (submit_of s) ≡ Ok u
+new_one : (place : ℕ) (c : Core) (s : ScriptSubmission) (account : CentreAccount) (u : Submitted) (m : MessageRow) → IsSoundCore c → account_at place c.rows.setup.accounts ≡ Some account → from_pdu account c.moment (submit_of s) ≡ Ok u
     → message_at (next_id c.rows.messages) (messages_in (happened (CentreSubmit place (submit_of s)) c).store) ≡ Some m → IsSubmitted u m (parts_in (happened (CentreSubmit place (submit_of s)) c).store)
 new_one place c s account u m sound its reads there =
     let event : CentreEvent = CentreSubmit place (submit_of s) in
@@ -133,10 +133,10 @@ new_one place c s account u m sound its reads there =
     (λ (old : message_at m.id c.rows.messages ≡ Some m).
     let low = below_next_id 1 m c.rows.messages sound.rows.messages.message_keys (found_among message_key m.id m c.rows.messages old) in
     absurd (let l : ⊥ = omega (arith, low, own) in l))
-    (λ (x : (a : Account) × (v : Submitted) × ((account_at place c.rows.setup.accounts ≡ Some a) × (from_pdu a c.moment (submit_of s) ≡ Ok v) × IsSubmitted v m (parts_in (happened event c).store))).
+    (λ (x : (a : CentreAccount) × (v : Submitted) × ((account_at place c.rows.setup.accounts ≡ Some a) × (from_pdu a c.moment (submit_of s) ≡ Ok v) × IsSubmitted v m (parts_in (happened event c).store))).
     let accounts : Some x.0 ≡ Some account = sym x.2.0 ∙ its in
     let one : x.0 ≡ account = cc in
-    let same : x.1 ≡ u = ok_is {E = CommandStatus} x.1 u (sym x.2.1 ∙ ap (λ (a : Account). from_pdu a c.moment (submit_of s)) one ∙ reads) in
+    let same : x.1 ≡ u = ok_is {E = CommandStatus} x.1 u (sym x.2.1 ∙ ap (λ (a : CentreAccount). from_pdu a c.moment (submit_of s)) one ∙ reads) in
     subst (λ (v : Submitted). IsSubmitted v m (parts_in (happened event c).store)) same x.2.2)
     (made_is place (submit_of s) c m sound (ap (λ (n : ℕ). message_at n (messages_in (happened event c).store)) own ∙ there))
 
@@ -152,7 +152,7 @@ submit_is text script some others e s c d place account u is on submits named it
     let rows : rows_of f.next ≡ rows_in (happened event c.centre).store = k.rows ∙ ap (λ (p : ℕ). rows_in (happened (CentreSubmit p (submit_of s)) c.centre).store) one in
     let own : m.id ≡ next_id c.centre.rows.messages = found_key message_key (next_id c.centre.rows.messages) m (messages_in (happened event c.centre).store) there in
     let made : HasSubmitted m.id u (messages_in (happened event c.centre).store) (parts_in (happened event c.centre).store) =
-    (m, (ap (λ (i : ℕ). message_at i (messages_in (happened event c.centre).store)) own ∙ there, new_one place c.centre s account u m b.first_sees.sound its reads there)) in
-    let l = event_leads n e c f.next b.first_world b.first_sees b.goods.0 b.octets.0 f.is in
+    (m, (ap (λ (i : ℕ). message_at i (messages_in (happened event c.centre).store)) own ∙ there, new_one place c.centre s account u m b.first_refines.sound its reads there)) in
+    let l = event_leads n e c f.next b.first_world b.first_refines b.goods.0 b.octets.0 f.is in
     all_kept (HasSubmitted m.id u) (submitted_kept m.id u) (n + 1) others f.next d (end b.first_world (happened_in (happening_of e c.centre.moment) l.0)) l.1.2
     (subst (λ (r : Rows). HasSubmitted m.id u r.0 r.1) (sym rows) made) b.goods.1 f.octets f.leads

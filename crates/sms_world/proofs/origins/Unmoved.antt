@@ -14,13 +14,13 @@ use Rattle.sms_centre_spec.specs.CentreEvent.{happened}
 use Rattle.sms_centre_spec.specs.Draft.{Core, Draft, Store, draft_of, messages_in, parts_in}
 use Rattle.sms_centre_spec.specs.Sessions.{answered_by}
 use Rattle.sms_play.specs.CentreSide.{accepted_after, centre_meets, done, told, whole}
-use Rattle.sms_play.specs.Course.{Course}
+use Rattle.sms_play.specs.PlayState.{PlayState}
 
 -- the messages and parts of a course
 abbrev pub Rows : Type 0
 Rows = List MessageRow × List PartRow
 
-abbrev pub rows_of : Course → Rows
+abbrev pub rows_of : PlayState → Rows
 rows_of c = (c.centre.rows.messages, c.centre.rows.parts)
 
 abbrev pub rows_in : Store → Rows
@@ -33,19 +33,19 @@ answered_leaves id b (Some session) d = cond_both (is_among id session.unanswere
 accepting_leaves : (session id : ℕ) (b : Bool) (c : Core) → rows_in (happened (DeliverAnswered session id b) c).store ≡ (c.rows.messages, c.rows.parts)
 accepting_leaves session id b c = answered_leaves id b (row_at session_key session c.sessions) (draft_of c)
 
-accepted_leaves : (d : Draft) (most : ℕ) (waiting : List Delivery) (c : Course) → rows_of (accepted_after d most waiting c) ≡ rows_of c
+accepted_leaves : (d : Draft) (most : ℕ) (waiting : List Delivery) (c : PlayState) → rows_of (accepted_after d most waiting c) ≡ rows_of c
 accepted_leaves d zero waiting c = refl
 accepted_leaves d (suc most) [] c = refl
 accepted_leaves d (suc most) (x ∷ waiting) c =
     let event : CentreEvent = DeliverAnswered x.session x.id true in
     let e : Draft = happened event c.centre in
-    accepted_leaves e most (waiting ++ e.desk.deliveries) (done e c) ∙ accepting_leaves x.session x.id true c.centre
+    accepted_leaves e most (waiting ++ e.bindings.deliveries) (done e c) ∙ accepting_leaves x.session x.id true c.centre
 
-told_leaves : (n : ℕ) (a : Option CentreAnswer) (c : Course) → rows_of (told n a c) ≡ rows_of c
+told_leaves : (n : ℕ) (a : Option CentreAnswer) (c : PlayState) → rows_of (told n a c) ≡ rows_of c
 told_leaves n None c = refl
 told_leaves n (Some a) c = refl
 
-pub meets_leaves : (n : ℕ) (e : CentreEvent) (c : Course) → rows_of (centre_meets n e c) ≡ rows_in (happened e c.centre).store
+pub meets_leaves : (n : ℕ) (e : CentreEvent) (c : PlayState) → rows_of (centre_meets n e c) ≡ rows_in (happened e c.centre).store
 meets_leaves n e c =
     let d : Draft = happened e c.centre in
-    told_leaves n d.answer (whole d c) ∙ accepted_leaves d _ d.desk.deliveries (done d c)
+    told_leaves n d.answer (whole d c) ∙ accepted_leaves d _ d.bindings.deliveries (done d c)

@@ -5,16 +5,16 @@ use Rattle.std.specs.Str.{bytes_eq}
 use Rattle.std.proofs.lemmas.Bool.{and_from, and_parts, cases_Bool, cases_eq, cond-false, cond-true, eq-eqb, eqb-true}
 use Rattle.std.proofs.lemmas.Slice.Eq.{bytes_eq-Decides}
 use Rattle.sms_base.specs.Among.{Among}
-use Rattle.sms_play.specs.Premises.{all_arrived, are_fresh, has_arrived, has_pair, is_same_pair, may_begin, may_begin_at, may_begin_round, all_pairs, behind, is_fresh_event, newest_first, part_givings}
+use Rattle.sms_play.specs.Premises.{all_arrived, are_fresh, has_arrived, has_pair, is_same_pair, may_begin, may_begin_at, may_begin_round, all_pairs, behind, is_fresh_event, newest_first, part_allocations}
 use Rattle.sms_world.specs.premises.PremiseLaws.{AlikeLaw, FreshEventLaw, FreshLaw, MayBeginLaw, parts_given}
 use Rattle.sms_world_model.specs.Fresh.{AllArrived, FreshParts, MayBegin}
 use Rattle.sms_world_model.specs.Lists.{is_among}
 use Rattle.sms_world_model.specs.Place.{Key, Place, has_key, place_in}
 use Rattle.sms_world_model.specs.PartsOfKey.{is_for, number_in, numbers, of_key}
-use Rattle.sms_world_model.specs.References.{Ticket, part_giving}
+use Rattle.sms_world_model.specs.References.{Ticket, part_allocation}
 use Rattle.sms_world_model.specs.Rounds.{Rounds, rounds, rounds_of, submitted_pairs, with_part_of}
 use Rattle.sms_world_model.specs.Submission.{Submission}
-use Rattle.sms_world_model.specs.World.{Accepted, Giving, pair_given}
+use Rattle.sms_world_model.specs.World.{Accepted, Allocation, pair_given}
 use Rattle.sms_world_model.proofs.Keys.{one_key, same_key}
 
 -- ---- pairs
@@ -100,13 +100,13 @@ is_all (suc total) ps accepted a =
 
 -- ---- a round of one key
 
-round_is : (p : Accepted) (k : Key) (down : List Giving) (accepted : List Accepted) → may_begin_round p k down accepted ≡ true
+round_is : (p : Accepted) (k : Key) (down : List Allocation) (accepted : List Accepted) → may_begin_round p k down accepted ≡ true
     → is_among (number_in p) (numbers (rounds_of p.handset k down).present) ≡ true → AllArrived k.total (rounds_of p.handset k down).present (of_key p.handset k accepted)
 round_is p k down accepted e among =
     all_is k.total (rounds_of p.handset k down).present (of_key p.handset k accepted)
     (sym (cond-true (is_among (number_in p) (numbers (rounds_of p.handset k down).present)) (all_arrived k.total (rounds_of p.handset k down).present (of_key p.handset k accepted)) true among) ∙ e)
 
-is_round : (p : Accepted) (k : Key) (down : List Giving) (accepted : List Accepted)
+is_round : (p : Accepted) (k : Key) (down : List Allocation) (accepted : List Accepted)
     → (is_among (number_in p) (numbers (rounds_of p.handset k down).present) ≡ true → AllArrived k.total (rounds_of p.handset k down).present (of_key p.handset k accepted))
     → may_begin_round p k down accepted ≡ true
 is_round p k down accepted a =
@@ -119,7 +119,7 @@ is_round p k down accepted a =
 
 -- ---- a part, of the key that it has
 
-module _ (p : Accepted) (down : List Giving) (accepted : List Accepted) where
+module _ (p : Accepted) (down : List Allocation) (accepted : List Accepted) where
   no_key : (k : Key) → place_in p.tpdu ≡ None → is_for p.handset k p ≡ true → ⊥
   no_key k e i =
       let x = and_parts (bytes_eq p.handset p.handset) (has_key k (place_in p.tpdu)) i in
@@ -150,19 +150,19 @@ begins_decided p down accepted = (begins p down accepted (place_in p.tpdu) refl,
 
 -- ---- all parts of a submission
 
-fresh_is : (s : Submission) (moment n : ℕ) (ts : List Ticket) (down : List Giving) (accepted : List Accepted) → are_fresh (parts_given s moment n ts) down accepted ≡ true
+fresh_is : (s : Submission) (moment n : ℕ) (ts : List Ticket) (down : List Allocation) (accepted : List Accepted) → are_fresh (parts_given s moment n ts) down accepted ≡ true
     → FreshParts s moment n ts down accepted
 fresh_is s moment n [] down accepted e = tt
 fresh_is s moment n (t ∷ ts) down accepted e =
-    let g : Giving = part_giving s moment n t in
+    let g : Allocation = part_allocation s moment n t in
     let x = and_parts (may_begin (pair_given g) down accepted) (are_fresh (parts_given s moment (suc n) ts) (g ∷ down) accepted) e in
     ((begins_decided (pair_given g) down accepted).0 x.0, fresh_is s moment (suc n) ts (g ∷ down) accepted x.1)
 
-is_fresh : (s : Submission) (moment n : ℕ) (ts : List Ticket) (down : List Giving) (accepted : List Accepted) → FreshParts s moment n ts down accepted
+is_fresh : (s : Submission) (moment n : ℕ) (ts : List Ticket) (down : List Allocation) (accepted : List Accepted) → FreshParts s moment n ts down accepted
     → are_fresh (parts_given s moment n ts) down accepted ≡ true
 is_fresh s moment n [] down accepted f = refl
 is_fresh s moment n (t ∷ ts) down accepted f =
-    let g : Giving = part_giving s moment n t in
+    let g : Allocation = part_allocation s moment n t in
     and_from (may_begin (pair_given g) down accepted) (are_fresh (parts_given s moment (suc n) ts) (g ∷ down) accepted) ((begins_decided (pair_given g) down accepted).1 f.0)
     (is_fresh s moment (suc n) ts (g ∷ down) accepted f.1)
 
@@ -172,17 +172,17 @@ fresh_decided s moment n ts down accepted = (fresh_is s moment n ts down accepte
 -- ---- what it looks at
 
 module _ (accepted others : List Accepted) (same : (handset : List ℕ) (k : Key) → of_key handset k accepted ≡ of_key handset k others) where
-  round_alike : (p : Accepted) (k : Key) (down other : List Giving) → submitted_pairs down ≡ submitted_pairs other → may_begin_round p k down accepted ≡ may_begin_round p k other others
+  round_alike : (p : Accepted) (k : Key) (down other : List Allocation) → submitted_pairs down ≡ submitted_pairs other → may_begin_round p k down accepted ≡ may_begin_round p k other others
   round_alike p k down other e =
       let r : rounds_of p.handset k down ≡ rounds_of p.handset k other = ap (λ (z : List Accepted). rounds (of_key p.handset k z)) e in
       ap (λ (z : Rounds). cond (is_among (number_in p) (numbers z.present)) (all_arrived k.total z.present (of_key p.handset k accepted)) true) r
       ∙ ap (λ (z : List Accepted). cond (is_among (number_in p) (numbers (rounds_of p.handset k other).present)) (all_arrived k.total (rounds_of p.handset k other).present z) true) (same p.handset k)
 
-  begins_alike : (p : Accepted) (o : Option Place) (down other : List Giving) → submitted_pairs down ≡ submitted_pairs other → may_begin_at o p down accepted ≡ may_begin_at o p other others
+  begins_alike : (p : Accepted) (o : Option Place) (down other : List Allocation) → submitted_pairs down ≡ submitted_pairs other → may_begin_at o p down accepted ≡ may_begin_at o p other others
   begins_alike p None down other e = refl
   begins_alike p (Some place) down other e = round_alike p place.key down other e
 
-  all_alike : (gs down other : List Giving) → submitted_pairs down ≡ submitted_pairs other → are_fresh gs down accepted ≡ are_fresh gs other others
+  all_alike : (gs down other : List Allocation) → submitted_pairs down ≡ submitted_pairs other → are_fresh gs down accepted ≡ are_fresh gs other others
   all_alike [] down other e = refl
   all_alike (g ∷ gs) down other e =
       let p : Accepted = pair_given g in
@@ -190,7 +190,7 @@ module _ (accepted others : List Accepted) (same : (handset : List ℕ) (k : Key
       ap (λ (z : Bool). z && are_fresh gs (g ∷ down) accepted) (begins_alike p (place_in p.tpdu) down other e)
       ∙ ap (λ (z : Bool). may_begin p other others && z) (all_alike gs (g ∷ down) (g ∷ other) more)
     where
-      one_more : (g : Giving) (down other : List Giving) → submitted_pairs down ≡ submitted_pairs other → submitted_pairs (g ∷ down) ≡ submitted_pairs (g ∷ other)
+      one_more : (g : Allocation) (down other : List Allocation) → submitted_pairs down ≡ submitted_pairs other → submitted_pairs (g ∷ down) ≡ submitted_pairs (g ∷ other)
       one_more g down other e = ap (λ (z : List Accepted). with_part_of g.holder (pair_given g) z) e
 
 pub alike_decided : AlikeLaw
@@ -200,9 +200,9 @@ alike_decided gs down other accepted others e same = all_alike accepted others s
 
 pub event_decided : FreshEventLaw
 event_decided before after s moment tickets w t =
-    let gs : List Giving = part_givings after.centre.rows.parts (behind before.given after.given) in
-    let down : List Giving = newest_first [] (part_givings after.centre.rows.parts before.given) in
+    let gs : List Allocation = part_allocations after.centre.rows.parts (behind before.given after.given) in
+    let down : List Allocation = newest_first [] (part_allocations after.centre.rows.parts before.given) in
     let same : is_fresh_event before after ≡ are_fresh (parts_given s moment 1 tickets) w.down w.accepted =
-    alike_decided gs down w.down (all_pairs before.parties) w.accepted t.pairs t.accepted ∙ ap (λ (z : List Giving). are_fresh z w.down w.accepted) t.given in
+    alike_decided gs down w.down (all_pairs before.parties) w.accepted t.pairs t.accepted ∙ ap (λ (z : List Allocation). are_fresh z w.down w.accepted) t.given in
     let law = fresh_decided s moment 1 tickets w.down w.accepted in
     ((λ e. law.0 (sym same ∙ e)), (λ f. same ∙ law.1 f))

@@ -11,14 +11,14 @@ use Rattle.sms_script.specs.declared.report.rows.Direction.{Direction}
 use Rattle.sms_script.specs.declared.report.rows.FrameRow.{FrameRow}
 use Rattle.sms_script.specs.declared.report.rows.GivenRow.{GivenRow}
 use Rattle.sms_script.specs.declared.report.rows.Direction.TheVariants.{Up, Down}
-use Rattle.sms_play.specs.Course.{frame_at}
+use Rattle.sms_play.specs.PlayState.{frame_at}
 use Rattle.sms_play.specs.Premises.{giver, is_held_by, is_same_holder, is_same_side, is_timely, is_timely_at, last_holder}
 use Rattle.sms_world.specs.premises.PremiseLaws.{TimelyLaw}
-use Rattle.sms_world.specs.premises.Told.{TellFrames, TellGivings, frame_told, giving_told, line_of, told_by, untold}
+use Rattle.sms_world.specs.premises.Reported.{TellFrames, TellAllocations, frame_told, allocation_told, line_of, told_by, untold}
 use Rattle.sms_world_model.specs.ScriptPremises.{HandsTimely}
 use Rattle.sms_world_model.specs.ScriptRun.{Handed}
-use Rattle.sms_world_model.specs.Timely.{IsTimely, givings}
-use Rattle.sms_world_model.specs.World.{Frame, Giving, IsLatest, SameReference, World}
+use Rattle.sms_world_model.specs.Timely.{IsTimely, allocations}
+use Rattle.sms_world_model.specs.World.{Frame, Allocation, IsLatest, SameReference, World}
 
 -- ---- holders
 
@@ -59,14 +59,14 @@ is_held holder o e = ap (λ z. is_held_by holder z) e ∙ holder_one holder
 
 -- ---- the last holder, over the newest first
 
-abbrev names : List ℕ → ℕ → Giving → Bool
+abbrev names : List ℕ → ℕ → Allocation → Bool
 names handset reference g = bytes_eq g.handset handset && (g.reference == reference)
 
-abbrev held_last : List ℕ → ℕ → List Giving → Option Holder
+abbrev held_last : List ℕ → ℕ → List Allocation → Option Holder
 held_last handset reference [] = None
 held_last handset reference (g ∷ older) = cond (names handset reference g) (Some g.holder) (held_last handset reference older)
 
-held_untold : (handset : List ℕ) (reference : ℕ) (gs : List Giving) → held_last handset reference (untold gs) ≡ held_last handset reference gs
+held_untold : (handset : List ℕ) (reference : ℕ) (gs : List Allocation) → held_last handset reference (untold gs) ≡ held_last handset reference gs
 held_untold handset reference [] = refl
 held_untold handset reference (g ∷ gs) = ap (λ (z : Option Holder). cond (names handset reference g) (Some g.holder) z) (held_untold handset reference gs)
 
@@ -75,38 +75,38 @@ never true = refl
 never false = refl
 
 module _ (handset : List ℕ) (reference : ℕ) (side : Direction) where
-  one_more : (g : GivenRow) (newest : List Giving) (b : Bool) → is_same_side g.direction side ≡ b
+  one_more : (g : GivenRow) (newest : List Allocation) (b : Bool) → is_same_side g.direction side ≡ b
       → cond (bytes_eq g.handset handset && (b && (g.reference == reference))) (Some g.holder) (held_last handset reference newest)
-      ≡ held_last handset reference (cond b (giving_told g ∷ newest) newest)
+      ≡ held_last handset reference (cond b (allocation_told g ∷ newest) newest)
   one_more g newest true e = refl
   one_more g newest false e =
       ap (λ (z : Bool). cond z (Some g.holder) (held_last handset reference newest)) (never (bytes_eq g.handset handset))
 
-  last_is : (newest : List Giving) (given : List GivenRow)
+  last_is : (newest : List Allocation) (given : List GivenRow)
       → last_holder (held_last handset reference newest) handset side reference given ≡ held_last handset reference (told_by side newest given)
   last_is newest [] = refl
   last_is newest (g ∷ given) =
       ap (λ (z : Option Holder). last_holder z handset side reference given) (one_more g newest (is_same_side g.direction side) refl)
-      ∙ last_is (cond (is_same_side g.direction side) (giving_told g ∷ newest) newest) given
+      ∙ last_is (cond (is_same_side g.direction side) (allocation_told g ∷ newest) newest) given
 
 -- the latest giving of the reference is to that holder
-abbrev IsLastTo : List ℕ → ℕ → Holder → List Giving → Type 0
+abbrev IsLastTo : List ℕ → ℕ → Holder → List Allocation → Type 0
 IsLastTo handset reference holder gs =
-    (g : Giving) × (IsLatest g gs × (g.handset ≡ handset) × (g.reference ≡ reference) × (g.holder ≡ holder))
+    (g : Allocation) × (IsLatest g gs × (g.handset ≡ handset) × (g.reference ≡ reference) × (g.holder ≡ holder))
 
 same_some : (a b : Holder) → Some a ≡ Some b → a ≡ b
 same_some a b e = cc
 
 module _ (handset : List ℕ) (reference : ℕ) (holder : Holder) where
-  names_it : (g : Giving) → names handset reference g ≡ true → (g.handset ≡ handset) × (g.reference ≡ reference)
+  names_it : (g : Allocation) → names handset reference g ≡ true → (g.handset ≡ handset) × (g.reference ≡ reference)
   names_it g e =
       let p = and_parts (bytes_eq g.handset handset) (g.reference == reference) e in
       ((bytes_eq-Decides g.handset handset).0 p.0, eqb-true g.reference reference p.1)
 
-  is_named : (g : Giving) → g.handset ≡ handset → g.reference ≡ reference → names handset reference g ≡ true
+  is_named : (g : Allocation) → g.handset ≡ handset → g.reference ≡ reference → names handset reference g ≡ true
   is_named g h r = and_from (bytes_eq g.handset handset) (g.reference == reference) ((bytes_eq-Decides g.handset handset).1 h) (eq-eqb g.reference reference r)
 
-  found : (gs : List Giving) → held_last handset reference gs ≡ Some holder → IsLastTo handset reference holder gs
+  found : (gs : List Allocation) → held_last handset reference gs ≡ Some holder → IsLastTo handset reference holder gs
   found [] e = absurd cc
   found (g ∷ older) e = ⊎_elim
       (λ (t : names handset reference g ≡ true).
@@ -118,12 +118,12 @@ module _ (handset : List ℕ) (reference : ℕ) (holder : Holder) where
       (x.0, (inr ((λ s. both_ways (names handset reference g) f (is_named g (sym s.0 ∙ x.1.1) (sym s.1 ∙ x.1.2))), x.1.0), x.1.1, x.1.2, x.1.3)))
       (cases_Bool (names handset reference g))
 
-  finds : (gs : List Giving) → IsLastTo handset reference holder gs → held_last handset reference gs ≡ Some holder
+  finds : (gs : List Allocation) → IsLastTo handset reference holder gs → held_last handset reference gs ≡ Some holder
   finds [] (x, y) = absurd y.0
   finds (g ∷ older) (x, y) = ⊎_elim
       (λ (q : x ≡ g).
-      let t : names handset reference g ≡ true = is_named g (ap (λ (z : Giving). z.handset) (sym q) ∙ y.1) (ap (λ (z : Giving). z.reference) (sym q) ∙ y.2) in
-      cond-true (names handset reference g) (Some g.holder) (held_last handset reference older) t ∙ ap (λ (z : Giving). Some z.holder) (sym q) ∙ ap (λ (z : Holder). Some z) y.3)
+      let t : names handset reference g ≡ true = is_named g (ap (λ (z : Allocation). z.handset) (sym q) ∙ y.1) (ap (λ (z : Allocation). z.reference) (sym q) ∙ y.2) in
+      cond-true (names handset reference g) (Some g.holder) (held_last handset reference older) t ∙ ap (λ (z : Allocation). Some z.holder) (sym q) ∙ ap (λ (z : Holder). Some z) y.3)
       (λ (q : ¬ SameReference x g × IsLatest x older). ⊎_elim
       (λ (t : names handset reference g ≡ true). let n = names_it g t in absurd (q.0 (y.1 ∙ sym n.0, y.2 ∙ sym n.1)))
       (λ (f : names handset reference g ≡ false).
@@ -133,34 +133,34 @@ module _ (handset : List ℕ) (reference : ℕ) (holder : Holder) where
 
 -- ---- the frame
 
-told_at : (side : Direction) (given : List GivenRow) (w : World) → TellGivings given w → untold (givings w (line_of side)) ≡ told_by side [] given
+told_at : (side : Direction) (given : List GivenRow) (w : World) → TellAllocations given w → untold (allocations w (line_of side)) ≡ told_by side [] given
 told_at Down given w t = t.down
 told_at Up given w t = t.up
 
-module _ (given : List GivenRow) (w : World) (t : TellGivings given w) (handset : List ℕ) (side : Direction) (reference : ℕ) where
-  last_given : last_holder None handset side reference given ≡ held_last handset reference (givings w (line_of side))
+module _ (given : List GivenRow) (w : World) (t : TellAllocations given w) (handset : List ℕ) (side : Direction) (reference : ℕ) where
+  last_given : last_holder None handset side reference given ≡ held_last handset reference (allocations w (line_of side))
   last_given =
-      last_is handset reference side [] given ∙ ap (λ (z : List Giving). held_last handset reference z) (sym (told_at side given w t))
-      ∙ held_untold handset reference (givings w (line_of side))
+      last_is handset reference side [] given ∙ ap (λ (z : List Allocation). held_last handset reference z) (sym (told_at side given w t))
+      ∙ held_untold handset reference (allocations w (line_of side))
 
-frame_timely : (given : List GivenRow) (w : World) → TellGivings given w → (f : FrameRow) (c : Carried) (tpdu : List ℕ) → is_timely f (Some c) given ≡ true → IsTimely w (frame_told f c tpdu)
+frame_timely : (given : List GivenRow) (w : World) → TellAllocations given w → (f : FrameRow) (c : Carried) (tpdu : List ℕ) → is_timely f (Some c) given ≡ true → IsTimely w (frame_told f c tpdu)
 frame_timely given w t f c tpdu e =
     let side = giver f.direction c.kind in
-    found f.handset c.reference c.tag (givings w (line_of side))
+    found f.handset c.reference c.tag (allocations w (line_of side))
     (sym (last_given given w t f.handset side c.reference) ∙ held_is c.tag (last_holder None f.handset side c.reference given) e)
 
-timely_frame : (given : List GivenRow) (w : World) → TellGivings given w → (f : FrameRow) (c : Carried) (tpdu : List ℕ) → IsTimely w (frame_told f c tpdu) → is_timely f (Some c) given ≡ true
+timely_frame : (given : List GivenRow) (w : World) → TellAllocations given w → (f : FrameRow) (c : Carried) (tpdu : List ℕ) → IsTimely w (frame_told f c tpdu) → is_timely f (Some c) given ≡ true
 timely_frame given w t f c tpdu i =
     let side = giver f.direction c.kind in
     is_held c.tag (last_holder None f.handset side c.reference given)
-    (last_given given w t f.handset side c.reference ∙ finds f.handset c.reference c.tag (givings w (line_of side)) i)
+    (last_given given w t f.handset side c.reference ∙ finds f.handset c.reference c.tag (allocations w (line_of side)) i)
 
 -- ---- what is handed over
 
 some_frame : (f g : FrameRow) → Some f ≡ Some g → f ≡ g
 some_frame f g e = cc
 
-module _ (number : ℕ) (bag : List FrameRow) (given : List GivenRow) (w : World) (t : TellGivings given w) (k : TellFrames bag w) where
+module _ (number : ℕ) (bag : List FrameRow) (given : List GivenRow) (w : World) (t : TellAllocations given w) (k : TellFrames bag w) where
   hands : is_timely_at (frame_at number bag) given ≡ true → HandsTimely w (Handed number)
   hands e u i n =
       let x = k.only u i in

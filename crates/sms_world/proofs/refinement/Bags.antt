@@ -6,15 +6,15 @@ use Rattle.sms_base.specs.Among.{Among}
 use Rattle.sms_link.specs.declared.outgoing.Outgoing.{Outgoing}
 use Rattle.sms_script.specs.declared.report.rows.Direction.TheVariants.{Up, Down}
 use Rattle.sms_script.specs.declared.report.rows.FrameRow.{FrameRow}
-use Rattle.sms_centre_rows.specs.waiting.SoundGivings.{IsNumber}
-use Rattle.sms_centre_rows.specs.declared.waiting.line.Sent.{Sent as SentDown}
+use Rattle.sms_centre_rows.specs.waiting.SoundAllocations.{IsNumber}
+use Rattle.sms_centre_rows.specs.declared.waiting.handset_link.Sent.{Sent as SentDown}
 use Rattle.sms_play.specs.CentreSide.{all_sent as all_sent_down}
-use Rattle.sms_play.specs.Course.{frame_at}
+use Rattle.sms_play.specs.PlayState.{frame_at}
 use Rattle.sms_play.specs.HandsetSide.{all_sent as all_sent_up}
 use Rattle.sms_world_model.specs.World.{Sent}
 use Rattle.sms_world_refinement.specs.frames.FramesUp.{AreWhole, sent_as, stacked}
 use Rattle.sms_world_refinement.specs.centre.FramesOut.{AreWholeDown, sent_down, stacked_down}
-use Rattle.sms_world.specs.refinement.CourseSight.{IsSentRow, all_seen, sent_row}
+use Rattle.sms_world.specs.refinement.PlayRefinement.{IsSentRow, all_seen, sent_row}
 
 -- ---- one more frame
 

@@ -11,28 +11,28 @@ use Rattle.sms_base.specs.Among.{Among}
 use Rattle.sms_base.specs.HandsetNumber.{is_decimal}
 use Rattle.sms_base.specs.SemiOctet.{is_digit}
 use Rattle.sms_base.specs.TimeStamp.{IsMoment}
-use Rattle.sms_centre_rows.specs.waiting.SoundGivings.{IsNumber}
-use Rattle.sms_intake.specs.declared.submission.Account.{Account as CentreAccount}
-use Rattle.sms_script.specs.declared.setup.Account.{Account}
+use Rattle.sms_centre_rows.specs.waiting.SoundAllocations.{IsNumber}
+use Rattle.sms_intake.specs.declared.submission.CentreAccount.{CentreAccount}
+use Rattle.sms_script.specs.declared.setup.AccountSetup.{AccountSetup}
 use Rattle.sms_script.specs.declared.setup.HandsetSetup.{HandsetSetup}
 use Rattle.sms_script.specs.declared.setup.Setup.{Setup}
 use Rattle.sms_centre_spec.specs.SoundCore.{AreDifferent}
 use Rattle.sms_centre_spec.specs.SoundRows.{IsSetup as IsCentreSetup, first_rows as first_centre_rows}
 use Rattle.sms_centre_spec.specs.declared.setup.Setup.{Setup as CentreSetup}
 use Rattle.sms_centre_rows.specs.reports.Receipts.{Session}
-use Rattle.sms_world_refinement.specs.centre_events.Course.{CanComeBack}
-use Rattle.sms_world_refinement.proofs.centre_events.Courses.{first_course_is_steps}
+use Rattle.sms_world_refinement.specs.centre_events.Run.{CanComeBack}
+use Rattle.sms_world_refinement.proofs.centre_events.Runs.{first_run_is_steps}
 use Rattle.sms_handset_draft.specs.declared.setup.Setup.{Setup as OwnSetup}
 use Rattle.sms_handset_draft.specs.Draft.{recovered}
 use Rattle.sms_handset_draft.specs.FirstRows.{first_rows}
 use Rattle.sms_handset.specs.SoundRows.{IsSetup, IsSound}
-use Rattle.sms_play.specs.Course.{Party, numbers_of}
+use Rattle.sms_play.specs.PlayState.{Party, numbers_of}
 use Rattle.sms_play.specs.PlayedEvent.{sessions_from}
 use Rattle.sms_play.specs.Setups.{accounts_of, are_accounts, are_handsets, centre_setup, handset_setup, has_account, has_handset, is_handset, is_moment, is_number, parties_of}
 use Rattle.sms_world_model.specs.World.{empty}
 use Rattle.sms_world_refinement.proofs.handset.Restarts.{start_seen}
-use Rattle.sms_world.specs.refinement.CourseRuns.{BeginningLaw}
-use Rattle.sms_world.specs.refinement.CourseSight.{PartySees}
+use Rattle.sms_world.specs.refinement.PlayRuns.{BeginningLaw}
+use Rattle.sms_world.specs.refinement.PlayRefinement.{PartyRefines}
 use Rattle.sms_world.proofs.refinement.CentreMeets.{can_come}
 use Rattle.sms_world.proofs.refinement.HandsetMeets.{recovered_sound}
 
@@ -60,7 +60,7 @@ number_is digits e =
 
 -- ---- the centre's setup
 
-accounts_are : (accounts : List Account) → are_accounts accounts ≡ true → (a : CentreAccount) → Among a (accounts_of accounts) → IsAddress a.address
+accounts_are : (accounts : List AccountSetup) → are_accounts accounts ≡ true → (a : CentreAccount) → Among a (accounts_of accounts) → IsAddress a.address
 accounts_are [] e a i = absurd i
 accounts_are (x ∷ xs) e a i =
     let p = and_parts (is_number x.number && not (has_account x.name xs)) (are_accounts xs) e in
@@ -105,8 +105,8 @@ or_second true b e = refl
 or_second false b e = e
 
 module _ (s : Setup) (centre : IsNumber s.centre) where
-  party_sees : (h : HandsetSetup) → is_handset h ≡ true → PartySees (first_party s h) empty
-  party_sees h e =
+  party_refines : (h : HandsetSetup) → is_handset h ≡ true → PartyRefines (first_party s h) empty
+  party_refines h e =
       let a = and_parts (is_number h.number) (nat_lt 0 h.slots && nat_le h.slots 255) e in
       let b = and_parts (nat_lt 0 h.slots) (nat_le h.slots 255) a.1 in
       let number : IsNumber h.number = number_is h.number a.0 in
@@ -114,17 +114,17 @@ module _ (s : Setup) (centre : IsNumber s.centre) where
       record {
         number = number;
         sound = recovered_sound (first_rows (handset_setup s h)) (first_sound (handset_setup s h) is);
-        sees = start_seen h.number (first_rows (handset_setup s h)).counters (handset_setup s h);
+        refines = start_seen h.number (first_rows (handset_setup s h)).counters (handset_setup s h);
         accepted = refl;
         joined = refl;
       }
 
-  parties_see : (hs : List HandsetSetup) → are_handsets hs ≡ true → (p : Party) → Among p (parties_of s hs) → PartySees p empty
+  parties_see : (hs : List HandsetSetup) → are_handsets hs ≡ true → (p : Party) → Among p (parties_of s hs) → PartyRefines p empty
   parties_see [] e p i = absurd i
   parties_see (h ∷ hs) e p i =
       let a = and_parts (is_handset h && not (has_handset h.number hs)) (are_handsets hs) e in
       let b = and_parts (is_handset h) (not (has_handset h.number hs)) a.0 in
-      ⊎_elim (λ (q : p ≡ first_party s h). subst (λ (z : Party). PartySees z empty) (sym q) (party_sees h b.0)) (λ (j : Among p (parties_of s hs)). parties_see hs a.1 p j) i
+      ⊎_elim (λ (q : p ≡ first_party s h). subst (λ (z : Party). PartyRefines z empty) (sym q) (party_refines h b.0)) (λ (j : Among p (parties_of s hs)). parties_see hs a.1 p j) i
 
   number_had : (n : List ℕ) (hs : List HandsetSetup) → Among n (numbers_of (parties_of s hs)) → has_handset n hs ≡ true
   number_had n [] i = absurd i
@@ -160,7 +160,7 @@ begins s e =
     let ps : List Party = parties_of s s.handsets in
     let apart : AreDifferent (numbers_of ps) = numbers_apart s centre s.handsets handsets.1 in
     let sessions : List Session = sessions_from 0 (accounts_of s.accounts) in
-    let all : (p : Party) → Among p ps → PartySees p empty = parties_see s centre s.handsets handsets.1 in
+    let all : (p : Party) → Among p ps → PartyRefines p empty = parties_see s centre s.handsets handsets.1 in
     let can : CanComeBack (first_centre_rows setup) (numbers_of ps) sessions = can_come (first_centre_rows setup) ps (λ p i. (all p i).number) apart (accounts_of s.accounts) in
-    let x = first_course_is_steps [] setup (numbers_of ps) sessions is can in
+    let x = first_run_is_steps [] setup (numbers_of ps) sessions is can in
     record { sound = x.0; offered = x.1; centre = x.2; parties = all; apart = apart; bag = refl; sent = λ f i. absurd i; reached = ([], (tt, refl)); down = record { each = λ g i is. absurd i; differ = tt; last = λ h r. refl; parts = refl } }

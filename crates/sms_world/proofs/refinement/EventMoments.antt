@@ -28,24 +28,24 @@ use Rattle.sms_centre_rows.specs.reports.Receipts.{Session, session_key}
 use Rattle.sms_centre_rows.specs.reports.Reports.{is_open_status, report_of}
 use Rattle.sms_rows.specs.table.Table.{row_at}
 use Rattle.sms_centre_rows.specs.declared.waiting.handset.HandsetRow.{HandsetRow}
-use Rattle.sms_centre_rows.specs.declared.waiting.line.Line.{Line}
-use Rattle.sms_centre_rows.specs.declared.waiting.load.Load.{Load}
-use Rattle.sms_centre_rows.specs.waiting.Lines.{line_at, line_of, lowered, put_line, turn_line}
+use Rattle.sms_centre_rows.specs.declared.waiting.handset_link.HandsetLink.{HandsetLink}
+use Rattle.sms_centre_rows.specs.declared.waiting.queued_part.QueuedPart.{QueuedPart}
+use Rattle.sms_centre_rows.specs.waiting.Links.{line_at, line_of, lowered, put_line, turn_line}
 use Rattle.sms_centre_rows.specs.waiting.References.{handset_at, handset_of}
 use Rattle.sms_centre_rows.specs.waiting.Trying.{later}
 use Rattle.sms_intake.specs.declared.refusal.SubmitRefusal.{SubmitRefusal}
-use Rattle.sms_intake.specs.declared.submission.Account.{Account}
+use Rattle.sms_intake.specs.declared.submission.CentreAccount.{CentreAccount}
 use Rattle.sms_intake.specs.declared.submission.SinglePart.{SinglePart}
 use Rattle.sms_intake.specs.declared.submission.Submission.{Submission}
 use Rattle.sms_intake.specs.HandsetIntake.{from_read}
 use Rattle.sms_intake.specs.PartBodies.{bodies_under, is_long}
 use Rattle.sms_intake.specs.SmppIntake.{from_pdu, is_empty, source_in}
 use Rattle.sms_centre_spec.specs.CentreEvent.{at_moment, aged, drop_all, expire_all, expired, fire_at, fire_line, fire_mentioned, fire_others, fired, frame_taken, happened, is_mentioned, lost, lower, raise, raise_all, raised, report_limit, tag_of, timed_out, went_up}
-use Rattle.sms_centre_spec.specs.Draft.{Core, Draft, Store, draft_of, handsets_in, messages_in, on_air, parts_in, reports_in, waiting_in}
+use Rattle.sms_centre_spec.specs.Draft.{Core, Draft, Store, draft_of, handsets_in, messages_in, on_links, parts_in, reports_in, waiting_in}
 use Rattle.sms_centre_spec.specs.Ends.{end}
 use Rattle.sms_centre_spec.specs.Numbers.{id_in}
-use Rattle.sms_centre_spec.specs.Receiving.{all_due, is_duplicate, load_due, part_due, report_due, submit_accepted, submit_came, unit_came}
-use Rattle.sms_centre_spec.specs.Requests.{account_at, accepted, cancel_by, cancelled, message_numbered, own_message, queried, query_by, submission_came, submit_by}
+use Rattle.sms_centre_spec.specs.Receiving.{all_due, is_duplicate, load_due, part_due, report_due, submit_accepted, submit_received, unit_received}
+use Rattle.sms_centre_spec.specs.Requests.{account_at, accepted, cancel_by, cancelled, message_numbered, own_message, queried, query_by, submission_received, submit_by}
 use Rattle.sms_centre_spec.specs.Sessions.{answered_by, bound_as, due_for, unbind, unbound_from}
 use Rattle.sms_centre_spec.specs.Submitting.{accept, accept_as, accept_split, accept_under, enter, give_part, give_parts, is_reference_taken, part_given, reference_for}
 use Rattle.sms_centre_spec.specs.Transfers.{report_closed}
@@ -54,7 +54,7 @@ use Rattle.sms_centre_spec.specs.declared.event.CentreEvent.TheVariants.{Submit,
 use Rattle.sms_centre_spec.proofs.Stages.{IfThere}
 use Rattle.sms_centre_spec.proofs.StandsEntered.{then_there}
 use Rattle.sms_centre_draft.proofs.walks.MomentStays.{conclude_moment, end_moment}
-use Rattle.sms_world_refinement.specs.centre_events.CourseEvents.{moment_at}
+use Rattle.sms_world_refinement.specs.centre_events.RunEvents.{moment_at}
 
 -- ---- a submission is accepted
 
@@ -97,13 +97,13 @@ module _ (k : ℕ) where
   accepted_stays id None d e f = e
   accepted_stays id (Some s) d e f = f
 
-  came_stays : (u : Result Submission CommandStatus) (d : Draft) → AtDraft d → AtDraft (submission_came u d)
+  came_stays : (u : Result Submission CommandStatus) (d : Draft) → AtDraft d → AtDraft (submission_received u d)
   came_stays (Err status) d e = e
   came_stays (Ok u) d e =
       cond_both (is_reference_taken u d.store) _ (accepted (next_id (messages_in d.store)) (accept u d.store) d) (λ (x : Draft). AtDraft x)
       (λ t. e) (λ t. accepted_stays (next_id (messages_in d.store)) (accept u d.store) d e (accept_stays u d.store e))
 
-  submit_stays : (a : Option Account) (m : Message) (d : Draft) → AtDraft d → AtDraft (submit_by a m d)
+  submit_stays : (a : Option CentreAccount) (m : Message) (d : Draft) → AtDraft d → AtDraft (submit_by a m d)
   submit_stays None m d e = e
   submit_stays (Some a) m d e = came_stays (from_pdu a d.store.moment m) d e
 
@@ -111,7 +111,7 @@ module _ (k : ℕ) where
   queried_stays None d e = e
   queried_stays (Some m) d e = e
 
-  query_stays : (a : Option Account) (q : QuerySm) (d : Draft) → AtDraft d → AtDraft (query_by a q d)
+  query_stays : (a : Option CentreAccount) (q : QuerySm) (d : Draft) → AtDraft d → AtDraft (query_by a q d)
   query_stays None q d e = e
   query_stays (Some a) q d e = queried_stays (own_message a (source_in a.address q.source) (message_numbered (id_in q.message_id) (messages_in d.store))) d e
 
@@ -119,7 +119,7 @@ module _ (k : ℕ) where
   cancelled_stays None d e = e
   cancelled_stays (Some m) d e = cond_both (is_pending m) _ _ (λ (x : Draft). AtDraft x) (λ t. end_moment Deleted m d.store ∙ e) (λ t. e)
 
-  cancel_stays : (a : Option Account) (q : CancelSm) (d : Draft) → AtDraft d → AtDraft (cancel_by a q d)
+  cancel_stays : (a : Option CentreAccount) (q : CancelSm) (d : Draft) → AtDraft d → AtDraft (cancel_by a q d)
   cancel_stays None q d e = e
   cancel_stays (Some a) q d e =
       let m : Option MessageRow = own_message a (source_in a.address q.source) (message_numbered (id_in q.message_id) (messages_in d.store)) in
@@ -135,7 +135,7 @@ module _ (k : ℕ) where
   report_due_stays None s e = e
   report_due_stays (Some r) s e = e
 
-  all_due_stays : (ls : List Load) (s : Store) → At s → At (all_due ls s)
+  all_due_stays : (ls : List QueuedPart) (s : Store) → At s → At (all_due ls s)
   all_due_stays [] s e = e
   all_due_stays (l ∷ ls) s e =
       all_due_stays ls (load_due l s)
@@ -148,14 +148,14 @@ module _ (k : ℕ) where
   taken_stays h n tag None d e f = e
   taken_stays h n tag (Some s) d e f = f
 
-  submission_stays : (h : List ℕ) (n : ℕ) (tag : Holder) (u : Result Submission SubmitRefusal) (d : Draft) → AtDraft d → AtDraft (submit_came h n tag u d)
+  submission_stays : (h : List ℕ) (n : ℕ) (tag : Holder) (u : Result Submission SubmitRefusal) (d : Draft) → AtDraft d → AtDraft (submit_received h n tag u d)
   submission_stays h n tag (Err r) d e = e
   submission_stays h n tag (Ok u) d e =
       cond_both (is_duplicate u d.store) _ _ (λ (x : Draft). AtDraft x) (λ t. e)
       (λ t. cond_both (is_reference_taken u d.store) _ (submit_accepted h n tag (accept u d.store) d) (λ (x : Draft). AtDraft x) (λ q. e)
       (λ q. taken_stays h n tag (accept u d.store) d e (accept_stays u d.store e)))
 
-  unit_stays : (h : List ℕ) (tag : Holder) (unit : List ℕ) (u : Result Rp RelayFault) (d : Draft) → AtDraft d → AtDraft (unit_came h tag unit u d)
+  unit_stays : (h : List ℕ) (tag : Holder) (unit : List ℕ) (u : Result Rp RelayFault) (d : Draft) → AtDraft d → AtDraft (unit_received h tag unit u d)
   unit_stays h tag unit (Ok (DataUnit r z t)) d e = submission_stays h r tag (from_read h d.store.moment (tpdu_up_at InData t)) d e
   unit_stays h tag unit (Ok (AckUnit r t)) d e = e
   unit_stays h tag unit (Ok (ErrorUnit r z t)) d e = e
@@ -167,20 +167,20 @@ module _ (k : ℕ) where
   up_stays h tag (Some (Opened unit)) d e = unit_stays h tag unit (up_at unit) d e
   up_stays h tag (Some (Ended transfer ending)) d e = conclude_moment h transfer ending d ∙ e
 
-  frame_stays : (octets : List ℕ) (tag : Holder) (l : Line) (d : Draft) → AtDraft d → AtDraft (frame_taken octets tag l d)
-  frame_stays octets tag l d e = up_stays l.handset tag (taken octets l.link).out.up (on_air (turn_line l (taken octets l.link) d.air) d) e
+  frame_stays : (octets : List ℕ) (tag : Holder) (l : HandsetLink) (d : Draft) → AtDraft d → AtDraft (frame_taken octets tag l d)
+  frame_stays octets tag l d e = up_stays l.handset tag (taken octets l.link).out.up (on_links (turn_line l (taken octets l.link) d.links) d) e
 
   -- ---- links
 
   raise_stays : (h : List ℕ) (d : Draft) → AtDraft d → AtDraft (raise h d)
-  raise_stays h d e = all_due_stays (waiting_in (line_of h d.air.lines).handset d.store) d.store e
+  raise_stays h d e = all_due_stays (waiting_in (line_of h d.links.lines).handset d.store) d.store e
 
   lost_stays : (h : List ℕ) (o : Option Carried) (d : Draft) → AtDraft d → AtDraft (lost h o d)
   lost_stays h None d e = e
   lost_stays h (Some t) d e = conclude_moment h t Lost d ∙ e
 
   lower_stays : (h : List ℕ) (d : Draft) → AtDraft d → AtDraft (lower h d)
-  lower_stays h d e = let l : Line = line_of h d.air.lines in lost_stays l.handset l.link.under_way (on_air (put_line (lowered l) d.air) d) e
+  lower_stays h d e = let l : HandsetLink = line_of h d.links.lines in lost_stays l.handset l.link.under_way (on_links (put_line (lowered l) d.links) d) e
 
   -- ---- sessions
 
@@ -192,7 +192,7 @@ module _ (k : ℕ) where
   unbound_stays None d e = e
   unbound_stays (Some session) d e = e
 
-  bound_stays : (n : ℕ) (b : Bool) (a : Option Account) (d : Draft) → AtDraft d → AtDraft (bound_as n b a d)
+  bound_stays : (n : ℕ) (b : Bool) (a : Option CentreAccount) (d : Draft) → AtDraft d → AtDraft (bound_as n b a d)
   bound_stays n b None d e = e
   bound_stays n b (Some a) d e = cond_both b (due_for a.name d.store) d.store (λ (x : Store). At x) (λ t. e) (λ t. e)
 
@@ -215,22 +215,22 @@ module _ (k : ℕ) where
   out_stays h (Some (Opened unit)) d e = e
   out_stays h (Some (Ended transfer ending)) d e = conclude_moment h transfer ending d ∙ e
 
-  line_stays : (l : Line) (d : Draft) → AtDraft d → AtDraft (fire_line l d)
-  line_stays l d e = out_stays l.handset (fired_link d.store.moment l.link).out.up (on_air (turn_line l (fired_link d.store.moment l.link) d.air) d) e
+  line_stays : (l : HandsetLink) (d : Draft) → AtDraft d → AtDraft (fire_line l d)
+  line_stays l d e = out_stays l.handset (fired_link d.store.moment l.link).out.up (on_links (turn_line l (fired_link d.store.moment l.link) d.links) d) e
 
-  fire_stays : (o : Option Line) (d : Draft) → AtDraft d → AtDraft (fire_at o d)
+  fire_stays : (o : Option HandsetLink) (d : Draft) → AtDraft d → AtDraft (fire_at o d)
   fire_stays None d e = e
   fire_stays (Some l) d e = line_stays l d e
 
   mentioned_stay : (hs : List HandsetRow) (d : Draft) → AtDraft d → AtDraft (fire_mentioned hs d)
   mentioned_stay [] d e = e
   mentioned_stay (h ∷ hs) d e =
-      let o : Option Line = line_at h.number d.air.lines in mentioned_stay hs (fire_at o d) (fire_stays o d e)
+      let o : Option HandsetLink = line_at h.number d.links.lines in mentioned_stay hs (fire_at o d) (fire_stays o d e)
 
-  others_stay : (hs : List HandsetRow) (ls : List Line) (d : Draft) → AtDraft d → AtDraft (fire_others hs ls d)
+  others_stay : (hs : List HandsetRow) (ls : List HandsetLink) (d : Draft) → AtDraft d → AtDraft (fire_others hs ls d)
   others_stay hs [] d e = e
   others_stay hs (l ∷ ls) d e =
-      let o : Option Line = line_at l.handset d.air.lines in
+      let o : Option HandsetLink = line_at l.handset d.links.lines in
       others_stay hs ls (if is_mentioned (handset_at l.handset hs) then d else fire_at o d)
       (cond_both (is_mentioned (handset_at l.handset hs)) d (fire_at o d) (λ (x : Draft). AtDraft x) (λ t. e) (λ t. fire_stays o d e))
 
@@ -238,9 +238,9 @@ module _ (k : ℕ) where
   fired_stays d e =
       let hs : List HandsetRow = handsets_in d.store in
       let x : Draft = fire_mentioned hs d in
-      others_stay hs d.air.lines x (mentioned_stay hs d e)
+      others_stay hs d.links.lines x (mentioned_stay hs d e)
 
-  raise_all_stays : (ls : List Line) (d : Draft) → AtDraft d → AtDraft (raise_all ls d)
+  raise_all_stays : (ls : List HandsetLink) (d : Draft) → AtDraft d → AtDraft (raise_all ls d)
   raise_all_stays [] d e = e
   raise_all_stays (l ∷ ls) d e =
       raise_all_stays ls (if l.is_awaited then raise l.handset d else d)
@@ -250,7 +250,7 @@ module _ (k : ℕ) where
   tick_stays d e =
       let a : Draft = aged d in
       let f : Draft = fired a in
-      raise_all_stays f.air.lines f (fired_stays a (drop_stays (reports_in (expired d.store)) (expired d.store) (expire_stays (messages_in d.store) d.store e)))
+      raise_all_stays f.links.lines f (fired_stays a (drop_stays (reports_in (expired d.store)) (expired d.store) (expire_stays (messages_in d.store) d.store e)))
 
 -- ---- every event
 

@@ -5,8 +5,8 @@ use Rattle.sms_base.specs.declared.holder.Holder.{Holder}
 use Rattle.sms_base.specs.declared.holder.Holder.TheVariants.{Part, Report, Entry, Memory}
 use Rattle.sms_rows.specs.table.Keys.{pair_key}
 use Rattle.sms_script.specs.declared.report.rows.GivenRow.{GivenRow}
-use Rattle.sms_world_model.specs.World.{Giving}
-use Rattle.sms_world.specs.refinement.ToldGivings.{PartGiven, parts_given, parts_told, with_part}
+use Rattle.sms_world_model.specs.World.{Allocation}
+use Rattle.sms_world.specs.refinement.ReportedAllocations.{PartGiven, parts_given, parts_told, with_part}
 
 abbrev pub key_of : PartGiven → ℕ
 key_of x = pair_key x.id x.number
@@ -75,9 +75,9 @@ with_append (Report id) a r xs ys = refl
 with_append (Entry n) a r xs ys = refl
 with_append (Memory n) a r xs ys = refl
 
--- ---- of givings
+-- ---- of allocations
 
-pub parts_append : (ds down : List Giving) → parts_given (ds ++ down) ≡ parts_given ds ++ parts_given down
+pub parts_append : (ds down : List Allocation) → parts_given (ds ++ down) ≡ parts_given ds ++ parts_given down
 parts_append [] down = refl
 parts_append (g ∷ ds) down =
     ap (λ (z : List PartGiven). with_part g.holder g.handset g.reference z) (parts_append ds down) ∙ with_append g.holder g.handset g.reference (parts_given ds) (parts_given down)
@@ -105,19 +105,19 @@ with_new : (h : Holder) (a : List ℕ) (r : ℕ) (x : PartGiven) (xs : List Part
 with_new h a r x xs (e, p, q) =
     subst (λ (z : Holder). Among x (with_part z a r xs)) (sym e) (inl (λ j. record { handset = sym p j; reference = sym q j; id = x.id; number = x.number }))
 
-pub part_from : (ds : List Giving) (x : PartGiven) → Among x (parts_given ds) → (g : Giving) × (Among g ds × (g.holder ≡ Part x.id x.number) × (g.handset ≡ x.handset) × (g.reference ≡ x.reference))
+pub part_from : (ds : List Allocation) (x : PartGiven) → Among x (parts_given ds) → (g : Allocation) × (Among g ds × (g.holder ≡ Part x.id x.number) × (g.handset ≡ x.handset) × (g.reference ≡ x.reference))
 part_from [] x i = absurd i
 part_from (g ∷ ds) x i =
-    with_cases g.holder g.handset g.reference x (parts_given ds) i ((y : Giving) × (Among y (g ∷ ds) × (y.holder ≡ Part x.id x.number) × (y.handset ≡ x.handset) × (y.reference ≡ x.reference)))
+    with_cases g.holder g.handset g.reference x (parts_given ds) i ((y : Allocation) × (Among y (g ∷ ds) × (y.holder ≡ Part x.id x.number) × (y.handset ≡ x.handset) × (y.reference ≡ x.reference)))
     (λ k. (g, (inl refl, k.0, k.1, k.2)))
     (λ j. let y = part_from ds x j in (y.0, (inr y.1.0, y.1.1, y.1.2, y.1.3)))
 
-pub part_to : (ds : List Giving) (g : Giving) (x : PartGiven) → Among g ds → g.holder ≡ Part x.id x.number → g.handset ≡ x.handset → g.reference ≡ x.reference → Among x (parts_given ds)
+pub part_to : (ds : List Allocation) (g : Allocation) (x : PartGiven) → Among g ds → g.holder ≡ Part x.id x.number → g.handset ≡ x.handset → g.reference ≡ x.reference → Among x (parts_given ds)
 part_to [] g x i e p q = absurd i
 part_to (d ∷ ds) g x i e p q = ⊎_elim
     (λ (same : g ≡ d).
     with_new d.holder d.handset d.reference x (parts_given ds)
-    (ap (λ (z : Giving). z.holder) (sym same) ∙ e, ap (λ (z : Giving). z.handset) (sym same) ∙ p, ap (λ (z : Giving). z.reference) (sym same) ∙ q))
+    (ap (λ (z : Allocation). z.holder) (sym same) ∙ e, ap (λ (z : Allocation). z.handset) (sym same) ∙ p, ap (λ (z : Allocation). z.reference) (sym same) ∙ q))
     (λ (j : Among g ds). with_old d.holder d.handset d.reference x (parts_given ds) (part_to ds g x j e p q))
     i
 

@@ -1,4 +1,4 @@
--- The rows that an event of the centre tells are the givings that its steps gave.
+-- The rows that an event of the centre tells are the allocations that its steps gave.
 use Rattle.std.proofs.Common.{◌≡◌, ℕ, ◌<◌, ◌≤◌, List, [], ◌∷◌, refl, sym, ◌∙◌, ap, subst, inl, inr, ⊎_elim, Option, Some, None, arith}
 use Rattle.sms_base.specs.Among.{Among}
 use Rattle.sms_base.specs.declared.holder.Holder.{Holder}
@@ -33,14 +33,14 @@ use Rattle.sms_centre_spec.proofs.EventLaws.{keeps_rows, stays_sound}
 use Rattle.sms_centre_spec.proofs.Resting.{happened_rests}
 use Rattle.sms_play.specs.CentreSide.{destination_in, given_by, parts_given, report_given, reports_given, source_in}
 use Rattle.sms_world_model.specs.Agreement.{GivenOnce}
-use Rattle.sms_world_model.specs.World.{Giving, World}
+use Rattle.sms_world_model.specs.World.{Allocation, World}
 use Rattle.sms_world_model.proofs.Faithful.{given_same}
 use Rattle.sms_world_model.proofs.Sound.{IsKnown, IsSound as IsSoundWorld}
 use Rattle.sms_world_refinement.proofs.centre.ByOctets.{by_octet_is, by_octet_some}
-use Rattle.sms_world_refinement.specs.centre.SeesGiven.{given_part, given_report}
-use Rattle.sms_world_refinement.specs.centre.SeesMessages.{PartSeen, part_seen, parts_by}
-use Rattle.sms_world_refinement.specs.centre.SeesReports.{ReportSeen, report_seen}
-use Rattle.sms_world.specs.refinement.TellingLaws.{HoldersSee}
+use Rattle.sms_world_refinement.specs.centre.RefinesGiven.{given_part, given_report}
+use Rattle.sms_world_refinement.specs.centre.RefinesMessages.{PartSeen, part_seen, parts_by}
+use Rattle.sms_world_refinement.specs.centre.RefinesReports.{ReportSeen, report_seen}
+use Rattle.sms_world.specs.refinement.AllocationLaws.{HoldersSee}
 use Rattle.sms_world.proofs.refinement.Growing.{Grown, either_part, in_front, in_rest, not_twice}
 use Rattle.sms_world.proofs.refinement.Latest.{TellAll, Tells}
 use Rattle.sms_world.proofs.refinement.PartMoves.{IsNewPart, IsSame, new_was_put, put_is_new}
@@ -177,20 +177,20 @@ module _ (event : CentreEvent) (c : Core) (sound : IsSoundCore c) (is : IsEvent 
   reporting = event_reports event c sound is
 
   -- what stood in the world before is told by the rows from before
-  is_new_there : (x : Giving) → Among x v.down → (Among x w.down → ⊥) → Among x grown.more
-  is_new_there x i old = ⊎_elim (λ (j : Among x grown.more). j) (λ (j : Among x w.down). absurd (old j)) (either_part x grown.more w.down (subst (λ (ds : List Giving). Among x ds) grown.is i))
+  is_new_there : (x : Allocation) → Among x v.down → (Among x w.down → ⊥) → Among x grown.more
+  is_new_there x i old = ⊎_elim (λ (j : Among x grown.more). j) (λ (j : Among x w.down). absurd (old j)) (either_part x grown.more w.down (subst (λ (ds : List Allocation). Among x ds) grown.is i))
 
-  not_before : (x : Giving) → Among x grown.more → Among x w.down → ⊥
-  not_before x i j = not_twice grown.more w.down (subst (λ (ds : List Giving). GivenOnce ds) grown.is world.given) x i j
+  not_before : (x : Allocation) → Among x grown.more → Among x w.down → ⊥
+  not_before x i j = not_twice grown.more w.down (subst (λ (ds : List Allocation). GivenOnce ds) grown.is world.given) x i j
 
-  still_there : (x : Giving) → Among x w.down → Among x v.down
-  still_there x i = subst (λ (ds : List Giving). Among x ds) (sym grown.is) (in_rest x grown.more w.down i)
+  still_there : (x : Allocation) → Among x w.down → Among x v.down
+  still_there x i = subst (λ (ds : List Allocation). Among x ds) (sym grown.is) (in_rest x grown.more w.down i)
 
-  new_there : (x : Giving) → Among x grown.more → Among x v.down
-  new_there x i = subst (λ (ds : List Giving). Among x ds) (sym grown.is) (in_front x grown.more w.down i)
+  new_there : (x : Allocation) → Among x grown.more → Among x v.down
+  new_there x i = subst (λ (ds : List Allocation). Among x ds) (sym grown.is) (in_front x grown.more w.down i)
 
   abbrev Given : GivenRow → Type 0
-  Given g = (x : Giving) × (Among x grown.more × Tells g x)
+  Given g = (x : Allocation) × (Among x grown.more × Tells g x)
 
   -- ---- a row is told
 
@@ -209,7 +209,7 @@ module _ (event : CentreEvent) (c : Core) (sound : IsSoundCore c) (is : IsEvent 
       by_octet_is q.number (part_seen (part_at q.id q.number after.parts)) few ∙ ap part_seen (ap (λ (k : ℕ). row_at part_key k after.parts) (sym key) ∙ at) in
       let own : row.id ≡ q.id = found_key message_key q.id row after.messages there in
       let g = later.part q.id q.number row (seen_of q) there seen in
-      let x : Giving = given_part row q.number (seen_of q) g.0 in
+      let x : Allocation = given_part row q.number (seen_of q) g.0 in
       let old : Among x w.down → ⊥ = λ j.
       let y = before.of_part x row.id q.number j refl in
       let none : part_at row.id q.number c.rows.parts ≡ None = ap (λ (k : ℕ). row_at part_key k c.rows.parts) ((λ j2. pair_key (own j2) q.number) ∙ sym key) ∙ new.none in
@@ -238,7 +238,7 @@ module _ (event : CentreEvent) (c : Core) (sound : IsSoundCore c) (is : IsEvent 
       let own : row.id ≡ r.id = found_key message_key r.id row after.messages there in
       let seen : ReportSeen = record { kind = q.kind; is_done = q.progress.is_done } in
       let g = later.report r.id reference tpdu row seen there (ap report_seen at) (new.stands.1.1 ∙ e) in
-      let x : Giving = given_report row reference tpdu g.0 in
+      let x : Allocation = given_report row reference tpdu g.0 in
       let old : Among x w.down → ⊥ = λ j.
       let y = before.of_report x row.id j refl in
       let none : report_of row.id c.rows.reports ≡ None = ap (λ (k : ℕ). report_of k c.rows.reports) own ∙ subst (λ (rs : List ReportRow). report_of r.id rs ≡ None) reporting.rows new.none in
@@ -249,10 +249,10 @@ module _ (event : CentreEvent) (c : Core) (sound : IsSoundCore c) (is : IsEvent 
 
   -- ---- what was given is told
 
-  abbrev Told : Giving → Type 0
+  abbrev Told : Allocation → Type 0
   Told x = (g : GivenRow) × (Among g (given_by d) × Tells g x)
 
-  was_none : (x : Giving) (id n : ℕ) → Among x grown.more → x.holder ≡ Part id n → (o : Option PartRow) → part_at id n c.rows.parts ≡ o → n < 256 → o ≡ None
+  was_none : (x : Allocation) (id n : ℕ) → Among x grown.more → x.holder ≡ Part id n → (o : Option PartRow) → part_at id n c.rows.parts ≡ o → n < 256 → o ≡ None
   was_none x id n i e None at few = refl
   was_none x id n i e (Some p) at few =
       let part = sound.rows.messages.each_part p (found_among part_key (pair_key id n) p c.rows.parts at) in
@@ -262,11 +262,11 @@ module _ (event : CentreEvent) (c : Core) (sound : IsSoundCore c) (is : IsEvent 
       let there : message_at id c.rows.messages ≡ Some row = ap (λ (k : ℕ). message_at k c.rows.messages) (sym ids.0) ∙ part.message.1.0 in
       let own : row.id ≡ id = found_key message_key id row c.rows.messages there in
       let g = before.part id n row (seen_of p) there (by_octet_is n (part_seen (part_at id n c.rows.parts)) few ∙ ap part_seen at) in
-      let y : Giving = given_part row n (seen_of p) g.0 in
+      let y : Allocation = given_part row n (seen_of p) g.0 in
       let same : x ≡ y = world.single x y (new_there x i) (still_there y g.1) (e ∙ (λ j. Part (sym own j) n)) in
-      absurd (not_before x i (subst (λ (z : Giving). Among z w.down) (sym same) g.1))
+      absurd (not_before x i (subst (λ (z : Allocation). Among z w.down) (sym same) g.1))
 
-  part_is_told : (x : Giving) (id n : ℕ) → Among x grown.more → x.holder ≡ Part id n → Told x
+  part_is_told : (x : Allocation) (id n : ℕ) → Among x grown.more → x.holder ≡ Part id n → Told x
   part_is_told x id n i e =
       let y = later.of_part x id n (new_there x i) e in
       let row : MessageRow = y.0 in
@@ -287,14 +287,14 @@ module _ (event : CentreEvent) (c : Core) (sound : IsSoundCore c) (is : IsEvent 
           in_front (part_row mo after.messages p) (parts_given mo after.messages part_changes) (reports_given mo after.messages (changes_in d.store).reports) (part_there mo after.messages part_changes p put.1.0),
           record {
             side = refl;
-            handset = ap (λ (z : Giving). z.handset) y.2.2 ∙ sym (ap destination_in (ap (λ (k : ℕ). message_at k after.messages) id_is ∙ y.2.0));
-            reference = ap (λ (z : Giving). z.reference) y.2.2 ∙ ap (λ (z : PartSeen). z.reference) q.1.1 ∙ same.reference;
+            handset = ap (λ (z : Allocation). z.handset) y.2.2 ∙ sym (ap destination_in (ap (λ (k : ℕ). message_at k after.messages) id_is ∙ y.2.0));
+            reference = ap (λ (z : Allocation). z.reference) y.2.2 ∙ ap (λ (z : PartSeen). z.reference) q.1.1 ∙ same.reference;
             holder = e ∙ (λ j. Part (sym id_is j) ((sym ids.1 ∙ same.number) j));
           },
         ),
       )
 
-  had_none : (x : Giving) (id : ℕ) → Among x grown.more → x.holder ≡ Report id → (q : ReportRow) → report_of id after.reports ≡ Some q → (reference : ℕ) (tpdu : List ℕ) → q.kind ≡ Status reference tpdu
+  had_none : (x : Allocation) (id : ℕ) → Among x grown.more → x.holder ≡ Report id → (q : ReportRow) → report_of id after.reports ≡ Some q → (reference : ℕ) (tpdu : List ℕ) → q.kind ≡ Status reference tpdu
       → (o : Option ReportRow) → report_of id c.rows.reports ≡ o → o ≡ None
   had_none x id i e q now reference tpdu kind None at = refl
   had_none x id i e q now reference tpdu kind (Some r) at =
@@ -307,11 +307,11 @@ module _ (event : CentreEvent) (c : Core) (sound : IsSoundCore c) (is : IsEvent 
       let there : message_at id c.rows.messages ≡ Some row = ap (λ (n : ℕ). message_at n c.rows.messages) (sym found.1) ∙ message.1.0 in
       let own : row.id ≡ id = found_key message_key id row c.rows.messages there in
       let g = before.report id reference tpdu row (record { kind = r.kind; is_done = r.progress.is_done }) there (ap report_seen at) was in
-      let y : Giving = given_report row reference tpdu g.0 in
+      let y : Allocation = given_report row reference tpdu g.0 in
       let one : x ≡ y = world.single x y (new_there x i) (still_there y g.1) (e ∙ ap Report (sym own)) in
-      absurd (not_before x i (subst (λ (z : Giving). Among z w.down) (sym one) g.1))
+      absurd (not_before x i (subst (λ (z : Allocation). Among z w.down) (sym one) g.1))
 
-  report_is_told : (x : Giving) (id : ℕ) → Among x grown.more → x.holder ≡ Report id → Told x
+  report_is_told : (x : Allocation) (id : ℕ) → Among x grown.more → x.holder ≡ Report id → Told x
   report_is_told x id i e =
       let y = later.of_report x id (new_there x i) e in
       let row : MessageRow = y.0 in
@@ -327,14 +327,14 @@ module _ (event : CentreEvent) (c : Core) (sound : IsSoundCore c) (is : IsEvent 
               (report_there mo after.messages (changes_in d.store).reports r y.2 y.3 (put.1.2 ∙ kind) (committed (Put r) d.store.reports.news put.1.0)),
           record {
             side = refl;
-            handset = ap (λ (z : Giving). z.handset) y.4.3 ∙ sym (ap source_in (ap (λ (k : ℕ). message_at k after.messages) id_is ∙ y.4.0));
-            reference = ap (λ (z : Giving). z.reference) y.4.3;
+            handset = ap (λ (z : Allocation). z.handset) y.4.3 ∙ sym (ap source_in (ap (λ (k : ℕ). message_at k after.messages) id_is ∙ y.4.0));
+            reference = ap (λ (z : Allocation). z.reference) y.4.3;
             holder = e ∙ ap Report (sym id_is);
           },
         ),
       )
 
-  told_for : (x : Giving) (h : Holder) → Among x grown.more → x.holder ≡ h → Told x
+  told_for : (x : Allocation) (h : Holder) → Among x grown.more → x.holder ≡ h → Told x
   told_for x (Part id n) i e = part_is_told x id n i e
   told_for x (Report id) i e = report_is_told x id i e
   told_for x (Entry n) i e = absurd (subst (λ (h : Holder). IsKnown v.table v.receipts x h) e (world.known x (new_there x i)))
@@ -355,5 +355,5 @@ module _ (event : CentreEvent) (c : Core) (sound : IsSoundCore c) (is : IsEvent 
   event_tells = record {
     there = given_for;
     told = λ x i. told_for x x.holder i refl;
-    once = λ x y i j h r. ap (λ (z : Giving). z.holder) (given_same v.down x y world.given (new_there x i) (new_there y j) h r (grown.now x i ∙ sym (grown.now y j)));
+    once = λ x y i j h r. ap (λ (z : Allocation). z.holder) (given_same v.down x y world.given (new_there x i) (new_there y j) h r (grown.now x i ∙ sym (grown.now y j)));
   }

@@ -4,27 +4,27 @@ use Rattle.std.proofs.Common.{◌≡◌, ℕ, suc, ◌+◌, ◌*◌, ◌<◌, �
 use Rattle.std.specs.Prelude.{◌⊎◌}
 use Rattle.sms_base.specs.Among.{Among}
 use Rattle.sms_world_model.specs.Agreement.{GivenOnce}
-use Rattle.sms_world_model.specs.References.{Ticket, given_parts, part_giving, report_giving}
+use Rattle.sms_world_model.specs.References.{Ticket, given_parts, part_allocation, report_allocation}
 use Rattle.sms_world_model.specs.Run.{after_item, end}
 use Rattle.sms_world_model.specs.ScriptRun.{items}
 use Rattle.sms_world_model.specs.Submission.{Submission}
-use Rattle.sms_world_model.specs.World.{Giving, World}
+use Rattle.sms_world_model.specs.World.{Allocation, World}
 use Rattle.sms_world_model.specs.WorldStep.{Receive, Status, Step, Submit, after}
 use Rattle.sms_world_model.proofs.Faithful.{was_earlier}
-use Rattle.sms_world.specs.refinement.TellingLaws.{NoneSubmits, OneSubmits, Submits}
-use Rattle.sms_world.specs.refinement.ToldGivings.{PartGiven, parts_given}
+use Rattle.sms_world.specs.refinement.AllocationLaws.{NoneSubmits, OneSubmits, Submits}
+use Rattle.sms_world.specs.refinement.ReportedAllocations.{PartGiven, parts_given}
 use Rattle.sms_world.proofs.refinement.Falling.{Falls, falls_append, key_of, nothing_more, parts_append}
 
 appended : {A : Type 0} (xs ys zs : List A) → (xs ++ ys) ++ zs ≡ xs ++ (ys ++ zs)
 appended [] ys zs = refl
 appended (x ∷ xs) ys zs = ap (λ z. x ∷ z) (appended xs ys zs)
 
-pub record Grown (m : ℕ) (old new : List Giving) : Type 0 where
-  pub more : List Giving
+pub record Grown (m : ℕ) (old new : List Allocation) : Type 0 where
+  pub more : List Allocation
   pub is : new ≡ more ++ old
-  pub now : (g : Giving) → Among g more → g.moment ≡ m
+  pub now : (g : Allocation) → Among g more → g.moment ≡ m
 
-abbrev none_more : (m : ℕ) (down : List Giving) → Grown m down down
+abbrev none_more : (m : ℕ) (down : List Allocation) → Grown m down down
 none_more m down = record { more = []; is = refl; now = λ g i. absurd i }
 
 pub either_part : {A : Type 0} (x : A) (xs ys : List A) → Among x (xs ++ ys) → Among x xs ⊎ Among x ys
@@ -43,30 +43,30 @@ pub in_rest : {A : Type 0} (x : A) (xs ys : List A) → Among x ys → Among x (
 in_rest x [] ys i = i
 in_rest x (z ∷ zs) ys i = inr (in_rest x zs ys i)
 
-abbrev then_grown : (m : ℕ) (a b c : List Giving) → Grown m a b → Grown m b c → Grown m a c
+abbrev then_grown : (m : ℕ) (a b c : List Allocation) → Grown m a b → Grown m b c → Grown m a c
 then_grown m a b c x y = record {
   more = y.more ++ x.more;
-  is = y.is ∙ ap (λ (z : List Giving). y.more ++ z) x.is ∙ sym (appended y.more x.more a);
+  is = y.is ∙ ap (λ (z : List Allocation). y.more ++ z) x.is ∙ sym (appended y.more x.more a);
   now = λ g i. ⊎_elim (λ (j : Among g y.more). y.now g j) (λ (j : Among g x.more). x.now g j) (either_part g y.more x.more i);
 }
 
-abbrev one_more : (m : ℕ) (g : Giving) (down : List Giving) → g.moment ≡ m → Grown m down (g ∷ down)
+abbrev one_more : (m : ℕ) (g : Allocation) (down : List Allocation) → g.moment ≡ m → Grown m down (g ∷ down)
 one_more m g down e = record {
   more = g ∷ [];
   is = refl;
-  now = λ x i. ⊎_elim (λ (q : x ≡ g). ap (λ (z : Giving). z.moment) q ∙ e) (λ none. absurd none) i;
+  now = λ x i. ⊎_elim (λ (q : x ≡ g). ap (λ (z : Allocation). z.moment) q ∙ e) (λ none. absurd none) i;
 }
 
 -- ---- no submission
 
-record GrownQuiet (m : ℕ) (old new : List Giving) : Type 0 where
+record GrownQuiet (m : ℕ) (old new : List Allocation) : Type 0 where
   grown : Grown m old new
   none : parts_given grown.more ≡ []
 
 quiet_step : (w : World) (m : ℕ) (s : Step) → ¬ Submits s → GrownQuiet m w.down (after w m s).down
 quiet_step w m (Submit s ts) n = absurd (n tt)
 quiet_step w m (Receive u s ts) n = absurd (n tt)
-quiet_step w m (Status s f t) n = record { grown = one_more m (report_giving s m t) w.down refl; none = refl }
+quiet_step w m (Status s f t) n = record { grown = one_more m (report_allocation s m t) w.down refl; none = refl }
 quiet_step w m _ n = record { grown = none_more m w.down; none = refl }
 
 quiet_steps : (w : World) (m : ℕ) (b : Bool) (ss : List Step) → NoneSubmits ss → GrownQuiet m w.down (end w (items m b ss)).down
@@ -82,12 +82,12 @@ quiet_steps w m b (s ∷ ss) n =
 
 -- ---- one at most
 
-pub record GrownOnce (m : ℕ) (old new : List Giving) : Type 0 where
+pub record GrownOnce (m : ℕ) (old new : List Allocation) : Type 0 where
   pub grown : Grown m old new
   pub falls : Falls (parts_given grown.more)
 
 -- the parts of that submission, from that number on
-record GrownFrom (id n m : ℕ) (old new : List Giving) : Type 0 where
+record GrownFrom (id n m : ℕ) (old new : List Allocation) : Type 0 where
   grown : Grown m old new
   falls : Falls (parts_given grown.more)
   from : (x : PartGiven) → Among x (parts_given grown.more) → (x.id ≡ id) × (n ≤ x.number)
@@ -101,10 +101,10 @@ less n k l = omega (arith, l)
 none_less : (n : ℕ) → n ≤ n
 none_less n = omega arith
 
-parts_grow : (s : Submission) (m n : ℕ) (ts : List Ticket) (down : List Giving) → GrownFrom s.id n m down (given_parts s m n ts down)
+parts_grow : (s : Submission) (m n : ℕ) (ts : List Ticket) (down : List Allocation) → GrownFrom s.id n m down (given_parts s m n ts down)
 parts_grow s m n [] down = record { grown = none_more m down; falls = tt; from = λ x i. absurd i }
 parts_grow s m n (t ∷ ts) down =
-    let g : Giving = part_giving s m n t in
+    let g : Allocation = part_allocation s m n t in
     let own : PartGiven = record { handset = s.handset; reference = t.reference; id = s.id; number = n } in
     let y : GrownFrom s.id (suc n) m (g ∷ down) (given_parts s m (suc n) ts (g ∷ down)) = parts_grow s m (suc n) ts (g ∷ down) in
     let is : parts_given (y.grown.more ++ g ∷ []) ≡ parts_given y.grown.more ++ own ∷ [] = parts_append y.grown.more (g ∷ []) in
@@ -128,7 +128,7 @@ parts_grow s m n (t ∷ ts) down =
 once_step : (w : World) (m : ℕ) (s : Step) → GrownOnce m w.down (after w m s).down
 once_step w m (Submit s ts) = let x = parts_grow s m 1 ts w.down in record { grown = x.grown; falls = x.falls }
 once_step w m (Receive u s ts) = let x = parts_grow s m 1 ts w.down in record { grown = x.grown; falls = x.falls }
-once_step w m (Status s f t) = record { grown = one_more m (report_giving s m t) w.down refl; falls = tt }
+once_step w m (Status s f t) = record { grown = one_more m (report_allocation s m t) w.down refl; falls = tt }
 once_step w m _ = record { grown = none_more m w.down; falls = tt }
 
 pub steps_grow : (w : World) (m : ℕ) (b : Bool) (ss : List Step) → OneSubmits ss → GrownOnce m w.down (end w (items m b ss)).down
@@ -161,11 +161,11 @@ steps_grow w m b (s ∷ ss) o =
 below_itself : (n : ℕ) → n < n → ⊥
 below_itself n l = omega (arith, l)
 
-pub not_twice : (ds down : List Giving) → GivenOnce (ds ++ down) → (x : Giving) → Among x ds → Among x down → ⊥
+pub not_twice : (ds down : List Allocation) → GivenOnce (ds ++ down) → (x : Allocation) → Among x ds → Among x down → ⊥
 not_twice [] down once x i j = i
 not_twice (g ∷ ds) down once x i j = ⊎_elim
     (λ (e : x ≡ g). below_itself x.moment
-    (subst (λ (z : Giving). x.moment < z.moment) (sym e)
-    (was_earlier (ds ++ down) x g.handset g.reference g.moment once.0 (in_rest x ds down j) (ap (λ (z : Giving). z.handset) e) (ap (λ (z : Giving). z.reference) e))))
+    (subst (λ (z : Allocation). x.moment < z.moment) (sym e)
+    (was_earlier (ds ++ down) x g.handset g.reference g.moment once.0 (in_rest x ds down j) (ap (λ (z : Allocation). z.handset) e) (ap (λ (z : Allocation). z.reference) e))))
     (λ (k : Among x ds). not_twice ds down once.1 x k j)
     i

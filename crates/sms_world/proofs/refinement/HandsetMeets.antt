@@ -14,7 +14,7 @@ use Rattle.sms_script.specs.declared.report.rows.GivenRow.{GivenRow}
 use Rattle.sms_rows.specs.declared.table.change.Change.{Change}
 use Rattle.sms_rows.specs.declared.table.change.Change.TheVariants.{Put, Remove}
 use Rattle.sms_rows.specs.table.Table.{put, row_at, without}
-use Rattle.sms_world.specs.refinement.ToldGivings.{TellsDown}
+use Rattle.sms_world.specs.refinement.ReportedAllocations.{TellsDown}
 use Rattle.sms_world.proofs.refinement.Latest.{AllUp, tells_still}
 use Rattle.sms_world.proofs.refinement.Telling.{goes_on}
 use Rattle.sms_world_model.proofs.Apart.{handset_leaves_centre}
@@ -37,14 +37,14 @@ use Rattle.sms_handset.specs.declared.refusal.Refusal.{Refusal}
 use Rattle.sms_handset.proofs.SoundActs.{SoundIfDone}
 use Rattle.sms_handset.proofs.SoundDrafts.{SoundAt, sound_core}
 use Rattle.sms_handset.proofs.SoundEvents.{deleted_sound, discarded_sound, frame_sound, tick_sound, wrote_sound}
-use Rattle.sms_play.specs.Course.{Course, Party, answer, numbers_of, party_at, with_party}
+use Rattle.sms_play.specs.PlayState.{PlayState, Party, answer, numbers_of, party_at, with_party}
 use Rattle.sms_play.specs.HandsetSide.{carried_given, committed, data_given, done, entries_given, entry_given, given_by, handset_meets, happened, joined_in, memories_given, memory_given, party_after, told, whole}
 use Rattle.sms_play.specs.PlayedEvent.{handset_kept, handset_restarted, party_restarted}
 use Rattle.sms_play.specs.Premises.{pairs_of}
 use Rattle.sms_world_model.specs.Run.{Run, after_item, end}
 use Rattle.sms_world_model.specs.ScriptRun.{Event, IsPlayed, Removed, Wrote, items}
 use Rattle.sms_world_model.specs.Sides.{AllOfHandset}
-use Rattle.sms_world_model.specs.World.{Accepted, Giving, Sent, World}
+use Rattle.sms_world_model.specs.World.{Accepted, Allocation, Sent, World}
 use Rattle.sms_world_model.specs.WorldStep.{Step}
 use Rattle.sms_world_refinement.specs.frames.FramesDown.{IsHanded}
 use Rattle.sms_world_refinement.specs.frames.FramesUp.{stacked}
@@ -52,7 +52,7 @@ use Rattle.sms_world_refinement.proofs.centre.Staying.{handset_stays}
 use Rattle.sms_world_refinement.specs.handset.EventLaws.{IfDone}
 use Rattle.sms_world_refinement.specs.handset.PlanLaws.{event_seen}
 use Rattle.sms_world_refinement.specs.handset.PutInOrder.{JoinedText, accepted_at, joined_at, joined_by, taken_by}
-use Rattle.sms_world_refinement.specs.handset.Sight.{Sees}
+use Rattle.sms_world_refinement.specs.handset.Refinement.{Refines}
 use Rattle.sms_world_refinement.specs.handset.Stages.{Happens}
 use Rattle.sms_world_refinement.proofs.handset.HandsetEvents.{frame_event, seen_next}
 use Rattle.sms_world_refinement.proofs.handset.Others.{other_event}
@@ -60,19 +60,19 @@ use Rattle.sms_world_refinement.proofs.handset.OwnersEvents.{delete_event, disca
 use Rattle.sms_world_refinement.proofs.handset.Restarts.{stop_event, stopped_seen}
 use Rattle.sms_world_refinement.proofs.handset.Ticks.{tick_event}
 use Rattle.sms_world_refinement.proofs.handset.WriteEvents.{write_event}
-use Rattle.sms_world.specs.refinement.CourseSight.{CourseSees, PartySees, rows_joined}
+use Rattle.sms_world.specs.refinement.PlayRefinement.{PlayRefines, PartyRefines, rows_joined}
 use Rattle.sms_world.proofs.refinement.Bags.{up_rows, up_stacked}
 use Rattle.sms_world.proofs.refinement.Parties.{party_found, with_among, with_found, with_numbers}
 use Rattle.sms_world.proofs.refinement.PutRows.{pairs_more, rows_more}
 
 -- the event is steps, whole or stopped, to a world that the course sees
-abbrev pub Goes : Event → ℕ → Bool → World → Course → Type 0
-Goes event m b w d = (steps : List Step) × (IsPlayed w event steps × Run w (items m b steps) × CourseSees d (end w (items m b steps)))
+abbrev pub Goes : Event → ℕ → Bool → World → PlayState → Type 0
+Goes event m b w d = (steps : List Step) × (IsPlayed w event steps × Run w (items m b steps) × PlayRefines d (end w (items m b steps)))
 
 -- ---- what was answered the world doesn't show
 
-pub answer_sees : (n : ℕ) (a : Answered) (c : Course) (w : World) → CourseSees c w → CourseSees (answer n a c) w
-answer_sees n a c w s = record { sound = s.sound; offered = s.offered; centre = s.centre; parties = s.parties; apart = s.apart; bag = s.bag; sent = s.sent; reached = s.reached; down = s.down }
+pub answer_refines : (n : ℕ) (a : Answered) (c : PlayState) (w : World) → PlayRefines c w → PlayRefines (answer n a c) w
+answer_refines n a c w s = record { sound = s.sound; offered = s.offered; centre = s.centre; parties = s.parties; apart = s.apart; bag = s.bag; sent = s.sent; reached = s.reached; down = s.down }
 
 -- ---- a stopped event sends nothing
 
@@ -92,7 +92,7 @@ sound_if (Write text to report) c s = wrote_sound text to report c s
 sound_if (Delete entry) c s = deleted_sound entry c s
 sound_if (Discard entry) c s = discarded_sound entry c s
 
-happens_if : (m : ℕ) (h : List ℕ) (number : ℕ) (e : HandsetEvent) (c : Core) (w : World) → IsSoundCore c → Sees h w (draft_of c) w → OfFrame e (λ octets tag. IsHanded h number octets (tag_of tag) w)
+happens_if : (m : ℕ) (h : List ℕ) (number : ℕ) (e : HandsetEvent) (c : Core) (w : World) → IsSoundCore c → Refines h w (draft_of c) w → OfFrame e (λ octets tag. IsHanded h number octets (tag_of tag) w)
     → IfDone (λ (d : Draft). Happens m (event_seen number e) h w d w) (happened e c)
 happens_if m h number (Frame octets tag) c w sound k i = frame_event m h number octets (tag_of tag) c w sound k i
 happens_if m h number (Tick now) c w sound k i = tick_event m h now c w sound k
@@ -152,25 +152,25 @@ all_up p d =
 
 -- ---- one handset's steps, in a course
 
-module _ (c : Course) (w : World) (s : CourseSees c w) (p : Party) (there : Among p c.parties) where
-  mine : PartySees p w
+module _ (c : PlayState) (w : World) (s : PlayRefines c w) (p : Party) (there : Among p c.parties) where
+  mine : PartyRefines p w
   mine = s.parties p there
 
-  other_party : (m : ℕ) (b : Bool) (steps : List Step) → AllOfHandset p.number steps → (q : Party) → PartySees q w → ¬ (p.number ≡ q.number) → PartySees q (end w (items m b steps))
+  other_party : (m : ℕ) (b : Bool) (steps : List Step) → AllOfHandset p.number steps → (q : Party) → PartyRefines q w → ¬ (p.number ≡ q.number) → PartyRefines q (end w (items m b steps))
   other_party m b steps own q k ne =
-      let x = other_event q.number p.number q.core w m b steps ne own k.sees in
+      let x = other_event q.number p.number q.core w m b steps ne own k.refines in
       record {
         number = k.number;
         sound = k.sound;
-        sees = x.0;
+        refines = x.0;
         accepted = x.1.accepted ∙ k.accepted;
         joined = k.joined ∙ ap (λ (js : List JoinedText). rows_joined q.number js) (sym x.1.joined);
       }
 
-  all_parties : (m : ℕ) (b : Bool) (steps : List Step) → AllOfHandset p.number steps → (z : Party) → z.number ≡ p.number → PartySees z (end w (items m b steps))
-      → (q : Party) → Among q (with_party z c.parties) → PartySees q (end w (items m b steps))
+  all_parties : (m : ℕ) (b : Bool) (steps : List Step) → AllOfHandset p.number steps → (z : Party) → z.number ≡ p.number → PartyRefines z (end w (items m b steps))
+      → (q : Party) → Among q (with_party z c.parties) → PartyRefines q (end w (items m b steps))
   all_parties m b steps own z e k q i = ⊎_elim
-      (λ (same : q ≡ z). subst (λ (x : Party). PartySees x (end w (items m b steps))) (sym same) k)
+      (λ (same : q ≡ z). subst (λ (x : Party). PartyRefines x (end w (items m b steps))) (sym same) k)
       (λ (a : Among q c.parties × ¬ (z.number ≡ q.number)). other_party m b steps own q (s.parties q a.0) (λ y. a.1 (e ∙ y)))
       (with_among z c.parties s.apart q i)
 
@@ -195,13 +195,13 @@ module _ (c : Course) (w : World) (s : CourseSees c w) (p : Party) (there : Amon
   -- a handset gives none of the centre's references
   still_told : (d : Draft) (m : ℕ) (b : Bool) (steps : List Step) → AllOfHandset p.number steps → TellsDown (c.given ++ given_by p d) (end w (items m b steps)).down
   still_told d m b steps own =
-      subst (λ (ds : List Giving). TellsDown (c.given ++ given_by p d) ds) (sym (handset_leaves_centre p.number w m b steps own).down)
+      subst (λ (ds : List Allocation). TellsDown (c.given ++ given_by p d) ds) (sym (handset_leaves_centre p.number w m b steps own).down)
       (tells_still c.given (given_by p d) w.down s.down (all_up p d))
 
-  done_sees : (m : ℕ) (event : Event) (d : Draft) → SoundAt d → Happens m event p.number w d w → Goes event m false w (done p d c)
-  done_sees m event d at x =
+  done_refines : (m : ℕ) (event : Event) (d : Draft) → SoundAt d → Happens m event p.number w d w → Goes event m false w (done p d c)
+  done_refines m event d at x =
       let v : World = end w (items m false x.0) in
-      let k : Sees p.number w d v = x.1.2 in (
+      let k : Refines p.number w d v = x.1.2 in (
         x.0,
         (
           x.1.0.0,
@@ -213,7 +213,7 @@ module _ (c : Course) (w : World) (s : CourseSees c w) (p : Party) (there : Amon
             parties = all_parties m false x.0 x.1.0.1 (party_after p d) refl (record {
               number = mine.number;
               sound = sound_core d at;
-              sees = seen_next p.number w d v k;
+              refines = seen_next p.number w d v k;
               accepted = accepted_now d v k.accepted;
               joined = joined_now d v k.joined;
             });
@@ -226,36 +226,36 @@ module _ (c : Course) (w : World) (s : CourseSees c w) (p : Party) (there : Amon
         ),
       )
 
-  whole_sees : (m number : ℕ) (e : HandsetEvent) (r : Result Draft Refusal) → happened e p.core ≡ r → SoundIfDone r → IfDone (λ (d : Draft). Happens m (event_seen number e) p.number w d w) r
+  whole_refines : (m number : ℕ) (e : HandsetEvent) (r : Result Draft Refusal) → happened e p.core ≡ r → SoundIfDone r → IfDone (λ (d : Draft). Happens m (event_seen number e) p.number w d w) r
       → Goes (event_seen number e) m false w (whole p r c)
-  whole_sees m number e (Ok d) q at x = done_sees m (event_seen number e) d at x
-  whole_sees m number e (Err refusal) q at x = ([], (nothing_played number e p.core w refusal q, tt, s))
+  whole_refines m number e (Ok d) q at x = done_refines m (event_seen number e) d at x
+  whole_refines m number e (Err refusal) q at x = ([], (nothing_played number e p.core w refusal q, tt, s))
 
-  told_sees : (event : Event) (m n : ℕ) (b : Bool) (r : Result Draft Refusal) (d : Course) → Goes event m b w d → Goes event m b w (told n r d)
-  told_sees event m n b (Ok x) d g = (g.0, (g.1.0, g.1.1, answer_sees n Done d (end w (items m b g.0)) g.1.2))
-  told_sees event m n b (Err refusal) d g = (g.0, (g.1.0, g.1.1, answer_sees n (Refused (refusal_code refusal)) d (end w (items m b g.0)) g.1.2))
+  told_refines : (event : Event) (m n : ℕ) (b : Bool) (r : Result Draft Refusal) (d : PlayState) → Goes event m b w d → Goes event m b w (told n r d)
+  told_refines event m n b (Ok x) d g = (g.0, (g.1.0, g.1.1, answer_refines n Done d (end w (items m b g.0)) g.1.2))
+  told_refines event m n b (Err refusal) d g = (g.0, (g.1.0, g.1.1, answer_refines n (Refused (refusal_code refusal)) d (end w (items m b g.0)) g.1.2))
 
   meets_as : (m n number : ℕ) (e : HandsetEvent) → Goes (event_seen number e) m false w (whole p (happened e p.core) c) → Goes (event_seen number e) m false w (handset_meets n p e c)
   meets_as m n number (Frame octets tag) g = g
   meets_as m n number (Tick now) g = g
-  meets_as m n number (Write text to report) g = told_sees Wrote m n false (happened (Write text to report) p.core) (whole p (happened (Write text to report) p.core) c) g
-  meets_as m n number (Delete entry) g = told_sees Removed m n false (happened (Delete entry) p.core) (whole p (happened (Delete entry) p.core) c) g
-  meets_as m n number (Discard entry) g = told_sees Removed m n false (happened (Discard entry) p.core) (whole p (happened (Discard entry) p.core) c) g
+  meets_as m n number (Write text to report) g = told_refines Wrote m n false (happened (Write text to report) p.core) (whole p (happened (Write text to report) p.core) c) g
+  meets_as m n number (Delete entry) g = told_refines Removed m n false (happened (Delete entry) p.core) (whole p (happened (Delete entry) p.core) c) g
+  meets_as m n number (Discard entry) g = told_refines Removed m n false (happened (Discard entry) p.core) (whole p (happened (Discard entry) p.core) c) g
 
   pub handset_goes : (m n number : ℕ) (e : HandsetEvent) → OfFrame e (λ octets tag. IsHanded p.number number octets (tag_of tag) w) → Goes (event_seen number e) m false w (handset_meets n p e c)
   handset_goes m n number e i =
       meets_as m n number e
-      (whole_sees m number e (happened e p.core) refl (sound_if e p.core mine.sound) (happens_if m p.number number e p.core w mine.sound mine.sees i))
+      (whole_refines m number e (happened e p.core) refl (sound_if e p.core mine.sound) (happens_if m p.number number e p.core w mine.sound mine.refines i))
 
   -- ---- a restart
 
-  pub restart_sees : CourseSees (party_restarted p c) w
-  restart_sees =
+  pub restart_refines : PlayRefines (party_restarted p c) w
+  restart_refines =
       let z : Party = record p { core = recovered p.core.rows } in
-      let k : PartySees z w = record {
+      let k : PartyRefines z w = record {
         number = mine.number;
         sound = recovered_sound p.core.rows mine.sound.rows;
-        sees = stopped_seen p.number w w.bag (draft_of p.core) p.core.rows.setup w mine.sees;
+        refines = stopped_seen p.number w w.bag (draft_of p.core) p.core.rows.setup w mine.refines;
         accepted = mine.accepted;
         joined = mine.joined;
       } in
@@ -264,7 +264,7 @@ module _ (c : Course) (w : World) (s : CourseSees c w) (p : Party) (there : Amon
         offered = s.offered;
         centre = s.centre;
         parties = λ q i. ⊎_elim
-            (λ (same : q ≡ z). subst (λ (x : Party). PartySees x w) (sym same) k)
+            (λ (same : q ≡ z). subst (λ (x : Party). PartyRefines x w) (sym same) k)
             (λ (a : Among q c.parties × ¬ (z.number ≡ q.number)). s.parties q a.0)
             (with_among z c.parties s.apart q i);
         apart = still_apart z;
@@ -276,27 +276,27 @@ module _ (c : Course) (w : World) (s : CourseSees c w) (p : Party) (there : Amon
 
   -- ---- stopped behind the store call
 
-  stop_sees : (m : ℕ) (event : Event) (d : Draft) → SoundAt d → Happens m event p.number w d w
+  stop_refines : (m : ℕ) (event : Event) (d : Draft) → SoundAt d → Happens m event p.number w d w
       → Goes event m true w (handset_restarted (party_at p.number (with_party (party_after p d) c.parties)) (committed p d c))
-  stop_sees m event d at x =
+  stop_refines m event d at x =
       let y = stop_event m event p.number d d.rows.setup w x in
       let v : World = end w (items m true y.0) in
       let own : AllOfHandset p.number y.0 = y.1.0.1 in
       let z : Party = party_after p d in
       let b : Party = record z { core = recovered z.core.rows } in
-      let k : PartySees b v = record {
+      let k : PartyRefines b v = record {
         number = mine.number;
         sound = recovered_sound d.rows (sound_core d at).rows;
-        sees = y.1.2;
+        refines = y.1.2;
         accepted = accepted_now d v y.1.3.accepted;
         joined = joined_now d v y.1.3.joined;
       } in
-      let is : CourseSees (party_restarted z (committed p d c)) v = record {
+      let is : PlayRefines (party_restarted z (committed p d c)) v = record {
         sound = s.sound;
         offered = s.offered;
         centre = handset_stays p.number c.centre w m true y.0 own s.centre;
         parties = λ q i. ⊎_elim
-            (λ (same : q ≡ b). subst (λ (u : Party). PartySees u v) (sym same) k)
+            (λ (same : q ≡ b). subst (λ (u : Party). PartyRefines u v) (sym same) k)
             (λ (a : Among q (with_party z c.parties) × ¬ (b.number ≡ q.number)). ⊎_elim
             (λ (same : q ≡ z). absurd (a.1 (sym (ap (λ (u : Party). u.number) same))))
             (λ (o : Among q c.parties × ¬ (z.number ≡ q.number)). other_party m true y.0 own q (s.parties q o.0) o.1)
@@ -308,21 +308,21 @@ module _ (c : Course) (w : World) (s : CourseSees c w) (p : Party) (there : Amon
         reached = goes_on w m true y.0 s.reached y.1.1;
         down = still_told d m true y.0 own;
       } in
-      (y.0, (y.1.0.0, y.1.1, subst (λ (o : Option Party). CourseSees (handset_restarted o (committed p d c)) v) (sym (with_found z c.parties p there refl)) is))
+      (y.0, (y.1.0.0, y.1.1, subst (λ (o : Option Party). PlayRefines (handset_restarted o (committed p d c)) v) (sym (with_found z c.parties p there refl)) is))
 
 -- ---- by its number
 
-pub restarted_sees : (c : Course) (w : World) → CourseSees c w → (n : List ℕ) (o : Option Party) → party_at n c.parties ≡ o → CourseSees (handset_restarted o c) w
-restarted_sees c w s n None e = s
-restarted_sees c w s n (Some p) e = restart_sees c w s p (party_found n c.parties p e).0
+pub restarted_refines : (c : PlayState) (w : World) → PlayRefines c w → (n : List ℕ) (o : Option Party) → party_at n c.parties ≡ o → PlayRefines (handset_restarted o c) w
+restarted_refines c w s n None e = s
+restarted_refines c w s n (Some p) e = restart_refines c w s p (party_found n c.parties p e).0
 
-module _ (c : Course) (w : World) (s : CourseSees c w) (p : Party) (there : Among p c.parties) where
-  kept_sees : (m number : ℕ) (e : HandsetEvent) (r : Result Draft Refusal) → happened e p.core ≡ r → SoundIfDone r → IfDone (λ (d : Draft). Happens m (event_seen number e) p.number w d w) r
+module _ (c : PlayState) (w : World) (s : PlayRefines c w) (p : Party) (there : Among p c.parties) where
+  kept_refines : (m number : ℕ) (e : HandsetEvent) (r : Result Draft Refusal) → happened e p.core ≡ r → SoundIfDone r → IfDone (λ (d : Draft). Happens m (event_seen number e) p.number w d w) r
       → Goes (event_seen number e) m true w (handset_restarted (party_at p.number (handset_kept p r c).parties) (handset_kept p r c))
-  kept_sees m number e (Ok d) q at x = stop_sees c w s p there m (event_seen number e) d at x
-  kept_sees m number e (Err refusal) q at x = ([], (nothing_played number e p.core w refusal q, tt, restarted_sees c w s p.number (party_at p.number c.parties) refl))
+  kept_refines m number e (Ok d) q at x = stop_refines c w s p there m (event_seen number e) d at x
+  kept_refines m number e (Err refusal) q at x = ([], (nothing_played number e p.core w refusal q, tt, restarted_refines c w s p.number (party_at p.number c.parties) refl))
 
   pub handset_stops : (m number : ℕ) (e : HandsetEvent) → OfFrame e (λ octets tag. IsHanded p.number number octets (tag_of tag) w)
       → Goes (event_seen number e) m true w (handset_restarted (party_at p.number (handset_kept p (happened e p.core) c).parties) (handset_kept p (happened e p.core) c))
   handset_stops m number e i =
-      kept_sees m number e (happened e p.core) refl (sound_if e p.core (s.parties p there).sound) (happens_if m p.number number e p.core w (s.parties p there).sound (s.parties p there).sees i)
+      kept_refines m number e (happened e p.core) refl (sound_if e p.core (s.parties p there).sound) (happens_if m p.number number e p.core w (s.parties p there).sound (s.parties p there).refines i)

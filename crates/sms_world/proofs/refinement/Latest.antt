@@ -9,9 +9,9 @@ use Rattle.sms_base.specs.declared.holder.Holder.{Holder}
 use Rattle.sms_script.specs.declared.report.rows.Direction.TheVariants.{Down}
 use Rattle.sms_script.specs.declared.report.rows.GivenRow.{GivenRow}
 use Rattle.sms_play.specs.Premises.{is_of_reference, is_same_side, last_holder}
-use Rattle.sms_world_model.specs.World.{Giving, IsLatest}
+use Rattle.sms_world_model.specs.World.{Allocation, IsLatest}
 use Rattle.sms_base.specs.declared.holder.Holder.TheVariants.{Part, Report, Entry, Memory}
-use Rattle.sms_world.specs.refinement.ToldGivings.{HoldersDiffer, IsDown, PartGiven, TellsDown, latest_holder, parts_given, parts_told, with_part}
+use Rattle.sms_world.specs.refinement.ReportedAllocations.{HoldersDiffer, IsDown, PartGiven, TellsDown, latest_holder, parts_given, parts_told, with_part}
 use Rattle.sms_world.proofs.refinement.Growing.{either_part, in_front, in_rest}
 use Rattle.sms_world.proofs.refinement.Falling.{Falls, part_from, part_to, parts_append, same_order, told_from, told_on, told_over, told_to}
 
@@ -26,13 +26,13 @@ or_some : (x : Option Holder) (k : Holder) (o : Option Holder) → or_else x (So
 or_some (Some l) k o = refl
 or_some None k o = refl
 
-abbrev names : List ℕ → ℕ → Giving → Bool
+abbrev names : List ℕ → ℕ → Allocation → Bool
 names h r g = bytes_eq g.handset h && (g.reference == r)
 
-named : (h : List ℕ) (r : ℕ) (g : Giving) → g.handset ≡ h → g.reference ≡ r → names h r g ≡ true
+named : (h : List ℕ) (r : ℕ) (g : Allocation) → g.handset ≡ h → g.reference ≡ r → names h r g ≡ true
 named h r g e q = and_from (bytes_eq g.handset h) (g.reference == r) ((bytes_eq-Decides g.handset h).1 e) (eq-eqb g.reference r q)
 
-names_it : (h : List ℕ) (r : ℕ) (g : Giving) → names h r g ≡ true → (g.handset ≡ h) × (g.reference ≡ r)
+names_it : (h : List ℕ) (r : ℕ) (g : Allocation) → names h r g ≡ true → (g.handset ≡ h) × (g.reference ≡ r)
 names_it h r g e =
     let p = and_parts (bytes_eq g.handset h) (g.reference == r) e in ((bytes_eq-Decides g.handset h).0 p.0, eqb-true g.reference r p.1)
 
@@ -85,36 +85,36 @@ module _ (h : List ℕ) (r : ℕ) where
       let p = none_at (last None gs) x.holder (of x) (sym (last_else gs (cond (of x) (Some x.holder) None)) ∙ e) in
       ⊎_elim (λ (q : g ≡ x). both_ways (of x) p.1 (ap (λ (z : GivenRow). of z) (sym q) ∙ is)) (λ (j : Among g gs). none_last gs p.0 g j is) i
 
-  -- ---- givings, newest first
+  -- ---- allocations, newest first
 
-  abbrev latest : List Giving → Option Holder
+  abbrev latest : List Allocation → Option Holder
   latest ds = latest_holder h r ds
 
   latest_at : (k : Holder) (a c : Option Holder) (b : Bool) → cond b (Some k) (or_else a c) ≡ or_else (cond b (Some k) a) c
   latest_at k a c true = refl
   latest_at k a c false = refl
 
-  latest_else : (ds down : List Giving) → latest (ds ++ down) ≡ or_else (latest ds) (latest down)
+  latest_else : (ds down : List Allocation) → latest (ds ++ down) ≡ or_else (latest ds) (latest down)
   latest_else [] down = refl
   latest_else (g ∷ ds) down =
       ap (λ (z : Option Holder). cond (names h r g) (Some g.holder) z) (latest_else ds down) ∙ latest_at g.holder (latest ds) (latest down) (names h r g)
 
-  abbrev IsLatestOf : List Giving → Holder → Type 0
-  IsLatestOf ds k = (x : Giving) × (Among x ds × (names h r x ≡ true) × (x.holder ≡ k))
+  abbrev IsLatestOf : List Allocation → Holder → Type 0
+  IsLatestOf ds k = (x : Allocation) × (Among x ds × (names h r x ≡ true) × (x.holder ≡ k))
 
-  found_latest : (ds : List Giving) (k : Holder) → latest ds ≡ Some k → IsLatestOf ds k
+  found_latest : (ds : List Allocation) (k : Holder) → latest ds ≡ Some k → IsLatestOf ds k
   found_latest [] k e = absurd cc
   found_latest (g ∷ ds) k e = ⊎_elim
       (λ (t : names h r g ≡ true). (g, (inl refl, t, some_holder g.holder k (sym (cond-true (names h r g) (Some g.holder) (latest ds) t) ∙ e))))
       (λ (f : names h r g ≡ false). let x = found_latest ds k (sym (cond-false (names h r g) (Some g.holder) (latest ds) f) ∙ e) in (x.0, (inr x.1.0, x.1.1, x.1.2)))
       (cases_Bool (names h r g))
 
-  none_latest : (ds : List Giving) → latest ds ≡ None → (x : Giving) → Among x ds → names h r x ≡ true → ⊥
+  none_latest : (ds : List Allocation) → latest ds ≡ None → (x : Allocation) → Among x ds → names h r x ≡ true → ⊥
   none_latest [] e x i is = absurd i
   none_latest (g ∷ ds) e x i is = ⊎_elim
       (λ (t : names h r g ≡ true). let bad : Some g.holder ≡ None = sym (cond-true (names h r g) (Some g.holder) (latest ds) t) ∙ e in absurd cc)
       (λ (f : names h r g ≡ false). ⊎_elim
-      (λ (q : x ≡ g). both_ways (names h r g) f (ap (λ (z : Giving). names h r z) (sym q) ∙ is))
+      (λ (q : x ≡ g). both_ways (names h r g) f (ap (λ (z : Allocation). names h r z) (sym q) ∙ is))
       (λ (j : Among x ds). none_latest ds (sym (cond-false (names h r g) (Some g.holder) (latest ds) f) ∙ e) x j is)
       i)
       (cases_Bool (names h r g))
@@ -122,17 +122,17 @@ module _ (h : List ℕ) (r : ℕ) where
 -- ---- rows that tell what was given
 
 -- the row tells the giving
-pub record Tells (g : GivenRow) (x : Giving) : Type 0 where
+pub record Tells (g : GivenRow) (x : Allocation) : Type 0 where
   pub side : is_same_side g.direction Down ≡ true
   pub handset : x.handset ≡ g.handset
   pub reference : x.reference ≡ g.reference
   pub holder : x.holder ≡ g.holder
 
 -- What was given is what the rows tell, and no reference was given twice.
-pub record TellAll (gs : List GivenRow) (ds : List Giving) : Type 0 where
-  pub there : (g : GivenRow) → Among g gs → (x : Giving) × (Among x ds × Tells g x)
-  pub told : (x : Giving) → Among x ds → (g : GivenRow) × (Among g gs × Tells g x)
-  pub once : (x y : Giving) → Among x ds → Among y ds → x.handset ≡ y.handset → x.reference ≡ y.reference → x.holder ≡ y.holder
+pub record TellAll (gs : List GivenRow) (ds : List Allocation) : Type 0 where
+  pub there : (g : GivenRow) → Among g gs → (x : Allocation) × (Among x ds × Tells g x)
+  pub told : (x : Allocation) → Among x ds → (g : GivenRow) × (Among g gs × Tells g x)
+  pub once : (x y : Allocation) → Among x ds → Among y ds → x.handset ≡ y.handset → x.reference ≡ y.reference → x.holder ≡ y.holder
 
 of_row : (h : List ℕ) (r : ℕ) (g : GivenRow) → is_of_reference h Down r g ≡ true → (g.handset ≡ h) × (g.reference ≡ r)
 of_row h r g e =
@@ -145,7 +145,7 @@ row_of h r g side e q =
     and_from (bytes_eq g.handset h) (is_same_side g.direction Down && (g.reference == r)) ((bytes_eq-Decides g.handset h).1 e)
     (and_from (is_same_side g.direction Down) (g.reference == r) side (eq-eqb g.reference r q))
 
-module _ (gs : List GivenRow) (ds : List Giving) (t : TellAll gs ds) (h : List ℕ) (r : ℕ) where
+module _ (gs : List GivenRow) (ds : List Allocation) (t : TellAll gs ds) (h : List ℕ) (r : ℕ) where
   same_last : (a b : Option Holder) → last_holder None h Down r gs ≡ a → latest_holder h r ds ≡ b → a ≡ b
   same_last None None e q = refl
   same_last (Some k) None e q =
@@ -167,7 +167,7 @@ module _ (gs : List GivenRow) (ds : List Giving) (t : TellAll gs ds) (h : List �
       let same : x.0.holder ≡ y.0.holder = t.once x.0 y.0 x.1.0 y.1.0 (x.1.1.handset ∙ n.0 ∙ sym m.0) (x.1.1.reference ∙ n.1 ∙ sym m.1) in
       ap (λ (z : Holder). Some z) (sym g.1.2 ∙ sym x.1.1.holder ∙ same ∙ y.1.2)
 
-last_more : (given gs : List GivenRow) (down ds : List Giving) → TellsDown given down → TellAll gs ds → (h : List ℕ) (r : ℕ) → last_holder None h Down r (given ++ gs) ≡ latest_holder h r (ds ++ down)
+last_more : (given gs : List GivenRow) (down ds : List Allocation) → TellsDown given down → TellAll gs ds → (h : List ℕ) (r : ℕ) → last_holder None h Down r (given ++ gs) ≡ latest_holder h r (ds ++ down)
 last_more given gs down ds tells t h r =
     last_over h r None given gs ∙ last_else h r gs (last_holder None h Down r given)
     ∙ (λ j. or_else (same_last gs ds t h r (last_holder None h Down r gs) (latest_holder h r ds) refl refl j) (tells.last h r j))
@@ -175,9 +175,9 @@ last_more given gs down ds tells t h r =
 
 -- ---- the parts, in order
 
-same_parts : (gs : List GivenRow) (ds : List Giving) → TellAll gs ds → Falls (parts_told [] gs) → Falls (parts_given ds) → parts_told [] gs ≡ parts_given ds
-same_parts gs ds t rows givings =
-    same_order (parts_told [] gs) (parts_given ds) rows givings
+same_parts : (gs : List GivenRow) (ds : List Allocation) → TellAll gs ds → Falls (parts_told [] gs) → Falls (parts_given ds) → parts_told [] gs ≡ parts_given ds
+same_parts gs ds t rows allocations =
+    same_order (parts_told [] gs) (parts_given ds) rows allocations
     (λ x i.
     let g = told_from gs x i in
     let y = t.there g.0 g.1.0 in
@@ -199,16 +199,16 @@ differ_append (x ∷ xs) ys a b apart = (
 -- ---- all that is told
 
 -- What more rows tell is new, all of it of that moment, and of no holder two.
-pub record TellNew (m : ℕ) (gs : List GivenRow) (ds down : List Giving) : Type 0 where
+pub record TellNew (m : ℕ) (gs : List GivenRow) (ds down : List Allocation) : Type 0 where
   pub all : TellAll gs ds
   pub rows : Falls (parts_told [] gs)
-  pub givings : Falls (parts_given ds)
+  pub allocations : Falls (parts_given ds)
   pub rows_now : (g : GivenRow) → Among g gs → g.moment ≡ m
-  pub now : (x : Giving) → Among x ds → x.moment ≡ m
+  pub now : (x : Allocation) → Among x ds → x.moment ≡ m
   pub differ : HoldersDiffer gs
-  pub new : (x y : Giving) → Among x ds → Among y down → ¬ (x.holder ≡ y.holder)
+  pub new : (x y : Allocation) → Among x ds → Among y down → ¬ (x.holder ≡ y.holder)
 
-pub tells_more : (m : ℕ) (given gs : List GivenRow) (down ds : List Giving) → TellsDown given down → TellNew m gs ds down → TellsDown (given ++ gs) (ds ++ down)
+pub tells_more : (m : ℕ) (given gs : List GivenRow) (down ds : List Allocation) → TellsDown given down → TellNew m gs ds down → TellsDown (given ++ gs) (ds ++ down)
 tells_more m given gs down ds tells t = record {
   each = λ g i is. ⊎_elim
       (λ (j : Among g given). let x = tells.each g j is in (x.0, (in_rest x.0 ds down x.1.0, x.1.1)))
@@ -227,7 +227,7 @@ tells_more m given gs down ds tells t = record {
       t.new b.0 a.0 b.1.0 a.1.0 (b.1.1.holder ∙ sym e ∙ sym a.1.1.holder));
   last = last_more given gs down ds tells t.all;
   parts = told_over [] given gs ∙ told_on (parts_told [] given) gs
-      ∙ (λ j. same_parts gs ds t.all t.rows t.givings j ++ tells.parts j)
+      ∙ (λ j. same_parts gs ds t.all t.rows t.allocations j ++ tells.parts j)
       ∙ sym (parts_append ds down);
 }
 
@@ -278,7 +278,7 @@ up_differ : (gs : List GivenRow) → AllUp gs → HoldersDiffer gs
 up_differ [] all = tt
 up_differ (g ∷ gs) all = ((λ is y i down. absurd (both_ways (is_same_side g.direction Down) all.0 is)), up_differ gs all.2)
 
-pub tells_still : (given gs : List GivenRow) (down : List Giving) → TellsDown given down → AllUp gs → TellsDown (given ++ gs) down
+pub tells_still : (given gs : List GivenRow) (down : List Allocation) → TellsDown given down → AllUp gs → TellsDown (given ++ gs) down
 tells_still given gs down tells all = record {
   each = λ g i is. ⊎_elim (λ (j : Among g given). tells.each g j is) (λ (j : Among g gs). absurd (not_down g gs all j is)) (either_part g given gs i);
   differ = differ_append given gs tells.differ (up_differ gs all) (λ x y i j is down_y e. not_down y gs all j down_y);
@@ -288,8 +288,8 @@ tells_still given gs down tells all = record {
 
 -- ---- the latest of the world
 
-pub latest_is : (h : List ℕ) (r : ℕ) (k : Holder) (down : List Giving) → latest_holder h r down ≡ Some k
-    → (g : Giving) × (IsLatest g down × (g.handset ≡ h) × (g.reference ≡ r) × (g.holder ≡ k))
+pub latest_is : (h : List ℕ) (r : ℕ) (k : Holder) (down : List Allocation) → latest_holder h r down ≡ Some k
+    → (g : Allocation) × (IsLatest g down × (g.handset ≡ h) × (g.reference ≡ r) × (g.holder ≡ k))
 latest_is h r k [] e = absurd cc
 latest_is h r k (g ∷ older) e = ⊎_elim
     (λ (t : names h r g ≡ true).

@@ -19,7 +19,7 @@ use Rattle.sms_handset.specs.Planning.{OfFrame}
 use Rattle.sms_handset.specs.declared.event.HandsetEvent.{HandsetEvent}
 use Rattle.sms_handset.specs.declared.event.HandsetEvent.TheVariants.{Frame as HandsetFrame, Tick as HandsetTick, Write as HandsetWrite, Delete as HandsetDelete, Discard as HandsetDiscard}
 use Rattle.sms_play.specs.declared.fault.PlayFault.{PlayFault}
-use Rattle.sms_play.specs.Course.{Course, Party, frame_at, party_at}
+use Rattle.sms_play.specs.PlayState.{PlayState, Party, frame_at, party_at}
 use Rattle.sms_play.specs.Meeting.{AtCentre, AtHandset, Meeting, account_from, by_account, by_handset, cancel_of, delivered, handed_over, meeting_of, query_of, submit_of, tag_in}
 use Rattle.sms_world_model.specs.ScriptRun.{IsPlayed}
 use Rattle.sms_world_model.specs.World.{Sent, World}
@@ -29,11 +29,11 @@ use Rattle.sms_world_refinement.specs.frames.Between.{frame_up}
 use Rattle.sms_world_refinement.specs.frames.FramesDown.{IsHanded}
 use Rattle.sms_world_refinement.specs.frames.FramesUp.{IsWhole, sent_as}
 use Rattle.sms_world_refinement.specs.centre_events.Handing.{IsHandedUp}
-use Rattle.sms_world_refinement.specs.centre_events.Course.{IsScripted}
-use Rattle.sms_world_refinement.specs.centre_events.CourseEvents.{AreOfEvent, MayCome, moment_at}
+use Rattle.sms_world_refinement.specs.centre_events.Run.{IsScripted}
+use Rattle.sms_world_refinement.specs.centre_events.RunEvents.{AreOfEvent, MayCome, moment_at}
 use Rattle.sms_world_refinement.specs.centre.FramesOut.{IsWholeDown, sent_down}
 use Rattle.sms_world_refinement.specs.handset.PlanLaws.{event_seen}
-use Rattle.sms_world.specs.refinement.CourseSight.{CourseSees, IsWholeBy, sent_by, sent_row}
+use Rattle.sms_world.specs.refinement.PlayRefinement.{PlayRefines, IsWholeBy, sent_by, sent_row}
 use Rattle.sms_world.specs.refinement.Happening.{ActHandsOctets, IsGoodAct, IsGoodTick, IsOctetsAt, IsOctetsUp, act_moment, event_of}
 use Rattle.sms_world.proofs.refinement.Bags.{frame_found, row_seen}
 use Rattle.sms_world.proofs.refinement.Parties.{party_found}
@@ -50,19 +50,19 @@ number_of (Deliver number) = number
 number_of (Tick side now) = 0
 
 -- what the centre meets may come, and is the act's event
-pub record MeetsCentre (act : Act) (c : Course) (w : World) (e : CentreEvent) : Type 0 where
+pub record MeetsCentre (act : Act) (c : PlayState) (w : World) (e : CentreEvent) : Type 0 where
   pub is : IsEvent e
   pub may : MayCome (number_of act) e w
   pub scripted : IsScripted e
   pub plays : (steps : List Step) → AreOfEvent (number_of act) e w steps → IsPlayed w (event_of act) steps
   pub moment : moment_at e c.centre ≡ act_moment act c.centre.moment
 
-pub record MeetsHandset (act : Act) (c : Course) (w : World) (p : Party) (e : HandsetEvent) : Type 0 where
+pub record MeetsHandset (act : Act) (c : PlayState) (w : World) (p : Party) (e : HandsetEvent) : Type 0 where
   pub there : Among p c.parties
   pub handed : OfFrame e (λ octets tag. IsHanded p.number (number_of act) octets (handset_tag tag) w)
   pub plays : event_seen (number_of act) e ≡ event_of act
 
-abbrev pub Meets : Act → Course → World → Meeting → Type 0
+abbrev pub Meets : Act → PlayState → World → Meeting → Type 0
 Meets act c w (AtCentre e) = MeetsCentre act c w e
 Meets act c w (AtHandset p e) = MeetsHandset act c w p e
 
@@ -82,7 +82,7 @@ by_handset_is : (n : ℕ) (x : HandsetEvent) (o : Option Party) (m : Meeting) �
 by_handset_is n x None m e = absurd cc
 by_handset_is n x (Some p) m e = (p, (refl, sym (same_meeting (AtHandset p x) m e)))
 
-module _ (c : Course) (w : World) (s : CourseSees c w) (n : ℕ) where
+module _ (c : PlayState) (w : World) (s : PlayRefines c w) (n : ℕ) where
   meets_account : (act : Act) (request : ℕ → CentreEvent) (o : Option ℕ) (m : Meeting) → ((place : ℕ) → MeetsCentre act c w (request place)) → by_account n request o ≡ Ok m → Meets act c w m
   meets_account act request o m all e =
       let x = by_account_is n request o m e in subst (λ (z : Meeting). Meets act c w z) (sym x.1) (all x.0)

@@ -9,8 +9,8 @@ use Rattle.sms_world_model.specs.Submission.{Submission}
 use Rattle.sms_world_model.specs.World.{Carried, Frame, OutEntry, World}
 use Rattle.sms_world_model.specs.WorldStep.{Delete, Receive, Remove, Step, Submit}
 use Rattle.sms_world_refinement.specs.centre.CentreLaws.{AllOffer}
-use Rattle.sms_world_refinement.specs.centre_events.CourseEvents.{AreOfEvent}
-use Rattle.sms_world.specs.refinement.TellingLaws.{NoneSubmits, OneSubmits, Submits}
+use Rattle.sms_world_refinement.specs.centre_events.RunEvents.{AreOfEvent}
+use Rattle.sms_world.specs.refinement.AllocationLaws.{NoneSubmits, OneSubmits, Submits}
 
 -- ---- lists of steps
 

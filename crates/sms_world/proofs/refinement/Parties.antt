@@ -6,7 +6,7 @@ use Rattle.std.proofs.lemmas.Bool.{both_ways, cases_Bool, cond-false, cond-true,
 use Rattle.std.proofs.lemmas.Slice.Eq.{bytes_eq-Decides}
 use Rattle.sms_base.specs.Among.{Among}
 use Rattle.sms_centre_spec.specs.SoundCore.{AreDifferent}
-use Rattle.sms_play.specs.Course.{Party, numbers_of, party_at, with_party}
+use Rattle.sms_play.specs.PlayState.{Party, numbers_of, party_at, with_party}
 
 some_party : (p q : Party) → Some p ≡ Some q → p ≡ q
 some_party p q e = cc

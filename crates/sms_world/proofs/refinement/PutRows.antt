@@ -14,7 +14,7 @@ use Rattle.sms_play.specs.Premises.{pairs_of}
 use Rattle.sms_world_model.specs.World.{Accepted}
 use Rattle.sms_world_refinement.specs.handset.PutInOrder.{JoinedText, joined_by, pair_kept, taken_by, text_put}
 use Rattle.sms_world_refinement.proofs.handset.Moving.{appended, nothing_more}
-use Rattle.sms_world.specs.refinement.CourseSight.{row_joined, rows_joined}
+use Rattle.sms_world.specs.refinement.PlayRefinement.{row_joined, rows_joined}
 
 -- ---- accepted
 

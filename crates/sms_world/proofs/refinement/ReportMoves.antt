@@ -34,7 +34,7 @@ use Rattle.sms_centre_spec.specs.declared.rows.Rows.{Rows}
 use Rattle.sms_centre_spec.specs.Draft.{Core, Store, handsets_in, messages_in, parts_in, reports_in, with_message, with_part_at}
 use Rattle.sms_centre_spec.specs.Ends.{end, is_wished, report_to, status_given}
 use Rattle.sms_centre_spec.specs.SoundCore.{IsEvent, IsSoundCore}
-use Rattle.sms_centre_spec.specs.Standing.{Stands}
+use Rattle.sms_centre_spec.specs.Consistent.{IsConsistent}
 use Rattle.sms_centre_spec.specs.Submitting.{accept, accept_as, accept_split, accept_under, enter, give_part, give_parts, part_given, reference_for}
 use Rattle.sms_centre_spec.specs.Transfers.{complete}
 use Rattle.sms_centre_spec.proofs.Keeping.{keeps_same}
@@ -109,7 +109,7 @@ was_pending m x s e q pending done =
 abbrev CanMake : ℕ → Store → Type 0
 CanMake id s = Rises report_key (reports_in s) × ((x : ReportRow) → Among x (reports_in s) → ¬ (x.id ≡ id))
 
-no_report : (m : MessageRow) (s : Store) → Stands s → message_at m.id (messages_in s) ≡ Some m → is_pending m ≡ true → CanMake m.id s
+no_report : (m : MessageRow) (s : Store) → IsConsistent s → message_at m.id (messages_in s) ≡ Some m → is_pending m ≡ true → CanMake m.id s
 no_report m s stands there pending = (
   stands.held.report_keys,
   λ r i e.

@@ -6,13 +6,13 @@ use Rattle.sms_play.specs.CentreSide.{given_by}
 use Rattle.sms_world_model.specs.Agreement.{GivenOnce}
 use Rattle.sms_world_model.specs.Run.{Run, end}
 use Rattle.sms_world_model.specs.ScriptRun.{items}
-use Rattle.sms_world_model.specs.World.{Giving, World, empty}
+use Rattle.sms_world_model.specs.World.{Allocation, World, empty}
 use Rattle.sms_world_model.specs.WorldStep.{Step}
 use Rattle.sms_world_model.proofs.Runs.{sound_empty, sound_run}
 use Rattle.sms_world_model.proofs.Scripts.{end_joins, run_joins}
 use Rattle.sms_world_model.proofs.Sound.{IsSound as IsSoundWorld}
-use Rattle.sms_world.specs.refinement.TellingLaws.{IsReached, TellLaw}
-use Rattle.sms_world.specs.refinement.ToldGivings.{TellsDown}
+use Rattle.sms_world.specs.refinement.AllocationLaws.{IsReached, TellLaw}
+use Rattle.sms_world.specs.refinement.ReportedAllocations.{TellsDown}
 use Rattle.sms_world.proofs.refinement.GivenBy.{event_tells}
 use Rattle.sms_world.proofs.refinement.Growing.{GrownOnce, in_front, in_rest, not_twice, steps_grow}
 use Rattle.sms_world.proofs.refinement.HoldersApart.{event_differs, rows_now}
@@ -35,18 +35,18 @@ pub event_told : TellLaw
 event_told event c w m b steps given sound is moment one reached run before later tells =
     let v : World = end w (items m b steps) in
     let once : GrownOnce m w.down v.down = steps_grow w m b steps one in
-    let ds : List Giving = once.grown.more in
+    let ds : List Allocation = once.grown.more in
     let world : IsSoundWorld v = sound_there v (goes_on w m b steps reached run) in
-    let there : (x : Giving) → Among x (ds ++ w.down) → Among x v.down = λ x i. subst (λ (gs : List Giving). Among x gs) (sym once.grown.is) i in
-    subst (λ (gs : List Giving). TellsDown (given ++ given_by (happened event c)) gs) (sym once.grown.is)
+    let there : (x : Allocation) → Among x (ds ++ w.down) → Among x v.down = λ x i. subst (λ (gs : List Allocation). Among x gs) (sym once.grown.is) i in
+    subst (λ (gs : List Allocation). TellsDown (given ++ given_by (happened event c)) gs) (sym once.grown.is)
     (tells_more m given (given_by (happened event c)) w.down ds tells (record {
       all = event_tells event c sound is w v m before later once.grown world;
       rows = rows_fall event c sound is;
-      givings = once.falls;
+      allocations = once.falls;
       rows_now = λ g i. rows_now (happened event c) g i ∙ moment;
       now = once.grown.now;
       differ = event_differs event c sound is;
       new = λ x y i j e.
           let same : x ≡ y = world.single x y (there x (in_front x ds w.down i)) (there y (in_rest y ds w.down j)) e in
-          not_twice ds w.down (subst (λ (gs : List Giving). GivenOnce gs) once.grown.is world.given) x i (subst (λ (z : Giving). Among z w.down) (sym same) j);
+          not_twice ds w.down (subst (λ (gs : List Allocation). GivenOnce gs) once.grown.is world.given) x i (subst (λ (z : Allocation). Among z w.down) (sym same) j);
     }))

@@ -1,25 +1,25 @@
 -- How a script begins: it shows the course that begins with its head, and nothing was looked at.
 use Rattle.std.proofs.Common.{◌≡◌, ℕ, ◌≤◌, List, [], ◌∷◌, length, refl, sym, subst}
-use Rattle.sms_centre.specs.state.Standing.{IsStanding, StandingOf}
+use Rattle.sms_centre.specs.state.CentreState.{Represents as StateRepresents, CentreStateOf}
 use Rattle.sms_centre_spec.specs.CentreEvent.{started}
 use Rattle.sms_centre_spec.specs.SoundRows.{first_rows}
 use Rattle.sms_centre_spec.specs.declared.rows.Rows.{Rows}
 use Rattle.sms_centre_spec.specs.declared.setup.Setup.{Setup as CentreSetup}
-use Rattle.sms_play.specs.judging.Shown.{IsNew, NoneAccepted}
-use Rattle.sms_play.specs.Course.{Party, numbers_of}
+use Rattle.sms_play.specs.judging.Premises.{IsNew, NoneAccepted}
+use Rattle.sms_play.specs.PlayState.{Party, numbers_of}
 use Rattle.sms_play.specs.PlayedEvent.{sessions_from}
 use Rattle.sms_play.specs.Setups.{beginning, centre_setup, parties_of}
-use Rattle.sms_player.specs.centre.Shown.{IsPlayed}
-use Rattle.sms_player.specs.playing.Courses.{Shows}
+use Rattle.sms_player.specs.centre.PlayedCentre.{Represents as PlayedRepresents}
+use Rattle.sms_player.specs.playing.Plays.{Represents as PlayRepresents}
 use Rattle.sms_player.specs.playing.Played.{PlayingOf}
 use Rattle.sms_world.specs.running.Begun.{IsBegun}
 use Rattle.sms_script.specs.declared.setup.HandsetSetup.{HandsetSetup}
 use Rattle.sms_script.specs.declared.setup.Setup.{Setup}
 
 -- the script as it begins shows the course that begins with its head
-pub begun : (s : Setup) (centre : StandingOf) (rows : Rows) (handsets : List (List ℕ)) (parties : List Party) (p : PlayingOf) → IsBegun s centre rows handsets parties
-    → p ≡ record { centre = record { centre = centre; rows = rows; handsets = handsets }; parties = parties; answers = []; given = []; bag = [] } → Shows (beginning s) p
-begun s centre rows handsets parties p b e = subst (λ (x : PlayingOf). Shows (beginning s) x) (sym e) (record {
+pub begun : (s : Setup) (centre : CentreStateOf) (rows : Rows) (handsets : List (List ℕ)) (parties : List Party) (p : PlayingOf) → IsBegun s centre rows handsets parties
+    → p ≡ record { centre = record { centre = centre; rows = rows; handsets = handsets }; parties = parties; answers = []; given = []; bag = [] } → PlayRepresents (beginning s) p
+begun s centre rows handsets parties p b e = subst (λ (x : PlayingOf). PlayRepresents (beginning s) x) (sym e) (record {
   centre = b.starts;
   handsets = b.linked;
   parties = b.made;
@@ -31,11 +31,11 @@ begun s centre rows handsets parties p b e = subst (λ (x : PlayingOf). Shows (b
 })
 
 -- a centre that starts on its first rows
-pub begins : (s : Setup) (setup : CentreSetup) (centre : StandingOf) (rows : Rows) (handsets : List (List ℕ)) (parties : List Party) → setup ≡ centre_setup s → handsets ≡ numbers_of (parties_of s s.handsets) → parties ≡ parties_of s s.handsets
-    → IsStanding (started (first_rows setup) handsets (sessions_from 0 setup.accounts)) centre → rows ≡ first_rows setup → length setup.accounts ≤ 32 → IsBegun s centre rows handsets parties
-begins s setup centre rows handsets parties is numbers same standing kept few = record {
-  starts = subst (λ (hs : List (List ℕ)). IsPlayed (started (first_rows (centre_setup s)) hs (sessions_from 0 (centre_setup s).accounts)) centre rows) numbers
-      (subst (λ (x : CentreSetup). IsPlayed (started (first_rows x) handsets (sessions_from 0 x.accounts)) centre rows) is (record { centre = standing; kept = kept; accounts = few }));
+pub begins : (s : Setup) (setup : CentreSetup) (centre : CentreStateOf) (rows : Rows) (handsets : List (List ℕ)) (parties : List Party) → setup ≡ centre_setup s → handsets ≡ numbers_of (parties_of s s.handsets) → parties ≡ parties_of s s.handsets
+    → StateRepresents (started (first_rows setup) handsets (sessions_from 0 setup.accounts)) centre → rows ≡ first_rows setup → length setup.accounts ≤ 32 → IsBegun s centre rows handsets parties
+begins s setup centre rows handsets parties is numbers same centre_state kept few = record {
+  starts = subst (λ (hs : List (List ℕ)). PlayedRepresents (started (first_rows (centre_setup s)) hs (sessions_from 0 (centre_setup s).accounts)) centre rows) numbers
+      (subst (λ (x : CentreSetup). PlayedRepresents (started (first_rows x) handsets (sessions_from 0 x.accounts)) centre rows) is (record { centre = centre_state; kept = kept; accounts = few }));
   linked = numbers;
   made = same;
 }

@@ -2,7 +2,7 @@
 use Rattle.std.proofs.Common.{◌≡◌, ℕ, ◌+◌, List, [], ◌∷◌, Bool, true, false, refl, sym, ◌∙◌, subst, ap, Option, Some, None, Result, Ok, Err}
 use Rattle.std.specs.Prelude.{IfOk, if◌then◌else◌}
 use Rattle.sms_base.specs.Reading.{◌>>=◌}
-use Rattle.sms_play.specs.Course.{Course}
+use Rattle.sms_play.specs.PlayState.{PlayState}
 use Rattle.sms_play.specs.PlayedEvent.{played}
 use Rattle.sms_play.specs.Playing.{broken_on, or_later, play_of, played_on, premises_of, report_of}
 use Rattle.sms_play.specs.Premises.{broken_by}
@@ -28,14 +28,14 @@ pub report_told : {E : Type 0} (res : Result Report E) (told : Result Report Pla
 report_told res told event wanted e is = subst (λ (r : Result Report PlayFault). Reports r (Ok wanted)) (sym e) (report_made res event wanted is)
 
 -- all events were played, and this is told of where they lead
-pub report_there : {X : Type 0} (part : X → Report) (told : Result X PlayFault) (events : List WorldEvent) (c d : Course) → played_on 1 events c ≡ Ok d → Gives part told (Ok (report_of d)) → Gives part told (report_on events c)
-report_there part told events c d leads is = subst (λ (w : Result Course PlayFault). Gives part told (w >>= λ (x : Course). Ok (report_of x))) (sym leads) is
+pub report_there : {X : Type 0} (part : X → Report) (told : Result X PlayFault) (events : List WorldEvent) (c d : PlayState) → played_on 1 events c ≡ Ok d → Gives part told (Ok (report_of d)) → Gives part told (report_on events c)
+report_there part told events c d leads is = subst (λ (w : Result PlayState PlayFault). Gives part told (w >>= λ (x : PlayState). Ok (report_of x))) (sym leads) is
 
-unreported : (fault : PlayFault) (wanted : Result Course PlayFault) → wanted ≡ Err fault → (wanted >>= λ (x : Course). Ok (report_of x)) ≡ Err fault
-unreported fault wanted e = ap (λ (w : Result Course PlayFault). w >>= λ (x : Course). Ok (report_of x)) e
+unreported : (fault : PlayFault) (wanted : Result PlayState PlayFault) → wanted ≡ Err fault → (wanted >>= λ (x : PlayState). Ok (report_of x)) ≡ Err fault
+unreported fault wanted e = ap (λ (w : Result PlayState PlayFault). w >>= λ (x : PlayState). Ok (report_of x)) e
 
 -- one of them has a fault
-pub no_report : {X : Type 0} (part : X → Report) (fault : PlayFault) (q : PlayingOf) (wanted : Result Course PlayFault) → LeadsTo {X = Unit {0}} (Err fault) q wanted → Gives part (Err fault) (wanted >>= λ (x : Course). Ok (report_of x))
+pub no_report : {X : Type 0} (part : X → Report) (fault : PlayFault) (q : PlayingOf) (wanted : Result PlayState PlayFault) → LeadsTo {X = Unit {0}} (Err fault) q wanted → Gives part (Err fault) (wanted >>= λ (x : PlayState). Ok (report_of x))
 no_report part (NoMemory event) q wanted leads = tt
 no_report part (NoSuchFrame event) q wanted leads = unreported (NoSuchFrame event) wanted leads
 no_report part (NoSuchSide event) q wanted leads = unreported (NoSuchSide event) wanted leads
@@ -64,7 +64,7 @@ err_as {X} {Y} a b e = let same : a ≡ b = cc in ap (λ (f : PlayFault). Err f)
 ok_err : {X : Type 0} (x : X) (f : PlayFault) → ◌≡◌ {A = Result X PlayFault} (Ok x) (Err f) → ⊥
 ok_err x f e = absurd cc
 
-goes_on : (r : Result Course PlayFault) (f : Course → Result Course PlayFault) (g : Course → Result (Option Broken) PlayFault) (fault : PlayFault) → ((d : Course) → f d ≡ Err fault → g d ≡ Err fault)
+goes_on : (r : Result PlayState PlayFault) (f : PlayState → Result PlayState PlayFault) (g : PlayState → Result (Option Broken) PlayFault) (fault : PlayFault) → ((d : PlayState) → f d ≡ Err fault → g d ≡ Err fault)
     → (r >>= f) ≡ Err fault → (r >>= g) ≡ Err fault
 goes_on (Ok d) f g fault goes e = goes d e
 goes_on (Err x) f g fault goes e = err_as x fault e
@@ -73,19 +73,19 @@ later_fault : (now : Option Broken) (fault : PlayFault) → or_later now (Err fa
 later_fault None fault = refl
 later_fault (Some broken) fault = refl
 
-fault_decided : (n : ℕ) (es : List WorldEvent) (c : Course) (fault : PlayFault) → played_on n es c ≡ Err fault → broken_on n es c ≡ Err fault
+fault_decided : (n : ℕ) (es : List WorldEvent) (c : PlayState) (fault : PlayFault) → played_on n es c ≡ Err fault → broken_on n es c ≡ Err fault
 fault_decided n [] c fault e = absurd (ok_err c fault e)
 fault_decided n (x ∷ es) c fault e =
-    goes_on (played n x c) (λ (d : Course). played_on (n + 1) es d) (λ (d : Course). or_later (broken_by n x c d) (broken_on (n + 1) es d)) fault
+    goes_on (played n x c) (λ (d : PlayState). played_on (n + 1) es d) (λ (d : PlayState). or_later (broken_by n x c d) (broken_on (n + 1) es d)) fault
     (λ d q.
     ap (λ (z : Result (Option Broken) PlayFault). or_later (broken_by n x c d) z) (fault_decided (n + 1) es d fault q) ∙ later_fault (broken_by n x c d) fault)
     e
 
-unplayed : (r : Result Course PlayFault) (fault : PlayFault) → (r >>= λ (x : Course). Ok (report_of x)) ≡ Err fault → r ≡ Err fault
+unplayed : (r : Result PlayState PlayFault) (fault : PlayFault) → (r >>= λ (x : PlayState). Ok (report_of x)) ≡ Err fault → r ≡ Err fault
 unplayed (Ok c) fault e = absurd (ok_err (report_of c) fault e)
 unplayed (Err x) fault e = err_as x fault e
 
-by_head : (b : Bool) (r : Result Course PlayFault) (d : Result (Option Broken) PlayFault) (fault : PlayFault) → (r ≡ Err fault → d ≡ Err fault) → (if b then r else Err BadSetup) ≡ Err fault → (if b then d else Err BadSetup) ≡ Err fault
+by_head : (b : Bool) (r : Result PlayState PlayFault) (d : Result (Option Broken) PlayFault) (fault : PlayFault) → (r ≡ Err fault → d ≡ Err fault) → (if b then r else Err BadSetup) ≡ Err fault → (if b then d else Err BadSetup) ≡ Err fault
 by_head true r d fault goes e = goes e
 by_head false r d fault goes e = err_as BadSetup fault e
 

@@ -15,7 +15,7 @@ use Rattle.sms_script.specs.declared.report.answers.MessageState.TheVariants.{Fi
 use Rattle.sms_script.specs.declared.report.report.Report.{Report}
 use Rattle.sms_script.specs.declared.report.rows.Direction.TheVariants.{Down}
 use Rattle.sms_script.specs.declared.report.rows.GivenRow.{GivenRow}
-use Rattle.sms_script.specs.declared.report.rows.MessageRow.{MessageRow as MessageLine}
+use Rattle.sms_script.specs.declared.report.rows.ReportedMessage.{ReportedMessage}
 use Rattle.sms_script.specs.declared.report.rows.JoinedRow.{JoinedRow}
 use Rattle.sms_script.specs.declared.report.rows.ReceiptRow.{ReceiptRow}
 use Rattle.sms_script.specs.declared.event.WorldEvent.{WorldEvent}
@@ -25,39 +25,39 @@ use Rattle.sms_handset_rows.specs.declared.outbox.out_entry.EntryState.TheVarian
 use Rattle.sms_handset_rows.specs.declared.outbox.out_entry.OutEntry.{OutEntry}
 use Rattle.sms_tpdu.specs.MoreMessages.{compared}
 use Rattle.sms_tpdu.specs.TpduReading.{submit_at}
-use Rattle.sms_play.specs.Course.{Course, Party}
+use Rattle.sms_play.specs.PlayState.{PlayState, Party}
 use Rattle.sms_play.specs.HandsetSide.{coding_of}
 use Rattle.sms_play.specs.PlayedEvent.{played}
 use Rattle.sms_play.specs.Playing.{report_of as report_told_of}
-use Rattle.sms_play.specs.Premises.{is_timely_event, newest_first, pairs_of, part_givings}
+use Rattle.sms_play.specs.Premises.{is_timely_event, newest_first, pairs_of, part_allocations}
 use Rattle.sms_world_model.specs.Groups.{joined_content}
-use Rattle.sms_world_model.specs.Lists.{StandsOnce}
+use Rattle.sms_world_model.specs.Lists.{OccursOnce}
 use Rattle.sms_world_model.specs.PartsOfKey.{is_for}
 use Rattle.sms_world_model.specs.Place.{Key, place_in}
 use Rattle.sms_world_model.specs.Rounds.{Rounds, rounds_of}
 use Rattle.sms_world_model.specs.Submission.{Submission}
 use Rattle.sms_world_model.specs.WhoseTpdu.{IsDeliverOf}
 use Rattle.sms_world_model.specs.World.{Accepted}
-use Rattle.sms_world_refinement.specs.centre.SeesMessages.{IsRowOf}
-use Rattle.sms_world_refinement.specs.handset.SeesOutbox.{user_data_in}
+use Rattle.sms_world_refinement.specs.centre.RefinesMessages.{IsRowOf}
+use Rattle.sms_world_refinement.specs.handset.RefinesOutbox.{user_data_in}
 use Rattle.sms_world_refinement.specs.centre_events.TruthfulRows.{IsAsSubmitted, pair_in_row}
-use Rattle.sms_world.specs.refinement.CourseRuns.{IfPlayed}
+use Rattle.sms_world.specs.refinement.PlayRuns.{IfPlayed}
 
 -- ---- lines of messages
 
 -- a message that has ended in the one report has the very same line in the other: so it has one final state, for good
 abbrev pub FinalStays : Report → Report → Type 0
-FinalStays before after = (m : MessageLine) (state : FinalState) → Among m before.table → m.state ≡ Final state → Among m after.table
+FinalStays before after = (m : ReportedMessage) (state : FinalState) → Among m before.table → m.state ≡ Final state → Among m after.table
 
 -- each message has one line
 abbrev pub HasOneLine : Report → Type 0
-HasOneLine r = (a b : MessageLine) → Among a r.table → Among b r.table → a.id ≡ b.id → a ≡ b
+HasOneLine r = (a b : ReportedMessage) → Among a r.table → Among b r.table → a.id ≡ b.id → a ≡ b
 
 -- ---- receipts and status reports
 
 -- a receipt is of a message that has ended, and says its final state
 abbrev pub ReceiptsTell : Report → Type 0
-ReceiptsTell r = (x : ReceiptRow) → Among x r.receipts → (m : MessageLine) × (Among m r.table × (m.id ≡ x.id) × (m.state ≡ Final x.state))
+ReceiptsTell r = (x : ReceiptRow) → Among x r.receipts → (m : ReportedMessage) × (Among m r.table × (m.id ≡ x.id) × (m.state ≡ Final x.state))
 
 -- no message has two
 abbrev pub AreOnce : List ReceiptRow → Type 0
@@ -80,7 +80,7 @@ Holds rows handset reference (Entry number) = ⊥
 Holds rows handset reference (Memory number) = ⊥
 
 -- each reference is held once at a handset
-abbrev pub HeldDiffer : Course → Type 0
+abbrev pub HeldDiffer : PlayState → Type 0
 HeldDiffer c = (handset : List ℕ) (reference : ℕ) (a b : Holder) → Holds c.centre.rows handset reference a → Holds c.centre.rows handset reference b → a ≡ b
 
 -- no two rows of the centre give one reference at one handset in one second
@@ -92,23 +92,23 @@ GivenOnce (g ∷ given) =
 -- ---- while frames come in time
 
 -- each frame that the events hand over is decided timely
-abbrev pub AllTimely : ℕ → List WorldEvent → Course → Type 0
+abbrev pub AllTimely : ℕ → List WorldEvent → PlayState → Type 0
 AllTimely number [] c = Unit {0}
 AllTimely number (e ∷ es) c = (is_timely_event e c ≡ true) × IfPlayed (played number e c) (λ d. AllTimely (number + 1) es d)
 
 -- Its handset is one of the script's, and accepted the part exactly once, under the part's reference and with the octets of its row, which
 -- are a DELIVER that says what the message's row says. That the rows are what was submitted is said in `sms_world::origins`.
-abbrev pub IsAcceptedOnce : Course → MessageRow → PartRow → Type 0
+abbrev pub IsAcceptedOnce : PlayState → MessageRow → PartRow → Type 0
 IsAcceptedOnce c m p =
-    (q : Party) × (Among q c.parties × (q.number ≡ m.handset) × StandsOnce (pair_in_row m p) (pairs_of [] q.accepted) × IsAsSubmitted m p.number p)
+    (q : Party) × (Among q c.parties × (q.number ≡ m.handset) × OccursOnce (pair_in_row m p) (pairs_of [] q.accepted) × IsAsSubmitted m p.number p)
 
 -- A message counts as delivered only if that is so of each of its parts.
-abbrev pub DeliveredOnce : Course → Type 0
+abbrev pub DeliveredOnce : PlayState → Type 0
 DeliveredOnce c =
     (m : MessageRow) (p : PartRow) → Among m c.centre.rows.messages → m.state ≡ Some Delivered → Among p c.centre.rows.parts → p.id ≡ m.id → IsAcceptedOnce c m p
 
 -- So a receipt or status report says that its message was delivered only if that is so.
-abbrev pub ToldOnce : Course → Type 0
+abbrev pub ToldOnce : PlayState → Type 0
 ToldOnce c =
     (x : ReceiptRow) → Among x (report_told_of c).receipts → x.state ≡ Delivered
     → (m : MessageRow)
@@ -118,7 +118,7 @@ ToldOnce c =
 
 -- The message came from that handset and goes to the entry's destination; it has one part, whose octets are a DELIVER with the user data of
 -- the entry's SUBMIT.
-pub record IsMessageOf (c : Course) (q : Party) (o : OutEntry) (m : MessageRow) (p : PartRow) : Type 0 where
+pub record IsMessageOf (c : PlayState) (q : Party) (o : OutEntry) (m : MessageRow) (p : PartRow) : Type 0 where
   pub there : Among m c.centre.rows.messages
   pub part_there : Among p c.centre.rows.parts
   pub its : p.id ≡ m.id
@@ -129,14 +129,14 @@ pub record IsMessageOf (c : Course) (q : Party) (o : OutEntry) (m : MessageRow) 
       × (IsRowOf m u × (u.parts ≡ user_data_in (submit_at o.tpdu) ∷ []) × IsDeliverOf u (user_data_in (submit_at o.tpdu)) moment (compared p.tpdu))
 
 -- While frames come in time, an entry of a handset's outbox counts as sent only if the centre has its message.
-abbrev pub SentSubmitted : Course → Type 0
+abbrev pub SentSubmitted : PlayState → Type 0
 SentSubmitted c =
     (q : Party) (o : OutEntry) → Among q c.parties → Among o q.core.rows.outbox → o.state ≡ Sent → (m : MessageRow) × (p : PartRow) × IsMessageOf c q o m p
 
 -- ---- what handsets joined
 
 -- The pair is that of a part which a message from that source has, submitted to that handset; the handset accepted it, and it is of that key.
-pub record IsPartOf (c : Course) (q : Party) (key : Key) (x : Accepted) : Type 0 where
+pub record IsPartOf (c : PlayState) (q : Party) (key : Key) (x : Accepted) : Type 0 where
   pub accepted : Among x (pairs_of [] q.accepted)
   pub of_key : is_for q.number key x ≡ true
   pub message : MessageRow
@@ -150,7 +150,7 @@ pub record IsPartOf (c : Course) (q : Party) (key : Key) (x : Accepted) : Type 0
   pub submitted : IsAsSubmitted message part.number part
 
 -- The row says what a group of parts of one key joins to.
-pub record IsJoinedFrom (c : Course) (q : Party) (row : JoinedRow) (group : List Accepted) : Type 0 where
+pub record IsJoinedFrom (c : PlayState) (q : Party) (row : JoinedRow) (group : List Accepted) : Type 0 where
   pub key : Key
   pub content : Content
   pub joins : joined_content key.total group ≡ Some content
@@ -158,14 +158,14 @@ pub record IsJoinedFrom (c : Course) (q : Party) (row : JoinedRow) (group : List
   pub parts : (x : Accepted) → Among x group → IsPartOf c q key x
 
 -- each row a group, in order
-abbrev pub AreJoinedFrom : Course → Party → List JoinedRow → List (List Accepted) → Type 0
+abbrev pub AreJoinedFrom : PlayState → Party → List JoinedRow → List (List Accepted) → Type 0
 AreJoinedFrom c q [] [] = Unit {0}
 AreJoinedFrom c q [] (g ∷ gs) = ⊥
 AreJoinedFrom c q (r ∷ rs) [] = ⊥
 AreJoinedFrom c q (r ∷ rs) (g ∷ gs) = IsJoinedFrom c q r g × AreJoinedFrom c q rs gs
 
 -- Whatever happens, each message that a handset joined was joined from parts that its source submitted to it.
-abbrev pub JoinedOfParts : Course → Type 0
+abbrev pub JoinedOfParts : PlayState → Type 0
 JoinedOfParts c = (q : Party) → Among q c.parties → (groups : List (List Accepted)) × AreJoinedFrom c q q.joined groups
 
 -- no part stands in two of them
@@ -174,41 +174,41 @@ HaveNoneInCommon [] = Unit {0}
 HaveNoneInCommon (g ∷ gs) = ((h : List Accepted) (x : Accepted) → Among h gs → Among x g → Among x h → ⊥) × HaveNoneInCommon gs
 
 -- While frames come in time, no part is joined twice.
-abbrev pub JoinedOnce : Course → Type 0
+abbrev pub JoinedOnce : PlayState → Type 0
 JoinedOnce c = (q : Party) → Among q c.parties → (groups : List (List Accepted)) × (AreJoinedFrom c q q.joined groups × HaveNoneInCommon groups)
 
 -- ---- while originators keep references fresh, too
 
 -- the rounds of a key that were submitted to a handset, in the order in which the parts were given references, with the octets that their
 -- rows have
-abbrev pub rounds_told : Course → Party → Key → Rounds
-rounds_told c q key = rounds_of q.number key (newest_first [] (part_givings c.centre.rows.parts c.given))
+abbrev pub rounds_told : PlayState → Party → Key → Rounds
+rounds_told c q key = rounds_of q.number key (newest_first [] (part_allocations c.centre.rows.parts c.given))
 
 -- a long message that was submitted at once: its parts are those of that key, each under its own number
-pub record IsLongMessage (c : Course) (m : MessageRow) (key : Key) : Type 0 where
+pub record IsLongMessage (c : PlayState) (m : MessageRow) (key : Key) : Type 0 where
   pub placed : (p : PartRow) → Among p c.centre.rows.parts → p.id ≡ m.id → place_in p.tpdu ≡ Some (record { key = key; number = p.number })
   pub each : (n : ℕ) → 0 < n → n ≤ key.total → (p : PartRow) × (Among p c.centre.rows.parts × (p.id ≡ m.id) × (p.number ≡ n))
 
 -- of which one part is among these only if all of these are its parts
-abbrev pub IsWholeIn : Course → MessageRow → List Accepted → Type 0
+abbrev pub IsWholeIn : PlayState → MessageRow → List Accepted → Type 0
 IsWholeIn c m round =
     (p : PartRow) → Among p c.centre.rows.parts → p.id ≡ m.id → Among (pair_in_row m p) round
     → (y : Accepted) → Among y round → (x : PartRow) × (Among x c.centre.rows.parts × (x.id ≡ m.id) × (y ≡ pair_in_row m x))
 
 -- The row says what one of these rounds joins to, and it has all its parts; a long message that was submitted at once is such a round by
 -- itself.
-pub record IsJoinedRound (c : Course) (q : Party) (row : JoinedRow) (round : List Accepted) : Type 0 where
+pub record IsJoinedRound (c : PlayState) (q : Party) (row : JoinedRow) (round : List Accepted) : Type 0 where
   pub joined : IsJoinedFrom c q row round
   pub among : Among round ((rounds_told c q joined.key).present ∷ (rounds_told c q joined.key).finished)
   pub whole : (m : MessageRow) → Among m c.centre.rows.messages → m.handset ≡ q.number → IsLongMessage c m joined.key → IsWholeIn c m round
 
 -- each row a round, in order
-abbrev pub AreJoinedRounds : Course → Party → List JoinedRow → List (List Accepted) → Type 0
+abbrev pub AreJoinedRounds : PlayState → Party → List JoinedRow → List (List Accepted) → Type 0
 AreJoinedRounds c q [] [] = Unit {0}
 AreJoinedRounds c q [] (g ∷ gs) = ⊥
 AreJoinedRounds c q (r ∷ rs) [] = ⊥
 AreJoinedRounds c q (r ∷ rs) (g ∷ gs) = IsJoinedRound c q r g × AreJoinedRounds c q rs gs
 
 -- Each long message that a handset joined is one that was submitted to it: one round of one key, whole; and none was joined twice.
-abbrev pub JoinedWhole : Course → Type 0
+abbrev pub JoinedWhole : PlayState → Type 0
 JoinedWhole c = (q : Party) → Among q c.parties → (rounds : List (List Accepted)) × (AreJoinedRounds c q q.joined rounds × HaveNoneInCommon rounds)

@@ -1,7 +1,7 @@
 -- The claims, of every script that reads.
 use Rattle.std.specs.Prelude.{◌≡◌, ℕ, ◌+◌, List, ◌∷◌, ◌++◌, length, true, Some, None, Ok}
 use Rattle.sms_concat.specs.declared.content.Content.{Content}
-use Rattle.sms_intake.specs.declared.submission.Account.{Account as CentreAccount}
+use Rattle.sms_intake.specs.declared.submission.CentreAccount.{CentreAccount}
 use Rattle.sms_intake.specs.declared.submission.Submission.{Submission}
 use Rattle.sms_intake.specs.declared.submission.Text.TheVariants.{Whole as WholeText}
 use Rattle.sms_intake.specs.PartBodies.{is_long}
@@ -21,14 +21,14 @@ use Rattle.sms_script.specs.declared.event.WorldEvent.{WorldEvent}
 use Rattle.sms_script.specs.declared.script.Script.{Script}
 use Rattle.sms_script.specs.declared.setup.Setup.{Setup}
 use Rattle.sms_script.specs.WholeScript.{script_in}
-use Rattle.sms_play.specs.Course.{Course}
+use Rattle.sms_play.specs.PlayState.{PlayState}
 use Rattle.sms_play.specs.Meeting.{account_from, submit_of}
-use Rattle.sms_play.specs.Playing.{course_of, play_of, premises_of, report_of}
+use Rattle.sms_play.specs.Playing.{play_state_of, play_of, premises_of, report_of}
 use Rattle.sms_play.specs.Setups.{beginning}
 use Rattle.sms_world_model.specs.ScriptRun.{Plays}
 use Rattle.sms_world_model.specs.World.{World, empty}
-use Rattle.sms_world.specs.refinement.CourseRuns.{happenings}
-use Rattle.sms_world.specs.refinement.CourseSight.{CourseSees}
+use Rattle.sms_world.specs.refinement.PlayRuns.{happenings}
+use Rattle.sms_world.specs.refinement.PlayRefinement.{PlayRefines}
 use Rattle.sms_world.specs.headline.Claims.{AllTimely, AreOnce, DeliveredOnce, FinalStays, GivenOnce, HasOneLine, HeldDiffer, JoinedOfParts, JoinedOnce, JoinedWhole, ReceiptsTell, SentSubmitted, ToldOnce}
 use Rattle.sms_world.specs.headline.DecidedPremises.{AllFresh}
 use Rattle.sms_world.specs.headline.SplitClaims.{SplitsAreLong, SplitsJoined, SplitsStay}
@@ -39,28 +39,28 @@ pub record IsScript (text : List ℕ) (script : Script) (some others : List Worl
   pub events : script.events ≡ some ++ others
 
 -- it leads here after the one, and there after the others
-pub record LeadsOn (script : Script) (some : List WorldEvent) (c d : Course) : Type 0 where
-  pub here : course_of script.setup some ≡ Ok c
-  pub there : course_of script.setup script.events ≡ Ok d
+pub record LeadsOn (script : Script) (some : List WorldEvent) (c d : PlayState) : Type 0 where
+  pub here : play_state_of script.setup some ≡ Ok c
+  pub there : play_state_of script.setup script.events ≡ Ok d
 
 -- ---- it is a run
 
 -- The events up to any of them happened in the world, from the empty one on, and the course shows the world that they led to.
 abbrev pub RunLaw : Type 0
 RunLaw =
-    (text : List ℕ) (script : Script) (some others : List WorldEvent) (c d : Course) → IsScript text script some others → LeadsOn script some c d
-    → (w : World) × (v : World) × (Plays empty (happenings 1 some (beginning script.setup)) w × CourseSees c w × Plays w (happenings (1 + length some) others c) v × CourseSees d v)
+    (text : List ℕ) (script : Script) (some others : List WorldEvent) (c d : PlayState) → IsScript text script some others → LeadsOn script some c d
+    → (w : World) × (v : World) × (Plays empty (happenings 1 some (beginning script.setup)) w × PlayRefines c w × Plays w (happenings (1 + length some) others c) v × PlayRefines d v)
 
 -- ---- whatever happens
 
 abbrev pub FinalLaw : Type 0
 FinalLaw =
-    (text : List ℕ) (script : Script) (some others : List WorldEvent) (c d : Course) → IsScript text script some others → LeadsOn script some c d → FinalStays (report_of c) (report_of d)
+    (text : List ℕ) (script : Script) (some others : List WorldEvent) (c d : PlayState) → IsScript text script some others → LeadsOn script some c d → FinalStays (report_of c) (report_of d)
 
 -- the same of one report
-abbrev pub Of : (Course → Type 0) → Type 0
+abbrev pub Of : (PlayState → Type 0) → Type 0
 Of Claim =
-    (text : List ℕ) (script : Script) (some others : List WorldEvent) (c d : Course) → IsScript text script some others → LeadsOn script some c d → Claim c
+    (text : List ℕ) (script : Script) (some others : List WorldEvent) (c d : PlayState) → IsScript text script some others → LeadsOn script some c d → Claim c
 
 abbrev pub LineLaw : Type 0
 LineLaw = Of (λ c. HasOneLine (report_of c))
@@ -84,24 +84,24 @@ JoinedLaw = Of (λ c. JoinedOfParts c)
 
 abbrev pub DeliveredLaw : Type 0
 DeliveredLaw =
-    (text : List ℕ) (script : Script) (some others : List WorldEvent) (c d : Course) → IsScript text script some others → LeadsOn script some c d → AllTimely 1 some (beginning script.setup) → DeliveredOnce c
+    (text : List ℕ) (script : Script) (some others : List WorldEvent) (c d : PlayState) → IsScript text script some others → LeadsOn script some c d → AllTimely 1 some (beginning script.setup) → DeliveredOnce c
 
 abbrev pub ToldLaw : Type 0
 ToldLaw =
-    (text : List ℕ) (script : Script) (some others : List WorldEvent) (c d : Course) → IsScript text script some others → LeadsOn script some c d → AllTimely 1 some (beginning script.setup) → ToldOnce c
+    (text : List ℕ) (script : Script) (some others : List WorldEvent) (c d : PlayState) → IsScript text script some others → LeadsOn script some c d → AllTimely 1 some (beginning script.setup) → ToldOnce c
 
 abbrev pub SentLaw : Type 0
 SentLaw =
-    (text : List ℕ) (script : Script) (some others : List WorldEvent) (c d : Course) → IsScript text script some others → LeadsOn script some c d → AllTimely 1 some (beginning script.setup) → SentSubmitted c
+    (text : List ℕ) (script : Script) (some others : List WorldEvent) (c d : PlayState) → IsScript text script some others → LeadsOn script some c d → AllTimely 1 some (beginning script.setup) → SentSubmitted c
 
 abbrev pub JoinedOnceLaw : Type 0
 JoinedOnceLaw =
-    (text : List ℕ) (script : Script) (some others : List WorldEvent) (c d : Course) → IsScript text script some others → LeadsOn script some c d → AllTimely 1 some (beginning script.setup) → JoinedOnce c
+    (text : List ℕ) (script : Script) (some others : List WorldEvent) (c d : PlayState) → IsScript text script some others → LeadsOn script some c d → AllTimely 1 some (beginning script.setup) → JoinedOnce c
 
 -- and while originators keep references fresh, too
 abbrev pub JoinedWholeLaw : Type 0
 JoinedWholeLaw =
-    (text : List ℕ) (script : Script) (some others : List WorldEvent) (c d : Course) → IsScript text script some others → LeadsOn script some c d
+    (text : List ℕ) (script : Script) (some others : List WorldEvent) (c d : PlayState) → IsScript text script some others → LeadsOn script some c d
     → AllTimely 1 some (beginning script.setup) → AllFresh 1 some (beginning script.setup) → JoinedWhole c
 
 -- ---- messages that the centre split
@@ -110,13 +110,13 @@ abbrev pub SplitLongLaw : Type 0
 SplitLongLaw = Of (λ c. SplitsAreLong c)
 
 abbrev pub SplitStaysLaw : Type 0
-SplitStaysLaw = (text : List ℕ) (script : Script) (some others : List WorldEvent) (c d : Course) → IsScript text script some others → LeadsOn script some c d → SplitsStay c d
+SplitStaysLaw = (text : List ℕ) (script : Script) (some others : List WorldEvent) (c d : PlayState) → IsScript text script some others → LeadsOn script some c d → SplitsStay c d
 
 -- An event of the script submits a text that no part holds, for that account: if a message comes of it, it is that text, split, in what the
 -- script leads to from then on.
 abbrev pub SplitTextLaw : Type 0
 SplitTextLaw =
-    (text : List ℕ) (script : Script) (some others : List WorldEvent) (s : ScriptSubmission) (c d : Course) (place : ℕ) (account : CentreAccount) (u : Submission) (content : Content)
+    (text : List ℕ) (script : Script) (some others : List WorldEvent) (s : ScriptSubmission) (c d : PlayState) (place : ℕ) (account : CentreAccount) (u : Submission) (content : Content)
     → IsScript text script some (Whole (Submit s) ∷ others) → LeadsOn script some c d → account_from 0 s.name c.centre.rows.setup.accounts ≡ Some place
     → account_at place c.centre.rows.setup.accounts ≡ Some account → from_pdu account c.centre.moment (submit_of s) ≡ Ok u → u.text ≡ WholeText content → is_long u.text ≡ true
     → (m : MessageRow) → message_at (next_id c.centre.rows.messages) (messages_in (happened (CentreSubmit place (submit_of s)) c.centre).store) ≡ Some m
@@ -124,7 +124,7 @@ SplitTextLaw =
 
 abbrev pub SplitJoinedLaw : Type 0
 SplitJoinedLaw =
-    (text : List ℕ) (script : Script) (some others : List WorldEvent) (c d : Course) → IsScript text script some others → LeadsOn script some c d
+    (text : List ℕ) (script : Script) (some others : List WorldEvent) (c d : PlayState) → IsScript text script some others → LeadsOn script some c d
     → AllTimely 1 some (beginning script.setup) → AllFresh 1 some (beginning script.setup) → SplitsJoined c
 
 -- so they are where it is decided that the premises hold
@@ -134,7 +134,7 @@ PremisesLaw = (s : Setup) (events : List WorldEvent) → premises_of s events �
 -- ---- all of it, of what is played
 
 -- What holds of the course that a script leads to, whatever happens.
-pub record AlwaysHolds (c : Course) : Type 0 where
+pub record AlwaysHolds (c : PlayState) : Type 0 where
   pub lines : HasOneLine (report_of c)
   pub receipts : ReceiptsTell (report_of c)
   pub once : AreOnce (report_of c).receipts
@@ -144,7 +144,7 @@ pub record AlwaysHolds (c : Course) : Type 0 where
   pub splits : SplitsAreLong c
 
 -- and where no event breaks a premise
-pub record HoldsInTime (c : Course) : Type 0 where
+pub record HoldsInTime (c : PlayState) : Type 0 where
   pub delivered : DeliveredOnce c
   pub told : ToldOnce c
   pub sent : SentSubmitted c
@@ -157,4 +157,4 @@ pub record HoldsInTime (c : Course) : Type 0 where
 abbrev pub PlayedLaw : Type 0
 PlayedLaw =
     (text : List ℕ) (script : Script) (report : Report) → script_in text ≡ Ok script → play_of script.setup script.events ≡ Ok report
-    → (c : Course) × ((course_of script.setup script.events ≡ Ok c) × (report ≡ report_of c) × AlwaysHolds c × (premises_of script.setup script.events ≡ Ok None → HoldsInTime c))
+    → (c : PlayState) × ((play_state_of script.setup script.events ≡ Ok c) × (report ≡ report_of c) × AlwaysHolds c × (premises_of script.setup script.events ≡ Ok None → HoldsInTime c))

@@ -6,7 +6,7 @@ use Rattle.sms_centre_rows.specs.declared.messages.message.MessageRow.{MessageRo
 use Rattle.sms_centre_rows.specs.declared.messages.part.PartRow.{PartRow}
 use Rattle.sms_centre_rows.specs.messages.Messages.{message_at}
 use Rattle.sms_script.specs.declared.report.rows.JoinedRow.{JoinedRow}
-use Rattle.sms_play.specs.Course.{Course, Party}
+use Rattle.sms_play.specs.PlayState.{PlayState, Party}
 use Rattle.sms_play.specs.HandsetSide.{coding_of}
 use Rattle.sms_world_model.specs.World.{Accepted}
 use Rattle.sms_world_refinement.specs.centre_events.TruthfulRows.{pair_in_row}
@@ -16,12 +16,12 @@ use Rattle.sms_world.specs.headline.Claims.{AreJoinedRounds, IsLongMessage}
 -- ---- whatever happens
 
 -- A message that was split is a long message of one key: its source, the reference that its row keeps, and as many parts as it has.
-abbrev pub SplitsAreLong : Course → Type 0
+abbrev pub SplitsAreLong : PlayState → Type 0
 SplitsAreLong c =
     (m : MessageRow) (reference : ℕ) → Among m c.centre.rows.messages → m.split_reference ≡ Some reference → (total : ℕ) × IsLongMessage c m (split_key m reference total)
 
 -- a message of the one course that was split from a content is so in the other
-abbrev pub SplitsStay : Course → Course → Type 0
+abbrev pub SplitsStay : PlayState → PlayState → Type 0
 SplitsStay c d =
     (m : MessageRow) (content : Content) (reference : ℕ) → message_at m.id c.centre.rows.messages ≡ Some m → IsSplitOf m content reference c.centre.rows.parts
     → (x : MessageRow) × ((message_at m.id d.centre.rows.messages ≡ Some x) × IsSplitOf x content reference d.centre.rows.parts)
@@ -29,19 +29,19 @@ SplitsStay c d =
 -- ---- while frames come in time and originators keep references fresh
 
 -- A row for which a part of a message that was split from a content was joined says that content, from the message's source.
-abbrev pub SaysSplit : Course → Party → JoinedRow → List Accepted → Type 0
+abbrev pub SaysSplit : PlayState → Party → JoinedRow → List Accepted → Type 0
 SaysSplit c q row round =
     (m : MessageRow) (content : Content) (reference : ℕ) (p : PartRow) → Among m c.centre.rows.messages → m.handset ≡ q.number → IsSplitOf m content reference c.centre.rows.parts
     → Among p c.centre.rows.parts → p.id ≡ m.id → Among (pair_in_row m p) round
     → row ≡ record { handset = q.number; from = m.source.digits; coding = coding_of content.coding; units = content.units }
 
 -- each row a round, in order
-abbrev pub AllSaySplit : Course → Party → List JoinedRow → List (List Accepted) → Type 0
+abbrev pub AllSaySplit : PlayState → Party → List JoinedRow → List (List Accepted) → Type 0
 AllSaySplit c q [] [] = Unit {0}
 AllSaySplit c q [] (g ∷ gs) = ⊥
 AllSaySplit c q (r ∷ rs) [] = ⊥
 AllSaySplit c q (r ∷ rs) (g ∷ gs) = SaysSplit c q r g × AllSaySplit c q rs gs
 
 -- What a handset joined of a text that the centre split is that text.
-abbrev pub SplitsJoined : Course → Type 0
+abbrev pub SplitsJoined : PlayState → Type 0
 SplitsJoined c = (q : Party) → Among q c.parties → (rounds : List (List Accepted)) × (AreJoinedRounds c q q.joined rounds × AllSaySplit c q q.joined rounds)

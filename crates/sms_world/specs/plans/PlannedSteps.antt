@@ -10,25 +10,25 @@ use Rattle.sms_world_model.specs.ScriptRun.{items}
 use Rattle.sms_world_model.specs.Sides.{AllOfCentre}
 use Rattle.sms_world_model.specs.World.{World}
 use Rattle.sms_world_model.specs.WorldStep.{Step}
-use Rattle.sms_world_refinement.specs.centre.CentreSight.{CentreSees}
+use Rattle.sms_world_refinement.specs.centre.CentreRefinement.{CentreRefines}
 use Rattle.sms_world_refinement.specs.centre.FramesOut.{stacked_down}
-use Rattle.sms_world_refinement.specs.centre_events.CourseEvents.{AreOfEvent, MayCome, moment_at}
-use Rattle.sms_centre.specs.plans.Planned.{IsPlanned}
-use Rattle.sms_centre.specs.declared.plans.planned.Planned.{Planned}
+use Rattle.sms_world_refinement.specs.centre_events.RunEvents.{AreOfEvent, MayCome, moment_at}
+use Rattle.sms_centre.specs.plans.EventOutcome.{IsOutcome}
+use Rattle.sms_centre.specs.declared.plans.event_outcome.EventOutcome.{EventOutcome}
 
 -- The event is steps of the world, all of them the centre's own; the frames that are told go on top of the bag; and the centre as it
 -- stands once the plan is adopted sees where the steps lead, sound, with all offered that can go.
-abbrev pub LeadsOn : ℕ → CentreEvent → Core → Planned → World → Type 0
+abbrev pub LeadsOn : ℕ → CentreEvent → Core → EventOutcome → World → Type 0
 LeadsOn number event c p w =
     (steps : List Step)
     × ((AreOfEvent number event w steps × AllOfCentre steps) × Run w (items (moment_at event c) false steps)
     × ((end w (items (moment_at event c) false steps)).bag ≡ stacked_down p.told.frames w.bag)
-    × CentreSees (end w (items (moment_at event c) false steps)) (draft_of (core_of (happened event c))) (end w (items (moment_at event c) false steps))
+    × CentreRefines (end w (items (moment_at event c) false steps)) (draft_of (core_of (happened event c))) (end w (items (moment_at event c) false steps))
     × IsSoundCore (core_of (happened event c)) × HasOffered (core_of (happened event c)))
 
--- `IsPlanned (happened event c)` is what `Centre::plan` says of the plan that it hands out where the code stands as the centre `c`, in
+-- `IsOutcome (happened event c)` is what `Centre::plan` says of the plan that it hands out where the code stands as the centre `c`, in
 -- its clause `goes`; and `Centre::adopt` leaves it standing as `core_of (happened event c)`.
 abbrev pub PlannedLaw : Type 0
 PlannedLaw =
-    (number : ℕ) (event : CentreEvent) (c : Core) (p : Planned) (w : World) → IsPlanned (happened event c) p → IsSoundCore c → HasOffered c → IsEvent event → MayCome number event w
-    → CentreSees w (draft_of c) w → LeadsOn number event c p w
+    (number : ℕ) (event : CentreEvent) (c : Core) (p : EventOutcome) (w : World) → IsOutcome (happened event c) p → IsSoundCore c → HasOffered c → IsEvent event → MayCome number event w
+    → CentreRefines w (draft_of c) w → LeadsOn number event c p w

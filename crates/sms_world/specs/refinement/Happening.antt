@@ -9,11 +9,11 @@ use Rattle.sms_script.specs.declared.event.Act.{Act}
 use Rattle.sms_script.specs.declared.event.Act.TheVariants.{Submit, Query, Cancel, Write, Delete, Discard, Deliver, Tick}
 use Rattle.sms_script.specs.declared.event.Side.{Side}
 use Rattle.sms_script.specs.declared.event.Side.TheVariants.{Centre, Handset}
-use Rattle.sms_script.specs.declared.event.Stop.{Stop}
-use Rattle.sms_script.specs.declared.event.Stop.TheVariants.{Before as StopBefore, After as StopAfter}
+use Rattle.sms_script.specs.declared.event.StopPoint.{StopPoint}
+use Rattle.sms_script.specs.declared.event.StopPoint.TheVariants.{Before as StopBefore, After as StopAfter}
 use Rattle.sms_script.specs.declared.event.WorldEvent.{WorldEvent}
 use Rattle.sms_script.specs.declared.event.WorldEvent.TheVariants.{Whole as WholeAct, Stopped, Restart}
-use Rattle.sms_play.specs.Course.{Course, frame_at}
+use Rattle.sms_play.specs.PlayState.{PlayState, frame_at}
 use Rattle.sms_world_model.specs.ScriptRun.{After, Asked, Before, Cancelled, Event, Handed, Happening, Removed, Restarted, Submitted, Tick_centre, Tick_handset, Went, Whole, Wrote}
 
 -- ---- which event
@@ -50,7 +50,7 @@ act_moment (Tick side now) moment = side_moment side now moment
 
 -- ---- how it went
 
-abbrev pub went_of : Stop → Went
+abbrev pub went_of : StopPoint → Went
 went_of StopBefore = Before
 went_of StopAfter = After
 
@@ -90,7 +90,7 @@ abbrev pub IsOctetsAt : Option FrameRow → Type 0
 IsOctetsAt None = Unit {0}
 IsOctetsAt (Some f) = IsOctetsUp f.direction f
 
-abbrev pub ActHandsOctets : Act → Course → Type 0
+abbrev pub ActHandsOctets : Act → PlayState → Type 0
 ActHandsOctets (Submit s) c = Unit {0}
 ActHandsOctets (Query name id) c = Unit {0}
 ActHandsOctets (Cancel name id) c = Unit {0}
@@ -100,7 +100,7 @@ ActHandsOctets (Discard handset entry) c = Unit {0}
 ActHandsOctets (Deliver number) c = IsOctetsAt (frame_at number c.bag)
 ActHandsOctets (Tick side now) c = Unit {0}
 
-abbrev pub HandsOctets : WorldEvent → Course → Type 0
+abbrev pub HandsOctets : WorldEvent → PlayState → Type 0
 HandsOctets (WholeAct act) c = ActHandsOctets act c
 HandsOctets (Stopped stop act) c = ActHandsOctets act c
 HandsOctets (Restart side) c = Unit {0}

@@ -3,7 +3,7 @@ use Rattle.std.specs.Prelude.{◌≡◌, List, Option, Result, Ok, Err}
 use Rattle.sms_base.specs.Reading.{◌>>=◌}
 use Rattle.sms_play.specs.declared.fault.PlayFault.{PlayFault}
 use Rattle.sms_play.specs.declared.fault.PlayFault.TheVariants.{BadSetup, NoMemory, NoSuchAccount, NoSuchFrame, NoSuchSide}
-use Rattle.sms_play.specs.Course.{Course}
+use Rattle.sms_play.specs.PlayState.{PlayState}
 use Rattle.sms_play.specs.Playing.{played_on, report_of}
 use Rattle.sms_script.specs.declared.report.report.Broken.{Broken}
 use Rattle.sms_script.specs.declared.report.report.Report.{Report}
@@ -23,8 +23,8 @@ abbrev pub Reports : {X : Type 0} → Result X PlayFault → Result X PlayFault 
 Reports result wanted = Gives (λ (x : _). x) result wanted
 
 -- the report of where these events lead from that course
-abbrev pub report_on : List WorldEvent → Course → Result Report PlayFault
-report_on events c = played_on 1 events c >>= λ (d : Course). Ok (report_of d)
+abbrev pub report_on : List WorldEvent → PlayState → Result Report PlayFault
+report_on events c = played_on 1 events c >>= λ (d : PlayState). Ok (report_of d)
 
 -- this was decided, and it is told so
 abbrev pub Decides : (Option Broken → Type 0) → Result (Option Broken) PlayFault → Type 0

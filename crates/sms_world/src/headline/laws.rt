@@ -14,7 +14,7 @@ pub fn one_final_state()
 {}
 
 /// Whatever happens, a receipt or status report says the final state of its message, and no message has two.
-pub fn receipts_tell_how_it_ended()
+pub fn receipts_state_how_it_ended()
     ensures tells { ReceiptLaw }
     ensures once { OnceLaw }
 {}
@@ -64,7 +64,7 @@ pub fn split_texts_are_joined()
 {}
 
 /// All of it of the report of a script that plays, with the two premises as `sms_play` decides them.
-pub fn what_is_played_holds()
+pub fn a_played_script_obeys_the_claims()
     ensures { PlayedLaw }
 {}
 

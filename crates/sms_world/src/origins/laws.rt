@@ -3,7 +3,7 @@ ghost use Rattle.sms_world.specs.origins.OriginLaws.{DeliveredLaw, OriginLaw, Pl
 
 /// Whatever happens, each message in the centre's rows came of an event of the script: it is what the submit_sm of a `submit` reads as, or
 /// what the SUBMIT in the frame asks for that a `deliver` handed over.
-pub fn messages_come_of_events()
+pub fn each_message_has_its_event()
     ensures { OriginLaw }
 {}
 

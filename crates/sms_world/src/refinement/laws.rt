@@ -1,10 +1,10 @@
 //! A script's course is a run of the world.
-ghost use Rattle.sms_world.specs.refinement.CourseRuns.{BeginningLaw, EventLaw, RunLaw, ScriptLaw};
-ghost use Rattle.sms_world.specs.refinement.TellingLaws.{TellLaw};
+ghost use Rattle.sms_world.specs.refinement.PlayRuns.{BeginningLaw, EventLaw, RunLaw, ScriptLaw};
+ghost use Rattle.sms_world.specs.refinement.AllocationLaws.{TellLaw};
 
 /// Where the rows that an event of a sound centre starts with and ends with show the worlds that its steps lead from and to, and its steps
 /// submit one message at most, the course tells what was given after it, if it told so before.
-pub fn an_event_tells_what_it_gave()
+pub fn an_event_reports_its_allocations()
     ensures tells { TellLaw }
 {}
 

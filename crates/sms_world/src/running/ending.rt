@@ -1,8 +1,8 @@
 //! The report of a script that was played to its end.
 ghost use Rattle.std.specs.Prelude.{Ok, Option, IfOk};
-ghost use Rattle.sms_play.specs.Course.{Course};
-ghost use Rattle.sms_play.specs.Playing.{report_of as report_of_course};
-ghost use Rattle.sms_player.specs.playing.Courses.{Shows};
+ghost use Rattle.sms_play.specs.PlayState.{PlayState};
+ghost use Rattle.sms_play.specs.Playing.{report_of as report_of_play};
+ghost use Rattle.sms_player.specs.playing.Plays.{Represents};
 ghost use Rattle.sms_script.specs.declared.report.report.Broken.{Broken as BrokenOf};
 ghost use Rattle.sms_world.specs.running.Reporting.{Gives, Reports};
 ghost use Rattle.sms_world.specs.declared.running.ending.Judged.{Judged as JudgedOf};
@@ -20,7 +20,7 @@ pub(crate) struct Judged {
 }
 
 fn report_of(playing: Playing<'_>, events: usize) -> Result<Report, PlayFault>
-    ensures { (c : Course) → Shows c playing.entry → Reports result (Ok (report_of_course c)) }
+    ensures { (c : PlayState) → Represents c playing.entry → Reports result (Ok (report_of_play c)) }
 {
     or_no_memory(events as u64, playing.report())
 }
@@ -31,8 +31,8 @@ pub(crate) fn finish<W: Finder>(
     watcher: &W,
     events: usize,
 ) -> Result<Judged, PlayFault>
-    ensures report { (c : Course) → Shows c playing.entry → Gives (λ (judged : JudgedOf). judged.report) result (Ok (report_of_course c)) }
-    ensures verdict { (broken : Option BrokenOf) (c : Course) → W.has_seen watcher.now broken c → IfOk result (λ judged. W.tells judged.broken broken) }
+    ensures report { (c : PlayState) → Represents c playing.entry → Gives (λ (judged : JudgedOf). judged.report) result (Ok (report_of_play c)) }
+    ensures verdict { (broken : Option BrokenOf) (c : PlayState) → W.has_seen watcher.now broken c → IfOk result (λ judged. W.tells judged.broken broken) }
 {
     match report_of(playing, events) {
         Ok(report) => Ok(Judged {

@@ -1,6 +1,6 @@
 //! How a script begins: who takes part in it is made, and lent to it.
 ghost use Rattle.std.specs.Prelude.{◌≡◌, ◌≤◌, length, IfOk, None, true};
-ghost use Rattle.sms_play.specs.Course.{numbers_of as numbers_of_parties};
+ghost use Rattle.sms_play.specs.PlayState.{numbers_of as numbers_of_parties};
 ghost use Rattle.sms_play.specs.Playing.{broken_on, play_of, premises_of};
 ghost use Rattle.sms_world.specs.running.Begun.{IsBegun};
 ghost use Rattle.sms_world.specs.running.Reporting.{Decides, Gives, report_on};
@@ -12,8 +12,8 @@ ghost use Rattle.sms_play.specs.PlayedEvent.{sessions_from};
 ghost use Rattle.sms_play.specs.Setups.{beginning, can_be_played, centre_setup as centre_setup_of, parties_of as parties_of_head};
 ghost use Rattle.sms_store_memory.specs.centre.RowsInKeep.{rows_in};
 ghost use Rattle.sms_player.specs.heads.Heads.{AreHandsets};
-ghost use Rattle.sms_centre.specs.state.Standing.{IsStanding};
-ghost use Rattle.sms_player.specs.centre.Shown.{Stands};
+ghost use Rattle.sms_centre.specs.state.CentreState.{Represents};
+ghost use Rattle.sms_player.specs.centre.PlayedCentre.{IsSomeCentre};
 
 use crate::running::ending::{Judged, finish};
 use crate::running::verdict::Finder;
@@ -65,7 +65,7 @@ fn play_by<W: Finder>(
     events: &[WorldEvent<'_>],
     watcher: &mut W,
 ) -> Result<Judged, PlayFault>
-    requires stands { Stands centre.old (rows_in keep.old) }
+    requires stands { IsSomeCentre centre.old (rows_in keep.old) }
     requires handsets { AreHandsets handsets.now }
     ensures report { (s : SetupOf) → IsBegun s centre.old (rows_in keep.old) handsets.now parties.old → Gives (λ (judged : JudgedOf). judged.report) result (report_on events.now (beginning s)) }
     ensures verdict { (s : SetupOf) → IsBegun s centre.old (rows_in keep.old) handsets.now parties.old → W.has_seen watcher.old None (beginning s) → IfOk result (λ judged. Decides (W.tells judged.broken) (broken_on 1 events.now (beginning s))) }
@@ -90,7 +90,7 @@ fn play_at<W: Finder>(
 ) -> Result<Judged, PlayFault>
     requires few { length setup.now.accounts ≤ 32 }
     requires handsets { AreHandsets handsets.now }
-    requires standing { IsStanding (started (first_rows_of setup.now) handsets.now (sessions_from 0 setup.now.accounts)) centre.old }
+    requires centre_state { Represents (started (first_rows_of setup.now) handsets.now (sessions_from 0 setup.now.accounts)) centre.old }
     ensures report { (s : SetupOf) → setup.now ≡ centre_setup_of s → handsets.now ≡ numbers_of_parties (parties_of_head s s.handsets) → parties.old ≡ parties_of_head s s.handsets → Gives (λ (judged : JudgedOf). judged.report) result (report_on events.now (beginning s)) }
     ensures verdict { (s : SetupOf) → setup.now ≡ centre_setup_of s → handsets.now ≡ numbers_of_parties (parties_of_head s s.handsets) → parties.old ≡ parties_of_head s s.handsets → W.has_seen watcher.old None (beginning s) → IfOk result (λ judged. Decides (W.tells judged.broken) (broken_on 1 events.now (beginning s))) }
 {

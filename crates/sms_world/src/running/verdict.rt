@@ -1,6 +1,6 @@
 //! The verdict of the watcher in the end.
 ghost use Rattle.std.specs.Prelude.{◌≡◌, ⊤, Option};
-ghost use Rattle.sms_play.specs.Course.{Course};
+ghost use Rattle.sms_play.specs.PlayState.{PlayState};
 ghost use Rattle.sms_script.specs.declared.report.report.Broken.{Broken as BrokenOf};
 
 use sms_script::report::Broken;
@@ -13,7 +13,7 @@ pub(crate) trait Finder: Watcher {
 
     /// The first event that broke a premise.
     fn verdict(&self) -> Option<Broken>
-        ensures { (broken : Option BrokenOf) (c : Course) → Self.has_seen self.now broken c → tells result broken };
+        ensures { (broken : Option BrokenOf) (c : PlayState) → Self.has_seen self.now broken c → tells result broken };
 }
 
 impl Finder for Judge {

@@ -15,30 +15,30 @@ use Rattle.sms_centre_rows.specs.waiting.Keys.{reference_key}
 use Rattle.sms_rows.specs.table.Keys.{pair_key}
 use Rattle.sms_centre_rows.specs.waiting.References.{handset_at}
 use Rattle.sms_centre_rows.specs.declared.waiting.handset.HandsetRow.{HandsetRow}
-use Rattle.sms_centre_rows.specs.declared.waiting.line.Line.{Line}
+use Rattle.sms_centre_rows.specs.declared.waiting.handset_link.HandsetLink.{HandsetLink}
 use Rattle.sms_centre_rows.specs.declared.waiting.reference.ReferenceRow.{ReferenceRow}
 use Rattle.sms_world_model.specs.World.{Sent}
-use Rattle.sms_world_model.proofs.Givings.{seen_again}
+use Rattle.sms_world_model.proofs.Allocations.{seen_again}
 use Rattle.sms_world_refinement.specs.centre.CentreLaws.{BackLaw, FirstLaw}
 use Rattle.sms_world_refinement.proofs.centre.ByOctets.{by_octet_some}
 use Rattle.sms_world_refinement.specs.centre.ByOctet.{by_octet}
-use Rattle.sms_world_refinement.specs.centre.SeesGiven.{second_at, seconds_by}
-use Rattle.sms_world_refinement.specs.centre.SeesLines.{SeesLine, SeesLines}
+use Rattle.sms_world_refinement.specs.centre.RefinesGiven.{second_at, seconds_by}
+use Rattle.sms_world_refinement.specs.centre.RefinesLines.{RefinesLine, RefinesLines}
 
 -- ---- new lines
 
-awaited_see : (bag : List Sent) (ns : List (List ℕ)) → SeesLines bag (lines_awaited ns)
+awaited_see : (bag : List Sent) (ns : List (List ℕ)) → RefinesLines bag (lines_awaited ns)
 awaited_see bag [] line i = absurd i
 awaited_see bag (n ∷ ns) line i = ⊎_elim
     (λ (e : line ≡ record { handset = n; is_up = false; is_awaited = true; is_full = false; link = new_link Centre }).
-    subst (λ (z : Line). SeesLine bag z) (sym e) (record { next = (let l : 0 < 7 = omega arith in l); opened = tt; begun = tt }))
+    subst (λ (z : HandsetLink). RefinesLine bag z) (sym e) (record { next = (let l : 0 < 7 = omega arith in l); opened = tt; begun = tt }))
     (λ (a : Among line (lines_awaited ns)). awaited_see bag ns line a) i
 
-up_see : (bag : List Sent) (ns : List (List ℕ)) → SeesLines bag (lines_up ns)
+up_see : (bag : List Sent) (ns : List (List ℕ)) → RefinesLines bag (lines_up ns)
 up_see bag [] line i = absurd i
 up_see bag (n ∷ ns) line i = ⊎_elim
     (λ (e : line ≡ record { handset = n; is_up = true; is_awaited = false; is_full = false; link = new_link Centre }).
-    subst (λ (z : Line). SeesLine bag z) (sym e) (record { next = (let l : 0 < 7 = omega arith in l); opened = tt; begun = tt }))
+    subst (λ (z : HandsetLink). RefinesLine bag z) (sym e) (record { next = (let l : 0 < 7 = omega arith in l); opened = tt; begun = tt }))
     (λ (a : Among line (lines_up ns)). up_see bag ns line a) i
 
 -- ---- no reference was given later than what rows have seen
@@ -93,8 +93,8 @@ comes_back b bag d handsets sessions w s =
       };
     }
 
-pub first_sees : FirstLaw
-first_sees setup handsets sessions = record {
+pub first_refines : FirstLaw
+first_refines setup handsets sessions = record {
   frames = refl;
   whole = tt;
   lines = up_see [] handsets;

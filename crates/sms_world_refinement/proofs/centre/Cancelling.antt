@@ -7,7 +7,7 @@ use Rattle.sms_base.specs.declared.final_state.FinalState.TheVariants.{Deleted}
 use Rattle.smpp_pdu.specs.declared.cancel.CancelSm.{CancelSm}
 use Rattle.smpp_pdu.specs.declared.status.CommandStatus.TheVariants.{ESME_RCANCELFAIL}
 use Rattle.sms_intake.specs.SmppIntake.{is_empty, source_in}
-use Rattle.sms_intake.specs.declared.submission.Account.{Account}
+use Rattle.sms_intake.specs.declared.submission.CentreAccount.{CentreAccount}
 use Rattle.sms_centre_rows.specs.messages.Messages.{ended, is_pending, message_at}
 use Rattle.sms_centre_rows.specs.declared.messages.message.MessageRow.{MessageRow}
 use Rattle.sms_centre_rows.specs.reports.Receipts.{is_account}
@@ -26,13 +26,13 @@ use Rattle.sms_world_model.specs.ScriptRun.{Cancelled, items}
 use Rattle.sms_world_model.specs.World.{Final, World, changed}
 use Rattle.sms_world_model.specs.WorldStep.{Delete}
 use Rattle.sms_world_refinement.specs.centre.CentreLaws.{CancelLaw}
-use Rattle.sms_world_refinement.specs.centre.CentreSight.{CentreSees, StoreSees}
-use Rattle.sms_world_refinement.proofs.centre.Ending.{can_end, end_comes, ended_sees, pending_in_world}
-use Rattle.sms_world_refinement.proofs.centre.Playing.{Acts, acts_lead, answer_sees, store_comes, tells_follow}
+use Rattle.sms_world_refinement.specs.centre.CentreRefinement.{CentreRefines, StoreRefines}
+use Rattle.sms_world_refinement.proofs.centre.Ending.{can_end, end_comes, ended_refines, pending_in_world}
+use Rattle.sms_world_refinement.proofs.centre.Playing.{Acts, acts_lead, answer_refines, store_comes, tells_follow}
 use Rattle.sms_world_refinement.proofs.centre.SessionsChange.{start}
 
 -- nothing but an answer
-answered_acts : (m : ℕ) (w : World) (a : CentreAnswer) (d : Draft) → CentreSees w d w → Acts Cancelled m w (answer_with a d)
+answered_acts : (m : ℕ) (w : World) (a : CentreAnswer) (d : Draft) → CentreRefines w d w → Acts Cancelled m w (answer_with a d)
 answered_acts m w a d s = record {
   own = [];
   follows = [];
@@ -42,16 +42,16 @@ answered_acts m w a d s = record {
   follows_centre = tt;
   own_runs = tt;
   runs = tt;
-  sees = answer_sees w a d w s;
+  refines = answer_refines w a d w s;
 }
 
-deleted_acts : (m : MessageRow) (w : World) (d : Draft) → SoundStore d.store → CentreSees w d w → message_at m.id (messages_in d.store) ≡ Some m → is_pending m ≡ true
+deleted_acts : (m : MessageRow) (w : World) (d : Draft) → SoundStore d.store → CentreRefines w d w → message_at m.id (messages_in d.store) ≡ Some m → is_pending m ≡ true
     → Acts Cancelled d.store.moment w (answer_with CancelledAnswer (in_store (end_message Deleted m d.store) d))
 deleted_acts m w d sound s there pending =
     let n : ℕ = d.store.moment in
     let v : World = record w { table = changed m.id (λ e. Final Deleted) w.table } in
-    let sees : StoreSees (with_message (ended Deleted n m) d.store) v = ended_sees Deleted m d.store w there (λ e. Final Deleted) (λ u st k. refl) s.rows in
-    let told = end_comes Deleted m d.store v (can_end Deleted m d.store sound there pending refl) sees in
+    let refines : StoreRefines (with_message (ended Deleted n m) d.store) v = ended_refines Deleted m d.store w there (λ e. Final Deleted) (λ u st k. refl) s.rows in
+    let told = end_comes Deleted m d.store v (can_end Deleted m d.store sound there pending refl) refines in
     let tells = tells_follow Cancelled (λ x k. k) told.0 told.1.0 in
     let was = pending_in_world m d.store w s.rows there pending in
     record {
@@ -63,11 +63,11 @@ deleted_acts m w d sound s there pending =
       follows_centre = tells.1;
       own_runs = ((was.0, was.1, was.2.0), tt);
       runs = told.1.1;
-      sees = answer_sees w CancelledAnswer (in_store (end_message Deleted m d.store) d) (end v (items n false told.0))
+      refines = answer_refines w CancelledAnswer (in_store (end_message Deleted m d.store) d) (end v (items n false told.0))
           (store_comes w (end_message Deleted m d.store) d w (end v (items n false told.0)) s told.1.2 told.1.3);
     }
 
-cancelled_acts : (o : Option MessageRow) (w : World) (d : Draft) → SoundStore d.store → CentreSees w d w → ((m : MessageRow) → o ≡ Some m → message_at m.id (messages_in d.store) ≡ Some m)
+cancelled_acts : (o : Option MessageRow) (w : World) (d : Draft) → SoundStore d.store → CentreRefines w d w → ((m : MessageRow) → o ≡ Some m → message_at m.id (messages_in d.store) ≡ Some m)
     → Acts Cancelled d.store.moment w (cancelled o d)
 cancelled_acts None w d sound s there = answered_acts d.store.moment w _ d s
 cancelled_acts (Some m) w d sound s there =
@@ -79,12 +79,12 @@ numbered_there : (o : Option ℕ) (m : MessageRow) (s : Store) → message_numbe
 numbered_there None m s e = absurd cc
 numbered_there (Some id) m s e = message_own id m s e
 
-own_there : (a : Account) (source : Option Address) (o : Option MessageRow) (m : MessageRow) → own_message a source o ≡ Some m → o ≡ Some m
+own_there : (a : CentreAccount) (source : Option Address) (o : Option MessageRow) (m : MessageRow) → own_message a source o ≡ Some m → o ≡ Some m
 own_there a source None m e = absurd cc
 own_there a source (Some x) m e =
     cond_both (is_account a.name x.originator && is_from source x) (Some x) None (λ (o : Option MessageRow). o ≡ Some m → Some x ≡ Some m) (λ t f. f) (λ t f. absurd cc) e
 
-cancel_acts : (a : Option Account) (q : CancelSm) (w : World) (d : Draft) → SoundStore d.store → CentreSees w d w → Acts Cancelled d.store.moment w (cancel_by a q d)
+cancel_acts : (a : Option CentreAccount) (q : CancelSm) (w : World) (d : Draft) → SoundStore d.store → CentreRefines w d w → Acts Cancelled d.store.moment w (cancel_by a q d)
 cancel_acts None q w d sound s = answered_acts d.store.moment w _ d s
 cancel_acts (Some a) q w d sound s =
     let o : Option MessageRow = message_numbered (id_in q.message_id) (messages_in d.store) in

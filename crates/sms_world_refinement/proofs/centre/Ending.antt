@@ -42,22 +42,22 @@ use Rattle.sms_centre_spec.specs.Ends.{end as end_message, is_wished, make_repor
 use Rattle.sms_centre_spec.specs.Finals.{final_of}
 use Rattle.sms_centre_spec.specs.Submitting.{reference_for}
 use Rattle.sms_world_model.proofs.Alike.{report_alike}
-use Rattle.sms_world_model.proofs.Givings.{gave}
+use Rattle.sms_world_model.proofs.Allocations.{gave}
 use Rattle.sms_world_model.proofs.Tables.{changed_back, changed_here, changed_there}
 use Rattle.sms_world_model.specs.References.{CanGive, Ticket}
 use Rattle.sms_world_model.specs.Run.{Run, end}
 use Rattle.sms_world_model.specs.ScriptRun.{items}
 use Rattle.sms_world_model.specs.Submission.{IsWished, Submission, Wish}
 use Rattle.sms_world_model.specs.WhoseTpdu.{IsReportOf, status_of}
-use Rattle.sms_world_model.specs.World.{Final, Giving, Message, Pending, ReceiptOf, Stands, State, World, changed}
+use Rattle.sms_world_model.specs.World.{Final, Allocation, Message, Pending, ReceiptOf, IsRecorded, State, World, changed}
 use Rattle.sms_world_model.specs.WorldStep.{IsOwed, Receipt, Status, Step}
-use Rattle.sms_world_refinement.proofs.centre.Givings.{can_give, cannot_give, kept_given, seen_report}
+use Rattle.sms_world_refinement.proofs.centre.Allocations.{can_give, cannot_give, kept_given, seen_report}
 use Rattle.sms_world_refinement.proofs.centre.Loads.{none_of}
 use Rattle.sms_world_refinement.proofs.centre.References.{states_of}
-use Rattle.sms_world_refinement.specs.centre.CentreSight.{StoreSees}
-use Rattle.sms_world_refinement.specs.centre.SeesGiven.{SeesHolders, given_part, given_report, seconds_by}
-use Rattle.sms_world_refinement.specs.centre.SeesMessages.{IsInTable, IsRowOf, IsStateOf, PartSeen, SeesTable, is_handset, messages_by, parts_by, wish_of}
-use Rattle.sms_world_refinement.specs.centre.SeesReports.{ReportSeen, SeesReports, report_seen, reports_by}
+use Rattle.sms_world_refinement.specs.centre.CentreRefinement.{StoreRefines}
+use Rattle.sms_world_refinement.specs.centre.RefinesGiven.{RefinesHolders, given_part, given_report, seconds_by}
+use Rattle.sms_world_refinement.specs.centre.RefinesMessages.{IsInTable, IsRowOf, IsStateOf, PartSeen, RefinesTable, is_handset, messages_by, parts_by, wish_of}
+use Rattle.sms_world_refinement.specs.centre.RefinesReports.{ReportSeen, RefinesReports, report_seen, reports_by}
 
 -- ---- the state
 
@@ -78,16 +78,16 @@ report_as x y reference moment tpdu (id, source, handset) = λ j. record { hands
 as_back : (x y : MessageRow) → IsAs x y → IsAs y x
 as_back x y (id, source, handset) = (sym id, sym source, sym handset)
 
-holders_as : (ms ns : ℕ → Option MessageRow) (ps : ℕ → ℕ → Option PartSeen) (rs : ℕ → Option ReportSeen) (down : List Giving) → FindsAs ms ns → FindsAs ns ms → SeesHolders ms ps rs down → SeesHolders ns ps rs down
+holders_as : (ms ns : ℕ → Option MessageRow) (ps : ℕ → ℕ → Option PartSeen) (rs : ℕ → Option ReportSeen) (down : List Allocation) → FindsAs ms ns → FindsAs ns ms → RefinesHolders ms ps rs down → RefinesHolders ns ps rs down
 holders_as ms ns ps rs down forth back h = record {
   part = λ id number m p e f.
       let y = back id m e in
       let g = h.part id number y.0 p y.1.0 f in
-      (g.0, subst (λ (x : Giving). Among x down) (part_as y.0 m number g.0 p y.1.1) g.1);
+      (g.0, subst (λ (x : Allocation). Among x down) (part_as y.0 m number g.0 p y.1.1) g.1);
   report = λ id reference tpdu m r e f k.
       let y = back id m e in
       let g = h.report id reference tpdu y.0 r y.1.0 f k in
-      (g.0, subst (λ (x : Giving). Among x down) (report_as y.0 m reference g.0 tpdu y.1.1) g.1);
+      (g.0, subst (λ (x : Allocation). Among x down) (report_as y.0 m reference g.0 tpdu y.1.1) g.1);
   of_part = λ g id number i e.
       let x = h.of_part g id number i e in
       let y = forth id x.0 x.2.0 in
@@ -127,13 +127,13 @@ module _ (f : FinalState) (n : ℕ) (m : MessageRow) (s : Store) (w : World) (th
       (λ (ne : m.id ≡ id → ⊥). (x, (sym (row_at_put_other message_key id ended_row (messages_in s) ne) ∙ at, (refl, refl, refl))))
       (cases_eq m.id id)
 
-  module _ (ends : (u : Submission) (st : State) → Stands w.table m.id u st → change (record { submission = u; state = st }) ≡ Final f) (ps : ℕ → ℕ → Option PartSeen) where
+  module _ (ends : (u : Submission) (st : State) → IsRecorded w.table m.id u st → change (record { submission = u; state = st }) ≡ Final f) (ps : ℕ → ℕ → Option PartSeen) where
     own_in_table : IsInTable m (ps m.id) w.table → IsInTable ended_row (ps m.id) (changed m.id change w.table)
     own_in_table (u, st, (stands, row, state, rows)) = (
       u,
       Final f,
       (
-        subst (λ (z : State). Stands (changed m.id change w.table) m.id u z) (ends u st stands) (changed_here w.table m.id change (record { submission = u; state = st }) stands),
+        subst (λ (z : State). IsRecorded (changed m.id change w.table) m.id u z) (ends u st stands) (changed_here w.table m.id change (record { submission = u; state = st }) stands),
         record {
           id = row.id;
           source = row.source;
@@ -152,7 +152,7 @@ module _ (f : FinalState) (n : ℕ) (m : MessageRow) (s : Store) (w : World) (th
     other_in_table : (x : MessageRow) (id : ℕ) → ¬ (m.id ≡ x.id) → IsInTable x (ps id) w.table → IsInTable x (ps id) (changed m.id change w.table)
     other_in_table x id ne (u, st, (stands, row, state, rows)) = (u, st, (changed_there w.table m.id change x.id (λ e. ne (sym e)) ∙ stands, row, state, rows))
 
-    ended_table : SeesTable (messages_by (messages_in s)) ps w.table → SeesTable (messages_by ended_rows_in) ps (changed m.id change w.table)
+    ended_table : RefinesTable (messages_by (messages_in s)) ps w.table → RefinesTable (messages_by ended_rows_in) ps (changed m.id change w.table)
     ended_table t = record {
       there = λ id x at. ⊎_elim
           (λ (e : m.id ≡ id).
@@ -168,24 +168,24 @@ module _ (f : FinalState) (n : ℕ) (m : MessageRow) (s : Store) (w : World) (th
           let o = t.there m.id m there in
           ⊎_elim
           (λ (e : (id ≡ m.id) × (u ≡ o.0) × (st ≡ change (record { submission = o.0; state = o.1 }))). (ended_row, own_row id (sym e.0)))
-          (λ (e : ¬ (id ≡ m.id) × Stands w.table id u st).
+          (λ (e : ¬ (id ≡ m.id) × IsRecorded w.table id u st).
           let x = t.only id u st e.1 in
           (x.0, row_at_put_other message_key id ended_row (messages_in s) (λ q. e.0 (sym q)) ∙ x.1))
           (changed_back w.table m.id change o.0 u o.1 st id o.2.0 k);
     }
 
 -- the row ends as the world has it end
-pub ended_sees : (f : FinalState) (m : MessageRow) (s : Store) (w : World) → message_at m.id (messages_in s) ≡ Some m → (change : Message → State)
-    → ((u : Submission) (st : State) → Stands w.table m.id u st → change (record { submission = u; state = st }) ≡ Final f) → StoreSees s w
-    → StoreSees (with_message (ended f s.moment m) s) (record w { table = changed m.id change w.table })
-ended_sees f m s w there change ends sees =
+pub ended_refines : (f : FinalState) (m : MessageRow) (s : Store) (w : World) → message_at m.id (messages_in s) ≡ Some m → (change : Message → State)
+    → ((u : Submission) (st : State) → IsRecorded w.table m.id u st → change (record { submission = u; state = st }) ≡ Final f) → StoreRefines s w
+    → StoreRefines (with_message (ended f s.moment m) s) (record w { table = changed m.id change w.table })
+ended_refines f m s w there change ends refines =
     let ps : ℕ → ℕ → Option PartSeen = parts_by (parts_in s) in
     record {
-      table = ended_table f s.moment m s w there change ends ps sees.table;
-      reports = sees.reports;
+      table = ended_table f s.moment m s w there change ends ps refines.table;
+      reports = refines.reports;
       holders = holders_as (messages_by (messages_in s)) (messages_by (put message_key (ended f s.moment m) (messages_in s))) ps (reports_by (reports_in s)) w.down
-          (ended_forth f s.moment m s w there change) (ended_back f s.moment m s w there change) sees.holders;
-      seconds = sees.seconds;
+          (ended_forth f s.moment m s w there change) (ended_back f s.moment m s w there change) refines.holders;
+      seconds = refines.seconds;
     }
 
 -- ---- a store comes there
@@ -198,7 +198,7 @@ AllTell (x ∷ xs) = (((u : Submission) × (f : FinalState) × (x ≡ Receipt u 
 -- the world comes by such steps, which send nothing, to where the store sees it
 abbrev pub Comes : (List Step → Type 0) → ℕ → Store → World → Type 0
 Comes are moment s w =
-    (steps : List Step) × (are steps × Run w (items moment false steps) × StoreSees s (end w (items moment false steps)) × ((end w (items moment false steps)).bag ≡ w.bag))
+    (steps : List Step) × (are steps × Run w (items moment false steps) × StoreRefines s (end w (items moment false steps)) × ((end w (items moment false steps)).bag ≡ w.bag))
 
 -- ---- what is told
 
@@ -226,7 +226,7 @@ codes_agree Deleted = refl
 codes_agree Undeliverable = refl
 
 -- Of a message that has ended and has no report yet one is made.
-module _ (f : FinalState) (n : ℕ) (m : MessageRow) (s : Store) (w : World) (can : CanReport f n m s) (sees : StoreSees s w) where
+module _ (f : FinalState) (n : ℕ) (m : MessageRow) (s : Store) (w : World) (can : CanReport f n m s) (refines : StoreRefines s w) where
   abbrev rs : List ReportRow
   rs = reports_in s
 
@@ -240,7 +240,7 @@ module _ (f : FinalState) (n : ℕ) (m : MessageRow) (s : Store) (w : World) (ca
       can.none q.0 at.0 (at.1 ∙ sym own)
 
   no_receipt : (x : ReceiptOf) → Among x w.receipts → x.id ≡ m.id → ⊥
-  no_receipt x i own = let r = sees.reports.only x i in is_other x.id r.0 r.1 (sym own)
+  no_receipt x i own = let r = refines.reports.only x i in is_other x.id r.0 r.1 (sym own)
 
   module _ (kind : ReportKind) (closed : Bool) where
     abbrev made : ReportRow
@@ -263,20 +263,20 @@ module _ (f : FinalState) (n : ℕ) (m : MessageRow) (s : Store) (w : World) (ca
 
     -- with what is open now
     reports_more : (now : List ℕ) → ((id : ℕ) → Among id w.reports → Among id now) → (is_status kind ≡ true → closed ≡ false → Among m.id now)
-        → ((id : ℕ) → Among id now → Among id w.reports ⊎ ((m.id ≡ id) × (is_status kind ≡ true) × (closed ≡ false))) → SeesReports (reports_by more) (told_of ∷ w.receipts) now
+        → ((id : ℕ) → Among id now → Among id w.reports ⊎ ((m.id ≡ id) × (is_status kind ≡ true) × (closed ≡ false))) → RefinesReports (reports_by more) (told_of ∷ w.receipts) now
     reports_more now old new back = record {
       told = λ id r e. ⊎_elim
           (λ (own : m.id ≡ id).
           let is : (state : FinalState) × Among (record { id = id; state = state }) (told_of ∷ w.receipts) = (f, inl (λ j. record { id = sym own j; state = f })) in is)
           (λ (ne : m.id ≡ id → ⊥).
-          let x = sees.reports.told id r (sym (other_report id ne) ∙ e) in
+          let x = refines.reports.told id r (sym (other_report id ne) ∙ e) in
           let is : (state : FinalState) × Among (record { id = id; state = state }) (told_of ∷ w.receipts) = (x.0, inr x.1) in is)
           (cases_eq m.id id);
       only = λ x i. ⊎_elim
           (λ (e : x ≡ told_of).
           let is : (r : ReportSeen) × (reports_by more x.id ≡ Some r) = (record { kind = kind; is_done = closed }, own_report x.id (ap (λ (y : ReceiptOf). y.id) (sym e))) in is)
           (λ (j : Among x w.receipts).
-          let y = sees.reports.only x j in
+          let y = refines.reports.only x j in
           let is : (r : ReportSeen) × (reports_by more x.id ≡ Some r) = (y.0, kept_report x.id y.0 y.1) in is)
           i;
       still = λ id r e status undone. ⊎_elim
@@ -284,10 +284,10 @@ module _ (f : FinalState) (n : ℕ) (m : MessageRow) (s : Store) (w : World) (ca
           let both : Some (let z : ReportSeen = record { kind = kind; is_done = closed } in z) ≡ Some r = sym (own_report id own) ∙ e in
           let same : (let z : ReportSeen = record { kind = kind; is_done = closed } in z) ≡ r = cc in
           subst (λ (k : ℕ). Among k now) own (new (ap (λ (y : ReportSeen). is_status y.kind) same ∙ status) (ap (λ (y : ReportSeen). y.is_done) same ∙ undone)))
-          (λ (ne : m.id ≡ id → ⊥). old id (sees.reports.still id r (sym (other_report id ne) ∙ e) status undone))
+          (λ (ne : m.id ≡ id → ⊥). old id (refines.reports.still id r (sym (other_report id ne) ∙ e) status undone))
           (cases_eq m.id id);
       opened = λ id i. ⊎_elim
-          (λ (j : Among id w.reports). let x = sees.reports.opened id j in
+          (λ (j : Among id w.reports). let x = refines.reports.opened id j in
           let is : (r : ReportSeen) × ((reports_by more id ≡ Some r) × (is_status r.kind ≡ true) × (r.is_done ≡ false)) = (x.0, (kept_report id x.0 x.1.0, x.1.1, x.1.2)) in is)
           (λ (e : (m.id ≡ id) × (is_status kind ≡ true) × (closed ≡ false)).
           let is : (r : ReportSeen) × ((reports_by more id ≡ Some r) × (is_status r.kind ≡ true) × (r.is_done ≡ false)) = (record { kind = kind; is_done = closed }, (own_report id e.0, e.1, e.2)) in is)
@@ -295,32 +295,32 @@ module _ (f : FinalState) (n : ℕ) (m : MessageRow) (s : Store) (w : World) (ca
     }
 
     -- a receipt, or nothing, takes no reference
-    quiet_sees : is_status kind ≡ false → StoreSees (make_report m.id kind closed s) (record w { receipts = told_of ∷ w.receipts })
-    quiet_sees quiet = record {
-      table = sees.table;
+    quiet_refines : is_status kind ≡ false → StoreRefines (make_report m.id kind closed s) (record w { receipts = told_of ∷ w.receipts })
+    quiet_refines quiet = record {
+      table = refines.table;
       reports = reports_more w.reports (λ id i. i) (λ e x. absurd (apart e)) (λ id i. inl i);
       holders = record {
-        part = sees.holders.part;
+        part = refines.holders.part;
         report = λ id reference tpdu x r e k q. ⊎_elim
             (λ (own : m.id ≡ id).
             let both : Some (let z : ReportSeen = record { kind = kind; is_done = closed } in z) ≡ Some r = sym (own_report id own) ∙ k in
             let same : (let z : ReportSeen = record { kind = kind; is_done = closed } in z) ≡ r = cc in
             absurd (apart (ap (λ (y : ReportSeen). is_status y.kind) same ∙ ap is_status q)))
-            (λ (ne : m.id ≡ id → ⊥). sees.holders.report id reference tpdu x r e (sym (other_report id ne) ∙ k) q)
+            (λ (ne : m.id ≡ id → ⊥). refines.holders.report id reference tpdu x r e (sym (other_report id ne) ∙ k) q)
             (cases_eq m.id id);
-        of_part = sees.holders.of_part;
+        of_part = refines.holders.of_part;
         of_report = λ g id i e.
-            let x = sees.holders.of_report g id i e in
+            let x = refines.holders.of_report g id i e in
             (x.0, x.1, x.2, x.3, (x.4.0, kept_report id x.1 x.4.1, x.4.2, x.4.3));
       };
-      seconds = sees.seconds;
+      seconds = refines.seconds;
     }
       where
         apart : is_status kind ≡ true → ⊥
         apart e = let bad : true ≡ false = sym e ∙ quiet in absurd cc
 
 -- A status report of it takes the reference that comes next.
-module _ (f : FinalState) (n : ℕ) (m : MessageRow) (s : Store) (w : World) (can : CanReport f n m s) (sees : StoreSees s w) (reference : ℕ)
+module _ (f : FinalState) (n : ℕ) (m : MessageRow) (s : Store) (w : World) (can : CanReport f n m s) (refines : StoreRefines s w) (reference : ℕ)
     (next : reference_for (handset_of m.source.digits (handsets_in s)) s ≡ Some reference) where
   abbrev report_octets : List ℕ
   report_octets = status_octets (final_of f s.moment m)
@@ -331,7 +331,7 @@ module _ (f : FinalState) (n : ℕ) (m : MessageRow) (s : Store) (w : World) (ca
   abbrev report_seen_now : ReportSeen
   report_seen_now = record { kind = StatusKind reference (status_octets (final_of f s.moment m)); is_done = false }
 
-  abbrev report_given : Giving
+  abbrev report_given : Allocation
   report_given = given_report (ended f n m) reference (status_octets (final_of f s.moment m)) s.moment
 
   small_reference : reference < 256
@@ -341,12 +341,12 @@ module _ (f : FinalState) (n : ℕ) (m : MessageRow) (s : Store) (w : World) (ca
   parts_apart : (x y : Holder) (id k number : ℕ) → x ≡ Report id → y ≡ Part k number → x ≡ y → ⊥
   parts_apart x y id k number a b e = let bad : Report id ≡ Part k number = sym a ∙ e ∙ b in absurd cc
 
-  status_holders : SeesHolders (messages_by (messages_in s)) (parts_by (parts_in s)) (reports_by (more f n m s w can sees report_kind false)) (report_given ∷ w.down)
+  status_holders : RefinesHolders (messages_by (messages_in s)) (parts_by (parts_in s)) (reports_by (more f n m s w can refines report_kind false)) (report_given ∷ w.down)
   status_holders = record {
-    part = λ id number x p e q. let y = sees.holders.part id number x p e q in (y.0, inr y.1);
+    part = λ id number x p e q. let y = refines.holders.part id number x p e q in (y.0, inr y.1);
     report = λ id r tpdu x seen e k q. ⊎_elim
         (λ (own : m.id ≡ id).
-        let both : Some report_seen_now ≡ Some seen = sym (own_report f n m s w can sees report_kind false id own) ∙ k in
+        let both : Some report_seen_now ≡ Some seen = sym (own_report f n m s w can refines report_kind false id own) ∙ k in
         let same : report_seen_now ≡ seen = cc in
         let kinds : report_kind ≡ StatusKind r tpdu = ap (λ (y : ReportSeen). y.kind) same ∙ q in
         let rows : Some (ended f n m) ≡ Some x = sym can.there ∙ ap (λ (j : ℕ). message_at j (messages_in s)) own ∙ e in
@@ -355,64 +355,64 @@ module _ (f : FinalState) (n : ℕ) (m : MessageRow) (s : Store) (w : World) (ca
         let b : report_octets ≡ tpdu = cc in
         let is : (moment : ℕ) × Among (given_report x r tpdu moment) (report_given ∷ w.down) = (s.moment, inl (λ j. given_report (sym row j) (sym a j) (sym b j) s.moment)) in is)
         (λ (ne : m.id ≡ id → ⊥).
-        let y = sees.holders.report id r tpdu x seen e (sym (other_report f n m s w can sees report_kind false id ne) ∙ k) q in
+        let y = refines.holders.report id r tpdu x seen e (sym (other_report f n m s w can refines report_kind false id ne) ∙ k) q in
         let is : (moment : ℕ) × Among (given_report x r tpdu moment) (report_given ∷ w.down) = (y.0, inr y.1) in is)
         (cases_eq m.id id);
     of_part = λ g id number i e. ⊎_elim
-        (λ (q : g ≡ report_given). absurd (parts_apart report_given.holder g.holder m.id id number refl e (ap (λ (x : Giving). x.holder) (sym q))))
-        (λ (j : Among g w.down). sees.holders.of_part g id number j e)
+        (λ (q : g ≡ report_given). absurd (parts_apart report_given.holder g.holder m.id id number refl e (ap (λ (x : Allocation). x.holder) (sym q))))
+        (λ (j : Among g w.down). refines.holders.of_part g id number j e)
         i;
     of_report = λ g id i e. ⊎_elim
         (λ (q : g ≡ report_given).
-        let holders : Report m.id ≡ Report id = ap (λ (x : Giving). x.holder) (sym q) ∙ e in
+        let holders : Report m.id ≡ Report id = ap (λ (x : Allocation). x.holder) (sym q) ∙ e in
         let same : m.id ≡ id = cc in
-        let moment : report_given.moment ≡ g.moment = ap (λ (x : Giving). x.moment) (sym q) in
+        let moment : report_given.moment ≡ g.moment = ap (λ (x : Allocation). x.moment) (sym q) in
         let is : (x : MessageRow) × (r : ReportSeen) × (k : ℕ) × (tpdu : List ℕ)
-        × ((message_at id (messages_in s) ≡ Some x) × (reports_by (more f n m s w can sees report_kind false) id ≡ Some r) × (r.kind ≡ StatusKind k tpdu) × (g ≡ given_report x k tpdu g.moment)) = (
+        × ((message_at id (messages_in s) ≡ Some x) × (reports_by (more f n m s w can refines report_kind false) id ≡ Some r) × (r.kind ≡ StatusKind k tpdu) × (g ≡ given_report x k tpdu g.moment)) = (
           ended f n m,
           report_seen_now,
           reference,
           report_octets,
-          (ap (λ (j : ℕ). message_at j (messages_in s)) (sym same) ∙ can.there, own_report f n m s w can sees report_kind false id same, refl, q ∙ ap (λ (t : ℕ). given_report (ended f n m) reference report_octets t) moment),
+          (ap (λ (j : ℕ). message_at j (messages_in s)) (sym same) ∙ can.there, own_report f n m s w can refines report_kind false id same, refl, q ∙ ap (λ (t : ℕ). given_report (ended f n m) reference report_octets t) moment),
         ) in is)
         (λ (j : Among g w.down).
-        let x = sees.holders.of_report g id j e in
+        let x = refines.holders.of_report g id j e in
         let is : (y : MessageRow) × (r : ReportSeen) × (k : ℕ) × (tpdu : List ℕ)
-        × ((message_at id (messages_in s) ≡ Some y) × (reports_by (more f n m s w can sees report_kind false) id ≡ Some r) × (r.kind ≡ StatusKind k tpdu) × (g ≡ given_report y k tpdu g.moment)) =
-        (x.0, x.1, x.2, x.3, (x.4.0, kept_report f n m s w can sees report_kind false id x.1 x.4.1, x.4.2, x.4.3)) in is)
+        × ((message_at id (messages_in s) ≡ Some y) × (reports_by (more f n m s w can refines report_kind false) id ≡ Some r) × (r.kind ≡ StatusKind k tpdu) × (g ≡ given_report y k tpdu g.moment)) =
+        (x.0, x.1, x.2, x.3, (x.4.0, kept_report f n m s w can refines report_kind false id x.1 x.4.1, x.4.2, x.4.3)) in is)
         i;
   }
 
-  status_sees : StoreSees (status_given f m (handset_of m.source.digits (handsets_in s)) (Some reference) s)
+  status_refines : StoreRefines (status_given f m (handset_of m.source.digits (handsets_in s)) (Some reference) s)
       (record w { receipts = record { id = m.id; state = f } ∷ w.receipts; reports = m.id ∷ w.reports; down = report_given ∷ w.down })
-  status_sees = record {
-    table = sees.table;
-    reports = reports_more f n m s w can sees report_kind false (m.id ∷ w.reports) (λ id i. inr i) (λ e x. inl refl) (λ id i. ⊎_elim
+  status_refines = record {
+    table = refines.table;
+    reports = reports_more f n m s w can refines report_kind false (m.id ∷ w.reports) (λ id i. inr i) (λ e x. inl refl) (λ id i. ⊎_elim
         (λ (e : id ≡ m.id). inr (sym e, refl, refl))
         (λ (j : Among id w.reports). inl j)
         i);
     holders = status_holders;
     seconds = gave (seconds_by (handsets_in s) (references_in s))
         (seconds_by (handsets_in (status_given f m (handset_of m.source.digits (handsets_in s)) (Some reference) s)) (references_in (status_given f m (handset_of m.source.digits (handsets_in s)) (Some reference) s)))
-        w.down s.moment report_given sees.seconds (kept_given s can.stands.held report_given refl small_reference) refl;
+        w.down s.moment report_given refines.seconds (kept_given s can.stands.held report_given refl small_reference) refl;
   }
 
 -- ---- what is told is a step
 
-module _ (f : FinalState) (n : ℕ) (m : MessageRow) (s : Store) (w : World) (can : CanReport f n m s) (sees : StoreSees s w) (sound : SoundStore s) (wish : is_wished m.wish f ≡ true) where
+module _ (f : FinalState) (n : ℕ) (m : MessageRow) (s : Store) (w : World) (can : CanReport f n m s) (refines : StoreRefines s w) (sound : SoundStore s) (wish : is_wished m.wish f ≡ true) where
   abbrev submission_of : Submission
-  submission_of = (sees.table.there m.id (ended f n m) can.there).0
+  submission_of = (refines.table.there m.id (ended f n m) can.there).0
 
   row_of : IsRowOf (ended f n m) submission_of
-  row_of = (sees.table.there m.id (ended f n m) can.there).2.1
+  row_of = (refines.table.there m.id (ended f n m) can.there).2.1
 
   owed : IsOwed w submission_of f
   owed =
-      let x = sees.table.there m.id (ended f n m) can.there in
-      let stands : Stands w.table m.id submission_of (Final f) = subst (λ (z : State). Stands w.table m.id submission_of z) x.2.2 x.2.0 in (
-        subst (λ (k : ℕ). Stands w.table k submission_of (Final f)) (sym row_of.id) stands,
+      let x = refines.table.there m.id (ended f n m) can.there in
+      let stands : IsRecorded w.table m.id submission_of (Final f) = subst (λ (z : State). IsRecorded w.table m.id submission_of z) x.2.2 x.2.0 in (
+        subst (λ (k : ℕ). IsRecorded w.table k submission_of (Final f)) (sym row_of.id) stands,
         subst (λ (z : Wish). IsWished z f) (sym row_of.wish) (wished m.wish f wish),
-        λ g i. no_receipt f n m s w can sees (record { id = submission_of.id; state = g }) i row_of.id,
+        λ g i. no_receipt f n m s w can refines (record { id = submission_of.id; state = g }) i row_of.id,
       )
 
   receipt_comes : (kind : ReportKind) (closed : Bool) → is_status kind ≡ false → (submission_of.by_report ≡ true → (r : ℕ) → CanGive w submission_of.source.digits r s.moment → ⊥)
@@ -422,7 +422,7 @@ module _ (f : FinalState) (n : ℕ) (m : MessageRow) (s : Store) (w : World) (ca
     (
       (inl (submission_of, f, refl), tt),
       ((owed, none), tt),
-      subst (λ (k : ℕ). StoreSees (make_report m.id kind closed s) (record w { receipts = record { id = k; state = f } ∷ w.receipts })) (sym row_of.id) (quiet_sees f n m s w can sees kind closed quiet),
+      subst (λ (k : ℕ). StoreRefines (make_report m.id kind closed s) (record w { receipts = record { id = k; state = f } ∷ w.receipts })) (sym row_of.id) (quiet_refines f n m s w can refines kind closed quiet),
       refl,
     ),
   )
@@ -441,7 +441,7 @@ module _ (f : FinalState) (n : ℕ) (m : MessageRow) (s : Store) (w : World) (ca
         status = codes_agree f;
         recipient = reads.recipient ∙ sym row_of.handset;
       } in
-      let may : CanGive w m.source.digits reference s.moment = can_give s w can.stands.held sees.holders (states_of s w sees) sees.reports m.source.digits reference sees.seconds next in
+      let may : CanGive w m.source.digits reference s.moment = can_give s w can.stands.held refines.holders (states_of s w refines) refines.reports m.source.digits reference refines.seconds next in
       let t : Ticket = record { reference = reference; tpdu = compared octets } in (
         Status submission_of f t ∷ [],
         (
@@ -455,13 +455,13 @@ module _ (f : FinalState) (n : ℕ) (m : MessageRow) (s : Store) (w : World) (ca
             ),
             tt,
           ),
-          subst (λ (z : World). StoreSees (status_given f m (handset_of m.source.digits (handsets_in s)) (Some reference) s) z)
+          subst (λ (z : World). StoreRefines (status_given f m (handset_of m.source.digits (handsets_in s)) (Some reference) s) z)
               (λ j. record w {
                 receipts = record { id = sym row_of.id j; state = f } ∷ w.receipts;
                 reports = sym row_of.id j ∷ w.reports;
                 down = record { handset = (sym row_of.source j).digits; reference = reference; holder = Report (sym row_of.id j); moment = s.moment; tpdu = compared octets } ∷ w.down;
               })
-              (status_sees f n m s w can sees reference next),
+              (status_refines f n m s w can refines reference next),
           refl,
         ),
       )
@@ -469,7 +469,7 @@ module _ (f : FinalState) (n : ℕ) (m : MessageRow) (s : Store) (w : World) (ca
   handset_comes : (mr : ℕ) (o : Option ℕ) → m.originator ≡ Handset mr → reference_for (handset_of m.source.digits (handsets_in s)) s ≡ o
       → Comes AllTell s.moment (status_given f m (handset_of m.source.digits (handsets_in s)) o s) w
   handset_comes mr None from next =
-      receipt_comes Unsent true refl (λ e r may. cannot_give s w sound sees m.source.digits next r (subst (λ (a : Address). CanGive w a.digits r s.moment) row_of.source may))
+      receipt_comes Unsent true refl (λ e r may. cannot_give s w sound refines m.source.digits next r (subst (λ (a : Address). CanGive w a.digits r s.moment) row_of.source may))
   handset_comes mr (Some reference) from next = status_comes mr reference from next
 
   report_comes : (o : Originator) → m.originator ≡ o → Comes AllTell s.moment (report_to o f m s) w
@@ -495,12 +495,12 @@ rows_map D E s r f = record {
 }
 
 -- a message that is pending is so in the world
-pub pending_in_world : (m : MessageRow) (s : Store) (w : World) → StoreSees s w → message_at m.id (messages_in s) ≡ Some m → is_pending m ≡ true
-    → (u : Submission) × (done : List ℕ) × (Stands w.table m.id u (Pending done) × IsRowOf m u)
-pending_in_world m s w sees there pending =
-    let x = sees.table.there m.id m there in
+pub pending_in_world : (m : MessageRow) (s : Store) (w : World) → StoreRefines s w → message_at m.id (messages_in s) ≡ Some m → is_pending m ≡ true
+    → (u : Submission) × (done : List ℕ) × (IsRecorded w.table m.id u (Pending done) × IsRowOf m u)
+pending_in_world m s w refines there pending =
+    let x = refines.table.there m.id m there in
     let y : IsStateOf None (parts_by (parts_in s) m.id) x.1 = subst (λ (z : Option FinalState). IsStateOf z (parts_by (parts_in s) m.id) x.1) (none_of m.state pending) x.2.2 in
-    (x.0, y.0, (subst (λ (z : State). Stands w.table m.id x.0 z) y.1.0 x.2.0, x.2.1))
+    (x.0, y.0, (subst (λ (z : State). IsRecorded w.table m.id x.0 z) y.1.0 x.2.0, x.2.1))
 
 -- with a part undone
 pub can_end : (f : FinalState) (m : MessageRow) (s : Store) → SoundStore s → message_at m.id (messages_in s) ≡ Some m → is_pending m ≡ true → is_delivered (Some f) ≡ false → CanEnd f m s
@@ -543,10 +543,10 @@ ended_sound f m s c =
     }
 
 -- the world in which the message has ended comes to what is told of it
-pub end_comes : (f : FinalState) (m : MessageRow) (s : Store) (w : World) → CanEnd f m s → StoreSees (with_message (ended f s.moment m) s) w → Comes AllTell s.moment (end_message f m s) w
-end_comes f m s w c sees =
+pub end_comes : (f : FinalState) (m : MessageRow) (s : Store) (w : World) → CanEnd f m s → StoreRefines (with_message (ended f s.moment m) s) w → Comes AllTell s.moment (end_message f m s) w
+end_comes f m s w c refines =
     let e : Store = with_message (ended f s.moment m) s in
     let can = can_report f m s c.stands c.there c.pending in
     cond_both (is_wished m.wish f) (report_to m.originator f m e) e (λ (x : Store). Comes AllTell s.moment x w)
-    (λ t. report_comes f s.moment m e w can sees (ended_sound f m s c) t m.originator refl)
-    (λ t. ([], (tt, tt, sees, refl)))
+    (λ t. report_comes f s.moment m e w can refines (ended_sound f m s c) t m.originator refl)
+    (λ t. ([], (tt, tt, refines, refl)))

@@ -27,24 +27,24 @@ use Rattle.sms_centre_spec.proofs.SoundStores.{SoundStore}
 use Rattle.sms_centre_spec.proofs.StandsEntered.{Entered, enter_stands, part_stands}
 use Rattle.sms_centre_spec.proofs.TpdusRead.{part_reads}
 use Rattle.sms_centre_spec.specs.Draft.{Store, handsets_in, messages_in, parts_in, references_in, reports_in, waiting_in, with_given}
-use Rattle.sms_centre_spec.specs.Standing.{IsBody, IsSubmission}
+use Rattle.sms_centre_spec.specs.Consistent.{IsBody, IsSubmission}
 use Rattle.sms_centre_spec.specs.Submitting.{accept_under, data_coding_of, enter, give_parts, message_of, part_given, put_part_of, reference_for}
 use Rattle.sms_world_model.proofs.Alike.{deliver_alike}
-use Rattle.sms_world_model.proofs.Givings.{gave}
+use Rattle.sms_world_model.proofs.Allocations.{gave}
 use Rattle.sms_world_model.proofs.Tables.{entered_back, entered_here}
-use Rattle.sms_world_model.specs.KeptGivings.{SeesGivings}
-use Rattle.sms_world_model.specs.References.{CanGive, CanGiveParts, IsForPart, Ticket, given_parts, part_giving}
+use Rattle.sms_world_model.specs.KeptAllocations.{RefinesAllocations}
+use Rattle.sms_world_model.specs.References.{CanGive, CanGiveParts, IsForPart, Ticket, given_parts, part_allocation}
 use Rattle.sms_world_model.specs.Submission.{HasPart, Submission}
 use Rattle.sms_world_model.specs.WhoseTpdu.{IsDeliverOf}
-use Rattle.sms_world_model.specs.World.{Giving, Message, Pending, Stands, State, World, find, give}
+use Rattle.sms_world_model.specs.World.{Allocation, Message, Pending, IsRecorded, State, World, find, give}
 use Rattle.sms_world_model.specs.WorldStep.{CanSubmit, IsNew, submitted}
 use Rattle.sms_world_refinement.proofs.centre.ByOctets.{by_octet_is, by_octet_same, by_octet_some}
-use Rattle.sms_world_refinement.proofs.centre.Givings.{SeesStates, can_give, kept_given, seen_part, seen_report}
+use Rattle.sms_world_refinement.proofs.centre.Allocations.{RefinesStates, can_give, kept_given, seen_part, seen_report}
 use Rattle.std.proofs.lemmas.Option.{slice_get_within}
-use Rattle.sms_world_refinement.specs.centre.CentreSight.{StoreSees}
-use Rattle.sms_world_refinement.specs.centre.SeesGiven.{SeesHolders, given_part, seconds_by}
-use Rattle.sms_world_refinement.specs.centre.SeesMessages.{IsInTable, IsStateOf, PartSeen, is_handset, messages_by, part_seen, parts_by, wish_of}
-use Rattle.sms_world_refinement.specs.centre.SeesReports.{ReportSeen, SeesReports, reports_by}
+use Rattle.sms_world_refinement.specs.centre.CentreRefinement.{StoreRefines}
+use Rattle.sms_world_refinement.specs.centre.RefinesGiven.{RefinesHolders, given_part, seconds_by}
+use Rattle.sms_world_refinement.specs.centre.RefinesMessages.{IsInTable, IsStateOf, PartSeen, is_handset, messages_by, part_seen, parts_by, wish_of}
+use Rattle.sms_world_refinement.specs.centre.RefinesReports.{ReportSeen, RefinesReports, reports_by}
 
 -- the user data of each
 abbrev pub data_of : List SinglePart → List UserData
@@ -71,11 +71,11 @@ entered_as id u header bodies = record {
 pub record Entering (id submitted : ℕ) (split : Option ℕ) (u : SubmissionRow) (whole : Submission) (k : ℕ) (s : Store) (w : World) : Type 0 where
   pub entered : Entered (message_of id submitted split u) s
   pub most : (i : ℕ) (x : MessageRow) → message_at i (messages_in s) ≡ Some x → ¬ (i ≡ id) → IsInTable x (parts_by (parts_in s) i) w.table
-  pub only : (i : ℕ) (v : Submission) (st : State) → Stands w.table i v st → (x : MessageRow) × (message_at i (messages_in s) ≡ Some x)
-  pub own : Stands w.table id whole (Pending [])
-  pub holders : SeesHolders (messages_by (messages_in s)) (parts_by (parts_in s)) (reports_by (reports_in s)) w.down
-  pub reports : SeesReports (reports_by (reports_in s)) w.receipts w.reports
-  pub seconds : SeesGivings (seconds_by (handsets_in s) (references_in s)) w.down s.moment
+  pub only : (i : ℕ) (v : Submission) (st : State) → IsRecorded w.table i v st → (x : MessageRow) × (message_at i (messages_in s) ≡ Some x)
+  pub own : IsRecorded w.table id whole (Pending [])
+  pub holders : RefinesHolders (messages_by (messages_in s)) (parts_by (parts_in s)) (reports_by (reports_in s)) w.down
+  pub reports : RefinesReports (reports_by (reports_in s)) w.receipts w.reports
+  pub seconds : RefinesAllocations (seconds_by (handsets_in s) (references_in s)) w.down s.moment
   pub before : (j : ℕ) (p : PartSeen) → parts_by (parts_in s) id j ≡ Some p → (0 < j) × (j < k) × (p.is_done ≡ false)
   pub all : (j : ℕ) → 0 < j → j < k → (p : PartSeen) × (parts_by (parts_in s) id j ≡ Some p)
 
@@ -96,12 +96,12 @@ module _ (id submitted : ℕ) (split : Option ℕ) (u : SubmissionRow) (header :
   Now k s w = Entering id submitted split u (entered_as id u header bodies) k s w
 
   -- the rows say of it, as of every message, whether it is pending
-  states_now : (k : ℕ) (s : Store) (w : World) → Now k s w → SeesStates (messages_by (messages_in s)) (parts_by (parts_in s)) w.table
+  states_now : (k : ℕ) (s : Store) (w : World) → Now k s w → RefinesStates (messages_by (messages_in s)) (parts_by (parts_in s)) w.table
   states_now k s w e i x at = ⊎_elim
       (λ (same : i ≡ id).
       let both : Some row ≡ Some x = sym e.entered.1 ∙ ap (λ (j : ℕ). message_at j (messages_in s)) (sym same) ∙ at in
       let is : row ≡ x = cc in
-      subst (λ (y : MessageRow). (v : Submission) × (st : State) × (Stands w.table y.id v st × IsStateOf y.state (parts_by (parts_in s) i) st)) is (
+      subst (λ (y : MessageRow). (v : Submission) × (st : State) × (IsRecorded w.table y.id v st × IsStateOf y.state (parts_by (parts_in s) i) st)) is (
         whole,
         Pending [],
         (
@@ -136,7 +136,7 @@ module _ (id submitted : ℕ) (split : Option ℕ) (u : SubmissionRow) (header :
     abbrev seen_now : PartSeen
     seen_now = record { reference = r; tpdu = compared (deliver_octets s.moment u b); is_done = false }
 
-    abbrev given_now : Giving
+    abbrev given_now : Allocation
     given_now = given_part (message_of id submitted split u) k (record { reference = r; tpdu = compared (deliver_octets s.moment u b); is_done = false }) s.moment
 
     abbrev store_now : Store
@@ -167,7 +167,7 @@ module _ (id submitted : ℕ) (split : Option ℕ) (u : SubmissionRow) (header :
         let low : j < k = x.1 in
         let l : ⊥ = omega (arith, low, is) in l
 
-    holders_now : SeesHolders (messages_by (messages_in s)) (parts_by (parts_in store_now)) (reports_by (reports_in s)) (given_now ∷ w.down)
+    holders_now : RefinesHolders (messages_by (messages_in s)) (parts_by (parts_in store_now)) (reports_by (reports_in s)) (given_now ∷ w.down)
     holders_now = record {
       part = λ i j x p at there. ⊎_elim
           (λ (q : (i ≡ id) × (j ≡ k)).
@@ -183,10 +183,10 @@ module _ (id submitted : ℕ) (split : Option ℕ) (u : SubmissionRow) (header :
       report = λ i reference tpdu x q at there kind. let y = e.holders.report i reference tpdu x q at there kind in (y.0, inr y.1);
       of_part = λ g i j a h. ⊎_elim
           (λ (q : g ≡ given_now).
-          let holders : Part id k ≡ Part i j = ap (λ (x : Giving). x.holder) (sym q) ∙ h in
+          let holders : Part id k ≡ Part i j = ap (λ (x : Allocation). x.holder) (sym q) ∙ h in
           let same : id ≡ i = cc in
           let number : k ≡ j = cc in
-          let moment : s.moment ≡ g.moment = ap (λ (x : Giving). x.moment) (sym q) in
+          let moment : s.moment ≡ g.moment = ap (λ (x : Allocation). x.moment) (sym q) in
           let found : (x : MessageRow) × (p : PartSeen) × ((message_at i (messages_in s) ≡ Some x) × (parts_by (parts_in store_now) i j ≡ Some p) × (g ≡ given_part x j p g.moment)) =
           (row, seen_now, (ap (λ (y : ℕ). message_at y (messages_in s)) (sym same) ∙ e.entered.1, own_part i j (sym same) (sym number), q ∙ (λ t. given_part row (number t) seen_now (moment t)))) in found)
           (λ (o : Among g w.down).
@@ -195,7 +195,7 @@ module _ (id submitted : ℕ) (split : Option ℕ) (u : SubmissionRow) (header :
           (x.0, x.1, (x.2.0, other_part i j (not_before i j x.1 x.2.1) ∙ x.2.1, x.2.2)) in found)
           a;
       of_report = λ g i a h. ⊎_elim
-          (λ (q : g ≡ given_now). let bad : Part id k ≡ Report i = ap (λ (x : Giving). x.holder) (sym q) ∙ h in absurd cc)
+          (λ (q : g ≡ given_now). let bad : Part id k ≡ Report i = ap (λ (x : Allocation). x.holder) (sym q) ∙ h in absurd cc)
           (λ (o : Among g w.down). e.holders.of_report g i o h)
           a;
     }
@@ -268,14 +268,14 @@ module _ (id submitted : ℕ) (split : Option ℕ) (u : SubmissionRow) (header :
   one_given i b bs s w e small now body indicator has further None next = tt
   one_given i b bs s w e small now body indicator has further (Some r) next =
       let some : 0 < suc i = omega arith in
-      let g : Giving = given_now (suc i) b r s w e next some small in
+      let g : Allocation = given_now (suc i) b r s w e next some small in
       let f : Store = store_now (suc i) b r s w e next some small in
       let rest = further f (give w g) (next_now (suc i) b r s w e next some small) refl in
       let number : suc (suc i) ≡ suc i + 1 = omega arith in
       subst (λ (z : ℕ). AllGiven (suc i) (b ∷ bs) w s.moment (give_parts id u z bs f)) number
       (more (give_parts id u (suc (suc i)) bs f) rest (may_now (suc i) b r s w e next some small, is_for (suc i) b r s w e next some small now body indicator has))
     where
-      more : (o : Option Store) → AllGiven (suc (suc i)) bs (give w (part_giving whole s.moment (suc i) (record { reference = r; tpdu = compared (deliver_octets s.moment u b) }))) s.moment o
+      more : (o : Option Store) → AllGiven (suc (suc i)) bs (give w (part_allocation whole s.moment (suc i) (record { reference = r; tpdu = compared (deliver_octets s.moment u b) }))) s.moment o
           → CanGive w u.handset r s.moment × IsForPart whole (suc i) s.moment (compared (deliver_octets s.moment u b)) → AllGiven (suc i) (b ∷ bs) w s.moment o
       more None rest may = tt
       more (Some z) (ts, (long, can, moment, after)) may =
@@ -324,7 +324,7 @@ module _ (id submitted : ℕ) (split : Option ℕ) (u : SubmissionRow) (header :
       let q = data_long bodies in
       ((let f : 0 < suc i = omega arith in f), (let g : suc i < length bodies + 1 = omega (arith, l, q) in g))
 
-  all_there : (s : Store) (w : World) → Now (length bodies + 1) s w → StoreSees s w
+  all_there : (s : Store) (w : World) → Now (length bodies + 1) s w → StoreRefines s w
   all_there s w e = record {
     table = record {
       there = λ i x at. ⊎_elim
@@ -357,7 +357,7 @@ module _ (id submitted : ℕ) (split : Option ℕ) (u : SubmissionRow) (header :
 -- ---- a message begins
 
 -- no message of the world has the number
-new_in : (t : List Message) (id : ℕ) → ((i : ℕ) (v : Submission) (st : State) → Stands t i v st → i ≡ id → ⊥) → IsNew t id
+new_in : (t : List Message) (id : ℕ) → ((i : ℕ) (v : Submission) (st : State) → IsRecorded t i v st → i ≡ id → ⊥) → IsNew t id
 new_in [] id f = tt
 new_in (x ∷ t) id f =
     let head : x.submission.id ≡ id → ⊥ = λ q. f x.submission.id x.submission x.state (entered_here t x.submission x.state) q in (
@@ -365,7 +365,7 @@ new_in (x ∷ t) id f =
       new_in t id (λ i v st k q. f i v st (cond-false (x.submission.id == i) (Some x) (find i t) (ne_eqb x.submission.id i (λ z. head (z ∙ q))) ∙ k) q),
     )
 
-module _ (id : ℕ) (split : Option ℕ) (u : SubmissionRow) (header : Bool) (bodies : List SinglePart) (fit : IsSubmission u) (s : Store) (w : World) (sound : SoundStore s) (sees : StoreSees s w)
+module _ (id : ℕ) (split : Option ℕ) (u : SubmissionRow) (header : Bool) (bodies : List SinglePart) (fit : IsSubmission u) (s : Store) (w : World) (sound : SoundStore s) (refines : StoreRefines s w)
     (new : (x : MessageRow) → Among x (messages_in s) → x.id < id) where
   abbrev first_row : MessageRow
   first_row = message_of id s.moment split u
@@ -409,37 +409,37 @@ module _ (id : ℕ) (split : Option ℕ) (u : SubmissionRow) (header : Bool) (bo
     entered = (enter_stands id split u s sound.stands new fit.handset fit.told, row_at_put message_key first_row (messages_in s));
     most = λ i x at ne.
         let was : message_at i (messages_in s) ≡ Some x = was_there i x (λ q. ne (sym q)) at in
-        let y = sees.table.there i x was in
+        let y = refines.table.there i x was in
         let key : x.id ≡ i = found_key message_key i x (messages_in s) was in
         (y.0, y.1, (cond-false (id == x.id) (Some (let z : Message = record { submission = entered_as id u header bodies; state = Pending [] } in z)) (find x.id w.table) (ne_eqb id x.id (λ q. ne (sym (q ∙ key)))) ∙ y.2.0, y.2.1, y.2.2, y.2.3));
     only = λ i v st k. ⊎_elim
         (λ (q : (i ≡ id) × (v ≡ entered_as id u header bodies) × (st ≡ Pending [])).
         let found : (x : MessageRow) × (message_at i (put message_key first_row (messages_in s)) ≡ Some x) =
         (first_row, subst (λ (j : ℕ). message_at j (put message_key first_row (messages_in s)) ≡ Some first_row) (sym q.0) (row_at_put message_key first_row (messages_in s))) in found)
-        (λ (o : Stands w.table i v st).
-        let x = sees.table.only i v st o in
+        (λ (o : IsRecorded w.table i v st).
+        let x = refines.table.only i v st o in
         let found : (x : MessageRow) × (message_at i (put message_key first_row (messages_in s)) ≡ Some x) = (x.0, still_there i x.0 x.1) in found)
         (entered_back w.table (entered_as id u header bodies) v (Pending []) st i k);
     own = entered_here w.table (entered_as id u header bodies) (Pending []);
     holders = record {
-      part = λ i j x p at there. sees.holders.part i j x p (was_there i x (no_part_yet i j p there) at) there;
-      report = λ i reference tpdu x r at there kind. sees.holders.report i reference tpdu x r (was_there i x (no_report_yet i r there) at) there kind;
-      of_part = λ g i j a h. let x = sees.holders.of_part g i j a h in (x.0, x.1, (still_there i x.0 x.2.0, x.2.1, x.2.2));
-      of_report = λ g i a h. let x = sees.holders.of_report g i a h in (x.0, x.1, x.2, x.3, (still_there i x.0 x.4.0, x.4.1, x.4.2, x.4.3));
+      part = λ i j x p at there. refines.holders.part i j x p (was_there i x (no_part_yet i j p there) at) there;
+      report = λ i reference tpdu x r at there kind. refines.holders.report i reference tpdu x r (was_there i x (no_report_yet i r there) at) there kind;
+      of_part = λ g i j a h. let x = refines.holders.of_part g i j a h in (x.0, x.1, (still_there i x.0 x.2.0, x.2.1, x.2.2));
+      of_report = λ g i a h. let x = refines.holders.of_report g i a h in (x.0, x.1, x.2, x.3, (still_there i x.0 x.4.0, x.4.1, x.4.2, x.4.3));
     };
-    reports = sees.reports;
-    seconds = sees.seconds;
+    reports = refines.reports;
+    seconds = refines.seconds;
     before = λ j p there. absurd (no_part_yet id j p there refl);
     all = λ j first last. absurd (let l : ⊥ = omega (arith, first, last) in l);
   }
 
   is_new : IsNew w.table id
-  is_new = new_in w.table id (λ i v st k q. let x = sees.table.only i v st k in message_apart i x.0 x.1 (sym q))
+  is_new = new_in w.table id (λ i v st k q. let x = refines.table.only i v st k in message_apart i x.0 x.1 (sym q))
 
 -- the world takes that submission, and the rows see it
 abbrev pub SubmitsAs : Submission → World → ℕ → Option Store → Type 0
 SubmitsAs v w moment None = Unit {0}
-SubmitsAs v w moment (Some e) = (tickets : List Ticket) × (CanSubmit w moment v tickets × StoreSees e (submitted w moment v tickets))
+SubmitsAs v w moment (Some e) = (tickets : List Ticket) × (CanSubmit w moment v tickets × StoreRefines e (submitted w moment v tickets))
 
 -- whichever it is
 abbrev pub Submits : World → ℕ → Option Store → Type 0
@@ -450,18 +450,18 @@ pub any_submits : (v : Submission) (w : World) (moment : ℕ) (o : Option Store)
 any_submits v w moment None k = tt
 any_submits v w moment (Some e) k = (v, k)
 
-pub under_submits : (id : ℕ) (split : Option ℕ) (u : SubmissionRow) (header : Bool) (bodies : List SinglePart) → IsSubmission u → (s : Store) (w : World) → SoundStore s → StoreSees s w
+pub under_submits : (id : ℕ) (split : Option ℕ) (u : SubmissionRow) (header : Bool) (bodies : List SinglePart) → IsSubmission u → (s : Store) (w : World) → SoundStore s → StoreRefines s w
     → ((x : MessageRow) → Among x (messages_in s) → x.id < id) → 0 < length bodies → length bodies ≤ 20 → ((b : SinglePart) → Among b bodies → IsBody u b × (b.header_indicator ≡ header))
     → SubmitsAs (entered_as id u header bodies) w s.moment (accept_under id split bodies u s)
-under_submits id split u header bodies fit s w sound sees new some few each =
+under_submits id split u header bodies fit s w sound refines new some few each =
     let e : Store = enter id split u s in
-    let v : World = entered_world id split u header bodies fit s w sound sees new in
+    let v : World = entered_world id split u header bodies fit s w sound refines new in
     by (give_parts id u 1 bodies e)
-    (give_all id s.moment split u header bodies fit 0 bodies e v (begins id split u header bodies fit s w sound sees new) (omega (arith, few)) sound.times.now each
+    (give_all id s.moment split u header bodies fit 0 bodies e v (begins id split u header bodies fit s w sound refines new) (omega (arith, few)) sound.times.now each
     (λ j. ap (λ (n : ℕ). slice_get (data_of bodies) n) (let q : 0 + j ≡ j = omega arith in q)))
-    (is_new id split u header bodies fit s w sound sees new)
+    (is_new id split u header bodies fit s w sound refines new)
   where
-    by : (o : Option Store) → AllGiven id s.moment split u header bodies fit 1 bodies (entered_world id split u header bodies fit s w sound sees new) s.moment o → IsNew w.table id → SubmitsAs (entered_as id u header bodies) w s.moment o
+    by : (o : Option Store) → AllGiven id s.moment split u header bodies fit 1 bodies (entered_world id split u header bodies fit s w sound refines new) s.moment o → IsNew w.table id → SubmitsAs (entered_as id u header bodies) w s.moment o
     by None given new = tt
     by (Some e) (ts, (long, can, moment, after)) fresh =
         let whole_one : Submission = entered_as id u header bodies in

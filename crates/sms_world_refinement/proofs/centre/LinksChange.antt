@@ -12,29 +12,29 @@ use Rattle.sms_centre_rows.specs.reports.Reports.{report_of}
 use Rattle.sms_centre_rows.specs.declared.reports.report.ReportRow.{ReportRow}
 use Rattle.sms_rows.specs.table.Keys.{pair_key}
 use Rattle.sms_rows.specs.table.Table.{row_at}
-use Rattle.sms_centre_rows.specs.waiting.Lines.{line_of, lowered, put_line, raised as raised_line}
+use Rattle.sms_centre_rows.specs.waiting.Links.{line_of, lowered, put_line, raised as raised_line}
 use Rattle.sms_centre_rows.specs.waiting.Trying.{due_at, tried}
-use Rattle.sms_centre_rows.specs.declared.waiting.line.Line.{Line}
-use Rattle.sms_centre_rows.specs.declared.waiting.load.Load.{Load}
+use Rattle.sms_centre_rows.specs.declared.waiting.handset_link.HandsetLink.{HandsetLink}
+use Rattle.sms_centre_rows.specs.declared.waiting.queued_part.QueuedPart.{QueuedPart}
 use Rattle.sms_centre_rows.specs.declared.waiting.progress.Progress.{Progress}
 use Rattle.sms_centre_spec.proofs.SoundAccepted.{sound_steady}
 use Rattle.sms_centre_spec.proofs.SoundStores.{SoundStore}
 use Rattle.sms_centre_spec.proofs.Steady.{part_own, report_own}
 use Rattle.sms_centre_spec.specs.CentreEvent.{lost, lower, raise}
-use Rattle.sms_centre_spec.specs.Draft.{Draft, Store, messages_in, on_air, parts_in, reports_in, waiting_in, with_part_at, with_report_at}
+use Rattle.sms_centre_spec.specs.Draft.{Draft, Store, messages_in, on_links, parts_in, reports_in, waiting_in, with_part_at, with_report_at}
 use Rattle.sms_centre_spec.specs.Receiving.{all_due, due_now, load_due, part_due, report_due}
 use Rattle.sms_centre_spec.specs.Transfers.{ended_with, holder_ended, is_open, part_ended_at, part_ended_of, report_ended_at}
 use Rattle.sms_centre_spec.specs.declared.verdict.Verdict.{Verdict}
 use Rattle.sms_centre_spec.specs.declared.verdict.Verdict.TheVariants.{Again, Late}
 use Rattle.sms_world_model.specs.World.{World}
-use Rattle.sms_world_refinement.specs.centre.CentreSight.{CentreSees, StoreSees}
-use Rattle.sms_world_refinement.specs.centre.SeesLines.{SeesLine}
-use Rattle.sms_world_refinement.proofs.centre.Offers.{line_sees, lines_with}
+use Rattle.sms_world_refinement.specs.centre.CentreRefinement.{CentreRefines, StoreRefines}
+use Rattle.sms_world_refinement.specs.centre.RefinesLines.{RefinesLine}
+use Rattle.sms_world_refinement.proofs.centre.Offers.{line_refines, lines_with}
 use Rattle.sms_world_refinement.proofs.centre.Unseen.{part_far_unseen, report_far_unseen}
 
 -- a sound store that sees the world
 abbrev pub Both : World → Store → Type 0
-Both w s = SoundStore s × StoreSees s w
+Both w s = SoundStore s × StoreRefines s w
 
 module _ (w : World) where
   part_both : (p : PartRow) (q : Progress) (s : Store) → Both w s → row_at part_key (part_key p) (parts_in s) ≡ Some p → q.is_done ≡ p.progress.is_done → Both w (with_part_at p q s)
@@ -54,12 +54,12 @@ module _ (w : World) where
   report_due_both id None s k there = k
   report_due_both id (Some r) s k there = report_both r (due_at s.moment r.progress) s k (report_own id r s there) refl
 
-  load_due_both : (l : Load) (s : Store) → Both w s → Both w (load_due l s)
+  load_due_both : (l : QueuedPart) (s : Store) → Both w s → Both w (load_due l s)
   load_due_both l s k =
       cond_both (l.number == 0) (report_due (report_of l.id (reports_in s)) s) (part_due (part_at l.id l.number (parts_in s)) s) (Both w)
       (λ t. report_due_both l.id (report_of l.id (reports_in s)) s k refl) (λ t. part_due_both (pair_key l.id l.number) (part_at l.id l.number (parts_in s)) s k refl)
 
-  all_due_both : (ls : List Load) (s : Store) → Both w s → Both w (all_due ls s)
+  all_due_both : (ls : List QueuedPart) (s : Store) → Both w s → Both w (all_due ls s)
   all_due_both [] s k = k
   all_due_both (l ∷ ls) s k = all_due_both ls (load_due l s) (load_due_both l s k)
 
@@ -106,32 +106,32 @@ module _ (w : World) where
 
 -- ---- drafts
 
-module _ (b : World) (d : Draft) (w : World) (sound : SoundStore d.store) (s : CentreSees b d w) where
-  pub raise_law : (handset : List ℕ) → CentreSees b (raise handset d) w
+module _ (b : World) (d : Draft) (w : World) (sound : SoundStore d.store) (s : CentreRefines b d w) where
+  pub raise_law : (handset : List ℕ) → CentreRefines b (raise handset d) w
   raise_law handset =
-      let line : Line = line_of handset d.air.lines in
-      let l : SeesLine w.bag line = line_sees w.bag handset d.air.lines s.lines in
+      let line : HandsetLink = line_of handset d.links.lines in
+      let l : RefinesLine w.bag line = line_refines w.bag handset d.links.lines s.lines in
       record {
         frames = s.frames;
         whole = s.whole;
-        lines = lines_with w.bag (raised_line line) d.air.lines (record { next = l.next; opened = l.opened; begun = l.begun }) s.lines;
+        lines = lines_with w.bag (raised_line line) d.links.lines (record { next = l.next; opened = l.opened; begun = l.begun }) s.lines;
         rows = (due_now_both w line.handset d.store (sound, s.rows)).1;
       }
 
 -- a transfer that is lost is tried again, if it still waits
-pub lost_law : (b : World) (handset : List ℕ) (o : Option Carried) (d : Draft) (w : World) → SoundStore d.store → CentreSees b d w → CentreSees b (lost handset o d) w
+pub lost_law : (b : World) (handset : List ℕ) (o : Option Carried) (d : Draft) (w : World) → SoundStore d.store → CentreRefines b d w → CentreRefines b (lost handset o d) w
 lost_law b handset None d w sound s = s
 lost_law b handset (Some t) d w sound s =
-    cond_both (is_open t.tag d.store) Again Late (λ (v : Verdict). CentreSees b (ended_with v handset t.tag d) w)
+    cond_both (is_open t.tag d.store) Again Late (λ (v : Verdict). CentreRefines b (ended_with v handset t.tag d) w)
     (λ e. record { frames = s.frames; whole = s.whole; lines = s.lines; rows = (again_both w t.tag d.store (sound, s.rows)).1 })
     (λ e. record { frames = s.frames; whole = s.whole; lines = s.lines; rows = (late_both w t.tag d.store (sound, s.rows)).1 })
 
-pub lower_law : (b : World) (d : Draft) (w : World) (handset : List ℕ) → SoundStore d.store → CentreSees b d w → CentreSees b (lower handset d) w
+pub lower_law : (b : World) (d : Draft) (w : World) (handset : List ℕ) → SoundStore d.store → CentreRefines b d w → CentreRefines b (lower handset d) w
 lower_law b d w handset sound s =
-    let line : Line = line_of handset d.air.lines in
-    lost_law b line.handset line.link.under_way (on_air (put_line (lowered line) d.air) d) w sound (record {
+    let line : HandsetLink = line_of handset d.links.lines in
+    lost_law b line.handset line.link.under_way (on_links (put_line (lowered line) d.links) d) w sound (record {
       frames = s.frames;
       whole = s.whole;
-      lines = lines_with w.bag (lowered line) d.air.lines (record { next = (let l : 0 < 7 = omega arith in l); opened = tt; begun = tt }) s.lines;
+      lines = lines_with w.bag (lowered line) d.links.lines (record { next = (let l : 0 < 7 = omega arith in l); opened = tt; begun = tt }) s.lines;
       rows = s.rows;
     })

@@ -28,25 +28,25 @@ use Rattle.sms_centre_rows.specs.declared.reports.report.ReportKind.TheVariants.
 use Rattle.sms_centre_rows.specs.declared.reports.report.ReportRow.{ReportRow}
 use Rattle.sms_tpdu.specs.MoreMessages.{compared}
 use Rattle.sms_centre_rows.specs.waiting.Keys.{load_key}
-use Rattle.sms_centre_rows.specs.declared.waiting.load.Load.{Load}
+use Rattle.sms_centre_rows.specs.declared.waiting.queued_part.QueuedPart.{QueuedPart}
 use Rattle.sms_centre_spec.proofs.SoundStores.{SoundStore}
 use Rattle.sms_centre_spec.specs.Draft.{Store, messages_in, parts_in, priorities_in, reports_in, waiting_in}
 use Rattle.sms_centre_spec.specs.Offering.{holder_of, part_tpdu, report_tpdu, tpdu_of}
-use Rattle.sms_world_model.specs.World.{Giving, IsUnanswered, Pending, Stands, State, World}
-use Rattle.sms_world_refinement.specs.centre.CentreSight.{StoreSees}
+use Rattle.sms_world_model.specs.World.{Allocation, IsUnanswered, Pending, IsRecorded, State, World}
+use Rattle.sms_world_refinement.specs.centre.CentreRefinement.{StoreRefines}
 use Rattle.sms_world_refinement.proofs.centre.ByOctets.{by_octet_is}
-use Rattle.sms_world_refinement.specs.centre.SeesGiven.{given_part, given_report}
-use Rattle.sms_world_refinement.specs.centre.SeesLines.{IsNumbered}
-use Rattle.sms_world_refinement.specs.centre.SeesMessages.{IsStateOf, PartSeen, part_seen, parts_by}
-use Rattle.sms_world_refinement.specs.centre.SeesReports.{ReportSeen, report_seen}
+use Rattle.sms_world_refinement.specs.centre.RefinesGiven.{given_part, given_report}
+use Rattle.sms_world_refinement.specs.centre.RefinesLines.{IsNumbered}
+use Rattle.sms_world_refinement.specs.centre.RefinesMessages.{IsStateOf, PartSeen, part_seen, parts_by}
+use Rattle.sms_world_refinement.specs.centre.RefinesReports.{ReportSeen, report_seen}
 
 -- the giving of its reference to that holder, who is not answered yet; its TPDU fits an RP-DATA
-abbrev pub giving_at : List ℕ → ℕ → Holder → List ℕ → ℕ → Giving
-giving_at handset reference holder tpdu moment = record { handset = handset; reference = reference; holder = holder; moment = moment; tpdu = compared tpdu }
+abbrev pub allocation_at : List ℕ → ℕ → Holder → List ℕ → ℕ → Allocation
+allocation_at handset reference holder tpdu moment = record { handset = handset; reference = reference; holder = holder; moment = moment; tpdu = compared tpdu }
 
 pub record IsOffered (handset : List ℕ) (reference : ℕ) (w : World) (holder : Holder) (tpdu : List ℕ) : Type 0 where
   pub moment : ℕ
-  pub given : Among (giving_at handset reference holder tpdu moment) w.down
+  pub given : Among (allocation_at handset reference holder tpdu moment) w.down
   pub unanswered : IsUnanswered w.table w.reports holder
   pub fits : length tpdu ≤ 200
   pub numbered : IsNumbered holder
@@ -59,13 +59,13 @@ not_true : (b : Bool) → not b ≡ true → b ≡ true → ⊥
 not_true true e f = absurd cc
 not_true false e f = absurd cc
 
-module _ (h : List ℕ) (l : Load) (s : Store) (w : World) (sound : SoundStore s) (sees : StoreSees s w) where
+module _ (h : List ℕ) (l : QueuedPart) (s : Store) (w : World) (sound : SoundStore s) (refines : StoreRefines s w) where
   -- ---- a part
 
   module _ (p : PartRow) (m : MessageRow) (at : part_at l.id l.number (parts_in s) ≡ Some p) (of : message_at p.id (messages_in s) ≡ Some m) (same : part_load p (priorities_in s) ≡ l) (undone : not p.progress.is_done ≡ true)
       (pending : is_pending m ≡ true) (to : m.handset ≡ h) where
     id_is : p.id ≡ l.id
-    id_is = ap (λ (x : Load). x.id) same
+    id_is = ap (λ (x : QueuedPart). x.id) same
 
     own_id : m.id ≡ l.id
     own_id = found_key message_key p.id m (messages_in s) of ∙ id_is
@@ -75,7 +75,7 @@ module _ (h : List ℕ) (l : Load) (s : Store) (w : World) (sound : SoundStore s
 
     small_number : l.number < 256
     small_number =
-        let number : p.number ≡ l.number = ap (λ (x : Load). x.number) same in
+        let number : p.number ≡ l.number = ap (λ (x : QueuedPart). x.number) same in
         let small = (sound.stands.held.parts.numbers p (found_among part_key (pair_key l.id l.number) p (parts_in s) at)).1 in
         omega (arith, number, small)
 
@@ -85,12 +85,12 @@ module _ (h : List ℕ) (l : Load) (s : Store) (w : World) (sound : SoundStore s
 
     part_unanswered : IsUnanswered w.table w.reports (Part l.id l.number)
     part_unanswered =
-        let x = sees.table.there l.id m message_there in
+        let x = refines.table.there l.id m message_there in
         let y : IsStateOf None (parts_by (parts_in s) l.id) x.1 = subst (λ (z : Option FinalState). IsStateOf z (parts_by (parts_in s) l.id) x.1) (none_of m.state pending) x.2.2 in (
           x.0,
           y.0,
           (
-            subst (λ (n : ℕ). Stands w.table n x.0 (Pending y.0)) own_id (subst (λ (z : State). Stands w.table m.id x.0 z) y.1.0 x.2.0),
+            subst (λ (n : ℕ). IsRecorded w.table n x.0 (Pending y.0)) own_id (subst (λ (z : State). IsRecorded w.table m.id x.0 z) y.1.0 x.2.0),
             λ a. not_true p.progress.is_done undone ((y.1.1 l.number (record { reference = p.reference; tpdu = compared p.tpdu; is_done = p.progress.is_done }) there).1 a),
           ),
         )
@@ -98,12 +98,12 @@ module _ (h : List ℕ) (l : Load) (s : Store) (w : World) (sound : SoundStore s
     part_offered : IsOffered h l.reference w (Part l.id l.number) p.tpdu
     part_offered =
         let v : PartSeen = record { reference = p.reference; tpdu = compared p.tpdu; is_done = p.progress.is_done } in
-        let g = sees.holders.part l.id l.number m v message_there there in
-        let reference : p.reference ≡ l.reference = ap (λ (x : Load). x.reference) same in
-        let e : given_part m l.number v g.0 ≡ giving_at h l.reference (Part l.id l.number) p.tpdu g.0 =
+        let g = refines.holders.part l.id l.number m v message_there there in
+        let reference : p.reference ≡ l.reference = ap (λ (x : QueuedPart). x.reference) same in
+        let e : given_part m l.number v g.0 ≡ allocation_at h l.reference (Part l.id l.number) p.tpdu g.0 =
         λ j. record { handset = to j; reference = reference j; holder = Part (own_id j) l.number; moment = g.0; tpdu = compared p.tpdu } in
         let fit = (sound.messages.each_part p (found_among part_key (pair_key l.id l.number) p (parts_in s) at)).message in
-        record { moment = g.0; given = subst (λ (x : Giving). Among x w.down) e g.1; unanswered = part_unanswered; fits = fit.1.1.1.fits; numbered = small_number }
+        record { moment = g.0; given = subst (λ (x : Allocation). Among x w.down) e g.1; unanswered = part_unanswered; fits = fit.1.1.1.fits; numbered = small_number }
 
   part_waits : (o : Option PartRow) → part_at l.id l.number (parts_in s) ≡ o → part_wait h (messages_in s) (priorities_in s) o ≡ Some l → IsOffered h l.reference w (Part l.id l.number) (part_tpdu o)
   part_waits None e q = absurd cc
@@ -164,20 +164,20 @@ module _ (h : List ℕ) (l : Load) (s : Store) (w : World) (sound : SoundStore s
           let to : m.source.digits ≡ h = (bytes_eq-Decides m.source.digits h).0 both.1 in
           let going_on = and_parts (is_status r.kind) (not r.progress.is_done) both.0 in
           let kind = status_is r.kind going_on.0 in
-          let id : r.id ≡ l.id = ap (λ (x : Load). x.id) same in
-          let reference : status_reference r.kind ≡ l.reference = ap (λ (x : Load). x.reference) same in
+          let id : r.id ≡ l.id = ap (λ (x : QueuedPart). x.id) same in
+          let reference : status_reference r.kind ≡ l.reference = ap (λ (x : QueuedPart). x.reference) same in
           let message : message_at l.id (messages_in s) ≡ Some m = ap (λ (n : ℕ). message_at n (messages_in s)) (sym id) ∙ f in
           let own : m.id ≡ l.id = found_key message_key r.id m (messages_in s) f ∙ id in
           let v : ReportSeen = record { kind = r.kind; is_done = r.progress.is_done } in
-          let g = sees.holders.report l.id (status_reference r.kind) kind.0 m v message (ap report_seen e) kind.1 in
+          let g = refines.holders.report l.id (status_reference r.kind) kind.0 m v message (ap report_seen e) kind.1 in
           let octets : kind.0 ≡ status_tpdu r.kind = sym (ap status_tpdu kind.1) in
-          let same_giving : given_report m (status_reference r.kind) kind.0 g.0 ≡ giving_at h l.reference (Report l.id) (status_tpdu r.kind) g.0 =
+          let same_allocation : given_report m (status_reference r.kind) kind.0 g.0 ≡ allocation_at h l.reference (Report l.id) (status_tpdu r.kind) g.0 =
           λ j. record { handset = to j; reference = reference j; holder = Report (own j); moment = g.0; tpdu = compared (octets j) } in
           let one = sound.reports.each r (report_found l.id r (reports_in s) e).0 in
           record {
             moment = g.0;
-            given = subst (λ (x : Giving). Among x w.down) same_giving g.1;
-            unanswered = sees.reports.still l.id v (ap report_seen e) going_on.0 (not_false r.progress.is_done going_on.1);
+            given = subst (λ (x : Allocation). Among x w.down) same_allocation g.1;
+            unanswered = refines.reports.still l.id v (ap report_seen e) going_on.0 (not_false r.progress.is_done going_on.1);
             fits = status_fits r.kind one.message.0.originator one.message.0 r going_on.0 one.message.1.1.1;
             numbered = tt;
           }

@@ -14,8 +14,8 @@ use Rattle.sms_base.specs.declared.final_state.FinalState.{FinalState}
 use Rattle.sms_world_model.specs.World.{Sent, World}
 use Rattle.sms_world_model.specs.WorldStep.{Receipt, Status, Step}
 use Rattle.sms_world_refinement.specs.centre.CentreLaws.{AllOffer}
-use Rattle.sms_world_refinement.specs.centre.CentreSight.{CentreSees, StoreSees}
-use Rattle.sms_world_refinement.specs.centre.SeesLines.{SeesLines}
+use Rattle.sms_world_refinement.specs.centre.CentreRefinement.{CentreRefines, StoreRefines}
+use Rattle.sms_world_refinement.specs.centre.RefinesLines.{RefinesLines}
 use Rattle.sms_world_refinement.proofs.centre.Ending.{AllTell}
 use Rattle.sms_world_refinement.proofs.centre.Offers.{follow_law}
 
@@ -53,36 +53,36 @@ pub record Acts (event : Event) (m : ℕ) (w : World) (d : Draft) : Type 0 where
   pub follows_centre : AllOfCentre follows
   pub own_runs : Run w (items m false own)
   pub runs : Run (end w (items m false own)) (items m false follows)
-  pub sees : CentreSees w d (end (end w (items m false own)) (items m false follows))
+  pub refines : CentreRefines w d (end (end w (items m false own)) (items m false follows))
 
 -- the draft's store is one that the world comes to while nothing is sent
-pub store_comes : (b : World) (e : Store) (d : Draft) (w v : World) → CentreSees b d w → StoreSees e v → v.bag ≡ w.bag → CentreSees b (in_store e d) v
+pub store_comes : (b : World) (e : Store) (d : Draft) (w v : World) → CentreRefines b d w → StoreRefines e v → v.bag ≡ w.bag → CentreRefines b (in_store e d) v
 store_comes b e d w v s rows bag = record {
   frames = bag ∙ s.frames;
   whole = s.whole;
-  lines = subst (λ (x : List Sent). SeesLines x d.air.lines) (sym bag) s.lines;
+  lines = subst (λ (x : List Sent). RefinesLines x d.links.lines) (sym bag) s.lines;
   rows = rows;
 }
 
 -- an answer is not seen
-pub answer_sees : (b : World) (a : CentreAnswer) (d : Draft) (w : World) → CentreSees b d w → CentreSees b (answer_with a d) w
-answer_sees b a d w s = record { frames = s.frames; whole = s.whole; lines = s.lines; rows = s.rows }
+pub answer_refines : (b : World) (a : CentreAnswer) (d : Draft) (w : World) → CentreRefines b d w → CentreRefines b (answer_with a d) w
+answer_refines b a d w s = record { frames = s.frames; whole = s.whole; lines = s.lines; rows = s.rows }
 
 -- receipts and offers follow
 pub acts_lead : (event : Event) (may : (x : Step) → Follows x → MayFollow event x) (m : ℕ) (w : World) (d : Draft) → Acts event m w d → SoundStore d.store
-    → (steps : List Step) × (IsInOrder w event steps × AllOfCentre steps × Run w (items m false steps) × CentreSees w (follow d) (end w (items m false steps)))
+    → (steps : List Step) × (IsInOrder w event steps × AllOfCentre steps × Run w (items m false steps) × CentreRefines w (follow d) (end w (items m false steps)))
 acts_lead event may m w d a sound =
     let v : World = end w (items m false a.own) in
-    let o = follow_law m w d (end v (items m false a.follows)) sound a.sees in
+    let o = follow_law m w d (end v (items m false a.follows)) sound a.refines in
     let offers = offers_follow event may o.0 o.1.0 in
     let after : List Step = a.follows ++ o.0 in
     let runs : Run v (items m false after) = run_both m v a.follows o.0 a.runs o.1.1 in
-    let sees : CentreSees w (follow d) (end v (items m false after)) = subst (λ (z : World). CentreSees w (follow d) z) (sym (end_both m v a.follows o.0)) o.1.2 in (
+    let refines : CentreRefines w (follow d) (end v (items m false after)) = subst (λ (z : World). CentreRefines w (follow d) z) (sym (end_both m v a.follows o.0)) o.1.2 in (
       a.own ++ after,
       (
         ([], a.own, after, (tt, a.is_own, follow_both event may a.follows o.0 a.may_follow offers.0, refl)),
         centre_both a.own after a.own_centre (centre_both a.follows o.0 a.follows_centre offers.1),
         run_both m w a.own after a.own_runs runs,
-        subst (λ (z : World). CentreSees w (follow d) z) (sym (end_both m w a.own after)) sees,
+        subst (λ (z : World). CentreRefines w (follow d) z) (sym (end_both m w a.own after)) refines,
       ),
     )

@@ -3,13 +3,13 @@ use Rattle.sms_centre_spec.proofs.SoundStores.{SoundStore}
 use Rattle.sms_centre_spec.specs.Draft.{Store, draft_of, messages_in, parts_in}
 use Rattle.sms_world_model.specs.World.{World}
 use Rattle.sms_world_refinement.specs.centre.CentreLaws.{NextReferenceLaw, NoReferenceLaw}
-use Rattle.sms_world_refinement.specs.centre.CentreSight.{StoreSees}
-use Rattle.sms_world_refinement.specs.centre.SeesMessages.{messages_by, parts_by}
-use Rattle.sms_world_refinement.proofs.centre.Givings.{SeesStates, can_give, cannot_give}
+use Rattle.sms_world_refinement.specs.centre.CentreRefinement.{StoreRefines}
+use Rattle.sms_world_refinement.specs.centre.RefinesMessages.{messages_by, parts_by}
+use Rattle.sms_world_refinement.proofs.centre.Allocations.{RefinesStates, can_give, cannot_give}
 use Rattle.sms_world_refinement.proofs.centre.SessionsChange.{start}
 
-pub states_of : (s : Store) (w : World) → StoreSees s w → SeesStates (messages_by (messages_in s)) (parts_by (parts_in s)) w.table
-states_of s w sees id m e = let x = sees.table.there id m e in (x.0, x.1, (x.2.0, x.2.2))
+pub states_of : (s : Store) (w : World) → StoreRefines s w → RefinesStates (messages_by (messages_in s)) (parts_by (parts_in s)) w.table
+states_of s w refines id m e = let x = refines.table.there id m e in (x.0, x.1, (x.2.0, x.2.2))
 
 pub next_law : NextReferenceLaw
 next_law number reference c w sound s e =

@@ -12,7 +12,7 @@ use Rattle.sms_rows.specs.table.Table.{Rises, row_at}
 use Rattle.sms_centre_rows.specs.waiting.Revisions.{Revised}
 use Rattle.sms_centre_rows.specs.waiting.Trying.{due_at}
 use Rattle.sms_centre_rows.specs.declared.waiting.progress.Progress.{Progress}
-use Rattle.sms_intake.specs.declared.submission.Account.{Account}
+use Rattle.sms_intake.specs.declared.submission.CentreAccount.{CentreAccount}
 use Rattle.sms_centre_spec.proofs.SoundAccepted.{sound_steady}
 use Rattle.sms_centre_spec.proofs.SoundEvents.{event_after}
 use Rattle.sms_centre_spec.proofs.SoundStores.{SoundStore}
@@ -23,10 +23,10 @@ use Rattle.sms_centre_spec.specs.Sessions.{bind, bound_as, due_for, unbind, unbo
 use Rattle.sms_centre_spec.specs.declared.event.CentreEvent.TheVariants.{Bound}
 use Rattle.sms_world_model.specs.World.{World}
 use Rattle.sms_world_refinement.specs.centre.CentreLaws.{BoundLaw}
-use Rattle.sms_world_refinement.specs.centre.CentreSight.{CentreSees, StoreSees}
+use Rattle.sms_world_refinement.specs.centre.CentreRefinement.{CentreRefines, StoreRefines}
 use Rattle.sms_world_refinement.proofs.centre.LinksChange.{Both}
 use Rattle.sms_world_refinement.proofs.centre.Offers.{follow_law}
-use Rattle.sms_world_refinement.proofs.centre.SessionsChange.{receipt_both, start, unbound_sees}
+use Rattle.sms_world_refinement.proofs.centre.SessionsChange.{receipt_both, start, unbound_refines}
 
 -- one report's progress leaves those behind it
 pub far_leaves : (r : ReportRow) (q : Progress) (rs : List ReportRow) (s : Store) → Rises report_key (reports_in s) → Rises report_key (r ∷ rs) → StandReports (r ∷ rs) s
@@ -63,18 +63,18 @@ unbound_sound : (o : Option Session) (d : Draft) → SoundStore d.store → Soun
 unbound_sound None d k = k
 unbound_sound (Some session) d k = all_tried_steady SoundStore sound_steady d.store.moment session.unanswered d.store.reports d.store k
 
-bound_sees : (b : World) (session : ℕ) (receives : Bool) (o : Option Account) (d : Draft) (w : World) → SoundStore d.store → CentreSees b d w → CentreSees b (bound_as session receives o d) w
-bound_sees b session receives None d w sound s = s
-bound_sees b session receives (Some account) d w sound s = record {
+bound_refines : (b : World) (session : ℕ) (receives : Bool) (o : Option CentreAccount) (d : Draft) (w : World) → SoundStore d.store → CentreRefines b d w → CentreRefines b (bound_as session receives o d) w
+bound_refines b session receives None d w sound s = s
+bound_refines b session receives (Some account) d w sound s = record {
   frames = s.frames;
   whole = s.whole;
   lines = s.lines;
-  rows = cond_both receives (due_for account.name d.store) d.store (λ (e : Store). StoreSees e w) (λ t. (due_for_both w account.name d.store (sound, s.rows)).1) (λ t. s.rows);
+  rows = cond_both receives (due_for account.name d.store) d.store (λ (e : Store). StoreRefines e w) (λ t. (due_for_both w account.name d.store (sound, s.rows)).1) (λ t. s.rows);
 }
 
 pub bound_event : BoundLaw
 bound_event m session account receives c w sound s =
     let d : Draft = draft_of c in
-    let o : Option Session = row_at session_key session d.desk.sessions in
+    let o : Option Session = row_at session_key session d.bindings.sessions in
     follow_law m w (bind session account receives d) w (event_after (Bound session account receives) c sound tt tt).store.0
-    (bound_sees w session receives (account_at account d.store.setup.accounts) (unbind session d) w (unbound_sound o d (start c sound)) (unbound_sees w o d w (start c sound) s))
+    (bound_refines w session receives (account_at account d.store.setup.accounts) (unbind session d) w (unbound_sound o d (start c sound)) (unbound_refines w o d w (start c sound) s))

@@ -24,7 +24,7 @@ use Rattle.sms_centre_spec.specs.SoundCore.{IsReceiptRow, IsSoundCore}
 use Rattle.sms_centre_spec.specs.declared.event.CentreEvent.TheVariants.{DeliverAnswered, Unbound}
 use Rattle.sms_world_model.specs.World.{World}
 use Rattle.sms_world_refinement.specs.centre.CentreLaws.{AnsweredLaw, UnboundLaw}
-use Rattle.sms_world_refinement.specs.centre.CentreSight.{CentreSees}
+use Rattle.sms_world_refinement.specs.centre.CentreRefinement.{CentreRefines}
 use Rattle.sms_world_refinement.proofs.centre.LinksChange.{Both}
 use Rattle.sms_world_refinement.proofs.centre.Offers.{follow_law}
 use Rattle.sms_world_refinement.proofs.centre.Unseen.{report_far_unseen}
@@ -60,15 +60,15 @@ start c s = store_sound c.rows c.moment s.rows s.now s.moment
 
 -- ---- a session ends: its receipts go again
 
-pub unbound_sees : (b : World) (o : Option Session) (d : Draft) (w : World) → SoundStore d.store → CentreSees b d w → CentreSees b (unbound_from o d) w
-unbound_sees b None d w sound s = s
-unbound_sees b (Some session) d w sound s =
+pub unbound_refines : (b : World) (o : Option Session) (d : Draft) (w : World) → SoundStore d.store → CentreRefines b d w → CentreRefines b (unbound_from o d) w
+unbound_refines b None d w sound s = s
+unbound_refines b (Some session) d w sound s =
     record { frames = s.frames; whole = s.whole; lines = s.lines; rows = (all_tried_both w d.store.moment session.unanswered d.store.reports d.store (sound, s.rows)).1 }
 
 pub unbound_event : UnboundLaw
 unbound_event m session c w sound s =
     let d : Draft = draft_of c in
-    follow_law m w (unbind session d) w (event_after (Unbound session) c sound tt tt).store.0 (unbound_sees w (row_at session_key session d.desk.sessions) d w (start c sound) s)
+    follow_law m w (unbind session d) w (event_after (Unbound session) c sound tt tt).store.0 (unbound_refines w (row_at session_key session d.bindings.sessions) d w (start c sound) s)
 
 -- ---- an answer to a receipt
 
@@ -83,12 +83,12 @@ among_is n (x ∷ xs) e = which (x == n) (λ t. sym (eqb-true x n t)) (λ t. amo
 same_report : (r x : ReportRow) → Some r ≡ Some x → r ≡ x
 same_report r x e = cc
 
-pub answered_sees : (b : World) (id : ℕ) (accepted : Bool) (o : Option Session) (d : Draft) (w : World) → ((session : Session) → o ≡ Some session → (n : ℕ) → Among n session.unanswered
+pub answered_refines : (b : World) (id : ℕ) (accepted : Bool) (o : Option Session) (d : Draft) (w : World) → ((session : Session) → o ≡ Some session → (n : ℕ) → Among n session.unanswered
     → (r : ReportRow) → report_of n (reports_in d.store) ≡ Some r → is_status r.kind ≡ false)
-    → SoundStore d.store → CentreSees b d w → CentreSees b (answered_by id accepted o d) w
-answered_sees b id accepted None d w f sound s = s
-answered_sees b id accepted (Some session) d w f sound s =
-    cond_both (is_among id session.unanswered) (record d { store = record d.store { reports = receipt_ended accepted d.store.moment (report_of id (reports_in d.store)) d.store.reports }; desk = answered_in id session d.desk }) d (λ (e : Draft). CentreSees b e w)
+    → SoundStore d.store → CentreRefines b d w → CentreRefines b (answered_by id accepted o d) w
+answered_refines b id accepted None d w f sound s = s
+answered_refines b id accepted (Some session) d w f sound s =
+    cond_both (is_among id session.unanswered) (record d { store = record d.store { reports = receipt_ended accepted d.store.moment (report_of id (reports_in d.store)) d.store.reports }; bindings = answered_in id session d.bindings }) d (λ (e : Draft). CentreRefines b e w)
     (λ t. record {
       frames = s.frames;
       whole = s.whole;
@@ -109,4 +109,4 @@ pub answered_event : AnsweredLaw
 answered_event m session id accepted c w sound s =
     let d : Draft = draft_of c in
     follow_law m w (deliver_answered session id accepted d) w (event_after (DeliverAnswered session id accepted) c sound tt tt).store.0
-    (answered_sees w id accepted (row_at session_key session d.desk.sessions) d w (λ x e n i r q. receipt_there c x session sound e n i r q) (start c sound) s)
+    (answered_refines w id accepted (row_at session_key session d.bindings.sessions) d w (λ x e n i r q. receipt_there c x session sound e n i r q) (start c sound) s)

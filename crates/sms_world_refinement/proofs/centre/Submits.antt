@@ -15,7 +15,7 @@ use Rattle.smpp_pdu.specs.declared.status.CommandStatus.{CommandStatus}
 use Rattle.smpp_pdu.specs.declared.status.CommandStatus.TheVariants.{ESME_RSUBMITFAIL}
 use Rattle.sms_intake.specs.PartBodies.{bodies_of, bodies_under, is_long, parts_or_none}
 use Rattle.sms_intake.specs.SmppIntake.{from_pdu}
-use Rattle.sms_intake.specs.declared.submission.Account.{Account}
+use Rattle.sms_intake.specs.declared.submission.CentreAccount.{CentreAccount}
 use Rattle.sms_intake.specs.declared.submission.SinglePart.{SinglePart}
 use Rattle.sms_intake.specs.declared.submission.Submission.{Submission as SubmissionRow}
 use Rattle.sms_intake.specs.declared.submission.Text.{Text}
@@ -28,8 +28,8 @@ use Rattle.sms_centre_spec.proofs.PduFits.{event_gives}
 use Rattle.sms_centre_spec.proofs.SoundEvents.{event_after}
 use Rattle.sms_centre_spec.proofs.SoundStores.{SoundStore}
 use Rattle.sms_centre_spec.specs.Draft.{Draft, Store, answer_with, draft_of, in_store, messages_in, parts_in}
-use Rattle.sms_centre_spec.specs.Requests.{account_at, accepted, refused, submission_came, submit, submit_by}
-use Rattle.sms_centre_spec.specs.Standing.{IsSubmission}
+use Rattle.sms_centre_spec.specs.Requests.{account_at, accepted, refused, submission_received, submit, submit_by}
+use Rattle.sms_centre_spec.specs.Consistent.{IsSubmission}
 use Rattle.sms_centre_spec.specs.Submitted.{AccountGives}
 use Rattle.sms_centre_spec.specs.Submitting.{accept, accept_as, accept_split, accept_under, is_reference_taken}
 use Rattle.sms_centre_spec.specs.declared.answer.CentreAnswer.{CentreAnswer}
@@ -39,9 +39,9 @@ use Rattle.sms_world_model.specs.ScriptRun.{Submitted}
 use Rattle.sms_world_model.specs.World.{World}
 use Rattle.sms_world_model.specs.WorldStep.{Submit as SubmitStep, submitted}
 use Rattle.sms_world_refinement.specs.centre.CentreLaws.{SubmitLaw}
-use Rattle.sms_world_refinement.specs.centre.CentreSight.{CentreSees, StoreSees}
+use Rattle.sms_world_refinement.specs.centre.CentreRefinement.{CentreRefines, StoreRefines}
 use Rattle.sms_world_refinement.proofs.centre.Entering.{Submits, any_submits, entered_as, under_submits}
-use Rattle.sms_world_refinement.proofs.centre.Playing.{Acts, acts_lead, answer_sees, store_comes}
+use Rattle.sms_world_refinement.proofs.centre.Playing.{Acts, acts_lead, answer_refines, store_comes}
 use Rattle.sms_world_refinement.proofs.centre.SessionsChange.{start}
 
 -- ---- the parts of a text all have a header, or none has
@@ -80,7 +80,7 @@ bodies_alike reference (Whole content) = ⊎_elim
 
 -- ---- a submission is accepted
 
-module _ (u : SubmissionRow) (fit : IsSubmission u) (s : Store) (w : World) (sound : SoundStore s) (sees : StoreSees s w) where
+module _ (u : SubmissionRow) (fit : IsSubmission u) (s : Store) (w : World) (sound : SoundStore s) (refines : StoreRefines s w) where
   abbrev id : ℕ
   id = next_id (messages_in s)
 
@@ -89,7 +89,7 @@ module _ (u : SubmissionRow) (fit : IsSubmission u) (s : Store) (w : World) (sou
       let alike = bodies_alike reference u.text in
       let new : (x : MessageRow) → Among x (messages_in s) → x.id < id = λ x among. below_next_id 1 x (messages_in s) sound.stands.message_keys among in
       any_submits (entered_as id u alike.0 (bodies_under reference u.text)) w s.moment (accept_under id split (bodies_under reference u.text) u s)
-      (under_submits id split u alike.0 (bodies_under reference u.text) fit s w sound sees new (fit.some reference) (fit.few reference) (λ b i. (fit.bodies reference b i, alike.1 b i)))
+      (under_submits id split u alike.0 (bodies_under reference u.text) fit s w sound refines new (fit.some reference) (fit.few reference) (λ b i. (fit.bodies reference b i, alike.1 b i)))
 
   splits : (o : Option ℕ) → Submits w s.moment (accept_split id o u s)
   splits None = tt
@@ -104,7 +104,7 @@ module _ (u : SubmissionRow) (fit : IsSubmission u) (s : Store) (w : World) (sou
 
 -- ---- the event
 
-refused_acts : (a : CentreAnswer) (d : Draft) (w : World) → CentreSees w d w → Acts Submitted d.store.moment w (answer_with a d)
+refused_acts : (a : CentreAnswer) (d : Draft) (w : World) → CentreRefines w d w → Acts Submitted d.store.moment w (answer_with a d)
 refused_acts a d w s = record {
   own = [];
   follows = [];
@@ -114,12 +114,12 @@ refused_acts a d w s = record {
   follows_centre = tt;
   own_runs = tt;
   runs = tt;
-  sees = answer_sees w a d w s;
+  refines = answer_refines w a d w s;
 }
 
-accepted_acts : (number : ℕ) (o : Option Store) (d : Draft) (w : World) → CentreSees w d w → Submits w d.store.moment o → Acts Submitted d.store.moment w (accepted number o d)
+accepted_acts : (number : ℕ) (o : Option Store) (d : Draft) (w : World) → CentreRefines w d w → Submits w d.store.moment o → Acts Submitted d.store.moment w (accepted number o d)
 accepted_acts number None d w s k = refused_acts _ d w s
-accepted_acts number (Some e) d w s (v, (tickets, (can, sees))) = record {
+accepted_acts number (Some e) d w s (v, (tickets, (can, refines))) = record {
   own = SubmitStep v tickets ∷ [];
   follows = [];
   is_own = inr (v, tickets, refl);
@@ -128,11 +128,11 @@ accepted_acts number (Some e) d w s (v, (tickets, (can, sees))) = record {
   follows_centre = tt;
   own_runs = (can, tt);
   runs = tt;
-  sees = answer_sees w (SubmittedAnswer number) (in_store e d) (submitted w d.store.moment v tickets) (store_comes w e d w (submitted w d.store.moment v tickets) s sees refl);
+  refines = answer_refines w (SubmittedAnswer number) (in_store e d) (submitted w d.store.moment v tickets) (store_comes w e d w (submitted w d.store.moment v tickets) s refines refl);
 }
 
-came_acts : (r : Result SubmissionRow CommandStatus) (d : Draft) (w : World) → SoundStore d.store → CentreSees w d w → ((u : SubmissionRow) → r ≡ Ok u → IsSubmission u)
-    → Acts Submitted d.store.moment w (submission_came r d)
+came_acts : (r : Result SubmissionRow CommandStatus) (d : Draft) (w : World) → SoundStore d.store → CentreRefines w d w → ((u : SubmissionRow) → r ≡ Ok u → IsSubmission u)
+    → Acts Submitted d.store.moment w (submission_received r d)
 came_acts (Err status) d w sound s fit = refused_acts _ d w s
 came_acts (Ok u) d w sound s fit =
     let o : Option Store = accept u d.store in
@@ -141,7 +141,7 @@ came_acts (Ok u) d w sound s fit =
     (λ t. refused_acts _ d w s)
     (λ t. accepted_acts number o d w s (accept_submits u (fit u refl) d.store w sound s.rows))
 
-submit_acts : (a : Option Account) (m : Pdu) (d : Draft) (w : World) → SoundStore d.store → CentreSees w d w → AccountGives a d.store.moment m → Acts Submitted d.store.moment w (submit_by a m d)
+submit_acts : (a : Option CentreAccount) (m : Pdu) (d : Draft) (w : World) → SoundStore d.store → CentreRefines w d w → AccountGives a d.store.moment m → Acts Submitted d.store.moment w (submit_by a m d)
 submit_acts None m d w sound s g = refused_acts _ d w s
 submit_acts (Some a) m d w sound s g = came_acts (from_pdu a d.store.moment m) d w sound s g
 

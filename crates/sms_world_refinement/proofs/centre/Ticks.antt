@@ -8,16 +8,16 @@ use Rattle.sms_centre_spec.proofs.SteadyTimes.{dropped_steady, expired_steady}
 use Rattle.sms_centre_spec.specs.CentreEvent.{aged, at_moment, dropped, expired, fired, raised}
 use Rattle.sms_centre_spec.specs.Draft.{Draft, Store, draft_of, handsets_in, references_in}
 use Rattle.sms_centre_spec.specs.declared.event.CentreEvent.TheVariants.{Tick}
-use Rattle.sms_world_model.proofs.Givings.{still_sees}
+use Rattle.sms_world_model.proofs.Allocations.{still_refines}
 use Rattle.sms_world_model.specs.Run.{end}
 use Rattle.sms_world_model.specs.ScriptRun.{Tick_centre, items}
 use Rattle.sms_world_model.specs.World.{World}
 use Rattle.sms_world_refinement.specs.centre.CentreLaws.{TickLaw}
-use Rattle.sms_world_refinement.specs.centre.CentreSight.{CentreSees, StoreSees}
-use Rattle.sms_world_refinement.specs.centre.SeesGiven.{seconds_by}
+use Rattle.sms_world_refinement.specs.centre.CentreRefinement.{CentreRefines, StoreRefines}
+use Rattle.sms_world_refinement.specs.centre.RefinesGiven.{seconds_by}
 use Rattle.sms_world_refinement.proofs.centre.Aging.{InTick, comes_then, dropped_comes, expired_comes}
 use Rattle.sms_world_refinement.proofs.centre.Ending.{Comes}
-use Rattle.sms_world_refinement.proofs.centre.Firing.{Goes, fired_goes, fired_sound, goes_still, goes_then, raise_all_sees}
+use Rattle.sms_world_refinement.proofs.centre.Firing.{Goes, fired_goes, fired_sound, goes_still, goes_then, raise_all_refines}
 use Rattle.sms_world_refinement.proofs.centre.Playing.{Acts, acts_lead, store_comes}
 use Rattle.sms_world_refinement.proofs.centre.SessionsChange.{start}
 
@@ -25,15 +25,15 @@ later_moment : (m n : ℕ) → IsMoment m → IsMoment n → IsMoment (max m n)
 later_moment m n was is =
     record { from_2000 = (let w = was.from_2000 in omega (arith, w)); to_2099 = (let w = was.to_2099 in let i = is.to_2099 in omega (arith, w, i)) }
 
-later_sees : (n : ℕ) (s : Store) (w : World) → StoreSees s w → s.moment ≤ n → StoreSees (record s { moment = n }) w
-later_sees n s w sees past = record {
-  table = sees.table;
-  reports = sees.reports;
-  holders = sees.holders;
-  seconds = still_sees (seconds_by (handsets_in s) (references_in s)) w.down s.moment n sees.seconds past;
+later_refines : (n : ℕ) (s : Store) (w : World) → StoreRefines s w → s.moment ≤ n → StoreRefines (record s { moment = n }) w
+later_refines n s w refines past = record {
+  table = refines.table;
+  reports = refines.reports;
+  holders = refines.holders;
+  seconds = still_refines (seconds_by (handsets_in s) (references_in s)) w.down s.moment n refines.seconds past;
 }
 
-aged_goes : (n : ℕ) (w : World) (d : Draft) → n ≡ d.store.moment → SoundStore d.store → CentreSees w d w → Goes n w (aged d) w
+aged_goes : (n : ℕ) (w : World) (d : Draft) → n ≡ d.store.moment → SoundStore d.store → CentreRefines w d w → Goes n w (aged d) w
 aged_goes n w d now sound s =
     let e : Store = expired d.store in
     let k : SoundStore e = expired_steady SoundStore sound_steady d.store sound in
@@ -47,14 +47,14 @@ tick_event now c w sound is s =
     let past : c.moment ≤ n = omega arith in
     let d : Draft = at_moment now (draft_of c) in
     let k : SoundStore d.store = sound_steady.later n (draft_of c).store (start c sound) past (later_moment c.moment now sound.now is) in
-    let sees : CentreSees w d w = record { frames = s.frames; whole = s.whole; lines = s.lines; rows = later_sees n (draft_of c).store w s.rows past } in
+    let refines : CentreRefines w d w = record { frames = s.frames; whole = s.whole; lines = s.lines; rows = later_refines n (draft_of c).store w s.rows past } in
     let a : Draft = aged d in
     let ka : SoundStore a.store = dropped_steady SoundStore sound_steady (expired d.store) (expired_steady SoundStore sound_steady d.store k) in
     let f : Draft = fired a in
     let kf : SoundStore f.store = fired_sound a ka in
     let goes : Goes n w (raised f) w =
-    goes_then n w f (raised f) w (goes_then n w a f w (aged_goes n w d refl k sees) (λ v y. fired_goes n w a v ka y))
-    (λ v y. goes_still n w (raised f) v (raise_all_sees w f.air.lines f v kf y)) in
+    goes_then n w f (raised f) w (goes_then n w a f w (aged_goes n w d refl k refines) (λ v y. fired_goes n w a v ka y))
+    (λ v y. goes_still n w (raised f) v (raise_all_refines w f.links.lines f v kf y)) in
     let acts : Acts Tick_centre n w (raised f) = record {
       own = [];
       follows = goes.0;
@@ -64,6 +64,6 @@ tick_event now c w sound is s =
       follows_centre = goes.1.0.1;
       own_runs = tt;
       runs = goes.1.1;
-      sees = goes.1.2;
+      refines = goes.1.2;
     } in
     acts_lead Tick_centre (λ x q. inl q) n w (raised f) acts (event_after (Tick now) c sound tt is).store.0

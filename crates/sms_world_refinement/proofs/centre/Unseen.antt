@@ -16,11 +16,11 @@ use Rattle.sms_centre_rows.specs.waiting.Revisions.{amended}
 use Rattle.sms_centre_rows.specs.declared.waiting.progress.Progress.{Progress}
 use Rattle.sms_centre_spec.specs.Draft.{Store, handsets_in, messages_in, parts_in, references_in, reports_in, with_part_at, with_report_at}
 use Rattle.sms_world_model.specs.World.{World}
-use Rattle.sms_world_refinement.specs.centre.CentreSight.{SeesRows, StoreSees}
+use Rattle.sms_world_refinement.specs.centre.CentreRefinement.{RefinesRows, StoreRefines}
 use Rattle.sms_world_refinement.specs.centre.ByOctet.{by_octet}
-use Rattle.sms_world_refinement.specs.centre.SeesGiven.{SeesHolders, seconds_by}
-use Rattle.sms_world_refinement.specs.centre.SeesMessages.{PartSeen, messages_by, part_seen, parts_by}
-use Rattle.sms_world_refinement.specs.centre.SeesReports.{ReportSeen, SeesReports, report_seen, reports_by}
+use Rattle.sms_world_refinement.specs.centre.RefinesGiven.{RefinesHolders, seconds_by}
+use Rattle.sms_world_refinement.specs.centre.RefinesMessages.{PartSeen, messages_by, part_seen, parts_by}
+use Rattle.sms_world_refinement.specs.centre.RefinesReports.{ReportSeen, RefinesReports, report_seen, reports_by}
 
 -- ---- a part
 
@@ -38,10 +38,10 @@ part_alike p q parts there same id n = ⊎_elim
     (cases_eq (part_key p) (pair_key id n))
 
 pub part_far_unseen : (p : PartRow) (q : Progress) (s : Store) (w : World) → row_at part_key (part_key p) (parts_in s) ≡ Some p → q.is_done ≡ p.progress.is_done
-    → StoreSees s w → StoreSees (with_part_at p q s) w
-part_far_unseen p q s w there same sees =
-    subst (λ (z : ℕ → ℕ → Option PartSeen). SeesRows (messages_by (messages_in s)) z (reports_by (reports_in s)) (seconds_by (handsets_in s) (references_in s)) s.moment w)
-    (λ j id n. part_alike p q (parts_in s) there same id n j) sees
+    → StoreRefines s w → StoreRefines (with_part_at p q s) w
+part_far_unseen p q s w there same refines =
+    subst (λ (z : ℕ → ℕ → Option PartSeen). RefinesRows (messages_by (messages_in s)) z (reports_by (reports_in s)) (seconds_by (handsets_in s) (references_in s)) s.moment w)
+    (λ j id n. part_alike p q (parts_in s) there same id n j) refines
 
 -- ---- a report
 
@@ -71,7 +71,7 @@ turned (Some x) None a = absurd a
 turned (Some x) (Some y) a = (sym a.0, λ e. sym (a.1 (ap is_status a.0 ∙ e)))
 
 module _ (before after : ℕ → Option ReportSeen) (alike : (id : ℕ) → AreAlike (before id) (after id)) (w : World) where
-  reports_alike : SeesReports before w.receipts w.reports → SeesReports after w.receipts w.reports
+  reports_alike : RefinesReports before w.receipts w.reports → RefinesReports after w.receipts w.reports
   reports_alike s = record {
     told = λ id r e. let x = found_alike (after id) (before id) r (turned (before id) (after id) (alike id)) e in s.told id x.0 x.1.0;
     only = λ x i. let r = s.only x i in let y = found_alike (before x.id) (after x.id) r.0 (alike x.id) r.1 in (y.0, y.1.0);
@@ -84,7 +84,7 @@ module _ (before after : ℕ → Option ReportSeen) (alike : (id : ℕ) → AreA
         (y.0, (y.1.0, sym (ap is_status y.1.1.0) ∙ r.1.1, sym (y.1.1.1 r.1.1) ∙ r.1.2));
   }
 
-  holders_alike : (ms : ℕ → Option MessageRow) (ps : ℕ → ℕ → Option PartSeen) → SeesHolders ms ps before w.down → SeesHolders ms ps after w.down
+  holders_alike : (ms : ℕ → Option MessageRow) (ps : ℕ → ℕ → Option PartSeen) → RefinesHolders ms ps before w.down → RefinesHolders ms ps after w.down
   holders_alike ms ps s = record {
     part = s.part;
     report = λ id reference tpdu m r e f k.
@@ -111,14 +111,14 @@ report_alike r q reports rises there same id = ⊎_elim
     (cases_eq r.id id)
 
 pub report_far_unseen : (r : ReportRow) (q : Progress) (s : Store) (w : World) → Rises report_key (reports_in s) → report_of r.id (reports_in s) ≡ Some r
-    → (is_status r.kind ≡ true → q.is_done ≡ r.progress.is_done) → StoreSees s w → StoreSees (with_report_at r q s) w
-report_far_unseen r q s w rises there same sees =
+    → (is_status r.kind ≡ true → q.is_done ≡ r.progress.is_done) → StoreRefines s w → StoreRefines (with_report_at r q s) w
+report_far_unseen r q s w rises there same refines =
     let before = reports_by (reports_in s) in
     let after = reports_by (reports_in (with_report_at r q s)) in
     let alike = report_alike r q (reports_in s) rises there same in
     record {
-      table = sees.table;
-      reports = reports_alike before after alike w sees.reports;
-      holders = holders_alike before after alike w (messages_by (messages_in s)) (parts_by (parts_in s)) sees.holders;
-      seconds = sees.seconds;
+      table = refines.table;
+      reports = reports_alike before after alike w refines.reports;
+      holders = holders_alike before after alike w (messages_by (messages_in s)) (parts_by (parts_in s)) refines.holders;
+      seconds = refines.seconds;
     }

@@ -17,12 +17,12 @@ use Rattle.sms_centre_rows.specs.waiting.Trying.{finished}
 use Rattle.sms_centre_spec.proofs.SoundStores.{SoundStore}
 use Rattle.sms_centre_spec.specs.Draft.{Store, parts_in}
 use Rattle.sms_world_model.specs.Submission.{Submission}
-use Rattle.sms_world_model.specs.World.{Giving, Message}
+use Rattle.sms_world_model.specs.World.{Allocation, Message}
 use Rattle.sms_world_refinement.proofs.centre.ByOctets.{by_octet_is, by_octet_same}
 use Rattle.sms_world_refinement.proofs.centre.Entering.{cases_pair}
-use Rattle.sms_world_refinement.specs.centre.SeesGiven.{SeesHolders, given_part}
-use Rattle.sms_world_refinement.specs.centre.SeesMessages.{HasRows, IsInTable, IsStateOf, PartSeen, SeesTable, part_seen, parts_by}
-use Rattle.sms_world_refinement.specs.centre.SeesReports.{ReportSeen}
+use Rattle.sms_world_refinement.specs.centre.RefinesGiven.{RefinesHolders, given_part}
+use Rattle.sms_world_refinement.specs.centre.RefinesMessages.{HasRows, IsInTable, IsStateOf, PartSeen, RefinesTable, part_seen, parts_by}
+use Rattle.sms_world_refinement.specs.centre.RefinesReports.{ReportSeen}
 
 -- the same but for whether it is done
 abbrev pub IsSameGiven : PartSeen → PartSeen → Type 0
@@ -105,12 +105,12 @@ module _ (s : Store) (stands : SoundStore s) (id number : ℕ) (p : PartRow) (at
   given_alike : (m : MessageRow) (j moment : ℕ) (x y : PartSeen) → IsSameGiven x y → given_part m j x moment ≡ given_part m j y moment
   given_alike m j moment x y same = λ t. record { handset = m.handset; reference = same.0 t; holder = Part m.id j; moment = moment; tpdu = same.1 t }
 
-  pub done_holders : (ms : ℕ → Option MessageRow) (rs : ℕ → Option ReportSeen) (down : List Giving) → SeesHolders ms (parts_by (parts_in s)) rs down → SeesHolders ms (parts_by done_parts) rs down
+  pub done_holders : (ms : ℕ → Option MessageRow) (rs : ℕ → Option ReportSeen) (down : List Allocation) → RefinesHolders ms (parts_by (parts_in s)) rs down → RefinesHolders ms (parts_by done_parts) rs down
   done_holders ms rs down h = record {
     part = λ i j m y e f.
         let x = back i j y f in
         let g = h.part i j m x.0 e x.1.0 in
-        (g.0, subst (λ (z : Giving). Among z down) (given_alike m j g.0 x.0 y x.1.1) g.1);
+        (g.0, subst (λ (z : Allocation). Among z down) (given_alike m j g.0 x.0 y x.1.1) g.1);
     report = h.report;
     of_part = λ g i j a e.
         let x = h.of_part g i j a e in
@@ -131,7 +131,7 @@ module _ (s : Store) (stands : SoundStore s) (id number : ℕ) (p : PartRow) (at
 
 -- of a message that has ended the world doesn't show which parts are done
 pub ended_unseen : (s : Store) (stands : SoundStore s) (id number : ℕ) (p : PartRow) (at : part_at id number (parts_in s) ≡ Some p) (small : number < 256) (ms : ℕ → Option MessageRow) (m : MessageRow) (f : FinalState) (table : List Message)
-    → ms id ≡ Some m → m.state ≡ Some f → SeesTable ms (parts_by (parts_in s)) table → SeesTable ms (parts_by (done_parts s stands id number p at small)) table
+    → ms id ≡ Some m → m.state ≡ Some f → RefinesTable ms (parts_by (parts_in s)) table → RefinesTable ms (parts_by (done_parts s stands id number p at small)) table
 ended_unseen s stands id number p at small ms m f table there final t = record {
   there = λ i x e. ⊎_elim
       (λ (q : i ≡ id).

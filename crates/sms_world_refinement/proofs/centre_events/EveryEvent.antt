@@ -10,7 +10,7 @@ use Rattle.sms_world_refinement.proofs.centre.SessionsChange.{unbound_event}
 use Rattle.sms_world_refinement.proofs.centre.Submits.{submit_event}
 use Rattle.sms_world_refinement.proofs.centre.Ticks.{tick_event}
 use Rattle.sms_world_refinement.proofs.centre_events.FrameEvents.{frame_event}
-use Rattle.sms_world_refinement.specs.centre_events.CourseEvents.{EventLaw}
+use Rattle.sms_world_refinement.specs.centre_events.RunEvents.{EventLaw}
 use Rattle.sms_world_refinement.proofs.centre_events.NoSteps.{answered_still, query_still}
 
 pub every_event : EventLaw

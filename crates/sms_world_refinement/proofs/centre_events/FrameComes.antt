@@ -33,12 +33,12 @@ use Rattle.sms_relay.specs.declared.cause.RpCause.{RpCause}
 use Rattle.sms_relay.specs.declared.fault.RelayFault.{RelayFault}
 use Rattle.sms_relay.specs.declared.frame.Rp.{Rp}
 use Rattle.sms_relay.specs.declared.frame.Rp.TheVariants.{DataUnit, AckUnit, ErrorUnit, Smma}
-use Rattle.sms_centre_rows.specs.waiting.Lines.{line_of}
-use Rattle.sms_centre_rows.specs.declared.waiting.line.Line.{Line}
+use Rattle.sms_centre_rows.specs.waiting.Links.{line_of}
+use Rattle.sms_centre_rows.specs.declared.waiting.handset_link.HandsetLink.{HandsetLink}
 use Rattle.sms_centre_spec.proofs.SoundStores.{SoundStore}
 use Rattle.sms_centre_spec.specs.CentreEvent.{frame_heard, went_up}
 use Rattle.sms_centre_spec.specs.Draft.{Draft, rows_of}
-use Rattle.sms_centre_spec.specs.Receiving.{unit_came}
+use Rattle.sms_centre_spec.specs.Receiving.{unit_received}
 use Rattle.sms_centre_spec.specs.SoundCore.{IsLine, IsSentFor, IsUnderWay}
 use Rattle.sms_centre_spec.specs.Submitted.{UnitGives, UpGives}
 use Rattle.sms_centre_spec.specs.Transfers.{conclude}
@@ -47,8 +47,8 @@ use Rattle.sms_world_refinement.proofs.frames.Linking.{Awaits, ack_read, data_is
 use Rattle.sms_world_refinement.specs.frames.Between.{CameUp, TellsUp}
 use Rattle.sms_world_refinement.specs.frames.FramesUp.{IsBare}
 use Rattle.sms_world_model.specs.World.{World, Line as LineOf, Frame, Sent, Carried, Bare, Down}
-use Rattle.sms_world_refinement.specs.centre.CentreSight.{CentreSees}
-use Rattle.sms_world_refinement.specs.centre.SeesLines.{IsNumbered, SeesAnswerDown, SeesBegunDown, SeesLine, SeesOpenedDown}
+use Rattle.sms_world_refinement.specs.centre.CentreRefinement.{CentreRefines}
+use Rattle.sms_world_refinement.specs.centre.RefinesLines.{IsNumbered, RefinesAnswerDown, RefinesBegunDown, RefinesLine, RefinesOpenedDown}
 use Rattle.sms_world_refinement.proofs.centre.LinksChange.{lost_law}
 use Rattle.sms_world_refinement.specs.centre_events.Handing.{IsHandedUp}
 use Rattle.sms_world_refinement.specs.centre_events.Stages.{Answers, Begins}
@@ -58,7 +58,7 @@ use Rattle.sms_world_refinement.proofs.centre_events.Stepping.{WasHanded, begins
 use Rattle.sms_world_refinement.proofs.centre_events.UnitsCome.{data_law, data_up, memory_law}
 
 -- what the link did of its own accord, and what went up
-abbrev pub frame_told : Holder → Line → Step → Draft → Draft
+abbrev pub frame_told : Holder → HandsetLink → Step → Draft → Draft
 frame_told tag line step d = frame_heard line tag (heard step line.link) d
 
 bare_ack : (t : Transaction) → t.identifier < 7 → IsBare (cp_at (acknowledgement t))
@@ -75,14 +75,14 @@ abbrev error_up : List ℕ → ℕ → ℕ → List ℕ → Holder → Frame
 error_up h number r tpdu tag = record { number = number; handset = h; line = Down; kind = Error; reference = r; tpdu = tpdu; tag = tag }
 
 -- what is under way in a transaction that is answered has an octet for its number
-under_way_numbered : (h : List ℕ) (bag : List Sent) (i : ℕ) (u : Option Carries) (o : Option Begun) → SeesBegunDown h bag u o → has_begun i o ≡ true → (c : Carries) → u ≡ Some c → IsNumbered c.tag
+under_way_numbered : (h : List ℕ) (bag : List Sent) (i : ℕ) (u : Option Carries) (o : Option Begun) → RefinesBegunDown h bag u o → has_begun i o ≡ true → (c : Carries) → u ≡ Some c → IsNumbered c.tag
 under_way_numbered h bag i u None k e c is = absurd cc
 under_way_numbered h bag i u (Some x) k e c is =
     let both : Some k.0 ≡ Some c = sym k.1.0 ∙ is in
     let same : k.0 ≡ c = cc in
     subst (λ (y : Carries). IsNumbered y.tag) same k.1.2
 
-module _ (number : ℕ) (tag : Holder) (d : Draft) (w : World) (sound : SoundStore d.store) (s : CentreSees w d w) (line : Line) (k : SeesLine w.bag line) (is : IsLine (rows_of d.store) line) where
+module _ (number : ℕ) (tag : Holder) (d : Draft) (w : World) (sound : SoundStore d.store) (s : CentreRefines w d w) (line : HandsetLink) (k : RefinesLine w.bag line) (is : IsLine (rows_of d.store) line) where
   abbrev m : ℕ
   m = d.store.moment
 
@@ -90,22 +90,22 @@ module _ (number : ℕ) (tag : Holder) (d : Draft) (w : World) (sound : SoundSto
   abbrev acked : World
   acked = record w { bag = Bare (length w.bag + 1) line.handset ∷ w.bag }
 
-  same_links : SeesLine w.bag (with_links line.link.links line.link.under_way line)
+  same_links : RefinesLine w.bag (with_links line.link.links line.link.under_way line)
   same_links = record { next = k.next; opened = k.opened; begun = k.begun }
 
   -- ---- nothing goes up
 
   -- a repeated opening: CP-ACK, and the answer again where there is one
-  again_law : (frame : List ℕ) (a : Option Answer) → IsBare (cp_at frame) → SeesAnswerDown line.handset w.bag line.link.answered a → Begins number m (hears line (sends (frame ∷ frames_of a) line.link.links) d) w
+  again_law : (frame : List ℕ) (a : Option Answer) → IsBare (cp_at frame) → RefinesAnswerDown line.handset w.bag line.link.answered a → Begins number m (hears line (sends (frame ∷ frames_of a) line.link.links) d) w
   again_law frame None bare j = bare_alone number m line d w s line.link.links None same_links frame bare
   again_law frame (Some a) bare j = bare_and_again number m line d w s line.link.links None same_links frame a.frame ToOriginator j.0 bare (j.1.1.0, j.1.1.1, j.1.1.2) j.1.0
 
-  repeat_law : (frame : List ℕ) (o : Option Opened) → IsBare (cp_at frame) → SeesOpenedDown line.handset w.bag line.link.answered o → Begins number m (hears line (sends (frame ∷ answer_frames o) line.link.links) d) w
+  repeat_law : (frame : List ℕ) (o : Option Opened) → IsBare (cp_at frame) → RefinesOpenedDown line.handset w.bag line.link.answered o → Begins number m (hears line (sends (frame ∷ answer_frames o) line.link.links) d) w
   repeat_law frame None bare j = again_law frame None bare tt
   repeat_law frame (Some o) bare j = again_law frame o.answer bare j.1
 
   -- the links change, and nothing is sent
-  quiet_law : (l : LinkState) → SeesLine w.bag (with_links l line.link.under_way line) → Begins number m (frame_told tag line (quiet l) d) w
+  quiet_law : (l : LinkState) → RefinesLine w.bag (with_links l line.link.under_way line) → Begins number m (frame_told tag line (quiet l) d) w
   quiet_law l j = begins_still number m (hears line (quiet l) d) w (hears_nothing w line d w s l None j)
 
   -- ---- data of a handset
@@ -124,36 +124,36 @@ module _ (number : ℕ) (tag : Holder) (d : Draft) (w : World) (sound : SoundSto
       abbrev opening_step : Step
       opening_step = tells (acknowledgement t ∷ []) (UnitUp FromOriginator unit) (record line.link.links { opened = Some (record { identifier = t.identifier; opening = frame; answer = None }) })
 
-      new_line_sees : SeesLine w.bag (with_links opened_links line.link.under_way line)
-      new_line_sees = record { next = k.next; opened = (low, tt); begun = k.begun }
+      new_line_refines : RefinesLine w.bag (with_links opened_links line.link.under_way line)
+      new_line_refines = record { next = k.next; opened = (low, tt); begun = k.begun }
 
-      heard_sees : CentreSees w (hears line opening_step d) acked
-      heard_sees = hears_bare w line d w s opened_links (Some (UnitUp FromOriginator unit)) new_line_sees (acknowledgement t) (bare_ack t low)
+      heard_refines : CentreRefines w (hears line opening_step d) acked
+      heard_refines = hears_bare w line d w s opened_links (Some (UnitUp FromOriginator unit)) new_line_refines (acknowledgement t) (bare_ack t low)
 
-      line_now : line_of line.handset (hears line opening_step d).air.lines ≡ with_links opened_links line.link.under_way line
-      line_now = own_line (with_links opened_links line.link.under_way line) d.air.lines
+      line_now : line_of line.handset (hears line opening_step d).links.lines ≡ with_links opened_links line.link.under_way line
+      line_now = own_line (with_links opened_links line.link.under_way line) d.links.lines
 
-      awaits : Awaits (line_of line.handset (hears line opening_step d).air.lines).link.links opening
-      awaits = (ap (λ (x : Line). x.link.links.opened) line_now, refl)
+      awaits : Awaits (line_of line.handset (hears line opening_step d).links.lines).link.links opening
+      awaits = (ap (λ (x : HandsetLink). x.link.links.opened) line_now, refl)
 
       was : WasHanded number w (data_up line.handset number r tpdu tag)
       was = (sent, refl)
 
-      unit_law : UnitGives line.handset m (up_at unit) → Answers number m w (unit_came line.handset tag unit (up_at unit) (hears line opening_step d)) acked
+      unit_law : UnitGives line.handset m (up_at unit) → Answers number m w (unit_received line.handset tag unit (up_at unit) (hears line opening_step d)) acked
       unit_law gives =
           let e : Draft = hears line opening_step d in
           ⊎_elim
           (λ (x : (centre : List ℕ) × (up_at unit ≡ Ok (DataUnit r centre tpdu))).
-          subst (λ (y : Result Rp RelayFault). Answers number m w (unit_came line.handset tag unit y e) acked) (sym x.1)
-          (data_law line.handset r tag tpdu number w e acked sound heard_sees opening awaits was (inr sent) (subst (λ (y : Result Rp RelayFault). UnitGives line.handset m y) x.1 gives)))
+          subst (λ (y : Result Rp RelayFault). Answers number m w (unit_received line.handset tag unit y e) acked) (sym x.1)
+          (data_law line.handset r tag tpdu number w e acked sound heard_refines opening awaits was (inr sent) (subst (λ (y : Result Rp RelayFault). UnitGives line.handset m y) x.1 gives)))
           (λ (x : (up_at unit ≡ Ok (Smma r)) × (tpdu ≡ [])).
-          subst (λ (y : Result Rp RelayFault). Answers number m w (unit_came line.handset tag unit y e) acked) (sym x.0)
-          (memory_law line.handset r tag tpdu number w e acked sound heard_sees opening awaits was (inr sent) x.1))
+          subst (λ (y : Result Rp RelayFault). Answers number m w (unit_received line.handset tag unit y e) acked) (sym x.0)
+          (memory_law line.handset r tag tpdu number w e acked sound heard_refines opening awaits was (inr sent) x.1))
           told
 
       new_law : Told opening_step
       new_law gives =
-          bare_begins number m line d w s opened_links (Some (UnitUp FromOriginator unit)) new_line_sees (frame_told tag line opening_step d) (acknowledgement t) (bare_ack t low) (unit_law gives)
+          bare_begins number m line d w s opened_links (Some (UnitUp FromOriginator unit)) new_line_refines (frame_told tag line opening_step d) (acknowledgement t) (bare_ack t low) (unit_law gives)
 
       pub opening_law : Told (opening_taken frame unit t line.link.links)
       opening_law =
@@ -173,18 +173,18 @@ module _ (number : ℕ) (tag : Holder) (d : Draft) (w : World) (sound : SoundSto
     abbrev answer_step : Step
     answer_step = tells (acknowledgement t ∷ []) (UnitUp ToOriginator unit) (record line.link.links { begun = None; last_answer = Some frame })
 
-    closed_line_sees : SeesLine w.bag (with_links closed_links None line)
-    closed_line_sees = record { next = k.next; opened = k.opened; begun = tt }
+    closed_line_refines : RefinesLine w.bag (with_links closed_links None line)
+    closed_line_refines = record { next = k.next; opened = k.opened; begun = tt }
 
-    closed_sees_now : CentreSees w (hears line answer_step d) acked
-    closed_sees_now = hears_bare w line d w s closed_links (Some (UnitUp ToOriginator unit)) closed_line_sees (acknowledgement t) (bare_ack t low)
+    closed_refines_now : CentreRefines w (hears line answer_step d) acked
+    closed_refines_now = hears_bare w line d w s closed_links (Some (UnitUp ToOriginator unit)) closed_line_refines (acknowledgement t) (bare_ack t low)
 
     module _ (rp : Result Rp RelayFault) (told : up_at unit ≡ rp)
         (law : (c : Carries) → IsSentFor line.handset c.reference c.tag (rows_of d.store) → IsNumbered c.tag → Answers number m w (conclude line.handset c (ended_by c.reference rp) (hears line answer_step d)) acked) where
       -- the transfer that was under way, if there was one, has ended
       up_law : (side : Side) (c : Option Carries) → side ≡ CentreSide → IsUnderWay line.handset c (rows_of d.store) → ((x : Carries) → c ≡ Some x → IsNumbered x.tag)
           → Answers number m w (went_up line.handset tag (option_map (unit_ended side unit) c) (hears line answer_step d)) acked
-      up_law side None at under small = still number m w (λ v. CentreSees w (hears line answer_step d) v) acked closed_sees_now
+      up_law side None at under small = still number m w (λ v. CentreRefines w (hears line answer_step d) v) acked closed_refines_now
       up_law side (Some c) at under small =
           let e : Draft = hears line answer_step d in
           subst (λ (x : Side). Answers number m w (conclude line.handset c (ended_by c.reference (unit_at x unit)) e) acked) (sym at)
@@ -196,7 +196,7 @@ module _ (number : ℕ) (tag : Holder) (d : Draft) (w : World) (sound : SoundSto
           cond_both (has_begun t.identifier line.link.links.begun) answer_step
           (cond (is_same frame line.link.links.last_answer) (sends (ack ∷ []) line.link.links) (sends (rejection t ∷ []) line.link.links))
           (λ (z : Step). Begins number m (frame_told tag line z d) w)
-          (λ q. bare_begins number m line d w s closed_links (Some (UnitUp ToOriginator unit)) closed_line_sees (frame_told tag line answer_step d) ack (bare_ack t low)
+          (λ q. bare_begins number m line d w s closed_links (Some (UnitUp ToOriginator unit)) closed_line_refines (frame_told tag line answer_step d) ack (bare_ack t low)
           (up_law line.link.side line.link.under_way is.side is.under_way (λ x e. under_way_numbered line.handset w.bag t.identifier line.link.under_way line.link.links.begun k.begun q x e)))
           (λ q. cond_both (is_same frame line.link.links.last_answer) (sends (ack ∷ []) line.link.links) (sends (rejection t ∷ []) line.link.links) (λ (z : Step). Begins number m (frame_told tag line z d) w)
           (λ f. bare_alone number m line d w s line.link.links None same_links ack (bare_ack t low))
@@ -204,7 +204,7 @@ module _ (number : ℕ) (tag : Holder) (d : Draft) (w : World) (sound : SoundSto
 
     -- a wrong reference puts off
     wrong_law : (c : Carries) → Answers number m w (conclude line.handset c Wrong (hears line answer_step d)) acked
-    wrong_law c = still number m w (λ v. CentreSees w (conclude line.handset c Wrong (hears line answer_step d)) v) acked (lost_law w line.handset (Some c) (hears line answer_step d) acked sound closed_sees_now)
+    wrong_law c = still number m w (λ v. CentreRefines w (conclude line.handset c Wrong (hears line answer_step d)) v) acked (lost_law w line.handset (Some c) (hears line answer_step d) acked sound closed_refines_now)
 
     ack_law : (r : ℕ) (tpdu : List ℕ) (report : Option (List ℕ)) → Among (Carried (ack_up line.handset number r tpdu tag)) w.bag
         → (c : Carries) → IsSentFor line.handset c.reference c.tag (rows_of d.store) → IsNumbered c.tag
@@ -213,7 +213,7 @@ module _ (number : ℕ) (tag : Holder) (d : Draft) (w : World) (sound : SoundSto
         let u : Frame = ack_up line.handset number r tpdu tag in
         let e : Draft = hears line answer_step d in
         cond_both (r == c.reference) Acknowledged Wrong (λ (x : Ending). Answers number m w (conclude line.handset c x e) acked)
-        (λ q. acknowledged e acked sound w closed_sees_now number u (sent, refl) c
+        (λ q. acknowledged e acked sound w closed_refines_now number u (sent, refl) c
         (subst (λ (n : ℕ). IsSentFor line.handset n c.tag (rows_of d.store)) (sym (eqb-true r c.reference q)) for_it) small (inr sent, refl, refl))
         (λ q. wrong_law c)
 
@@ -224,13 +224,13 @@ module _ (number : ℕ) (tag : Holder) (d : Draft) (w : World) (sound : SoundSto
         let u : Frame = error_up line.handset number r tpdu tag in
         let e : Draft = hears line answer_step d in
         cond_both (r == c.reference) (RefusedWith cause report) Wrong (λ (x : Ending). Answers number m w (conclude line.handset c x e) acked)
-        (λ q. refused e acked sound w closed_sees_now number u (sent, refl) c
+        (λ q. refused e acked sound w closed_refines_now number u (sent, refl) c
         (subst (λ (n : ℕ). IsSentFor line.handset n c.tag (rows_of d.store)) (sym (eqb-true r c.reference q)) for_it) small cause report (inr sent, refl, refl))
         (λ q. wrong_law c)
 
   -- ---- CP-ACK and CP-ERROR
 
-  unrepeated : (u : Option Carries) (o : Option Begun) → SeesBegunDown line.handset w.bag u o → SeesBegunDown line.handset w.bag u (option_map (λ (x : Begun). record x { repetition = None }) o)
+  unrepeated : (u : Option Carries) (o : Option Begun) → RefinesBegunDown line.handset w.bag u o → RefinesBegunDown line.handset w.bag u (option_map (λ (x : Begun). record x { repetition = None }) o)
   unrepeated u None j = tt
   unrepeated u (Some x) j = j
 
@@ -247,7 +247,7 @@ module _ (number : ℕ) (tag : Holder) (d : Draft) (w : World) (sound : SoundSto
       (λ e. quiet_law line.link.links same_links)
 
   -- the transfer that was under way, if there was one, is lost
-  lost_up : (e : Draft) (c : Option Carries) → SoundStore e.store → CentreSees w e w → CentreSees w (went_up line.handset tag (option_map (λ (transfer : Carries). Ended transfer LostEnd) c) e) w
+  lost_up : (e : Draft) (c : Option Carries) → SoundStore e.store → CentreRefines w e w → CentreRefines w (went_up line.handset tag (option_map (λ (transfer : Carries). Ended transfer LostEnd) c) e) w
   lost_up e None sure j = j
   lost_up e (Some c) sure j = lost_law w line.handset (Some c) e w sure j
 
@@ -255,7 +255,7 @@ module _ (number : ℕ) (tag : Holder) (d : Draft) (w : World) (sound : SoundSto
   error_frame_law ToOriginator i =
       let l : LinkState = record line.link.links { begun = None } in
       let e : Draft = hears line (tells [] Failed l) d in
-      let j : SeesLine w.bag (with_links l None line) = record { next = k.next; opened = k.opened; begun = tt } in
+      let j : RefinesLine w.bag (with_links l None line) = record { next = k.next; opened = k.opened; begun = tt } in
       cond_both (has_begun i line.link.links.begun) (tells [] Failed l) (quiet line.link.links) (λ (z : Step). Begins number m (frame_told tag line z d) w)
       (λ q. begins_still number m (frame_told tag line (tells [] Failed l) d) w (lost_up e line.link.under_way sound (hears_nothing w line d w s l (Some Failed) j)))
       (λ q. quiet_law line.link.links same_links)

@@ -5,7 +5,7 @@ use Rattle.std.proofs.lemmas.Bool.{cond_both, cond-false, eqb-true, or_cases}
 use Rattle.std.specs.Str.{bytes_eq}
 use Rattle.sms_base.specs.Among.{Among}
 use Rattle.smpp_pdu.specs.declared.query.QuerySm.{QuerySm}
-use Rattle.sms_intake.specs.declared.submission.Account.{Account}
+use Rattle.sms_intake.specs.declared.submission.CentreAccount.{CentreAccount}
 use Rattle.sms_centre_rows.specs.messages.Messages.{message_at}
 use Rattle.sms_centre_rows.specs.messages.OpenParts.{parts_waiting}
 use Rattle.sms_centre_rows.specs.messages.SplitReferences.{is_among}
@@ -20,15 +20,15 @@ use Rattle.sms_centre_rows.proofs.reports.AllWaiting.{report_found}
 use Rattle.sms_rows.specs.table.Table.{Rises, put, row_at}
 use Rattle.sms_rows.proofs.table.Tables.{among_found, found_among}
 use Rattle.sms_centre_rows.specs.waiting.Keys.{load_key}
-use Rattle.sms_centre_rows.specs.waiting.Lines.{Air, is_ready, line_of}
+use Rattle.sms_centre_rows.specs.waiting.Links.{Links, is_ready, line_of}
 use Rattle.sms_centre_rows.specs.waiting.Revisions.{amended}
 use Rattle.sms_centre_rows.specs.waiting.Trying.{finished}
 use Rattle.sms_centre_rows.specs.waiting.Waiting.{next}
 use Rattle.sms_centre_rows.specs.declared.waiting.handset.HandsetRow.{HandsetRow}
-use Rattle.sms_centre_rows.specs.declared.waiting.line.Line.{Line}
-use Rattle.sms_centre_rows.specs.declared.waiting.load.Load.{Load}
+use Rattle.sms_centre_rows.specs.declared.waiting.handset_link.HandsetLink.{HandsetLink}
+use Rattle.sms_centre_rows.specs.declared.waiting.queued_part.QueuedPart.{QueuedPart}
 use Rattle.sms_centre_rows.specs.declared.waiting.progress.Progress.{Progress}
-use Rattle.sms_centre_spec.proofs.SoundAir.{line_of_handset}
+use Rattle.sms_centre_spec.proofs.SoundLinks.{line_of_handset}
 use Rattle.sms_centre_spec.specs.CentreEvent.{follow}
 use Rattle.sms_centre_spec.specs.Draft.{Core, Draft, Store, draft_of, handsets_in, messages_in, priorities_in, parts_in, reports_in, waiting_in, with_reports}
 use Rattle.sms_centre_spec.specs.Offering.{offer_all, offer_among, offer_load, offer_to}
@@ -40,17 +40,17 @@ use Rattle.sms_world_refinement.specs.centre_events.OfferedLaws.{AnsweredLaw, Qu
 
 -- ---- where all was offered, nothing is
 
-nothing_to : (number : List ℕ) (s : Store) (air : Air) → IsOffered s air.lines → offer_to number s air ≡ air
-nothing_to number s air k =
-    let line : Line = line_of number air.lines in
-    let own : line.handset ≡ number = line_of_handset number air.lines in
-    cond_both (is_ready line) (offer_among line (waiting_in line.handset s) s air) air (λ (a : Air). a ≡ air)
-    (λ t. ap (λ (o : Option Load). offer_load line (waiting_in line.handset s) o s air) (ap (λ (n : List ℕ). next s.moment (waiting_in n s)) own ∙ k number t))
+nothing_to : (number : List ℕ) (s : Store) (links : Links) → IsOffered s links.lines → offer_to number s links ≡ links
+nothing_to number s links k =
+    let line : HandsetLink = line_of number links.lines in
+    let own : line.handset ≡ number = line_of_handset number links.lines in
+    cond_both (is_ready line) (offer_among line (waiting_in line.handset s) s links) links (λ (a : Links). a ≡ links)
+    (λ t. ap (λ (o : Option QueuedPart). offer_load line (waiting_in line.handset s) o s links) (ap (λ (n : List ℕ). next s.moment (waiting_in n s)) own ∙ k number t))
     (λ t. refl)
 
-pub nothing_offered : (hs : List HandsetRow) (s : Store) (air : Air) → IsOffered s air.lines → offer_all hs s air ≡ air
-nothing_offered [] s air k = refl
-nothing_offered (h ∷ hs) s air k = ap (λ (a : Air). offer_all hs s a) (nothing_to h.number s air k) ∙ nothing_offered hs s air k
+pub nothing_offered : (hs : List HandsetRow) (s : Store) (links : Links) → IsOffered s links.lines → offer_all hs s links ≡ links
+nothing_offered [] s links k = refl
+nothing_offered (h ∷ hs) s links k = ap (λ (a : Links). offer_all hs s a) (nothing_to h.number s links k) ∙ nothing_offered hs s links k
 
 -- ---- a question
 
@@ -58,18 +58,18 @@ queried_store : (m : Option MessageRow) (d : Draft) → (queried m d).store ≡ 
 queried_store None d = refl
 queried_store (Some m) d = refl
 
-queried_air : (m : Option MessageRow) (d : Draft) → (queried m d).air ≡ d.air
-queried_air None d = refl
-queried_air (Some m) d = refl
+queried_links : (m : Option MessageRow) (d : Draft) → (queried m d).links ≡ d.links
+queried_links None d = refl
+queried_links (Some m) d = refl
 
-asked : (a : Option Account) (q : QuerySm) (d : Draft) → ((query_by a q d).store ≡ d.store) × ((query_by a q d).air ≡ d.air)
+asked : (a : Option CentreAccount) (q : QuerySm) (d : Draft) → ((query_by a q d).store ≡ d.store) × ((query_by a q d).links ≡ d.links)
 asked None q d = (refl, refl)
-asked (Some a) q d = (queried_store _ d, queried_air _ d)
+asked (Some a) q d = (queried_store _ d, queried_links _ d)
 
 -- what changes neither the rows nor the lines
-unchanged : (x d : Draft) → x.store ≡ d.store → x.air ≡ d.air → IsOffered d.store d.air.lines → (follow x).air ≡ d.air
+unchanged : (x d : Draft) → x.store ≡ d.store → x.links ≡ d.links → IsOffered d.store d.links.lines → (follow x).links ≡ d.links
 unchanged x d e f k =
-    ap (λ (s : Store). offer_all (handsets_in s) s x.air) e ∙ ap (λ (a : Air). offer_all (handsets_in d.store) d.store a) f ∙ nothing_offered (handsets_in d.store) d.store d.air k
+    ap (λ (s : Store). offer_all (handsets_in s) s x.links) e ∙ ap (λ (a : Links). offer_all (handsets_in d.store) d.store a) f ∙ nothing_offered (handsets_in d.store) d.store d.links k
 
 pub query_nothing : QueryLaw
 query_nothing account q c k =
@@ -84,21 +84,21 @@ never_waits : (handset : List ℕ) (r : ReportRow) (o : Option MessageRow) → i
 never_waits handset r None e = refl
 never_waits handset r (Some m) e = ap (λ (b : Bool). (b && not r.progress.is_done) && bytes_eq m.source.digits handset) e
 
-waits_alike : (handset : List ℕ) (ms : List MessageRow) (key : ℕ) (q : Progress) (rs : List ReportRow) (loads : List Load)
+waits_alike : (handset : List ℕ) (ms : List MessageRow) (key : ℕ) (q : Progress) (rs : List ReportRow) (loads : List QueuedPart)
     → ((r : ReportRow) → Among r rs → report_key r ≡ key → is_status r.kind ≡ false)
     → with_loads handset ms (amended report_key report_reaching key q rs) loads ≡ with_loads handset ms rs loads
 waits_alike handset ms key q [] loads f = refl
 waits_alike handset ms key q (r ∷ rs) loads f =
     let rest = waits_alike handset ms key q rs loads (λ x i e. f x (inr i) e) in
-    let more : ReportRow → List Load → List Load = λ x ls. if reports_to handset x (message_at x.id ms) then put load_key (report_load x) ls else ls in
-    let head : (ls : List Load) → more (if report_key r == key then report_reaching q r else r) ls ≡ more r ls = λ ls.
+    let more : ReportRow → List QueuedPart → List QueuedPart = λ x ls. if reports_to handset x (message_at x.id ms) then put load_key (report_load x) ls else ls in
+    let head : (ls : List QueuedPart) → more (if report_key r == key then report_reaching q r else r) ls ≡ more r ls = λ ls.
     cond_both (report_key r == key) (report_reaching q r) r (λ (x : ReportRow). more x ls ≡ more r ls)
     (λ t.
     let plain : is_status r.kind ≡ false = f r (inl refl) (eqb-true (report_key r) key t) in
     cond-false (reports_to handset (report_reaching q r) (message_at r.id ms)) (put load_key (report_load (report_reaching q r)) ls) ls (never_waits handset (report_reaching q r) (message_at r.id ms) plain)
     ∙ sym (cond-false (reports_to handset r (message_at r.id ms)) (put load_key (report_load r) ls) ls (never_waits handset r (message_at r.id ms) plain)))
     (λ t. refl) in
-    head (with_loads handset ms (amended report_key report_reaching key q rs) loads) ∙ ap (λ (ls : List Load). more r ls) rest
+    head (with_loads handset ms (amended report_key report_reaching key q rs) loads) ∙ ap (λ (ls : List QueuedPart). more r ls) rest
 
 same_report : (r x : ReportRow) → Some r ≡ Some x → r ≡ x
 same_report r x e = cc
@@ -121,7 +121,7 @@ receipt_there c session number sound e n i r q =
     ap (λ (z : ReportRow). is_status z.kind) (sym (same_report x.0 r (sym x.1.0 ∙ q))) ∙ no_status x.0.kind x.1.1
 
 -- what waits is as before
-ended_offered : (accepted : Bool) (n id : ℕ) (o : Option ReportRow) (s : Store) (lines : List Line) → Rises report_key (reports_in s) → report_of id (reports_in s) ≡ o → ((r : ReportRow) → o ≡ Some r → is_status r.kind ≡ false)
+ended_offered : (accepted : Bool) (n id : ℕ) (o : Option ReportRow) (s : Store) (lines : List HandsetLink) → Rises report_key (reports_in s) → report_of id (reports_in s) ≡ o → ((r : ReportRow) → o ≡ Some r → is_status r.kind ≡ false)
     → IsOffered s lines → IsOffered (with_reports (receipt_ended accepted n o s.reports) s) lines
 ended_offered accepted n id None s lines keys there f k = k
 ended_offered accepted n id (Some r) s lines keys there f k = λ number ready.
@@ -133,17 +133,17 @@ ended_offered accepted n id (Some r) s lines keys there f k = λ number ready.
     (λ x i e.
     let both : Some x ≡ Some r = sym (among_found report_key x rs keys i) ∙ ap (λ (key : ℕ). row_at report_key key rs) e ∙ own in
     ap (λ (y : ReportRow). is_status y.kind) (same_report x r both) ∙ f r refl) in
-    ap (λ (ls : List Load). next s.moment ls) same ∙ k number ready
+    ap (λ (ls : List QueuedPart). next s.moment ls) same ∙ k number ready
 
 answered_offered : (id : ℕ) (accepted : Bool) (o : Option Session) (d : Draft) → ((session : Session) → o ≡ Some session → (n : ℕ) → Among n session.unanswered → (r : ReportRow) → report_of n (reports_in d.store) ≡ Some r → is_status r.kind ≡ false)
-    → Rises report_key (reports_in d.store) → IsOffered d.store d.air.lines → (follow (answered_by id accepted o d)).air ≡ d.air
-answered_offered id accepted None d f keys k = nothing_offered (handsets_in d.store) d.store d.air k
+    → Rises report_key (reports_in d.store) → IsOffered d.store d.links.lines → (follow (answered_by id accepted o d)).links ≡ d.links
+answered_offered id accepted None d f keys k = nothing_offered (handsets_in d.store) d.store d.links k
 answered_offered id accepted (Some session) d f keys k =
-    let e : Draft = record d { store = receipt_answered id accepted d.store; desk = answered_in id session d.desk } in
-    cond_both (is_among id session.unanswered) e d (λ (x : Draft). (follow x).air ≡ d.air)
-    (λ t. nothing_offered (handsets_in d.store) (receipt_answered id accepted d.store) d.air
-    (ended_offered accepted d.store.moment id (report_of id (reports_in d.store)) d.store d.air.lines keys refl (λ r q. f session refl id (among_is id session.unanswered t) r q) k))
-    (λ t. nothing_offered (handsets_in d.store) d.store d.air k)
+    let e : Draft = record d { store = receipt_answered id accepted d.store; bindings = answered_in id session d.bindings } in
+    cond_both (is_among id session.unanswered) e d (λ (x : Draft). (follow x).links ≡ d.links)
+    (λ t. nothing_offered (handsets_in d.store) (receipt_answered id accepted d.store) d.links
+    (ended_offered accepted d.store.moment id (report_of id (reports_in d.store)) d.store d.links.lines keys refl (λ r q. f session refl id (among_is id session.unanswered t) r q) k))
+    (λ t. nothing_offered (handsets_in d.store) d.store d.links k)
 
 pub answered_nothing : AnsweredLaw
 answered_nothing session id accepted c sound k =

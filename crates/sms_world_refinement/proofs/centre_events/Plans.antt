@@ -14,16 +14,16 @@ use Rattle.sms_world_refinement.proofs.centre_events.AfterOffers.{event_offered}
 use Rattle.sms_world_model.specs.Run.{end}
 use Rattle.sms_world_model.specs.ScriptRun.{items}
 use Rattle.sms_world_model.specs.World.{World}
-use Rattle.sms_world_refinement.specs.centre.CentreSight.{CentreSees}
-use Rattle.sms_world_refinement.proofs.centre.Staying.{next_sees}
-use Rattle.sms_world_refinement.specs.centre_events.CourseEvents.{moment_at}
+use Rattle.sms_world_refinement.specs.centre.CentreRefinement.{CentreRefines}
+use Rattle.sms_world_refinement.proofs.centre.Staying.{next_refines}
+use Rattle.sms_world_refinement.specs.centre_events.RunEvents.{moment_at}
 use Rattle.sms_world_refinement.specs.centre_events.PlanLaws.{LeadsOn, PlanLaw}
 use Rattle.sms_world_refinement.proofs.centre_events.EveryEvent.{every_event}
 
 -- a plan is what came of the event
 planned_is : (answers : ℕ → Bool) (d : Draft) (outcome : Outcome) → planned answers d ≡ Ok outcome → outcome_of d ≡ outcome
 planned_is answers d outcome e =
-    cond_both (all_answered answers d.air.read) (Ok (outcome_of d)) (Err NoBody) (λ (r : Result Outcome PlanError). r ≡ Ok outcome → outcome_of d ≡ outcome)
+    cond_both (all_answered answers d.links.read) (Ok (outcome_of d)) (Err NoBody) (λ (r : Result Outcome PlanError). r ≡ Ok outcome → outcome_of d ≡ outcome)
     (λ t q. let same : outcome_of d ≡ outcome = cc in same) (λ t q. absurd cc) e
 
 pub plan_leads : PlanLaw
@@ -37,7 +37,7 @@ plan_leads answers number event c outcome w planned_so sound k is may s =
         x.1.0,
         x.1.1,
         x.1.2.frames,
-        subst (λ (z : Core). CentreSees v (draft_of z) v) (sym (adopted_is event c)) (next_sees w d v x.1.2),
+        subst (λ (z : Core). CentreRefines v (draft_of z) v) (sym (adopted_is event c)) (next_refines w d v x.1.2),
         subst (λ (z : Core). IsSoundCore z) (sym (adopted_is event c)) (stays_sound event c sound is),
         subst (λ (z : Core). HasOffered z) (sym (adopted_is event c)) (event_offered event c sound is),
       ),

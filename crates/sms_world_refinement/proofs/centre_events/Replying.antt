@@ -26,27 +26,27 @@ use Rattle.sms_intake.specs.Refusals.{cause_of}
 use Rattle.sms_intake.specs.SubmitReports.{accepting_report, refusing_report}
 use Rattle.sms_intake.specs.declared.refusal.SubmitRefusal.{SubmitRefusal}
 use Rattle.sms_intake.specs.declared.refusal.SubmitRefusal.TheVariants.{WrongType, WrongValidityFormat, Unreadable, NoHandset, PastLimit, Duplicate, ReferenceTaken, Congested}
-use Rattle.sms_centre_rows.specs.waiting.Lines.{line_of, turn_line, turned}
-use Rattle.sms_centre_rows.specs.declared.waiting.line.Line.{Line}
-use Rattle.sms_centre_rows.specs.declared.waiting.line.Sent.{Sent as SentRow}
-use Rattle.sms_centre_spec.proofs.SoundAir.{line_of_handset}
-use Rattle.sms_centre_spec.specs.Draft.{Draft, on_air}
+use Rattle.sms_centre_rows.specs.waiting.Links.{line_of, turn_line, turned}
+use Rattle.sms_centre_rows.specs.declared.waiting.handset_link.HandsetLink.{HandsetLink}
+use Rattle.sms_centre_rows.specs.declared.waiting.handset_link.Sent.{Sent as SentRow}
+use Rattle.sms_centre_spec.proofs.SoundLinks.{line_of_handset}
+use Rattle.sms_centre_spec.specs.Draft.{Draft, on_links}
 use Rattle.sms_centre_spec.specs.Receiving.{reply}
 use Rattle.sms_world_refinement.proofs.frames.Linking.{Awaits, data_framed, reply_is}
 use Rattle.sms_world_refinement.specs.frames.Between.{CarriesDown, IsOfKindDown}
 use Rattle.sms_world_refinement.specs.frames.FramesUp.{flag_for}
 use Rattle.sms_world_model.specs.World.{Sent, World}
-use Rattle.sms_world_refinement.specs.centre.CentreSight.{CentreSees}
+use Rattle.sms_world_refinement.specs.centre.CentreRefinement.{CentreRefines}
 use Rattle.sms_world_refinement.specs.centre.FramesOut.{sent_down}
-use Rattle.sms_world_refinement.specs.centre.SeesLines.{SeesLine, SeesOpenedDown}
-use Rattle.sms_world_refinement.proofs.centre.Offers.{line_sees, lines_with, stacked_both, whole_both}
+use Rattle.sms_world_refinement.specs.centre.RefinesLines.{RefinesLine, RefinesOpenedDown}
+use Rattle.sms_world_refinement.proofs.centre.Offers.{line_refines, lines_with, stacked_both, whole_both}
 use Rattle.sms_world_refinement.proofs.centre.Staying.{line_still}
 
 -- the frame of an answer in that transaction
 abbrev pub answer_frame : Opened → List ℕ → List ℕ
 answer_frame o unit = spelled (CpData (in_transaction ToOriginator o.identifier) unit)
 
-opened_below : (h : List ℕ) (bag : List Sent) (a : Option Carried) (s : Option Opened) (o : Opened) → s ≡ Some o → SeesOpenedDown h bag a s → o.identifier < 7
+opened_below : (h : List ℕ) (bag : List Sent) (a : Option Carried) (s : Option Opened) (o : Opened) → s ≡ Some o → RefinesOpenedDown h bag a s → o.identifier < 7
 opened_below h bag a None o e s = absurd cc
 opened_below h bag a (Some x) o e s = let q : x ≡ o = cc in subst (λ (z : Opened). z.identifier < 7) q s.0
 
@@ -57,10 +57,10 @@ pub record IsAnswerDown (kind : Kind) (r : ℕ) (unit : List ℕ) : Type 0 where
   pub fits : length unit ≤ 248
   pub told : IsOfKindDown kind r (down_at unit)
 
-module _ (kind : Kind) (r : ℕ) (tag : Holder) (unit : List ℕ) (i : IsAnswerDown kind r unit) (b : World) (d : Draft) (w : World) (s : CentreSees b d w) where
+module _ (kind : Kind) (r : ℕ) (tag : Holder) (unit : List ℕ) (i : IsAnswerDown kind r unit) (b : World) (d : Draft) (w : World) (s : CentreRefines b d w) where
   -- on a line
-  on_line : (line : Line) (o : Opened) → SeesLine w.bag line → Awaits line.link.links o
-      → CentreSees b (on_air (turn_line line (answering (of_kind kind r tag) (reply_step d.store.moment unit line.link.links) line.link) d.air) d)
+  on_line : (line : HandsetLink) (o : Opened) → RefinesLine w.bag line → Awaits line.link.links o
+      → CentreRefines b (on_links (turn_line line (answering (of_kind kind r tag) (reply_step d.store.moment unit line.link.links) line.link) d.links) d)
       (record w { bag = sent_down line.handset (length w.bag + 1) (answer_frame o unit) (Some (of_kind kind r tag)) ∷ w.bag })
   on_line line o k a =
       let c : Carried = of_kind kind r tag in
@@ -78,28 +78,28 @@ module _ (kind : Kind) (r : ℕ) (tag : Holder) (unit : List ℕ) (i : IsAnswerD
       let e : answered d.store.moment unit line.link.links o ≡ reply_step d.store.moment unit line.link.links = sym (reply_is d.store.moment unit line.link.links o a) in
       let f : SentRow = record { handset = line.handset; frame = record { octets = octets; carried = Some c; is_copy = false } } in
       let grown : (y : Sent) → Among y w.bag → Among y v.bag = λ y j. inr j in
-      let old : SeesLine v.bag line = line_still w.bag v.bag grown line k in
-      let after_step : Step → Draft = λ (z : Step). on_air (turn_line line (answering (of_kind kind r tag) z line.link) d.air) d in
-      let z : CentreSees b (after_step (answered d.store.moment unit line.link.links o)) v = record {
-        frames = ap (λ (bag : List Sent). sent_down line.handset (length bag + 1) octets (Some c) ∷ bag) s.frames ∙ sym (stacked_both d.air.frames (f ∷ []) b.bag);
-        whole = whole_both d.air.frames (f ∷ []) s.whole (is, tt);
-        lines = lines_with v.bag (turned (answering c (answered d.store.moment unit line.link.links o) line.link) line) d.air.lines
+      let old : RefinesLine v.bag line = line_still w.bag v.bag grown line k in
+      let after_step : Step → Draft = λ (z : Step). on_links (turn_line line (answering (of_kind kind r tag) z line.link) d.links) d in
+      let z : CentreRefines b (after_step (answered d.store.moment unit line.link.links o)) v = record {
+        frames = ap (λ (bag : List Sent). sent_down line.handset (length bag + 1) octets (Some c) ∷ bag) s.frames ∙ sym (stacked_both d.links.frames (f ∷ []) b.bag);
+        whole = whole_both d.links.frames (f ∷ []) s.whole (is, tt);
+        lines = lines_with v.bag (turned (answering c (answered d.store.moment unit line.link.links o) line.link) line) d.links.lines
             (record { next = k.next; opened = (l, (c, (refl, (is, i.flag, (length w.bag + 1, inl refl))))); begun = old.begun })
             (λ y j. line_still w.bag v.bag grown y (s.lines y j));
         rows = record { table = s.rows.table; reports = s.rows.reports; holders = s.rows.holders; seconds = s.rows.seconds };
       } in
-      subst (λ (t : Step). CentreSees b (after_step t) v) e z
+      subst (λ (t : Step). CentreRefines b (after_step t) v) e z
 
   -- to the handset
-  pub replies : (h : List ℕ) (o : Opened) → Awaits (line_of h d.air.lines).link.links o
-      → CentreSees b (reply h kind r tag unit d) (record w { bag = sent_down h (length w.bag + 1) (answer_frame o unit) (Some (of_kind kind r tag)) ∷ w.bag })
+  pub replies : (h : List ℕ) (o : Opened) → Awaits (line_of h d.links.lines).link.links o
+      → CentreRefines b (reply h kind r tag unit d) (record w { bag = sent_down h (length w.bag + 1) (answer_frame o unit) (Some (of_kind kind r tag)) ∷ w.bag })
   replies h o a =
-      let line : Line = line_of h d.air.lines in
+      let line : HandsetLink = line_of h d.links.lines in
       let c : Carried = of_kind kind r tag in
       let awaits : awaits_reply line.link.links ≡ true = ap (λ (y : Option Opened). is_some y && is_none (answer_of y)) a.0 ∙ ap (λ (y : Option Answer). is_none y) a.1 in
-      let z = on_line line o (line_sees w.bag h d.air.lines s.lines) a in
-      subst (λ (n : List ℕ). CentreSees b (reply h kind r tag unit d) (record w { bag = sent_down n (length w.bag + 1) (answer_frame o unit) (Some c) ∷ w.bag })) (line_of_handset h d.air.lines)
-      (subst (λ (t : Turn). CentreSees b (on_air (turn_line line t d.air) d) (record w { bag = sent_down line.handset (length w.bag + 1) (answer_frame o unit) (Some c) ∷ w.bag }))
+      let z = on_line line o (line_refines w.bag h d.links.lines s.lines) a in
+      subst (λ (n : List ℕ). CentreRefines b (reply h kind r tag unit d) (record w { bag = sent_down n (length w.bag + 1) (answer_frame o unit) (Some c) ∷ w.bag })) (line_of_handset h d.links.lines)
+      (subst (λ (t : Turn). CentreRefines b (on_links (turn_line line t d.links) d) (record w { bag = sent_down line.handset (length w.bag + 1) (answer_frame o unit) (Some c) ∷ w.bag }))
       (sym (cond-true (awaits_reply line.link.links) (answering c (reply_step d.store.moment unit line.link.links) line.link) (still line.link) awaits)) z)
 
 -- ---- the answers that the centre gives

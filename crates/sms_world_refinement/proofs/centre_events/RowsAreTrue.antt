@@ -14,18 +14,18 @@ use Rattle.sms_world_model.proofs.Faithful.{delivered_accepted, faithful_empty, 
 use Rattle.sms_world_model.proofs.Runs.{sound_empty, sound_run}
 use Rattle.sms_world_model.proofs.Tables.{same_message}
 use Rattle.sms_world_model.specs.Agreement.{DeliveredAccepted, NoPartTwice, ReceiptsAgree}
-use Rattle.sms_world_model.specs.Lists.{StandsOnce}
+use Rattle.sms_world_model.specs.Lists.{OccursOnce}
 use Rattle.sms_world_model.specs.Run.{end}
 use Rattle.sms_world_model.specs.ScriptRun.{items}
 use Rattle.sms_world_model.specs.WhoseTpdu.{IsDeliverOf}
-use Rattle.sms_world_model.specs.World.{Accepted, Final, Giving, Pending, Stands, State, World, empty, pair_given}
-use Rattle.sms_world_refinement.specs.centre.CentreSight.{CentreSees}
-use Rattle.sms_world_refinement.specs.centre.SeesGiven.{given_part}
-use Rattle.sms_world_refinement.specs.centre.SeesMessages.{IsStateOf, PartSeen, part_seen, parts_by}
-use Rattle.sms_world_refinement.specs.centre.SeesReports.{report_seen}
+use Rattle.sms_world_model.specs.World.{Accepted, Final, Allocation, Pending, IsRecorded, State, World, empty, pair_given}
+use Rattle.sms_world_refinement.specs.centre.CentreRefinement.{CentreRefines}
+use Rattle.sms_world_refinement.specs.centre.RefinesGiven.{given_part}
+use Rattle.sms_world_refinement.specs.centre.RefinesMessages.{IsStateOf, PartSeen, part_seen, parts_by}
+use Rattle.sms_world_refinement.specs.centre.RefinesReports.{report_seen}
 use Rattle.sms_world_refinement.proofs.centre.ByOctets.{by_octet_is}
-use Rattle.sms_world_refinement.specs.centre_events.Course.{Others, Restart, Stopped, Whole}
-use Rattle.sms_world_refinement.specs.centre_events.CourseEvents.{moment_at}
+use Rattle.sms_world_refinement.specs.centre_events.Run.{Others, Restart, Stopped, Whole}
+use Rattle.sms_world_refinement.specs.centre_events.RunEvents.{moment_at}
 use Rattle.sms_world_refinement.specs.centre_events.TruthfulRows.{DeliveredLaw, EpisodeLaw, IsAsSubmitted, OnceLaw, ToldLaw, ToldRows, pair_in_row}
 
 -- ---- an episode is a run
@@ -45,7 +45,7 @@ same_state (Some g) f parts st is e =
     let both : Final g ≡ Final f = sym is ∙ e in
     let same : g ≡ f = cc in ap (λ (x : FinalState). Some x) same
 
-module _ (c : Core) (w : World) (s : CentreSees w (draft_of c) w) where
+module _ (c : Core) (w : World) (s : CentreRefines w (draft_of c) w) where
   module _ (id number : ℕ) (m : MessageRow) (p : PartRow) (there : message_at id c.rows.messages ≡ Some m) (at : part_at id number c.rows.parts ≡ Some p) (small : number < 256) where
     abbrev seen : PartSeen
     seen = record { reference = p.reference; tpdu = compared p.tpdu; is_done = p.progress.is_done }
@@ -57,7 +57,7 @@ module _ (c : Core) (w : World) (s : CentreSees w (draft_of c) w) where
     own = found_key message_key id m c.rows.messages there
 
     -- what was given to the part says what its row says
-    given_is : (g : Giving) → Among g w.down → g.holder ≡ Part id number → (pair_given g ≡ pair_in_row m p)
+    given_is : (g : Allocation) → Among g w.down → g.holder ≡ Part id number → (pair_given g ≡ pair_in_row m p)
     given_is g among holder =
         let x = s.rows.holders.of_part g id number among holder in
         let rows : Some x.0 ≡ Some m = sym x.2.0 ∙ there in
@@ -66,19 +66,19 @@ module _ (c : Core) (w : World) (s : CentreSees w (draft_of c) w) where
         let part : x.1 ≡ seen = cc in
         ap pair_given x.2.2 ∙ (λ t. record { handset = (row t).handset; reference = (part t).reference; tpdu = (part t).tpdu })
 
-    delivered_row : DeliveredAccepted w → m.state ≡ Some Delivered → StandsOnce (pair_in_row m p) w.accepted × IsAsSubmitted m number p
+    delivered_row : DeliveredAccepted w → m.state ≡ Some Delivered → OccursOnce (pair_in_row m p) w.accepted × IsAsSubmitted m number p
     delivered_row all final =
         let x = s.rows.table.there id m there in
         let ended : IsStateOf (Some Delivered) (parts_by c.rows.parts id) x.1 = subst (λ (o : Option FinalState). IsStateOf o (parts_by c.rows.parts id) x.1) final x.2.2 in
-        let stands : Stands w.table id x.0 (Final Delivered) = subst (λ (k : ℕ). Stands w.table k x.0 (Final Delivered)) own (subst (λ (z : State). Stands w.table m.id x.0 z) ended x.2.0) in
+        let stands : IsRecorded w.table id x.0 (Final Delivered) = subst (λ (k : ℕ). IsRecorded w.table k x.0 (Final Delivered)) own (subst (λ (z : State). IsRecorded w.table m.id x.0 z) ended x.2.0) in
         let has = x.2.3.there number seen part_is in
         let y = all id x.0 number has.0 stands has.1 in
         let same : pair_given y.0 ≡ pair_in_row m p = given_is y.0 y.1.0 y.1.1 in (
-          subst (λ (a : Accepted). StandsOnce a w.accepted) same y.1.4,
+          subst (λ (a : Accepted). OccursOnce a w.accepted) same y.1.4,
           (x.0, has.0, y.0.moment, (x.2.1, has.1, subst (λ (a : Accepted). IsDeliverOf x.0 has.0 y.0.moment a.tpdu) same y.1.3)),
         )
 
-    once_row : NoPartTwice w → Among (pair_in_row m p) w.accepted → StandsOnce (pair_in_row m p) w.accepted
+    once_row : NoPartTwice w → Among (pair_in_row m p) w.accepted → OccursOnce (pair_in_row m p) w.accepted
     once_row none among =
         let g = s.rows.holders.part id number m seen there part_is in
         none (given_part m number seen g.0) m.id number g.1 refl among
@@ -90,7 +90,7 @@ module _ (c : Core) (w : World) (s : CentreSees w (draft_of c) w) where
       let m = s.rows.table.only id y.1.0 (Final x.0) y.1.1 in
       let z = s.rows.table.there id m.0 m.1 in
       let own : m.0.id ≡ id = found_key message_key id m.0 c.rows.messages m.1 in
-      let both = same_message w.table id z.0 y.1.0 z.1 (Final x.0) (subst (λ (k : ℕ). Stands w.table k z.0 z.1) own z.2.0) y.1.1 in
+      let both = same_message w.table id z.0 y.1.0 z.1 (Final x.0) (subst (λ (k : ℕ). IsRecorded w.table k z.0 z.1) own z.2.0) y.1.1 in
       (m.0, x.0, (m.1, same_state m.0.state x.0 (parts_by c.rows.parts id) z.1 z.2.2 both.1, y.0))
 
 -- ---- wherever a run led

@@ -22,27 +22,27 @@ use Rattle.sms_centre_spec.proofs.SoundStores.{SoundStore}
 use Rattle.sms_centre_spec.proofs.StandsKept.{part_far_stands}
 use Rattle.sms_centre_spec.specs.Draft.{Store, messages_in, parts_in, priorities_in, reports_in, with_message, with_part_at}
 use Rattle.sms_centre_spec.specs.Ends.{end as end_message}
-use Rattle.sms_centre_spec.specs.Standing.{Stands as StandsStore}
+use Rattle.sms_centre_spec.specs.Consistent.{IsConsistent as StandsStore}
 use Rattle.sms_centre_spec.specs.Transfers.{complete}
 use Rattle.sms_world_model.proofs.Tables.{changed_back, changed_here, changed_there, number_done, same_message}
 use Rattle.sms_world_model.specs.Lists.{all_numbers}
 use Rattle.sms_world_model.specs.Submission.{Submission}
-use Rattle.sms_world_model.specs.World.{Down, Final, Frame, Giving, IsUnanswered, Message, Pending, Stands, State, World, changed}
+use Rattle.sms_world_model.specs.World.{Down, Final, Frame, Allocation, IsUnanswered, Message, Pending, IsRecorded, State, World, changed}
 use Rattle.sms_world_model.specs.WorldStep.{HasReference, IsSent, Settle, marked, settled}
 use Rattle.sms_world_refinement.proofs.centre.ByOctets.{by_octet_is, by_octet_some}
-use Rattle.sms_world_refinement.proofs.centre.Ending.{end_comes, ended_sees, rows_map}
-use Rattle.sms_world_refinement.proofs.centre.Givings.{seen_part}
+use Rattle.sms_world_refinement.proofs.centre.Ending.{end_comes, ended_refines, rows_map}
+use Rattle.sms_world_refinement.proofs.centre.Allocations.{seen_part}
 use Rattle.sms_world_refinement.proofs.centre.Loads.{none_of}
-use Rattle.sms_world_refinement.specs.centre.CentreSight.{StoreSees}
-use Rattle.sms_world_refinement.specs.centre.SeesGiven.{given_part}
-use Rattle.sms_world_refinement.specs.centre.SeesReports.{reports_by}
-use Rattle.sms_world_refinement.specs.centre.SeesMessages.{HasRows, IsInTable, IsRowOf, IsStateOf, PartSeen, SeesTable, messages_by, part_seen, parts_by}
+use Rattle.sms_world_refinement.specs.centre.CentreRefinement.{StoreRefines}
+use Rattle.sms_world_refinement.specs.centre.RefinesGiven.{given_part}
+use Rattle.sms_world_refinement.specs.centre.RefinesReports.{reports_by}
+use Rattle.sms_world_refinement.specs.centre.RefinesMessages.{HasRows, IsInTable, IsRowOf, IsStateOf, PartSeen, RefinesTable, messages_by, part_seen, parts_by}
 use Rattle.sms_world_refinement.specs.centre_events.Stages.{Settles}
 use Rattle.sms_world_refinement.proofs.centre_events.AllDone.{has_numbers, numbers_all, numbers_have, some_undone}
 use Rattle.sms_world_refinement.proofs.centre_events.DoneParts.{done_elsewhere, done_holders, done_parts, done_rows, done_seen, ended_unseen, other_now, own_before, own_now, part_id, was_seen}
 use Rattle.sms_world_refinement.proofs.centre_events.Stepping.{WasHanded, reads_then}
 
-module _ (s : Store) (w : World) (sound : SoundStore s) (sees : StoreSees s w) (number : ℕ) (p : PartRow) (m : MessageRow) (at : part_at m.id number (parts_in s) ≡ Some p) (small : number < 256)
+module _ (s : Store) (w : World) (sound : SoundStore s) (refines : StoreRefines s w) (number : ℕ) (p : PartRow) (m : MessageRow) (at : part_at m.id number (parts_in s) ≡ Some p) (small : number < 256)
     (there : message_at m.id (messages_in s) ≡ Some m) (pending : is_pending m ≡ true) (undone : p.progress.is_done ≡ false) where
   abbrev after : Store
   after = with_part_at p (finished p.progress) s
@@ -68,17 +68,17 @@ module _ (s : Store) (w : World) (sound : SoundStore s) (sees : StoreSees s w) (
   -- ---- the message in the world
 
   abbrev whole : Submission
-  whole = (sees.table.there m.id m there).0
+  whole = (refines.table.there m.id m there).0
 
   is_row : IsRowOf m whole
-  is_row = (sees.table.there m.id m there).2.1
+  is_row = (refines.table.there m.id m there).2.1
 
   has_rows : HasRows whole (parts_by (parts_in s) m.id)
-  has_rows = (sees.table.there m.id m there).2.3
+  has_rows = (refines.table.there m.id m there).2.3
 
-  abbrev was_pending : IsStateOf None (parts_by (parts_in s) m.id) (sees.table.there m.id m there).1
+  abbrev was_pending : IsStateOf None (parts_by (parts_in s) m.id) (refines.table.there m.id m there).1
   was_pending =
-      let x = sees.table.there m.id m there in
+      let x = refines.table.there m.id m there in
       subst (λ (z : Option FinalState). IsStateOf z (parts_by (parts_in s) m.id) x.1) (none_of m.state pending) x.2.2
 
   abbrev done : List ℕ
@@ -87,8 +87,8 @@ module _ (s : Store) (w : World) (sound : SoundStore s) (sees : StoreSees s w) (
   is_done_if : (n : ℕ) (x : PartSeen) → parts_by (parts_in s) m.id n ≡ Some x → (x.is_done ≡ true) ↔ Among n done
   is_done_if = was_pending.1.1
 
-  stands : Stands w.table m.id whole (Pending done)
-  stands = let x = sees.table.there m.id m there in subst (λ (z : State). Stands w.table m.id whole z) was_pending.1.0 x.2.0
+  stands : IsRecorded w.table m.id whole (Pending done)
+  stands = let x = refines.table.there m.id m there in subst (λ (z : State). IsRecorded w.table m.id whole z) was_pending.1.0 x.2.0
 
   -- ---- all parts are done exactly where all numbers are there
 
@@ -169,14 +169,14 @@ module _ (s : Store) (w : World) (sound : SoundStore s) (sees : StoreSees s w) (
         whole,
         st,
         (
-          subst (λ (z : State). Stands (changed m.id mark w.table) m.id whole z) now (changed_here w.table m.id mark (record { submission = whole; state = Pending done }) stands),
+          subst (λ (z : State). IsRecorded (changed m.id mark w.table) m.id whole z) now (changed_here w.table m.id mark (record { submission = whole; state = Pending done }) stands),
           is_row,
           subst (λ (z : Option FinalState). IsStateOf z (parts_by ps m.id) st) (sym (none_of m.state pending)) (number ∷ done, (refl, iff_now)),
           done_rows s sound m.id number p at small whole m.id has_rows,
         ),
       )
 
-  open_table : all_numbers (length whole.parts) (number ∷ done) ≡ false → SeesTable (messages_by (messages_in s)) (parts_by ps) (changed m.id mark w.table)
+  open_table : all_numbers (length whole.parts) (number ∷ done) ≡ false → RefinesTable (messages_by (messages_in s)) (parts_by ps) (changed m.id mark w.table)
   open_table more = record {
     there = λ i x e. ⊎_elim
         (λ (q : i ≡ m.id).
@@ -186,29 +186,29 @@ module _ (s : Store) (w : World) (sound : SoundStore s) (sees : StoreSees s w) (
         (subst (λ (k : ℕ). IsInTable m (parts_by ps k) (changed m.id mark w.table)) (sym q) (own_in_table more)))
         (λ (ne : i ≡ m.id → ⊥).
         let own : x.id ≡ i = found_key message_key i x (messages_in s) e in
-        let y = done_elsewhere s sound m.id number p at small i x w.table ne (sees.table.there i x e) in
+        let y = done_elsewhere s sound m.id number p at small i x w.table ne (refines.table.there i x e) in
         (y.0, y.1, (changed_there w.table m.id mark x.id (λ z. ne (sym own ∙ z)) ∙ y.2.0, y.2.1, y.2.2, y.2.3)))
         (cases_eq i m.id);
     only = λ i u st k. ⊎_elim
         (λ (e : (i ≡ m.id) × (u ≡ whole) × (st ≡ mark (record { submission = whole; state = Pending done }))). (m, ap (λ (j : ℕ). message_at j (messages_in s)) e.0 ∙ there))
-        (λ (e : ¬ (i ≡ m.id) × Stands w.table i u st). sees.table.only i u st e.1)
+        (λ (e : ¬ (i ≡ m.id) × IsRecorded w.table i u st). refines.table.only i u st e.1)
         (changed_back w.table m.id mark whole u (Pending done) st i stands k);
   }
 
-  open_sees : all_done m.id ps ≡ false → StoreSees after settled_world
-  open_sees partly =
+  open_refines : all_done m.id ps ≡ false → StoreRefines after settled_world
+  open_refines partly =
       let more : all_numbers (length whole.parts) (number ∷ done) ≡ false = ⊎_elim
       (λ (t : all_numbers (length whole.parts) (number ∷ done) ≡ true). absurd (let bad : true ≡ false = sym (done_if t) ∙ partly in not_both bad))
       (λ (t : all_numbers (length whole.parts) (number ∷ done) ≡ false). t)
       (cases_Bool (all_numbers (length whole.parts) (number ∷ done))) in
-      record { table = open_table more; reports = sees.reports; holders = done_holders s sound m.id number p at small (messages_by (messages_in s)) (reports_by (reports_in s)) w.down sees.holders; seconds = sees.seconds }
+      record { table = open_table more; reports = refines.reports; holders = done_holders s sound m.id number p at small (messages_by (messages_in s)) (reports_by (reports_in s)) w.down refines.holders; seconds = refines.seconds }
     where
       not_both : true ≡ false → ⊥
       not_both e = cc
 
   -- ---- all are done: it is delivered
 
-  delivers : all_done m.id ps ≡ true → (u : Submission) (st : State) → Stands w.table m.id u st → mark (record { submission = u; state = st }) ≡ Final Delivered
+  delivers : all_done m.id ps ≡ true → (u : Submission) (st : State) → IsRecorded w.table m.id u st → mark (record { submission = u; state = st }) ≡ Final Delivered
   delivers all u st k =
       let same = same_message w.table m.id whole u (Pending done) st stands k in
       (λ t. mark (record { submission = sym same.0 t; state = sym same.1 t }))
@@ -217,10 +217,10 @@ module _ (s : Store) (w : World) (sound : SoundStore s) (sees : StoreSees s w) (
   ended_row_there : message_at m.id (put message_key (ended Delivered s.moment m) (messages_in s)) ≡ Some (ended Delivered s.moment m)
   ended_row_there = row_at_put message_key (ended Delivered s.moment m) (messages_in s)
 
-  delivered_sees : all_done m.id ps ≡ true → StoreSees (with_message (ended Delivered s.moment m) after) settled_world
-  delivered_sees all =
+  delivered_refines : all_done m.id ps ≡ true → StoreRefines (with_message (ended Delivered s.moment m) after) settled_world
+  delivered_refines all =
       let e : MessageRow = ended Delivered s.moment m in
-      let x : StoreSees (with_message e s) settled_world = ended_sees Delivered m s w there mark (delivers all) sees in
+      let x : StoreRefines (with_message e s) settled_world = ended_refines Delivered m s w there mark (delivers all) refines in
       let ms : ℕ → Option MessageRow = messages_by (put message_key e (messages_in s)) in
       record {
         table = ended_unseen s sound m.id number p at small ms e Delivered (changed m.id mark w.table) ended_row_there refl x.table;
@@ -251,12 +251,12 @@ module _ (s : Store) (w : World) (sound : SoundStore s) (sees : StoreSees s w) (
   -- ---- the step
 
   module _ (handed : ℕ) (b : World) (u : Frame) (was : WasHanded handed b u) (sent : IsSent w u Down Ack) (to : m.handset ≡ u.handset) (under : p.reference ≡ u.reference) where
-    abbrev giving : Giving
-    giving = given_part m number (was_seen s sound m.id number p at small) (sees.holders.part m.id number m (was_seen s sound m.id number p at small) there (own_before s sound m.id number p at small)).0
+    abbrev allocation : Allocation
+    allocation = given_part m number (was_seen s sound m.id number p at small) (refines.holders.part m.id number m (was_seen s sound m.id number p at small) there (own_before s sound m.id number p at small)).0
 
-    has : HasReference w u giving m.id number
+    has : HasReference w u allocation m.id number
     has =
-        let g = sees.holders.part m.id number m (was_seen s sound m.id number p at small) there (own_before s sound m.id number p at small) in
+        let g = refines.holders.part m.id number m (was_seen s sound m.id number p at small) there (own_before s sound m.id number p at small) in
         let not_done : ¬ Among number done = λ a. (let bad : true ≡ false = sym ((is_done_if number (was_seen s sound m.id number p at small) (own_before s sound m.id number p at small)).1 a) ∙ undone in absurd cc) in
         let unanswered : IsUnanswered w.table w.reports (Part m.id number) = (whole, done, (stands, not_done)) in
         ((g.1, unanswered), refl, to, under)
@@ -265,6 +265,6 @@ module _ (s : Store) (w : World) (sound : SoundStore s) (sees : StoreSees s w) (
     part_settles =
         cond_both (all_done m.id ps) (end_message Delivered m after) after (λ (e : Store). Settles handed s.moment b e w)
         (λ all.
-        let told = end_comes Delivered m after settled_world (delivered_can all) (delivered_sees all) in
-        reads_then handed s.moment b (λ v. StoreSees (end_message Delivered m after) v × (v.bag ≡ w.bag)) w u (Settle u giving m.id number) told.0 was refl tt told.1.0 ((sent, has), told.1.1) (told.1.2, told.1.3))
-        (λ partly. reads_then handed s.moment b (λ v. StoreSees after v × (v.bag ≡ w.bag)) w u (Settle u giving m.id number) [] was refl tt tt ((sent, has), tt) (open_sees partly, refl))
+        let told = end_comes Delivered m after settled_world (delivered_can all) (delivered_refines all) in
+        reads_then handed s.moment b (λ v. StoreRefines (end_message Delivered m after) v × (v.bag ≡ w.bag)) w u (Settle u allocation m.id number) told.0 was refl tt told.1.0 ((sent, has), told.1.1) (told.1.2, told.1.3))
+        (λ partly. reads_then handed s.moment b (λ v. StoreRefines after v × (v.bag ≡ w.bag)) w u (Settle u allocation m.id number) [] was refl tt tt ((sent, has), tt) (open_refines partly, refl))

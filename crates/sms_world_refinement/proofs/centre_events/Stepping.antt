@@ -10,7 +10,7 @@ use Rattle.sms_world_model.specs.ScriptRun.{AllMayFollow, Handed, IsInOrder, Rea
 use Rattle.sms_world_model.specs.Sides.{AllOfCentre, IsOfCentre}
 use Rattle.sms_world_model.specs.World.{Carried, Frame, World}
 use Rattle.sms_world_model.specs.WorldStep.{Can, Step}
-use Rattle.sms_world_refinement.specs.centre.CentreSight.{CentreSees}
+use Rattle.sms_world_refinement.specs.centre.CentreRefinement.{CentreRefines}
 use Rattle.sms_world_refinement.proofs.centre.Ending.{AllTell}
 use Rattle.sms_world_refinement.proofs.centre.Firing.{appended}
 use Rattle.sms_world_refinement.proofs.centre.Offers.{follow_law}
@@ -41,35 +41,35 @@ reads_then number m b Seen w u x told was reads centre tells run s =
     (x ∷ [], told, (record { is_own = inr (u, x, (was.0, was.1, reads, refl)); own_centre = (centre, tt); may_follow = k.0; follows_centre = k.1 }, run, s))
 
 -- the rows come there while nothing is sent
-pub settles_store : (number m : ℕ) (b : World) (e : Store) (d : Draft) (w : World) → CentreSees b d w → Settles number m b e w → Answers number m b (in_store e d) w
-settles_store number m b e d w s (own, follows, (are, run, (sees, bag))) =
-    (own, follows, (are, run, store_comes b e d w (end w (items m false (own ++ follows))) s sees bag))
+pub settles_store : (number m : ℕ) (b : World) (e : Store) (d : Draft) (w : World) → CentreRefines b d w → Settles number m b e w → Answers number m b (in_store e d) w
+settles_store number m b e d w s (own, follows, (are, run, (refines, bag))) =
+    (own, follows, (are, run, store_comes b e d w (end w (items m false (own ++ follows))) s refines bag))
 
 -- ---- the whole event
 
 -- control frames alone
-pub begins_still : (number m : ℕ) (d : Draft) (w : World) → CentreSees w d w → Begins number m d w
-begins_still number m d w s = ([], (tt, tt, tt, still number m w (λ v. CentreSees w d v) w s))
+pub begins_still : (number m : ℕ) (d : Draft) (w : World) → CentreRefines w d w → Begins number m d w
+begins_still number m d w s = ([], (tt, tt, tt, still number m w (λ v. CentreRefines w d v) w s))
 
 -- the next offers follow
 pub frame_leads : (number m : ℕ) (d : Draft) (w : World) → Begins number m d w → SoundStore d.store
-    → (steps : List Step) × (IsInOrder w (Handed number) steps × AllOfCentre steps × Run w (items m false steps) × CentreSees w (follow d) (end w (items m false steps)))
-frame_leads number m d w (control, (is_control, control_centre, control_runs, (own, follows, (are, run, sees)))) sound =
+    → (steps : List Step) × (IsInOrder w (Handed number) steps × AllOfCentre steps × Run w (items m false steps) × CentreRefines w (follow d) (end w (items m false steps)))
+frame_leads number m d w (control, (is_control, control_centre, control_runs, (own, follows, (are, run, refines)))) sound =
     let v : World = end w (items m false control) in
     let heads : List Step = own ++ follows in
     let x : World = end v (items m false heads) in
-    let o = follow_law m w d x sound sees in
+    let o = follow_law m w d x sound refines in
     let offers = offers_follow (Handed number) (λ y z. z) o.0 o.1.0 in
     let after : List Step = own ++ (follows ++ o.0) in
     let same : heads ++ o.0 ≡ after = appended own follows o.0 in
     let runs : Run v (items m false after) = subst (λ (z : List Step). Run v (items m false z)) same (run_both m v heads o.0 run o.1.1) in
-    let seen : CentreSees w (follow d) (end v (items m false after)) =
-    subst (λ (z : List Step). CentreSees w (follow d) (end v (items m false z))) same (subst (λ (z : World). CentreSees w (follow d) z) (sym (end_both m v heads o.0)) o.1.2) in (
+    let seen : CentreRefines w (follow d) (end v (items m false after)) =
+    subst (λ (z : List Step). CentreRefines w (follow d) (end v (items m false z))) same (subst (λ (z : World). CentreRefines w (follow d) z) (sym (end_both m v heads o.0)) o.1.2) in (
       control ++ after,
       (
         (control, own, follows ++ o.0, (is_control, are.is_own, follow_both (Handed number) (λ y z. z) follows o.0 are.may_follow offers.0, refl)),
         centre_both control after control_centre (centre_both own (follows ++ o.0) are.own_centre (centre_both follows o.0 are.follows_centre offers.1)),
         run_both m w control after control_runs runs,
-        subst (λ (z : World). CentreSees w (follow d) z) (sym (end_both m w control after)) seen,
+        subst (λ (z : World). CentreRefines w (follow d) z) (sym (end_both m w control after)) seen,
       ),
     )

@@ -26,23 +26,23 @@ use Rattle.sms_tpdu.specs.declared.fault.TpduFault.{TpduFault}
 use Rattle.sms_tpdu.specs.declared.submit.Submit.{Submit as SubmitOf}
 use Rattle.sms_tpdu.specs.declared.up.Up.{Up as UpTpdu}
 use Rattle.sms_tpdu.specs.declared.up.Up.TheVariants.{DeliverReport, Submit as SubmitTpdu}
-use Rattle.sms_centre_rows.specs.waiting.Lines.{emptied, line_of}
-use Rattle.sms_centre_rows.specs.declared.waiting.line.Line.{Line}
+use Rattle.sms_centre_rows.specs.waiting.Links.{emptied, line_of}
+use Rattle.sms_centre_rows.specs.declared.waiting.handset_link.HandsetLink.{HandsetLink}
 use Rattle.sms_centre_spec.proofs.NextNumbers.{below_next_id}
 use Rattle.sms_centre_spec.proofs.SoundStores.{SoundStore}
 use Rattle.sms_centre_spec.specs.Draft.{Draft, Store, in_store, messages_in}
-use Rattle.sms_centre_spec.specs.Receiving.{confirm, data_came, has_memory, is_duplicate, memory_came, refuse, reply, submit_accepted, submit_came}
-use Rattle.sms_centre_spec.specs.Standing.{IsSubmission}
+use Rattle.sms_centre_spec.specs.Receiving.{confirm, data_received, has_memory, is_duplicate, memory_available, refuse, reply, submit_accepted, submit_received}
+use Rattle.sms_centre_spec.specs.Consistent.{IsSubmission}
 use Rattle.sms_centre_spec.specs.Submitting.{accept, accept_under, is_reference_taken}
 use Rattle.sms_world_refinement.proofs.frames.Linking.{Awaits}
 use Rattle.sms_world_model.specs.Submission.{Submission}
 use Rattle.sms_world_model.specs.World.{Carried as Carried_frame, Frame, Up, World}
 use Rattle.sms_world_model.specs.WorldStep.{Asks, IsSent, Memory_free, Receive, Reject, submitted}
-use Rattle.sms_world_refinement.specs.centre.CentreSight.{CentreSees}
-use Rattle.sms_world_refinement.specs.centre.SeesLines.{SeesLine}
+use Rattle.sms_world_refinement.specs.centre.CentreRefinement.{CentreRefines}
+use Rattle.sms_world_refinement.specs.centre.RefinesLines.{RefinesLine}
 use Rattle.sms_world_refinement.proofs.centre.Entering.{SubmitsAs, entered_as, under_submits}
 use Rattle.sms_world_refinement.proofs.centre.LinksChange.{due_now_both}
-use Rattle.sms_world_refinement.proofs.centre.Offers.{line_sees, lines_with}
+use Rattle.sms_world_refinement.proofs.centre.Offers.{line_refines, lines_with}
 use Rattle.sms_world_refinement.proofs.centre.Playing.{store_comes}
 use Rattle.sms_world_refinement.specs.centre_events.Stages.{Answers}
 use Rattle.sms_world_refinement.proofs.centre_events.Replying.{confirming, plain_ack, refusing, replies}
@@ -60,8 +60,8 @@ made_of from now x u e =
     let b = bind_ok (only_if (not (is_past now x.validity_period)) PastLimit) _ u a.2 in
     ok_is {E = SubmitRefusal} (submission_of from now x) u b.2
 
-module _ (h : List ℕ) (r : ℕ) (tag : Holder) (tpdu : List ℕ) (number : ℕ) (b : World) (d : Draft) (w : World) (sound : SoundStore d.store) (s : CentreSees b d w)
-    (o : Opened) (awaits : Awaits (line_of h d.air.lines).link.links o) (was : WasHanded number b (data_up h number r tpdu tag)) (sent : Among (Carried_frame (data_up h number r tpdu tag)) w.bag) where
+module _ (h : List ℕ) (r : ℕ) (tag : Holder) (tpdu : List ℕ) (number : ℕ) (b : World) (d : Draft) (w : World) (sound : SoundStore d.store) (s : CentreRefines b d w)
+    (o : Opened) (awaits : Awaits (line_of h d.links.lines).link.links o) (was : WasHanded number b (data_up h number r tpdu tag)) (sent : Among (Carried_frame (data_up h number r tpdu tag)) w.bag) where
   abbrev m : ℕ
   m = d.store.moment
 
@@ -75,18 +75,18 @@ module _ (h : List ℕ) (r : ℕ) (tag : Holder) (tpdu : List ℕ) (number : ℕ
 
   refuses : (refusal : SubmitRefusal) → Answers number m b (refuse h r tag refusal d) w
   refuses refusal =
-      reads_then number m b (λ v. CentreSees b (refuse h r tag refusal d) v) w u (Reject u) [] was refl tt tt (came, tt)
+      reads_then number m b (λ v. CentreRefines b (refuse h r tag refusal d) v) w u (Reject u) [] was refl tt tt (came, tt)
       (replies Error r tag (error_down r (cause_of refusal) (Some (refusing_report refusal m))) (refusing r refusal m) b d w s h o awaits)
 
   -- ---- it is taken
 
   takes : (v : Submission) (e : Option Store) → Asks u v → SubmitsAs v w m e → Answers number m b (submit_accepted h r tag e d) w
   takes v None asks k = refuses Congested
-  takes v (Some e) asks (tickets, (can, sees)) =
+  takes v (Some e) asks (tickets, (can, refines)) =
       let x : World = submitted w m v tickets in
       let f : Draft = in_store e d in
-      let y : CentreSees b f x = store_comes b e d w x s sees refl in
-      reads_then number m b (λ z. CentreSees b (confirm h r tag f) z) w u (Receive u v tickets) [] was refl tt tt ((came, asks, can), tt)
+      let y : CentreRefines b f x = store_comes b e d w x s refines refl in
+      reads_then number m b (λ z. CentreRefines b (confirm h r tag f) z) w u (Receive u v tickets) [] was refl tt tt ((came, asks, can), tt)
       (replies Ack r tag (ack_down r (Some (accepting_report e.moment))) (confirming r e.moment) b f x y h o awaits)
 
   module _ (x : SubmitOf) (read : tpdu_up_at InData tpdu ≡ Ok (SubmitTpdu x)) where
@@ -127,7 +127,7 @@ module _ (h : List ℕ) (r : ℕ) (tag : Holder) (tpdu : List ℕ) (number : ℕ
           cond_both (nat_le id 9999999999) (accept_under id None bodies made d.store) None (λ (e : Option Store). SubmitsAs whole w m e)
           (λ t. under) (λ t. tt)
 
-      made_comes : Answers number m b (submit_came h r tag (Ok made) d) w
+      made_comes : Answers number m b (submit_received h r tag (Ok made) d) w
       made_comes =
           cond_both (is_duplicate made d.store) (refuse h r tag Duplicate d)
           (if is_reference_taken made d.store then refuse h r tag ReferenceTaken d else submit_accepted h r tag (accept made d.store) d) (λ (e : Draft). Answers number m b e w)
@@ -136,35 +136,35 @@ module _ (h : List ℕ) (r : ℕ) (tag : Holder) (tpdu : List ℕ) (number : ℕ
           (λ q. refuses ReferenceTaken)
           (λ q. takes whole (accept made d.store) asked taken))
 
-    submit_comes : (y : Result SubmissionRow SubmitRefusal) → from_submit h m x ≡ y → ((z : SubmissionRow) → y ≡ Ok z → IsSubmission z) → Answers number m b (submit_came h r tag y d) w
+    submit_comes : (y : Result SubmissionRow SubmitRefusal) → from_submit h m x ≡ y → ((z : SubmissionRow) → y ≡ Ok z → IsSubmission z) → Answers number m b (submit_received h r tag y d) w
     submit_comes (Err refusal) e gives = refuses refusal
     submit_comes (Ok z) e gives =
         let same : made ≡ z = made_of h m x z e in
-        subst (λ (y : SubmissionRow). Answers number m b (submit_came h r tag (Ok y) d) w) same (made_comes (subst (λ (y : SubmissionRow). IsSubmission y) (sym same) (gives z refl)))
+        subst (λ (y : SubmissionRow). Answers number m b (submit_received h r tag (Ok y) d) w) same (made_comes (subst (λ (y : SubmissionRow). IsSubmission y) (sym same) (gives z refl)))
 
-  read_comes : (y : Result UpTpdu TpduFault) → tpdu_up_at InData tpdu ≡ y → ((z : SubmissionRow) → from_read h m y ≡ Ok z → IsSubmission z) → Answers number m b (submit_came h r tag (from_read h m y) d) w
+  read_comes : (y : Result UpTpdu TpduFault) → tpdu_up_at InData tpdu ≡ y → ((z : SubmissionRow) → from_read h m y ≡ Ok z → IsSubmission z) → Answers number m b (submit_received h r tag (from_read h m y) d) w
   read_comes (Ok (SubmitTpdu x)) e gives = submit_comes x e (from_submit h m x) refl gives
   read_comes (Ok (DeliverReport x)) e gives = refuses WrongType
   read_comes (Err fault) e gives = refuses (unread fault)
 
-  pub data_law : ((z : SubmissionRow) → from_read h m (tpdu_up_at InData tpdu) ≡ Ok z → IsSubmission z) → Answers number m b (data_came h r tag tpdu d) w
+  pub data_law : ((z : SubmissionRow) → from_read h m (tpdu_up_at InData tpdu) ≡ Ok z → IsSubmission z) → Answers number m b (data_received h r tag tpdu d) w
   data_law gives = read_comes (tpdu_up_at InData tpdu) refl gives
 
   -- ---- RP-SMMA
 
-  pub memory_law : tpdu ≡ [] → Answers number m b (memory_came h r tag d) w
+  pub memory_law : tpdu ≡ [] → Answers number m b (memory_available h r tag d) w
   memory_law none =
       let e : Draft = reply h Ack r tag (ack_down r None) d in
       let y = replies Ack r tag (ack_down r None) (plain_ack r) b d w s h o awaits in
-      reads_then number m b (λ v. CentreSees b (has_memory h e) v) w u (Memory_free u) [] was refl tt tt ((came, none), tt) (free e _ y sound)
+      reads_then number m b (λ v. CentreRefines b (has_memory h e) v) w u (Memory_free u) [] was refl tt tt ((came, none), tt) (free e _ y sound)
     where
-      free : (e : Draft) (v : World) → CentreSees b e v → SoundStore e.store → CentreSees b (has_memory h e) v
+      free : (e : Draft) (v : World) → CentreRefines b e v → SoundStore e.store → CentreRefines b (has_memory h e) v
       free e v y k =
-          let line : Line = line_of h e.air.lines in
-          let l : SeesLine v.bag line = line_sees v.bag h e.air.lines y.lines in
+          let line : HandsetLink = line_of h e.links.lines in
+          let l : RefinesLine v.bag line = line_refines v.bag h e.links.lines y.lines in
           record {
             frames = y.frames;
             whole = y.whole;
-            lines = lines_with v.bag (emptied line) e.air.lines (record { next = l.next; opened = l.opened; begun = l.begun }) y.lines;
+            lines = lines_with v.bag (emptied line) e.links.lines (record { next = l.next; opened = l.opened; begun = l.begun }) y.lines;
             rows = (due_now_both v h e.store (k, y.rows)).1;
           }

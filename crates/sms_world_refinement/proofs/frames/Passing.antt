@@ -13,7 +13,7 @@ use Rattle.sms_base.specs.declared.carried.Carried.{Carried}
 use Rattle.sms_base.specs.declared.carried.Kind.{Kind}
 use Rattle.sms_base.specs.declared.carried.Kind.TheVariants.{Data, Ack, Error}
 use Rattle.sms_world_refinement.specs.frames.Between.{CarriesDown, IsOfKindDown, TellsUp, frame_down, frame_tpdu_down, line_to_centre, octets_down, DownLaw, UpLaw}
-use Rattle.sms_world_refinement.specs.frames.FramesDown.{CameDown, Tells}
+use Rattle.sms_world_refinement.specs.frames.FramesDown.{CameDown, IsUnitOf}
 use Rattle.sms_world_refinement.specs.frames.FramesUp.{IsOfKind, flag_for, frame_tpdu, line_up, octets_of, unit_tpdu}
 
 same_flag : (k : Kind) → flag_for k ≡ flag_for k
@@ -71,7 +71,7 @@ goes_up h number octets c i =
 
 -- ---- down
 
-told_down : (k : Kind) (r : ℕ) (x : Result Rp RelayFault) → IsOfKindDown k r x → Tells k r (tpdu_by k (unit_tpdu x)) x
+told_down : (k : Kind) (r : ℕ) (x : Result Rp RelayFault) → IsOfKindDown k r x → IsUnitOf k r (tpdu_by k (unit_tpdu x)) x
 told_down Data r (Ok (DataUnit q centre tpdu)) e = (centre, ap (λ (z : ℕ). Ok (DataUnit z centre tpdu)) e)
 told_down Data r (Ok (AckUnit q tpdu)) e = absurd e
 told_down Data r (Ok (ErrorUnit q cause tpdu)) e = absurd e
@@ -102,7 +102,7 @@ came_down h number octets c i =
       frame = i.frame;
       flag = i.flag ∙ same_flag c.kind;
       line = refl;
-      told = subst (λ (z : List ℕ). Tells c.kind c.reference z (down_at i.unit)) (sym (octets_read c.kind octets (Ok cp) (cp_again octets cp i.frame)))
+      told = subst (λ (z : List ℕ). IsUnitOf c.kind c.reference z (down_at i.unit)) (sym (octets_read c.kind octets (Ok cp) (cp_again octets cp i.frame)))
           (told_down c.kind c.reference (down_at i.unit) i.told);
     }
 

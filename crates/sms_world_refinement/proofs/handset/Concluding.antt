@@ -29,10 +29,10 @@ use Rattle.sms_link.specs.declared.ending.Ending.TheVariants.{Acknowledged as Ac
 use Rattle.sms_handset_draft.specs.MemoryAvailable.{notice_concluded, notice_ended, notice_failed, put_notice, remove_notice}
 use Rattle.sms_handset_draft.specs.Outbox.{entry_concluded, holder_concluded, transfer_ended}
 use Rattle.sms_handset.specs.SoundCore.{IsSentFor, IsUnderWay}
-use Rattle.sms_world_model.specs.World.{World, Up, Frame, Carried, Giving, EntryState, Queued as To_queued, Sent_up, Failed as To_failed, Unsure as To_unsure, IsUnfinished}
+use Rattle.sms_world_model.specs.World.{World, Up, Frame, Carried, Allocation, EntryState, Queued as To_queued, Sent_up, Failed as To_failed, Unsure as To_unsure, IsUnfinished}
 use Rattle.sms_world_model.specs.WorldStep.{Lapse, Acknowledged, Refused, replaced}
-use Rattle.sms_world_refinement.specs.handset.SeesOutbox.{SeesNotices, entry_seen, state_of}
-use Rattle.sms_world_refinement.specs.handset.Sight.{Sees}
+use Rattle.sms_world_refinement.specs.handset.RefinesOutbox.{RefinesNotices, entry_seen, state_of}
+use Rattle.sms_world_refinement.specs.handset.Refinement.{Refines}
 use Rattle.sms_world_refinement.specs.handset.Stages.{AllMine, Moves, ReadsOne}
 use Rattle.sms_world_refinement.proofs.handset.Moving.{stays}
 use Rattle.sms_world_refinement.proofs.handset.OutboxRows.{out_changed}
@@ -44,7 +44,7 @@ Ends m u h b new w = ReadsOne m u h b new w ⊎ Moves (AllMine h) m h b new w
 -- the row moves to another state
 pub turned : (h : List ℕ) (b : World) (d : Draft) (w : World) (o x : OutRow) (st : EntryState) → row_at out_key o.number d.rows.outbox ≡ Some o
     → x.number ≡ o.number → x.reference ≡ o.reference → entry_seen h x ≡ record (entry_seen h o) { state = st }
-    → Sees h b d w → Sees h b (put_out x d) (record w { outbox = replaced (entry_seen h o) st w.outbox })
+    → Refines h b d w → Refines h b (put_out x d) (record w { outbox = replaced (entry_seen h o) st w.outbox })
 turned h b d w o x st at number reference seen s = record {
   frames = s.frames;
   whole = s.whole;
@@ -58,7 +58,7 @@ turned h b d w o x st at number reference seen s = record {
 }
 
 -- whether the centre took it is not known
-pub lost_law : (m : ℕ) (h : List ℕ) (b : World) (d : Draft) (w : World) (o : OutRow) → row_at out_key o.number d.rows.outbox ≡ Some o → o.state ≡ Sending → Sees h b d w
+pub lost_law : (m : ℕ) (h : List ℕ) (b : World) (d : Draft) (w : World) (o : OutRow) → row_at out_key o.number d.rows.outbox ≡ Some o → o.state ≡ Sending → Refines h b d w
     → Moves (AllMine h) m h b (put_out (lost o) d) w
 lost_law m h b d w o at going s =
     cond_both (o.is_long || nat_le most_tries o.tries) (record o { state = Unsure }) (record o { state = Queued; rejects_duplicates = true; due = None })
@@ -86,7 +86,7 @@ ack_of h number r octets tag = record { number = number; handset = h; line = Up;
 abbrev pub error_of : List ℕ → ℕ → ℕ → List ℕ → Holder → Frame
 error_of h number r octets tag = record { number = number; handset = h; line = Up; kind = Error; reference = r; tpdu = octets; tag = tag }
 
-module _ (m : ℕ) (h : List ℕ) (number r : ℕ) (tag : Holder) (octets : List ℕ) (b : World) (d : Draft) (w : World) (s : Sees h b d w) (o : OutRow) (at : row_at out_key o.number d.rows.outbox ≡ Some o) (going : o.state ≡ Sending) (reference : ℕ) (same : o.reference ≡ reference) where
+module _ (m : ℕ) (h : List ℕ) (number r : ℕ) (tag : Holder) (octets : List ℕ) (b : World) (d : Draft) (w : World) (s : Refines h b d w) (o : OutRow) (at : row_at out_key o.number d.rows.outbox ≡ Some o) (going : o.state ≡ Sending) (reference : ℕ) (same : o.reference ≡ reference) where
   ack_settles : Among (Carried (ack_of h number r octets tag)) w.bag → (tpdu : Option (List ℕ)) → Ends m (ack_of h number r octets tag) h b (put_out (settled d.moment (verdict_of (ended_by reference (Ok (AckUnit r tpdu)))) o) d) w
   ack_settles sent tpdu =
       cond_both (r == reference) AcknowledgedEnd WrongEnd (λ (v : Ending). Ends m (ack_of h number r octets tag) h b (put_out (settled d.moment (verdict_of v) o) d) w)
@@ -146,15 +146,15 @@ module _ (m : ℕ) (h : List ℕ) (number r : ℕ) (tag : Holder) (octets : List
 
 -- ---- an RP-SMMA
 
-notices_seen : (h : List ℕ) (b : World) (d : Draft) (w : World) (ns : List Notice) → SeesNotices h d.rows.counters.notice ns w.up → Sees h b d w → Sees h b (record d { notices = ns }) w
+notices_seen : (h : List ℕ) (b : World) (d : Draft) (w : World) (ns : List Notice) → RefinesNotices h d.rows.counters.notice ns w.up → Refines h b d w → Refines h b (record d { notices = ns }) w
 notices_seen h b d w ns k s = record { frames = s.frames; whole = s.whole; links = s.links; last = s.last; accepted = s.accepted; joined = s.joined; out = s.out; notices = k; groups = s.groups }
 
-pub no_notices : (h : List ℕ) (next : ℕ) (ns : List Notice) (up : List Giving) → SeesNotices h next ns up → SeesNotices h next [] up
+pub no_notices : (h : List ℕ) (next : ℕ) (ns : List Notice) (up : List Allocation) → RefinesNotices h next ns up → RefinesNotices h next [] up
 no_notices h next ns up s = record { given = λ n i. absurd i; used = s.used }
 
 -- one is put that was given its reference
-pub notice_put : (h : List ℕ) (next : ℕ) (n : Notice) (moment : ℕ) (ns : List Notice) (up : List Giving)
-    → Among (record { handset = h; reference = n.reference; holder = Memory n.number; moment = moment; tpdu = [] }) up → SeesNotices h next ns up → SeesNotices h next (put notice_key n ns) up
+pub notice_put : (h : List ℕ) (next : ℕ) (n : Notice) (moment : ℕ) (ns : List Notice) (up : List Allocation)
+    → Among (record { handset = h; reference = n.reference; holder = Memory n.number; moment = moment; tpdu = [] }) up → RefinesNotices h next ns up → RefinesNotices h next (put notice_key n ns) up
 notice_put h next n moment ns up g s = record {
   given = λ y i. ⊎_elim
       (λ (e : y ≡ n). (moment, subst (λ (v : Notice). Among (record { handset = h; reference = v.reference; holder = Memory v.number; moment = moment; tpdu = [] }) up) (sym e) g))
@@ -163,36 +163,36 @@ notice_put h next n moment ns up g s = record {
   used = s.used;
 }
 
-notice_gone : (h : List ℕ) (next k : ℕ) (ns : List Notice) (up : List Giving) → SeesNotices h next ns up → SeesNotices h next (without notice_key k ns) up
+notice_gone : (h : List ℕ) (next k : ℕ) (ns : List Notice) (up : List Allocation) → RefinesNotices h next ns up → RefinesNotices h next (without notice_key k ns) up
 notice_gone h next k ns up s = record { given = λ y i. s.given y (among_without notice_key y k ns i).0; used = s.used }
 
-module _ (h : List ℕ) (b : World) (d : Draft) (w : World) (n : Notice) (i : Among n d.notices) (s : Sees h b d w) where
-  ended_unseen : Sees h b (remove_notice n.number d) w
+module _ (h : List ℕ) (b : World) (d : Draft) (w : World) (n : Notice) (i : Among n d.notices) (s : Refines h b d w) where
+  ended_unseen : Refines h b (remove_notice n.number d) w
   ended_unseen = notices_seen h b d w (without notice_key n.number d.notices) (notice_gone h d.rows.counters.notice n.number d.notices w.up s.notices) s
 
-  failed_unseen : Sees h b (notice_failed n d) w
+  failed_unseen : Refines h b (notice_failed n d) w
   failed_unseen =
       let later_on : Notice = record n { is_second = true; due = Some (later d.moment tram) } in
       let g = s.notices.given n i in
-      cond_both n.is_second (remove_notice n.number d) (put_notice later_on d) (λ (z : Draft). Sees h b z w)
+      cond_both n.is_second (remove_notice n.number d) (put_notice later_on d) (λ (z : Draft). Refines h b z w)
       (λ t. ended_unseen)
       (λ t. notices_seen h b d w (put notice_key later_on d.notices) (notice_put h d.rows.counters.notice later_on g.0 d.notices w.up g.1 s.notices) s)
 
-  ending_unseen : (ending : Ending) → Sees h b (notice_ended ending n d) w
+  ending_unseen : (ending : Ending) → Refines h b (notice_ended ending n d) w
   ending_unseen AcknowledgedEnd = ended_unseen
   ending_unseen (RefusedEnd cause tpdu) = failed_unseen
   ending_unseen WrongEnd = failed_unseen
   ending_unseen LostEnd = failed_unseen
 
-notice_unseen : (h : List ℕ) (b : World) (d : Draft) (w : World) (ending : Ending) (k : ℕ) (n : Option Notice) → row_at notice_key k d.notices ≡ n → Sees h b d w
-    → Sees h b (notice_concluded ending n d) w
+notice_unseen : (h : List ℕ) (b : World) (d : Draft) (w : World) (ending : Ending) (k : ℕ) (n : Option Notice) → row_at notice_key k d.notices ≡ n → Refines h b d w
+    → Refines h b (notice_concluded ending n d) w
 notice_unseen h b d w ending k None e s = s
 notice_unseen h b d w ending k (Some n) e s = ending_unseen h b d w n (found_among notice_key k n d.notices e) s ending
 
 -- ---- what the transfer was for
 
 -- what holds of each way that the entry's row may go holds of the end of the transfer
-module _ (P : Draft → Type 0) (h : List ℕ) (b : World) (d : Draft) (w : World) (s : Sees h b d w) (ending : Ending) (stay : (e : Draft) → Sees h b e w → P e) (reference : ℕ)
+module _ (P : Draft → Type 0) (h : List ℕ) (b : World) (d : Draft) (w : World) (s : Refines h b d w) (ending : Ending) (stay : (e : Draft) → Refines h b e w → P e) (reference : ℕ)
     (row : (o : OutRow) → row_at out_key o.number d.rows.outbox ≡ Some o → o.state ≡ Sending → o.reference ≡ reference → P (put_out (settled d.moment (verdict_of ending) o) d)) where
   pub holder_law : (tag : Holder) → IsSentFor reference tag d.rows.outbox → P (holder_concluded ending tag d)
   holder_law (PartHolder id n) x = stay d s
@@ -207,18 +207,18 @@ module _ (P : Draft → Type 0) (h : List ℕ) (b : World) (d : Draft) (w : Worl
 
 -- an acknowledgement ends the transfer that was under way, if there was one
 pub ack_law : (m : ℕ) (h : List ℕ) (number r : ℕ) (tag : Holder) (octets : List ℕ) (tpdu : Option (List ℕ)) (b : World) (d : Draft) (w : World) → Among (Carried (ack_of h number r octets tag)) w.bag
-    → (c : Carries) → IsUnderWay (Some c) d.rows.outbox → Sees h b d w → Ends m (ack_of h number r octets tag) h b (transfer_ended c (ended_by c.reference (Ok (AckUnit r tpdu))) d) w
+    → (c : Carries) → IsUnderWay (Some c) d.rows.outbox → Refines h b d w → Ends m (ack_of h number r octets tag) h b (transfer_ended c (ended_by c.reference (Ok (AckUnit r tpdu))) d) w
 ack_law m h number r tag octets tpdu b d w sent c is s =
     holder_law (λ (z : Draft). Ends m (ack_of h number r octets tag) h b z w) h b d w s (ended_by c.reference (Ok (AckUnit r tpdu))) (λ e k. inr (stays m h b e w k)) c.reference
     (λ o at going same. ack_settles m h number r tag octets b d w s o at going c.reference same sent tpdu) c.tag is
 
 pub error_law : (m : ℕ) (h : List ℕ) (number r : ℕ) (tag : Holder) (octets : List ℕ) (cause : RpCause) (tpdu : Option (List ℕ)) (b : World) (d : Draft) (w : World) → Among (Carried (error_of h number r octets tag)) w.bag
-    → (c : Carries) → IsUnderWay (Some c) d.rows.outbox → Sees h b d w → Ends m (error_of h number r octets tag) h b (transfer_ended c (ended_by c.reference (Ok (ErrorUnit r cause tpdu))) d) w
+    → (c : Carries) → IsUnderWay (Some c) d.rows.outbox → Refines h b d w → Ends m (error_of h number r octets tag) h b (transfer_ended c (ended_by c.reference (Ok (ErrorUnit r cause tpdu))) d) w
 error_law m h number r tag octets cause tpdu b d w sent c is s =
     holder_law (λ (z : Draft). Ends m (error_of h number r octets tag) h b z w) h b d w s (ended_by c.reference (Ok (ErrorUnit r cause tpdu))) (λ e k. inr (stays m h b e w k)) c.reference
     (λ o at going same. error_settles m h number r tag octets b d w s o at going c.reference same sent cause tpdu) c.tag is
 
 -- the transfer failed: its entry lapses
-pub failed_law : (m : ℕ) (h : List ℕ) (b : World) (d : Draft) (w : World) (c : Carries) → IsUnderWay (Some c) d.rows.outbox → Sees h b d w → Moves (AllMine h) m h b (transfer_ended c LostEnd d) w
+pub failed_law : (m : ℕ) (h : List ℕ) (b : World) (d : Draft) (w : World) (c : Carries) → IsUnderWay (Some c) d.rows.outbox → Refines h b d w → Moves (AllMine h) m h b (transfer_ended c LostEnd d) w
 failed_law m h b d w c is s =
     holder_law (λ (z : Draft). Moves (AllMine h) m h b z w) h b d w s LostEnd (λ f k. stays m h b f w k) c.reference (λ o at going same. lost_law m h b d w o at going s) c.tag is

@@ -21,7 +21,7 @@ use Rattle.sms_handset_draft.specs.Draft.{Draft, put_out}
 use Rattle.sms_handset_rows.specs.inbox.Groups.{group_of, key_of, mark_of}
 use Rattle.sms_handset_rows.specs.inbox.Keys.{last_key}
 use Rattle.sms_handset_rows.specs.outbox.Keys.{out_key}
-use Rattle.sms_handset_draft.specs.Receiving.{accept, acknowledge, data_came, deliver_came, note, part_came, tpdu_came}
+use Rattle.sms_handset_draft.specs.Receiving.{accept, acknowledge, data_received, deliver_received, note, part_received, tpdu_received}
 use Rattle.sms_handset_rows.specs.inbox.Doubles.{is_double}
 use Rattle.sms_handset_rows.specs.outbox.Reports.{is_reported, reported}
 use Rattle.sms_handset_rows.specs.inbox.SoundInbox.{IsPartOf}
@@ -31,8 +31,8 @@ use Rattle.sms_tpdu.specs.MoreMessages.{compared}
 use Rattle.sms_world_model.specs.Place.{place_in, place_of, place_read}
 use Rattle.sms_world_model.specs.World.{World, IsLast}
 use Rattle.sms_world_refinement.specs.frames.FramesDown.{frame_of}
-use Rattle.sms_world_refinement.specs.handset.SeesInbox.{key_seen}
-use Rattle.sms_world_refinement.specs.handset.Sight.{Sees}
+use Rattle.sms_world_refinement.specs.handset.RefinesInbox.{key_seen}
+use Rattle.sms_world_refinement.specs.handset.Refinement.{Refines}
 use Rattle.sms_world_refinement.specs.handset.Stages.{ReadsOne}
 use Rattle.sms_world_refinement.proofs.handset.Discarded.{discarded_law}
 use Rattle.sms_world_refinement.proofs.handset.Grouping.{pair, groups_kept, unkeyed}
@@ -58,16 +58,16 @@ reported_among r (x ∷ xs) o e = ⊎_elim
     (latest_is (cond (is_reported r x) (Some x) None) (reported r xs) o e)
 
 module _ (m : ℕ) (h : List ℕ) (number r : ℕ) (tag : Holder) (octets : List ℕ) (b : World) (d : Draft) (w : World)
-    (c : Came h number r tag octets d w) (new : ¬ IsLast (pair h r octets) w.accepted) (sound : SoundAt d) (s : Sees h b d w) where
+    (c : Came h number r tag octets d w) (new : ¬ IsLast (pair h r octets) w.accepted) (sound : SoundAt d) (s : Refines h b d w) where
   part_law : (g : Group) (n : ℕ) (o : Option DiscardedGroup) → place_in (compared octets) ≡ Some (record { key = key_seen g; number = n }) → IsPartOf g n octets → mark_of g d.rows.marks ≡ o
-      → ReadsOne m (frame_of h number r octets tag) h b (part_came r tag octets g n o d) w
+      → ReadsOne m (frame_of h number r octets tag) h b (part_received r tag octets g n o d) w
   part_law g n None seg part q = member_law m h number r tag octets b d w c new sound s g n seg part q
   part_law g n (Some k) seg part q =
       let e : g ≡ k.group = sym (mark_found g d.rows.marks k q).1 in
-      subst (λ (z : Group). ReadsOne m (frame_of h number r octets tag) h b (part_came r tag octets z n (Some k) d) w) (sym e)
+      subst (λ (z : Group). ReadsOne m (frame_of h number r octets tag) h b (part_received r tag octets z n (Some k) d) w) (sym e)
       (discarded_law m h number r tag octets b d w c new sound s n k (seg ∙ ap (λ (z : Group). Some (record { key = key_seen z; number = n })) e) (ap (λ (z : Group). mark_of z d.rows.marks) (sym e) ∙ q))
 
-  deliver_law : (p : DeliverOf) (o : Option ConcatKey) → down_at InData octets ≡ Ok (Deliver p) → key_of p ≡ o → place_in (compared octets) ≡ place_of p.originating_address o → ReadsOne m (frame_of h number r octets tag) h b (deliver_came r tag octets p o d) w
+  deliver_law : (p : DeliverOf) (o : Option ConcatKey) → down_at InData octets ≡ Ok (Deliver p) → key_of p ≡ o → place_in (compared octets) ≡ place_of p.originating_address o → ReadsOne m (frame_of h number r octets tag) h b (deliver_received r tag octets p o d) w
   deliver_law p None e q seg = single_law m h number r tag octets b d w c new sound s (unkeyed h r octets w.accepted seg)
   deliver_law p (Some key) e q seg =
       let g : Group = group_of p.originating_address key in
@@ -86,7 +86,7 @@ module _ (m : ℕ) (h : List ℕ) (number r : ℕ) (tag : Holder) (octets : List
       (out_noted h d.rows.counters.entry d.rows.outbox w.outbox w.up o x (among_found out_key o d.rows.outbox sound.outbox.order (a o refl)) refl refl refl s.out)
       (groups_kept h r octets d.rows.entries d.rows.entries d.rows.marks w.accepted w.joined s.groups (unkeyed h r octets w.accepted seg) (λ k. refl)) s)
 
-  tpdu_law : (t : Result Down TpduFault) → down_at InData octets ≡ t → ReadsOne m (frame_of h number r octets tag) h b (tpdu_came r tag octets t d) w
+  tpdu_law : (t : Result Down TpduFault) → down_at InData octets ≡ t → ReadsOne m (frame_of h number r octets tag) h b (tpdu_received r tag octets t d) w
   tpdu_law (Ok (Deliver p)) e = deliver_law p (key_of p) e refl (placed octets ∙ ap (λ (z : Result Down TpduFault). place_read z) e)
   tpdu_law (Ok (StatusReport p)) e =
       noted_law p.status (reported p d.rows.outbox) (λ x q. reported_among p d.rows.outbox x q) (placed octets ∙ ap (λ (z : Result Down TpduFault). place_read z) e)
@@ -95,9 +95,9 @@ module _ (m : ℕ) (h : List ℕ) (number r : ℕ) (tag : Holder) (octets : List
 
 -- data that come: a double is answered, the rest is taken or refused
 pub data_law : (m : ℕ) (h : List ℕ) (number r : ℕ) (tag : Holder) (octets : List ℕ) (b : World) (d : Draft) (w : World)
-    → Came h number r tag octets d w → SoundAt d → Sees h b d w → ReadsOne m (frame_of h number r octets tag) h b (data_came r tag octets d) w
+    → Came h number r tag octets d w → SoundAt d → Refines h b d w → ReadsOne m (frame_of h number r octets tag) h b (data_received r tag octets d) w
 data_law m h number r tag octets b d w c sound s =
-    cond_both (is_double octets (row_at last_key r d.rows.last)) (acknowledge r tag d) (tpdu_came r tag octets (down_at InData octets) d)
+    cond_both (is_double octets (row_at last_key r d.rows.last)) (acknowledge r tag d) (tpdu_received r tag octets (down_at InData octets) d)
     (λ (z : Draft). ReadsOne m (frame_of h number r octets tag) h b z w)
     (λ old. doubles m h number r tag octets b d w c ((s.last r (compared octets)).0 (last_is octets (row_at last_key r d.rows.last) old)) s)
     (λ other. tpdu_law m h number r tag octets b d w c (λ i. last_isn't octets (row_at last_key r d.rows.last) other ((s.last r (compared octets)).1 i)) sound s (down_at InData octets) refl)

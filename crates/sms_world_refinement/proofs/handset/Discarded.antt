@@ -13,7 +13,7 @@ use Rattle.sms_handset_draft.specs.Draft.{Changes, Draft, put_mark, remove_mark}
 use Rattle.sms_handset_rows.specs.inbox.Groups.{all_numbers, is_among, mark_of, members}
 use Rattle.sms_handset_draft.specs.Storing.{marked}
 use Rattle.sms_handset_rows.specs.inbox.Keys.{mark_key}
-use Rattle.sms_handset_draft.specs.Receiving.{accept, single_came, part_came}
+use Rattle.sms_handset_draft.specs.Receiving.{accept, single_received, part_received}
 use Rattle.sms_handset.proofs.SoundDrafts.{SoundAt}
 use Rattle.sms_handset_rows.proofs.inbox.SoundMarks.{Discarded, mark_found, mark_gone, mark_more, mark_none, no_mark}
 use Rattle.sms_tpdu.specs.MoreMessages.{compared}
@@ -24,8 +24,8 @@ use Rattle.sms_world_model.specs.PartsOfKey.{numbers}
 use Rattle.sms_world_model.specs.Lists.{is_among as is_in, all_numbers as all_in}
 use Rattle.sms_world_refinement.specs.frames.FramesDown.{frame_of}
 use Rattle.sms_world_refinement.specs.handset.PutInOrder.{joined_at, joined_by}
-use Rattle.sms_world_refinement.specs.handset.SeesInbox.{Matches, SeesGroups, groups_at, key_seen}
-use Rattle.sms_world_refinement.specs.handset.Sight.{Sees}
+use Rattle.sms_world_refinement.specs.handset.RefinesInbox.{Matches, RefinesGroups, groups_at, key_seen}
+use Rattle.sms_world_refinement.specs.handset.Refinement.{Refines}
 use Rattle.sms_world_refinement.specs.handset.Stages.{ReadsOne}
 use Rattle.sms_world_refinement.proofs.handset.Ending.{no_members}
 use Rattle.sms_world_refinement.proofs.handset.Grouping.{pair, by_group, closed, entered, here, matches_mark, matches_none, numbers_alike, numbers_more, passing, places_more}
@@ -62,13 +62,13 @@ others_marked k es ms ns g q d f ne back there = at (mark_of q ms) refl
         subst (λ (z : Group). mark_of z ns ≡ Some x) a.1 (mark_is k es ns x f (there x a.0 (λ t. ne (sym t ∙ a.1)))) ∙ sym e
 
 module _ (m : ℕ) (h : List ℕ) (number r : ℕ) (tag : Holder) (octets : List ℕ) (b : World) (d : Draft) (w : World)
-    (c : Came h number r tag octets d w) (new : ¬ IsLast (pair h r octets) w.accepted) (sound : SoundAt d) (s : Sees h b d w)
+    (c : Came h number r tag octets d w) (new : ¬ IsLast (pair h r octets) w.accepted) (sound : SoundAt d) (s : Refines h b d w)
     (n : ℕ) (k : DiscardedGroup) (is_seg : place_in (compared octets) ≡ Some (record { key = key_seen k.group; number = n })) (there : mark_of k.group d.rows.marks ≡ Some k) where
   before : Matches (members k.group d.rows.entries) (Some k) (groups_at h k.group w.accepted)
   before = subst (λ (z : Option DiscardedGroup). Matches (members k.group d.rows.entries) z (groups_at h k.group w.accepted)) there (s.groups.keys k.group)
 
   -- the number was seen
-  seen_law : is_among n k.seen ≡ true → ReadsOne m (frame_of h number r octets tag) h b (single_came r tag octets d) w
+  seen_law : is_among n k.seen ≡ true → ReadsOne m (frame_of h number r octets tag) h b (single_received r tag octets d) w
   seen_law t =
       single_law m h number r tag octets b d w c new sound s
       (passing h r octets (record { group = k.group; number = n }) is_seg w.accepted (sym (before.parts n) ∙ t))
@@ -85,14 +85,14 @@ module _ (m : ℕ) (h : List ℕ) (number r : ℕ) (tag : Holder) (octets : List
         numbers_alike k.group.total (k.seen ++ n ∷ []) (numbers (pair h r octets ∷ (groups_at h k.group w.accepted).present))
         (numbers_more (pair h r octets) (record { group = k.group; number = n }) is_seg k.group.total (groups_at h k.group w.accepted) k.seen before.parts)
 
-    with_marks : (changes : Changes) (ns : List DiscardedGroup) → changes.last ≡ d.changes.last → changes.entries ≡ d.changes.entries → SeesGroups h d.rows.entries ns (pair h r octets ∷ w.accepted) w.joined
+    with_marks : (changes : Changes) (ns : List DiscardedGroup) → changes.last ≡ d.changes.last → changes.entries ≡ d.changes.entries → RefinesGroups h d.rows.entries ns (pair h r octets ∷ w.accepted) w.joined
         → ReadsOne m (frame_of h number r octets tag) h b (accept r tag octets (record d { rows = record d.rows { marks = ns }; changes = changes })) w
     with_marks changes ns same alike_entries g =
         takes m h number r tag octets b (record d { rows = record d.rows { marks = ns }; changes = changes }) w
         (came_as h number r tag octets d (record d { rows = record d.rows { marks = ns }; changes = changes }) w refl c) new
         (taken h r octets b d w d.rows.entries ns d.rows.outbox d.rows.counters changes w.joined refl same (s.joined ∙ ap (λ (z : List (Change Entry)). joined_by z (joined_at h b.joined)) (sym alike_entries)) s.out g s)
 
-    gone : all_numbers k.group.total (k.seen ++ n ∷ []) ≡ true → SeesGroups h d.rows.entries (without mark_key k.number d.rows.marks) (pair h r octets ∷ w.accepted) w.joined
+    gone : all_numbers k.group.total (k.seen ++ n ∷ []) ≡ true → RefinesGroups h d.rows.entries (without mark_key k.number d.rows.marks) (pair h r octets ∷ w.accepted) w.joined
     gone full =
         let ms = d.rows.marks in
         let ns = without mark_key k.number d.rows.marks in
@@ -114,7 +114,7 @@ module _ (m : ℕ) (h : List ℕ) (number r : ℕ) (tag : Holder) (octets : List
           places = places_more h r octets w.accepted w.joined s.groups.places;
         }
 
-    seen_too : all_numbers k.group.total (k.seen ++ n ∷ []) ≡ false → SeesGroups h d.rows.entries (put mark_key (record k { seen = k.seen ++ n ∷ [] }) d.rows.marks) (pair h r octets ∷ w.accepted) w.joined
+    seen_too : all_numbers k.group.total (k.seen ++ n ∷ []) ≡ false → RefinesGroups h d.rows.entries (put mark_key (record k { seen = k.seen ++ n ∷ [] }) d.rows.marks) (pair h r octets ∷ w.accepted) w.joined
     seen_too left =
         let ms = d.rows.marks in
         let x : DiscardedGroup = record k { seen = k.seen ++ n ∷ [] } in
@@ -140,6 +140,6 @@ module _ (m : ℕ) (h : List ℕ) (number r : ℕ) (tag : Holder) (octets : List
         (λ t. with_marks (remove_mark k.number d).changes (without mark_key k.number d.rows.marks) refl refl (gone t))
         (λ t. with_marks (put_mark (record k { seen = k.seen ++ n ∷ [] }) d).changes (put mark_key (record k { seen = k.seen ++ n ∷ [] }) d.rows.marks) refl refl (seen_too t))
 
-  pub discarded_law : ReadsOne m (frame_of h number r octets tag) h b (part_came r tag octets k.group n (Some k) d) w
+  pub discarded_law : ReadsOne m (frame_of h number r octets tag) h b (part_received r tag octets k.group n (Some k) d) w
   discarded_law =
-      cond_both (is_among n k.seen) (single_came r tag octets d) (accept r tag octets (marked n k d)) (λ (z : Draft). ReadsOne m (frame_of h number r octets tag) h b z w) seen_law noted_law
+      cond_both (is_among n k.seen) (single_received r tag octets d) (accept r tag octets (marked n k d)) (λ (z : Draft). ReadsOne m (frame_of h number r octets tag) h b z w) seen_law noted_law

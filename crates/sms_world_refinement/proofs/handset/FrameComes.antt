@@ -32,7 +32,7 @@ use Rattle.sms_link.specs.Ending.{ended_by}
 use Rattle.sms_link.specs.declared.ending.Side.TheVariants.{Handset as HandsetSide}
 use Rattle.sms_link.specs.declared.ending.Ending.TheVariants.{Lost as LostEnd}
 use Rattle.sms_link.specs.declared.ending.Upward.TheVariants.{Ended}
-use Rattle.sms_handset_draft.specs.Receiving.{data_came, unit_came}
+use Rattle.sms_handset_draft.specs.Receiving.{data_received, unit_received}
 use Rattle.sms_handset.proofs.SoundDrafts.{SoundAt}
 use Rattle.sms_base.specs.declared.carried.Kind.{Kind}
 use Rattle.sms_base.specs.declared.carried.Kind.TheVariants.{Data, Ack, Error}
@@ -40,8 +40,8 @@ use Rattle.sms_world_model.specs.World.{World, Line, Frame, Sent, Carried, Bare}
 use Rattle.sms_world_model.specs.ScriptRun.{Handed}
 use Rattle.sms_world_refinement.specs.frames.FramesDown.{CameDown, IsHanded, frame_of}
 use Rattle.sms_world_refinement.specs.frames.FramesUp.{IsBare}
-use Rattle.sms_world_refinement.specs.handset.SeesLink.{SeesAnswer, SeesBegun, SeesLinks, SeesOpened}
-use Rattle.sms_world_refinement.specs.handset.Sight.{Sees}
+use Rattle.sms_world_refinement.specs.handset.RefinesLink.{RefinesAnswer, RefinesBegun, RefinesLinks, RefinesOpened}
+use Rattle.sms_world_refinement.specs.handset.Refinement.{Refines}
 use Rattle.sms_world_refinement.specs.handset.Stages.{AllMine, Moves, ReadsOne}
 use Rattle.sms_world_refinement.proofs.handset.Concluding.{Ends, ack_law, ack_of, error_law, error_of, failed_law}
 use Rattle.sms_world_refinement.proofs.handset.DataComes.{data_law}
@@ -61,19 +61,19 @@ bare_rejection t l = subst (λ (z : Result Cp CpFault). IsBare z) (sym (rejectio
 
 -- ---- a repeated opening: CP-ACK, and the answer again where there is one
 
-again_law : (m : ℕ) (h : List ℕ) (b : World) (d : Draft) (w : World) (frame : List ℕ) (a : Option Answer) → IsBare (cp_at frame) → SeesAnswer h w.bag d.answered a → Sees h b d w
+again_law : (m : ℕ) (h : List ℕ) (b : World) (d : Draft) (w : World) (frame : List ℕ) (a : Option Answer) → IsBare (cp_at frame) → RefinesAnswer h w.bag d.answered a → Refines h b d w
     → Moves (AllMine h) m h b (hears (sends (frame ∷ frames_of a) d.links) d) w
 again_law m h b d w frame None bare k s = bare_moves m h b d w d.links frame None bare s.links s
 again_law m h b d w frame (Some a) bare k s = bare_and_again m h b d w d.links frame a.frame None ToOriginator k.0 bare k.1.1 k.1.0 s.links s
 
-repeat_law : (m : ℕ) (h : List ℕ) (b : World) (d : Draft) (w : World) (frame : List ℕ) (o : Option Opened) → IsBare (cp_at frame) → SeesOpened h w.bag d.answered o → Sees h b d w
+repeat_law : (m : ℕ) (h : List ℕ) (b : World) (d : Draft) (w : World) (frame : List ℕ) (o : Option Opened) → IsBare (cp_at frame) → RefinesOpened h w.bag d.answered o → Refines h b d w
     → Moves (AllMine h) m h b (hears (sends (frame ∷ answer_frames o) d.links) d) w
 repeat_law m h b d w frame None bare k s = again_law m h b d w frame None bare tt s
 repeat_law m h b d w frame (Some o) bare k s = again_law m h b d w frame o.answer bare k.1 s
 
 -- ---- data of the centre
 
-module _ (m : ℕ) (h : List ℕ) (number : ℕ) (tag : Holder) (b : World) (d : Draft) (w : World) (sound : SoundAt d) (s : Sees h b d w) (frame : List ℕ) (t : Transaction) (unit : List ℕ) (low : t.identifier < 7) where
+module _ (m : ℕ) (h : List ℕ) (number : ℕ) (tag : Holder) (b : World) (d : Draft) (w : World) (sound : SoundAt d) (s : Refines h b d w) (frame : List ℕ) (t : Transaction) (unit : List ℕ) (low : t.identifier < 7) where
   module _ (r : ℕ) (octets centre : List ℕ) (told : down_at unit ≡ Ok (DataUnit r centre octets)) (sent : Among (Carried (frame_of h number r octets tag)) w.bag) where
     new_law : Begins m (Handed number) h b
         (frame_told tag (tells (acknowledgement t ∷ []) (UnitUp FromOriginator unit) (record d.links { opened = Some (record { identifier = t.identifier; opening = frame; answer = None }) })) d) w
@@ -81,12 +81,12 @@ module _ (m : ℕ) (h : List ℕ) (number : ℕ) (tag : Holder) (b : World) (d :
         let l : LinkState = record d.links { opened = Some (record { identifier = t.identifier; opening = frame; answer = None }) } in
         let e : Draft = hears (tells (acknowledgement t ∷ []) (UnitUp FromOriginator unit) l) d in
         let v : World = record w { bag = Bare (length w.bag + 1) h ∷ w.bag } in
-        let k : SeesLinks h w.bag l d.under_way d.answered = record { next = s.links.next; opened = (low, tt); begun = s.links.begun } in
-        let x : Sees h b e v = bare_alone m h b d w l (acknowledgement t) (Some (UnitUp FromOriginator unit)) (bare_ack t low) k s in
-        let y : ReadsOne m (frame_of h number r octets tag) h b (data_came r tag octets e) v =
+        let k : RefinesLinks h w.bag l d.under_way d.answered = record { next = s.links.next; opened = (low, tt); begun = s.links.begun } in
+        let x : Refines h b e v = bare_alone m h b d w l (acknowledgement t) (Some (UnitUp FromOriginator unit)) (bare_ack t low) k s in
+        let y : ReadsOne m (frame_of h number r octets tag) h b (data_received r tag octets e) v =
         data_law m h number r tag octets b e v (record { sent = inr sent; opening = record { identifier = t.identifier; opening = frame; answer = None }; awaits = (refl, refl) }) sound x in
-        subst (λ (z : Result Rp RelayFault). Begins m (Handed number) h b (unit_came tag unit z e) w) (sym told)
-        (reads_then m number h b (data_came r tag octets e) w (frame_of h number r octets tag) sent refl y)
+        subst (λ (z : Result Rp RelayFault). Begins m (Handed number) h b (unit_received tag unit z e) w) (sym told)
+        (reads_then m number h b (data_received r tag octets e) w (frame_of h number r octets tag) sent refl y)
 
     pub opening_law : Begins m (Handed number) h b (frame_told tag (opening_taken frame unit t d.links) d) w
     opening_law =
@@ -110,10 +110,10 @@ module _ (m : ℕ) (h : List ℕ) (number : ℕ) (tag : Holder) (b : World) (d :
       x
 
   module _ (u : Frame) (sent : Among (Carried u) w.bag) (is : u.number ≡ number) (rp : Result Rp RelayFault) (told : down_at unit ≡ rp)
-      (law : (e : Draft) (v : World) → v ≡ record w { bag = Bare (length w.bag + 1) h ∷ w.bag } → (c : Carries) → IsUnderWay (Some c) e.rows.outbox → Sees h b e v
+      (law : (e : Draft) (v : World) → v ≡ record w { bag = Bare (length w.bag + 1) h ∷ w.bag } → (c : Carries) → IsUnderWay (Some c) e.rows.outbox → Refines h b e v
       → Ends m u h b (transfer_ended c (ended_by c.reference rp) e) v) where
     -- the transfer that was under way, if there was one, has ended
-    up_law : (e : Draft) (c : Option Carries) → IsUnderWay c e.rows.outbox → Sees h b e (record w { bag = Bare (length w.bag + 1) h ∷ w.bag })
+    up_law : (e : Draft) (c : Option Carries) → IsUnderWay c e.rows.outbox → Refines h b e (record w { bag = Bare (length w.bag + 1) h ∷ w.bag })
         → Begins m (Handed number) h b (went_up tag (option_map (unit_ended HandsetSide unit) c) e) w
     up_law e None x k =
         moves_after m number h b e w (stays m h b e (record w { bag = Bare (length w.bag + 1) h ∷ w.bag }) k)
@@ -126,7 +126,7 @@ module _ (m : ℕ) (h : List ℕ) (number : ℕ) (tag : Holder) (b : World) (d :
         let ack = acknowledgement t in
         let l : LinkState = record d.links { begun = None; last_answer = Some frame } in
         let e : Draft = hears (tells (ack ∷ []) (UnitUp ToOriginator unit) l) d in
-        let k : SeesLinks h w.bag l None d.answered = record { next = s.links.next; opened = s.links.opened; begun = tt } in
+        let k : RefinesLinks h w.bag l None d.answered = record { next = s.links.next; opened = s.links.opened; begun = tt } in
         cond_both (has_begun t.identifier d.links.begun) (tells (ack ∷ []) (UnitUp ToOriginator unit) l)
         (cond (is_same frame d.links.last_answer) (sends (ack ∷ []) d.links) (sends (rejection t ∷ []) d.links))
         (λ (z : Step). Begins m (Handed number) h b (frame_told tag z d) w)
@@ -139,15 +139,15 @@ module _ (m : ℕ) (h : List ℕ) (number : ℕ) (tag : Holder) (b : World) (d :
 -- ---- CP-ACK and CP-ERROR
 
 -- the links change, and nothing is sent or goes up
-quiet_law : (m : ℕ) (h : List ℕ) (number : ℕ) (tag : Holder) (b : World) (d : Draft) (w : World) (l : LinkState) → SeesLinks h w.bag l d.under_way d.answered → Sees h b d w
+quiet_law : (m : ℕ) (h : List ℕ) (number : ℕ) (tag : Holder) (b : World) (d : Draft) (w : World) (l : LinkState) → RefinesLinks h w.bag l d.under_way d.answered → Refines h b d w
     → Begins m (Handed number) h b (frame_told tag (quiet l) d) w
 quiet_law m h number tag b d w l k s = only_follows m h number b (hears (quiet l) d) w (stays m h b (hears (quiet l) d) w (hears_nothing h b d w l d.under_way k s))
 
-unrepeated : (h : List ℕ) (bag : List Sent) (u : Option Carries) (o : Option Begun) → SeesBegun h bag u o → SeesBegun h bag u (option_map (λ (x : Begun). record x { repetition = None }) o)
+unrepeated : (h : List ℕ) (bag : List Sent) (u : Option Carries) (o : Option Begun) → RefinesBegun h bag u o → RefinesBegun h bag u (option_map (λ (x : Begun). record x { repetition = None }) o)
 unrepeated h bag u None k = tt
 unrepeated h bag u (Some x) k = k
 
-ack_frame_law : (m : ℕ) (h : List ℕ) (number : ℕ) (tag : Holder) (b : World) (d : Draft) (w : World) (flag : TransactionFlag) (i : ℕ) → Sees h b d w
+ack_frame_law : (m : ℕ) (h : List ℕ) (number : ℕ) (tag : Holder) (b : World) (d : Draft) (w : World) (flag : TransactionFlag) (i : ℕ) → Refines h b d w
     → Begins m (Handed number) h b (frame_told tag (ack_taken flag i d.links) d) w
 ack_frame_law m h number tag b d w ToOriginator i s =
     let l : LinkState = record d.links { begun = option_map (λ (x : Begun). record x { repetition = None }) d.links.begun } in
@@ -161,17 +161,17 @@ ack_frame_law m h number tag b d w FromOriginator i s =
     (λ e. quiet_law m h number tag b d w d.links s.links s)
 
 -- the transfer that was under way, if there was one, is lost
-lost_up : (m : ℕ) (h : List ℕ) (number : ℕ) (tag : Holder) (b : World) (e : Draft) (w : World) (c : Option Carries) → IsUnderWay c e.rows.outbox → Sees h b e w
+lost_up : (m : ℕ) (h : List ℕ) (number : ℕ) (tag : Holder) (b : World) (e : Draft) (w : World) (c : Option Carries) → IsUnderWay c e.rows.outbox → Refines h b e w
     → Begins m (Handed number) h b (went_up tag (option_map (λ (transfer : Carries). Ended transfer LostEnd) c) e) w
 lost_up m h number tag b e w None x s = only_follows m h number b e w (stays m h b e w s)
 lost_up m h number tag b e w (Some c) x s = only_follows m h number b (transfer_ended c LostEnd e) w (failed_law m h b e w c x s)
 
-error_frame_law : (m : ℕ) (h : List ℕ) (number : ℕ) (tag : Holder) (b : World) (d : Draft) (w : World) (flag : TransactionFlag) (i : ℕ) → SoundAt d → Sees h b d w
+error_frame_law : (m : ℕ) (h : List ℕ) (number : ℕ) (tag : Holder) (b : World) (d : Draft) (w : World) (flag : TransactionFlag) (i : ℕ) → SoundAt d → Refines h b d w
     → Begins m (Handed number) h b (frame_told tag (error_taken flag i d.links) d) w
 error_frame_law m h number tag b d w ToOriginator i sound s =
     let l : LinkState = record d.links { begun = None } in
     let e : Draft = hears (tells [] Failed l) d in
-    let k : SeesLinks h w.bag l None d.answered = record { next = s.links.next; opened = s.links.opened; begun = tt } in
+    let k : RefinesLinks h w.bag l None d.answered = record { next = s.links.next; opened = s.links.opened; begun = tt } in
     cond_both (has_begun i d.links.begun) (tells [] Failed l) (quiet d.links) (λ (z : Step). Begins m (Handed number) h b (frame_told tag z d) w)
     (λ q. lost_up m h number tag b e w d.under_way sound.under_way (hears_nothing h b d w l None k s))
     (λ q. quiet_law m h number tag b d w d.links s.links s)
@@ -183,7 +183,7 @@ error_frame_law m h number tag b d w FromOriginator i sound s =
 
 -- ---- any frame
 
-module _ (m : ℕ) (h : List ℕ) (number : ℕ) (tag : Holder) (b : World) (d : Draft) (w : World) (sound : SoundAt d) (s : Sees h b d w) where
+module _ (m : ℕ) (h : List ℕ) (number : ℕ) (tag : Holder) (b : World) (d : Draft) (w : World) (sound : SoundAt d) (s : Refines h b d w) where
   bare_law : (frame : List ℕ) (c : Result Cp CpFault) → cp_at frame ≡ c → IsBare c → Begins m (Handed number) h b (frame_told tag (take_step frame d.links) d) w
   bare_law frame (Ok (CpData t unit)) e i = absurd i
   bare_law frame (Ok (CpAck t)) e i =

@@ -21,7 +21,7 @@ use Rattle.sms_world_model.specs.World.{Accepted, Joined}
 use Rattle.sms_world_model.proofs.GroupSteps.{others_stay}
 use Rattle.sms_world_model.proofs.Places.{of_key_in}
 use Rattle.sms_world_model.proofs.Rounds.{passed as is_passed, ends as is_full, goes_in}
-use Rattle.sms_world_refinement.specs.handset.SeesInbox.{Matches, SeesGroups, groups_at, key_seen}
+use Rattle.sms_world_refinement.specs.handset.RefinesInbox.{Matches, RefinesGroups, groups_at, key_seen}
 use Rattle.sms_world_refinement.proofs.handset.OutboxRows.{same_digits}
 use Rattle.sms_world_refinement.proofs.handset.Placing.{joined_alike, with_alike}
 
@@ -182,8 +182,8 @@ pub places_more : (h : List ℕ) (r : ℕ) (octets : List ℕ) (accepted : List 
 places_more h r octets accepted joined f j i e = let x = f j i e in let y = ended_grows h r octets accepted j.key in omega arith
 
 -- the groups of no key change, and neither do the members of any
-pub groups_kept : (h : List ℕ) (r : ℕ) (octets : List ℕ) (es fs : List Entry) (ms : List DiscardedGroup) (accepted : List Accepted) (joined : List Joined) → SeesGroups h es ms accepted joined
-    → ((k : Group) → groups_at h k (pair h r octets ∷ accepted) ≡ groups_at h k accepted) → ((k : Group) → members k fs ≡ members k es) → SeesGroups h fs ms (pair h r octets ∷ accepted) joined
+pub groups_kept : (h : List ℕ) (r : ℕ) (octets : List ℕ) (es fs : List Entry) (ms : List DiscardedGroup) (accepted : List Accepted) (joined : List Joined) → RefinesGroups h es ms accepted joined
+    → ((k : Group) → groups_at h k (pair h r octets ∷ accepted) ≡ groups_at h k accepted) → ((k : Group) → members k fs ≡ members k es) → RefinesGroups h fs ms (pair h r octets ∷ accepted) joined
 groups_kept h r octets es fs ms accepted joined s same own = record {
   keys = λ k. subst (λ (z : Groups). Matches (members k fs) (mark_of k ms) z) (sym (same k))
       (subst (λ (z : List Entry). Matches z (mark_of k ms) (groups_at h k accepted)) (sym (own k)) (s.keys k));

@@ -18,8 +18,8 @@ use Rattle.sms_world_model.specs.World.{World, Sent, Bare, Carried as Carried_fr
 use Rattle.sms_world_model.specs.WorldStep.{Control, Again}
 use Rattle.sms_world_model.specs.ScriptRun.{Handed}
 use Rattle.sms_world_refinement.specs.frames.FramesUp.{IsBare, line_up, octets_of, sent_as}
-use Rattle.sms_world_refinement.specs.handset.SeesLink.{SeesLinks, WasSent}
-use Rattle.sms_world_refinement.specs.handset.Sight.{Sees}
+use Rattle.sms_world_refinement.specs.handset.RefinesLink.{RefinesLinks, WasSent}
+use Rattle.sms_world_refinement.specs.handset.Refinement.{Refines}
 use Rattle.sms_world_refinement.specs.handset.Stages.{AllMine, Moves, ReadsOne}
 use Rattle.sms_world_refinement.proofs.handset.Moving.{Begins, appended, frames_more, links_more, nothing_more, whole_both}
 
@@ -28,15 +28,15 @@ abbrev pub hears : Step → Draft → Draft
 hears step d = with_turn (heard step (link_of d)) d
 
 -- the state that the links come to, nothing sent
-pub hears_nothing : (h : List ℕ) (b : World) (d : Draft) (w : World) (l : LinkState) (u : Option Carries) → SeesLinks h w.bag l u d.answered → Sees h b d w
-    → Sees h b (record d { links = l; under_way = u; frames = d.frames ++ [] }) w
+pub hears_nothing : (h : List ℕ) (b : World) (d : Draft) (w : World) (l : LinkState) (u : Option Carries) → RefinesLinks h w.bag l u d.answered → Refines h b d w
+    → Refines h b (record d { links = l; under_way = u; frames = d.frames ++ [] }) w
 hears_nothing h b d w l u k s =
-    subst (λ (z : List Outgoing). Sees h b (record d { links = l; under_way = u; frames = z }) w) (sym (nothing_more d.frames))
+    subst (λ (z : List Outgoing). Refines h b (record d { links = l; under_way = u; frames = z }) w) (sym (nothing_more d.frames))
     (record { frames = s.frames; whole = s.whole; links = k; last = s.last; accepted = s.accepted; joined = s.joined; out = s.out; notices = s.notices; groups = s.groups })
 
 -- a bare frame
-pub hears_bare : (h : List ℕ) (b : World) (d : Draft) (w : World) (l : LinkState) (u : Option Carries) (frame : List ℕ) → IsBare (cp_at frame) → SeesLinks h w.bag l u d.answered → Sees h b d w
-    → Sees h b (record d { links = l; under_way = u; frames = d.frames ++ of_links frame None ∷ [] }) (record w { bag = Bare (length w.bag + 1) h ∷ w.bag })
+pub hears_bare : (h : List ℕ) (b : World) (d : Draft) (w : World) (l : LinkState) (u : Option Carries) (frame : List ℕ) → IsBare (cp_at frame) → RefinesLinks h w.bag l u d.answered → Refines h b d w
+    → Refines h b (record d { links = l; under_way = u; frames = d.frames ++ of_links frame None ∷ [] }) (record w { bag = Bare (length w.bag + 1) h ∷ w.bag })
 hears_bare h b d w l u frame bare k s =
     let f : Outgoing = of_links frame None in record {
       frames = frames_more h d.frames (f ∷ []) b.bag w.bag s.frames;
@@ -51,8 +51,8 @@ hears_bare h b d w l u frame bare k s =
     }
 
 -- a frame that was sent
-pub hears_again : (h : List ℕ) (b : World) (d : Draft) (w : World) (flag : TransactionFlag) (frame : List ℕ) (c : Carries) → WasSent h w.bag flag frame c → Sees h b d w
-    → Sees h b (record d { frames = d.frames ++ of_links frame (Some c) ∷ [] }) (record w { bag = sent_as h (length w.bag + 1) frame (Some c) ∷ w.bag })
+pub hears_again : (h : List ℕ) (b : World) (d : Draft) (w : World) (flag : TransactionFlag) (frame : List ℕ) (c : Carries) → WasSent h w.bag flag frame c → Refines h b d w
+    → Refines h b (record d { frames = d.frames ++ of_links frame (Some c) ∷ [] }) (record w { bag = sent_as h (length w.bag + 1) frame (Some c) ∷ w.bag })
 hears_again h b d w flag frame c sent s =
     let f : Outgoing = of_links frame (Some c) in record {
       frames = frames_more h d.frames (f ∷ []) b.bag w.bag s.frames;
@@ -66,7 +66,7 @@ hears_again h b d w flag frame c sent s =
       groups = s.groups;
     }
 
-pub again_moves : (m : ℕ) (h : List ℕ) (b : World) (d : Draft) (w : World) (flag : TransactionFlag) (frame : List ℕ) (c : Carries) → WasSent h w.bag flag frame c → Sees h b d w
+pub again_moves : (m : ℕ) (h : List ℕ) (b : World) (d : Draft) (w : World) (flag : TransactionFlag) (frame : List ℕ) (c : Carries) → WasSent h w.bag flag frame c → Refines h b d w
     → Moves (AllMine h) m h b (record d { frames = d.frames ++ of_links frame (Some c) ∷ [] }) w
 again_moves m h b d w flag frame c sent s =
     let u : Frame = record { number = sent.2.0; handset = h; line = line_up c.kind; kind = c.kind; reference = c.reference; tpdu = octets_of c.kind frame; tag = c.tag } in
@@ -87,19 +87,19 @@ again_carries h bag flag frame c under_way answered sent =
     ∙ ap (λ (z : TransactionFlag). carried_by z under_way answered) (i.flag ∙ sent.1)
 
 -- CP-ACK or CP-ERROR alone
-pub bare_alone : (m : ℕ) (h : List ℕ) (b : World) (d : Draft) (w : World) (l : LinkState) (frame : List ℕ) (up : Option Up) → IsBare (cp_at frame) → SeesLinks h w.bag l (still_under_way up d.under_way) d.answered → Sees h b d w
-    → Sees h b (hears (record { state = l; out = record { frames = frame ∷ []; up = up } }) d) (record w { bag = Bare (length w.bag + 1) h ∷ w.bag })
+pub bare_alone : (m : ℕ) (h : List ℕ) (b : World) (d : Draft) (w : World) (l : LinkState) (frame : List ℕ) (up : Option Up) → IsBare (cp_at frame) → RefinesLinks h w.bag l (still_under_way up d.under_way) d.answered → Refines h b d w
+    → Refines h b (hears (record { state = l; out = record { frames = frame ∷ []; up = up } }) d) (record w { bag = Bare (length w.bag + 1) h ∷ w.bag })
 bare_alone m h b d w l frame up bare k s =
-    subst (λ (z : Option Carries). Sees h b (record d { links = l; under_way = still_under_way up d.under_way; frames = d.frames ++ of_links frame z ∷ [] }) (record w { bag = Bare (length w.bag + 1) h ∷ w.bag }))
+    subst (λ (z : Option Carries). Refines h b (record d { links = l; under_way = still_under_way up d.under_way; frames = d.frames ++ of_links frame z ∷ [] }) (record w { bag = Bare (length w.bag + 1) h ∷ w.bag }))
     (sym (bare_carries frame d.under_way d.answered (cp_at frame) refl bare)) (hears_bare h b d w l (still_under_way up d.under_way) frame bare k s)
 
-pub bare_moves : (m : ℕ) (h : List ℕ) (b : World) (d : Draft) (w : World) (l : LinkState) (frame : List ℕ) (up : Option Up) → IsBare (cp_at frame) → SeesLinks h w.bag l (still_under_way up d.under_way) d.answered → Sees h b d w
+pub bare_moves : (m : ℕ) (h : List ℕ) (b : World) (d : Draft) (w : World) (l : LinkState) (frame : List ℕ) (up : Option Up) → IsBare (cp_at frame) → RefinesLinks h w.bag l (still_under_way up d.under_way) d.answered → Refines h b d w
     → Moves (AllMine h) m h b (hears (record { state = l; out = record { frames = frame ∷ []; up = up } }) d) w
 bare_moves m h b d w l frame up bare k s = (Control h ∷ [], ((tt, refl, tt), (tt, tt), bare_alone m h b d w l frame up bare k s))
 
 -- CP-ACK, and the answer again
 pub bare_and_again : (m : ℕ) (h : List ℕ) (b : World) (d : Draft) (w : World) (l : LinkState) (frame again : List ℕ) (up : Option Up) (flag : TransactionFlag) (c : Carries) → IsBare (cp_at frame)
-    → WasSent h w.bag flag again c → carried_by flag d.under_way d.answered ≡ Some c → SeesLinks h w.bag l (still_under_way up d.under_way) d.answered → Sees h b d w
+    → WasSent h w.bag flag again c → carried_by flag d.under_way d.answered ≡ Some c → RefinesLinks h w.bag l (still_under_way up d.under_way) d.answered → Refines h b d w
     → Moves (AllMine h) m h b (hears (record { state = l; out = record { frames = frame ∷ again ∷ []; up = up } }) d) w
 bare_and_again m h b d w l frame again up flag c bare sent is k s =
     let f : Outgoing = of_links frame None in
@@ -123,7 +123,7 @@ bare_and_again m h b d w l frame again up flag c bare sent is k s =
 -- after CP-ACK it is the event's own
 pub reads_then : (m number : ℕ) (h : List ℕ) (b : World) (e : Draft) (w : World) (u : Frame) → Among (Carried_frame u) w.bag → u.number ≡ number
     → ReadsOne m u h b e (record w { bag = Bare (length w.bag + 1) h ∷ w.bag }) → Begins m (Handed number) h b e w
-reads_then m number h b e w u sent is (step, rest, (reads, own, follows, run, sees)) = record {
+reads_then m number h b e w u sent is (step, rest, (reads, own, follows, run, refines)) = record {
   control = Control h ∷ [];
   own = step ∷ [];
   follows = rest;
@@ -133,13 +133,13 @@ reads_then m number h b e w u sent is (step, rest, (reads, own, follows, run, se
   own_mine = (own, tt);
   is_mine = follows;
   runs = (tt, run);
-  sees = sees;
+  refines = refines;
 }
 
 -- so is what reads nothing
 pub moves_after : (m number : ℕ) (h : List ℕ) (b : World) (e : Draft) (w : World)
     → Moves (AllMine h) m h b e (record w { bag = Bare (length w.bag + 1) h ∷ w.bag }) → Begins m (Handed number) h b e w
-moves_after m number h b e w (steps, (follows, run, sees)) = record {
+moves_after m number h b e w (steps, (follows, run, refines)) = record {
   control = Control h ∷ [];
   own = [];
   follows = steps;
@@ -149,5 +149,5 @@ moves_after m number h b e w (steps, (follows, run, sees)) = record {
   own_mine = tt;
   is_mine = follows;
   runs = (tt, run);
-  sees = sees;
+  refines = refines;
 }

@@ -16,8 +16,8 @@ use Rattle.sms_world_model.specs.Run.{Run, end, after_item}
 use Rattle.sms_world_model.specs.ScriptRun.{items, Event, Follows, Handed, MayFollow, Removed, Tick_handset, Wrote, AllControl, AllMayFollow, IsOwn}
 use Rattle.sms_world_model.specs.Sides.{AllOfHandset}
 use Rattle.sms_world_refinement.specs.frames.FramesUp.{AreWhole, sent_as, stacked}
-use Rattle.sms_world_refinement.specs.handset.SeesLink.{SeesAnswer, SeesBegun, SeesLinks, SeesOpened, WasSent}
-use Rattle.sms_world_refinement.specs.handset.Sight.{Sees}
+use Rattle.sms_world_refinement.specs.handset.RefinesLink.{RefinesAnswer, RefinesBegun, RefinesLinks, RefinesOpened, WasSent}
+use Rattle.sms_world_refinement.specs.handset.Refinement.{Refines}
 use Rattle.sms_world_refinement.specs.handset.Stages.{AllMine, Happens, Moves}
 
 -- ---- steps of a handset
@@ -40,12 +40,12 @@ mine_own h (x ∷ xs) a = (a.1, mine_own h xs a.2)
 
 -- one stage after another
 pub moves_then : (m : ℕ) (h : List ℕ) (b : World) (e f : Draft) (w : World)
-    → Moves (AllMine h) m h b e w → ((v : World) → Sees h b e v → Moves (AllMine h) m h b f v) → Moves (AllMine h) m h b f w
+    → Moves (AllMine h) m h b e w → ((v : World) → Refines h b e v → Moves (AllMine h) m h b f v) → Moves (AllMine h) m h b f w
 moves_then m h b e f w (xs, (kx, rx, sx)) next =
     let y : Moves (AllMine h) m h b f (end w (items m false xs)) = next (end w (items m false xs)) sx in
-    (xs ++ y.0, (follow_both h xs y.0 kx y.1.0, run_both m w xs y.0 rx y.1.1, subst (λ (v : World). Sees h b f v) (sym (end_both m w xs y.0)) y.1.2))
+    (xs ++ y.0, (follow_both h xs y.0 kx y.1.0, run_both m w xs y.0 rx y.1.1, subst (λ (v : World). Refines h b f v) (sym (end_both m w xs y.0)) y.1.2))
 
-pub stays : (m : ℕ) (h : List ℕ) (b : World) (d : Draft) (w : World) → Sees h b d w → Moves (AllMine h) m h b d w
+pub stays : (m : ℕ) (h : List ℕ) (b : World) (d : Draft) (w : World) → Refines h b d w → Moves (AllMine h) m h b d w
 stays m h b d w s = ([], (tt, tt, s))
 
 -- ---- the head of an event, and what follows
@@ -61,7 +61,7 @@ pub record Ordered (m : ℕ) (event : Event) (h : List ℕ) (b : World) (new : D
   pub own_mine : AllOfHandset h own
   pub is_mine : AllMine h follows
   pub runs : Run w (items m false (control ++ (own ++ follows)))
-  pub sees : Sees h b new (end w (items m false (control ++ (own ++ follows))))
+  pub refines : Refines h b new (end w (items m false (control ++ (own ++ follows))))
 
 abbrev pub Begins : ℕ → Event → List ℕ → World → Draft → World → Type 0
 Begins m event h b new w = Ordered m event h b new w
@@ -71,10 +71,10 @@ appended [] ys zs = refl
 appended (x ∷ xs) ys zs = ap (λ z. x ∷ z) (appended xs ys zs)
 
 pub begins_then : (m : ℕ) (h : List ℕ) (event : Event) (b : World) (e f : Draft) (w : World)
-    → Begins m event h b e w → ((v : World) → Sees h b e v → Moves (AllMine h) m h b f v) → Begins m event h b f w
+    → Begins m event h b e w → ((v : World) → Refines h b e v → Moves (AllMine h) m h b f v) → Begins m event h b f w
 begins_then m h event b e f w x next =
     let heads : List Step = x.control ++ (x.own ++ x.follows) in
-    let y : Moves (AllMine h) m h b f (end w (items m false heads)) = next (end w (items m false heads)) x.sees in
+    let y : Moves (AllMine h) m h b f (end w (items m false heads)) = next (end w (items m false heads)) x.refines in
     let q : heads ++ y.0 ≡ x.control ++ (x.own ++ (x.follows ++ y.0)) =
     appended x.control (x.own ++ x.follows) y.0 ∙ ap (λ (z : List Step). x.control ++ z) (appended x.own x.follows y.0) in
     record {
@@ -87,7 +87,7 @@ begins_then m h event b e f w x next =
       own_mine = x.own_mine;
       is_mine = follow_both h x.follows y.0 x.is_mine y.1.0;
       runs = subst (λ (z : List Step). Run w (items m false z)) q (run_both m w heads y.0 x.runs y.1.1);
-      sees = subst (λ (z : List Step). Sees h b f (end w (items m false z))) q (subst (λ (v : World). Sees h b f v) (sym (end_both m w heads y.0)) y.1.2);
+      refines = subst (λ (z : List Step). Refines h b f (end w (items m false z))) q (subst (λ (v : World). Refines h b f v) (sym (end_both m w heads y.0)) y.1.2);
     }
 
 all_mine : (m : ℕ) (event : Event) (h : List ℕ) (b : World) (d : Draft) (w : World) (x : Ordered m event h b d w) → AllOfHandset h (x.control ++ (x.own ++ x.follows))
@@ -96,19 +96,19 @@ all_mine m event h b d w x = own_both h x.control (x.own ++ x.follows) x.control
 -- an event whose head reads nothing
 pub only_follows : (m : ℕ) (h : List ℕ) (n : ℕ) (b : World) (d : Draft) (w : World) → Moves (AllMine h) m h b d w → Begins m (Handed n) h b d w
 only_follows m h n b d w (steps, (k, r, s)) =
-    record { control = []; own = []; follows = steps; is_control = tt; control_mine = tt; is_own = inl refl; own_mine = tt; is_mine = k; runs = r; sees = s }
+    record { control = []; own = []; follows = steps; is_control = tt; control_mine = tt; is_own = inl refl; own_mine = tt; is_mine = k; runs = r; refines = s }
 
 pub handed : (m : ℕ) (h : List ℕ) (n : ℕ) (b : World) (d : Draft) (w : World) → Begins m (Handed n) h b d w → Happens m (Handed n) h b d w
 handed m h n b d w x =
-    (x.control ++ (x.own ++ x.follows), (((x.control, x.own, x.follows, (x.is_control, x.is_own, mine_follows h (Handed n) (λ s y. y) x.follows x.is_mine, refl)), all_mine m (Handed n) h b d w x), x.runs, x.sees))
+    (x.control ++ (x.own ++ x.follows), (((x.control, x.own, x.follows, (x.is_control, x.is_own, mine_follows h (Handed n) (λ s y. y) x.follows x.is_mine, refl)), all_mine m (Handed n) h b d w x), x.runs, x.refines))
 
 pub removes : (m : ℕ) (h : List ℕ) (b : World) (d : Draft) (w : World) → Begins m Removed h b d w → Happens m Removed h b d w
 removes m h b d w x =
-    (x.control ++ (x.own ++ x.follows), (((x.control, x.own, x.follows, (x.is_control, x.is_own, mine_follows h Removed (λ s y. y) x.follows x.is_mine, refl)), all_mine m Removed h b d w x), x.runs, x.sees))
+    (x.control ++ (x.own ++ x.follows), (((x.control, x.own, x.follows, (x.is_control, x.is_own, mine_follows h Removed (λ s y. y) x.follows x.is_mine, refl)), all_mine m Removed h b d w x), x.runs, x.refines))
 
 pub writes : (m : ℕ) (h : List ℕ) (b : World) (d : Draft) (w : World) → Begins m Wrote h b d w → Happens m Wrote h b d w
 writes m h b d w x =
-    (x.control ++ (x.own ++ x.follows), (((x.control, x.own, x.follows, (x.is_control, x.is_own, mine_follows h Wrote (λ s y. y) x.follows x.is_mine, refl)), all_mine m Wrote h b d w x), x.runs, x.sees))
+    (x.control ++ (x.own ++ x.follows), (((x.control, x.own, x.follows, (x.is_control, x.is_own, mine_follows h Wrote (λ s y. y) x.follows x.is_mine, refl)), all_mine m Wrote h b d w x), x.runs, x.refines))
 
 -- an event that is only steps that follow
 pub ticks : (m : ℕ) (h : List ℕ) (b : World) (d : Draft) (w : World) → Moves (AllMine h) m h b d w → Happens m Tick_handset h b d w
@@ -137,18 +137,18 @@ module _ (h : List ℕ) (x : Sent) (bag : List Sent) where
   sent_more : (flag : TransactionFlag) (octets : List ℕ) (c : Carries) → WasSent h bag flag octets c → WasSent h (x ∷ bag) flag octets c
   sent_more flag octets c s = (s.0, s.1, (s.2.0, inr s.2.1))
 
-  answer_more : (answered : Option Carries) (a : Option Answer) → SeesAnswer h bag answered a → SeesAnswer h (x ∷ bag) answered a
+  answer_more : (answered : Option Carries) (a : Option Answer) → RefinesAnswer h bag answered a → RefinesAnswer h (x ∷ bag) answered a
   answer_more answered None s = tt
   answer_more answered (Some a) s = (s.0, (s.1.0, sent_more ToOriginator a.frame s.0 s.1.1))
 
-  opened_more : (answered : Option Carries) (o : Option Opened) → SeesOpened h bag answered o → SeesOpened h (x ∷ bag) answered o
+  opened_more : (answered : Option Carries) (o : Option Opened) → RefinesOpened h bag answered o → RefinesOpened h (x ∷ bag) answered o
   opened_more answered None s = tt
   opened_more answered (Some o) s = (s.0, answer_more answered o.answer s.1)
 
-  begun_more : (under_way : Option Carries) (o : Option Begun) → SeesBegun h bag under_way o → SeesBegun h (x ∷ bag) under_way o
+  begun_more : (under_way : Option Carries) (o : Option Begun) → RefinesBegun h bag under_way o → RefinesBegun h (x ∷ bag) under_way o
   begun_more under_way None s = tt
   begun_more under_way (Some b) s = (s.0, (s.1.0, sent_more FromOriginator b.frame s.0 s.1.1))
 
-  pub links_more : (l : LinkState) (under_way answered : Option Carries) → SeesLinks h bag l under_way answered → SeesLinks h (x ∷ bag) l under_way answered
+  pub links_more : (l : LinkState) (under_way answered : Option Carries) → RefinesLinks h bag l under_way answered → RefinesLinks h (x ∷ bag) l under_way answered
   links_more l under_way answered s =
       record { next = s.next; opened = opened_more answered l.opened s.opened; begun = begun_more under_way l.begun s.begun }

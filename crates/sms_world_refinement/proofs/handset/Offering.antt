@@ -43,12 +43,12 @@ use Rattle.sms_handset_rows.proofs.outbox.SoundOutbox.{held_among, held_entries}
 use Rattle.sms_handset_rows.proofs.outbox.SoundReferences.{next_is_free}
 use Rattle.sms_handset.proofs.SoundActs.{few_references, not_by_entries}
 use Rattle.sms_handset.proofs.SoundTransfers.{IsDue, first_due_is, lapse_settles}
-use Rattle.sms_world_model.specs.World.{World, Up, Frame, Sent, Carried, Giving, OutEntry, IsUnfinished}
+use Rattle.sms_world_model.specs.World.{World, Up, Frame, Sent, Carried, Allocation, OutEntry, IsUnfinished}
 use Rattle.sms_world_model.specs.WorldStep.{Offer_up, Offer_memory, Repeat_memory, replaced}
 use Rattle.sms_world_model.specs.References.{IsFreeUp, IsNewHolder}
 use Rattle.sms_world_refinement.specs.frames.FramesUp.{CarriesUp, IsOfKind, frame_tpdu, sent_as, unit_tpdu}
-use Rattle.sms_world_refinement.specs.handset.SeesOutbox.{SeesOut, entry_seen, state_of}
-use Rattle.sms_world_refinement.specs.handset.Sight.{Sees}
+use Rattle.sms_world_refinement.specs.handset.RefinesOutbox.{RefinesOut, entry_seen, state_of}
+use Rattle.sms_world_refinement.specs.handset.Refinement.{Refines}
 use Rattle.sms_world_refinement.specs.handset.Stages.{AllMine, Moves}
 use Rattle.sms_world_refinement.proofs.handset.Concluding.{lost_law, notice_put, turned}
 use Rattle.sms_world_refinement.proofs.frames.Linking.{begin_is, data_framed, next_below}
@@ -69,7 +69,7 @@ abbrev pub data_sent : List ℕ → ℕ → ℕ → List ℕ → Holder → Fram
 data_sent h number r tpdu tag = record { number = number; handset = h; line = Up; kind = Data; reference = r; tpdu = tpdu; tag = tag }
 
 pub begins : (h : List ℕ) (b : World) (d : Draft) (w : World) (r : ℕ) (tag : Holder) (unit tpdu : List ℕ) → is_busy d.links ≡ false → IsSending r unit tpdu
-    → Sees h b d w → Sees h b (begin r tag unit d) (record w { bag = Carried (data_sent h (length w.bag + 1) r tpdu tag) ∷ w.bag })
+    → Refines h b d w → Refines h b (begin r tag unit d) (record w { bag = Carried (data_sent h (length w.bag + 1) r tpdu tag) ∷ w.bag })
 begins h b d w r tag unit tpdu idle i s =
     let c : Carries = record { kind = Data; reference = r; tag = tag } in
     let n = d.links.next_identifier in
@@ -81,7 +81,7 @@ begins h b d w r tag unit tpdu idle i s =
     ap (λ (z : List ℕ). Carried (data_sent h (length w.bag + 1) r z tag)) (ap (λ (z : Result Cp CpFault). frame_tpdu z) (cp_again frame (CpData (in_transaction FromOriginator n) unit) framed) ∙ i.says) in
     let e : started d.moment frame d.links ≡ begin_step d.moment unit d.links = sym (begin_is d.moment unit d.links idle) in
     let f : Outgoing = record { octets = frame; carried = Some c; is_copy = false } in
-    let z : Sees h b (record d { links = (started d.moment frame d.links).state; under_way = Some c; frames = d.frames ++ f ∷ [] }) (record w { bag = x ∷ w.bag }) = record {
+    let z : Refines h b (record d { links = (started d.moment frame d.links).state; under_way = Some c; frames = d.frames ++ f ∷ [] }) (record w { bag = x ∷ w.bag }) = record {
       frames = ap (λ (v : Sent). v ∷ w.bag) (sym q) ∙ frames_more h d.frames (f ∷ []) b.bag w.bag s.frames;
       whole = whole_both d.frames (f ∷ []) s.whole (is, tt);
       links = record {
@@ -96,13 +96,13 @@ begins h b d w r tag unit tpdu idle i s =
       notices = s.notices;
       groups = s.groups;
     } in
-    subst (λ (t : Turn). Sees h b (with_turn t d) (record w { bag = x ∷ w.bag }))
+    subst (λ (t : Turn). Refines h b (with_turn t d) (record w { bag = x ∷ w.bag }))
     (sym (cond-false (is_busy d.links) (still (link_of d)) (turn_started c (begin_step d.moment unit d.links) (link_of d)) idle))
-    (subst (λ (t : Step). Sees h b (record d { links = t.state; under_way = Some c; frames = d.frames ++ carrying (Some c) t.out.frames }) (record w { bag = x ∷ w.bag })) e z)
+    (subst (λ (t : Step). Refines h b (record d { links = t.state; under_way = Some c; frames = d.frames ++ carrying (Some c) t.out.frames }) (record w { bag = x ∷ w.bag })) e z)
 
 -- ---- an entry is sent
 
-module _ (m : ℕ) (h : List ℕ) (b : World) (d : Draft) (w : World) (idle : is_busy d.links ≡ false) (sound : SoundAt d) (s : Sees h b d w) where
+module _ (m : ℕ) (h : List ℕ) (b : World) (d : Draft) (w : World) (idle : is_busy d.links ≡ false) (sound : SoundAt d) (s : Refines h b d w) where
   entry_law : (f : Option OutRow) → ((o : OutRow) → f ≡ Some o → IsDue d.rows.outbox o) → Moves (AllMine h) m h b (offer_entry f d) w
   entry_law None due = stays m h b d w s
   entry_law (Some o) due =
@@ -110,7 +110,7 @@ module _ (m : ℕ) (h : List ℕ) (b : World) (d : Draft) (w : World) (idle : is
       let at : row_at out_key o.number d.rows.outbox ≡ Some o = among_found out_key o d.rows.outbox sound.outbox.order i.among in
       let x : OutRow = record o { state = Sending; tries = min (o.tries + 1) 255; due = None } in
       let y = s.out.given o.number o at in
-      let g : Giving = record { handset = h; reference = o.reference; holder = EntryHolder o.number; moment = y.0; tpdu = [] } in
+      let g : Allocation = record { handset = h; reference = o.reference; holder = EntryHolder o.number; moment = y.0; tpdu = [] } in
       let centre = relay_address d.rows.setup.centre in
       let c = centre_is d.rows.setup.centre sound.setup.centre in
       let few : length (submit_of o) ≤ 200 = submit_fits o (sound.outbox.each o i.among).2.1.4 in
@@ -122,7 +122,7 @@ module _ (m : ℕ) (h : List ℕ) (b : World) (d : Draft) (w : World) (idle : is
         says = ap (λ (z : Result Rp RelayFault). unit_tpdu z) read;
       } in
       let v : World = record w { outbox = replaced (entry_seen h o) (state_of Sending) w.outbox } in
-      let s1 : Sees h b (put_out x d) v = turned h b d w o x (state_of Sending) at refl refl refl s in (
+      let s1 : Refines h b (put_out x d) v = turned h b d w o x (state_of Sending) at refl refl refl s in (
         Offer_up g (entry_seen h o) (submit_of o) ∷ [],
         (
           (tt, refl, tt),
@@ -148,7 +148,7 @@ smma_sends r =
 
 -- one is sent that was given its reference
 noticed : (h : List ℕ) (b : World) (d : Draft) (w : World) (n : Notice) (moment : ℕ) → Among (record { handset = h; reference = n.reference; holder = Memory n.number; moment = moment; tpdu = [] }) w.up
-    → Sees h b d w → Sees h b (put_notice n d) w
+    → Refines h b d w → Refines h b (put_notice n d) w
 noticed h b d w n moment a s = record {
   frames = s.frames;
   whole = s.whole;
@@ -167,7 +167,7 @@ same_memory n k q = cc
 memory_entry : (n k : ℕ) → Memory n ≡ EntryHolder k → ⊥
 memory_entry n k q = absurd cc
 
-new_memory : (h : List ℕ) (n : ℕ) (up : List Giving) → ((g : Giving) → Among g up → g.handset ≡ h → g.holder ≡ Memory n → ⊥) → IsNewHolder up h (Memory n)
+new_memory : (h : List ℕ) (n : ℕ) (up : List Allocation) → ((g : Allocation) → Among g up → g.handset ≡ h → g.holder ≡ Memory n → ⊥) → IsNewHolder up h (Memory n)
 new_memory h n [] f = tt
 new_memory h n (g ∷ gs) f = ((λ (a, e). f g (inl refl) a e), new_memory h n gs (λ x i. f x (inr i)))
 
@@ -179,7 +179,7 @@ is_open Failed u = absurd u
 is_open Unsure u = absurd u
 
 -- a reference that no unfinished row holds is free in the world
-pub free_up : (h : List ℕ) (next r : ℕ) (outbox : List OutRow) (w : World) → SeesOut h next outbox w.outbox w.up → is_among r (held_by_entries outbox) ≡ false → IsFreeUp w h r
+pub free_up : (h : List ℕ) (next r : ℕ) (outbox : List OutRow) (w : World) → RefinesOut h next outbox w.outbox w.up → is_among r (held_by_entries outbox) ≡ false → IsFreeUp w h r
 free_up h next r outbox w s free g e held a q =
     let x = s.only e held.1 (sym held.2 ∙ a) in
     let going_on : is_unfinished x.0.state ≡ true = is_open x.0.state (subst (λ (z : OutEntry). IsUnfinished z.state) x.1.1 held.4) in
@@ -189,26 +189,26 @@ free_up h next r outbox w s free g e held a q =
     both_ways (is_among r (held_by_entries outbox)) free (ap (λ (z : ℕ). is_among z (held_by_entries outbox)) (sym q ∙ same) ∙ there)
 
 -- one more giving to an RP-SMMA
-out_noticed : (h : List ℕ) (next r n moment : ℕ) (outbox : List OutRow) (entries : List OutEntry) (up : List Giving) → SeesOut h next outbox entries up
-    → SeesOut h next outbox entries (record { handset = h; reference = r; holder = Memory n; moment = moment; tpdu = [] } ∷ up)
+out_noticed : (h : List ℕ) (next r n moment : ℕ) (outbox : List OutRow) (entries : List OutEntry) (up : List Allocation) → RefinesOut h next outbox entries up
+    → RefinesOut h next outbox entries (record { handset = h; reference = r; holder = Memory n; moment = moment; tpdu = [] } ∷ up)
 out_noticed h next r n moment outbox entries up s = record {
   there = s.there;
   only = s.only;
   given = λ k o q. let g = s.given k o q in (g.0, inr g.1);
   same = λ k o v q i a e. ⊎_elim
-      (λ (z : v ≡ record { handset = h; reference = r; holder = Memory n; moment = moment; tpdu = [] }). absurd (memory_entry n k (ap (λ (t : Giving). t.holder) (sym z) ∙ e)))
+      (λ (z : v ≡ record { handset = h; reference = r; holder = Memory n; moment = moment; tpdu = [] }). absurd (memory_entry n k (ap (λ (t : Allocation). t.holder) (sym z) ∙ e)))
       (λ (z : Among v up). s.same k o v q z a e) i;
   used = λ k v i a e. ⊎_elim
-      (λ (z : v ≡ record { handset = h; reference = r; holder = Memory n; moment = moment; tpdu = [] }). absurd (memory_entry n k (ap (λ (t : Giving). t.holder) (sym z) ∙ e)))
+      (λ (z : v ≡ record { handset = h; reference = r; holder = Memory n; moment = moment; tpdu = [] }). absurd (memory_entry n k (ap (λ (t : Allocation). t.holder) (sym z) ∙ e)))
       (λ (z : Among v up). s.used k v z a e) i;
 }
 
-module _ (m : ℕ) (h : List ℕ) (b : World) (d : Draft) (w : World) (idle : is_busy d.links ≡ false) (s : Sees h b d w) where
+module _ (m : ℕ) (h : List ℕ) (b : World) (d : Draft) (w : World) (idle : is_busy d.links ≡ false) (s : Refines h b d w) where
   again_law : (n : Notice) → Among n d.notices → Moves (AllMine h) m h b (send_notice n d) w
   again_law n i =
       let y = s.notices.given n i in
       let x : Notice = record n { due = None } in
-      let g : Giving = record { handset = h; reference = n.reference; holder = Memory n.number; moment = y.0; tpdu = [] } in (
+      let g : Allocation = record { handset = h; reference = n.reference; holder = Memory n.number; moment = y.0; tpdu = [] } in (
         Repeat_memory g n.number ∷ [],
         (
           (tt, refl, tt),
@@ -221,10 +221,10 @@ module _ (m : ℕ) (h : List ℕ) (b : World) (d : Draft) (w : World) (idle : is
   first_law r free =
       let k = d.rows.counters.notice in
       let n : Notice = record { number = k; reference = r; is_second = false; due = None } in
-      let g : Giving = record { handset = h; reference = r; holder = Memory k; moment = m; tpdu = [] } in
+      let g : Allocation = record { handset = h; reference = r; holder = Memory k; moment = m; tpdu = [] } in
       let v : World = record w { up = g ∷ w.up } in
       let e : Draft = put_counters (record d.rows.counters { notice = k + 1; reference = (r + 1) % 256 }) (record d { notices_wanted = d.notices_wanted - 1 }) in
-      let s1 : Sees h b (put_notice (record n { due = None }) e) v = record {
+      let s1 : Refines h b (put_notice (record n { due = None }) e) v = record {
         frames = s.frames;
         whole = s.whole;
         links = s.links;
@@ -235,7 +235,7 @@ module _ (m : ℕ) (h : List ℕ) (b : World) (d : Draft) (w : World) (idle : is
         notices = notice_put h (k + 1) n m d.notices (g ∷ w.up) (inl refl) (record {
           given = λ y i. let x = s.notices.given y i in (x.0, inr x.1);
           used = λ j t i a q. ⊎_elim
-              (λ (z : t ≡ g). let l : k ≡ j = same_memory k j (ap (λ (y : Giving). y.holder) (sym z) ∙ q) in omega arith)
+              (λ (z : t ≡ g). let l : k ≡ j = same_memory k j (ap (λ (y : Allocation). y.holder) (sym z) ∙ q) in omega arith)
               (λ (z : Among t w.up). let l : j < k = s.notices.used j t z a q in omega arith) i;
         });
         groups = s.groups;
@@ -265,7 +265,7 @@ first_fired_among moment (x ∷ xs) n e = ⊎_elim
     (λ (t : is_fired moment x.due ≡ false). inr (first_fired_among moment xs n (sym (cond-false (is_fired moment x.due) (Some x) (first_fired moment xs) t) ∙ e)))
     (cases_Bool (is_fired moment x.due))
 
-module _ (m : ℕ) (h : List ℕ) (b : World) (d : Draft) (w : World) (sound : SoundAt d) (s : Sees h b d w) where
+module _ (m : ℕ) (h : List ℕ) (b : World) (d : Draft) (w : World) (sound : SoundAt d) (s : Refines h b d w) where
   free : is_among (next_free d.rows.counters.reference (held_references d.notices d.rows.outbox)) (held_by_entries d.rows.outbox) ≡ false
   free =
       let r = next_free d.rows.counters.reference (held_references d.notices d.rows.outbox) in
@@ -299,7 +299,7 @@ lost_number o =
     cond_both (o.is_long || nat_le most_tries o.tries) (record o { state = Unsure }) (record o { state = Queued; rejects_duplicates = true; due = None }) (λ (z : OutRow). z.number ≡ o.number) (λ t. refl) (λ t. refl)
 
 rows_law : (m : ℕ) (h : List ℕ) (b : World) (os : List OutRow) (d : Draft) (w : World) → Rises out_key os → ((o : OutRow) → Among o os → row_at out_key o.number d.rows.outbox ≡ Some o)
-    → Sees h b d w → Moves (AllMine h) m h b (lapse_rows os d) w
+    → Refines h b d w → Moves (AllMine h) m h b (lapse_rows os d) w
 rows_law m h b [] d w r there s = stays m h b d w s
 rows_law m h b (o ∷ os) d w r there s =
     cond_both (is_sending o.state) (put_out (lost o) d) d (λ (z : Draft). Moves (AllMine h) m h b (lapse_rows os z) w)
@@ -311,13 +311,13 @@ rows_law m h b (o ∷ os) d w r there s =
     ∙ there x (inr i)) k))
     (λ t. rows_law m h b os d w r.1 (λ x i. there x (inr i)) s)
 
-lapse_law : (m : ℕ) (h : List ℕ) (b : World) (d : Draft) (w : World) → SoundAt d → Sees h b d w → Moves (AllMine h) m h b (lapse d) w
+lapse_law : (m : ℕ) (h : List ℕ) (b : World) (d : Draft) (w : World) → SoundAt d → Refines h b d w → Moves (AllMine h) m h b (lapse d) w
 lapse_law m h b d w sound s =
     cond_both d.is_recovered (lapse_rows d.rows.outbox (record d { is_recovered = false })) d (λ (z : Draft). Moves (AllMine h) m h b z w)
     (λ t. rows_law m h b d.rows.outbox (record d { is_recovered = false }) w sound.outbox.order (λ o i. among_found out_key o d.rows.outbox sound.outbox.order i)
     (record { frames = s.frames; whole = s.whole; links = s.links; last = s.last; accepted = s.accepted; joined = s.joined; out = s.out; notices = s.notices; groups = s.groups }))
     (λ t. stays m h b d w s)
 
-pub follow_law : (m : ℕ) (h : List ℕ) (b : World) (d : Draft) (w : World) → SoundAt d → Sees h b d w → Moves (AllMine h) m h b (follow d) w
+pub follow_law : (m : ℕ) (h : List ℕ) (b : World) (d : Draft) (w : World) → SoundAt d → Refines h b d w → Moves (AllMine h) m h b (follow d) w
 follow_law m h b d w sound s =
     moves_then m h b (lapse d) (follow d) w (lapse_law m h b d w sound s) (λ v k. offer_law m h b (lapse d) v (lapse_settles d sound).sound k)

@@ -19,9 +19,9 @@ use Rattle.sms_world_model.proofs.Apart.{centre_leaves_handset, handset_leaves_h
 use Rattle.sms_world_model.proofs.Runs.{bag_grows}
 use Rattle.sms_world_refinement.proofs.handset.Putting.{centre_stays, others_stay}
 use Rattle.sms_world_refinement.specs.handset.PutInOrder.{AreNoted}
-use Rattle.sms_world_refinement.specs.handset.SeesInbox.{Matches, key_seen}
-use Rattle.sms_world_refinement.specs.handset.SeesLink.{SeesAnswer, SeesBegun, SeesOpened, WasSent}
-use Rattle.sms_world_refinement.specs.handset.Sight.{Sees}
+use Rattle.sms_world_refinement.specs.handset.RefinesInbox.{Matches, key_seen}
+use Rattle.sms_world_refinement.specs.handset.RefinesLink.{RefinesAnswer, RefinesBegun, RefinesOpened, WasSent}
+use Rattle.sms_world_refinement.specs.handset.Refinement.{Refines}
 
 -- frames only come
 items_grow : (w : World) (m : ℕ) (b : Bool) (ss : List Step) (x : Sent) → Among x w.bag → Among x (end w (items m b ss)).bag
@@ -35,19 +35,19 @@ module _ (h : List ℕ) (w v : World) (l : LeavesHandset h w v) (more : (x : Sen
   sent_still : (flag : TransactionFlag) (octets : List ℕ) (c : Carries) → WasSent h w.bag flag octets c → WasSent h v.bag flag octets c
   sent_still flag octets c s = (s.0, s.1, (s.2.0, more _ s.2.1))
 
-  answer_still : (answered : Option Carries) (a : Option Answer) → SeesAnswer h w.bag answered a → SeesAnswer h v.bag answered a
+  answer_still : (answered : Option Carries) (a : Option Answer) → RefinesAnswer h w.bag answered a → RefinesAnswer h v.bag answered a
   answer_still answered None s = tt
   answer_still answered (Some a) s = (s.0, (s.1.0, sent_still ToOriginator a.frame s.0 s.1.1))
 
-  opened_still : (answered : Option Carries) (o : Option Opened) → SeesOpened h w.bag answered o → SeesOpened h v.bag answered o
+  opened_still : (answered : Option Carries) (o : Option Opened) → RefinesOpened h w.bag answered o → RefinesOpened h v.bag answered o
   opened_still answered None s = tt
   opened_still answered (Some o) s = (s.0, answer_still answered o.answer s.1)
 
-  begun_still : (under_way : Option Carries) (o : Option Begun) → SeesBegun h w.bag under_way o → SeesBegun h v.bag under_way o
+  begun_still : (under_way : Option Carries) (o : Option Begun) → RefinesBegun h w.bag under_way o → RefinesBegun h v.bag under_way o
   begun_still under_way None s = tt
   begun_still under_way (Some b) s = (s.0, (s.1.0, sent_still FromOriginator b.frame s.0 s.1.1))
 
-  pub still_seen : (c : Core) → Sees h w (draft_of c) w → Sees h v (draft_of c) v
+  pub still_seen : (c : Core) → Refines h w (draft_of c) w → Refines h v (draft_of c) v
   still_seen c s = record {
     frames = refl;
     whole = tt;
@@ -75,15 +75,15 @@ module _ (h : List ℕ) (w v : World) (l : LeavesHandset h w v) (more : (x : Sen
 -- ---- the steps of another handset, and those of the centre
 
 -- a handset sees the world that another's event leads to, whole or stopped
-pub other_event : (h g : List ℕ) (c : Core) (w : World) (m : ℕ) (b : Bool) (ss : List Step) → ¬ (g ≡ h) → AllOfHandset g ss → Sees h w (draft_of c) w
-    → Sees h (end w (items m b ss)) (draft_of c) (end w (items m b ss)) × AreNoted h no_changes w (end w (items m b ss))
+pub other_event : (h g : List ℕ) (c : Core) (w : World) (m : ℕ) (b : Bool) (ss : List Step) → ¬ (g ≡ h) → AllOfHandset g ss → Refines h w (draft_of c) w
+    → Refines h (end w (items m b ss)) (draft_of c) (end w (items m b ss)) × AreNoted h no_changes w (end w (items m b ss))
 other_event h g c w m b ss ne o s =
     let y = others_stay h g w m b ss ne o in
     (still_seen h w (end w (items m b ss)) (handset_leaves_handset g h w m b ss ne o) (items_grow w m b ss) c s, record { accepted = y.0; joined = y.1 })
 
 -- and that an event of the centre leads to
-pub centre_event : (h : List ℕ) (c : Core) (w : World) (m : ℕ) (b : Bool) (ss : List Step) → AllOfCentre ss → Sees h w (draft_of c) w
-    → Sees h (end w (items m b ss)) (draft_of c) (end w (items m b ss)) × AreNoted h no_changes w (end w (items m b ss))
+pub centre_event : (h : List ℕ) (c : Core) (w : World) (m : ℕ) (b : Bool) (ss : List Step) → AllOfCentre ss → Refines h w (draft_of c) w
+    → Refines h (end w (items m b ss)) (draft_of c) (end w (items m b ss)) × AreNoted h no_changes w (end w (items m b ss))
 centre_event h c w m b ss o s =
     let y = centre_stays h w m b ss o in
     (still_seen h w (end w (items m b ss)) (centre_leaves_handset h w m b ss o) (items_grow w m b ss) c s, record { accepted = y.0; joined = y.1 })

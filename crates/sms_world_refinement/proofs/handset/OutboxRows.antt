@@ -9,9 +9,9 @@ use Rattle.sms_rows.proofs.table.Tables.{found_key, row_at_put, row_at_put_other
 use Rattle.sms_base.specs.declared.holder.Holder.TheVariants.{Entry as EntryHolder}
 use Rattle.sms_handset_rows.specs.declared.outbox.out_entry.OutEntry.{OutEntry as OutRow}
 use Rattle.sms_handset_rows.specs.outbox.Keys.{out_key}
-use Rattle.sms_world_model.specs.World.{Giving, EntryState, OutEntry, is_same_handset}
+use Rattle.sms_world_model.specs.World.{Allocation, EntryState, OutEntry, is_same_handset}
 use Rattle.sms_world_model.specs.WorldStep.{replaced}
-use Rattle.sms_world_refinement.specs.handset.SeesOutbox.{SeesOut, entry_seen}
+use Rattle.sms_world_refinement.specs.handset.RefinesOutbox.{RefinesOut, entry_seen}
 
 pub same_digits : (a b : List ℕ) → a ≡ b → is_same_handset a b ≡ true
 same_digits a b e = (bytes_eq-Decides a b).1 e
@@ -72,7 +72,7 @@ replaced_back e st y (x ∷ xs) i =
 pub same_row : (x y : OutRow) → Some x ≡ Some y → x ≡ y
 same_row x y q = cc
 
-module _ (h : List ℕ) (next : ℕ) (outbox : List OutRow) (entries : List OutEntry) (up : List Giving) (o x : OutRow) (at : row_at out_key o.number outbox ≡ Some o)
+module _ (h : List ℕ) (next : ℕ) (outbox : List OutRow) (entries : List OutEntry) (up : List Allocation) (o x : OutRow) (at : row_at out_key o.number outbox ≡ Some o)
     (number : x.number ≡ o.number) (reference : x.reference ≡ o.reference) where
   new_here : row_at out_key o.number (put out_key x outbox) ≡ Some x
   new_here = ap (λ (z : ℕ). row_at out_key z (put out_key x outbox)) (sym number) ∙ row_at_put out_key x outbox
@@ -90,18 +90,18 @@ module _ (h : List ℕ) (next : ℕ) (outbox : List OutRow) (entries : List OutE
       (λ (g : o.number ≡ n → ⊥). (y, (sym (old_there n g) ∙ q, refl)))
       (cases_eq o.number n)
 
-  given_still : SeesOut h next outbox entries up → (n : ℕ) (y : OutRow) → row_at out_key n (put out_key x outbox) ≡ Some y
+  given_still : RefinesOut h next outbox entries up → (n : ℕ) (y : OutRow) → row_at out_key n (put out_key x outbox) ≡ Some y
       → (moment : ℕ) × Among (record { handset = h; reference = y.reference; holder = EntryHolder n; moment = moment; tpdu = [] }) up
   given_still s n y q =
       let z = came_from n y q in
       let g = s.given n z.0 z.1.0 in
       (g.0, subst (λ (v : ℕ). Among (record { handset = h; reference = v; holder = EntryHolder n; moment = g.0; tpdu = [] }) up) z.1.1 g.1)
 
-  same_still : SeesOut h next outbox entries up → (n : ℕ) (y : OutRow) (v : Giving) → row_at out_key n (put out_key x outbox) ≡ Some y → Among v up → v.handset ≡ h → v.holder ≡ EntryHolder n → v.reference ≡ y.reference
+  same_still : RefinesOut h next outbox entries up → (n : ℕ) (y : OutRow) (v : Allocation) → row_at out_key n (put out_key x outbox) ≡ Some y → Among v up → v.handset ≡ h → v.holder ≡ EntryHolder n → v.reference ≡ y.reference
   same_still s n y v q i a e = let z = came_from n y q in s.same n z.0 v z.1.0 i a e ∙ z.1.1
 
   -- the world shows nothing of the change
-  pub out_noted : entry_seen h x ≡ entry_seen h o → SeesOut h next outbox entries up → SeesOut h next (put out_key x outbox) entries up
+  pub out_noted : entry_seen h x ≡ entry_seen h o → RefinesOut h next outbox entries up → RefinesOut h next (put out_key x outbox) entries up
   out_noted seen s = record {
     there = λ n y q. ⊎_elim
         (λ (g : o.number ≡ n).
@@ -123,7 +123,7 @@ module _ (h : List ℕ) (next : ℕ) (outbox : List OutRow) (entries : List OutE
   }
 
   -- the entry is in another state
-  pub out_changed : (st : EntryState) → entry_seen h x ≡ record (entry_seen h o) { state = st } → SeesOut h next outbox entries up → SeesOut h next (put out_key x outbox) (replaced (entry_seen h o) st entries) up
+  pub out_changed : (st : EntryState) → entry_seen h x ≡ record (entry_seen h o) { state = st } → RefinesOut h next outbox entries up → RefinesOut h next (put out_key x outbox) (replaced (entry_seen h o) st entries) up
   out_changed st seen s = record {
     there = λ n y q. ⊎_elim
         (λ (g : o.number ≡ n).

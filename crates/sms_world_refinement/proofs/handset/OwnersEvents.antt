@@ -32,14 +32,14 @@ use Rattle.sms_handset_rows.proofs.inbox.SoundEntries.{all_from, is_apart, no_en
 use Rattle.sms_handset_rows.proofs.inbox.SoundGroups.{left_free, number_free}
 use Rattle.sms_handset_rows.specs.inbox.SoundInbox.{IsGiven}
 use Rattle.sms_handset_rows.proofs.inbox.SoundMarks.{Discarded, IsKept, discarded_entries, mark_new}
-use Rattle.sms_world_model.specs.World.{World, Giving, OutEntry, IsUnfinished, is_same_handset}
+use Rattle.sms_world_model.specs.World.{World, Allocation, OutEntry, IsUnfinished, is_same_handset}
 use Rattle.sms_world_model.specs.WorldStep.{Remove, removed}
 use Rattle.sms_world_model.specs.ScriptRun.{Event, Removed}
 use Rattle.sms_world_refinement.specs.handset.EventLaws.{IfDone}
 use Rattle.sms_world_refinement.specs.handset.PutInOrder.{joined_at}
-use Rattle.sms_world_refinement.specs.handset.SeesInbox.{Matches, SeesGroups, groups_at}
-use Rattle.sms_world_refinement.specs.handset.SeesOutbox.{SeesOut, entry_seen, state_of}
-use Rattle.sms_world_refinement.specs.handset.Sight.{Sees}
+use Rattle.sms_world_refinement.specs.handset.RefinesInbox.{Matches, RefinesGroups, groups_at}
+use Rattle.sms_world_refinement.specs.handset.RefinesOutbox.{RefinesOut, entry_seen, state_of}
+use Rattle.sms_world_refinement.specs.handset.Refinement.{Refines}
 use Rattle.sms_world_refinement.specs.handset.Stages.{Happens}
 use Rattle.sms_world_refinement.proofs.handset.Putting.{joined_push}
 use Rattle.sms_rows.specs.declared.table.change.Change.TheVariants.{Remove as Remove_row}
@@ -98,8 +98,8 @@ removed_back e y (x ∷ xs) i =
 none_some : (o : OutRow) → None ≡ Some o → ⊥
 none_some o q = absurd cc
 
-out_removed : (h : List ℕ) (next n : ℕ) (outbox : List OutRow) (entries : List OutEntry) (up : List Giving) (o : OutRow) → row_at out_key n outbox ≡ Some o → SeesOut h next outbox entries up
-    → SeesOut h next (without out_key n outbox) (removed (entry_seen h o) entries) up
+out_removed : (h : List ℕ) (next n : ℕ) (outbox : List OutRow) (entries : List OutEntry) (up : List Allocation) (o : OutRow) → row_at out_key n outbox ≡ Some o → RefinesOut h next outbox entries up
+    → RefinesOut h next (without out_key n outbox) (removed (entry_seen h o) entries) up
 out_removed h next n outbox entries up o at s =
     let key : o.number ≡ n = found_key out_key n o outbox at in
     let back : (k : ℕ) (y : OutRow) → row_at out_key k (without out_key n outbox) ≡ Some y → (¬ (n ≡ k)) × (row_at out_key k outbox ≡ Some y) =
@@ -128,14 +128,14 @@ is_over Unsure e u = u
 
 -- ---- deleting
 
-module _ (m : ℕ) (h : List ℕ) (b : World) (d : Draft) (w : World) (sound : SoundAt d) (s : Sees h b d w) where
+module _ (m : ℕ) (h : List ℕ) (b : World) (d : Draft) (w : World) (sound : SoundAt d) (s : Refines h b d w) where
   -- the world shows nothing of it
-  unseen : (e : Draft) → Sees h b e w → Begins m Removed h b e w
-  unseen e k = record { control = []; own = []; follows = []; is_control = tt; control_mine = tt; is_own = inl refl; own_mine = tt; is_mine = tt; runs = tt; sees = k }
+  unseen : (e : Draft) → Refines h b e w → Begins m Removed h b e w
+  unseen e k = record { control = []; own = []; follows = []; is_control = tt; control_mine = tt; is_own = inl refl; own_mine = tt; is_mine = tt; runs = tt; refines = k }
 
-  freed_seen : (e : Draft) → Sees h b e w → Sees h b (freed e) w
+  freed_seen : (e : Draft) → Refines h b e w → Refines h b (freed e) w
   freed_seen e k =
-      cond_both e.rows.counters.is_memory_full (want_notice (put_counters (record e.rows.counters { is_memory_full = false }) e)) e (λ (z : Draft). Sees h b z w)
+      cond_both e.rows.counters.is_memory_full (want_notice (put_counters (record e.rows.counters { is_memory_full = false }) e)) e (λ (z : Draft). Refines h b z w)
       (λ t. record { frames = k.frames; whole = k.whole; links = k.links; last = k.last; accepted = k.accepted; joined = k.joined; out = k.out; notices = k.notices; groups = k.groups })
       (λ t. k)
 
@@ -154,7 +154,7 @@ module _ (m : ℕ) (h : List ℕ) (b : World) (d : Draft) (w : World) (sound : S
         own_mine = (refl, tt);
         is_mine = tt;
         runs = ((s.out.there n o e, is_over o.state t), tt);
-        sees = record {
+        refines = record {
           frames = s.frames;
           whole = s.whole;
           links = s.links;
@@ -215,7 +215,7 @@ module _ (m : ℕ) (h : List ℕ) (b : World) (d : Draft) (w : World) (sound : S
 
   marked_groups : (n : ℕ) (g : Group) (x : Entry) → Among x (members g d.rows.entries) → Discarded d.rows.counters.entry (all_without (members g d.rows.entries) d.rows.entries) (put mark_key (record { number = n; group = g; seen = part_numbers (members g d.rows.entries) }) d.rows.marks)
       → Discarded d.rows.counters.entry (all_without (members g d.rows.entries) d.rows.entries) d.rows.marks → IsApart n d.rows.marks
-      → SeesGroups h (all_without (members g d.rows.entries) d.rows.entries) (put mark_key (record { number = n; group = g; seen = part_numbers (members g d.rows.entries) }) d.rows.marks) w.accepted w.joined
+      → RefinesGroups h (all_without (members g d.rows.entries) d.rows.entries) (put mark_key (record { number = n; group = g; seen = part_numbers (members g d.rows.entries) }) d.rows.marks) w.accepted w.joined
   marked_groups n g x mine after old apart =
       let es = d.rows.entries in
       let ms = d.rows.marks in
@@ -243,7 +243,7 @@ module _ (m : ℕ) (h : List ℕ) (b : World) (d : Draft) (w : World) (sound : S
       }
 
   group_law : (n : ℕ) (g : Group) (x : Entry) → Among x (members g d.rows.entries) → Among x d.rows.entries → x.number ≡ n → length d.rows.marks < 64
-      → Sees h b (discard_group n g (members g d.rows.entries) d) w
+      → Refines h b (discard_group n g (members g d.rows.entries) d) w
   group_law n g x mine among e few =
       let es = d.rows.entries in
       let ms = d.rows.marks in
@@ -258,7 +258,7 @@ module _ (m : ℕ) (h : List ℕ) (b : World) (d : Draft) (w : World) (sound : S
       let is_kept : IsKept c fs k = (given, subst (λ (z : ℕ). row_at entry_key z fs ≡ None) e (is_apart x.number fs (number_free x xs es mine)), open_group.once, open_group.open_yet) in
       let apart : IsApart n ms = λ z i q. (no_entry z.number es (sound.marks.each z i).1) x among (e ∙ sym q) in
       let after : Discarded c fs (put mark_key k ms) = mark_new c k fs ms is_kept open_group.kept few old in
-      subst (λ (z : Draft). Sees h b (freed (put_mark k z)) w) (sym y.1.0)
+      subst (λ (z : Draft). Refines h b (freed (put_mark k z)) w) (sym y.1.0)
       (freed_seen (put_mark k (with_entries d fs y.0)) (record {
         frames = s.frames;
         whole = s.whole;
@@ -309,13 +309,13 @@ removal m h w r p sound =
     (both_done (λ (z : Draft). Begins m Removed h w z w) SoundAt r p (done_sound r sound))
     (λ d y. removes m h w (follow d) w (begins_then m h Removed w d (follow d) w y.0 (λ v k. follow_law m h w d v y.1 k)))
 
-pub delete_event : (m : ℕ) (h : List ℕ) (n : ℕ) (c : Core) (w : World) → IsSoundCore c → Sees h w (draft_of c) w → HappensIfDone m Removed h w (deleted n c)
+pub delete_event : (m : ℕ) (h : List ℕ) (n : ℕ) (c : Core) (w : World) → IsSoundCore c → Refines h w (draft_of c) w → HappensIfDone m Removed h w (deleted n c)
 delete_event m h n c w sound s =
     let d : Draft = draft_of c in
     let at : SoundAt d = sound_from c sound in
     removal m h w (delete n d) (delete_law m h w d w at s n) (delete_sound n d at)
 
-pub discard_event : (m : ℕ) (h : List ℕ) (n : ℕ) (c : Core) (w : World) → IsSoundCore c → Sees h w (draft_of c) w → HappensIfDone m Removed h w (discarded n c)
+pub discard_event : (m : ℕ) (h : List ℕ) (n : ℕ) (c : Core) (w : World) → IsSoundCore c → Refines h w (draft_of c) w → HappensIfDone m Removed h w (discarded n c)
 discard_event m h n c w sound s =
     let d : Draft = draft_of c in
     let at : SoundAt d = sound_from c sound in

@@ -16,7 +16,7 @@ use Rattle.sms_handset_rows.specs.inbox.Groups.{all_numbers, is_among, joined_co
 use Rattle.sms_handset_draft.specs.Storing.{ended, keep, store_part, store_single}
 use Rattle.sms_handset_rows.specs.inbox.Keys.{entry_key}
 use Rattle.sms_handset_draft.specs.MemoryAvailable.{flag, has_room}
-use Rattle.sms_handset_draft.specs.Receiving.{accept, member_came, new_part_came, no_room, single_came}
+use Rattle.sms_handset_draft.specs.Receiving.{accept, member_received, new_part_received, no_room, single_received}
 use Rattle.sms_handset_rows.specs.inbox.SoundInbox.{IsPartOf}
 use Rattle.sms_handset.proofs.SoundDrafts.{SoundAt}
 use Rattle.sms_handset_rows.proofs.inbox.SoundGroups.{Arrived, arrives, ended_entries}
@@ -29,8 +29,8 @@ use Rattle.sms_world_model.specs.Lists.{is_among as is_in, all_numbers as all_in
 use Rattle.sms_world_model.specs.WorldStep.{HasNotJoined}
 use Rattle.sms_world_refinement.specs.frames.FramesDown.{frame_of}
 use Rattle.sms_world_refinement.specs.handset.PutInOrder.{JoinedText, joined_at, joined_by}
-use Rattle.sms_world_refinement.specs.handset.SeesInbox.{Matches, SeesGroups, groups_at, key_seen}
-use Rattle.sms_world_refinement.specs.handset.Sight.{Sees}
+use Rattle.sms_world_refinement.specs.handset.RefinesInbox.{Matches, RefinesGroups, groups_at, key_seen}
+use Rattle.sms_world_refinement.specs.handset.Refinement.{Refines}
 use Rattle.sms_world_refinement.specs.handset.Stages.{ReadsOne}
 use Rattle.sms_world_refinement.proofs.handset.Putting.{joined_here, joined_push}
 use Rattle.sms_world_refinement.proofs.handset.Ending.{with_entries, ended_as, first_of, others_ended, own_ended, single_members}
@@ -42,7 +42,7 @@ pub came_as : (h : List ℕ) (number r : ℕ) (tag : Holder) (octets : List ℕ)
 came_as h number r tag octets d e w q c = record { sent = c.sent; opening = c.opening; awaits = (ap (λ z. z.opened) q ∙ c.awaits.0, c.awaits.1) }
 
 module _ (m : ℕ) (h : List ℕ) (number r : ℕ) (tag : Holder) (octets : List ℕ) (b : World) (d : Draft) (w : World)
-    (c : Came h number r tag octets d w) (new : ¬ IsLast (pair h r octets) w.accepted) (sound : SoundAt d) (s : Sees h b d w) where
+    (c : Came h number r tag octets d w) (new : ¬ IsLast (pair h r octets) w.accepted) (sound : SoundAt d) (s : Refines h b d w) where
   -- no slot is free: the memory flag is set
   pub full_law : ReadsOne m (frame_of h number r octets tag) h b (no_room r tag d) w
   full_law =
@@ -56,7 +56,7 @@ module _ (m : ℕ) (h : List ℕ) (number r : ℕ) (tag : Holder) (octets : List
   more = omega arith
 
   -- an entry of its own
-  pub single_law : ((k : Group) → groups_at h k (pair h r octets ∷ w.accepted) ≡ groups_at h k w.accepted) → ReadsOne m (frame_of h number r octets tag) h b (single_came r tag octets d) w
+  pub single_law : ((k : Group) → groups_at h k (pair h r octets ∷ w.accepted) ≡ groups_at h k w.accepted) → ReadsOne m (frame_of h number r octets tag) h b (single_received r tag octets d) w
   single_law same =
       let x : Entry = single_entry d.rows.counters.entry octets in
       cond_both (has_room d) (accept r tag octets (store_single octets d)) (no_room r tag d) (λ (e : Draft). ReadsOne m (frame_of h number r octets tag) h b e w)
@@ -80,7 +80,7 @@ module _ (m : ℕ) (h : List ℕ) (number r : ℕ) (tag : Holder) (octets : List
     open_before = subst (λ (z : Option DiscardedGroup). Matches (members g d.rows.entries) z (groups_at h g w.accepted)) unmarked (s.groups.keys g)
 
     -- the number stands in its group
-    standing_law : is_among n (part_numbers (members g d.rows.entries)) ≡ true → ReadsOne m (frame_of h number r octets tag) h b (single_came r tag octets d) w
+    standing_law : is_among n (part_numbers (members g d.rows.entries)) ≡ true → ReadsOne m (frame_of h number r octets tag) h b (single_received r tag octets d) w
     standing_law t = single_law (passing h r octets (record { group = g; number = n }) is_seg w.accepted (sym (open_before.parts n) ∙ t))
 
     module _ (lacks : is_among n (part_numbers (members g d.rows.entries)) ≡ false) where
@@ -106,7 +106,7 @@ module _ (m : ℕ) (h : List ℕ) (number r : ℕ) (tag : Holder) (octets : List
 
       -- the group is open still
       open_groups : all_numbers g.total (part_numbers (members g d.rows.entries ++ part_entry d.rows.counters.entry g n octets ∷ [])) ≡ false
-          → SeesGroups h (put entry_key (part_entry d.rows.counters.entry g n octets) d.rows.entries) d.rows.marks (pair h r octets ∷ w.accepted) w.joined
+          → RefinesGroups h (put entry_key (part_entry d.rows.counters.entry g n octets) d.rows.entries) d.rows.marks (pair h r octets ∷ w.accepted) w.joined
       open_groups f =
           let x : Entry = part_entry d.rows.counters.entry g n octets in
           let now : Groups = record { present = pair h r octets ∷ (groups_at h g w.accepted).present; ended = (groups_at h g w.accepted).ended } in
@@ -170,7 +170,7 @@ module _ (m : ℕ) (h : List ℕ) (number r : ℕ) (tag : Holder) (octets : List
           not_joined content js (λ i a. f i (inr a)),
         )
 
-        joined_groups : (content : Content) → SeesGroups h (ended_entries g all (Some content) fs) d.rows.marks (pair h r octets ∷ w.accepted) (join_of content ∷ w.joined)
+        joined_groups : (content : Content) → RefinesGroups h (ended_entries g all (Some content) fs) d.rows.marks (pair h r octets ∷ w.accepted) (join_of content ∷ w.joined)
         joined_groups content = record {
           keys = ended_keys (Some content);
           places = λ j i a. ⊎_elim
@@ -182,7 +182,7 @@ module _ (m : ℕ) (h : List ℕ) (number r : ℕ) (tag : Holder) (octets : List
               (λ (q : Among j w.joined). places_more h r octets w.accepted w.joined s.groups.places j q a) i;
         }
 
-        kept_groups : SeesGroups h (ended_entries g all None fs) d.rows.marks (pair h r octets ∷ w.accepted) w.joined
+        kept_groups : RefinesGroups h (ended_entries g all None fs) d.rows.marks (pair h r octets ∷ w.accepted) w.joined
         kept_groups = record { keys = ended_keys None; places = places_more h r octets w.accepted w.joined s.groups.places }
 
         -- storing the part joins nothing
@@ -214,14 +214,14 @@ module _ (m : ℕ) (h : List ℕ) (number r : ℕ) (tag : Holder) (octets : List
             (used_more h d.rows.counters.entry (d.rows.counters.entry + 1) d.rows.outbox w.outbox w.up more s.out) (joined_groups content) s))
 
       -- a new part of the group
-      new_law : ReadsOne m (frame_of h number r octets tag) h b (new_part_came r tag octets g n (members g d.rows.entries) d) w
+      new_law : ReadsOne m (frame_of h number r octets tag) h b (new_part_received r tag octets g n (members g d.rows.entries) d) w
       new_law =
           cond_both (has_room d) (accept r tag octets (store_part g n octets (members g d.rows.entries) d)) (no_room r tag d) (λ (z : Draft). ReadsOne m (frame_of h number r octets tag) h b z w)
           (λ t. cond_both (all_numbers g.total (part_numbers all)) (ended g all (joined_content g all) (keep e d)) (keep e d) (λ (z : Draft). ReadsOne m (frame_of h number r octets tag) h b (accept r tag octets z) w)
           (λ f. ended_law f (joined_content g all) refl) (λ f. part_open f))
           (λ t. full_law)
 
-    pub member_law : ReadsOne m (frame_of h number r octets tag) h b (member_came r tag octets g n (members g d.rows.entries) d) w
+    pub member_law : ReadsOne m (frame_of h number r octets tag) h b (member_received r tag octets g n (members g d.rows.entries) d) w
     member_law =
-        cond_both (is_among n (part_numbers (members g d.rows.entries))) (single_came r tag octets d) (new_part_came r tag octets g n (members g d.rows.entries) d)
+        cond_both (is_among n (part_numbers (members g d.rows.entries))) (single_received r tag octets d) (new_part_received r tag octets g n (members g d.rows.entries) d)
         (λ (z : Draft). ReadsOne m (frame_of h number r octets tag) h b z w) standing_law new_law

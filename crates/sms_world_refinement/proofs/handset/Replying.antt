@@ -25,8 +25,8 @@ use Rattle.sms_handset_draft.specs.Draft.{Draft, link_of, reply, with_turn}
 use Rattle.sms_link.specs.LinkTurn.{Turn, answering, carrying, still}
 use Rattle.sms_world_model.specs.World.{World, Sent}
 use Rattle.sms_world_refinement.specs.frames.FramesUp.{CarriesUp, IsOfKind, flag_for, sent_as}
-use Rattle.sms_world_refinement.specs.handset.SeesLink.{SeesOpened}
-use Rattle.sms_world_refinement.specs.handset.Sight.{Sees}
+use Rattle.sms_world_refinement.specs.handset.RefinesLink.{RefinesOpened}
+use Rattle.sms_world_refinement.specs.handset.Refinement.{Refines}
 use Rattle.sms_world_refinement.proofs.frames.Linking.{Awaits, data_framed, reply_is}
 use Rattle.sms_world_refinement.proofs.handset.Moving.{frames_more, links_more, whole_both}
 
@@ -34,7 +34,7 @@ use Rattle.sms_world_refinement.proofs.handset.Moving.{frames_more, links_more, 
 abbrev pub answer_frame : Opened → List ℕ → List ℕ
 answer_frame o unit = spelled (CpData (in_transaction ToOriginator o.identifier) unit)
 
-opened_below : (h : List ℕ) (bag : List Sent) (a : Option Carries) (s : Option Opened) (o : Opened) → s ≡ Some o → SeesOpened h bag a s → o.identifier < 7
+opened_below : (h : List ℕ) (bag : List Sent) (a : Option Carries) (s : Option Opened) (o : Opened) → s ≡ Some o → RefinesOpened h bag a s → o.identifier < 7
 opened_below h bag a None o e s = absurd cc
 opened_below h bag a (Some x) o e s = let q : x ≡ o = cc in subst (λ (z : Opened). z.identifier < 7) q s.0
 
@@ -46,7 +46,7 @@ pub record IsAnswer (kind : Kind) (r : ℕ) (unit : List ℕ) : Type 0 where
   pub told : IsOfKind kind r (up_at unit)
 
 pub replies : (kind : Kind) (r : ℕ) (tag : Holder) (unit : List ℕ) (h : List ℕ) (b : World) (d : Draft) (w : World) (o : Opened) → IsAnswer kind r unit → Awaits d.links o
-    → Sees h b d w → Sees h b (reply kind r tag unit d) (record w { bag = sent_as h (length w.bag + 1) (answer_frame o unit) (Some (record { kind = kind; reference = r; tag = tag })) ∷ w.bag })
+    → Refines h b d w → Refines h b (reply kind r tag unit d) (record w { bag = sent_as h (length w.bag + 1) (answer_frame o unit) (Some (record { kind = kind; reference = r; tag = tag })) ∷ w.bag })
 replies kind r tag unit h b d w o i a s =
     let c : Carries = record { kind = kind; reference = r; tag = tag } in
     let l : o.identifier < 7 = opened_below h w.bag d.answered d.links.opened o a.0 s.links.opened in
@@ -60,7 +60,7 @@ replies kind r tag unit h b d w o i a s =
     let x : Sent = sent_as h (length w.bag + 1) (answer_frame o unit) (Some c) in
     let e : answered d.moment unit d.links o ≡ reply_step d.moment unit d.links = sym (reply_is d.moment unit d.links o a) in
     let f : Outgoing = record { octets = answer_frame o unit; carried = Some c; is_copy = false } in
-    let z : Sees h b (record d { links = (answered d.moment unit d.links o).state; answered = Some c; frames = d.frames ++ f ∷ [] }) (record w { bag = x ∷ w.bag }) = record {
+    let z : Refines h b (record d { links = (answered d.moment unit d.links o).state; answered = Some c; frames = d.frames ++ f ∷ [] }) (record w { bag = x ∷ w.bag }) = record {
       frames = frames_more h d.frames (f ∷ []) b.bag w.bag s.frames;
       whole = whole_both d.frames (f ∷ []) s.whole (is, tt);
       links = record {
@@ -76,9 +76,9 @@ replies kind r tag unit h b d w o i a s =
       groups = s.groups;
     } in
     let awaits : awaits_reply d.links ≡ true = ap (λ (y : Option Opened). is_some y && is_none (answer_of y)) a.0 ∙ ap (λ (y : Option Answer). is_none y) a.1 in
-    subst (λ (t : Turn). Sees h b (with_turn t d) (record w { bag = x ∷ w.bag }))
+    subst (λ (t : Turn). Refines h b (with_turn t d) (record w { bag = x ∷ w.bag }))
     (sym (cond-true (awaits_reply d.links) (answering c (reply_step d.moment unit d.links) (link_of d)) (still (link_of d)) awaits))
-    (subst (λ (t : Step). Sees h b (record d { links = t.state; answered = Some c; frames = d.frames ++ carrying (Some c) t.out.frames }) (record w { bag = x ∷ w.bag })) e z)
+    (subst (λ (t : Step). Refines h b (record d { links = t.state; answered = Some c; frames = d.frames ++ carrying (Some c) t.out.frames }) (record w { bag = x ∷ w.bag })) e z)
 
 -- ---- the answers that a handset gives
 

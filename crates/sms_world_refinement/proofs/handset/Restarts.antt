@@ -8,12 +8,12 @@ use Rattle.sms_world_model.specs.ScriptRun.{items, Restarted}
 use Rattle.sms_world_model.specs.Run.{end}
 use Rattle.sms_world_model.proofs.Stops.{stopped_so}
 use Rattle.sms_world_refinement.specs.handset.PutInOrder.{AreNoted}
-use Rattle.sms_world_refinement.specs.handset.Sight.{Sees}
+use Rattle.sms_world_refinement.specs.handset.Refinement.{Refines}
 use Rattle.sms_world_refinement.specs.handset.Stages.{Happens}
 use Rattle.sms_world_refinement.specs.handset.StopLaws.{StopLaw}
 use Rattle.sms_world_refinement.proofs.handset.Concluding.{no_notices}
 
-pub restart_event : (m : ℕ) (h : List ℕ) (c : Core) (setup : Setup) (w : World) → Sees h w (draft_of c) w → Happens m Restarted h w (draft_of (recovered (record c.rows { setup = setup }))) w
+pub restart_event : (m : ℕ) (h : List ℕ) (c : Core) (setup : Setup) (w : World) → Refines h w (draft_of c) w → Happens m Restarted h w (draft_of (recovered (record c.rows { setup = setup }))) w
 restart_event m h c setup w s = (
   [],
   (
@@ -34,8 +34,8 @@ restart_event m h c setup w s = (
 )
 
 -- An event that was stopped after its store call: the rows are those that it led to, none of its frames was sent, and what is forgotten comes anew.
-pub stopped_seen : (h : List ℕ) (b : World) (bag : List Sent) (d : Draft) (setup : Setup) (w : World) → Sees h b d w
-    → Sees h (record w { bag = bag }) (draft_of (recovered (record d.rows { setup = setup }))) (record w { bag = bag })
+pub stopped_seen : (h : List ℕ) (b : World) (bag : List Sent) (d : Draft) (setup : Setup) (w : World) → Refines h b d w
+    → Refines h (record w { bag = bag }) (draft_of (recovered (record d.rows { setup = setup }))) (record w { bag = bag })
 stopped_seen h b bag d setup w s = record {
   frames = refl;
   whole = tt;
@@ -49,21 +49,21 @@ stopped_seen h b bag d setup w s = record {
 }
 
 pub stop_event : StopLaw
-stop_event m event h d setup w (steps, (whose, run, sees)) =
+stop_event m event h d setup w (steps, (whose, run, refines)) =
     let y = stopped_so h w event m steps whose.0 whose.1 run in
     let x : World = end w (items m false steps) in (
       y.0,
       (
         y.1.0,
         y.1.1,
-        subst (λ (v : World). Sees h v (draft_of (recovered (record d.rows { setup = setup }))) v) (sym y.1.2) (stopped_seen h w w.bag d setup x sees),
-        subst (λ (v : World). AreNoted h d.changes w v) (sym y.1.2) (record { accepted = sees.accepted; joined = sees.joined }),
+        subst (λ (v : World). Refines h v (draft_of (recovered (record d.rows { setup = setup }))) v) (sym y.1.2) (stopped_seen h w w.bag d setup x refines),
+        subst (λ (v : World). AreNoted h d.changes w v) (sym y.1.2) (record { accepted = refines.accepted; joined = refines.joined }),
       ),
     )
 
 -- A handset without rows sees the empty world.
 pub start_seen : (h : List ℕ) (counters : Counters) (setup : Setup)
-    → Sees h empty (draft_of (recovered (record { entries = []; last = []; outbox = []; marks = []; counters = counters; setup = setup }))) empty
+    → Refines h empty (draft_of (recovered (record { entries = []; last = []; outbox = []; marks = []; counters = counters; setup = setup }))) empty
 start_seen h counters setup = record {
   frames = refl;
   whole = tt;

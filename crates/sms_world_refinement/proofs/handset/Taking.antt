@@ -21,16 +21,16 @@ use Rattle.sms_handset_draft.specs.Draft.{Changes, Draft, put_last}
 use Rattle.sms_handset_rows.specs.inbox.Keys.{last_key}
 use Rattle.sms_handset_draft.specs.Receiving.{acknowledge, refuse, accept}
 use Rattle.sms_handset_rows.specs.inbox.Doubles.{is_double}
-use Rattle.sms_world_model.specs.World.{World, Carried, Accepted, Joined, Giving, OutEntry, IsLast}
+use Rattle.sms_world_model.specs.World.{World, Carried, Accepted, Joined, Allocation, OutEntry, IsLast}
 use Rattle.sms_tpdu.specs.MoreMessages.{compared, same_message}
 use Rattle.sms_tpdu.proofs.MoreBits.{is_same}
 use Rattle.sms_world_model.specs.Groups.{groups_of, IsEndedAt, joined_content}
 use Rattle.sms_world_model.specs.WorldStep.{Take, Take_again, Refuse, Join, HasNotJoined}
 use Rattle.sms_world_refinement.specs.frames.FramesDown.{frame_of}
 use Rattle.sms_world_refinement.specs.handset.PutInOrder.{accepted_at, joined_at, joined_by, taken_by}
-use Rattle.sms_world_refinement.specs.handset.SeesInbox.{SeesGroups, SeesLast, octets_at}
-use Rattle.sms_world_refinement.specs.handset.SeesOutbox.{SeesNotices, SeesOut}
-use Rattle.sms_world_refinement.specs.handset.Sight.{Sees}
+use Rattle.sms_world_refinement.specs.handset.RefinesInbox.{RefinesGroups, RefinesLast, octets_at}
+use Rattle.sms_world_refinement.specs.handset.RefinesOutbox.{RefinesNotices, RefinesOut}
+use Rattle.sms_world_refinement.specs.handset.Refinement.{Refines}
 use Rattle.sms_world_refinement.specs.handset.Stages.{ReadsOne}
 use Rattle.sms_world_refinement.proofs.handset.Putting.{accepted_here, taken_push}
 use Rattle.sms_world_refinement.proofs.handset.Grouping.{pair}
@@ -52,9 +52,9 @@ last_isn't octets (Some l) e g = both_ways (same_message octets l.tpdu) e ((is_s
 
 -- ---- the last accepted
 
-pub last_taken : (h : List ℕ) (r : ℕ) (octets : List ℕ) (last : List LastAccepted) (accepted : List Accepted) → SeesLast h last accepted
-    → SeesLast h (put_row last_key (record { reference = r; tpdu = octets }) last) (pair h r octets ∷ accepted)
-last_taken h r octets last accepted sees q o =
+pub last_taken : (h : List ℕ) (r : ℕ) (octets : List ℕ) (last : List LastAccepted) (accepted : List Accepted) → RefinesLast h last accepted
+    → RefinesLast h (put_row last_key (record { reference = r; tpdu = octets }) last) (pair h r octets ∷ accepted)
+last_taken h r octets last accepted refines q o =
     let l : LastAccepted = record { reference = r; tpdu = octets } in
     let p : Accepted = record { handset = h; reference = q; tpdu = o } in
     ⊎_elim
@@ -68,10 +68,10 @@ last_taken h r octets last accepted sees q o =
     ))
     (λ (n : r ≡ q → ⊥).
     let there : octets_at (row_at last_key q (put_row last_key l last)) ≡ octets_at (row_at last_key q last) = ap octets_at (row_at_put_other last_key q l last n) in (
-      (λ g. inr ((λ same. n (sym same.1)), (sees q o).0 (sym there ∙ g))),
+      (λ g. inr ((λ same. n (sym same.1)), (refines q o).0 (sym there ∙ g))),
       (λ g. ⊎_elim
           (λ (x : p ≡ pair h r octets). absurd (n (sym (ap (λ (z : Accepted). z.reference) x))))
-          (λ (x : ¬ ((h ≡ h) × (q ≡ r)) × IsLast p accepted). there ∙ (sees q o).1 x.1) g),
+          (λ (x : ¬ ((h ≡ h) × (q ≡ r)) × IsLast p accepted). there ∙ (refines q o).1 x.1) g),
     ))
     (cases_eq r q)
 
@@ -84,7 +84,7 @@ pub record Came (h : List ℕ) (number r : ℕ) (tag : Holder) (octets : List �
   pub awaits : Awaits d.links opening
 
 pub refuses : (m : ℕ) (h : List ℕ) (number r failure : ℕ) (cause : RpCause) (tag : Holder) (octets : List ℕ) (b : World) (d : Draft) (w : World) → IsRpCause cause
-    → Came h number r tag octets d w → ¬ IsLast (pair h r octets) w.accepted → Sees h b d w → ReadsOne m (frame_of h number r octets tag) h b (refuse r tag cause failure d) w
+    → Came h number r tag octets d w → ¬ IsLast (pair h r octets) w.accepted → Refines h b d w → ReadsOne m (frame_of h number r octets tag) h b (refuse r tag cause failure d) w
 refuses m h number r failure cause tag octets b d w i c new s = (
   Refuse (frame_of h number r octets tag),
   [],
@@ -92,7 +92,7 @@ refuses m h number r failure cause tag octets b d w i c new s = (
 )
 
 pub doubles : (m : ℕ) (h : List ℕ) (number r : ℕ) (tag : Holder) (octets : List ℕ) (b : World) (d : Draft) (w : World)
-    → Came h number r tag octets d w → IsLast (pair h r octets) w.accepted → Sees h b d w → ReadsOne m (frame_of h number r octets tag) h b (acknowledge r tag d) w
+    → Came h number r tag octets d w → IsLast (pair h r octets) w.accepted → Refines h b d w → ReadsOne m (frame_of h number r octets tag) h b (acknowledge r tag d) w
 doubles m h number r tag octets b d w c old s = (
   Take_again (frame_of h number r octets tag),
   [],
@@ -102,7 +102,7 @@ doubles m h number r tag octets b d w c old s = (
 -- what was stored shows the world in which the TPDU is accepted
 pub takes : (m : ℕ) (h : List ℕ) (number r : ℕ) (tag : Holder) (octets : List ℕ) (b : World) (e : Draft) (w : World)
     → Came h number r tag octets e w → ¬ IsLast (pair h r octets) w.accepted
-    → Sees h b (put_last (record { reference = r; tpdu = octets }) e) (record w { accepted = pair h r octets ∷ w.accepted })
+    → Refines h b (put_last (record { reference = r; tpdu = octets }) e) (record w { accepted = pair h r octets ∷ w.accepted })
     → ReadsOne m (frame_of h number r octets tag) h b (accept r tag octets e) w
 takes m h number r tag octets b e w c new s = (
   Take (frame_of h number r octets tag),
@@ -121,7 +121,7 @@ takes m h number r tag octets b e w c new s = (
 pub takes_and_joins : (m : ℕ) (h : List ℕ) (number r : ℕ) (tag : Holder) (octets : List ℕ) (b : World) (e : Draft) (w : World) (j : Joined) → j.handset ≡ h
     → Came h number r tag octets e w → ¬ IsLast (pair h r octets) w.accepted
     → IsEndedAt j.place j.group (groups_of j.handset j.key (pair h r octets ∷ w.accepted)).ended → HasNotJoined w.joined j.handset j.key j.place → joined_content j.key.total j.group ≡ Some j.content
-    → Sees h b (put_last (record { reference = r; tpdu = octets }) e) (record w { accepted = pair h r octets ∷ w.accepted; joined = j ∷ w.joined })
+    → Refines h b (put_last (record { reference = r; tpdu = octets }) e) (record w { accepted = pair h r octets ∷ w.accepted; joined = j ∷ w.joined })
     → ReadsOne m (frame_of h number r octets tag) h b (accept r tag octets e) w
 takes_and_joins m h number r tag octets b e w j mine c new ended fresh content s = (
   Take (frame_of h number r octets tag),
@@ -143,7 +143,7 @@ abbrev pub with_rows : Draft → List Entry → List DiscardedGroup → List Out
 with_rows d entries marks outbox counters changes =
     record d { rows = record d.rows { entries = entries; marks = marks; outbox = outbox; counters = counters }; changes = changes }
 
-pub used_more : (h : List ℕ) (next more : ℕ) (outbox : List OutRow) (entries : List OutEntry) (up : List Giving) → next ≤ more → SeesOut h next outbox entries up → SeesOut h more outbox entries up
+pub used_more : (h : List ℕ) (next more : ℕ) (outbox : List OutRow) (entries : List OutEntry) (up : List Allocation) → next ≤ more → RefinesOut h next outbox entries up → RefinesOut h more outbox entries up
 used_more h next more outbox entries up le s = record {
   there = s.there;
   only = s.only;
@@ -154,8 +154,8 @@ used_more h next more outbox entries up le s = record {
 
 -- the new pair is the last
 pub taken : (h : List ℕ) (r : ℕ) (octets : List ℕ) (b : World) (d : Draft) (w : World) (entries : List Entry) (marks : List DiscardedGroup) (outbox : List OutRow) (counters : Counters) (changes : Changes) (joined : List Joined)
-    → counters.notice ≡ d.rows.counters.notice → changes.last ≡ d.changes.last → joined_at h joined ≡ joined_by changes.entries (joined_at h b.joined) → SeesOut h counters.entry outbox w.outbox w.up → SeesGroups h entries marks (pair h r octets ∷ w.accepted) joined → Sees h b d w
-    → Sees h b (put_last (record { reference = r; tpdu = octets }) (with_rows d entries marks outbox counters changes)) (record w { accepted = pair h r octets ∷ w.accepted; joined = joined })
+    → counters.notice ≡ d.rows.counters.notice → changes.last ≡ d.changes.last → joined_at h joined ≡ joined_by changes.entries (joined_at h b.joined) → RefinesOut h counters.entry outbox w.outbox w.up → RefinesGroups h entries marks (pair h r octets ∷ w.accepted) joined → Refines h b d w
+    → Refines h b (put_last (record { reference = r; tpdu = octets }) (with_rows d entries marks outbox counters changes)) (record w { accepted = pair h r octets ∷ w.accepted; joined = joined })
 taken h r octets b d w entries marks outbox counters changes joined n same joins out g s = record {
   frames = s.frames;
   accepted = accepted_here h (pair h r octets) w.accepted refl ∙ ap (λ (z : List Accepted). pair h r octets ∷ z) s.accepted
@@ -166,6 +166,6 @@ taken h r octets b d w entries marks outbox counters changes joined n same joins
   links = s.links;
   last = last_taken h r octets d.rows.last w.accepted s.last;
   out = out;
-  notices = subst (λ (z : ℕ). SeesNotices h z d.notices w.up) (sym n) s.notices;
+  notices = subst (λ (z : ℕ). RefinesNotices h z d.notices w.up) (sym n) s.notices;
   groups = g;
 }

@@ -27,8 +27,8 @@ use Rattle.sms_world_model.specs.World.{World, Sent, Frame}
 use Rattle.sms_world_model.specs.WorldStep.{Again}
 use Rattle.sms_world_model.specs.ScriptRun.{Tick_handset}
 use Rattle.sms_world_refinement.specs.frames.FramesUp.{line_up, octets_of, sent_as}
-use Rattle.sms_world_refinement.specs.handset.SeesLink.{SeesAnswer, SeesBegun, SeesLinks, SeesOpened, WasSent}
-use Rattle.sms_world_refinement.specs.handset.Sight.{Sees}
+use Rattle.sms_world_refinement.specs.handset.RefinesLink.{RefinesAnswer, RefinesBegun, RefinesLinks, RefinesOpened, WasSent}
+use Rattle.sms_world_refinement.specs.handset.Refinement.{Refines}
 use Rattle.sms_world_refinement.specs.handset.Stages.{AllMine, Happens, Moves}
 use Rattle.sms_world_refinement.proofs.handset.Concluding.{failed_law}
 use Rattle.sms_world_refinement.proofs.handset.Hearing.{again_carries, hears, hears_again}
@@ -52,10 +52,10 @@ all_both : (h : List ℕ) (bag : List Sent) (u a : Option Carries) (fs gs : List
 all_both h bag u a [] gs k l = l
 all_both h bag u a (f ∷ fs) gs k l = (k.0, all_both h bag u a fs gs k.1 l)
 
-again_list : (m : ℕ) (h : List ℕ) (b : World) (fs : List (List ℕ)) (d : Draft) (w : World) → AllAgain h w.bag d.under_way d.answered fs → Sees h b d w
+again_list : (m : ℕ) (h : List ℕ) (b : World) (fs : List (List ℕ)) (d : Draft) (w : World) → AllAgain h w.bag d.under_way d.answered fs → Refines h b d w
     → Moves (AllMine h) m h b (record d { frames = d.frames ++ from_links d.under_way d.answered fs }) w
 again_list m h b [] d w k s =
-    ([], (tt, tt, subst (λ (z : List Outgoing). Sees h b (record d { frames = z }) w) (sym (nothing_more d.frames)) s))
+    ([], (tt, tt, subst (λ (z : List Outgoing). Refines h b (record d { frames = z }) w) (sym (nothing_more d.frames)) s))
 again_list m h b (f ∷ fs) d w k s =
     let flag = k.0.0 in
     let c = k.0.1 in
@@ -76,28 +76,28 @@ again_list m h b (f ∷ fs) d w k s =
 -- ---- what the timers leave
 
 module _ (h : List ℕ) (bag : List Sent) (now : ℕ) (u a : Option Carries) where
-  repeated : (o : Option Begun) → SeesBegun h bag u o → SeesBegun h bag u (option_map (λ (x : Begun). record x { repetition = option_map (sent_again now) x.repetition }) o)
+  repeated : (o : Option Begun) → RefinesBegun h bag u o → RefinesBegun h bag u (option_map (λ (x : Begun). record x { repetition = option_map (sent_again now) x.repetition }) o)
   repeated None k = tt
   repeated (Some x) k = k
 
-  answer_kept : (o : Option Answer) → SeesAnswer h bag a o → SeesAnswer h bag a (option_map (λ (x : Answer). record x { repetition = sent_again now x.repetition }) o)
+  answer_kept : (o : Option Answer) → RefinesAnswer h bag a o → RefinesAnswer h bag a (option_map (λ (x : Answer). record x { repetition = sent_again now x.repetition }) o)
   answer_kept None k = tt
   answer_kept (Some x) k = k
 
-  opened_repeated : (o : Option Opened) → SeesOpened h bag a o
-      → SeesOpened h bag a (option_map (λ (x : Opened). record x { answer = option_map (λ (y : Answer). record y { repetition = sent_again now y.repetition }) x.answer }) o)
+  opened_repeated : (o : Option Opened) → RefinesOpened h bag a o
+      → RefinesOpened h bag a (option_map (λ (x : Opened). record x { answer = option_map (λ (y : Answer). record y { repetition = sent_again now y.repetition }) x.answer }) o)
   opened_repeated None k = tt
   opened_repeated (Some x) k = (k.0, answer_kept x.answer k.1)
 
-  begun_again : (o : Option Begun) → SeesBegun h bag u o → AllAgain h bag u a (begun_frames o)
+  begun_again : (o : Option Begun) → RefinesBegun h bag u o → AllAgain h bag u a (begun_frames o)
   begun_again None k = tt
   begun_again (Some x) k = ((FromOriginator, k.0, (k.1.1, k.1.0)), tt)
 
-  frames_again : (o : Option Answer) → SeesAnswer h bag a o → AllAgain h bag u a (frames_of o)
+  frames_again : (o : Option Answer) → RefinesAnswer h bag a o → AllAgain h bag u a (frames_of o)
   frames_again None k = tt
   frames_again (Some x) k = ((ToOriginator, k.0, (k.1.1, k.1.0)), tt)
 
-  answer_again : (o : Option Opened) → SeesOpened h bag a o → AllAgain h bag u a (answer_frames o)
+  answer_again : (o : Option Opened) → RefinesOpened h bag a o → AllAgain h bag u a (answer_frames o)
   answer_again None k = tt
   answer_again (Some x) k = frames_again x.answer k.1
 
@@ -107,15 +107,15 @@ module _ (h : List ℕ) (bag : List Sent) (now : ℕ) (u a : Option Carries) whe
 abbrev left_by : ℕ → Draft → Option Carries
 left_by now d = still_under_way (failed_by (begun_firing now d.links.begun)) d.under_way
 
-module _ (h : List ℕ) (bag : List Sent) (now : ℕ) (d : Draft) (s : SeesLinks h bag d.links d.under_way d.answered) where
-  begun_kept : SeesBegun h bag (left_by now d) (begun_fired now (begun_firing now d.links.begun) d.links.begun)
+module _ (h : List ℕ) (bag : List Sent) (now : ℕ) (d : Draft) (s : RefinesLinks h bag d.links d.under_way d.answered) where
+  begun_kept : RefinesBegun h bag (left_by now d) (begun_fired now (begun_firing now d.links.begun) d.links.begun)
   begun_kept =
-      firing_cases (λ f. SeesBegun h bag (still_under_way (failed_by f) d.under_way) (begun_fired now f d.links.begun)) s.begun (repeated h bag now d.under_way d.answered d.links.begun s.begun) tt
+      firing_cases (λ f. RefinesBegun h bag (still_under_way (failed_by f) d.under_way) (begun_fired now f d.links.begun)) s.begun (repeated h bag now d.under_way d.answered d.links.begun s.begun) tt
       (begun_firing now d.links.begun)
 
-  opened_kept : SeesOpened h bag d.answered (opened_fired now (opened_firing now d.links.opened) d.links.opened)
+  opened_kept : RefinesOpened h bag d.answered (opened_fired now (opened_firing now d.links.opened) d.links.opened)
   opened_kept =
-      firing_cases (λ f. SeesOpened h bag d.answered (opened_fired now f d.links.opened)) s.opened (opened_repeated h bag now d.under_way d.answered d.links.opened s.opened) tt
+      firing_cases (λ f. RefinesOpened h bag d.answered (opened_fired now f d.links.opened)) s.opened (opened_repeated h bag now d.under_way d.answered d.links.opened s.opened) tt
       (opened_firing now d.links.opened)
 
   begun_sent : AllAgain h bag d.under_way d.answered (if_again (begun_firing now d.links.begun) (begun_frames d.links.begun))
@@ -132,7 +132,7 @@ module _ (h : List ℕ) (bag : List Sent) (now : ℕ) (d : Draft) (s : SeesLinks
 abbrev fires : ℕ → LinkState → Step
 fires now l = links_fired now (begun_firing now l.begun) (opened_firing now l.opened) l
 
-fires_heard : (m : ℕ) (h : List ℕ) (b : World) (d : Draft) (w : World) (now : ℕ) → Sees h b d w → Moves (AllMine h) m h b (hears (fires now d.links) d) w
+fires_heard : (m : ℕ) (h : List ℕ) (b : World) (d : Draft) (w : World) (now : ℕ) → Refines h b d w → Moves (AllMine h) m h b (hears (fires now d.links) d) w
 fires_heard m h b d w now s =
     let fs : List (List ℕ) = if_again (begun_firing now d.links.begun) (begun_frames d.links.begun) ++ if_again (opened_firing now d.links.opened) (answer_frames d.links.opened) in
     let e : Draft = record d { frames = d.frames ++ from_links d.under_way d.answered fs } in
@@ -152,12 +152,12 @@ fires_heard m h b d w now s =
     }))
 
 -- a transfer that a timer ended is lost
-closes_law : (m : ℕ) (h : List ℕ) (b : World) (e : Draft) (v : World) (c : Option Carries) → IsUnderWay c e.rows.outbox → Sees h b e v
+closes_law : (m : ℕ) (h : List ℕ) (b : World) (e : Draft) (v : World) (c : Option Carries) → IsUnderWay c e.rows.outbox → Refines h b e v
     → Moves (AllMine h) m h b (timed_out (option_map (λ (transfer : Carries). Ended transfer LostEnd) c) e) v
 closes_law m h b e v None x s = stays m h b e v s
 closes_law m h b e v (Some c) x s = failed_law m h b e v c x s
 
-timed_law : (m : ℕ) (h : List ℕ) (b : World) (d e : Draft) (v : World) (now : ℕ) → IsUnderWay d.under_way e.rows.outbox → Sees h b e v
+timed_law : (m : ℕ) (h : List ℕ) (b : World) (d e : Draft) (v : World) (now : ℕ) → IsUnderWay d.under_way e.rows.outbox → Refines h b e v
     → Moves (AllMine h) m h b (timed_out (came_up HandsetSide d.under_way (failed_by (begun_firing now d.links.begun))) e) v
 timed_law m h b d e v now x s =
     firing_cases (λ f. Moves (AllMine h) m h b (timed_out (came_up HandsetSide d.under_way (failed_by f)) e) v)
@@ -167,12 +167,12 @@ fire_is : (now : ℕ) (l : LinkState) → fire_step now l ≡ fires now l
 unfolding fire_step
 fire_is now l = refl
 
-pub tick_event : (m : ℕ) (h : List ℕ) (now : ℕ) (c : Core) (w : World) → IsSoundCore c → Sees h w (draft_of c) w → Happens m Tick_handset h w (ticked now c) w
+pub tick_event : (m : ℕ) (h : List ℕ) (now : ℕ) (c : Core) (w : World) → IsSoundCore c → Refines h w (draft_of c) w → Happens m Tick_handset h w (ticked now c) w
 tick_event m h now c w sound s =
     let t : ℕ = max c.moment now in
     let d : Draft = at_moment now (draft_of c) in
     let at : SoundAt d = sound_from c sound in
-    let k : Sees h w d w = record { frames = s.frames; whole = s.whole; links = s.links; last = s.last; accepted = s.accepted; joined = s.joined; out = s.out; notices = s.notices; groups = s.groups } in
+    let k : Refines h w d w = record { frames = s.frames; whole = s.whole; links = s.links; last = s.last; accepted = s.accepted; joined = s.joined; out = s.out; notices = s.notices; groups = s.groups } in
     let z : Step = fires t c.links in
     let e : Draft = hears z d in
     let y : Draft = timers_fired (heard z (link_of d)) d in

@@ -32,15 +32,15 @@ use Rattle.sms_handset.proofs.SoundActs.{count_split_outbox, count_split_sound, 
 use Rattle.sms_handset.proofs.SoundDrafts.{SoundAt, sound_from}
 use Rattle.sms_handset_rows.proofs.outbox.SoundReferences.{next_is_free}
 use Rattle.sms_handset_rows.proofs.outbox.SoundWriting.{IsWritable, split_is_writable}
-use Rattle.sms_world_model.specs.World.{World, Giving, OutEntry}
+use Rattle.sms_world_model.specs.World.{World, Allocation, OutEntry}
 use Rattle.sms_world_model.specs.WorldStep.{Step, Write}
 use Rattle.sms_world_model.specs.Run.{Run, end}
 use Rattle.sms_world_model.specs.References.{IsNewHolder}
 use Rattle.sms_world_model.specs.ScriptRun.{items, AllWrite, Wrote}
 use Rattle.sms_world_model.specs.Sides.{AllOfHandset, IsOfHandset}
 use Rattle.sms_world_refinement.specs.handset.EventLaws.{IfDone}
-use Rattle.sms_world_refinement.specs.handset.SeesOutbox.{SeesNotices, SeesOut, entry_seen}
-use Rattle.sms_world_refinement.specs.handset.Sight.{Sees}
+use Rattle.sms_world_refinement.specs.handset.RefinesOutbox.{RefinesNotices, RefinesOut, entry_seen}
+use Rattle.sms_world_refinement.specs.handset.Refinement.{Refines}
 use Rattle.sms_world_refinement.specs.handset.Stages.{Happens, Moves}
 use Rattle.sms_world_refinement.proofs.handset.Moving.{Begins, begins_then, nothing_more, writes}
 use Rattle.sms_world_refinement.proofs.handset.Offering.{follow_law, free_up}
@@ -58,12 +58,12 @@ same_entry n k q = cc
 entry_memory : (n k : ℕ) → EntryHolder n ≡ Memory k → ⊥
 entry_memory n k q = absurd cc
 
-new_holder : (h : List ℕ) (n : ℕ) (up : List Giving) → ((g : Giving) → Among g up → g.handset ≡ h → g.holder ≡ EntryHolder n → ⊥) → IsNewHolder up h (EntryHolder n)
+new_holder : (h : List ℕ) (n : ℕ) (up : List Allocation) → ((g : Allocation) → Among g up → g.handset ≡ h → g.holder ≡ EntryHolder n → ⊥) → IsNewHolder up h (EntryHolder n)
 new_holder h n [] f = tt
 new_holder h n (g ∷ gs) f = ((λ (a, e). f g (inl refl) a e), new_holder h n gs (λ x i. f x (inr i)))
 
-module _ (h : List ℕ) (m : ℕ) (outbox : List OutRow) (entries : List OutEntry) (up : List Giving) (o : OutRow) (none : row_at out_key o.number outbox ≡ None) (s : SeesOut h o.number outbox entries up) where
-  abbrev new : Giving
+module _ (h : List ℕ) (m : ℕ) (outbox : List OutRow) (entries : List OutEntry) (up : List Allocation) (o : OutRow) (none : row_at out_key o.number outbox ≡ None) (s : RefinesOut h o.number outbox entries up) where
+  abbrev new : Allocation
   new = record { handset = h; reference = o.reference; holder = EntryHolder o.number; moment = m; tpdu = [] }
 
   here : row_at out_key o.number (put out_key o outbox) ≡ Some o
@@ -75,7 +75,7 @@ module _ (h : List ℕ) (m : ℕ) (outbox : List OutRow) (entries : List OutEntr
   is_new : (k : ℕ) (x : OutRow) → row_at out_key k (put out_key o outbox) ≡ Some x → o.number ≡ k → o ≡ x
   is_new k x q g = same_row o x (sym here ∙ ap (λ (z : ℕ). row_at out_key z (put out_key o outbox)) g ∙ q)
 
-  pub out_more : SeesOut h (o.number + 1) (put out_key o outbox) (entry_seen h o ∷ entries) (record { handset = h; reference = o.reference; holder = EntryHolder o.number; moment = m; tpdu = [] } ∷ up)
+  pub out_more : RefinesOut h (o.number + 1) (put out_key o outbox) (entry_seen h o ∷ entries) (record { handset = h; reference = o.reference; holder = EntryHolder o.number; moment = m; tpdu = [] } ∷ up)
   out_more = record {
     there = λ k x q. ⊎_elim
         (λ (g : o.number ≡ k). inl (ap (λ (z : OutRow). entry_seen h z) (sym (is_new k x q g))))
@@ -94,23 +94,23 @@ module _ (h : List ℕ) (m : ℕ) (outbox : List OutRow) (entries : List OutEntr
         (cases_eq o.number k);
     same = λ k x v q i a e. ⊎_elim
         (λ (z : v ≡ record { handset = h; reference = o.reference; holder = EntryHolder o.number; moment = m; tpdu = [] }).
-        let g : o.number ≡ k = same_entry o.number k (ap (λ (t : Giving). t.holder) (sym z) ∙ e) in
-        ap (λ (t : Giving). t.reference) z ∙ ap (λ (t : OutRow). t.reference) (is_new k x q g))
+        let g : o.number ≡ k = same_entry o.number k (ap (λ (t : Allocation). t.holder) (sym z) ∙ e) in
+        ap (λ (t : Allocation). t.reference) z ∙ ap (λ (t : OutRow). t.reference) (is_new k x q g))
         (λ (z : Among v up).
         let l : k < o.number = s.used k v z a e in
         s.same k x v (sym (there k (λ g. absurd (omega arith))) ∙ q) z a e) i;
     used = λ k v i a e. ⊎_elim
         (λ (z : v ≡ record { handset = h; reference = o.reference; holder = EntryHolder o.number; moment = m; tpdu = [] }).
-        let g : o.number ≡ k = same_entry o.number k (ap (λ (t : Giving). t.holder) (sym z) ∙ e) in omega arith)
+        let g : o.number ≡ k = same_entry o.number k (ap (λ (t : Allocation). t.holder) (sym z) ∙ e) in omega arith)
         (λ (z : Among v up). let l : k < o.number = s.used k v z a e in omega arith) i;
   }
 
 -- a giving to an entry is none to an RP-SMMA
-notices_written : (h : List ℕ) (next : ℕ) (n : List Notice) (up : List Giving) (g : Giving) (k : ℕ) → g.holder ≡ EntryHolder k → SeesNotices h next n up → SeesNotices h next n (g ∷ up)
+notices_written : (h : List ℕ) (next : ℕ) (n : List Notice) (up : List Allocation) (g : Allocation) (k : ℕ) → g.holder ≡ EntryHolder k → RefinesNotices h next n up → RefinesNotices h next n (g ∷ up)
 notices_written h next n up g k e s = record {
   given = λ x q. let y = s.given x q in (y.0, inr y.1);
   used = λ j t i a q. ⊎_elim
-      (λ (z : t ≡ g). absurd (entry_memory k j (sym e ∙ ap (λ (y : Giving). y.holder) (sym z) ∙ q)))
+      (λ (z : t ≡ g). absurd (entry_memory k j (sym e ∙ ap (λ (y : Allocation). y.holder) (sym z) ∙ q)))
       (λ (z : Among t up). s.used j t z a q) i;
 }
 
@@ -130,8 +130,8 @@ all_own h [] a = tt
 all_own h (x ∷ xs) a = (subst (λ (z : Step). IsOfHandset h z) (sym a.0.2.0) a.0.2.1, all_own h xs a.1)
 
 module _ (m : ℕ) (h : List ℕ) (b : World) (to : Address) (report is_long : Bool) (valid : IsAddress to) where
-  part_law : (p : PartOf) (d : Draft) (w : World) → IsWritable p → SoundAt d → Sees h b d w
-      → (e : OutEntry) × (r : ℕ) × ((e.handset ≡ h) × Run w (items m false (Write e r ∷ [])) × Sees h b (write_part to report is_long p d) (end w (items m false (Write e r ∷ []))))
+  part_law : (p : PartOf) (d : Draft) (w : World) → IsWritable p → SoundAt d → Refines h b d w
+      → (e : OutEntry) × (r : ℕ) × ((e.handset ≡ h) × Run w (items m false (Write e r ∷ [])) × Refines h b (write_part to report is_long p d) (end w (items m false (Write e r ∷ []))))
   part_law p d w i sound s =
       let os = d.rows.outbox in
       let k = d.rows.counters.entry in
@@ -141,7 +141,7 @@ module _ (m : ℕ) (h : List ℕ) (b : World) (to : Address) (report is_long : B
       let few = few_references d.notices os in
       let free : is_among r (held_by_entries os) ≡ false = not_by_entries d.notices os r (next_is_free d.rows.counters.reference (held_references d.notices os) (omega (arith, few, sound.outbox.few, sound.few_notices))) in
       let none : row_at out_key k os ≡ None = no_row (row_at out_key k os) refl in
-      let g : Giving = record { handset = h; reference = r; holder = EntryHolder k; moment = m; tpdu = [] } in (
+      let g : Allocation = record { handset = h; reference = r; holder = EntryHolder k; moment = m; tpdu = [] } in (
         entry_seen h o,
         r,
         (
@@ -169,7 +169,7 @@ module _ (m : ℕ) (h : List ℕ) (b : World) (to : Address) (report is_long : B
           absurd (omega (arith, l, e))
 
   -- all parts
-  parts_law : (ps : List PartOf) (d : Draft) (w : World) → AllByRecursion (λ (p : PartOf). IsWritable p) ps → length d.rows.outbox + length ps ≤ 20 → SoundAt d → Sees h b d w
+  parts_law : (ps : List PartOf) (d : Draft) (w : World) → AllByRecursion (λ (p : PartOf). IsWritable p) ps → length d.rows.outbox + length ps ≤ 20 → SoundAt d → Refines h b d w
       → Moves (AllWritten h) m h b (write_parts to report is_long ps d) w
   parts_law [] d w i room sound s = ([], (tt, tt, s))
   parts_law (p ∷ ps) d w i room sound s =
@@ -181,11 +181,11 @@ module _ (m : ℕ) (h : List ℕ) (b : World) (to : Address) (report is_long : B
       let y = parts_law ps e (end w (items m false (Write x.0 x.1 ∷ []))) i.1 (omega arith) (write_part_sound to report is_long p d valid i.0 (omega arith) sound) x.2.2 in
       (Write x.0 x.1 ∷ y.0, (((x.0, x.1, (refl, x.2.0)), y.1.0), (x.2.1.0, y.1.1), y.1.2))
 
-split_seen : (h : List ℕ) (b : World) (is_long : Bool) (d : Draft) (w : World) → Sees h b d w → Sees h b (count_split is_long d) w
+split_seen : (h : List ℕ) (b : World) (is_long : Bool) (d : Draft) (w : World) → Refines h b d w → Refines h b (count_split is_long d) w
 split_seen h b false d w s = s
 split_seen h b true d w s = record { frames = s.frames; whole = s.whole; links = s.links; last = s.last; accepted = s.accepted; joined = s.joined; out = s.out; notices = s.notices; groups = s.groups }
 
-module _ (m : ℕ) (h : List ℕ) (b : World) (d : Draft) (w : World) (sound : SoundAt d) (s : Sees h b d w) where
+module _ (m : ℕ) (h : List ℕ) (b : World) (d : Draft) (w : World) (sound : SoundAt d) (s : Refines h b d w) where
   to_law : (report : Bool) (ps : List PartOf) (text : List ℕ) (to : Result Address AddressError) → address_of 1 1 text ≡ to → AllByRecursion (λ (p : PartOf). IsWritable p) ps
       → IfDone (λ (z : Draft). Moves (AllWritten h) m h b z w) (write_to report ps to d)
   to_law report ps text (Err f) q i = tt
@@ -203,7 +203,7 @@ module _ (m : ℕ) (h : List ℕ) (b : World) (d : Draft) (w : World) (sound : S
   split_law text to report reference (Err f) q = tt
   split_law text to report reference (Ok ps) q = to_law report ps to (address_of 1 1 to) refl (split_is_writable text reference ps q)
 
-pub write_event : (m : ℕ) (h : List ℕ) (text to : List ℕ) (report : Bool) (c : Core) (w : World) → IsSoundCore c → Sees h w (draft_of c) w → HappensIfDone m Wrote h w (wrote text to report c)
+pub write_event : (m : ℕ) (h : List ℕ) (text to : List ℕ) (report : Bool) (c : Core) (w : World) → IsSoundCore c → Refines h w (draft_of c) w → HappensIfDone m Wrote h w (wrote text to report c)
 write_event m h text to report c w sound s =
     let d : Draft = draft_of c in
     let at : SoundAt d = sound_from c sound in
@@ -224,5 +224,5 @@ write_event m h text to report c w sound s =
       own_mine = all_own h steps a;
       is_mine = tt;
       runs = subst (λ (x : List Step). Run w (items m false x)) (sym (nothing_more steps)) r;
-      sees = subst (λ (x : List Step). Sees h w z (end w (items m false x))) (sym (nothing_more steps)) k;
+      refines = subst (λ (x : List Step). Refines h w z (end w (items m false x))) (sym (nothing_more steps)) k;
     }

@@ -19,21 +19,21 @@ use Rattle.sms_handset_draft.specs.Draft.{Core, Draft, core_of, draft_of, link_o
 use Rattle.sms_handset_draft.specs.FirstRows.{first_rows}
 use Rattle.sms_handset_draft.specs.FramesAndTicks.{at_moment, frame_heard, timers_fired}
 use Rattle.sms_handset_draft.specs.Receiving.{reference_octet}
-use Rattle.sms_handset.specs.HandsetEvent.{acted, frame_came, tag_of, ticked}
+use Rattle.sms_handset.specs.HandsetEvent.{acted, frame_received, tag_of, ticked}
 use Rattle.sms_handset.specs.OwnersActs.{delete, discard, write}
 use Rattle.sms_handset.specs.declared.event.HandsetEvent.{HandsetEvent}
 use Rattle.sms_handset.specs.declared.event.HandsetEvent.TheVariants.{Frame, Tick, Write, Delete, Discard}
 use Rattle.sms_handset.specs.declared.refusal.Refusal.{Refusal}
 use Rattle.sms_base.specs.declared.holder.Holder.{Holder}
-use Rattle.sms_world_refinement.specs.handset_octets.Coming.{BringsInOctets, ComesInOctets, EventInOctets, IsAnsweredInOctet}
+use Rattle.sms_world_refinement.specs.handset_octets.Arriving.{BringsInOctets, ComesInOctets, EventInOctets, IsAnsweredInOctet}
 use Rattle.sms_world_refinement.specs.handset_octets.Keeping.{CoreKeepsOctets}
-use Rattle.sms_world_refinement.specs.handset_octets.OctetLaws.{AllSendOctets, AreInOctets, ComesLaw, CourseLaw, Episode, EventLaw, IfDone, RestartLaw, Restart, SendsOctets, StartLaw, Stopped, Whole, again, happened}
+use Rattle.sms_world_refinement.specs.handset_octets.OctetLaws.{AllSendOctets, AreInOctets, ComesLaw, RunLaw, Episode, EventLaw, IfDone, RestartLaw, Restart, SendsOctets, StartLaw, Stopped, Whole, again, happened}
 use Rattle.sms_world_refinement.proofs.handset_octets.LinkOctets.{fired_fits, taken_fits}
 use Rattle.sms_world_refinement.proofs.handset_octets.StageOctets.{IfDoneOctets, OctetsAt, deletes, discards, follows, goes_up, times_out, turn_fits, writes}
 
 -- ---- one event
 
-comes : (octets : List ℕ) (tag : Holder) (c : Core) → CoreKeepsOctets c → ComesInOctets octets → OctetsAt (frame_came octets tag c)
+comes : (octets : List ℕ) (tag : Holder) (c : Core) → CoreKeepsOctets c → ComesInOctets octets → OctetsAt (frame_received octets tag c)
 comes octets tag c k o =
     let turn : Turn = taken octets (link_of (draft_of c)) in
     let t = taken_fits octets (link_of (draft_of c)) o k.link in
@@ -92,17 +92,17 @@ if_done : (r : Result Draft Refusal) (c : Core) (Refused : Core → Type 0) (Don
 if_done (Ok d) c Refused Done s k f g = g d (record { sent = s.1; kept = s.0 })
 if_done (Err refusal) c Refused Done s k f g = f k
 
-course_from : (es : List Episode) (c : Core) → CoreKeepsOctets c → AreInOctets es → AllSendOctets es c
-course_from [] c k a = tt
-course_from (Whole event ∷ es) c k a =
-    if_done (happened event c) c _ _ (event_keeps event c k a.0) k (λ q. course_from es c q a.1) (λ d s. (s.sent, course_from es (core_of d) s.kept a.1))
-course_from (Stopped event setup ∷ es) c k a =
-    if_done (happened event c) c _ _ (event_keeps event c k a.0.0) k (λ q. course_from es (again setup c) (restart_keeps c setup q a.0.1) a.1)
-    (λ d s. course_from es (again setup (core_of d)) (restart_keeps (core_of d) setup s.kept a.0.1) a.1)
-course_from (Restart setup ∷ es) c k a = course_from es (again setup c) (restart_keeps c setup k a.0) a.1
+run_from : (es : List Episode) (c : Core) → CoreKeepsOctets c → AreInOctets es → AllSendOctets es c
+run_from [] c k a = tt
+run_from (Whole event ∷ es) c k a =
+    if_done (happened event c) c _ _ (event_keeps event c k a.0) k (λ q. run_from es c q a.1) (λ d s. (s.sent, run_from es (core_of d) s.kept a.1))
+run_from (Stopped event setup ∷ es) c k a =
+    if_done (happened event c) c _ _ (event_keeps event c k a.0.0) k (λ q. run_from es (again setup c) (restart_keeps c setup q a.0.1) a.1)
+    (λ d s. run_from es (again setup (core_of d)) (restart_keeps (core_of d) setup s.kept a.0.1) a.1)
+run_from (Restart setup ∷ es) c k a = run_from es (again setup c) (restart_keeps c setup k a.0) a.1
 
-pub course_sends : CourseLaw
-course_sends es setup a e = course_from es (recovered (first_rows setup)) (start_keeps setup a) e
+pub run_sends : RunLaw
+run_sends es setup a e = run_from es (recovered (first_rows setup)) (start_keeps setup a) e
 
 -- ---- frames of octets
 

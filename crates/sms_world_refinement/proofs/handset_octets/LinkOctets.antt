@@ -34,7 +34,7 @@ use Rattle.sms_link.specs.declared.ending.Upward.TheVariants.{Opened as OpenedUp
 use Rattle.sms_link.specs.declared.outgoing.Outgoing.{Outgoing}
 use Rattle.sms_link.specs.LinkTurn.{LinkOf, Turn, answering, begun, came_up, carrying, fired, from_links, of_kind, replied, started, still, taken}
 use Rattle.sms_link.proofs.Known.{by_test}
-use Rattle.sms_world_refinement.specs.handset_octets.Coming.{BringsInOctets, ComesInOctets, IsAnsweredInOctet}
+use Rattle.sms_world_refinement.specs.handset_octets.Arriving.{BringsInOctets, ComesInOctets, IsAnsweredInOctet}
 use Rattle.sms_world_refinement.specs.handset_octets.Keeping.{AnswerInOctets, BegunInOctets, LinkInOctets, OpenedInOctets, SentInOctets}
 
 -- each frame of the list is octets

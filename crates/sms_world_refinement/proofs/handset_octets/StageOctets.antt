@@ -74,12 +74,12 @@ use Rattle.sms_handset_draft.specs.Draft.{Draft, begin, link_of, put_counters, p
 use Rattle.sms_handset_draft.specs.FramesAndTicks.{timed_out, went_up}
 use Rattle.sms_handset_draft.specs.MemoryAvailable.{first_notice, flag, freed, has_room, notice_concluded, notice_ended, notice_failed, put_notice, remove_notice, send_notice, want_notice}
 use Rattle.sms_handset_draft.specs.Outbox.{entry_concluded, follow, holder_concluded, is_notice_next, lapse, lapse_rows, offer, offer_after, offer_entry, offer_message, offer_wanted}
-use Rattle.sms_handset_draft.specs.Receiving.{accept, acknowledge, data_came, deliver_came, fault_cause, member_came, new_part_came, no_room, note, part_came, reference_octet, refuse, reject, single_came, tpdu_came, unit_came}
+use Rattle.sms_handset_draft.specs.Receiving.{accept, acknowledge, data_received, deliver_received, fault_cause, member_received, new_part_received, no_room, note, part_received, reference_octet, refuse, reject, single_received, tpdu_received, unit_received}
 use Rattle.sms_handset_draft.specs.Storing.{completed, drop_all, ended, free_all, keep, marked, store_part, store_single}
 use Rattle.sms_handset.specs.OwnersActs.{count_split, delete, delete_in, delete_out, discard, discard_at, discard_group, discard_in, discard_members, fits_outbox, write, write_part, write_parts, write_split, write_to, written}
 use Rattle.sms_handset.specs.declared.refusal.Refusal.{Refusal}
 use Rattle.sms_handset.specs.declared.refusal.Refusal.TheVariants.{NoEntry, OutboxFull, StillOpen, TooManyDiscarded}
-use Rattle.sms_world_refinement.specs.handset_octets.Coming.{IsAnsweredInOctet}
+use Rattle.sms_world_refinement.specs.handset_octets.Arriving.{IsAnsweredInOctet}
 use Rattle.sms_world_refinement.specs.handset_octets.Keeping.{EntryInOctets, KeepsOctets, SentInOctets}
 use Rattle.sms_world_refinement.proofs.handset_octets.LinkOctets.{TurnFits, UnitFits, UpwardFits, begun_fits, both_sent, replied_fits}
 use Rattle.sms_world_refinement.proofs.handset_octets.WrittenOctets.{PartInOctets, relay_fits, submit_fits, text_fits}
@@ -250,20 +250,20 @@ marks n m d s = either (all_numbers m.group.total (m.seen ++ n ∷ [])) (remove_
 -- ---- what comes
 
 module _ (reference : ℕ) (tag : Holder) (tpdu : List ℕ) (r : reference < 256) where
-  single : (d : Draft) → OctetsAt d → OctetsAt (single_came reference tag tpdu d)
+  single : (d : Draft) → OctetsAt d → OctetsAt (single_received reference tag tpdu d)
   single d s = either (has_room d) _ _ (accepts reference tag tpdu (store_single tpdu d) r s) (no_room_octets reference tag d r s)
 
-  new_part : (g : Group) (n : ℕ) (es : List Entry) (d : Draft) → OctetsAt d → OctetsAt (new_part_came reference tag tpdu g n es d)
+  new_part : (g : Group) (n : ℕ) (es : List Entry) (d : Draft) → OctetsAt d → OctetsAt (new_part_received reference tag tpdu g n es d)
   new_part g n es d s = either (has_room d) _ _ (accepts reference tag tpdu (store_part g n tpdu es d) r (stores_part g n tpdu es d s)) (no_room_octets reference tag d r s)
 
-  member : (g : Group) (n : ℕ) (es : List Entry) (d : Draft) → OctetsAt d → OctetsAt (member_came reference tag tpdu g n es d)
+  member : (g : Group) (n : ℕ) (es : List Entry) (d : Draft) → OctetsAt d → OctetsAt (member_received reference tag tpdu g n es d)
   member g n es d s = either (is_among n (part_numbers es)) _ _ (single d s) (new_part g n es d s)
 
-  part : (g : Group) (n : ℕ) (m : Option DiscardedGroup) (d : Draft) → OctetsAt d → OctetsAt (part_came reference tag tpdu g n m d)
+  part : (g : Group) (n : ℕ) (m : Option DiscardedGroup) (d : Draft) → OctetsAt d → OctetsAt (part_received reference tag tpdu g n m d)
   part g n None d s = member g n (members g d.rows.entries) d s
   part g n (Some m) d s = either (is_among n m.seen) _ _ (single d s) (accepts reference tag tpdu (marked n m d) r (marks n m d s))
 
-  deliver : (m : DeliverOf) (k : Option ConcatKey) (d : Draft) → OctetsAt d → OctetsAt (deliver_came reference tag tpdu m k d)
+  deliver : (m : DeliverOf) (k : Option ConcatKey) (d : Draft) → OctetsAt d → OctetsAt (deliver_received reference tag tpdu m k d)
   deliver m None d s = single d s
   deliver m (Some key) d s = part (group_of m.originating_address key) key.number (mark_of (group_of m.originating_address key) d.rows.marks) d s
 
@@ -301,14 +301,14 @@ notes status None d e s = s
 notes status (Some o) d e s = out_put (record o { status = Some status }) d (record { tpdu = e.tpdu; short = e.short; reference = e.reference }) s
 
 module _ (reference : ℕ) (tag : Holder) (tpdu : List ℕ) (r : reference < 256) where
-  tpdu_comes : (t : Result Down TpduFault) (d : Draft) → OctetsAt d → OctetsAt (tpdu_came reference tag tpdu t d)
+  tpdu_comes : (t : Result Down TpduFault) (d : Draft) → OctetsAt d → OctetsAt (tpdu_received reference tag tpdu t d)
   tpdu_comes (Ok (Deliver m)) d s = deliver reference tag tpdu r m (key_of m) d s
   tpdu_comes (Ok (StatusReport p)) d s =
       accepts reference tag tpdu (note p.status (reported p d.rows.outbox) d) r (notes p.status (reported p d.rows.outbox) d (reported_fits p d.rows.outbox s.0.outbox) s)
   tpdu_comes (Ok (SubmitReport p)) d s = unreadable reference tag d r s
   tpdu_comes (Err fault) d s = unreadable reference tag d r s
 
-  data_comes : (d : Draft) → OctetsAt d → OctetsAt (data_came reference tag tpdu d)
+  data_comes : (d : Draft) → OctetsAt d → OctetsAt (data_received reference tag tpdu d)
   data_comes d s = either (is_double tpdu (row_at last_key reference d.rows.last)) _ _ (acknowledges reference tag d r s) (tpdu_comes (down_at InData tpdu) d s)
 
 cause_small : (f : RelayFault) → number_of (fault_cause f) < 256
@@ -317,7 +317,7 @@ cause_small Trailing = omega arith
 cause_small Unknown = omega arith
 cause_small BadLength = omega arith
 
-unit_comes : (tag : Holder) (unit : List ℕ) (r : Result Rp RelayFault) (d : Draft) → IsAnsweredInOctet unit r → OctetsAt d → OctetsAt (unit_came tag unit r d)
+unit_comes : (tag : Holder) (unit : List ℕ) (r : Result Rp RelayFault) (d : Draft) → IsAnsweredInOctet unit r → OctetsAt d → OctetsAt (unit_received tag unit r d)
 unit_comes tag unit (Ok (DataUnit reference centre tpdu)) d a s = data_comes reference tag tpdu a d s
 unit_comes tag unit (Ok (AckUnit reference tpdu)) d a s = s
 unit_comes tag unit (Ok (ErrorUnit reference cause tpdu)) d a s = s

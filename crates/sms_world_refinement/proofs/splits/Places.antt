@@ -29,7 +29,7 @@ use Rattle.sms_intake.specs.declared.submission.Text.{Text}
 use Rattle.sms_intake.specs.declared.submission.Text.TheVariants.{Whole, Single}
 use Rattle.sms_intake.specs.PartBodies.{bodies_of, bodies_under, body_of, deliver_octets, deliver_of, is_long, parts_or_none}
 use Rattle.sms_centre_rows.specs.declared.messages.part.PartRow.{PartRow}
-use Rattle.sms_centre_spec.specs.Standing.{IsBody}
+use Rattle.sms_centre_spec.specs.Consistent.{IsBody}
 use Rattle.sms_centre_spec.proofs.TpdusRead.{part_reads}
 use Rattle.sms_world_model.specs.Carrying.{carried_in, part_of, part_read}
 use Rattle.sms_world_model.specs.Place.{place_in, place_of, place_read}

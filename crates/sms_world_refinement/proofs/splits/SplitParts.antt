@@ -22,7 +22,7 @@ use Rattle.sms_intake.specs.PartBodies.{bodies_of, bodies_under, body_of}
 use Rattle.sms_centre_rows.specs.declared.messages.message.MessageRow.{MessageRow}
 use Rattle.sms_centre_rows.specs.declared.messages.part.PartRow.{PartRow}
 use Rattle.sms_centre_rows.specs.messages.Messages.{part_at, part_key}
-use Rattle.sms_centre_spec.specs.Standing.{IsSubmission}
+use Rattle.sms_centre_spec.specs.Consistent.{IsSubmission}
 use Rattle.sms_centre_spec.proofs.SmppFits.{IsContent}
 use Rattle.sms_world_model.specs.Carrying.{carried_in, part_of}
 use Rattle.sms_world_model.specs.Place.{Place, place_in, place_of}

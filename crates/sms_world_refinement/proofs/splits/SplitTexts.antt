@@ -9,7 +9,7 @@ use Rattle.sms_base.specs.declared.final_state.FinalState.{FinalState}
 use Rattle.sms_base.specs.declared.final_state.FinalState.TheVariants.{Delivered}
 use Rattle.sms_rows.proofs.table.Tables.{found_among, found_key, row_at_put, row_at_put_other}
 use Rattle.sms_concat.specs.declared.content.Content.{Content}
-use Rattle.sms_intake.specs.declared.submission.Account.{Account}
+use Rattle.sms_intake.specs.declared.submission.CentreAccount.{CentreAccount}
 use Rattle.sms_intake.specs.declared.submission.Submission.{Submission}
 use Rattle.sms_intake.specs.declared.submission.Text.{Text}
 use Rattle.sms_intake.specs.declared.submission.Text.TheVariants.{Whole}
@@ -23,8 +23,8 @@ use Rattle.sms_centre_rows.specs.waiting.Trying.{finished}
 use Rattle.sms_centre_spec.specs.declared.event.CentreEvent.TheVariants.{Submit}
 use Rattle.sms_centre_spec.specs.Draft.{Draft, Store, draft_of, messages_in, parts_in, with_part_at}
 use Rattle.sms_centre_spec.specs.Ends.{end}
-use Rattle.sms_centre_spec.specs.Requests.{account_at, accepted, refused, submission_came, submit_by}
-use Rattle.sms_centre_spec.specs.Standing.{IsSubmission}
+use Rattle.sms_centre_spec.specs.Requests.{account_at, accepted, refused, submission_received, submit_by}
+use Rattle.sms_centre_spec.specs.Consistent.{IsSubmission}
 use Rattle.sms_centre_spec.specs.Submitted.{AccountGives}
 use Rattle.sms_centre_spec.specs.Submitting.{accept, is_reference_taken, message_of}
 use Rattle.sms_centre_spec.specs.Transfers.{complete}
@@ -158,23 +158,23 @@ module _ (u : Submission) (content : Content) (text : u.text ≡ Whole content) 
   came (Some z) d e after a = new_one z after a
 
 pub text_came : (r : Result Submission CommandStatus) (d : Draft) (u : Submission) (content : Content) → r ≡ Ok u → SoundStore d.store → u.text ≡ Whole content → is_long u.text ≡ true → IsText u.text → IsSubmission u
-    → Becomes (next_id (messages_in d.store)) content (submission_came r d).store
+    → Becomes (next_id (messages_in d.store)) content (submission_received r d).store
 text_came (Err status) d u content e sound text long is fit = absurd cc
 text_came (Ok v) d u content e sound text long is fit =
     let same : u ≡ v = cc in
     let s : Store = d.store in
     let n : ℕ = next_id (messages_in s) in
     let took : Becomes n content (accepted n (accept u s) d).store = came u content text long is fit s sound (accept u s) d refl (sound_steady.accepted u s sound fit) (accept_leads u s sound fit) in
-    subst (λ (w : Submission). Becomes n content (submission_came (Ok w) d).store) same
+    subst (λ (w : Submission). Becomes n content (submission_received (Ok w) d).store) same
     (cond_both (is_reference_taken u s) (refused ESME_RSUBMITFAIL d) (accepted n (accept u s) d) (λ (x : Draft). Becomes n content x.store)
     (λ t. none_there u content text long is fit s sound) (λ t. took))
 
-pub text_by : (o : Option Account) (pdu : Pdu) (d : Draft) (account : Account) (u : Submission) (content : Content) → o ≡ Some account → from_pdu account d.store.moment pdu ≡ Ok u → SoundStore d.store → u.text ≡ Whole content
+pub text_by : (o : Option CentreAccount) (pdu : Pdu) (d : Draft) (account : CentreAccount) (u : Submission) (content : Content) → o ≡ Some account → from_pdu account d.store.moment pdu ≡ Ok u → SoundStore d.store → u.text ≡ Whole content
     → is_long u.text ≡ true → AccountGives o d.store.moment pdu → Becomes (next_id (messages_in d.store)) content (submit_by o pdu d).store
 text_by None pdu d account u content e read sound text long g = absurd cc
 text_by (Some a) pdu d account u content e read sound text long g =
     let same : account ≡ a = cc in
-    let mine : from_pdu a d.store.moment pdu ≡ Ok u = subst (λ (x : Account). from_pdu x d.store.moment pdu ≡ Ok u) same read in
+    let mine : from_pdu a d.store.moment pdu ≡ Ok u = subst (λ (x : CentreAccount). from_pdu x d.store.moment pdu ≡ Ok u) same read in
     text_came (from_pdu a d.store.moment pdu) d u content mine sound text long (pdu_is a d.store.moment pdu u mine) (g u mine)
 
 pub text_is_split : TextLaw

@@ -13,7 +13,7 @@ use Rattle.smpp_pdu.specs.declared.message.Message.{Message}
 use Rattle.smpp_pdu.specs.declared.status.CommandStatus.{CommandStatus}
 use Rattle.smpp_pdu.specs.declared.status.CommandStatus.TheVariants.{ESME_RINVMSGLEN}
 use Rattle.smpp_pdu.specs.declared.tlv.Tlvs.{Tlvs}
-use Rattle.sms_intake.specs.declared.submission.Account.{Account}
+use Rattle.sms_intake.specs.declared.submission.CentreAccount.{CentreAccount}
 use Rattle.sms_intake.specs.declared.submission.Submission.{Submission}
 use Rattle.sms_intake.specs.declared.submission.Text.{Text}
 use Rattle.sms_intake.specs.declared.submission.Text.TheVariants.{Single, Whole}
@@ -61,7 +61,7 @@ text_is : (m : Message) (t : Text) → text_in m ≡ Ok t → IsText t
 text_is m t e =
     cond_both (has_header m) _ _ (λ r. r ≡ Ok t → IsText t) (λ h f. headed_is m.data_coding _ t f) (λ h f. plain_is m.data_coding m.tlvs _ t f) e
 
-pub pdu_is : (account : Account) (now : ℕ) (m : Message) (u : Submission) → from_pdu account now m ≡ Ok u → IsText u.text
+pub pdu_is : (account : CentreAccount) (now : ℕ) (m : Message) (u : Submission) → from_pdu account now m ≡ Ok u → IsText u.text
 unfolding from_pdu judged_in
 pdu_is account now m u e =
     let judged = bind_ok (judged_in account.address now m) _ u e in

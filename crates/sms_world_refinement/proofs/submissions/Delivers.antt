@@ -15,7 +15,7 @@ use Rattle.sms_intake.specs.declared.submission.Submission.{Submission}
 use Rattle.sms_intake.specs.PartBodies.{bodies_under, deliver_octets, deliver_of}
 use Rattle.sms_centre_rows.specs.declared.messages.part.PartRow.{PartRow}
 use Rattle.sms_centre_rows.specs.messages.Messages.{part_at, part_key}
-use Rattle.sms_centre_spec.specs.Standing.{IsBody, IsSubmission}
+use Rattle.sms_centre_spec.specs.Consistent.{IsBody, IsSubmission}
 use Rattle.sms_world_refinement.proofs.splits.MadeParts.{IsMade, body_at}
 use Rattle.sms_world_refinement.proofs.splits.Places.{deliver_reads}
 use Rattle.sms_world_refinement.proofs.splits.SplitParts.{among_body}

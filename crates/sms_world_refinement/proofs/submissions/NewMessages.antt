@@ -7,7 +7,7 @@ use Rattle.smpp_pdu.specs.declared.status.CommandStatus.{CommandStatus}
 use Rattle.smpp_pdu.specs.declared.status.CommandStatus.TheVariants.{ESME_RSUBMITFAIL}
 use Rattle.sms_base.specs.Among.{Among}
 use Rattle.sms_rows.proofs.table.Tables.{row_at_put, row_at_put_other}
-use Rattle.sms_intake.specs.declared.submission.Account.{Account}
+use Rattle.sms_intake.specs.declared.submission.CentreAccount.{CentreAccount}
 use Rattle.sms_intake.specs.declared.submission.Submission.{Submission}
 use Rattle.sms_intake.specs.PartBodies.{is_long}
 use Rattle.sms_intake.specs.SmppIntake.{from_pdu}
@@ -16,8 +16,8 @@ use Rattle.sms_centre_rows.specs.declared.messages.part.PartRow.{PartRow}
 use Rattle.sms_centre_rows.specs.messages.Messages.{message_at, message_key, next_id}
 use Rattle.sms_centre_spec.specs.declared.event.CentreEvent.TheVariants.{Submit}
 use Rattle.sms_centre_spec.specs.Draft.{Draft, Store, draft_of, messages_in, parts_in}
-use Rattle.sms_centre_spec.specs.Requests.{account_at, accepted, refused, submission_came, submit_by}
-use Rattle.sms_centre_spec.specs.Standing.{IsSubmission}
+use Rattle.sms_centre_spec.specs.Requests.{account_at, accepted, refused, submission_received, submit_by}
+use Rattle.sms_centre_spec.specs.Consistent.{IsSubmission}
 use Rattle.sms_centre_spec.specs.Submitted.{AccountGives}
 use Rattle.sms_centre_spec.specs.Submitting.{accept, is_reference_taken, message_of}
 use Rattle.sms_centre_spec.proofs.PduFits.{event_gives}
@@ -86,7 +86,7 @@ came u number None d fit after a = nothing_new (Ok u) d.store
 came u number (Some e) d fit after a = λ m at. ⊎_elim (λ (x : message_at m.id (messages_in d.store) ≡ Some m). inl x) (λ (x : IsSubmitted u m (parts_in e)). inr (u, (refl, x)))
     (all_are u d.store e fit after a m at)
 
-submission_is : (r : Result Submission CommandStatus) (d : Draft) → SoundStore d.store → ((u : Submission) → r ≡ Ok u → IsSubmission u) → IsOldOrReads r d.store (submission_came r d).store
+submission_is : (r : Result Submission CommandStatus) (d : Draft) → SoundStore d.store → ((u : Submission) → r ≡ Ok u → IsSubmission u) → IsOldOrReads r d.store (submission_received r d).store
 submission_is (Err status) d sound g = nothing_new (Err status) d.store
 submission_is (Ok u) d sound g =
     let s : Store = d.store in
@@ -94,8 +94,8 @@ submission_is (Ok u) d sound g =
     cond_both (is_reference_taken u s) (refused ESME_RSUBMITFAIL d) (accepted n (accept u s) d) (λ (x : Draft). IsOldOrReads (Ok u) s x.store)
     (λ t. nothing_new (Ok u) s) (λ t. came u n (accept u s) d (g u refl) (sound_steady.accepted u s sound (g u refl)) (accept_leads u s sound (g u refl)))
 
-account_is : (o : Option Account) (pdu : Pdu) (d : Draft) (m : MessageRow) → SoundStore d.store → AccountGives o d.store.moment pdu → message_at m.id (messages_in (submit_by o pdu d).store) ≡ Some m
-    → (message_at m.id (messages_in d.store) ≡ Some m) ⊎ ((account : Account) × (u : Submission) × ((o ≡ Some account) × (from_pdu account d.store.moment pdu ≡ Ok u) × IsSubmitted u m (parts_in (submit_by o pdu d).store)))
+account_is : (o : Option CentreAccount) (pdu : Pdu) (d : Draft) (m : MessageRow) → SoundStore d.store → AccountGives o d.store.moment pdu → message_at m.id (messages_in (submit_by o pdu d).store) ≡ Some m
+    → (message_at m.id (messages_in d.store) ≡ Some m) ⊎ ((account : CentreAccount) × (u : Submission) × ((o ≡ Some account) × (from_pdu account d.store.moment pdu ≡ Ok u) × IsSubmitted u m (parts_in (submit_by o pdu d).store)))
 account_is None pdu d m sound g at = inl at
 account_is (Some account) pdu d m sound g at = ⊎_elim (λ (x : message_at m.id (messages_in d.store) ≡ Some m). inl x)
     (λ (x : (u : Submission) × ((from_pdu account d.store.moment pdu ≡ Ok u) × IsSubmitted u m (parts_in (submit_by (Some account) pdu d).store))). inr (account, x.0, (refl, x.1.0, x.1.1)))

@@ -4,7 +4,7 @@ use Rattle.sms_base.specs.declared.carried.Carried.{Carried}
 use Rattle.sms_control.specs.ControlReading.{cp_at}
 use Rattle.sms_world_refinement.specs.frames.Between.{CarriesDown, frame_down}
 use Rattle.sms_world_refinement.specs.frames.FramesUp.{IsBare}
-use Rattle.sms_centre_rows.specs.declared.waiting.line.Sent.{Sent as SentRow}
+use Rattle.sms_centre_rows.specs.declared.waiting.handset_link.Sent.{Sent as SentRow}
 use Rattle.sms_world_model.specs.World.{Bare, Carried as Carried_frame, Sent}
 
 abbrev pub sent_down : List ℕ → ℕ → List ℕ → Option Carried → Sent

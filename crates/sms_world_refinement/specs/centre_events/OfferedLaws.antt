@@ -26,9 +26,9 @@ EventLaw = (event : CentreEvent) (c : Core) → IsSoundCore c → IsEvent event 
 
 -- a question changes no row and no line
 abbrev pub QueryLaw : Type 0
-QueryLaw = (account : ℕ) (wanted : QuerySm) (c : Core) → HasOffered c → (happened (Query account wanted) c).air ≡ (draft_of c).air
+QueryLaw = (account : ℕ) (wanted : QuerySm) (c : Core) → HasOffered c → (happened (Query account wanted) c).links ≡ (draft_of c).links
 
 -- an answer to a receipt changes nothing that waits for a handset
 abbrev pub AnsweredLaw : Type 0
 AnsweredLaw =
-    (session id : ℕ) (is_accepted : Bool) (c : Core) → IsSoundCore c → HasOffered c → (happened (DeliverAnswered session id is_accepted) c).air ≡ (draft_of c).air
+    (session id : ℕ) (is_accepted : Bool) (c : Core) → IsSoundCore c → HasOffered c → (happened (DeliverAnswered session id is_accepted) c).links ≡ (draft_of c).links

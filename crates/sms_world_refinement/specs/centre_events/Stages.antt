@@ -7,7 +7,7 @@ use Rattle.sms_world_model.specs.ScriptRun.{AllControl, AllMayFollow, Handed, Is
 use Rattle.sms_world_model.specs.Sides.{AllOfCentre}
 use Rattle.sms_world_model.specs.World.{World}
 use Rattle.sms_world_model.specs.WorldStep.{Step}
-use Rattle.sms_world_refinement.specs.centre.CentreSight.{CentreSees, StoreSees}
+use Rattle.sms_world_refinement.specs.centre.CentreRefinement.{CentreRefines, StoreRefines}
 
 -- The frame of that number stood in the bag of the world `before`, with which the event began.
 pub record AreOfFrame (number : ℕ) (before : World) (own follows : List Step) : Type 0 where
@@ -24,11 +24,11 @@ Reaches number moment before Seen w =
 
 -- by a centre in the middle of the event
 abbrev pub Answers : ℕ → ℕ → World → Draft → World → Type 0
-Answers number moment before d w = Reaches number moment before (λ v. CentreSees before d v) w
+Answers number moment before d w = Reaches number moment before (λ v. CentreRefines before d v) w
 
 -- by its rows, while nothing is sent
 abbrev pub Settles : ℕ → ℕ → World → Store → World → Type 0
-Settles number moment before s w = Reaches number moment before (λ v. StoreSees s v × (v.bag ≡ w.bag)) w
+Settles number moment before s w = Reaches number moment before (λ v. StoreRefines s v × (v.bag ≡ w.bag)) w
 
 -- What the links send of their own accord goes before.
 abbrev pub Begins : ℕ → ℕ → Draft → World → Type 0

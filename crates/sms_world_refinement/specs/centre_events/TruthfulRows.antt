@@ -11,15 +11,15 @@ use Rattle.sms_centre_rows.specs.declared.reports.report.ReportRow.{ReportRow}
 use Rattle.sms_tpdu.specs.MoreMessages.{compared}
 use Rattle.sms_tpdu.specs.declared.user_data.UserData.{UserData}
 use Rattle.sms_centre_spec.specs.Draft.{Core, draft_of}
-use Rattle.sms_world_model.specs.Lists.{StandsOnce}
+use Rattle.sms_world_model.specs.Lists.{OccursOnce}
 use Rattle.sms_world_model.specs.Run.{Item, Run, end}
 use Rattle.sms_world_model.specs.Submission.{HasPart, Submission}
 use Rattle.sms_world_model.specs.Timely.{Timely}
 use Rattle.sms_world_model.specs.WhoseTpdu.{IsDeliverOf}
 use Rattle.sms_world_model.specs.World.{Accepted, World, empty}
-use Rattle.sms_world_refinement.specs.centre.CentreSight.{CentreSees}
-use Rattle.sms_world_refinement.specs.centre.SeesMessages.{IsRowOf}
-use Rattle.sms_world_refinement.specs.centre_events.Course.{Episode, IsSteps, MayBe}
+use Rattle.sms_world_refinement.specs.centre.CentreRefinement.{CentreRefines}
+use Rattle.sms_world_refinement.specs.centre.RefinesMessages.{IsRowOf}
+use Rattle.sms_world_refinement.specs.centre_events.Run.{Episode, IsSteps, MayBe}
 
 -- ---- what a handset accepts of a part, under the reference and with the octets that its row has
 
@@ -38,19 +38,19 @@ IsAsSubmitted m number p = (u : Submission) × (part : UserData) × (moment : �
 abbrev pub DeliveredRows : Core → World → Type 0
 DeliveredRows c w =
     (id number : ℕ) (m : MessageRow) (p : PartRow) → message_at id c.rows.messages ≡ Some m → m.state ≡ Some Delivered → part_at id number c.rows.parts ≡ Some p → number < 256
-    → StandsOnce (pair_in_row m p) w.accepted × IsAsSubmitted m number p
+    → OccursOnce (pair_in_row m p) w.accepted × IsAsSubmitted m number p
 
 -- no part was accepted twice, whatever became of its message
 abbrev pub OnceRows : Core → World → Type 0
 OnceRows c w =
     (id number : ℕ) (m : MessageRow) (p : PartRow) → message_at id c.rows.messages ≡ Some m → part_at id number c.rows.parts ≡ Some p → number < 256
-    → Among (pair_in_row m p) w.accepted → StandsOnce (pair_in_row m p) w.accepted
+    → Among (pair_in_row m p) w.accepted → OccursOnce (pair_in_row m p) w.accepted
 
 -- a receipt or status report is of a message that has ended, and the world has one receipt of it, of the state that its row has
 abbrev pub ToldRows : Core → World → Type 0
 ToldRows c w =
     (id : ℕ) (r : ReportRow) → report_of id c.rows.reports ≡ Some r
-    → (m : MessageRow) × (f : FinalState) × ((message_at id c.rows.messages ≡ Some m) × (m.state ≡ Some f) × StandsOnce (record { id = id; state = f }) w.receipts)
+    → (m : MessageRow) × (f : FinalState) × ((message_at id c.rows.messages ≡ Some m) × (m.state ≡ Some f) × OccursOnce (record { id = id; state = f }) w.receipts)
 
 -- ---- laws
 
@@ -59,11 +59,11 @@ abbrev pub EpisodeLaw : Type 0
 EpisodeLaw = (e : Episode) (c : Core) (w v : World) → MayBe e c w → IsSteps e c w v → (steps : List Item) × (Run w steps × (v ≡ end w steps))
 
 abbrev pub ToldLaw : Type 0
-ToldLaw = (steps : List Item) (c : Core) → Run empty steps → CentreSees (end empty steps) (draft_of c) (end empty steps) → ToldRows c (end empty steps)
+ToldLaw = (steps : List Item) (c : Core) → Run empty steps → CentreRefines (end empty steps) (draft_of c) (end empty steps) → ToldRows c (end empty steps)
 
 -- while frames come in time
 abbrev pub DeliveredLaw : Type 0
-DeliveredLaw = (steps : List Item) (c : Core) → Run empty steps → Timely empty steps → CentreSees (end empty steps) (draft_of c) (end empty steps) → DeliveredRows c (end empty steps)
+DeliveredLaw = (steps : List Item) (c : Core) → Run empty steps → Timely empty steps → CentreRefines (end empty steps) (draft_of c) (end empty steps) → DeliveredRows c (end empty steps)
 
 abbrev pub OnceLaw : Type 0
-OnceLaw = (steps : List Item) (c : Core) → Run empty steps → Timely empty steps → CentreSees (end empty steps) (draft_of c) (end empty steps) → OnceRows c (end empty steps)
+OnceLaw = (steps : List Item) (c : Core) → Run empty steps → Timely empty steps → CentreRefines (end empty steps) (draft_of c) (end empty steps) → OnceRows c (end empty steps)

@@ -22,10 +22,10 @@ line_down Ack = Up
 line_down Error = Up
 
 -- the unit is that
-abbrev pub Tells : Kind → ℕ → List ℕ → Result Rp RelayFault → Type 0
-Tells Data r octets unit = (centre : List ℕ) × (unit ≡ Ok (DataUnit r centre octets))
-Tells Ack r octets unit = (tpdu : Option (List ℕ)) × (unit ≡ Ok (AckUnit r tpdu))
-Tells Error r octets unit = (cause : RpCause) × (tpdu : Option (List ℕ)) × (unit ≡ Ok (ErrorUnit r cause tpdu))
+abbrev pub IsUnitOf : Kind → ℕ → List ℕ → Result Rp RelayFault → Type 0
+IsUnitOf Data r octets unit = (centre : List ℕ) × (unit ≡ Ok (DataUnit r centre octets))
+IsUnitOf Ack r octets unit = (tpdu : Option (List ℕ)) × (unit ≡ Ok (AckUnit r tpdu))
+IsUnitOf Error r octets unit = (cause : RpCause) × (tpdu : Option (List ℕ)) × (unit ≡ Ok (ErrorUnit r cause tpdu))
 
 -- the octets are CP-DATA with the unit that the frame of the world stands for
 pub record CameDown (u : Frame) (octets : List ℕ) : Type 0 where
@@ -34,7 +34,7 @@ pub record CameDown (u : Frame) (octets : List ℕ) : Type 0 where
   pub frame : IsCp octets (CpData transaction unit)
   pub flag : transaction.flag ≡ flag_for u.kind
   pub line : u.line ≡ line_down u.kind
-  pub told : Tells u.kind u.reference u.tpdu (down_at unit)
+  pub told : IsUnitOf u.kind u.reference u.tpdu (down_at unit)
 
 -- a frame that is handed to the handset: one of the bag, or one that carries nothing
 abbrev pub IsHanded : List ℕ → ℕ → List ℕ → Holder → World → Type 0

@@ -6,28 +6,28 @@ use Rattle.sms_world_model.specs.ScriptRun.{Event, IsPlayed, items, Handed, Remo
 use Rattle.sms_world_model.specs.Sides.{AllOfHandset}
 use Rattle.sms_world_model.specs.WorldStep.{Step}
 use Rattle.sms_world_model.specs.Run.{Run, end}
-use Rattle.sms_handset.specs.Planning.{OfDelete, OfDiscard, OfFrame, OfTick, OfWrite, Plan, Plans, Rests, adopted}
+use Rattle.sms_handset.specs.Planning.{OfDelete, OfDiscard, OfFrame, OfTick, OfWrite, PlanOf, Plans, Rests, adopted}
 use Rattle.sms_handset_draft.specs.Outcome.{Outcome, outcome_of}
-use Rattle.sms_handset.specs.HandsetEvent.{deleted, discarded, frame_came, tag_of, ticked, wrote}
+use Rattle.sms_handset.specs.HandsetEvent.{deleted, discarded, frame_received, tag_of, ticked, wrote}
 use Rattle.sms_handset.specs.SoundCore.{IsSoundCore}
 use Rattle.sms_handset.specs.declared.event.HandsetEvent.{HandsetEvent}
 use Rattle.sms_handset.specs.declared.event.HandsetEvent.TheVariants.{Frame, Tick, Write, Delete, Discard}
 use Rattle.sms_world_refinement.specs.frames.FramesUp.{stacked}
 use Rattle.sms_world_refinement.specs.frames.FramesDown.{IsHanded}
 use Rattle.sms_world_refinement.specs.handset.PutInOrder.{AreNoted}
-use Rattle.sms_world_refinement.specs.handset.Sight.{Sees}
+use Rattle.sms_world_refinement.specs.handset.Refinement.{Refines}
 
 -- The plan leads on: its event is steps of the world, all of them the handset's own; the frames that it hands out go on top of the
 -- bag, what its changes put is accepted and joined, and the handset that adopts it sees where the steps lead.
-abbrev pub LeadsOn : ℕ → Event → List ℕ → HandsetOf → Plan → World → Type 0
+abbrev pub LeadsOn : ℕ → Event → List ℕ → HandsetOf → PlanOf → World → Type 0
 LeadsOn m event h s plan w =
     (steps : List Step)
     × ((IsPlayed w event steps × AllOfHandset h steps) × Run w (items m false steps) × ((end w (items m false steps)).bag ≡ stacked h plan.outcome.frames w.bag)
-    × AreNoted h plan.outcome.changes w (end w (items m false steps)) × Sees h (end w (items m false steps)) (draft_of (adopted plan.outcome s.core)) (end w (items m false steps)))
+    × AreNoted h plan.outcome.changes w (end w (items m false steps)) × Refines h (end w (items m false steps)) (draft_of (adopted plan.outcome s.core)) (end w (items m false steps)))
 
 -- what `Handset::plan` says of the plan of an event
-pub record IsPlanned (plan : Plan) (s : HandsetOf) (event : HandsetEvent) : Type 0 where
-  pub frame : OfFrame event (λ octets tag. Plans (Ok plan) s (Ok (frame_came octets (tag_of tag) s.core)))
+pub record IsPlanned (plan : PlanOf) (s : HandsetOf) (event : HandsetEvent) : Type 0 where
+  pub frame : OfFrame event (λ octets tag. Plans (Ok plan) s (Ok (frame_received octets (tag_of tag) s.core)))
   pub tick : OfTick event (λ now. Plans (Ok plan) s (Ok (ticked now s.core)))
   pub write : OfWrite event (λ text to report. Plans (Ok plan) s (wrote text to report s.core))
   pub delete : OfDelete event (λ entry. Plans (Ok plan) s (deleted entry s.core))
@@ -43,10 +43,10 @@ event_seen number (Discard entry) = Removed
 
 abbrev pub PlanLaw : Type 0
 PlanLaw =
-    (m : ℕ) (h : List ℕ) (number : ℕ) (event : HandsetEvent) (s : HandsetOf) (plan : Plan) (w : World) → IsPlanned plan s event → IsSoundCore s.core → Sees h w (draft_of s.core) w
+    (m : ℕ) (h : List ℕ) (number : ℕ) (event : HandsetEvent) (s : HandsetOf) (plan : PlanOf) (w : World) → IsPlanned plan s event → IsSoundCore s.core → Refines h w (draft_of s.core) w
     → OfFrame event (λ octets tag. IsHanded h number octets (tag_of tag) w) → LeadsOn m (event_seen number event) h s plan w
 
 -- whoever adopts what came of an event sees the world that the event led to
 abbrev pub AdoptedLaw : Type 0
 AdoptedLaw =
-    (h : List ℕ) (b : World) (o : Outcome) (c : Core) (d : Draft) (w : World) → o ≡ outcome_of d → Rests c.rows d → Sees h b d w → Sees h w (draft_of (adopted o c)) w
+    (h : List ℕ) (b : World) (o : Outcome) (c : Core) (d : Draft) (w : World) → o ≡ outcome_of d → Rests c.rows d → Refines h b d w → Refines h w (draft_of (adopted o c)) w

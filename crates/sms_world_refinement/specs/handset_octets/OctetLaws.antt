@@ -5,18 +5,18 @@ use Rattle.sms_base.specs.Reading.{AreOctets}
 use Rattle.sms_handset_draft.specs.Draft.{Core, Draft, core_of, recovered}
 use Rattle.sms_handset_draft.specs.FirstRows.{first_rows}
 use Rattle.sms_handset_draft.specs.declared.setup.Setup.{Setup}
-use Rattle.sms_handset.specs.HandsetEvent.{deleted, discarded, frame_came, tag_of, ticked, wrote}
+use Rattle.sms_handset.specs.HandsetEvent.{deleted, discarded, frame_received, tag_of, ticked, wrote}
 use Rattle.sms_handset.specs.declared.event.HandsetEvent.{HandsetEvent}
 use Rattle.sms_handset.specs.declared.event.HandsetEvent.TheVariants.{Frame, Tick, Write, Delete, Discard}
 use Rattle.sms_handset.specs.declared.refusal.Refusal.{Refusal}
-use Rattle.sms_world_refinement.specs.handset_octets.Coming.{ComesInOctets, EventInOctets}
+use Rattle.sms_world_refinement.specs.handset_octets.Arriving.{ComesInOctets, EventInOctets}
 use Rattle.sms_world_refinement.specs.handset_octets.Keeping.{CoreKeepsOctets, SentInOctets}
 
 -- ---- one event
 
 -- an act of the owner may be refused
 abbrev pub happened : HandsetEvent → Core → Result Draft Refusal
-happened (Frame octets tag) c = Ok (frame_came octets (tag_of tag) c)
+happened (Frame octets tag) c = Ok (frame_received octets (tag_of tag) c)
 happened (Tick now) c = Ok (ticked now c)
 happened (Write text to report) c = wrote text to report c
 happened (Delete entry) c = deleted entry c
@@ -74,8 +74,8 @@ abbrev pub AreInOctets : List Episode → Type 0
 AreInOctets [] = Unit {0}
 AreInOctets (e ∷ es) = EpisodeInOctets e × AreInOctets es
 
-abbrev pub CourseLaw : Type 0
-CourseLaw = (episodes : List Episode) (setup : Setup) → IsAddress setup.centre → AreInOctets episodes → AllSendOctets episodes (recovered (first_rows setup))
+abbrev pub RunLaw : Type 0
+RunLaw = (episodes : List Episode) (setup : Setup) → IsAddress setup.centre → AreInOctets episodes → AllSendOctets episodes (recovered (first_rows setup))
 
 -- ---- frames
 

@@ -5,7 +5,7 @@ use Rattle.sms_concat.specs.declared.content.Content.{Content}
 use Rattle.sms_concat.specs.declared.content.Part.{Part as PartOf}
 use Rattle.sms_concat.specs.Joining.{content_joined}
 use Rattle.sms_concat.specs.Splitting.{IsSplit}
-use Rattle.sms_intake.specs.declared.submission.Account.{Account}
+use Rattle.sms_intake.specs.declared.submission.CentreAccount.{CentreAccount}
 use Rattle.sms_intake.specs.declared.submission.Submission.{Submission}
 use Rattle.sms_intake.specs.declared.submission.Text.TheVariants.{Whole}
 use Rattle.sms_intake.specs.PartBodies.{is_long}
@@ -28,7 +28,7 @@ EventLaw =
 -- The PDU of that account reads as a submission of a content that no part holds; if a message comes of it, it is that content, split.
 abbrev pub TextLaw : Type 0
 TextLaw =
-    (place : ℕ) (pdu : Message) (c : Core) (account : Account) (u : Submission) (content : Content) → IsSoundCore c
+    (place : ℕ) (pdu : Message) (c : Core) (account : CentreAccount) (u : Submission) (content : Content) → IsSoundCore c
     → account_at place c.rows.setup.accounts ≡ Some account → from_pdu account c.moment pdu ≡ Ok u → u.text ≡ Whole content → is_long u.text ≡ true
     → (m : MessageRow) → message_at (next_id c.rows.messages) (messages_in (happened (Submit place pdu) c).store) ≡ Some m
     → (reference : ℕ) × ((m.split_reference ≡ Some reference) × IsSplitOf m content reference (parts_in (happened (Submit place pdu) c).store))

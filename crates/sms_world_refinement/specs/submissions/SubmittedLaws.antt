@@ -3,7 +3,7 @@ use Rattle.std.specs.Prelude.{◌≡◌, ◌⊎◌, ℕ, ◌≤◌, List, length
 use Rattle.smpp_pdu.specs.declared.message.Message.{Message}
 use Rattle.sms_concat.specs.declared.content.Content.{Content}
 use Rattle.sms_concat.specs.UserData.{capacity}
-use Rattle.sms_intake.specs.declared.submission.Account.{Account}
+use Rattle.sms_intake.specs.declared.submission.CentreAccount.{CentreAccount}
 use Rattle.sms_intake.specs.declared.submission.Submission.{Submission}
 use Rattle.sms_intake.specs.declared.submission.Text.TheVariants.{Whole}
 use Rattle.sms_intake.specs.SmppIntake.{from_pdu}
@@ -25,7 +25,7 @@ abbrev pub MadeLaw : Type 0
 MadeLaw =
     (place : ℕ) (pdu : Message) (c : Core) (m : MessageRow) → IsSoundCore c → message_at m.id (messages_in (happened (Submit place pdu) c).store) ≡ Some m
     → (message_at m.id c.rows.messages ≡ Some m)
-    ⊎ ((account : Account) × (u : Submission)
+    ⊎ ((account : CentreAccount) × (u : Submission)
     × ((account_at place c.rows.setup.accounts ≡ Some account) × (from_pdu account c.moment pdu ≡ Ok u)
     × IsSubmitted u m (parts_in (happened (Submit place pdu) c).store)))
 
@@ -38,6 +38,6 @@ StaysLaw =
 -- Where an application submitted a text that one part holds, without a header, that part carries the text and nothing else.
 abbrev pub AloneLaw : Type 0
 AloneLaw =
-    (account : Account) (moment : ℕ) (pdu : Message) (u : Submission) (content : Content) (m : MessageRow) (parts : List PartRow)
+    (account : CentreAccount) (moment : ℕ) (pdu : Message) (u : Submission) (content : Content) (m : MessageRow) (parts : List PartRow)
     → from_pdu account moment pdu ≡ Ok u → u.text ≡ Whole content → length content.units ≤ capacity content.coding → IsSubmitted u m parts
     → (p : PartRow) × ((part_at m.id 1 parts ≡ Some p) × (carried_in (compared p.tpdu) ≡ Some (record { content = content; key = None })))

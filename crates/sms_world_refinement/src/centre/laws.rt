@@ -10,12 +10,12 @@ pub fn a_centre_begins_to_see()
 {}
 
 /// What a handset does leaves what the centre sees.
-pub fn handsets_leave_what_is_seen()
+pub fn handset_steps_keep_the_centre_refinement()
     ensures { HandsetLaw }
 {}
 
 /// How far parts and reports are, the world does not show, but for which parts and status reports are done.
-pub fn progress_is_not_seen()
+pub fn progress_is_not_modelled()
     ensures part { PartFarLaw }
     ensures report { ReportFarLaw }
 {}

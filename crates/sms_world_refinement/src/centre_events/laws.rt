@@ -1,6 +1,6 @@
 //! What is offered, a frame, every event, and a course of them.
-ghost use Rattle.sms_world_refinement.specs.centre_events.Course.{CourseLaw, FirstCourseLaw};
-ghost use Rattle.sms_world_refinement.specs.centre_events.CourseEvents.{EventLaw};
+ghost use Rattle.sms_world_refinement.specs.centre_events.Run.{RunLaw, FirstRunLaw};
+ghost use Rattle.sms_world_refinement.specs.centre_events.RunEvents.{EventLaw};
 ghost use Rattle.sms_world_refinement.specs.centre_events.PlanLaws.{PlanLaw};
 ghost use Rattle.sms_world_refinement.specs.centre_events.TruthfulRows.{DeliveredLaw, EpisodeLaw, OnceLaw, ToldLaw};
 ghost use Rattle.sms_world_refinement.specs.centre_events.FrameLaws.{FrameLaw};
@@ -8,7 +8,7 @@ ghost use Rattle.sms_world_refinement.specs.centre_events.OfferedLaws.{AnsweredL
 
 /// Where a link is ready, nothing that waits for its handset is due. It is so of a new centre, of one that starts
 /// again, and after every event of a sound centre.
-pub fn what_can_go_is_offered()
+pub fn what_can_be_sent_is_offered()
     ensures first { FirstLaw }
     ensures back { BackLaw }
     ensures event { OfferedLaw }
@@ -40,16 +40,16 @@ pub fn plans_are_steps()
 
 /// A centre's course is steps of the world, episode by episode, with what handsets do between them. It may have any
 /// events, stops and restarts. It begins in any world that the centre refines, and for a new store in the empty one.
-pub fn a_course_is_steps()
-    ensures course { CourseLaw }
-    ensures first { FirstCourseLaw }
+pub fn a_run_is_steps()
+    ensures run { RunLaw }
+    ensures first { FirstRunLaw }
 {}
 
 /// An episode is a run of the world. Wherever a run led that the centre refines, a receipt or status report is of a
 /// message that has ended. It is the only one, and has the state of the message's row. While frames are timely, a
 /// message counts as delivered only if its handset accepted each of its parts exactly once, with the octets of the
 /// part's row. No part was accepted twice.
-pub fn rows_tell_what_was_accepted()
+pub fn rows_agree_with_what_was_accepted()
     ensures runs { EpisodeLaw }
     ensures told { ToldLaw }
     ensures delivered { DeliveredLaw }

@@ -1,5 +1,5 @@
 //! A handset's events are steps of the world.
-ghost use Rattle.sms_world_refinement.specs.handset.Course.{CourseLaw, FirstCourseLaw};
+ghost use Rattle.sms_world_refinement.specs.handset.Run.{RunLaw, FirstRunLaw};
 ghost use Rattle.sms_world_refinement.specs.handset.EventLaws.{DeleteLaw, DiscardLaw, FrameLaw, RestartLaw, TickLaw, WriteLaw};
 ghost use Rattle.sms_world_refinement.specs.handset.OthersLaws.{CentreLaw, OtherLaw};
 ghost use Rattle.sms_world_refinement.specs.handset.PlanLaws.{AdoptedLaw, PlanLaw};
@@ -33,21 +33,21 @@ pub fn plans_are_steps()
 
 /// What a stop leaves after the store call refines the world without the event's frames. An event that was stopped so
 /// is steps of the world that send nothing. A handset without rows refines the empty world.
-pub fn stops_are_seen()
+pub fn stops_are_refined()
     ensures stopped { StoppedLaw }
     ensures stop { StopLaw }
     ensures start { StartLaw }
 {}
 
 /// What another handset or the centre does leaves what a handset sees, and what it accepted and joined.
-pub fn others_leave_what_is_seen()
+pub fn other_steps_keep_the_handset_refinement()
     ensures handset { OtherLaw }
     ensures centre { CentreLaw }
 {}
 
 /// A handset's course is steps of the world, episode by episode, with what others do between them. It may have any
 /// events, stops and restarts. It begins in any world that the handset refines, and for a new handset in the empty one.
-pub fn a_course_is_steps()
-    ensures course { CourseLaw }
-    ensures first { FirstCourseLaw }
+pub fn a_run_is_steps()
+    ensures run { RunLaw }
+    ensures first { FirstRunLaw }
 {}

@@ -2,7 +2,7 @@
 ghost use Rattle.sms_world_refinement.specs.splits.SplitLaws.{EventLaw, PiecesLaw, StaysLaw, TextLaw};
 
 /// Where each message that was split is whole under one key, it is so after every event of a sound centre.
-pub fn split_messages_stand()
+pub fn split_messages_stay()
     ensures { EventLaw }
 {}
 

@@ -13,10 +13,10 @@ use Rattle.sms_intake.specs.PartBodies.{deliver_octets}
 use Rattle.sms_centre_rows.specs.messages.SplitReferences.{is_taken, wide_in}
 use Rattle.sms_tpdu.specs.declared.submit.Submit.{Submit as SubmitOf}
 use Rattle.sms_centre_rows.specs.declared.waiting.handset.HandsetRow.{HandsetRow}
-use Rattle.sms_centre_rows.specs.waiting.Lines.{Air}
+use Rattle.sms_centre_rows.specs.waiting.Links.{Links}
 use Rattle.sms_centre_rows.specs.waiting.References.{first_passing}
 use Rattle.sms_centre_spec.specs.Draft.{Draft, Store, with_given}
-use Rattle.sms_centre_spec.specs.Receiving.{confirm, is_duplicate, is_pending_double, refuse, submit_accepted, submit_came}
+use Rattle.sms_centre_spec.specs.Receiving.{confirm, is_duplicate, is_pending_double, refuse, submit_accepted, submit_received}
 use Rattle.sms_centre_spec.specs.Submitting.{accept, enter, is_reference_taken, put_part_of}
 use Rattle.smsc_server.proofs.relay_laws.FirstFrame.{drafted, store_for}
 
@@ -51,10 +51,10 @@ module _ (centre : Address) (from : List ℕ) (now : ℕ) (s : SubmitOf) where
   unfolding first_passing
   accept_is = refl
 
-  pub accepted_is : (reference : ℕ) (tag : Holder) (air : Air)
-      → submit_came from reference tag (Ok submitted) (drafted (store_for centre now) air) ≡ confirm from reference tag (drafted accepted_store air)
-  accepted_is reference tag air =
-      let d : Draft = drafted (store_for centre now) air in
+  pub accepted_is : (reference : ℕ) (tag : Holder) (links : Links)
+      → submit_received from reference tag (Ok submitted) (drafted (store_for centre now) links) ≡ confirm from reference tag (drafted accepted_store links)
+  accepted_is reference tag links =
+      let d : Draft = drafted (store_for centre now) links in
       let last : Draft = submit_accepted from reference tag (accept submitted d.store) d in
       let taken : Draft = if is_reference_taken submitted d.store then refuse from reference tag ReferenceTaken d else last in
       cond-false (is_duplicate submitted d.store) (refuse from reference tag Duplicate d) taken (and_right s.reject_duplicates (is_pending_double submitted []) refl)

@@ -41,21 +41,21 @@ use Rattle.sms_tpdu.specs.declared.submit.Submit.{Submit as SubmitOf}
 use Rattle.sms_tpdu.specs.declared.up.Up.{Up}
 use Rattle.sms_tpdu.specs.declared.up.Up.TheVariants.{Submit, DeliverReport}
 use Rattle.sms_tpdu.proofs.Carriers.{up_takes}
-use Rattle.sms_centre_rows.specs.waiting.SoundGivings.{IsNumber}
-use Rattle.sms_centre_rows.specs.declared.waiting.line.Line.{Line}
-use Rattle.sms_centre_rows.specs.waiting.Lines.{Air, line_at, line_of, or_new_line}
+use Rattle.sms_centre_rows.specs.waiting.SoundAllocations.{IsNumber}
+use Rattle.sms_centre_rows.specs.declared.waiting.handset_link.HandsetLink.{HandsetLink}
+use Rattle.sms_centre_rows.specs.waiting.Links.{Links, line_at, line_of, or_new_line}
 use Rattle.sms_centre_spec.specs.CentreEvent.{follow, lines_up}
 use Rattle.sms_centre_spec.specs.Draft.{Draft, Store}
 use Rattle.sms_centre_spec.specs.Offering.{offer_on}
-use Rattle.sms_centre_spec.specs.Receiving.{fault_cause, has_memory, reference_octet, refuse, reject, reply, submit_came, unit_came}
+use Rattle.sms_centre_spec.specs.Receiving.{fault_cause, has_memory, reference_octet, refuse, reject, reply, submit_received, unit_received}
 use Rattle.sms_centre_spec.proofs.UnitOctets.{tpdu_octets}
 use Rattle.smsc_server.specs.relay_laws.Relay.{IsAccepted, IsAnswer, IsRefused, RelaysTpdu, RelaysUnit, cause_of, deliver_for, failure_cause_of, refusal_of, report_of, unreadable_answer, unreadable_cause}
-use Rattle.smsc_server.specs.relay_laws.Relaying.{Relays, destination_in, destination_of, frames_of, others_for, told}
+use Rattle.smsc_server.specs.relay_laws.Relaying.{Relays, destination_in, destination_of, frames_of, others_for, outputs}
 use Rattle.smsc_server.specs.declared.relay_laws.refusal.Refusal.{Refusal}
 use Rattle.smsc_server.specs.declared.relay_laws.refusal.Refusal.TheVariants.{NoHandset as NoHandsetOf, PastLimit as PastLimitOf}
 use Rattle.smsc_server.specs.declared.relay_laws.relayed.Relayed.{Relayed}
 use Rattle.smsc_server.proofs.relay_laws.Accepting.{accepted_is, accepted_store, body, submitted}
-use Rattle.smsc_server.proofs.relay_laws.FirstFrame.{acknowledged, answered, answered_air, came_is, drafted, itself, opened_air, replied_is, sender, store_for, told_answer}
+use Rattle.smsc_server.proofs.relay_laws.FirstFrame.{acknowledged, answered, links_answered, came_is, drafted, itself, links_opened, replied_is, sender, store_for, told_answer}
 use Rattle.smsc_server.proofs.relay_laws.Offered.{idle, offered_is, unit_down}
 
 -- ---- what is sent
@@ -68,7 +68,7 @@ answer octets = record { answer = Some octets; down = None }
 
 -- The unit that opened the transaction leads to a draft; what follows it sends what an empty centre sends.
 abbrev Sends : List ℕ → Relayed → Draft → Type 0
-Sends from r d = told (follow d).air.frames ≡ frames_of from r
+Sends from r d = outputs (follow d).links.frames ≡ frames_of from r
 
 -- ---- a unit that can't be read
 
@@ -121,22 +121,22 @@ fault_alike BadHeader = (refl, refl)
 module _ (centre : Address) (from : List ℕ) (now : ℕ) (unit : List ℕ) (tag : Holder) where
   -- the unit is in, with links to these handsets beside the sender's
   abbrev start : List (List ℕ) → Draft
-  start others = drafted (store_for centre now) (opened_air from unit (lines_up others))
+  start others = drafted (store_for centre now) (links_opened from unit (lines_up others))
 
   -- an answer, where nothing waits
   answer_sent : (others : List (List ℕ)) (kind : Kind) (reference : ℕ) (octets : List ℕ) → Sends from (answer octets) (reply from kind reference tag octets (start others))
   answer_sent others kind reference octets =
-      ap (λ (d : Draft). told (follow d).air.frames) (replied_is from unit (lines_up others) (store_for centre now) kind reference tag octets)
+      ap (λ (d : Draft). outputs (follow d).links.frames) (replied_is from unit (lines_up others) (store_for centre now) kind reference tag octets)
 
-  fault_sent : (others : List (List ℕ)) (fault : RelayFault) → Sends from (answer (unreadable_answer unit fault)) (unit_came from tag unit (Err fault) (start others))
+  fault_sent : (others : List (List ℕ)) (fault : RelayFault) → Sends from (answer (unreadable_answer unit fault)) (unit_received from tag unit (Err fault) (start others))
   fault_sent others fault =
-      ap (λ (cause : RpCause). told (follow (reject from (reference_octet unit) tag cause (start others))).air.frames) (same_cause fault)
-      ∙ ap (λ (reference : ℕ). told (follow (reject from reference tag (unreadable_cause fault) (start others))).air.frames) (same_octet unit)
+      ap (λ (cause : RpCause). outputs (follow (reject from (reference_octet unit) tag cause (start others))).links.frames) (same_cause fault)
+      ∙ ap (λ (reference : ℕ). outputs (follow (reject from reference tag (unreadable_cause fault) (start others))).links.frames) (same_octet unit)
       ∙ answer_sent others Error (slice_index unit 1) (unreadable_answer unit fault)
 
-  memory_sent : (others : List (List ℕ)) (reference : ℕ) → Sends from (answer (ack_down reference None)) (unit_came from tag unit (Ok (Smma reference)) (start others))
+  memory_sent : (others : List (List ℕ)) (reference : ℕ) → Sends from (answer (ack_down reference None)) (unit_received from tag unit (Ok (Smma reference)) (start others))
   memory_sent others reference =
-      ap (λ (d : Draft). told (follow (has_memory from d)).air.frames) (replied_is from unit (lines_up others) (store_for centre now) Ack reference tag (ack_down reference None))
+      ap (λ (d : Draft). outputs (follow (has_memory from d)).links.frames) (replied_is from unit (lines_up others) (store_for centre now) Ack reference tag (ack_down reference None))
 
   refused : (others : List (List ℕ)) (reference : ℕ) (refusal : SubmitRefusal) (own : Refusal) → IsMoment now → IsAlike refusal own
       → (r : Relayed) × IsRefused now reference own r × Sends from r (refuse from reference tag refusal (start others))
@@ -160,28 +160,28 @@ module _ (centre : Address) (from : List ℕ) (now : ℕ) (unit : List ℕ) (tag
     abbrev accepted : Relayed
     accepted = record { answer = Some accepting; down = Some (s.destination_address, unit_down centre from now s) }
 
-    abbrev line : Line
+    abbrev line : HandsetLink
     line = answered from unit now Ack reference tag accepting
 
     -- it is offered on that line
     offered_there : (others : List (List ℕ)) (opened : Option Opened) (answered : Option Carried) → line_of to (line ∷ lines_up others) ≡ idle to opened answered
-        → Sends from accepted (submit_came from reference tag (Ok (submitted centre from now s)) (start others))
+        → Sends from accepted (submit_received from reference tag (Ok (submitted centre from now s)) (start others))
     offered_there others opened answered there =
         let store : Store = accepted_store centre from now s in
-        let air : Air = answered_air from unit (lines_up others) now Ack reference tag accepting in
-        ap (λ (d : Draft). told (follow d).air.frames) (accepted_is centre from now s reference tag (opened_air from unit (lines_up others)))
-        ∙ ap (λ (d : Draft). told (follow d).air.frames) (replied_is from unit (lines_up others) store Ack reference tag accepting)
-        ∙ ap (λ (l : Line). told (offer_on l store air).frames) there
-        ∙ offered_is centre from now s opened answered air.lines (acknowledged from) (told_answer from Ack reference tag accepting)
+        let links : Links = links_answered from unit (lines_up others) now Ack reference tag accepting in
+        ap (λ (d : Draft). outputs (follow d).links.frames) (accepted_is centre from now s reference tag (links_opened from unit (lines_up others)))
+        ∙ ap (λ (d : Draft). outputs (follow d).links.frames) (replied_is from unit (lines_up others) store Ack reference tag accepting)
+        ∙ ap (λ (l : HandsetLink). outputs (offer_on l store links).frames) there
+        ∙ offered_is centre from now s opened answered links.lines (acknowledged from) (told_answer from Ack reference tag accepting)
 
-    accepted_sent : (b : Bool) → bytes_eq from to ≡ b → Sends from accepted (submit_came from reference tag (Ok (submitted centre from now s)) (start (if b then [] else to ∷ [])))
+    accepted_sent : (b : Bool) → bytes_eq from to ≡ b → Sends from accepted (submit_received from reference tag (Ok (submitted centre from now s)) (start (if b then [] else to ∷ [])))
     accepted_sent true e =
         offered_there [] line.link.links.opened line.link.answered
-        (ap (λ (o : Option Line). or_new_line to o) (cond-true (bytes_eq from to) (Some line) None e)
+        (ap (λ (o : Option HandsetLink). or_new_line to o) (cond-true (bytes_eq from to) (Some line) None e)
         ∙ ap (λ (handset : List ℕ). idle handset line.link.links.opened line.link.answered) ((bytes_eq-Decides from to).0 e))
     accepted_sent false e =
         offered_there (to ∷ []) None None
-        (ap (λ (o : Option Line). or_new_line to o)
+        (ap (λ (o : Option HandsetLink). or_new_line to o)
         (cond-false (bytes_eq from to) (Some line) (line_at to (sender to ∷ [])) e ∙ cond-true (bytes_eq to to) (Some (sender to)) None (itself to)))
 
     accepted_is_so : (octets : List ℕ) → IsNumber from → IsMoment now → IsSubmit octets s → IsAccepted centre (own_address from) now reference s accepted
@@ -196,7 +196,7 @@ module _ (centre : Address) (from : List ℕ) (now : ℕ) (unit : List ℕ) (tag
 
     judged_as : (named past : Bool) (octets : List ℕ) → IsNumber from → IsMoment now → IsSubmit octets s
         → (r : Relayed) × MatchBool named (MatchBool past (IsRefused now reference PastLimitOf r) (IsAccepted centre (own_address from) now reference s r)) (IsRefused now reference NoHandsetOf r)
-        × Sends from r (submit_came from reference tag (judged named past) (start (others_for from (destination named))))
+        × Sends from r (submit_received from reference tag (judged named past) (start (others_for from (destination named))))
     judged_as false past octets number moment is = refused [] reference NoHandset NoHandsetOf moment (refl, refl)
     judged_as true true octets number moment is = refused (others_for from (destination true)) reference PastLimit PastLimitOf moment (refl, refl)
     judged_as true false octets number moment is = (accepted, accepted_is_so octets number moment is, accepted_sent (bytes_eq from to) refl)
@@ -205,7 +205,7 @@ module _ (centre : Address) (from : List ℕ) (now : ℕ) (unit : List ℕ) (tag
 
   data_as : (reference : ℕ) (tpdu : List ℕ) (q : Result Up TpduFault) → IsNumber from → IsMoment now → AreOctets tpdu → tpdu_up_at InData tpdu ≡ q
       → (r : Relayed) × MatchResult q (RelaysTpdu centre (own_address from) now reference r) (λ fault. IsRefused now reference (refusal_of fault) r)
-      × Sends from r (submit_came from reference tag (from_read from now q) (start (others_for from (destination_in q))))
+      × Sends from r (submit_received from reference tag (from_read from now q) (start (others_for from (destination_in q))))
   unfolding from_submit
   data_as reference tpdu (Ok (Submit s)) number moment are e =
       judged_as reference s (names_handset s.destination_address) (is_past now s.validity_period) tpdu number moment (up_takes InData tpdu (Submit s) are e)
@@ -216,7 +216,7 @@ module _ (centre : Address) (from : List ℕ) (now : ℕ) (unit : List ℕ) (tag
 
   unit_as : (q : Result Rp RelayFault) → IsNumber from → IsMoment now → AreOctets unit → up_at unit ≡ q
       → (r : Relayed) × MatchResult q (RelaysUnit centre (own_address from) now r) (λ fault. IsAnswer (unreadable_answer unit fault) r)
-      × Sends from r (unit_came from tag unit q (start (others_for from (destination_of q))))
+      × Sends from r (unit_received from tag unit q (start (others_for from (destination_of q))))
   unit_as (Ok (DataUnit reference named tpdu)) number moment are e =
       data_as reference tpdu (tpdu_up_at InData tpdu) number moment (tpdu_octets unit tpdu named reference are e) refl
   unit_as (Ok (AckUnit reference tpdu)) number moment are e = (nothing, (refl, refl), refl)
@@ -230,5 +230,5 @@ relays centre from now unit number moment are some few =
     record {
       relayed = r.0;
       is_relayed = r.1;
-      sent = ap (λ (d : Draft). told d.air.frames) (came_is centre from now unit (others_for from (destination_of (up_at unit))) (Entry 0) some few) ∙ r.2;
+      sent = ap (λ (d : Draft). outputs d.links.frames) (came_is centre from now unit (others_for from (destination_of (up_at unit))) (Entry 0) some few) ∙ r.2;
     }

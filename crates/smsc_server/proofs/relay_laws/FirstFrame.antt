@@ -19,12 +19,12 @@ use Rattle.sms_control.proofs.ControlFrames.{spelled_again}
 use Rattle.sms_link.specs.LinkTurn.{Turn, carried_in, heard, new_link, of_kind, of_links, taken}
 use Rattle.sms_link.specs.declared.ending.Side.TheVariants.{Centre}
 use Rattle.sms_relay.specs.RelayReading.{up_at}
-use Rattle.sms_centre_rows.specs.declared.waiting.line.Line.{Line}
-use Rattle.sms_centre_rows.specs.declared.waiting.line.Sent.{Sent}
-use Rattle.sms_centre_rows.specs.waiting.Lines.{Air, line_at, line_of, or_new_line, with_line}
-use Rattle.sms_centre_spec.specs.CentreEvent.{follow, frame_came, frame_heard, frame_taken, lines_up, started}
-use Rattle.sms_centre_spec.specs.Draft.{Draft, Store, draft_of, on_air, store_of}
-use Rattle.sms_centre_spec.specs.Receiving.{reply, reply_on, unit_came}
+use Rattle.sms_centre_rows.specs.declared.waiting.handset_link.HandsetLink.{HandsetLink}
+use Rattle.sms_centre_rows.specs.declared.waiting.handset_link.Sent.{Sent}
+use Rattle.sms_centre_rows.specs.waiting.Links.{Links, line_at, line_of, or_new_line, with_line}
+use Rattle.sms_centre_spec.specs.CentreEvent.{follow, frame_received, frame_heard, frame_taken, lines_up, started}
+use Rattle.sms_centre_spec.specs.Draft.{Draft, Store, draft_of, on_links, store_of}
+use Rattle.sms_centre_spec.specs.Receiving.{reply, reply_on, unit_received}
 use Rattle.sms_centre_spec.specs.SoundRows.{first_rows}
 use Rattle.smsc_server.specs.relay_laws.Relaying.{frame_for, setup_for}
 
@@ -33,7 +33,7 @@ itself digits = (bytes_eq-Decides digits digits).1 refl
 
 -- ---- the sender's line: as it comes up, with the unit in, and answered
 
-abbrev pub sender : List ℕ → Line
+abbrev pub sender : List ℕ → HandsetLink
 sender from = record { handset = from; is_up = true; is_awaited = false; is_full = false; link = new_link Centre }
 
 abbrev pub opened_links : List ℕ → LinkState
@@ -45,7 +45,7 @@ opened_links unit = record {
   last_opening = None;
 }
 
-abbrev pub opened : List ℕ → List ℕ → Line
+abbrev pub opened : List ℕ → List ℕ → HandsetLink
 opened from unit = record {
   handset = from;
   is_up = true;
@@ -66,7 +66,7 @@ answered_links unit now answer = record {
   last_opening = None;
 }
 
-abbrev pub answered : List ℕ → List ℕ → ℕ → Kind → ℕ → Holder → List ℕ → Line
+abbrev pub answered : List ℕ → List ℕ → ℕ → Kind → ℕ → Holder → List ℕ → HandsetLink
 answered from unit now kind reference tag answer = record {
   handset = from;
   is_up = true;
@@ -88,57 +88,57 @@ told_answer from kind reference tag answer =
 
 -- ---- the drafts
 
-abbrev pub drafted : Store → Air → Draft
-drafted s air = record { store = s; air = air; desk = record { sessions = []; deliveries = [] }; answer = None }
+abbrev pub drafted : Store → Links → Draft
+drafted s links = record { store = s; links = links; bindings = record { sessions = []; deliveries = [] }; answer = None }
 
-abbrev pub air_of : List Line → List Sent → Air
-air_of lines frames = record { lines = lines; frames = frames; read = [] }
+abbrev pub links_of : List HandsetLink → List Sent → Links
+links_of lines frames = record { lines = lines; frames = frames; read = [] }
 
 abbrev pub store_for : Address → ℕ → Store
 store_for centre now = store_of (first_rows (setup_for centre now)) now
 
-module _ (from unit : List ℕ) (rest : List Line) where
+module _ (from unit : List ℕ) (rest : List HandsetLink) where
   -- the unit is in, and CP-ACK went out
-  abbrev pub opened_air : Air
-  opened_air = air_of (opened from unit ∷ rest) (acknowledged from ∷ [])
+  abbrev pub links_opened : Links
+  links_opened = links_of (opened from unit ∷ rest) (acknowledged from ∷ [])
 
   -- and the answer went out
-  abbrev pub answered_air : ℕ → Kind → ℕ → Holder → List ℕ → Air
-  answered_air now kind reference tag answer =
-      air_of (answered from unit now kind reference tag answer ∷ rest) (acknowledged from ∷ told_answer from kind reference tag answer ∷ [])
+  abbrev pub links_answered : ℕ → Kind → ℕ → Holder → List ℕ → Links
+  links_answered now kind reference tag answer =
+      links_of (answered from unit now kind reference tag answer ∷ rest) (acknowledged from ∷ told_answer from kind reference tag answer ∷ [])
 
-  found : (line : Line) → line.handset ≡ from → line_of from (line ∷ rest) ≡ line
-  found line e = ap (λ (o : Option Line). or_new_line from o) (cond-true (bytes_eq line.handset from) (Some line) (line_at from rest) ((bytes_eq-Decides line.handset from).1 e))
+  found : (line : HandsetLink) → line.handset ≡ from → line_of from (line ∷ rest) ≡ line
+  found line e = ap (λ (o : Option HandsetLink). or_new_line from o) (cond-true (bytes_eq line.handset from) (Some line) (line_at from rest) ((bytes_eq-Decides line.handset from).1 e))
 
   -- an answer
   pub replied_is : (s : Store) (kind : Kind) (reference : ℕ) (tag : Holder) (answer : List ℕ)
-      → reply from kind reference tag answer (drafted s opened_air) ≡ drafted s (answered_air s.moment kind reference tag answer)
+      → reply from kind reference tag answer (drafted s links_opened) ≡ drafted s (links_answered s.moment kind reference tag answer)
   unfolding reply_step
   replied_is s kind reference tag answer =
-      let d : Draft = drafted s opened_air in
-      let line : Line = answered from unit s.moment kind reference tag answer in
+      let d : Draft = drafted s links_opened in
+      let line : HandsetLink = answered from unit s.moment kind reference tag answer in
       let frames : List Sent = acknowledged from ∷ told_answer from kind reference tag answer ∷ [] in
-      ap (λ (l : Line). on_air (reply_on l s.moment kind reference tag answer opened_air) d) (found (opened from unit) refl)
-      ∙ ap (λ (ls : List Line). drafted s (air_of ls frames))
+      ap (λ (l : HandsetLink). on_links (reply_on l s.moment kind reference tag answer links_opened) d) (found (opened from unit) refl)
+      ∙ ap (λ (ls : List HandsetLink). drafted s (links_of ls frames))
       (cond-true (bytes_eq from from) (line ∷ rest) (opened from unit ∷ with_line line rest) (itself from))
 
 -- ---- the unit comes
 
 pub came_is : (centre : Address) (from : List ℕ) (now : ℕ) (unit : List ℕ) (others : List (List ℕ)) (tag : Holder) → 0 < length unit → length unit ≤ 248
-    → frame_came from (frame_for unit) tag (started (first_rows (setup_for centre now)) (from ∷ others) [])
-    ≡ follow (unit_came from tag unit (up_at unit) (drafted (store_for centre now) (opened_air from unit (lines_up others))))
+    → frame_received from (frame_for unit) tag (started (first_rows (setup_for centre now)) (from ∷ others) [])
+    ≡ follow (unit_received from tag unit (up_at unit) (drafted (store_for centre now) (links_opened from unit (lines_up others))))
 unfolding take_step
 came_is centre from now unit others tag some few =
     let c = started (first_rows (setup_for centre now)) (from ∷ others) [] in
     let d : Draft = draft_of c in
-    let rest : List Line = lines_up others in
+    let rest : List HandsetLink = lines_up others in
     let frame : List ℕ = frame_for unit in
     let read : cp_at frame ≡ Ok (DataUnit (in_transaction FromOriginator 0) unit) =
     spelled_again (DataUnit (in_transaction FromOriginator 0) unit) (omega arith, some, few) in
     let at : line_of from c.lines ≡ sender from = found from unit rest (sender from) refl in
     let turned : taken frame (new_link Centre) ≡ heard (step_taken frame fresh (Ok (DataUnit (in_transaction FromOriginator 0) unit))) (new_link Centre) =
     ap (λ (r : Result Cp CpFault). heard (step_taken frame fresh r) (new_link Centre)) read in
-    ap (λ (l : Line). follow (frame_taken frame tag l d)) at
+    ap (λ (l : HandsetLink). follow (frame_taken frame tag l d)) at
     ∙ ap (λ (t : Turn). follow (frame_heard (sender from) tag t d)) turned
-    ∙ ap (λ (ls : List Line). follow (unit_came from tag unit (up_at unit) (drafted (store_for centre now) (air_of ls (acknowledged from ∷ [])))))
+    ∙ ap (λ (ls : List HandsetLink). follow (unit_received from tag unit (up_at unit) (drafted (store_for centre now) (links_of ls (acknowledged from ∷ [])))))
     (cond-true (bytes_eq from from) (opened from unit ∷ rest) (sender from ∷ with_line (opened from unit) rest) (itself from))

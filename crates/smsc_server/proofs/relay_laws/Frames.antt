@@ -14,20 +14,20 @@ use Rattle.sms_tpdu.specs.declared.fault.TpduFault.{TpduFault}
 use Rattle.sms_tpdu.specs.declared.submit.Submit.{Submit as SubmitOf}
 use Rattle.sms_tpdu.specs.declared.up.Up.{Up}
 use Rattle.sms_tpdu.specs.declared.up.Up.TheVariants.{Submit, DeliverReport}
-use Rattle.sms_centre_rows.specs.declared.waiting.line.Sent.{Sent}
+use Rattle.sms_centre_rows.specs.declared.waiting.handset_link.Sent.{Sent}
 use Rattle.smsc_server.specs.relay_laws.Relay.{IsAccepted, IsAnswer, IsRefused, IsRelayed, RelaysTpdu, RelaysUnit, is_past, refusal_of, unreadable_answer}
-use Rattle.smsc_server.specs.relay_laws.Relaying.{addressed, destination_in, destination_of, frames_of, told, unit_at, unit_behind}
+use Rattle.smsc_server.specs.relay_laws.Relaying.{addressed, destination_in, destination_of, frames_of, outputs, unit_at, unit_behind}
 use Rattle.smsc_server.specs.declared.relay_laws.refusal.Refusal.TheVariants.{NoHandset, PastLimit}
 use Rattle.smsc_server.specs.declared.relay_laws.relayed.Relayed.{Relayed}
 
 -- ---- frames by their places
 
-pub none_there : (place : ℕ) (frames : List Sent) → length frames ≤ place → None ≡ unit_at place (told frames)
+pub none_there : (place : ℕ) (frames : List Sent) → length frames ≤ place → None ≡ unit_at place (outputs frames)
 none_there place [] few = refl
 none_there zero (f ∷ fs) few = absurd (omega (arith, few))
 none_there (suc place) (f ∷ fs) few = none_there place fs (omega (arith, few))
 
-pub there : (place : ℕ) (frames : List Sent) (f : Sent) → place < length frames → f ≡ get_or frames place f → unit_behind f.frame.octets ≡ unit_at place (told frames)
+pub there : (place : ℕ) (frames : List Sent) (f : Sent) → place < length frames → f ≡ get_or frames place f → unit_behind f.frame.octets ≡ unit_at place (outputs frames)
 there place [] f lt e = absurd (omega (arith, lt))
 there zero (x ∷ xs) f lt e = ap (λ (s : Sent). unit_behind s.frame.octets) e
 there (suc place) (x ∷ xs) f lt e = there place xs f (omega (arith, lt)) e
@@ -86,28 +86,28 @@ module _ (centre from : Address) (now : ℕ) (r : Relayed) where
   shaped unit (Err fault) is = nothing_down None r is.1
 
 pub units_are : (centre : Address) (from : List ℕ) (now : ℕ) (unit : List ℕ) (r : Relayed) (to : Option Address) (frames : List Sent)
-    → IsRelayed centre (own_address from) now unit r → told frames ≡ frames_of from r → to ≡ destination_of (up_at unit)
-    → record { answer = unit_at 1 (told frames); down = addressed to (unit_at 2 (told frames)) } ≡ r
+    → IsRelayed centre (own_address from) now unit r → outputs frames ≡ frames_of from r → to ≡ destination_of (up_at unit)
+    → record { answer = unit_at 1 (outputs frames); down = addressed to (unit_at 2 (outputs frames)) } ≡ r
 units_are centre from now unit r to frames is sent named =
     let is_shaped : Shaped to r.answer r.down = subst (λ (o : Option Address). Shaped o r.answer r.down) (sym named) (shaped centre (own_address from) now r unit (up_at unit) is) in
     let units = units_by from to r.answer r.down is_shaped in
-    let answer : unit_at 1 (told frames) ≡ r.answer = ap (λ (fs : List (List ℕ × List ℕ)). unit_at 1 fs) sent ∙ units.0 in
-    let down : addressed to (unit_at 2 (told frames)) ≡ r.down = ap (λ (fs : List (List ℕ × List ℕ)). addressed to (unit_at 2 fs)) sent ∙ units.1 in
-    let both : record { answer = unit_at 1 (told frames); down = addressed to (unit_at 2 (told frames)) } ≡ record { answer = r.answer; down = r.down } = rw (answer, down) refl in
+    let answer : unit_at 1 (outputs frames) ≡ r.answer = ap (λ (fs : List (List ℕ × List ℕ)). unit_at 1 fs) sent ∙ units.0 in
+    let down : addressed to (unit_at 2 (outputs frames)) ≡ r.down = ap (λ (fs : List (List ℕ × List ℕ)). addressed to (unit_at 2 fs)) sent ∙ units.1 in
+    let both : record { answer = unit_at 1 (outputs frames); down = addressed to (unit_at 2 (outputs frames)) } ≡ record { answer = r.answer; down = r.down } = rw (answer, down) refl in
     both
 
 pub units_from : (centre : Address) (from : List ℕ) (now : ℕ) (unit : List ℕ) (r : Relayed) (to : Option Address) (frames : List Sent) (answer second : Option (List ℕ)) (down : Option (Address × List ℕ))
-    → answer ≡ unit_at 1 (told frames) → second ≡ unit_at 2 (told frames) → down ≡ addressed to second
-    → IsRelayed centre (own_address from) now unit r → told frames ≡ frames_of from r → to ≡ destination_of (up_at unit) → record { answer = answer; down = down } ≡ r
+    → answer ≡ unit_at 1 (outputs frames) → second ≡ unit_at 2 (outputs frames) → down ≡ addressed to second
+    → IsRelayed centre (own_address from) now unit r → outputs frames ≡ frames_of from r → to ≡ destination_of (up_at unit) → record { answer = answer; down = down } ≡ r
 units_from centre from now unit r to frames answer second down answer_is second_is down_is is sent named =
-    let down_as : down ≡ addressed to (unit_at 2 (told frames)) = down_is ∙ ap (λ (o : Option (List ℕ)). addressed to o) second_is in
+    let down_as : down ≡ addressed to (unit_at 2 (outputs frames)) = down_is ∙ ap (λ (o : Option (List ℕ)). addressed to o) second_is in
     let relayed : Option (List ℕ) → Option (Address × List ℕ) → Relayed = λ a d. record { answer = a; down = d } in
     ap (λ (a : Option (List ℕ)). relayed a down) answer_is
-    ∙ ap (λ (d : Option (Address × List ℕ)). relayed (unit_at 1 (told frames)) d) down_as
+    ∙ ap (λ (d : Option (Address × List ℕ)). relayed (unit_at 1 (outputs frames)) d) down_as
     ∙ units_are centre from now unit r to frames is sent named
 
 pub behind_there : {E : Type 0} (place : ℕ) (frames : List Sent) (f : Sent) (octets : List ℕ) (r : Result (Option (List ℕ)) E) → place < length frames → f ≡ get_or frames place f
-    → octets ≡ (get_or frames place f).frame.octets → IfOk r (λ u. u ≡ unit_behind octets) → IfOk r (λ u. u ≡ unit_at place (told frames))
+    → octets ≡ (get_or frames place f).frame.octets → IfOk r (λ u. u ≡ unit_behind octets) → IfOk r (λ u. u ≡ unit_at place (outputs frames))
 behind_there place frames f octets (Err e) lt is same h = tt
 behind_there place frames f octets (Ok u) lt is same h =
     h ∙ ap (λ (o : List ℕ). unit_behind o) (same ∙ ap (λ (s : Sent). s.frame.octets) (sym is)) ∙ there place frames f lt is

@@ -17,7 +17,7 @@ use Rattle.sms_tpdu.specs.declared.fault.TpduFault.{TpduFault}
 use Rattle.sms_tpdu.specs.declared.up.Up.{Up}
 use Rattle.sms_tpdu.specs.declared.up.Up.TheVariants.{Submit, DeliverReport}
 use Rattle.sms_tpdu.proofs.Carriers.{up_takes}
-use Rattle.sms_centre_rows.specs.waiting.SoundGivings.{IsNumber}
+use Rattle.sms_centre_rows.specs.waiting.SoundAllocations.{IsNumber}
 use Rattle.sms_centre_spec.specs.SoundCore.{AreDifferent}
 use Rattle.sms_centre_spec.proofs.SubmitFits.{named_number}
 use Rattle.sms_centre_spec.proofs.UnitOctets.{tpdu_octets}

@@ -16,7 +16,7 @@ use Rattle.sms_tpdu.specs.declared.carrier.Carrier.TheVariants.{InData}
 use Rattle.sms_tpdu.specs.declared.fault.TpduFault.{TpduFault}
 use Rattle.sms_tpdu.specs.declared.up.Up.{Up}
 use Rattle.sms_tpdu.specs.declared.up.Up.TheVariants.{Submit, DeliverReport}
-use Rattle.sms_centre_rows.specs.declared.waiting.line.Sent.{Sent}
+use Rattle.sms_centre_rows.specs.declared.waiting.handset_link.Sent.{Sent}
 use Rattle.sms_centre_spec.specs.CentreEvent.{happened, started}
 use Rattle.sms_centre_spec.specs.Draft.{Core}
 use Rattle.sms_centre_spec.specs.SoundRows.{first_rows}
@@ -70,9 +70,9 @@ event_for from unit = Frame from (frame_for unit) None
 -- ---- the frames
 
 -- each frame with the digits of its handset
-abbrev pub told : List Sent → List (List ℕ × List ℕ)
-told [] = []
-told (s ∷ ss) = (s.handset, s.frame.octets) ∷ told ss
+abbrev pub outputs : List Sent → List (List ℕ × List ℕ)
+outputs [] = []
+outputs (s ∷ ss) = (s.handset, s.frame.octets) ∷ outputs ss
 
 -- in the sender's transaction
 abbrev pub answer_frames : List ℕ → Option (List ℕ) → List (List ℕ × List ℕ)
@@ -108,4 +108,4 @@ addressed (Some to) (Some unit) = Some (to, unit)
 pub record Relays (centre : Address) (from : List ℕ) (now : ℕ) (unit : List ℕ) : Type 0 where
   pub relayed : Relayed
   pub is_relayed : IsRelayed centre (own_address from) now unit relayed
-  pub sent : told (happened (event_for from unit) (centre_for centre from now unit)).air.frames ≡ frames_of from relayed
+  pub sent : outputs (happened (event_for from unit) (centre_for centre from now unit)).links.frames ≡ frames_of from relayed

@@ -4,7 +4,7 @@ ghost use Rattle.sms_base.specs.HandsetNumber.{own_address};
 ghost use Rattle.sms_base.specs.declared.address.Address.{Address as AddressOf};
 ghost use Rattle.sms_relay.specs.RelayReading.{up_at};
 ghost use Rattle.smsc_server.specs.relay_laws.Relay.{IsRelayed};
-ghost use Rattle.smsc_server.specs.relay_laws.Relaying.{addressed, destination_of, frames_of, told, unit_at, unit_behind};
+ghost use Rattle.smsc_server.specs.relay_laws.Relaying.{addressed, destination_of, frames_of, outputs, unit_at, unit_behind};
 ghost use Rattle.smsc_server.specs.declared.relay_laws.relayed.Relayed.{Relayed as RelayedOf};
 
 use crate::relay_laws::relayed::Relayed;
@@ -24,7 +24,7 @@ fn unit_behind(alloc: Global, frame: &[u8]) -> Result<Option<Octets>, AllocError
 }
 
 fn unit_at(alloc: Global, frames: &[Sent], place: usize) -> Result<Option<Octets>, AllocError>
-    ensures { IfOk result (λ unit. unit ≡ unit_at place (told frames.now)) }
+    ensures { IfOk result (λ unit. unit ≡ unit_at place (outputs frames.now)) }
 {
     if place >= frames.len() {
         return Ok(None);
@@ -45,7 +45,7 @@ fn addressed(to: Option<Address>, unit: Option<Octets>) -> Option<(Address, Octe
 /// destination.
 pub fn units_in(alloc: Global, to: Option<Address>, frames: &[Sent]) -> Result<Relayed, AllocError>
     ensures { (centre : AddressOf) (from : List ℕ) (now : ℕ) (unit : List ℕ) (sent : RelayedOf)
-        → IsRelayed centre (own_address from) now unit sent → told frames.now ≡ frames_of from sent → to ≡ destination_of (up_at unit)
+        → IsRelayed centre (own_address from) now unit sent → outputs frames.now ≡ frames_of from sent → to ≡ destination_of (up_at unit)
         → IfOk result (λ relayed. relayed ≡ sent) }
 {
     let answer = unit_at(alloc, frames, 1)?;

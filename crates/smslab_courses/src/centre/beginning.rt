@@ -1,7 +1,7 @@
 //! How a new centre begins. It is lent, as its store is, so that this program proves of neither how it is let go.
 ghost use Rattle.std.specs.Prelude.{ℕ, List};
 ghost use Rattle.sms_base.specs.Among.{Among};
-ghost use Rattle.sms_centre_rows.specs.waiting.SoundGivings.{IsNumber};
+ghost use Rattle.sms_centre_rows.specs.waiting.SoundAllocations.{IsNumber};
 ghost use Rattle.sms_centre_spec.specs.SoundCore.{AreDifferent};
 
 use crate::centre::course::{Course, Telling, alone_at, trouble_of};

@@ -1,13 +1,13 @@
 //! A centre with its store, and what a run tells of it.
 ghost use Rattle.std.specs.Prelude.{ℕ, List, IfOk};
 ghost use Rattle.sms_base.specs.Among.{Among};
-ghost use Rattle.sms_centre_rows.specs.waiting.SoundGivings.{IsNumber};
+ghost use Rattle.sms_centre_rows.specs.waiting.SoundAllocations.{IsNumber};
 ghost use Rattle.sms_centre_spec.specs.SoundCore.{AreDifferent, HasNumber};
 ghost use Rattle.sms_centre.specs.state.Recovering.{AreNew};
 ghost use Rattle.sms_centre.specs.Planning.{Fits};
 
 use sms_base::Digits;
-use sms_centre::{Centre, CentreEvent, PlanError, Planned, RecoverError, Rows, Seat, Told};
+use sms_centre::{Centre, CentreEvent, PlanError, Plan, RecoverError, Rows, ReceiptSession, Outputs};
 use sms_rows::keep::Keep;
 use sms_rows::table::Table;
 use sms_store_memory::centre::MemoryKeep;
@@ -60,7 +60,7 @@ pub(crate) fn restart_with(
     centre: &mut Centre,
     rows: Rows,
     handsets: &[Digits],
-    seats: Table<Seat>,
+    seats: Table<ReceiptSession>,
 ) -> Result<(), Trouble>
     requires numbers { (number : List ℕ) → Among number handsets.now → IsNumber number }
     requires apart { AreDifferent handsets.now }
@@ -84,11 +84,11 @@ fn restart_kept(
     restart_with(centre, keep.load()?, handsets, Table::new(alloc))
 }
 
-fn seats(alloc: Global, session: u32) -> Result<Table<Seat>, Trouble>
+fn seats(alloc: Global, session: u32) -> Result<Table<ReceiptSession>, Trouble>
     ensures { IfOk result (λ seats. AreNew seats.rows) }
 {
     let mut seats = Table::new(alloc);
-    seats.put(Seat::new(alloc, session, b"app1", true)?)?;
+    seats.put(ReceiptSession::new(alloc, session, b"app1", true)?)?;
     Ok(seats)
 }
 
@@ -105,7 +105,7 @@ fn restart_bound(
 // ---- what happens
 
 // Commits the plan and puts it in. It is put in whether it could be committed or not, so that there is one way out.
-fn adopted(centre: &mut Centre, keep: &mut MemoryKeep, is_kept: &mut bool, planned: Planned) -> Told
+fn adopted(centre: &mut Centre, keep: &mut MemoryKeep, is_kept: &mut bool, planned: Plan) -> Outputs
     requires { Fits centre.old planned }
 {
     *is_kept = keep.commit(planned.changes()).is_ok();
@@ -117,7 +117,7 @@ fn happens(
     keep: &mut MemoryKeep,
     is_kept: &mut bool,
     event: &CentreEvent<'_>,
-) -> Result<Told, Trouble>
+) -> Result<Outputs, Trouble>
     requires { HasNumber event.now }
 {
     match centre.plan(event, keep) {
@@ -135,13 +135,13 @@ fn refusal(alloc: Global, centre: &Centre, event: &CentreEvent<'_>) -> Option<Pl
 }
 
 impl<'a> Course<'a> {
-    fn told(&mut self, event: &CentreEvent<'_>) -> Result<Told, Trouble>
+    fn outputs(&mut self, event: &CentreEvent<'_>) -> Result<Outputs, Trouble>
         requires { HasNumber event.now }
     {
         let mut is_kept = false;
-        let told = happens(self.centre, self.keep, &mut is_kept, event)?;
+        let outputs = happens(self.centre, self.keep, &mut is_kept, event)?;
         if is_kept {
-            Ok(told)
+            Ok(outputs)
         } else {
             Err(Trouble::Store)
         }
@@ -162,13 +162,13 @@ impl<'a> Course<'a> {
         }
     }
 
-    fn tell_told(&self, rt: &HostRuntime, told: &Told) -> Result<(), Trouble> {
+    fn tell_told(&self, rt: &HostRuntime, outputs: &Outputs) -> Result<(), Trouble> {
         self.tell(
             rt,
             Happened {
-                answer: &told.answer,
-                frames: told.frames.as_slice(),
-                receipts: told.deliveries.as_slice(),
+                answer: &outputs.answer,
+                frames: outputs.frames.as_slice(),
+                receipts: outputs.deliveries.as_slice(),
             },
         )
     }
@@ -203,8 +203,8 @@ impl<'a> Course<'a> {
         if self.is_unread {
             return self.tell_unread(rt, event);
         }
-        let told = self.told(event)?;
-        self.tell_told(rt, &told)
+        let outputs = self.outputs(event)?;
+        self.tell_told(rt, &outputs)
     }
 
     /// What the line says happens.

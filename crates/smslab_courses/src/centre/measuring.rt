@@ -4,13 +4,13 @@ ghost use Rattle.sms_centre_spec.specs.SoundCore.{HasNumber};
 ghost use Rattle.sms_centre.specs.Planning.{Fits};
 
 use crate::centre::course::restart_with;
-use sms_centre::{Centre, CentreEvent, Planned, Told, first_rows};
+use sms_centre::{Centre, CentreEvent, Plan, Outputs, first_rows};
 use sms_rows::table::Table;
 use smslab_lines::acts::{
     Offered, Seen, cancelling, hello, link_coming, link_going, querying, sent, setup,
 };
 use smslab_lines::lines::{
-    Amount, Asked, Meter, StandIn, Trouble, handset_at, moment, read_number, text_at, word,
+    Amount, SubmissionOptions, Meter, StandIn, Trouble, handset_at, moment, read_number, text_at, word,
 };
 use smslab_lines::measuring::Stopwatch;
 use std::alloc::Global;
@@ -36,12 +36,12 @@ impl Asking {
 
 /// What is offered, and what comes of its acknowledgement.
 #[derive(Clone, Copy)]
-struct Giving {
+struct Allocation {
     offer: Meter,
     acknowledgement: Meter,
 }
 
-impl Giving {
+impl Allocation {
     fn tell(&self, rt: &HostRuntime) -> Result<(), Trouble> {
         self.offer.tell(rt)?;
         self.acknowledgement.tell(rt)
@@ -100,7 +100,7 @@ fn measure_amount(
     measured.time_all(amount)
 }
 
-fn adopted(centre: &mut Centre, planned: Planned) -> Told
+fn adopted(centre: &mut Centre, planned: Plan) -> Outputs
     requires { Fits centre.old planned }
 {
     centre.adopt(planned)
@@ -110,7 +110,7 @@ fn happens(
     centre: &mut Centre,
     store: &mut StandIn,
     event: &CentreEvent<'_>,
-) -> Result<Told, Trouble>
+) -> Result<Outputs, Trouble>
     requires { HasNumber event.now }
 {
     match centre.plan(event, store) {
@@ -130,10 +130,10 @@ impl<'a> Measured<'a> {
         requires { HasNumber event.now }
     {
         let watch = Stopwatch::start(self.rt)?;
-        let told = happens(self.centre, &mut self.store, event)?;
+        let outputs = happens(self.centre, &mut self.store, event)?;
         meter.stop(self.rt, watch)?;
-        meter.take(&told.answer, told.frames.as_slice());
-        Ok(Seen::of(&told.answer, told.frames.as_slice()))
+        meter.take(&outputs.answer, outputs.frames.as_slice());
+        Ok(Seen::of(&outputs.answer, outputs.frames.as_slice()))
     }
 
     // A second later.
@@ -153,16 +153,16 @@ impl<'a> Measured<'a> {
     // `hello` comes for the handset at that place.
     fn submit(&mut self, meter: &mut Meter, place: u64) -> Result<Seen, Trouble> {
         let text = text_at(self.rt.alloc(), place)?;
-        self.time(meter, &hello(&Asked::of(text.as_str())))
+        self.time(meter, &hello(&SubmissionOptions::of(text.as_str())))
     }
 
     fn query(&mut self, meter: &mut Meter, id: &[u8]) -> Result<(), Trouble> {
-        let _seen = self.time(meter, &querying(&Asked::of(""), id))?;
+        let _seen = self.time(meter, &querying(&SubmissionOptions::of(""), id))?;
         Ok(())
     }
 
     fn cancel(&mut self, meter: &mut Meter, id: &[u8]) -> Result<(), Trouble> {
-        let _seen = self.time(meter, &cancelling(&Asked::of(""), id))?;
+        let _seen = self.time(meter, &cancelling(&SubmissionOptions::of(""), id))?;
         Ok(())
     }
 
@@ -213,41 +213,41 @@ impl<'a> Measured<'a> {
     }
 
     // A message comes for the handset that is up, goes at once, and is taken.
-    fn give(&mut self, giving: &mut Giving) -> Result<(), Trouble> {
+    fn give(&mut self, allocation: &mut Allocation) -> Result<(), Trouble> {
         self.pass()?;
-        let offered = self.submit(&mut giving.offer, UP)?.offered()?;
-        self.take(&mut giving.acknowledgement, UP, offered)
+        let offered = self.submit(&mut allocation.offer, UP)?.offered()?;
+        self.take(&mut allocation.acknowledgement, UP, offered)
     }
 
-    fn give_all(&mut self, turns: u64) -> Result<Giving, Trouble> {
-        let mut giving = Giving {
+    fn give_all(&mut self, turns: u64) -> Result<Allocation, Trouble> {
+        let mut allocation = Allocation {
             offer: Meter::new("offer"),
             acknowledgement: Meter::new("acknowledgement"),
         };
         let _seen = self.link_up(&mut untold(), UP)?;
         for _ in 0..turns {
-            self.give(&mut giving)?;
+            self.give(&mut allocation)?;
         }
-        Ok(giving)
+        Ok(allocation)
     }
 
     // A handset for which messages wait comes up, takes the first, and goes down again while the next is offered.
-    fn give_first(&mut self, giving: &mut Giving, place: u64) -> Result<(), Trouble> {
-        let offered = self.link_up(&mut giving.offer, place)?.offered()?;
-        self.take(&mut giving.acknowledgement, place, offered)?;
+    fn give_first(&mut self, allocation: &mut Allocation, place: u64) -> Result<(), Trouble> {
+        let offered = self.link_up(&mut allocation.offer, place)?.offered()?;
+        self.take(&mut allocation.acknowledgement, place, offered)?;
         self.link_down(place)
     }
 
     // Each turn takes one of a handset's messages and offers another.
-    fn give_first_of_all(&mut self, amount: &Amount) -> Result<Giving, Trouble> {
-        let mut giving = Giving {
+    fn give_first_of_all(&mut self, amount: &Amount) -> Result<Allocation, Trouble> {
+        let mut allocation = Allocation {
             offer: Meter::new("link_up"),
             acknowledgement: Meter::new("next_offer"),
         };
         for turn in 0..amount.turns.min(amount.open / 2) {
-            self.give_first(&mut giving, amount.place(turn))?;
+            self.give_first(&mut allocation, amount.place(turn))?;
         }
-        Ok(giving)
+        Ok(allocation)
     }
 
     // ---- time, and all

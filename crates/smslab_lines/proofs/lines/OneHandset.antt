@@ -1,7 +1,7 @@
 -- A list of one handset.
 use Rattle.std.proofs.Common.{◌≡◌, ℕ, List, [], ◌∷◌, sym, subst, ⊎_elim}
 use Rattle.sms_base.specs.Among.{Among}
-use Rattle.sms_centre_rows.specs.waiting.SoundGivings.{IsNumber}
+use Rattle.sms_centre_rows.specs.waiting.SoundAllocations.{IsNumber}
 
 pub alone_numbers : (handset : List ℕ) → IsNumber handset → (number : List ℕ) → Among number (handset ∷ []) → IsNumber number
 alone_numbers handset is number a = ⊎_elim

@@ -6,7 +6,7 @@ use crate::acts::kind::{Kind, kind_named};
 use crate::acts::known::{Known, id_of, known_in};
 use crate::acts::octets::octets_in;
 use crate::lines::{
-    Asked, Trouble, asked_in, cancel, handset, is_so, message, moment, query, read_number, session,
+    SubmissionOptions, Trouble, asked_in, cancel, handset, is_so, message, moment, query, read_number, session,
     value, word,
 };
 use sms_base::{Holder, OctetView};
@@ -18,7 +18,7 @@ use std::alloc::Global;
 pub struct Act<'a> {
     line: &'a str,
     kind: Kind,
-    asked: Asked<'a>,
+    asked: SubmissionOptions<'a>,
     known: Known,
     octets: Vec<u8>,
 }

@@ -2,11 +2,11 @@
 use crate::lines::{Trouble, name_of};
 use sms_centre_rows::messages::MessageRow as Message;
 use sms_centre_rows::reports::{ReportKind, ReportRow};
-use sms_script::report::{MessageRow, MessageState, ReceiptRow};
+use sms_script::report::{ReportedMessage, MessageState, ReceiptRow};
 use sms_store_memory::centre::MemoryKeep;
 use std::io::Print;
 
-fn tell_message(rt: &impl Print, message: &MessageRow) -> Result<(), Trouble> {
+fn tell_message(rt: &impl Print, message: &ReportedMessage) -> Result<(), Trouble> {
     let number = message.id.number();
     match &message.state {
         MessageState::Enroute => println!(rt; "  {number} enroute")?,
@@ -59,7 +59,7 @@ fn tell_split(rt: &impl Print, messages: &[Message]) -> Result<(), Trouble> {
 }
 
 /// Writes the table of messages.
-pub fn tell_table(rt: &impl Print, table: &[MessageRow]) -> Result<(), Trouble> {
+pub fn tell_table(rt: &impl Print, table: &[ReportedMessage]) -> Result<(), Trouble> {
     for message in table {
         tell_message(rt, message)?;
     }

@@ -1,8 +1,8 @@
 //! The events of a centre that is measured, and what they give that later ones need.
 ghost use Rattle.sms_centre_spec.specs.SoundCore.{HasNumber};
-ghost use Rattle.sms_centre_rows.specs.waiting.SoundGivings.{IsNumber};
+ghost use Rattle.sms_centre_rows.specs.waiting.SoundAllocations.{IsNumber};
 
-use crate::lines::{Asked, Trouble, cancel, message, query};
+use crate::lines::{SubmissionOptions, Trouble, cancel, message, query};
 use sms_base::{Digits, OctetView};
 use sms_centre_rows::waiting::Sent;
 use sms_centre_spec::{CentreAnswer, CentreEvent};
@@ -84,7 +84,7 @@ impl Seen {
 }
 
 /// `hello` comes, as it is asked.
-pub fn hello<'a>(asked: &'a Asked<'a>) -> CentreEvent<'a>
+pub fn hello<'a>(asked: &'a SubmissionOptions<'a>) -> CentreEvent<'a>
     ensures { HasNumber result }
 {
     CentreEvent::Submit {
@@ -94,7 +94,7 @@ pub fn hello<'a>(asked: &'a Asked<'a>) -> CentreEvent<'a>
 }
 
 /// Where the message of that number is.
-pub fn querying<'a>(asked: &'a Asked<'a>, id: &'a [u8]) -> CentreEvent<'a>
+pub fn querying<'a>(asked: &'a SubmissionOptions<'a>, id: &'a [u8]) -> CentreEvent<'a>
     ensures { HasNumber result }
 {
     CentreEvent::Query {
@@ -104,7 +104,7 @@ pub fn querying<'a>(asked: &'a Asked<'a>, id: &'a [u8]) -> CentreEvent<'a>
 }
 
 /// The message of that number is given up.
-pub fn cancelling<'a>(asked: &'a Asked<'a>, id: &'a [u8]) -> CentreEvent<'a>
+pub fn cancelling<'a>(asked: &'a SubmissionOptions<'a>, id: &'a [u8]) -> CentreEvent<'a>
     ensures { HasNumber result }
 {
     CentreEvent::Cancel {

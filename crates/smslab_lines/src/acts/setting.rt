@@ -2,12 +2,12 @@
 use crate::lines::{Trouble, moment};
 use sms_base::{Address, Listed, Octets};
 use sms_centre_spec::Setup;
-use sms_intake::Account;
+use sms_intake::CentreAccount;
 use std::alloc::Global;
 
-fn account(alloc: Global, name: &[u8], number: &str) -> Result<Account, Trouble> {
+fn account(alloc: Global, name: &[u8], number: &str) -> Result<CentreAccount, Trouble> {
     let address = Address::new(1, 1, number)?;
-    Ok(Account {
+    Ok(CentreAccount {
         name: Octets::copy_of(alloc, name)?,
         address,
     })
@@ -15,7 +15,7 @@ fn account(alloc: Global, name: &[u8], number: &str) -> Result<Account, Trouble>
 
 fn add(
     alloc: Global,
-    accounts: &mut Vec<Account>,
+    accounts: &mut Vec<CentreAccount>,
     name: &[u8],
     number: &str,
 ) -> Result<(), Trouble> {
@@ -25,13 +25,13 @@ fn add(
     }
 }
 
-fn add_both(alloc: Global, accounts: &mut Vec<Account>) -> Result<(), Trouble> {
+fn add_both(alloc: Global, accounts: &mut Vec<CentreAccount>) -> Result<(), Trouble> {
     add(alloc, accounts, b"app1", "447700900001")?;
     add(alloc, accounts, b"app2", "447700900002")
 }
 
 // `app1` and `app2`, in this order.
-fn accounts(alloc: Global) -> Result<Vec<Account>, Trouble> {
+fn accounts(alloc: Global) -> Result<Vec<CentreAccount>, Trouble> {
     let mut accounts = Vec::new(alloc);
     add_both(alloc, &mut accounts)?;
     Ok(accounts)

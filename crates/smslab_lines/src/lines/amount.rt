@@ -1,6 +1,6 @@
 //! How much a centre holds that is measured, and for which handsets.
 ghost use Rattle.std.specs.Prelude.{IfOk};
-ghost use Rattle.sms_centre_rows.specs.waiting.SoundGivings.{IsNumber};
+ghost use Rattle.sms_centre_rows.specs.waiting.SoundAllocations.{IsNumber};
 
 use crate::lines::numbers::number_of;
 use crate::lines::trouble::Trouble;
@@ -28,7 +28,7 @@ pub struct Amount {
 }
 
 impl Amount {
-    /// How many handsets there are, none of which has more messages that wait than a shelf takes.
+    /// How many handsets there are, none of which has more messages that wait than a queue takes.
     pub fn handsets(&self) -> u64 {
         (self.open / SHELF).saturating_add(1)
     }

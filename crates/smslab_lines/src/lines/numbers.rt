@@ -2,7 +2,7 @@
 ghost use Rattle.std.specs.Prelude.{◌≡◌, ◌↔◌, true, IfSome};
 ghost use Rattle.sms_base.specs.SemiOctet.{is_digit};
 ghost use Rattle.sms_rows.specs.table.Keys.{AllDigits};
-ghost use Rattle.sms_centre_rows.specs.waiting.SoundGivings.{IsNumber};
+ghost use Rattle.sms_centre_rows.specs.waiting.SoundAllocations.{IsNumber};
 
 use sms_base::{Address, Digits, semi_octet_of};
 

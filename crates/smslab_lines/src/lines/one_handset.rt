@@ -1,7 +1,7 @@
 //! The handsets whose links were up as a centre stopped.
 ghost use Rattle.std.specs.Prelude.{ℕ, List};
 ghost use Rattle.sms_base.specs.Among.{Among};
-ghost use Rattle.sms_centre_rows.specs.waiting.SoundGivings.{IsNumber};
+ghost use Rattle.sms_centre_rows.specs.waiting.SoundAllocations.{IsNumber};
 ghost use Rattle.sms_centre_spec.specs.SoundCore.{AreDifferent};
 
 use sms_base::Digits;

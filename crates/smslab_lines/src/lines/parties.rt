@@ -1,6 +1,6 @@
 //! The handsets A, B and C, and the moment at which all begins.
 ghost use Rattle.std.specs.Prelude.{IfOk};
-ghost use Rattle.sms_centre_rows.specs.waiting.SoundGivings.{IsNumber};
+ghost use Rattle.sms_centre_rows.specs.waiting.SoundAllocations.{IsNumber};
 
 use crate::lines::numbers::number_of;
 use crate::lines::trouble::Trouble;

@@ -7,7 +7,7 @@ use sms_base::OctetView;
 
 /// What a submission asks for.
 #[derive(Clone, Copy)]
-pub struct Asked<'a> {
+pub struct SubmissionOptions<'a> {
     pub account: u8,
     source_type: u8,
     source: &'a str,
@@ -25,10 +25,10 @@ pub struct Asked<'a> {
     segment: Option<[u8; 4]>,
 }
 
-impl<'a> Asked<'a> {
+impl<'a> SubmissionOptions<'a> {
     /// A text for that number, of which the application isn't told again.
-    pub fn of(destination: &'a str) -> Asked<'a> {
-        Asked {
+    pub fn of(destination: &'a str) -> SubmissionOptions<'a> {
+        SubmissionOptions {
             account: 0,
             source_type: 1,
             source: "",
@@ -64,8 +64,8 @@ fn segment(line: &str) -> Result<Option<[u8; 4]>, Trouble> {
 }
 
 /// What the line asks for.
-pub fn asked_in(line: &str) -> Result<Asked<'_>, Trouble> {
-    Ok(Asked {
+pub fn asked_in(line: &str) -> Result<SubmissionOptions<'_>, Trouble> {
+    Ok(SubmissionOptions {
         account: octet(line, "account", 0)?,
         source_type: octet(line, "source_type", 1)?,
         source: text(line, "source"),
@@ -100,7 +100,7 @@ fn part_of<'a>(segment: &'a Option<[u8; 4]>, first: usize, end: usize) -> Option
     }
 }
 
-fn payload_of<'a>(asked: &Asked<'a>, octets: &'a [u8]) -> Option<OctetView<'a>> {
+fn payload_of<'a>(asked: &SubmissionOptions<'a>, octets: &'a [u8]) -> Option<OctetView<'a>> {
     if asked.is_payload {
         Some(OctetView::of(octets))
     } else {
@@ -108,11 +108,11 @@ fn payload_of<'a>(asked: &Asked<'a>, octets: &'a [u8]) -> Option<OctetView<'a>> 
     }
 }
 
-fn short_of<'a>(asked: &Asked<'a>, octets: &'a [u8]) -> &'a [u8] {
+fn short_of<'a>(asked: &SubmissionOptions<'a>, octets: &'a [u8]) -> &'a [u8] {
     if asked.is_payload { b"" } else { octets }
 }
 
-fn parameters<'a>(asked: &'a Asked<'a>, octets: &'a [u8]) -> Tlvs<'a> {
+fn parameters<'a>(asked: &'a SubmissionOptions<'a>, octets: &'a [u8]) -> Tlvs<'a> {
     Tlvs {
         sar_msg_ref_num: part_of(&asked.segment, 0, 2),
         sar_total_segments: part_of(&asked.segment, 2, 3),
@@ -124,7 +124,7 @@ fn parameters<'a>(asked: &'a Asked<'a>, octets: &'a [u8]) -> Tlvs<'a> {
 }
 
 /// The submit_sm with these octets.
-pub fn message<'a>(asked: &'a Asked<'a>, octets: &'a [u8]) -> Message<'a> {
+pub fn message<'a>(asked: &'a SubmissionOptions<'a>, octets: &'a [u8]) -> Message<'a> {
     Message {
         service_type: OctetView::of(b""),
         source: entity(asked.source_type, asked.source),
@@ -144,7 +144,7 @@ pub fn message<'a>(asked: &'a Asked<'a>, octets: &'a [u8]) -> Message<'a> {
 }
 
 /// A query_sm for the message with that number.
-pub fn query<'a>(asked: &Asked<'a>, id: &'a [u8]) -> QuerySm<'a> {
+pub fn query<'a>(asked: &SubmissionOptions<'a>, id: &'a [u8]) -> QuerySm<'a> {
     QuerySm {
         message_id: OctetView::of(id),
         source: entity(asked.source_type, asked.source),
@@ -152,7 +152,7 @@ pub fn query<'a>(asked: &Asked<'a>, id: &'a [u8]) -> QuerySm<'a> {
 }
 
 /// A cancel_sm for it.
-pub fn cancel<'a>(asked: &Asked<'a>, id: &'a [u8]) -> CancelSm<'a> {
+pub fn cancel<'a>(asked: &SubmissionOptions<'a>, id: &'a [u8]) -> CancelSm<'a> {
     CancelSm {
         service_type: OctetView::of(b""),
         message_id: OctetView::of(id),

@@ -19,20 +19,20 @@ pub struct Happened<'a> {
 }
 
 /// The checksum of what an event told and of the rows that were committed.
-pub fn sum_of(told: Happened<'_>, keep: &MemoryKeep) -> u64 {
+pub fn sum_of(outputs: Happened<'_>, keep: &MemoryKeep) -> u64 {
     let mut sum = Sum::new();
-    take_told(told, &mut sum);
+    take_told(outputs, &mut sum);
     take_rows(keep, &mut sum);
     sum.hash
 }
 
-fn take_told(told: Happened<'_>, sum: &mut Sum) {
-    match told.answer {
+fn take_told(outputs: Happened<'_>, sum: &mut Sum) {
+    match outputs.answer {
         Some(answer) => take_answer(answer, sum),
         None => sum.take_number(0),
     }
-    take_frames(told.frames, sum);
-    for receipt in told.receipts {
+    take_frames(outputs.frames, sum);
+    for receipt in outputs.receipts {
         sum.take_number(u64::from(receipt.session));
         take_id(receipt.id, sum);
     }

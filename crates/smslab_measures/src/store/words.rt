@@ -44,7 +44,7 @@ pub(crate) struct Turn {
 }
 
 impl Words {
-    /// How many handsets there are, none of which has more messages that wait than a shelf takes.
+    /// How many handsets there are, none of which has more messages that wait than a queue takes.
     pub(crate) fn handsets(&self) -> u64 {
         (self.open / SHELF).saturating_add(1)
     }

@@ -66,7 +66,7 @@ fn others_stand(rows: &Rows) -> Result<(), Failure> {
     holds(priority.priority == 3, Finding::Priority)?;
     holds(
         rows.handsets.len() == 2 && rows.references.len() == 3,
-        Finding::Givings,
+        Finding::Allocations,
     )
 }
 

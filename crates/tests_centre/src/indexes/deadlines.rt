@@ -26,8 +26,8 @@ fn are_past(
 
 // Memory for a thousand more.
 fn grow(deadlines: &mut Deadlines, alloc: Global) -> Result<(), Fail> {
-    let spare = deadlines.make_spare(alloc, 1_000)?;
-    deadlines.use_spare(spare);
+    let reserve = deadlines.make_reserve(alloc, 1_000)?;
+    deadlines.use_reserve(reserve);
     Ok(())
 }
 

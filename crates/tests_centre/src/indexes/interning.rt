@@ -7,8 +7,8 @@ use std::alloc::Global;
 use std::test::Fail;
 
 fn grow_numbers(numbers: &mut Numbers, alloc: Global) -> Result<(), Fail> {
-    let spare = numbers.make_spare(alloc, 1_000)?;
-    numbers.use_spare(spare);
+    let reserve = numbers.make_reserve(alloc, 1_000)?;
+    numbers.use_reserve(reserve);
     Ok(())
 }
 
@@ -34,8 +34,8 @@ fn numbers_are_kept_once(rt: HostRuntime) -> Result<(), Fail> {
 }
 
 fn grow_accounts(accounts: &mut Accounts, alloc: Global) -> Result<(), Fail> {
-    let spare = accounts.make_spare(alloc, 1_000)?;
-    accounts.use_spare(spare);
+    let reserve = accounts.make_reserve(alloc, 1_000)?;
+    accounts.use_reserve(reserve);
     Ok(())
 }
 

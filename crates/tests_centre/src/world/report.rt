@@ -3,7 +3,7 @@ use smpp_pdu::CommandStatus;
 use sms_base::{Digits, FinalState, Listed, MessageId, OctetView, Octets};
 use sms_script::report::{
     AcceptedRow, Answer, Answered, Broken, Direction, EntryState, FrameRow, JoinedCoding,
-    JoinedRow, MessageRow, MessageState, OutboxRow, ReceiptRow, Report, report_text,
+    JoinedRow, ReportedMessage, MessageState, OutboxRow, ReceiptRow, Report, report_text,
 };
 use std::alloc::Global;
 use std::test::Fail;
@@ -61,7 +61,7 @@ fn message(
     to: &str,
     state: MessageState,
 ) -> Result<(), Fail> {
-    report.table.push(MessageRow {
+    report.table.push(ReportedMessage {
         id,
         from: digits(from),
         to: digits(to),

@@ -1,6 +1,6 @@
 //! Scripts that are read, and the numbers of bad lines.
 use sms_base::OctetView;
-use sms_script::{Act, Script, ScriptFault, Setup, Side, Stop, WorldEvent, read_script};
+use sms_script::{Act, Script, ScriptFault, Setup, Side, StopPoint, WorldEvent, read_script};
 use std::alloc::Global;
 use std::test::Fail;
 
@@ -160,7 +160,7 @@ fn is_restart(event: &WorldEvent<'_>, of_centre: bool) -> bool {
     }
 }
 
-fn is_stopped(event: &WorldEvent<'_>, place: Stop) -> bool {
+fn is_stopped(event: &WorldEvent<'_>, place: StopPoint) -> bool {
     match event {
         WorldEvent::Stopped(stop, Act::Deliver(9)) => *stop == place,
         WorldEvent::Stopped(stop, Act::Submit(_)) => *stop == place,
@@ -187,8 +187,8 @@ fn are_others(events: &[WorldEvent<'_>]) -> bool {
             handset_tick(tick) == Some(4_102_444_799)
                 && is_restart(centre, true)
                 && is_restart(handset, false)
-                && is_stopped(before, Stop::Before)
-                && is_stopped(after, Stop::After)
+                && is_stopped(before, StopPoint::Before)
+                && is_stopped(after, StopPoint::After)
         }
         _ => false,
     }

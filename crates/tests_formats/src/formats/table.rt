@@ -1,6 +1,6 @@
 //! Tables, over rows of a number and a letter.
 use crate::rows::holds;
-use sms_rows::table::{Change, Key, Pending, Row, Table, adopt, rises};
+use sms_rows::table::{Change, Key, TableDraft, Row, Table, adopt, rises};
 use std::alloc::Global;
 use std::test::Fail;
 
@@ -84,8 +84,8 @@ fn text_after(table: &Table<Entry>, changes: &[Change<Entry>], number: u64) -> O
 
 // The changes are carried out over memory that was taken before.
 fn apply(table: &mut Table<Entry>, alloc: Global, changes: Vec<Change<Entry>>) -> Result<(), Fail> {
-    let spare = table.make_spare(alloc, changes.len())?;
-    table.use_spare(spare);
+    let spare = table.make_reserve(alloc, changes.len())?;
+    table.use_reserve(spare);
     table.apply_all(changes);
     Ok(())
 }
@@ -126,13 +126,13 @@ fn rows_of_a_front_stand_together(rt: HostRuntime) -> Result<(), Fail> {
     holds(are_numbered(rows, 5, 7), "rows between")
 }
 
-fn is_seen(pending: &Pending<'_, Entry>) -> bool {
+fn is_seen(pending: &TableDraft<'_, Entry>) -> bool {
     text_of(pending.find(Key::of(3))) == None && text_of(pending.find(Key::of(4))) == Some(2)
 }
 
 // Row 4 is put and row 3 removed, in the middle of an event; the changes are adopted.
 fn settle_and_adopt(table: &mut Table<Entry>, alloc: Global) -> Result<bool, Fail> {
-    let mut pending = Pending::of(alloc, table);
+    let mut pending = TableDraft::of(alloc, table);
     pending.put(Entry { number: 4, text: 2 })?;
     pending.remove(Key::of(3))?;
     let is_seen = is_seen(&pending);

@@ -4,7 +4,7 @@ use crate::rows::{are, holds};
 use sms_base::{Address, Moment, Octets};
 use sms_tpdu::{
     Carrier, Deliver, Down, FailureCause, Status, StatusReport, Submit, Up, UserData,
-    ValidityPeriod, read_down, read_up, same_message, tell_more_messages, validity, write_down,
+    ValidityPeriod, read_down, read_up, same_message, set_more_messages, validity, write_down,
     write_relay_address, write_up,
 };
 use std::alloc::Global;
@@ -302,7 +302,7 @@ fn the_longest_go_up(rt: HostRuntime) -> Result<(), Fail> {
 // Whether the first octet is so once the octets tell whether more messages wait, and they are one message still.
 fn tells(alloc: Global, octets: &[u8], more: bool, first: u8) -> Result<bool, Fail> {
     let mut items = Octets::copy_of(alloc, octets)?.into_vec();
-    tell_more_messages(items.as_mut_slice(), more);
+    set_more_messages(items.as_mut_slice(), more);
     Ok(items.first() == Some(&first) && same_message(items.as_slice(), octets))
 }
 

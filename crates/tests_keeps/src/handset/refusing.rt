@@ -5,7 +5,7 @@ use crate::handset::plays::Play;
 use crate::handset::run::{run, setup};
 use sms_handset::{Changes, DiscardedGroup, Entry, LastAccepted, OutEntry, Rows, Setup};
 use sms_rows::keep::Keep;
-use sms_rows::table::{Key, Pending, Row, Settled, Table};
+use sms_rows::table::{Key, TableDraft, Row, TablePlan, Table};
 use sms_store::HandsetKeep;
 use sms_store::handset::in_memory;
 use sqlite::{Alter, Connection};
@@ -141,15 +141,15 @@ pub(crate) fn open(alloc: Global, store: Written) -> Result<&'static str, Failur
 }
 
 // No change of a list.
-fn nothing<T: Row + Drop>(alloc: Global) -> Result<Settled<T>, AllocError> {
+fn nothing<T: Row + Drop>(alloc: Global) -> Result<TablePlan<T>, AllocError> {
     let table: Table<T> = Table::new(alloc);
-    Pending::of(alloc, &table).settle(alloc)
+    TableDraft::of(alloc, &table).settle(alloc)
 }
 
 // A removal under a key that is no integer of SQLite's.
-fn removal<T: Row + Drop>(alloc: Global) -> Result<Settled<T>, AllocError> {
+fn removal<T: Row + Drop>(alloc: Global) -> Result<TablePlan<T>, AllocError> {
     let table: Table<T> = Table::new(alloc);
-    let mut pending = Pending::of(alloc, &table);
+    let mut pending = TableDraft::of(alloc, &table);
     pending.remove(Key::of(u64::MAX))?;
     pending.settle(alloc)
 }

@@ -1,5 +1,5 @@
 //! Sessions of applications: requests and answers, receipts, and how they end.
-use crate::seats::turns::{Act, Asked, Noted, Sight, Told, Turn, plays};
+use crate::seats::turns::{Act, Request, Noted, Refinement, ExpectedReply, Turn, plays};
 use std::test::Fail;
 
 // bind_transceiver of app1 with the password secret, sequence number 1, and its answer (SMPP v3.4 4.1.5).
@@ -57,69 +57,69 @@ const DELIVERED: [u8; 17] = [
 
 const BINDS: &[Turn] = &[
     Turn::Does(Act::Comes(&BIND)),
-    Turn::Shows(Sight::Sends(&BIND_ANSWER)),
-    Turn::Shows(Sight::Asks(Asked::Bound)),
-    Turn::Shows(Sight::Notes(Noted::Bound)),
+    Turn::Shows(Refinement::Sends(&BIND_ANSWER)),
+    Turn::Shows(Refinement::Asks(Request::Bound)),
+    Turn::Shows(Refinement::Notes(Noted::Bound)),
     Turn::Does(Act::Sent(21)),
 ];
 
 const IS_REFUSED: &[Turn] = &[
     Turn::Does(Act::Comes(&WRONG_BIND)),
-    Turn::Shows(Sight::Notes(Noted::Refused(0x0E))),
-    Turn::Shows(Sight::IsKnown(false)),
-    Turn::Shows(Sight::AsksNothing),
+    Turn::Shows(Refinement::Notes(Noted::Refused(0x0E))),
+    Turn::Shows(Refinement::IsKnown(false)),
+    Turn::Shows(Refinement::AsksNothing),
 ];
 
 const ASKS: &[Turn] = &[
     Turn::Does(Act::Comes(&SUBMIT)),
-    Turn::Shows(Sight::Asks(Asked::Submission)),
-    Turn::Shows(Sight::Awaits(1)),
-    Turn::Does(Act::Hears(Told::Accepted(1))),
-    Turn::Shows(Sight::Sends(&SUBMIT_ANSWER)),
-    Turn::Shows(Sight::Awaits(0)),
+    Turn::Shows(Refinement::Asks(Request::Submission)),
+    Turn::Shows(Refinement::Awaits(1)),
+    Turn::Does(Act::Hears(ExpectedReply::Accepted(1))),
+    Turn::Shows(Refinement::Sends(&SUBMIT_ANSWER)),
+    Turn::Shows(Refinement::Awaits(0)),
 ];
 
 const IS_THROTTLED: &[Turn] = &[
     Turn::Does(Act::Comes(&SUBMIT)),
     Turn::Does(Act::HandsBack),
-    Turn::Shows(Sight::Sends(&THROTTLED)),
-    Turn::Shows(Sight::Awaits(0)),
+    Turn::Shows(Refinement::Sends(&THROTTLED)),
+    Turn::Shows(Refinement::Awaits(0)),
 ];
 
 // The first request was put, the second handed back: its answer waits for the first one's.
 const IS_THROTTLED_IN_TURN: &[Turn] = &[
     Turn::Does(Act::Comes(&SUBMIT)),
-    Turn::Shows(Sight::Asks(Asked::Submission)),
+    Turn::Shows(Refinement::Asks(Request::Submission)),
     Turn::Does(Act::Comes(&SUBMIT)),
     Turn::Does(Act::HandsBack),
-    Turn::Shows(Sight::Sends(&[])),
-    Turn::Does(Act::Hears(Told::Failed)),
-    Turn::Shows(Sight::Sends(&FAILED_AND_THROTTLED)),
+    Turn::Shows(Refinement::Sends(&[])),
+    Turn::Does(Act::Hears(ExpectedReply::Failed)),
+    Turn::Shows(Refinement::Sends(&FAILED_AND_THROTTLED)),
 ];
 
 // deliver_sm of a receipt has B3 hexadecimal octets.
 const HAS_A_RECEIPT: &[Turn] = &[
-    Turn::Does(Act::Hears(Told::Receipt)),
-    Turn::Shows(Sight::SendsSoMany(0xB3)),
+    Turn::Does(Act::Hears(ExpectedReply::Receipt)),
+    Turn::Shows(Refinement::SendsSoMany(0xB3)),
     Turn::Does(Act::Comes(&DELIVERED)),
-    Turn::Shows(Sight::Asks(Asked::Answered(true))),
+    Turn::Shows(Refinement::Asks(Request::Answered(true))),
 ];
 
 const HAS_NO_RECEIPT: &[Turn] = &[
-    Turn::Does(Act::Hears(Told::Receipt)),
-    Turn::Shows(Sight::Sends(&[])),
-    Turn::Shows(Sight::Asks(Asked::Answered(false))),
+    Turn::Does(Act::Hears(ExpectedReply::Receipt)),
+    Turn::Shows(Refinement::Sends(&[])),
+    Turn::Shows(Refinement::Asks(Request::Answered(false))),
 ];
 
 const GOES: &[Turn] = &[
-    Turn::Shows(Sight::ClosesWith(Asked::Unbound)),
-    Turn::Shows(Sight::Closes),
-    Turn::Shows(Sight::IsOver),
+    Turn::Shows(Refinement::ClosesWith(Request::Unbound)),
+    Turn::Shows(Refinement::Closes),
+    Turn::Shows(Refinement::IsOver),
 ];
 
 const IS_GIVEN_UP: &[Turn] = &[
     Turn::Does(Act::GivesUp),
-    Turn::Shows(Sight::Sends(&NO_ROOM)),
+    Turn::Shows(Refinement::Sends(&NO_ROOM)),
 ];
 
 #[test]

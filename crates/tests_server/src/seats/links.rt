@@ -1,5 +1,5 @@
 //! Links of handsets: their first frame, frames there and back, and how they end.
-use crate::seats::turns::{Act, Asked, Noted, Sight, Told, Turn, link_plays};
+use crate::seats::turns::{Act, Request, Noted, Refinement, ExpectedReply, Turn, link_plays};
 use std::test::Fail;
 
 // The number 447700900456 behind its length, then CP-ACK.
@@ -15,61 +15,61 @@ const FULL: [u8; 5] = [0x00, 0x03, 0x09, 0x10, 0x16];
 
 const BRINGS_FRAMES: &[Turn] = &[
     Turn::Does(Act::Comes(&NAMED)),
-    Turn::Shows(Sight::IsKnown(true)),
-    Turn::Shows(Sight::Asks(Asked::LinkUp)),
-    Turn::Shows(Sight::Asks(Asked::Frame(&[0x89, 0x04]))),
-    Turn::Shows(Sight::AsksNothing),
+    Turn::Shows(Refinement::IsKnown(true)),
+    Turn::Shows(Refinement::Asks(Request::LinkUp)),
+    Turn::Shows(Refinement::Asks(Request::Frame(&[0x89, 0x04]))),
+    Turn::Shows(Refinement::AsksNothing),
 ];
 
 const IS_SENT_FRAMES: &[Turn] = &[
     Turn::Does(Act::Comes(&NAMED)),
-    Turn::Does(Act::Hears(Told::Frame(&[0x09, 0x04]))),
-    Turn::Shows(Sight::Sends(&[0x00, 0x02, 0x09, 0x04])),
+    Turn::Does(Act::Hears(ExpectedReply::Frame(&[0x09, 0x04]))),
+    Turn::Shows(Refinement::Sends(&[0x00, 0x02, 0x09, 0x04])),
     Turn::Does(Act::Sent(3)),
-    Turn::Shows(Sight::Sends(&[0x04])),
+    Turn::Shows(Refinement::Sends(&[0x04])),
 ];
 
 const GOES_DOWN: &[Turn] = &[
     Turn::Does(Act::Comes(&NAMED)),
-    Turn::Shows(Sight::ClosesWith(Asked::LinkDown)),
-    Turn::Shows(Sight::Closes),
-    Turn::Shows(Sight::IsOver),
+    Turn::Shows(Refinement::ClosesWith(Request::LinkDown)),
+    Turn::Shows(Refinement::Closes),
+    Turn::Shows(Refinement::IsOver),
 ];
 
 const HAS_NO_NUMBER: &[Turn] = &[
     Turn::Does(Act::Comes(&[0x00, 0x02, 0x34, 0x41])),
-    Turn::Shows(Sight::Sends(&REFUSED)),
-    Turn::Shows(Sight::Notes(Noted::NoNumber)),
-    Turn::Shows(Sight::IsOver),
-    Turn::Shows(Sight::AsksNothing),
-    Turn::Shows(Sight::Closes),
+    Turn::Shows(Refinement::Sends(&REFUSED)),
+    Turn::Shows(Refinement::Notes(Noted::NoNumber)),
+    Turn::Shows(Refinement::IsOver),
+    Turn::Shows(Refinement::AsksNothing),
+    Turn::Shows(Refinement::Closes),
 ];
 
 const HAS_NO_FRAMES: &[Turn] = &[
     Turn::Does(Act::Comes(&[0xFF, 0xFF])),
-    Turn::Shows(Sight::Sends(&REFUSED)),
-    Turn::Shows(Sight::Notes(Noted::NoFrames)),
-    Turn::Shows(Sight::IsOver),
+    Turn::Shows(Refinement::Sends(&REFUSED)),
+    Turn::Shows(Refinement::Notes(Noted::NoFrames)),
+    Turn::Shows(Refinement::IsOver),
 ];
 
 const IS_SECOND: &[Turn] = &[
     Turn::Does(Act::Comes(&NAMED)),
-    Turn::Does(Act::Hears(Told::Taken)),
-    Turn::Shows(Sight::Sends(&FULL)),
-    Turn::Shows(Sight::IsOver),
-    Turn::Shows(Sight::Closes),
+    Turn::Does(Act::Hears(ExpectedReply::Taken)),
+    Turn::Shows(Refinement::Sends(&FULL)),
+    Turn::Shows(Refinement::IsOver),
+    Turn::Shows(Refinement::Closes),
 ];
 
 // That it comes up is put again, and then the frame is not.
 const LOSES_A_FRAME: &[Turn] = &[
     Turn::Does(Act::Comes(&NAMED)),
     Turn::Does(Act::HandsBack),
-    Turn::Shows(Sight::Asks(Asked::LinkUp)),
+    Turn::Shows(Refinement::Asks(Request::LinkUp)),
     Turn::Does(Act::HandsBack),
-    Turn::Shows(Sight::AsksNothing),
+    Turn::Shows(Refinement::AsksNothing),
 ];
 
-const IS_GIVEN_UP: &[Turn] = &[Turn::Does(Act::GivesUp), Turn::Shows(Sight::Sends(&FULL))];
+const IS_GIVEN_UP: &[Turn] = &[Turn::Does(Act::GivesUp), Turn::Shows(Refinement::Sends(&FULL))];
 
 #[test]
 fn a_link_is_named_and_brings_frames(rt: HostRuntime) -> Result<(), Fail> {

@@ -1,4 +1,4 @@
-//! A guest, what is done with it, and what it has to do.
+//! An endpoint, what is done with it, and what it has to do.
 use crate::rows::{holds, name_of};
 use smpp_pdu::CommandStatus;
 use smpp_session::{Account, Accounts, BindKind};
@@ -7,14 +7,14 @@ use sms_base::{Address, FinalState, MessageId, Moment, Octets};
 use sms_centre_spec::CentreAnswer;
 use sms_centre_spec::jobs::{Job, Reply};
 use sms_receipt::Final;
-use smsc_endpoint::{Application, Guest, HandsetLink, Note};
+use smsc_endpoint::{Esme, Endpoint, LinkEndpoint, Note};
 use std::alloc::Global;
 use std::sync::Arc;
 use std::test::Fail;
 
-/// What a guest is told.
+/// What an endpoint is told.
 #[derive(Clone, Copy)]
-pub(crate) enum Told {
+pub(crate) enum ExpectedReply {
     /// ROK, with this number of its message.
     Accepted(u64),
     /// ESME_RSYSERR.
@@ -27,9 +27,9 @@ pub(crate) enum Told {
     Taken,
 }
 
-/// What a guest asks.
+/// What an endpoint asks.
 #[derive(Clone, Copy)]
-pub(crate) enum Asked {
+pub(crate) enum Request {
     /// The account at place 0 is bound, and takes receipts.
     Bound,
     Unbound,
@@ -43,7 +43,7 @@ pub(crate) enum Asked {
     Frame(&'static [u8]),
 }
 
-/// What an operator is told of a guest.
+/// What an operator is told of an endpoint.
 #[derive(Clone, Copy)]
 pub(crate) enum Noted {
     /// The account at place 0 is bound as transceiver.
@@ -54,13 +54,13 @@ pub(crate) enum Noted {
     NoFrames,
 }
 
-/// What is done with a guest.
+/// What is done with an endpoint.
 #[derive(Clone, Copy)]
 pub(crate) enum Act {
     /// These octets come.
     Comes(&'static [u8]),
     /// It is told this.
-    Hears(Told),
+    Hears(ExpectedReply),
     /// So many of its octets are sent.
     Sent(usize),
     /// Its next job is handed back.
@@ -69,15 +69,15 @@ pub(crate) enum Act {
     GivesUp,
 }
 
-/// What is to be seen of a guest.
+/// What is to be seen of an endpoint.
 #[derive(Clone, Copy)]
-pub(crate) enum Sight {
+pub(crate) enum Refinement {
     /// It has these octets to send.
     Sends(&'static [u8]),
     /// It has so many octets to send.
     SendsSoMany(usize),
     /// Its next job is this.
-    Asks(Asked),
+    Asks(Request),
     /// It has no job to put.
     AsksNothing,
     /// Its next note is this.
@@ -89,7 +89,7 @@ pub(crate) enum Sight {
     /// It takes and gives nothing any more.
     IsOver,
     /// As its connection ends this is its last job.
-    ClosesWith(Asked),
+    ClosesWith(Request),
     /// As its connection ends it has no last job.
     Closes,
 }
@@ -98,10 +98,10 @@ pub(crate) enum Sight {
 #[derive(Clone, Copy)]
 pub(crate) enum Turn {
     Does(Act),
-    Shows(Sight),
+    Shows(Refinement),
 }
 
-// ---- guests
+// ---- endpoints
 
 fn accounts(alloc: Global) -> Result<Accounts, Fail> {
     let mut accounts = Vec::new(alloc);
@@ -112,9 +112,9 @@ fn accounts(alloc: Global) -> Result<Accounts, Fail> {
     Ok(Accounts::from_vec(accounts))
 }
 
-fn session(alloc: Global) -> Result<Application, Fail> {
+fn session(alloc: Global) -> Result<Esme, Fail> {
     let accounts = Arc::new(alloc, accounts(alloc)?)?;
-    Ok(Application::new(alloc, accounts))
+    Ok(Esme::new(alloc, accounts))
 }
 
 // ---- what is done
@@ -137,50 +137,50 @@ fn accepted(id: u64) -> Result<Reply, Fail> {
     Ok(Reply::Answer(CentreAnswer::Submitted(id)))
 }
 
-fn reply(alloc: Global, told: &Told) -> Result<Reply, Fail> {
+fn reply(alloc: Global, told: &ExpectedReply) -> Result<Reply, Fail> {
     match told {
-        Told::Accepted(id) => accepted(*id),
-        Told::Failed => Ok(Reply::Answer(CentreAnswer::Refused(CommandStatus::ESME_RSYSERR))),
-        Told::Receipt => Ok(Reply::Receipt(end()?)),
-        Told::Frame(octets) => Ok(Reply::Frame(Octets::copy_of(alloc, octets)?)),
-        Told::Taken => Ok(Reply::Taken),
+        ExpectedReply::Accepted(id) => accepted(*id),
+        ExpectedReply::Failed => Ok(Reply::Answer(CentreAnswer::Refused(CommandStatus::ESME_RSYSERR))),
+        ExpectedReply::Receipt => Ok(Reply::Receipt(end()?)),
+        ExpectedReply::Frame(octets) => Ok(Reply::Frame(Octets::copy_of(alloc, octets)?)),
+        ExpectedReply::Taken => Ok(Reply::Taken),
     }
 }
 
 // The octets come in pieces of so many.
-fn comes<G: Guest>(guest: &mut G, size: usize, octets: &[u8]) -> Result<(), Fail> {
+fn comes<G: Endpoint>(endpoint: &mut G, size: usize, octets: &[u8]) -> Result<(), Fail> {
     for piece in octets.chunks(size.max(1)) {
-        guest.take(piece)?;
+        endpoint.take(piece)?;
     }
     Ok(())
 }
 
-fn hears<G: Guest>(guest: &mut G, reply: Reply) -> Result<(), Fail> {
-    guest.told(reply)?;
+fn hears<G: Endpoint>(endpoint: &mut G, reply: Reply) -> Result<(), Fail> {
+    endpoint.told(reply)?;
     Ok(())
 }
 
-fn hands_back<G: Guest>(guest: &mut G) -> Result<(), Fail> {
-    let job = guest.next_job().ok_or("no job")?;
-    guest.handed_back(job)?;
+fn hands_back<G: Endpoint>(endpoint: &mut G) -> Result<(), Fail> {
+    let job = endpoint.next_job().ok_or("no job")?;
+    endpoint.handed_back(job)?;
     Ok(())
 }
 
-fn gives_up<G: Guest>(guest: &mut G) -> Result<(), Fail> {
-    guest.give_up()?;
+fn gives_up<G: Endpoint>(endpoint: &mut G) -> Result<(), Fail> {
+    endpoint.give_up()?;
     Ok(())
 }
 
-fn does<G: Guest>(alloc: Global, guest: &mut G, size: usize, act: &Act) -> Result<(), Fail> {
+fn does<G: Endpoint>(alloc: Global, endpoint: &mut G, size: usize, act: &Act) -> Result<(), Fail> {
     match act {
-        Act::Comes(octets) => comes(guest, size, octets),
-        Act::Hears(told) => hears(guest, reply(alloc, told)?),
+        Act::Comes(octets) => comes(endpoint, size, octets),
+        Act::Hears(told) => hears(endpoint, reply(alloc, told)?),
         Act::Sent(count) => {
-            guest.sent(*count);
+            endpoint.sent(*count);
             Ok(())
         }
-        Act::HandsBack => hands_back(guest),
-        Act::GivesUp => gives_up(guest),
+        Act::HandsBack => hands_back(endpoint),
+        Act::GivesUp => gives_up(endpoint),
     }
 }
 
@@ -221,37 +221,37 @@ fn is_frame(job: &Job, frame: &[u8]) -> bool {
     }
 }
 
-fn is_asked(job: &Job, asked: &Asked) -> bool {
+fn is_asked(job: &Job, asked: &Request) -> bool {
     match asked {
-        Asked::Bound => is_bound(job),
-        Asked::Unbound => matches!(job, Job::Unbound),
-        Asked::Submission => is_submission(job),
-        Asked::Answered(accepted) => is_answered(job, *accepted),
-        Asked::LinkUp => is_link_up(job),
-        Asked::LinkDown => matches!(job, Job::LinkDown),
-        Asked::Frame(frame) => is_frame(job, frame),
+        Request::Bound => is_bound(job),
+        Request::Unbound => matches!(job, Job::Unbound),
+        Request::Submission => is_submission(job),
+        Request::Answered(accepted) => is_answered(job, *accepted),
+        Request::LinkUp => is_link_up(job),
+        Request::LinkDown => matches!(job, Job::LinkDown),
+        Request::Frame(frame) => is_frame(job, frame),
     }
 }
 
-fn is_some_asked(job: &Option<Job>, asked: &Asked) -> bool {
+fn is_some_asked(job: &Option<Job>, asked: &Request) -> bool {
     match job {
         Some(job) => is_asked(job, asked),
         None => false,
     }
 }
 
-fn asks<G: Guest>(guest: &mut G, asked: &Asked) -> bool {
-    let job = guest.next_job();
+fn asks<G: Endpoint>(endpoint: &mut G, asked: &Request) -> bool {
+    let job = endpoint.next_job();
     is_some_asked(&job, asked)
 }
 
-fn closes_with<G: Guest>(guest: &mut G, asked: &Asked) -> bool {
-    let job = guest.close();
+fn closes_with<G: Endpoint>(endpoint: &mut G, asked: &Request) -> bool {
+    let job = endpoint.close();
     is_some_asked(&job, asked)
 }
 
-fn closes<G: Guest>(guest: &mut G) -> bool {
-    guest.close().is_none()
+fn closes<G: Endpoint>(endpoint: &mut G) -> bool {
+    endpoint.close().is_none()
 }
 
 fn is_refused(note: &Note, wanted: u32) -> bool {
@@ -270,74 +270,74 @@ fn is_noted(note: &Note, noted: &Noted) -> bool {
     }
 }
 
-fn notes<G: Guest>(guest: &mut G, noted: &Noted) -> bool {
-    match guest.note() {
+fn notes<G: Endpoint>(endpoint: &mut G, noted: &Noted) -> bool {
+    match endpoint.note() {
         Some(note) => is_noted(&note, noted),
         None => false,
     }
 }
 
-fn shows<G: Guest>(guest: &mut G, sight: &Sight) -> bool {
-    match sight {
-        Sight::Sends(octets) => guest.octets() == *octets,
-        Sight::SendsSoMany(count) => guest.octets().len() == *count,
-        Sight::Asks(asked) => asks(guest, asked),
-        Sight::AsksNothing => !guest.has_jobs(),
-        Sight::Notes(noted) => notes(guest, noted),
-        Sight::Awaits(count) => guest.unanswered() == *count,
-        Sight::IsKnown(known) => guest.is_known() == *known,
-        Sight::IsOver => guest.is_over(),
-        Sight::ClosesWith(asked) => closes_with(guest, asked),
-        Sight::Closes => closes(guest),
+fn shows<G: Endpoint>(endpoint: &mut G, refinement: &Refinement) -> bool {
+    match refinement {
+        Refinement::Sends(octets) => endpoint.octets() == *octets,
+        Refinement::SendsSoMany(count) => endpoint.octets().len() == *count,
+        Refinement::Asks(asked) => asks(endpoint, asked),
+        Refinement::AsksNothing => !endpoint.has_jobs(),
+        Refinement::Notes(noted) => notes(endpoint, noted),
+        Refinement::Awaits(count) => endpoint.unanswered() == *count,
+        Refinement::IsKnown(known) => endpoint.is_known() == *known,
+        Refinement::IsOver => endpoint.is_over(),
+        Refinement::ClosesWith(asked) => closes_with(endpoint, asked),
+        Refinement::Closes => closes(endpoint),
     }
 }
 
 // ---- courses
 
-fn take_turn<G: Guest>(
+fn take_turn<G: Endpoint>(
     alloc: Global,
-    guest: &mut G,
+    endpoint: &mut G,
     size: usize,
     turn: &Turn,
 ) -> Result<bool, Fail> {
     match turn {
         Turn::Does(act) => {
-            does(alloc, guest, size, act)?;
+            does(alloc, endpoint, size, act)?;
             Ok(true)
         }
-        Turn::Shows(sight) => Ok(shows(guest, sight)),
+        Turn::Shows(refinement) => Ok(shows(endpoint, refinement)),
     }
 }
 
-fn go<G: Guest>(alloc: Global, guest: &mut G, size: usize, turns: &[Turn]) -> Result<(), Fail> {
+fn go<G: Endpoint>(alloc: Global, endpoint: &mut G, size: usize, turns: &[Turn]) -> Result<(), Fail> {
     for at in 0..turns.len() {
-        holds(take_turn(alloc, guest, size, &turns[at])?, name_of(at))?;
+        holds(take_turn(alloc, endpoint, size, &turns[at])?, name_of(at))?;
     }
     Ok(())
 }
 
 fn go_both(
     alloc: Global,
-    guest: &mut Application,
+    endpoint: &mut Esme,
     begins: &[Turn],
     turns: &[Turn],
 ) -> Result<(), Fail> {
-    go(alloc, guest, 1024, begins)?;
-    go(alloc, guest, 1024, turns)
+    go(alloc, endpoint, 1024, begins)?;
+    go(alloc, endpoint, 1024, turns)
 }
 
 /// Each turn of the two courses of a session, one behind the other, is as told.
 pub(crate) fn plays(alloc: Global, begins: &[Turn], turns: &[Turn]) -> Result<(), Fail> {
     lend(
         session(alloc)?,
-        |guest| go_both(alloc, guest, begins, turns),
+        |endpoint| go_both(alloc, endpoint, begins, turns),
     )
 }
 
 /// Each turn of the course of a link is as told, where octets come in pieces of so many.
 pub(crate) fn link_plays(alloc: Global, size: usize, turns: &[Turn]) -> Result<(), Fail> {
     lend(
-        HandsetLink::new(alloc),
-        |guest| go(alloc, guest, size, turns),
+        LinkEndpoint::new(alloc),
+        |endpoint| go(alloc, endpoint, size, turns),
     )
 }

@@ -7,7 +7,7 @@ use std::test::Fail;
 
 /// What a seat asks.
 #[derive(Clone, Copy)]
-pub(crate) enum Asked {
+pub(crate) enum Request {
     /// The session is bound, and takes receipts.
     Bound,
     Unbound,
@@ -60,23 +60,23 @@ fn frame(alloc: Global, octets: &[u8]) -> Result<Job, Fail> {
     Ok(Job::Frame { octets })
 }
 
-fn job(alloc: Global, asked: &Asked) -> Result<Job, Fail> {
+fn job(alloc: Global, asked: &Request) -> Result<Job, Fail> {
     match asked {
-        Asked::Bound => Ok(Job::Bound {
+        Request::Bound => Ok(Job::Bound {
             account: 0,
             receives: true,
         }),
-        Asked::Unbound => Ok(Job::Unbound),
-        Asked::Submits => submission(alloc),
-        Asked::Takes => taken(),
-        Asked::Rises => risen(),
-        Asked::Falls => Ok(Job::LinkDown),
-        Asked::Sends(octets) => frame(alloc, octets),
+        Request::Unbound => Ok(Job::Unbound),
+        Request::Submits => submission(alloc),
+        Request::Takes => taken(),
+        Request::Rises => risen(),
+        Request::Falls => Ok(Job::LinkDown),
+        Request::Sends(octets) => frame(alloc, octets),
     }
 }
 
 /// The seat asks that.
-pub(crate) fn asks(alloc: Global, seat: usize, asked: &Asked) -> Result<Stimulus<Job>, Fail> {
+pub(crate) fn asks(alloc: Global, seat: usize, asked: &Request) -> Result<Stimulus<Job>, Fail> {
     let job = job(alloc, asked)?;
     Ok(Stimulus::Job(seat, job))
 }

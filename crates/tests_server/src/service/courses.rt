@@ -1,7 +1,7 @@
 //! Sessions and links at the seats of a hub.
-use crate::service::asks::Asked;
+use crate::service::asks::Request;
 use crate::service::store::MANY;
-use crate::service::telling::{To, Told};
+use crate::service::telling::{To, ExpectedReply};
 use crate::service::turns::{Turn, plays};
 use sms_keeper::Fate;
 use std::test::Fail;
@@ -26,101 +26,101 @@ const DONE: Fate = Fate::Done;
 
 // A session submits; the handset accepts; the receipt goes to the session.
 const RECEIPT: &[Turn] = &[
-    Turn::Job(3, Asked::Bound, DONE, &[]),
-    Turn::Job(5, Asked::Rises, DONE, &[]),
+    Turn::Job(3, Request::Bound, DONE, &[]),
+    Turn::Job(5, Request::Rises, DONE, &[]),
     Turn::Job(
         3,
-        Asked::Submits,
+        Request::Submits,
         DONE,
-        &[To(3, Told::Accepted(1)), To(5, Told::Frame(DELIVER))],
+        &[To(3, ExpectedReply::Accepted(1)), To(5, ExpectedReply::Frame(DELIVER))],
     ),
-    Turn::Job(5, Asked::Sends(CP_ACK), DONE, &[]),
+    Turn::Job(5, Request::Sends(CP_ACK), DONE, &[]),
     Turn::Job(
         5,
-        Asked::Sends(RP_ACK),
+        Request::Sends(RP_ACK),
         DONE,
-        &[To(5, Told::Frame(CP_ACK_DOWN)), To(3, Told::Receipt(1))],
+        &[To(5, ExpectedReply::Frame(CP_ACK_DOWN)), To(3, ExpectedReply::Receipt(1))],
     ),
-    Turn::Job(3, Asked::Takes, DONE, &[]),
+    Turn::Job(3, Request::Takes, DONE, &[]),
 ];
 
 // The session has gone when its message is delivered: the receipt waits until the account is bound again, at any seat.
 const RECEIPT_WAITS: &[Turn] = &[
-    Turn::Job(3, Asked::Bound, DONE, &[]),
-    Turn::Job(3, Asked::Submits, DONE, &[To(3, Told::Accepted(1))]),
-    Turn::Job(3, Asked::Unbound, DONE, &[]),
-    Turn::Job(31, Asked::Rises, DONE, &[To(31, Told::Frame(DELIVER))]),
-    Turn::Job(31, Asked::Sends(CP_ACK), DONE, &[]),
+    Turn::Job(3, Request::Bound, DONE, &[]),
+    Turn::Job(3, Request::Submits, DONE, &[To(3, ExpectedReply::Accepted(1))]),
+    Turn::Job(3, Request::Unbound, DONE, &[]),
+    Turn::Job(31, Request::Rises, DONE, &[To(31, ExpectedReply::Frame(DELIVER))]),
+    Turn::Job(31, Request::Sends(CP_ACK), DONE, &[]),
     Turn::Job(
         31,
-        Asked::Sends(RP_ACK),
+        Request::Sends(RP_ACK),
         DONE,
-        &[To(31, Told::Frame(CP_ACK_DOWN))],
+        &[To(31, ExpectedReply::Frame(CP_ACK_DOWN))],
     ),
-    Turn::Job(0, Asked::Bound, DONE, &[To(0, Told::Receipt(1))]),
+    Turn::Job(0, Request::Bound, DONE, &[To(0, ExpectedReply::Receipt(1))]),
 ];
 
 // A second link of one handset is turned away, until the first one has gone.
 const ONE_LINK: &[Turn] = &[
-    Turn::Job(5, Asked::Rises, DONE, &[]),
-    Turn::Job(6, Asked::Rises, DONE, &[To(6, Told::Taken)]),
-    Turn::Job(6, Asked::Sends(CP_ACK), DONE, &[]),
-    Turn::Job(5, Asked::Falls, DONE, &[]),
-    Turn::Job(6, Asked::Rises, DONE, &[]),
+    Turn::Job(5, Request::Rises, DONE, &[]),
+    Turn::Job(6, Request::Rises, DONE, &[To(6, ExpectedReply::Taken)]),
+    Turn::Job(6, Request::Sends(CP_ACK), DONE, &[]),
+    Turn::Job(5, Request::Falls, DONE, &[]),
+    Turn::Job(6, Request::Rises, DONE, &[]),
     Turn::Job(
         3,
-        Asked::Submits,
+        Request::Submits,
         DONE,
-        &[To(3, Told::Accepted(1)), To(6, Told::Frame(DELIVER))],
+        &[To(3, ExpectedReply::Accepted(1)), To(6, ExpectedReply::Frame(DELIVER))],
     ),
 ];
 
 // The commit of a submission is refused: its session is told so, and nothing is offered. The number is given to the next one; the link
 // comes up again at the first tick.
 const SUBMISSION_REFUSED: &[Turn] = &[
-    Turn::Job(5, Asked::Rises, DONE, &[]),
+    Turn::Job(5, Request::Rises, DONE, &[]),
     Turn::Commits(0),
-    Turn::Job(3, Asked::Submits, Fate::Refused, &[To(3, Told::Failed)]),
+    Turn::Job(3, Request::Submits, Fate::Refused, &[To(3, ExpectedReply::Failed)]),
     Turn::Commits(MANY),
     Turn::Reopens,
-    Turn::Job(3, Asked::Submits, DONE, &[To(3, Told::Accepted(1))]),
-    Turn::Tick(1, DONE, &[To(5, Told::Frame(DELIVER))]),
+    Turn::Job(3, Request::Submits, DONE, &[To(3, ExpectedReply::Accepted(1))]),
+    Turn::Tick(1, DONE, &[To(5, ExpectedReply::Frame(DELIVER))]),
 ];
 
 // The commit of an acknowledgement is refused: nothing is told. The part goes out again as it was, under its reference, and the receipt
 // goes when that is acknowledged.
 const ACKNOWLEDGEMENT_REFUSED: &[Turn] = &[
-    Turn::Job(3, Asked::Bound, DONE, &[]),
-    Turn::Job(5, Asked::Rises, DONE, &[]),
+    Turn::Job(3, Request::Bound, DONE, &[]),
+    Turn::Job(5, Request::Rises, DONE, &[]),
     Turn::Job(
         3,
-        Asked::Submits,
+        Request::Submits,
         DONE,
-        &[To(3, Told::Accepted(1)), To(5, Told::Frame(DELIVER))],
+        &[To(3, ExpectedReply::Accepted(1)), To(5, ExpectedReply::Frame(DELIVER))],
     ),
-    Turn::Job(5, Asked::Sends(CP_ACK), DONE, &[]),
+    Turn::Job(5, Request::Sends(CP_ACK), DONE, &[]),
     Turn::Commits(0),
-    Turn::Job(5, Asked::Sends(RP_ACK), Fate::Refused, &[]),
+    Turn::Job(5, Request::Sends(RP_ACK), Fate::Refused, &[]),
     Turn::Commits(MANY),
     Turn::Reopens,
-    Turn::Tick(1, DONE, &[To(5, Told::Frame(DELIVER))]),
-    Turn::Job(5, Asked::Sends(CP_ACK), DONE, &[]),
+    Turn::Tick(1, DONE, &[To(5, ExpectedReply::Frame(DELIVER))]),
+    Turn::Job(5, Request::Sends(CP_ACK), DONE, &[]),
     Turn::Job(
         5,
-        Asked::Sends(RP_ACK),
+        Request::Sends(RP_ACK),
         DONE,
-        &[To(5, Told::Frame(CP_ACK_DOWN)), To(3, Told::Receipt(1))],
+        &[To(5, ExpectedReply::Frame(CP_ACK_DOWN)), To(3, ExpectedReply::Receipt(1))],
     ),
 ];
 
 // The body of the part can't be read as its handset comes up: nothing is told, and it goes out once it can.
 const BODY_REFUSED: &[Turn] = &[
-    Turn::Job(3, Asked::Submits, DONE, &[To(3, Told::Accepted(1))]),
+    Turn::Job(3, Request::Submits, DONE, &[To(3, ExpectedReply::Accepted(1))]),
     Turn::Bodies(0),
-    Turn::Job(5, Asked::Rises, Fate::Refused, &[]),
+    Turn::Job(5, Request::Rises, Fate::Refused, &[]),
     Turn::Bodies(MANY),
     Turn::Reopens,
-    Turn::Tick(1, DONE, &[To(5, Told::Frame(DELIVER))]),
+    Turn::Tick(1, DONE, &[To(5, ExpectedReply::Frame(DELIVER))]),
 ];
 
 #[test]

@@ -9,7 +9,7 @@ use sms_base::Octets;
 use sms_base::lending::lend;
 use sms_centre_spec::jobs::{Job, Reply};
 use sms_keeper::{End, Keeper, Machine};
-use smsc_endpoint::{Application, Note, OpenSeat, Teller, serve};
+use smsc_endpoint::{Esme, Note, OpenSeat, Observer, serve};
 use smsc_service::serve_with;
 use std::alloc::{AllocError, Global};
 use std::sync::atomic::Ordering;
@@ -24,7 +24,7 @@ const SLOTS: usize = 64;
 #[derive(Drop)]
 struct Silent;
 
-impl Teller for Silent {
+impl Observer for Silent {
     fn tell(&self, _seat: usize, _note: Note) {}
 }
 
@@ -46,10 +46,10 @@ fn sits<R: Wait>(
     board: &Board,
     wire: &mut Talker,
     seat: OpenSeat,
-    guest: &mut Application,
+    endpoint: &mut Esme,
 ) {
     let mut seat = seat;
-    serve(rt, alloc, &board.over, wire, &mut seat, guest, &Silent);
+    serve(rt, alloc, &board.over, wire, &mut seat, endpoint, &Silent);
     seat.close(rt, &board.over);
 }
 
@@ -62,8 +62,8 @@ fn sit<R: Wait + Copy>(sitter: Sitter<R>, seat: OpenSeat) {
         accounts,
         mut wire,
     } = sitter;
-    lend(Application::new(alloc, accounts), |guest| {
-        sits(&rt, alloc, &board, &mut wire, seat, guest)
+    lend(Esme::new(alloc, accounts), |endpoint| {
+        sits(&rt, alloc, &board, &mut wire, seat, endpoint)
     })
 }
 
@@ -80,7 +80,7 @@ fn accounts(alloc: Global) -> Result<Arc<Accounts>, Fail> {
 
 // The keeper with the threads of its sessions.
 #[derive(Drop)]
-struct House {
+struct Server {
     alloc: Global,
     keeper: Keeper<Job, Reply>,
     board: Arc<Board>,
@@ -94,9 +94,9 @@ fn open_seat(alloc: Global, keeper: &mut Keeper<Job, Reply>) -> Result<OpenSeat,
     Ok(OpenSeat { seat })
 }
 
-impl House {
-    fn new(alloc: Global, others: u32) -> Result<House, Fail> {
-        Ok(House {
+impl Server {
+    fn new(alloc: Global, others: u32) -> Result<Server, Fail> {
+        Ok(Server {
             alloc,
             keeper: Keeper::open(alloc, SLOTS)?,
             board: Arc::new(alloc, Board::new(others))?,
@@ -190,7 +190,7 @@ impl House {
 }
 
 fn run<R: Threads + Wait + Clock + Copy + Send + 'static, M: Machine<Job, Reply>>(
-    house: &mut House,
+    house: &mut Server,
     rt: R,
     machine: &mut M,
 ) -> Result<(), Fail> {
@@ -209,7 +209,7 @@ fn runs<R: Threads + Wait + Clock + Copy + Send + 'static, M: Machine<Job, Reply
     machine: &mut M,
     others: u32,
 ) -> Result<(), Fail> {
-    let mut house = House::new(alloc, others)?;
+    let mut house = Server::new(alloc, others)?;
     let done = run(&mut house, rt, machine);
     drop(house);
     done

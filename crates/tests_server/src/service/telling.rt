@@ -6,7 +6,7 @@ use sms_keeper::{Fate, Out, Step};
 
 /// What a seat is told.
 #[derive(Clone, Copy)]
-pub(crate) enum Told {
+pub(crate) enum ExpectedReply {
     /// ROK, with the number of the message.
     Accepted(u64),
     /// ESME_RSYSERR.
@@ -21,7 +21,7 @@ pub(crate) enum Told {
 
 /// A seat, and what it is told.
 #[derive(Clone, Copy)]
-pub(crate) struct To(pub(crate) usize, pub(crate) Told);
+pub(crate) struct To(pub(crate) usize, pub(crate) ExpectedReply);
 
 fn is_accepted(reply: &Reply, id: u64) -> bool {
     match reply {
@@ -51,13 +51,13 @@ fn is_frame(reply: &Reply, frame: &[u8]) -> bool {
     }
 }
 
-fn is_told(reply: &Reply, told: &Told) -> bool {
+fn is_told(reply: &Reply, told: &ExpectedReply) -> bool {
     match told {
-        Told::Accepted(id) => is_accepted(reply, *id),
-        Told::Failed => is_failed(reply),
-        Told::Receipt(id) => is_receipt(reply, *id),
-        Told::Frame(frame) => is_frame(reply, frame),
-        Told::Taken => matches!(reply, Reply::Taken),
+        ExpectedReply::Accepted(id) => is_accepted(reply, *id),
+        ExpectedReply::Failed => is_failed(reply),
+        ExpectedReply::Receipt(id) => is_receipt(reply, *id),
+        ExpectedReply::Frame(frame) => is_frame(reply, frame),
+        ExpectedReply::Taken => matches!(reply, Reply::Taken),
     }
 }
 

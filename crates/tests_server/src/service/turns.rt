@@ -1,7 +1,7 @@
 //! A service, what happens to it, and its replies.
 use crate::clock_and_gate::Open;
 use crate::rows::{holds, name_of};
-use crate::service::asks::{Asked, START, asks, ticks};
+use crate::service::asks::{Request, START, asks, ticks};
 use crate::service::store::{Limits, Store};
 use crate::service::telling::{To, is_step};
 use sms_base::{Address, Listed, Moment, Octets};
@@ -16,7 +16,7 @@ use std::test::Fail;
 #[derive(Clone, Copy)]
 pub(crate) enum Turn {
     /// What the seat asks, what befalls it, and who is told what, in order.
-    Job(usize, Asked, Fate, &'static [To]),
+    Job(usize, Request, Fate, &'static [To]),
     /// The clock shows so many seconds after the start: what befalls that, and who is told what.
     Tick(u32, Fate, &'static [To]),
     /// The store takes so many commits more.
@@ -73,7 +73,7 @@ fn takes_job(
     alloc: Global,
     service: &mut Service<Store<'_>>,
     seat: usize,
-    asked: &Asked,
+    asked: &Request,
     fate: Fate,
     told: &[To],
 ) -> Result<bool, Fail> {

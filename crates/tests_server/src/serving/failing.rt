@@ -26,7 +26,7 @@ enum Refused {
     Writes,
 }
 
-// Nothing is written to a guest that has not come.
+// Nothing is written to an endpoint that has not come.
 fn has_come(tally: &Tally, refused: Refused) -> Result<(), Fail> {
     match refused {
         Refused::Reads => Ok(()),

@@ -1,4 +1,4 @@
-//! Guests that are given up, and guests that leave.
+//! Endpoints that are given up, and endpoints that leave.
 use crate::clock_and_gate::Still;
 use crate::rows::holds;
 use crate::serving::answering::Counter;

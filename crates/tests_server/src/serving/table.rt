@@ -1,4 +1,4 @@
-//! Two guests at the seats of a hub, and a keeper that runs what both ask.
+//! Two endpoints at the seats of a hub, and a keeper that runs what both ask.
 ghost use Rattle.std.specs.Prelude.{◌≡◌, false};
 ghost use Rattle.sms_keeper.specs.Jobs.{has_end};
 ghost use Rattle.sms_keeper.specs.Seating.{put_by};
@@ -12,7 +12,7 @@ use sms_base::Octets;
 use sms_base::lending::lend;
 use sms_centre_spec::jobs::{Job, Reply};
 use sms_keeper::{End, Hub, Keeper};
-use smsc_endpoint::{Application, Guest, HandsetLink, Note, OpenSeat, Teller, serve};
+use smsc_endpoint::{Esme, Endpoint, LinkEndpoint, Note, OpenSeat, Observer, serve};
 use std::alloc::Global;
 use std::sync::atomic::{AtomicBool, AtomicU32, Ordering};
 use std::sync::{Arc, Wait};
@@ -49,14 +49,14 @@ pub(crate) const STALLED: u32 = 3;
 
 /// What the first seat told last.
 #[derive(Drop)]
-pub(crate) struct Told {
+pub(crate) struct LastReply {
     last: AtomicU32,
 }
 
-impl Told {
+impl LastReply {
     /// Nothing yet.
-    pub(crate) fn new() -> Told {
-        Told {
+    pub(crate) fn new() -> LastReply {
+        LastReply {
             last: AtomicU32::new(0),
         }
     }
@@ -66,7 +66,7 @@ impl Told {
     }
 }
 
-impl Teller for Told {
+impl Observer for LastReply {
     fn tell(&self, seat: usize, note: Note) {
         if seat != 0 {
             return;
@@ -81,7 +81,7 @@ impl Teller for Told {
     }
 }
 
-// ---- guests
+// ---- endpoints
 
 fn accounts(alloc: Global) -> Result<Arc<Accounts>, Fail> {
     let mut accounts = Vec::new(alloc);
@@ -92,18 +92,18 @@ fn accounts(alloc: Global) -> Result<Arc<Accounts>, Fail> {
     Ok(Arc::new(alloc, Accounts::from_vec(accounts))?)
 }
 
-// A guest is served until its wire ends, and then the seat closes.
-fn sits<R: Wait, G: Guest>(
+// An endpoint is served until its wire ends, and then the seat closes.
+fn sits<R: Wait, G: Endpoint>(
     rt: &R,
     alloc: Global,
     over: &AtomicBool,
     wire: &mut Script<'_>,
     seat: OpenSeat,
-    guest: &mut G,
-    told: &Told,
+    endpoint: &mut G,
+    told: &LastReply,
 ) {
     let mut seat = seat;
-    serve(rt, alloc, over, wire, &mut seat, guest, told);
+    serve(rt, alloc, over, wire, &mut seat, endpoint, told);
     seat.close(rt, over);
 }
 
@@ -114,10 +114,10 @@ fn application_sits<R: Wait>(
     wire: &mut Script<'_>,
     seat: OpenSeat,
     accounts: Arc<Accounts>,
-    told: &Told,
+    told: &LastReply,
 ) {
-    lend(Application::new(alloc, accounts), |guest| {
-        sits(rt, alloc, over, wire, seat, guest, told)
+    lend(Esme::new(alloc, accounts), |endpoint| {
+        sits(rt, alloc, over, wire, seat, endpoint, told)
     })
 }
 
@@ -127,10 +127,10 @@ fn link_sits<R: Wait>(
     over: &AtomicBool,
     wire: &mut Script<'_>,
     seat: OpenSeat,
-    told: &Told,
+    told: &LastReply,
 ) {
-    lend(HandsetLink::new(alloc), |guest| {
-        sits(rt, alloc, over, wire, seat, guest, told)
+    lend(LinkEndpoint::new(alloc), |endpoint| {
+        sits(rt, alloc, over, wire, seat, endpoint, told)
     })
 }
 
@@ -160,14 +160,14 @@ pub(crate) enum Side {
     Handset,
 }
 
-/// What the two guests need beside their seats.
+/// What the two endpoints need beside their seats.
 #[derive(Drop)]
 pub(crate) struct Table {
     pub(crate) alloc: Global,
     accounts: Arc<Accounts>,
     pub(crate) side: Side,
     over: AtomicBool,
-    pub(crate) told: Told,
+    pub(crate) told: LastReply,
 }
 
 impl Table {
@@ -177,7 +177,7 @@ impl Table {
             accounts: accounts(alloc)?,
             side,
             over: AtomicBool::new(false),
-            told: Told::new(),
+            told: LastReply::new(),
         })
     }
 
@@ -227,7 +227,7 @@ fn keeps<R: Wait>(
     keeper.run(rt, alloc, counter, &Open, clock).end == End::AllClosed
 }
 
-/// Runs both guests, and says whether the keeper has run all that they asked.
+/// Runs both endpoints, and says whether the keeper has run all that they asked.
 pub(crate) fn run<R: Threads + Wait + Sync>(
     rt: &R,
     table: &Table,
@@ -252,7 +252,7 @@ pub(crate) fn run<R: Threads + Wait + Sync>(
 
 // ---- what came of it
 
-/// The second guest is as if nobody sat beside it.
+/// The second endpoint is as if nobody sat beside it.
 pub(crate) fn is_whole(tally: &Tally, taken: usize) -> Result<(), Fail> {
     holds(taken == ANSWERS, "it has all its answers")?;
     holds(tally.submitted == 2, "its requests were run")?;

@@ -2,4 +2,4 @@ use Rattle.sms_centre_spec.specs.Draft.{draft_of}
 use Rattle.sms_centre.proofs.acting.bound.Goals as goal
 
 pub returns : goal.returns
-returns c = λ core shows standing. c.in_ok-bind.ensures (draft_of core) shows standing.awaited
+returns c = λ core represents centre_state. c.in_ok-bind.ensures (draft_of core) represents centre_state.awaited

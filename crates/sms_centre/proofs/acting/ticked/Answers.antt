@@ -1,10 +1,10 @@
 use Rattle.std.proofs.Common.{sym, subst}
 use Rattle.sms_centre_spec.specs.Draft.{draft_of}
-use Rattle.sms_centre.specs.state.Standing.{IsStanding, StandingOf}
+use Rattle.sms_centre.specs.state.CentreState.{Represents, CentreStateOf}
 use Rattle.sms_centre.proofs.acting.ticked.Goals as goal
 
 pub returns : goal.returns
-returns c = λ core shows standing.
-    let s : StandingOf = record { setup = c.standing.inside.setup; moment = c.standing.inside.moment; messages = c.standing.inside.messages; claims = c.standing.inside.claims; shelves = c.standing.inside.shelves; reports = c.standing.inside.reports; register = c.standing.inside.register; sessions = c.standing.inside.sessions } in
-    let was : IsStanding core s = subst (λ (x : StandingOf). IsStanding core x) (sym c.standing.view_is) standing in
-    c.in_ok-tick.ensures (draft_of core) shows was.centre.messages_are
+returns c = λ core represents centre_state.
+    let s : CentreStateOf = record { setup = c.centre_state.inside.setup; moment = c.centre_state.inside.moment; messages = c.centre_state.inside.messages; reference_index = c.centre_state.inside.reference_index; queues = c.centre_state.inside.queues; reports = c.centre_state.inside.reports; log = c.centre_state.inside.log; sessions = c.centre_state.inside.sessions } in
+    let was : Represents core s = subst (λ (x : CentreStateOf). Represents core x) (sym c.centre_state.view_is) centre_state in
+    c.in_ok-tick.ensures (draft_of core) represents was.centre.messages_are

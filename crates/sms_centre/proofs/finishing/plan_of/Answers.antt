@@ -6,7 +6,7 @@ pub plan_begun-requires-clause-setup : goal.plan_begun-requires-clause-setup
 plan_begun-requires-clause-setup g c = subst IsSetup (sym c.in-Ok.ensures.setup) c.requires.setup
 
 pub returns-in-Ok-clause-goes : goal.returns-in-Ok-clause-goes
-returns-in-Ok-clause-goes g c = λ honest core rows standing can holds. c.plan_begun.ensures.goes honest core rows (c.in-Ok.ensures.shown core standing) standing can holds
+returns-in-Ok-clause-goes g c = λ honest core rows centre_state can holds. c.plan_begun.ensures.goes honest core rows (c.in-Ok.ensures.shown core centre_state) centre_state can holds
 
 pub returns-in-Err-clause-goes : goal.returns-in-Err-clause-goes
-returns-in-Err-clause-goes g c = λ honest core rows standing can holds. (holds, inr refl)
+returns-in-Err-clause-goes g c = λ honest core rows centre_state can holds. (holds, inr refl)

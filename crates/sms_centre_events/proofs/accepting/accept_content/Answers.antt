@@ -20,7 +20,7 @@ accept_under-requires-clause-few c =
     (c.as_slice.ensures ∙ c.in_ok-bodies.ensures)
 
 pub returns : goal.returns
-returns c = λ d shows fresh.
+returns c = λ d represents fresh.
     subst (λ (bodies : List SinglePart). IfOk c.accept_under.result (Accepts (accept_under c.args.id c.args.split bodies c.args.submission.now d.store) d c.accept_under.new.self))
     (sym (same_bodies c.args.submission.now c.args.content.now c.args.reference c.in_ok-text.text c.as_slice.result.now c.requires.whole c.in_ok-text.ensures (c.as_slice.ensures ∙ c.in_ok-bodies.ensures)))
-    (c.accept_under.ensures d shows fresh)
+    (c.accept_under.ensures d represents fresh)

@@ -7,16 +7,16 @@ use Rattle.sms_centre_events.proofs.Accepted.{none_split, some_split}
 use Rattle.sms_centre_events.proofs.accepting.accept_split.Goals as goal
 
 pub returns-in-Some : goal.returns-in-Some
-returns-in-Some c = λ d shows holds fresh.
+returns-in-Some c = λ d represents holds fresh.
     let u = c.args.submission.now in
     let o = next_split u.source u.handset (messages_in d.store) (parts_in d.store) in
-    subst (λ (x : Option Store). IfOk c.accept_content.result (Accepts x d c.accept_content.new.working))
+    subst (λ (x : Option Store). IfOk c.accept_content.result (Accepts x d c.accept_content.new.draft))
     (sym (some_split c.args.id c.in-Some.reference u o d.store (sym (c.next_split-free.ensures (messages_in d.store) (parts_in d.store) holds) ∙ c.in-Some.is)))
-    (c.accept_content.ensures d shows fresh)
+    (c.accept_content.ensures d represents fresh)
 
 pub returns-in-None : goal.returns-in-None
-returns-in-None c = λ d shows holds fresh.
+returns-in-None c = λ d represents holds fresh.
     let u = c.args.submission.now in
     let o = next_split u.source u.handset (messages_in d.store) (parts_in d.store) in
-    subst (λ (x : Option Store). Accepts x d c.args.working.now false)
+    subst (λ (x : Option Store). Accepts x d c.args.draft.now false)
     (sym (none_split c.args.id u o d.store (sym (c.next_split-free.ensures (messages_in d.store) (parts_in d.store) holds) ∙ c.in-None.is))) tt

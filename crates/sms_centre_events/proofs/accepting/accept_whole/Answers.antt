@@ -6,13 +6,13 @@ use Rattle.sms_centre_events.proofs.Accepted.{accepted_long, accepted_short}
 use Rattle.sms_centre_events.proofs.accepting.accept_whole.Goals as goal
 
 pub returns-then-is_long : goal.returns-then-is_long
-returns-then-is_long c = λ d shows holds fresh.
-    subst (λ (x : Option Store). IfOk c.accept_split.result (Accepts x d c.accept_split.new.working))
+returns-then-is_long c = λ d represents holds fresh.
+    subst (λ (x : Option Store). IfOk c.accept_split.result (Accepts x d c.accept_split.new.draft))
     (accepted_long c.args.id c.args.submission.now c.args.content.now d.store c.requires.whole (sym c.if-is_long.ensures))
-    (c.accept_split.ensures d shows holds fresh)
+    (c.accept_split.ensures d represents holds fresh)
 
 pub returns : goal.returns
-returns c = λ d shows holds fresh.
-    subst (λ (x : Option Store). IfOk c.accept_content.result (Accepts x d c.accept_content.new.working))
+returns c = λ d represents holds fresh.
+    subst (λ (x : Option Store). IfOk c.accept_content.result (Accepts x d c.accept_content.new.draft))
     (accepted_short c.args.id c.args.submission.now c.args.content.now d.store c.requires.whole (sym c.if-is_long.ensures))
-    (c.accept_content.ensures d shows fresh)
+    (c.accept_content.ensures d represents fresh)

@@ -5,15 +5,15 @@ use Rattle.sms_centre_draft.proofs.Steps.{drop_one}
 use Rattle.sms_centre_events.proofs.aging.expire_each.Goals as goal
 
 pub loop-id-init : goal.loop-id-init
-loop-id-init c = λ d shows. record { store = d.store; shows = shows; goes = refl }
+loop-id-init c = λ d represents. record { store = d.store; represents = represents; goes = refl }
 
 pub loop-id-preserved : goal.loop-id-preserved
-loop-id-preserved c = λ d shows.
+loop-id-preserved c = λ d represents.
     let i = c.loop-id.id-index in
-    left_next d c.args.ids.now (drop i c.args.ids.now) c.id-item.result (drop (i + 1) c.args.ids.now) c.loop-id.working c.expire_at.new.working
-    (drop_one c.args.ids.now i c.id-item.result (omega (arith, c.loop-id-test.true)) c.id-item.is) (c.loop-id.invariant d shows) c.in_ok-expire_at.ensures
+    left_next d c.args.ids.now (drop i c.args.ids.now) c.id-item.result (drop (i + 1) c.args.ids.now) c.loop-id.draft c.expire_at.new.draft
+    (drop_one c.args.ids.now i c.id-item.result (omega (arith, c.loop-id-test.true)) c.id-item.is) (c.loop-id.invariant d represents) c.in_ok-expire_at.ensures
 
 pub returns : goal.returns
-returns c = λ d shows.
-    left_none d c.args.ids.now (drop c.loop-id.id-index c.args.ids.now) c.loop-id.working
-    (drop_of_length-le c.args.ids.now (omega (arith, c.loop-id-test.false))) (c.loop-id.invariant d shows)
+returns c = λ d represents.
+    left_none d c.args.ids.now (drop c.loop-id.id-index c.args.ids.now) c.loop-id.draft
+    (drop_of_length-le c.args.ids.now (omega (arith, c.loop-id-test.false))) (c.loop-id.invariant d represents)

@@ -1,18 +1,18 @@
 use Rattle.std.proofs.Common.{Option, sym, subst, OnOk}
-use Rattle.sms_intake.specs.declared.submission.Account.{Account}
+use Rattle.sms_intake.specs.declared.submission.CentreAccount.{CentreAccount}
 use Rattle.sms_centre_spec.specs.Requests.{cancel_by}
-use Rattle.sms_centre_draft.specs.Working.{Shows}
+use Rattle.sms_centre_draft.specs.CentreDraft.{Represents}
 use Rattle.sms_centre_events.proofs.Places.{account_there, no_account}
 use Rattle.sms_centre_events.proofs.questions.cancel.Goals as goal
 
 pub returns-in-Some : goal.returns-in-Some
-returns-in-Some c = λ d shows.
-    subst (λ (o : Option Account). OnOk c.cancel_by.result (Shows (cancel_by o c.args.cancel.now d) c.cancel_by.new.working))
-    (sym (account_there c.args.account d c.args.working.now c.account_of.result c.in-Some.account shows c.account_of.ensures c.in-Some.is))
-    (c.cancel_by.ensures d shows)
+returns-in-Some c = λ d represents.
+    subst (λ (o : Option CentreAccount). OnOk c.cancel_by.result (Represents (cancel_by o c.args.cancel.now d) c.cancel_by.new.draft))
+    (sym (account_there c.args.account d c.args.draft.now c.account_of.result c.in-Some.account represents c.account_of.ensures c.in-Some.is))
+    (c.cancel_by.ensures d represents)
 
 pub returns-in-None : goal.returns-in-None
-returns-in-None c = λ d shows.
-    subst (λ (o : Option Account). Shows (cancel_by o c.args.cancel.now d) c.refuse.new.working)
-    (sym (no_account c.args.account d c.args.working.now c.account_of.result shows c.account_of.ensures c.in-None.is))
-    (c.refuse.ensures d shows)
+returns-in-None c = λ d represents.
+    subst (λ (o : Option CentreAccount). Represents (cancel_by o c.args.cancel.now d) c.refuse.new.draft)
+    (sym (no_account c.args.account d c.args.draft.now c.account_of.result represents c.account_of.ensures c.in-None.is))
+    (c.refuse.ensures d represents)

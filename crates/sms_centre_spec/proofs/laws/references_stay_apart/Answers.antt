@@ -1,4 +1,4 @@
-use Rattle.sms_centre_spec.proofs.HeldGivings.{part_given_held, report_made_held, status_given_held}
+use Rattle.sms_centre_spec.proofs.HeldAllocations.{part_given_held, report_made_held, status_given_held}
 use Rattle.sms_centre_spec.proofs.HeldStages.{ended_held, entered_held, part_far_held, report_far_held}
 use Rattle.sms_centre_spec.proofs.laws.references_stay_apart.Goals as goal
 

@@ -1,13 +1,13 @@
 use Rattle.std.proofs.Common.{rules, ◌≡◌, [], ◌∷◌, ◌++◌, Ok, Some}
 use Rattle.sms_link.specs.framing.Framing.{front_of}
-use Rattle.handset.specs.link_run.Course.{came}
+use Rattle.handset.specs.link_run.Run.{came}
 use Rattle.handset.proofs.link_run.Courses.{cut_join, cut_one, frames_join, meets_one}
 use Rattle.handset.proofs.link_run.link.meet_frames.Goals as goal
 
 pub loop-left-preserved : goal.loop-left-preserved
 loop-left-preserved g c =
     let before = c.loop-left.invariant in
-    let sent = c.in_ok-frame_came-in-Some.ensures in
+    let sent = c.in_ok-frame_received-in-Some.ensures in
     let frame = c.in-Some.octets in
     let stands : front_of c.loop-left.buffer ≡ Ok (Some frame) = search rules in (
       before.0 ++ frame ∷ [],

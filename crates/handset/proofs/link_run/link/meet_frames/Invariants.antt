@@ -1,6 +1,6 @@
 use Rattle.std.proofs.Common.{◌≡◌, ◌++◌, ℕ, List, map}
 use Rattle.sms_link.specs.framing.Framing.{joined}
-use Rattle.handset.specs.link_run.Course.{Meets, came}
+use Rattle.handset.specs.link_run.Run.{Meets, came}
 use Rattle.sms_handset.specs.machine.InMachine.{core_in}
 use Rattle.handset.proofs.link_run.link.meet_frames.Given as goal
 

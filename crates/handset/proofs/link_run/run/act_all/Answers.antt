@@ -3,7 +3,7 @@ use Rattle.sms_handset.specs.declared.event.HandsetEvent.{HandsetEvent}
 use Rattle.sms_handset.specs.declared.event.HandsetEvent.TheVariants.{Tick}
 use Rattle.sms_script.specs.declared.owner.act.OwnersAct.{OwnersAct}
 use Rattle.handset.specs.link_run.Asking.{event_of}
-use Rattle.handset.specs.link_run.Course.{Meets}
+use Rattle.handset.specs.link_run.Run.{Meets}
 use Rattle.handset.proofs.link_run.Courses.{act_at, asked_untimed, meets_join, meets_none, meets_one}
 use Rattle.sms_handset.specs.machine.InMachine.{core_in}
 use Rattle.handset.proofs.link_run.run.act_all.Goals as goal

@@ -1,7 +1,7 @@
 use Rattle.std.proofs.Common.{◌≡◌, ◌++◌, List, map, drop}
 use Rattle.sms_handset.specs.declared.event.HandsetEvent.{HandsetEvent}
 use Rattle.handset.specs.link_run.Asking.{event_of}
-use Rattle.handset.specs.link_run.Course.{Meets}
+use Rattle.handset.specs.link_run.Run.{Meets}
 use Rattle.sms_handset.specs.machine.InMachine.{core_in}
 use Rattle.handset.proofs.link_run.run.act_all.Given as goal
 

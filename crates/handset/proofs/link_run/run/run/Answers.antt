@@ -3,7 +3,7 @@ use Rattle.std.specs.Io.KnownBytes.{Appends}
 use Rattle.std.specs.Str.{encode_utf8_all}
 use Rattle.sms_link.specs.framing.Framing.{framed}
 use Rattle.handset.specs.link_run.Asking.{event_of}
-use Rattle.handset.specs.link_run.Course.{came}
+use Rattle.handset.specs.link_run.Run.{came}
 use Rattle.handset.proofs.link_run.Courses.{meets_join, on_ok}
 use Rattle.handset.proofs.link_run.run.run.Goals as goal
 

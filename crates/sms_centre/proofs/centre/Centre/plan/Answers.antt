@@ -1,25 +1,25 @@
 use Rattle.std.proofs.Common.{ℕ, List, sym, subst}
 use Rattle.sms_centre_spec.specs.Draft.{Draft}
-use Rattle.sms_centre_events.specs.offering.Going.{Goes}
+use Rattle.sms_centre_events.specs.offering.Refusing.{SucceedsOrRefuses}
 use Rattle.sms_centre_events.specs.offering.Stored.{CanOffer}
-use Rattle.sms_centre.specs.plans.Planned.{IsPlanned}
-use Rattle.sms_centre.specs.state.Standing.{IsStanding, StandingOf}
+use Rattle.sms_centre.specs.plans.EventOutcome.{IsOutcome}
+use Rattle.sms_centre.specs.state.CentreState.{Represents, CentreStateOf}
 use Rattle.sms_centre.specs.Acting.{acted}
 use Rattle.sms_centre.proofs.ActsFirst.{acts_then_follows, can_offer}
 use Rattle.sms_centre.proofs.AsDefined.{plans_event}
 use Rattle.sms_centre.proofs.centre.Centre.plan.Goals as goal
 
 pub returns-clause-goes : goal.returns-clause-goes
-returns-clause-goes g c = λ honest core rows standing stores holds.
+returns-clause-goes g c = λ honest core rows centre_state stores holds.
     let event = c.args.event.now in
-    let was : IsStanding core c.self.inside.standing = subst (λ (s : StandingOf). IsStanding core s) (sym c.self.view_is) standing in
-    subst (λ (d : Draft). Goes (λ p. IsPlanned d p.plan) d.air.read (g.B.Keep.holds c.plan_of.new.bodies rows) (g.B.Keep.is_closed c.plan_of.new.bodies) (g.B.Keep.refusals c.args.bodies.now) (g.B.Keep.refusals c.plan_of.new.bodies) c.plan_of.result)
+    let was : Represents core c.self.inside.centre_state = subst (λ (s : CentreStateOf). Represents core s) (sym c.self.view_is) centre_state in
+    subst (λ (d : Draft). SucceedsOrRefuses (λ p. IsOutcome d p.plan) d.links.read (g.B.Keep.holds c.plan_of.new.bodies rows) (g.B.Keep.is_closed c.plan_of.new.bodies) (g.B.Keep.refusals c.args.bodies.now) (g.B.Keep.refusals c.plan_of.new.bodies) c.plan_of.result)
     (sym (acts_then_follows event core))
     (c.plan_of.ensures.goes honest core rows was
     (subst (λ (o : List ℕ). CanOffer g.B.BodyKeep.body_of rows o (acted event core).store) (sym c.as_slice.ensures)
-    (can_offer g.B.BodyKeep.body_of rows event core c.self.inside.standing c.self.inside.address was c.is_event.ensures stores c.self.invariant.1)) holds)
+    (can_offer g.B.BodyKeep.body_of rows event core c.self.inside.centre_state c.self.inside.address was c.is_event.ensures stores c.self.invariant.1)) holds)
 
 pub returns-clause-definition : goal.returns-clause-definition
-returns-clause-definition g c = λ honest core rows standing stores holds none.
+returns-clause-definition g c = λ honest core rows centre_state stores holds none.
     plans_event c.args.event.now core (g.B.Keep.holds c.plan_of.new.bodies rows) (g.B.Keep.is_closed c.plan_of.new.bodies) (g.B.Keep.refusals c.args.bodies.now) (g.B.Keep.refusals c.plan_of.new.bodies) c.plan_of.result
-    (returns-clause-goes g c honest core rows standing stores holds) none
+    (returns-clause-goes g c honest core rows centre_state stores holds) none

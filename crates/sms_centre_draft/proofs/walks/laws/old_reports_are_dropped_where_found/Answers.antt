@@ -5,8 +5,8 @@ use Rattle.sms_centre_draft.proofs.walks.laws.old_reports_are_dropped_where_foun
 pub returns : goal.returns
 returns c = record {
   begins = drops_begin;
-  next = λ s kept first e shows is.
-      drops_on s first e shows.keys shows.alone (c.old_reports_are_dropped_by_what_is_kept.ensures.next first s.moment (messages_in s) kept (reports_in s) s.reports e shows is);
-  none = λ s kept first shows is.
-      drops_end s first (c.old_reports_are_dropped_by_what_is_kept.ensures.none first s.moment (messages_in s) kept (reports_in s) s.reports shows is);
+  next = λ s kept first e represents is.
+      drops_on s first e represents.keys represents.alone (c.the_open_reports_find_old_ones.ensures.next first s.moment (messages_in s) kept (reports_in s) s.reports e represents is);
+  none = λ s kept first represents is.
+      drops_end s first (c.the_open_reports_find_old_ones.ensures.none first s.moment (messages_in s) kept (reports_in s) s.reports represents is);
 }

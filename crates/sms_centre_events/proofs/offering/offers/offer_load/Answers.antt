@@ -2,7 +2,7 @@ use Rattle.std.proofs.Common.{◌≡◌, ℕ, ◌≤◌, List, Some, Bool, lengt
 use Rattle.sms_relay.specs.RelayGrammar.{data_down}
 use Rattle.sms_tpdu.specs.AddressGrammar.{relay_address}
 use Rattle.sms_tpdu.specs.MoreMessages.{telling}
-use Rattle.sms_centre_draft.specs.Working.{Shows}
+use Rattle.sms_centre_draft.specs.CentreDraft.{Represents}
 use Rattle.sms_centre_spec.specs.Offering.{read_of, tpdu_of, unit_of}
 use Rattle.sms_centre_events.specs.offering.Offered.{offer_in, offer_next}
 use Rattle.sms_centre_events.proofs.offering.OneOffer.{goes_off, goes_on, unless_alike}
@@ -11,23 +11,23 @@ use Rattle.sms_centre_events.proofs.offering.UnitOctets.{centre_is}
 use Rattle.sms_centre_events.proofs.offering.offers.offer_load.Goals as goal
 
 pub returns-in-Ok-clause-goes : goal.returns-in-Ok-clause-goes
-returns-in-Ok-clause-goes g c = λ honest d rows shows can among holds.
+returns-in-Ok-clause-goes g c = λ honest d rows represents can among holds.
     let l = c.args.load.now in
     let s = d.store in
-    let t = c.in-Ok.ensures.goes honest d rows c.args.centre.now c.args.handset shows among can holds in
+    let t = c.in-Ok.ensures.goes honest d rows c.args.centre.now c.args.handset represents among can holds in
     let is = centre_is s.setup.centre can.sound.setup.centre in
     let unit : data_down l.reference c.args.centre.now (telling c.has_more-more.result c.in-Ok.tpdu) ≡ unit_of l c.has_more-more.result s =
     ap (λ (o : List ℕ). data_down l.reference o (telling c.has_more-more.result c.in-Ok.tpdu)) can.centre_is ∙ ap (λ (o : List ℕ). data_down l.reference (relay_address s.setup.centre) (telling c.has_more-more.result o)) t.0 in
-    goes_on (λ (u : Unit {0}). Shows (offer_next c.args.handset (Some l) d) c.send.new.working) (read_of l s d.air).read (g.B.Keep.holds c.tpdu.new.bodies rows) (g.B.Keep.is_closed c.tpdu.new.bodies) (g.B.Keep.refusals c.args.bodies.now) (g.B.Keep.refusals c.tpdu.new.bodies) c.send.result
-    (unless_alike (λ (u : Unit {0}). Shows (offer_in c.args.handset (data_down l.reference c.args.centre.now (telling c.has_more-more.result c.in-Ok.tpdu)) l d) c.send.new.working)
-    (λ (u : Unit {0}). Shows (offer_next c.args.handset (Some l) d) c.send.new.working) c.send.result
-    (λ u shown. subst (λ (o : List ℕ). Shows (offer_in c.args.handset o l d) c.send.new.working) (unit ∙ ap (λ (b : Bool). unit_of l b s) (c.has_more-more.ensures d shows)) shown)
-    (c.send.ensures d shows (subst (λ (o : List ℕ). 2 ≤ length o) (sym can.centre_is) is.0) (subst (λ (o : List ℕ). length o ≤ 11) (sym can.centre_is) is.1)
-    (subst (λ (o : List ℕ). length o ≤ 200) (sym t.0) (tpdu_short c.args.handset l s can.sound shows.stands among))))
+    goes_on (λ (u : Unit {0}). Represents (offer_next c.args.handset (Some l) d) c.send.new.draft) (read_of l s d.links).read (g.B.Keep.holds c.tpdu.new.bodies rows) (g.B.Keep.is_closed c.tpdu.new.bodies) (g.B.Keep.refusals c.args.bodies.now) (g.B.Keep.refusals c.tpdu.new.bodies) c.send.result
+    (unless_alike (λ (u : Unit {0}). Represents (offer_in c.args.handset (data_down l.reference c.args.centre.now (telling c.has_more-more.result c.in-Ok.tpdu)) l d) c.send.new.draft)
+    (λ (u : Unit {0}). Represents (offer_next c.args.handset (Some l) d) c.send.new.draft) c.send.result
+    (λ u shown. subst (λ (o : List ℕ). Represents (offer_in c.args.handset o l d) c.send.new.draft) (unit ∙ ap (λ (b : Bool). unit_of l b s) (c.has_more-more.ensures d represents)) shown)
+    (c.send.ensures d represents (subst (λ (o : List ℕ). 2 ≤ length o) (sym can.centre_is) is.0) (subst (λ (o : List ℕ). length o ≤ 11) (sym can.centre_is) is.1)
+    (subst (λ (o : List ℕ). length o ≤ 200) (sym t.0) (tpdu_short c.args.handset l s can.sound represents.stands among))))
     t.1.0 t.1.1
 
 pub returns-in-Err-clause-goes : goal.returns-in-Err-clause-goes
-returns-in-Err-clause-goes g c = λ honest d rows shows can among holds.
-    goes_off (λ octets. octets ≡ tpdu_of c.args.load.now d.store) (λ (u : Unit {0}). Shows (offer_next c.args.handset (Some c.args.load.now) d) c.args.working.now) (read_of c.args.load.now d.store d.air).read (read_of c.args.load.now d.store d.air).read
+returns-in-Err-clause-goes g c = λ honest d rows represents can among holds.
+    goes_off (λ octets. octets ≡ tpdu_of c.args.load.now d.store) (λ (u : Unit {0}). Represents (offer_next c.args.handset (Some c.args.load.now) d) c.args.draft.now) (read_of c.args.load.now d.store d.links).read (read_of c.args.load.now d.store d.links).read
     (g.B.Keep.holds c.tpdu.new.bodies rows) (g.B.Keep.is_closed c.tpdu.new.bodies) (g.B.Keep.refusals c.args.bodies.now) (g.B.Keep.refusals c.args.bodies.now) (g.B.Keep.refusals c.tpdu.new.bodies) c.in-Err.error (inr refl) (λ k a. a)
-    (c.in-Err.ensures.goes honest d rows c.args.centre.now c.args.handset shows among can holds)
+    (c.in-Err.ensures.goes honest d rows c.args.centre.now c.args.handset represents among can holds)

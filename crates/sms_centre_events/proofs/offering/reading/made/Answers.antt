@@ -1,18 +1,18 @@
 use Rattle.std.proofs.Common.{sym, ◌∙◌, subst, eq-eqb}
 use Rattle.std.proofs.lemmas.Bool.{ne_eqb}
 use Rattle.sms_centre_spec.specs.Draft.{messages_in}
-use Rattle.sms_centre_draft.specs.Working.{Shows, WorkingOf}
+use Rattle.sms_centre_draft.specs.CentreDraft.{Represents, CentreDraftOf}
 use Rattle.sms_centre_events.proofs.offering.TpdusMade.{part_made, report_made_is}
 use Rattle.sms_centre_events.proofs.offering.reading.made.Goals as goal
 
 pub returns-then-load-eq0 : goal.returns-then-load-eq0
-returns-then-load-eq0 c = λ d handset shows among.
-    let w : WorkingOf = record { setup = c.working.inside.setup.now; moment = c.working.inside.moment; messages = c.working.inside.messages; shelves = c.working.inside.shelves; reports = c.working.inside.reports; desk = c.working.inside.desk; answer = c.working.inside.answer } in
-    let was : Shows d w = subst (λ (x : WorkingOf). Shows d x) (sym c.working.view_is) shows in
+returns-then-load-eq0 c = λ d handset represents among.
+    let w : CentreDraftOf = record { setup = c.draft.inside.setup.now; moment = c.draft.inside.moment; messages = c.draft.inside.messages; queues = c.draft.inside.queues; reports = c.draft.inside.reports; bindings = c.draft.inside.bindings; answer = c.draft.inside.answer } in
+    let was : Represents d w = subst (λ (x : CentreDraftOf). Represents d x) (sym c.draft.view_is) represents in
     c.tpdu_made.ensures (messages_in d.store) d.store.reports was.reports ∙ report_made_is c.args.load.now d.store (eq-eqb c.args.load.now.number 0 c.if-load-eq0.true)
 
 pub returns : goal.returns
-returns c = λ d handset shows among.
-    let w : WorkingOf = record { setup = c.working.inside.setup.now; moment = c.working.inside.moment; messages = c.working.inside.messages; shelves = c.working.inside.shelves; reports = c.working.inside.reports; desk = c.working.inside.desk; answer = c.working.inside.answer } in
-    let was : Shows d w = subst (λ (x : WorkingOf). Shows d x) (sym c.working.view_is) shows in
+returns c = λ d handset represents among.
+    let w : CentreDraftOf = record { setup = c.draft.inside.setup.now; moment = c.draft.inside.moment; messages = c.draft.inside.messages; queues = c.draft.inside.queues; reports = c.draft.inside.reports; bindings = c.draft.inside.bindings; answer = c.draft.inside.answer } in
+    let was : Represents d w = subst (λ (x : CentreDraftOf). Represents d x) (sym c.draft.view_is) represents in
     c.tpdu_put.ensures d.store.messages was.messages ∙ part_made handset c.args.load.now d.store was.stands among (ne_eqb c.args.load.now.number 0 c.if-load-eq0.false)

@@ -6,18 +6,18 @@ use Rattle.sms_centre_events.proofs.offering.TpdusMade.{load_stored}
 use Rattle.sms_centre_events.proofs.offering.reading.tpdu.Goals as goal
 
 pub returns-in-Some-clause-goes : goal.returns-in-Some-clause-goes
-returns-in-Some-clause-goes g c = λ honest d rows centre handset shows among can holds.
+returns-in-Some-clause-goes g c = λ honest d rows centre handset represents among can holds.
     let l = c.args.load.now in
-    goes_on (λ octets. octets ≡ tpdu_of l d.store) (read_of l d.store d.air).read (g.B.Keep.holds c.args.bodies.now rows) (g.B.Keep.is_closed c.args.bodies.now) (g.B.Keep.refusals c.args.bodies.now) (g.B.Keep.refusals c.args.bodies.now) c.copied.result
+    goes_on (λ octets. octets ≡ tpdu_of l d.store) (read_of l d.store d.links).read (g.B.Keep.holds c.args.bodies.now rows) (g.B.Keep.is_closed c.args.bodies.now) (g.B.Keep.refusals c.args.bodies.now) (g.B.Keep.refusals c.args.bodies.now) c.copied.result
     (unless_alike (λ octets. octets ≡ c.in-Some.octets.now) (λ octets. octets ≡ tpdu_of l d.store) c.copied.result
-    (λ octets e. e ∙ made_some c.in-Some.octets.now l d.store (c.in-Some.ensures d handset shows among)) c.copied.ensures)
+    (λ octets e. e ∙ made_some c.in-Some.octets.now l d.store (c.in-Some.ensures d handset represents among)) c.copied.ensures)
     holds (inr refl)
 
 pub returns-in-None-clause-goes : goal.returns-in-None-clause-goes
-returns-in-None-clause-goes g c = λ honest d rows centre handset shows among can holds.
+returns-in-None-clause-goes g c = λ honest d rows centre handset represents among can holds.
     let l = c.args.load.now in
-    let unmade = made_none l d.store (c.in-None.ensures d handset shows among) in
-    goes_wide (λ octets. octets ≡ tpdu_of l d.store) (c.key.result ∷ []) (read_of l d.store d.air).read (g.B.Keep.holds c.read.new.bodies rows) (g.B.Keep.is_closed c.read.new.bodies) (g.B.Keep.refusals c.args.bodies.now) (g.B.Keep.refusals c.read.new.bodies) c.read.result
-    (λ k a. ⊎_elim (λ (e : k ≡ c.key.result). subst (λ (n : ℕ). Among n (read_of l d.store d.air).read) (sym (e ∙ c.key.ensures)) (is_read l d.store d.air unmade)) (λ (b : ⊥). absurd b) a)
+    let unmade = made_none l d.store (c.in-None.ensures d handset represents among) in
+    goes_wide (λ octets. octets ≡ tpdu_of l d.store) (c.key.result ∷ []) (read_of l d.store d.links).read (g.B.Keep.holds c.read.new.bodies rows) (g.B.Keep.is_closed c.read.new.bodies) (g.B.Keep.refusals c.args.bodies.now) (g.B.Keep.refusals c.read.new.bodies) c.read.result
+    (λ k a. ⊎_elim (λ (e : k ≡ c.key.result). subst (λ (n : ℕ). Among n (read_of l d.store d.links).read) (sym (e ∙ c.key.ensures)) (is_read l d.store d.links unmade)) (λ (b : ⊥). absurd b) a)
     (c.read.ensures.goes honest rows (tpdu_of l d.store) holds
-    (ap (λ (n : ℕ). g.B.BodyKeep.body_of rows n) c.key.ensures ∙ load_stored (λ (n : ℕ). g.B.BodyKeep.body_of rows n) handset l d.store can.stored shows.stands among unmade))
+    (ap (λ (n : ℕ). g.B.BodyKeep.body_of rows n) c.key.ensures ∙ load_stored (λ (n : ℕ). g.B.BodyKeep.body_of rows n) handset l d.store can.stored represents.stands among unmade))

@@ -3,7 +3,7 @@ use Rattle.std.proofs.lemmas.Bool.{cases_eq}
 use Rattle.std.proofs.lemmas.Bool.Decides.{nat_tests}
 use Rattle.std.proofs.lemmas.List.{take_more}
 use Rattle.sms_centre_rows.specs.waiting.References.{is_held}
-use Rattle.sms_centre_rows.specs.declared.waiting.load.Load.{Load}
+use Rattle.sms_centre_rows.specs.declared.waiting.queued_part.QueuedPart.{QueuedPart}
 use Rattle.sms_centre_queue.proofs.queue.Holding.{is_held_behind}
 use Rattle.sms_centre_queue.proofs.queue.held.held_with.Goals as goal
 
@@ -15,7 +15,7 @@ loop-load-preserved c others held r low =
     let inside : i < length ls = omega (arith, c.loop-load-test.true) in
     let item : get_or ls i load ≡ load = sym c.load-item.is in
     let next : is_held r (others ++ take (i + 1) ls) ≡ (is_held r (others ++ take i ls) || load.reference == r) =
-    ap (λ xs. is_held r (others ++ xs)) (take_more ls i load inside) ∙ ap (λ (l : Load). is_held r (others ++ (take i ls ++ l ∷ []))) item ∙ is_held_behind r others (take i ls) load in
+    ap (λ xs. is_held r (others ++ xs)) (take_more ls i load inside) ∙ ap (λ (l : QueuedPart). is_held r (others ++ (take i ls ++ l ∷ []))) item ∙ is_held_behind r others (take i ls) load in
     ⊎_elim
     (λ here.
     let yes : (is_held r (others ++ take i ls) || load.reference == r) ≡ true = grind (arith, nat_tests, here) in

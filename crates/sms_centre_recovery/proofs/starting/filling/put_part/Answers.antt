@@ -1,10 +1,10 @@
 use Rattle.std.proofs.Common.{◌≡◌, ℕ, List, ◌∷◌, Some, sym, ◌∙◌, ap, subst}
 use Rattle.sms_centre_rows.specs.messages.Messages.{message_at, message_key}
 use Rattle.sms_centre_rows.specs.messages.OpenParts.{parts_waiting}
-use Rattle.sms_centre_queue.specs.queues.Shown.{Waits}
+use Rattle.sms_centre_queue.specs.queues.Representing.{Waits}
 use Rattle.sms_centre_recovery.specs.soundness.RowsOf.{rows_of}
 use Rattle.sms_rows.specs.table.Table.{put, row_at}
-use Rattle.sms_centre_rows.specs.declared.waiting.load.Load.{Load}
+use Rattle.sms_centre_rows.specs.declared.waiting.queued_part.QueuedPart.{QueuedPart}
 use Rattle.sms_centre_rows.specs.waiting.Keys.{load_key}
 use Rattle.sms_centre_recovery.proofs.starting.LoadsWait.{handset_digits, if_ok, part_waits}
 use Rattle.sms_centre_recovery.proofs.starting.filling.put_part.Goals as goal
@@ -27,8 +27,8 @@ returns c =
     let found : message_at p.id ms ≡ Some m = ap (λ (n : ℕ). row_at message_key n ms) (sym key) ∙ sym c.in-Some.ensures in
     let open_part = sym c.if-not-waits.ensures in
     if_ok c.put.result
-    (λ f g air ps rises shows.
-    f g air (λ (h : List ℕ). parts_waiting h ms qs ps) (λ (h : List ℕ). parts_waiting h ms qs (p ∷ ps)) shows
-    (subst (λ (l : Load). Waits m.handset (put load_key l) (λ (h : List ℕ). parts_waiting h ms qs ps) (λ (h : List ℕ). parts_waiting h ms qs (p ∷ ps))) (sym c.part_load.ensures)
+    (λ f g links ps rises represents.
+    f g links (λ (h : List ℕ). parts_waiting h ms qs ps) (λ (h : List ℕ). parts_waiting h ms qs (p ∷ ps)) represents
+    (subst (λ (l : QueuedPart). Waits m.handset (put load_key l) (λ (h : List ℕ). parts_waiting h ms qs ps) (λ (h : List ℕ). parts_waiting h ms qs (p ∷ ps))) (sym c.part_load.ensures)
     (part_waits ms qs p m ps found open_part rises)))
     c.put.ensures

@@ -1,10 +1,10 @@
 use Rattle.std.proofs.Common.{◌≡◌, ℕ, List, ◌∷◌, Some, sym, ◌∙◌, ap, subst}
 use Rattle.sms_centre_rows.specs.messages.Messages.{message_at, message_key}
 use Rattle.sms_centre_rows.specs.reports.Waiting.{with_reports}
-use Rattle.sms_centre_queue.specs.queues.Shown.{Waits}
+use Rattle.sms_centre_queue.specs.queues.Representing.{Waits}
 use Rattle.sms_centre_recovery.specs.soundness.RowsOf.{rows_of}
 use Rattle.sms_rows.specs.table.Table.{put, row_at}
-use Rattle.sms_centre_rows.specs.declared.waiting.load.Load.{Load}
+use Rattle.sms_centre_rows.specs.declared.waiting.queued_part.QueuedPart.{QueuedPart}
 use Rattle.sms_centre_rows.specs.waiting.Keys.{load_key}
 use Rattle.sms_centre_recovery.proofs.starting.LoadsWait.{if_ok, report_waits, source_digits}
 use Rattle.sms_centre_recovery.proofs.starting.filling.put_report.Goals as goal
@@ -26,8 +26,8 @@ returns c =
     let found : message_at r.id ms ≡ Some m = ap (λ (n : ℕ). row_at message_key n ms) (sym key) ∙ sym c.in-Some.ensures in
     let waits_now = sym c.if-not-is_open_status.ensures in
     if_ok c.put.result
-    (λ f g air rs w shows.
-    f g air (λ (h : List ℕ). with_reports h ms rs (w h)) (λ (h : List ℕ). with_reports h ms (r ∷ rs) (w h)) shows
-    (subst (λ (l : Load). Waits m.source.digits (put load_key l) (λ (h : List ℕ). with_reports h ms rs (w h)) (λ (h : List ℕ). with_reports h ms (r ∷ rs) (w h))) (sym c.report_load.ensures)
+    (λ f g links rs w represents.
+    f g links (λ (h : List ℕ). with_reports h ms rs (w h)) (λ (h : List ℕ). with_reports h ms (r ∷ rs) (w h)) represents
+    (subst (λ (l : QueuedPart). Waits m.source.digits (put load_key l) (λ (h : List ℕ). with_reports h ms rs (w h)) (λ (h : List ℕ). with_reports h ms (r ∷ rs) (w h))) (sym c.report_load.ensures)
     (report_waits ms w r m rs found waits_now)))
     c.put.ensures

@@ -5,8 +5,8 @@ use Rattle.sms_centre_reports.proofs.awaited.laws.sessions_touch_reports_and_ses
 
 pub returns : goal.returns
 returns c = record {
-  answered = λ session id b d. answered_as id b (row_at session_key session d.desk.sessions) d;
-  unbound = λ session d. unbound_as (row_at session_key session d.desk.sessions) d;
+  answered = λ session id b d. answered_as id b (row_at session_key session d.bindings.sessions) d;
+  unbound = λ session d. unbound_as (row_at session_key session d.bindings.sessions) d;
   bound = λ session place receives a d e. bound_so session place receives a d e;
   no_account = none_bound;
 }

@@ -1,5 +1,5 @@
 use Rattle.std.proofs.Common.{◌≡◌, ℕ, sym, ◌∙◌, ap, arith}
-use Rattle.sms_rows.specs.table.Pending.{PendingOf}
+use Rattle.sms_rows.specs.table.TableDraft.{TableDraftOf}
 use Rattle.sms_rows.specs.table.Table.{RowsInMemory, all_applied, row_at}
 use Rattle.sms_handset_rows.specs.declared.inbox.entry.Entry.{Entry}
 use Rattle.sms_handset_rows.specs.inbox.Keys.{entry_key}
@@ -8,7 +8,7 @@ use Rattle.sms_handset_rows.proofs.inbox.CountedSlots.{no_more, one_put}
 use Rattle.sms_handset_draft.proofs.draft.Draft.put_entry.Goals as goal
 
 -- what the entry takes that stands there
-freed : (n : ℕ) (p : PendingOf Entry) (t : RowsInMemory Entry) (k : ℕ) → p.base ≡ t → k ≡ slots_of (row_at entry_key n (all_applied entry_key p.changes p.base.rows)) → k ≡ slots_of (row_at entry_key n (all_applied entry_key p.changes t.rows))
+freed : (n : ℕ) (p : TableDraftOf Entry) (t : RowsInMemory Entry) (k : ℕ) → p.base ≡ t → k ≡ slots_of (row_at entry_key n (all_applied entry_key p.changes p.base.rows)) → k ≡ slots_of (row_at entry_key n (all_applied entry_key p.changes t.rows))
 freed n p t k e f = f ∙ ap (λ (b : RowsInMemory Entry). slots_of (row_at entry_key n (all_applied entry_key p.changes b.rows))) e
 
 pub retaken-requires : goal.retaken-requires
@@ -24,8 +24,8 @@ invariant_of-self-2 c =
       c.self.invariant.0,
       one_put c.args.entry c.self.inside.entries.changes rows c.self.inside.taken c.in_ok-taken.taken c.slots_at-freed.result c.as_slice-in_order.ensures.order
           c.self.invariant.1 free c.in_ok-taken.ensures
-          ∙ ap (λ (p : PendingOf Entry). slots_taken (all_applied entry_key p.changes rows)) (sym c.in_ok-put.ensures.change),
+          ∙ ap (λ (p : TableDraftOf Entry). slots_taken (all_applied entry_key p.changes rows)) (sym c.in_ok-put.ensures.change),
       c.self.invariant.2,
-      ap (λ (p : PendingOf Entry). p.base) c.in_ok-put.ensures.change ∙ c.self.invariant.3,
+      ap (λ (p : TableDraftOf Entry). p.base) c.in_ok-put.ensures.change ∙ c.self.invariant.3,
       c.self.invariant.4,
     )

@@ -1,5 +1,5 @@
 use Rattle.std.proofs.Common.{◌≡◌, ℕ, [], ◌∷◌, ◌++◌, sym, subst, ◌∙◌, ap, arith}
-use Rattle.sms_rows.specs.table.Pending.{PendingOf}
+use Rattle.sms_rows.specs.table.TableDraft.{TableDraftOf}
 use Rattle.sms_rows.specs.table.Table.{RowsInMemory, all_applied, row_at}
 use Rattle.sms_rows.specs.declared.table.change.Change.TheVariants.{Remove}
 use Rattle.sms_handset_rows.specs.declared.inbox.entry.Entry.{Entry}
@@ -9,7 +9,7 @@ use Rattle.sms_handset_rows.proofs.inbox.CountedSlots.{no_more, one_removed}
 use Rattle.sms_handset_draft.proofs.draft.Draft.remove_entry.Goals as goal
 
 -- what the entry takes that stands there
-freed : (n : ℕ) (p : PendingOf Entry) (t : RowsInMemory Entry) (k : ℕ) → p.base ≡ t → k ≡ slots_of (row_at entry_key n (all_applied entry_key p.changes p.base.rows)) → k ≡ slots_of (row_at entry_key n (all_applied entry_key p.changes t.rows))
+freed : (n : ℕ) (p : TableDraftOf Entry) (t : RowsInMemory Entry) (k : ℕ) → p.base ≡ t → k ≡ slots_of (row_at entry_key n (all_applied entry_key p.changes p.base.rows)) → k ≡ slots_of (row_at entry_key n (all_applied entry_key p.changes t.rows))
 freed n p t k e f = f ∙ ap (λ (b : RowsInMemory Entry). slots_of (row_at entry_key n (all_applied entry_key p.changes b.rows))) e
 
 pub retaken-requires : goal.retaken-requires
@@ -26,8 +26,8 @@ invariant_of-self-2 c =
       subst (λ (n : ℕ). c.in_ok-taken.taken ≡ slots_taken (all_applied entry_key (c.self.inside.entries.changes ++ Remove n ∷ []) rows)) (sym (c.of.ensures ∙ c.from.ensures))
           (one_removed c.args.number c.self.inside.entries.changes rows c.self.inside.taken c.in_ok-taken.taken c.slots_at-freed.result c.as_slice-in_order.ensures.order
           c.self.invariant.1 free c.in_ok-taken.ensures)
-          ∙ ap (λ (p : PendingOf Entry). slots_taken (all_applied entry_key p.changes rows)) (sym c.in_ok-remove.ensures.change),
+          ∙ ap (λ (p : TableDraftOf Entry). slots_taken (all_applied entry_key p.changes rows)) (sym c.in_ok-remove.ensures.change),
       c.self.invariant.2,
-      ap (λ (p : PendingOf Entry). p.base) c.in_ok-remove.ensures.change ∙ c.self.invariant.3,
+      ap (λ (p : TableDraftOf Entry). p.base) c.in_ok-remove.ensures.change ∙ c.self.invariant.3,
       c.self.invariant.4,
     )

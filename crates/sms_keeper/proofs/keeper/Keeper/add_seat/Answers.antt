@@ -1,5 +1,5 @@
 use Rattle.std.proofs.Common.{◌∙◌, ◌++◌, ◌∷◌, [], true≢false, Some, ⊎_elim, List, map, length, slice_get, ap, sym, arith}
-use Rattle.sms_keeper.specs.declared.keeper.Line.{Line}
+use Rattle.sms_keeper.specs.declared.keeper.SeatChannel.{SeatChannel}
 use Rattle.sms_keeper.specs.Jobs.{of, has_end}
 use Rattle.sms_keeper.specs.Keeping.{given_at}
 use Rattle.sms_keeper.proofs.Histories.{given_snoc}
@@ -23,10 +23,10 @@ invariant_of-self-2-clause-ended g c k e = ap (λ v. has_end (of k v.ran)) c.ano
     ∙ ⊎_elim (λ x. c.args.self.now.ended k (ap (λ l. slice_get l k) (sym c.reserve-2.ensures.items) ∙ x)) (λ x. absurd (true≢false (sym x.1))) (slice_get_snoc _ _ _ k (ap (λ l. slice_get l k) (sym c.push_reserved-2.ensures.items) ∙ e))
 
 pub returns-clause-seat : goal.returns-clause-seat
-returns-clause-seat g c = let k = c.len-number.result in let ids = λ (ls : List (Line g.row.O.Denot)). slice_get (map (λ (l : Line g.row.O.Denot). l.pass.table_id) ls) k in record {
+returns-clause-seat g c = let k = c.len-number.result in let ids = λ (ls : List (SeatChannel g.row.O.Denot)). slice_get (map (λ (l : SeatChannel g.row.O.Denot). l.pass.table_id) ls) k in record {
   seat = (
     c.another-pass.ensures.queue.1.0 ∙ ap (λ q. q.table.shared.table_id) c.deref-2.ensures ∙ sym c.args.self.now.seated.0 ∙ sym c.another-pass.ensures.queue.0.0,
-    ap ids c.push_reserved.ensures.items ∙ slice_get_last (λ (l : Line g.row.O.Denot). l.pass.table_id) c.reserve.new.self.items c.in_ok-line.line k (let n = c.len-number.ensures in omega arith) ∙ ap Some (sym c.in_ok-line.ensures.queue.1),
+    ap ids c.push_reserved.ensures.items ∙ slice_get_last (λ (l : SeatChannel g.row.O.Denot). l.pass.table_id) c.reserve.new.self.items c.in_ok-line.line k (let n = c.len-number.ensures in omega arith) ∙ ap Some (sym c.in_ok-line.ensures.queue.1),
   );
   number = (let n = c.len-number.ensures in let e = ap length c.reserve.ensures.items in omega arith);
   slots = ap (λ q. q.cap) c.in_ok-jobs.ensures;
@@ -44,7 +44,7 @@ returns-clause-keeper g c h = record {
 }
 
 pub returns-clause-others : goal.returns-clause-others
-returns-clause-others g c o h = let ids = λ (ls : List (Line g.row.O.Denot)). slice_get (map (λ (l : Line g.row.O.Denot). l.pass.table_id) ls) o.number in (
+returns-clause-others g c o h = let ids = λ (ls : List (SeatChannel g.row.O.Denot)). slice_get (map (λ (l : SeatChannel g.row.O.Denot). l.pass.table_id) ls) o.number in (
   h.0 ∙ sym c.another-pass.ensures.queue.0.0,
-  ap ids (c.push_reserved.ensures.items ∙ ap (λ l. l ++ c.in_ok-line.line ∷ []) c.reserve.ensures.items) ∙ slice_get_map_longer (λ (l : Line g.row.O.Denot). l.pass.table_id) c.args.self.now.lines.items (c.in_ok-line.line ∷ []) _ o.number h.1,
+  ap ids (c.push_reserved.ensures.items ∙ ap (λ l. l ++ c.in_ok-line.line ∷ []) c.reserve.ensures.items) ∙ slice_get_map_longer (λ (l : SeatChannel g.row.O.Denot). l.pass.table_id) c.args.self.now.lines.items (c.in_ok-line.line ∷ []) _ o.number h.1,
 )

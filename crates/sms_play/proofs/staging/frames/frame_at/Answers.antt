@@ -1,6 +1,6 @@
 use Rattle.std.proofs.Common.{ℕ, ◌-◌, List, slice_get, sym, ◌∙◌, ap, arith}
 use Rattle.sms_script.specs.declared.report.rows.FrameRow.{FrameRow}
-use Rattle.sms_play.specs.Course.{frame_at as frame_at_number}
+use Rattle.sms_play.specs.PlayState.{frame_at as frame_at_number}
 use Rattle.sms_play.proofs.staging.Numbered.{frame_from, looked_up, none_at_zero}
 use Rattle.sms_play.proofs.staging.frames.frame_at.Goals as goal
 

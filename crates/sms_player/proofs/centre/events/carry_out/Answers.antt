@@ -10,13 +10,13 @@ pub returns-in-Ok-clause-done : goal.returns-in-Ok-clause-done
 returns-in-Ok-clause-done c = λ event core played is planned.
     let made = c.in-Ok.ensures.ok ∙ ap (λ (x : Changes). rows_after x (rows_in c.args.keep.now)) c.changes.ensures in
     always c.put_in.result _
-    (played_next (happened event core) core c.args.planned.plan (c.what_is_adopted_is_what_happened.ensures event core) planned c.args.centre.now c.put_in.new.centre (rows_in c.args.keep.now) (rows_in c.commit.new.keep) played (c.put_in.ensures.standing event core played.centre is planned) made)
+    (played_next (happened event core) core c.args.planned.plan (c.what_is_adopted_is_what_happened.ensures event core) planned c.args.centre.now c.put_in.new.centre (rows_in c.args.keep.now) (rows_in c.commit.new.keep) played (c.put_in.ensures.centre_state event core played.centre is planned) made)
 
 pub returns-in-Ok-clause-stands : goal.returns-in-Ok-clause-stands
 returns-in-Ok-clause-stands c = λ event core played is planned.
     let made = c.in-Ok.ensures.ok ∙ ap (λ (x : Changes). rows_after x (rows_in c.args.keep.now)) c.changes.ensures in (
       core_of (happened event core),
-      played_next (happened event core) core c.args.planned.plan (c.what_is_adopted_is_what_happened.ensures event core) planned c.args.centre.now c.put_in.new.centre (rows_in c.args.keep.now) (rows_in c.commit.new.keep) played (c.put_in.ensures.standing event core played.centre is planned) made,
+      played_next (happened event core) core c.args.planned.plan (c.what_is_adopted_is_what_happened.ensures event core) planned c.args.centre.now c.put_in.new.centre (rows_in c.args.keep.now) (rows_in c.commit.new.keep) played (c.put_in.ensures.centre_state event core played.centre is planned) made,
     )
 
 pub returns-in-Ok-clause-given : goal.returns-in-Ok-clause-given

@@ -1,31 +1,31 @@
 use Rattle.std.proofs.Common.{sym, subst}
 use Rattle.sms_store_memory.specs.centre.RowsInKeep.{rows_in}
 use Rattle.sms_centre_spec.specs.CentreEvent.{happened}
-use Rattle.sms_centre.specs.plans.Planned.{IsTold}
-use Rattle.sms_centre.specs.declared.plans.planned.Told.{Told}
-use Rattle.sms_player.specs.centre.Shown.{IsPlayed}
+use Rattle.sms_centre.specs.plans.EventOutcome.{AreOutputs}
+use Rattle.sms_centre.specs.declared.plans.event_outcome.Outputs.{Outputs}
+use Rattle.sms_player.specs.centre.PlayedCentre.{Represents}
 use Rattle.sms_player.proofs.centre.Plans.{if_ok}
 use Rattle.sms_player.proofs.centre.events.meet.Goals as goal
 
-pub returns-in-Ok-clause-told : goal.returns-in-Ok-clause-told
-returns-in-Ok-clause-told c = λ core was.
-    if_ok c.carry_out.result _ _ (λ (t : Told) e. subst (λ (x : Told). IsTold (happened c.args.event.now core) x) (sym e) (c.in-Ok.ensures.plan core was).told) c.carry_out.ensures.told
+pub returns-in-Ok-clause-outputs : goal.returns-in-Ok-clause-outputs
+returns-in-Ok-clause-outputs c = λ core was.
+    if_ok c.carry_out.result _ _ (λ (t : Outputs) e. subst (λ (x : Outputs). AreOutputs (happened c.args.event.now core) x) (sym e) (c.in-Ok.ensures.plan core was).outputs) c.carry_out.ensures.outputs
 
 pub returns-in-Ok-clause-played : goal.returns-in-Ok-clause-played
 returns-in-Ok-clause-played c = λ core was.
-    let now : IsPlayed core c.args.centre.now (rows_in c.plan.new.keep) = record { centre = was.centre; kept = c.in-Ok.ensures.same core was; accounts = was.accounts } in
+    let now : Represents core c.args.centre.now (rows_in c.plan.new.keep) = record { centre = was.centre; kept = c.in-Ok.ensures.same core was; accounts = was.accounts } in
     c.carry_out.ensures.done c.args.event.now core now c.in-Ok.ensures.event (c.in-Ok.ensures.plan core was)
 
 pub returns-in-Ok-clause-given : goal.returns-in-Ok-clause-given
 returns-in-Ok-clause-given c = λ core was.
-    let now : IsPlayed core c.args.centre.now (rows_in c.plan.new.keep) = record { centre = was.centre; kept = c.in-Ok.ensures.same core was; accounts = was.accounts } in
+    let now : Represents core c.args.centre.now (rows_in c.plan.new.keep) = record { centre = was.centre; kept = c.in-Ok.ensures.same core was; accounts = was.accounts } in
     c.carry_out.ensures.given c.args.event.now core now (c.in-Ok.ensures.plan core was)
 
 pub returns-in-Ok-clause-stands : goal.returns-in-Ok-clause-stands
 returns-in-Ok-clause-stands c =
     let core = c.requires.stands.0 in
     let was = c.requires.stands.1 in
-    let now : IsPlayed core c.args.centre.now (rows_in c.plan.new.keep) = record { centre = was.centre; kept = c.in-Ok.ensures.same core was; accounts = was.accounts } in
+    let now : Represents core c.args.centre.now (rows_in c.plan.new.keep) = record { centre = was.centre; kept = c.in-Ok.ensures.same core was; accounts = was.accounts } in
     c.carry_out.ensures.stands c.args.event.now core now c.in-Ok.ensures.event (c.in-Ok.ensures.plan core was)
 
 pub returns-in-Err-clause-stands : goal.returns-in-Err-clause-stands

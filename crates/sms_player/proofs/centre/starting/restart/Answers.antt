@@ -3,19 +3,19 @@ use Rattle.sms_store_memory.specs.centre.RowsInKeep.{rows_in}
 use Rattle.sms_centre_spec.specs.CentreEvent.{moment_of, recovered}
 use Rattle.sms_centre_spec.specs.declared.rows.Rows.{Rows}
 use Rattle.sms_centre_spec.specs.declared.setup.Setup.{Setup}
-use Rattle.sms_centre.specs.state.Standing.{IsStanding, StandingOf}
-use Rattle.sms_intake.specs.declared.submission.Account.{Account}
+use Rattle.sms_centre.specs.state.CentreState.{Represents, CentreStateOf}
+use Rattle.sms_intake.specs.declared.submission.CentreAccount.{CentreAccount}
 use Rattle.sms_play.specs.PlayedEvent.{sessions_from}
 use Rattle.sms_player.proofs.centre.Plans.{again_is, recovered_as}
 use Rattle.sms_player.proofs.centre.starting.restart.Goals as goal
 
 pub sessions_of-requires : goal.sessions_of-requires
 sessions_of-requires c = let was = c.requires.stands.1 in
-    subst (λ (accounts : List Account). length accounts ≤ 32) (sym (c.as_slice.ensures ∙ ap (λ (s : Setup). s.accounts) c.setup.ensures ∙ ap (λ (r : Rows). r.setup.accounts) was.kept)) was.accounts
+    subst (λ (accounts : List CentreAccount). length accounts ≤ 32) (sym (c.as_slice.ensures ∙ ap (λ (s : Setup). s.accounts) c.setup.ensures ∙ ap (λ (r : Rows). r.setup.accounts) was.kept)) was.accounts
 
 pub returns-in-Ok-clause-played : goal.returns-in-Ok-clause-played
 returns-in-Ok-clause-played c = λ core was.
-    let seats = c.in_ok-sessions.ensures.sessions ∙ ap (λ (accounts : List Account). sessions_from 0 accounts) (c.as_slice.ensures ∙ ap (λ (s : Setup). s.accounts) c.setup.ensures ∙ ap (λ (r : Rows). r.setup.accounts) was.kept) in
+    let seats = c.in_ok-sessions.ensures.sessions ∙ ap (λ (accounts : List CentreAccount). sessions_from 0 accounts) (c.as_slice.ensures ∙ ap (λ (s : Setup). s.accounts) c.setup.ensures ∙ ap (λ (r : Rows). r.setup.accounts) was.kept) in
     again_is core c.args.handsets.now c.start_again.new.self (rows_in c.args.keep.now)
     (recovered_as core.rows c.args.handsets.now _ _ c.start_again.new.self seats
     (c.in-Ok.ensures.standing core was.centre (c.moment_of-moment.ensures ∙ ap (λ (r : Rows). moment_of r) was.kept)))
@@ -30,4 +30,4 @@ pub returns-in-Err-clause-stands : goal.returns-in-Err-clause-stands
 returns-in-Err-clause-stands c =
     let core = c.requires.stands.0 in
     let was = c.requires.stands.1 in
-    (core, record { centre = subst (λ (s : StandingOf). IsStanding core s) (sym c.in-Err.ensures.same) was.centre; kept = was.kept; accounts = was.accounts })
+    (core, record { centre = subst (λ (s : CentreStateOf). Represents core s) (sym c.in-Err.ensures.same) was.centre; kept = was.kept; accounts = was.accounts })

@@ -1,5 +1,5 @@
 use Rattle.std.proofs.Common.{◌≡◌, ◌++◌, drop}
-use Rattle.sms_play.specs.Course.{numbers_of}
+use Rattle.sms_play.specs.PlayState.{numbers_of}
 use Rattle.sms_player.proofs.heads.handsets.numbers_of.Given as goal
 
 abbrev pub invariant-loop-party : goal.invariant-loop-party

@@ -1,5 +1,5 @@
 use Rattle.std.proofs.Common.{◌∙◌, ap}
-use Rattle.sms_play.specs.Course.{Party}
+use Rattle.sms_play.specs.PlayState.{Party}
 use Rattle.sms_player.proofs.playing.Placed.{first_is}
 use Rattle.sms_player.proofs.playing.places.number_at.Goals as goal
 

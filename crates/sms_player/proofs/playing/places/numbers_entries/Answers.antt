@@ -1,7 +1,7 @@
 use Rattle.std.proofs.Common.{◌≡◌, ℕ, ◌≤◌, ◌^◌, Err, subst}
 use Rattle.sms_handset.specs.HandsetEvent.{deleted, discarded}
 use Rattle.sms_handset.specs.declared.refusal.Refusal.TheVariants.{NoEntry}
-use Rattle.sms_play.specs.Course.{Party}
+use Rattle.sms_play.specs.PlayState.{Party}
 use Rattle.sms_player.proofs.playing.Placed.{first_is}
 use Rattle.sms_player.proofs.playing.places.numbers_entries.Goals as goal
 

@@ -1,7 +1,7 @@
 use Rattle.std.proofs.Common.{◌≡◌, ◌∙◌, refl, sym, subst}
 use Rattle.std.specs.Prelude.{OnOk}
 use Rattle.sms_handset_draft.specs.Draft.{recovered}
-use Rattle.sms_play.specs.Course.{Party}
+use Rattle.sms_play.specs.PlayState.{Party}
 use Rattle.sms_player.proofs.playing.Placed.{first_is}
 use Rattle.sms_player.proofs.playing.sides.restart_at.Goals as goal
 

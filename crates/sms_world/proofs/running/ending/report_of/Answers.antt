@@ -3,4 +3,4 @@ use Rattle.sms_world.proofs.running.Telling.{report_told}
 use Rattle.sms_world.proofs.running.ending.report_of.Goals as goal
 
 pub returns : goal.returns
-returns c = λ course shown. report_told c.report.result c.or_no_memory.result c.args.events (report_of course) c.or_no_memory.ensures (c.report.ensures course shown)
+returns c = λ play shown. report_told c.report.result c.or_no_memory.result c.args.events (report_of play) c.or_no_memory.ensures (c.report.ensures play shown)

@@ -1,6 +1,6 @@
 use Rattle.std.proofs.Common.{◌∙◌, ap, List, ℕ, sym, subst}
 use Rattle.sms_player.specs.heads.Heads.{AreHandsets}
-use Rattle.sms_play.specs.Course.{Party, numbers_of}
+use Rattle.sms_play.specs.PlayState.{Party, numbers_of}
 use Rattle.sms_world.proofs.running.opening.opening_of.Goals as goal
 
 pub returns-clause-handsets : goal.returns-clause-handsets

@@ -1,5 +1,5 @@
 use Rattle.std.proofs.Common.{◌∙◌, ap, List, ℕ, sym, subst}
-use Rattle.sms_play.specs.Course.{Party, numbers_of}
+use Rattle.sms_play.specs.PlayState.{Party, numbers_of}
 use Rattle.sms_player.specs.heads.Heads.{AreHandsets}
 use Rattle.sms_world.proofs.running.opening.play_among.Goals as goal
 

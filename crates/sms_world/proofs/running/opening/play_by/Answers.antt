@@ -2,7 +2,7 @@ use Rattle.std.proofs.Common.{[], None, ◌∙◌, ap}
 use Rattle.sms_play.specs.Playing.{broken_on, played_on}
 use Rattle.sms_play.specs.Setups.{beginning}
 use Rattle.sms_store_memory.specs.centre.RowsInKeep.{rows_in}
-use Rattle.sms_player.specs.centre.Shown.{PlayedOf}
+use Rattle.sms_player.specs.centre.PlayedCentre.{PlayedOf}
 use Rattle.sms_player.specs.playing.Played.{PlayingOf}
 use Rattle.sms_world.proofs.running.Beginning.{begun}
 use Rattle.sms_world.proofs.running.Telling.{decided_there, no_report, report_there}

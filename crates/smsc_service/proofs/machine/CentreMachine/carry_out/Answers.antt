@@ -7,11 +7,11 @@ use Rattle.smsc_service.proofs.Stepped.{rows_then, stopped}
 use Rattle.smsc_service.proofs.machine.CentreMachine.carry_out.Goals as goal
 
 pub returns-in-Ok-clause-committed : goal.returns-in-Ok-clause-committed
-returns-in-Ok-clause-committed g c = λ honest event core is standing plans holds. (
+returns-in-Ok-clause-committed g c = λ honest event core is centre_state plans holds. (
   subst (λ (r : Rows). g.K.Keep.holds c.commit.new.keep r)
       (ap (λ (x : Changes). rows_after x core.rows) c.changes.ensures ∙ rows_then event core c.args.planned.plan plans)
       (c.in-Ok.ensures.ok honest core.rows holds),
-  c.adopt.ensures.standing event core standing is plans,
+  c.adopt.ensures.centre_state event core centre_state is plans,
 )
 
 pub returns-in-Ok-clause-stop : goal.returns-in-Ok-clause-stop

@@ -7,7 +7,7 @@ returns-in-Ok-clause-gives g c = λ honest event s serving is plan.
 
 pub returns-in-Err-clause-gives : goal.returns-in-Err-clause-gives
 returns-in-Err-clause-gives g c = λ honest event s serving is plan.
-    is_undone (g.K.Keep.holds c.args.self.now.machine.keep) (g.K.Keep.is_closed c.args.self.now.machine.keep) c.args.self.now.machine.centre c.args.self.now.floor s c.args.stimulus.now event c.unmade.result.fate _
+    is_undone (g.K.Keep.holds c.args.self.now.machine.keep) (g.K.Keep.is_closed c.args.self.now.machine.keep) c.args.self.now.machine.centre c.args.self.now.seat_map s c.args.stimulus.now event c.unmade.result.fate _
     c.unmade.ensures.fate c.unmade.ensures.history serving
 
 pub returns-in-Ok-clause-refused : goal.returns-in-Ok-clause-refused

@@ -1,6 +1,6 @@
 use Rattle.std.proofs.Common.{◌∙◌, ap, subst, sym}
 use Rattle.sms_rows.specs.keep.Refusing.{one_more}
-use Rattle.sms_centre.specs.state.Standing.{IsStanding, StandingOf}
+use Rattle.sms_centre.specs.state.CentreState.{Represents, CentreStateOf}
 use Rattle.smsc_service.specs.Seats.{Seats, seats_in}
 use Rattle.smsc_service.specs.Serving.{followed_by}
 use Rattle.smsc_service.proofs.ByFate.{gave_up, was_refused}
@@ -9,15 +9,15 @@ use Rattle.smsc_service.proofs.service.Service.meet.Goals as goal
 pub returns-in-Ok-clause-gives : goal.returns-in-Ok-clause-gives
 returns-in-Ok-clause-gives g c = λ honest s serving.
     let planned = c.in-Ok.ensures.plan (c.go_on.ensures.before honest) s.core serving.centre serving.rows in
-    let standing = subst (λ (x : StandingOf). IsStanding s.core x) (sym c.plan.ensures.same) serving.centre in
-    c.go_on.ensures.gives honest c.args.event.now s (record { rows = planned.1.0; centre = standing; seats = serving.seats }) c.plan.ensures.event planned.0
+    let centre_state = subst (λ (x : CentreStateOf). Represents s.core x) (sym c.plan.ensures.same) serving.centre in
+    c.go_on.ensures.gives honest c.args.event.now s (record { rows = planned.1.0; centre = centre_state; seats = serving.seats }) c.plan.ensures.event planned.0
 
 pub returns-in-Err-clause-gives : goal.returns-in-Err-clause-gives
 returns-in-Err-clause-gives g c = λ honest s serving.
-    let standing = subst (λ (x : StandingOf). IsStanding s.core x) (sym c.plan.ensures.same) serving.centre in
-    gave_up (g.K.Keep.holds c.plan.new.self.keep) (g.K.Keep.is_closed c.plan.new.self.keep) c.plan.new.self.centre c.give_up.new.floor s c.args.stimulus.now c.args.event.now c.give_up.result.fate c.give_up.result.to_history
-    (g.K.Keep.refusals c.args.self.now.machine.keep) (g.K.Keep.refusals c.plan.new.self.keep) c.in-Err.error (seats_in c.args.self.now.floor) (followed_by c.args.stimulus.now (seats_in c.args.self.now.floor)) c.give_up.ensures.floor serving.seats (ap (λ (x : Seats). followed_by c.args.stimulus.now x) serving.seats)
-    c.give_up.ensures.history standing (c.in-Err.ensures.plan honest s.core serving.centre serving.rows)
+    let centre_state = subst (λ (x : CentreStateOf). Represents s.core x) (sym c.plan.ensures.same) serving.centre in
+    gave_up (g.K.Keep.holds c.plan.new.self.keep) (g.K.Keep.is_closed c.plan.new.self.keep) c.plan.new.self.centre c.give_up.new.seat_map s c.args.stimulus.now c.args.event.now c.give_up.result.fate c.give_up.result.to_history
+    (g.K.Keep.refusals c.args.self.now.machine.keep) (g.K.Keep.refusals c.plan.new.self.keep) c.in-Err.error (seats_in c.args.self.now.seat_map) (followed_by c.args.stimulus.now (seats_in c.args.self.now.seat_map)) c.give_up.ensures.seat_map serving.seats (ap (λ (x : Seats). followed_by c.args.stimulus.now x) serving.seats)
+    c.give_up.ensures.history centre_state (c.in-Err.ensures.plan honest s.core serving.centre serving.rows)
 
 pub returns-in-Ok-clause-refused : goal.returns-in-Ok-clause-refused
 returns-in-Ok-clause-refused g c = λ honest s serving e.
@@ -27,4 +27,4 @@ returns-in-Ok-clause-refused g c = λ honest s serving e.
 pub returns-in-Err-clause-refused : goal.returns-in-Err-clause-refused
 returns-in-Err-clause-refused g c = λ honest s serving e.
     was_refused (g.K.Keep.holds c.plan.new.self.keep) (g.K.Keep.is_closed c.plan.new.self.keep) (g.K.Keep.refusals c.args.self.now.machine.keep) (g.K.Keep.refusals c.plan.new.self.keep) s c.args.event.now c.in-Err.error _ _ _ _
-    c.give_up.ensures.floor (c.in-Err.ensures.plan honest s.core serving.centre serving.rows) e
+    c.give_up.ensures.seat_map (c.in-Err.ensures.plan honest s.core serving.centre serving.rows) e

@@ -7,5 +7,5 @@ use Rattle.sms_centre_recovery.proofs.soundness.tables.RowTables.has_tellable.Go
 pub returns : goal.returns
 returns c =
     let rows = c.args.self.now.messages.rows in
-    let is = c.are_told.ensures ∙ ap (λ l. list_all is_told l) c.as_slice.ensures.rows in
+    let is = c.have_report_addresses.ensures ∙ ap (λ l. list_all is_told l) c.as_slice.ensures.rows in
     (λ e. told_from rows (sym is ∙ e), λ f. is ∙ told_to rows f)

@@ -1,7 +1,7 @@
 use Rattle.std.proofs.Common.{◌≡◌, ℕ, ◌≤◌, ◌^◌, Err, arith, subst}
 use Rattle.sms_handset.specs.HandsetEvent.{deleted, discarded}
 use Rattle.sms_handset.specs.declared.refusal.Refusal.TheVariants.{NoEntry}
-use Rattle.sms_play.specs.Course.{Party}
+use Rattle.sms_play.specs.PlayState.{Party}
 use Rattle.sms_player.proofs.handset.Beyond.{none_to_delete, none_to_discard}
 use Rattle.sms_player.proofs.handset.played.PlayedHandset.numbers_its_entries.Goals as goal
 

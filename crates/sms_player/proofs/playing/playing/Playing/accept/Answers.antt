@@ -1,10 +1,10 @@
 use Rattle.std.proofs.Common.{sym, subst}
-use Rattle.sms_player.specs.playing.Courses.{Shows}
+use Rattle.sms_player.specs.playing.Plays.{Represents}
 use Rattle.sms_player.specs.playing.Played.{PlayingOf}
 use Rattle.sms_player.proofs.playing.playing.Playing.accept.Goals as goal
 
-pub returns-clause-shows : goal.returns-clause-shows
-returns-clause-shows c = λ course shown. c.in_ok-heard.ensures.shows course (subst (λ (p : PlayingOf). Shows course p) (sym c.self.view_is) shown)
+pub returns-clause-represents : goal.returns-clause-represents
+returns-clause-represents c = λ play shown. c.in_ok-heard.ensures.represents play (subst (λ (p : PlayingOf). Represents play p) (sym c.self.view_is) shown)
 
 pub returns-clause-more : goal.returns-clause-more
-returns-clause-more c = λ course shown. c.in_ok-heard.ensures.deliveries course (subst (λ (p : PlayingOf). Shows course p) (sym c.self.view_is) shown)
+returns-clause-more c = λ play shown. c.in_ok-heard.ensures.deliveries play (subst (λ (p : PlayingOf). Represents play p) (sym c.self.view_is) shown)

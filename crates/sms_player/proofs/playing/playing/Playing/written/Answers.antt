@@ -8,12 +8,12 @@ use Rattle.sms_script.specs.declared.event.Act.TheVariants.{Write}
 use Rattle.sms_player.proofs.playing.playing.Playing.written.Goals as goal
 
 pub returns-in_default : goal.returns-in_default
-returns-in_default c = λ course shown.
-    no_side c.args.stop c.args.event (Write c.args.handset.now c.args.to.now c.args.report c.args.text.now) (WriteEvent (chars c.args.text.now) c.args.to.now c.args.report) c.args.handset.now course refl c.args.self.now c.args.self.now.parties shown.parties (sym c.in_default.ensures.place)
+returns-in_default c = λ play shown.
+    no_side c.args.stop c.args.event (Write c.args.handset.now c.args.to.now c.args.report c.args.text.now) (WriteEvent (chars c.args.text.now) c.args.to.now c.args.report) c.args.handset.now play refl c.args.self.now c.args.self.now.parties shown.parties (sym c.in_default.ensures.place)
 
 pub returns : goal.returns
-returns c = λ course shown.
+returns c = λ play shown.
     let act = Write c.args.handset.now c.args.to.now c.args.report c.args.text.now in
-    let found = at_side c.args.stop c.args.event act (WriteEvent (chars c.args.text.now) c.args.to.now c.args.report) c.args.handset.now course refl c.in-Some.place c.args.self.now.parties shown.parties (sym c.in-Some.ensures.place) in
-    or_none c.write.result c.or_no_memory.result c.args.event c.write.new.self (met_as c.args.stop c.args.event act (AtHandset found.0 (WriteEvent (chars c.args.text.now) c.args.to.now c.args.report)) course) (acted c.args.stop c.args.event act course)
-    c.or_no_memory.ensures found.1.1 (c.write.ensures course found.0 act shown found.1.0 refl)
+    let found = at_side c.args.stop c.args.event act (WriteEvent (chars c.args.text.now) c.args.to.now c.args.report) c.args.handset.now play refl c.in-Some.place c.args.self.now.parties shown.parties (sym c.in-Some.ensures.place) in
+    or_none c.write.result c.or_no_memory.result c.args.event c.write.new.self (met_as c.args.stop c.args.event act (AtHandset found.0 (WriteEvent (chars c.args.text.now) c.args.to.now c.args.report)) play) (acted c.args.stop c.args.event act play)
+    c.or_no_memory.ensures found.1.1 (c.write.ensures play found.0 act shown found.1.0 refl)

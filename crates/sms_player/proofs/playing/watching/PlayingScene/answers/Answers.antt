@@ -3,4 +3,4 @@ use Rattle.sms_player.specs.playing.Played.{PlayingOf}
 use Rattle.sms_player.proofs.playing.watching.PlayingScene.answers.Goals as goal
 
 pub returns : goal.returns
-returns c = λ course shown. c.as_slice.ensures ∙ ap (λ (p : PlayingOf). p.answers) c.self.view_is ∙ shown.answers
+returns c = λ play shown. c.as_slice.ensures ∙ ap (λ (p : PlayingOf). p.answers) c.self.view_is ∙ shown.answers

@@ -1,5 +1,0 @@
-use Rattle.sms_base.proofs.UtcClocks.{clock_shows}
-use Rattle.sms_base.proofs.laws.clock_of_a_moment_shows.Goals as goal
-
-pub returns : goal.returns
-returns c = clock_shows

@@ -1,0 +1,32 @@
+use Rattle.std.proofs.Common.{List, ap, subst}
+use Rattle.sms_centre_messages.specs.references.ReferenceIndex.{Represents as ReferencesRepresent}
+use Rattle.sms_centre_messages.specs.references.Moves.{AreMoves, ArePartMoves}
+use Rattle.sms_centre_messages.specs.message_index.MessageIndex.{Represents, Matches}
+use Rattle.sms_centre_rows.specs.declared.messages.message.MessageRow.{MessageRow}
+use Rattle.sms_centre_rows.specs.declared.messages.part.PartRow.{PartRow}
+use Rattle.sms_centre_rows.specs.messages.Messages.{message_key, part_key, part_reaching}
+use Rattle.sms_centre_queue.specs.queues.Plan.{IsAdopted}
+use Rattle.sms_rows.specs.declared.table.change.Change.{Change}
+use Rattle.sms_rows.specs.table.Table.{Rises, all_applied}
+use Rattle.sms_centre_rows.specs.declared.waiting.revision.Revision.{Revision}
+use Rattle.sms_centre_rows.specs.waiting.Revisions.{all_revised}
+use Rattle.sms_centre.specs.plans.NextState.{NextStateOf}
+use Rattle.sms_centre.proofs.plans.Adopted.{centre_after, reference_index_after}
+use Rattle.sms_centre.proofs.plans.event_outcome.EventOutcome.adopt.Goals as goal
+
+pub returns-clause-centre : goal.returns-clause-centre
+returns-clause-centre c = λ event core setup is planned was.
+    let next_state = c.next_state.view_is in
+    centre_after event core c.args.self is planned setup c.args.moment.now c.next_state.inside.moment c.args.messages.now c.adopt-2.new.self c.args.queues.now c.adopt-3.new.self c.args.reports.now c.next_state.inside.reports c.args.sessions.now.rows c.next_state.inside.sessions.rows was
+    (ap (λ (l : NextStateOf). l.moment) next_state)
+    (subst (λ (l : NextStateOf). (ms : List MessageRow) (ps others : List PartRow) → Represents c.args.messages.now ms ps → Matches l.messages ps others → Represents c.adopt-2.new.self (all_applied message_key c.args.self.changes.messages ms) others) next_state c.adopt-2.ensures)
+    (subst (λ (l : NextStateOf). IsAdopted l.queues c.adopt-3.new.self) next_state c.adopt-3.ensures)
+    (ap (λ (l : NextStateOf). l.reports) next_state) (ap (λ (l : NextStateOf). l.sessions) next_state)
+
+pub returns-clause-holds : goal.returns-clause-holds
+returns-clause-holds c = λ event core setup is planned was holds.
+    reference_index_after event core c.args.self is planned setup c.args.moment.now c.args.messages.now c.args.queues.now c.args.reports.now c.args.sessions.now.rows c.args.reference_index.now c.adopt.new.self was holds
+    (subst (λ (m : List (Change MessageRow)). (ms : List MessageRow) (ps : List PartRow) → ReferencesRepresent c.args.reference_index.now ms ps → Rises message_key ms → Rises part_key ps → AreMoves m ms ps
+    → ArePartMoves m c.args.self.changes.parts (all_applied message_key m ms) ps → ReferencesRepresent c.adopt.new.self (all_applied message_key m ms) (all_revised part_key part_reaching c.args.self.changes.parts ps)) c.as_slice.ensures
+    (subst (λ (r : List (Revision PartRow)). (ms : List MessageRow) (ps : List PartRow) → ReferencesRepresent c.args.reference_index.now ms ps → Rises message_key ms → Rises part_key ps → AreMoves c.as_slice.result.now ms ps
+    → ArePartMoves c.as_slice.result.now r (all_applied message_key c.as_slice.result.now ms) ps → ReferencesRepresent c.adopt.new.self (all_applied message_key c.as_slice.result.now ms) (all_revised part_key part_reaching r ps)) c.as_slice-2.ensures c.adopt.ensures))

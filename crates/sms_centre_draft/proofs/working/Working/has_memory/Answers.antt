@@ -1,6 +1,0 @@
-use Rattle.sms_centre_spec.specs.Draft.{in_store}
-use Rattle.sms_centre_spec.specs.Receiving.{due_now}
-use Rattle.sms_centre_draft.proofs.working.Working.has_memory.Goals as goal
-
-pub returns : goal.returns
-returns c = λ d shows. c.empty.ensures (in_store (due_now c.args.handset d.store) d) (c.in_ok-due_now.ensures d shows)

@@ -1,0 +1,60 @@
+//! Links to handsets that are lost, and timers that fire.
+ghost use Rattle.std.specs.Prelude.{◌≡◌, max, OnOk, IfOk};
+ghost use Rattle.sms_rows.specs.table.Keys.{AllDigits};
+ghost use Rattle.sms_link.specs.LinkTurn.{fired as fired_link};
+ghost use Rattle.sms_centre_rows.specs.waiting.Links.{line_of, lowered, put_line, turn_line};
+ghost use Rattle.sms_centre_spec.specs.CentreEvent.{at_moment as at_moment_of};
+ghost use Rattle.sms_centre_spec.specs.Draft.{Draft, on_links};
+ghost use Rattle.sms_centre_draft.specs.CentreDraft.{Represents};
+
+use crate::centre_draft::CentreDraft;
+use sms_base::{Carried, Digits, Moment};
+use sms_link::Upward;
+use std::alloc::AllocError;
+
+fn later(one: Moment, other: Moment) -> Moment
+    ensures { result ≡ max one other }
+{
+    if one.seconds() < other.seconds() {
+        return other;
+    }
+    one
+}
+
+impl<'a> CentreDraft<'a> {
+    /// What is under way to the handset.
+    pub fn under_way(&self, handset: Digits) -> Option<Carried>
+        requires digits { AllDigits handset }
+        ensures { (d : Draft) → Represents d self.now → result ≡ (line_of handset d.links.lines).link.under_way }
+    {
+        self.queues.under_way(&handset)
+    }
+
+    /// The line of the handset is down, and new once it comes up.
+    pub fn lower_line(&mut self, handset: Digits) -> Result<(), AllocError>
+        requires digits { AllDigits handset }
+        ensures { (d : Draft) → Represents d self.old → OnOk result (Represents (on_links (put_line (lowered (line_of handset d.links.lines)) d.links) d) self.new) }
+    {
+        self.queues.lower(handset)?;
+        Ok(())
+    }
+
+    /// The timers of the handset's line fire that are due: gives what goes up.
+    pub fn fire_timers(&mut self, handset: Digits) -> Result<Option<Upward>, AllocError>
+        requires digits { AllDigits handset }
+        ensures up { (d : Draft) → Represents d self.old → IfOk result (λ up. up ≡ (fired_link d.store.moment (line_of handset d.links.lines).link).out.up) }
+        ensures state { (d : Draft) → Represents d self.old
+            → OnOk result (Represents (on_links (turn_line (line_of handset d.links.lines) (fired_link d.store.moment (line_of handset d.links.lines).link) d.links) d) self.new) }
+    {
+        let up = self.queues.fire(handset, self.moment)?;
+        Ok(up)
+    }
+
+    /// Moves the moment forward, never back.
+    pub fn at_moment(&mut self, now: Moment)
+        ensures { (d : Draft) → Represents d self.old → Represents (at_moment_of now d) self.new }
+    {
+        let moment = later(self.moment, now);
+        self.moment = moment;
+    }
+}

@@ -1,8 +1,0 @@
-use Rattle.sms_centre_messages.proofs.held.PastOnes.{all_confirmed, each_past}
-use Rattle.sms_centre_messages.proofs.held.laws.messages_expire_by_what_is_kept.Goals as goal
-
-pub returns-clause-steps : goal.returns-clause-steps
-returns-clause-steps g c = λ step now ms s keys. each_past step now ms s keys
-
-pub returns-clause-numbers : goal.returns-clause-numbers
-returns-clause-numbers g c = λ now ms numbers keys order covers. all_confirmed now ms numbers keys order covers

@@ -1,9 +1,0 @@
-use Rattle.std.proofs.Common.{ap}
-use Rattle.sms_centre_messages.specs.held.MessagesInMemory.{KeptOf}
-use Rattle.sms_centre_messages.proofs.held.Showing.{shows_opened}
-use Rattle.sms_centre_messages.proofs.held.pending.PendingMessages.of.Goals as goal
-
-pub returns : goal.returns
-returns c = λ ms ps qs h.
-    shows_opened (record { kept = c.args.kept.now; messages = c.new-messages.result; parts = c.of-parts.result; priorities = c.new-priorities.result.items })
-    c.kept.inside.parts ms ps qs c.new-messages.ensures c.of-parts.ensures (ap (λ (k : KeptOf). k.parts) c.kept.view_is) c.new-priorities.ensures.items h

@@ -1,0 +1,11 @@
+use Rattle.std.proofs.Common.{sym, subst}
+use Rattle.sms_centre_rows.specs.messages.Messages.{amend_part}
+use Rattle.sms_centre_rows.specs.messages.PartEntries.{PartsOf}
+use Rattle.sms_centre_messages.specs.message_index.MessageIndex.{MessageIndexDraftOf, DraftRepresents}
+use Rattle.sms_centre_messages.proofs.message_index.Representing.{represents_amended}
+use Rattle.sms_centre_messages.proofs.message_index.draft.MessageIndexDraft.amend_part.Goals as goal
+
+pub returns : goal.returns
+returns c = λ m row s there is.
+    subst (λ (ps : PartsOf). DraftRepresents (record { kept = c.self.inside.kept.now; messages = c.self.inside.messages; parts = ps; priorities = c.self.inside.priorities.items }) (amend_part row c.args.progress.now m)) (sym c.in_ok-amend.ensures)
+    (represents_amended c.args.entry.now c.args.progress.now row (record { kept = c.self.inside.kept.now; messages = c.self.inside.messages; parts = c.self.inside.parts; priorities = c.self.inside.priorities.items }) m (subst (λ (p : MessageIndexDraftOf). DraftRepresents p m) (sym c.self.view_is) s) there is)

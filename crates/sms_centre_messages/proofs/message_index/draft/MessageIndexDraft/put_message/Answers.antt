@@ -1,0 +1,12 @@
+use Rattle.std.proofs.Common.{List, sym, subst}
+use Rattle.sms_centre_rows.specs.declared.messages.message.MessageRow.{MessageRow}
+use Rattle.sms_centre_rows.specs.messages.Messages.{put_message}
+use Rattle.sms_rows.specs.declared.table.change.Change.{Change}
+use Rattle.sms_centre_messages.specs.message_index.MessageIndex.{MessageIndexDraftOf, DraftRepresents}
+use Rattle.sms_centre_messages.proofs.message_index.Representing.{represents_message}
+use Rattle.sms_centre_messages.proofs.message_index.draft.MessageIndexDraft.put_message.Goals as goal
+
+pub returns : goal.returns
+returns c = λ m s.
+    subst (λ (cs : List (Change MessageRow)). DraftRepresents (record { kept = c.self.inside.kept.now; messages = cs; parts = c.self.inside.parts; priorities = c.self.inside.priorities.items }) (put_message c.args.row m)) (sym c.in_ok-push.ensures.ok)
+    (represents_message c.args.row (record { kept = c.self.inside.kept.now; messages = c.self.inside.messages; parts = c.self.inside.parts; priorities = c.self.inside.priorities.items }) m (subst (λ (p : MessageIndexDraftOf). DraftRepresents p m) (sym c.self.view_is) s))

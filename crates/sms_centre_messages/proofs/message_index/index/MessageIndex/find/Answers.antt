@@ -1,0 +1,18 @@
+use Rattle.std.proofs.Common.{◌≡◌, ℕ, Option, IfOk, sym, ◌∙◌, ap, subst}
+use Rattle.sms_centre_rows.specs.declared.messages.message.MessageRow.{MessageRow}
+use Rattle.sms_rows.specs.table.Table.{row_at}
+use Rattle.sms_centre_messages.specs.message_index.Entries.{message_entry_key}
+use Rattle.sms_centre_messages.specs.message_index.MessageIndex.{Represents, MessageIndexOf}
+use Rattle.sms_centre_messages.proofs.message_index.IndexRepresents.{found_none, found_row}
+use Rattle.sms_centre_messages.proofs.message_index.index.MessageIndex.find.Goals as goal
+
+pub returns-in-Some : goal.returns-in-Some
+returns-in-Some c = λ ms ps h.
+    let f = found_row (record { names = c.self.inside.names; messages = c.self.inside.messages; parts = c.self.inside.parts; deadlines = c.self.inside.deadlines }) ms ps c.args.id c.in-Some.entry.now (subst (λ (k : MessageIndexOf). Represents k ms ps) (sym c.self.view_is) h)
+    (ap (λ (k : ℕ). row_at message_entry_key k c.self.inside.messages.rows) (sym (c.of.ensures ∙ c.number.ensures.value)) ∙ sym c.in-Some.ensures) in
+    subst (λ (o : Option MessageRow). IfOk c.row.result (λ (r : Option MessageRow). r ≡ o)) (sym f.1.0) (c.row.ensures f.0 f.1.1)
+
+pub returns-in-None : goal.returns-in-None
+returns-in-None c = λ ms ps h.
+    sym (found_none (record { names = c.self.inside.names; messages = c.self.inside.messages; parts = c.self.inside.parts; deadlines = c.self.inside.deadlines }) ms ps c.args.id (subst (λ (k : MessageIndexOf). Represents k ms ps) (sym c.self.view_is) h)
+    (ap (λ (k : ℕ). row_at message_entry_key k c.self.inside.messages.rows) (sym (c.of.ensures ∙ c.number.ensures.value)) ∙ sym c.in-None.ensures))

@@ -1,0 +1,8 @@
+use Rattle.std.proofs.Common.{◌∙◌}
+use Rattle.sms_centre_messages.proofs.message_index.PutPlaces.{puts_pushed}
+use Rattle.sms_centre_messages.proofs.message_index.part_changes.PartChanges.put.Goals as goal
+
+pub invariant_of-self-2 : goal.invariant_of-self-2
+invariant_of-self-2 c =
+    puts_pushed c.self.inside.changes.items c.reserve.new.self.items c.push_reserved.new.self.items c.args.row c.number.result c.len-place.result c.self.inside.places.entries c.insert.new.self.entries
+    c.self.invariant c.in_ok-reserve.ensures.items c.push_reserved.ensures.items (c.number.ensures ∙ c.key.ensures) (c.len-place.ensures ∙ c.reserve.new.self.ok.0) c.in_ok-insert.ensures.updates.0

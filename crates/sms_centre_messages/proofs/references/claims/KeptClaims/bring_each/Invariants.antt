@@ -1,8 +1,0 @@
-use Rattle.std.proofs.Common.{[], take}
-use Rattle.sms_centre_rows.specs.messages.Messages.{part_key}
-use Rattle.sms_rows.specs.table.Table.{Rises}
-use Rattle.sms_centre_messages.specs.references.Claims.{AreFew, Holds}
-use Rattle.sms_centre_messages.proofs.references.claims.KeptClaims.bring_each.Given as goal
-
-abbrev pub invariant-loop-part : goal.invariant-loop-part
-invariant-loop-part l = Holds l.initial.self l.messages.rows [] → Rises part_key l.parts → AreFew l.messages.rows l.parts → Holds l.self l.messages.rows (take l.part-index l.parts)

@@ -1,8 +1,0 @@
-use Rattle.std.proofs.Common.{◌<◌, [], length, take}
-use Rattle.sms_centre_rows.specs.messages.Messages.{message_key}
-use Rattle.sms_rows.specs.table.Table.{Rises}
-use Rattle.sms_centre_messages.specs.references.Claims.{Holds}
-use Rattle.sms_centre_messages.proofs.references.claims.KeptClaims.enter_each.Given as goal
-
-abbrev pub invariant-loop-row : goal.invariant-loop-row
-invariant-loop-row l = Holds l.initial.self [] [] → Rises message_key l.rows → length l.rows < 18446744073709551615 → Holds l.self (take l.row-index l.rows) []

@@ -1,0 +1,7 @@
+pub mod Entries
+pub mod Expiring
+pub mod MessageIndex
+pub mod Newest
+pub mod Puts
+pub mod Settling
+pub mod Summaries

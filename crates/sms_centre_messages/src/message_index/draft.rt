@@ -1,0 +1,150 @@
+//! Messages, parts and priorities in the middle of an event.
+ghost use Rattle.std.specs.Prelude.{◌≡◌, [], ℕ, List, Some, OnOk, IfOk, length, option_copied};
+ghost use Rattle.sms_centre_messages.specs.message_index.MessageIndex.{Fits, Represents, DraftRepresents, found_part, opened};
+ghost use Rattle.sms_centre_messages.specs.message_index.Puts.{tpdu_put};
+ghost use Rattle.sms_centre_messages.specs.message_index.Settling.{IsSettled};
+ghost use Rattle.sms_rows.specs.table.Keys.{pair_key};
+ghost use Rattle.sms_centre_rows.specs.messages.Messages.{Messages, all_done, amend_part, message_at, messages_of, part_at, parts_of, put_message, put_part, put_priority};
+ghost use Rattle.sms_centre_rows.specs.messages.PartEntries.{Few, part_entry};
+ghost use Rattle.sms_centre_rows.specs.declared.messages.message.MessageRow.{MessageRow as MessageRowOf};
+ghost use Rattle.sms_centre_rows.specs.declared.messages.part.PartRow.{PartRow as PartRowOf};
+ghost use Rattle.sms_centre_rows.specs.declared.messages.priority.PriorityRow.{PriorityRow as PriorityRowOf};
+
+use crate::message_index::changes::NewestChanges;
+use crate::message_index::copying::copy_left_by;
+use crate::message_index::parts_draft::PartsDraft;
+use crate::message_index::index::{MessageIndex, MessageIndexReserve};
+use sms_base::{Listed, MessageId};
+use sms_centre_rows::messages::{MessageRow, PartEntry, PartRow, PriorityRow};
+use sms_centre_rows::waiting::{Progress, Revision};
+use sms_rows::table::{Change, Key};
+use std::alloc::{AllocError, Global};
+use std::marker::Model;
+
+/// Messages, parts and priorities within an event: those from before it, and those that it put.
+#[derive(Drop)]
+pub struct MessageIndexDraft<'a> {
+    alloc: Global,
+    kept: &'a MessageIndex,
+    messages: NewestChanges<MessageRow>,
+    parts: PartsDraft<'a>,
+    priorities: Vec<Change<PriorityRow>>,
+}
+
+impl<'a> Model for MessageIndexDraft<'a> {
+    ghost use Rattle.sms_centre_messages.specs.message_index.MessageIndex.{MessageIndexDraftOf};
+
+    ghost Value = { MessageIndexDraftOf };
+
+    ghost view = { λ p. record { kept = p.kept.now; messages = p.messages; parts = p.parts; priorities = p.priorities.items } };
+}
+
+/// What an event changed, of each list in order, and the memory that it takes.
+#[derive(Drop)]
+pub struct MessageIndexPlan {
+    pub messages: Listed<Change<MessageRow>>,
+    pub parts: Listed<Revision<PartRow>>,
+    pub priorities: Listed<Change<PriorityRow>>,
+    pub reserve: MessageIndexReserve,
+}
+
+impl<'a> MessageIndexDraft<'a> {
+    /// The messages as an event begins.
+    pub fn of(alloc: Global, kept: &'a MessageIndex) -> MessageIndexDraft<'a>
+        ensures { (ms : List MessageRowOf) (ps : List PartRowOf) (qs : List PriorityRowOf) → Represents kept.entry.now ms ps → DraftRepresents result (opened ms ps qs) }
+    {
+        let messages = NewestChanges::new(alloc);
+        let parts = PartsDraft::of(alloc, &kept.parts);
+        let priorities = Vec::new(alloc);
+        MessageIndexDraft {
+            alloc,
+            kept,
+            messages,
+            parts,
+            priorities,
+        }
+    }
+
+    /// The present message of that number, in memory of its own.
+    pub fn find(&self, id: MessageId) -> Result<Option<MessageRow>, AllocError>
+        ensures { (m : Messages) → DraftRepresents self.now m → IfOk result (λ row. row ≡ message_at id (messages_of m)) }
+    {
+        match self.messages.newest(Key::of(id.number())) {
+            Some(change) => copy_left_by(self.alloc, change),
+            None => self.kept.find(self.alloc, id),
+        }
+    }
+
+    /// The part of that message and number, without its TPDU.
+    pub fn find_part(&self, id: MessageId, number: u8) -> Option<PartEntry>
+        ensures { (m : Messages) → DraftRepresents self.now m → result ≡ found_part (part_at id number (parts_of m)) }
+    {
+        self.parts.find(id, number)
+    }
+
+    /// The TPDU of the part of that message and number, if the event put it: else the store has it.
+    pub fn tpdu_put(&self, id: MessageId, number: u8) -> Option<&[u8]>
+        ensures { (m : Messages) → DraftRepresents self.now m → option_copied result ≡ tpdu_put (pair_key id number) m.parts.news }
+    {
+        self.parts.tpdu_put(id, number)
+    }
+
+    /// Whether all parts of the message are done; a message has 1 to 20 parts.
+    pub fn all_done(&self, id: MessageId) -> bool
+        ensures { (m : Messages) → DraftRepresents self.now m → Few (parts_of m) → result ≡ all_done id (parts_of m) }
+    {
+        self.parts.all_done(id)
+    }
+
+    /// Adds a message, or replaces that of its number, as one that ends.
+    pub fn put_message(&mut self, row: MessageRow) -> Result<(), AllocError>
+        ensures { (m : Messages) → DraftRepresents self.old m → OnOk result (DraftRepresents self.new (put_message row m)) }
+    {
+        self.messages.push(Change::Put(row))?;
+        Ok(())
+    }
+
+    /// Adds a priority.
+    pub fn put_priority(&mut self, row: PriorityRow) -> Result<(), AllocError>
+        ensures { (m : Messages) → DraftRepresents self.old m → OnOk result (DraftRepresents self.new (put_priority row m)) }
+    {
+        self.priorities.push(Change::Put(row))?;
+        Ok(())
+    }
+
+    /// Adds a whole part.
+    pub fn put_part(&mut self, row: PartRow) -> Result<(), AllocError>
+        ensures { (m : Messages) → DraftRepresents self.old m → OnOk result (DraftRepresents self.new (put_part row m)) }
+    {
+        self.parts.put(row)?;
+        Ok(())
+    }
+
+    /// Sets how far the part is, which is there.
+    pub fn amend_part(&mut self, entry: &PartEntry, progress: &Progress) -> Result<(), AllocError>
+        ensures { (m : Messages) (row : PartRowOf) → DraftRepresents self.old m → part_at row.id row.number (parts_of m) ≡ Some row → part_entry row ≡ entry.now
+            → OnOk result (DraftRepresents self.new (amend_part row progress.now m)) }
+    {
+        self.parts.amend(entry, progress)?;
+        Ok(())
+    }
+
+    /// The changes, with memory for what they bring to what is kept.
+    pub fn settle(self, kept: &MessageIndex) -> Result<MessageIndexPlan, AllocError>
+        ensures settled { (m : Messages) → DraftRepresents self.entry m → IfOk result (IsSettled m) }
+        ensures fits { IfOk result (λ s. Fits s.reserve (length s.messages) kept.now) }
+    {
+        let count = self.messages.len();
+        let parts = self.parts.settle(self.alloc, &kept.parts)?;
+        let reserve = kept.make_reserve(self.alloc, count, parts.entries)?;
+        let messages = Listed::from_vec(self.messages.into_vec());
+        let changes = Listed::from_vec(parts.changes);
+        let priorities = Listed::from_vec(self.priorities);
+        Ok(MessageIndexPlan {
+            messages,
+            parts: changes,
+            priorities,
+            reserve,
+        })
+    }
+}

@@ -1,0 +1,202 @@
+//! What messages share: numbers and the names of accounts.
+ghost use Rattle.std.specs.Prelude.{◌≡◌, ◌+◌, ◌<◌, ◌≤◌, Some, IfOk, IsOk, OnOk};
+ghost use Rattle.sms_rows.specs.interning.Interning.{Keeps, Makes};
+ghost use Rattle.sms_centre_messages.specs.message_index.Entries.{IsEntry, IsOriginator, NamesKept, UsesNames};
+ghost use Rattle.sms_centre_messages.specs.message_index.Summaries.{summary_of};
+ghost use Rattle.sms_centre_rows.specs.declared.messages.message.MessageRow.{MessageRow as MessageRowOf};
+ghost use Rattle.sms_base.specs.declared.originator.Originator.{Originator as OriginatorOf};
+
+use crate::message_index::message_entry::{MessageEntry, OriginatorEntry};
+use crate::message_index::summary::MessageSummary;
+use sms_base::{Address, Octets, Originator};
+use sms_centre_rows::messages::MessageRow;
+use sms_rows::interning::{Accounts, Numbers, AccountsReserve, NumbersReserve};
+use std::alloc::{AllocError, Global};
+use std::marker::Model;
+
+// Numbers and the names of accounts, each once.
+#[derive(Drop)]
+pub(crate) struct Names {
+    pub(crate) numbers: Numbers,
+    pub(crate) accounts: Accounts,
+}
+
+impl Model for Names {
+    ghost use Rattle.sms_centre_messages.specs.message_index.Entries.{NamesOf};
+
+    ghost Value = { NamesOf };
+
+    ghost view = { λ n. record { numbers = n.numbers; accounts = n.accounts } };
+}
+
+impl Names {
+    pub(crate) fn new(alloc: Global) -> Names {
+        Names {
+            numbers: Numbers::new(alloc),
+            accounts: Accounts::new(alloc),
+        }
+    }
+
+    // The originator of the entry; None where a place names nothing.
+    fn originator(
+        &self,
+        alloc: Global,
+        entry: &OriginatorEntry,
+    ) -> Result<Option<Originator>, AllocError>
+        ensures { (o : OriginatorOf) → IsOriginator self.now.accounts.values entry.now o → IfOk result (λ r. r ≡ Some o) }
+    {
+        match entry {
+            OriginatorEntry::Application { account } => {
+                let Some(name) = self.accounts.at(*account) else {
+                    return Ok(None);
+                };
+                let account = Octets::copy_of(alloc, name.as_slice())?;
+                Ok(Some(Originator::Application { account }))
+            }
+            OriginatorEntry::Handset { message_reference } => Ok(Some(Originator::Handset {
+                message_reference: *message_reference,
+            })),
+        }
+    }
+
+    // The row of the entry; None where a place names nothing.
+    pub(crate) fn row(
+        &self,
+        alloc: Global,
+        entry: &MessageEntry,
+    ) -> Result<Option<MessageRow>, AllocError>
+        ensures { (m : MessageRowOf) → IsEntry self.now entry.now m → IfOk result (λ r. r ≡ Some m) }
+    {
+        let Some(digits) = self.numbers.at(entry.source_digits) else {
+            return Ok(None);
+        };
+        let Some(handset) = self.numbers.at(entry.handset) else {
+            return Ok(None);
+        };
+        let Some(originator) = self.originator(alloc, &entry.originator)? else {
+            return Ok(None);
+        };
+        Ok(Some(MessageRow {
+            id: entry.id,
+            originator,
+            source: Address {
+                ton: entry.source_type,
+                npi: entry.source_plan,
+                digits,
+            },
+            handset,
+            data_coding_scheme: entry.data_coding_scheme,
+            protocol_identifier: entry.protocol_identifier,
+            wish: entry.wish,
+            submitted: entry.submitted,
+            limit: entry.limit,
+            split_reference: entry.split_reference,
+            state: entry.state,
+            done: entry.done,
+        }))
+    }
+
+    // What is told of the entry's message; None where a place names nothing.
+    pub(crate) fn summary(&self, entry: &MessageEntry) -> Option<MessageSummary>
+        ensures { (m : MessageRowOf) → IsEntry self.now entry.now m → result ≡ Some (summary_of m) }
+    {
+        let source = self.numbers.at(entry.source_digits)?;
+        let handset = self.numbers.at(entry.handset)?;
+        Some(MessageSummary {
+            id: entry.id,
+            source: Address {
+                ton: entry.source_type,
+                npi: entry.source_plan,
+                digits: source,
+            },
+            handset,
+            state: entry.state,
+        })
+    }
+
+    // The entry of the originator, whose account's name is kept.
+    fn originator_entry(&mut self, originator: Originator) -> Result<OriginatorEntry, AllocError>
+        ensures own { IfOk result (λ entry. IsOriginator self.new.accounts.values entry originator) }
+        ensures numbers { self.new.numbers ≡ self.old.numbers }
+        ensures accounts { OnOk result (Keeps self.old.accounts.values self.new.accounts.values) }
+        ensures room { OnOk result (self.old.accounts.room ≤ self.new.accounts.room + 1) }
+        ensures ready { 0 < self.old.accounts.room → IsOk result }
+    {
+        match originator {
+            Originator::Application { account } => {
+                let account = self.accounts.put(account)?;
+                Ok(OriginatorEntry::Application { account })
+            }
+            Originator::Handset { message_reference } => {
+                Ok(OriginatorEntry::Handset { message_reference })
+            }
+        }
+    }
+
+    // The entry of the row, whose numbers and names are kept.
+    pub(crate) fn entry(&mut self, row: MessageRow) -> Result<MessageEntry, AllocError>
+        ensures own { IfOk result (λ entry. IsEntry self.new entry row) }
+        ensures others { OnOk result (NamesKept self.old self.new) }
+        ensures room { OnOk result (UsesNames self.old self.new) }
+        ensures ready { 1 < self.old.numbers.room → 0 < self.old.accounts.room → IsOk result }
+    {
+        let MessageRow {
+            id,
+            originator,
+            source,
+            handset,
+            data_coding_scheme,
+            protocol_identifier,
+            wish,
+            submitted,
+            limit,
+            split_reference,
+            state,
+            done,
+        } = row;
+        let originator = self.originator_entry(originator)?;
+        let source_digits = self.numbers.put(source.digits)?;
+        let handset = self.numbers.put(handset)?;
+        Ok(MessageEntry {
+            id,
+            originator,
+            source_type: source.ton,
+            source_plan: source.npi,
+            source_digits,
+            handset,
+            data_coding_scheme,
+            protocol_identifier,
+            wish,
+            submitted,
+            limit,
+            split_reference,
+            state,
+            done,
+        })
+    }
+
+    // The same without taking memory.
+    pub(crate) fn entry_ready(&mut self, row: MessageRow) -> MessageEntry
+        requires numbers { 1 < self.old.numbers.room }
+        requires accounts { 0 < self.old.accounts.room }
+        ensures own { IsEntry self.new result row }
+        ensures others { NamesKept self.old self.new }
+        ensures room { UsesNames self.old self.new }
+    {
+        match self.entry(row) {
+            Ok(entry) => entry,
+            Err(_) => unreachable!(),
+        }
+    }
+
+    // Moves all into the memory where it is larger than the own, without taking memory.
+    pub(crate) fn use_reserve(&mut self, numbers: NumbersReserve, accounts: AccountsReserve)
+        ensures numbers { Keeps self.old.numbers.values self.new.numbers.values }
+        ensures numbers_room { Makes numbers self.old.numbers self.new.numbers }
+        ensures accounts { Keeps self.old.accounts.values self.new.accounts.values }
+        ensures accounts_room { Makes accounts self.old.accounts self.new.accounts }
+    {
+        self.numbers.use_reserve(numbers);
+        self.accounts.use_reserve(accounts);
+    }
+}

@@ -1,0 +1,58 @@
+//! A source and a handset, as the key of a map.
+ghost use Rattle.std.specs.Prelude.{◌≡◌};
+ghost use Rattle.sms_centre_messages.specs.references.Keys.{key_of, pair_of};
+
+use sms_base::{Address, Digits};
+use sms_rows::interning::Number;
+
+/// The source of a message: TP-OA of its parts.
+#[derive(Clone, Copy, Debug, PartialEq, Eq, Hash)]
+pub struct Sender {
+    /// The number of its type of number.
+    pub type_of_number: u8,
+    /// Its numbering plan.
+    pub plan: u8,
+    pub digits: Number,
+}
+
+/// The source of a message and its destination, with a number of theirs: a reference, or 0.
+#[derive(Clone, Copy, Debug, PartialEq, Eq, Hash)]
+pub struct MessageEnds {
+    pub source: Sender,
+    pub handset: Number,
+    pub number: u16,
+}
+
+impl MessageEnds {
+    // That number of a source and a handset.
+    pub(crate) fn of(source: &Address, handset: &Digits, number: u16) -> MessageEnds
+        ensures { result ≡ key_of source.now handset.now number }
+    {
+        MessageEnds {
+            source: Sender {
+                type_of_number: source.ton.number(),
+                plan: source.npi,
+                digits: Number {
+                    digits: source.digits,
+                },
+            },
+            handset: Number { digits: *handset },
+            number,
+        }
+    }
+
+    // That number of the digits of a source and a handset.
+    pub(crate) fn of_digits(source: &Digits, handset: &Digits, number: u16) -> MessageEnds
+        ensures { result ≡ pair_of source.now handset.now number }
+    {
+        MessageEnds {
+            source: Sender {
+                type_of_number: 0,
+                plan: 0,
+                digits: Number { digits: *source },
+            },
+            handset: Number { digits: *handset },
+            number,
+        }
+    }
+}

@@ -1,6 +1,0 @@
-use Rattle.std.proofs.Common.{take}
-use Rattle.sms_centre_queue.specs.queue.Given.{AllGivenBy}
-use Rattle.sms_centre_queue.proofs.queue.earlier.latest_of.Given as goal
-
-abbrev pub invariant-loop-row : goal.invariant-loop-row
-invariant-loop-row l = AllGivenBy l.latest (take l.row-index l.rows)

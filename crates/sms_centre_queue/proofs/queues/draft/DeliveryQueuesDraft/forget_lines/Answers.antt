@@ -1,0 +1,15 @@
+use Rattle.std.proofs.Common.{◌≡◌, List, ℕ, refl, sym, subst}
+use Rattle.std.specs.Prelude.{option_map}
+use Rattle.sms_centre_queue.specs.queues.Queues.{DeliveryQueuesDraftOf, at, under}
+use Rattle.sms_centre_queue.specs.queues.Representing.{DraftRepresents}
+use Rattle.sms_centre_queue.specs.queues.Unlined.{unlined}
+use Rattle.sms_centre_queue.proofs.queues.Unlining.{lines_forgotten}
+use Rattle.sms_centre_queue.proofs.queues.draft.DeliveryQueuesDraft.forget_lines.Goals as goal
+
+pub returns : goal.returns
+returns c = λ g links waiting represents.
+    let s = c.self.inside in
+    let old : DeliveryQueuesDraftOf = record { base = s.ground.value; touched = s.touched.entries; handsets = s.handsets; references = s.references; frames = s.frames; next_place = s.next_place; lines = s.lines } in
+    lines_forgotten old (record old { touched = c.in_ok-queues.queues.entries; lines = 0 })
+    (subst (λ (p : DeliveryQueuesDraftOf). (key : ℕ) → under key c.in_ok-queues.queues.entries ≡ option_map unlined (at key p)) (sym c.self.view_is) c.in_ok-queues.ensures) refl g links waiting
+    (subst (λ (p : DeliveryQueuesDraftOf). DraftRepresents g links waiting p) (sym c.self.view_is) represents)

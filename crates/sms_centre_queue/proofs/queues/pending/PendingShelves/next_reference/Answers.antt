@@ -1,9 +1,0 @@
-use Rattle.std.proofs.Common.{refl, ◌∙◌}
-use Rattle.sms_rows.specs.table.Keys.{digits_key}
-use Rattle.sms_centre_queue.specs.queues.Placing.{at}
-use Rattle.sms_centre_queue.proofs.queues.Asking.{asked_reference}
-use Rattle.sms_centre_queue.proofs.queues.pending.PendingShelves.next_reference.Goals as goal
-
-pub returns : goal.returns
-returns c g air w shows =
-    c.in_ok-reference.ensures ∙ asked_reference c.args.number (at (digits_key c.args.number) c.args.self.now) c.args.self.now c.args.now c.requires.digits refl g air w shows

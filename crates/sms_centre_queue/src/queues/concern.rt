@@ -1,0 +1,37 @@
+//! Where an event that isn't a handset's own stops.
+ghost use Rattle.std.specs.Prelude.{◌≡◌};
+ghost use Rattle.sms_centre_queue.specs.queues.Keys.{stop_key};
+
+use sms_base::{Digits, Moment};
+use sms_rows::table::{Key, Row};
+
+/// A handset that an event concerns, by its place in the order in which the event walks over them.
+#[derive(Clone, Copy, Debug, PartialEq, Eq)]
+pub struct ConcernedHandset {
+    /// Its place in the order of first mention, or that of its link in the order in which links were first used; from
+    /// 1.
+    pub order: u64,
+    /// Its digits.
+    pub number: Digits,
+}
+
+impl Row for ConcernedHandset {
+    ghost key = { stop_key };
+
+    fn key(&self) -> Key {
+        Key::of(self.order)
+    }
+}
+
+/// Why an event stops at a handset.
+#[derive(Clone, Copy, Debug, PartialEq, Eq)]
+pub enum Concern {
+    /// Its line is ready and something is due for it; of those that were given a reference.
+    Offer(Moment),
+    /// A timer of its line fires; of those that were given a reference.
+    Fire(Moment),
+    /// A timer of its line fires; of those that were given none.
+    FireUnmentioned(Moment),
+    /// Its line was up before a recovery.
+    Awaited,
+}

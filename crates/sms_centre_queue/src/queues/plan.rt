@@ -1,0 +1,131 @@
+//! What an event leaves of the queues.
+ghost use Rattle.std.specs.Prelude.{◌≡◌, ℕ, [], Some, IfOk};
+ghost use Rattle.sms_centre_queue.specs.queues.Plan.{Fits, IsAdopted, IsSettled};
+ghost use Rattle.sms_centre_queue.specs.queues.Stops.{scanned};
+ghost use Rattle.sms_centre_queue.specs.declared.queues.concern.Concern.TheVariants.{Offer};
+
+use crate::queues::shared_queues::SharedQueues;
+use crate::queues::draft::DeliveryQueuesDraft;
+use crate::queues::placed_queue::PlacedQueue;
+use crate::queues::delivery_queues::DeliveryQueues;
+use crate::queues::reserve::MapReserve;
+use crate::queues::concern::Concern;
+use indexmap::IndexMap;
+use sms_base::{Listed, Moment};
+use sms_centre_rows::waiting::{HandsetRow, ReferenceRow, Sent};
+use sms_rows::table::Change;
+use std::alloc::{AllocError, Global};
+use std::marker::Model;
+use std::sync::Arc;
+
+/// What an event leaves of the queues, ready made, with the memory that it takes to put it in.
+#[derive(Drop)]
+pub struct DeliveryQueuesPlan {
+    ground: Arc<SharedQueues>,
+    touched: IndexMap<u128, PlacedQueue>,
+    reserve: MapReserve<PlacedQueue>,
+    index_reserve: MapReserve<()>,
+    next_place: u64,
+    lines: u64,
+    rested: Option<Moment>,
+}
+
+impl Model for DeliveryQueuesPlan {
+    ghost use Rattle.sms_centre_queue.specs.queues.Plan.{DeliveryQueuesPlanOf};
+
+    ghost Value = { DeliveryQueuesPlanOf };
+
+    ghost view = { λ s. record {
+      ground = s.ground.value;
+      touched = s.touched.entries;
+      reserve = s.reserve;
+      index_reserve = s.index_reserve;
+      next_place = s.next_place;
+      lines = s.lines;
+      rested = s.rested;
+    } };
+}
+
+/// What an event does with the queues: what is to be committed of handsets and of references, each in order, and the
+/// frames in order. It has the queues as the event leaves them.
+#[derive(Drop)]
+pub struct DeliveryQueuesOutcome {
+    pub handsets: Listed<Change<HandsetRow>>,
+    pub references: Listed<Change<ReferenceRow>>,
+    pub frames: Listed<Sent>,
+    pub queues: DeliveryQueuesPlan,
+}
+
+impl DeliveryQueuesDraft {
+    /// What the event leaves, with the memory for it. The moment is that of the event.
+    pub fn settle(self, now: Moment) -> Result<DeliveryQueuesOutcome, AllocError>
+        ensures handsets { IfOk result (λ plan. plan.handsets ≡ self.handsets) }
+        ensures references { IfOk result (λ plan. plan.references ≡ self.references) }
+        ensures frames { IfOk result (λ plan. plan.frames ≡ self.frames) }
+        ensures queues { IfOk result (λ plan. IsSettled self plan.queues) }
+        ensures fits { IfOk result (λ plan. Fits plan.queues) }
+    {
+        let rested = self.rested_at(now)?;
+        let next_place = self.next_place;
+        let lines = self.lines;
+        let reserve = self.ground.more_queues(self.alloc, self.touched.len())?;
+        let index_reserve = self.ground.more_keys(self.alloc, self.touched.len())?;
+        Ok(DeliveryQueuesOutcome {
+            handsets: self.handsets,
+            references: self.references,
+            frames: self.frames,
+            queues: DeliveryQueuesPlan {
+                ground: self.ground,
+                touched: self.touched,
+                reserve,
+                index_reserve,
+                next_place,
+                lines,
+                rested,
+            },
+        })
+    }
+
+    // That moment, if nothing is left to offer at it.
+    #[tactic(auto, using(crate::proofs::queues::Listing::nothing_at))]
+    fn rested_at(&self, now: Moment) -> Result<Option<Moment>, AllocError>
+        ensures { IfOk result (λ rested. (moment : ℕ) → rested ≡ Some moment → scanned (Offer moment) self.now ≡ []) }
+    {
+        let left = self.scan(&Concern::Offer(now))?;
+        if left.is_empty() {
+            Ok(Some(now))
+        } else {
+            Ok(None)
+        }
+    }
+}
+
+impl DeliveryQueues {
+    /// Puts in what an event left, without taking memory. Where another event still shares the ground, what was touched
+    /// is beside it until one is adopted that has it alone.
+    pub fn adopt(&mut self, settled: DeliveryQueuesPlan)
+        requires fits { Fits settled }
+        ensures { IsAdopted settled self.new }
+    {
+        let DeliveryQueuesPlan {
+            ground,
+            touched,
+            reserve,
+            index_reserve,
+            next_place,
+            lines,
+            rested,
+        } = settled;
+        let alloc = self.alloc;
+        self.ground = ground;
+        self.next_place = next_place;
+        self.lines = lines;
+        match Arc::get_mut(&mut self.ground) {
+            Some(ground) => {
+                ground.install(reserve, index_reserve, touched, rested);
+                self.touched = IndexMap::new(alloc);
+            }
+            None => self.touched = touched,
+        }
+    }
+}

@@ -1,0 +1,64 @@
+//! Queues without links.
+ghost use Rattle.std.specs.Prelude.{◌≡◌, ℕ, List, [], Some, nat_eq, if◌then◌else◌, IfOk, OnOk, option_map};
+ghost use Rattle.std.specs.Option.{option_or};
+ghost use Rattle.sms_centre_rows.specs.waiting.Links.{Links};
+ghost use Rattle.sms_centre_rows.specs.waiting.References.{Allocations};
+ghost use Rattle.sms_centre_rows.specs.declared.waiting.queued_part.QueuedPart.{QueuedPart as LoadOf};
+ghost use Rattle.sms_centre_queue.specs.queues.Queues.{at, under};
+ghost use Rattle.sms_centre_queue.specs.queues.Representing.{DraftRepresents};
+ghost use Rattle.sms_centre_queue.specs.queues.Unlined.{unlined as unlined_of};
+
+use crate::queues::draft::DeliveryQueuesDraft;
+use crate::queues::placed_queue::PlacedQueue;
+use indexmap::IndexMap;
+use std::alloc::{AllocError, Global};
+
+impl DeliveryQueuesDraft {
+    /// No handset has a line any more, as after a restart: whatever was up, awaited, full or under way is forgotten. What waits, and the
+    /// references that were given, stay. Every queue is copied.
+    pub fn forget_lines(&mut self) -> Result<(), AllocError>
+        ensures { OnOk result ((g : Allocations) (links : Links) (waiting : List ℕ → List LoadOf) → DraftRepresents g links waiting self.old
+            → DraftRepresents g (record links { lines = [] }) waiting self.new) }
+    {
+        let queues = self.unlined(self.alloc)?;
+        self.touched = queues;
+        self.lines = 0;
+        Ok(())
+    }
+
+    // All queues without their lines.
+    fn unlined(&self, alloc: Global) -> Result<IndexMap<u128, PlacedQueue>, AllocError>
+        ensures { IfOk result (λ queues. (key : ℕ) → under key queues.entries ≡ option_map unlined_of (at key self.now)) }
+    {
+        let mut queues = IndexMap::new(alloc);
+        put_unlined(&self.ground.queues, &mut queues)?;
+        put_unlined(&self.touched, &mut queues)?;
+        Ok(queues)
+    }
+}
+
+// These queues come there without their lines, in memory of their own.
+fn put_unlined(
+    queues: &IndexMap<u128, PlacedQueue>,
+    out: &mut IndexMap<u128, PlacedQueue>,
+) -> Result<(), AllocError>
+    ensures { OnOk result ((key : ℕ) → under key out.new.entries ≡ option_or (option_map unlined_of (under key queues.now.entries)) (under key out.old.entries)) }
+{
+    // The call tells that no key stands twice.
+    let _len = queues.len();
+    for (key, placed) in queues.iter() {
+        put_one(*key, placed, out)?;
+    }
+    Ok(())
+}
+
+#[tactic(auto, using(crate::proofs::queues::Listing::placed_as))]
+fn put_one(key: u128, placed: &PlacedQueue, out: &mut IndexMap<u128, PlacedQueue>) -> Result<(), AllocError>
+    ensures { OnOk result ((k : ℕ) → under k out.new.entries ≡ (if nat_eq k key then Some (unlined_of placed.now) else under k out.old.entries)) }
+{
+    let placed = placed.unlined()?;
+    match out.insert(key, placed) {
+        Ok(_) => Ok(()),
+        Err(_) => Err(AllocError),
+    }
+}

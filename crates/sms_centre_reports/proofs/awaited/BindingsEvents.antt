@@ -1,0 +1,155 @@
+-- The sessions are left as they are by every event but those of the sessions.
+use Rattle.std.proofs.Common.{◌≡◌, ℕ, List, [], ◌∷◌, Option, Some, None, Result, Ok, Err, refl, ◌∙◌}
+use Rattle.std.proofs.lemmas.Bool.{cond_both}
+use Rattle.std.specs.Prelude.{if◌then◌else◌}
+use Rattle.sms_base.specs.declared.carried.Carried.{Carried}
+use Rattle.sms_base.specs.declared.holder.Holder.{Holder}
+use Rattle.sms_link.specs.declared.ending.Ending.{Ending}
+use Rattle.sms_link.specs.declared.ending.Upward.{Upward}
+use Rattle.sms_link.specs.declared.ending.Upward.TheVariants.{Opened, Ended}
+use Rattle.sms_link.specs.LinkTurn.{fired as fired_link, taken}
+use Rattle.sms_relay.specs.declared.fault.RelayFault.{RelayFault}
+use Rattle.sms_relay.specs.declared.frame.Rp.{Rp}
+use Rattle.sms_relay.specs.declared.frame.Rp.TheVariants.{DataUnit, AckUnit, ErrorUnit, Smma}
+use Rattle.sms_relay.specs.RelayReading.{up_at}
+use Rattle.sms_tpdu.specs.declared.carrier.Carrier.TheVariants.{InData}
+use Rattle.sms_tpdu.specs.TpduReading.{up_at as tpdu_up_at}
+use Rattle.smpp_pdu.specs.declared.cancel.CancelSm.{CancelSm}
+use Rattle.smpp_pdu.specs.declared.message.Message.{Message}
+use Rattle.smpp_pdu.specs.declared.query.QuerySm.{QuerySm}
+use Rattle.smpp_pdu.specs.declared.status.CommandStatus.{CommandStatus}
+use Rattle.sms_centre_rows.specs.declared.messages.message.MessageRow.{MessageRow}
+use Rattle.sms_centre_rows.specs.messages.Messages.{is_pending, next_id}
+use Rattle.sms_centre_rows.specs.declared.waiting.handset.HandsetRow.{HandsetRow}
+use Rattle.sms_centre_rows.specs.declared.waiting.handset_link.HandsetLink.{HandsetLink}
+use Rattle.sms_centre_rows.specs.waiting.Links.{line_at, line_of, lowered, put_line, turn_line}
+use Rattle.sms_centre_rows.specs.waiting.References.{handset_at}
+use Rattle.sms_intake.specs.HandsetIntake.{from_read}
+use Rattle.sms_intake.specs.declared.refusal.SubmitRefusal.{SubmitRefusal}
+use Rattle.sms_intake.specs.declared.refusal.SubmitRefusal.TheVariants.{Duplicate, ReferenceTaken}
+use Rattle.sms_intake.specs.declared.submission.CentreAccount.{CentreAccount}
+use Rattle.sms_intake.specs.declared.submission.Submission.{Submission}
+use Rattle.sms_centre_spec.specs.Numbers.{id_in}
+use Rattle.sms_intake.specs.SmppIntake.{from_pdu, source_in, is_empty}
+use Rattle.sms_centre_spec.specs.Submitting.{accept, is_reference_taken}
+use Rattle.sms_centre_spec.specs.Transfers.{conclude}
+use Rattle.sms_centre_spec.specs.Receiving.{is_duplicate, refuse, submit_accepted, submit_received as submission_from, unit_received}
+use Rattle.sms_centre_spec.specs.Requests.{accepted, cancel_by, cancelled, message_numbered, own_message, queried, query_by, submission_received, submit_by}
+use Rattle.sms_centre_spec.specs.CentreEvent.{aged, at_moment, fire_at, fire_mentioned, fire_others, fired, frame_taken, is_mentioned, lost, lower, raise, raise_all, raised, timed_out, went_up}
+use Rattle.sms_centre_spec.specs.Draft.{Draft, Store, handsets_in, messages_in, on_links}
+
+conclude_bindings : (h : List ℕ) (t : Carried) (e : Ending) (d : Draft) → (conclude h t e d).bindings ≡ d.bindings
+conclude_bindings h t e d = refl
+
+-- ---- units that open a transaction
+
+submit_accepted_bindings : (h : List ℕ) (n : ℕ) (tag : Holder) (o : Option Store) (d : Draft) → (submit_accepted h n tag o d).bindings ≡ d.bindings
+submit_accepted_bindings h n tag None d = refl
+submit_accepted_bindings h n tag (Some e) d = refl
+
+submission_from_bindings : (h : List ℕ) (n : ℕ) (tag : Holder) (u : Result Submission SubmitRefusal) (d : Draft) → (submission_from h n tag u d).bindings ≡ d.bindings
+submission_from_bindings h n tag (Err r) d = refl
+submission_from_bindings h n tag (Ok u) d =
+    cond_both (is_duplicate u d.store) (refuse h n tag Duplicate d)
+    (if is_reference_taken u d.store then refuse h n tag ReferenceTaken d else submit_accepted h n tag (accept u d.store) d) (λ (e : Draft). e.bindings ≡ d.bindings)
+    (λ t. refl)
+    (λ t. cond_both (is_reference_taken u d.store) (refuse h n tag ReferenceTaken d) (submit_accepted h n tag (accept u d.store) d) (λ (e : Draft). e.bindings ≡ d.bindings)
+    (λ t. refl) (λ t. submit_accepted_bindings h n tag (accept u d.store) d))
+
+unit_received_bindings : (h : List ℕ) (tag : Holder) (unit : List ℕ) (u : Result Rp RelayFault) (d : Draft) → (unit_received h tag unit u d).bindings ≡ d.bindings
+unit_received_bindings h tag unit (Ok (DataUnit r z t)) d = submission_from_bindings h r tag (from_read h d.store.moment (tpdu_up_at InData t)) d
+unit_received_bindings h tag unit (Ok (AckUnit r t)) d = refl
+unit_received_bindings h tag unit (Ok (ErrorUnit r z t)) d = refl
+unit_received_bindings h tag unit (Ok (Smma r)) d = refl
+unit_received_bindings h tag unit (Err f) d = refl
+
+-- ---- links
+
+went_up_bindings : (h : List ℕ) (tag : Holder) (u : Option Upward) (d : Draft) → (went_up h tag u d).bindings ≡ d.bindings
+went_up_bindings h tag None d = refl
+went_up_bindings h tag (Some (Opened unit)) d = unit_received_bindings h tag unit (up_at unit) d
+went_up_bindings h tag (Some (Ended transfer ending)) d = refl
+
+pub frame_taken_bindings : (octets : List ℕ) (tag : Holder) (l : HandsetLink) (d : Draft) → (frame_taken octets tag l d).bindings ≡ d.bindings
+frame_taken_bindings octets tag l d = went_up_bindings l.handset tag (taken octets l.link).out.up (on_links (turn_line l (taken octets l.link) d.links) d)
+
+lost_bindings : (h : List ℕ) (o : Option Carried) (d : Draft) → (lost h o d).bindings ≡ d.bindings
+lost_bindings h None d = refl
+lost_bindings h (Some t) d = refl
+
+pub lower_bindings : (h : List ℕ) (d : Draft) → (lower h d).bindings ≡ d.bindings
+lower_bindings h d =
+    let l : HandsetLink = line_of h d.links.lines in lost_bindings l.handset l.link.under_way (on_links (put_line (lowered l) d.links) d)
+
+-- ---- a tick
+
+timed_out_bindings : (h : List ℕ) (u : Option Upward) (d : Draft) → (timed_out h u d).bindings ≡ d.bindings
+timed_out_bindings h None d = refl
+timed_out_bindings h (Some (Opened unit)) d = refl
+timed_out_bindings h (Some (Ended transfer ending)) d = refl
+
+fire_at_bindings : (o : Option HandsetLink) (d : Draft) → (fire_at o d).bindings ≡ d.bindings
+fire_at_bindings None d = refl
+fire_at_bindings (Some l) d = timed_out_bindings l.handset (fired_link d.store.moment l.link).out.up (on_links (turn_line l (fired_link d.store.moment l.link) d.links) d)
+
+fire_mentioned_bindings : (hs : List HandsetRow) (d : Draft) → (fire_mentioned hs d).bindings ≡ d.bindings
+fire_mentioned_bindings [] d = refl
+fire_mentioned_bindings (h ∷ hs) d = fire_mentioned_bindings hs (fire_at (line_at h.number d.links.lines) d) ∙ fire_at_bindings (line_at h.number d.links.lines) d
+
+fire_others_bindings : (hs : List HandsetRow) (ls : List HandsetLink) (d : Draft) → (fire_others hs ls d).bindings ≡ d.bindings
+fire_others_bindings hs [] d = refl
+fire_others_bindings hs (l ∷ ls) d =
+    let o : Option HandsetLink = line_at l.handset d.links.lines in
+    fire_others_bindings hs ls (if is_mentioned (handset_at l.handset hs) then d else fire_at o d)
+    ∙ cond_both (is_mentioned (handset_at l.handset hs)) d (fire_at o d) (λ (e : Draft). e.bindings ≡ d.bindings) (λ t. refl) (λ t. fire_at_bindings o d)
+
+fired_bindings : (d : Draft) → (fired d).bindings ≡ d.bindings
+fired_bindings d =
+    let hs : List HandsetRow = handsets_in d.store in
+    fire_others_bindings hs d.links.lines (fire_mentioned hs d) ∙ fire_mentioned_bindings hs d
+
+raise_all_bindings : (ls : List HandsetLink) (d : Draft) → (raise_all ls d).bindings ≡ d.bindings
+raise_all_bindings [] d = refl
+raise_all_bindings (l ∷ ls) d =
+    raise_all_bindings ls (if l.is_awaited then raise l.handset d else d)
+    ∙ cond_both l.is_awaited (raise l.handset d) d (λ (e : Draft). e.bindings ≡ d.bindings) (λ t. refl) (λ t. refl)
+
+pub ticked_bindings : (now : ℕ) (d : Draft) → (raised (fired (aged (at_moment now d)))).bindings ≡ d.bindings
+ticked_bindings now d =
+    let a : Draft = aged (at_moment now d) in
+    raise_all_bindings (fired a).links.lines (fired a) ∙ fired_bindings a
+
+-- ---- requests
+
+accepted_bindings : (id : ℕ) (o : Option Store) (d : Draft) → (accepted id o d).bindings ≡ d.bindings
+accepted_bindings id None d = refl
+accepted_bindings id (Some s) d = refl
+
+submission_received_bindings : (u : Result Submission CommandStatus) (d : Draft) → (submission_received u d).bindings ≡ d.bindings
+submission_received_bindings (Err status) d = refl
+submission_received_bindings (Ok u) d =
+    cond_both (is_reference_taken u d.store) _ (accepted (next_id (messages_in d.store)) (accept u d.store) d) (λ (e : Draft). e.bindings ≡ d.bindings)
+    (λ t. refl) (λ t. accepted_bindings (next_id (messages_in d.store)) (accept u d.store) d)
+
+pub submit_by_bindings : (a : Option CentreAccount) (m : Message) (d : Draft) → (submit_by a m d).bindings ≡ d.bindings
+submit_by_bindings None m d = refl
+submit_by_bindings (Some a) m d = submission_received_bindings (from_pdu a d.store.moment m) d
+
+queried_bindings : (m : Option MessageRow) (d : Draft) → (queried m d).bindings ≡ d.bindings
+queried_bindings None d = refl
+queried_bindings (Some m) d = refl
+
+pub query_by_bindings : (a : Option CentreAccount) (q : QuerySm) (d : Draft) → (query_by a q d).bindings ≡ d.bindings
+query_by_bindings None q d = refl
+query_by_bindings (Some a) q d =
+    queried_bindings (own_message a (source_in a.address q.source) (message_numbered (id_in q.message_id) (messages_in d.store))) d
+
+cancelled_bindings : (o : Option MessageRow) (d : Draft) → (cancelled o d).bindings ≡ d.bindings
+cancelled_bindings None d = refl
+cancelled_bindings (Some m) d = cond_both (is_pending m) _ _ (λ (e : Draft). e.bindings ≡ d.bindings) (λ t. refl) (λ t. refl)
+
+pub cancel_by_bindings : (a : Option CentreAccount) (q : CancelSm) (d : Draft) → (cancel_by a q d).bindings ≡ d.bindings
+cancel_by_bindings None q d = refl
+cancel_by_bindings (Some a) q d =
+    let m : Option MessageRow = own_message a (source_in a.address q.source) (message_numbered (id_in q.message_id) (messages_in d.store)) in
+    cond_both (is_empty q.message_id) _ (cancelled m d) (λ (e : Draft). e.bindings ≡ d.bindings) (λ t. refl) (λ t. cancelled_bindings m d)

@@ -1,6 +1,0 @@
-use Rattle.sms_centre_reports.proofs.open_reports.Moves.{row_added}
-use Rattle.sms_centre_reports.proofs.open_reports.reports.Reports.add.Goals as goal
-
-pub returns : goal.returns
-returns c = λ ms rows shows lower none account.
-    row_added ms c.args.self.now c.keep.new.self c.go_behind.new.self rows c.args.row.now c.args.account.now c.in_ok-keep.ensures c.in_ok-go_behind.ensures shows lower none account

@@ -1,6 +1,0 @@
-use Rattle.std.proofs.Common.{take}
-use Rattle.sms_centre_reports.specs.open_reports.ReportsInMemory.{Shows}
-use Rattle.sms_centre_reports.proofs.open_reports.reports.Reports.recover.Given as goal
-
-abbrev pub invariant-loop-row : goal.invariant-loop-row
-invariant-loop-row l = Shows l.messages l.reports (take l.row-index l.rows)

@@ -1,0 +1,146 @@
+//! The log of reports.
+ghost use Rattle.std.specs.Prelude.{◌≡◌, ◌+◌, ◌≤◌, List, [], length, map, max, IfOk};
+ghost use Rattle.sms_centre_reports.specs.report_log.ReportLog.{Represents, made_key, made_report};
+ghost use Rattle.sms_centre_rows.specs.reports.Reports.{report_key, report_reaching};
+ghost use Rattle.sms_centre_rows.specs.declared.reports.report.ReportRow.{ReportRow as ReportRowOf};
+ghost use Rattle.sms_rows.specs.table.Table.{HasRoom, Rises};
+ghost use Rattle.sms_centre_rows.specs.waiting.Revisions.{all_revised, revised};
+
+use sms_base::MessageId;
+use sms_centre_rows::reports::ReportRow;
+use sms_centre_rows::waiting::Revision;
+use sms_rows::table::{Key, Row, TableReserve, Table};
+use std::alloc::{AllocError, Global};
+use std::marker::Model;
+
+/// A report that was made.
+#[derive(Clone, Copy, Debug, PartialEq, Eq)]
+pub struct LoggedReport {
+    /// Its place in the order in which reports were made, from 1.
+    pub place: u64,
+    /// The message.
+    pub id: MessageId,
+}
+
+impl Row for LoggedReport {
+    ghost key = { made_key };
+
+    fn key(&self) -> Key {
+        Key::of(self.place)
+    }
+}
+
+/// All reports that were made, in the order made.
+#[derive(Drop)]
+pub struct ReportLog {
+    reports: Table<LoggedReport>,
+}
+
+impl Model for ReportLog {
+    ghost use Rattle.sms_centre_reports.specs.declared.report_log.log.LoggedReport.{LoggedReport as MadeReportOf};
+    ghost use Rattle.sms_rows.specs.table.Table.{RowsInMemory};
+
+    ghost Value = { RowsInMemory MadeReportOf };
+
+    ghost view = { λ r. r.reports };
+}
+
+/// Memory for what an event brings, seen by contracts as how many reports it holds.
+#[derive(Drop)]
+pub struct ReportLogReserve {
+    reports: TableReserve<LoggedReport>,
+}
+
+impl Model for ReportLogReserve {
+    ghost use Rattle.std.specs.Prelude.{ℕ};
+
+    ghost Value = { ℕ };
+
+    ghost view = { λ s. s.reports };
+}
+
+impl ReportLog {
+    /// No reports.
+    pub fn new(alloc: Global) -> ReportLog
+        ensures { Represents result [] }
+    {
+        ReportLog {
+            reports: Table::new(alloc),
+        }
+    }
+
+    /// The log of the reports of rows that are in the order of their places.
+    pub fn recover(alloc: Global, rows: &[ReportRow]) -> Result<ReportLog, AllocError>
+        requires { Rises report_key rows.now }
+        ensures { IfOk result (λ log. Represents log rows.now) }
+    {
+        let reports = made_reports(alloc, rows)?;
+        Ok(ReportLog {
+            reports: Table::from_vec(reports),
+        })
+    }
+
+    /// The reports, in the order made.
+    pub fn reports(&self) -> &[LoggedReport]
+        ensures { (rows : List ReportRowOf) → Represents self.now rows → result.now ≡ map made_report rows }
+    {
+        self.reports.as_slice()
+    }
+
+    /// Memory for that many changes.
+    pub fn make_reserve(&self, alloc: Global, changes: usize) -> Result<ReportLogReserve, AllocError>
+        ensures { IfOk result (λ reserve. length self.now.rows + changes ≤ max self.now.capacity reserve) }
+    {
+        let reports = self.reports.make_reserve(alloc, changes)?;
+        Ok(ReportLogReserve { reports })
+    }
+
+    /// Puts the changes of reports in, without taking memory.
+    pub fn adopt(&mut self, reserve: ReportLogReserve, changes: &[Revision<ReportRow>])
+        requires { length self.old.rows + length changes.now ≤ max self.old.capacity reserve }
+        ensures { (rows : List ReportRowOf) → Represents self.old rows → Represents self.new (all_revised report_key report_reaching changes.now rows) }
+    {
+        self.reports.use_reserve(reserve.reports);
+        self.apply_all(changes);
+    }
+
+    fn apply_all(&mut self, changes: &[Revision<ReportRow>])
+        requires { HasRoom (length changes.now) self.old }
+        ensures { (rows : List ReportRowOf) → Represents self.old rows → Represents self.new (all_revised report_key report_reaching changes.now rows) }
+    {
+        for change in changes {
+            self.apply(change);
+        }
+    }
+
+    // How far a report is doesn't stand here.
+    fn apply(&mut self, change: &Revision<ReportRow>)
+        requires { HasRoom 1 self.old }
+        ensures holds { (rows : List ReportRowOf) → Represents self.old rows → Represents self.new (revised report_key report_reaching change.now rows) }
+        ensures room { length self.new.rows ≤ length self.old.rows + 1 }
+        ensures capacity { self.new.capacity ≡ self.old.capacity }
+    {
+        match change {
+            Revision::Put(row) => self.reports.put_ready(made(row)),
+            Revision::Amend { .. } => (),
+            Revision::Remove(key) => {
+                self.reports.remove(*key);
+            }
+        }
+    }
+}
+
+fn made(row: &ReportRow) -> LoggedReport
+    ensures { result ≡ made_report row.now }
+{
+    LoggedReport {
+        place: row.place,
+        id: row.id,
+    }
+}
+
+fn made_reports(alloc: Global, rows: &[ReportRow]) -> Result<Vec<LoggedReport>, AllocError>
+    ensures { IfOk result (λ reports. reports.items ≡ map made_report rows.now) }
+{
+    rows.iter().map(|row| made(row)).collect(alloc)
+}

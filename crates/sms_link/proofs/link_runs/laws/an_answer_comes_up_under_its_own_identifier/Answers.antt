@@ -1,5 +1,0 @@
-use Rattle.sms_link.proofs.link_runs.Endings.{answer_comes_up, other_never}
-use Rattle.sms_link.proofs.link_runs.laws.an_answer_comes_up_under_its_own_identifier.Goals as goal
-
-pub returns : goal.returns
-returns c = record { own = answer_comes_up; other = other_never }

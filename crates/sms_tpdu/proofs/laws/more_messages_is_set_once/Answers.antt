@@ -1,0 +1,17 @@
+use Rattle.sms_tpdu.proofs.MoreBits.{keeps, telling_again, telling_fits, telling_keeps, telling_same}
+use Rattle.sms_tpdu.proofs.laws.more_messages_is_set_once.Goals as goal
+
+pub returns-clause-told : goal.returns-clause-told
+returns-clause-told c = λ more first. (keeps more first).told
+
+pub returns-clause-kept : goal.returns-clause-kept
+returns-clause-kept c = telling_keeps
+
+pub returns-clause-same : goal.returns-clause-same
+returns-clause-same c = telling_same
+
+pub returns-clause-last : goal.returns-clause-last
+returns-clause-last c = telling_again
+
+pub returns-clause-octets : goal.returns-clause-octets
+returns-clause-octets c = telling_fits

@@ -1,0 +1,20 @@
+use Rattle.sms_world_model.specs.World.{empty}
+use Rattle.sms_world_model.specs.Run.{end}
+use Rattle.sms_world_model.proofs.GroupSteps.{others_stay, is_passed, goes, group_ends, next_is_new}
+use Rattle.sms_world_model.proofs.Places.{placed_run, placed_empty}
+use Rattle.sms_world_model.proofs.groups_grow.Goals as goal
+
+pub returns-clause-others_stay : goal.returns-clause-others_stay
+returns-clause-others_stay c = others_stay
+
+pub returns-clause-passed : goal.returns-clause-passed
+returns-clause-passed c = is_passed
+
+pub returns-clause-goes_in : goal.returns-clause-goes_in
+returns-clause-goes_in c = goes
+
+pub returns-clause-ends : goal.returns-clause-ends
+returns-clause-ends c = group_ends
+
+pub returns-clause-new : goal.returns-clause-new
+returns-clause-new c items run = next_is_new (end empty items) (placed_run empty items placed_empty run)

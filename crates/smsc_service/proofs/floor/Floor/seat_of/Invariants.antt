@@ -1,6 +1,0 @@
-use Rattle.std.proofs.Common.{◌≡◌, drop}
-use Rattle.smsc_service.specs.Seats.{seat_of}
-use Rattle.smsc_service.proofs.floor.Floor.seat_of.Given as goal
-
-abbrev pub invariant-loop-link : goal.invariant-loop-link
-invariant-loop-link l = seat_of l.handset (drop l.link-index l.self.links.rows) ≡ seat_of l.handset l.self.links.rows

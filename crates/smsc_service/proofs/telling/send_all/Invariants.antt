@@ -1,9 +1,0 @@
-use Rattle.std.proofs.Common.{◌≡◌, ◌++◌, drop}
-use Rattle.smsc_service.specs.Seats.{seats_in}
-use Rattle.smsc_service.specs.Telling.{frame_outs}
-use Rattle.smsc_service.proofs.telling.send_all.Given as goal
-
-abbrev pub invariant-loop-sent : goal.invariant-loop-sent
-invariant-loop-sent l =
-    l.outs.items ++ frame_outs l.asker.risen l.asker.seat (seats_in l.floor).links (drop l.sent-index l.frames)
-    ≡ l.initial.outs.items ++ frame_outs l.asker.risen l.asker.seat (seats_in l.floor).links l.frames
